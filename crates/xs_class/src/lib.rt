@@ -1,0 +1,21 @@
+//! Symbols, and the project's own lists: words, texts, bytes, and lists of any elements.
+//!
+//! A symbol is a character or a mark of an XML name. Contracts see each list as a list, whatever
+//! lies behind it, and a `push` that finds no memory leaves it as it was.
+#![tactic(auto)]
+
+mod bytes;
+mod listed;
+mod memory;
+mod side;
+mod sym;
+mod text;
+mod word;
+
+pub use bytes::Bytes;
+pub use listed::Listed;
+pub use memory::Memory;
+pub use side::Side;
+pub use sym::{ATTR_END, STRANGE, Sym};
+pub use text::Text;
+pub use word::Word;

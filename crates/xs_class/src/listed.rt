@@ -1,0 +1,79 @@
+ghost use Rattle.std.specs.Prelude.{◌≡◌, ◌<◌, ◌↔◌, [], ◌∷◌, ◌++◌, length, slice_get, IsTrue, OnOk, OnErr};
+
+use crate::Memory;
+use std::alloc::Global;
+use std::marker::Model;
+
+/// A list of any elements, which contracts see as the list of them.
+#[derive(Debug, Drop)]
+pub struct Listed<T> {
+    all: Vec<T>,
+}
+
+impl<T> Model for Listed<T> {
+    ghost use Rattle.std.specs.Prelude.{List};
+
+    ghost Value = { List T };
+
+    ghost view = { λ l. l.all.items };
+}
+
+impl<T> Listed<T> {
+    /// The empty list, without memory.
+    pub fn new(alloc: Global) -> Self
+        ensures { result ≡ [] }
+    {
+        Listed {
+            all: Vec::new(alloc),
+        }
+    }
+
+    pub fn as_slice(&self) -> &[T]
+        ensures { result.now ≡ self.now }
+    {
+        &self.all
+    }
+
+    pub fn len(&self) -> usize
+        ensures { result ≡ length self.now }
+    {
+        self.all.len()
+    }
+
+    pub fn is_empty(&self) -> bool
+        ensures { IsTrue result ↔ (self.now ≡ []) }
+    {
+        self.all.is_empty()
+    }
+
+    pub fn at(&self, place: usize) -> &T
+        requires { place < length self.now }
+        ensures { slice_get self.now place ≡ Some result.now }
+    {
+        &self.all[place]
+    }
+
+    /// The list of a vector's elements, without memory.
+    pub fn from_vec(all: Vec<T>) -> Self
+        ensures { result ≡ all.items }
+    {
+        Listed { all }
+    }
+
+    /// The vector of the elements, without memory.
+    pub fn into_vec(self) -> Vec<T>
+        ensures { result.items ≡ self }
+    {
+        self.all
+    }
+}
+
+impl<T: Drop> Listed<T> {
+    pub fn push(&mut self, element: T) -> Result<(), Memory>
+        ensures ok { OnOk result (self.new ≡ self.old ++ element ∷ []) }
+        ensures err { OnErr result (self.new ≡ self.old) }
+    {
+        self.all.push(element)?;
+        Ok(())
+    }
+}

@@ -1,0 +1,64 @@
+ghost use Rattle.std.specs.Prelude.{◌≡◌, [], ◌∷◌, ◌++◌, length, OnOk, OnErr, IfOk, encode_utf8_all};
+ghost use Rattle.std.specs.Str.{chars};
+
+use crate::Memory;
+use std::alloc::Global;
+use std::marker::Model;
+
+/// A list of characters, kept as UTF-8, which contracts see as the list of their code points.
+#[derive(Debug, Drop)]
+pub struct Text {
+    text: String,
+}
+
+impl Model for Text {
+    ghost use Rattle.std.specs.Prelude.{List, ℕ, string_bytes};
+    ghost use Rattle.std.specs.Str.{chars};
+
+    ghost Value = { List ℕ };
+
+    ghost view = { λ t. chars (string_bytes t.text) };
+}
+
+impl Text {
+    /// The empty text, without memory.
+    pub fn new(alloc: Global) -> Self
+        ensures { result ≡ [] }
+    {
+        Text {
+            text: String::new(alloc),
+        }
+    }
+
+    /// The text of these characters.
+    pub fn of(alloc: Global, text: &str) -> Result<Self, Memory>
+        ensures { IfOk result (λ t. t ≡ chars text.now) }
+    {
+        Ok(Text {
+            text: String::from_str(alloc, text)?,
+        })
+    }
+
+    pub fn push(&mut self, c: char) -> Result<(), Memory>
+        ensures ok { OnOk result (self.new ≡ self.old ++ c ∷ []) }
+        ensures err { OnErr result (self.new ≡ self.old) }
+    {
+        self.text.push(c)?;
+        Ok(())
+    }
+
+    /// The UTF-8 of the characters.
+    pub fn as_str(&self) -> &str
+        ensures spelled { result.now ≡ encode_utf8_all self.now }
+        ensures read { chars result.now ≡ self.now }
+    {
+        self.text.as_str()
+    }
+
+    /// The number of characters, counted in time linear in the text.
+    pub fn len(&self) -> usize
+        ensures { result ≡ length self.now }
+    {
+        self.text.as_str().chars().count()
+    }
+}
