@@ -1,3 +1,4 @@
 pub mod Lookup
 pub mod Printing
 pub mod Printed
+pub mod Numbers
