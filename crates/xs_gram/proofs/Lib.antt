@@ -2,3 +2,4 @@ pub mod Lookup
 pub mod Printing
 pub mod Printed
 pub mod Numbers
+pub mod Inversion
