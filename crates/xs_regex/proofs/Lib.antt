@@ -1,0 +1,5 @@
+pub mod Choice
+pub mod Repetition
+pub mod Rows
+pub mod Runs
+pub mod Sequence
