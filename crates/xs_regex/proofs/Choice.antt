@@ -7,9 +7,9 @@ use Rattle.std.specs.Bool.{IsTrue}
 use Rattle.xs_class.specs.Classes.{Has}
 use Rattle.xs_regex.specs.declared.position.Position.{Position}
 use Rattle.xs_regex.specs.Automaton.{HasAt, Leads, Runs, begins, goes, Accepts, GoesOn, IsWellFormed, EachEnds, ClassesHaveMembers}
-use Rattle.xs_regex.specs.Parts.{shift, IsEither}
+use Rattle.xs_regex.specs.Parts.{shift, IsEither, IsTrim}
 use Rattle.xs_regex.proofs.Rows.{at_left, at_right, at_split, at_within, shift_contains, contains_shift, shift_row, row_shift, split_below}
-use Rattle.xs_regex.proofs.Runs.{Embeds, run_moved, on_moved, run_within, has_left, has_right, IsTrim}
+use Rattle.xs_regex.proofs.Runs.{Embeds, run_moved, on_moved, run_within, has_left, has_right}
 
 one_of : (a b : Bool) → IsTrue (a || b) → IsTrue a ⊎ IsTrue b
 one_of true b e = inl refl

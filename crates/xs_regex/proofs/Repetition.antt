@@ -7,8 +7,8 @@ use Rattle.xs_class.specs.Classes.{Has}
 use Rattle.xs_regex.specs.declared.position.Position.{Position}
 use Rattle.xs_regex.specs.Automaton.{HasAt, Leads, Runs, begins, goes, Accepts, GoesOn, IsWellFormed, EachEnds, ClassesHaveMembers}
 use Rattle.xs_regex.specs.Matches.{joined, Each}
-use Rattle.xs_regex.specs.Parts.{IsRound, optional}
-use Rattle.xs_regex.proofs.Runs.{Embeds, run_moved, on_moved, run_after, run_not_empty, IsTrim}
+use Rattle.xs_regex.specs.Parts.{IsRound, optional, IsTrim}
+use Rattle.xs_regex.proofs.Runs.{Embeds, run_moved, on_moved, run_after, run_not_empty}
 
 pub joined-append : (us vs : List (List ℕ)) → joined (us ++ vs) ≡ joined us ++ joined vs
 joined-append [] vs = refl

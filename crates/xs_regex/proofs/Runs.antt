@@ -79,8 +79,3 @@ members_left p q r e m k l = let h = m k (omega (arith, both_lengths p q r e)) i
 
 pub members_right : (p q r : Position) → r.classes ≡ p.classes ++ q.classes → ClassesHaveMembers r → ClassesHaveMembers q
 members_right p q r e m k l = let h = m (length p.classes + k) (omega (arith, both_lengths p q r e)) in (h.0, has_right p q r e (length p.classes + k) k h.0 refl h.1)
-
--- each position can be gone on from to a last one, and some word is accepted
-pub record IsTrim (p : Position) : Type 0 where
-  pub ends : EachEnds p
-  pub lives : IsTrue p.nullable ⊎ ((k : ℕ) × Contains p.first k)

@@ -8,9 +8,9 @@ use Rattle.std.specs.Bool.{IsTrue}
 use Rattle.xs_class.specs.Classes.{Has}
 use Rattle.xs_regex.specs.declared.position.Position.{Position}
 use Rattle.xs_regex.specs.Automaton.{HasAt, Leads, Runs, begins, goes, Accepts, GoesOn, stays, steps, IsWellFormed, EachEnds, ClassesHaveMembers}
-use Rattle.xs_regex.specs.Parts.{shift, HasRow, IsLinked, IsThen}
+use Rattle.xs_regex.specs.Parts.{shift, HasRow, IsLinked, IsThen, IsTrim}
 use Rattle.xs_regex.proofs.Rows.{at_left, at_right, at_split, at_within, contains_nil, shift_contains, contains_shift, shift_row, row_shift, split_below}
-use Rattle.xs_regex.proofs.Runs.{Embeds, run_moved, on_moved, run_after, on_after, run_within, has_left, has_right, members_left, members_right, IsTrim}
+use Rattle.xs_regex.proofs.Runs.{Embeds, run_moved, on_moved, run_after, on_after, run_within, has_left, has_right, members_left, members_right}
 
 -- numbers that are added where a test holds
 added_split : (b : Bool) (xs ys : List ℕ) (k : ℕ) → Contains (xs ++ (if b then ys else [])) k → Contains xs k ⊎ (IsTrue b × Contains ys k)

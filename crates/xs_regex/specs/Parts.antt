@@ -1,6 +1,9 @@
 -- How automata are put together.
-use Rattle.std.specs.Prelude.{◌≡◌, ◌⊎◌, ◌&&◌, ◌||◌, ℕ, ◌+◌, ◌<◌, Bool, true, List, [], ◌∷◌, ◌++◌, length, map, slice_get, Contains, IsSomeAnd, if◌then◌else◌}
+use Rattle.std.specs.Prelude.{◌≡◌, ◌⊎◌, ◌&&◌, ◌||◌, ℕ, ◌+◌, ◌<◌, Bool, true, false, List, [], ◌∷◌, ◌++◌, length, map, slice_get, Contains, IsSomeAnd, IsTrue, if◌then◌else◌}
+use Rattle.std.specs.declared.option.Option.{Option}
 use Rattle.xs_regex.specs.declared.position.Position.{Position}
+use Rattle.xs_regex.specs.Automaton.{Accepts, IsWellFormed, EachEnds, ClassesHaveMembers}
+use Rattle.xs_regex.specs.Size.{IsInOrder}
 
 -- the numbers, each greater by n
 abbrev pub shift : ℕ → List ℕ → List ℕ
@@ -46,3 +49,34 @@ pub record IsRound (p r : Position) : Type 0 where
 -- the automaton, which also accepts the empty word
 abbrev pub optional : Position → Position
 optional p = record p { nullable = true }
+
+-- the numbers of both lists, and no others
+pub record IsUnion (a b all : List ℕ) : Type 0 where
+  pub left : (k : ℕ) → Contains a k → Contains all k
+  pub right : (k : ℕ) → Contains b k → Contains all k
+  pub only : (k : ℕ) → Contains all k → Contains a k ⊎ Contains b k
+
+-- the automaton of no position
+abbrev pub bare : Bool → Position
+bare nullable = record { classes = []; first = []; last = []; follow = []; nullable = nullable }
+
+-- the automaton of one class
+abbrev pub of_class : List (ℕ × ℕ) → Position
+of_class class = record { classes = class ∷ []; first = 0 ∷ []; last = 0 ∷ []; follow = [] ∷ []; nullable = false }
+
+-- each position can be gone on from to a last one, and some word is accepted
+pub record IsTrim (p : Position) : Type 0 where
+  pub ends : EachEnds p
+  pub lives : IsTrue p.nullable ⊎ ((k : ℕ) × Contains p.first k)
+
+-- the automaton of these words, with these classes, which is trim where no class is empty and Sure holds
+pub record IsAutomaton (Word : List ℕ → Type 0) (classes : List (List (ℕ × ℕ))) (Sure : Type 0) (p : Position) : Type 0 where
+  pub formed : IsWellFormed p
+  pub sound : (w : List ℕ) → Accepts p w → Word w
+  pub complete : (w : List ℕ) → Word w → Accepts p w
+  pub classes_are : p.classes ≡ classes
+  pub trim : Sure → ClassesHaveMembers p → IsTrim p
+
+-- the counts are in order, and what is repeated is trim
+abbrev pub IsSure : Position → ℕ → Option ℕ → Type 0
+IsSure one least most = IsInOrder least most × (ClassesHaveMembers one → IsTrim one)

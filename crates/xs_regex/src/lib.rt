@@ -4,6 +4,8 @@
 //! and accepts exactly the words that the regex matches.
 #![tactic(auto)]
 
+mod compose;
+mod lists;
 mod position;
 mod regex;
 
