@@ -28,7 +28,7 @@ told to back e sure a = record {
 }
 
 -- an automaton of no position
-no_run : {p : Position} {w : List ℕ} {k : ℕ} → p.classes ≡ [] → Runs p w k → ⊥
+pub no_run : {p : Position} {w : List ℕ} {k : ℕ} → p.classes ≡ [] → Runs p w k → ⊥
 no_run e run = let l = rw e at (run_within run) in omega (arith, l)
 
 pub of_bare : (Word : List ℕ → Type 0) (Sure : Type 0) (b : Bool) → (IsTrue b → Word []) → ((w : List ℕ) → Word w → (w ≡ []) × IsTrue b) → (Sure → IsTrue b) → IsAutomaton Word [] Sure (bare b)
