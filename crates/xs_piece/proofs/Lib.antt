@@ -1,0 +1,9 @@
+pub mod Reading
+pub mod Tags
+pub mod Cutting
+pub mod Greatest
+pub mod Sound
+pub mod Tagsound
+pub mod Steps
+pub mod Stuck
+pub mod More
