@@ -1,3 +1,4 @@
 pub mod Automaton
 pub mod Matches
+pub mod Parts
 pub mod Size
