@@ -5,16 +5,20 @@
 #![tactic(auto)]
 
 mod bytes;
+mod class;
 mod listed;
 mod memory;
+mod names;
 mod side;
 mod sym;
 mod text;
 mod word;
 
 pub use bytes::Bytes;
+pub use class::Class;
 pub use listed::Listed;
 pub use memory::Memory;
+pub use names::Names;
 pub use side::Side;
 pub use sym::{ATTR_END, STRANGE, Sym};
 pub use text::Text;
