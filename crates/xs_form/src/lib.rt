@@ -6,3 +6,4 @@
 
 mod references;
 mod runs;
+mod values;

@@ -21,7 +21,7 @@ bit_one : (q c : ℕ) (cs : List ℕ) (r : Bit × List ℕ) (t : Bool) → (c ==
 bit_one q c cs r true e is = subst (λ (x : ℕ). (x ∷ cs) ≡ spelt_bit r.0 r.1) (sym (eqb-true c 38 e)) (bit_ref q cs (cut (codes ";") cs) r (λ x h. cut_is (codes ";") cs x h) is)
 bit_one q c cs r false e is = bit_kept (c ∷ cs) (is_bit q (plain c)) (plain c) cs r refl is
 
-bit_is : (q : ℕ) (cs : List ℕ) (r : Bit × List ℕ) → bit_at q cs ≡ Some r → cs ≡ spelt_bit r.0 r.1
+pub bit_is : (q : ℕ) (cs : List ℕ) (r : Bit × List ℕ) → bit_at q cs ≡ Some r → cs ≡ spelt_bit r.0 r.1
 bit_is q [] r is = absurd (cc)
 bit_is q (c ∷ cs) r is = bit_one q c cs r (c == 38) refl is
 
