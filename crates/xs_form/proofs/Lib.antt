@@ -1,2 +1,3 @@
+pub mod AttributeLaws
 pub mod Numbers
 pub mod ValueLaws

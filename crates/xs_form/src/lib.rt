@@ -4,6 +4,7 @@
 //! elements that have not ended in a list of its own.
 #![tactic(auto)]
 
+mod attributes;
 mod references;
 mod runs;
 mod values;

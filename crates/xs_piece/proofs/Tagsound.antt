@@ -51,7 +51,7 @@ quote_sound d gap n left (right, q ∷ cs) spells =
     let b = bits_at (length cs) q cs in
     attr_bind d (after (q ∷ []) b.1) (as_attr (record { gap = gap; name = n; left = left; right = right; quote = q; value = b.0 })) (λ x h. attr_kept d _ (record { gap = gap; name = n; left = left; right = right; quote = q; value = b.0 }) x (spells ∙ ap (λ (y : List ℕ). gap ++ (n ++ (left ++ 61 ∷ (right ++ q ∷ y)))) (bits_are (length cs) q cs ∙ ap (λ (y : List ℕ). spelt_bits b.0 y) (after_is (q ∷ []) b.1 x h))))
 
-attr_sound : (d : List ℕ) → AttrSound d (attr_at d)
+pub attr_sound : (d : List ℕ) → AttrSound d (attr_at d)
 unfolding attr_at
 attr_sound d =
     let g = span is_white d in
