@@ -1,3 +1,5 @@
 pub mod AttributeLaws
+pub mod NameLaws
 pub mod Numbers
+pub mod SortedLaws
 pub mod ValueLaws

@@ -1,3 +1,4 @@
 pub mod Attributes
 pub mod Seen
+pub mod Sorted
 pub mod Values

@@ -5,6 +5,8 @@
 #![tactic(auto)]
 
 mod attributes;
+mod marks;
 mod references;
 mod runs;
+mod sorted;
 mod values;
