@@ -6,6 +6,7 @@
 
 mod attributes;
 mod marks;
+mod pieces;
 mod references;
 mod runs;
 mod sorted;
