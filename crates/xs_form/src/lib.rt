@@ -7,6 +7,7 @@
 mod attributes;
 mod marks;
 mod pieces;
+mod reader;
 mod references;
 mod runs;
 mod sorted;

@@ -1,0 +1,10 @@
+pub mod Grammar
+pub mod Derivations
+pub mod Common
+pub mod Languages
+pub mod Chart
+pub mod Laws
+pub mod Sound
+pub mod Loose
+pub mod Suspects
+pub mod Places

@@ -1,0 +1,165 @@
+ghost use Rattle.std.specs.Prelude.{◌≡◌, ◌<◌, ◌≤◌, ◌+◌, ◌^◌, ℕ, Some, None, length, slice_get, IfOk};
+ghost use Rattle.xs_gram.specs.Grammar.{rule_of, term_of, skip_of, items, normal_word};
+ghost use Rattle.xs_gram.specs.Sound.{IsInRange, IsSmall};
+ghost use Rattle.xs_gram.specs.Places.{all_places, at_dot, IsPlace};
+
+use crate::{GItem, Ignorable, Place, RulePart, Terminal};
+use std::marker::Model;
+use xs_class::Word;
+use xs_regex::{Numbers, Position};
+
+/// A grammar: one side of a sheet, as contracts see it a record of its start, its number of
+/// nonterminals, its rules, its terminals and its ignorables.
+///
+/// All numbers are from 0 on. The places of the grammar are numbered too: a rule, a number of items
+/// before the place, and inside a terminal or an ignorable a position of its automaton.
+#[derive(Debug, Drop)]
+pub struct Gram {
+    start: u32,
+    nons: u32,
+    rules: Vec<RulePart>,
+    terms: Vec<Terminal>,
+    skips: Vec<Ignorable>,
+    places: Vec<Place>,
+    starts: Vec<Numbers>,
+}
+
+impl Model for Gram {
+    ghost use Rattle.xs_gram.specs.Grammar.{Grammar};
+    ghost use Rattle.xs_gram.specs.Places.{IsKept};
+    ghost use Rattle.xs_regex.specs.contracts.regex.Regex as e;
+    ghost use Rattle.std.specs.Coded.{codes};
+
+    ghost Value = { Grammar };
+
+    ghost coded = { Prim.hlevel (codes, e.the_row.coded) };
+
+    ghost view = { λ g. record { start = g.start; nons = g.nons; rules = g.rules.items; terms = g.terms.items; skips = g.skips.items } };
+
+    ghost invariant = { λ g. IsKept (record { start = g.start; nons = g.nons; rules = g.rules.items; terms = g.terms.items; skips = g.skips.items }) g.places.items g.starts.items };
+}
+
+impl Gram {
+    /// The number of the start nonterminal.
+    pub fn start(&self) -> u32
+        ensures { result ≡ self.now.start }
+    {
+        self.start
+    }
+
+    /// The number of nonterminals.
+    pub fn nons(&self) -> u32
+        ensures { result ≡ self.now.nons }
+    {
+        self.nons
+    }
+
+    /// The number of terminals.
+    pub fn terms(&self) -> u32
+        ensures { result ≡ length self.now.terms }
+    {
+        self.terms.len() as u32
+    }
+
+    /// The number of ignorables.
+    pub fn skips(&self) -> u32
+        ensures { result ≡ length self.now.skips }
+    {
+        self.skips.len() as u32
+    }
+
+    /// The number of rules.
+    pub fn rules(&self) -> u32
+        ensures { result ≡ length self.now.rules }
+    {
+        self.rules.len() as u32
+    }
+
+    /// The position automaton of a terminal.
+    pub fn term(&self, term: u32) -> &Position
+        requires { term < length self.now.terms }
+        ensures { result.now ≡ (term_of self.now term).automaton }
+    {
+        &self.terms[term as usize].automaton
+    }
+
+    /// The position automaton of an ignorable.
+    pub fn skip(&self, skip: u32) -> &Position
+        requires { skip < length self.now.skips }
+        ensures { result.now ≡ (skip_of self.now skip).automaton }
+    {
+        &self.skips[skip as usize].automaton
+    }
+
+    /// The normal spelling of an ignorable.
+    pub fn normal(&self, skip: u32) -> &Word
+        requires { skip < length self.now.skips }
+        ensures { result.now ≡ normal_word self.now skip }
+    {
+        &self.skips[skip as usize].normal
+    }
+
+    /// The nonterminal of a rule.
+    pub fn non_of(&self, rule: u32) -> u32
+        requires { rule < length self.now.rules }
+        ensures { result ≡ (rule_of self.now rule).non }
+    {
+        self.rules[rule as usize].non
+    }
+
+    /// The items of a rule, and that all numbers that items name are there.
+    pub fn items(&self, rule: u32) -> &[GItem]
+        requires { rule < length self.now.rules }
+        ensures items { result.now ≡ items self.now rule }
+        ensures range { IsInRange self.now }
+        ensures small { IsSmall self.now }
+    {
+        self.rules[rule as usize].items.as_slice()
+    }
+
+    /// The number of places.
+    pub fn places(&self) -> u32
+        ensures { result ≡ length (all_places self.now) }
+    {
+        self.places.len() as u32
+    }
+
+    fn listed(&self, k: u32) -> Place
+        requires { k < length (all_places self.now) }
+        ensures { slice_get (all_places self.now) k ≡ Some result }
+    {
+        self.places[k as usize]
+    }
+
+    /// The place of this number, in constant time.
+    pub fn place(&self, k: u32) -> Place
+        requires { k < length (all_places self.now) }
+        ensures listed { slice_get (all_places self.now) k ≡ Some result }
+        ensures is { IsPlace self.now result }
+    {
+        self.listed(k)
+    }
+
+    // The number of the place before an item, or at a rule's end.
+    fn start_of(&self, rule: u32, dot: u32) -> u32
+        requires rule { rule < length self.now.rules }
+        requires dot { dot ≤ length (items self.now rule) }
+        ensures place { slice_get (all_places self.now) result ≡ Some (at_dot rule dot) }
+        ensures few { length (all_places self.now) < 2 ^ 32 }
+    {
+        self.starts[rule as usize].as_slice()[dot as usize]
+    }
+
+    /// The number of this place, in constant time.
+    pub fn number(&self, place: Place) -> u32
+        requires { IsPlace self.now place }
+        ensures found { slice_get (all_places self.now) result ≡ Some place }
+        ensures once { (k : ℕ) → slice_get (all_places self.now) k ≡ Some place → k ≡ result }
+    {
+        let start = self.start_of(place.rule, place.dot);
+        match place.inside {
+            None => start,
+            Some(position) => start + 1 + position,
+        }
+    }
+}

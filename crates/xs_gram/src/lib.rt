@@ -1,0 +1,19 @@
+//! Grammars: one side of a sheet as rules of items, and what its words, derivations, common trees,
+//! prints and chart items are.
+//!
+//! The definitions stand in specs/, in the order Grammar, Derivations, Common, Languages, Chart. Two
+//! laws tie them: what is printed of a derivation's tree is its yield in normal form, and what is
+//! printed of a tree has that tree.
+#![tactic(auto)]
+
+mod gram;
+mod laws;
+mod parts;
+mod places;
+
+pub use gram::Gram;
+pub use laws::{printed_has_tree, prints_normal};
+pub use parts::{
+    GItem, GItems, GramParts, Ignorable, Regexes, RulePart, Rules, SkipPart, Skips, Terminal,
+};
+pub use places::Place;

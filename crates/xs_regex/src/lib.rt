@@ -1,0 +1,11 @@
+//! Regular expressions over classes of symbols, and their automata of positions.
+//!
+//! A regex matches words of symbols. Its automaton has one state for each place of a class in it,
+//! and accepts exactly the words that the regex matches.
+#![tactic(auto)]
+
+mod position;
+mod regex;
+
+pub use position::{Classes, Follows, Numbers, Position};
+pub use regex::Regex;

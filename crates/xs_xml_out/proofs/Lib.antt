@@ -1,0 +1,13 @@
+mod Attributes
+mod Bytes
+mod Calm
+mod Content
+mod Elements
+mod Ends
+mod Known
+mod Marks
+mod Places
+mod ReadBack
+mod Scalars
+mod Tests
+mod Values

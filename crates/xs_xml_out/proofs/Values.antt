@@ -1,0 +1,103 @@
+-- The values of attributes, as they are written.
+use Rattle.std.proofs.Common.{◌≡◌, ◌⊎◌, inl, inr, ℕ, List, [], ◌∷◌, ◌++◌, true, false, Bool, if◌then◌else◌, ◌==◌, codes, refl, sym, ◌∙◌, ap, subst, arith, eqb-true}
+use Rattle.std.proofs.lemmas.Bool.Decides.{nat_tests}
+use Rattle.xs_class.specs.Marks.{attr_end}
+use Rattle.xs_piece.specs.Tables.{is_char, is_white, is_hex}
+use Rattle.xs_piece.specs.Piece.{Bit, plain, ref, spelt_bit, spelt_bits, all_of, ref_char, is_bit, are_bits}
+use Rattle.xs_piece.specs.Reads.{value}
+use Rattle.xs_xml_out.specs.declared.mark.Mark.TheVariants.{Char}
+use Rattle.xs_xml_out.specs.declared.mode.Mode.TheVariants.{Tag, Value}
+use Rattle.xs_xml_out.specs.Written.{mark_of, value_char, written}
+use Rattle.xs_xml_out.proofs.Tests.{and_true, both_true}
+use Rattle.xs_xml_out.proofs.Marks.{mark_of-char, mark_of-attr_end}
+
+-- how a character of a value is written
+abbrev pub value_bit : ℕ → Bit
+value_bit c = if c == 34 then ref (codes "quot") else (if c == 9 then ref (codes "#x9") else (if c == 10 then ref (codes "#xA") else (if c == 38 then ref (codes "amp") else (if c == 60 then ref (codes "lt") else (if c == 62 then ref (codes "gt") else (if c == 13 then ref (codes "#xD") else plain c))))))
+
+-- the bit is spelt by these characters, may stand between double quotes, and gives c
+record IsValued (c : ℕ) (b : Bit) (w : List ℕ) : Type 0 where
+  spells : (rest : List ℕ) → spelt_bit b rest ≡ w ++ rest
+  is : is_bit 34 b ≡ true
+  gives : (bs : List Bit) → value false (b ∷ bs) ≡ c ∷ value false bs
+
+quote_valued : IsValued 34 (ref (codes "quot")) (codes "&quot;")
+unfolding ref_char
+quote_valued = record { spells = λ rest. refl; is = refl; gives = λ bs. refl }
+
+tab_valued : IsValued 9 (ref (codes "#x9")) (codes "&#x9;")
+unfolding ref_char is_hex is_char
+tab_valued = record { spells = λ rest. refl; is = refl; gives = λ bs. refl }
+
+line_feed_valued : IsValued 10 (ref (codes "#xA")) (codes "&#xA;")
+unfolding ref_char is_hex is_char
+line_feed_valued = record { spells = λ rest. refl; is = refl; gives = λ bs. refl }
+
+amp_valued : IsValued 38 (ref (codes "amp")) (codes "&amp;")
+unfolding ref_char
+amp_valued = record { spells = λ rest. refl; is = refl; gives = λ bs. refl }
+
+lt_valued : IsValued 60 (ref (codes "lt")) (codes "&lt;")
+unfolding ref_char
+lt_valued = record { spells = λ rest. refl; is = refl; gives = λ bs. refl }
+
+gt_valued : IsValued 62 (ref (codes "gt")) (codes "&gt;")
+unfolding ref_char
+gt_valued = record { spells = λ rest. refl; is = refl; gives = λ bs. refl }
+
+carriage_return_valued : IsValued 13 (ref (codes "#xD")) (codes "&#xD;")
+unfolding ref_char is_hex is_char
+carriage_return_valued = record { spells = λ rest. refl; is = refl; gives = λ bs. refl }
+
+white_cases : (c : ℕ) → is_white c ≡ true → ((c ≡ 9) ⊎ (c ≡ 10)) ⊎ ((c ≡ 13) ⊎ (c ≡ 32))
+unfolding is_white
+white_cases c is = grind (arith, nat_tests, is)
+
+-- white space that is written as it is, is a space
+space_or_other : (c : ℕ) → (c == 9) ≡ false → (c == 10) ≡ false → (c == 13) ≡ false → (if is_white c then 32 else c) ≡ c
+space_or_other c n9 n10 n13 = by (is_white c) refl
+  where
+    of : ((c ≡ 9) ⊎ (c ≡ 10)) ⊎ ((c ≡ 13) ⊎ (c ≡ 32)) → 32 ≡ c
+    of (inl (inl e)) = absurd (grind (arith, nat_tests, n9, e))
+    of (inl (inr e)) = absurd (grind (arith, nat_tests, n10, e))
+    of (inr (inl e)) = absurd (grind (arith, nat_tests, n13, e))
+    of (inr (inr e)) = sym e
+
+    by : (t : Bool) → is_white c ≡ t → (if t then 32 else c) ≡ c
+    by true e = of (white_cases c e)
+    by false e = refl
+
+plain_valued : (c : ℕ) → is_char c ≡ true → (c == 34) ≡ false → (c == 9) ≡ false → (c == 10) ≡ false → (c == 38) ≡ false → (c == 60) ≡ false → (c == 13) ≡ false → IsValued c (plain c) (c ∷ [])
+plain_valued c is n34 n9 n10 n38 n60 n13 = record { spells = λ rest. refl; is = rw (is, n60, n38, n34) refl; gives = λ bs. rw (n10, n13) (ap (λ (x : ℕ). x ∷ value false bs) (space_or_other c n9 n10 n13)) }
+
+valued : (c : ℕ) → is_char c ≡ true → IsValued c (value_bit c) (value_char c)
+valued c is = by (c == 34) (c == 9) (c == 10) (c == 38) (c == 60) (c == 62) (c == 13) refl refl refl refl refl refl refl
+  where
+    by : (t1 t2 t3 t4 t5 t6 t7 : Bool) → (c == 34) ≡ t1 → (c == 9) ≡ t2 → (c == 10) ≡ t3 → (c == 38) ≡ t4 → (c == 60) ≡ t5 → (c == 62) ≡ t6 → (c == 13) ≡ t7 → IsValued c (if t1 then ref (codes "quot") else (if t2 then ref (codes "#x9") else (if t3 then ref (codes "#xA") else (if t4 then ref (codes "amp") else (if t5 then ref (codes "lt") else (if t6 then ref (codes "gt") else (if t7 then ref (codes "#xD") else plain c))))))) (if t1 then codes "&quot;" else (if t2 then codes "&#x9;" else (if t3 then codes "&#xA;" else (if t4 then codes "&amp;" else (if t5 then codes "&lt;" else (if t6 then codes "&gt;" else (if t7 then codes "&#xD;" else c ∷ [])))))))
+    by true t2 t3 t4 t5 t6 t7 e1 e2 e3 e4 e5 e6 e7 = subst (λ (x : ℕ). IsValued x (ref (codes "quot")) (codes "&quot;")) (sym (eqb-true c 34 e1)) quote_valued
+    by false true t3 t4 t5 t6 t7 e1 e2 e3 e4 e5 e6 e7 = subst (λ (x : ℕ). IsValued x (ref (codes "#x9")) (codes "&#x9;")) (sym (eqb-true c 9 e2)) tab_valued
+    by false false true t4 t5 t6 t7 e1 e2 e3 e4 e5 e6 e7 = subst (λ (x : ℕ). IsValued x (ref (codes "#xA")) (codes "&#xA;")) (sym (eqb-true c 10 e3)) line_feed_valued
+    by false false false true t5 t6 t7 e1 e2 e3 e4 e5 e6 e7 = subst (λ (x : ℕ). IsValued x (ref (codes "amp")) (codes "&amp;")) (sym (eqb-true c 38 e4)) amp_valued
+    by false false false false true t6 t7 e1 e2 e3 e4 e5 e6 e7 = subst (λ (x : ℕ). IsValued x (ref (codes "lt")) (codes "&lt;")) (sym (eqb-true c 60 e5)) lt_valued
+    by false false false false false true t7 e1 e2 e3 e4 e5 e6 e7 = subst (λ (x : ℕ). IsValued x (ref (codes "gt")) (codes "&gt;")) (sym (eqb-true c 62 e6)) gt_valued
+    by false false false false false false true e1 e2 e3 e4 e5 e6 e7 = subst (λ (x : ℕ). IsValued x (ref (codes "#xD")) (codes "&#xD;")) (sym (eqb-true c 13 e7)) carriage_return_valued
+    by false false false false false false false e1 e2 e3 e4 e5 e6 e7 = plain_valued c is e1 e2 e3 e4 e5 e7
+
+abbrev pub bits : List ℕ → List Bit
+bits [] = []
+bits (c ∷ cs) = value_bit c ∷ bits cs
+
+pub are_bits-bits : (v : List ℕ) → all_of is_char v ≡ true → are_bits 34 (bits v) ≡ true
+are_bits-bits [] all = refl
+are_bits-bits (c ∷ cs) all = let both = and_true (is_char c) (all_of is_char cs) all in both_true (is_bit 34 (value_bit c)) (are_bits 34 (bits cs)) (valued c both.0).is (are_bits-bits cs both.1)
+
+pub value-bits : (v : List ℕ) → all_of is_char v ≡ true → value false (bits v) ≡ v
+value-bits [] all = refl
+value-bits (c ∷ cs) all = let both = and_true (is_char c) (all_of is_char cs) all in (valued c both.0).gives (bits cs) ∙ ap (λ (x : List ℕ). c ∷ x) (value-bits cs both.1)
+
+value_next : (names : List (List ℕ)) (c : ℕ) (w : List ℕ) (b : Bit) (rest : List ℕ) → mark_of c ≡ Char c → ((r : List ℕ) → spelt_bit b r ≡ value_char c ++ r) → written names Value w ≡ rest → written names Value (c ∷ w) ≡ spelt_bit b rest
+value_next names c w b rest mark here again = rw mark (ap (λ (y : List ℕ). value_char c ++ y) again ∙ sym (here rest))
+
+pub written-value : (names : List (List ℕ)) (v y : List ℕ) → all_of is_char v ≡ true → written names Value (v ++ attr_end ∷ y) ≡ spelt_bits (bits v) (34 ∷ written names Tag y)
+written-value names [] y all = rw mark_of-attr_end refl
+written-value names (c ∷ cs) y all = let both = and_true (is_char c) (all_of is_char cs) all in value_next names c (cs ++ attr_end ∷ y) (value_bit c) (spelt_bits (bits cs) (34 ∷ written names Tag y)) (mark_of-char c both.0) (valued c both.0).spells (written-value names cs y both.1)

@@ -1,0 +1,4 @@
+pub mod Balanced
+pub mod Written
+pub mod Part
+pub mod Laws
