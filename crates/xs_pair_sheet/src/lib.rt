@@ -104,3 +104,17 @@ pub fn turn_pair(alloc: Global, doc: &Word) -> Result<Word, TurnFault>
 pub fn pair_is_unique()
     ensures { IsUnique pair_text }
 {}
+
+/// The names of the pair sheet's elements.
+pub fn pair_names(alloc: Global) -> Result<Names, Memory>
+    ensures { IfOk result (λ names. names ≡ pair_names) }
+{
+    Names::of(
+        alloc,
+        &[
+            Text::of(alloc, "p")?,
+            Text::of(alloc, "x")?,
+            Text::of(alloc, "y")?,
+        ],
+    )
+}
