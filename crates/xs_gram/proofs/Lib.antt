@@ -1,3 +1,5 @@
 pub mod Lookup
 pub mod Printing
 pub mod Printed
+pub mod Numbers
+pub mod Inversion

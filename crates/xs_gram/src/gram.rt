@@ -1,7 +1,7 @@
-ghost use Rattle.std.specs.Prelude.{◌≡◌, ◌<◌, ◌≤◌, ◌+◌, ℕ, Some, None, length, slice_get, IfOk};
+ghost use Rattle.std.specs.Prelude.{◌≡◌, ◌<◌, ◌≤◌, ◌+◌, ◌^◌, ℕ, Some, None, length, slice_get, IfOk};
 ghost use Rattle.xs_gram.specs.Grammar.{rule_of, term_of, skip_of, items, normal_word};
 ghost use Rattle.xs_gram.specs.Sound.{IsInRange, IsSmall};
-ghost use Rattle.xs_gram.specs.Places.{all_places, IsPlace};
+ghost use Rattle.xs_gram.specs.Places.{all_places, at_dot, IsPlace};
 
 use crate::{GItem, Ignorable, Place, RulePart, Terminal};
 use std::marker::Model;
@@ -124,11 +124,42 @@ impl Gram {
         self.places.len() as u32
     }
 
-    /// The place of this number.
-    pub fn place(&self, k: u32) -> Place
+    fn listed(&self, k: u32) -> Place
         requires { k < length (all_places self.now) }
         ensures { slice_get (all_places self.now) k ≡ Some result }
     {
         self.places[k as usize]
+    }
+
+    /// The place of this number, in constant time.
+    pub fn place(&self, k: u32) -> Place
+        requires { k < length (all_places self.now) }
+        ensures listed { slice_get (all_places self.now) k ≡ Some result }
+        ensures is { IsPlace self.now result }
+    {
+        self.listed(k)
+    }
+
+    // The number of the place before an item, or at a rule's end.
+    fn start_of(&self, rule: u32, dot: u32) -> u32
+        requires rule { rule < length self.now.rules }
+        requires dot { dot ≤ length (items self.now rule) }
+        ensures place { slice_get (all_places self.now) result ≡ Some (at_dot rule dot) }
+        ensures few { length (all_places self.now) < 2 ^ 32 }
+    {
+        self.starts[rule as usize].as_slice()[dot as usize]
+    }
+
+    /// The number of this place, in constant time.
+    pub fn number(&self, place: Place) -> u32
+        requires { IsPlace self.now place }
+        ensures found { slice_get (all_places self.now) result ≡ Some place }
+        ensures once { (k : ℕ) → slice_get (all_places self.now) k ≡ Some place → k ≡ result }
+    {
+        let start = self.start_of(place.rule, place.dot);
+        match place.inside {
+            None => start,
+            Some(position) => start + 1 + position,
+        }
     }
 }

@@ -1,0 +1,9 @@
+pub mod Calls
+pub mod Causes
+pub mod Folder
+pub mod Puts
+pub mod Shelves
+pub mod Shown
+pub mod Sinks
+pub mod Sources
+pub mod Whole

@@ -1,0 +1,53 @@
+-- What a shelf tells of its files.
+use Rattle.std.specs.Prelude.{◌≡◌, ℕ, ◌≤◌, ◌<◌, ◌-◌, List, [], ◌++◌, length, drop, min, ⊤, None, Some, IsSome}
+use Rattle.std.specs.declared.option.Option.{Option}
+use Rattle.xs_io.specs.Causes.{Rose}
+
+-- a shelf's files by name, each with its bytes, where it tells them
+abbrev pub Files : Type 0
+Files = Option (List ℕ → Option (List ℕ))
+
+-- the shelf tells its files, and has one of this name
+abbrev pub Has : Files → List ℕ → Type 0
+Has None name = ⊥
+Has (Some files) name = IsSome (files name)
+
+-- these bytes stand in the file from that place on, and they are none exactly at or past the end
+abbrev pub StandAt : Option (List ℕ) → ℕ → List ℕ → Type 0
+StandAt None at piece = ⊥
+StandAt (Some bytes) at piece = (rest : List ℕ) × (drop at bytes ≡ piece ++ rest) × (piece ≡ [] → length bytes ≤ at)
+
+-- so many bytes are all that stand in the file from that place on and fit
+abbrev pub IsFull : Option (List ℕ) → ℕ → ℕ → ℕ → Type 0
+IsFull None at room n = ⊥
+IsFull (Some bytes) at room n = n ≡ min room (length bytes - at)
+
+-- these bytes stand in the file of this name from that place on, where the shelf tells it
+abbrev pub StandIn : Files → List ℕ → ℕ → List ℕ → Type 0
+StandIn None name at piece = ⊤
+StandIn (Some files) name at piece = StandAt (files name) at piece
+
+-- a name failed in a call: the count rose, and that of the file of this name where there is one
+pub record NameFailed (files : Files) (name : List ℕ) (before now own_before own_now : ℕ) : Type 0 where
+  pub shelf : Rose before now
+  pub own : Has files name → Rose own_before own_now
+
+-- the file has exactly these bytes, at most limit of them
+abbrev pub IsFile : Files → List ℕ → List ℕ → ℕ → Type 0
+IsFile None name bytes limit = length bytes ≤ limit
+IsFile (Some files) name bytes limit = (files name ≡ Some bytes) × (length bytes ≤ limit)
+
+-- the file has more than limit bytes
+abbrev pub IsLongFile : Files → List ℕ → ℕ → Type 0
+IsLongFile None name limit = ⊤
+IsLongFile (Some files) name limit = (bytes : List ℕ) × (files name ≡ Some bytes) × (limit < length bytes)
+
+-- the file begins with these bytes, if it is there
+abbrev pub IsFront : Option (List ℕ) → List ℕ → Type 0
+IsFront None front = ⊤
+IsFront (Some bytes) front = (rest : List ℕ) × (bytes ≡ front ++ rest)
+
+-- what was read so far begins the file
+abbrev pub BeginsFile : Files → List ℕ → List ℕ → Type 0
+BeginsFile None name front = ⊤
+BeginsFile (Some files) name front = IsFront (files name) front

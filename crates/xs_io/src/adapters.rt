@@ -1,0 +1,175 @@
+ghost use Rattle.std.specs.Prelude.{◌≡◌, ◌≤◌, ◌<◌, length, take, IfSome, IfNone};
+ghost use Rattle.std.specs.Io.KnownBytes.{Appends, Consumes, IsAtEnd, Keeps};
+
+use crate::{Failed, Shelf, Sink, Source};
+use std::io::{ErrorKind, Read, Seek, SeekFrom, Write};
+use std::rt::Files;
+use std::{fs, io};
+
+// How often one call is tried again where a signal interrupts it.
+const RETRIES: u32 = 1_000;
+
+// One read, tried again while it is interrupted. `None` is a failure.
+fn read_again<R: Read>(reader: &mut R, buf: &mut [u8]) -> Option<usize>
+    requires { 0 < length buf.old }
+    ensures bound { IfSome result (λ n. n ≤ length buf.new) }
+    ensures taken { IfSome result (λ n. Consumes (R.remaining reader.old) (R.remaining reader.new) (take n buf.new)) }
+    ensures end { IfSome result (λ n. n ≡ 0 → IsAtEnd (R.remaining reader.new)) }
+    ensures none { IfNone result (Keeps (R.remaining reader.old) (R.remaining reader.new)) }
+{
+    'again: for _ in 0..=RETRIES {
+        match reader.read(buf) {
+            Ok(count) => return Some(count),
+            Err(error) => {
+                if error.kind() != ErrorKind::Interrupted {
+                    return None;
+                }
+            }
+        }
+    }
+    None
+}
+
+// One write, tried again while it is interrupted. `None` is a failure, as is a write of nothing.
+fn write_again<W: Write>(writer: &mut W, piece: &[u8]) -> Option<usize>
+    ensures some { IfSome result (λ n. 0 < n) }
+    ensures bound { IfSome result (λ n. n ≤ length piece.now) }
+    ensures taken { IfSome result (λ n. Appends (W.contents writer.old) (W.contents writer.new) (take n piece.now)) }
+    ensures none { IfNone result (Keeps (W.contents writer.old) (W.contents writer.new)) }
+{
+    'again: for _ in 0..=RETRIES {
+        match writer.write(piece) {
+            Ok(0) => return None,
+            Ok(count) => return Some(count),
+            Err(error) => {
+                if error.kind() != ErrorKind::Interrupted {
+                    return None;
+                }
+            }
+        }
+    }
+    None
+}
+
+/// A source over a reader, such as the standard input.
+///
+/// A call that is interrupted is tried again, at most 1,000 times, and then fails. It tells what
+/// is left only where the reader does, as one over bytes in memory.
+#[derive(Drop)]
+pub struct FromReader<R: Read> {
+    reader: R,
+    faults: u64,
+}
+
+impl<R: Read> FromReader<R> {
+    pub fn new(reader: R) -> Self {
+        FromReader { reader, faults: 0 }
+    }
+}
+
+impl<R: Read> Source for FromReader<R> {
+    ghost left = { λ s. R.remaining s.reader };
+
+    ghost faults = { λ s. s.faults };
+
+    fn read(&mut self, buf: &mut [u8]) -> Result<usize, Failed> {
+        match read_again(&mut self.reader, buf) {
+            Some(count) => Ok(count),
+            None => {
+                self.faults = self.faults.saturating_add(1);
+                Err(Failed)
+            }
+        }
+    }
+}
+
+/// A sink over a writer.
+///
+/// A call that is interrupted is tried again, at most 1,000 times, and then fails. So does a write
+/// that takes nothing. What the sink took is what the writer took: nothing is flushed, so give it
+/// a writer without a buffer, as the runtime's `stdout()` and `stderr()` are. It tells what it
+/// took only where the writer does, as a vector.
+#[derive(Drop)]
+pub struct ToWriter<W: Write> {
+    writer: W,
+    faults: u64,
+}
+
+impl<W: Write> ToWriter<W> {
+    pub fn new(writer: W) -> Self {
+        ToWriter { writer, faults: 0 }
+    }
+}
+
+impl<W: Write> Sink for ToWriter<W> {
+    ghost taken = { λ s. W.contents s.writer };
+
+    ghost faults = { λ s. s.faults };
+
+    fn write(&mut self, piece: &[u8]) -> Result<usize, Failed> {
+        match write_again(&mut self.writer, piece) {
+            Some(count) => Ok(count),
+            None => {
+                self.faults = self.faults.saturating_add(1);
+                Err(Failed)
+            }
+        }
+    }
+}
+
+// A reader of the file of this name from this place on, which opens it at each read.
+#[derive(Drop)]
+struct FileFrom<'a, R: Files> {
+    rt: &'a R,
+    name: &'a str,
+    at: u64,
+}
+
+impl<R: Files> Read for FileFrom<'_, R> {
+    fn read(&mut self, buf: &mut [u8]) -> io::Result<usize> {
+        let mut file = fs::open(self.rt, self.name)?;
+        file.seek(SeekFrom::Start(self.at))?;
+        file.read(buf)
+    }
+}
+
+/// The files of a file system. A name is a path from the folder in which the program was started.
+///
+/// Each call opens its file. A call that is interrupted is tried again, at most 1,000 times, and
+/// then fails. Nothing is told of the files.
+#[derive(Drop)]
+pub struct DirShelf<'r, R: Files> {
+    rt: &'r R,
+    faults: u64,
+}
+
+impl<'r, R: Files> DirShelf<'r, R> {
+    pub fn new(rt: &'r R) -> Self {
+        DirShelf { rt, faults: 0 }
+    }
+}
+
+impl<'r, R: Files> Shelf for DirShelf<'r, R> {
+    ghost use Rattle.std.specs.Prelude.{None};
+
+    ghost files = { λ _. None };
+
+    ghost faults = { λ s. s.faults };
+
+    ghost name_faults = { λ _ _. 0 };
+
+    fn read_at(&mut self, name: &str, at: u64, buf: &mut [u8]) -> Result<usize, Failed> {
+        let mut file = FileFrom {
+            rt: self.rt,
+            name,
+            at,
+        };
+        match read_again(&mut file, buf) {
+            Some(count) => Ok(count),
+            None => {
+                self.faults = self.faults.saturating_add(1);
+                Err(Failed)
+            }
+        }
+    }
+}

@@ -1,0 +1,3 @@
+pub mod PairSheet
+pub mod Pattern
+pub mod Laws
