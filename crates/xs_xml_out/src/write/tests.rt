@@ -1,4 +1,4 @@
-ghost use Rattle.std.specs.Prelude.{◌≡◌, length, IfOk};
+ghost use Rattle.std.specs.Prelude.{◌≡◌, ◌<◌, length, IfOk};
 ghost use Rattle.xs_xml_out.specs.Balanced.{IsBalanced};
 
 use super::*;
@@ -8,10 +8,11 @@ use xs_class::{ATTR_END, Text};
 
 /// The list of these names, each of which is another.
 fn names_of(alloc: Global, texts: &[&str]) -> Result<Names, Memory>
+    requires { length texts.now < 65536 }
     ensures { IfOk result (λ names. length names ≡ length texts.now) }
 {
     let mut list = Vec::new(alloc);
-    for text in texts {
+    'texts: for text in texts {
         list.push(Text::of(alloc, text)?)?;
     }
     let names = Names::of(alloc, &list)?;
