@@ -1,6 +1,7 @@
 pub mod Built
 pub mod Choice
 pub mod Copies
+pub mod Flags
 pub mod Merging
 pub mod Repetition
 pub mod Rows

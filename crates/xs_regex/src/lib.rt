@@ -7,10 +7,12 @@
 mod automaton;
 mod compose;
 mod lists;
+mod matching;
 mod position;
 mod regex;
 mod repeat;
 
 pub use automaton::positions;
+pub use matching::matches;
 pub use position::{Classes, Follows, Numbers, Position};
 pub use regex::Regex;
