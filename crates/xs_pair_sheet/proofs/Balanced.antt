@@ -1,5 +1,8 @@
 -- What a text of the pair sheet is turned into is a balanced word of its names.
-use Rattle.std.proofs.Common.{◌≡◌, ◌<◌, ◌≤◌, ℕ, List, [], ◌∷◌, true, refl, sym, ◌∙◌, ap, subst, arith}
+use Rattle.std.proofs.Common.{◌≡◌, ◌<◌, ◌≤◌, ℕ, zero, suc, List, [], ◌∷◌, true, refl, sym, ◌∙◌, ap, subst, arith, codes}
+use Rattle.std.specs.Str.{chars}
+use Rattle.xs_class.specs.Ordered.{IsOrdered, AreNamesOf}
+use Rattle.xs_pair_sheet.proofs.Ordered.{ordered_same}
 use Rattle.std.proofs.lemmas.Bool.Decides.{nat_tests}
 use Rattle.xs_piece.specs.Tables.{is_char}
 use Rattle.xs_gram.specs.Common.{Common, strip, print}
@@ -43,3 +46,40 @@ pub turned_balanced : (doc w : List ℕ) → IsTurned doc w → IsBalanced pair_
 turned_balanced doc w (t, has, is) =
     let (a, b, first, second, t_is) = one_tree doc t has in
     subst (λ v. IsBalanced pair_names v) (sym (is ∙ ap (λ s. print pair_xml s) t_is ∙ prints a b)) (digits_balanced a b (digit_is_char a first) (digit_is_char b second))
+
+-- the names in their order
+pair_ordered : IsOrdered pair_names
+unfolding lib.Utf8.encode
+pair_ordered zero zero d lt le = absurd (omega arith)
+pair_ordered zero (suc zero) d lt le = refl
+pair_ordered zero (suc (suc zero)) d lt le = refl
+pair_ordered zero (suc (suc (suc j))) d lt le = absurd (omega arith)
+pair_ordered (suc zero) zero d lt le = absurd (omega arith)
+pair_ordered (suc zero) (suc zero) d lt le = absurd (omega arith)
+pair_ordered (suc zero) (suc (suc zero)) d lt le = refl
+pair_ordered (suc zero) (suc (suc (suc j))) d lt le = absurd (omega arith)
+pair_ordered (suc (suc i)) zero d lt le = absurd (omega arith)
+pair_ordered (suc (suc i)) (suc zero) d lt le = absurd (omega arith)
+pair_ordered (suc (suc i)) (suc (suc zero)) d lt le = absurd (omega arith)
+pair_ordered (suc (suc i)) (suc (suc (suc j))) d lt le = absurd (omega arith)
+
+pub names_are : (p x y : List ℕ) (names : List (List ℕ)) → p ≡ codes "p" → x ≡ codes "x" → y ≡ codes "y" → AreNamesOf (p ∷ x ∷ y ∷ []) names → names ≡ pair_names
+names_are p x y names p_is x_is y_is are = same names (subst3 p x y p_is x_is y_is are)
+  where
+    subst3 : (p x y : List ℕ) → p ≡ codes "p" → x ≡ codes "x" → y ≡ codes "y" → AreNamesOf (p ∷ x ∷ y ∷ []) names → AreNamesOf pair_names names
+    subst3 p x y e f g are = subst (λ (l : List (List ℕ)). AreNamesOf l names) (rw (e, f, g) refl) are
+    same : (names : List (List ℕ)) → AreNamesOf pair_names names → names ≡ pair_names
+    same names are = ordered_same names pair_names are.ordered pair_ordered are.same
+
+-- the characters of one letter
+pub one_p : chars (codes "p") ≡ codes "p"
+unfolding chars
+one_p = refl
+
+pub one_x : chars (codes "x") ≡ codes "x"
+unfolding chars
+one_x = refl
+
+pub one_y : chars (codes "y") ≡ codes "y"
+unfolding chars
+one_y = refl

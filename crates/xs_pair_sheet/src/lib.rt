@@ -4,7 +4,6 @@
 #![tactic(auto)]
 
 ghost use Rattle.std.specs.Prelude.{◌≡◌, ◌↔◌, ℕ, List, [], ◌∷◌, IsTrue, IfOk, IfErr};
-ghost use Rattle.xs_class.specs.Ordered.{AreNamesOf};
 ghost use Rattle.xs_xml_out.specs.Written.{xml_bytes};
 ghost use Rattle.xs_gram.specs.Languages.{IsUnique};
 ghost use Rattle.xs_pair_sheet.specs.PairSheet.{pair_sheet, pair_text, pair_names};
@@ -110,12 +109,13 @@ pub fn pair_is_unique()
 
 // The names of the pair sheet's elements, each once, in order.
 fn names(alloc: Global) -> Result<Names, Memory>
-    ensures { IfOk result (AreNamesOf pair_names) }
+    ensures { IfOk result (λ names. names ≡ pair_names) }
 {
     let p = Text::of(alloc, "p")?;
     let x = Text::of(alloc, "x")?;
     let y = Text::of(alloc, "y")?;
-    Names::of(alloc, &[p, x, y])
+    let names = Names::of(alloc, &[p, x, y])?;
+    Ok(names)
 }
 
 /// The XML document of the XML side's word of a text.
@@ -124,5 +124,6 @@ pub fn pair_document(alloc: Global, word: &Word) -> Result<Bytes, Memory>
     ensures { IfOk result (λ bytes. bytes ≡ xml_bytes pair_names word.now) }
 {
     let names = names(alloc)?;
-    write_xml(alloc, &names, word)
+    let bytes = write_xml(alloc, &names, word)?;
+    Ok(bytes)
 }

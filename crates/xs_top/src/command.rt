@@ -1,10 +1,11 @@
 ghost use Rattle.std.specs.Prelude.{◌≡◌, map, string_bytes};
 ghost use Rattle.std.specs.Option.{option_map};
-ghost use Rattle.xs_top.specs.Command.{command_of, form_of, to_xml as turned_by, meant};
+ghost use Rattle.xs_top.specs.Command.{command_of as meant_by, form_of, to_xml as turned_by, meant};
 
 use xs_chars::Form;
 
 /// A command: the name of the sheet's file, and the form of the text.
+#[derive(Clone, Copy)]
 pub struct Command<'w> {
     pub sheet: &'w str,
     pub form: Form,
@@ -37,8 +38,8 @@ fn to_xml<'w>(verb: &str, sheet: &'w str, form: Option<Form>) -> Option<Command<
 }
 
 /// The command of the words, or None where they are none.
-pub fn command(words: &[String]) -> Option<Command<'_>>
-    ensures { option_map meant result ≡ command_of (map string_bytes words.now) }
+pub fn command_of(words: &[String]) -> Option<Command<'_>>
+    ensures { option_map meant result ≡ meant_by (map string_bytes words.now) }
 {
     match words {
         [verb, sheet] => to_xml(verb.as_str(), sheet.as_str(), Some(Form::AsIs)),

@@ -12,14 +12,13 @@ mod command;
 mod outcome;
 mod turning;
 
-use crate::command::command;
-use crate::turning::{Answer, answer};
+use crate::command::command_of;
+use crate::turning::{Answer, turn};
+pub use outcome::{Outcome, status};
 use std::alloc::Global;
 use xs_class::Memory;
 use xs_io::{ReadStop, Shelf, Sink, Source, WriteFault, put_all, read_all, read_file};
 use xs_pair_sheet::is_pair_sheet;
-
-pub use outcome::{Outcome, status};
 
 /// How many bytes a sheet may have.
 pub const SHEET_LIMIT: usize = 65_536;
@@ -52,7 +51,7 @@ pub fn run<S: Source, H: Shelf, K: Sink, N: Sink>(
     ensures notes { notes.new ≡ notes.old }
 {
     let _ = &notes;
-    let Some(command) = command(words) else {
+    let Some(command) = command_of(words) else {
         return Ok(Outcome::Usage);
     };
     match read_file(alloc, shelf, command.sheet, SHEET_LIMIT) {
@@ -71,7 +70,7 @@ pub fn run<S: Source, H: Shelf, K: Sink, N: Sink>(
         Err(ReadStop::TooLong) => return Ok(Outcome::DocLong),
         Err(ReadStop::Memory) => return Err(Memory),
     };
-    match answer(alloc, bytes.as_slice(), command.form)? {
+    match turn(alloc, bytes.as_slice(), command.form)? {
         Answer::NotUtf8 { at } => Ok(Outcome::NotUtf8 { at }),
         Answer::Foreign { viable } => Ok(Outcome::Foreign { viable }),
         Answer::Document(document) => match put_all(out, document.as_slice()) {
@@ -80,3 +79,6 @@ pub fn run<S: Source, H: Shelf, K: Sink, N: Sink>(
         },
     }
 }
+
+#[cfg(test)]
+mod tests;

@@ -15,7 +15,7 @@ pub enum Answer {
 }
 
 /// The answer to the bytes of a text in this form.
-pub fn answer(alloc: Global, bytes: &[u8], form: Form) -> Result<Answer, Memory>
+pub fn turn(alloc: Global, bytes: &[u8], form: Form) -> Result<Answer, Memory>
     ensures { IfOk result (IsAnswered bytes.now form) }
 {
     let doc = match read_text(alloc, bytes, form) {
