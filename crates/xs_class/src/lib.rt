@@ -13,6 +13,8 @@ mod names;
 mod side;
 mod sym;
 mod tables;
+#[cfg(test)]
+mod tests;
 mod text;
 mod word;
 
