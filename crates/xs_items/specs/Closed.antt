@@ -1,6 +1,6 @@
 -- When sets of items are closed, and how far a document is read by them. Throughout `has j c i` says
 -- that set j has the item of place c and origin i.
-use Rattle.std.specs.Prelude.{◌≡◌, ◌⊎◌, ℕ, suc, ◌<◌, ◌≤◌, List, ◌++◌, length, slice_get, Some, Contains, IsTrue}
+use Rattle.std.specs.Prelude.{◌≡◌, ◌⊎◌, ℕ, suc, ◌<◌, ◌≤◌, List, ◌++◌, length, slice_get, None, Some, Contains, IsTrue}
 use Rattle.xs_regex.specs.declared.position.Position.{Position}
 use Rattle.xs_regex.specs.Automaton.{HasAt, Leads}
 use Rattle.xs_gram.specs.declared.parts.GItem.TheVariants.{Fixed, Non}
@@ -52,12 +52,14 @@ HasAllThatStand g w has = (c : Place) (i j : ℕ) → Stands g w c i j → has j
 abbrev pub IsWhole : Grammar → List ℕ → (ℕ → Place → ℕ → Type 0) → Type 0
 IsWhole g w has = (p : ℕ) × IsRuleOf g g.start p × has (length w) (at_dot p (length (items g p))) 0
 
--- The document is read up to place k: set k has an item, or an item stands before a fixed word that
--- begins with what is read from the item's set up to k.
+-- From an item of this place in set j the document is read up to place k: no further than j, or by a
+-- front of the fixed word that the item stands before.
+abbrev pub ReadsTo : Grammar → List ℕ → ℕ → Place → ℕ → Type 0
+ReadsTo g w j c k = (k ≡ j) ⊎ ((u : List ℕ) × (rest : List ℕ) × (c.inside ≡ None) × ItemAt g c.rule c.dot (Fixed (u ++ rest)) × Reads w j u k)
+
+-- the document is read up to place k from an item of the sets
 abbrev pub IsReached : Grammar → List ℕ → (ℕ → Place → ℕ → Type 0) → ℕ → Type 0
-IsReached g w has k =
-    ((c : Place) × (i : ℕ) × has k c i) ⊎
-    ((p : ℕ) × (n : ℕ) × (i : ℕ) × (j : ℕ) × (u : List ℕ) × (rest : List ℕ) × has j (at_dot p n) i × ItemAt g p n (Fixed (u ++ rest)) × Reads w j u k)
+IsReached g w has k = (j : ℕ) × (c : Place) × (i : ℕ) × has j c i × ReadsTo g w j c k
 
 -- k is the last place up to which the document is read
 abbrev pub IsFarthest : Grammar → List ℕ → (ℕ → Place → ℕ → Type 0) → ℕ → Type 0

@@ -7,3 +7,9 @@
 //! is a law, and does nothing when it runs.
 #![tactic(auto)]
 
+mod laws;
+
+pub use laws::{
+    chart_has_standing, closed_is_chart, closed_is_complete, farthest_is_viable, reached_is_front,
+    recogniser_closes, standing_is_closed, whole_is_in_language,
+};
