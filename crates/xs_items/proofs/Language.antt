@@ -14,10 +14,10 @@ use Rattle.xs_items.proofs.Words.{Reads-same, Reads-from_slice}
 use Rattle.xs_items.proofs.Spelling.{whole-Spells, Spells-whole}
 use Rattle.xs_items.proofs.Standing.{stood}
 
-slice-all : (w : List ℕ) → slice_range w 0 (length w) ≡ w
+pub slice-all : (w : List ℕ) → slice_range w 0 (length w) ≡ w
 slice-all w = let e : length w - 0 ≡ length w = omega arith in rw e (take-length w)
 
-Reads-all : (w : List ℕ) → Reads w 0 w (length w)
+pub Reads-all : (w : List ℕ) → Reads w 0 w (length w)
 Reads-all w = Reads-same w 0 (slice_range w 0 (length w)) w (length w) (slice-all w) (Reads-from_slice w 0 (length w) (omega arith) (omega arith))
 
 pub whole_of : (g : Grammar) (w : List ℕ) → InLang g w → IsWhole g w (λ j c i. Stands g w c i j)

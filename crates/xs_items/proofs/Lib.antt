@@ -8,3 +8,6 @@ pub mod Fillings
 pub mod Fronts
 pub mod Numbers
 pub mod Charts
+pub mod Steps
+pub mod Settling
+pub mod Reaching

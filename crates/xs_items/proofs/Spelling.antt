@@ -1,5 +1,5 @@
 -- The first items of a rule spelt, and the automata of its items.
-use Rattle.std.proofs.Common.{append-nil, append_assoc, ◌≡◌, ℕ, suc, List, [], ◌∷◌, ◌++◌, length, take, refl, sym, ap, ◌∙◌, arith}
+use Rattle.std.proofs.Common.{append-nil, append_assoc, ◌≡◌, ℕ, suc, List, [], ◌∷◌, ◌++◌, ◌≤◌, length, take, refl, sym, ap, ◌∙◌, arith}
 use Rattle.std.proofs.Math.Seq.{take-length}
 use Rattle.xs_regex.specs.declared.position.Position.{Position}
 use Rattle.xs_regex.specs.Automaton.{Accepts}
@@ -54,15 +54,12 @@ Spells-more g p n u item rs sp at f = (
   then-yield sp.1 rs ∙ ap (λ (z : List ℕ). z ++ parts_yield rs) sp.3,
 )
 
-then-split : (ps a b : Parts) → ps ≡ parts_then a b → parts_yield ps ≡ parts_yield a ++ parts_yield b
-then-split ps a b e = ap parts_yield e ∙ then-yield a b
-
 -- the last part, and what is before it
 pub Spells-less : (g : Grammar) (p n : ℕ) (u : List ℕ) (item : GItem) → ItemAt g p n item → Spells g p (suc n) u → (v : List ℕ) × (rs : Parts) × Spells g p n v × FitsItems g (item ∷ []) rs × (u ≡ v ++ parts_yield rs)
-Spells-less g p n u item at sp =
-    let r = split_parts g (take n (items g p)) (item ∷ []) sp.1 (rw (get_take (items g p) n item at) at sp.2) in
-    let lt = get_lt (items g p) n item at in
-    (parts_yield r.0, r.1, (omega arith, r.0, r.2, refl), r.3, sym sp.3 ∙ then-split sp.1 r.0 r.1 r.4)
+Spells-less g p n u item at sp = less (get_lt (items g p) n item at) (split_parts g (take n (items g p)) (item ∷ []) sp.1 (rw (get_take (items g p) n item at) at sp.2))
+  where
+    less : suc n ≤ length (items g p) → (a : Parts) × (b : Parts) × FitsItems g (take n (items g p)) a × FitsItems g (item ∷ []) b × (sp.1 ≡ parts_then a b) → (v : List ℕ) × (rs : Parts) × Spells g p n v × FitsItems g (item ∷ []) rs × (u ≡ v ++ parts_yield rs)
+    less lt (a, b, front, last, is) = (parts_yield a, b, (omega arith, a, front, refl), last, sym sp.3 ∙ ap parts_yield is ∙ then-yield a b)
 
 -- the parts of a whole rule
 pub Spells-whole : (g : Grammar) (q : ℕ) (u : List ℕ) → Spells g q (length (items g q)) u → (ps : Parts) × FitsItems g (items g q) ps × (parts_yield ps ≡ u)

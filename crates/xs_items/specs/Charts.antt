@@ -1,13 +1,13 @@
 -- The chart of a document: the items that stand, by the numbers of their places.
-use Rattle.std.specs.Prelude.{◌≡◌, ◌↔◌, ℕ, suc, List, [], length, None, Some, slice_get, slice_index_or, Contains}
+use Rattle.std.specs.Prelude.{◌≡◌, ◌↔◌, ℕ, suc, List, [], length, Some, slice_get, slice_index_or, Contains}
 use Rattle.xs_chart.specs.declared.item.Item.{Item}
 use Rattle.xs_chart.specs.Filled.{AreDifferent}
 use Rattle.xs_chart.specs.Charted.{Charted, items_of, waiting_of}
-use Rattle.xs_gram.specs.declared.parts.GItem.TheVariants.{Non}
 use Rattle.xs_gram.specs.declared.places.Place.{Place}
-use Rattle.xs_gram.specs.Grammar.{Grammar, ItemAt}
+use Rattle.xs_gram.specs.Grammar.{Grammar}
 use Rattle.xs_gram.specs.Chart.{Stands}
 use Rattle.xs_gram.specs.Places.{all_places}
+use Rattle.xs_items.specs.Steps.{IsBefore}
 
 -- k is the number of the place
 abbrev pub IsNumber : Grammar → ℕ → Place → Type 0
@@ -36,12 +36,12 @@ pub record IsChartOf (g : Grammar) (w : List ℕ) (sets : List (List Item)) : Ty
   pub stand : (j : ℕ) (item : Item) → Contains (set_at sets j) item ↔ ItemStands g w item j
   pub different : (j : ℕ) → AreDifferent (set_at sets j)
 
--- the place of this number stands before the nonterminal
-abbrev pub IsBefore : Grammar → ℕ → ℕ → Type 0
-IsBefore g k non = (c : Place) × IsNumber g k c × (c.inside ≡ None) × (slot : ℕ) × ItemAt g c.rule c.dot (Non non slot)
+-- the number is that of a place before the nonterminal
+abbrev pub IsNumberBefore : Grammar → ℕ → ℕ → Type 0
+IsNumberBefore g k non = (c : Place) × IsNumber g k c × IsBefore g c non
 
 -- The waiting list of each nonterminal in each set has the numbers of that set's items whose place
 -- stands before the nonterminal and no others, none twice.
 pub record HasWaiters (g : Grammar) (chart : Charted) : Type 0 where
-  pub exact : (j non n : ℕ) → Contains (waiting_of chart j non) n ↔ ((item : Item) × (slice_get (items_of chart j) n ≡ Some item) × IsBefore g item.state non)
+  pub exact : (j non n : ℕ) → Contains (waiting_of chart j non) n ↔ ((item : Item) × (slice_get (items_of chart j) n ≡ Some item) × IsNumberBefore g item.state non)
   pub once : (j non a b n : ℕ) → slice_get (waiting_of chart j non) a ≡ Some n → slice_get (waiting_of chart j non) b ≡ Some n → a ≡ b

@@ -3,8 +3,10 @@
 //! An item of a chart is a place of a rule and an origin, and it stands in a set where what lies
 //! before the place spells the document from the origin up to there. The definitions stand in
 //! specs/: Closed says when whatever the items of some sets lead to is in the sets, and how far the
-//! document is read by them; Charts says which sets are the chart of a document. Each function here
-//! is a law, and does nothing when it runs.
+//! document is read by them; Steps says the same of one item; Charts says which sets are the chart
+//! of a document, and what its waiting lists are. Each function here is a law, and does nothing when
+//! it runs. A recogniser is proved by the lemmas of proofs/: what an item that stands leads to
+//! stands (Steps), and sets whose items are all settled are the chart (Settling).
 #![tactic(auto)]
 
 mod laws;
