@@ -1,0 +1,35 @@
+-- The laws: what derivations spell is loose, and without suspects each word has one derivation.
+use Rattle.std.specs.Prelude.{◌≡◌, ℕ}
+use Rattle.std.specs.List.{concat, slice_range}
+use Rattle.xs_gram.specs.Grammar.{Grammar, items}
+use Rattle.xs_gram.specs.Derivations.{Parts, Derivation, Fits, parts_yield, yield}
+use Rattle.xs_gram.specs.Languages.{IsUnique}
+use Rattle.xs_gram.specs.Loose.{AreOne, IsLoose}
+use Rattle.xs_ambiguity.specs.Words.{part_words}
+use Rattle.xs_ambiguity.specs.Freedom.{HasNoVertical, HasNoHorizontal}
+
+-- it is decided of each two nonterminals whether they are of one component
+abbrev pub IsDecided : Grammar → Type 0
+IsDecided g = (m n : ℕ) → Dec (AreOne g m n)
+
+-- the words of parts, joined in order, are their yield
+abbrev pub WordsAreTheYield : Type 0
+WordsAreTheYield = (ps : Parts) → concat (part_words ps) ≡ parts_yield ps
+
+-- the words of each stretch of a derivation's parts, joined, are loose for that stretch of its rule's items
+abbrev pub YieldsAreLoose : Type 0
+YieldsAreLoose =
+    (g : Grammar) → IsDecided g → (non : ℕ) (d : Derivation) → Fits g non d → (start end : ℕ)
+    → IsLoose g (slice_range (items g d.rule) start end) (concat (slice_range (part_words d.parts) start end))
+
+-- two derivations of one nonterminal with one yield are equal
+abbrev pub IsUniqueAt : Grammar → ℕ → Type 0
+IsUniqueAt g non = (d e : Derivation) → Fits g non d → Fits g non e → yield d ≡ yield e → d ≡ e
+
+-- without suspects this holds of every nonterminal
+abbrev pub NoSuspectIsUniqueAt : Type 0
+NoSuspectIsUniqueAt = (g : Grammar) → IsDecided g → HasNoVertical g → HasNoHorizontal g → (non : ℕ) → IsUniqueAt g non
+
+-- and so each word of the language has one derivation
+abbrev pub NoSuspectIsUnique : Type 0
+NoSuspectIsUnique = (g : Grammar) → IsDecided g → HasNoVertical g → HasNoHorizontal g → IsUnique g
