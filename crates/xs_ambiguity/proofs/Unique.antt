@@ -12,7 +12,7 @@ use Rattle.xs_gram.specs.Suspects.{Overlaps}
 use Rattle.xs_gram.proofs.Inversion.{done_parts, fixed_parts, leaf_parts, skip_parts, sub_parts}
 use Rattle.xs_ambiguity.specs.Words.{part_words}
 use Rattle.xs_ambiguity.specs.Freedom.{HasNoVertical, HasNoHorizontal}
-use Rattle.xs_ambiguity.specs.Laws.{IsDecided, NoSuspectIsUniqueAt, NoSuspectIsUnique}
+use Rattle.xs_ambiguity.specs.Laws.{IsDecided, NoSuspectIsUniqueAt, NoSuspectIsUnique, AcceptedIsUnique}
 use Rattle.xs_ambiguity.proofs.Words.{Words, no_words, word_then, all_loose, loose_append, words_are_the_yield_lem}
 use Rattle.xs_ambiguity.proofs.Walks.{words_of}
 
@@ -151,3 +151,7 @@ no_suspect_is_unique_at_lem g decided apart none non d e fit fit' same =
 
 pub no_suspect_is_unique_lem : NoSuspectIsUnique
 no_suspect_is_unique_lem g decided apart none w d e a b = no_suspect_is_unique_at_lem g decided apart none g.start d e a.0 b.0 (a.1 ∙ sym b.1)
+
+pub accepted_is_unique_lem : AcceptedIsUnique
+accepted_is_unique_lem text xml decided decided' a =
+    (no_suspect_is_unique_lem text decided a.clear_text.0 a.clear_text.1, no_suspect_is_unique_lem xml decided' a.clear_xml.0 a.clear_xml.1)

@@ -1,12 +1,16 @@
--- The laws: what derivations spell is loose, and without suspects each word has one derivation.
-use Rattle.std.specs.Prelude.{◌≡◌, ℕ}
+-- The laws: what derivations spell is loose, without suspects each word has one derivation, and each
+-- part and rule has one weight.
+use Rattle.std.specs.Prelude.{◌≡◌, ℕ, List}
 use Rattle.std.specs.List.{concat, slice_range}
+use Rattle.xs_gram.specs.declared.parts.GItem.{GItem}
 use Rattle.xs_gram.specs.Grammar.{Grammar, items}
 use Rattle.xs_gram.specs.Derivations.{Parts, Derivation, Fits, parts_yield, yield}
 use Rattle.xs_gram.specs.Languages.{IsUnique}
 use Rattle.xs_gram.specs.Loose.{AreOne, IsLoose}
 use Rattle.xs_ambiguity.specs.Words.{part_words}
 use Rattle.xs_ambiguity.specs.Freedom.{HasNoVertical, HasNoHorizontal}
+use Rattle.xs_ambiguity.specs.Weights.{PartWeighs, RuleWeighs}
+use Rattle.xs_ambiguity.specs.Acceptance.{IsAccepted}
 
 -- it is decided of each two nonterminals whether they are of one component
 abbrev pub IsDecided : Grammar → Type 0
@@ -33,3 +37,15 @@ NoSuspectIsUniqueAt = (g : Grammar) → IsDecided g → HasNoVertical g → HasN
 -- and so each word of the language has one derivation
 abbrev pub NoSuspectIsUnique : Type 0
 NoSuspectIsUnique = (g : Grammar) → IsDecided g → HasNoVertical g → HasNoHorizontal g → IsUnique g
+
+-- where two grammars are accepted, each word of either language has one derivation
+abbrev pub AcceptedIsUnique : Type 0
+AcceptedIsUnique = (text xml : Grammar) → IsDecided text → IsDecided xml → IsAccepted text xml → IsUnique text × IsUnique xml
+
+-- a part has one weight
+abbrev pub PartWeighsOnce : Type 0
+PartWeighsOnce = (g : Grammar) (is : List GItem) (v w : ℕ) → PartWeighs g is v → PartWeighs g is w → v ≡ w
+
+-- a rule has one weight
+abbrev pub RuleWeighsOnce : Type 0
+RuleWeighsOnce = (g : Grammar) (p v w : ℕ) → RuleWeighs g p v → RuleWeighs g p w → v ≡ w

@@ -1,4 +1,4 @@
-ghost use Rattle.xs_ambiguity.specs.Laws.{WordsAreTheYield, YieldsAreLoose, NoSuspectIsUniqueAt, NoSuspectIsUnique};
+ghost use Rattle.xs_ambiguity.specs.Laws.{WordsAreTheYield, YieldsAreLoose, NoSuspectIsUniqueAt, NoSuspectIsUnique, AcceptedIsUnique, PartWeighsOnce, RuleWeighsOnce};
 
 /// The words of a derivation's parts, joined in order, are its yield.
 pub fn words_are_the_yield()
@@ -14,4 +14,15 @@ pub fn yields_are_loose()
 pub fn no_suspect_is_unique()
     ensures at { NoSuspectIsUniqueAt }
     ensures start { NoSuspectIsUnique }
+{}
+
+/// Where the two grammars of a sheet are accepted, each word of either has at most one derivation.
+pub fn accepted_is_unique()
+    ensures { AcceptedIsUnique }
+{}
+
+/// A part of a rule has one weight, and so has a rule.
+pub fn weights_are_exact()
+    ensures part { PartWeighsOnce }
+    ensures rule { RuleWeighsOnce }
 {}
