@@ -2,3 +2,4 @@ pub mod Words
 pub mod Walks
 pub mod Unique
 pub mod Weights
+pub mod Components

@@ -1,10 +1,10 @@
 -- A part has one weight, components weigh the same by whichever member they are named, and weights of
 -- stretches add up.
-use Rattle.std.proofs.Common.{◌≡◌, ℕ, zero, suc, ◌+◌, ◌*◌, ◌≤◌, min, List, [], ◌∷◌, ◌++◌, length, refl, sym, ap, subst, ◌∙◌, arith}
+use Rattle.std.proofs.Common.{◌≡◌, ℕ, suc, ◌+◌, ◌*◌, ◌≤◌, List, ◌++◌, refl, sym, ap, subst, ◌∙◌, arith}
 use Rattle.xs_gram.specs.declared.parts.GItem.{GItem}
-use Rattle.xs_gram.specs.Grammar.{Grammar, items}
-use Rattle.xs_gram.specs.Loose.{AreOne, IsMember}
-use Rattle.xs_ambiguity.specs.Weights.{capped, Members, no_member, member_next, other_next, ItemWeighs, fixed_weighs, term_weighs, skip_weighs, non_weighs, ComponentWeighs, component_weighs, RulesWeigh, no_rule_yet, rule_of_member, rule_of_other, BodyWeighs, no_body, member_then, other_then, PartWeighs, no_part, part_then, RuleWeighs}
+use Rattle.xs_gram.specs.Grammar.{Grammar}
+use Rattle.xs_gram.specs.Loose.{AreOne}
+use Rattle.xs_ambiguity.specs.Weights.{capped, Members, no_member, member_next, other_next, ItemWeighs, fixed_weighs, term_weighs, skip_weighs, non_weighs, ComponentWeighs, component_weighs, RulesWeigh, no_rule_yet, rule_of_member, rule_of_other, BodyWeighs, no_body, member_then, other_then, PartWeighs, no_part, part_then}
 use Rattle.xs_ambiguity.specs.Laws.{PartWeighsOnce, RuleWeighsOnce}
 use Rattle.xs_ambiguity.proofs.Walks.{one_on, one_back, member_moved}
 

@@ -1,11 +1,12 @@
 -- The laws: what derivations spell is loose, without suspects each word has one derivation, and each
 -- part and rule has one weight.
-use Rattle.std.specs.Prelude.{◌≡◌, ℕ, List}
+use Rattle.std.specs.Prelude.{◌≡◌, ℕ, ◌<◌, List}
 use Rattle.std.specs.List.{concat, slice_range}
 use Rattle.xs_gram.specs.declared.parts.GItem.{GItem}
 use Rattle.xs_gram.specs.Grammar.{Grammar, items}
 use Rattle.xs_gram.specs.Derivations.{Parts, Derivation, Fits, parts_yield, yield}
 use Rattle.xs_gram.specs.Languages.{IsUnique}
+use Rattle.xs_gram.specs.Sound.{IsInRange}
 use Rattle.xs_gram.specs.Loose.{AreOne, IsLoose}
 use Rattle.xs_ambiguity.specs.Words.{part_words}
 use Rattle.xs_ambiguity.specs.Freedom.{HasNoVertical, HasNoHorizontal}
@@ -15,6 +16,10 @@ use Rattle.xs_ambiguity.specs.Acceptance.{IsAccepted}
 -- it is decided of each two nonterminals whether they are of one component
 abbrev pub IsDecided : Grammar → Type 0
 IsDecided g = (m n : ℕ) → Dec (AreOne g m n)
+
+-- where this is decided of the nonterminals that the grammar has, it is decided of each two
+abbrev pub DecidedInRange : Type 0
+DecidedInRange = (g : Grammar) → IsInRange g → ((m n : ℕ) → m < g.nons → n < g.nons → Dec (AreOne g m n)) → IsDecided g
 
 -- the words of parts, joined in order, are their yield
 abbrev pub WordsAreTheYield : Type 0

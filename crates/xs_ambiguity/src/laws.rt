@@ -1,4 +1,10 @@
-ghost use Rattle.xs_ambiguity.specs.Laws.{WordsAreTheYield, YieldsAreLoose, NoSuspectIsUniqueAt, NoSuspectIsUnique, AcceptedIsUnique, PartWeighsOnce, RuleWeighsOnce};
+ghost use Rattle.xs_ambiguity.specs.Laws.{DecidedInRange, WordsAreTheYield, YieldsAreLoose, NoSuspectIsUniqueAt, NoSuspectIsUnique, AcceptedIsUnique, PartWeighsOnce, RuleWeighsOnce};
+
+/// It is decided of each two numbers whether they are nonterminals of one component, where it is of
+/// those that the grammar has.
+pub fn decided_in_range()
+    ensures { DecidedInRange }
+{}
 
 /// The words of a derivation's parts, joined in order, are its yield.
 pub fn words_are_the_yield()

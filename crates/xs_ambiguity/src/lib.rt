@@ -10,6 +10,6 @@
 mod laws;
 
 pub use laws::{
-    accepted_is_unique, no_suspect_is_unique, weights_are_exact, words_are_the_yield,
-    yields_are_loose,
+    accepted_is_unique, decided_in_range, no_suspect_is_unique, weights_are_exact,
+    words_are_the_yield, yields_are_loose,
 };
