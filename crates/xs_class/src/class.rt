@@ -53,6 +53,7 @@ impl Class {
         begun > 0 && number <= self.ranges[begun - 1].1
     }
 
+    /// Whether there is no member.
     pub fn is_empty(&self) -> bool
         ensures ranges { IsTrue result ↔ (self.now ≡ []) }
         ensures members { IsTrue result ↔ ((s : ℕ) → ¬ (Has self.now s)) }

@@ -47,20 +47,18 @@ fn a_name_gives_its_class(rt: HostRuntime) -> Result<(), Fail> {
 #[test]
 fn names_stand_in_the_order_of_their_bytes(rt: HostRuntime) -> Result<(), Fail> {
     let alloc = rt.alloc();
-    let mut list = Vec::new(alloc);
-    for name in ["y", "é", "p", "ab", "y", "a", "\u{1F600}", "\u{FFFD}"] {
-        list.push(Text::of(alloc, name)?)?;
-    }
+    let list = [
+        Text::of(alloc, "y")?,
+        Text::of(alloc, "é")?,
+        Text::of(alloc, "ab")?,
+        Text::of(alloc, "y")?,
+        Text::of(alloc, "a")?,
+        Text::of(alloc, "\u{1F600}")?,
+        Text::of(alloc, "\u{FFFD}")?,
+    ];
     let names = Names::of(alloc, &list)?;
-    assert_eq!(rt; names.len(), 7);
-    for (place, name) in [
-        (0, "a"),
-        (1, "ab"),
-        (2, "p"),
-        (3, "y"),
-        (4, "é"),
-        (5, "\u{FFFD}"),
-    ] {
+    assert_eq!(rt; names.len(), 6);
+    for (place, name) in [(0, "a"), (1, "ab"), (2, "y"), (3, "é"), (4, "\u{FFFD}")] {
         assert!(rt; names.place(name) == Some(place), "of {name}");
         assert_eq!(rt; names.name(place), name);
     }
