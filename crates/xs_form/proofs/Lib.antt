@@ -4,4 +4,5 @@ pub mod Numbers
 pub mod PieceLaws
 pub mod SettingLaws
 pub mod SortedLaws
+pub mod StateLaws
 pub mod ValueLaws

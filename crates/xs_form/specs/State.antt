@@ -59,6 +59,10 @@ left s n = None
 abbrev pub next_run : ℕ → ℕ → ℕ
 next_run k c = if c == 93 then (if k == 0 then 1 else 2) else 0
 
+-- the symbols of a character of a CDATA section; cr says that a CR stands before
+abbrev pub line_symbols : Bool → ℕ → List ℕ
+line_symbols cr c = if c == 10 && cr then [] else ((if c == 13 then 10 else c) ∷ [])
+
 abbrev pub moved : State → Option Spot → List ℕ → ℕ → Option State
 moved st None w k = None
 moved st (Some s) w k = Some (record { spot = s; word = st.word ++ w; fresh = false; run = k })
