@@ -82,6 +82,14 @@ abbrev pub taken : Bool → State → Option State
 taken true st = Some st
 taken false st = None
 
+-- the symbols of a document that ends here
+abbrev pub ended_word : Spot → List ℕ → Option (List ℕ)
+ended_word behind w = Some w
+ended_word s w = None
+
+abbrev pub finished : State → Option (List ℕ)
+finished st = ended_word st.spot st.word
+
 -- the name of a tag is a Name
 abbrev pub is_named : Seen → Bool
 is_named (begins n es) = is_name n

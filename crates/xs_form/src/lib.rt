@@ -5,6 +5,7 @@
 #![tactic(auto)]
 
 mod attributes;
+mod document;
 mod marks;
 mod pieces;
 mod reader;
@@ -12,3 +13,5 @@ mod references;
 mod runs;
 mod sorted;
 mod values;
+
+pub use document::{XmlFault, read_xml};

@@ -3,7 +3,7 @@ ghost use Rattle.xs_piece.specs.Piece.{is_name};
 ghost use Rattle.xs_piece.specs.Reads.{opening, closing, lines};
 ghost use Rattle.xs_form.specs.Sorted.{shown_entries, entry_symbols};
 ghost use Rattle.xs_form.specs.Seen.{declared, letter, given, begins, stands, ends, aside, section, shown_event};
-ghost use Rattle.xs_form.specs.State.{next_run as next_run_of, initial, line_symbols, state_of, is_inside, step, taken, is_named};
+ghost use Rattle.xs_form.specs.State.{next_run as next_run_of, initial, line_symbols, state_of, is_inside, step, taken, finished, is_named};
 
 use crate::marks::{closing_mark, opening_mark, spelled};
 use crate::pieces::Event;
@@ -211,6 +211,37 @@ impl<'a> Reader<'a> {
         self.fresh = false;
         self.run = 0;
         Ok(true)
+    }
+
+    /// Whether the piece may stand here. Where it may, its symbols are appended.
+    pub fn take(&mut self, alloc: Global, names: &Names, event: Event<'a>) -> Result<bool, Memory>
+        requires { is_named (shown_event event) ≡ true }
+        ensures { IfOk result (λ b. taken b (state_of self.new) ≡ step names.now (state_of self.old) (shown_event event.entry)) }
+    {
+        match event {
+            Event::Declaration => Ok(self.declaration()),
+            Event::Character(c) => self.character(c),
+            Event::Reference(c) => self.reference(c),
+            Event::Start { name, attributes } => self.start(alloc, names, name, attributes),
+            Event::Empty { name, attributes } => self.empty(alloc, names, name, attributes),
+            Event::End(name) => self.end(alloc, names, name),
+            Event::Aside => {
+                self.aside();
+                Ok(true)
+            }
+            Event::Section(body) => self.section(body),
+        }
+    }
+
+    /// The symbols, where the root element has ended.
+    pub fn finish(self) -> Option<Word>
+        ensures { result ≡ finished (state_of self.entry) }
+    {
+        if self.names.is_empty() && self.ended {
+            Some(self.word)
+        } else {
+            None
+        }
     }
 }
 
