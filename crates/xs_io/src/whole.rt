@@ -165,13 +165,13 @@ fn read_file_pieces<H: Shelf>(
 {
     let mut bytes = Bytes::new(alloc);
     'pieces: loop {
-        let left = limit - bytes.len();
-        let want = left.min(buf.len() - 1) + 1;
+        let rest = limit - bytes.len();
+        let want = rest.min(buf.len() - 1) + 1;
         let count = shelf.read_at(name, bytes.len() as u64, &mut buf[..want])?;
         if count == 0 {
             return Ok(bytes);
         }
-        if count > left {
+        if count > rest {
             return Err(ReadStop::TooLong);
         }
         bytes.extend(&buf[..count])?;
