@@ -51,8 +51,7 @@ pub digit_step : (f : ℕ → Bool) (b n x h e : ℕ) (ds : List ℕ) (i : ℕ) 
 digit_step f b n x h e ds i t one low is class value all so_far =
     let next = drop_next ds i e low is in
     let a : all_of f (e ∷ drop (i + 1) ds) ≡ all_of f (drop (i + 1) ds) = rw class refl in
-    let s : number b x (e ∷ drop (i + 1) ds) ≡ number b (x * b + h) (drop (i + 1) ds) = rw value refl in
-    (
+    let s : number b x (e ∷ drop (i + 1) ds) ≡ number b (x * b + h) (drop (i + 1) ds) = rw value refl in (
       all ∙ ap (λ (y : List ℕ). all_of f y) next ∙ a,
       so_far ∙ ap (λ (y : List ℕ). min (number b x y) 1114112) next ∙ ap (λ (y : ℕ). min y 1114112) s ∙ capped b (x * b + h) (drop (i + 1) ds) one,
     )

@@ -12,6 +12,8 @@ mod reader;
 mod references;
 mod runs;
 mod sorted;
+#[cfg(test)]
+mod tests;
 mod values;
 
 pub use document::{XmlFault, read_xml};

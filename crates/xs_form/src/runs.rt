@@ -193,7 +193,11 @@ fn lowered(symbol: Sym) -> Sym
     ensures { result ≡ lower symbol }
 {
     let number = symbol.number();
-    if 65 <= number && number <= 90 { Sym(number + 32) } else { symbol }
+    if 65 <= number && number <= 90 {
+        Sym(number + 32)
+    } else {
+        symbol
+    }
 }
 
 /// Whether the text is this ASCII word of lower-case letters, in any case.
