@@ -73,13 +73,15 @@ pub fn read_xml(alloc: Global, names: &Names, doc: &Word) -> Result<Word, XmlFau
     let mut reader = Reader::new(alloc);
     let mut rest = whole;
     'pieces: while !rest.is_empty() {
-        let Some((event, more)) = event_at(alloc, rest)? else {
-            return Err(broken(whole, rest));
-        };
-        if !reader.take(alloc, names, event)? {
-            return Err(broken(whole, rest));
+        match event_at(alloc, rest)? {
+            None => return Err(broken(whole, rest)),
+            Some((event, more)) => {
+                if !reader.take(alloc, names, event)? {
+                    return Err(broken(whole, rest));
+                }
+                rest = more;
+            }
         }
-        rest = more;
     }
     match reader.finish() {
         Some(word) => Ok(word),

@@ -97,8 +97,8 @@ fn section(text: &[Sym]) -> Option<(Event<'_>, &[Sym])>
 fn comment(text: &[Sym]) -> Option<(Event<'_>, &[Sym])>
     ensures { option_map shown_found result ≡ option_map found (in_comment text.now) }
 {
-    let (body, more) = cut_at(text, b"--")?;
-    let rest = behind(more, b">")?;
+    let (body, closing) = cut_at(text, b"--")?;
+    let rest = behind(closing, b">")?;
     if !all_allowed(body) {
         return None;
     }
