@@ -1,3 +1,5 @@
+pub mod Adding
 pub mod Chars
 pub mod Members
+pub mod Merging
 pub mod Places

@@ -1,9 +1,9 @@
 -- The members of sorted ranges, by place.
-use Rattle.std.proofs.Common.{◌≡◌, ◌∙◌, ◌<◌, ◌≤◌, ◌+◌, ◌-◌, inl, inr, sym, subst, ℕ, suc, zero, List, [], ◌∷◌, length, get_or, Bool, leb, IsTrue, ◌↔◌, arith}
+use Rattle.std.proofs.Common.{◌≡◌, ◌∙◌, ◌<◌, ◌≤◌, ◌+◌, ◌-◌, inl, inr, sym, subst, ℕ, suc, zero, List, [], ◌∷◌, length, get_or, Bool, leb, IsTrue, ◌↔◌, ◌==◌, arith}
 use Rattle.std.specs.List.Sorted.{IsPartitionedBy, IsPartitionPoint}
-use Rattle.std.proofs.lemmas.Bool.{cases_lt, leb-true, le-leb}
+use Rattle.std.proofs.lemmas.Bool.{cases_lt, leb-true, le-leb, eqb-true}
 use Rattle.std.proofs.lemmas.List.{get_or_default}
-use Rattle.xs_class.specs.Classes.{Has, RisesFrom, IsClass}
+use Rattle.xs_class.specs.Classes.{Has, IsLeast, RisesFrom, IsClass}
 
 -- a member is in the range at some place
 abbrev pub IsAt : List (ℕ × ℕ) → ℕ → ℕ → Type 0
@@ -100,3 +100,25 @@ has_where_begun rs s i r up within parts some at =
 
 pub has_where_none_begun : (rs : List (ℕ × ℕ)) (s i : ℕ) → IsClass rs → i ≤ length rs → IsPartitionPoint (λ r. r.0 ≤ s) (λ r. s < r.0) rs i → i ≤ 0 → Has rs s → ⊥
 has_where_none_begun rs s i up within parts none h = omega (arith, (found_by_search rs s i up parts within h).0)
+
+pub first_is_least : (rs : List (ℕ × ℕ)) (r : ℕ × ℕ) → IsClass rs → 0 < length rs → r ≡ get_or rs 0 r → IsLeast rs r.0
+first_is_least [] r up some at = absurd (omega arith)
+first_is_least (x ∷ xs) r up some at =
+    let order : x.0 ≤ x.1 = up.1 in
+    let P : ℕ × ℕ → Type 0 = λ q. IsLeast (x ∷ xs) q.0 in
+    subst P (sym at) (
+      inl (omega arith, order),
+      λ t h. let k = place_of_member (x ∷ xs) t h in
+          let begins : x.0 ≤ (get_or (x ∷ xs) k.0 (0, 0)).0 = first_begins k.0 order up.3 k.1.0 in
+          omega (arith, k.1.1),
+    )
+  where
+    first_begins : (k : ℕ) → x.0 ≤ x.1 → RisesFrom (x.1 + 2) xs → k < suc (length xs) → x.0 ≤ (get_or (x ∷ xs) k (0, 0)).0
+    first_begins zero order up h = omega arith
+    first_begins (suc k) order up h = omega (arith, starts_from (x.1 + 2) xs k up (omega arith))
+
+pub empty_is_memberless : (rs : List (ℕ × ℕ)) (b : Bool) → IsClass rs → b ≡ (length rs == 0) → IsTrue b ↔ ((s : ℕ) → Has rs s → ⊥)
+empty_is_memberless [] b up is = (λ t s h. h, λ h. is)
+empty_is_memberless (r ∷ rs) b up is =
+    let order : r.0 ≤ r.1 = up.1 in
+    (λ t. absurd (omega (arith, eqb-true _ _ (sym is ∙ t))), λ h. absurd (h r.0 (inl (omega arith, order))))

@@ -37,6 +37,15 @@ impl Bytes {
         Ok(list)
     }
 
+    /// The same bytes once more.
+    pub fn copy(&self) -> Result<Self, Memory>
+        ensures { IfOk result (λ b. b ≡ self.now) }
+    {
+        Ok(Bytes {
+            bytes: Vec::from_slice(*self.bytes.allocator(), &self.bytes)?,
+        })
+    }
+
     pub fn push(&mut self, byte: u8) -> Result<(), Memory>
         ensures ok { OnOk result (self.new ≡ self.old ++ byte ∷ []) }
         ensures err { OnErr result (self.new ≡ self.old) }

@@ -11,6 +11,7 @@ mod memory;
 mod names;
 mod side;
 mod sym;
+mod tables;
 mod text;
 mod word;
 
@@ -21,5 +22,6 @@ pub use memory::Memory;
 pub use names::Names;
 pub use side::Side;
 pub use sym::{ATTR_END, STRANGE, Sym};
+pub use tables::{is_char, is_name_char, is_name_start};
 pub use text::Text;
 pub use word::Word;

@@ -39,6 +39,13 @@ impl Text {
         })
     }
 
+    /// The same text once more.
+    pub fn copy(&self) -> Result<Self, Memory>
+        ensures { IfOk result (λ t. t ≡ self.now) }
+    {
+        Text::of(*self.text.allocator(), self.text.as_str())
+    }
+
     pub fn push(&mut self, c: char) -> Result<(), Memory>
         ensures ok { OnOk result (self.new ≡ self.old ++ c ∷ []) }
         ensures err { OnErr result (self.new ≡ self.old) }

@@ -37,6 +37,15 @@ impl Word {
         Ok(word)
     }
 
+    /// The same word once more.
+    pub fn copy(&self) -> Result<Self, Memory>
+        ensures { IfOk result (λ w. w ≡ self.now) }
+    {
+        Ok(Word {
+            symbols: Vec::from_slice(*self.symbols.allocator(), &self.symbols)?,
+        })
+    }
+
     pub fn push(&mut self, symbol: Sym) -> Result<(), Memory>
         ensures ok { OnOk result (self.new ≡ self.old ++ symbol ∷ []) }
         ensures err { OnErr result (self.new ≡ self.old) }
