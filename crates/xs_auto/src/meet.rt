@@ -34,34 +34,34 @@ pub fn meet_word(alloc: Global, a: &Net, b: &Net, pairs: &mut Pairs) -> Result<O
 }
 
 /// The pairs of states that two nets reach by one word from their starts.
-pub fn reach(alloc: Global, m: &Net, n: &Net, pairs: &mut Pairs) -> Result<Layer, Memory>
-    requires start_m { IsSome m.now.start }
-    requires start_n { IsSome n.now.start }
-    requires room { states m.now * states n.now ≤ pairs.old.cells }
+pub fn reach(alloc: Global, first: &Net, second: &Net, pairs: &mut Pairs) -> Result<Layer, Memory>
+    requires start_first { IsSome first.now.start }
+    requires start_second { IsSome second.now.start }
+    requires room { states first.now * states second.now ≤ pairs.old.cells }
     ensures cells { pairs.new.cells ≡ pairs.old.cells }
-    ensures ok { IfOk result (IsSeeded m.now n.now (IsRoot m.now n.now)) }
+    ensures ok { IfOk result (IsSeeded first.now second.now (IsRoot first.now second.now)) }
 {
     pairs.clear(0);
-    let mut layer = Layer::new(alloc, 0, m, n);
+    let mut layer = Layer::new(alloc, 0, first, second);
     let root = Step {
-        first: m.start().unwrap(),
-        second: n.start().unwrap(),
+        first: first.start().unwrap(),
+        second: second.start().unwrap(),
         from: 0,
     };
     layer.visit(pairs, root)?;
-    layer.close(pairs, m, n)?;
+    layer.close(pairs, first, second)?;
     Ok(layer)
 }
 
 /// The place of the first pair of two final states, if there is one.
-pub fn final_pair(m: &Net, n: &Net, steps: &[Step]) -> Option<usize>
-    requires { InNets m.now n.now steps.now }
-    ensures some { IfSome result (EndsBoth m.now n.now steps.now) }
-    ensures none { IfNone result ((k : ℕ) → EndsBoth m.now n.now steps.now k → ⊥) }
+pub fn final_pair(first: &Net, second: &Net, steps: &[Step]) -> Option<usize>
+    requires { InNets first.now second.now steps.now }
+    ensures some { IfSome result (EndsBoth first.now second.now steps.now) }
+    ensures none { IfNone result ((k : ℕ) → EndsBoth first.now second.now steps.now k → ⊥) }
 {
     'places: for place in 0..steps.len() {
         let at = steps[place];
-        if m.is_final(at.first) && n.is_final(at.second) {
+        if first.is_final(at.first) && second.is_final(at.second) {
             return Some(place);
         }
     }

@@ -43,19 +43,19 @@ impl Layer {
         &mut self,
         pairs: &mut Pairs,
         steps: &[Step],
-        m: &Net,
-        n: &Net,
+        first: &Net,
+        second: &Net,
     ) -> Result<(), Memory>
-        requires nets { IsFor m.now n.now self.old }
+        requires nets { IsFor first.now second.now self.old }
         requires fits { Fits self.old pairs.old }
-        requires range { InNets m.now n.now steps.now }
+        requires range { InNets first.now second.now steps.now }
         ensures cells { pairs.new.cells ≡ pairs.old.cells }
         ensures fits { OnOk result (Fits self.new pairs.new) }
-        ensures ok { OnOk result (Extends (CrossesFrom m.now n.now steps.now) self.old self.new) }
+        ensures ok { OnOk result (Extends (CrossesFrom first.now second.now steps.now) self.old self.new) }
     {
         'places: for place in 0..steps.len() {
             let at = steps[place];
-            self.visit_boths(pairs, m.edges(at.first), n.edges(at.second), place)?;
+            self.visit_boths(pairs, first.edges(at.first), second.edges(at.second), place)?;
         }
         Ok(())
     }

@@ -12,21 +12,21 @@ impl Layer {
     fn drift(
         &mut self,
         pairs: &mut Pairs,
-        m: &Net,
-        n: &Net,
+        first: &Net,
+        second: &Net,
         at: Step,
         from: usize,
     ) -> Result<(), Memory>
-        requires nets { IsFor m.now n.now self.old }
+        requires nets { IsFor first.now second.now self.old }
         requires fits { Fits self.old pairs.old }
-        requires first { at.first < states m.now }
-        requires second { at.second < states n.now }
+        requires first { at.first < states first.now }
+        requires second { at.second < states second.now }
         ensures cells { pairs.new.cells ≡ pairs.old.cells }
         ensures fits { OnOk result (Fits self.new pairs.new) }
-        ensures ok { OnOk result (Extends (DriftsFrom m.now n.now at.first at.second from) self.old self.new) }
+        ensures ok { OnOk result (Extends (DriftsFrom first.now second.now at.first at.second from) self.old self.new) }
     {
-        self.visit_firsts(pairs, m.moves(at.first), at.second, from)?;
-        self.visit_seconds(pairs, at.first, n.moves(at.second), from)?;
+        self.visit_firsts(pairs, first.moves(at.first), at.second, from)?;
+        self.visit_seconds(pairs, at.first, second.moves(at.second), from)?;
         Ok(())
     }
 
@@ -34,31 +34,31 @@ impl Layer {
     fn expand(
         &mut self,
         pairs: &mut Pairs,
-        m: &Net,
-        n: &Net,
+        first: &Net,
+        second: &Net,
         at: Step,
         from: usize,
     ) -> Result<(), Memory>
-        requires nets { IsFor m.now n.now self.old }
+        requires nets { IsFor first.now second.now self.old }
         requires fits { Fits self.old pairs.old }
-        requires first { at.first < states m.now }
-        requires second { at.second < states n.now }
+        requires first { at.first < states first.now }
+        requires second { at.second < states second.now }
         ensures cells { pairs.new.cells ≡ pairs.old.cells }
         ensures fits { OnOk result (Fits self.new pairs.new) }
-        ensures ok { OnOk result (Extends (LeadsFrom m.now n.now at.first at.second from) self.old self.new) }
+        ensures ok { OnOk result (Extends (LeadsFrom first.now second.now at.first at.second from) self.old self.new) }
     {
-        self.drift(pairs, m, n, at, from)?;
-        self.visit_boths(pairs, m.edges(at.first), n.edges(at.second), from)?;
+        self.drift(pairs, first, second, at, from)?;
+        self.visit_boths(pairs, first.edges(at.first), second.edges(at.second), from)?;
         Ok(())
     }
 
     /// Adds all pairs to which the steps lead, each with the place of the step that led there.
-    pub fn close(&mut self, pairs: &mut Pairs, m: &Net, n: &Net) -> Result<(), Memory>
-        requires nets { IsFor m.now n.now self.old }
+    pub fn close(&mut self, pairs: &mut Pairs, first: &Net, second: &Net) -> Result<(), Memory>
+        requires nets { IsFor first.now second.now self.old }
         requires fits { Fits self.old pairs.old }
         ensures cells { pairs.new.cells ≡ pairs.old.cells }
         ensures fits { OnOk result (Fits self.new pairs.new) }
-        ensures ok { OnOk result (Closes m.now n.now self.old self.new) }
+        ensures ok { OnOk result (Closes first.now second.now self.old self.new) }
     {
         self.seeds = self.steps.len();
         'places: for place in 0..usize::MAX {
@@ -66,26 +66,26 @@ impl Layer {
                 return Ok(());
             }
             let at = self.steps[place];
-            self.expand(pairs, m, n, at, place)?;
+            self.expand(pairs, first, second, at, place)?;
         }
         Ok(())
     }
 
     /// Adds all pairs to which the steps lead by empty moves alone, each with the origin of the
     /// step that led there.
-    pub fn close_drifts(&mut self, pairs: &mut Pairs, m: &Net, n: &Net) -> Result<(), Memory>
-        requires nets { IsFor m.now n.now self.old }
+    pub fn close_drifts(&mut self, pairs: &mut Pairs, first: &Net, second: &Net) -> Result<(), Memory>
+        requires nets { IsFor first.now second.now self.old }
         requires fits { Fits self.old pairs.old }
         ensures cells { pairs.new.cells ≡ pairs.old.cells }
         ensures fits { OnOk result (Fits self.new pairs.new) }
-        ensures ok { OnOk result (ClosesDrifts m.now n.now self.old self.new) }
+        ensures ok { OnOk result (ClosesDrifts first.now second.now self.old self.new) }
     {
         'places: for place in 0..usize::MAX {
             if place >= self.steps.len() {
                 return Ok(());
             }
             let at = self.steps[place];
-            self.drift(pairs, m, n, at, at.from)?;
+            self.drift(pairs, first, second, at, at.from)?;
         }
         Ok(())
     }

@@ -20,22 +20,22 @@ pub struct Trace {
 /// The word by which the pair at a place was reached from a seed.
 pub fn read_trace(
     alloc: Global,
-    m: &Net,
-    n: &Net,
+    first: &Net,
+    second: &Net,
     layer: &Layer,
     place: usize,
 ) -> Result<Trace, Memory>
-    requires range { InNets m.now n.now layer.now.steps.items }
-    requires chained { IsChained m.now n.now layer.now.seeds layer.now.steps.items }
+    requires range { InNets first.now second.now layer.now.steps.items }
+    requires chained { IsChained first.now second.now layer.now.seeds layer.now.steps.items }
     requires place { place < length layer.now.steps.items }
-    ensures { IfOk result (IsTrace m.now n.now layer.now place) }
+    ensures { IfOk result (IsTrace first.now second.now layer.now place) }
 {
     let mut symbols = Vec::new(alloc);
     let mut at = place;
     'links: while at >= layer.seeds {
         let step = layer.steps[at];
         let parent = layer.steps[step.from];
-        match symbol_between(m, n, parent, step) {
+        match symbol_between(first, second, parent, step) {
             Some(symbol) => symbols.push(symbol)?,
             None => {}
         }
@@ -47,14 +47,14 @@ pub fn read_trace(
 }
 
 /// A symbol by which edges of both nets lead from one pair to another, if any do.
-pub fn symbol_between(m: &Net, n: &Net, from: Step, to: Step) -> Option<Sym>
-    requires first { from.first < states m.now }
-    requires second { from.second < states n.now }
-    ensures some { IfSome result (λ x. ReadsBoth m.now n.now from.first from.second x to.first to.second) }
-    ensures none { IfNone result (Crosses m.now n.now from.first from.second to.first to.second → ⊥) }
+pub fn symbol_between(first: &Net, second: &Net, from: Step, to: Step) -> Option<Sym>
+    requires first { from.first < states first.now }
+    requires second { from.second < states second.now }
+    ensures some { IfSome result (λ x. ReadsBoth first.now second.now from.first from.second x to.first to.second) }
+    ensures none { IfNone result (Crosses first.now second.now from.first from.second to.first to.second → ⊥) }
 {
-    let edges = m.edges(from.first);
-    let others = n.edges(from.second);
+    let edges = first.edges(from.first);
+    let others = second.edges(from.second);
     'edges: for edge in edges {
         if edge.to == to.first {
             let symbol = symbol_with(edge, others, to.second);

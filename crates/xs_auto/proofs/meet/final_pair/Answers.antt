@@ -8,7 +8,7 @@ use Rattle.xs_auto.proofs.meet.final_pair.Goals.{else-is_final-via-then-is_final
 
 pub places-preserved : goal.places-preserved
 places-preserved c = record {
-  none = no_end_more c.args.m.now c.args.n.now c.args.steps.now c.places.place (step 0 0 0) c.places-test.true (λ p q. elim c.else-is_final.branch [
+  none = no_end_more c.args.first.now c.args.second.now c.args.steps.now c.places.place (step 0 0 0) c.places-test.true (λ p q. elim c.else-is_final.branch [
     | else-is_final-via-then-is_final+else-is_final-2 w ↦ true≢false (sym q ∙ sym w.is_final-then-is_final.ensures ∙ w.if-is_final-2.false)
     | else-is_final-via-else-is_final w ↦ true≢false (sym p ∙ sym c.is_final.ensures ∙ w.if-is_final.false)
   ]) c.places.invariant.none;

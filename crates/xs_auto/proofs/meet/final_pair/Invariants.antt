@@ -3,4 +3,4 @@ use Rattle.xs_auto.specs.Searches.{EndsBoth}
 use Rattle.xs_auto.proofs.meet.final_pair.Given as goal
 
 abbrev pub invariant-places : goal.invariant-places
-invariant-places l = record { none : (k : ℕ) → k < l.place → EndsBoth l.m l.n l.steps k → ⊥ }
+invariant-places l = record { none : (k : ℕ) → k < l.place → EndsBoth l.first l.second l.steps k → ⊥ }

@@ -8,7 +8,7 @@ pub links-init : goal.links-init
 links-init c =
     let steps = c.args.layer.now.steps.items in
     let here = there_at steps c.args.place c.requires.place in
-    record { within = c.requires.place; traced = rw c.new-symbols.ensures.items (traced_none c.args.m.now c.args.n.now steps c.args.place here.0 here.1) }
+    record { within = c.requires.place; traced = rw c.new-symbols.ensures.items (traced_none c.args.first.now c.args.second.now steps c.args.place here.0 here.1) }
 
 pub index-parent-requires : goal.index-parent-requires
 index-parent-requires c =

@@ -7,7 +7,7 @@ use Rattle.xs_auto.proofs.trace.symbol_between.Goals.{then-edge-to+else-is_some,
 
 pub returns-then-is_some-clause-some : goal.returns-then-is_some-clause-some
 returns-then-is_some-clause-some c =
-    some_reads c.args.m.now c.args.n.now c.args.from.first c.args.from.second c.args.to.first c.args.to.second c.edges.edge-index c.edges-edges.result.now c.edges-others.result.now c.edge-item.result c.symbol_with-symbol.result c.edges-edges.ensures.value c.edges-others.ensures.value c.edges-test.true c.edge-item.is c.if-edge-to.true c.symbol_with-symbol.ensures.some
+    some_reads c.args.first.now c.args.second.now c.args.from.first c.args.from.second c.args.to.first c.args.to.second c.edges.edge-index c.edges-edges.result.now c.edges-others.result.now c.edge-item.result c.symbol_with-symbol.result c.edges-edges.ensures.value c.edges-others.ensures.value c.edges-test.true c.edge-item.is c.if-edge-to.true c.symbol_with-symbol.ensures.some
 
 pub edges-preserved : goal.edges-preserved
 edges-preserved c = record {
@@ -18,4 +18,4 @@ edges-preserved c = record {
 }
 
 pub returns-clause-none : goal.returns-clause-none
-returns-clause-none c = reads_not c.args.m.now c.args.n.now c.args.from.first c.args.from.second c.args.to.first c.args.to.second c.edges-edges.result.now c.edges-others.result.now c.edges-edges.ensures.value c.edges-others.ensures.value (rw (take_all c.edges.edge-index c.edges-edges.result.now c.edges-test.false) at c.edges.invariant.none)
+returns-clause-none c = reads_not c.args.first.now c.args.second.now c.args.from.first c.args.from.second c.args.to.first c.args.to.second c.edges-edges.result.now c.edges-others.result.now c.edges-edges.ensures.value c.edges-others.ensures.value (rw (take_all c.edges.edge-index c.edges-edges.result.now c.edges-test.false) at c.edges.invariant.none)

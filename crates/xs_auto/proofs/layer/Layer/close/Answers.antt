@@ -14,8 +14,8 @@ places-init c =
       seeds = refl;
       within = omega arith;
       longer = longer_same c.args.self.now.steps.items;
-      chained = chained_none c.args.m.now c.args.n.now c.args.self.now.steps.items;
-      closed = closed_none (Leads c.args.m.now c.args.n.now) c.args.self.now.steps.items;
+      chained = chained_none c.args.first.now c.args.second.now c.args.self.now.steps.items;
+      closed = closed_none (Leads c.args.first.now c.args.second.now) c.args.self.now.steps.items;
     }
 
 pub returns-then-place-len-clause-ok : goal.returns-then-place-len-clause-ok
@@ -26,18 +26,18 @@ returns-then-place-len-clause-ok c =
       longer = told.longer;
       seeds = omega (arith, told.seeds, c.len-self.ensures, c.args.self.now.steps.ok);
       chained = told.chained;
-      closed = closed_all (Leads c.args.m.now c.args.n.now) (omega (arith, c.if-place-len.true, c.len.ensures, c.places.self.steps.ok)) told.closed;
+      closed = closed_all (Leads c.args.first.now c.args.second.now) (omega (arith, c.if-place-len.true, c.len.ensures, c.places.self.steps.ok)) told.closed;
     }
 
 pub expand-requires-clause-first : goal.expand-requires-clause-first
 expand-requires-clause-first c =
     let here = read_at c.places.self.steps.items c.places.place c.index-at.result.now (omega (arith, c.if-place-len.false, c.len.ensures, c.places.self.steps.ok)) c.index-at.ensures in
-    (in_nets c.args.m.now c.args.n.now c.places.pairs c.places.place c.index-at.result.now (record { height = c.requires.nets.height; width = c.requires.nets.width }) c.places.invariant.area c.places.invariant.fits here).0
+    (in_nets c.args.first.now c.args.second.now c.places.pairs c.places.place c.index-at.result.now (record { height = c.requires.nets.height; width = c.requires.nets.width }) c.places.invariant.area c.places.invariant.fits here).0
 
 pub expand-requires-clause-second : goal.expand-requires-clause-second
 expand-requires-clause-second c =
     let here = read_at c.places.self.steps.items c.places.place c.index-at.result.now (omega (arith, c.if-place-len.false, c.len.ensures, c.places.self.steps.ok)) c.index-at.ensures in
-    (in_nets c.args.m.now c.args.n.now c.places.pairs c.places.place c.index-at.result.now (record { height = c.requires.nets.height; width = c.requires.nets.width }) c.places.invariant.area c.places.invariant.fits here).1
+    (in_nets c.args.first.now c.args.second.now c.places.pairs c.places.place c.index-at.result.now (record { height = c.requires.nets.height; width = c.requires.nets.width }) c.places.invariant.area c.places.invariant.fits here).1
 
 pub places-preserved : goal.places-preserved
 places-preserved c =
@@ -45,7 +45,7 @@ places-preserved c =
     let s = c.index-at.result.now in
     let here = read_at c.places.self.steps.items c.places.place s (omega (arith, c.if-place-len.false, c.len.ensures, c.places.self.steps.ok)) c.index-at.ensures in
     let ok = c.in_ok-expand.ensures.ok in
-    let more = longer_gains (LeadsFrom c.args.m.now c.args.n.now s.first s.second c.places.place) ok.gains in
+    let more = longer_gains (LeadsFrom c.args.first.now c.args.second.now s.first s.second c.places.place) ok.gains in
     let long = longer_length more in
     record {
       cells = c.expand.ensures.cells ∙ told.cells;
@@ -55,5 +55,5 @@ places-preserved c =
       within = omega (arith, c.if-place-len.false, c.len.ensures, c.places.self.steps.ok);
       longer = longer_then told.longer more;
       chained = chained_more s here told.chained ok.gains;
-      closed = closed_more (Leads c.args.m.now c.args.n.now) s here told.closed more (λ x y l. ok.gains.there (step x y c.places.place) (record { origin = refl; leads = l }));
+      closed = closed_more (Leads c.args.first.now c.args.second.now) s here told.closed more (λ x y l. ok.gains.there (step x y c.places.place) (record { origin = refl; leads = l }));
     }

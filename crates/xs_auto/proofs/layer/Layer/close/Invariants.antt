@@ -10,6 +10,6 @@ invariant-places l = record {
   seeds : l.self.seeds ≡ l.initial.self.seeds;
   within : l.place ≤ length l.self.steps.items;
   longer : IsLonger l.initial.self.steps.items l.self.steps.items;
-  chained : IsChained l.m l.n (length l.initial.self.steps.items) l.self.steps.items;
-  closed : IsClosedBelow (Leads l.m l.n) l.place l.self.steps.items;
+  chained : IsChained l.first l.second (length l.initial.self.steps.items) l.self.steps.items;
+  closed : IsClosedBelow (Leads l.first l.second) l.place l.self.steps.items;
 }

@@ -10,6 +10,6 @@ invariant-places l = record {
   area : KeepsArea l.initial.self l.self;
   within : l.place ≤ length l.self.steps.items;
   longer : IsLonger l.initial.self.steps.items l.self.steps.items;
-  drifted : (k : ℕ) (s : Step) → IsAt l.self.steps.items k s → IsDrifted l.m l.n l.initial.self.steps.items s;
-  closed : IsClosedBelow (Drifts l.m l.n) l.place l.self.steps.items;
+  drifted : (k : ℕ) (s : Step) → IsAt l.self.steps.items k s → IsDrifted l.first l.second l.initial.self.steps.items s;
+  closed : IsClosedBelow (Drifts l.first l.second) l.place l.self.steps.items;
 }

@@ -6,8 +6,8 @@ use Rattle.xs_auto.proofs.layer.Layer.seed_crossings.Goals as goal
 
 pub places-preserved : goal.places-preserved
 places-preserved c =
-    let m = c.args.m.now in
-    let n = c.args.n.now in
+    let m = c.args.first.now in
+    let n = c.args.second.now in
     let steps = c.args.steps.now in
     let place = c.places.place in
     let at = get_or steps place (step 0 0 0) in
@@ -19,4 +19,4 @@ places-preserved c =
     }
 
 pub returns-clause-ok : goal.returns-clause-ok
-returns-clause-ok c = below_all (CrossesFrom c.args.m.now c.args.n.now c.args.steps.now) c.places.place (λ s r. let l = crosses_low c.args.m.now c.args.n.now c.args.steps.now s r in omega (arith, c.places-test.false)) c.places.invariant.more
+returns-clause-ok c = below_all (CrossesFrom c.args.first.now c.args.second.now c.args.steps.now) c.places.place (λ s r. let l = crosses_low c.args.first.now c.args.second.now c.args.steps.now s r in omega (arith, c.places-test.false)) c.places.invariant.more

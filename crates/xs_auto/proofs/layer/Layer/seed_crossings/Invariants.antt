@@ -7,5 +7,5 @@ abbrev pub invariant-places : goal.invariant-places
 invariant-places l = record {
   cells : l.pairs.cells ≡ l.initial.pairs.cells;
   fits : Fits l.self l.pairs;
-  more : Extends (Below l.place (CrossesFrom l.m l.n l.steps)) l.initial.self l.self;
+  more : Extends (Below l.place (CrossesFrom l.first l.second l.steps)) l.initial.self l.self;
 }
