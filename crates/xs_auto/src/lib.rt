@@ -13,6 +13,8 @@ mod pairs;
 mod seeds;
 mod spread;
 mod step;
+#[cfg(test)]
+mod tests;
 mod trace;
 
 pub use edge::Edge;

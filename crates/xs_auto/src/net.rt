@@ -63,8 +63,8 @@ impl Net {
         ensures err { OnErr result (self.new ≡ self.old) }
     {
         let class = class.copy()?;
-        let state = &mut self.states[a as usize];
-        state.add_edge(Edge { class, to: b })?;
+        let source = &mut self.states[a as usize];
+        source.add_edge(Edge { class, to: b })?;
         Ok(())
     }
 

@@ -73,7 +73,12 @@ impl Layer {
 
     /// Adds all pairs to which the steps lead by empty moves alone, each with the origin of the
     /// step that led there.
-    pub fn close_drifts(&mut self, pairs: &mut Pairs, first: &Net, second: &Net) -> Result<(), Memory>
+    pub fn close_drifts(
+        &mut self,
+        pairs: &mut Pairs,
+        first: &Net,
+        second: &Net,
+    ) -> Result<(), Memory>
         requires nets { IsFor first.now second.now self.old }
         requires fits { Fits self.old pairs.old }
         ensures cells { pairs.new.cells ≡ pairs.old.cells }
