@@ -8,10 +8,13 @@ mod bytes;
 mod class;
 mod listed;
 mod memory;
+mod named;
 mod names;
 mod side;
 mod sym;
 mod tables;
+#[cfg(test)]
+mod tests;
 mod text;
 mod word;
 
@@ -19,6 +22,7 @@ pub use bytes::Bytes;
 pub use class::Class;
 pub use listed::Listed;
 pub use memory::Memory;
+pub use named::NameFault;
 pub use names::Names;
 pub use side::Side;
 pub use sym::{ATTR_END, STRANGE, Sym};

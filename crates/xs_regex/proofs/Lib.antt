@@ -1,0 +1,11 @@
+pub mod Built
+pub mod Choice
+pub mod Copies
+pub mod Flags
+pub mod Merging
+pub mod Repetition
+pub mod Rows
+pub mod Runs
+pub mod Sequence
+pub mod Sets
+pub mod Words

@@ -1,26 +1,15 @@
 -- The words that a position automaton goes by, and those that it accepts.
-use Rattle.std.specs.Prelude.{◌≡◌, ◌⊎◌, ℕ, ◌<◌, List, [], ◌∷◌, ◌++◌, length, slice_get, Contains, IsTrue, None, Some}
-use Rattle.std.specs.declared.option.Option.{Option}
+use Rattle.std.specs.Prelude.{◌≡◌, ◌⊎◌, ℕ, ◌<◌, List, [], ◌∷◌, ◌++◌, length, slice_get, Contains, IsTrue, IsSomeAnd}
 use Rattle.xs_class.specs.Classes.{Has}
 use Rattle.xs_regex.specs.declared.position.Position.{Position}
 
--- the class, where there is one, has the symbol
-abbrev pub HasOf : Option (List (ℕ × ℕ)) → ℕ → Type 0
-HasOf None s = ⊥
-HasOf (Some class) s = Has class s
-
 -- position k has the symbol in its class
 abbrev pub HasAt : Position → ℕ → ℕ → Type 0
-HasAt p k s = HasOf (slice_get p.classes k) s
-
--- the row, where there is one, has the number
-abbrev pub ContainsOf : Option (List ℕ) → ℕ → Type 0
-ContainsOf None k = ⊥
-ContainsOf (Some row) k = Contains row k
+HasAt p k s = IsSomeAnd (slice_get p.classes k) (λ class. Has class s)
 
 -- position k may follow position j
 abbrev pub Leads : Position → ℕ → ℕ → Type 0
-Leads p j k = ContainsOf (slice_get p.follow j) k
+Leads p j k = IsSomeAnd (slice_get p.follow j) (λ row. Contains row k)
 
 -- the automaton goes by a word from its start to a position: the first symbol's position is in
 -- `first`, each next one follows the one before, and each symbol is in its position's class

@@ -20,10 +20,16 @@ abbrev pub AtMost : ℕ → Option ℕ → Type 0
 AtMost k None = Unit {0}
 AtMost k (Some n) = k ≤ n
 
+-- so many of these words, one after another
+abbrev pub Repeats : (List ℕ → Type 0) → ℕ → Option ℕ → List ℕ → Type 0
+Repeats P least most w = (ws : List (List ℕ)) × (w ≡ joined ws) × Each P ws × (least ≤ length ws) × AtMost (length ws) most
+
+-- the words of each form: the empty word, one symbol of a class, one word and then another, a word
+-- of either, any number of words, and as many as the counts allow
 abbrev pub Matches : Regex → List ℕ → Type 0
 Matches Empty w = w ≡ []
 Matches (Set class) w = (s : ℕ) × Has class s × (w ≡ s ∷ [])
 Matches (Then' p a q b) w = (u : List ℕ) × (v : List ℕ) × (w ≡ u ++ v) × Matches a u × Matches b v
 Matches (Or' p a q b) w = Matches a w ⊎ Matches b w
 Matches (Star' p a) w = (ws : List (List ℕ)) × (w ≡ joined ws) × Each (λ u. Matches a u) ws
-Matches (Times' p a least most) w = (ws : List (List ℕ)) × (w ≡ joined ws) × Each (λ u. Matches a u) ws × (least ≤ length ws) × AtMost (length ws) most
+Matches (Times' p a least most) w = Repeats (λ u. Matches a u) least most w

@@ -1,5 +1,5 @@
 -- How many positions a regular expression has, and what is asked of its counts and classes.
-use Rattle.std.specs.Prelude.{ℕ, ◌+◌, ◌*◌, ◌≤◌, max, List, None, Some}
+use Rattle.std.specs.Prelude.{ℕ, zero, suc, ◌+◌, ◌*◌, ◌≤◌, max, List, [], ◌∷◌, ◌++◌, None, Some}
 use Rattle.std.specs.declared.option.Option.{Option}
 use Rattle.xs_class.specs.Classes.{Has}
 use Rattle.xs_regex.specs.declared.regex.Regex.{Regex}
@@ -9,6 +9,20 @@ use Rattle.xs_regex.specs.declared.regex.Regex.TheVariants.{Empty, Set, Then', O
 abbrev pub copies : ℕ → Option ℕ → ℕ
 copies least None = max least 1
 copies least (Some most) = most
+
+-- the list, so many times over
+abbrev pub times : {X : Type 0} → ℕ → List X → List X
+times zero xs = []
+times (suc n) xs = xs ++ times n xs
+
+-- the classes from left to right, those of a repetition once for each copy
+abbrev pub sets : Regex → List (List (ℕ × ℕ))
+sets Empty = []
+sets (Set class) = class ∷ []
+sets (Then' p a q b) = sets a ++ sets b
+sets (Or' p a q b) = sets a ++ sets b
+sets (Star' p a) = sets a
+sets (Times' p a least most) = times (copies least most) (sets a)
 
 -- one for each place of a class, where a repetition counts once for each copy
 abbrev pub size : Regex → ℕ

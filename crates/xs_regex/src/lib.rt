@@ -4,8 +4,15 @@
 //! and accepts exactly the words that the regex matches.
 #![tactic(auto)]
 
+mod automaton;
+mod compose;
+mod lists;
+mod matching;
 mod position;
 mod regex;
+mod repeat;
 
+pub use automaton::positions;
+pub use matching::matches;
 pub use position::{Classes, Follows, Numbers, Position};
 pub use regex::Regex;

@@ -1,0 +1,5 @@
+pub mod Attributes
+pub mod Seen
+pub mod Sorted
+pub mod State
+pub mod Values

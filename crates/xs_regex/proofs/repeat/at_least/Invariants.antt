@@ -1,0 +1,10 @@
+use Rattle.std.proofs.Common.{◌≤◌, min, max, None}
+use Rattle.xs_regex.specs.Automaton.{Accepts}
+use Rattle.xs_regex.specs.Matches.{Repeats}
+use Rattle.xs_regex.specs.Parts.{IsAutomaton, IsSure}
+use Rattle.xs_regex.specs.Size.{times}
+use Rattle.xs_regex.proofs.repeat.at_least.Given as goal
+
+-- before the first step there is the last copy, which is free where none is wanted
+abbrev pub invariant-copies : goal.invariant-copies
+invariant-copies l = (l.behind ≤ max l.least 1) × IsAutomaton (Repeats (Accepts l.one) (min l.behind l.least) None) (times l.behind l.one.classes) (IsSure l.one l.least None) l.all

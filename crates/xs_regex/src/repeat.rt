@@ -1,0 +1,80 @@
+ghost use Rattle.std.specs.Prelude.{◌≡◌, ◌+◌, ◌*◌, ◌<◌, ◌≤◌, ◌↔◌, ◌⊎◌, ℕ, max, length, IsTrue, IfOk, None, Some, if◌then◌else◌};
+ghost use Rattle.xs_regex.specs.Automaton.{Accepts, IsWellFormed};
+ghost use Rattle.xs_regex.specs.Matches.{Repeats};
+ghost use Rattle.xs_regex.specs.Parts.{optional, IsAutomaton, IsSure};
+ghost use Rattle.xs_regex.specs.Size.{copies, times, IsInOrder};
+
+use crate::Position;
+use crate::compose::{copied, maybe, nothing, round, sequence};
+use std::alloc::Global;
+use xs_class::Memory;
+
+/// Words of one automaton after another, as many as the counts allow.
+///
+/// There is a copy of the automaton for each word. Of a greatest count, k words stand in the first
+/// k copies; without one the last copy goes round.
+pub fn repeated(alloc: Global, one: &Position, least: u32, most: Option<u32>) -> Result<Position, Memory>
+    requires formed { IsWellFormed one.now }
+    requires small { copies least most * length one.now.classes ≤ 512 }
+    ensures { IfOk result (IsAutomaton (Repeats (Accepts one.now) least most) (times (copies least most) one.now.classes) (IsSure one.now least most)) }
+{
+    if one.classes.is_empty() {
+        return Ok(nothing(alloc, allows_none(one.nullable, least, most)));
+    }
+    match most {
+        None => at_least(alloc, one, least),
+        Some(most) => between(alloc, one, least, most),
+    }
+}
+
+/// Whether the empty word is so many words, each of which can only be empty.
+fn allows_none(nullable: bool, least: u32, most: Option<u32>) -> bool
+    ensures { IsTrue result ↔ ((least ≡ 0) ⊎ (IsTrue nullable × IsInOrder least most)) }
+{
+    least == 0 || (nullable && is_in_order(least, most))
+}
+
+/// Whether the greatest count, where there is one, is not below the least.
+fn is_in_order(least: u32, most: Option<u32>) -> bool
+    ensures { IsTrue result ↔ IsInOrder least most }
+{
+    match most {
+        None => true,
+        Some(most) => least <= most,
+    }
+}
+
+fn at_least(alloc: Global, one: &Position, least: u32) -> Result<Position, Memory>
+    requires formed { IsWellFormed one.now }
+    requires some { 0 < length one.now.classes }
+    requires small { max least 1 * length one.now.classes ≤ 512 }
+    ensures { IfOk result (IsAutomaton (Repeats (Accepts one.now) least None) (times (max least 1) one.now.classes) (IsSure one.now least None)) }
+{
+    let last = round(alloc, copied(alloc, one)?)?;
+    let mut all = maybe_if(least == 0, last);
+    'copies: for behind in 1..least {
+        all = sequence(alloc, copied(alloc, one)?, all)?;
+    }
+    Ok(all)
+}
+
+fn between(alloc: Global, one: &Position, least: u32, most: u32) -> Result<Position, Memory>
+    requires formed { IsWellFormed one.now }
+    requires some { 0 < length one.now.classes }
+    requires small { most * length one.now.classes ≤ 512 }
+    ensures { IfOk result (IsAutomaton (Repeats (Accepts one.now) least (Some most)) (times most one.now.classes) (IsSure one.now least (Some most))) }
+{
+    let mut all = nothing(alloc, least <= most);
+    'copies: for behind in 0..most {
+        let more = sequence(alloc, copied(alloc, one)?, all)?;
+        all = maybe_if(least < most - behind, more);
+    }
+    Ok(all)
+}
+
+/// The automaton, which also accepts the empty word where the condition holds.
+fn maybe_if(condition: bool, p: Position) -> Position
+    ensures { result ≡ (if condition then optional p else p) }
+{
+    if condition { maybe(p) } else { p }
+}
