@@ -23,13 +23,15 @@ bare = record { final = false; edges = []; moves = [] }
 abbrev pub states : Graph → ℕ
 states n = length n.nodes
 
--- of a state that there is not, as of a bare one
+-- whether the state is final; a state that there is not is as a bare one
 abbrev pub final_at : Graph → ℕ → Bool
 final_at n a = (get_or n.nodes a bare).final
 
+-- the edges of the state
 abbrev pub edges_of : Graph → ℕ → List Edge
 edges_of n a = (get_or n.nodes a bare).edges
 
+-- the targets of the state's empty moves
 abbrev pub moves_of : Graph → ℕ → List ℕ
 moves_of n a = (get_or n.nodes a bare).moves
 

@@ -8,6 +8,7 @@ use Rattle.xs_auto.specs.declared.layer.Layer.{Layer}
 use Rattle.xs_auto.specs.Marks.{Marks, marked_at}
 use Rattle.xs_auto.specs.Nets.{Graph, edges_of, moves_of, states, final_at, Walks}
 
+-- a step to the pair of a and b, from the place `from`
 abbrev pub step : ℕ → ℕ → ℕ → Step
 step a b from = record { first = a; second = b; from = from }
 
@@ -21,15 +22,17 @@ pub record IsFound (steps : List Step) (a b : ℕ) : Type 0 where
   pub from : ℕ
   pub at : IsAt steps place (step a b from)
 
--- an empty move of the first net, or of the second, leads from the pair of a and b to that of c and d
+-- an empty move of the first net leads from the pair of a and b to that of c and d
 pub record MovesFirst (m n : Graph) (a b c d : ℕ) : Type 0 where
   pub move : Contains (moves_of m a) c
   pub still : d ≡ b
 
+-- an empty move of the second net does
 pub record MovesSecond (m n : Graph) (a b c d : ℕ) : Type 0 where
   pub move : Contains (moves_of n b) d
   pub still : c ≡ a
 
+-- an empty move of either net does
 abbrev pub Drifts : Graph → Graph → ℕ → ℕ → ℕ → ℕ → Type 0
 Drifts m n a b c d = MovesFirst m n a b c d ⊎ MovesSecond m n a b c d
 
@@ -65,11 +68,12 @@ pub record Meets (e f : Edge) (from : ℕ) (s : Step) : Type 0 where
   pub second : Has f.class symbol
   pub is : s ≡ step e.to f.to from
 
--- the step comes from the place `from`, at which the pair of a and b was reached
+-- the step comes from the place `from`, and empty moves lead to it from the pair of a and b
 pub record DriftsFrom (m n : Graph) (a b from : ℕ) (s : Step) : Type 0 where
   pub origin : s.from ≡ from
   pub drifts : Drifts m n a b s.first s.second
 
+-- the step comes from the place `from`, and empty moves or edges lead to it from the pair of a and b
 pub record LeadsFrom (m n : Graph) (a b from : ℕ) (s : Step) : Type 0 where
   pub origin : s.from ≡ from
   pub leads : Leads m n a b s.first s.second
@@ -87,6 +91,7 @@ pub record KeepsArea (old new : Layer) : Type 0 where
   pub height : new.height ≡ old.height
   pub width : new.width ≡ old.width
 
+-- the layer has gained the steps that R means
 pub record Extends (R : Step → Type 0) (old new : Layer) : Type 0 where
   pub area : KeepsArea old new
   pub seeds : new.seeds ≡ old.seeds
@@ -104,13 +109,14 @@ pub record IsFor (m n : Graph) (l : Layer) : Type 0 where
   pub height : l.height ≡ states m
   pub width : l.width ≡ states n
 
--- each step from place `seeds` on comes from an earlier one, which leads to it
+-- the step at place k comes from an earlier one, which leads to it
 pub record IsLink (m n : Graph) (steps : List Step) (k : ℕ) (s : Step) : Type 0 where
   pub earlier : s.from < k
   pub parent : Step
   pub at : IsAt steps s.from parent
   pub leads : Leads m n parent.first parent.second s.first s.second
 
+-- each step from place `seeds` on does
 abbrev pub IsChained : Graph → Graph → ℕ → List Step → Type 0
 IsChained m n seeds steps = (k : ℕ) (s : Step) → seeds ≤ k → IsAt steps k s → IsLink m n steps k s
 
@@ -176,6 +182,7 @@ pub record EndsBoth (m n : Graph) (steps : List Step) (k : ℕ) : Type 0 where
 abbrev pub InStates : ℕ → ℕ → List Step → Type 0
 InStates height width steps = (k : ℕ) (s : Step) → IsAt steps k s → (s.first < height) × (s.second < width)
 
+-- the steps' pairs are of states of m and n
 abbrev pub InNets : Graph → Graph → List Step → Type 0
 InNets m n steps = InStates (states m) (states n) steps
 

@@ -1,5 +1,11 @@
-//! Nets of states with edges by classes of symbols and with empty moves, and searches over pairs
-//! of their states: for a word that two nets accept, and for words that show an overlap.
+//! Nets and searches over pairs of their states.
+//!
+//! A net is a finite automaton whose edges read classes of symbols, with empty moves. It accepts the
+//! words of the paths from its start to its final states. One search finds a word that two nets
+//! accept, the other words x, a and y, a not empty, such that one net accepts x and xa and the other
+//! y and ay; each answers none exactly where there is none. Both go only where pairs of states are
+//! reached, mark them in maps that they are lent, and keep a step for each, from which the words are
+//! read back.
 #![tactic(auto)]
 
 mod bits;
