@@ -1,0 +1,10 @@
+pub mod Words
+pub mod Spelling
+pub mod Standing
+pub mod Completeness
+pub mod Recognising
+pub mod Language
+pub mod Fillings
+pub mod Fronts
+pub mod Numbers
+pub mod Charts

@@ -1,0 +1,4 @@
+pub mod Reading
+pub mod Closed
+pub mod Charts
+pub mod Laws
