@@ -17,8 +17,7 @@ name_scalar c is = grind (arith, nat_tests, is)
 pub spelled_more : (whole text after : List ℕ) (name : List ℕ) (i e : ℕ) → i < length name → e ≡ get_or name i e → whole ≡ text ++ encode_utf8_all (drop i name) → all_of is_name_char (drop i name) ≡ true → after ≡ text ++ encode_utf8 e → (whole ≡ after ++ encode_utf8_all (drop (i + 1) name)) × (all_of is_name_char (drop (i + 1) name) ≡ true)
 spelled_more whole text after name i e low is so_far names pushed =
     let next = drop_next name i e low is in
-    let all : (is_name_char e && all_of is_name_char (drop (i + 1) name)) ≡ true = subst (λ (x : List ℕ). all_of is_name_char x ≡ true) next names in
-    (
+    let all : (is_name_char e && all_of is_name_char (drop (i + 1) name)) ≡ true = subst (λ (x : List ℕ). all_of is_name_char x ≡ true) next names in (
       so_far ∙ ap (λ (x : List ℕ). text ++ encode_utf8_all x) next ∙ sym (append_assoc text (encode_utf8 e) (encode_utf8_all (drop (i + 1) name))) ∙ ap (λ (x : List ℕ). x ++ encode_utf8_all (drop (i + 1) name)) (sym pushed),
       (and_true (is_name_char e) (all_of is_name_char (drop (i + 1) name)) all).1,
     )

@@ -51,8 +51,7 @@ pub digit_step : (f : ℕ → Bool) (b n x h e : ℕ) (ds : List ℕ) (i : ℕ) 
 digit_step f b n x h e ds i t one low is class value all so_far =
     let next = drop_next ds i e low is in
     let a : all_of f (e ∷ drop (i + 1) ds) ≡ all_of f (drop (i + 1) ds) = rw class refl in
-    let s : number b x (e ∷ drop (i + 1) ds) ≡ number b (x * b + h) (drop (i + 1) ds) = rw value refl in
-    (
+    let s : number b x (e ∷ drop (i + 1) ds) ≡ number b (x * b + h) (drop (i + 1) ds) = rw value refl in (
       all ∙ ap (λ (y : List ℕ). all_of f y) next ∙ a,
       so_far ∙ ap (λ (y : List ℕ). min (number b x y) 1114112) next ∙ ap (λ (y : ℕ). min y 1114112) s ∙ capped b (x * b + h) (drop (i + 1) ds) one,
     )
@@ -75,9 +74,9 @@ no_number : (n m : ℕ) → min n 1114112 ≡ m → is_char m ≡ false → is_c
 unfolding is_char
 no_number n m is char = grind (arith, nat_tests)
 
-pub number_found : (t : Bool) (n m : ℕ) → t ≡ true → min n 1114112 ≡ m → is_char m ≡ true → Some m ≡ when (t && is_char n) n
-number_found t n m all is char = rw (all, same_number n m is char, char) refl
-
-pub number_none : (t : Bool) (n m : ℕ) → min n 1114112 ≡ m → is_char m ≡ false → None ≡ when (t && is_char n) n
-number_none true n m is char = rw (no_number n m is char) refl
-number_none false n m is char = refl
+pub number_is : (t : Bool) (n m : ℕ) → t ≡ true → min n 1114112 ≡ m → when (is_char m) m ≡ when (t && is_char n) n
+number_is t n m all is = rw all (by (is_char m) refl)
+  where
+    by : (u : Bool) → is_char m ≡ u → when u m ≡ when (is_char n) n
+    by true char = rw (same_number n m is char, char) refl
+    by false char = rw (no_number n m is char) refl

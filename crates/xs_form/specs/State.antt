@@ -59,6 +59,10 @@ left s n = None
 abbrev pub next_run : ℕ → ℕ → ℕ
 next_run k c = if c == 93 then (if k == 0 then 1 else 2) else 0
 
+-- the symbols of a character of a CDATA section; cr says that a CR stands before
+abbrev pub line_symbols : Bool → ℕ → List ℕ
+line_symbols cr c = if c == 10 && cr then [] else ((if c == 13 then 10 else c) ∷ [])
+
 abbrev pub moved : State → Option Spot → List ℕ → ℕ → Option State
 moved st None w k = None
 moved st (Some s) w k = Some (record { spot = s; word = st.word ++ w; fresh = false; run = k })
@@ -77,6 +81,14 @@ step names st (section body) = moved st (only_inside st.spot) (lines false body)
 abbrev pub taken : Bool → State → Option State
 taken true st = Some st
 taken false st = None
+
+-- the symbols of a document that ends here
+abbrev pub ended_word : Spot → List ℕ → Option (List ℕ)
+ended_word behind w = Some w
+ended_word s w = None
+
+abbrev pub finished : State → Option (List ℕ)
+finished st = ended_word st.spot st.word
 
 -- the name of a tag is a Name
 abbrev pub is_named : Seen → Bool

@@ -5,10 +5,15 @@
 #![tactic(auto)]
 
 mod attributes;
+mod document;
 mod marks;
 mod pieces;
 mod reader;
 mod references;
 mod runs;
 mod sorted;
+#[cfg(test)]
+mod tests;
 mod values;
+
+pub use document::{XmlFault, read_xml};

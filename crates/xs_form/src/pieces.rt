@@ -7,7 +7,10 @@ ghost use Rattle.xs_form.specs.Seen.{found, shown_event, shown_found, shown_end,
 
 use crate::attributes::{Attribute, attributes_at};
 use crate::references::reference_char;
-use crate::runs::{all_allowed, allowed, behind, cut_at, is, is_name_text, name_run, spells, spells_in_any_case, white, white_run};
+use crate::runs::{
+    all_allowed, allowed, behind, cut_at, is, is_name_text, name_run, spells, spells_in_any_case,
+    white, white_run,
+};
 use crate::sorted::by_name;
 use std::alloc::Global;
 use std::collections::BTreeMap;
@@ -44,13 +47,7 @@ fn past_feed(text: &[Sym]) -> &[Sym]
 {
     match text {
         [] => text,
-        [first, rest @ ..] => {
-            if first.number() == 10 {
-                rest
-            } else {
-                text
-            }
-        }
+        [first, rest @ ..] => { if first.number() == 10 { rest } else { text } }
     }
 }
 
@@ -100,8 +97,8 @@ fn section(text: &[Sym]) -> Option<(Event<'_>, &[Sym])>
 fn comment(text: &[Sym]) -> Option<(Event<'_>, &[Sym])>
     ensures { option_map shown_found result ≡ option_map found (in_comment text.now) }
 {
-    let (body, more) = cut_at(text, b"--")?;
-    let rest = behind(more, b">")?;
+    let (body, closing) = cut_at(text, b"--")?;
+    let rest = behind(closing, b">")?;
     if !all_allowed(body) {
         return None;
     }
@@ -168,7 +165,9 @@ fn tag(alloc: Global, text: &[Sym]) -> Result<Option<(Event<'_>, &[Sym])>, Memor
 fn is_version(setting: &Attribute<'_>) -> bool
     ensures { result ≡ held_version (shown setting.now) }
 {
-    spells(setting.name, b"version") && setting.value.written && spells(setting.value.symbols.as_slice(), b"1.0")
+    spells(setting.name, b"version")
+        && setting.value.written
+        && spells(setting.value.symbols.as_slice(), b"1.0")
 }
 
 fn is_encoding(setting: &Attribute<'_>) -> bool
@@ -182,7 +181,9 @@ fn is_encoding(setting: &Attribute<'_>) -> bool
 fn is_standalone(setting: &Attribute<'_>) -> bool
     ensures { result ≡ held_standalone (shown setting.now) }
 {
-    spells(setting.name, b"standalone") && setting.value.written && says_yes_or_no(setting.value.symbols.as_slice())
+    spells(setting.name, b"standalone")
+        && setting.value.written
+        && says_yes_or_no(setting.value.symbols.as_slice())
 }
 
 fn says_yes_or_no(value: &[Sym]) -> bool
@@ -197,7 +198,9 @@ fn are_settings(settings: &[Attribute<'_>]) -> bool
     match settings {
         [version] => is_version(version),
         [version, other] => is_version(version) && (is_encoding(other) || is_standalone(other)),
-        [version, encoding, standalone] => is_version(version) && is_encoding(encoding) && is_standalone(standalone),
+        [version, encoding, standalone] => is_version(version)
+            && is_encoding(encoding)
+            && is_standalone(standalone),
         _ => false,
     }
 }
@@ -222,7 +225,11 @@ fn instruction<'a>(target: &[Sym], text: &'a [Sym]) -> Option<(Event<'a>, &'a [S
     ensures { option_map shown_found result ≡ option_map found (instruction_body target.now text.now) }
 {
     let (body, rest) = cut_at(text, b"?>")?;
-    if !is_name_text(target) || spells_in_any_case(target, b"xml") || !is_apart_text(body) || !all_allowed(body) {
+    if !is_name_text(target)
+        || spells_in_any_case(target, b"xml")
+        || !is_apart_text(body)
+        || !all_allowed(body)
+    {
         return None;
     }
     Some((Event::Aside, rest))

@@ -33,6 +33,12 @@ fn appended(number: u32, base: u32, value: u32) -> u32
     (number * base + value).min(TOO_LARGE)
 }
 
+fn char_of(number: u32) -> Option<u32>
+    ensures { result ≡ when (is_char number) number }
+{
+    if allowed(number) { Some(number) } else { None }
+}
+
 // The number of the hexadecimal digits, where it is a Char.
 fn hexadecimal_char(digits: &[Sym]) -> Option<u32>
     ensures { result ≡ when (all_of is_hex digits.now && is_char (number 16 0 digits.now)) (number 16 0 digits.now) }
@@ -44,7 +50,7 @@ fn hexadecimal_char(digits: &[Sym]) -> Option<u32>
         }
         number = appended(number, 16, value_of(*symbol));
     }
-    if allowed(number) { Some(number) } else { None }
+    char_of(number)
 }
 
 // The number of the decimal digits, where it is a Char.
@@ -58,7 +64,7 @@ fn decimal_char(digits: &[Sym]) -> Option<u32>
         }
         number = appended(number, 10, value_of(*symbol));
     }
-    if allowed(number) { Some(number) } else { None }
+    char_of(number)
 }
 
 fn numbered_char(text: &[Sym]) -> Option<u32>

@@ -1,10 +1,10 @@
 ghost use Rattle.std.specs.Prelude.{◌≡◌, ◌==◌, ◌<◌, map, length};
 ghost use Rattle.std.specs.Option.{option_map, option_copied};
-ghost use Rattle.xs_piece.specs.Tables.{in_ranges, is_char, is_name_start, is_name_char, is_white, is_digit, is_hex, is_quote};
+ghost use Rattle.xs_piece.specs.Tables.{is_char, is_name_start, is_name_char, is_white, is_digit, is_hex, is_quote};
 ghost use Rattle.xs_piece.specs.Piece.{is_name, all_of, same, lower};
 ghost use Rattle.xs_piece.specs.Scan.{after, span, cut};
 
-use xs_class::Sym;
+use xs_class::{Sym, is_char, is_name_char, is_name_start};
 
 /// Whether the symbol is this ASCII character.
 pub fn is(symbol: Sym, byte: u8) -> bool
@@ -44,70 +44,22 @@ pub fn hexadecimal(symbol: Sym) -> bool
     48 <= number && number <= 57 || 65 <= number && number <= 70 || 97 <= number && number <= 102
 }
 
-#[tactic(auto, unfolding(xs_piece::specs::Tables::is_char))]
 pub fn allowed(number: u32) -> bool
     ensures { result ≡ is_char number }
 {
-    9 <= number && number <= 10
-        || 13 <= number && number <= 13
-        || 32 <= number && number <= 0xD7FF
-        || 0xE000 <= number && number <= 0xFFFD
-        || 0x10000 <= number && number <= 0x10FFFF
+    is_char(number)
 }
 
-fn within(number: u32, table: &[(u32, u32)]) -> bool
-    ensures { result ≡ in_ranges number table.now }
-{
-    'rows: for range in table {
-        if range.0 <= number && number <= range.1 {
-            return true;
-        }
-    }
-    false
-}
-
-#[tactic(auto, unfolding(xs_piece::specs::Tables::is_name_start))]
 pub fn begins_name(symbol: Sym) -> bool
     ensures { result ≡ is_name_start symbol }
 {
-    within(
-        symbol.number(),
-        &[
-            (58, 58),
-            (65, 90),
-            (95, 95),
-            (97, 122),
-            (0xC0, 0xD6),
-            (0xD8, 0xF6),
-            (0xF8, 0x2FF),
-            (0x370, 0x37D),
-            (0x37F, 0x1FFF),
-            (0x200C, 0x200D),
-            (0x2070, 0x218F),
-            (0x2C00, 0x2FEF),
-            (0x3001, 0xD7FF),
-            (0xF900, 0xFDCF),
-            (0xFDF0, 0xFFFD),
-            (0x10000, 0xEFFFF),
-        ],
-    )
+    is_name_start(symbol.number())
 }
 
-#[tactic(auto, unfolding(xs_piece::specs::Tables::is_name_char))]
 pub fn in_name(symbol: Sym) -> bool
     ensures { result ≡ is_name_char symbol }
 {
-    begins_name(symbol)
-        || within(
-            symbol.number(),
-            &[
-                (45, 46),
-                (48, 57),
-                (0xB7, 0xB7),
-                (0x300, 0x36F),
-                (0x203F, 0x2040),
-            ],
-        )
+    is_name_char(symbol.number())
 }
 
 /// The characters of names at the front, and the rest.
@@ -241,7 +193,11 @@ fn lowered(symbol: Sym) -> Sym
     ensures { result ≡ lower symbol }
 {
     let number = symbol.number();
-    if 65 <= number && number <= 90 { Sym(number + 32) } else { symbol }
+    if 65 <= number && number <= 90 {
+        Sym(number + 32)
+    } else {
+        symbol
+    }
 }
 
 /// Whether the text is this ASCII word of lower-case letters, in any case.

@@ -71,7 +71,11 @@ fn push_part(symbols: &mut Word, after_return: bool, part: Part) -> Result<(), M
             if number == 10 && after_return {
                 return Ok(());
             }
-            symbols.push(if white(Sym(number)) { Sym(32) } else { Sym(number) })?;
+            symbols.push(if white(Sym(number)) {
+                Sym(32)
+            } else {
+                Sym(number)
+            })?;
         }
     }
     Ok(())

@@ -1,7 +1,7 @@
 use Rattle.std.proofs.Common.{sym, ◌∙◌, arith}
 use Rattle.xs_piece.specs.Tables.{is_hex}
 use Rattle.xs_piece.specs.Piece.{number, all_of}
-use Rattle.xs_form.proofs.Numbers.{number_found, number_none, digit_step, digit_end}
+use Rattle.xs_form.proofs.Numbers.{number_is, digit_step, digit_end}
 use Rattle.xs_form.proofs.references.hexadecimal_char.Goals as goal
 
 pub digits-preserved : goal.digits-preserved
@@ -14,14 +14,8 @@ digits-preserved c =
       so_far = rw c.appended-number.ensures next.1;
     }
 
-pub returns-then-allowed : goal.returns-then-allowed
-returns-then-allowed c =
+pub returns : goal.returns
+returns c =
     let ds = c.args.digits.now in
     let end = digit_end is_hex 16 (number 16 0 ds) c.digits.number ds c.digits.symbol-index (all_of is_hex ds) c.digits-test.false c.digits.invariant.low c.digits.invariant.all c.digits.invariant.so_far in
-    number_found (all_of is_hex ds) (number 16 0 ds) c.digits.number end.0 end.1 (sym c.allowed.ensures ∙ c.if-allowed.true)
-
-pub returns-else-allowed : goal.returns-else-allowed
-returns-else-allowed c =
-    let ds = c.args.digits.now in
-    let end = digit_end is_hex 16 (number 16 0 ds) c.digits.number ds c.digits.symbol-index (all_of is_hex ds) c.digits-test.false c.digits.invariant.low c.digits.invariant.all c.digits.invariant.so_far in
-    number_none (all_of is_hex ds) (number 16 0 ds) c.digits.number end.1 (sym c.allowed.ensures ∙ c.if-allowed.false)
+    c.char_of.ensures ∙ number_is (all_of is_hex ds) (number 16 0 ds) c.digits.number end.0 end.1
