@@ -68,6 +68,7 @@ names_are p x y names p_is x_is y_is are = same names (subst3 p x y p_is x_is y_
   where
     subst3 : (p x y : List ℕ) → p ≡ codes "p" → x ≡ codes "x" → y ≡ codes "y" → AreNamesOf (p ∷ x ∷ y ∷ []) names → AreNamesOf pair_names names
     subst3 p x y e f g are = subst (λ (l : List (List ℕ)). AreNamesOf l names) (rw (e, f, g) refl) are
+
     same : (names : List (List ℕ)) → AreNamesOf pair_names names → names ≡ pair_names
     same names are = ordered_same names pair_names are.ordered pair_ordered are.same
 
