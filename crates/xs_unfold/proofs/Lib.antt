@@ -8,5 +8,8 @@ pub mod Below
 pub mod Placed
 pub mod Whole
 pub mod Number
+pub mod First
 pub mod Listing
 pub mod Walk
+pub mod Tails
+pub mod Counts
