@@ -3,3 +3,4 @@ pub mod Outline
 pub mod Pieces
 pub mod Grammar
 pub mod Machine
+pub mod View

@@ -4,10 +4,15 @@
 //! productions. Reading gives the sheet, or the place of the first token that no sheet has there.
 #![tactic(auto)]
 
+mod elements;
 mod item;
 mod piece;
+mod places;
+mod regular;
 mod sheet;
+mod state;
 mod unit;
+mod units;
 mod x_item;
 
 pub use item::{Item, Items};

@@ -1,0 +1,4 @@
+pub mod KindLaws
+pub mod ContentLaws
+mod Complete
+mod Sound
