@@ -43,29 +43,29 @@ pub record AtDraft (whole : List Piece) (d : Draft) (rest : List Piece) : Type 0
   pub left : AtLeft whole d.head d.name d.line d.left mid
   pub sign : ReadsSign Equals mid rest
 
-pub AtOpens : List Piece → Draft → List Opened → List Piece → Type 0
+unfoldable pub AtOpens : List Piece → Draft → List Opened → List Piece → Type 0
 AtOpens whole d [] rest = AtDraft whole d rest
 AtOpens whole d (o ∷ os) rest = (a : List Piece) × (b : List Piece) × (c : List Piece) × (e : List Piece) × AtOpens whole d os a × ReadsContent (length os) o.outer a b × (length os < 64) × ReadsOpening o.tag b c × ReadsAttrs o.attrs c e × ReadsSign AngleEnd e rest
 
-pub AtInside : List Piece → Inside → List Piece → Type 0
+unfoldable pub AtInside : List Piece → Inside → List Piece → Type 0
 AtInside whole c rest = (a : List Piece) × AtOpens whole c.draft c.opens a × ReadsContent (length c.opens) c.so_far a rest
 
-pub AtAttrs : List Piece → Inside → List ℕ → List Attr → List Piece → Type 0
+unfoldable pub AtAttrs : List Piece → Inside → List ℕ → List Attr → List Piece → Type 0
 AtAttrs whole c tag as_ rest = (a : List Piece) × (b : List Piece) × AtInside whole c a × (length c.opens < 64) × ReadsOpening tag a b × ReadsAttrs as_ b rest
 
-pub AtValue : List Piece → Inside → List ℕ → List Attr → List ℕ → List Item → List Piece → Type 0
+unfoldable pub AtValue : List Piece → Inside → List ℕ → List Attr → List ℕ → List Item → List Piece → Type 0
 AtValue whole c tag as_ name is rest = (a : List Piece) × (n : Piece) × (e : Piece) × (b : List Piece) × AtAttrs whole c tag as_ a × (a ≡ n ∷ e ∷ b) × IsName n name × (e.kind ≡ Equals) × ReadsItems is b rest
 
-pub AtPlace : List Piece → Place → List Piece → Type 0
+unfoldable pub AtPlace : List Piece → Place → List Piece → Type 0
 AtPlace whole (left_side h name line is) rest = AtLeft whole h name line is rest
 AtPlace whole (inside c) rest = AtInside whole c rest
 AtPlace whole (value c tag as_ name is) rest = AtValue whole c tag as_ name is rest
 
-unit_word : Bool → List ℕ
+pub unit_word : Bool → List ℕ
 unit_word true = codes "terminal"
 unit_word false = codes "ignorable"
 
-pub AtState : List Piece → State → List Piece → Type 0
+unfoldable pub AtState : List Piece → State → List Piece → Type 0
 AtState whole begin rest = whole ≡ rest
 AtState whole versioned rest = (v : Piece) × (whole ≡ v ∷ rest) × IsWord v (codes "xsugar-1")
 AtState whole (started line) rest = (v : Piece) × (s : Piece) × (whole ≡ v ∷ s ∷ rest) × IsWord v (codes "xsugar-1") × IsWord s (codes "start") × (s.line ≡ line)
@@ -179,7 +179,7 @@ attr_of whole c tag as_ name is rest some a =
     let b = a.4 in
     (b.0, b.1, b.2, b.3, b.4, attrs_push as_ (record { name = name; value = is }) b.1 a.0 rest b.5 (record { name = a.1; equals = a.2; behind = a.3; is = a.5; name_is = a.6; equals_is = a.7; some = some; value = a.8 }))
 
-production_of : (whole : List Piece) (d : Draft) (right : Content) (rest : List Piece) → AtInside whole (record { draft = d; opens = []; so_far = right }) rest → AtHead whole (with_production d right) rest
+pub production_of : (whole : List Piece) (d : Draft) (right : Content) (rest : List Piece) → AtInside whole (record { draft = d; opens = []; so_far = right }) rest → AtHead whole (with_production d right) rest
 unfolding AtInside AtOpens
 production_of whole d right rest a =
     let draft = a.1 in
@@ -288,3 +288,11 @@ step_sound whole (closing d o os inner) p rest t a g =
     let n = name_of p b.0 in
     moved whole (closed d o os inner) t rest q.1 (a.0, p, a.1, a.2, record { kind = n.kind; name_is = same_is p.text o.tag b.1 })
 step_sound whole (closed d o os inner) p rest t a g = closed_sound whole d o os inner p rest t a g
+
+-- where reading ends no element is open
+pub leaves_finish : (whole : List Piece) (c : Inside) (p : Piece) (rest : List Piece) (o : Outline) → AtInside whole c (p ∷ rest) → leaves c c.opens p ≡ finish o → (h : Head) × AtHead whole h (p ∷ rest) × (between h p ≡ finish o)
+leaves_finish whole c p rest o a g = by c.opens refl g
+  where
+    by : (os : List Opened) → c.opens ≡ os → leaves c os p ≡ finish o → (h : Head) × AtHead whole h (p ∷ rest) × (between h p ≡ finish o)
+    by [] e f = (with_production c.draft c.so_far, production_of whole c.draft c.so_far (p ∷ rest) (subst (λ (z : List Opened). AtInside whole (record { draft = c.draft; opens = z; so_far = c.so_far }) (p ∷ rest)) e a), f)
+    by (x ∷ os) e f = absurd (cc)

@@ -7,7 +7,9 @@
 mod elements;
 mod item;
 mod piece;
+mod pieces;
 mod places;
+mod reader;
 mod regular;
 mod sheet;
 mod state;
@@ -17,6 +19,7 @@ mod x_item;
 
 pub use item::{Item, Items};
 pub use piece::Piece;
+pub use reader::{SheetFault, read_sheet};
 pub use sheet::Sheet;
 pub use unit::{Unit, Units};
 pub use x_item::{Attr, Attrs, XItem, XItems};
