@@ -3,3 +3,4 @@ pub mod Chars
 pub mod Members
 pub mod Merging
 pub mod Places
+pub mod Sets

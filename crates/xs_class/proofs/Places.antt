@@ -3,20 +3,22 @@ use Rattle.std.proofs.Common.{◌≡◌, ◌∙◌, ◌<◌, ◌+◌, ap, sym, r
 use Rattle.std.specs.Prelude.{bytes_eq, slice_get}
 use Rattle.std.specs.List.{Contains}
 use Rattle.std.specs.Option.{option_map}
-use Rattle.std.specs.Ordering.{nat_cmp, ordering_then, ordering_reverse, ordering_index, is_lt}
+use Rattle.std.specs.Ordering.{nat_cmp, ordering_then, ordering_reverse, ordering_index, is_lt, is_eq, eq_by_cmp, on}
 use Rattle.std.specs.Cmp.Lexicographic.{slice_cmp, bytes_decides}
 use Rattle.std.specs.declared.cmp.Ordering.{Ordering}
 use Rattle.std.specs.declared.cmp.Ordering.TheVariants.{Less, Equal, Greater}
-use Rattle.std.specs.List.{HoldsAt}
-use Rattle.std.specs.List.Sorted.{IsNonDecreasingBy, IsPartitionPoint}
+use Rattle.std.specs.List.{HoldsAt, dedup}
+use Rattle.std.specs.List.Sorted.{IsNonDecreasingBy, IsPartitionPoint, IsSorted, IsPermutation, IsStrictlySortedBy}
 use Rattle.std.specs.Str.{chars, IsUtf8}
 use Rattle.std.proofs.lemmas.Bool.{cases_lt}
-use Rattle.std.proofs.lemmas.Bool.Decides.{nat_tests}
-use Rattle.std.proofs.lemmas.List.Sorted.{searchable_from_sorted}
+use Rattle.std.proofs.lemmas.Bool.Decides.{nat_tests, same_from_decides}
+use Rattle.std.proofs.lemmas.List.Sorted.{searchable_from_sorted, Contains-permutation, IsPermutation-sym}
+use Rattle.std.proofs.lemmas.List.Kept.{IsStrictlySortedBy-dedup, Contains-dedup, Contains-from_dedup}
+use Rattle.std.proofs.lemmas.Map.Keys.{Less-from_sorted}
 use Rattle.std.proofs.lemmas.Str.{encodes-chars, encodes_same}
 use Rattle.std.proofs.lemmas.Option.{none-some, same_Some, get_or_from_slice_get, slice_get_within, slice_get-get_or}
-use Rattle.std.proofs.lemmas.Cmp.{tied_itself, nat_list_cmp_total}
-use Rattle.xs_class.specs.Ordered.{IsBefore, IsOrdered, place_of}
+use Rattle.std.proofs.lemmas.Cmp.{tied_itself, nat_list_cmp_total, nat_list_eq_equiv, on_total, on_equiv}
+use Rattle.xs_class.specs.Ordered.{IsBefore, IsOrdered, AreNamesOf, place_of}
 
 -- a place at which the name stands, and before which it does not, is the one found
 pub first_is_found : (ns : List (List ℕ)) (name : List ℕ) (k : ℕ) → slice_get ns k ≡ Some name → ((j : ℕ) → j < k → slice_get ns j ≡ Some name → ⊥) → place_of ns name ≡ Some k
@@ -105,3 +107,42 @@ search_missed ns name i text parts j at =
 
 pub nowhere_is_absent : (ns : List (List ℕ)) (name : List ℕ) → ((j : ℕ) → slice_get ns j ≡ Some name → ⊥) → Contains ns name → ⊥
 nowhere_is_absent ns name h has = h has.0 (slice_get-get_or ns has.0 name has.1 ∙ ap Some has.2)
+
+-- names are compared by their bytes
+abbrev pub by_bytes : List ℕ → List ℕ → Ordering
+by_bytes = on encode_utf8_all (slice_cmp nat_cmp)
+
+abbrev pub same_bytes : List ℕ → List ℕ → Bool
+same_bytes = on encode_utf8_all bytes_eq
+
+is_eq_tells : (o : Ordering) → is_eq o ≡ true → o ≡ Equal
+is_eq_tells Less t = cc
+is_eq_tells Equal t = refl
+is_eq_tells Greater t = cc
+
+equal_itself : (x y : List ℕ) → x ≡ y → slice_cmp nat_cmp x y ≡ Equal
+equal_itself x y same = subst (λ b. slice_cmp nat_cmp x b ≡ Equal) same (tied_itself nat_list_cmp_total x)
+
+bytes_tie : (x y : List ℕ) → same_bytes x y ≡ eq_by_cmp by_bytes x y
+bytes_tie x y =
+    let one : List ℕ = encode_utf8_all x in
+    let other : List ℕ = encode_utf8_all y in
+    same_from_decides {P = one ≡ other} (bytes_eq one other) (is_eq (slice_cmp nat_cmp one other)) (bytes_decides one other) (
+      λ t. equal_bytes one other (is_eq_tells (slice_cmp nat_cmp one other) t),
+      λ same. ap is_eq (equal_itself one other same),
+    )
+
+same_bytes_same : (x y : List ℕ) → same_bytes x y ≡ true → x ≡ y
+same_bytes_same x y t = encodes_same x y ((bytes_decides (encode_utf8_all x) (encode_utf8_all y)).0 t)
+
+-- the names of a list, sorted and without repeats
+pub names_of_sorted : (list sorted names : List (List ℕ)) → IsPermutation list sorted → IsSorted by_bytes sorted → names ≡ dedup same_bytes sorted → AreNamesOf list names
+names_of_sorted list sorted names moved up is =
+    let strict : IsStrictlySortedBy by_bytes (dedup same_bytes sorted) = IsStrictlySortedBy-dedup (on_total encode_utf8_all nat_list_cmp_total) bytes_tie sorted up in
+    rw is (record {
+      ordered = λ i j d before within. Less-from_sorted by_bytes (dedup same_bytes sorted) i j d strict before within;
+      same = λ name. (
+        λ h. Contains-permutation sorted list name (IsPermutation-sym list sorted moved) (Contains-from_dedup same_bytes sorted name h),
+        λ h. Contains-dedup (on_equiv encode_utf8_all nat_list_eq_equiv) same_bytes_same sorted name (Contains-permutation list sorted name moved h),
+      );
+    })

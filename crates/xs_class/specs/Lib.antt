@@ -1,4 +1,5 @@
 pub mod Classes
 pub mod Marks
+pub mod Named
 pub mod Ordered
 pub mod Tables

@@ -1,7 +1,7 @@
 -- The names of a sheet, each a list of characters, in the order of their UTF-8 bytes.
-use Rattle.std.specs.Prelude.{◌≡◌, ℕ, suc, List, [], ◌∷◌, Option, Some, None, cond, bytes_eq, encode_utf8_all}
+use Rattle.std.specs.Prelude.{◌≡◌, ℕ, suc, ◌↔◌, List, [], ◌∷◌, Option, Some, None, cond, bytes_eq, encode_utf8_all}
 use Rattle.std.specs.Option.{option_map}
-use Rattle.std.specs.List.{AllPairs}
+use Rattle.std.specs.List.{AllPairs, Contains}
 use Rattle.std.specs.Ordering.{nat_cmp}
 use Rattle.std.specs.Cmp.Lexicographic.{slice_cmp}
 use Rattle.std.specs.declared.cmp.Ordering.TheVariants.{Less}
@@ -18,3 +18,8 @@ IsOrdered names = AllPairs IsBefore names
 abbrev pub place_of : List (List ℕ) → List ℕ → Option ℕ
 place_of [] name = None
 place_of (n ∷ ns) name = cond (bytes_eq n name) (Some 0) (option_map suc (place_of ns name))
+
+-- the names are those of the list, ordered and each once
+pub record AreNamesOf (list names : List (List ℕ)) : Type 0 where
+  pub ordered : IsOrdered names
+  pub same : (name : List ℕ) → Contains names name ↔ Contains list name

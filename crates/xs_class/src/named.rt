@@ -1,0 +1,81 @@
+ghost use Rattle.std.specs.Prelude.{◌≡◌, IfOk, IfErr, IsNone, IsSomeAnd};
+ghost use Rattle.std.specs.Str.{chars};
+ghost use Rattle.xs_class.specs.Named.{set_named, HasMembersOf};
+
+use crate::{Class, Memory};
+use std::alloc::{AllocError, Global};
+use std::error::Error;
+use std::fmt;
+use unicode::sets::{Set, by_name, normalize};
+
+/// Why a name gives no class.
+#[derive(Clone, Copy, Debug, PartialEq, Eq)]
+pub enum NameFault {
+    /// The name stands for no set.
+    NoSuchClass,
+    Memory,
+}
+
+impl fmt::Display for NameFault {
+    fn fmt<W: fmt::Write>(&self, f: &mut fmt::Formatter<W>) -> fmt::Result {
+        match self {
+            NameFault::NoSuchClass => write!(f, "no such class"),
+            NameFault::Memory => write!(f, "out of memory"),
+        }
+    }
+}
+
+impl Error for NameFault {}
+
+impl From<Memory> for NameFault {
+    ghost use Rattle.std.specs.Prelude.{◌≡◌};
+    ghost use Rattle.xs_class.specs.declared.named.NameFault.TheVariants as fault;
+
+    ghost from_gives = { λ _ e. e ≡ fault.Memory };
+
+    fn from(_: Memory) -> Self {
+        NameFault::Memory
+    }
+}
+
+impl From<AllocError> for NameFault {
+    ghost use Rattle.std.specs.Prelude.{◌≡◌};
+    ghost use Rattle.xs_class.specs.declared.named.NameFault.TheVariants as fault;
+
+    ghost from_gives = { λ _ e. e ≡ fault.Memory };
+
+    fn from(_: AllocError) -> Self {
+        NameFault::Memory
+    }
+}
+
+impl Class {
+    /// The members of the set that the name stands for: a binary property, a general category or a
+    /// script, by its name in the Unicode Character Database. Case, spaces, hyphens and underscores
+    /// of the name do not matter. `NoSuchClass` comes exactly where the name stands for none.
+    pub fn named(alloc: Global, name: &str) -> Result<Class, NameFault>
+        ensures found { IfOk result (λ c. IsSomeAnd (set_named (chars name.now)) (HasMembersOf c)) }
+        ensures absent { IfErr result (λ e. e ≡ NameFault.NoSuchClass → IsNone (set_named (chars name.now))) }
+    {
+        let letters = letters(alloc, name)?;
+        let normal = normalize(alloc, &letters)?;
+        match by_name(&normal) {
+            Ok(set) => class_of(alloc, set),
+            Err(_) => Err(NameFault::NoSuchClass),
+        }
+    }
+}
+
+fn letters(alloc: Global, name: &str) -> Result<Vec<char>, AllocError>
+    ensures { IfOk result (λ v. v.items ≡ chars name.now) }
+{
+    name.chars().collect(alloc)
+}
+
+fn class_of(alloc: Global, set: Set) -> Result<Class, NameFault>
+    ensures found { IfOk result (λ c. HasMembersOf c set) }
+    ensures memory { IfErr result (λ e. e ≡ NameFault.Memory) }
+{
+    let ranges = set.ranges(alloc)?;
+    Ok(Class::from_ranges(alloc, &ranges)?)
+}
