@@ -1,5 +1,9 @@
 pub mod Automaton
+pub mod Characters
 pub mod Marked
 pub mod Matches
+pub mod Meaning
 pub mod Parts
+pub mod Pattern
+pub mod Scan
 pub mod Size
