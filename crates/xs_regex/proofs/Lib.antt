@@ -3,11 +3,12 @@ pub mod Choice
 pub mod Copies
 pub mod Flags
 pub mod Merging
+pub mod Names
+pub mod Places
 pub mod Readings
 pub mod Repetition
 pub mod Rows
 pub mod Runs
 pub mod Scanning
 pub mod Sequence
-pub mod Sets
 pub mod Words

@@ -2,7 +2,7 @@
 use Rattle.std.proofs.Common.{◌≡◌, ◌≢◌, ◌⊎◌, ◌∙◌, ℕ, zero, suc, ◌+◌, ◌-◌, ◌*◌, ◌<◌, ◌≤◌, Bool, true, false, not, ◌&&◌, ◌||◌, ◌==◌, nat_lt, nat_le, List, [], ◌∷◌, length, refl, sym, ap, subst, inl, inr, arith, None, Some, if◌then◌else◌}
 use Rattle.std.proofs.lemmas.Bool.Decides.{eqb_tells}
 use Rattle.std.specs.declared.option.Option.{Option}
-use Rattle.xs_regex.specs.Characters.{Item, span, named, Sort, some_of, none_of, is_punctuation, is_plain, is_plain_member, is_digit, is_hex, hex_value, is_scalar, hex_at, code_at, escape_at, name_more, name_at, is_known, known_name, named_at, second_digit, count_at, most_end, most_at, least_end, counts_at, member_char_at, span_end, span_more, named_item, escaped_item, item_at, item_more, items_more, items_at, sorted, bracket_at, one_char, one_name, escaped_set, set_at}
+use Rattle.xs_regex.specs.Characters.{Item, span, named, Sort, some_of, none_of, is_punctuation, is_plain, is_plain_member, is_digit, is_hex, hex_value, is_scalar, hex_at, code_at, escape_at, name_more, name_at, name_end, named_at, second_digit, count_at, most_end, most_at, least_end, counts_at, member_char_at, span_end, span_more, named_item, escaped_item, item_at, known, with_left, known_item, item_more, items_more, items_at, sorted, bracket_at, char_item, escaped_one, one_at, one_set, set_at}
 use Rattle.xs_regex.specs.Pattern.{Tree, nothing, class, both, either, any, times, Stops, Ends, IsPlainNext, IsCounted, once, star, plus, question, braces, IsRegex, one_sequence, bar, IsSequence, no_piece, pieces, ArePieces, last_piece, next_piece, IsPiece, piece, IsAtom, set, group, IsReading}
 use Rattle.xs_regex.specs.Scan.{stops, braced, count_behind, counted, class_of, closed, with_tree, pieces_behind, regex_behind, regex_at, pieces_at, atom_at}
 
@@ -47,14 +47,14 @@ name_leaves : (cs : List ℕ) → Leaves (length cs) (name_at cs)
 name_leaves [] = tt
 name_leaves (c ∷ cs) = if_leaves _ (c == 125) _ _ (omega arith) (name_more_leaves _ c (name_at cs) (more_leaves (length cs) (suc (length cs)) (name_at cs) (omega arith) (name_leaves cs)))
 
-known_leaves : (n : ℕ) (o : Option (List ℕ × List ℕ)) → Leaves n o → Leaves n (known_name o)
-known_leaves n None h = h
-known_leaves n (Some ([], left)) h = tt
-known_leaves n (Some (c ∷ name, left)) h = if_leaves n (is_known (c ∷ name)) _ _ h tt
+name_end_leaves : (n : ℕ) (o : Option (List ℕ × List ℕ)) → Leaves n o → Leaves n (name_end o)
+name_end_leaves n None h = h
+name_end_leaves n (Some ([], left)) h = tt
+name_end_leaves n (Some (c ∷ name, left)) h = h
 
 named_leaves : (cs : List ℕ) → Leaves (length cs) (named_at cs)
 named_leaves [] = tt
-named_leaves (c ∷ cs) = if_leaves _ (c == 123) _ _ (known_leaves _ (name_at cs) (more_leaves (length cs) (suc (length cs)) (name_at cs) (omega arith) (name_leaves cs))) tt
+named_leaves (c ∷ cs) = if_leaves _ (c == 123) _ _ (name_end_leaves _ (name_at cs) (more_leaves (length cs) (suc (length cs)) (name_at cs) (omega arith) (name_leaves cs))) tt
 
 second_leaves : (m n : ℕ) (cs : List ℕ) → length cs < m → Leaves m (second_digit n cs)
 second_leaves m n [] l = l
@@ -117,9 +117,17 @@ items_more_leaves n None others f h = tt
 items_more_leaves n (Some (item, [])) others f h = tt
 items_more_leaves n (Some (item, c ∷ cs)) others f h = if_leaves n (c == 93) _ _ (omega arith) (item_more_leaves n item (others (c ∷ cs)) (more_leaves (length (c ∷ cs)) n (others (c ∷ cs)) (omega arith) (f (c ∷ cs))))
 
+with_left_leaves : (n : ℕ) (left : List ℕ) (o : Option Item) → length left < n → Leaves n (with_left left o)
+with_left_leaves n left None l = tt
+with_left_leaves n left (Some item) l = l
+
+known_item_leaves : (n : ℕ) (o : Option (Item × List ℕ)) → Leaves n o → Leaves n (known_item o)
+known_item_leaves n None h = tt
+known_item_leaves n (Some (item, left)) h = with_left_leaves n left (known item) h
+
 items_leaves : (steps : ℕ) (cs : List ℕ) → Leaves (length cs) (items_at steps cs)
 items_leaves zero cs = tt
-items_leaves (suc steps) cs = items_more_leaves (length cs) (item_at cs) (λ left. items_at steps left) (λ left. items_leaves steps left) (item_leaves cs)
+items_leaves (suc steps) cs = items_more_leaves (length cs) (known_item (item_at cs)) (λ left. items_at steps left) (λ left. items_leaves steps left) (known_item_leaves (length cs) (item_at cs) (item_leaves cs))
 
 sorted_leaves : (n : ℕ) (sort : List Item → Sort) (o : Option (List Item × List ℕ)) → Leaves n o → Leaves n (sorted sort o)
 sorted_leaves n sort None h = tt
@@ -132,25 +140,28 @@ bracket_leaves (c ∷ cs) =
       (sorted_leaves _ none_of (items_at (length cs) cs) (more_leaves (length cs) (suc (length cs)) (items_at (length cs) cs) (omega arith) (items_leaves (length cs) cs)))
       (sorted_leaves _ some_of (items_at (suc (length cs)) (c ∷ cs)) (items_leaves (suc (length cs)) (c ∷ cs)))
 
-one_char_leaves : (n : ℕ) (o : Option (ℕ × List ℕ)) → Leaves n o → Leaves n (one_char o)
-one_char_leaves n None h = tt
-one_char_leaves n (Some (c, left)) h = h
+char_item_leaves : (n : ℕ) (o : Option (ℕ × List ℕ)) → Leaves n o → Leaves n (char_item o)
+char_item_leaves n None h = tt
+char_item_leaves n (Some (c, left)) h = h
 
-one_name_leaves : (n : ℕ) (o : Option (List ℕ × List ℕ)) → Leaves n o → Leaves n (one_name o)
-one_name_leaves n None h = tt
-one_name_leaves n (Some (name, left)) h = h
+escaped_one_leaves : (cs : List ℕ) → Leaves (length cs) (escaped_one cs)
+escaped_one_leaves [] = tt
+escaped_one_leaves (c ∷ cs) = if_leaves _ (c == 112) _ _ (named_item_leaves _ (named_at cs) (more_leaves (length cs) (suc (length cs)) (named_at cs) (omega arith) (named_leaves cs))) (char_item_leaves _ (escape_at (c ∷ cs)) (escape_leaves (c ∷ cs)))
 
-escaped_set_leaves : (cs : List ℕ) → Leaves (length cs) (escaped_set cs)
-escaped_set_leaves [] = tt
-escaped_set_leaves (c ∷ cs) = if_leaves _ (c == 112) _ _ (one_name_leaves _ (named_at cs) (more_leaves (length cs) (suc (length cs)) (named_at cs) (omega arith) (named_leaves cs))) (one_char_leaves _ (escape_at (c ∷ cs)) (escape_leaves (c ∷ cs)))
+one_leaves : (cs : List ℕ) → Leaves (length cs) (one_at cs)
+one_leaves [] = tt
+one_leaves (c ∷ cs) = if_leaves _ (c == 92) _ _ (more_leaves (length cs) (suc (length cs)) (escaped_one cs) (omega arith) (escaped_one_leaves cs)) (if_leaves _ (is_plain c) _ _ (omega arith) tt)
+
+one_set_leaves : (n : ℕ) (o : Option (Item × List ℕ)) → Leaves n o → Leaves n (one_set o)
+one_set_leaves n None h = tt
+one_set_leaves n (Some (item, left)) h = h
 
 pub set_leaves : (cs : List ℕ) → Leaves (length cs) (set_at cs)
 set_leaves [] = tt
 set_leaves (c ∷ cs) =
-    if_leaves _ (c == 92) _ _ (more_leaves (length cs) (suc (length cs)) (escaped_set cs) (omega arith) (escaped_set_leaves cs))
-    (if_leaves _ (c == 91) _ _ (more_leaves (length cs) (suc (length cs)) (bracket_at cs) (omega arith) (bracket_leaves cs))
+    if_leaves _ (c == 91) _ _ (more_leaves (length cs) (suc (length cs)) (bracket_at cs) (omega arith) (bracket_leaves cs))
     (if_leaves _ (c == 46) _ _ (omega arith)
-    (if_leaves _ (is_plain c) _ _ (one_char_leaves _ (Some (c, cs)) (omega arith)) tt)))
+    (one_set_leaves _ (known_item (one_at (c ∷ cs))) (known_item_leaves _ (one_at (c ∷ cs)) (one_leaves (c ∷ cs)))))
 
 -- what a part leaves is shorter than what it began with
 left_of : {A : Type 0} (n : ℕ) (o : Option (A × List ℕ)) (x : A) (left : List ℕ) → Leaves n o → o ≡ Some (x, left) → length left < n

@@ -40,6 +40,11 @@ hex_value c = if nat_le c 57 then c - 48 else (if nat_le c 70 then c - 55 else c
 abbrev pub is_scalar : ℕ → Bool
 is_scalar v = nat_le v 0x10FFFF && not (nat_le 0xD800 v && nat_le v 0xDFFF)
 
+-- the values of so many hexadecimal digits are below it
+abbrev pub hex_room : ℕ → ℕ
+hex_room zero = 1
+hex_room (suc count) = 16 * hex_room count
+
 -- hexadecimal digits up to a closing brace, at most six in all, after some with a value
 abbrev pub hex_at : ℕ → ℕ → List ℕ → Option (ℕ × List ℕ)
 hex_at value count [] = None
@@ -71,19 +76,15 @@ abbrev pub name_at : List ℕ → Option (List ℕ × List ℕ)
 name_at [] = None
 name_at (c ∷ cs) = if c == 125 then Some ([], cs) else name_more c (name_at cs)
 
--- a set has the name
-unfoldable pub is_known : List ℕ → Bool
-is_known name = is_some (set_named name)
+-- behind `\p`: a name in braces, of one character or more
+abbrev pub name_end : Option (List ℕ × List ℕ) → Option (List ℕ × List ℕ)
+name_end None = None
+name_end (Some ([], left)) = None
+name_end (Some (c ∷ name, left)) = Some (c ∷ name, left)
 
-abbrev pub known_name : Option (List ℕ × List ℕ) → Option (List ℕ × List ℕ)
-known_name None = None
-known_name (Some ([], left)) = None
-known_name (Some (c ∷ name, left)) = if is_known (c ∷ name) then Some (c ∷ name, left) else None
-
--- behind `\p`: a name in braces
 abbrev pub named_at : List ℕ → Option (List ℕ × List ℕ)
 named_at [] = None
-named_at (c ∷ cs) = if c == 123 then known_name (name_at cs) else None
+named_at (c ∷ cs) = if c == 123 then name_end (name_at cs) else None
 
 -- one or two decimal digits without a leading zero, at most 64
 abbrev pub second_digit : ℕ → List ℕ → Option (ℕ × List ℕ)
@@ -145,7 +146,24 @@ abbrev pub item_at : List ℕ → Option (Item × List ℕ)
 item_at [] = None
 item_at (c ∷ cs) = if c == 92 then escaped_item cs else (if is_plain_member c then span_more (Some (c, cs)) else None)
 
--- one item or more, up to the closing bracket; the first argument is more than there are items
+-- a set has the name
+unfoldable pub is_known : List ℕ → Bool
+is_known name = is_some (set_named name)
+
+-- the item, where a set has its name
+abbrev pub known : Item → Option Item
+known (span low high) = Some (span low high)
+known (named name) = if is_known name then Some (named name) else None
+
+abbrev pub with_left : List ℕ → Option Item → Option (Item × List ℕ)
+with_left left None = None
+with_left left (Some item) = Some (item, left)
+
+abbrev pub known_item : Option (Item × List ℕ) → Option (Item × List ℕ)
+known_item None = None
+known_item (Some (item, left)) = with_left left (known item)
+
+-- one item or more, up to the closing bracket; the first argument bounds the steps
 abbrev pub item_more : Item → Option (List Item × List ℕ) → Option (List Item × List ℕ)
 item_more item None = None
 item_more item (Some (items, left)) = Some (item ∷ items, left)
@@ -157,7 +175,7 @@ items_more (Some (item, c ∷ cs)) others = if c == 93 then Some (item ∷ [], c
 
 abbrev pub items_at : ℕ → List ℕ → Option (List Item × List ℕ)
 items_at zero cs = None
-items_at (suc steps) cs = items_more (item_at cs) (λ left. items_at steps left)
+items_at (suc steps) cs = items_more (known_item (item_at cs)) (λ left. items_at steps left)
 
 -- behind an opening bracket
 abbrev pub sorted : (List Item → Sort) → Option (List Item × List ℕ) → Option (Sort × List ℕ)
@@ -168,23 +186,27 @@ abbrev pub bracket_at : List ℕ → Option (Sort × List ℕ)
 bracket_at [] = None
 bracket_at (c ∷ cs) = if c == 94 then sorted none_of (items_at (length cs) cs) else sorted some_of (items_at (length (c ∷ cs)) (c ∷ cs))
 
--- one character, or a named set, or a dot, or a set in brackets
-abbrev pub one_char : Option (ℕ × List ℕ) → Option (Sort × List ℕ)
-one_char None = None
-one_char (Some (c, left)) = Some (some_of (span c c ∷ []), left)
+-- outside brackets, a character that stands for itself, an escape or a named set
+abbrev pub char_item : Option (ℕ × List ℕ) → Option (Item × List ℕ)
+char_item None = None
+char_item (Some (c, left)) = Some (span c c, left)
 
-abbrev pub one_name : Option (List ℕ × List ℕ) → Option (Sort × List ℕ)
-one_name None = None
-one_name (Some (name, left)) = Some (some_of (named name ∷ []), left)
+abbrev pub escaped_one : List ℕ → Option (Item × List ℕ)
+escaped_one [] = None
+escaped_one (c ∷ cs) = if c == 112 then named_item (named_at cs) else char_item (escape_at (c ∷ cs))
 
-abbrev pub escaped_set : List ℕ → Option (Sort × List ℕ)
-escaped_set [] = None
-escaped_set (c ∷ cs) = if c == 112 then one_name (named_at cs) else one_char (escape_at (c ∷ cs))
+abbrev pub one_at : List ℕ → Option (Item × List ℕ)
+one_at [] = None
+one_at (c ∷ cs) = if c == 92 then escaped_one cs else (if is_plain c then Some (span c c, cs) else None)
+
+-- such an item, a dot, or a set in brackets
+abbrev pub one_set : Option (Item × List ℕ) → Option (Sort × List ℕ)
+one_set None = None
+one_set (Some (item, left)) = Some (some_of (item ∷ []), left)
 
 abbrev pub set_at : List ℕ → Option (Sort × List ℕ)
 set_at [] = None
 set_at (c ∷ cs) =
-    if c == 92 then escaped_set cs
-    else (if c == 91 then bracket_at cs
+    if c == 91 then bracket_at cs
     else (if c == 46 then Some (none_of [], cs)
-    else (if is_plain c then one_char (Some (c, cs)) else None)))
+    else one_set (known_item (one_at (c ∷ cs))))

@@ -5,5 +5,7 @@ pub mod Matches
 pub mod Meaning
 pub mod Parts
 pub mod Pattern
+pub mod Pieces
 pub mod Scan
 pub mod Size
+pub mod Told

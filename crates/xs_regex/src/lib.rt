@@ -5,7 +5,9 @@
 #![tactic(auto)]
 
 mod automaton;
+mod characters;
 mod compose;
+mod fault;
 mod lists;
 mod matching;
 mod position;
@@ -13,6 +15,7 @@ mod regex;
 mod repeat;
 
 pub use automaton::positions;
+pub use fault::RegexFault;
 pub use matching::matches;
 pub use position::{Classes, Follows, Numbers, Position};
 pub use regex::Regex;
