@@ -1,3 +1,4 @@
+pub mod Adding
 pub mod Built
 pub mod Choice
 pub mod Copies

@@ -13,6 +13,7 @@ mod matching;
 mod position;
 mod regex;
 mod repeat;
+mod sets;
 
 pub use automaton::positions;
 pub use fault::RegexFault;
