@@ -1,8 +1,10 @@
 pub mod Adding
 pub mod Built
+pub mod Chains
 pub mod Choice
 pub mod Copies
 pub mod Flags
+pub mod Meanings
 pub mod Merging
 pub mod Names
 pub mod Places

@@ -1,5 +1,6 @@
 -- The regexes that a tree of a pattern stands for.
 use Rattle.std.specs.Prelude.{◌≡◌, ◌↔◌, ◌⊎◌, ℕ, ◌≤◌, List, [], ◌∷◌, IsTrue, IsSomeAnd, None, Some}
+use Rattle.std.specs.Borrow.{Bor}
 use Rattle.std.specs.declared.option.Option.{Option}
 use Rattle.ucd_sets.specs.Sets.{in_set}
 use Rattle.xs_class.specs.Classes.{Has}
@@ -40,3 +41,7 @@ Means t r = ⊥
 -- the pattern is read as the regex
 abbrev pub IsPatternOf : List ℕ → Regex → Type 0
 IsPatternOf pattern r = (t : Tree) × IsReading pattern t × Means t r
+
+-- what was read and left is what the reader has
+abbrev pub Reads : Tree × List ℕ → Regex × Bor (List ℕ) → Type 0
+Reads a x = (a.1 ≡ x.1.now) × Means a.0 x.0

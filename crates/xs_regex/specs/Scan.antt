@@ -64,3 +64,6 @@ abbrev mutual
   atom_at (suc steps) depth [] = None
   atom_at (suc steps) zero (c ∷ cs) = class_of (set_at (c ∷ cs))
   atom_at (suc steps) (suc depth) (c ∷ cs) = if c == 40 then closed (regex_at steps depth cs) else class_of (set_at (c ∷ cs))
+
+abbrev pub sequence_at : ℕ → ℕ → List ℕ → Option (Tree × List ℕ)
+sequence_at steps depth cs = if stops cs then Some (nothing, cs) else pieces_at steps depth cs
