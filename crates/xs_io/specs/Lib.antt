@@ -1,3 +1,4 @@
+pub mod Adapters
 pub mod Calls
 pub mod Causes
 pub mod Folder

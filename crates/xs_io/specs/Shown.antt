@@ -41,13 +41,3 @@ IsFile (Some files) name bytes limit = (files name ≡ Some bytes) × (length by
 abbrev pub IsLongFile : Files → List ℕ → ℕ → Type 0
 IsLongFile None name limit = ⊤
 IsLongFile (Some files) name limit = (bytes : List ℕ) × (files name ≡ Some bytes) × (limit < length bytes)
-
--- the file begins with these bytes, if it is there
-abbrev pub IsFront : Option (List ℕ) → List ℕ → Type 0
-IsFront None front = ⊤
-IsFront (Some bytes) front = (rest : List ℕ) × (bytes ≡ front ++ rest)
-
--- what was read so far begins the file
-abbrev pub BeginsFile : Files → List ℕ → List ℕ → Type 0
-BeginsFile None name front = ⊤
-BeginsFile (Some files) name front = IsFront (files name) front

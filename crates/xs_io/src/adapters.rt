@@ -13,7 +13,8 @@ const RETRIES: u32 = 1_000;
 fn read_again<R: Read>(reader: &mut R, buf: &mut [u8]) -> Option<usize>
     requires { 0 < length buf.old }
     ensures bound { IfSome result (λ n. n ≤ length buf.new) }
-    ensures taken { IfSome result (λ n. Consumes (R.remaining reader.old) (R.remaining reader.new) (take n buf.new)) }
+    ensures taken { IfSome result (λ n. Consumes (R.remaining reader.old) (R.remaining reader.new)
+        (take n buf.new)) }
     ensures end { IfSome result (λ n. n ≡ 0 → IsAtEnd (R.remaining reader.new)) }
     ensures none { IfNone result (Keeps (R.remaining reader.old) (R.remaining reader.new)) }
 {
@@ -34,7 +35,8 @@ fn read_again<R: Read>(reader: &mut R, buf: &mut [u8]) -> Option<usize>
 fn write_again<W: Write>(writer: &mut W, piece: &[u8]) -> Option<usize>
     ensures some { IfSome result (λ n. 0 < n) }
     ensures bound { IfSome result (λ n. n ≤ length piece.now) }
-    ensures taken { IfSome result (λ n. Appends (W.contents writer.old) (W.contents writer.new) (take n piece.now)) }
+    ensures taken { IfSome result (λ n. Appends (W.contents writer.old) (W.contents writer.new)
+        (take n piece.now)) }
     ensures none { IfNone result (Keeps (W.contents writer.old) (W.contents writer.new)) }
 {
     'again: for _ in 0..=RETRIES {
@@ -62,15 +64,23 @@ pub struct FromReader<R: Read> {
 }
 
 impl<R: Read> FromReader<R> {
-    pub fn new(reader: R) -> Self {
+    ghost use Rattle.xs_io.specs.Adapters.{reader_of, reader_faults};
+
+    /// A source over this reader.
+    pub fn new(reader: R) -> Self
+        ensures reader { reader_of result ≡ reader }
+        ensures faults { reader_faults result ≡ 0 }
+    {
         FromReader { reader, faults: 0 }
     }
 }
 
 impl<R: Read> Source for FromReader<R> {
-    ghost left = { λ s. R.remaining s.reader };
+    ghost use Rattle.xs_io.specs.Adapters.{reader_of, reader_faults};
 
-    ghost faults = { λ s. s.faults };
+    ghost left = { λ s. R.remaining (reader_of s) };
+
+    ghost faults = { λ s. reader_faults s };
 
     fn read(&mut self, buf: &mut [u8]) -> Result<usize, Failed> {
         match read_again(&mut self.reader, buf) {
@@ -96,15 +106,23 @@ pub struct ToWriter<W: Write> {
 }
 
 impl<W: Write> ToWriter<W> {
-    pub fn new(writer: W) -> Self {
+    ghost use Rattle.xs_io.specs.Adapters.{writer_of, writer_faults};
+
+    /// A sink over this writer.
+    pub fn new(writer: W) -> Self
+        ensures writer { writer_of result ≡ writer }
+        ensures faults { writer_faults result ≡ 0 }
+    {
         ToWriter { writer, faults: 0 }
     }
 }
 
 impl<W: Write> Sink for ToWriter<W> {
-    ghost taken = { λ s. W.contents s.writer };
+    ghost use Rattle.xs_io.specs.Adapters.{writer_of, writer_faults};
 
-    ghost faults = { λ s. s.faults };
+    ghost taken = { λ s. W.contents (writer_of s) };
+
+    ghost faults = { λ s. writer_faults s };
 
     fn write(&mut self, piece: &[u8]) -> Result<usize, Failed> {
         match write_again(&mut self.writer, piece) {
@@ -144,17 +162,23 @@ pub struct DirShelf<'r, R: Files> {
 }
 
 impl<'r, R: Files> DirShelf<'r, R> {
-    pub fn new(rt: &'r R) -> Self {
+    ghost use Rattle.xs_io.specs.Adapters.{dir_faults};
+
+    /// A shelf over the files of this runtime.
+    pub fn new(rt: &'r R) -> Self
+        ensures { dir_faults result ≡ 0 }
+    {
         DirShelf { rt, faults: 0 }
     }
 }
 
 impl<'r, R: Files> Shelf for DirShelf<'r, R> {
     ghost use Rattle.std.specs.Prelude.{None};
+    ghost use Rattle.xs_io.specs.Adapters.{dir_faults};
 
     ghost files = { λ _. None };
 
-    ghost faults = { λ s. s.faults };
+    ghost faults = { λ s. dir_faults s };
 
     ghost name_faults = { λ _ _. 0 };
 

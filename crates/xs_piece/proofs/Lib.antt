@@ -7,3 +7,4 @@ pub mod Tagsound
 pub mod Steps
 pub mod Stuck
 pub mod More
+pub mod TableLaws

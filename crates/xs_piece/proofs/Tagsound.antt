@@ -21,7 +21,7 @@ bit_one : (q c : ℕ) (cs : List ℕ) (r : Bit × List ℕ) (t : Bool) → (c ==
 bit_one q c cs r true e is = subst (λ (x : ℕ). (x ∷ cs) ≡ spelt_bit r.0 r.1) (sym (eqb-true c 38 e)) (bit_ref q cs (cut (codes ";") cs) r (λ x h. cut_is (codes ";") cs x h) is)
 bit_one q c cs r false e is = bit_kept (c ∷ cs) (is_bit q (plain c)) (plain c) cs r refl is
 
-bit_is : (q : ℕ) (cs : List ℕ) (r : Bit × List ℕ) → bit_at q cs ≡ Some r → cs ≡ spelt_bit r.0 r.1
+pub bit_is : (q : ℕ) (cs : List ℕ) (r : Bit × List ℕ) → bit_at q cs ≡ Some r → cs ≡ spelt_bit r.0 r.1
 bit_is q [] r is = absurd (cc)
 bit_is q (c ∷ cs) r is = bit_one q c cs r (c == 38) refl is
 
@@ -51,7 +51,7 @@ quote_sound d gap n left (right, q ∷ cs) spells =
     let b = bits_at (length cs) q cs in
     attr_bind d (after (q ∷ []) b.1) (as_attr (record { gap = gap; name = n; left = left; right = right; quote = q; value = b.0 })) (λ x h. attr_kept d _ (record { gap = gap; name = n; left = left; right = right; quote = q; value = b.0 }) x (spells ∙ ap (λ (y : List ℕ). gap ++ (n ++ (left ++ 61 ∷ (right ++ q ∷ y)))) (bits_are (length cs) q cs ∙ ap (λ (y : List ℕ). spelt_bits b.0 y) (after_is (q ∷ []) b.1 x h))))
 
-attr_sound : (d : List ℕ) → AttrSound d (attr_at d)
+pub attr_sound : (d : List ℕ) → AttrSound d (attr_at d)
 unfolding attr_at
 attr_sound d =
     let g = span is_white d in

@@ -1,4 +1,4 @@
-ghost use Rattle.std.specs.Prelude.{◌≡◌, [], ◌+◌, ◌++◌, ◌<◌, ◌≤◌, length, IfSome, codes, encode_utf8, encode_utf8_all, string_bytes, string_len, string_capacity};
+ghost use Rattle.std.specs.Prelude.{◌≡◌, [], ◌+◌, ◌++◌, ◌^◌, ◌<◌, ◌≤◌, length, IfSome, IfNone, codes, encode_utf8, encode_utf8_all, string_bytes, string_len, string_capacity};
 ghost use Rattle.std.specs.Char.{IsScalar};
 ghost use Rattle.xs_xml_out.specs.Written.{put, name_at, content_char, value_char};
 ghost use Rattle.xs_xml_out.specs.Part.{IsKnown, body_bytes, part_bytes};
@@ -37,7 +37,8 @@ impl<'n> Part<'n> {
 
     /// The number of bytes with this part's added, or None where it passes the greatest number.
     pub fn counted(&self, before: usize) -> Option<usize>
-        ensures { IfSome result (λ n. n ≡ before + length (part_bytes self.now)) }
+        ensures sum { IfSome result (λ n. n ≡ before + length (part_bytes self.now)) }
+        ensures passes { IfNone result (2 ^ 64 ≤ before + length (part_bytes self.now)) }
     {
         let body = match self.body {
             Body::Single(c) => c.len_utf8(),

@@ -1,4 +1,4 @@
-ghost use Rattle.std.specs.Prelude.{◌≡◌, ◌+◌, ◌++◌, ◌≤◌, length, IfOk, IfSome, string_bytes, string_len, string_capacity};
+ghost use Rattle.std.specs.Prelude.{◌≡◌, ◌+◌, ◌++◌, ◌^◌, ◌≤◌, length, IfOk, IfSome, IfNone, string_bytes, string_len, string_capacity};
 ghost use Rattle.xs_xml_out.specs.Balanced.{IsBalanced};
 ghost use Rattle.xs_xml_out.specs.Written.{xml_bytes};
 ghost use Rattle.xs_xml_out.specs.Part.{AreKnown};
@@ -12,7 +12,8 @@ use xs_class::{Bytes, Memory, Names, Sym, Word};
 /// The number of the document's bytes, or None where it passes the greatest number.
 fn length_of(names: &Names, symbols: &[Sym]) -> Option<usize>
     requires { AreKnown names.now symbols.now }
-    ensures { IfSome result (λ n. n ≡ length (xml_bytes names.now symbols.now)) }
+    ensures number { IfSome result (λ n. n ≡ length (xml_bytes names.now symbols.now)) }
+    ensures passes { IfNone result (2 ^ 64 ≤ length (xml_bytes names.now symbols.now)) }
 {
     let mut length = 1;
     let mut mode = Mode::Content;
@@ -54,3 +55,6 @@ pub fn write_xml(alloc: Global, names: &Names, word: &Word) -> Result<Bytes, Mem
     put_all(names, symbols, &mut out);
     Ok(Bytes::from_vec(out.into_bytes()))
 }
+
+#[cfg(test)]
+mod tests;

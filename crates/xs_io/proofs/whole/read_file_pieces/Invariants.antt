@@ -1,5 +1,5 @@
 use Rattle.std.proofs.Common.{◌≡◌, ◌≢◌, ◌≤◌, ◌-◌, ℕ, List, length}
-use Rattle.xs_io.specs.Shown.{BeginsFile}
+use Rattle.xs_io.proofs.Files.{BeginsFile}
 use Rattle.xs_io.proofs.whole.read_file_pieces.Given as goal
 
 abbrev pub invariant-pieces : goal.invariant-pieces

@@ -1,0 +1,72 @@
+ghost use Rattle.std.specs.Prelude.{◌≡◌, ◌<◌, length, IfOk, IfErr};
+ghost use Rattle.std.specs.Str.{chars, IsUtf8};
+ghost use Rattle.xs_chars.specs.Text.{text_of, without_mark, AreCharacters};
+ghost use Rattle.xs_chars.specs.Laws.{IsFault};
+
+use crate::form::{Form, formed};
+use crate::strings::word_of;
+use std::alloc::Global;
+use std::str;
+use xs_class::{Memory, Sym, Word};
+
+const BYTE_ORDER_MARK: u32 = 0xFEFF;
+
+/// Why bytes are not decoded.
+#[derive(Clone, Copy, Debug, PartialEq, Eq)]
+pub enum DecodeFault {
+    /// They are not UTF-8: `at` bytes are the longest prefix that is.
+    NotUtf8 { at: u64 },
+    Memory,
+}
+
+impl From<Memory> for DecodeFault {
+    ghost use Rattle.std.specs.Prelude.{◌≡◌};
+    ghost use Rattle.xs_chars.specs.declared.reading.DecodeFault.TheVariants.{Memory};
+
+    ghost from_gives = { λ _ e. e ≡ Memory };
+
+    fn from(_: Memory) -> Self {
+        DecodeFault::Memory
+    }
+}
+
+/// The characters of the bytes as UTF-8, in time linear in them.
+pub fn decode(alloc: Global, bytes: &[u8]) -> Result<Word, DecodeFault>
+    ensures ok { IfOk result (λ w. IsUtf8 bytes.now × (w ≡ chars bytes.now)) }
+    ensures fault { IfErr result (IsFault bytes.now) }
+    ensures characters { IfOk result AreCharacters }
+{
+    match str::from_utf8(bytes) {
+        Ok(text) => Ok(word_of(alloc, text)?),
+        Err(bad) => Err(DecodeFault::NotUtf8 {
+            at: bad.valid_up_to() as u64,
+        }),
+    }
+}
+
+// The symbols behind one byte order mark at the very front, where there is one.
+fn behind_mark(symbols: &[Sym]) -> &[Sym]
+    ensures mark { result.now ≡ without_mark symbols.now }
+    ensures characters { AreCharacters symbols.now → AreCharacters result.now }
+{
+    if symbols.is_empty() {
+        return symbols;
+    }
+    let first: &Sym = &symbols[0];
+    if first.number() == BYTE_ORDER_MARK {
+        return &symbols[1..];
+    }
+    symbols
+}
+
+/// The characters of a text document: those of the bytes as UTF-8, without one byte order mark at
+/// the very front, in the form. A word of 4,294,967,295 symbols or more is answered by `Memory`.
+pub fn read_text(alloc: Global, bytes: &[u8], form: Form) -> Result<Word, DecodeFault>
+    ensures ok { IfOk result (λ w. IsUtf8 bytes.now × (w ≡ text_of bytes.now form)) }
+    ensures fault { IfErr result (IsFault bytes.now) }
+    ensures characters { IfOk result AreCharacters }
+    ensures short { IfOk result (λ w. length w < 4294967295) }
+{
+    let word = decode(alloc, bytes)?;
+    Ok(formed(alloc, behind_mark(word.as_slice()), form)?)
+}

@@ -1,0 +1,11 @@
+pub mod AttributeLaws
+pub mod NameLaws
+pub mod Numbers
+pub mod PieceLaws
+pub mod ReadLaws
+pub mod RuleLaws
+pub mod SettingLaws
+pub mod SortedLaws
+pub mod StateLaws
+pub mod StepLaws
+pub mod ValueLaws

@@ -1,0 +1,94 @@
+use Rattle.std.proofs.Common.{◌≡◌, ◌≤◌, ℕ, List, [], length, Bool, true, false, ◌==◌, Some, None, refl, sym, ◌∙◌, ap, subst}
+use Rattle.std.specs.Option.{option_map}
+use Rattle.xs_piece.specs.Reads.{Reads}
+use Rattle.xs_piece.specs.Scan.{piece_at}
+use Rattle.xs_form.specs.Fault.{IsAt}
+use Rattle.xs_form.specs.Seen.{found, shown_event, shown_found}
+use Rattle.xs_form.specs.State.{state_of, step, taken}
+use Rattle.xs_form.proofs.ReadLaws.{IsSoFar, event_named, event_shorter, piece_more, no_piece, no_piece_left, piece_refused, broken_of, rest_shorter, all_read, empty_list, no_empty_list, finished_at, not_finished}
+use Rattle.xs_form.proofs.document.read_xml.Goals as goal
+
+pub broken-requires : goal.broken-requires
+broken-requires c =
+    subst (λ (x : List ℕ). length c.pieces.rest.now ≤ length x) (sym c.as_slice-whole.ensures) (rest_shorter c.args.names.now c.args.doc.now c.pieces.rest.now (state_of c.pieces.reader) c.pieces.invariant)
+
+pub broken-requires-then-not-branch : goal.broken-requires-then-not-branch
+broken-requires-then-not-branch c =
+    subst (λ (x : List ℕ). length c.pieces.rest.now ≤ length x) (sym c.as_slice-whole.ensures) (rest_shorter c.args.names.now c.args.doc.now c.pieces.rest.now (state_of c.pieces.reader) c.pieces.invariant)
+
+pub returns-in-None-clause-fault : goal.returns-in-None-clause-fault
+returns-in-None-clause-fault c =
+    let names = c.args.names.now in
+    let doc = c.args.doc.now in
+    let rest = c.pieces.rest.now in
+    let st = state_of c.pieces.reader in
+    let kept : option_map shown_found c.in_ok-event_at.field-0 ≡ option_map found (piece_at rest) = c.in_ok-event_at.ensures in
+    let filled : (length rest == 0) ≡ false = sym c.is_empty.ensures ∙ c.pieces-test.true in
+    let at : IsAt c.broken.result (length doc) (length rest) = subst (λ (x : List ℕ). IsAt c.broken.result (length x) (length rest)) c.as_slice-whole.ensures c.broken.ensures in
+    let none : None ≡ option_map found (piece_at rest) = ap (option_map shown_found) (sym c.in-None.is) ∙ kept in
+    broken_of names doc rest st c.broken.result c.pieces.invariant (no_piece names doc rest st c.pieces.invariant none) (λ e b. no_empty_list rest filled e) at
+
+pub take-requires : goal.take-requires
+take-requires c =
+    let rest = c.pieces.rest.now in
+    let kept : option_map shown_found c.in_ok-event_at.field-0 ≡ option_map found (piece_at rest) = c.in_ok-event_at.ensures in
+    let s = shown_event c.in-Some.event in
+    let is : Some (s, c.in-Some.more.now) ≡ option_map found (piece_at rest) = ap (option_map shown_found) (sym c.in-Some.is) ∙ kept in
+    event_named rest c.in-Some.more.now s is
+
+pub returns-then-not-branch-clause-fault : goal.returns-then-not-branch-clause-fault
+returns-then-not-branch-clause-fault c =
+    let names = c.args.names.now in
+    let doc = c.args.doc.now in
+    let rest = c.pieces.rest.now in
+    let st = state_of c.pieces.reader in
+    let kept : option_map shown_found c.in_ok-event_at.field-0 ≡ option_map found (piece_at rest) = c.in_ok-event_at.ensures in
+    let s = shown_event c.in-Some.event in
+    let is : Some (s, c.in-Some.more.now) ≡ option_map found (piece_at rest) = ap (option_map shown_found) (sym c.in-Some.is) ∙ kept in
+    let filled : (length rest == 0) ≡ false = sym c.is_empty.ensures ∙ c.pieces-test.true in
+    let at : IsAt c.broken-then-not-branch.result (length doc) (length rest) = subst (λ (x : List ℕ). IsAt c.broken-then-not-branch.result (length x) (length rest)) c.as_slice-whole.ensures c.broken-then-not-branch.ensures in
+    let step_is : taken c.in_ok-take-in-Some.field-0 (state_of c.take.new.self) ≡ step names st s = c.in_ok-take-in-Some.ensures in
+    let refused : None ≡ step names st s = ap (λ (b : Bool). taken b (state_of c.take.new.self)) (sym c.if-not-branch.true) ∙ step_is in
+    broken_of names doc rest st c.broken-then-not-branch.result c.pieces.invariant (piece_refused names doc rest c.in-Some.more.now st s c.pieces.invariant is refused) (λ e b. no_empty_list rest filled e) at
+
+pub pieces-smaller : goal.pieces-smaller
+pieces-smaller c =
+    let rest = c.pieces.rest.now in
+    let kept : option_map shown_found c.in_ok-event_at.field-0 ≡ option_map found (piece_at rest) = c.in_ok-event_at.ensures in
+    let s = shown_event c.in-Some.event in
+    let is : Some (s, c.in-Some.more.now) ≡ option_map found (piece_at rest) = ap (option_map shown_found) (sym c.in-Some.is) ∙ kept in
+    event_shorter rest c.in-Some.more.now s is
+
+pub pieces-preserved : goal.pieces-preserved
+pieces-preserved c =
+    let names = c.args.names.now in
+    let doc = c.args.doc.now in
+    let rest = c.pieces.rest.now in
+    let st = state_of c.pieces.reader in
+    let kept : option_map shown_found c.in_ok-event_at.field-0 ≡ option_map found (piece_at rest) = c.in_ok-event_at.ensures in
+    let s = shown_event c.in-Some.event in
+    let is : Some (s, c.in-Some.more.now) ≡ option_map found (piece_at rest) = ap (option_map shown_found) (sym c.in-Some.is) ∙ kept in
+    let step_is : taken c.in_ok-take-in-Some.field-0 (state_of c.take.new.self) ≡ step names st s = c.in_ok-take-in-Some.ensures in
+    let to : Some (state_of c.take.new.self) ≡ step names st s = ap (λ (b : Bool). taken b (state_of c.take.new.self)) (sym c.if-not-branch.false) ∙ step_is in
+    piece_more names doc rest c.in-Some.more.now st (state_of c.take.new.self) s c.pieces.invariant is to
+
+pub returns-in-Some-finish-clause-read : goal.returns-in-Some-finish-clause-read
+returns-in-Some-finish-clause-read c =
+    let names = c.args.names.now in
+    let doc = c.args.doc.now in
+    let rest = c.pieces.rest.now in
+    let st = state_of c.pieces.reader in
+    let none : rest ≡ [] = empty_list rest (sym c.is_empty.ensures ∙ c.pieces-test.false) in
+    let end = finished_at st.spot st.word c.in-Some-finish.word c.in-Some-finish.ensures in
+    let whole : IsSoFar names doc [] st = subst (λ (x : List ℕ). IsSoFar names doc x st) none c.pieces.invariant in
+    subst (λ (w : List ℕ). Reads names doc w) end.1 (all_read names doc st whole end.0)
+
+pub returns-in-None-finish-clause-fault : goal.returns-in-None-finish-clause-fault
+returns-in-None-finish-clause-fault c =
+    let names = c.args.names.now in
+    let doc = c.args.doc.now in
+    let rest = c.pieces.rest.now in
+    let st = state_of c.pieces.reader in
+    let at : IsAt c.broken-in-None-finish.result (length doc) (length rest) = subst (λ (x : List ℕ). IsAt c.broken-in-None-finish.result (length x) (length rest)) c.as_slice-whole.ensures c.broken-in-None-finish.ensures in
+    let none : rest ≡ [] = empty_list rest (sym c.is_empty.ensures ∙ c.pieces-test.false) in
+    broken_of names doc rest st c.broken-in-None-finish.result c.pieces.invariant (no_piece names doc rest st c.pieces.invariant (no_piece_left rest none)) (λ e b. not_finished st.spot st.word c.in-None-finish.ensures b) at

@@ -1,0 +1,5 @@
+use Rattle.xs_piece.proofs.TableLaws.{char_is}
+use Rattle.xs_form.proofs.runs.allowed.Goals as goal
+
+pub returns : goal.returns
+returns c = char_is c.is_char.result c.args.number c.is_char.ensures

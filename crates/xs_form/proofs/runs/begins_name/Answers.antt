@@ -1,0 +1,7 @@
+use Rattle.std.proofs.Common.{◌≡◌, ℕ, ap, ◌∙◌}
+use Rattle.xs_piece.specs.Tables.{is_name_start}
+use Rattle.xs_piece.proofs.TableLaws.{name_start_is}
+use Rattle.xs_form.proofs.runs.begins_name.Goals as goal
+
+pub returns : goal.returns
+returns c = name_start_is c.is_name_start.result c.number.result c.is_name_start.ensures ∙ ap is_name_start c.number.ensures

@@ -1,0 +1,13 @@
+use Rattle.std.proofs.Common.{◌≡◌, length, ◌-◌, ◌≤◌, ◌++◌, take, drop}
+use Rattle.xs_piece.specs.Tables.{is_name_char}
+use Rattle.xs_piece.specs.Scan.{span}
+use Rattle.xs_form.proofs.runs.name_run.Given as goal
+
+abbrev pub invariant-run : goal.invariant-run
+invariant-run l = record {
+  within : l.end ≤ length l.text;
+  so_far : span is_name_char l.text ≡ (take l.end l.text ++ (span is_name_char (drop l.end l.text)).0, (span is_name_char (drop l.end l.text)).1);
+}
+
+abbrev pub decreases-run : goal.decreases-run
+decreases-run l = length l.text - l.end

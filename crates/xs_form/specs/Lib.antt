@@ -1,0 +1,6 @@
+pub mod Attributes
+pub mod Fault
+pub mod Seen
+pub mod Sorted
+pub mod State
+pub mod Values

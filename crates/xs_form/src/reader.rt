@@ -1,0 +1,258 @@
+ghost use Rattle.std.specs.Prelude.{◌≡◌, ◌∷◌, ◌++◌, [], false, true, IfOk, OnOk};
+ghost use Rattle.xs_piece.specs.Piece.{is_name};
+ghost use Rattle.xs_piece.specs.Reads.{opening, closing, lines};
+ghost use Rattle.xs_form.specs.Sorted.{shown_entries, entry_symbols};
+ghost use Rattle.xs_form.specs.Seen.{declared, letter, given, begins, stands, ends, aside, section, shown_event};
+ghost use Rattle.xs_form.specs.State.{next_run as next_run_of, initial, line_symbols, state_of, is_inside, step, taken, finished, is_named};
+
+use crate::marks::{closing_mark, opening_mark, spelled};
+use crate::pieces::Event;
+use crate::runs::{equal, white};
+use crate::sorted::symbols_of;
+use std::alloc::Global;
+use std::collections::BTreeMap;
+use xs_class::{Memory, Names, Sym, Word};
+
+/// What is kept between two pieces: the names of the open elements, the innermost last, whether the
+/// root element has ended, whether no piece was read yet, of how many of the last pieces, two at
+/// most, each is the character `]`, and the symbols so far.
+#[derive(Drop)]
+pub struct Reader<'a> {
+    names: Vec<&'a [Sym]>,
+    ended: bool,
+    fresh: bool,
+    run: u32,
+    word: Word,
+}
+
+// A CR gives LF, and the LF of CR LF nothing more.
+fn push_line(word: &mut Word, after_return: bool, number: u32) -> Result<(), Memory>
+    ensures { OnOk result (word.new ≡ word.old ++ line_symbols after_return number) }
+{
+    if number == 10 && after_return {
+        return Ok(());
+    }
+    word.push(if number == 13 { Sym(10) } else { Sym(number) })?;
+    Ok(())
+}
+
+fn push_lines(word: &mut Word, text: &[Sym]) -> Result<(), Memory>
+    ensures { OnOk result (word.new ≡ word.old ++ lines false text.now) }
+{
+    let mut after_return = false;
+    'symbols: for symbol in text {
+        let number = symbol.number();
+        push_line(word, after_return, number)?;
+        after_return = number == 13;
+    }
+    Ok(())
+}
+
+// The marks of a tag's opening and of its attributes.
+fn push_opening(
+    word: &mut Word,
+    alloc: Global,
+    names: &Names,
+    name: &[Sym],
+    attributes: BTreeMap<String, Word>,
+) -> Result<(), Memory>
+    requires { is_name name.now ≡ true }
+    ensures { OnOk result (word.new ≡ word.old ++ opening names.now name.now ∷ entry_symbols names.now (shown_entries attributes)) }
+{
+    let text = spelled(alloc, name)?;
+    let symbols = symbols_of(alloc, names, attributes)?;
+    word.push(opening_mark(names, text.as_str()))?;
+    word.extend(symbols.as_slice())?;
+    Ok(())
+}
+
+// The mark of an element's end.
+fn push_closing(word: &mut Word, alloc: Global, names: &Names, name: &[Sym]) -> Result<(), Memory>
+    requires { is_name name.now ≡ true }
+    ensures { OnOk result (word.new ≡ word.old ++ closing names.now name.now ∷ []) }
+{
+    let text = spelled(alloc, name)?;
+    word.push(closing_mark(names, text.as_str()))?;
+    Ok(())
+}
+
+impl<'a> Reader<'a> {
+    pub fn new(alloc: Global) -> Self
+        ensures { state_of result ≡ initial }
+    {
+        Reader {
+            names: Vec::new(alloc),
+            ended: false,
+            fresh: true,
+            run: 0,
+            word: Word::new(alloc),
+        }
+    }
+
+    fn is_inside(&self) -> bool
+        ensures { result ≡ is_inside (state_of self.now).spot }
+    {
+        !self.names.is_empty()
+    }
+
+    fn declaration(&mut self) -> bool
+        ensures { taken result (state_of self.new) ≡ step [] (state_of self.old) declared }
+    {
+        if !self.fresh {
+            return false;
+        }
+        self.fresh = false;
+        self.run = 0;
+        true
+    }
+
+    fn aside(&mut self)
+        ensures { taken true (state_of self.new) ≡ step [] (state_of self.old) aside }
+    {
+        self.fresh = false;
+        self.run = 0;
+    }
+
+    fn character(&mut self, c: u32) -> Result<bool, Memory>
+        ensures { IfOk result (λ b. taken b (state_of self.new) ≡ step [] (state_of self.old) (letter c)) }
+    {
+        if c == 62 && self.run == 2 {
+            return Ok(false);
+        }
+        if self.is_inside() {
+            self.word.push(Sym(c))?;
+        } else if !white(Sym(c)) {
+            return Ok(false);
+        }
+        self.fresh = false;
+        self.run = next_run(self.run, c);
+        Ok(true)
+    }
+
+    fn reference(&mut self, c: u32) -> Result<bool, Memory>
+        ensures { IfOk result (λ b. taken b (state_of self.new) ≡ step [] (state_of self.old) (given c)) }
+    {
+        if !self.is_inside() {
+            return Ok(false);
+        }
+        self.word.push(Sym(c))?;
+        self.fresh = false;
+        self.run = 0;
+        Ok(true)
+    }
+
+    fn start(
+        &mut self,
+        alloc: Global,
+        names: &Names,
+        name: &'a [Sym],
+        attributes: BTreeMap<String, Word>,
+    ) -> Result<bool, Memory>
+        requires { is_name name.now ≡ true }
+        ensures { IfOk result (λ b. taken b (state_of self.new) ≡ step names.now (state_of self.old) (begins name.now (shown_entries attributes))) }
+    {
+        if self.names.is_empty() && self.ended {
+            return Ok(false);
+        }
+        push_opening(&mut self.word, alloc, names, name, attributes)?;
+        self.names.push(name)?;
+        self.fresh = false;
+        self.run = 0;
+        Ok(true)
+    }
+
+    fn empty(
+        &mut self,
+        alloc: Global,
+        names: &Names,
+        name: &'a [Sym],
+        attributes: BTreeMap<String, Word>,
+    ) -> Result<bool, Memory>
+        requires { is_name name.now ≡ true }
+        ensures { IfOk result (λ b. taken b (state_of self.new) ≡ step names.now (state_of self.old) (stands name.now (shown_entries attributes))) }
+    {
+        if self.names.is_empty() {
+            if self.ended {
+                return Ok(false);
+            }
+            self.ended = true;
+        }
+        push_opening(&mut self.word, alloc, names, name, attributes)?;
+        push_closing(&mut self.word, alloc, names, name)?;
+        self.fresh = false;
+        self.run = 0;
+        Ok(true)
+    }
+
+    fn end(&mut self, alloc: Global, names: &Names, name: &[Sym]) -> Result<bool, Memory>
+        requires { is_name name.now ≡ true }
+        ensures { IfOk result (λ b. taken b (state_of self.new) ≡ step names.now (state_of self.old) (ends name.now)) }
+    {
+        let Some(open) = self.names.pop() else {
+            return Ok(false);
+        };
+        if !equal(name, open) {
+            return Ok(false);
+        }
+        self.ended = self.names.is_empty();
+        push_closing(&mut self.word, alloc, names, name)?;
+        self.fresh = false;
+        self.run = 0;
+        Ok(true)
+    }
+
+    fn section(&mut self, body: &[Sym]) -> Result<bool, Memory>
+        ensures { IfOk result (λ b. taken b (state_of self.new) ≡ step [] (state_of self.old) (section body.now)) }
+    {
+        if !self.is_inside() {
+            return Ok(false);
+        }
+        push_lines(&mut self.word, body)?;
+        self.fresh = false;
+        self.run = 0;
+        Ok(true)
+    }
+
+    /// Whether the piece may stand here. Where it may, its symbols are appended.
+    pub fn take(&mut self, alloc: Global, names: &Names, event: Event<'a>) -> Result<bool, Memory>
+        requires { is_named (shown_event event) ≡ true }
+        ensures { IfOk result (λ b. taken b (state_of self.new) ≡ step names.now (state_of self.old) (shown_event event.entry)) }
+    {
+        match event {
+            Event::Declaration => Ok(self.declaration()),
+            Event::Character(c) => self.character(c),
+            Event::Reference(c) => self.reference(c),
+            Event::Start { name, attributes } => self.start(alloc, names, name, attributes),
+            Event::Empty { name, attributes } => self.empty(alloc, names, name, attributes),
+            Event::End(name) => self.end(alloc, names, name),
+            Event::Aside => {
+                self.aside();
+                Ok(true)
+            }
+            Event::Section(body) => self.section(body),
+        }
+    }
+
+    /// The symbols, where the root element has ended.
+    pub fn finish(self) -> Option<Word>
+        ensures { result ≡ finished (state_of self.entry) }
+    {
+        if self.names.is_empty() && self.ended {
+            Some(self.word)
+        } else {
+            None
+        }
+    }
+}
+
+fn next_run(run: u32, c: u32) -> u32
+    ensures { result ≡ next_run_of run c }
+{
+    if c != 93 {
+        0
+    } else if run == 0 {
+        1
+    } else {
+        2
+    }
+}

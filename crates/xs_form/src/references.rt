@@ -1,0 +1,118 @@
+ghost use Rattle.std.specs.Prelude.{◌≡◌, ◌<◌, ◌≤◌, ◌+◌, ◌*◌, ◌&&◌, min, true, codes, []};
+ghost use Rattle.xs_piece.specs.Tables.{is_char, is_digit, is_hex};
+ghost use Rattle.xs_piece.specs.Piece.{hex_value, number, when, numbered, named, ref_char, all_of};
+ghost use Rattle.xs_form.specs.Seen.{named_reference};
+
+use crate::runs::{allowed, digit, hexadecimal, is, spells};
+use xs_class::Sym;
+
+// Above every Char, and not one.
+const TOO_LARGE: u32 = 0x110000;
+
+fn value_of(symbol: Sym) -> u32
+    requires { is_hex symbol ≡ true }
+    ensures value { result ≡ hex_value symbol }
+    ensures bound { result < 16 }
+{
+    let number = symbol.number();
+    if number <= 57 {
+        number - 48
+    } else if number <= 70 {
+        number - 55
+    } else {
+        number - 87
+    }
+}
+
+fn appended(number: u32, base: u32, value: u32) -> u32
+    requires few { number ≤ 1114112 }
+    requires small { base ≤ 16 }
+    requires below { value < 16 }
+    ensures { result ≡ min (number * base + value) 1114112 }
+{
+    (number * base + value).min(TOO_LARGE)
+}
+
+fn char_of(number: u32) -> Option<u32>
+    ensures { result ≡ when (is_char number) number }
+{
+    if allowed(number) { Some(number) } else { None }
+}
+
+// The number of the hexadecimal digits, where it is a Char.
+fn hexadecimal_char(digits: &[Sym]) -> Option<u32>
+    ensures { result ≡ when (all_of is_hex digits.now && is_char (number 16 0 digits.now)) (number 16 0 digits.now) }
+{
+    let mut number = 0;
+    'digits: for symbol in digits {
+        if !hexadecimal(*symbol) {
+            return None;
+        }
+        number = appended(number, 16, value_of(*symbol));
+    }
+    char_of(number)
+}
+
+// The number of the decimal digits, where it is a Char.
+fn decimal_char(digits: &[Sym]) -> Option<u32>
+    ensures { result ≡ when (all_of is_digit digits.now && is_char (number 10 0 digits.now)) (number 10 0 digits.now) }
+{
+    let mut number = 0;
+    'digits: for symbol in digits {
+        if !digit(*symbol) {
+            return None;
+        }
+        number = appended(number, 10, value_of(*symbol));
+    }
+    char_of(number)
+}
+
+fn numbered_char(text: &[Sym]) -> Option<u32>
+    ensures { result ≡ numbered text.now }
+{
+    match text {
+        [] => None,
+        [first, digits @ ..] => {
+            if is(*first, b'x') {
+                hexadecimal_char(digits)
+            } else {
+                decimal_char(text)
+            }
+        }
+    }
+}
+
+fn named_char(text: &[Sym]) -> Option<u32>
+    ensures { result ≡ named_reference text.now }
+{
+    if spells(text, b"lt") {
+        Some(60)
+    } else if spells(text, b"gt") {
+        Some(62)
+    } else if spells(text, b"amp") {
+        Some(38)
+    } else if spells(text, b"apos") {
+        Some(39)
+    } else if spells(text, b"quot") {
+        Some(34)
+    } else {
+        None
+    }
+}
+
+/// The character of a reference, by what stands between `&` and `;`.
+#[tactic(auto, unfolding(xs_piece::specs::Piece::ref_char))]
+pub fn reference_char(text: &[Sym]) -> Option<u32>
+    ensures { result ≡ ref_char text.now }
+{
+    match text {
+        [] => None,
+        [first, rest @ ..] => {
+            if is(*first, b'#') {
+                numbered_char(rest)
+            } else {
+                named_char(text)
+            }
+        }
+    }
+}

@@ -1,0 +1,220 @@
+ghost use Rattle.std.specs.Prelude.{◌≡◌, ◌==◌, ◌<◌, map, length};
+ghost use Rattle.std.specs.Option.{option_map, option_copied};
+ghost use Rattle.xs_piece.specs.Tables.{is_char, is_name_start, is_name_char, is_white, is_digit, is_hex, is_quote};
+ghost use Rattle.xs_piece.specs.Piece.{is_name, all_of, same, lower};
+ghost use Rattle.xs_piece.specs.Scan.{after, span, cut};
+
+use xs_class::{Sym, is_char, is_name_char, is_name_start};
+
+/// Whether the symbol is this ASCII character.
+pub fn is(symbol: Sym, byte: u8) -> bool
+    ensures { result ≡ (symbol == byte) }
+{
+    symbol.number() == u32::from(byte)
+}
+
+#[tactic(auto, unfolding(xs_piece::specs::Tables::is_white))]
+pub fn white(symbol: Sym) -> bool
+    ensures { result ≡ is_white symbol }
+{
+    let number = symbol.number();
+    9 <= number && number <= 10 || number == 13 || number == 32
+}
+
+#[tactic(auto, unfolding(xs_piece::specs::Tables::is_quote))]
+pub fn quotes(symbol: Sym) -> bool
+    ensures { result ≡ is_quote symbol }
+{
+    is(symbol, b'"') || is(symbol, b'\'')
+}
+
+#[tactic(auto, unfolding(xs_piece::specs::Tables::is_digit))]
+pub fn digit(symbol: Sym) -> bool
+    ensures { result ≡ is_digit symbol }
+{
+    let number = symbol.number();
+    48 <= number && number <= 57
+}
+
+#[tactic(auto, unfolding(xs_piece::specs::Tables::is_hex))]
+pub fn hexadecimal(symbol: Sym) -> bool
+    ensures { result ≡ is_hex symbol }
+{
+    let number = symbol.number();
+    48 <= number && number <= 57 || 65 <= number && number <= 70 || 97 <= number && number <= 102
+}
+
+pub fn allowed(number: u32) -> bool
+    ensures { result ≡ is_char number }
+{
+    is_char(number)
+}
+
+pub fn begins_name(symbol: Sym) -> bool
+    ensures { result ≡ is_name_start symbol }
+{
+    is_name_start(symbol.number())
+}
+
+pub fn in_name(symbol: Sym) -> bool
+    ensures { result ≡ is_name_char symbol }
+{
+    is_name_char(symbol.number())
+}
+
+/// The characters of names at the front, and the rest.
+pub fn name_run(text: &[Sym]) -> (&[Sym], &[Sym])
+    ensures { (result.0.now, result.1.now) ≡ span is_name_char text.now }
+{
+    let mut end = 0;
+    'run: while end < text.len() && in_name(text[end]) {
+        end += 1;
+    }
+    (&text[..end], &text[end..])
+}
+
+/// The white space at the front, and the rest.
+pub fn white_run(text: &[Sym]) -> (&[Sym], &[Sym])
+    ensures { (result.0.now, result.1.now) ≡ span is_white text.now }
+{
+    let mut end = 0;
+    'run: while end < text.len() && white(text[end]) {
+        end += 1;
+    }
+    (&text[..end], &text[end..])
+}
+
+/// What stands behind the prefix, where the text begins with it.
+pub fn behind<'a>(text: &'a [Sym], prefix: &[u8]) -> Option<&'a [Sym]>
+    ensures { option_copied result ≡ after prefix.now text.now }
+{
+    let mut rest = text;
+    'bytes: for byte in prefix {
+        match rest {
+            [] => return None,
+            [first, others @ ..] => {
+                if !is(*first, *byte) {
+                    return None;
+                }
+                rest = others;
+            }
+        }
+    }
+    Some(rest)
+}
+
+/// What stands before the first delimiter, and what stands behind it.
+pub fn cut_at<'a>(text: &'a [Sym], delimiter: &[u8]) -> Option<(&'a [Sym], &'a [Sym])>
+    requires { 0 < length delimiter.now }
+    ensures { option_map (λ r. (r.0.now, r.1.now)) result ≡ cut delimiter.now text.now }
+{
+    let mut at = 0;
+    'places: while at < text.len() {
+        if let Some(rest) = behind(&text[at..], delimiter) {
+            return Some((&text[..at], rest));
+        }
+        at += 1;
+    }
+    None
+}
+
+/// Whether each character is a Char.
+pub fn all_allowed(text: &[Sym]) -> bool
+    ensures { result ≡ all_of is_char text.now }
+{
+    'symbols: for symbol in text {
+        if !allowed(symbol.number()) {
+            return false;
+        }
+    }
+    true
+}
+
+fn all_in_name(text: &[Sym]) -> bool
+    ensures { result ≡ all_of is_name_char text.now }
+{
+    'symbols: for symbol in text {
+        if !in_name(*symbol) {
+            return false;
+        }
+    }
+    true
+}
+
+/// Whether the text is a Name.
+pub fn is_name_text(text: &[Sym]) -> bool
+    ensures { result ≡ is_name text.now }
+{
+    match text {
+        [] => false,
+        [first, rest @ ..] => begins_name(*first) && all_in_name(rest),
+    }
+}
+
+/// Whether the two texts are the same.
+pub fn equal(one: &[Sym], other: &[Sym]) -> bool
+    ensures { result ≡ same one.now other.now }
+{
+    let mut rest = other;
+    'symbols: for symbol in one {
+        match rest {
+            [] => return false,
+            [first, others @ ..] => {
+                if symbol.number() != first.number() {
+                    return false;
+                }
+                rest = others;
+            }
+        }
+    }
+    rest.is_empty()
+}
+
+/// Whether the text is this ASCII word.
+pub fn spells(text: &[Sym], word: &[u8]) -> bool
+    ensures { result ≡ same text.now word.now }
+{
+    let mut rest = word;
+    'symbols: for symbol in text {
+        match rest {
+            [] => return false,
+            [first, others @ ..] => {
+                if !is(*symbol, *first) {
+                    return false;
+                }
+                rest = others;
+            }
+        }
+    }
+    rest.is_empty()
+}
+
+fn lowered(symbol: Sym) -> Sym
+    ensures { result ≡ lower symbol }
+{
+    let number = symbol.number();
+    if 65 <= number && number <= 90 {
+        Sym(number + 32)
+    } else {
+        symbol
+    }
+}
+
+/// Whether the text is this ASCII word of lower-case letters, in any case.
+pub fn spells_in_any_case(text: &[Sym], word: &[u8]) -> bool
+    ensures { result ≡ same (map lower text.now) word.now }
+{
+    let mut rest = word;
+    'symbols: for symbol in text {
+        match rest {
+            [] => return false,
+            [first, others @ ..] => {
+                if !is(lowered(*symbol), *first) {
+                    return false;
+                }
+                rest = others;
+            }
+        }
+    }
+    rest.is_empty()
+}

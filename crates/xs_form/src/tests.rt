@@ -1,0 +1,327 @@
+use crate::{XmlFault, read_xml};
+use std::alloc::Global;
+use std::process::Abort;
+use std::test::Fail;
+use xs_class::{ATTR_END, Names, STRANGE, Sym, Text, Word};
+
+fn names_of(alloc: Global, list: &[&str]) -> Result<Names, Fail> {
+    let mut texts = Vec::new(alloc);
+    for name in list {
+        texts.push(Text::of(alloc, name)?)?;
+    }
+    if texts.len() >= 65536 {
+        return Err(Fail::from("too many names"));
+    }
+    Ok(Names::of(alloc, &texts)?)
+}
+
+fn word_of(alloc: Global, document: &str) -> Result<Word, Fail> {
+    let mut word = Word::new(alloc);
+    for c in document.chars() {
+        word.push(Sym::of_char(c))?;
+    }
+    Ok(word)
+}
+
+// The kind of a mark, in braces with the mark's name.
+fn push_mark(shown: &mut String, names: &Names, mark: u32) -> Result<(), Fail> {
+    let k = mark / 3;
+    if k < names.len() {
+        shown.push_str(match mark % 3 {
+            0 => "{",
+            1 => "{@",
+            _ => "{/",
+        })?;
+        shown.push_str(names.name(k))?;
+        shown.push('}')?;
+    }
+    Ok(())
+}
+
+fn push_symbol(shown: &mut String, names: &Names, symbol: Sym) -> Result<(), Fail> {
+    if symbol == ATTR_END {
+        shown.push_str("{@}")?;
+        return Ok(());
+    }
+    if symbol == STRANGE {
+        shown.push_str("{?}")?;
+        return Ok(());
+    }
+    let number = symbol.number();
+    match char::from_u32(number) {
+        Some(c) => shown.push(c)?,
+        None => {
+            if number >= 0x110002 {
+                push_mark(shown, names, number - 0x110002)?;
+            }
+        }
+    }
+    Ok(())
+}
+
+// The symbols with each mark in braces, or the place behind an exclamation mark.
+fn answer(alloc: Global, names: &Names, document: &str) -> Result<String, Fail> {
+    let mut shown = String::new(alloc);
+    match read_xml(alloc, names, &word_of(alloc, document)?) {
+        Ok(word) => {
+            for symbol in word.as_slice() {
+                push_symbol(&mut shown, names, *symbol)?;
+            }
+        }
+        Err(XmlFault::NotXml { at }) => {
+            shown = format!(in alloc; "!{at}")?;
+        }
+        Err(XmlFault::Memory) => return Err(Fail::from("out of memory")),
+    }
+    Ok(shown)
+}
+
+fn expect(rt: &impl Abort, alloc: Global, rows: &[(&str, &str)]) -> Result<(), Fail> {
+    let names = names_of(alloc, &["s"])?;
+    for (document, expected) in rows {
+        let shown = answer(alloc, &names, document)?;
+        assert_eq!(rt; shown.as_str(), *expected, "{document:?}");
+    }
+    Ok(())
+}
+
+#[test]
+fn places_are_those_of_pieces(rt: HostRuntime) -> Result<(), Fail> {
+    expect(
+        &rt,
+        rt.alloc(),
+        &[
+            ("<!DOCTYPE s><s/>", "!0"),
+            ("<s>&nbsp;</s>", "!3"),
+            ("<s>a]]></s>", "!6"),
+            ("<s a=\"1\" a=\"2\"/>", "!0"),
+            ("<s/><s/>", "!4"),
+            ("<s>aa</t>", "!5"),
+            ("", "!0"),
+            ("<", "!0"),
+            ("<s", "!0"),
+            ("<s>", "!3"),
+            ("<s>a", "!4"),
+            ("<s>aa", "!5"),
+            ("<s>aa<", "!5"),
+            ("<s>aa</", "!5"),
+            ("<s>aa</s", "!5"),
+            ("<s>aa</s>", "{s}aa{/s}"),
+        ],
+    )
+}
+
+#[test]
+fn pieces_inside_the_root_are_read(rt: HostRuntime) -> Result<(), Fail> {
+    expect(
+        &rt,
+        rt.alloc(),
+        &[
+            (
+                "<?xml version=\"1.0\"?><s><![CDATA[a]]>&#97;</s><!-- x -->",
+                "{s}aa{/s}",
+            ),
+            ("<s>]]&gt;</s>", "{s}]]>{/s}"),
+            ("<s>]<![CDATA[]]]>></s>", "{s}]]>{/s}"),
+            ("<s>]]&#62;</s>", "{s}]]>{/s}"),
+            ("<s>]]<!---->></s>", "{s}]]>{/s}"),
+            ("<s>]></s>", "{s}]>{/s}"),
+            ("<s>]] ></s>", "{s}]] >{/s}"),
+            ("<s>]]]></s>", "!6"),
+            ("<s>\r\r\n\n</s>", "{s}\n\n\n{/s}"),
+            ("<s>\r\n", "!5"),
+            ("<s><![CDATA[<&\r\n\r]]>\n</s>", "{s}<&\n\n\n{/s}"),
+            ("<s><![CDATA[]]]]></s>", "{s}]]{/s}"),
+            ("<s><![CDATA[a]]</s>", "!3"),
+            ("<s><![cdata[a]]></s>", "!3"),
+            ("<s><![CDATA[\u{8}]]></s>", "!3"),
+            ("<s><!-- a - b --></s>", "{s}{/s}"),
+            ("<s><!-- a -- b --></s>", "!3"),
+            ("<s><!--a---></s>", "!3"),
+            ("<s><!---></s>", "!3"),
+            ("<s><!--\u{B}--></s>", "!3"),
+            ("<s><?a?><?a b??></s>", "{s}{/s}"),
+            ("<s><?xml-a?><?xmla b?></s>", "{s}{/s}"),
+            ("<s><?a??></s>", "!3"),
+            ("<s><?XML a?></s>", "!3"),
+            ("<s><?xMl?></s>", "!3"),
+            ("<s><? a?></s>", "!3"),
+            ("<s><?a b></s>", "!3"),
+            ("<s><!DOCTYPE s></s>", "!3"),
+        ],
+    )
+}
+
+#[test]
+fn references_give_their_characters(rt: HostRuntime) -> Result<(), Fail> {
+    expect(
+        &rt,
+        rt.alloc(),
+        &[
+            ("<s>&lt;&gt;&amp;&apos;&quot;</s>", "{s}<>&'\"{/s}"),
+            ("<s>&#9;&#xA;&#xD;&#32;</s>", "{s}\t\n\r {/s}"),
+            ("<s>&#xaF;&#000065;</s>", "{s}\u{AF}A{/s}"),
+            ("<s>&#8;</s>", "!3"),
+            ("<s>&#0;</s>", "!3"),
+            ("<s>&#xD7FF;</s>", "{s}\u{D7FF}{/s}"),
+            ("<s>&#xD800;</s>", "!3"),
+            ("<s>&#xDFFF;</s>", "!3"),
+            ("<s>&#xE000;&#xFFFD;</s>", "{s}\u{E000}\u{FFFD}{/s}"),
+            ("<s>&#xFFFE;</s>", "!3"),
+            ("<s>&#x10000;&#1114111;</s>", "{s}\u{10000}\u{10FFFF}{/s}"),
+            ("<s>&#1114112;</s>", "!3"),
+            ("<s>&#x110000;</s>", "!3"),
+            ("<s>&#4294967361;</s>", "!3"),
+            ("<s>&#x1000000000000000041;</s>", "!3"),
+            ("<s>&#;</s>", "!3"),
+            ("<s>&#x;</s>", "!3"),
+            ("<s>&#X41;</s>", "!3"),
+            ("<s>&#6a;</s>", "!3"),
+            ("<s>&#xg;</s>", "!3"),
+            ("<s>&LT;</s>", "!3"),
+            ("<s>& lt;</s>", "!3"),
+            ("<s>&lt</s>", "!3"),
+            ("<s>&;</s>", "!3"),
+        ],
+    )
+}
+
+#[test]
+fn tags_and_attributes_are_read(rt: HostRuntime) -> Result<(), Fail> {
+    expect(
+        &rt,
+        rt.alloc(),
+        &[
+            ("<s></s>", "{s}{/s}"),
+            ("<s />", "{s}{/s}"),
+            ("<s\n>\n</s\t>", "{s}\n{/s}"),
+            ("<s><s></s>a</s>", "{s}{s}{/s}a{/s}"),
+            ("<s><t></s></t>", "!6"),
+            ("<S/>", "{?}{?}"),
+            ("<x:s></x:s>", "{?}{?}"),
+            ("< s/>", "!0"),
+            ("<s/ >", "!0"),
+            ("<s></ s>", "!3"),
+            ("</s>", "!0"),
+            ("<s s=\"1\" t='2'>3</s>", "{s}{@s}1{@}{?}2{@}3{/s}"),
+            ("<s s = \"1\"\n/>", "{s}{@s}1{@}{/s}"),
+            ("<s s=''/>", "{s}{@s}{@}{/s}"),
+            ("<s s='\"' t=\"'>]]>\"/>", "{s}{@s}\"{@}{?}'>]]>{@}{/s}"),
+            ("<s s='\t\n\r\n\r x'/>", "{s}{@s}     x{@}{/s}"),
+            ("<s s='\r&#10;&#9;&lt;'/>", "{s}{@s} \n\t<{@}{/s}"),
+            ("<s t='2' s='1'/>", "{s}{@s}1{@}{?}2{@}{/s}"),
+            ("<s b='2' ab='1' a='0'/>", "{s}{?}0{@}{?}1{@}{?}2{@}{/s}"),
+            ("<s \u{10000}='2' \u{FFFD}='1'/>", "{s}{?}1{@}{?}2{@}{/s}"),
+            ("<s s='1't='2'/>", "!0"),
+            ("<s s=1/>", "!0"),
+            ("<s s/>", "!0"),
+            ("<s s='<'/>", "!0"),
+            ("<s s='&'/>", "!0"),
+            ("<s s='&#0;'/>", "!0"),
+            ("<s s='\u{1F}'/>", "!0"),
+            ("<s s='1\"/>", "!0"),
+            ("<s 1='1'/>", "!0"),
+            ("<s t='1' s='' t='1'/>", "!0"),
+        ],
+    )
+}
+
+#[test]
+fn what_stands_outside_the_root(rt: HostRuntime) -> Result<(), Fail> {
+    expect(
+        &rt,
+        rt.alloc(),
+        &[
+            (" \t\r\n<s/> \r<!----><?a?>\n", "{s}{/s}"),
+            ("a<s/>", "!0"),
+            ("<s/>a", "!4"),
+            ("&#32;<s/>", "!0"),
+            ("<s/>&#32;", "!4"),
+            ("<![CDATA[]]><s/>", "!0"),
+            ("<s/><![CDATA[]]>", "!4"),
+            ("<s/></s>", "!4"),
+            ("<s></s><s></s>", "!7"),
+            ("\u{FEFF}<s/>", "!0"),
+            ("\u{A0}<s/>", "!0"),
+            (" ", "!1"),
+            ("<?xml version='1.0'?><s/>", "{s}{/s}"),
+            (
+                "<?xml version = \"1.0\" encoding=\"utf-8\"?><s/>",
+                "{s}{/s}",
+            ),
+            (
+                "<?xml\nversion=\"1.0\" encoding='UtF-8' standalone=\"yes\" ?><s/>",
+                "{s}{/s}",
+            ),
+            ("<?xml version=\"1.0\" standalone='no'?><s/>", "{s}{/s}"),
+            ("<?xml?><s/>", "!0"),
+            ("<?xml version=\"1.1\"?><s/>", "!0"),
+            ("<?xml version=\"&#49;.0\"?><s/>", "!0"),
+            ("<?xml encoding=\"UTF-8\"?><s/>", "!0"),
+            ("<?xml version=\"1.0\"encoding=\"UTF-8\"?><s/>", "!0"),
+            ("<?xml version=\"1.0\" encoding=\"UTF-16\"?><s/>", "!0"),
+            ("<?xml version=\"1.0\" standalone=\"Yes\"?><s/>", "!0"),
+            (
+                "<?xml version=\"1.0\" standalone=\"no\" encoding=\"UTF-8\"?><s/>",
+                "!0",
+            ),
+            (" <?xml version=\"1.0\"?><s/>", "!1"),
+            ("<?xml version=\"1.0\"?><?xml version=\"1.0\"?><s/>", "!21"),
+            ("<s/><?xml version=\"1.0\"?>", "!4"),
+        ],
+    )
+}
+
+// The document with the character of each number between the two texts.
+fn expect_each(
+    rt: &impl Abort,
+    alloc: Global,
+    numbers: &[u32],
+    around: (&str, &str),
+    is_read: bool,
+) -> Result<(), Fail> {
+    let names = names_of(alloc, &["s"])?;
+    for number in numbers {
+        let c = char::from_u32(*number).ok_or("no character")?;
+        let document = format!(in alloc; "{}{c}{}", around.0, around.1)?;
+        let shown = answer(alloc, &names, document.as_str())?;
+        assert_eq!(rt; !shown.starts_with('!'), is_read, "{number:x}");
+    }
+    Ok(())
+}
+
+#[test]
+fn characters_are_those_of_the_table(rt: HostRuntime) -> Result<(), Fail> {
+    let inside = [9, 0xA, 0xD, 0x20, 0xD7FF, 0xE000, 0xFFFD, 0x10000, 0x10FFFF];
+    let outside = [0, 8, 0xB, 0xC, 0xE, 0x1F, 0xFFFE, 0xFFFF];
+    expect_each(&rt, rt.alloc(), &inside, ("<s>", "</s>"), true)?;
+    expect_each(&rt, rt.alloc(), &outside, ("<s>", "</s>"), false)
+}
+
+#[test]
+fn names_begin_by_the_table(rt: HostRuntime) -> Result<(), Fail> {
+    let inside = [
+        0x3A, 0x41, 0x5A, 0x5F, 0x61, 0x7A, 0xC0, 0xD6, 0xD8, 0xF6, 0xF8, 0x2FF, 0x370, 0x37D,
+        0x37F, 0x1FFF, 0x200C, 0x200D, 0x2070, 0x218F, 0x2C00, 0x2FEF, 0x3001, 0xD7FF, 0xF900,
+        0xFDCF, 0xFDF0, 0xFFFD, 0x10000, 0xEFFFF,
+    ];
+    let outside = [
+        0x2D, 0x39, 0x3B, 0x40, 0x5B, 0x5E, 0x60, 0x7B, 0xB7, 0xBF, 0xD7, 0xF7, 0x300, 0x36F,
+        0x37E, 0x2000, 0x200B, 0x200E, 0x203F, 0x206F, 0x2190, 0x2BFF, 0x2FF0, 0x3000, 0xE000,
+        0xF8FF, 0xFDD0, 0xFDEF, 0xFFFE, 0xF0000,
+    ];
+    expect_each(&rt, rt.alloc(), &inside, ("<", "/>"), true)?;
+    expect_each(&rt, rt.alloc(), &outside, ("<", "/>"), false)
+}
+
+#[test]
+fn names_go_on_by_the_table(rt: HostRuntime) -> Result<(), Fail> {
+    let inside = [
+        0x2D, 0x2E, 0x30, 0x39, 0x3A, 0xB7, 0x300, 0x36F, 0x203F, 0x2040, 0xEFFFF,
+    ];
+    let outside = [
+        0x2C, 0x2F, 0x3B, 0xB6, 0xB8, 0xD7, 0x37E, 0x203E, 0x2041, 0xF0000,
+    ];
+    expect_each(&rt, rt.alloc(), &inside, ("<s", "/>"), true)?;
+    expect_each(&rt, rt.alloc(), &outside, ("<s", "/>"), false)
+}

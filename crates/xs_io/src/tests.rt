@@ -1,0 +1,180 @@
+ghost use Rattle.std.specs.Prelude.{◌≤◌, IfOk};
+
+use crate::*;
+use std::alloc::{AllocError, Global};
+use std::io::{self, Cursor, ErrorKind, Read, Write};
+use std::test::Fail;
+use std::{env, fs, process};
+use xs_class::{Bytes, Memory, Text};
+
+const ABC: &[u8] = b"abcdefg";
+
+// The numbers of the calls that fail: one, or none at 0.
+fn only(alloc: Global, number: u64) -> Result<Vec<u64>, AllocError> {
+    let mut fails = Vec::new(alloc);
+    if number > 0 {
+        fails.push(number)?;
+    }
+    Ok(fails)
+}
+
+// Reads with steps of 3: whether all came, or the stop, and how many bytes are left.
+fn read_with(
+    alloc: Global,
+    limit: usize,
+    number: u64,
+) -> Result<(Result<bool, ReadStop>, usize), Memory> {
+    let mut source = MemSource::new(Bytes::of(alloc, ABC)?, 3, only(alloc, number)?);
+    let result = read_all(alloc, &mut source, limit).map(|bytes| bytes.as_slice() == ABC);
+    Ok((result, source.left().len()))
+}
+
+#[test]
+fn reading_ends_at_a_fault_the_limit_or_the_end(rt: HostRuntime) -> Result<(), Fail> {
+    let alloc = rt.alloc();
+    for (limit, number, result, left) in [
+        (100, 0, Ok(true), 0),
+        (7, 0, Ok(true), 0),
+        (6, 0, Err(ReadStop::TooLong), 0),
+        (4, 0, Err(ReadStop::TooLong), 2),
+        (0, 0, Err(ReadStop::TooLong), 6),
+        (100, 1, Err(ReadStop::ReadFault), 7),
+        (100, 2, Err(ReadStop::ReadFault), 4),
+        (100, 3, Err(ReadStop::ReadFault), 1),
+        (100, 4, Err(ReadStop::ReadFault), 0),
+        (100, 5, Ok(true), 0),
+        (4, 3, Err(ReadStop::TooLong), 2),
+    ] {
+        assert_eq!(rt; read_with(alloc, limit, number)?, (result, left));
+    }
+    let mut source = SureSource::new(Bytes::of(alloc, ABC)?);
+    assert_eq!(rt; read_all(alloc, &mut source, 7)?.as_slice(), ABC);
+    assert_eq!(rt; source.left().len(), 0);
+    Ok(())
+}
+
+// Writes with steps of 3: the answer, and how many bytes were taken.
+fn write_with(alloc: Global, number: u64) -> Result<(Result<(), WriteFault>, usize), Memory> {
+    let mut sink = MemSink::new(alloc, 3, only(alloc, number)?);
+    let result = put_all(&mut sink, ABC);
+    Ok((result, sink.taken().len()))
+}
+
+#[test]
+fn writing_ends_at_a_fault_or_the_end(rt: HostRuntime) -> Result<(), Fail> {
+    let alloc = rt.alloc();
+    for (number, result, taken) in [
+        (0, Ok(()), 7),
+        (1, Err(WriteFault { written: 0 }), 0),
+        (2, Err(WriteFault { written: 3 }), 3),
+        (3, Err(WriteFault { written: 6 }), 6),
+        (4, Ok(()), 7),
+    ] {
+        assert_eq!(rt; write_with(alloc, number)?, (result, taken));
+    }
+    let mut sink = SureSink::with_room(alloc, 9)?;
+    assert_eq!(rt; put_all(&mut sink, ABC), Ok(()));
+    assert_eq!(rt; put_all(&mut sink, ABC), Err(WriteFault { written: 2 }));
+    assert_eq!(rt; sink.taken(), b"abcdefgab".as_slice());
+    Ok(())
+}
+
+// Whether the file of this name comes whole, from a shelf of which one call fails.
+fn file_with(alloc: Global, number: u64, name: &str) -> Result<Result<bool, ReadStop>, Memory> {
+    let mut shelf = MemShelf::new(alloc, only(alloc, number)?);
+    shelf.add(Text::of(alloc, "a")?, Bytes::of(alloc, b"old")?)?;
+    shelf.add(Text::of(alloc, "é")?, Bytes::of(alloc, b"other")?)?;
+    shelf.add(Text::of(alloc, "a")?, Bytes::of(alloc, ABC)?)?;
+    Ok(read_file(alloc, &mut shelf, name, 7).map(|bytes| bytes.as_slice() == ABC))
+}
+
+#[test]
+fn a_file_is_read_by_name(rt: HostRuntime) -> Result<(), Fail> {
+    let alloc = rt.alloc();
+    for (number, name, result) in [
+        (0, "a", Ok(true)),
+        (1, "a", Err(ReadStop::ReadFault)),
+        (2, "a", Err(ReadStop::ReadFault)),
+        (3, "a", Ok(true)),
+        (0, "é", Ok(false)),
+        (0, "b", Err(ReadStop::ReadFault)),
+    ] {
+        assert_eq!(rt; file_with(alloc, number, name)?, result);
+    }
+    let mut shelf = SureShelf::new(alloc);
+    shelf.add(Text::of(alloc, "a")?, Bytes::of(alloc, ABC)?)?;
+    assert_eq!(rt; read_file(alloc, &mut shelf, "a", 7)?.as_slice(), ABC);
+    Ok(())
+}
+
+// A reader and writer of which so many calls are interrupted first.
+#[derive(Drop)]
+struct Interrupted {
+    times: u32,
+}
+
+impl Interrupted {
+    fn one(&mut self, room: usize) -> io::Result<usize>
+        ensures { IfOk result (λ n. n ≤ room) }
+    {
+        if self.times == 0 {
+            return Ok(room.min(1));
+        }
+        self.times -= 1;
+        Err(ErrorKind::Interrupted.into())
+    }
+}
+
+impl Read for Interrupted {
+    fn read(&mut self, buf: &mut [u8]) -> io::Result<usize> {
+        self.one(buf.len())
+    }
+}
+
+impl Write for Interrupted {
+    fn write(&mut self, buf: &[u8]) -> io::Result<usize> {
+        self.one(buf.len())
+    }
+
+    fn flush(&mut self) -> io::Result<()> {
+        Ok(())
+    }
+}
+
+#[test]
+fn a_reader_is_a_source(rt: HostRuntime) -> Result<(), Fail> {
+    let mut source = FromReader::new(Cursor::new(ABC));
+    assert_eq!(rt; read_all(rt.alloc(), &mut source, 7)?.as_slice(), ABC);
+    let mut buf = [0u8; 4];
+    for (times, result) in [(1_000, Ok(1)), (1_001, Err(Failed))] {
+        let mut source = FromReader::new(Interrupted { times });
+        assert_eq!(rt; source.read(&mut buf), result);
+    }
+    Ok(())
+}
+
+#[test]
+fn a_writer_is_a_sink(rt: HostRuntime) -> Result<(), Fail> {
+    let mut out = Vec::new(rt.alloc());
+    assert_eq!(rt; put_all(&mut ToWriter::new(&mut out), ABC), Ok(()));
+    assert_eq!(rt; out.as_slice(), ABC);
+    for (times, result) in [(1_000, Ok(1)), (1_001, Err(Failed))] {
+        let mut sink = ToWriter::new(Interrupted { times });
+        assert_eq!(rt; sink.write(ABC), result);
+    }
+    Ok(())
+}
+
+#[test]
+fn a_folder_is_a_shelf(rt: HostRuntime) -> Result<(), Fail> {
+    let alloc = rt.alloc();
+    let name = format!(in alloc; "xs_io-{}", process::id(rt.process()))?;
+    let path = env::temp_dir(&rt)?.join(alloc, name.as_str())?;
+    fs::write(&rt, path.as_path(), ABC)?;
+    let name = path.as_path().to_str().ok_or("no text")?;
+    let mut shelf = DirShelf::new(&rt);
+    assert_eq!(rt; read_file(alloc, &mut shelf, name, 7)?.as_slice(), ABC);
+    fs::remove_file(&rt, path.as_path())?;
+    assert!(rt; read_file(alloc, &mut shelf, name, 7).is_err());
+    Ok(())
+}

@@ -1,0 +1,8 @@
+pub mod Truth
+pub mod QuotedLaws
+mod PatternLaws
+mod NameLaws
+pub mod BlankLaws
+pub mod TokenLaws
+pub mod Uniqueness
+mod Reached

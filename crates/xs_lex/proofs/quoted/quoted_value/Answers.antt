@@ -1,0 +1,27 @@
+use Rattle.std.proofs.Common.{◌≡◌, ℕ, ◌-◌, List, [], length, take, drop, Ok, Err, Some, rules, ap, ◌∙◌}
+use Rattle.std.specs.declared.result.Result.{Result}
+use Rattle.std.specs.Result.{IfOk}
+use Rattle.std.specs.Str.{chars}
+use Rattle.std.proofs.lemmas.List.{take_rest}
+use Rattle.std.proofs.lemmas.Str.{chars_from_encodes}
+use Rattle.xs_lex.specs.declared.kind.Kind.TheVariants.{Quoted}
+use Rattle.xs_lex.specs.declared.quoted.Spot.TheVariants.{Between}
+use Rattle.xs_lex.specs.Spelling.{IsQuoted, Spells}
+use Rattle.xs_lex.specs.Scan.{value_at}
+use Rattle.xs_lex.proofs.QuotedLaws.{value_read}
+use Rattle.xs_lex.proofs.quoted.quoted_value.Goals as goal
+
+tail_value : (letters word value : List ℕ) → letters ≡ word → Spells Quoted word → value ≡ value_at (Some Between) (take (length letters - 1) (drop 1 letters)) → IsQuoted word value
+tail_value letters word value same spells is =
+    let q = spells.1 in
+    let whole = same ∙ q.is in
+    record { units = q.units; is = q.is; each = q.each; means = is ∙ ap (λ (z : List ℕ). value_at (Some Between) z) (take_rest letters 1) ∙ ap (λ (z : List ℕ). value_at (Some Between) (drop 1 z)) whole ∙ value_read q.units [] q.each }
+
+if_ok : {T E : Type 0} (r : Result T E) (P Q : T → Type 0) → ((x : T) → P x → Q x) → IfOk r P → IfOk r Q
+if_ok (Ok x) P Q f h = f x h
+if_ok (Err e) P Q f h = h
+
+pub returns : goal.returns
+returns c =
+    let same : c.in_ok-letters.letters.items ≡ chars c.args.token_text.now = search (rules, chars_from_encodes) in
+    if_ok c.value.result _ _ (λ t h. tail_value c.deref.result.now (chars c.args.token_text.now) t (c.deref.ensures.value ∙ same) c.requires h) c.value.ensures

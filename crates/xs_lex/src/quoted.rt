@@ -1,0 +1,166 @@
+ghost use Rattle.std.specs.Prelude.{◌≡◌, ◌∷◌, ◌<◌, ◌≤◌, length, Some, IfOk, IfSome, option_to_list};
+ghost use Rattle.std.specs.Str.{chars};
+ghost use Rattle.xs_lex.specs.Spelling.{Spells, IsQuoted};
+ghost use Rattle.xs_lex.specs.Units.{is_escape, escape_char};
+ghost use Rattle.xs_lex.specs.Scan.{spot_after, closes, given, IsBounded, quoted_end, value_at};
+
+use crate::Kind;
+use std::alloc::Global;
+use xs_class::{Memory, Text};
+
+/// A place in a quoted string: between units, or inside one.
+#[derive(Clone, Copy, Debug, PartialEq, Eq)]
+pub enum Spot {
+    Between,
+    /// Behind a backslash.
+    Escaped,
+    /// Behind `\u`.
+    Opened,
+    /// Behind `\u{` and so many digits, which have this value.
+    Digits(u32, u32),
+}
+
+fn is_escape_sign(c: char) -> bool
+    ensures { result ≡ is_escape c }
+{
+    c == '"' || c == '\\' || c == 'n' || c == 't' || c == 'r'
+}
+
+fn escaped(c: char) -> char
+    ensures { result ≡ escape_char c }
+{
+    match c {
+        'n' => '\n',
+        't' => '\t',
+        'r' => '\r',
+        other => other,
+    }
+}
+
+impl Spot {
+    fn closes(self, c: char) -> bool
+        ensures { result ≡ closes self c }
+    {
+        match self {
+            Spot::Between => c == '"',
+            Spot::Escaped => false,
+            Spot::Opened => false,
+            Spot::Digits(_, _) => false,
+        }
+    }
+
+    // Where one more character leads, unless no unit goes on with it.
+    fn after(self, c: char) -> Option<Spot>
+        requires { IsBounded self }
+        ensures value { result ≡ spot_after self c }
+        ensures bounded { IfSome result IsBounded }
+    {
+        match self {
+            Spot::Between => {
+                if c == '\\' {
+                    return Some(Spot::Escaped);
+                }
+                if c == '\n' { None } else { Some(Spot::Between) }
+            }
+            Spot::Escaped => {
+                if c == 'u' {
+                    return Some(Spot::Opened);
+                }
+                if is_escape_sign(c) {
+                    Some(Spot::Between)
+                } else {
+                    None
+                }
+            }
+            Spot::Opened => {
+                if c == '{' {
+                    Some(Spot::Digits(0, 0))
+                } else {
+                    None
+                }
+            }
+            Spot::Digits(count, number) => after_digits(count, number, c),
+        }
+    }
+
+    // The character of the unit that ends with c, if one does.
+    fn given(self, c: char) -> Option<char>
+        ensures { option_to_list result ≡ given self c }
+    {
+        match self {
+            Spot::Between => if c == '\\' { None } else { Some(c) },
+            Spot::Escaped => if c == 'u' { None } else { Some(escaped(c)) },
+            Spot::Opened => None,
+            Spot::Digits(_, number) => if c == '}' {
+                char::from_u32(number)
+            } else {
+                None
+            },
+        }
+    }
+}
+
+fn after_digits(count: u32, number: u32, c: char) -> Option<Spot>
+    requires few { count ≤ 6 }
+    requires low { number < 0x110000 }
+    ensures value { result ≡ spot_after (Spot.Digits count number) c }
+    ensures bounded { IfSome result IsBounded }
+{
+    if c == '}' {
+        if count >= 1 && char::from_u32(number).is_some() {
+            return Some(Spot::Between);
+        }
+        return None;
+    }
+    let digit = c.to_digit(16)?;
+    let longer = number * 16 + digit;
+    if count < 6 && longer < 0x110000 {
+        return Some(Spot::Digits(count + 1, longer));
+    }
+    None
+}
+
+/// The number of characters of a quoted string whose text follows its first quotation mark, both
+/// marks counted.
+pub fn quoted(text: &[char]) -> Option<usize>
+    ensures { result ≡ quoted_end (Some Spot.Between) 1 text.now }
+{
+    let mut spot = Spot::Between;
+    'units: for (n, c) in text.iter().enumerate() {
+        if spot.closes(*c) {
+            return Some(n + 2);
+        }
+        spot = spot.after(*c)?;
+    }
+    None
+}
+
+// What a quoted string's text behind its first quotation mark stands for.
+fn value(alloc: Global, text: &[char]) -> Result<Text, Memory>
+    ensures { IfOk result (λ t. t ≡ value_at (Some Spot.Between) text.now) }
+{
+    let mut value = Text::new(alloc);
+    let mut spot = Spot::Between;
+    'units: for c in text {
+        if spot.closes(*c) {
+            return Ok(value);
+        }
+        if let Some(given) = spot.given(*c) {
+            value.push(given)?;
+        }
+        match spot.after(*c) {
+            Some(next) => spot = next,
+            None => return Ok(value),
+        }
+    }
+    Ok(value)
+}
+
+/// The characters that the text of a `Quoted` token stands for, in time linear in the text.
+pub fn quoted_value(alloc: Global, token_text: &str) -> Result<Text, Memory>
+    requires { Spells Kind.Quoted (chars token_text.now) }
+    ensures { IfOk result (λ t. IsQuoted (chars token_text.now) t) }
+{
+    let letters: Vec<char> = token_text.chars().collect(alloc)?;
+    value(alloc, &letters[1..])
+}

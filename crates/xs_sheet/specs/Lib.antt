@@ -1,0 +1,5 @@
+pub mod Regular
+pub mod Outline
+pub mod Pieces
+pub mod Grammar
+pub mod Machine
