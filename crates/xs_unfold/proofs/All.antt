@@ -73,7 +73,7 @@ module _ (g : Grammar) (w : List ℕ) (f : Forest) where
         let l = h.from a.0.left a.2.left_is in
         let reads = read_whole g w f r n i j a.0 l.0 bare row in
         let is : sub a.0.rule (read g w f a.0.left l.0) done ≡ sub q qs done = rw (l.2, at) refl in
-        (pick a.0 l.0 bare, (row.0, a.1, l.1, none_from a.0.right a.2.right_is), ◌∙◌ {b = sub a.0.rule (read g w f a.0.left l.0) done} reads is)
+        (pick a.0 l.0 bare, (row.0, a.1, l.1, none_from a.0.right a.2.right_is), reads ∙ is)
 
     non_from : (n v q i j : ℕ) (qs : Parts) → IsRuleOf g n q → FrontRead q (length (items g q)) i j qs → LastFrom (Non n v) i j (sub q qs done)
     non_from n v q i j qs of h o (r, e, row) =
