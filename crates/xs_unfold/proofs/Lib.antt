@@ -13,3 +13,5 @@ pub mod Listing
 pub mod Walk
 pub mod Tails
 pub mod Counts
+pub mod Sorting
+pub mod Rows
