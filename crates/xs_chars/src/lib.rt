@@ -11,7 +11,7 @@ mod strings;
 mod writing;
 
 pub use form::{Form, in_form};
-pub use laws::text_is_read_back;
+pub use laws::{encoded_is_decoded, text_is_read_back};
 pub use reading::{DecodeFault, decode, read_text};
 pub use writing::{encode, write_text};
 

@@ -141,7 +141,7 @@ front_new xs n new len some =
     ∙ take_more_set xs (n - 1) new (omega arith)
 
 -- the last range is widened
-pub added_in_place : (old : List (ℕ × ℕ)) (n : ℕ) (last r : ℕ × ℕ) (m : ℕ) → n ≡ length old → 0 < n → last ≡ get_or old (n - 1) last → IsClass old → BeginBy r.0 old → r.0 ≤ r.1 → r.1 < 2 ^ 32 → r.0 - last.1 ≤ 1 → m ≡ max last.1 r.1 → IsAdded old r (set old (n - 1) (last.0, m))
+pub added_in_place : (old : List (ℕ × ℕ)) (n : ℕ) (last r : ℕ × ℕ) (m : ℕ) → n ≡ length old → 0 < n → last ≡ get_or old (n - 1) last → IsClass old → BeginBy r.0 old → r.0 ≤ r.1 → r.1 < 2 ^ 32 → r.0 ≤ last.1 + 1 → m ≡ max last.1 r.1 → IsAdded old r (set old (n - 1) (last.0, m))
 added_in_place old n last r m len some is up begun order bound near most =
     let parts = front_last old n last len some is in
     rw (front_new old n (last.0, m) len some, most) (
@@ -150,7 +150,7 @@ added_in_place old n last r m len some is up begun order bound near most =
     )
 
 -- a range after the last one
-pub added_after : (old : List (ℕ × ℕ)) (n : ℕ) (last r : ℕ × ℕ) → n ≡ length old → 0 < n → last ≡ get_or old (n - 1) last → IsClass old → BeginBy r.0 old → r.0 ≤ r.1 → r.1 < 2 ^ 32 → 1 < r.0 - last.1 → IsAdded old r (old ++ r ∷ [])
+pub added_after : (old : List (ℕ × ℕ)) (n : ℕ) (last r : ℕ × ℕ) → n ≡ length old → 0 < n → last ≡ get_or old (n - 1) last → IsClass old → BeginBy r.0 old → r.0 ≤ r.1 → r.1 < 2 ^ 32 → last.1 + 1 < r.0 → IsAdded old r (old ++ r ∷ [])
 added_after old n last r len some is up begun order bound far =
     let parts = front_last old n last len some is in
     let known : IsFront 0 (take (n - 1) old) last = front_of 0 (take (n - 1) old) last (subst IsClass parts up) in

@@ -1,9 +1,10 @@
 -- The class of a set of characters.
-use Rattle.std.proofs.Common.{◌≡◌, ◌∙◌, ◌≤◌, ◌⊎◌, ◌&&◌, ◌||◌, inl, inr, ap, sym, refl, ℕ, List, [], ◌∷◌, Bool, true, false, arith}
+use Rattle.std.proofs.Common.{◌≡◌, ◌∙◌, ◌≤◌, ◌⊎◌, ◌&&◌, ◌||◌, inl, inr, ap, sym, refl, ℕ, List, [], ◌∷◌, Bool, true, false, leb, arith}
 use Rattle.std.proofs.lemmas.Bool.{leb-true, le-leb}
-use Rattle.ucd_table.specs.Rows.{in_ranges, HasExactly, AreRanges}
+use Rattle.ucd_table.specs.Rows.{in_ranges, is_range, HasExactly, AreRanges}
 use Rattle.ucd_sets.specs.Sets.{in_set}
 use Rattle.ucd_sets.specs.declared.set.Set.{Set}
+use Rattle.std.specs.List.{list_all}
 use Rattle.xs_class.specs.Classes.{Has, HaveSame}
 use Rattle.xs_class.specs.Named.{HasMembersOf}
 
@@ -41,8 +42,8 @@ has_tested (r ∷ rs) s (inr h) = from_right _ _ (has_tested rs s h)
 pub ranges_bound : (rs : List (ℕ × ℕ)) (s : ℕ) → AreRanges rs → Has rs s → s ≤ 0x10FFFF
 ranges_bound [] s valid h = absurd h
 ranges_bound (r ∷ rs) s valid (inl h) =
-    let parts = both_true _ _ valid in
-    let end : r.1 ≤ 0x10FFFF = leb-true _ _ (both_true _ _ parts.0).1 in omega (arith, h.1)
+    let parts = both_true (is_range r) (list_all is_range rs) valid in
+    let end : r.1 ≤ 0x10FFFF = leb-true r.1 0x10FFFF (both_true (leb r.0 r.1) (leb r.1 0x10FFFF) parts.0).1 in omega (arith, h.1)
 ranges_bound (r ∷ rs) s valid (inr h) = ranges_bound rs s (both_true _ _ valid).1 h
 
 pub members_of_set : (ranges c : List (ℕ × ℕ)) (set : Set) → HasExactly ranges (in_set set) → AreRanges ranges → HaveSame c ranges → HasMembersOf c set

@@ -46,6 +46,7 @@ impl Bytes {
         })
     }
 
+    /// Appends a byte, or leaves the list as it was.
     pub fn push(&mut self, byte: u8) -> Result<(), Memory>
         ensures ok { OnOk result (self.new ≡ self.old ++ byte ∷ []) }
         ensures err { OnErr result (self.new ≡ self.old) }
@@ -63,24 +64,28 @@ impl Bytes {
         Ok(())
     }
 
+    /// The bytes in order.
     pub fn as_slice(&self) -> &[u8]
         ensures { result.now ≡ self.now }
     {
         &self.bytes
     }
 
+    /// The number of bytes.
     pub fn len(&self) -> usize
         ensures { result ≡ length self.now }
     {
         self.bytes.len()
     }
 
+    /// Whether there is no byte.
     pub fn is_empty(&self) -> bool
         ensures { IsTrue result ↔ (self.now ≡ []) }
     {
         self.bytes.is_empty()
     }
 
+    /// The byte at a place, counted from 0.
     pub fn at(&self, place: usize) -> u8
         requires { place < length self.now }
         ensures { slice_get self.now place ≡ Some result }

@@ -53,6 +53,7 @@ impl Class {
         begun > 0 && number <= self.ranges[begun - 1].1
     }
 
+    /// Whether there is no member.
     pub fn is_empty(&self) -> bool
         ensures ranges { IsTrue result ↔ (self.now ≡ []) }
         ensures members { IsTrue result ↔ ((s : ℕ) → ¬ (Has self.now s)) }
@@ -116,7 +117,7 @@ fn add(ranges: &mut Vec<(u32, u32)>, range: (u32, u32)) -> Result<(), Memory>
     let len = ranges.len();
     if len > 0 {
         let last = ranges[len - 1];
-        if range.0.saturating_sub(last.1) <= 1 {
+        if range.0 <= last.1.saturating_add(1) {
             ranges[len - 1] = (last.0, last.1.max(range.1));
             return Ok(());
         }

@@ -1,7 +1,9 @@
-//! Symbols, and the project's own lists: words, texts, bytes, and lists of any elements.
+//! Symbols, sets of them, the names of a sheet, and the project's own lists.
 //!
-//! A symbol is a character or a mark of an XML name. Contracts see each list as a list, whatever
-//! lies behind it, and a `push` that finds no memory leaves it as it was.
+//! A symbol is a character or a mark of an XML name. A class is a set of symbols, and tells its
+//! members exactly. Names stand in the order of their bytes, and a name's place in it numbers its
+//! marks. Contracts see each list as a list, whatever lies behind it, and a `push` that finds no
+//! memory leaves it as it was.
 #![tactic(auto)]
 
 mod bytes;
@@ -13,6 +15,8 @@ mod names;
 mod side;
 mod sym;
 mod tables;
+#[cfg(test)]
+mod tests;
 mod text;
 mod word;
 

@@ -28,24 +28,28 @@ impl<T> Listed<T> {
         }
     }
 
+    /// The elements in order.
     pub fn as_slice(&self) -> &[T]
         ensures { result.now ≡ self.now }
     {
         &self.all
     }
 
+    /// The number of elements.
     pub fn len(&self) -> usize
         ensures { result ≡ length self.now }
     {
         self.all.len()
     }
 
+    /// Whether there is no element.
     pub fn is_empty(&self) -> bool
         ensures { IsTrue result ↔ (self.now ≡ []) }
     {
         self.all.is_empty()
     }
 
+    /// The element at a place, counted from 0.
     pub fn at(&self, place: usize) -> &T
         requires { place < length self.now }
         ensures { slice_get self.now place ≡ Some result.now }
@@ -69,6 +73,7 @@ impl<T> Listed<T> {
 }
 
 impl<T: Drop> Listed<T> {
+    /// Appends an element, or leaves the list as it was.
     pub fn push(&mut self, element: T) -> Result<(), Memory>
         ensures ok { OnOk result (self.new ≡ self.old ++ element ∷ []) }
         ensures err { OnErr result (self.new ≡ self.old) }

@@ -27,6 +27,7 @@ impl Model for Sym {
 }
 
 impl Sym {
+    /// The symbol of a character.
     pub fn of_char(c: char) -> Self
         ensures { result ≡ c }
     {

@@ -46,6 +46,7 @@ impl Text {
         Text::of(*self.text.allocator(), self.text.as_str())
     }
 
+    /// Appends a character, or leaves the text as it was.
     pub fn push(&mut self, c: char) -> Result<(), Memory>
         ensures ok { OnOk result (self.new ≡ self.old ++ c ∷ []) }
         ensures err { OnErr result (self.new ≡ self.old) }

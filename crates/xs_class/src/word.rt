@@ -46,6 +46,7 @@ impl Word {
         })
     }
 
+    /// Appends a symbol, or leaves the word as it was.
     pub fn push(&mut self, symbol: Sym) -> Result<(), Memory>
         ensures ok { OnOk result (self.new ≡ self.old ++ symbol ∷ []) }
         ensures err { OnErr result (self.new ≡ self.old) }
@@ -63,24 +64,28 @@ impl Word {
         Ok(())
     }
 
+    /// The symbols in order.
     pub fn as_slice(&self) -> &[Sym]
         ensures { result.now ≡ self.now }
     {
         &self.symbols
     }
 
+    /// The number of symbols.
     pub fn len(&self) -> usize
         ensures { result ≡ length self.now }
     {
         self.symbols.len()
     }
 
+    /// Whether there is no symbol.
     pub fn is_empty(&self) -> bool
         ensures { IsTrue result ↔ (self.now ≡ []) }
     {
         self.symbols.is_empty()
     }
 
+    /// The symbol at a place, counted from 0.
     pub fn at(&self, place: usize) -> Sym
         requires { place < length self.now }
         ensures { slice_get self.now place ≡ Some result }

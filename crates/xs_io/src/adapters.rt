@@ -13,7 +13,8 @@ const RETRIES: u32 = 1_000;
 fn read_again<R: Read>(reader: &mut R, buf: &mut [u8]) -> Option<usize>
     requires { 0 < length buf.old }
     ensures bound { IfSome result (λ n. n ≤ length buf.new) }
-    ensures taken { IfSome result (λ n. Consumes (R.remaining reader.old) (R.remaining reader.new) (take n buf.new)) }
+    ensures taken { IfSome result (λ n. Consumes (R.remaining reader.old) (R.remaining reader.new)
+        (take n buf.new)) }
     ensures end { IfSome result (λ n. n ≡ 0 → IsAtEnd (R.remaining reader.new)) }
     ensures none { IfNone result (Keeps (R.remaining reader.old) (R.remaining reader.new)) }
 {
@@ -34,7 +35,8 @@ fn read_again<R: Read>(reader: &mut R, buf: &mut [u8]) -> Option<usize>
 fn write_again<W: Write>(writer: &mut W, piece: &[u8]) -> Option<usize>
     ensures some { IfSome result (λ n. 0 < n) }
     ensures bound { IfSome result (λ n. n ≤ length piece.now) }
-    ensures taken { IfSome result (λ n. Appends (W.contents writer.old) (W.contents writer.new) (take n piece.now)) }
+    ensures taken { IfSome result (λ n. Appends (W.contents writer.old) (W.contents writer.new)
+        (take n piece.now)) }
     ensures none { IfNone result (Keeps (W.contents writer.old) (W.contents writer.new)) }
 {
     'again: for _ in 0..=RETRIES {

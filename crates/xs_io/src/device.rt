@@ -76,8 +76,11 @@ pub trait Shelf {
         ensures same { files self.new ≡ files self.old }
         ensures later { faults self.old ≤ faults self.new }
         ensures name_later { name_faults self.old name.now ≤ name_faults self.new name.now }
-        ensures others { (other : List ℕ) → other ≢ name.now → name_faults self.new other ≡ name_faults self.old other }
-        ensures unmoved { OnOk result (name_faults self.new name.now ≡ name_faults self.old name.now) }
-        ensures failed { OnErr result (NameFailed (files self.old) name.now (faults self.old) (faults self.new)
+        ensures others { (other : List ℕ) → other ≢ name.now → name_faults self.new other
+            ≡ name_faults self.old other }
+        ensures unmoved { OnOk result (name_faults self.new name.now
+            ≡ name_faults self.old name.now) }
+        ensures failed { OnErr result (NameFailed (files self.old) name.now
+            (faults self.old) (faults self.new)
             (name_faults self.old name.now) (name_faults self.new name.now)) };
 }

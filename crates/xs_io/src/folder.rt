@@ -37,9 +37,12 @@ impl Folder {
 
     /// Gives the file of this name these bytes, in place of any that it had.
     pub(crate) fn put(&mut self, name: Text, bytes: Bytes) -> Result<(), Memory>
-        ensures ok { OnOk result (Puts (file_in self.old) (file_in self.new) (encode_utf8_all name) bytes) }
-        ensures faults { (other : List ℕ) → file_faults self.new other ≡ file_faults self.old other }
-        ensures err { OnErr result ((other : List ℕ) → file_in self.new other ≡ file_in self.old other) }
+        ensures ok { OnOk result (Puts (file_in self.old) (file_in self.new)
+            (encode_utf8_all name) bytes) }
+        ensures faults { (other : List ℕ) → file_faults self.new other
+            ≡ file_faults self.old other }
+        ensures err { OnErr result ((other : List ℕ) → file_in self.new other
+            ≡ file_in self.old other) }
     {
         match place_of(&self.files, name.as_str()) {
             Some(place) => self.files[place].bytes = bytes,
@@ -66,8 +69,10 @@ impl Folder {
         requires { 0 < length buf.old }
         ensures none { IsNone result ↔ (file_in self.now name.now ≡ None) }
         ensures bound { IfSome result (λ n. n ≤ length buf.new) }
-        ensures some { IfSome result (λ n. StandAt (file_in self.now name.now) at (take n buf.new)) }
-        ensures full { IfSome result (λ n. IsFull (file_in self.now name.now) at (length buf.old) n) }
+        ensures some { IfSome result (λ n. StandAt (file_in self.now name.now) at
+            (take n buf.new)) }
+        ensures full { IfSome result (λ n. IsFull (file_in self.now name.now) at
+            (length buf.old) n) }
     {
         let bytes = self.bytes_of(name)?.as_slice();
         if at >= bytes.len() as u64 {
@@ -80,9 +85,12 @@ impl Folder {
     /// A call on this name failed, which counts where there is such a file.
     pub(crate) fn raise(&mut self, name: &str)
         ensures files { file_in self.new ≡ file_in self.old }
-        ensures counted { IsSome (file_in self.old name.now) → file_faults self.new name.now ≡ one_more (file_faults self.old name.now) }
-        ensures uncounted { file_in self.old name.now ≡ None → file_faults self.new name.now ≡ file_faults self.old name.now }
-        ensures others { (other : List ℕ) → other ≢ name.now → file_faults self.new other ≡ file_faults self.old other }
+        ensures counted { IsSome (file_in self.old name.now) → file_faults self.new name.now
+            ≡ one_more (file_faults self.old name.now) }
+        ensures uncounted { file_in self.old name.now ≡ None → file_faults self.new name.now
+            ≡ file_faults self.old name.now }
+        ensures others { (other : List ℕ) → other ≢ name.now → file_faults self.new other
+            ≡ file_faults self.old other }
         ensures later { file_faults self.old name.now ≤ file_faults self.new name.now }
     {
         if let Some(place) = place_of(&self.files, name) {

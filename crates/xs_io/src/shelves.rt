@@ -37,9 +37,12 @@ impl MemShelf {
     /// Gives the file of this name these bytes, in place of any that it had, in time linear in
     /// the number of files.
     pub fn add(&mut self, name: Text, bytes: Bytes) -> Result<(), Memory>
-        ensures ok { OnOk result (Puts (mem_file self.old) (mem_file self.new) (encode_utf8_all name) bytes) }
-        ensures err { OnErr result ((other : List ℕ) → mem_file self.new other ≡ mem_file self.old other) }
-        ensures name_faults { (other : List ℕ) → mem_name_faults self.new other ≡ mem_name_faults self.old other }
+        ensures ok { OnOk result (Puts (mem_file self.old) (mem_file self.new)
+            (encode_utf8_all name) bytes) }
+        ensures err { OnErr result ((other : List ℕ) → mem_file self.new other
+            ≡ mem_file self.old other) }
+        ensures name_faults { (other : List ℕ) → mem_name_faults self.new other
+            ≡ mem_name_faults self.old other }
         ensures calls { mem_calls self.new ≡ mem_calls self.old }
     {
         self.folder.put(name, bytes)
@@ -60,21 +63,27 @@ impl Shelf for MemShelf {
     fn read_at(&mut self, name: &str, at: u64, buf: &mut [u8]) -> Result<usize, Failed>
         requires { 0 < length buf.old }
         ensures bound { ReadsAtMost result buf.new }
-        ensures bytes { IfOk result (λ n. StandIn (Some (mem_file self.old)) name.now at (take n buf.new)) }
+        ensures bytes { IfOk result (λ n. StandIn (Some (mem_file self.old)) name.now at
+            (take n buf.new)) }
         ensures same { Some (mem_file self.new) ≡ Some (mem_file self.old) }
         ensures later { faults_of (mem_calls self.old) ≤ faults_of (mem_calls self.new) }
         ensures name_later { mem_name_faults self.old name.now ≤ mem_name_faults self.new name.now }
-        ensures others { (other : List ℕ) → other ≢ name.now → mem_name_faults self.new other ≡ mem_name_faults self.old other }
-        ensures unmoved { OnOk result (mem_name_faults self.new name.now ≡ mem_name_faults self.old name.now) }
+        ensures others { (other : List ℕ) → other ≢ name.now → mem_name_faults self.new other
+            ≡ mem_name_faults self.old other }
+        ensures unmoved { OnOk result (mem_name_faults self.new name.now
+            ≡ mem_name_faults self.old name.now) }
         ensures failed { OnErr result (NameFailed (Some (mem_file self.old)) name.now
             (faults_of (mem_calls self.old)) (faults_of (mem_calls self.new))
             (mem_name_faults self.old name.now) (mem_name_faults self.new name.now)) }
 
         // It fails exactly where its number is listed or the name is not there.
-        ensures fails { IsErr result ↔ (IsListed (mem_calls self.old) ⊎ (mem_file self.old name.now ≡ None)) }
-        ensures count { IfOk result (λ n. IsFull (mem_file self.old name.now) at (length buf.old) n) }
+        ensures fails { IsErr result ↔ (IsListed (mem_calls self.old)
+            ⊎ (mem_file self.old name.now ≡ None)) }
+        ensures count { IfOk result (λ n. IsFull (mem_file self.old name.now) at
+            (length buf.old) n) }
         ensures counted { Begins (mem_calls self.old) (mem_calls self.new) }
-        ensures faults { MatchResult result (λ _. faults_of (mem_calls self.new) ≡ faults_of (mem_calls self.old))
+        ensures faults { MatchResult result (λ _. faults_of (mem_calls self.new)
+            ≡ faults_of (mem_calls self.old))
             (λ _. faults_of (mem_calls self.new) ≡ one_more (faults_of (mem_calls self.old))) }
     {
         if let Err(failed) = self.calls.begin() {
@@ -112,8 +121,10 @@ impl SureShelf {
     /// Gives the file of this name these bytes, in place of any that it had, in time linear in
     /// the number of files.
     pub fn add(&mut self, name: Text, bytes: Bytes) -> Result<(), Memory>
-        ensures ok { OnOk result (Puts (sure_file self.old) (sure_file self.new) (encode_utf8_all name) bytes) }
-        ensures err { OnErr result ((other : List ℕ) → sure_file self.new other ≡ sure_file self.old other) }
+        ensures ok { OnOk result (Puts (sure_file self.old) (sure_file self.new)
+            (encode_utf8_all name) bytes) }
+        ensures err { OnErr result ((other : List ℕ) → sure_file self.new other
+            ≡ sure_file self.old other) }
         ensures faults { sure_faults self.new ≡ sure_faults self.old }
     {
         self.folder.put(name, bytes)
@@ -134,14 +145,17 @@ impl Shelf for SureShelf {
     fn read_at(&mut self, name: &str, at: u64, buf: &mut [u8]) -> Result<usize, Failed>
         requires { 0 < length buf.old }
         ensures bound { ReadsAtMost result buf.new }
-        ensures bytes { IfOk result (λ n. StandIn (Some (sure_file self.old)) name.now at (take n buf.new)) }
+        ensures bytes { IfOk result (λ n. StandIn (Some (sure_file self.old)) name.now at
+            (take n buf.new)) }
         ensures same { Some (sure_file self.new) ≡ Some (sure_file self.old) }
         ensures later { sure_faults self.old ≤ sure_faults self.new }
-        ensures failed { OnErr result (NameFailed (Some (sure_file self.old)) name.now (sure_faults self.old) (sure_faults self.new) 0 0) }
+        ensures failed { OnErr result (NameFailed (Some (sure_file self.old)) name.now
+            (sure_faults self.old) (sure_faults self.new) 0 0) }
 
         // It fails exactly where the name is not there.
         ensures fails { IsErr result ↔ (sure_file self.old name.now ≡ None) }
-        ensures count { IfOk result (λ n. IsFull (sure_file self.old name.now) at (length buf.old) n) }
+        ensures count { IfOk result (λ n. IsFull (sure_file self.old name.now) at
+            (length buf.old) n) }
         ensures faults { MatchResult result (λ _. sure_faults self.new ≡ sure_faults self.old)
             (λ _. sure_faults self.new ≡ one_more (sure_faults self.old)) }
     {

@@ -59,14 +59,17 @@ impl Sink for MemSink {
         requires { 0 < length piece.now }
         ensures bound { WritesAtMost result piece.now }
         ensures some { IfOk result (λ n. 0 < n) }
-        ensures bytes { WriteAppends (Some (mem_bytes self.old)) (Some (mem_bytes self.new)) result piece.now }
-        ensures cause { HasCause (faults_of (mem_calls self.old)) (faults_of (mem_calls self.new)) result }
+        ensures bytes { WriteAppends (Some (mem_bytes self.old)) (Some (mem_bytes self.new))
+            result piece.now }
+        ensures cause { HasCause (faults_of (mem_calls self.old)) (faults_of (mem_calls self.new))
+            result }
 
         // It fails where its number is listed; any other failure is want of memory.
         ensures listed { IsListed (mem_calls self.old) → IsErr result }
         ensures count { IfOk result (λ n. n ≡ min (mem_step self.old) (length piece.now)) }
         ensures counted { Begins (mem_calls self.old) (mem_calls self.new) }
-        ensures faults { MatchResult result (λ _. faults_of (mem_calls self.new) ≡ faults_of (mem_calls self.old))
+        ensures faults { MatchResult result (λ _. faults_of (mem_calls self.new)
+            ≡ faults_of (mem_calls self.old))
             (λ _. faults_of (mem_calls self.new) ≡ one_more (faults_of (mem_calls self.old))) }
         ensures step { mem_step self.new ≡ mem_step self.old }
     {
@@ -127,12 +130,14 @@ impl Sink for SureSink {
         requires { 0 < length piece.now }
         ensures bound { WritesAtMost result piece.now }
         ensures some { IfOk result (λ n. 0 < n) }
-        ensures bytes { WriteAppends (Some (sure_bytes self.old)) (Some (sure_bytes self.new)) result piece.now }
+        ensures bytes { WriteAppends (Some (sure_bytes self.old)) (Some (sure_bytes self.new))
+            result piece.now }
         ensures cause { HasCause (sure_faults self.old) (sure_faults self.new) result }
 
         // It fails exactly where no room is left.
         ensures full { IsErr result ↔ (length (sure_bytes self.old) ≡ sure_room self.old) }
-        ensures count { IfOk result (λ n. n ≡ min (length piece.now) (sure_room self.old - length (sure_bytes self.old))) }
+        ensures count { IfOk result (λ n. n ≡ min (length piece.now)
+            (sure_room self.old - length (sure_bytes self.old))) }
         ensures faults { MatchResult result (λ _. sure_faults self.new ≡ sure_faults self.old)
             (λ _. sure_faults self.new ≡ one_more (sure_faults self.old)) }
         ensures room { sure_room self.new ≡ sure_room self.old }

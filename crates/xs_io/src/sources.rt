@@ -61,14 +61,18 @@ impl Source for MemSource {
     fn read(&mut self, buf: &mut [u8]) -> Result<usize, Failed>
         requires { 0 < length buf.old }
         ensures bound { ReadsAtMost result buf.new }
-        ensures bytes { ReadConsumes (Some (mem_rest self.old)) (Some (mem_rest self.new)) result buf.new }
-        ensures cause { HasCause (faults_of (mem_calls self.old)) (faults_of (mem_calls self.new)) result }
+        ensures bytes { ReadConsumes (Some (mem_rest self.old)) (Some (mem_rest self.new))
+            result buf.new }
+        ensures cause { HasCause (faults_of (mem_calls self.old)) (faults_of (mem_calls self.new))
+            result }
 
         // It fails exactly where its number is listed.
         ensures listed { IsErr result ↔ IsListed (mem_calls self.old) }
-        ensures count { IfOk result (λ n. n ≡ min (mem_step self.old) (min (length buf.old) (length (mem_rest self.old)))) }
+        ensures count { IfOk result (λ n. n ≡ min (mem_step self.old)
+            (min (length buf.old) (length (mem_rest self.old)))) }
         ensures counted { Begins (mem_calls self.old) (mem_calls self.new) }
-        ensures faults { MatchResult result (λ _. faults_of (mem_calls self.new) ≡ faults_of (mem_calls self.old))
+        ensures faults { MatchResult result (λ _. faults_of (mem_calls self.new)
+            ≡ faults_of (mem_calls self.old))
             (λ _. faults_of (mem_calls self.new) ≡ one_more (faults_of (mem_calls self.old))) }
         ensures step { mem_step self.new ≡ mem_step self.old }
     {
@@ -117,7 +121,8 @@ impl Source for SureSource {
     fn read(&mut self, buf: &mut [u8]) -> Result<usize, Failed>
         requires { 0 < length buf.old }
         ensures bound { ReadsAtMost result buf.new }
-        ensures bytes { ReadConsumes (Some (sure_rest self.old)) (Some (sure_rest self.new)) result buf.new }
+        ensures bytes { ReadConsumes (Some (sure_rest self.old)) (Some (sure_rest self.new))
+            result buf.new }
         ensures cause { HasCause 0 0 result }
         ensures sure { IsOk result }
         ensures count { IfOk result (λ n. n ≡ min (length buf.old) (length (sure_rest self.old))) }

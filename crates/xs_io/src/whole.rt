@@ -85,7 +85,8 @@ fn buffer(alloc: Global, len: usize) -> Result<Vec<u8>, Memory>
 /// bytes are taken. The bytes are read in pieces of up to 64 KiB.
 pub fn read_all<S: Source>(alloc: Global, src: &mut S, limit: usize) -> Result<Bytes, ReadStop>
     ensures whole { IfOk result (λ bytes. Drains (S.left src.old) (S.left src.new) bytes limit) }
-    ensures long { IsErrOf result ReadStop.TooLong → Exceeds (S.left src.old) (S.left src.new) limit }
+    ensures long { IsErrOf result ReadStop.TooLong → Exceeds (S.left src.old) (S.left src.new)
+        limit }
     ensures fault { IsErrOf result ReadStop.ReadFault → Rose (S.faults src.old) (S.faults src.new) }
     ensures later { S.faults src.old ≤ S.faults src.new }
     ensures taken { TakesAtMost (S.left src.old) (S.left src.new) (limit + 1) }
@@ -102,7 +103,8 @@ fn read_pieces<S: Source>(
 ) -> Result<Bytes, ReadStop>
     requires { 0 < length buf.old }
     ensures whole { IfOk result (λ bytes. Drains (S.left src.old) (S.left src.new) bytes limit) }
-    ensures long { IsErrOf result ReadStop.TooLong → Exceeds (S.left src.old) (S.left src.new) limit }
+    ensures long { IsErrOf result ReadStop.TooLong → Exceeds (S.left src.old) (S.left src.new)
+        limit }
     ensures fault { IsErrOf result ReadStop.ReadFault → Rose (S.faults src.old) (S.faults src.new) }
     ensures later { S.faults src.old ≤ S.faults src.new }
     ensures taken { TakesAtMost (S.left src.old) (S.left src.new) (limit + 1) }
@@ -136,11 +138,13 @@ pub fn read_file<H: Shelf>(
     ensures whole { IfOk result (λ bytes. IsFile (H.files shelf.old) name.now bytes limit) }
     ensures long { IsErrOf result ReadStop.TooLong → IsLongFile (H.files shelf.old) name.now limit }
     ensures fault { IsErrOf result ReadStop.ReadFault → NameFailed (H.files shelf.old) name.now
-        (H.faults shelf.old) (H.faults shelf.new) (H.name_faults shelf.old name.now) (H.name_faults shelf.new name.now) }
+        (H.faults shelf.old) (H.faults shelf.new) (H.name_faults shelf.old name.now)
+        (H.name_faults shelf.new name.now) }
     ensures same { H.files shelf.new ≡ H.files shelf.old }
     ensures later { H.faults shelf.old ≤ H.faults shelf.new }
     ensures name_later { H.name_faults shelf.old name.now ≤ H.name_faults shelf.new name.now }
-    ensures others { (other : List ℕ) → other ≢ name.now → H.name_faults shelf.new other ≡ H.name_faults shelf.old other }
+    ensures others { (other : List ℕ) → other ≢ name.now → H.name_faults shelf.new other
+        ≡ H.name_faults shelf.old other }
 {
     let mut buf = buffer(alloc, PIECE)?;
     read_file_pieces(alloc, shelf, name, limit, &mut buf)
@@ -157,11 +161,13 @@ fn read_file_pieces<H: Shelf>(
     ensures whole { IfOk result (λ bytes. IsFile (H.files shelf.old) name.now bytes limit) }
     ensures long { IsErrOf result ReadStop.TooLong → IsLongFile (H.files shelf.old) name.now limit }
     ensures fault { IsErrOf result ReadStop.ReadFault → NameFailed (H.files shelf.old) name.now
-        (H.faults shelf.old) (H.faults shelf.new) (H.name_faults shelf.old name.now) (H.name_faults shelf.new name.now) }
+        (H.faults shelf.old) (H.faults shelf.new) (H.name_faults shelf.old name.now)
+        (H.name_faults shelf.new name.now) }
     ensures same { H.files shelf.new ≡ H.files shelf.old }
     ensures later { H.faults shelf.old ≤ H.faults shelf.new }
     ensures name_later { H.name_faults shelf.old name.now ≤ H.name_faults shelf.new name.now }
-    ensures others { (other : List ℕ) → other ≢ name.now → H.name_faults shelf.new other ≡ H.name_faults shelf.old other }
+    ensures others { (other : List ℕ) → other ≢ name.now → H.name_faults shelf.new other
+        ≡ H.name_faults shelf.old other }
 {
     let mut bytes = Bytes::new(alloc);
     'pieces: loop {
@@ -184,7 +190,8 @@ fn read_file_pieces<H: Shelf>(
 /// exactly the first `written` bytes, fewer than all.
 pub fn put_all<K: Sink>(sink: &mut K, bytes: &[u8]) -> Result<(), WriteFault>
     ensures all { OnOk result (Appends (K.taken sink.old) (K.taken sink.new) bytes.now) }
-    ensures part { IfErr result (λ f. Appends (K.taken sink.old) (K.taken sink.new) (take f.written bytes.now)) }
+    ensures part { IfErr result (λ f. Appends (K.taken sink.old) (K.taken sink.new)
+        (take f.written bytes.now)) }
     ensures shorter { IfErr result (λ f. f.written < length bytes.now) }
     ensures fault { OnErr result (Rose (K.faults sink.old) (K.faults sink.new)) }
     ensures later { K.faults sink.old ≤ K.faults sink.new }

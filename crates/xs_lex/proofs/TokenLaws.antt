@@ -1,18 +1,19 @@
 -- The reader finds the longest token, and nothing where there is none.
-use Rattle.std.proofs.Common.{◌≡◌, ◌⊎◌, inl, inr, ℕ, ◌+◌, ◌<◌, ◌≤◌, List, [], ◌∷◌, ◌++◌, length, drop, length-append, append_assoc, Some, None, true, false, Bool, ◌&&◌, if◌then◌else◌, ◌==◌, refl, sym, ap, ◌∙◌, subst, arith, eqb-true}
+use Rattle.std.proofs.Common.{suc, ◌≡◌, ◌⊎◌, inl, inr, ℕ, ◌+◌, ◌<◌, ◌≤◌, List, [], ◌∷◌, ◌++◌, length, drop, take, length-append, append_assoc, Some, None, true, false, Bool, ◌&&◌, if◌then◌else◌, ◌==◌, refl, sym, ap, ◌∙◌, subst, arith, eqb-true}
 use Rattle.std.specs.declared.option.Option.{Option}
 use Rattle.std.specs.List.{list_all}
-use Rattle.std.proofs.lemmas.List.{drop_at}
+use Rattle.std.proofs.lemmas.List.{drop_at, take_at}
 use Rattle.std.proofs.lemmas.Bool.Decides.{nat_tests}
 use Rattle.xs_lex.specs.declared.kind.Kind.{Kind}
 use Rattle.xs_lex.specs.declared.kind.Kind.TheVariants.{Plain, Qual, Quoted, Pattern, Colon, Equals, SquareIn, SquareOut, Angle, AngleSlash, AngleEnd, SlashEnd, End, Bad}
 use Rattle.xs_lex.specs.declared.quoted.Spot.TheVariants.{Between}
-use Rattle.xs_lex.specs.Classes.{is_plain_start, is_plain_char, is_plain}
+use Rattle.xs_lex.specs.Laws.{Separated}
+use Rattle.xs_lex.specs.Classes.{is_white, is_plain_start, is_plain_char, is_plain}
 use Rattle.xs_lex.specs.Units.{QuotedUnit, is_quoted_unit, spelt_quoted, PatternUnit, is_pattern_unit, spelt_pattern}
 use Rattle.xs_lex.specs.Spelling.{begins_with, Spells}
 use Rattle.xs_lex.specs.Reading.{BeginsWith, IsTokenAt, NoToken}
 use Rattle.xs_lex.specs.Scan.{run_end, quoted_end, pattern_end, of_kind, slash_at, angle_at, local_at, name_at, sign_at, token_at}
-use Rattle.xs_lex.proofs.Truth.{and_true, some_inj, no_other, plain_start_out, colon_out}
+use Rattle.xs_lex.proofs.Truth.{white_ends, and_true, some_inj, no_other, plain_start_out, colon_out}
 use Rattle.xs_lex.proofs.QuotedLaws.{units_front, quoted_read, quoted_found}
 use Rattle.xs_lex.proofs.PatternLaws.{spelt_front, pattern_read, pattern_is}
 use Rattle.xs_lex.proofs.NameLaws.{run_plain, run_covers, run_stops, plain_chars}
@@ -141,26 +142,34 @@ Covered text kind word = (p : Kind × ℕ) × (token_at text ≡ Some p) × ((p 
 exactly : (text : List ℕ) (kind : Kind) (word : List ℕ) (n : ℕ) → token_at text ≡ Some (kind, n) → n ≡ length word → Covered text kind word
 exactly text kind word n is count = ((kind, n), is, inl (ap (λ (z : ℕ). (kind, z)) count))
 
-quoted_covered : (us : List QuotedUnit) (rest : List ℕ) → list_all is_quoted_unit us ≡ true → Covered ((34 ∷ spelt_quoted us (34 ∷ [])) ++ rest) Quoted (34 ∷ spelt_quoted us (34 ∷ []))
+quoted_exact : (us : List QuotedUnit) (rest : List ℕ) → list_all is_quoted_unit us ≡ true → token_at ((34 ∷ spelt_quoted us (34 ∷ [])) ++ rest) ≡ Some (Quoted, length (34 ∷ spelt_quoted us (34 ∷ [])))
 unfolding token_at
-quoted_covered us rest each =
+quoted_exact us rest each =
     let n : ℕ = 1 + length (spelt_quoted us []) + 1 in
     let found : quoted_end (Some Between) 1 (spelt_quoted us (34 ∷ []) ++ rest) ≡ Some n = ap (λ (z : List ℕ). quoted_end (Some Between) 1 z) (sym (units_close us rest)) ∙ quoted_read us 1 rest each in
     let size : length (spelt_quoted us (34 ∷ [])) ≡ length (spelt_quoted us [] ++ 34 ∷ []) = ap length (units_front us (34 ∷ [])) in
-    exactly ((34 ∷ spelt_quoted us (34 ∷ [])) ++ rest) Quoted (34 ∷ spelt_quoted us (34 ∷ [])) n (ap (λ (o : Option ℕ). of_kind Quoted o) found) (omega (arith, length-append (spelt_quoted us []) (34 ∷ [])))
+    let count : n ≡ suc (length (spelt_quoted us (34 ∷ []))) = omega (arith, length-append (spelt_quoted us []) (34 ∷ [])) in
+    ap (λ (o : Option ℕ). of_kind Quoted o) found ∙ ap (λ (m : ℕ). Some (Quoted, m)) count
+
+quoted_covered : (us : List QuotedUnit) (rest : List ℕ) → list_all is_quoted_unit us ≡ true → Covered ((34 ∷ spelt_quoted us (34 ∷ [])) ++ rest) Quoted (34 ∷ spelt_quoted us (34 ∷ []))
+quoted_covered us rest each = exactly ((34 ∷ spelt_quoted us (34 ∷ [])) ++ rest) Quoted (34 ∷ spelt_quoted us (34 ∷ [])) (length (34 ∷ spelt_quoted us (34 ∷ []))) (quoted_exact us rest each) refl
 
 begins_longer : (xs ys : List ℕ) → begins_with 62 xs ≡ false → begins_with 62 (xs ++ 47 ∷ ys) ≡ false
 begins_longer [] ys is = refl
 begins_longer (x ∷ xs) ys is = is
 
-pattern_covered : (us : List PatternUnit) (rest : List ℕ) → list_all is_pattern_unit us ≡ true → begins_with 62 (spelt_pattern us []) ≡ false → Covered ((47 ∷ (spelt_pattern us [] ++ 47 ∷ [])) ++ rest) Pattern (47 ∷ (spelt_pattern us [] ++ 47 ∷ []))
+pattern_exact : (us : List PatternUnit) (rest : List ℕ) → list_all is_pattern_unit us ≡ true → begins_with 62 (spelt_pattern us []) ≡ false → token_at ((47 ∷ (spelt_pattern us [] ++ 47 ∷ [])) ++ rest) ≡ Some (Pattern, length (47 ∷ (spelt_pattern us [] ++ 47 ∷ [])))
 unfolding token_at
-pattern_covered us rest each none =
+pattern_exact us rest each none =
     let n : ℕ = 1 + length (spelt_pattern us []) + 1 in
     let inside : List ℕ = (spelt_pattern us [] ++ 47 ∷ []) ++ rest in
     let found : pattern_end false 1 inside ≡ Some n = ap (λ (z : List ℕ). pattern_end false 1 z) (sym (pattern_close us rest)) ∙ pattern_read us 1 rest each in
     let no_end : begins_with 62 inside ≡ false = ap (λ (z : List ℕ). begins_with 62 z) (append_assoc (spelt_pattern us []) (47 ∷ []) rest) ∙ begins_longer (spelt_pattern us []) rest none in
-    exactly (47 ∷ inside) Pattern (47 ∷ (spelt_pattern us [] ++ 47 ∷ [])) n (rw (no_end, found) refl) (omega (arith, length-append (spelt_pattern us []) (47 ∷ [])))
+    let count : n ≡ suc (length (spelt_pattern us [] ++ 47 ∷ [])) = omega (arith, length-append (spelt_pattern us []) (47 ∷ [])) in
+    rw (no_end, found) (ap (λ (m : ℕ). Some (Pattern, m)) count)
+
+pattern_covered : (us : List PatternUnit) (rest : List ℕ) → list_all is_pattern_unit us ≡ true → begins_with 62 (spelt_pattern us []) ≡ false → Covered ((47 ∷ (spelt_pattern us [] ++ 47 ∷ [])) ++ rest) Pattern (47 ∷ (spelt_pattern us [] ++ 47 ∷ []))
+pattern_covered us rest each none = exactly ((47 ∷ (spelt_pattern us [] ++ 47 ∷ [])) ++ rest) Pattern (47 ∷ (spelt_pattern us [] ++ 47 ∷ [])) (length (47 ∷ (spelt_pattern us [] ++ 47 ∷ []))) (pattern_exact us rest each none) refl
 
 -- a name is found where its run ends
 name_found : (c : ℕ) (cs : List ℕ) → is_plain_start c ≡ true → token_at (c ∷ cs) ≡ Some (name_at (run_end is_plain_char 0 (c ∷ cs)) (c ∷ cs))
@@ -289,3 +298,74 @@ longest_found text kind word rest t = let c = covered text kind word rest t.begi
         let le = t.longest p.0 f.0 f.1 f.2 in
         let size = f.3 in
         absurd (omega arith)
+
+-- a word before white space is a token by itself
+local_alone : (n sep : ℕ) (rest : List ℕ) → (sep == 58) ≡ false → local_at n (sep ∷ rest) ≡ (Plain, n)
+local_alone n sep [] differs = refl
+local_alone n sep (d ∷ ds) differs = rw differs refl
+
+plain_alone : (c : ℕ) (cs : List ℕ) (sep : ℕ) (rest : List ℕ) → is_plain (c ∷ cs) ≡ true → is_white sep ≡ true → token_at ((c ∷ cs) ++ sep ∷ rest) ≡ Some (Plain, length (c ∷ cs))
+plain_alone c cs sep rest is white =
+    let w = white_ends sep white in
+    let text : List ℕ = c ∷ (cs ++ sep ∷ rest) in
+    let first = and_true (is_plain_start c) (list_all is_plain_char cs) is in
+    let n : ℕ = run_end is_plain_char 0 text in
+    let stops : n ≡ 0 + length (c ∷ cs) = run_stops is_plain_char (c ∷ cs) sep rest 0 (plain_chars (c ∷ cs) is) w.0 in
+    let size : n ≡ length (c ∷ cs) = omega arith in
+    let behind : drop n text ≡ sep ∷ rest = drop_at (c ∷ cs) (sep ∷ rest) n (sym size) in
+    name_found c (cs ++ sep ∷ rest) first.0 ∙ ap (λ (z : List ℕ). Some (local_at n z)) behind ∙ ap (λ (z : Kind × ℕ). Some z) (local_alone n sep rest w.1) ∙ ap (λ (m : ℕ). Some (Plain, m)) size
+
+qual_alone : (c : ℕ) (cs : List ℕ) (d : ℕ) (ds : List ℕ) (sep : ℕ) (rest : List ℕ) → is_plain (c ∷ cs) ≡ true → is_plain (d ∷ ds) ≡ true → is_white sep ≡ true → token_at (((c ∷ cs) ++ 58 ∷ d ∷ ds) ++ sep ∷ rest) ≡ Some (Qual, length ((c ∷ cs) ++ 58 ∷ d ∷ ds))
+qual_alone c cs d ds sep rest front back white =
+    let w = white_ends sep white in
+    let first = and_true (is_plain_start c) (list_all is_plain_char cs) front in
+    let second = and_true (is_plain_start d) (list_all is_plain_char ds) back in
+    let left : List ℕ = d ∷ (ds ++ sep ∷ rest) in
+    let text : List ℕ = c ∷ (cs ++ 58 ∷ left) in
+    let same : ((c ∷ cs) ++ 58 ∷ d ∷ ds) ++ sep ∷ rest ≡ text = append_assoc (c ∷ cs) (58 ∷ d ∷ ds) (sep ∷ rest) in
+    let n : ℕ = run_end is_plain_char 0 text in
+    let stops : n ≡ 0 + length (c ∷ cs) = run_stops is_plain_char (c ∷ cs) 58 left 0 (plain_chars (c ∷ cs) front) colon_out in
+    let behind : drop n text ≡ 58 ∷ left = drop_at (c ∷ cs) (58 ∷ left) n (omega arith) in
+    let ends : run_end is_plain_char 0 left ≡ 0 + length (d ∷ ds) = run_stops is_plain_char (d ∷ ds) sep rest 0 (plain_chars (d ∷ ds) back) w.0 in
+    let size : n + 1 + run_end is_plain_char 0 left ≡ length ((c ∷ cs) ++ 58 ∷ d ∷ ds) = omega (arith, length-append (c ∷ cs) (58 ∷ d ∷ ds)) in
+    ap token_at same ∙ name_found c (cs ++ 58 ∷ left) first.0 ∙ ap (λ (z : List ℕ). Some (local_at n z)) behind ∙ ap (λ (z : Kind × ℕ). Some z) (qual_local n d (ds ++ sep ∷ rest) second.0) ∙ ap (λ (m : ℕ). Some (Qual, m)) size
+
+angle_alone : (sep : ℕ) (rest : List ℕ) → (sep == 47) ≡ false → token_at (60 ∷ sep ∷ rest) ≡ Some (Angle, 1)
+unfolding token_at
+angle_alone sep rest differs = rw differs refl
+
+sign_alone : (kind : Kind) (sign word rest : List ℕ) (n : ℕ) → word ≡ sign → token_at (sign ++ rest) ≡ Some (kind, n) → length sign ≡ n → token_at (word ++ rest) ≡ Some (kind, length word)
+sign_alone kind sign word rest n is found size = ap (λ (z : List ℕ). token_at (z ++ rest)) is ∙ found ∙ ap (λ (m : ℕ). Some (kind, m)) (sym size ∙ ap length (sym is))
+
+word_alone : (kind : Kind) (word : List ℕ) (sep : ℕ) (rest : List ℕ) → Spells kind word → is_white sep ≡ true → token_at (word ++ sep ∷ rest) ≡ Some (kind, length word)
+word_alone Plain [] sep rest s white = absurd (cc)
+word_alone Plain (c ∷ cs) sep rest s white = plain_alone c cs sep rest s white
+word_alone Qual word sep rest s white = subst (λ (z : List ℕ). token_at (z ++ sep ∷ rest) ≡ Some (Qual, length z)) (sym s.is) (by s.prefix s.local s.plain_prefix s.plain_local)
+  where
+    by : (a b : List ℕ) → is_plain a ≡ true → is_plain b ≡ true → token_at ((a ++ 58 ∷ b) ++ sep ∷ rest) ≡ Some (Qual, length (a ++ 58 ∷ b))
+    by [] b p q = absurd (cc)
+    by (c ∷ cs) [] p q = absurd (cc)
+    by (c ∷ cs) (d ∷ ds) p q = qual_alone c cs d ds sep rest p q white
+word_alone Quoted word sep rest s white = let q = s.1 in subst (λ (z : List ℕ). token_at (z ++ sep ∷ rest) ≡ Some (Quoted, length z)) (sym q.is) (quoted_exact q.units (sep ∷ rest) q.each)
+word_alone Pattern word sep rest s white =
+    let q = s.1 in
+    let shape : word ≡ 47 ∷ (spelt_pattern q.units [] ++ 47 ∷ []) = q.is ∙ ap (λ (z : List ℕ). 47 ∷ (z ++ 47 ∷ [])) q.spelt in
+    subst (λ (z : List ℕ). token_at (z ++ sep ∷ rest) ≡ Some (Pattern, length z)) (sym shape) (pattern_exact q.units (sep ∷ rest) q.each (ap (λ (z : List ℕ). begins_with 62 z) (sym q.spelt) ∙ q.no_end))
+word_alone Colon word sep rest s white = sign_alone Colon (58 ∷ []) word (sep ∷ rest) 1 s (signs_covered (sep ∷ rest)).0 refl
+word_alone Equals word sep rest s white = sign_alone Equals (61 ∷ []) word (sep ∷ rest) 1 s (signs_covered (sep ∷ rest)).1 refl
+word_alone SquareIn word sep rest s white = sign_alone SquareIn (91 ∷ []) word (sep ∷ rest) 1 s (signs_covered (sep ∷ rest)).2 refl
+word_alone SquareOut word sep rest s white = sign_alone SquareOut (93 ∷ []) word (sep ∷ rest) 1 s (signs_covered (sep ∷ rest)).3 refl
+word_alone Angle word sep rest s white = sign_alone Angle (60 ∷ []) word (sep ∷ rest) 1 s (angle_alone sep rest (white_ends sep white).2) refl
+word_alone AngleSlash word sep rest s white = sign_alone AngleSlash (60 ∷ 47 ∷ []) word (sep ∷ rest) 2 s (signs_covered (sep ∷ rest)).5 refl
+word_alone AngleEnd word sep rest s white = sign_alone AngleEnd (62 ∷ []) word (sep ∷ rest) 1 s (signs_covered (sep ∷ rest)).4 refl
+word_alone SlashEnd word sep rest s white = sign_alone SlashEnd (47 ∷ 62 ∷ []) word (sep ∷ rest) 2 s (signs_covered (sep ∷ rest)).6 refl
+word_alone End word sep rest s white = absurd s
+word_alone Bad word sep rest s white = absurd s
+
+pub separated : Separated
+separated kind word sep rest s white =
+    let l = longest_is (word ++ sep ∷ rest) (kind, length word) (word_alone kind word sep rest s white) in
+    let whole = l.2.begins.is in
+    let same_word : word ≡ l.0 = sym (take_at word (sep ∷ rest) (length word) refl) ∙ ap (λ (z : List ℕ). take (length word) z) whole ∙ take_at l.0 l.1 (length word) l.3 in
+    let same_rest : (sep ∷ rest) ≡ l.1 = sym (drop_at word (sep ∷ rest) (length word) refl) ∙ ap (λ (z : List ℕ). drop (length word) z) whole ∙ drop_at l.0 l.1 (length word) l.3 in
+    subst (λ (z : List ℕ). IsTokenAt (word ++ sep ∷ rest) kind word z) (sym same_rest) (subst (λ (z : List ℕ). IsTokenAt (word ++ sep ∷ rest) kind z l.1) (sym same_word) l.2)

@@ -4,3 +4,4 @@ pub mod Spelling
 pub mod Between
 pub mod Reading
 pub mod Scan
+pub mod Laws

@@ -21,5 +21,5 @@ mod token;
 
 pub use kind::Kind;
 pub use quoted::quoted_value;
-pub use reading::tokens;
+pub use reading::{separated, tokens};
 pub use token::{Token, Tokens};

@@ -3,6 +3,7 @@ ghost use Rattle.std.specs.Str.{IsUtf8, chars};
 ghost use Rattle.std.specs.Str.Lossy.{utf8_valid_len};
 ghost use Rattle.xs_lex.specs.Between.{IsApart};
 ghost use Rattle.xs_lex.specs.Reading.{Lexeme, IsTokenAt, NoToken, AreTokens, IsSlice, is_nothing, lexeme_of, valid};
+ghost use Rattle.xs_lex.specs.Laws.{Separated};
 ghost use Rattle.xs_lex.specs.Scan.{front_at};
 
 use crate::blanks::blanks;
@@ -123,4 +124,10 @@ fn scanned(alloc: Global, bytes: &[u8], whole: bool, letters: &[char]) -> Result
         place = end;
         rest = next.behind;
     }
+}
+
+/// A token's word before white space is a token by itself.
+pub fn separated()
+    ensures { Separated }
+{
 }

@@ -1,2 +1,5 @@
+mod Before
 mod Fronts
-mod Pairs
+mod Ordered
+pub mod Pairs
+mod Balanced

@@ -3,14 +3,16 @@
 //! Its grammars are constants of specs/ in the general form of `xs_gram`.
 #![tactic(auto)]
 
-ghost use Rattle.std.specs.Prelude.{◌≡◌, ◌↔◌, [], ◌∷◌, IsTrue, IfOk, IfErr};
+ghost use Rattle.std.specs.Prelude.{◌≡◌, ◌↔◌, ℕ, List, [], ◌∷◌, IsTrue, IfOk, IfErr};
+ghost use Rattle.xs_xml_out.specs.Written.{xml_bytes};
 ghost use Rattle.xs_gram.specs.Languages.{IsUnique};
-ghost use Rattle.xs_pair_sheet.specs.PairSheet.{pair_sheet, pair_text};
+ghost use Rattle.xs_pair_sheet.specs.PairSheet.{pair_sheet, pair_text, pair_names};
 ghost use Rattle.xs_pair_sheet.specs.Pattern.{in_range, lead};
 ghost use Rattle.xs_pair_sheet.specs.Laws.{IsTurned, IsFault};
 
 use std::alloc::Global;
-use xs_class::{Memory, Sym, Word};
+use xs_class::{Bytes, Memory, Names, Sym, Text, Word};
+use xs_xml_out::write_xml;
 
 const PAIR_SHEET: &str =
     "xsugar-1\nstart s\nterminal d = /[0-9]/\ns : \"(\" [d a] \",\" [d b] \")\" = <p><y>[d b]</y><x>[d a]</x></p>\n";
@@ -104,3 +106,24 @@ pub fn turn_pair(alloc: Global, doc: &Word) -> Result<Word, TurnFault>
 pub fn pair_is_unique()
     ensures { IsUnique pair_text }
 {}
+
+// The names of the pair sheet's elements, each once, in order.
+fn names(alloc: Global) -> Result<Names, Memory>
+    ensures { IfOk result (λ names. names ≡ pair_names) }
+{
+    let p = Text::of(alloc, "p")?;
+    let x = Text::of(alloc, "x")?;
+    let y = Text::of(alloc, "y")?;
+    let names = Names::of(alloc, &[p, x, y])?;
+    Ok(names)
+}
+
+/// The XML document of the XML side's word of a text.
+pub fn pair_document(alloc: Global, word: &Word) -> Result<Bytes, Memory>
+    requires { (doc : List ℕ) × IsTurned doc word.now }
+    ensures { IfOk result (λ bytes. bytes ≡ xml_bytes pair_names word.now) }
+{
+    let names = names(alloc)?;
+    let bytes = write_xml(alloc, &names, word)?;
+    Ok(bytes)
+}

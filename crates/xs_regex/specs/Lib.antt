@@ -1,5 +1,11 @@
 pub mod Automaton
+pub mod Characters
 pub mod Marked
 pub mod Matches
+pub mod Meaning
 pub mod Parts
+pub mod Pattern
+pub mod Pieces
+pub mod Scan
 pub mod Size
+pub mod Told

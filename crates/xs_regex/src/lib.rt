@@ -5,14 +5,23 @@
 #![tactic(auto)]
 
 mod automaton;
+mod characters;
 mod compose;
+mod fault;
+mod forms;
 mod lists;
 mod matching;
+mod measure;
 mod position;
+mod read;
+mod reader;
 mod regex;
 mod repeat;
+mod sets;
 
 pub use automaton::positions;
+pub use fault::RegexFault;
 pub use matching::matches;
 pub use position::{Classes, Follows, Numbers, Position};
+pub use read::{one_reading, read_regex};
 pub use regex::Regex;

@@ -3,3 +3,5 @@ pub mod Outline
 pub mod Pieces
 pub mod Grammar
 pub mod Machine
+pub mod View
+pub mod Faults

@@ -1,8 +1,8 @@
 -- Tokens as the grammar sees them.
-use Rattle.std.specs.Prelude.{◌≡◌, ◌⊎◌, ℕ, Bool, true, false, List, [], ◌∷◌, codes, ◌==◌, ◌&&◌, ◌||◌}
+use Rattle.std.specs.Prelude.{◌≡◌, ◌⊎◌, ⊤, ℕ, Bool, true, false, List, [], ◌∷◌, codes, ◌==◌, ◌&&◌, ◌||◌}
 use Rattle.xs_lex.specs.declared.kind.Kind.{Kind}
 use Rattle.xs_lex.specs.declared.kind.Kind.TheVariants.{Plain, Qual, Quoted, Pattern, Colon, Equals, SquareIn, SquareOut, Angle, AngleSlash, AngleEnd, SlashEnd, End, Bad}
-use Rattle.xs_lex.specs.Spelling.{IsQuoted, IsPattern}
+use Rattle.xs_lex.specs.Spelling.{IsQuoted, IsPattern, Spells}
 use Rattle.xs_lex.specs.Reading.{Lexeme}
 use Rattle.xs_regex.specs.declared.regex.Regex.{Regex}
 use Rattle.xs_sheet.specs.declared.piece.Piece.{Piece}
@@ -33,6 +33,23 @@ IsTextOf AngleEnd word text = text ≡ []
 IsTextOf SlashEnd word text = text ≡ []
 IsTextOf End word text = text ≡ []
 IsTextOf Bad word text = text ≡ []
+
+-- a string's and a pattern's word is spelt so
+abbrev pub IsSpelt : Kind → List ℕ → Type 0
+IsSpelt Quoted word = Spells Quoted word
+IsSpelt Pattern word = Spells Pattern word
+IsSpelt Plain word = ⊤
+IsSpelt Qual word = ⊤
+IsSpelt Colon word = ⊤
+IsSpelt Equals word = ⊤
+IsSpelt SquareIn word = ⊤
+IsSpelt SquareOut word = ⊤
+IsSpelt Angle word = ⊤
+IsSpelt AngleSlash word = ⊤
+IsSpelt AngleEnd word = ⊤
+IsSpelt SlashEnd word = ⊤
+IsSpelt End word = ⊤
+IsSpelt Bad word = ⊤
 
 -- the piece is regular exactly where it is a pattern that has a regular expression
 pub record IsPiece (token : Lexeme) (piece : Piece) : Type 0 where

@@ -4,14 +4,22 @@
 //! productions. Reading gives the sheet, or the place of the first token that no sheet has there.
 #![tactic(auto)]
 
+mod elements;
 mod item;
 mod piece;
+mod pieces;
+mod places;
+mod reader;
+mod regular;
 mod sheet;
+mod state;
 mod unit;
+mod units;
 mod x_item;
 
 pub use item::{Item, Items};
 pub use piece::Piece;
+pub use reader::{SheetFault, read_sheet};
 pub use sheet::Sheet;
 pub use unit::{Unit, Units};
 pub use x_item::{Attr, Attrs, XItem, XItems};

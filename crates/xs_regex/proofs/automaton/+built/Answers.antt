@@ -2,7 +2,7 @@ use Rattle.std.proofs.Common.{◌≡◌, ℕ}
 use Rattle.xs_regex.proofs.Built.{class_is, then_is, either_is, star_is}
 use Rattle.xs_regex.specs.Size.{copies}
 use Rattle.xs_regex.proofs.Copies.{times_is}
-use Rattle.xs_regex.proofs.Sets.{ok_weaker, both_small, copies_small}
+use Rattle.xs_regex.proofs.Places.{ok_weaker, both_small, copies_small}
 use Rattle.xs_regex.proofs.automaton.+built.Goals as goal
 
 pub sequence-requires-clause-small : goal.sequence-requires-clause-small

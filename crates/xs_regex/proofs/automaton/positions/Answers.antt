@@ -1,4 +1,4 @@
-use Rattle.xs_regex.proofs.Sets.{size_is, members_are}
+use Rattle.xs_regex.proofs.Places.{size_is, members_are}
 use Rattle.xs_regex.proofs.automaton.positions.Goals as goal
 
 pub returns-clause-size : goal.returns-clause-size

@@ -1,0 +1,5 @@
+pub mod Words
+pub mod Freedom
+pub mod Weights
+pub mod Acceptance
+pub mod Laws

@@ -1,0 +1,51 @@
+-- Weights of items, components, parts and rules: how many states their loose words take.
+use Rattle.std.specs.Prelude.{◌≡◌, ℕ, zero, suc, ◌+◌, ◌*◌, min, List, [], ◌∷◌, length}
+use Rattle.xs_regex.specs.Size.{size}
+use Rattle.xs_gram.specs.declared.parts.GItem.{GItem}
+use Rattle.xs_gram.specs.declared.parts.GItem.TheVariants.{Fixed, Term, Non, Skip}
+use Rattle.xs_gram.specs.Grammar.{Grammar, rule_of, term_of, skip_of, items}
+use Rattle.xs_gram.specs.Loose.{AreOne, IsMember}
+
+-- every sum above 1,000,000 counts as 1,000,000
+abbrev pub capped : ℕ → ℕ
+capped n = min n 1000000
+
+-- of the first so many nonterminals so many are members of the component of c
+pub data Members (g : Grammar) (c : ℕ) : ℕ → ℕ → Type 0 where
+  no_member : Members g c zero zero
+  member_next : {n k : ℕ} → AreOne g c n → Members g c n k → Members g c (suc n) (suc k)
+  other_next : {n k : ℕ} → (AreOne g c n → ⊥) → Members g c n k → Members g c (suc n) k
+
+-- A fixed word weighs its length, a terminal or an ignorable 1 more than its regex's size, a nonterminal
+-- what its component does: 2 for each member, and for each rule of a member 1 and its items, where an
+-- item that is a member counts 1 and any other its weight.
+mutual
+  pub data ItemWeighs (g : Grammar) : GItem → ℕ → Type 0 where
+    fixed_weighs : {f : List ℕ} {w : ℕ} → w ≡ length f → ItemWeighs g (Fixed f) w
+    term_weighs : {t s w : ℕ} → w ≡ suc (size (term_of g t).regex) → ItemWeighs g (Term t s) w
+    skip_weighs : {k w : ℕ} → w ≡ suc (size (skip_of g k).regex) → ItemWeighs g (Skip k) w
+    non_weighs : {n s w : ℕ} → ComponentWeighs g n w → ItemWeighs g (Non n s) w
+
+  pub data ComponentWeighs (g : Grammar) : ℕ → ℕ → Type 0 where
+    component_weighs : {c members rules w : ℕ} → Members g c g.nons members → RulesWeigh g c (length g.rules) rules → w ≡ capped (2 * members + rules) → ComponentWeighs g c w
+
+  -- those of the first so many rules that are of members of the component of c
+  pub data RulesWeigh (g : Grammar) : ℕ → ℕ → ℕ → Type 0 where
+    no_rule_yet : {c : ℕ} → RulesWeigh g c zero zero
+    rule_of_member : {c p body before w : ℕ} → AreOne g c (rule_of g p).non → BodyWeighs g c (items g p) body → RulesWeigh g c p before → w ≡ capped (before + suc body) → RulesWeigh g c (suc p) w
+    rule_of_other : {c p w : ℕ} → (AreOne g c (rule_of g p).non → ⊥) → RulesWeigh g c p w → RulesWeigh g c (suc p) w
+
+  -- the items of such a rule
+  pub data BodyWeighs (g : Grammar) : ℕ → List GItem → ℕ → Type 0 where
+    no_body : {c : ℕ} → BodyWeighs g c [] zero
+    member_then : {c rest w : ℕ} {i : GItem} {is : List GItem} → IsMember g c i → BodyWeighs g c is rest → w ≡ capped (suc rest) → BodyWeighs g c (i ∷ is) w
+    other_then : {c own rest w : ℕ} {i : GItem} {is : List GItem} → (IsMember g c i → ⊥) → ItemWeighs g i own → BodyWeighs g c is rest → w ≡ capped (own + rest) → BodyWeighs g c (i ∷ is) w
+
+-- a part of a rule weighs what its items do
+pub data PartWeighs (g : Grammar) : List GItem → ℕ → Type 0 where
+  no_part : PartWeighs g [] zero
+  part_then : {own rest w : ℕ} {i : GItem} {is : List GItem} → ItemWeighs g i own → PartWeighs g is rest → w ≡ capped (own + rest) → PartWeighs g (i ∷ is) w
+
+-- a rule weighs 1 more than all its items
+abbrev pub RuleWeighs : Grammar → ℕ → ℕ → Type 0
+RuleWeighs g p w = (v : ℕ) × PartWeighs g (items g p) v × (w ≡ capped (suc v))

@@ -1,0 +1,15 @@
+//! What the check of ambiguity accepts, and the laws on which it stands, over grammars alone.
+//!
+//! specs/ has the weights of parts and rules, acceptance, and which answer comes first where a sheet
+//! is refused. The laws: what any derivation spells is loose, stretch by stretch; where no word is
+//! loose for two rules of one nonterminal, and none can be cut at two places of a rule, each word has
+//! at most one derivation; and a part has one weight. They ask only that it is decided of each two
+//! nonterminals whether they are of one component.
+#![tactic(auto)]
+
+mod laws;
+
+pub use laws::{
+    accepted_is_unique, decided_in_range, no_suspect_is_unique, weights_are_exact,
+    words_are_the_yield, yields_are_loose,
+};

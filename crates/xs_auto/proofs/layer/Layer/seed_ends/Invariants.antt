@@ -1,0 +1,11 @@
+use Rattle.std.proofs.Common.{◌≡◌}
+use Rattle.xs_auto.specs.Searches.{Fits, Extends, EndsFirst}
+use Rattle.xs_auto.proofs.SeedLemmas.{Below}
+use Rattle.xs_auto.proofs.layer.Layer.seed_ends.Given as goal
+
+abbrev pub invariant-places : goal.invariant-places
+invariant-places l = record {
+  cells : l.pairs.cells ≡ l.initial.pairs.cells;
+  fits : Fits l.self l.pairs;
+  more : Extends (Below l.place (EndsFirst l.net l.start l.steps)) l.initial.self l.self;
+}

@@ -1,0 +1,6 @@
+pub mod Bits
+pub mod Marks
+pub mod Nets
+pub mod Searches
+pub mod Shared
+pub mod Traces

@@ -1,0 +1,94 @@
+-- What a net is, what it accepts, and how it grows.
+use Rattle.std.specs.Prelude.{◌≡◌, ◌≢◌, ℕ, suc, ◌<◌, ◌^◌, Bool, true, false, List, [], ◌∷◌, ◌++◌, length, get_or, Option, Some, IfSome}
+use Rattle.std.specs.List.{All, Contains}
+use Rattle.xs_class.specs.Classes.{Has}
+use Rattle.xs_auto.specs.declared.edge.Edge.{Edge}
+
+-- a state: whether it is final, and where it leads to by edges and by empty moves
+pub record Node : Type 0 where
+  pub final : Bool
+  pub edges : List Edge
+  pub moves : List ℕ
+
+-- a net: the state to begin from, if it was set, and the states by their numbers
+pub record Graph : Type 0 where
+  pub start : Option ℕ
+  pub nodes : List Node
+
+-- a state that leads nowhere and is not final
+abbrev pub bare : Node
+bare = record { final = false; edges = []; moves = [] }
+
+-- the number of states
+abbrev pub states : Graph → ℕ
+states n = length n.nodes
+
+-- whether the state is final; a state that there is not is as a bare one
+abbrev pub final_at : Graph → ℕ → Bool
+final_at n a = (get_or n.nodes a bare).final
+
+-- the edges of the state
+abbrev pub edges_of : Graph → ℕ → List Edge
+edges_of n a = (get_or n.nodes a bare).edges
+
+-- the targets of the state's empty moves
+abbrev pub moves_of : Graph → ℕ → List ℕ
+moves_of n a = (get_or n.nodes a bare).moves
+
+-- a path from a state to another reads a word: by edges whose class has the symbol, and by empty moves
+pub data Walks (n : Graph) : ℕ → List ℕ → ℕ → Type 0 where
+  rests : {a : ℕ} → Walks n a [] a
+  passes : {a b c : ℕ} {w : List ℕ} → Contains (moves_of n a) b → Walks n b w c → Walks n a w c
+  reads : {a c s : ℕ} {w : List ℕ} (e : Edge) → Contains (edges_of n a) e → Has e.class s → Walks n e.to w c → Walks n a (s ∷ w) c
+
+-- a path from the start to a final state reads the word
+pub record Accepts (n : Graph) (w : List ℕ) : Type 0 where
+  pub first : ℕ
+  pub last : ℕ
+  pub starts : n.start ≡ Some first
+  pub walks : Walks n first w last
+  pub final : final_at n last ≡ true
+
+-- each state that is named exists
+pub record IsSound (n : Graph) : Type 0 where
+  pub few : states n < 2 ^ 32
+  pub start : IfSome n.start (λ a. a < states n)
+  pub edges : (a : ℕ) → All (λ e. e.to < states n) (edges_of n a)
+  pub moves : (a : ℕ) → All (λ b. b < states n) (moves_of n a)
+
+-- all but the edges and the moves is the same
+pub record KeepsStates (old new : Graph) : Type 0 where
+  pub states : states new ≡ states old
+  pub start : new.start ≡ old.start
+  pub finals : (i : ℕ) → final_at new i ≡ final_at old i
+
+-- one bare state more, behind all others
+pub record AddsState (old new : Graph) : Type 0 where
+  pub states : states new ≡ suc (states old)
+  pub start : new.start ≡ old.start
+  pub finals : (i : ℕ) → final_at new i ≡ final_at old i
+  pub edges : (i : ℕ) → edges_of new i ≡ edges_of old i
+  pub moves : (i : ℕ) → moves_of new i ≡ moves_of old i
+
+-- one edge more from state a, behind its others
+pub record AddsEdge (old new : Graph) (a : ℕ) (e : Edge) : Type 0 where
+  pub keeps : KeepsStates old new
+  pub edges : edges_of new a ≡ edges_of old a ++ e ∷ []
+  pub others : (i : ℕ) → i ≢ a → edges_of new i ≡ edges_of old i
+  pub moves : (i : ℕ) → moves_of new i ≡ moves_of old i
+
+-- one empty move more from state a to b, behind its others
+pub record AddsMove (old new : Graph) (a b : ℕ) : Type 0 where
+  pub keeps : KeepsStates old new
+  pub edges : (i : ℕ) → edges_of new i ≡ edges_of old i
+  pub moves : moves_of new a ≡ moves_of old a ++ b ∷ []
+  pub others : (i : ℕ) → i ≢ a → moves_of new i ≡ moves_of old i
+
+-- state a is final now
+pub record SetsFinal (old new : Graph) (a : ℕ) : Type 0 where
+  pub states : states new ≡ states old
+  pub start : new.start ≡ old.start
+  pub final : final_at new a ≡ true
+  pub others : (i : ℕ) → i ≢ a → final_at new i ≡ final_at old i
+  pub edges : (i : ℕ) → edges_of new i ≡ edges_of old i
+  pub moves : (i : ℕ) → moves_of new i ≡ moves_of old i

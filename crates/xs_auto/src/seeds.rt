@@ -1,0 +1,62 @@
+ghost use Rattle.std.specs.Prelude.{◌≡◌, ◌<◌, OnOk};
+ghost use Rattle.xs_auto.specs.Nets.{states};
+ghost use Rattle.xs_auto.specs.Searches.{Fits, Extends, IsFor, InNets, InStates, EndsFirst, CrossesFrom};
+
+use crate::layer::Layer;
+use crate::step::Step;
+use crate::{Net, Pairs};
+use xs_class::Memory;
+
+impl Layer {
+    /// Visits, for each step of another layer whose first state is final, the pair of its second
+    /// state and the start.
+    pub fn seed_ends(
+        &mut self,
+        pairs: &mut Pairs,
+        steps: &[Step],
+        net: &Net,
+        start: u32,
+    ) -> Result<(), Memory>
+        requires fits { Fits self.old pairs.old }
+        requires range { InStates (states net.now) self.old.height steps.now }
+        requires start { start < self.old.width }
+        ensures cells { pairs.new.cells ≡ pairs.old.cells }
+        ensures fits { OnOk result (Fits self.new pairs.new) }
+        ensures ok { OnOk result (Extends (EndsFirst net.now start steps.now) self.old self.new) }
+    {
+        'places: for place in 0..steps.len() {
+            let end = steps[place];
+            if net.is_final(end.first) {
+                let seed = Step {
+                    first: end.second,
+                    second: start,
+                    from: place,
+                };
+                self.visit(pairs, seed)?;
+            }
+        }
+        Ok(())
+    }
+
+    /// Visits the pairs to which edges of both nets lead from the steps of another layer.
+    pub fn seed_crossings(
+        &mut self,
+        pairs: &mut Pairs,
+        steps: &[Step],
+        first: &Net,
+        second: &Net,
+    ) -> Result<(), Memory>
+        requires nets { IsFor first.now second.now self.old }
+        requires fits { Fits self.old pairs.old }
+        requires range { InNets first.now second.now steps.now }
+        ensures cells { pairs.new.cells ≡ pairs.old.cells }
+        ensures fits { OnOk result (Fits self.new pairs.new) }
+        ensures ok { OnOk result (Extends (CrossesFrom first.now second.now steps.now) self.old self.new) }
+    {
+        'places: for place in 0..steps.len() {
+            let at = steps[place];
+            self.visit_boths(pairs, first.edges(at.first), second.edges(at.second), place)?;
+        }
+        Ok(())
+    }
+}

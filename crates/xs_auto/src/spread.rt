@@ -1,0 +1,97 @@
+ghost use Rattle.std.specs.Prelude.{◌≡◌, ◌<◌, OnOk};
+ghost use Rattle.xs_auto.specs.Nets.{states};
+ghost use Rattle.xs_auto.specs.Searches.{Fits, Extends, IsFor, DriftsFrom, LeadsFrom, Closes, ClosesDrifts};
+
+use crate::layer::Layer;
+use crate::step::Step;
+use crate::{Net, Pairs};
+use xs_class::Memory;
+
+impl Layer {
+    /// Visits the pairs to which an empty move of either net leads from a pair.
+    fn drift(
+        &mut self,
+        pairs: &mut Pairs,
+        first: &Net,
+        second: &Net,
+        at: Step,
+        from: usize,
+    ) -> Result<(), Memory>
+        requires nets { IsFor first.now second.now self.old }
+        requires fits { Fits self.old pairs.old }
+        requires first { at.first < states first.now }
+        requires second { at.second < states second.now }
+        ensures cells { pairs.new.cells ≡ pairs.old.cells }
+        ensures fits { OnOk result (Fits self.new pairs.new) }
+        ensures ok { OnOk result (Extends (DriftsFrom first.now second.now at.first at.second from) self.old self.new) }
+    {
+        self.visit_firsts(pairs, first.moves(at.first), at.second, from)?;
+        self.visit_seconds(pairs, at.first, second.moves(at.second), from)?;
+        Ok(())
+    }
+
+    /// Visits the pairs to which an empty move, or edges of both nets, lead from a pair.
+    fn expand(
+        &mut self,
+        pairs: &mut Pairs,
+        first: &Net,
+        second: &Net,
+        at: Step,
+        from: usize,
+    ) -> Result<(), Memory>
+        requires nets { IsFor first.now second.now self.old }
+        requires fits { Fits self.old pairs.old }
+        requires first { at.first < states first.now }
+        requires second { at.second < states second.now }
+        ensures cells { pairs.new.cells ≡ pairs.old.cells }
+        ensures fits { OnOk result (Fits self.new pairs.new) }
+        ensures ok { OnOk result (Extends (LeadsFrom first.now second.now at.first at.second from) self.old self.new) }
+    {
+        self.drift(pairs, first, second, at, from)?;
+        self.visit_boths(pairs, first.edges(at.first), second.edges(at.second), from)?;
+        Ok(())
+    }
+
+    /// Adds all pairs to which the steps lead, each with the place of the step that led there.
+    pub fn close(&mut self, pairs: &mut Pairs, first: &Net, second: &Net) -> Result<(), Memory>
+        requires nets { IsFor first.now second.now self.old }
+        requires fits { Fits self.old pairs.old }
+        ensures cells { pairs.new.cells ≡ pairs.old.cells }
+        ensures fits { OnOk result (Fits self.new pairs.new) }
+        ensures ok { OnOk result (Closes first.now second.now self.old self.new) }
+    {
+        self.seeds = self.steps.len();
+        'places: for place in 0..usize::MAX {
+            if place >= self.steps.len() {
+                return Ok(());
+            }
+            let at = self.steps[place];
+            self.expand(pairs, first, second, at, place)?;
+        }
+        Ok(())
+    }
+
+    /// Adds all pairs to which the steps lead by empty moves alone, each with the origin of the
+    /// step that led there.
+    pub fn close_drifts(
+        &mut self,
+        pairs: &mut Pairs,
+        first: &Net,
+        second: &Net,
+    ) -> Result<(), Memory>
+        requires nets { IsFor first.now second.now self.old }
+        requires fits { Fits self.old pairs.old }
+        ensures cells { pairs.new.cells ≡ pairs.old.cells }
+        ensures fits { OnOk result (Fits self.new pairs.new) }
+        ensures ok { OnOk result (ClosesDrifts first.now second.now self.old self.new) }
+    {
+        'places: for place in 0..usize::MAX {
+            if place >= self.steps.len() {
+                return Ok(());
+            }
+            let at = self.steps[place];
+            self.drift(pairs, first, second, at, at.from)?;
+        }
+        Ok(())
+    }
+}

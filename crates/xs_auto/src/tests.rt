@@ -1,0 +1,83 @@
+//! Small nets with known answers.
+ghost use Rattle.std.specs.Prelude.{◌≡◌, IsSome, IfOk};
+ghost use Rattle.xs_auto.specs.Nets.{states};
+
+use crate::{Net, Overlap, Pairs, meet_word, overlap_word};
+use std::alloc::Global;
+use std::test::Fail;
+use xs_class::{Class, Memory, Word};
+
+/// A net that accepts one or more symbols of a range, by an edge and an empty move back.
+fn run_of(alloc: Global, range: (u32, u32)) -> Result<Net, Memory>
+    ensures start { IfOk result (λ n. IsSome n.start) }
+    ensures two { IfOk result (λ n. states n ≡ 2) }
+{
+    let class = Class::from_ranges(alloc, &[range])?;
+    let mut net = Net::new(alloc)?;
+    let first = net.state()?;
+    let last = net.state()?;
+    net.edge(first, &class, last)?;
+    net.pass(last, first)?;
+    net.set_start(first);
+    net.set_final(last)?;
+    Ok(net)
+}
+
+fn shared(alloc: Global, first: (u32, u32), second: (u32, u32)) -> Result<Option<Word>, Memory> {
+    let first = run_of(alloc, first)?;
+    let second = run_of(alloc, second)?;
+    let mut pairs = Pairs::with_room(alloc, 4)?;
+    meet_word(alloc, &first, &second, &mut pairs)
+}
+
+fn overlapping(
+    alloc: Global,
+    front: (u32, u32),
+    rest: (u32, u32),
+) -> Result<Option<Overlap>, Memory> {
+    let front = run_of(alloc, front)?;
+    let rest = run_of(alloc, rest)?;
+    let mut pairs = Pairs::with_room(alloc, 4)?;
+    overlap_word(alloc, &front, &rest, &mut pairs)
+}
+
+/// The number of a word's only symbol, or 0 where it has none or more.
+fn only(word: &Word) -> u32 {
+    if word.len() == 1 {
+        word.at(0).number()
+    } else {
+        0
+    }
+}
+
+#[test]
+fn the_least_common_symbol_is_shared(rt: HostRuntime) -> Result<(), Fail> {
+    for (first, second, wanted) in [
+        ((97, 122), (109, 113), 109),
+        ((97, 102), (102, 107), 102),
+        ((97, 99), (100, 102), 0),
+    ] {
+        match shared(rt.alloc(), first, second)? {
+            Some(word) => assert_eq!(rt; only(&word), wanted),
+            None => assert_eq!(rt; 0, wanted),
+        }
+    }
+    Ok(())
+}
+
+#[test]
+fn runs_overlap_where_their_ranges_meet(rt: HostRuntime) -> Result<(), Fail> {
+    for (front, rest, wanted) in [
+        ((97, 122), (97, 122), (97, 97, 97)),
+        ((97, 99), (99, 102), (97, 99, 99)),
+        ((97, 99), (100, 102), (0, 0, 0)),
+    ] {
+        match overlapping(rt.alloc(), front, rest)? {
+            Some(words) => {
+                assert_eq!(rt; (only(&words.x), only(&words.a), only(&words.y)), wanted);
+            }
+            None => assert_eq!(rt; (0, 0, 0), wanted),
+        }
+    }
+    Ok(())
+}

@@ -1,0 +1,13 @@
+pub mod Words
+pub mod Spelling
+pub mod Standing
+pub mod Completeness
+pub mod Recognising
+pub mod Language
+pub mod Fillings
+pub mod Fronts
+pub mod Numbers
+pub mod Charts
+pub mod Steps
+pub mod Settling
+pub mod Reaching

@@ -1,0 +1,5 @@
+pub mod Reading
+pub mod Closed
+pub mod Steps
+pub mod Charts
+pub mod Laws

@@ -1,0 +1,42 @@
+ghost use Rattle.std.specs.Prelude.{◌≡◌, ℕ, IfOk, IfErr};
+ghost use Rattle.xs_regex.specs.Meaning.{Means};
+ghost use Rattle.xs_regex.specs.Pattern as pattern;
+ghost use Rattle.xs_regex.specs.Pattern.{Tree};
+
+use crate::Regex;
+use std::alloc::Global;
+use xs_class::Memory;
+
+/// One regex and then another.
+pub fn both(alloc: Global, a: Regex, b: Regex) -> Result<Regex, Memory>
+    ensures { IfOk result (λ r. (t u : Tree) → Means t a → Means u b → Means (pattern.both t u) r) }
+{
+    let first = Box::new(alloc, a)?;
+    let second = Box::new(alloc, b)?;
+    Ok(Regex::Then(first, second))
+}
+
+/// One regex or another.
+pub fn either(alloc: Global, a: Regex, b: Regex) -> Result<Regex, Memory>
+    ensures { IfOk result (λ r. (t u : Tree) → Means t a → Means u b → Means (pattern.either t u) r) }
+{
+    let first = Box::new(alloc, a)?;
+    let second = Box::new(alloc, b)?;
+    Ok(Regex::Or(first, second))
+}
+
+/// A regex any number of times.
+pub fn any(alloc: Global, a: Regex) -> Result<Regex, Memory>
+    ensures { IfOk result (λ r. (t : Tree) → Means t a → Means (pattern.any t) r) }
+{
+    let inner = Box::new(alloc, a)?;
+    Ok(Regex::Star(inner))
+}
+
+/// A regex as often as the counts allow.
+pub fn times(alloc: Global, a: Regex, least: u32, most: Option<u32>) -> Result<Regex, Memory>
+    ensures { IfOk result (λ r. (t : Tree) → Means t a → Means (pattern.times t least most) r) }
+{
+    let inner = Box::new(alloc, a)?;
+    Ok(Regex::Times(inner, least, most))
+}

@@ -1,0 +1,191 @@
+ghost use Rattle.std.specs.Prelude.{◌≡◌, ◌↔◌, ℕ, length, IfOk};
+ghost use Rattle.xs_class.specs.Classes.{Has, HaveSame};
+ghost use Rattle.xs_class.specs.Named.{set_named, HasMembersOf};
+ghost use Rattle.xs_class.specs.Tables.{IsChar, char_table};
+ghost use Rattle.xs_regex.specs.Characters.{known, known_item, items_at, sorted, bracket_at, one_at, one_set, set_at};
+ghost use Rattle.xs_regex.specs.Characters as spec;
+ghost use Rattle.xs_regex.specs.Meaning.{IsOfItem, IsOfItems, IsClassOf};
+ghost use Rattle.xs_regex.specs.Pieces.{item_of};
+ghost use Rattle.xs_regex.specs.Told.{IsTold, Adds};
+
+use crate::RegexFault;
+use crate::characters::{Piece, item, next, one};
+use std::alloc::Global;
+use xs_class::{Class, Memory, NameFault, Text};
+
+/// The class that a name stands for.
+fn class_named(alloc: Global, letters: &[char]) -> Result<Class, RegexFault>
+    ensures { IsTold (set_named letters.now) (λ set class. HasMembersOf class set) result }
+{
+    let text = text_of(alloc, letters)?;
+    match Class::named(alloc, text.as_str()) {
+        Ok(class) => Ok(class),
+        Err(NameFault::NoSuchClass) => Err(RegexFault::BadRegex),
+        Err(NameFault::Memory) => Err(RegexFault::Memory),
+    }
+}
+
+fn text_of(alloc: Global, letters: &[char]) -> Result<Text, Memory>
+    ensures { IfOk result (λ t. t ≡ letters.now) }
+{
+    let mut text = Text::new(alloc);
+    for c in letters {
+        text.push(*c)?;
+    }
+    Ok(text)
+}
+
+/// Adds the characters of an item.
+fn add(alloc: Global, piece: Piece, into: &mut Vec<(u32, u32)>) -> Result<(), RegexFault>
+    ensures { IsTold (known (item_of piece.entry)) (λ a x. Adds into.old.items into.new.items (IsOfItem a)) result }
+{
+    match piece {
+        Piece::Span(low, high) => {
+            into.push((low, high))?;
+            Ok(())
+        }
+        Piece::Named(letters) => match class_named(alloc, letters) {
+            Ok(class) => {
+                into.extend_from_slice(class.ranges())?;
+                Ok(())
+            }
+            Err(fault) => Err(fault),
+        },
+    }
+}
+
+/// Adds the characters of the items up to a closing bracket, and tells what is left behind it.
+fn items<'a>(
+    alloc: Global,
+    steps: usize,
+    cs: &'a [char],
+    into: &mut Vec<(u32, u32)>,
+) -> Result<&'a [char], RegexFault>
+    ensures { IsTold (items_at steps cs.now) (λ a x. (a.1 ≡ x.now) × Adds into.old.items into.new.items (IsOfItems a.0)) result }
+{
+    if steps == 0 {
+        return Err(RegexFault::BadRegex);
+    }
+    let Some((piece, left)) = item(cs) else {
+        return Err(RegexFault::BadRegex);
+    };
+    match add(alloc, piece, into) {
+        Ok(()) => {}
+        Err(fault) => return Err(fault),
+    }
+    let Some((c, rest)) = next(left) else {
+        return Err(RegexFault::BadRegex);
+    };
+    if c == ']' {
+        return Ok(rest);
+    }
+    items(alloc, steps - 1, left, into)
+}
+
+/// All characters of XML.
+fn characters(alloc: Global) -> Result<Class, Memory>
+    ensures { IfOk result (λ c. HaveSame c char_table) }
+{
+    Class::from_ranges(
+        alloc,
+        &[
+            (0x9, 0x9),
+            (0xA, 0xA),
+            (0xD, 0xD),
+            (0x20, 0xD7FF),
+            (0xE000, 0xFFFD),
+            (0x10000, 0x10FFFF),
+        ],
+    )
+}
+
+/// The characters of XML that are in the ranges.
+fn among(alloc: Global, ranges: &[(u32, u32)]) -> Result<Class, Memory>
+    ensures { IfOk result (λ c. (s : ℕ) → Has c s ↔ (IsChar s × Has ranges.now s)) }
+{
+    let all = characters(alloc)?;
+    let some = Class::from_ranges(alloc, ranges)?;
+    let class = all.meet(&some)?;
+    Ok(class)
+}
+
+/// The characters of XML that are not in the ranges.
+fn apart(alloc: Global, ranges: &[(u32, u32)]) -> Result<Class, Memory>
+    ensures { IfOk result (λ c. (s : ℕ) → Has c s ↔ (IsChar s × (¬ (Has ranges.now s)))) }
+{
+    let all = characters(alloc)?;
+    let some = Class::from_ranges(alloc, ranges)?;
+    let class = all.without(&some)?;
+    Ok(class)
+}
+
+/// The characters of the items up to a closing bracket, and what is left behind it.
+fn some_of(alloc: Global, cs: &[char]) -> Result<(Class, &[char]), RegexFault>
+    ensures { IsTold (sorted spec.some_of (items_at (length cs.now) cs.now)) (λ a x. (a.1 ≡ x.1.now) × IsClassOf a.0 x.0) result }
+{
+    let mut ranges = Vec::new(alloc);
+    match items(alloc, cs.len(), cs, &mut ranges) {
+        Ok(left) => {
+            let class = among(alloc, &ranges)?;
+            Ok((class, left))
+        }
+        Err(fault) => Err(fault),
+    }
+}
+
+/// The characters of none of the items up to a closing bracket, and what is left behind it.
+fn none_of(alloc: Global, cs: &[char]) -> Result<(Class, &[char]), RegexFault>
+    ensures { IsTold (sorted spec.none_of (items_at (length cs.now) cs.now)) (λ a x. (a.1 ≡ x.1.now) × IsClassOf a.0 x.0) result }
+{
+    let mut ranges = Vec::new(alloc);
+    match items(alloc, cs.len(), cs, &mut ranges) {
+        Ok(left) => {
+            let class = apart(alloc, &ranges)?;
+            Ok((class, left))
+        }
+        Err(fault) => Err(fault),
+    }
+}
+
+/// The characters of one item outside brackets, and what is left.
+fn single(alloc: Global, cs: &[char]) -> Result<(Class, &[char]), RegexFault>
+    ensures { IsTold (one_set (known_item (one_at cs.now))) (λ a x. (a.1 ≡ x.1.now) × IsClassOf a.0 x.0) result }
+{
+    let Some((piece, left)) = one(cs) else {
+        return Err(RegexFault::BadRegex);
+    };
+    let mut ranges = Vec::new(alloc);
+    match add(alloc, piece, &mut ranges) {
+        Ok(()) => {
+            let class = among(alloc, &ranges)?;
+            Ok((class, left))
+        }
+        Err(fault) => Err(fault),
+    }
+}
+
+/// A set of characters, and what is left behind it.
+pub fn set(alloc: Global, cs: &[char]) -> Result<(Class, &[char]), RegexFault>
+    ensures { IsTold (set_at cs.now) (λ a x. (a.1 ≡ x.1.now) × IsClassOf a.0 x.0) result }
+{
+    let Some((c, rest)) = next(cs) else {
+        return Err(RegexFault::BadRegex);
+    };
+    if c == '[' {
+        return bracket(alloc, rest);
+    }
+    if c == '.' {
+        let class = apart(alloc, &[])?;
+        return Ok((class, rest));
+    }
+    single(alloc, cs)
+}
+
+fn bracket(alloc: Global, cs: &[char]) -> Result<(Class, &[char]), RegexFault>
+    ensures { IsTold (bracket_at cs.now) (λ a x. (a.1 ≡ x.1.now) × IsClassOf a.0 x.0) result }
+{
+    let Some((c, rest)) = next(cs) else {
+        return Err(RegexFault::BadRegex);
+    };
+    if c == '^' { none_of(alloc, rest) } else { some_of(alloc, cs) }
+}

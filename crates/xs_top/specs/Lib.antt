@@ -1,0 +1,4 @@
+pub mod Command
+pub mod Devices
+pub mod Turning
+pub mod Ran

@@ -1,0 +1,15 @@
+pub mod Read
+pub mod All
+pub mod Once
+pub mod Root
+pub mod Grows
+pub mod Adding
+pub mod Below
+pub mod Placed
+pub mod Whole
+pub mod Number
+pub mod First
+pub mod Listing
+pub mod Walk
+pub mod Tails
+pub mod Counts

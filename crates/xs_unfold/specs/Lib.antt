@@ -1,0 +1,10 @@
+pub mod Forest
+pub mod Grown
+pub mod Adding
+pub mod Order
+pub mod Placed
+pub mod First
+pub mod Number
+pub mod Listing
+pub mod Walk
+pub mod Laws
