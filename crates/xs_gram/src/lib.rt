@@ -1,9 +1,10 @@
 //! Grammars: one side of a sheet as rules of items, and what its words, derivations, common trees,
 //! prints and chart items are.
 //!
-//! The definitions stand in specs/, in the order Grammar, Derivations, Common, Languages, Chart. Two
-//! laws tie them: what is printed of a derivation's tree is its yield in normal form, and what is
-//! printed of a tree has that tree.
+//! `Gram::build` gives the grammar of parts that a grammar can be built of, with the automaton of each
+//! regex and the list of its places. The definitions stand in specs/, in the order Grammar,
+//! Derivations, Common, Languages, Chart, Building. Two laws tie them: what is printed of a
+//! derivation's tree is its yield in normal form, and what is printed of a tree has that tree.
 #![tactic(auto)]
 
 mod automata;
@@ -19,3 +20,6 @@ pub use parts::{
     GItem, GItems, GramParts, Ignorable, Regexes, RulePart, Rules, SkipPart, Skips, Terminal,
 };
 pub use places::Place;
+
+#[cfg(test)]
+mod tests;
