@@ -4,7 +4,10 @@ use Rattle.std.specs.Str.{chars}
 use Rattle.xs_class.specs.Ordered.{IsOrdered, AreNamesOf}
 use Rattle.xs_pair_sheet.proofs.Ordered.{ordered_same}
 use Rattle.std.proofs.lemmas.Bool.Decides.{nat_tests}
-use Rattle.xs_piece.specs.Tables.{is_char}
+use Rattle.xs_piece.specs.Tables.{is_char, is_name_start}
+use Rattle.xs_piece.specs.Reads.{Reads}
+use Rattle.xs_xml_out.specs.Laws.{AreNames, IsReadBack, IsDecoded}
+use Rattle.xs_xml_out.specs.Written.{xml_bytes}
 use Rattle.xs_gram.specs.Common.{Common, strip, print}
 use Rattle.xs_gram.specs.Languages.{HasTree}
 use Rattle.xs_xml_out.specs.Balanced.{IsBalanced, IsContent, nothing, text, element}
@@ -48,7 +51,7 @@ turned_balanced doc w (t, has, is) =
     subst (λ v. IsBalanced pair_names v) (sym (is ∙ ap (λ s. print pair_xml s) t_is ∙ prints a b)) (digits_balanced a b (digit_is_char a first) (digit_is_char b second))
 
 -- the names in their order
-pair_ordered : IsOrdered pair_names
+pub pair_ordered : IsOrdered pair_names
 unfolding lib.Utf8.encode
 pair_ordered zero zero d lt le = absurd (omega arith)
 pair_ordered zero (suc zero) d lt le = refl
@@ -84,3 +87,16 @@ one_x = refl
 pub one_y : chars (codes "y") ≡ codes "y"
 unfolding chars
 one_y = refl
+
+-- each of them is a Name of XML
+pub pair_named : AreNames pair_names
+unfolding is_name_start
+pair_named zero d lt = refl
+pair_named (suc zero) d lt = refl
+pair_named (suc (suc zero)) d lt = refl
+pair_named (suc (suc (suc k))) d lt = absurd (omega arith)
+
+-- the document that is written for a balanced word reads as it
+pub document_reads : IsReadBack → IsDecoded → (word bytes : List ℕ) → IsBalanced pair_names word → bytes ≡ xml_bytes pair_names word → Reads pair_names (chars bytes) word
+document_reads read_back decoded word bytes balanced is =
+    subst (λ (d : List ℕ). Reads pair_names d word) (sym (ap chars is ∙ decoded pair_names word pair_named balanced)) (read_back pair_names word pair_ordered pair_named balanced)

@@ -4,6 +4,8 @@
 #![tactic(auto)]
 
 ghost use Rattle.std.specs.Prelude.{◌≡◌, ◌↔◌, ℕ, List, [], ◌∷◌, IsTrue, IfOk, IfErr};
+ghost use Rattle.std.specs.Str.{chars};
+ghost use Rattle.xs_piece.specs.Reads.{Reads};
 ghost use Rattle.xs_xml_out.specs.Written.{xml_bytes};
 ghost use Rattle.xs_gram.specs.Languages.{IsUnique};
 ghost use Rattle.xs_pair_sheet.specs.PairSheet.{pair_sheet, pair_text, pair_names};
@@ -12,7 +14,7 @@ ghost use Rattle.xs_pair_sheet.specs.Laws.{IsTurned, IsFault};
 
 use std::alloc::Global;
 use xs_class::{Bytes, Memory, Names, Sym, Text, Word};
-use xs_xml_out::write_xml;
+use xs_xml_out::{write_xml, xml_is_read_back};
 
 const PAIR_SHEET: &str =
     "xsugar-1\nstart s\nterminal d = /[0-9]/\ns : \"(\" [d a] \",\" [d b] \")\" = <p><y>[d b]</y><x>[d a]</x></p>\n";
@@ -118,12 +120,14 @@ fn names(alloc: Global) -> Result<Names, Memory>
     Ok(names)
 }
 
-/// The XML document of the XML side's word of a text.
+/// The XML document of the XML side's word of a text, which reads as that word.
 pub fn pair_document(alloc: Global, word: &Word) -> Result<Bytes, Memory>
     requires { (doc : List ℕ) × IsTurned doc word.now }
-    ensures { IfOk result (λ bytes. bytes ≡ xml_bytes pair_names word.now) }
+    ensures written { IfOk result (λ bytes. bytes ≡ xml_bytes pair_names word.now) }
+    ensures reads { IfOk result (λ bytes. Reads pair_names (chars bytes) word.now) }
 {
     let names = names(alloc)?;
+    xml_is_read_back();
     let bytes = write_xml(alloc, &names, word)?;
     Ok(bytes)
 }

@@ -4,7 +4,7 @@ ghost use Rattle.xs_top.specs.Turning.{IsAnswered};
 use std::alloc::Global;
 use xs_chars::{DecodeFault, Form, read_text};
 use xs_class::{Bytes, Memory};
-use xs_pair_sheet::{TurnFault, pair_document, turn_pair};
+use xs_pair_sheet::{TurnFault, pair_document, pair_is_unique, turn_pair};
 
 /// What is answered to a document.
 #[derive(Drop)]
@@ -23,8 +23,12 @@ pub fn turn(alloc: Global, bytes: &[u8], form: Form) -> Result<Answer, Memory>
         Err(DecodeFault::NotUtf8 { at }) => return Ok(Answer::NotUtf8 { at }),
         Err(DecodeFault::Memory) => return Err(Memory),
     };
+    pair_is_unique();
     match turn_pair(alloc, &doc) {
-        Ok(word) => Ok(Answer::Document(pair_document(alloc, &word)?)),
+        Ok(word) => {
+            let document = pair_document(alloc, &word)?;
+            Ok(Answer::Document(document))
+        }
         Err(TurnFault::Foreign { viable }) => Ok(Answer::Foreign { viable }),
         Err(TurnFault::Memory) => Err(Memory),
     }
