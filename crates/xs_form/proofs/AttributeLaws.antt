@@ -5,8 +5,8 @@ use Rattle.std.specs.Option.{option_map}
 use Rattle.xs_piece.specs.Tables.{is_white, is_name_char, is_quote}
 use Rattle.xs_piece.specs.Piece.{Attribute, Bit, plain, ref, is_name, is_gap, is_bit, are_bits, is_attribute, are_attributes, all_of, spelt_attribute}
 use Rattle.xs_piece.specs.Reads.{value}
-use Rattle.xs_piece.specs.Scan.{span, after, cut, ◌>>=◌, bit_if, as_ref, bit_at, bits_at, more, attr_if, as_attr, attr_value, attr_quote, attr_right, attr_left, attr_at, attrs_at}
-use Rattle.xs_piece.proofs.Reading.{and_true, both_true}
+use Rattle.xs_piece.specs.Scan.{span, after, cut, ◌>>=◌, bit_if, as_ref, bit_at, bits_at, more, attr_if, as_attr, attr_quote, attr_right, attr_at, attrs_at}
+use Rattle.xs_piece.proofs.Reading.{both_true}
 use Rattle.xs_piece.proofs.Cutting.{some_inj}
 use Rattle.xs_piece.proofs.Steps.{run_all}
 use Rattle.xs_piece.proofs.Tags.{attr_long}

@@ -1,5 +1,5 @@
 -- The characters of names, and their UTF-8.
-use Rattle.std.proofs.Common.{◌≡◌, ℕ, ◌+◌, ◌<◌, length, drop, get_or, encode_utf8, append_assoc, List, [], ◌∷◌, ◌++◌, Bool, true, false, ◌&&◌, nat_lt, encode_utf8_all, refl, sym, ◌∙◌, ap, subst, arith}
+use Rattle.std.proofs.Common.{◌≡◌, ℕ, ◌+◌, ◌<◌, length, drop, get_or, encode_utf8, append_assoc, List, [], ◌∷◌, ◌++◌, true, ◌&&◌, encode_utf8_all, refl, sym, ◌∙◌, ap, subst, arith}
 use lib.Utf8.{scalar}
 use Rattle.std.specs.Char.{IsScalar}
 use Rattle.std.specs.Str.{chars, all_scalars}

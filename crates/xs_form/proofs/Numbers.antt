@@ -1,6 +1,5 @@
 -- The number of a reference, kept below a bound.
-use Rattle.std.proofs.Common.{◌≡◌, ℕ, suc, ◌+◌, ◌*◌, ◌≤◌, ◌<◌, nat_le, min, add-one, List, [], ◌∷◌, length, drop, get_or, drop-cons, drop_of_length-le, Bool, true, false, ◌&&◌, Some, None, refl, sym, ◌∙◌, ap, subst, arith}
-use Rattle.std.specs.declared.option.Option.{Option}
+use Rattle.std.proofs.Common.{◌≡◌, ℕ, suc, ◌+◌, ◌*◌, ◌≤◌, ◌<◌, nat_le, min, add-one, List, [], ◌∷◌, length, drop, get_or, drop-cons, drop_of_length-le, Bool, true, false, ◌&&◌, refl, sym, ◌∙◌, ap, arith}
 use Rattle.std.proofs.Math.Nat.{mul-le-mul_left}
 use Rattle.std.proofs.lemmas.Bool.Decides.{nat_tests}
 use Rattle.xs_piece.specs.Tables.{is_char, is_hex, is_digit}

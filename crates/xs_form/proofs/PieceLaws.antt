@@ -1,17 +1,17 @@
 -- What the reader keeps of the pieces at the front of a text.
-use Rattle.std.proofs.Common.{◌≡◌, ℕ, List, [], ◌∷◌, ◌++◌, map, codes, length, drop, Bool, true, false, not, ◌==◌, ◌&&◌, ◌||◌, if◌then◌else◌, Some, None, refl, sym, ◌∙◌, ap, subst, arith}
+use Rattle.std.proofs.Common.{◌≡◌, ℕ, List, [], ◌∷◌, ◌++◌, map, codes, length, drop, Bool, true, false, ◌==◌, ◌&&◌, if◌then◌else◌, Some, None, refl, sym, ◌∙◌, ap, subst, arith}
 use Rattle.std.specs.declared.option.Option.{Option}
 use Rattle.std.specs.Option.{option_map}
 use Rattle.std.proofs.lemmas.Bool.Decides.{nat_tests}
 use Rattle.xs_piece.specs.Tables.{is_char, is_white, is_name_char}
-use Rattle.xs_piece.specs.Piece.{Piece, Attribute, character, line_end, start_tag, empty_tag, end_tag, comment, instruction, cdata, declaration, is_piece, is_name, all_of, starts, holds, ends_not, same, lower, is_apart, are_attributes, distinct}
-use Rattle.xs_piece.specs.Scan.{after, span, cut, joined, ◌>>=◌, kept, kept_if, char_at, end_at, in_cdata, in_comment, attrs_at, tag_end, tag_name, tag_at}
+use Rattle.xs_piece.specs.Piece.{Piece, Attribute, character, line_end, start_tag, empty_tag, is_piece, is_name, all_of, starts, ends_not, same, lower, is_apart, are_attributes, distinct}
+use Rattle.xs_piece.specs.Scan.{after, span, cut, joined, ◌>>=◌, kept, char_at, end_at, in_cdata, in_comment, attrs_at, tag_end, tag_name, tag_at}
 use Rattle.xs_piece.proofs.Cutting.{some_inj}
 use Rattle.xs_piece.proofs.Sound.{cut_is}
 use Rattle.xs_piece.proofs.Steps.{run_all, cut_free}
 use Rattle.xs_form.specs.Attributes.{Held, held}
 use Rattle.xs_form.specs.Sorted.{held_distinct, held_in_order, keyed, sorted_entries}
-use Rattle.xs_form.specs.Seen.{Seen, seen, found, begins, stands, ends, letter, aside, section, past_feed, instruction_body, tag_ends, empty_end, made}
+use Rattle.xs_form.specs.Seen.{Seen, found, ends, letter, aside, section, past_feed, instruction_body, tag_ends, empty_end, made}
 use Rattle.xs_form.proofs.SortedLaws.{held_is_distinct}
 
 -- a line end

@@ -1,15 +1,14 @@
 -- The reader's state after the pieces so far, and what it says at the end.
-use Rattle.std.proofs.Common.{◌≡◌, ℕ, ◌+◌, ◌≤◌, ◌<◌, List, [], ◌∷◌, ◌++◌, length, Bool, true, false, not, ◌==◌, ◌&&◌, ◌||◌, if◌then◌else◌, Some, None, refl, sym, ◌∙◌, ap, subst, arith}
+use Rattle.std.proofs.Common.{◌≡◌, ℕ, ◌≤◌, ◌<◌, List, [], ◌∷◌, ◌++◌, length, Bool, true, false, not, ◌==◌, ◌&&◌, ◌||◌, if◌then◌else◌, Some, None, refl, sym, ◌∙◌, ap, subst, arith}
 use Rattle.std.specs.declared.option.Option.{Option}
 use Rattle.std.specs.Option.{option_map}
 use Rattle.std.proofs.lemmas.Bool.Decides.{nat_tests}
-use Rattle.xs_piece.specs.Piece.{Piece, is_piece, spelt}
-use Rattle.xs_piece.specs.Legal.{Spot, ahead, inside, behind, is_first, passed, then_passed, all_passed, is_that, no_section_end, spelt_all, IsLegal}
-use Rattle.xs_piece.specs.Reads.{symbols, all_symbols, Reads, IsBrokenAt}
+use Rattle.xs_piece.specs.Piece.{Piece, is_piece}
+use Rattle.xs_piece.specs.Legal.{Spot, ahead, inside, behind, is_first, passed, then_passed, is_that, no_section_end, IsLegal}
+use Rattle.xs_piece.specs.Reads.{symbols, all_symbols, Reads}
 use Rattle.xs_piece.specs.Scan.{piece_at}
 use Rattle.xs_piece.proofs.Reading.{and_true, or_false, not_true, both_true}
 use Rattle.xs_piece.proofs.Cutting.{some_inj}
-use Rattle.xs_piece.proofs.Sound.{IsRead}
 use Rattle.xs_piece.proofs.Tagsound.{read_is_spelt}
 use Rattle.xs_piece.proofs.Greatest.{IsStuck, all_long, piece_long, stuck_is_broken}
 use Rattle.xs_piece.proofs.Stuck.{stuck_unless, reads_whole}

@@ -1,10 +1,10 @@
 -- A value read part by part.
-use Rattle.std.proofs.Common.{◌≡◌, ℕ, zero, suc, ◌≤◌, ◌<◌, List, [], ◌∷◌, ◌++◌, append-nil, append_assoc, length, Bool, true, false, not, ◌==◌, ◌&&◌, if◌then◌else◌, Some, None, refl, sym, ◌∙◌, ap, subst, arith}
+use Rattle.std.proofs.Common.{◌≡◌, ℕ, zero, suc, ◌≤◌, ◌<◌, List, [], ◌∷◌, ◌++◌, append-nil, append_assoc, length, Bool, true, false, ◌==◌, ◌&&◌, if◌then◌else◌, Some, None, refl, sym, ◌∙◌, ap, subst, arith}
 use Rattle.std.specs.declared.option.Option.{Option}
 use Rattle.std.specs.Option.{option_map}
 use Rattle.std.proofs.lemmas.Bool.Decides.{nat_tests}
 use Rattle.xs_piece.specs.Tables.{is_white}
-use Rattle.xs_piece.specs.Piece.{Bit, plain, ref, ref_char, spelt_bit}
+use Rattle.xs_piece.specs.Piece.{Bit, plain, ref, spelt_bit}
 use Rattle.xs_piece.specs.Reads.{value}
 use Rattle.xs_piece.specs.Scan.{bit_at, bits_at}
 use Rattle.xs_piece.proofs.Cutting.{some_inj}

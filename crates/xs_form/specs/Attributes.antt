@@ -6,7 +6,7 @@ use Rattle.xs_piece.specs.Tables.{is_white, is_name_char, is_quote}
 use Rattle.xs_piece.specs.Piece as piece
 use Rattle.xs_piece.specs.Piece.{is_name, are_attributes}
 use Rattle.xs_piece.specs.Reads.{value}
-use Rattle.xs_piece.specs.Scan.{span, after, ◌>>=◌, bits_at, attrs_at}
+use Rattle.xs_piece.specs.Scan.{span, after, ◌>>=◌, attrs_at}
 use Rattle.xs_form.specs.Values.{all_written}
 use Rattle.xs_form.specs.declared.attributes.Attribute.{Attribute}
 use Rattle.xs_form.specs.declared.attributes.Head.{Head as CodeHead}

@@ -1,5 +1,5 @@
 -- What the reader keeps of a piece.
-use Rattle.std.specs.Prelude.{ℕ, List, [], ◌∷◌, ◌++◌, map, codes, Bool, true, false, ◌==◌, ◌&&◌, ◌||◌, if◌then◌else◌, Some, None, unwrap_or}
+use Rattle.std.specs.Prelude.{ℕ, List, [], ◌∷◌, map, codes, Bool, true, false, ◌==◌, ◌&&◌, ◌||◌, if◌then◌else◌, Some, None, unwrap_or}
 use Rattle.std.specs.declared.option.Option.{Option}
 use Rattle.std.specs.Option.{option_map}
 use Rattle.std.specs.Borrow.{Bor}

@@ -325,3 +325,18 @@ fn names_go_on_by_the_table(rt: HostRuntime) -> Result<(), Fail> {
     expect_each(&rt, rt.alloc(), &inside, ("<s", "/>"), true)?;
     expect_each(&rt, rt.alloc(), &outside, ("<s", "/>"), false)
 }
+
+#[test]
+fn elements_stand_deep(rt: HostRuntime) -> Result<(), Fail> {
+    let names = names_of(rt.alloc(), &["s"])?;
+    let mut document = String::new(rt.alloc());
+    for _ in 0..100_000 {
+        document.push_str("<s>")?;
+    }
+    for _ in 0..100_000 {
+        document.push_str("</s>")?;
+    }
+    let word = read_xml(rt.alloc(), &names, &word_of(rt.alloc(), document.as_str())?)?;
+    assert_eq!(rt; word.len(), 200_000);
+    Ok(())
+}

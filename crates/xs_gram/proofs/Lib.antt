@@ -3,3 +3,5 @@ pub mod Printing
 pub mod Printed
 pub mod Numbers
 pub mod Inversion
+pub mod Building
+pub mod Ready

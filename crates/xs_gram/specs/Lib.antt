@@ -8,3 +8,4 @@ pub mod Sound
 pub mod Loose
 pub mod Suspects
 pub mod Places
+pub mod Building

@@ -1,11 +1,14 @@
 ghost use Rattle.std.specs.Prelude.{◌≡◌, ◌<◌, ◌≤◌, ◌+◌, ◌^◌, ℕ, Some, None, length, slice_get, IfOk};
 ghost use Rattle.xs_gram.specs.Grammar.{rule_of, term_of, skip_of, items, normal_word};
-ghost use Rattle.xs_gram.specs.Sound.{IsInRange, IsSmall};
+ghost use Rattle.xs_gram.specs.Building.{CanBuild, IsOf};
+ghost use Rattle.xs_gram.specs.Sound.{IsInRange, IsSmall, IsBuilt};
 ghost use Rattle.xs_gram.specs.Places.{all_places, at_dot, IsPlace};
 
-use crate::{GItem, Ignorable, Place, RulePart, Terminal};
+use crate::body::Body;
+use crate::{GItem, GramParts, Ignorable, Place, RulePart, Terminal};
+use std::alloc::Global;
 use std::marker::Model;
-use xs_class::Word;
+use xs_class::{Memory, Word};
 use xs_regex::{Numbers, Position};
 
 /// A grammar: one side of a sheet, as contracts see it a record of its start, its number of
@@ -40,6 +43,27 @@ impl Model for Gram {
 }
 
 impl Gram {
+    /// The grammar of these parts, in time in all at most linear in its items, its places and the
+    /// cubes of the sizes of its regexes.
+    pub fn build(alloc: Global, parts: GramParts) -> Result<Gram, Memory>
+        requires { CanBuild parts }
+        ensures parts { IfOk result (IsOf parts) }
+        ensures built { IfOk result IsBuilt }
+    {
+        let body = Body::of_parts(alloc, parts)?;
+        let mut places = Vec::new(alloc);
+        let starts = body.push_rules(alloc, &mut places)?;
+        Ok(Gram {
+            start: body.start,
+            nons: body.nons,
+            rules: body.rules,
+            terms: body.terms,
+            skips: body.skips,
+            places,
+            starts,
+        })
+    }
+
     /// The number of the start nonterminal.
     pub fn start(&self) -> u32
         ensures { result ≡ self.now.start }

@@ -6,6 +6,8 @@
 //! printed of a tree has that tree.
 #![tactic(auto)]
 
+mod automata;
+mod body;
 mod gram;
 mod laws;
 mod parts;

@@ -1,7 +1,7 @@
 -- A test on a table says what the table has.
-use Rattle.std.proofs.Common.{◌≡◌, ◌⊎◌, inl, inr, ℕ, ◌≤◌, List, [], ◌∷◌, ◌++◌, Bool, true, false, ◌&&◌, ◌||◌, nat_le, refl, sym, ◌∙◌, ap, subst, arith}
+use Rattle.std.proofs.Common.{◌≡◌, ◌⊎◌, inl, inr, ℕ, ◌≤◌, List, [], ◌∷◌, ◌++◌, Bool, true, false, ◌&&◌, ◌||◌, nat_le, refl, ◌∙◌, ap, arith}
 use Rattle.std.specs.Prelude.{◌↔◌, IsTrue}
-use Rattle.std.specs.Bool.{Decides, one_answer}
+use Rattle.std.specs.Bool.{one_answer}
 use Rattle.std.proofs.lemmas.Bool.Decides.{nat_tests}
 use Rattle.xs_class.specs.Classes.{Has}
 use Rattle.xs_class.specs.Tables.{char_table, name_start_table, name_more_table, IsChar, IsNameStart, IsNameChar}

@@ -26,13 +26,13 @@ has_append (x ∷ xs) ys s = (
   λ h. elim h [
     | inl a ↦ elim a [ inl b ↦ inl b | inr c ↦ inr ((has_append xs ys s).1 (inl c)) ]
     | inr d ↦ inr ((has_append xs ys s).1 (inr d))
-  ]
+  ],
 )
 
 pub add_span : (old new : List (ℕ × ℕ)) (low high : ℕ) → new ≡ old ++ (low, high) ∷ [] → Adds old new (IsOfItem (span low high))
 add_span old new low high e = λ s. subst (λ (x : List (ℕ × ℕ)). Has x s ↔ (Has old s ⊎ IsOfItem (span low high) s)) (sym e) (
   λ h. elim ((has_append old ((low, high) ∷ []) s).0 h) [ inl a ↦ inl a | inr b ↦ elim b [ inl c ↦ inr c | inr d ↦ absurd d ] ],
-  λ h. (has_append old ((low, high) ∷ []) s).1 (elim h [ inl a ↦ inl a | inr b ↦ inr (inl b) ])
+  λ h. (has_append old ((low, high) ∷ []) s).1 (elim h [ inl a ↦ inl a | inr b ↦ inr (inl b) ]),
 )
 
 known_named : (name : List ℕ) (o : Option Set) → set_named name ≡ o → is_known name ≡ is_some o
@@ -61,10 +61,10 @@ add_named name old new ranges e h = by_set (set_named name) refl h
     by_set None f g = absurd g
     by_set (Some set) f g =
         subst (λ o. IsSomeAnd o (λ a. Adds old new (IsOfItem a))) (sym (if_known (is_known name) name (known_named name (Some set) f)))
-          (λ s. subst (λ (x : List (ℕ × ℕ)). Has x s ↔ (Has old s ⊎ IsOfItem (named name) s)) (sym e) (
-            λ m. elim ((has_append old ranges s).0 m) [ inl a ↦ inl a | inr b ↦ inr ((members s (set_named name) h).0 b) ],
-            λ m. (has_append old ranges s).1 (elim m [ inl a ↦ inl a | inr b ↦ inr ((members s (set_named name) h).1 b) ])
-          ))
+        (λ s. subst (λ (x : List (ℕ × ℕ)). Has x s ↔ (Has old s ⊎ IsOfItem (named name) s)) (sym e) (
+          λ m. elim ((has_append old ranges s).0 m) [ inl a ↦ inl a | inr b ↦ inr ((members s (set_named name) h).0 b) ],
+          λ m. (has_append old ranges s).1 (elim m [ inl a ↦ inl a | inr b ↦ inr ((members s (set_named name) h).1 b) ]),
+        ))
 
 -- items up to a closing bracket
 known_same : (item : Item) (Q : Item → Type 0) → IsSomeAnd (known item) Q → (known item ≡ Some item) × Q item
@@ -91,10 +91,13 @@ items_end zero cs rest left c item old new p e f k h = absurd (p refl)
 items_end (suc n) cs rest left c item old new p e f k h =
     let same = known_same item (λ a. Adds old new (IsOfItem a)) h in
     let whole : items_at (suc n) cs ≡ Some (item ∷ [], rest) = first_item n cs left item e same.0 ∙ ap (λ l. items_more (Some (item, l)) (λ left. items_at n left)) (f ∙ ap (λ x. x ∷ rest) k) in
-    subst (λ o. IsSomeAnd o (λ a. (a.1 ≡ rest) × Adds old new (IsOfItems a.0))) (sym whole) (refl, λ s. (
-      λ m. elim ((same.1 s).0 m) [ inl a ↦ inl a | inr b ↦ inr (inl b) ],
-      λ m. (same.1 s).1 (elim m [ inl a ↦ inl a | inr b ↦ elim b [ inl x ↦ inr x | inr y ↦ absurd y ] ])
-    ))
+    subst (λ o. IsSomeAnd o (λ a. (a.1 ≡ rest) × Adds old new (IsOfItems a.0))) (sym whole) (
+      refl,
+      λ s. (
+        λ m. elim ((same.1 s).0 m) [ inl a ↦ inl a | inr b ↦ inr (inl b) ],
+        λ m. (same.1 s).1 (elim m [ inl a ↦ inl a | inr b ↦ elim b [ inl x ↦ inr x | inr y ↦ absurd y ] ]),
+      ),
+    )
 
 other_next : (n : ℕ) (c : ℕ) (rest : List ℕ) (item : Item) → c ≢ 93 → items_more (Some (item, c ∷ rest)) (λ left. items_at n left) ≡ item_more item (items_at n (c ∷ rest))
 other_next n c rest item k = by_test (c == 93) (eqb_tells c 93)
@@ -117,26 +120,32 @@ items_on n m cs rest left c item old mid new r p e f k h t =
   where
     more : (o : Option (List Item × List ℕ)) (r : Result (Bor (List ℕ)) RegexFault) → Adds old mid (IsOfItem item) → IsTold o (λ a x. (a.1 ≡ x.now) × Adds mid new (IsOfItems a.0)) r → IsTold (item_more item o) (λ a x. (a.1 ≡ x.now) × Adds old new (IsOfItems a.0)) r
     more None (Ok x) g t = absurd t
-    more (Some a) (Ok x) g t = (t.0, λ s. (
-      λ m. elim ((t.1 s).0 m) [
-        | inl b ↦ elim ((g s).0 b) [ inl d ↦ inl d | inr d ↦ inr (inl d) ]
-        | inr b ↦ inr (inr b)
-      ],
-      λ m. (t.1 s).1 (elim m [
-        | inl b ↦ inl ((g s).1 (inl b))
-        | inr b ↦ elim b [ inl d ↦ inl ((g s).1 (inr d)) | inr d ↦ inr d ]
-      ])
-    ))
+    more (Some a) (Ok x) g t = (
+      t.0,
+      λ s. (
+        λ m. elim ((t.1 s).0 m) [
+          | inl b ↦ elim ((g s).0 b) [ inl d ↦ inl d | inr d ↦ inr (inl d) ]
+          | inr b ↦ inr (inr b)
+        ],
+        λ m. (t.1 s).1 (elim m [
+          | inl b ↦ inl ((g s).1 (inl b))
+          | inr b ↦ elim b [ inl d ↦ inl ((g s).1 (inr d)) | inr d ↦ inr d ]
+        ]),
+      ),
+    )
     more None (Err e) g t = λ k. refl
     more (Some a) (Err e) g t = λ k. absurd (some_none a (t k))
 
 -- sets of the characters that were added
 pub some_told : (o : Option (List Item × List ℕ)) (old ranges class : List (ℕ × ℕ)) (left : List ℕ) → old ≡ [] → IsSomeAnd o (λ a. (a.1 ≡ left) × Adds old ranges (IsOfItems a.0)) → ((s : ℕ) → Has class s ↔ (IsChar s × Has ranges s)) → IsSomeAnd (sorted some_of o) (λ a. (a.1 ≡ left) × IsClassOf a.0 class)
 some_told None old ranges class left e h k = absurd h
-some_told (Some a) old ranges class left e h k = (h.0, λ s. (
-  λ m. let b = (k s).0 m in (b.0, from_none s ((h.1 s).0 b.1)),
-  λ m. (k s).1 (m.0, (h.1 s).1 (inr m.1))
-))
+some_told (Some a) old ranges class left e h k = (
+  h.0,
+  λ s. (
+    λ m. let b = (k s).0 m in (b.0, from_none s ((h.1 s).0 b.1)),
+    λ m. (k s).1 (m.0, (h.1 s).1 (inr m.1)),
+  ),
+)
   where
     from_none : (s : ℕ) → Has old s ⊎ IsOfItems a.0 s → IsOfItems a.0 s
     from_none s (inl b) = absurd (rw e at b)
@@ -144,10 +153,13 @@ some_told (Some a) old ranges class left e h k = (h.0, λ s. (
 
 pub none_told : (o : Option (List Item × List ℕ)) (old ranges class : List (ℕ × ℕ)) (left : List ℕ) → old ≡ [] → IsSomeAnd o (λ a. (a.1 ≡ left) × Adds old ranges (IsOfItems a.0)) → ((s : ℕ) → Has class s ↔ (IsChar s × (Has ranges s → ⊥))) → IsSomeAnd (sorted none_of o) (λ a. (a.1 ≡ left) × IsClassOf a.0 class)
 none_told None old ranges class left e h k = absurd h
-none_told (Some a) old ranges class left e h k = (h.0, λ s. (
-  λ m. let b = (k s).0 m in (b.0, λ i. b.1 ((h.1 s).1 (inr i))),
-  λ m. (k s).1 (m.0, λ i. m.1 (from_none s ((h.1 s).0 i)))
-))
+none_told (Some a) old ranges class left e h k = (
+  h.0,
+  λ s. (
+    λ m. let b = (k s).0 m in (b.0, λ i. b.1 ((h.1 s).1 (inr i))),
+    λ m. (k s).1 (m.0, λ i. m.1 (from_none s ((h.1 s).0 i))),
+  ),
+)
   where
     from_none : (s : ℕ) → Has old s ⊎ IsOfItems a.0 s → IsOfItems a.0 s
     from_none s (inl b) = absurd (rw e at b)
@@ -155,10 +167,13 @@ none_told (Some a) old ranges class left e h k = (h.0, λ s. (
 
 pub one_told : (o : Option Item) (old ranges class : List (ℕ × ℕ)) (left : List ℕ) → old ≡ [] → IsSomeAnd o (λ a. Adds old ranges (IsOfItem a)) → ((s : ℕ) → Has class s ↔ (IsChar s × Has ranges s)) → IsSomeAnd (one_set (with_left left o)) (λ a. (a.1 ≡ left) × IsClassOf a.0 class)
 one_told None old ranges class left e h k = absurd h
-one_told (Some item) old ranges class left e h k = (refl, λ s. (
-  λ m. let b = (k s).0 m in (b.0, from_none s ((h s).0 b.1)),
-  λ m. (k s).1 (m.0, (h s).1 (inr (only s m.1)))
-))
+one_told (Some item) old ranges class left e h k = (
+  refl,
+  λ s. (
+    λ m. let b = (k s).0 m in (b.0, from_none s ((h s).0 b.1)),
+    λ m. (k s).1 (m.0, (h s).1 (inr (only s m.1))),
+  ),
+)
   where
     from_none : (s : ℕ) → Has old s ⊎ IsOfItem item s → IsOfItems (item ∷ []) s
     from_none s (inl b) = absurd (rw e at b)

@@ -29,14 +29,14 @@ at_least_init one last r least f t is = elim (eqb_tells least 0) [
       let whole : optional last ≡ r = sym (is ∙ ap (λ (b : Bool). if b then optional last else last) h.0) in
       let low : 0 ≡ min 1 least = omega (arith, h.1) in
       subst (λ p. IsAutomaton (Repeats (Accepts one) (min 1 least) None) (one.classes ++ []) (IsSure one least None) p) whole
-        (subst (λ n. IsAutomaton (Repeats (Accepts one) n None) (one.classes ++ []) (IsSure one least None) (optional last)) low
-          (told (any_number (Accepts one)) (number_any (Accepts one)) (sym (append-nil one.classes)) (λ s. s.1) (optional_is (round_is (itself one f) t))))
+      (subst (λ n. IsAutomaton (Repeats (Accepts one) n None) (one.classes ++ []) (IsSure one least None) (optional last)) low
+      (told (any_number (Accepts one)) (number_any (Accepts one)) (sym (append-nil one.classes)) (λ s. s.1) (optional_is (round_is (itself one f) t))))
   | inr h ↦
       let whole : last ≡ r = sym (is ∙ ap (λ (b : Bool). if b then optional last else last) h.0) in
       let low : 1 ≡ min 1 least = omega (arith, h.1) in
       subst (λ p. IsAutomaton (Repeats (Accepts one) (min 1 least) None) (one.classes ++ []) (IsSure one least None) p) whole
-        (subst (λ n. IsAutomaton (Repeats (Accepts one) n None) (one.classes ++ []) (IsSure one least None) last) low
-          (told (λ w a. a) (λ w a. a) (sym (append-nil one.classes)) (λ s. s.1) (round_is (itself one f) t)))
+      (subst (λ n. IsAutomaton (Repeats (Accepts one) n None) (one.classes ++ []) (IsSure one least None) last) low
+      (told (λ w a. a) (λ w a. a) (sym (append-nil one.classes)) (λ s. s.1) (round_is (itself one f) t)))
 ]
 
 pub at_least_more : (one all r : Position) (least behind : ℕ) → behind < least → IsWellFormed one → IsAutomaton (Repeats (Accepts one) (min behind least) None) (times behind one.classes) (IsSure one least None) all → IsThen one all r → IsAutomaton (Repeats (Accepts one) (min (behind + 1) least) None) (times (behind + 1) one.classes) (IsSure one least None) r
@@ -44,20 +44,20 @@ at_least_more one all r least behind l f a t =
     let low : min behind least + 1 ≡ min (behind + 1) least = omega arith in
     let next : suc behind ≡ behind + 1 = omega arith in
     subst (λ n. IsAutomaton (Repeats (Accepts one) (min (behind + 1) least) None) (times n one.classes) (IsSure one least None) r) next
-      (subst (λ n. IsAutomaton (Repeats (Accepts one) n None) (times (suc behind) one.classes) (IsSure one least None) r) low
-        (copy_is one all r (min behind least) None None behind (IsSure one least None) (λ k m. tt) (λ k m. tt) (λ s. s.1) f a t))
+    (subst (λ n. IsAutomaton (Repeats (Accepts one) n None) (times (suc behind) one.classes) (IsSure one least None) r) low
+    (copy_is one all r (min behind least) None None behind (IsSure one least None) (λ k m. tt) (λ k m. tt) (λ s. s.1) f a t))
 
 pub at_least_end : (one all : Position) (least behind : ℕ) → least ≤ behind → 1 ≤ behind → behind ≤ max least 1 → IsAutomaton (Repeats (Accepts one) (min behind least) None) (times behind one.classes) (IsSure one least None) all → IsAutomaton (Repeats (Accepts one) least None) (times (max least 1) one.classes) (IsSure one least None) all
 at_least_end one all least behind l m n a =
     let low : min behind least ≡ least = omega arith in
     let end : behind ≡ max least 1 = omega arith in
     subst (λ n. IsAutomaton (Repeats (Accepts one) least None) (times n one.classes) (IsSure one least None) all) end
-      (subst (λ n. IsAutomaton (Repeats (Accepts one) n None) (times behind one.classes) (IsSure one least None) all) low a)
+    (subst (λ n. IsAutomaton (Repeats (Accepts one) n None) (times behind one.classes) (IsSure one least None) all) low a)
 
 pub between_init : (one r : Position) (least most : ℕ) → r ≡ bare (nat_le least most) → IsAutomaton (Repeats (Accepts one) (least - (most - 0)) (Some 0)) [] (IsSure one least (Some most)) r
 between_init one r least most is =
     subst (λ p. IsAutomaton (Repeats (Accepts one) (least - (most - 0)) (Some 0)) [] (IsSure one least (Some most)) p) (sym is)
-      (of_bare _ (IsSure one least (Some most)) (nat_le least most) (λ b. ([], refl, tt, omega (arith, leb-true least most b), omega arith)) (λ w h. none w h.0 h.1 h.3 h.4) (λ s. le-leb least most s.0))
+    (of_bare _ (IsSure one least (Some most)) (nat_le least most) (λ b. ([], refl, tt, omega (arith, leb-true least most b), omega arith)) (λ w h. none w h.0 h.1 h.3 h.4) (λ s. le-leb least most s.0))
   where
     none : (w : List ℕ) (ws : List (List ℕ)) → w ≡ joined ws → least - (most - 0) ≤ length ws → length ws ≤ 0 → (w ≡ []) × IsTrue (nat_le least most)
     none w [] e l m = (e, le-leb least most (omega arith))
@@ -76,24 +76,24 @@ between_more one all more r least most behind l f a t is = choose (nat_lt least 
         let low : 0 ≡ least - (most - (behind + 1)) = omega arith in
         let before : least - (most - behind) ≡ 0 = omega arith in
         subst (λ p. IsAutomaton (Repeats (Accepts one) (least - (most - (behind + 1))) (Some (behind + 1))) (times (behind + 1) one.classes) (IsSure one least (Some most)) p) whole
-          (subst (λ n. IsAutomaton (Repeats (Accepts one) n (Some (behind + 1))) (times (behind + 1) one.classes) (IsSure one least (Some most)) (optional more)) low
-            (subst (λ n. IsAutomaton (Repeats (Accepts one) 0 (Some (behind + 1))) (times n one.classes) (IsSure one least (Some most)) (optional more)) next
-              (free_copy_is one all more (Some behind) (Some (behind + 1)) behind (IsSure one least (Some most)) (λ k m. omega (arith, m)) (λ k m. omega (arith, m)) (omega arith) (λ s. s.1) f
-                (subst (λ n. IsAutomaton (Repeats (Accepts one) n (Some behind)) (times behind one.classes) (IsSure one least (Some most)) all) before a) t)))
+        (subst (λ n. IsAutomaton (Repeats (Accepts one) n (Some (behind + 1))) (times (behind + 1) one.classes) (IsSure one least (Some most)) (optional more)) low
+        (subst (λ n. IsAutomaton (Repeats (Accepts one) 0 (Some (behind + 1))) (times n one.classes) (IsSure one least (Some most)) (optional more)) next
+        (free_copy_is one all more (Some behind) (Some (behind + 1)) behind (IsSure one least (Some most)) (λ k m. omega (arith, m)) (λ k m. omega (arith, m)) (omega arith) (λ s. s.1) f
+        (subst (λ n. IsAutomaton (Repeats (Accepts one) n (Some behind)) (times behind one.classes) (IsSure one least (Some most)) all) before a) t)))
     choose false b =
         let full : most - behind ≤ least = ltb-false least (most - behind) b in
         let whole : more ≡ r = sym (is ∙ ap (λ (c : Bool). if c then optional more else more) b) in
         let low : (least - (most - behind)) + 1 ≡ least - (most - (behind + 1)) = omega arith in
         subst (λ p. IsAutomaton (Repeats (Accepts one) (least - (most - (behind + 1))) (Some (behind + 1))) (times (behind + 1) one.classes) (IsSure one least (Some most)) p) whole
-          (subst (λ n. IsAutomaton (Repeats (Accepts one) n (Some (behind + 1))) (times (behind + 1) one.classes) (IsSure one least (Some most)) more) low
-            (subst (λ n. IsAutomaton (Repeats (Accepts one) ((least - (most - behind)) + 1) (Some (behind + 1))) (times n one.classes) (IsSure one least (Some most)) more) next
-              (copy_is one all more (least - (most - behind)) (Some behind) (Some (behind + 1)) behind (IsSure one least (Some most)) (λ k m. omega (arith, m)) (λ k m. omega (arith, m)) (λ s. s.1) f a t)))
+        (subst (λ n. IsAutomaton (Repeats (Accepts one) n (Some (behind + 1))) (times (behind + 1) one.classes) (IsSure one least (Some most)) more) low
+        (subst (λ n. IsAutomaton (Repeats (Accepts one) ((least - (most - behind)) + 1) (Some (behind + 1))) (times n one.classes) (IsSure one least (Some most)) more) next
+        (copy_is one all more (least - (most - behind)) (Some behind) (Some (behind + 1)) behind (IsSure one least (Some most)) (λ k m. omega (arith, m)) (λ k m. omega (arith, m)) (λ s. s.1) f a t)))
 
 pub between_end : (one all : Position) (least most behind : ℕ) → behind ≡ most → IsAutomaton (Repeats (Accepts one) (least - (most - behind)) (Some behind)) (times behind one.classes) (IsSure one least (Some most)) all → IsAutomaton (Repeats (Accepts one) least (Some most)) (times most one.classes) (IsSure one least (Some most)) all
 between_end one all least most behind e a =
     let low : least - (most - behind) ≡ least = omega arith in
     subst (λ n. IsAutomaton (Repeats (Accepts one) least (Some n)) (times n one.classes) (IsSure one least (Some most)) all) e
-      (subst (λ n. IsAutomaton (Repeats (Accepts one) n (Some behind)) (times behind one.classes) (IsSure one least (Some most)) all) low a)
+    (subst (λ n. IsAutomaton (Repeats (Accepts one) n (Some behind)) (times behind one.classes) (IsSure one least (Some most)) all) low a)
 
 -- an automaton of no position, again and again
 at_most_none : (most : Option ℕ) → AtMost 0 most
@@ -112,8 +112,8 @@ pub empty_repeat : (one r : Position) (least : ℕ) (most : Option ℕ) (b : Boo
 empty_repeat one r least most b f none is decides =
     let no_class : [] ≡ times (copies least most) one.classes = sym (ap (λ (c : List (List (ℕ × ℕ))). times (copies least most) c) none ∙ times-nil (copies least most)) in
     subst (λ p. IsAutomaton (Repeats (Accepts one) least most) (times (copies least most) one.classes) (IsSure one least most) p) (sym is)
-      (subst (λ c. IsAutomaton (Repeats (Accepts one) least most) c (IsSure one least most) (bare b)) no_class
-        (of_bare (Repeats (Accepts one) least most) (IsSure one least most) b (λ t. to (decides.0 t)) (λ w h. back w h.0 h.1 h.2 h.3 h.4) (λ s. sure s)))
+    (subst (λ c. IsAutomaton (Repeats (Accepts one) least most) c (IsSure one least most) (bare b)) no_class
+    (of_bare (Repeats (Accepts one) least most) (IsSure one least most) b (λ t. to (decides.0 t)) (λ w h. back w h.0 h.1 h.2 h.3 h.4) (λ s. sure s)))
   where
     to : (least ≡ 0) ⊎ (IsTrue one.nullable × IsInOrder least most) → Repeats (Accepts one) least most []
     to (inl e) = ([], refl, tt, omega (arith, e), at_most_none most)

@@ -39,7 +39,7 @@ mark_more old flags numbers x i l is within h k = (
       | inl b ↦ marked_kept flags x k within ((h k).1 (inr b))
       | inr b ↦ let e = contains_one x k b in rw e (get_or-set_same flags x true false within)
     ]
-  ]
+  ],
 )
   where
     whole : take (i + 1) numbers ≡ take i numbers ++ x ∷ []
@@ -56,7 +56,7 @@ pub reached_init : (p : Position) (clear may reached : List Bool) → ((k : ℕ)
 reached_init p clear may reached c m r = record {
   next = λ k. (
     λ a. elim ((m k).0 a) [ inl b ↦ absurd (c k b) | inr b ↦ inl (refl, b) ],
-    λ a. elim a [ inl b ↦ (m k).1 (inr b.1) | inr b ↦ absurd (run_not_empty b.1 refl) ]
+    λ a. elim a [ inl b ↦ (m k).1 (inr b.1) | inr b ↦ absurd (run_not_empty b.1 refl) ],
   );
   last = λ k. (λ a. absurd (r k a), λ a. absurd (run_not_empty a refl));
 }
@@ -83,7 +83,7 @@ reached_more p v w s may reached also then e h a n = record {
     λ m. elim m [
       | inl b ↦ absurd (not_nil (sym e ∙ b.0))
       | inr b ↦ (n k).1 (b.0, back b.0 b.1, b.2)
-    ]
+    ],
   );
   last = λ k. (λ m. ran k m, λ r. back k r);
 }
@@ -110,7 +110,7 @@ reached_end p w empty result may reached e h r = (
   λ a. elim a [
     | inl b ↦ r.1 (inl (e.1 b.0, b.1))
     | inr b ↦ r.1 (inr (b.0, b.2, (h.last b.0).1 b.1))
-  ]
+  ],
 )
 
 pub empty_test : (b : Bool) (w : List ℕ) → b ≡ nat_eq (length w) 0 → IsTrue b ↔ (w ≡ [])

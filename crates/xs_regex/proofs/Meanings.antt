@@ -131,11 +131,15 @@ same_words pattern r q a b w m = means_same b.0 r q (subst (λ t. Means t r) (sa
 
 -- the regex of a whole pattern
 pub pattern_read : (pattern : List ℕ) (r : Regex) → length pattern ≤ 2048 → size r ≤ 512 → (t : Tree) × (regex_at (3 * length pattern + 3) 64 pattern ≡ Some (t, [])) × Means t r → IsPatternOf pattern r
-pattern_read pattern r short small h = (h.0, record {
-  short = short;
-  regex = found_whole (3 * length pattern + 3) pattern h.0 h.1;
-  small = (let e = means_size h.0 r h.2 in omega (arith, e));
-}, h.2)
+pattern_read pattern r short small h = (
+  h.0,
+  record {
+    short = short;
+    regex = found_whole (3 * length pattern + 3) pattern h.0 h.1;
+    small = (let e = means_size h.0 r h.2 in omega (arith, e));
+  },
+  h.2,
+)
 
 pub pattern_bounded : (pattern : List ℕ) (r : Regex) → (t : Tree) × (regex_at (3 * length pattern + 3) 64 pattern ≡ Some (t, [])) × Means t r → IsBounded r
 pattern_bounded pattern r h = means_bounded h.0 r h.2 (regex_bounded (found_whole (3 * length pattern + 3) pattern h.0 h.1))

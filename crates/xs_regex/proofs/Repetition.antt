@@ -57,19 +57,19 @@ round_run {p} {r} {w} t (goes {k = k} v j s run l h is) =
     let before = round_run t run in
     elim (t.linked.only j k l) [
       | inl a ↦ record {
-          words = before.words;
-          rest = before.rest ++ s ∷ [];
-          word_is = is ∙ ap (λ (x : List ℕ). x ++ s ∷ []) before.word_is ∙ append_assoc (joined before.words) before.rest (s ∷ []);
-          accepted = before.accepted;
-          run = goes before.rest j s before.run a (has_back t k s h) refl;
-        }
+        words = before.words;
+        rest = before.rest ++ s ∷ [];
+        word_is = is ∙ ap (λ (x : List ℕ). x ++ s ∷ []) before.word_is ∙ append_assoc (joined before.words) before.rest (s ∷ []);
+        accepted = before.accepted;
+        run = goes before.rest j s before.run a (has_back t k s h) refl;
+      }
       | inr b ↦ record {
-          words = before.words ++ before.rest ∷ [];
-          rest = s ∷ [];
-          word_is = is ∙ ap (λ (x : List ℕ). x ++ s ∷ []) (before.word_is ∙ sym (one_more before.words before.rest));
-          accepted = each_append (Accepts p) before.words (before.rest ∷ []) before.accepted (inr (j, before.run, b.0), tt);
-          run = begins s b.1 (has_back t k s h) refl;
-        }
+        words = before.words ++ before.rest ∷ [];
+        rest = s ∷ [];
+        word_is = is ∙ ap (λ (x : List ℕ). x ++ s ∷ []) (before.word_is ∙ sym (one_more before.words before.rest));
+        accepted = each_append (Accepts p) before.words (before.rest ∷ []) before.accepted (inr (j, before.run, b.0), tt);
+        run = begins s b.1 (has_back t k s h) refl;
+      }
     ]
   where
     one_more : (ws : List (List ℕ)) (u : List ℕ) → joined (ws ++ u ∷ []) ≡ joined ws ++ u

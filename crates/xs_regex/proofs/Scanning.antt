@@ -23,8 +23,8 @@ hex_leaves : (v k : ℕ) (cs : List ℕ) → Leaves (length cs) (hex_at v k cs)
 hex_leaves v k [] = tt
 hex_leaves v k (c ∷ cs) =
     if_leaves _ (c == 125) _ _
-      (if_leaves _ (nat_lt 0 k && is_scalar v) _ _ (omega arith) tt)
-      (if_leaves _ (is_hex c && nat_lt k 6) _ _ (more_leaves (length cs) (suc (length cs)) (hex_at (16 * v + hex_value c) (suc k) cs) (omega arith) (hex_leaves (16 * v + hex_value c) (suc k) cs)) tt)
+    (if_leaves _ (nat_lt 0 k && is_scalar v) _ _ (omega arith) tt)
+    (if_leaves _ (is_hex c && nat_lt k 6) _ _ (more_leaves (length cs) (suc (length cs)) (hex_at (16 * v + hex_value c) (suc k) cs) (omega arith) (hex_leaves (16 * v + hex_value c) (suc k) cs)) tt)
 
 code_leaves : (cs : List ℕ) → Leaves (length cs) (code_at cs)
 code_leaves [] = tt
@@ -106,7 +106,7 @@ item_leaves : (cs : List ℕ) → Leaves (length cs) (item_at cs)
 item_leaves [] = tt
 item_leaves (c ∷ cs) =
     if_leaves _ (c == 92) _ _ (more_leaves (length cs) (suc (length cs)) (escaped_item cs) (omega arith) (escaped_item_leaves cs))
-      (if_leaves _ (is_plain_member c) _ _ (span_more_leaves (suc (length cs)) (Some (c, cs)) (omega arith)) tt)
+    (if_leaves _ (is_plain_member c) _ _ (span_more_leaves (suc (length cs)) (Some (c, cs)) (omega arith)) tt)
 
 item_more_leaves : (n : ℕ) (item : Item) (o : Option (List Item × List ℕ)) → Leaves n o → Leaves n (item_more item o)
 item_more_leaves n item None h = tt
@@ -137,8 +137,8 @@ bracket_leaves : (cs : List ℕ) → Leaves (length cs) (bracket_at cs)
 bracket_leaves [] = tt
 bracket_leaves (c ∷ cs) =
     if_leaves _ (c == 94) _ _
-      (sorted_leaves _ none_of (items_at (length cs) cs) (more_leaves (length cs) (suc (length cs)) (items_at (length cs) cs) (omega arith) (items_leaves (length cs) cs)))
-      (sorted_leaves _ some_of (items_at (suc (length cs)) (c ∷ cs)) (items_leaves (suc (length cs)) (c ∷ cs)))
+    (sorted_leaves _ none_of (items_at (length cs) cs) (more_leaves (length cs) (suc (length cs)) (items_at (length cs) cs) (omega arith) (items_leaves (length cs) cs)))
+    (sorted_leaves _ some_of (items_at (suc (length cs)) (c ∷ cs)) (items_leaves (suc (length cs)) (c ∷ cs)))
 
 char_item_leaves : (n : ℕ) (o : Option (ℕ × List ℕ)) → Leaves n o → Leaves n (char_item o)
 char_item_leaves n None h = tt

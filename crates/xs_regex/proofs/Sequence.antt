@@ -109,14 +109,14 @@ then_run : {p q r : Position} {w : List ℕ} {k : ℕ} → IsWellFormed p → Is
 then_run {p} {q} {r} {w} f t (begins {k = k} s c h is) = elim (first_split t k c) [
   | inl a ↦ inl (begins s a (has_left p q r t.classes k s (f.first_in k a) h) is)
   | inr b ↦ inr record {
-      place = b.1.0;
-      front = [];
-      rest = w;
-      place_is = b.1.1;
-      word_is = refl;
-      accepted = inl (refl, b.0);
-      run = begins s b.1.2 (has_right p q r t.classes k b.1.0 s b.1.1 h) is;
-    }
+    place = b.1.0;
+    front = [];
+    rest = w;
+    place_is = b.1.1;
+    word_is = refl;
+    accepted = inl (refl, b.0);
+    run = begins s b.1.2 (has_right p q r t.classes k b.1.0 s b.1.1 h) is;
+  }
 ]
 then_run {p} {q} {r} {w} f t (goes {k = k} v j s run l h is) = elim (leads_split f t j k l) [
   | inl a ↦ elim (then_run f t run) [
@@ -125,14 +125,14 @@ then_run {p} {q} {r} {w} f t (goes {k = k} v j s run l h is) = elim (leads_split
   ]
   | inr (inl b) ↦ elim (then_run f t run) [
     | inl one ↦ inr record {
-        place = b.1.0;
-        front = v;
-        rest = s ∷ [];
-        place_is = b.1.1;
-        word_is = is;
-        accepted = inr (j, one, b.0);
-        run = begins s b.1.2 (has_right p q r t.classes k b.1.0 s b.1.1 h) refl;
-      }
+      place = b.1.0;
+      front = v;
+      rest = s ∷ [];
+      place_is = b.1.1;
+      word_is = is;
+      accepted = inr (j, one, b.0);
+      run = begins s b.1.2 (has_right p q r t.classes k b.1.0 s b.1.1 h) refl;
+    }
     | inr two ↦ absurd (omega (arith, two.place_is, f.last_in j b.0))
   ]
   | inr (inr d) ↦ elim (then_run f t run) [

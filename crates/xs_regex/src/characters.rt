@@ -103,7 +103,11 @@ fn hex(value: u32, count: u32, cs: &[char]) -> Option<(u32, &[char])>
         return None;
     };
     if *c == '}' {
-        return if count > 0 && is_character(value) { Some((value, rest)) } else { None };
+        return if count > 0 && is_character(value) {
+            Some((value, rest))
+        } else {
+            None
+        };
     }
     match hex_digit(*c) {
         Some(digit) => {
@@ -136,7 +140,11 @@ fn count(cs: &[char]) -> Option<(u32, &[char])>
     let [c, rest @ ..] = cs else {
         return None;
     };
-    if is_decimal(*c) { second(*c as u32 - 48, rest) } else { None }
+    if is_decimal(*c) {
+        second(*c as u32 - 48, rest)
+    } else {
+        None
+    }
 }
 
 fn second(n: u32, cs: &[char]) -> Option<(u32, &[char])>
@@ -150,7 +158,11 @@ fn second(n: u32, cs: &[char]) -> Option<(u32, &[char])>
         return Some((n, cs));
     }
     let whole = 10 * n + (*c as u32 - 48);
-    if 0 < n && whole <= 64 { Some((whole, rest)) } else { None }
+    if 0 < n && whole <= 64 {
+        Some((whole, rest))
+    } else {
+        None
+    }
 }
 
 /// Behind an opening brace, the counts, and what is left behind the closing one.
@@ -183,7 +195,11 @@ fn most(least: u32, cs: &[char]) -> Option<((u32, Option<u32>), &[char])>
     let [c, rest @ ..] = left else {
         return None;
     };
-    if *c == '}' && least <= most { Some(((least, Some(most)), rest)) } else { None }
+    if *c == '}' && least <= most {
+        Some(((least, Some(most)), rest))
+    } else {
+        None
+    }
 }
 
 /// A character in brackets, and what is left.
@@ -219,7 +235,11 @@ fn named(cs: &[char]) -> Option<(&[char], &[char])>
         return None;
     }
     let (letters, left) = name(rest)?;
-    if letters.is_empty() { None } else { Some((letters, left)) }
+    if letters.is_empty() {
+        None
+    } else {
+        Some((letters, left))
+    }
 }
 
 /// One character, or a range where a hyphen stands next, and what is left.
@@ -233,7 +253,11 @@ fn span(low: u32, cs: &[char]) -> Option<((u32, u32), &[char])>
         return Some(((low, low), cs));
     }
     let (high, left) = member_char(rest)?;
-    if low <= high { Some(((low, high), left)) } else { None }
+    if low <= high {
+        Some(((low, high), left))
+    } else {
+        None
+    }
 }
 
 /// One item between brackets, and what is left.

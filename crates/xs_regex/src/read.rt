@@ -79,5 +79,4 @@ fn whole(alloc: Global, cs: &[char]) -> Result<Regex, RegexFault>
 pub fn one_reading()
     ensures tree { (pattern : List ℕ) (t u : Tree) → IsReading pattern t → IsReading pattern u → t ≡ u }
     ensures words { (pattern : List ℕ) (r q : AnyRegex) → IsPatternOf pattern r → IsPatternOf pattern q → (w : List ℕ) → Matches r w → Matches q w }
-{
-}
+{}

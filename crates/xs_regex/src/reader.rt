@@ -16,7 +16,12 @@ use std::alloc::Global;
 ///
 /// It calls itself at most as often as there are steps, and goes into parentheses at most so deep.
 #[cycle(reader)]
-pub fn regex(alloc: Global, steps: usize, depth: u32, cs: &[char]) -> Result<(Regex, &[char]), RegexFault>
+pub fn regex(
+    alloc: Global,
+    steps: usize,
+    depth: u32,
+    cs: &[char],
+) -> Result<(Regex, &[char]), RegexFault>
     ensures { IsTold (regex_at steps depth cs.now) Reads result }
 {
     if steps == 0 {
@@ -29,7 +34,13 @@ pub fn regex(alloc: Global, steps: usize, depth: u32, cs: &[char]) -> Result<(Re
 }
 
 #[cycle(reader)]
-fn alternatives(alloc: Global, steps: usize, depth: u32, first: Regex, left: &[char]) -> Result<(Regex, &[char]), RegexFault>
+fn alternatives(
+    alloc: Global,
+    steps: usize,
+    depth: u32,
+    first: Regex,
+    left: &[char],
+) -> Result<(Regex, &[char]), RegexFault>
     ensures { (t : Tree) → Means t first → IsTold (regex_behind (Some (t, left.now)) (λ l. regex_at steps depth l)) Reads result }
 {
     let Some((c, rest)) = next(left) else {
@@ -58,7 +69,12 @@ fn ends(cs: &[char]) -> bool
 }
 
 #[cycle(reader)]
-fn sequence(alloc: Global, steps: usize, depth: u32, cs: &[char]) -> Result<(Regex, &[char]), RegexFault>
+fn sequence(
+    alloc: Global,
+    steps: usize,
+    depth: u32,
+    cs: &[char],
+) -> Result<(Regex, &[char]), RegexFault>
     ensures { IsTold (scan.sequence_at steps depth cs.now) Reads result }
 {
     if ends(cs) {
@@ -68,7 +84,12 @@ fn sequence(alloc: Global, steps: usize, depth: u32, cs: &[char]) -> Result<(Reg
 }
 
 #[cycle(reader)]
-fn pieces(alloc: Global, steps: usize, depth: u32, cs: &[char]) -> Result<(Regex, &[char]), RegexFault>
+fn pieces(
+    alloc: Global,
+    steps: usize,
+    depth: u32,
+    cs: &[char],
+) -> Result<(Regex, &[char]), RegexFault>
     ensures { IsTold (pieces_at steps depth cs.now) Reads result }
 {
     if steps == 0 {
@@ -81,7 +102,13 @@ fn pieces(alloc: Global, steps: usize, depth: u32, cs: &[char]) -> Result<(Regex
 }
 
 #[cycle(reader)]
-fn more_pieces(alloc: Global, steps: usize, depth: u32, first: Regex, left: &[char]) -> Result<(Regex, &[char]), RegexFault>
+fn more_pieces(
+    alloc: Global,
+    steps: usize,
+    depth: u32,
+    first: Regex,
+    left: &[char],
+) -> Result<(Regex, &[char]), RegexFault>
     ensures { (t : Tree) → Means t first → IsTold (pieces_behind (Some (t, left.now)) (λ l. pieces_at steps depth l)) Reads result }
 {
     if ends(left) {
@@ -98,7 +125,12 @@ fn more_pieces(alloc: Global, steps: usize, depth: u32, first: Regex, left: &[ch
 
 /// An atom with its count.
 #[cycle(reader)]
-fn piece(alloc: Global, steps: usize, depth: u32, cs: &[char]) -> Result<(Regex, &[char]), RegexFault>
+fn piece(
+    alloc: Global,
+    steps: usize,
+    depth: u32,
+    cs: &[char],
+) -> Result<(Regex, &[char]), RegexFault>
     ensures { IsTold (scan.counted (atom_at steps depth cs.now)) Reads result }
 {
     match atom(alloc, steps, depth, cs) {
@@ -134,7 +166,12 @@ fn counted(alloc: Global, inner: Regex, cs: &[char]) -> Result<(Regex, &[char]),
 }
 
 #[cycle(reader)]
-fn atom(alloc: Global, steps: usize, depth: u32, cs: &[char]) -> Result<(Regex, &[char]), RegexFault>
+fn atom(
+    alloc: Global,
+    steps: usize,
+    depth: u32,
+    cs: &[char],
+) -> Result<(Regex, &[char]), RegexFault>
     ensures { IsTold (atom_at steps depth cs.now) Reads result }
 {
     if steps == 0 {
@@ -154,7 +191,12 @@ fn atom(alloc: Global, steps: usize, depth: u32, cs: &[char]) -> Result<(Regex, 
 
 /// A regex and a closing parenthesis.
 #[cycle(reader)]
-fn group(alloc: Global, steps: usize, depth: u32, cs: &[char]) -> Result<(Regex, &[char]), RegexFault>
+fn group(
+    alloc: Global,
+    steps: usize,
+    depth: u32,
+    cs: &[char],
+) -> Result<(Regex, &[char]), RegexFault>
     ensures { IsTold (closed (regex_at steps depth cs.now)) Reads result }
 {
     match regex(alloc, steps, depth, cs) {
@@ -162,7 +204,11 @@ fn group(alloc: Global, steps: usize, depth: u32, cs: &[char]) -> Result<(Regex,
             let Some((c, rest)) = next(left) else {
                 return Err(RegexFault::BadRegex);
             };
-            if c == ')' { Ok((inner, rest)) } else { Err(RegexFault::BadRegex) }
+            if c == ')' {
+                Ok((inner, rest))
+            } else {
+                Err(RegexFault::BadRegex)
+            }
         }
         Err(fault) => Err(fault),
     }

@@ -13,7 +13,12 @@ use xs_class::Memory;
 ///
 /// There is a copy of the automaton for each word. Of a greatest count, k words stand in the first
 /// k copies; without one the last copy goes round.
-pub fn repeated(alloc: Global, one: &Position, least: u32, most: Option<u32>) -> Result<Position, Memory>
+pub fn repeated(
+    alloc: Global,
+    one: &Position,
+    least: u32,
+    most: Option<u32>,
+) -> Result<Position, Memory>
     requires formed { IsWellFormed one.now }
     requires small { copies least most * length one.now.classes ≤ 512 }
     ensures { IfOk result (IsAutomaton (Repeats (Accepts one.now) least most) (times (copies least most) one.now.classes) (IsSure one.now least most)) }

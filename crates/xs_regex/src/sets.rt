@@ -187,5 +187,9 @@ fn bracket(alloc: Global, cs: &[char]) -> Result<(Class, &[char]), RegexFault>
     let Some((c, rest)) = next(cs) else {
         return Err(RegexFault::BadRegex);
     };
-    if c == '^' { none_of(alloc, rest) } else { some_of(alloc, cs) }
+    if c == '^' {
+        none_of(alloc, rest)
+    } else {
+        some_of(alloc, cs)
+    }
 }

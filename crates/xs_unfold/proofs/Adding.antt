@@ -20,11 +20,11 @@ at_front [] y r d h = absurd (omega arith)
 at_front (x ∷ xs) y zero d h = refl
 at_front (x ∷ xs) y (suc r) d h = at_front xs y r d (omega arith)
 
-at_end : {X : Type 0} (xs : List X) (y : X) (d : X) → slice_index_or (xs ++ y ∷ []) (length xs) d ≡ y
+pub at_end : {X : Type 0} (xs : List X) (y : X) (d : X) → slice_index_or (xs ++ y ∷ []) (length xs) d ≡ y
 at_end [] y d = refl
 at_end (x ∷ xs) y d = at_end xs y d
 
-one_longer : {X : Type 0} (xs : List X) (y : X) → length (xs ++ y ∷ []) ≡ suc (length xs)
+pub one_longer : {X : Type 0} (xs : List X) (y : X) → length (xs ++ y ∷ []) ≡ suc (length xs)
 one_longer [] y = refl
 one_longer (x ∷ xs) y = ap suc (one_longer xs y)
 
@@ -38,10 +38,10 @@ module _ (f : Forest) (row : SpanKey × List Alt) where
   abbrev more : Forest
   more = f ++ row ∷ []
 
-  key_more : (r : ℕ) → r < length f → key_of more r ≡ key_of f r
+  pub key_more : (r : ℕ) → r < length f → key_of more r ≡ key_of f r
   key_more r h = ap (λ (z : SpanKey × List Alt). z.0) (at_front f row r no_row h)
 
-  alts_more : (r : ℕ) → r < length f → alts_of more r ≡ alts_of f r
+  pub alts_more : (r : ℕ) → r < length f → alts_of more r ≡ alts_of f r
   alts_more r h = ap (λ (z : SpanKey × List Alt). z.1) (at_front f row r no_row h)
 
   row_more : (r : ℕ) (x : What) (i j : ℕ) → IsRow f r x i j → IsRow more r x i j
@@ -83,7 +83,7 @@ item_child f (Term t s) i j c o h e = absurd (none_some o c h e)
 item_child f (Skip t) i j c o h e = absurd (none_some o c h e)
 item_child f (Non m s) i j c o (n, e', h) e = let s' = some_same o n c e' e in omega (arith, h.0)
 
-alt_child : (g : Grammar) (w : List ℕ) (has : ℕ → Place → ℕ → Type 0) (f : Forest) (x : What) (i j c : ℕ) (a : Alt) → IsAltBy g w has f x i j a → (a.left ≡ Some c) ⊎ (a.right ≡ Some c) → c < length f
+pub alt_child : (g : Grammar) (w : List ℕ) (has : ℕ → Place → ℕ → Type 0) (f : Forest) (x : What) (i j c : ℕ) (a : Alt) → IsAltBy g w has f x i j a → (a.left ≡ Some c) ⊎ (a.right ≡ Some c) → c < length f
 alt_child g w has f (Whole n) i j c a h (inl e) = front_child f a.rule (length (items g a.rule)) i j c a.left h.left_is e
 alt_child g w has f (Whole n) i j c a h (inr e) = absurd (none_some a.right c h.right_is e)
 alt_child g w has f (Front p zero) i j c a h e = absurd h

@@ -8,5 +8,10 @@ pub mod Below
 pub mod Placed
 pub mod Whole
 pub mod Number
+pub mod First
 pub mod Listing
 pub mod Walk
+pub mod Tails
+pub mod Counts
+pub mod Sorting
+pub mod Rows

@@ -46,10 +46,10 @@ factor_le' : (c d : ℕ) → 1 ≤ c → d ≤ c * d
 factor_le' zero d h = absurd (omega arith)
 factor_le' (suc c) d h = let e = suc-mul c d in omega arith
 
-get_of : {X : Type 0} (xs : List X) (x : X) → Contains xs x → (n : ℕ) × (slice_get xs n ≡ Some x)
+pub get_of : {X : Type 0} (xs : List X) (x : X) → Contains xs x → (n : ℕ) × (slice_get xs n ≡ Some x)
 get_of xs x (n, lt, e) = (n, slice_get-get_or xs n x lt ∙ ap Some e)
 
-contains_of : {X : Type 0} (xs : List X) (n : ℕ) (x : X) → slice_get xs n ≡ Some x → Contains xs x
+pub contains_of : {X : Type 0} (xs : List X) (n : ℕ) (x : X) → slice_get xs n ≡ Some x → Contains xs x
 contains_of xs n x e = (n, get_lt xs n x e, get_or_from_slice_get xs n x x e)
 
 module _ (cap : ℕ) (cs : List ℕ) where
@@ -78,7 +78,7 @@ module _ (cap : ℕ) (cs : List ℕ) where
   some_alt (b ∷ more) (suc n) a c e h = omega (arith, some_alt more n a c e h)
 
   -- the places of two numbers that are the same
-  alt_one : (more : List Alt) (n m : ℕ) (a b : Alt) (x y : ℕ) → slice_get more n ≡ Some a → slice_get more m ≡ Some b → x < alt_count cap cs a → y < alt_count cap cs b → alts_sum cap cs (take n more) + x ≡ alts_sum cap cs (take m more) + y → (n ≡ m) × (a ≡ b) × (x ≡ y)
+  pub alt_one : (more : List Alt) (n m : ℕ) (a b : Alt) (x y : ℕ) → slice_get more n ≡ Some a → slice_get more m ≡ Some b → x < alt_count cap cs a → y < alt_count cap cs b → alts_sum cap cs (take n more) + x ≡ alts_sum cap cs (take m more) + y → (n ≡ m) × (a ≡ b) × (x ≡ y)
   alt_one [] n m a b x y e h lx ly s = cc
   alt_one (c ∷ more) zero zero a b x y e h lx ly s = (refl, cc, omega arith)
   alt_one (c ∷ more) zero (suc m) a b x y e h lx ly s =

@@ -17,6 +17,7 @@ use Rattle.xs_unfold.specs.Grown.{ItemOver, IsGrown}
 use Rattle.xs_unfold.specs.Adding.{more_of, IsNext}
 use Rattle.xs_unfold.specs.Order.{IsRanked, IsTail, level_of}
 use Rattle.xs_unfold.specs.Placed.{key_in, IsOrdered, HasKeys}
+use Rattle.xs_unfold.specs.First.{IsFirst}
 use Rattle.xs_unfold.specs.Listing.{IsListed, IsByNumber}
 
 -- each unfolding of a row reads as parts for the items of its label that spell its stretch
@@ -43,6 +44,10 @@ IsRoot g w f root = IsRow f root (Whole g.start) zero (length w)
 
 abbrev pub RootIsExact : Type 0
 RootIsExact = (g : Grammar) (w : List ℕ) (f : Forest) → IsRight g w f → (root : ℕ) → IsRoot g w f root → IsExact g w f root
+
+-- each row that has an unfolding has one by the first alternatives
+abbrev pub FirstUnfolds : Type 0
+FirstUnfolds = (g : Grammar) (w : List ℕ) (f : Forest) → IsRight g w f → (r : ℕ) (u : Unfolding) → Unfolds f (Some r) u → (v : Unfolding) × IsFirst f (Some r) v × Unfolds f (Some r) v
 
 -- a forest that is grown by a document's chart is right
 abbrev pub GrownIsRight : Type 0

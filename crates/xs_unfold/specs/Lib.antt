@@ -3,6 +3,7 @@ pub mod Grown
 pub mod Adding
 pub mod Order
 pub mod Placed
+pub mod First
 pub mod Number
 pub mod Listing
 pub mod Walk

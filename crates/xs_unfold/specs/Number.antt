@@ -1,5 +1,5 @@
 -- The unfoldings of a row by number, with counts that stop at a cap.
-use Rattle.std.specs.Prelude.{◌≡◌, ℕ, zero, suc, ◌+◌, ◌*◌, ◌<◌, List, [], ◌∷◌, length, take, min, None, Some, slice_get, slice_index_or}
+use Rattle.std.specs.Prelude.{◌≡◌, ℕ, zero, suc, ◌+◌, ◌*◌, ◌<◌, ◌≤◌, List, [], ◌∷◌, length, take, min, None, Some, slice_get, slice_index_or}
 use Rattle.std.specs.declared.option.Option.{Option}
 use Rattle.xs_forest.specs.declared.row.Alt.{Alt}
 use Rattle.xs_unfold.specs.Forest.{Forest, alts_of, Unfolding, bare, pick}
@@ -34,3 +34,15 @@ At f cap cs None k bare = k ≡ zero
 At f cap cs None k (pick a l t) = ⊥
 At f cap cs (Some r) k bare = ⊥
 At f cap cs (Some r) k (pick a l t) = (r < length f) × (n : ℕ) × (x : ℕ) × (y : ℕ) × (slice_get (alts_of f r) n ≡ Some a) × (y < count_of cs a.right) × (x * count_of cs a.right + y < alt_count cap cs a) × (k ≡ alts_sum cap cs (take n (alts_of f r)) + (x * count_of cs a.right + y)) × At f cap cs a.left x l × At f cap cs a.right y t
+
+-- the counts are those of so many first rows
+abbrev pub AreCounts : Forest → ℕ → List ℕ → Type 0
+AreCounts f cap cs = (length cs ≤ length f) × ((r : ℕ) → r < length cs → slice_index_or cs r zero ≡ alts_count cap cs (alts_of f r))
+
+-- Unfolding number k of the alternatives is of alternative n, by unfolding number x of its left child and
+-- number y of its right child.
+pub record IsChosen (cap : ℕ) (cs : List ℕ) (alts : List Alt) (k n x y : ℕ) (a : Alt) : Type 0 where
+  pub alt : slice_get alts n ≡ Some a
+  pub within : y < count_of cs a.right
+  pub both : x * count_of cs a.right + y < alt_count cap cs a
+  pub number : k ≡ alts_sum cap cs (take n alts) + (x * count_of cs a.right + y)

@@ -1,4 +1,4 @@
-ghost use Rattle.xs_unfold.specs.Laws.{UnfoldingFits, FittingIsUnfolded, ReadingIsOnce, RootIsExact, GrownIsRight, AddedIsGrown, ChildrenComeFirst, GrownIsExact, NumberedIsListed};
+ghost use Rattle.xs_unfold.specs.Laws.{UnfoldingFits, FittingIsUnfolded, ReadingIsOnce, RootIsExact, FirstUnfolds, GrownIsRight, AddedIsGrown, ChildrenComeFirst, GrownIsExact, NumberedIsListed};
 
 /// Each unfolding of a row reads as parts for the items of its label that spell its stretch.
 pub fn unfolding_fits()
@@ -18,6 +18,11 @@ pub fn reading_is_once()
 /// The unfoldings of the root are exactly the derivations of the document, each once.
 pub fn root_is_exact()
     ensures { RootIsExact }
+{}
+
+/// Each row that has an unfolding has one by the first alternative of each row.
+pub fn first_unfolds()
+    ensures { FirstUnfolds }
 {}
 
 /// A forest that is grown by a document's chart is right.

@@ -1,4 +1,4 @@
-use Rattle.std.proofs.Common.{◌≡◌, ◌≤◌, ℕ, List, [], length, Bool, true, false, ◌==◌, Some, None, refl, sym, ◌∙◌, ap, subst}
+use Rattle.std.proofs.Common.{◌≡◌, ◌≤◌, ℕ, List, [], length, Bool, false, ◌==◌, Some, None, sym, ◌∙◌, ap, subst}
 use Rattle.std.specs.Option.{option_map}
 use Rattle.xs_piece.specs.Reads.{Reads}
 use Rattle.xs_piece.specs.Scan.{piece_at}

@@ -1,4 +1,4 @@
-use Rattle.std.proofs.Common.{◌≡◌, length}
+use Rattle.std.proofs.Common.{length}
 use Rattle.xs_form.specs.State.{state_of}
 use Rattle.xs_form.proofs.ReadLaws.{IsSoFar}
 use Rattle.xs_form.proofs.document.read_xml.Given as goal

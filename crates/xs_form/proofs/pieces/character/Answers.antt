@@ -1,4 +1,4 @@
-use Rattle.std.proofs.Common.{◌≡◌, ℕ, Some, sym, ◌∙◌, ap, subst}
+use Rattle.std.proofs.Common.{◌≡◌, ℕ, Some, sym, ◌∙◌, subst}
 use Rattle.std.specs.Option.{option_map}
 use Rattle.xs_piece.specs.Scan.{char_at}
 use Rattle.xs_form.specs.Seen.{found, letter, past_feed}

@@ -1,8 +1,8 @@
-use Rattle.std.proofs.Common.{◌≡◌, Bool, true, false, map, Some, None, refl, sym, ◌∙◌, ap, subst}
+use Rattle.std.proofs.Common.{◌≡◌, Bool, map, Some, None, sym, ◌∙◌, ap, subst}
 use Rattle.std.specs.Option.{option_map}
 use Rattle.xs_piece.specs.Scan.{tag_at}
 use Rattle.xs_form.specs.Attributes.{shown}
-use Rattle.xs_form.specs.Sorted.{held_named, shown_entries, sorted_entries}
+use Rattle.xs_form.specs.Sorted.{shown_entries, sorted_entries}
 use Rattle.xs_form.specs.Seen.{found}
 use Rattle.xs_form.proofs.SortedLaws.{held_are_named}
 use Rattle.xs_form.proofs.PieceLaws.{made_of, tag_is}

@@ -1,4 +1,4 @@
-use Rattle.std.proofs.Common.{◌≡◌, ◌++◌, ◌∷◌, [], List, ℕ, sym, ◌∙◌, ap, append_assoc}
+use Rattle.std.proofs.Common.{◌≡◌, ◌++◌, ◌∷◌, [], List, ℕ, ◌∙◌, ap, append_assoc}
 use Rattle.std.specs.Str.{chars}
 use Rattle.xs_piece.specs.Reads.{opening}
 use Rattle.xs_piece.proofs.Reading.{name_chars}

@@ -1,4 +1,4 @@
-use Rattle.std.proofs.Common.{◌≡◌, ℕ, ap, ◌∙◌}
+use Rattle.std.proofs.Common.{ap, ◌∙◌}
 use Rattle.xs_piece.specs.Tables.{is_name_start}
 use Rattle.xs_piece.proofs.TableLaws.{name_start_is}
 use Rattle.xs_form.proofs.runs.begins_name.Goals as goal

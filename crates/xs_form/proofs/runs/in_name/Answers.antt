@@ -1,4 +1,4 @@
-use Rattle.std.proofs.Common.{◌≡◌, ℕ, ap, ◌∙◌}
+use Rattle.std.proofs.Common.{ap, ◌∙◌}
 use Rattle.xs_piece.specs.Tables.{is_name_char}
 use Rattle.xs_piece.proofs.TableLaws.{name_char_is}
 use Rattle.xs_form.proofs.runs.in_name.Goals as goal

@@ -1,6 +1,6 @@
-use Rattle.std.proofs.Common.{◌≡◌, ◌++◌, ◌&&◌, Bool, List, ℕ, refl, sym, ◌∙◌, ap, subst}
-use Rattle.xs_form.specs.Values.{is_written, is_return, part_symbols}
-use Rattle.xs_form.proofs.ValueLaws.{IsSoFar, so_far_more, so_far_ends, part_shorter}
+use Rattle.std.proofs.Common.{◌≡◌, ◌&&◌, refl}
+use Rattle.xs_form.specs.Values.{is_written}
+use Rattle.xs_form.proofs.ValueLaws.{so_far_more, so_far_ends, part_shorter}
 use Rattle.xs_form.proofs.values.value_at.Goals as goal
 use Rattle.xs_form.proofs.values.value_at.Goals.{then-written, else-written}
 
