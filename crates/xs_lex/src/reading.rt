@@ -129,5 +129,4 @@ fn scanned(alloc: Global, bytes: &[u8], whole: bool, letters: &[char]) -> Result
 /// A token's word before white space is a token by itself.
 pub fn separated()
     ensures { Separated }
-{
-}
+{}

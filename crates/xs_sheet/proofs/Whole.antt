@@ -236,5 +236,5 @@ sheet_broken ps p is =
       after = r.after;
       split = r.split;
       begins = (e.more, e.outline, sheet_sound (r.front ++ e.more) e.outline (r.leads e.more ∙ e.ends));
-      broken = λ b. done_stuck b.1 [] p (sym (sheet_complete ((r.front ++ p ∷ []) ++ b.0) b.1 b.2) ∙ ap (λ (z : List Piece). run begin z) (append_assoc r.front (p ∷ []) b.0) ∙ r.leads (p ∷ b.0) ∙ ap (λ (z : Step). follow z p (λ u. run u b.0) b.0) r.refuses)
+      broken = λ b. done_stuck b.1 [] p (sym (sheet_complete ((r.front ++ p ∷ []) ++ b.0) b.1 b.2) ∙ ap (λ (z : List Piece). run begin z) (append_assoc r.front (p ∷ []) b.0) ∙ r.leads (p ∷ b.0) ∙ ap (λ (z : Step). follow z p (λ u. run u b.0) b.0) r.refuses);
     }

@@ -134,12 +134,7 @@ pub fn square(alloc: Global, place: Place, piece: &Piece) -> Result<Step, Memory
 }
 
 /// Behind the name in brackets.
-pub fn square_name(
-    alloc: Global,
-    place: Place,
-    name: Text,
-    piece: &Piece,
-) -> Result<Step, Memory>
+pub fn square_name(alloc: Global, place: Place, name: Text, piece: &Piece) -> Result<Step, Memory>
     requires { PlaceHasRegexes place }
     ensures view { IfOk result (λ s. step_view s ≡ M.step (M.square_name (place_view place) name) piece.now) }
     ensures regexes { IfOk result StepHasRegexes }

@@ -182,13 +182,7 @@ pub fn normal(
 }
 
 /// Behind a production's name.
-pub fn colon(
-    alloc: Global,
-    head: Head,
-    name: Text,
-    line: u32,
-    piece: &Piece,
-) -> Step
+pub fn colon(alloc: Global, head: Head, name: Text, line: u32, piece: &Piece) -> Step
     requires { HaveRegexes head.units.items }
     ensures view { step_view result ≡ M.step (M.colon (head_view head) name line) piece.now }
     ensures regexes { StepHasRegexes result }
