@@ -71,7 +71,3 @@ common_at f i = tree_at (trees_of f.parts) i
 -- the common tree that a flat tree means
 abbrev pub common_of : Flat → Common
 common_of f = common_at f f.root
-
--- a number, and 2^64 less 1 for each that is above
-abbrev pub capped : ℕ → ℕ
-capped n = min n (2 ^ 64 - 1)

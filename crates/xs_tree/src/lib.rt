@@ -6,10 +6,13 @@
 #![tactic(auto)]
 
 mod builder;
+mod count;
+mod numbers;
 mod part;
 mod tree;
 
 pub use builder::Builder;
+pub use count::parts_of;
 // Exported so that the contracts of other crates can name a part.
 #[doc(hidden)]
 pub use part::{Places, TreePart};
