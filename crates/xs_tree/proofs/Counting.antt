@@ -1,10 +1,10 @@
 -- Counts of parts, made from those of their children.
-use Rattle.std.proofs.Common.{◌≡◌, ℕ, suc, ◌+◌, ◌-◌, ◌^◌, ◌<◌, ◌≤◌, min, List, [], ◌∷◌, ◌++◌, length, map, take, drop, All, get_or, refl, sym, ◌∙◌, ap, subst, add-one, drop-cons, arith}
+use Rattle.std.proofs.Common.{◌≡◌, ℕ, suc, ◌+◌, ◌<◌, ◌≤◌, List, [], ◌∷◌, ◌++◌, length, map, take, drop, All, get_or, refl, sym, ◌∙◌, ap, subst, add-one, drop-cons, arith}
 use Rattle.std.proofs.lemmas.List.{get_or-map, map-append, length-map, length-take-le, take_all, drop_all}
 use Rattle.std.proofs.lemmas.List.Elements.{All-head, All-tail}
-use Rattle.xs_gram.specs.Common.{Common, word, made, kids_count, parts_count}
+use Rattle.xs_gram.specs.Common.{Common, word, kids_count, parts_count}
 use Rattle.xs_tree.specs.declared.part.TreePart.{TreePart}
-use Rattle.xs_tree.specs.declared.part.TreePart.TheVariants.{Leaf, Node}
+use Rattle.xs_tree.specs.declared.part.TreePart.TheVariants.{Node}
 use Rattle.xs_tree.specs.Flat.{Flat, IsFlat, IsAfter, tree_at, kids_at, tree_of, trees_of, common_of}
 use Rattle.xs_tree.proofs.Trees.{trees_step, length-trees}
 use Rattle.xs_tree.specs.Counts.{capped, capped_count, picked_sum}

@@ -1,13 +1,13 @@
 -- The trees of a list of parts, one for each part, and how they grow with it.
-use Rattle.std.proofs.Common.{◌≡◌, ◌⊎◌, inl, inr, ℕ, zero, suc, ◌+◌, ◌<◌, List, [], ◌∷◌, ◌++◌, length, All, get_or, slice_get, Option, None, Some, refl, sym, ◌∙◌, ap, subst, append_assoc, length-append, add-one, take, arith}
-use Rattle.std.proofs.lemmas.List.{append-nil, get_or_append_left}
+use Rattle.std.proofs.Common.{◌≡◌, ◌⊎◌, inl, inr, ℕ, zero, suc, ◌+◌, ◌<◌, List, [], ◌∷◌, ◌++◌, length, All, get_or, slice_get, Some, refl, sym, ◌∙◌, ap, subst, length-append, add-one, take, arith}
+use Rattle.std.proofs.lemmas.List.{get_or_append_left}
 use Rattle.std.proofs.lemmas.List.Elements.{All-head, All-tail}
 use Rattle.std.proofs.lemmas.Option.{none-some, same_Some, slice_get_read}
 use Rattle.std.proofs.Math.Seq.{get_or-append_seam, take-suc}
 use Rattle.xs_tree.specs.declared.part.TreePart.{TreePart}
 use Rattle.xs_tree.specs.declared.part.TreePart.TheVariants.{Leaf, Node}
-use Rattle.xs_gram.specs.Common.{Common, word, made, Kids, no_kid, kid}
-use Rattle.xs_tree.specs.Flat.{Flat, IsFlat, IsAfter, AreRising, kids_of, kids_at, tree_at, tree_of, trees_after, trees_of}
+use Rattle.xs_gram.specs.Common.{Common, word, made, kid}
+use Rattle.xs_tree.specs.Flat.{IsAfter, AreRising, kids_at, tree_at, tree_of, trees_after, trees_of}
 
 -- a part more is a tree more
 pub trees_after_push : (trees : List Common) (parts : List TreePart) (part : TreePart) → trees_after trees (parts ++ part ∷ []) ≡ trees_after trees parts ++ tree_of (trees_after trees parts) part ∷ []

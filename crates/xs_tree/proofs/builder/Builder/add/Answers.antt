@@ -1,7 +1,4 @@
-use Rattle.std.proofs.Common.{◌∙◌, sym, ap}
-use Rattle.std.proofs.lemmas.Result.{on_ok_weaker}
-use Rattle.xs_tree.specs.Flat.{trees_of}
-use Rattle.xs_tree.proofs.Trees.{trees_push, rising_push}
+use Rattle.xs_tree.proofs.Trees.{trees_push}
 use Rattle.xs_tree.proofs.builder.Builder.add.Goals as goal
 
 pub returns-clause-means : goal.returns-clause-means
