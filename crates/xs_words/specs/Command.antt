@@ -1,0 +1,60 @@
+-- The command that a list of words is.
+use Rattle.std.specs.Prelude.{ℕ, List, [], ◌∷◌, None, Some, codes, ◌&&◌, if◌then◌else◌}
+use Rattle.std.specs.declared.option.Option.{Option}
+use Rattle.std.specs.Option.{option_map}
+use Rattle.std.specs.Str.{bytes_eq}
+use Rattle.xs_chars.specs.declared.form.Form.{Form}
+use Rattle.xs_chars.specs.declared.form.Form.TheVariants.{AsIs, Nfc, Nfd}
+use Rattle.xs_words.specs.Number.{number_within}
+
+-- a sheet: the one that the program brings along, or that of a file of this name
+pub data Sheet : Type 0 where
+  leiden : Sheet
+  file : List ℕ → Sheet
+
+-- a command, with its sheet, its form and its numbers: a greatest number of trees, a seed and a number of lines
+pub data Command : Type 0 where
+  check : Sheet → Command
+  to_xml : Sheet → Form → Command
+  to_text : Sheet → Command
+  round_text : Sheet → Form → Command
+  round_xml : Sheet → Command
+  trees : Sheet → ℕ → Command
+  print_sheet : Command
+  make : ℕ → ℕ → Command
+
+abbrev pub sheet_of : List ℕ → Sheet
+sheet_of word = if bytes_eq word (codes "@leiden") then leiden else file word
+
+abbrev pub form_of : List ℕ → Option Form
+form_of word = if bytes_eq word (codes "asis") then Some AsIs else (if bytes_eq word (codes "nfc") then Some Nfc else (if bytes_eq word (codes "nfd") then Some Nfd else None))
+
+-- check SHEET, to-xml SHEET, to-text SHEET
+abbrev pub command_of_two : List ℕ → List ℕ → Option Command
+command_of_two verb sheet = if bytes_eq verb (codes "check") then Some (check (sheet_of sheet)) else (if bytes_eq verb (codes "to-xml") then Some (to_xml (sheet_of sheet) AsIs) else (if bytes_eq verb (codes "to-text") then Some (to_text (sheet_of sheet)) else None))
+
+-- round SHEET text, round SHEET xml
+abbrev pub round_of : List ℕ → List ℕ → Option Command
+round_of sheet side = if bytes_eq side (codes "text") then Some (round_text (sheet_of sheet) AsIs) else (if bytes_eq side (codes "xml") then Some (round_xml (sheet_of sheet)) else None)
+
+-- make, where both its words are numbers in their range
+abbrev pub make_of : Option ℕ → Option ℕ → Option Command
+make_of None lines = None
+make_of (Some seed) None = None
+make_of (Some seed) (Some lines) = Some (make seed lines)
+
+-- to-xml SHEET FORM, round SHEET SIDE, trees SHEET MAX, make SEED LINES
+abbrev pub command_of_three : List ℕ → List ℕ → List ℕ → Option Command
+command_of_three verb first second = if bytes_eq verb (codes "to-xml") then option_map (to_xml (sheet_of first)) (form_of second) else (if bytes_eq verb (codes "round") then round_of first second else (if bytes_eq verb (codes "trees") then option_map (trees (sheet_of first)) (number_within 1 1000 second) else (if bytes_eq verb (codes "make") then make_of (number_within 0 2147483647 first) (number_within 1 2000 second) else None)))
+
+-- round SHEET text FORM
+abbrev pub command_of_four : List ℕ → List ℕ → List ℕ → List ℕ → Option Command
+command_of_four verb sheet side form = if bytes_eq verb (codes "round") && bytes_eq side (codes "text") then option_map (round_text (sheet_of sheet)) (form_of form) else None
+
+-- the command that the words are, or none; a text is taken as it is where no form is named
+abbrev pub command_of : List (List ℕ) → Option Command
+command_of (verb ∷ []) = if bytes_eq verb (codes "sheet") then Some print_sheet else None
+command_of (verb ∷ sheet ∷ []) = command_of_two verb sheet
+command_of (verb ∷ first ∷ second ∷ []) = command_of_three verb first second
+command_of (verb ∷ sheet ∷ side ∷ form ∷ []) = command_of_four verb sheet side form
+command_of words = None

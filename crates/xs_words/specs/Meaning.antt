@@ -1,0 +1,20 @@
+-- What a command of the program means: the words that it borrows, read.
+use Rattle.xs_words.specs.declared.command.SheetName.{SheetName}
+use Rattle.xs_words.specs.declared.command.SheetName.TheVariants.{Leiden, File}
+use Rattle.xs_words.specs.declared.command.Command.{Command as Asked}
+use Rattle.xs_words.specs.declared.command.Command.TheVariants.{Check, ToXml, ToText, RoundText, RoundXml, Trees, PrintSheet, Make}
+use Rattle.xs_words.specs.Command.{Sheet, leiden, file, Command, check, to_xml, to_text, round_text, round_xml, trees, print_sheet, make}
+
+abbrev pub sheet_meant : SheetName → Sheet
+sheet_meant Leiden = leiden
+sheet_meant (File name) = file name.now
+
+abbrev pub meant : Asked → Command
+meant (Check sheet) = check (sheet_meant sheet)
+meant (ToXml sheet form) = to_xml (sheet_meant sheet) form
+meant (ToText sheet) = to_text (sheet_meant sheet)
+meant (RoundText sheet form) = round_text (sheet_meant sheet) form
+meant (RoundXml sheet) = round_xml (sheet_meant sheet)
+meant (Trees sheet max) = trees (sheet_meant sheet) max
+meant PrintSheet = print_sheet
+meant (Make seed lines) = make seed lines

@@ -1,0 +1,30 @@
+use xs_chars::Form;
+
+/// The sheet that a word names: `@leiden` the one that the program brings along, and any other word
+/// a file.
+#[derive(Clone, Copy)]
+pub enum SheetName<'w> {
+    Leiden,
+    File(&'w str),
+}
+
+/// What the words ask for.
+#[derive(Clone, Copy)]
+pub enum Command<'w> {
+    /// `check SHEET`: whether the sheet is accepted.
+    Check { sheet: SheetName<'w> },
+    /// `to-xml SHEET` or `to-xml SHEET FORM`: the text of the input as XML.
+    ToXml { sheet: SheetName<'w>, form: Form },
+    /// `to-text SHEET`: the XML of the input as text.
+    ToText { sheet: SheetName<'w> },
+    /// `round SHEET text` or `round SHEET text FORM`: the text of the input, to XML and back.
+    RoundText { sheet: SheetName<'w>, form: Form },
+    /// `round SHEET xml`: the XML of the input, to text and back.
+    RoundXml { sheet: SheetName<'w> },
+    /// `trees SHEET MAX`: at most `max` derivations of the text of the input, 1 to 1,000.
+    Trees { sheet: SheetName<'w>, max: u32 },
+    /// `sheet`: the sheet that the program brings along.
+    PrintSheet,
+    /// `make SEED LINES`: a text of 1 to 2,000 lines that is made of a seed of at most 2,147,483,647.
+    Make { seed: u32, lines: u32 },
+}

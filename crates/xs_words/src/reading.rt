@@ -1,0 +1,139 @@
+ghost use Rattle.std.specs.Prelude.{◌≡◌, map, string_bytes};
+ghost use Rattle.std.specs.Option.{option_map};
+ghost use Rattle.xs_words.specs.Command.{command_of as meant_by, command_of_two, command_of_three, command_of_four, form_of, sheet_of, round_of, make_of};
+ghost use Rattle.xs_words.specs.Meaning.{meant, sheet_meant};
+
+use crate::number::number;
+use crate::{Command, SheetName};
+use xs_chars::Form;
+
+const MOST_TREES: u32 = 1000;
+
+const GREATEST_SEED: u32 = 2_147_483_647;
+
+const MOST_LINES: u32 = 2000;
+
+fn sheet_name(word: &str) -> SheetName<'_>
+    ensures { sheet_meant result ≡ sheet_of word.now }
+{
+    if word == "@leiden" {
+        SheetName::Leiden
+    } else {
+        SheetName::File(word)
+    }
+}
+
+fn form_named(word: &str) -> Option<Form>
+    ensures { result ≡ form_of word.now }
+{
+    match word {
+        "asis" => Some(Form::AsIs),
+        "nfc" => Some(Form::Nfc),
+        "nfd" => Some(Form::Nfd),
+        _ => None,
+    }
+}
+
+fn of_two<'w>(verb: &str, sheet: &'w str) -> Option<Command<'w>>
+    ensures { option_map meant result ≡ command_of_two verb.now sheet.now }
+{
+    let sheet = sheet_name(sheet);
+    match verb {
+        "check" => Some(Command::Check { sheet }),
+        "to-xml" => Some(Command::ToXml {
+            sheet,
+            form: Form::AsIs,
+        }),
+        "to-text" => Some(Command::ToText { sheet }),
+        _ => None,
+    }
+}
+
+fn round<'w>(sheet: &'w str, side: &str) -> Option<Command<'w>>
+    ensures { option_map meant result ≡ round_of sheet.now side.now }
+{
+    let sheet = sheet_name(sheet);
+    match side {
+        "text" => Some(Command::RoundText {
+            sheet,
+            form: Form::AsIs,
+        }),
+        "xml" => Some(Command::RoundXml { sheet }),
+        _ => None,
+    }
+}
+
+fn make<'w>(seed: Option<u32>, lines: Option<u32>) -> Option<Command<'w>>
+    ensures { option_map meant result ≡ make_of seed lines }
+{
+    match (seed, lines) {
+        (Some(seed), Some(lines)) => Some(Command::Make { seed, lines }),
+        _ => None,
+    }
+}
+
+fn of_three<'w>(verb: &str, first: &'w str, second: &str) -> Option<Command<'w>>
+    ensures { option_map meant result ≡ command_of_three verb.now first.now second.now }
+{
+    match verb {
+        "to-xml" => {
+            let form = form_named(second)?;
+            let sheet = sheet_name(first);
+            Some(Command::ToXml { sheet, form })
+        }
+        "round" => round(first, second),
+        "trees" => {
+            let max = number(second, 1, MOST_TREES)?;
+            let sheet = sheet_name(first);
+            Some(Command::Trees { sheet, max })
+        }
+        "make" => make(
+            number(first, 0, GREATEST_SEED),
+            number(second, 1, MOST_LINES),
+        ),
+        _ => None,
+    }
+}
+
+fn of_four<'w>(verb: &str, sheet: &'w str, side: &str, form: &str) -> Option<Command<'w>>
+    ensures { option_map meant result ≡ command_of_four verb.now sheet.now side.now form.now }
+{
+    if verb == "round" && side == "text" {
+        let form = form_named(form)?;
+        let sheet = sheet_name(sheet);
+        return Some(Command::RoundText { sheet, form });
+    }
+    None
+}
+
+/// The command that the words are, or None where they are none.
+///
+/// The forms are `check SHEET`, `to-xml SHEET`, `to-xml SHEET FORM`, `to-text SHEET`,
+/// `round SHEET text`, `round SHEET text FORM`, `round SHEET xml`, `trees SHEET MAX`, `sheet` and
+/// `make SEED LINES`. SHEET is `@leiden` or a file's name, and FORM `asis`, which is meant where it
+/// is left out, `nfc` or `nfd`. MAX is 1 to 1,000, SEED 0 to 2,147,483,647 and LINES 1 to 2,000, each
+/// in decimal digits without a sign, and without a leading zero but for `0` itself. Takes no memory;
+/// time is linear in the words.
+pub fn command_of(words: &[String]) -> Option<Command<'_>>
+    ensures { option_map meant result ≡ meant_by (map string_bytes words.now) }
+{
+    match words {
+        [] => None,
+        [verb] => {
+            if verb.as_str() == "sheet" {
+                Some(Command::PrintSheet)
+            } else {
+                None
+            }
+        }
+        [verb, sheet] => of_two(verb.as_str(), sheet.as_str()),
+        [verb, first, second] => of_three(verb.as_str(), first.as_str(), second.as_str()),
+        [verb, sheet, side, form] => of_four(
+            verb.as_str(),
+            sheet.as_str(),
+            side.as_str(),
+            form.as_str(),
+        ),
+        [_, _, _, _, _, ..] => None,
+    }
+}
