@@ -9,6 +9,8 @@ mod draws;
 mod items;
 mod lines;
 mod sheet;
+#[cfg(test)]
+mod tests;
 mod words;
 
 pub use lines::make_text;
