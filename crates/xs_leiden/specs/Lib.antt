@@ -1,0 +1,4 @@
+pub mod Sheet
+pub mod Draws
+pub mod Words
+pub mod Made

@@ -1,0 +1,37 @@
+use super::*;
+use std::alloc::Global;
+use std::test::Fail;
+
+// Whether the words are a command.
+fn is_command(alloc: Global, words: &[&str]) -> Result<bool, Fail> {
+    let mut list = Vec::new(alloc);
+    for word in words {
+        list.push(String::from_str(alloc, word)?)?;
+    }
+    Ok(command_of(&list).is_some())
+}
+
+#[test]
+fn words_that_are_commands_and_others(rt: HostRuntime) -> Result<(), Fail> {
+    let alloc = rt.alloc();
+    let rows: [(&[&str], bool); 14] = [
+        (&["check", "pair.xsugar"], true),
+        (&["to-xml", "@leiden", "nfd"], true),
+        (&["round", "pair.xsugar", "text", "asis"], true),
+        (&["trees", "pair.xsugar", "1000"], true),
+        (&["sheet"], true),
+        (&["make", "0", "2000"], true),
+        (&["make", "2147483647", "1"], true),
+        (&[], false),
+        (&["to-xml"], false),
+        (&["check", "a", "b"], false),
+        (&["trees", "a", "0"], false),
+        (&["trees", "a", "01"], false),
+        (&["to-xml", "a", "NFC"], false),
+        (&["make", "2147483648", "1"], false),
+    ];
+    for (words, expected) in rows {
+        assert_eq!(rt; is_command(alloc, words)?, expected);
+    }
+    Ok(())
+}
