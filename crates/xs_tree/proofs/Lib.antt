@@ -1,2 +1,4 @@
 pub mod Trees
 mod Counting
+mod Shapes
+mod Numbering

@@ -3,7 +3,7 @@ ghost use Rattle.xs_gram.specs.Common.{Common};
 ghost use Rattle.xs_tree.specs.Flat.{IsAfter, common_of, tree_of};
 ghost use Rattle.xs_tree.specs.Counts.{capped, capped_count, picked_sum};
 
-use crate::numbers::number_at;
+use crate::table::number_at;
 use crate::{Tree, TreePart};
 use std::alloc::Global;
 use xs_class::Memory;

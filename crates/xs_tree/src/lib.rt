@@ -6,14 +6,16 @@
 #![tactic(auto)]
 
 mod builder;
+mod compare;
 mod count;
-mod numbers;
 mod part;
+mod table;
 mod tree;
 
 pub use builder::Builder;
 pub use count::parts_of;
 // Exported so that the contracts of other crates can name a part.
+pub use compare::same;
 #[doc(hidden)]
 pub use part::{Places, TreePart};
 pub use tree::Tree;
