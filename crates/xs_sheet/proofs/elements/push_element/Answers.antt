@@ -1,0 +1,10 @@
+use Rattle.std.proofs.Common.{◌≡◌, ◌∙◌, ap, List}
+use Rattle.xs_sheet.specs.declared.x_item.Attr.{Attr}
+use Rattle.xs_sheet.specs.declared.x_item.XItem.{XItem}
+use Rattle.xs_sheet.specs.Outline.{content_of, element}
+use Rattle.xs_sheet.proofs.ContentLaws.{content_push, with_element}
+use Rattle.xs_sheet.proofs.elements.push_element.Goals as goal
+
+pub returns : goal.returns
+returns c =
+    ap (λ (z : List XItem). content_of z) c.in_ok-push.ensures.items ∙ content_push c.args.outer.items _ ∙ with_element c.args.tag c.from_vec.result (record { all = c.args.content }) (content_of c.args.outer.items) ∙ ap (λ (z : List Attr). element (content_of c.args.outer.items) c.args.tag z (content_of c.args.content.items)) c.from_vec.ensures

@@ -1,0 +1,106 @@
+ghost use Rattle.std.specs.Prelude.{◌≡◌, ◌≤◌, ◌-◌, true, false, All, length, map, take, IfOk};
+ghost use Rattle.std.specs.Str.{chars};
+ghost use Rattle.xs_lex.specs.Spelling.{IsPattern, Spells};
+ghost use Rattle.xs_lex.specs.Reading.{IsSlice, lexeme_of};
+ghost use Rattle.xs_regex.specs.declared.regex.Regex.{Regex};
+ghost use Rattle.xs_sheet.specs.Regular.{IsRegex};
+ghost use Rattle.xs_sheet.specs.Pieces.{IsTextOf, IsSpelt, IsPiece, ArePieces};
+
+use crate::piece::Piece;
+use crate::regular::regex_of;
+use std::alloc::Global;
+use std::str;
+use xs_class::{Memory, Text};
+use xs_lex::{Kind, Token, quoted_value};
+
+// The characters without the last one.
+fn without_last(alloc: Global, letters: &[char]) -> Result<Text, Memory>
+    requires { 1 ≤ length letters.now }
+    ensures { IfOk result (λ t. t ≡ take (length letters.now - 1) letters.now) }
+{
+    let mut inner = Text::new(alloc);
+    let front = &letters[..letters.len() - 1];
+    'letters: for c in front {
+        inner.push(*c)?;
+    }
+    Ok(inner)
+}
+
+// What a pattern has between its slashes.
+fn between_slashes(alloc: Global, text: &str) -> Result<Text, Memory>
+    requires { Spells Kind.Pattern (chars text.now) }
+    ensures { IfOk result (λ t. IsPattern (chars text.now) t) }
+{
+    let letters: Vec<char> = text.chars().collect(alloc)?;
+    without_last(alloc, &letters[1..])
+}
+
+// The text of a token of this kind.
+fn text_of(alloc: Global, kind: Kind, text: &str) -> Result<Text, Memory>
+    requires { IsSpelt kind (chars text.now) }
+    ensures { IfOk result (λ t. IsTextOf kind (chars text.now) t) }
+{
+    match kind {
+        Kind::Plain => Text::of(alloc, text),
+        Kind::Qual => Text::of(alloc, text),
+        Kind::Quoted => quoted_value(alloc, text),
+        Kind::Pattern => between_slashes(alloc, text),
+        Kind::Colon => Ok(Text::new(alloc)),
+        Kind::Equals => Ok(Text::new(alloc)),
+        Kind::SquareIn => Ok(Text::new(alloc)),
+        Kind::SquareOut => Ok(Text::new(alloc)),
+        Kind::Angle => Ok(Text::new(alloc)),
+        Kind::AngleSlash => Ok(Text::new(alloc)),
+        Kind::AngleEnd => Ok(Text::new(alloc)),
+        Kind::SlashEnd => Ok(Text::new(alloc)),
+        Kind::End => Ok(Text::new(alloc)),
+        Kind::Bad => Ok(Text::new(alloc)),
+    }
+}
+
+// Whether the text is that of a pattern that is a regular expression.
+fn is_regular(alloc: Global, kind: Kind, text: &Text) -> Result<bool, Memory>
+    ensures yes { IfOk result (λ b. b ≡ true → (kind ≡ Kind.Pattern) × (r : Regex) × IsRegex text.now r) }
+    ensures no { IfOk result (λ b. b ≡ false → kind ≡ Kind.Pattern → (r : Regex) → IsRegex text.now r → ⊥) }
+{
+    match kind {
+        Kind::Pattern => match regex_of(alloc, text)? {
+            Some(_) => Ok(true),
+            None => Ok(false),
+        },
+        _ => Ok(false),
+    }
+}
+
+fn piece_of(alloc: Global, bytes: &[u8], token: Token) -> Result<Piece, Memory>
+    requires slice { IsSlice bytes.now token }
+    requires spelt { IsSpelt token.kind (lexeme_of bytes.now token).word }
+    ensures { IfOk result (λ p. IsPiece (lexeme_of bytes.now token) p) }
+{
+    let Ok(word) = str::from_utf8(&bytes[token.start as usize..token.end as usize]) else {
+        unreachable!()
+    };
+    let text = text_of(alloc, token.kind, word)?;
+    let regular = is_regular(alloc, token.kind, &text)?;
+    Ok(Piece {
+        kind: token.kind,
+        text,
+        regular,
+        start: token.start,
+        line: token.line,
+    })
+}
+
+/// The tokens of a file as the grammar sees them.
+pub fn pieces(alloc: Global, bytes: &[u8], list: &[Token]) -> Result<Vec<Piece>, Memory>
+    requires slices { All (IsSlice bytes.now) list.now }
+    requires spelt { All (λ t. IsSpelt t.kind (lexeme_of bytes.now t).word) list.now }
+    ensures { IfOk result (λ ps. ArePieces (map (lexeme_of bytes.now) list.now) ps.items) }
+{
+    let mut all = Vec::new(alloc);
+    'tokens: for token in list {
+        let piece = piece_of(alloc, bytes, *token)?;
+        all.push(piece)?;
+    }
+    Ok(all)
+}

@@ -1,0 +1,143 @@
+ghost use Rattle.std.specs.Prelude.{◌≡◌, ◌≤◌, true, length, All, IfOk, IfErr};
+ghost use Rattle.xs_regex.specs.declared.regex.Regex.{Regex};
+ghost use Rattle.xs_sheet.specs.Regular.{IsRegex};
+ghost use Rattle.xs_sheet.specs.Grammar.{IsSheetOf, HaveRegexes};
+ghost use Rattle.xs_sheet.specs.Outline.{outline_of};
+ghost use Rattle.xs_sheet.specs.Machine as M;
+ghost use Rattle.xs_sheet.specs.View.{state_view, step_view, StateHasRegexes, StepHasRegexes};
+ghost use Rattle.xs_sheet.specs.Faults.{IsBad, IsStuck, IsDone};
+
+use crate::Sheet;
+use crate::elements::{angle, attr_equals, closed, closing, in_tag};
+use crate::piece::Piece;
+use crate::pieces::pieces;
+use crate::places::{at_place, square, square_name, square_slot};
+use crate::state::{State, Step};
+use crate::units::{between, colon, named, normal, regular, started};
+use std::alloc::Global;
+use xs_class::Memory;
+use xs_lex::{Kind, tokens};
+
+/// Why a file is no sheet.
+#[derive(Clone, Copy, Debug, PartialEq, Eq)]
+pub enum SheetFault {
+    /// The first token such that no sheet begins with the tokens before it and it; `at` is its
+    /// first byte.
+    SheetBad { at: u64 },
+    /// Memory ran out.
+    Memory,
+}
+
+impl From<Memory> for SheetFault {
+    ghost use Rattle.xs_sheet.specs.declared.reader.SheetFault.TheVariants as F;
+
+    ghost from_gives = { λ _ e. e ≡ F.Memory };
+
+    fn from(_: Memory) -> Self {
+        SheetFault::Memory
+    }
+}
+
+fn go_if(fits: bool, state: State) -> Step
+    requires { StateHasRegexes state }
+    ensures view { step_view result ≡ M.go_if fits (state_view state) }
+    ensures regexes { StepHasRegexes result }
+{
+    if fits { Step::Go(state) } else { Step::Refuse }
+}
+
+/// Where one more piece leads.
+pub fn step(alloc: Global, state: State, piece: &Piece) -> Result<Step, Memory>
+    requires state { StateHasRegexes state }
+    requires piece { piece.now.regular ≡ true → (r : Regex) × IsRegex piece.now.text r }
+    ensures view { IfOk result (λ s. step_view s ≡ M.step (state_view state) piece.now) }
+    ensures regexes { IfOk result StepHasRegexes }
+{
+    match state {
+        State::Begin => Ok(go_if(piece.is_word("xsugar-1"), State::Versioned)),
+        State::Versioned => Ok(go_if(piece.is_word("start"), State::Started(piece.line))),
+        State::Started(line) => started(alloc, line, piece),
+        State::Units(head) => between(alloc, head, piece),
+        State::Named {
+            head,
+            terminal,
+            line,
+        } => named(alloc, head, terminal, line, piece),
+        State::Equals {
+            head,
+            terminal,
+            line,
+            name,
+        } => Ok(go_if(
+            piece.is(Kind::Equals),
+            State::Regular {
+                head,
+                terminal,
+                line,
+                name,
+            },
+        )),
+        State::Regular {
+            head,
+            terminal,
+            line,
+            name,
+        } => regular(alloc, head, terminal, line, name, piece),
+        State::Normal {
+            head,
+            line,
+            name,
+            pattern,
+            regex,
+        } => normal(alloc, head, line, name, pattern, regex, piece),
+        State::Colon { head, name, line } => Ok(colon(alloc, head, name, line, piece)),
+        State::At(place) => at_place(alloc, place, piece),
+        State::Square(place) => square(alloc, place, piece),
+        State::SquareName(place, name) => square_name(alloc, place, name, piece),
+        State::SquareSlot(place, name, slot) => square_slot(place, name, slot, piece),
+        State::Angle(inside) => angle(alloc, inside, piece),
+        State::Attrs(inside, tag, attrs) => in_tag(alloc, inside, tag, attrs, piece),
+        State::AttrEquals(inside, tag, attrs, name) => {
+            Ok(attr_equals(alloc, inside, tag, attrs, name, piece))
+        }
+        State::Closing(element) => Ok(closing(element, piece)),
+        State::Closed(element) => closed(element, piece),
+    }
+}
+
+// The sheet of the pieces, or the byte where the first one begins that is refused.
+fn read_pieces(alloc: Global, pieces: &[Piece]) -> Result<Sheet, SheetFault>
+    requires regular { All (λ p. p.regular ≡ true → (r : Regex) × IsRegex p.text r) pieces.now }
+    requires whole { M.run M.begin pieces.now ≡ M.unfinished → ⊥ }
+    ensures sheet { IfOk result (λ s. IsDone (outline_of s) (M.run M.begin pieces.now)) }
+    ensures regexes { IfOk result (λ s. HaveRegexes s.units) }
+    ensures bad { IfErr result (λ e. IsStuck e (M.run M.begin pieces.now)) }
+{
+    let mut state = State::Begin;
+    'pieces: for piece in pieces {
+        match step(alloc, state, piece)? {
+            Step::Go(next) => state = next,
+            Step::Finish(sheet) => return Ok(sheet),
+            Step::Refuse => {
+                return Err(SheetFault::SheetBad {
+                    at: u64::from(piece.start),
+                });
+            }
+        }
+    }
+    unreachable!()
+}
+
+/// The sheet that these bytes spell, at most 65,536 of them.
+///
+/// Where they spell none, the answer is the first byte of the first token that no sheet has after
+/// the tokens before it. The time is linear in the bytes, but for that of reading the patterns.
+pub fn read_sheet(alloc: Global, bytes: &[u8]) -> Result<Sheet, SheetFault>
+    requires { length bytes.now ≤ 65536 }
+    ensures sheet { IfOk result (λ s. IsSheetOf bytes.now s) }
+    ensures bad { IfErr result (λ e. IsBad bytes.now e) }
+{
+    let list = tokens(alloc, bytes)?;
+    let all = pieces(alloc, bytes, list.as_slice())?;
+    read_pieces(alloc, &all)
+}

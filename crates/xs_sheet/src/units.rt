@@ -1,0 +1,199 @@
+ghost use Rattle.std.specs.Prelude.{◌≡◌, true, IfOk};
+ghost use Rattle.xs_regex.specs.declared.regex.Regex.{Regex};
+ghost use Rattle.xs_sheet.specs.Regular.{IsRegex};
+ghost use Rattle.xs_sheet.specs.Grammar.{HaveRegexes};
+ghost use Rattle.xs_sheet.specs.Outline.{unit_outline};
+ghost use Rattle.xs_sheet.specs.Grammar.{HasRegex};
+ghost use Rattle.xs_sheet.specs.Machine as M;
+ghost use Rattle.xs_sheet.specs.View.{head_view, step_view, StepHasRegexes};
+
+use crate::piece::Piece;
+use crate::regular::regex_of;
+use crate::state::{Head, Place, State, Step};
+use crate::{Sheet, Unit, Units};
+use std::alloc::Global;
+use xs_class::{Memory, Text};
+use xs_lex::Kind;
+use xs_regex::Regex;
+
+/// A text of its own with these characters.
+pub fn copy(alloc: Global, text: &Text) -> Result<Text, Memory>
+    ensures { IfOk result (λ t. t ≡ text.now) }
+{
+    Text::of(alloc, text.as_str())
+}
+
+/// The head with one more unit.
+pub fn with_unit(mut head: Head, unit: Unit) -> Result<Head, Memory>
+    requires head { HaveRegexes head.units.items }
+    requires unit { HasRegex unit }
+    ensures view { IfOk result (λ h. head_view h ≡ M.with_unit (head_view head) (unit_outline unit)) }
+    ensures regexes { IfOk result (λ h. HaveRegexes h.units.items) }
+{
+    head.units.push(unit)?;
+    Ok(head)
+}
+
+/// Behind the word `start`.
+pub fn started(alloc: Global, line: u32, piece: &Piece) -> Result<Step, Memory>
+    ensures view { IfOk result (λ s. step_view s ≡ M.step (M.started line) piece.now) }
+    ensures regexes { IfOk result StepHasRegexes }
+{
+    if !piece.is_unit_name() {
+        return Ok(Step::Refuse);
+    }
+    let start = copy(alloc, &piece.text)?;
+    Ok(Step::Go(State::Units(Head {
+        start,
+        start_line: line,
+        units: Vec::new(alloc),
+    })))
+}
+
+/// Between units.
+pub fn between(alloc: Global, head: Head, piece: &Piece) -> Result<Step, Memory>
+    requires { HaveRegexes head.units.items }
+    ensures view { IfOk result (λ s. step_view s ≡ M.between (head_view head) piece.now) }
+    ensures regexes { IfOk result StepHasRegexes }
+{
+    if piece.is(Kind::End) {
+        return Ok(Step::Finish(Sheet {
+            version: 1,
+            start: head.start,
+            start_line: head.start_line,
+            units: Units::from_vec(head.units),
+        }));
+    }
+    let line = piece.line;
+    if piece.is_word("terminal") {
+        return Ok(Step::Go(State::Named {
+            head,
+            terminal: true,
+            line,
+        }));
+    }
+    if piece.is_word("ignorable") {
+        return Ok(Step::Go(State::Named {
+            head,
+            terminal: false,
+            line,
+        }));
+    }
+    if !piece.is_unit_name() {
+        return Ok(Step::Refuse);
+    }
+    let name = copy(alloc, &piece.text)?;
+    Ok(Step::Go(State::Colon { head, name, line }))
+}
+
+/// Behind `terminal` or `ignorable`.
+pub fn named(
+    alloc: Global,
+    head: Head,
+    terminal: bool,
+    line: u32,
+    piece: &Piece,
+) -> Result<Step, Memory>
+    requires { HaveRegexes head.units.items }
+    ensures view { IfOk result (λ s. step_view s ≡ M.step (M.named (head_view head) terminal line) piece.now) }
+    ensures regexes { IfOk result StepHasRegexes }
+{
+    if !piece.is_unit_name() {
+        return Ok(Step::Refuse);
+    }
+    let name = copy(alloc, &piece.text)?;
+    Ok(Step::Go(State::Equals {
+        head,
+        terminal,
+        line,
+        name,
+    }))
+}
+
+/// At a terminal's or an ignorable's pattern.
+pub fn regular(
+    alloc: Global,
+    head: Head,
+    terminal: bool,
+    line: u32,
+    name: Text,
+    piece: &Piece,
+) -> Result<Step, Memory>
+    requires head { HaveRegexes head.units.items }
+    requires piece { piece.now.regular ≡ true → (r : Regex) × IsRegex piece.now.text r }
+    ensures view { IfOk result (λ s. step_view s ≡ M.step (M.regular (head_view head) terminal line name) piece.now) }
+    ensures regexes { IfOk result StepHasRegexes }
+{
+    if !piece.is(Kind::Pattern) {
+        return Ok(Step::Refuse);
+    }
+    if !piece.regular {
+        return Ok(Step::Refuse);
+    }
+    let Some(regex) = regex_of(alloc, &piece.text)? else {
+        unreachable!()
+    };
+    let pattern = copy(alloc, &piece.text)?;
+    if !terminal {
+        return Ok(Step::Go(State::Normal {
+            head,
+            line,
+            name,
+            pattern,
+            regex,
+        }));
+    }
+    let unit = Unit::Terminal {
+        name,
+        pattern,
+        regex,
+        line,
+    };
+    Ok(Step::Go(State::Units(with_unit(head, unit)?)))
+}
+
+/// At an ignorable's normal spelling.
+pub fn normal(
+    alloc: Global,
+    head: Head,
+    line: u32,
+    name: Text,
+    pattern: Text,
+    regex: Regex,
+    piece: &Piece,
+) -> Result<Step, Memory>
+    requires head { HaveRegexes head.units.items }
+    requires regex { IsRegex pattern regex }
+    ensures view { IfOk result (λ s. step_view s ≡ M.step (M.normal (head_view head) line name pattern) piece.now) }
+    ensures regexes { IfOk result StepHasRegexes }
+{
+    if !piece.is(Kind::Quoted) {
+        return Ok(Step::Refuse);
+    }
+    let normal = copy(alloc, &piece.text)?;
+    let unit = Unit::Ignorable {
+        name,
+        pattern,
+        regex,
+        normal,
+        line,
+    };
+    Ok(Step::Go(State::Units(with_unit(head, unit)?)))
+}
+
+/// Behind a production's name.
+pub fn colon(alloc: Global, head: Head, name: Text, line: u32, piece: &Piece) -> Step
+    requires { HaveRegexes head.units.items }
+    ensures view { step_view result ≡ M.step (M.colon (head_view head) name line) piece.now }
+    ensures regexes { StepHasRegexes result }
+{
+    if !piece.is(Kind::Colon) {
+        return Step::Refuse;
+    }
+    Step::Go(State::At(Place::LeftSide {
+        head,
+        name,
+        line,
+        items: Vec::new(alloc),
+    }))
+}
