@@ -1,5 +1,5 @@
 -- Components, walks in them, and loose words: a regular superset of what items spell.
-use Rattle.std.specs.Prelude.{◌≡◌, ℕ, suc, List, [], ◌∷◌, ◌++◌, length}
+use Rattle.std.specs.Prelude.{◌≡◌, ◌↔◌, ℕ, suc, ◌<◌, ◌≤◌, List, [], ◌∷◌, ◌++◌, length, slice_index_or}
 use Rattle.xs_gram.specs.declared.parts.GItem.{GItem}
 use Rattle.xs_gram.specs.declared.parts.GItem.TheVariants.{Fixed, Term, Non, Skip}
 use Rattle.xs_gram.specs.Grammar.{Grammar, items, IsRuleOf, ItemAt, IsTermWord, IsSkipWord}
@@ -20,6 +20,13 @@ pub data Reaches (g : Grammar) : ℕ → ℕ → Type 0 where
 -- m and n are of one component: each can be reached from the other
 abbrev pub AreOne : Grammar → ℕ → ℕ → Type 0
 AreOne g m n = Reaches g m n × Reaches g n m
+
+-- Each nonterminal has a component's number: two have the same number exactly where they are of one
+-- component, and no item of a rule has a greater number than the rule's nonterminal.
+pub record AreComponents (g : Grammar) (comps : List ℕ) : Type 0 where
+  pub counted : length comps ≡ g.nons
+  pub one : (m n : ℕ) → m < g.nons → n < g.nons → (slice_index_or comps m 0 ≡ slice_index_or comps n 0) ↔ AreOne g m n
+  pub falls : (m n : ℕ) → m < g.nons → Uses g m n → slice_index_or comps n 0 ≤ slice_index_or comps m 0
 
 -- the item is a nonterminal of the component of c
 abbrev pub IsMember : Grammar → ℕ → GItem → Type 0

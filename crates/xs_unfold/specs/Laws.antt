@@ -42,6 +42,11 @@ pub record IsExact (g : Grammar) (w : List ℕ) (f : Forest) (root : ℕ) : Type
 abbrev pub IsRoot : Grammar → List ℕ → Forest → ℕ → Type 0
 IsRoot g w f root = IsRow f root (Whole g.start) zero (length w)
 
+-- the forest is right for the grammar and the document, and the row is its root
+pub record IsForestOf (g : Grammar) (w : List ℕ) (f : Forest) (root : ℕ) : Type 0 where
+  pub right : IsRight g w f
+  pub root_is : IsRoot g w f root
+
 abbrev pub RootIsExact : Type 0
 RootIsExact = (g : Grammar) (w : List ℕ) (f : Forest) → IsRight g w f → (root : ℕ) → IsRoot g w f root → IsExact g w f root
 

@@ -10,9 +10,11 @@
 //! nothing when it runs.
 #![tactic(auto)]
 
+mod grown;
 mod laws;
 mod span;
 
+pub use grown::Grown;
 pub use laws::{
     added_is_grown, children_come_first, first_unfolds, fitting_is_unfolded, grown_is_exact,
     grown_is_right, numbered_is_listed, reading_is_once, root_is_exact, unfolding_fits,
