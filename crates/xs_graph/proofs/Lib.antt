@@ -1,0 +1,7 @@
+pub mod Reaching
+pub mod Marking
+pub mod Framing
+pub mod Opening
+pub mod Merging
+pub mod Closing
+pub mod Working
