@@ -35,11 +35,11 @@ is_out : (place : ℕ) (s : State) (a : ℕ) → AreWaiting s → ((k : ℕ) →
 is_out place s a waits below = record {
   below = below;
   same = close_out s.count s.marks (drop place s.waiting) a (λ k l e.
-    let there : get_or s.waiting (place + k) 0 ≡ a = sym (get_or-drop place s.waiting k 0) ∙ e in
-    let size = length-drop place s.waiting in
-    let was : mark_of s.marks a ≡ Open (place + k) = sym (ap (mark_of s.marks) there) ∙ waits (place + k) (omega (arith, size)) in
-    let low = below (place + k) was in
-    omega (arith, low));
+      let there : get_or s.waiting (place + k) 0 ≡ a = sym (get_or-drop place s.waiting k 0) ∙ e in
+      let size = length-drop place s.waiting in
+      let was : mark_of s.marks a ≡ Open (place + k) = sym (ap (mark_of s.marks) there) ∙ waits (place + k) (omega (arith, size)) in
+      let low = below (place + k) was in
+      omega (arith, low));
 }
 
 is_in : (graph : List (List ℕ)) (place : ℕ) (s : State) (a k : ℕ) → (k < length s.waiting) → get_or s.waiting k 0 ≡ a → mark_of s.marks a ≡ Open k → place ≤ k → IsIn place s a
@@ -147,15 +147,15 @@ state_closed_from graph s f h done least =
     record {
       sized = length_close s.count s.marks (drop place s.waiting) ∙ h.sized;
       waits = λ k l.
-        let low : k < place = omega (arith, size) in
-        let was = h.waits k (omega arith) in
-        let out = is_out place s (get_or s.waiting k 0) h.waits (λ j o. let same = open_same (mark_of s.marks (get_or s.waiting k 0)) j k o was in omega (arith, same)) in
-        ap (mark_of (after place s)) (old k low) ∙ out.same ∙ was;
+          let low : k < place = omega (arith, size) in
+          let was = h.waits k (omega arith) in
+          let out = is_out place s (get_or s.waiting k 0) h.waits (λ j o. let same = open_same (mark_of s.marks (get_or s.waiting k 0)) j k o was in omega (arith, same)) in
+          ap (mark_of (after place s)) (old k low) ∙ out.same ∙ was;
       open_below = λ a k e. let was = open_now graph s f a k h e in omega (arith, was.1, size);
       open_at = λ a k e. let was = open_now graph s f a k h e in old k was.1 ∙ h.open_at a k was.0;
       ordered = λ j k l m.
-        let low : k < place = omega (arith, size) in
-        reaches_from (sym (old j (omega arith))) (reaches_to (sym (old k low)) (h.ordered j k l (omega arith)));
+          let low : k < place = omega (arith, size) in
+          reaches_from (sym (old j (omega arith))) (reaches_to (sym (old k low)) (h.ordered j k l (omega arith)));
       closed = λ a b m e edge. edge_closed graph s f a b m h done least e edge;
       counted = λ a m e. counted_now graph s f a m h e;
       one = λ a b m e g. one_closed graph s f a b m h e g;

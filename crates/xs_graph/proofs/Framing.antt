@@ -31,9 +31,10 @@ frame_kept graph old new v w top f keeps same h = record {
 
 pub path_kept : (graph : List (List ℕ)) (old new : List Mark) (v w : List ℕ) (top : ℕ) (path : List Frame) → KeepsBehind old new → AreSameBelow top v w → IsPath graph old v top path → IsPath graph new w top path
 path_kept graph old new v w top [] keeps same h = h
-path_kept graph old new v w top (f ∷ path) keeps same h =
-    (frame_kept graph old new v w top f keeps same h.0,
-     path_kept graph old new v w f.place path keeps (λ k l. same k (omega (arith, h.0.below))) h.1)
+path_kept graph old new v w top (f ∷ path) keeps same h = (
+  frame_kept graph old new v w top f keeps same h.0,
+  path_kept graph old new v w f.place path keeps (λ k l. same k (omega (arith, h.0.below))) h.1,
+)
 
 -- an edge that leads to what is behind the frame's least place is walked
 pub frame_passed : (graph : List (List ℕ)) (marks : List Mark) (w : List ℕ) (top : ℕ) (f : Frame) → IsBehind f.least (mark_of marks (get_or (targets_of graph f.node) f.next 0)) → IsFrame graph marks w top f → IsFrame graph marks w top (passed f)

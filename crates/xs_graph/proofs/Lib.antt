@@ -5,3 +5,6 @@ pub mod Opening
 pub mod Merging
 pub mod Closing
 pub mod Working
+pub mod Stacking
+pub mod Stepping
+pub mod Finding

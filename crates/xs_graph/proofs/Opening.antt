@@ -98,12 +98,12 @@ opened_state graph s a h l e reaches =
             ])
       ];
       closed = λ b c m is edge.
-        let was = h.closed b c m (closed_before s.marks a n b m within is) edge in
-        record {
-          number = was.number;
-          is = kept_mark s.marks a n c e (closed_seen (mark_of s.marks c) was.number was.is) ∙ was.is;
-          within = was.within;
-        };
+          let was = h.closed b c m (closed_before s.marks a n b m within is) edge in
+          record {
+            number = was.number;
+            is = kept_mark s.marks a n c e (closed_seen (mark_of s.marks c) was.number was.is) ∙ was.is;
+            within = was.within;
+          };
       counted = λ b m is. h.counted b m (closed_before s.marks a n b m within is);
       one = λ b c m is too. h.one b c m (closed_before s.marks a n b m within is) (closed_before s.marks a n c m within too);
       path = (opened_frame graph marks s.waiting a, path_kept graph s.marks marks s.waiting w n s.path (opened_behind s.marks a n e) (opened_below s.waiting a) h.path);

@@ -89,6 +89,16 @@ lower_first place (f ∷ path) = lower place f ∷ path
 abbrev pub merged : ℕ → State → State
 merged place s = record { marks = s.marks; waiting = s.waiting; path = lower_first place s.path; count = s.count }
 
+-- the next edge of the frame, which was passed already, led to a node of this mark
+abbrev pub followed_by : Frame → ℕ → State → Mark → State
+followed_by f b s Unseen = opened b (with_frame f s)
+followed_by f b s (Open place) = with_frame (lower place f) s
+followed_by f b s (Closed number) = with_frame f s
+
+-- the same of the node's own mark
+abbrev pub followed : Frame → ℕ → State → State
+followed f b s = followed_by f b s (mark_of s.marks b)
+
 -- What a search knows at a frame, where the nodes that wait from the frame's place up to `top` were
 -- reached through it: each of them reaches the frame's node, which reaches the node of the least
 -- place, and the edges that were walked lead to no node before that place.
@@ -144,3 +154,7 @@ pub record IsStep (graph : List (List ℕ)) (old new : State) : Type 0 where
   pub state : IsState graph new
   pub less : work graph new < work graph old
   pub seen : KeepsSeen old.marks new.marks
+
+-- each node was reached
+abbrev pub AreAllSeen : List (List ℕ) → List Mark → Type 0
+AreAllSeen graph marks = (a : ℕ) → a < length graph → mark_of marks a ≢ Unseen

@@ -1,5 +1,10 @@
-ghost use Rattle.std.specs.Prelude.{◌≡◌};
-ghost use Rattle.xs_graph.specs.States.{number_of};
+ghost use Rattle.std.specs.Prelude.{◌≡◌, ◌<◌, length, map, IfOk};
+ghost use Rattle.std.specs.List.{All};
+ghost use Rattle.xs_graph.specs.States.{number_of, close_all};
+
+use crate::Numbers;
+use std::alloc::Global;
+use xs_class::{Listed, Memory};
 
 /// What a search knows of a node.
 #[derive(Clone, Copy, Debug, PartialEq, Eq)]
@@ -23,4 +28,22 @@ impl Mark {
             Mark::Closed(number) => number,
         }
     }
+}
+
+/// Gives the nodes a component's number.
+pub fn close_all(marks: &mut [Mark], nodes: &[u32], number: u32)
+    requires { All (λ a. a < length marks.old) nodes.now }
+    ensures { marks.new ≡ close_all number marks.old nodes.now }
+{
+    'nodes: for node in nodes {
+        marks[*node as usize] = Mark::Closed(number);
+    }
+}
+
+/// The components' numbers, in the order of the nodes.
+pub fn numbers_of(alloc: Global, marks: &[Mark]) -> Result<Numbers, Memory>
+    ensures { IfOk result (λ numbers. numbers ≡ map number_of marks.now) }
+{
+    let numbers = marks.iter().map(|mark| mark.number()).collect(alloc)?;
+    Ok(Listed::from_vec(numbers))
 }
