@@ -1,14 +1,14 @@
 -- The nodes from the innermost frame's place on are closed, where the frame reaches no earlier one.
-use Rattle.std.proofs.Common.{◌≡◌, ◌≢◌, ◌∙◌, sym, ap, refl, subst, ℕ, suc, ◌+◌, ◌-◌, ◌<◌, ◌≤◌, min, List, [], ◌∷◌, length, get_or, take, drop, arith, ◌⊎◌, inl, inr, length-drop, get_or-take}
+use Rattle.std.proofs.Common.{◌≡◌, ◌∙◌, sym, ap, subst, ℕ, ◌+◌, ◌-◌, ◌<◌, ◌≤◌, List, length, get_or, take, drop, arith, ◌⊎◌, inl, inr, length-drop, get_or-take}
 use Rattle.std.proofs.lemmas.List.{length-take-le, get_or-drop}
-use Rattle.std.proofs.lemmas.Bool.{cases_eq, cases_lt}
+use Rattle.std.proofs.lemmas.Bool.{cases_lt}
 use Rattle.xs_graph.specs.declared.frame.Frame.{Frame}
 use Rattle.xs_graph.specs.declared.mark.Mark.{Mark}
-use Rattle.xs_graph.specs.declared.mark.Mark.TheVariants.{Unseen, Open, Closed}
+use Rattle.xs_graph.specs.declared.mark.Mark.TheVariants.{Open, Closed}
 use Rattle.xs_graph.specs.Graphs.{targets_of, HasEdge, Reaches}
-use Rattle.xs_graph.specs.States.{State, mark_of, IsBehind, IsFrame, IsPath, IsState, IsClosedWithin, close_all, closed_from, with_frame, unseen}
+use Rattle.xs_graph.specs.States.{State, mark_of, IsBehind, IsPath, IsState, IsClosedWithin, close_all, closed_from, with_frame}
 use Rattle.xs_graph.proofs.Reaching.{reaches_then, reaches_from, reaches_to, edge_from}
-use Rattle.xs_graph.proofs.Marking.{mark_cases, open_seen, closed_seen, open_closed, open_same, closed_same, marked_within, behind_same, behind_seen, behind_at, behind_closed, close_in, close_out, length_close, unseen_close}
+use Rattle.xs_graph.proofs.Marking.{mark_cases, open_seen, open_closed, open_same, closed_same, marked_within, behind_same, behind_seen, behind_at, behind_closed, close_in, close_out, length_close, unseen_close}
 use Rattle.xs_graph.proofs.Framing.{KeepsBehind, path_kept, all_finished}
 
 -- the marks when the nodes from the place on are closed

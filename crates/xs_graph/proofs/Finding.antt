@@ -1,10 +1,10 @@
 -- The marks of a search that has reached each node are its components.
-use Rattle.std.proofs.Common.{◌≡◌, ◌≢◌, ◌∙◌, sym, ap, refl, subst, ℕ, zero, suc, ◌+◌, ◌<◌, ◌≤◌, List, [], ◌∷◌, length, get_or, map, arith, ◌⊎◌, inl, inr}
+use Rattle.std.proofs.Common.{◌≡◌, ◌≢◌, ◌∙◌, ap, refl, ℕ, zero, suc, ◌<◌, ◌≤◌, List, [], ◌∷◌, length, get_or, map, arith, inl, inr}
 use Rattle.std.proofs.lemmas.List.{length-map, get_or_past}
 use Rattle.std.proofs.lemmas.Bool.{cases_lt}
 use Rattle.xs_graph.specs.declared.mark.Mark.{Mark}
-use Rattle.xs_graph.specs.declared.mark.Mark.TheVariants.{Unseen, Open, Closed}
-use Rattle.xs_graph.specs.Graphs.{targets_of, HasEdge, Reaches, stays, passes, AreOne, AreComponents}
+use Rattle.xs_graph.specs.declared.mark.Mark.TheVariants.{Unseen, Closed}
+use Rattle.xs_graph.specs.Graphs.{HasEdge, Reaches, stays, passes, AreComponents}
 use Rattle.xs_graph.specs.States.{State, mark_of, number_of, IsState, AreAllSeen}
 use Rattle.xs_graph.proofs.Marking.{mark_cases}
 use Rattle.xs_graph.proofs.Stepping.{idle_waiting}

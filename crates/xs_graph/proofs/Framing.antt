@@ -1,14 +1,13 @@
 -- Laws of frames and of paths of them.
-use Rattle.std.proofs.Common.{◌≡◌, ◌≢◌, ◌∙◌, sym, ap, refl, subst, ℕ, suc, ◌+◌, ◌<◌, ◌≤◌, min, List, [], ◌∷◌, length, get_or, arith, ◌⊎◌, inl, inr}
+use Rattle.std.proofs.Common.{◌≡◌, ◌∙◌, sym, ap, subst, ℕ, ◌<◌, ◌≤◌, min, List, [], ◌∷◌, length, get_or, arith, inl, inr}
 use Rattle.std.proofs.lemmas.List.{get_or_default}
-use Rattle.std.proofs.lemmas.Bool.{cases_eq, cases_lt}
+use Rattle.std.proofs.lemmas.Bool.{cases_lt}
 use Rattle.xs_graph.specs.declared.frame.Frame.{Frame}
 use Rattle.xs_graph.specs.declared.mark.Mark.{Mark}
-use Rattle.xs_graph.specs.declared.mark.Mark.TheVariants.{Unseen, Open, Closed}
 use Rattle.xs_graph.specs.Graphs.{targets_of, HasEdge, Reaches}
 use Rattle.xs_graph.specs.States.{mark_of, IsBehind, IsFrame, IsPath, passed, lower}
-use Rattle.xs_graph.proofs.Reaching.{reaches_then, reaches_from, reaches_to, edge_from}
-use Rattle.xs_graph.proofs.Marking.{behind_lower, behind_same}
+use Rattle.xs_graph.proofs.Reaching.{reaches_from, reaches_to, edge_from}
+use Rattle.xs_graph.proofs.Marking.{behind_lower}
 
 -- what was behind a place is behind it
 abbrev pub KeepsBehind : List Mark → List Mark → Type 0

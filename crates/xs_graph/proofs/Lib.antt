@@ -8,3 +8,4 @@ pub mod Working
 pub mod Stacking
 pub mod Stepping
 pub mod Finding
+pub mod Cycling

@@ -5,7 +5,7 @@ use Rattle.std.proofs.lemmas.List.Sums.{sum_by-set}
 use Rattle.std.proofs.lemmas.Bool.{cases_eq, cases_lt}
 use Rattle.xs_graph.specs.declared.mark.Mark.{Mark}
 use Rattle.xs_graph.specs.declared.mark.Mark.TheVariants.{Unseen, Open, Closed}
-use Rattle.xs_graph.specs.States.{mark_of, IsBehind, unseen, one_unseen, close_all, KeepsSeen}
+use Rattle.xs_graph.specs.States.{mark_of, IsBehind, unseen, one_unseen, close_all}
 
 -- a node with a mark is a node
 pub marked_within : (marks : List Mark) (a : ℕ) → mark_of marks a ≢ Unseen → a < length marks

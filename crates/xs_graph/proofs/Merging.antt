@@ -1,10 +1,10 @@
 -- A frame whose node reaches an earlier one is merged into the frame around it.
-use Rattle.std.proofs.Common.{◌≡◌, ◌≢◌, ◌∙◌, sym, ap, refl, subst, ℕ, suc, ◌+◌, ◌<◌, ◌≤◌, min, List, [], ◌∷◌, length, get_or, arith, ◌⊎◌, inl, inr}
-use Rattle.std.proofs.lemmas.Bool.{cases_eq, cases_lt}
+use Rattle.std.proofs.Common.{◌≡◌, ap, refl, ℕ, ◌<◌, ◌≤◌, min, List, [], ◌∷◌, length, get_or, arith, inl, inr}
+use Rattle.std.proofs.lemmas.Bool.{cases_lt}
 use Rattle.xs_graph.specs.declared.frame.Frame.{Frame}
 use Rattle.xs_graph.specs.declared.mark.Mark.{Mark}
-use Rattle.xs_graph.specs.Graphs.{targets_of, HasEdge, Reaches}
-use Rattle.xs_graph.specs.States.{State, mark_of, IsBehind, IsFrame, IsPath, IsState, lower, lower_first, with_frame, merged}
+use Rattle.xs_graph.specs.Graphs.{targets_of, Reaches}
+use Rattle.xs_graph.specs.States.{State, mark_of, IsFrame, IsPath, IsState, lower, lower_first, with_frame, merged}
 use Rattle.xs_graph.proofs.Reaching.{reaches_then, reaches_from, reaches_to}
 use Rattle.xs_graph.proofs.Marking.{behind_lower}
 use Rattle.xs_graph.proofs.Framing.{all_finished}

@@ -1,12 +1,12 @@
 -- A node that was not reached is opened, and the edges of frames are walked.
-use Rattle.std.proofs.Common.{◌≡◌, ◌≢◌, ◌∙◌, sym, ap, refl, subst, ℕ, suc, ◌+◌, ◌<◌, ◌≤◌, min, List, [], ◌∷◌, ◌++◌, length, get_or, set, arith, ◌⊎◌, inl, inr, get_or-set_same, get_or-set_other}
+use Rattle.std.proofs.Common.{◌≡◌, ◌≢◌, ◌∙◌, sym, ap, refl, subst, ℕ, ◌+◌, ◌<◌, min, List, [], ◌∷◌, ◌++◌, length, get_or, set, arith, ◌⊎◌, inl, inr, get_or-set_same, get_or-set_other}
 use Rattle.std.proofs.lemmas.List.{length-set, length_push, get_or_append_left, get_or_push, get_or_default}
 use Rattle.std.proofs.lemmas.Bool.{cases_eq, cases_lt}
 use Rattle.xs_graph.specs.declared.frame.Frame.{Frame}
 use Rattle.xs_graph.specs.declared.mark.Mark.{Mark}
 use Rattle.xs_graph.specs.declared.mark.Mark.TheVariants.{Unseen, Open, Closed}
 use Rattle.xs_graph.specs.Graphs.{targets_of, HasEdge, Reaches}
-use Rattle.xs_graph.specs.States.{State, mark_of, unseen, IsBehind, IsFrame, IsPath, IsState, IsClosedWithin, passed, lower, with_frame, opened}
+use Rattle.xs_graph.specs.States.{State, mark_of, IsFrame, IsPath, IsState, passed, lower, with_frame, opened}
 use Rattle.xs_graph.proofs.Reaching.{reaches_then, reaches_from, reaches_same, reaches_edge}
 use Rattle.xs_graph.proofs.Marking.{open_seen, closed_seen, open_closed, open_same, behind_open, behind_closed, behind_same, behind_seen, unseen_set}
 use Rattle.xs_graph.proofs.Framing.{KeepsBehind, AreSameBelow, path_kept, frame_passed, frame_lower}

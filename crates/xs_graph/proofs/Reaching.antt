@@ -1,6 +1,6 @@
 -- Laws of reaching.
 use Rattle.std.proofs.Common.{◌≡◌, ℕ, List, subst}
-use Rattle.xs_graph.specs.Graphs.{targets_of, HasEdge, Reaches, stays, passes}
+use Rattle.xs_graph.specs.Graphs.{HasEdge, Reaches, stays, passes}
 
 pub reaches_then : {graph : List (List ℕ)} {a b c : ℕ} → Reaches graph a b → Reaches graph b c → Reaches graph a c
 reaches_then stays r = r

@@ -1,5 +1,5 @@
 -- Laws of frames that stand in a list, the innermost last.
-use Rattle.std.proofs.Common.{◌≡◌, ◌∙◌, sym, ap, refl, subst, ℕ, ◌+◌, ◌-◌, ◌<◌, ◌≤◌, min, List, [], ◌∷◌, ◌++◌, length, get_or, set, reverse, arith}
+use Rattle.std.proofs.Common.{◌≡◌, ◌∙◌, sym, ap, subst, ℕ, ◌-◌, ◌<◌, min, List, [], ◌∷◌, ◌++◌, length, get_or, set, reverse, arith}
 use Rattle.std.proofs.lemmas.List.{reverse-append, reverse-reverse, length_push, get_or_at, set_at}
 use Rattle.xs_graph.specs.declared.frame.Frame.{Frame}
 use Rattle.xs_graph.specs.States.{lower, lower_first}

@@ -1,13 +1,13 @@
 -- Each step leaves less to do, and what was reached stays reached.
-use Rattle.std.proofs.Common.{◌≡◌, ◌≢◌, ◌∙◌, sym, ap, refl, subst, ℕ, suc, ◌+◌, ◌*◌, ◌-◌, ◌<◌, ◌≤◌, List, [], ◌∷◌, length, get_or, set, drop, arith, ◌⊎◌, inl, inr, get_or-set_same, get_or-set_other}
+use Rattle.std.proofs.Common.{◌≡◌, ◌≢◌, ◌∙◌, sym, refl, subst, ℕ, ◌+◌, ◌*◌, ◌<◌, ◌≤◌, List, [], ◌∷◌, length, set, drop, arith, inl, inr, get_or-set_same, get_or-set_other}
 use Rattle.std.specs.List.{sum_by}
 use Rattle.std.proofs.lemmas.List.Sums.{get_or-le-sum_by}
-use Rattle.std.proofs.lemmas.Bool.{cases_eq, cases_lt}
+use Rattle.std.proofs.lemmas.Bool.{cases_eq}
 use Rattle.xs_graph.specs.declared.frame.Frame.{Frame}
 use Rattle.xs_graph.specs.declared.mark.Mark.{Mark}
 use Rattle.xs_graph.specs.declared.mark.Mark.TheVariants.{Unseen, Open, Closed}
 use Rattle.xs_graph.specs.Graphs.{targets_of}
-use Rattle.xs_graph.specs.States.{State, mark_of, unseen, edges_left, work, passed, lower, lower_first, with_frame, opened, merged, closed_from, close_all, KeepsSeen}
+use Rattle.xs_graph.specs.States.{State, mark_of, unseen, edges_left, work, passed, lower_first, with_frame, opened, merged, closed_from, close_all, KeepsSeen}
 use Rattle.xs_graph.proofs.Marking.{unseen_set, unseen_close, closed_seen, marked_within}
 
 -- a number times one more

@@ -44,3 +44,9 @@ pub record IsFirstCyclic (graph : List (List ℕ)) (a : ℕ) : Type 0 where
 -- the numbers fall along each edge
 abbrev pub FallAlong : List (List ℕ) → List ℕ → Type 0
 FallAlong graph numbers = (a b : ℕ) → HasEdge graph a b → slice_index numbers b < slice_index numbers a
+
+-- one of the targets has this number
+pub record HasNumber (targets numbers : List ℕ) (number : ℕ) : Type 0 where
+  pub target : ℕ
+  pub has : Contains targets target
+  pub is : slice_index numbers target ≡ number

@@ -1,6 +1,6 @@
 -- How far a search has come: what it knows of each node, which nodes wait, and whose edges it walks.
 use Rattle.std.specs.Prelude.{◌≡◌, ◌≢◌, ℕ, suc, ◌+◌, ◌*◌, ◌-◌, ◌<◌, ◌≤◌, List, [], ◌∷◌, ◌++◌, length, set, take, drop, reverse, min, slice_index, slice_index_or}
-use Rattle.std.specs.List.{All, sum_by}
+use Rattle.std.specs.List.{sum_by}
 use Rattle.xs_graph.specs.declared.frame.Frame.{Frame}
 use Rattle.xs_graph.specs.declared.mark.Mark.{Mark}
 use Rattle.xs_graph.specs.declared.mark.Mark.TheVariants.{Unseen, Open, Closed}

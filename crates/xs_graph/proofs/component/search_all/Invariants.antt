@@ -1,4 +1,4 @@
-use Rattle.std.proofs.Common.{◌≡◌, ◌≢◌, ◌≤◌, ℕ, ◌<◌, [], length}
+use Rattle.std.proofs.Common.{◌≡◌, ◌≢◌, ℕ, ◌<◌, []}
 use Rattle.xs_graph.specs.declared.mark.Mark.TheVariants.{Unseen}
 use Rattle.xs_graph.specs.States.{state_of, mark_of, IsState}
 use Rattle.xs_graph.proofs.component.search_all.Given as goal
