@@ -1,0 +1,11 @@
+pub mod Reaching
+pub mod Marking
+pub mod Framing
+pub mod Opening
+pub mod Merging
+pub mod Closing
+pub mod Working
+pub mod Stacking
+pub mod Stepping
+pub mod Finding
+pub mod Cycling
