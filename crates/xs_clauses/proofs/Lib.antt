@@ -1,0 +1,4 @@
+pub mod Flags
+pub mod Complete
+pub mod Growth
+pub mod Rows

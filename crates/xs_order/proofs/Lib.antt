@@ -1,0 +1,4 @@
+pub mod Flags
+pub mod Deriving
+pub mod Empty
+pub mod Clauses
