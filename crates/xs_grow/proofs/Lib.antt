@@ -1,0 +1,5 @@
+pub mod ListLemmas
+pub mod Grouping
+pub mod Runnings
+pub mod Gathering
+pub mod Ending

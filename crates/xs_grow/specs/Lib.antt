@@ -1,0 +1,4 @@
+pub mod Lists
+pub mod Grouped
+pub mod Running
+pub mod Marks

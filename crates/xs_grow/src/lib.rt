@@ -1,0 +1,12 @@
+//! The forest of a document, grown from its chart.
+#![tactic(auto)]
+
+mod call;
+mod calls;
+mod ends;
+mod gather;
+mod groups;
+mod runs;
+
+pub use call::Call;
+pub use groups::Groups;
