@@ -78,13 +78,13 @@ same_item one two e f = go one.state two.state one.origin two.origin e f
     go : (a b c d : ℕ) → a ≡ b → c ≡ d → ◌≡◌ {A = Item} (record { state = a; origin = c }) (record { state = b; origin = d })
     go a b c d e f = ap (λ (s : ℕ). record { state = s; origin = c }) e ∙ ap (λ (o : ℕ). record { state = b; origin = o }) f
 
-same_start : (x y : What) (i j k l m n : ℕ) → ◌≡◌ {A = Mark} (key_at x i j, m) (key_at y k l, n) → (x ≡ y) × (i ≡ k) × (j ≡ l) × (m ≡ n)
+pub same_start : (x y : What) (i j k l m n : ℕ) → ◌≡◌ {A = Mark} (key_at x i j, m) (key_at y k l, n) → (x ≡ y) × (i ≡ k) × (j ≡ l) × (m ≡ n)
 same_start x y i j k l m n e = (ap (λ (z : Mark). z.0.what) e, ap (λ (z : Mark). z.0.start) e, ap (λ (z : Mark). z.0.end) e, ap (λ (z : Mark). z.1) e)
 
-same_rule : (p q d e : ℕ) → Front p (suc d) ≡ Front q (suc e) → p ≡ q
+pub same_rule : (p q d e : ℕ) → Front p (suc d) ≡ Front q (suc e) → p ≡ q
 same_rule p q d e h = cc
 
-same_dot : (p q d e : ℕ) → Front p (suc d) ≡ Front q (suc e) → d ≡ e
+pub same_dot : (p q d e : ℕ) → Front p (suc d) ≡ Front q (suc e) → d ≡ e
 same_dot p q d e h = let s : suc d ≡ suc e = cc in omega arith
 
 one_number : (g : Grammar) (c d : Place) (k l p q m n : ℕ) → IsNumber g k c → IsNumber g l d → c.inside ≡ None → d.inside ≡ None → c.rule ≡ d.rule → c.dot ≡ d.dot → k ≡ l

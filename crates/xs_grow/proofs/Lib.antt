@@ -3,3 +3,8 @@ pub mod Grouping
 pub mod Runnings
 pub mod Gathering
 pub mod Ending
+pub mod Leveling
+pub mod Rowing
+pub mod Growing
+pub mod Charting
+pub mod Planting

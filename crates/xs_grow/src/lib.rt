@@ -6,6 +6,9 @@ mod calls;
 mod ends;
 mod gather;
 mod groups;
+mod grow;
+mod levels;
+mod rows;
 mod runs;
 
 pub use call::Call;
