@@ -1,0 +1,5 @@
+//! The derivations of a document, out of its shared forest.
+#![tactic(auto)]
+
+mod marks;
+mod rows;
