@@ -6,13 +6,14 @@ use Rattle.xs_gram.specs.declared.parts.GItem.{GItem}
 use Rattle.xs_gram.specs.declared.parts.GItem.TheVariants.{Fixed, Term, Non, Skip}
 use Rattle.xs_gram.specs.Grammar.{Grammar, items}
 use Rattle.xs_gram.specs.Derivations.{parts_yield}
-use Rattle.xs_items.proofs.Words.{Reads-within}
+use Rattle.xs_items.proofs.Words.{get_lt, Reads-within}
 use Rattle.xs_forest.specs.declared.row.Alt.{Alt}
 use Rattle.xs_forest.specs.Rows.{IsEarlier, AreEarlier, AreBelow}
 use Rattle.xs_unfold.specs.declared.span.SpanKey.{SpanKey}
 use Rattle.xs_unfold.specs.declared.span.What.{What}
 use Rattle.xs_unfold.specs.declared.span.What.TheVariants.{Whole, Front}
 use Rattle.xs_unfold.specs.Forest.{Forest, key_at, no_row, key_of, alts_of, IsRow, FrontAt, ItemRow, IsAlt, IsSpelt, IsRight}
+use Rattle.xs_unfold.proofs.Read.{get_or_is}
 use Rattle.xs_unfold.proofs.Number.{contains_of}
 
 pub earlier_more : (o : Option ℕ) (m n : ℕ) → m ≤ n → IsEarlier o m → IsEarlier o n
@@ -80,3 +81,19 @@ module _ (g : Grammar) (w : List ℕ) (f : Forest) (right : IsRight g w f) where
   children_inside r n a lt e le =
       let k = key_of f r in
       alt_inside k.what k.start k.end a (right.sound r k.what k.start k.end a (lt, refl) (contains_of (alts_of f r) n a e)) le
+
+  pub rows_below : AreBelow f
+  rows_below r label alts e = each alts r (λ n a at. (left_earlier r n a lt (alt_at n a at), right_earlier r n a lt (alt_at n a at)))
+    where
+      lt : r < length f
+      lt = get_lt f r (label, alts) e
+
+      alts_are : alts_of f r ≡ alts
+      alts_are = ap (λ (x : SpanKey × List Alt). x.1) (get_or_is f r (label, alts) no_row e)
+
+      alt_at : (n : ℕ) (a : Alt) → slice_get alts n ≡ Some a → slice_get (alts_of f r) n ≡ Some a
+      alt_at n a at = subst (λ (l : List Alt). slice_get l n ≡ Some a) (sym alts_are) at
+
+      each : (alts : List Alt) (m : ℕ) → ((n : ℕ) (a : Alt) → slice_get alts n ≡ Some a → IsEarlier a.left m × IsEarlier a.right m) → AreEarlier alts m
+      each [] m h = tt
+      each (a ∷ alts) m h = let b = h zero a refl in (b.0, b.1, each alts m (λ n x at. h (suc n) x at))

@@ -1,2 +1,4 @@
 pub mod Children
 pub mod Marking
+pub mod Filling
+pub mod Gathering

@@ -1,6 +1,5 @@
 -- Marking the children of one row after the other, from the root down, marks all that the root's unfolding has.
-use Rattle.std.proofs.Common.{◌≡◌, ◌⊎◌, inl, inr, ℕ, zero, suc, ◌+◌, ◌<◌, ◌≤◌, List, [], ◌∷◌, length, Bool, true, false, Option, Some, None, refl, sym, ◌∙◌, ap, arith, subst, replicate, ◌++◌, take, drop, append-nil}
-use Rattle.std.proofs.lemmas.List.{take_all, drop_all}
+use Rattle.std.proofs.Common.{◌≡◌, ◌⊎◌, inl, inr, ℕ, zero, suc, ◌+◌, ◌<◌, ◌≤◌, List, [], ◌∷◌, length, Bool, true, false, Option, Some, None, refl, sym, ◌∙◌, ap, arith, subst, replicate}
 use Rattle.std.specs.Prelude.{slice_get, slice_index_or, slice_set}
 use Rattle.std.proofs.lemmas.Bool.{cases_lt}
 use Rattle.xs_gram.specs.Grammar.{Grammar}
@@ -181,9 +180,3 @@ module _ (g : Grammar) (w : List ℕ) (f : Forest) (right : IsRight g w f) where
   -- one row more passes its mark on
   pub pass_marked : (m : List Bool) (row : ℕ) → row < length m → row < length f → AreMarked w f m (suc row) → AreMarked w f (pass f row m) row
   pass_marked m row long lt marked = passed_marked m row (slice_index_or m row false) (slice_get (alts_of f row) zero) long lt (mark_at m row long) refl marked
-
--- what is written through a slice of a whole list
-pub written_back : (xs ys : List Bool) (n : ℕ) → length xs ≡ n → length ys ≡ n → take n (xs ++ drop (length xs) ys) ≡ xs
-written_back xs ys n ex ey =
-    let none : drop (length xs) ys ≡ [] = drop_all (length xs) ys (omega arith) in
-    rw (none, append-nil) (take_all n xs (omega arith))

@@ -1,5 +1,6 @@
 //! The derivations of a document, out of its shared forest.
 #![tactic(auto)]
 
+mod kids;
 mod marks;
 mod rows;
