@@ -2,3 +2,4 @@ pub mod Children
 pub mod Marking
 pub mod Filling
 pub mod Gathering
+pub mod Preparing

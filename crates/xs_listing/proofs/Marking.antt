@@ -80,6 +80,9 @@ mark_at [] r lt = absurd (omega arith)
 mark_at (b ∷ m) zero lt = refl
 mark_at (b ∷ m) (suc r) lt = mark_at m r (omega arith)
 
+pub marked_at : (m : List Bool) (r : ℕ) → r < length m → slice_index_or m r false ≡ true → IsMarked m r
+marked_at m r lt e = mark_at m r lt ∙ ap Some e
+
 module _ (g : Grammar) (w : List ℕ) (f : Forest) (right : IsRight g w f) where
   -- a child's unfolding by first alternatives
   abbrev IsReadyChild : Option ℕ → Type 0

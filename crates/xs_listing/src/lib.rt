@@ -3,4 +3,8 @@
 
 mod kids;
 mod marks;
+mod nodes;
 mod rows;
+mod tree;
+
+pub use tree::one_tree;
