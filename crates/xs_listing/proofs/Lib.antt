@@ -3,3 +3,4 @@ pub mod Marking
 pub mod Filling
 pub mod Gathering
 pub mod Preparing
+pub mod Sums

@@ -1,10 +1,13 @@
 //! The derivations of a document, out of its shared forest.
 #![tactic(auto)]
 
+mod count;
 mod kids;
 mod marks;
 mod nodes;
 mod rows;
+mod spelt;
 mod tree;
 
+pub use spelt::{Kids, Listing, Spelt, SpeltPart, Spelts};
 pub use tree::one_tree;
