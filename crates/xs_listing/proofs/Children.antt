@@ -32,6 +32,14 @@ row_get f r lt = slice_get-get_or f r no_row lt
 pub alt_earlier : (f : Forest) (r n : ℕ) (a : Alt) → AreBelow f → r < length f → slice_get (alts_of f r) n ≡ Some a → IsEarlier a.left r × IsEarlier a.right r
 alt_earlier f r n a below lt e = earlier_at (alts_of f r) n r a (below r (key_of f r) (alts_of f r) (row_get f r lt)) e
 
+pub all_earlier : (alts : List Alt) (m n : ℕ) → m ≤ n → AreEarlier alts m → AreEarlier alts n
+all_earlier [] m n le h = tt
+all_earlier (a ∷ alts) m n le h = (earlier_more a.left m n le h.0, earlier_more a.right m n le h.1, all_earlier alts m n le h.2)
+
+-- the children of a row's alternatives stand below any number from the row's on
+pub alts_earlier : (f : Forest) (r n : ℕ) → AreBelow f → r < length f → r ≤ n → AreEarlier (alts_of f r) n
+alts_earlier f r n below lt le = all_earlier (alts_of f r) r n le (below r (key_of f r) (alts_of f r) (row_get f r lt))
+
 module _ (g : Grammar) (w : List ℕ) (f : Forest) (right : IsRight g w f) where
   -- a child that an alternative of the row has
   child_earlier : (r : ℕ) (a : Alt) (o : Option ℕ) → r < length f → Contains (alts_of f r) a → ((c : ℕ) → o ≡ Some c → (a.left ≡ Some c) ⊎ (a.right ≡ Some c)) → IsEarlier o r

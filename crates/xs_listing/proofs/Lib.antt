@@ -4,3 +4,5 @@ pub mod Filling
 pub mod Gathering
 pub mod Preparing
 pub mod Sums
+pub mod Walking
+pub mod Spelling
