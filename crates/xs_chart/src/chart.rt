@@ -33,7 +33,8 @@ impl Chart {
 
     /// The chart without sets.
     pub fn new(alloc: Global) -> Result<Self, Memory>
-        ensures { IfOk result (λ chart. chart.sets ≡ []) }
+        ensures sets { IfOk result (λ chart. chart.sets ≡ []) }
+        ensures waits { IfOk result (λ chart. chart.waits ≡ []) }
     {
         Ok(Chart {
             alloc,
