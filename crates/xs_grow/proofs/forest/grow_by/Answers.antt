@@ -1,4 +1,4 @@
-use Rattle.std.proofs.Common.{◌≡◌, ℕ, List, length, Option, Some, None, refl, sym, subst, ap, ◌∙◌}
+use Rattle.std.proofs.Common.{◌≡◌, ℕ, List, length, subst, ap, ◌∙◌}
 use Rattle.xs_unfold.specs.declared.span.What.TheVariants.{Whole}
 use Rattle.xs_unfold.specs.Forest.{key_at}
 use Rattle.std.specs.Prelude.{MatchOption}

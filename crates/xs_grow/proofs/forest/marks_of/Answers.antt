@@ -1,4 +1,4 @@
-use Rattle.std.proofs.Common.{◌≡◌, ◌≤◌, ◌+◌, length, suc, arith}
+use Rattle.std.proofs.Common.{arith}
 use Rattle.xs_grow.proofs.Charting.{places}
 use Rattle.xs_grow.proofs.Planting.{once_each, marked}
 use Rattle.xs_grow.proofs.forest.marks_of.Goals as goal
