@@ -1,13 +1,12 @@
 -- The marks that are gathered of a chart's items are the chart's marks.
-use Rattle.std.proofs.Common.{◌≡◌, ◌⊎◌, ◌↔◌, ℕ, zero, suc, ◌<◌, ◌≤◌, List, [], ◌∷◌, ◌++◌, length, slice_get, None, Some, refl, sym, ap, ◌∙◌, subst, arith, inl, inr}
+use Rattle.std.proofs.Common.{◌≡◌, ℕ, suc, ◌<◌, List, ◌++◌, length, slice_get, Some, refl, sym, ap, ◌∙◌, subst, arith, inl, inr}
 use Rattle.std.specs.Prelude.{Contains}
-use Rattle.std.proofs.lemmas.Option.{none-some, same_Some, slice_get_within}
+use Rattle.std.proofs.lemmas.Option.{slice_get_within}
 use Rattle.xs_chart.specs.declared.item.Item.{Item}
-use Rattle.xs_chart.specs.Filled.{AreDifferent}
 use Rattle.xs_gram.specs.declared.parts.GItem.{GItem}
 use Rattle.xs_gram.specs.declared.parts.GItem.TheVariants.{Fixed, Term, Non, Skip}
 use Rattle.xs_gram.specs.declared.places.Place.{Place}
-use Rattle.xs_gram.specs.Grammar.{Grammar, rule_of, items, IsRuleOf, ItemAt}
+use Rattle.xs_gram.specs.Grammar.{Grammar, rule_of, items}
 use Rattle.xs_gram.specs.Places.{at_dot, all_places}
 use Rattle.xs_gram.specs.Chart.{Stands}
 use Rattle.xs_gram.specs.Languages.{InLang}
@@ -21,12 +20,11 @@ use Rattle.xs_unfold.specs.declared.span.What.TheVariants.{Whole, Front}
 use Rattle.xs_unfold.specs.Forest.{key_at}
 use Rattle.xs_unfold.specs.Grown.{IsFinished, ItemOver, IsLabelBy}
 use Rattle.xs_grow.specs.declared.call.Call.{Call}
-use Rattle.xs_grow.specs.Lists.{AreOnce, HasAllOf}
+use Rattle.xs_grow.specs.Lists.{HasAllOf}
 use Rattle.xs_grow.specs.Grouped.{Grouped, IsGroup, HasGroups}
-use Rattle.xs_grow.specs.Marks.{Mark, call_at, WholeMark, FrontMark, IsMark, WholeAt, EndsAt, FrontFrom, InSet, InSets, CallIn, AreCallsOf, EndOnce, HasPlaces}
+use Rattle.xs_grow.specs.Marks.{Mark, call_at, WholeMark, FrontMark, IsMark, WholeAt, EndsAt, FrontFrom, InSets, CallIn, AreCallsOf, EndOnce, HasPlaces}
 use Rattle.xs_grow.proofs.ListLemmas.{get_contains, contains_get, all_same, all_append}
-use Rattle.xs_grow.proofs.Gathering.{same_start}
-use Rattle.xs_grow.proofs.Growing.{Facts, mark_facts}
+use Rattle.xs_grow.proofs.Growing.{mark_facts}
 
 module _ (g : Grammar) (w : List ℕ) (sets : List (List Item)) (chart : IsChartOf g w sets) where
   abbrev has : ℕ → Place → ℕ → Type 0

@@ -1,19 +1,19 @@
 -- Where an item may end that begins at a place of the document.
-use Rattle.std.proofs.Common.{◌≡◌, ◌⊎◌, ◌↔◌, ℕ, zero, suc, ◌+◌, ◌<◌, ◌≤◌, Bool, true, false, List, [], ◌∷◌, ◌++◌, length, take, slice_get, Some, refl, sym, ap, ◌∙◌, subst, arith, inl, inr, true≢false}
+use Rattle.std.proofs.Common.{◌≡◌, ◌⊎◌, ◌↔◌, ℕ, zero, suc, ◌+◌, ◌<◌, ◌≤◌, Bool, true, false, List, [], ◌∷◌, length, take, slice_get, Some, refl, sym, ap, ◌∙◌, subst, arith, inl, inr, true≢false}
 use Rattle.std.specs.Prelude.{Contains, IsTrue, slice_range}
 use Rattle.std.proofs.lemmas.Option.{none-some, same_Some}
-use Rattle.xs_gram.specs.declared.parts.GItem.TheVariants.{Fixed, Term, Non, Skip}
+use Rattle.xs_gram.specs.declared.parts.GItem.TheVariants.{Term, Non, Skip}
 use Rattle.xs_gram.specs.Grammar.{Grammar, term_of, skip_of, ItemAt}
 use Rattle.xs_gram.specs.Sound.{IsBuilt}
 use Rattle.xs_items.specs.Reading.{Reads}
 use Rattle.xs_items.proofs.Words.{get_take, Reads-join, Reads-is, Reads-within}
 use Rattle.xs_items.proofs.Spelling.{term_agrees, skip_agrees}
 use Rattle.xs_grow.specs.declared.call.Call.{Call}
-use Rattle.xs_grow.specs.Lists.{AreOnce, HasAllOf}
+use Rattle.xs_grow.specs.Lists.{HasAllOf}
 use Rattle.xs_grow.specs.Grouped.{Grouped, IsGroup, HasNone, AreApart}
 use Rattle.xs_grow.specs.Marks.{call_at, EndsAt, EndOnce}
 use Rattle.xs_grow.specs.Running.{AcceptsTo}
-use Rattle.xs_grow.proofs.ListLemmas.{none_contained, all_none, all_one, all_same}
+use Rattle.xs_grow.proofs.ListLemmas.{all_none, all_one, all_same}
 use Rattle.xs_grow.proofs.Grouping.{one_group_of}
 
 pub reads_more : (w u : List ℕ) (at k x next : ℕ) → Reads w at (take k u) (at + k) → slice_get u k ≡ Some x → slice_get w (at + k) ≡ Some x → next ≡ suc k → Reads w at (take next u) (at + next)

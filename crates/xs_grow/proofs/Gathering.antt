@@ -1,8 +1,8 @@
 -- The marks of one item more, of one set more, and of one group more.
-use Rattle.std.proofs.Common.{◌≡◌, ◌⊎◌, ℕ, zero, suc, ◌<◌, List, [], ◌∷◌, ◌++◌, length, slice_get, map, Option, None, Some, refl, sym, ap, ◌∙◌, subst, arith, inl, inr, append-nil}
+use Rattle.std.proofs.Common.{◌≡◌, ◌⊎◌, ℕ, zero, suc, List, [], ◌∷◌, ◌++◌, length, slice_get, map, None, Some, refl, sym, ap, ◌∙◌, subst, arith, inl, inr, append-nil}
 use Rattle.std.specs.Prelude.{Contains}
 use Rattle.std.proofs.lemmas.Bool.{cases_eq}
-use Rattle.std.proofs.lemmas.Option.{none-some, same_Some, slice_get_within}
+use Rattle.std.proofs.lemmas.Option.{none-some, same_Some}
 use Rattle.xs_chart.specs.declared.item.Item.{Item}
 use Rattle.xs_chart.specs.Filled.{AreDifferent}
 use Rattle.xs_gram.specs.declared.parts.GItem.{GItem}
@@ -21,7 +21,7 @@ use Rattle.xs_grow.specs.declared.call.Call.{Call}
 use Rattle.xs_grow.specs.Lists.{AreOnce, HasAllOf, Appends}
 use Rattle.xs_grow.specs.Grouped.{Grouped, IsGroup, AreApart}
 use Rattle.xs_grow.specs.Marks.{Mark, call_at, WholeAt, EndsAt, FrontFrom, InSet, InSets, CallIn, called}
-use Rattle.xs_grow.proofs.ListLemmas.{none_contained, get_contains, contains_get, get_push_cases, all_none, all_push, all_same, appends_none, appends_one, appends_more, appends_same}
+use Rattle.xs_grow.proofs.ListLemmas.{get_contains, contains_get, all_none, all_push, all_same, appends_none, appends_one, appends_more}
 
 module _ (P : ℕ → Item → Mark → Type 0) (sets : List (List Item)) where
   pub set_none : (j : ℕ) (marks : List Mark) → Appends (InSet P sets j 0) marks marks

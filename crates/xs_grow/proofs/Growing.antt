@@ -1,5 +1,5 @@
 -- The rows that are made of the marks of a chart are a grown forest.
-use Rattle.std.proofs.Common.{◌≡◌, ◌⊎◌, ◌↔◌, ℕ, zero, suc, ◌<◌, ◌≤◌, Bool, true, false, List, [], ◌∷◌, ◌++◌, length, take, slice_get, Option, None, Some, refl, sym, ap, ◌∙◌, subst, arith, inl, inr, true≢false}
+use Rattle.std.proofs.Common.{◌≡◌, ◌⊎◌, ℕ, zero, suc, ◌<◌, ◌≤◌, false, List, [], ◌∷◌, length, slice_get, Option, None, Some, refl, sym, ap, ◌∙◌, subst, arith, inl, inr, true≢false}
 use Rattle.std.specs.Prelude.{Contains, IsPermutation, IsSortedByKey, slice_range, slice_index_or}
 use Rattle.std.specs.Cmp.Lexicographic.{slice_cmp}
 use Rattle.std.specs.Ordering.{nat_cmp, is_lt}
@@ -7,19 +7,15 @@ use Rattle.std.specs.declared.cmp.Ordering.TheVariants.{Less}
 use Rattle.std.proofs.lemmas.Bool.{cases_lt}
 use Rattle.std.proofs.lemmas.Cmp.{nat_list_cmp_total}
 use Rattle.std.proofs.lemmas.Option.{none-some, same_Some, slice_get_within}
-use Rattle.std.proofs.lemmas.List.Sorted.{ranks_by, IsPermutation-sym, Contains-permutation, length_permutation}
-use Rattle.xs_chart.specs.declared.item.Item.{Item}
+use Rattle.std.proofs.lemmas.List.Sorted.{ranks_by, IsPermutation-sym, Contains-permutation}
 use Rattle.xs_gram.specs.declared.parts.GItem.{GItem}
 use Rattle.xs_gram.specs.declared.parts.GItem.TheVariants.{Fixed, Term, Non, Skip}
 use Rattle.xs_gram.specs.declared.places.Place.{Place}
-use Rattle.xs_gram.specs.Grammar.{Grammar, rule_of, items, IsRuleOf, ItemAt}
+use Rattle.xs_gram.specs.Grammar.{Grammar, items, IsRuleOf, ItemAt}
 use Rattle.xs_gram.specs.Derivations.{done, parts_yield}
 use Rattle.xs_gram.specs.Places.{at_dot}
 use Rattle.xs_gram.specs.Sound.{IsBuilt}
-use Rattle.xs_gram.proofs.Numbers.{as_dot}
 use Rattle.xs_items.specs.Reading.{Reads}
-use Rattle.xs_items.specs.Charts.{IsNumber, HasPlace, IsChartOf, set_at}
-use Rattle.xs_items.proofs.Numbers.{one_place}
 use Rattle.xs_items.proofs.Words.{get_some, get_lt, Reads-split}
 use Rattle.xs_items.proofs.Spelling.{Spells-less}
 use Rattle.xs_items.proofs.Standing.{stood, stood_reads, more}
@@ -28,18 +24,18 @@ use Rattle.xs_unfold.specs.declared.span.SpanKey.{SpanKey}
 use Rattle.xs_unfold.specs.declared.span.What.{What}
 use Rattle.xs_unfold.specs.declared.span.What.TheVariants.{Whole, Front}
 use Rattle.xs_unfold.specs.Forest.{Forest, key_at, key_of, alts_of, item_of, IsRow, IsSpelt, FrontAt, ItemRow}
-use Rattle.xs_unfold.specs.Grown.{IsExactChart, IsFinished, ItemOver, WholeBy, FrontBy, IsAltBy, IsLabelBy, IsGrown}
+use Rattle.xs_unfold.specs.Grown.{IsExactChart, ItemOver, WholeBy, FrontBy, IsAltBy, IsLabelBy, IsGrown}
 use Rattle.xs_unfold.specs.Order.{IsRanked, IsTail, IsLess}
 use Rattle.xs_unfold.proofs.Read.{get_or_is}
 use Rattle.xs_unfold.proofs.Rows.{row_at}
 use Rattle.xs_unfold.proofs.Sorting.{sorted_rises, then_less}
 use Rattle.xs_unfold.proofs.Grows.{dot_spelt, over_spelt, spelt_over}
 use Rattle.xs_unfold.proofs.Below.{whole_below, front_below, last_below}
-use Rattle.xs_grow.specs.Lists.{AreOnce, HasAllOf}
-use Rattle.xs_grow.specs.Grouped.{Grouped, IsGroup, HasNone, AreApart, HasGroups}
+use Rattle.xs_grow.specs.Lists.{HasAllOf}
+use Rattle.xs_grow.specs.Grouped.{Grouped, IsGroup, AreApart, HasGroups}
 use Rattle.xs_grow.specs.Levels.{rank_by, tail_by, level_by}
-use Rattle.xs_grow.specs.Marks.{Mark, WholeMark, FrontMark, IsMark}
-use Rattle.xs_grow.specs.Making.{Finds, FindsFront, FindsItem, IsMade, CanBeMade, AreMade, AllCanBeMade, ChildrenAreEarlier, AreRowsOf}
+use Rattle.xs_grow.specs.Marks.{Mark, IsMark}
+use Rattle.xs_grow.specs.Making.{FindsFront, FindsItem, IsMade, CanBeMade, AreMade, AllCanBeMade, ChildrenAreEarlier, AreRowsOf}
 use Rattle.xs_grow.proofs.ListLemmas.{get_contains, contains_get}
 use Rattle.xs_grow.proofs.Rowing.{made_of}
 

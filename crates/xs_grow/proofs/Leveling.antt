@@ -1,15 +1,12 @@
 -- The first place of a rule from which on all items are nullable, and lists of such places.
 use Rattle.std.proofs.Common.{◌≡◌, ◌⊎◌, ◌↔◌, ℕ, zero, suc, ◌<◌, ◌≤◌, Bool, true, false, List, [], ◌∷◌, ◌++◌, length, slice_get, get_or, Some, refl, sym, ap, ◌∙◌, subst, arith, inl, inr, true≢false}
-use Rattle.std.proofs.lemmas.Bool.{cases_eq, cases_lt}
-use Rattle.std.proofs.lemmas.Option.{same_Some, get_or_from_slice_get}
+use Rattle.std.proofs.lemmas.Bool.{cases_lt}
+use Rattle.std.proofs.lemmas.Option.{same_Some}
 use Rattle.xs_gram.specs.declared.parts.GItem.{GItem}
 use Rattle.xs_gram.specs.Grammar.{Grammar, items, ItemAt}
-use Rattle.xs_gram.specs.Sound.{IsBuilt, IsNullableItem}
+use Rattle.xs_gram.specs.Sound.{IsNullableItem}
 use Rattle.xs_items.proofs.Words.{get_lt}
-use Rattle.xs_unfold.specs.Order.{is_nullable_by, AreNullable, IsTailFrom, IsNullableFrom}
-use Rattle.xs_unfold.proofs.Tails.{nullable_item}
-use Rattle.xs_grow.specs.Levels.{flag_by}
-use Rattle.xs_grow.proofs.ListLemmas.{get_push_cases, get_append_left, get_end}
+use Rattle.xs_unfold.specs.Order.{IsTailFrom}
 
 -- all items from `from` up to k are nullable, and the one before is not
 pub record IsTailTo (g : Grammar) (p from k : ℕ) : Type 0 where

@@ -1,5 +1,5 @@
 -- From the marks of a chart, grouped and sorted, to the forest of the document.
-use Rattle.std.proofs.Common.{◌≡◌, ℕ, ◌<◌, List, [], ◌++◌, length, Option, None, Some, refl, sym, subst}
+use Rattle.std.proofs.Common.{◌≡◌, ℕ, ◌<◌, List, [], length, Option, None, Some, refl, sym, subst}
 use Rattle.std.specs.Prelude.{IsPermutation, IsSortedByKey, IsSome, MatchOption, slice_index_or}
 use Rattle.std.proofs.lemmas.Option.{MatchOption-at_some}
 use Rattle.std.specs.Cmp.Lexicographic.{slice_cmp}
@@ -11,7 +11,7 @@ use Rattle.xs_gram.specs.Languages.{InLang}
 use Rattle.xs_items.specs.Charts.{HasPlace, IsChartOf}
 use Rattle.xs_unfold.specs.declared.span.SpanKey.{SpanKey}
 use Rattle.xs_unfold.specs.declared.span.What.TheVariants.{Whole}
-use Rattle.xs_unfold.specs.Forest.{Forest, key_at, IsRow, IsRight}
+use Rattle.xs_unfold.specs.Forest.{Forest, key_at}
 use Rattle.xs_unfold.specs.Grown.{IsExactChart}
 use Rattle.xs_unfold.specs.Order.{IsRanked, IsTail, IsTailFrom}
 use Rattle.xs_unfold.specs.Laws.{IsExact, IsForestOf}

@@ -1,6 +1,5 @@
 -- One alternative more of a row, and one row more.
-use Rattle.std.proofs.Common.{◌≡◌, ◌⊎◌, ℕ, zero, suc, ◌<◌, ◌≤◌, List, [], ◌∷◌, ◌++◌, length, take, slice_get, Option, Some, None, refl, sym, ap, ◌∙◌, subst, arith, inl, inr}
-use Rattle.std.specs.Prelude.{Contains}
+use Rattle.std.proofs.Common.{◌≡◌, ◌⊎◌, ℕ, zero, suc, ◌<◌, List, [], ◌∷◌, ◌++◌, length, slice_get, Option, Some, None, refl, sym, ap, ◌∙◌, subst, arith, inl, inr}
 use Rattle.std.proofs.lemmas.Bool.{cases_lt}
 use Rattle.std.proofs.lemmas.Option.{none-some, same_Some, slice_get_within}
 use Rattle.xs_items.proofs.Words.{get_some}
@@ -11,7 +10,7 @@ use Rattle.xs_unfold.specs.declared.span.SpanKey.{SpanKey}
 use Rattle.xs_unfold.specs.Forest.{Forest}
 use Rattle.xs_grow.specs.Grouped.{Grouped, IsGroup}
 use Rattle.xs_grow.specs.Making.{IsMade, AreMade, ChildrenAreEarlier, AreRowsOf}
-use Rattle.xs_grow.proofs.ListLemmas.{get_contains, contains_get, get_push_cases, get_append_left, get_end}
+use Rattle.xs_grow.proofs.ListLemmas.{get_contains, get_push_cases, get_append_left, get_end}
 
 longer : {X : Type 0} (xs : List X) (x : X) → length (xs ++ x ∷ []) ≡ suc (length xs)
 longer [] x = refl

@@ -1,19 +1,18 @@
 -- The positions that an automaton reaches, symbol by symbol, and the places where its words end.
-use Rattle.std.proofs.Common.{◌≡◌, ◌⊎◌, ◌↔◌, ℕ, zero, suc, ◌+◌, ◌-◌, ◌<◌, ◌≤◌, Bool, true, false, List, [], ◌∷◌, ◌++◌, length, take, slice_get, Option, None, Some, refl, sym, ap, ◌∙◌, subst, arith, inl, inr, true≢false}
+use Rattle.std.proofs.Common.{◌≡◌, ◌⊎◌, ◌↔◌, ℕ, zero, suc, ◌+◌, ◌-◌, ◌<◌, ◌≤◌, Bool, true, false, List, [], ◌∷◌, ◌++◌, length, slice_get, Option, None, Some, refl, sym, ap, ◌∙◌, subst, arith, inl, inr, true≢false}
 use Rattle.std.specs.Prelude.{Contains, IsTrue, IsSomeAnd, slice_range, MatchBool}
 use Rattle.std.proofs.lemmas.Bool.{cases_eq, cases_lt}
-use Rattle.std.proofs.lemmas.Option.{none-some, same_Some, slice_get_within}
+use Rattle.std.proofs.lemmas.Option.{slice_get_within}
 use Rattle.std.specs.Bool.{Decides}
 use Rattle.xs_class.specs.Classes.{Has}
 use Rattle.std.proofs.lemmas.List.{same_from_push}
-use Rattle.std.proofs.lemmas.List.Elements.{Contains-append_left, Contains-append_right, Contains-push, Contains-push_cases}
+use Rattle.std.proofs.lemmas.List.Elements.{Contains-append_left, Contains-push, Contains-push_cases}
 use Rattle.xs_regex.specs.declared.position.Position.{Position}
 use Rattle.xs_regex.specs.Automaton.{Accepts, HasAt, Leads, Runs, begins, goes}
-use Rattle.xs_items.specs.Reading.{Reads}
 use Rattle.xs_items.proofs.Words.{Reads-join, Reads-slice, Reads-from_slice, Reads-is, get_some}
 use Rattle.xs_grow.specs.Lists.{HasAllOf}
 use Rattle.xs_grow.specs.Running.{Enters, AcceptsTo}
-use Rattle.xs_grow.proofs.ListLemmas.{none_contained, contains_one, all_none, all_one, all_same, all_push}
+use Rattle.xs_grow.proofs.ListLemmas.{none_contained, all_none, all_one, all_same, all_push}
 
 -- a test of a list's elements
 pub contained : (xs : List ℕ) (x : ℕ) (r : Bool) → Decides r (Contains xs x) → (b : Bool) → r ≡ b → MatchBool b (Contains xs x) (Contains xs x → ⊥)

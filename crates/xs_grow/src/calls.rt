@@ -1,7 +1,8 @@
 ghost use Rattle.std.specs.Prelude.{◌++◌, ◌≡◌, IfOk, OnOk};
 ghost use Rattle.xs_grow.specs.Marks.{AreCallsOf, called};
 
-use crate::{Call, Groups};
+use crate::call::Call;
+use crate::groups::Groups;
 use std::alloc::Global;
 use xs_class::Memory;
 use xs_unfold::{SpanKey, What};

@@ -5,8 +5,9 @@ ghost use Rattle.xs_items.specs.Reading.{Reads};
 ghost use Rattle.xs_grow.specs.Lists.{HasAllOf};
 ghost use Rattle.xs_grow.specs.Marks.{EndsAt, EndOnce};
 
+use crate::call::Call;
+use crate::groups::Groups;
 use crate::runs::ends_from;
-use crate::{Call, Groups};
 use std::alloc::Global;
 use xs_class::{Memory, Word};
 use xs_gram::{GItem, Gram};

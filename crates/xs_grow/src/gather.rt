@@ -7,8 +7,9 @@ ghost use Rattle.xs_unfold.specs.Forest.{key_at};
 ghost use Rattle.xs_grow.specs.Lists.{Appends};
 ghost use Rattle.xs_grow.specs.Marks.{WholeAt, FrontFrom, InSet, InSets, EndOnce, HasPlaces};
 
+use crate::call::Call;
 use crate::ends::ends_of;
-use crate::{Call, Groups};
+use crate::groups::Groups;
 use std::alloc::Global;
 use xs_chart::{Chart, Item};
 use xs_class::{Memory, Word};

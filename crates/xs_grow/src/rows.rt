@@ -3,7 +3,7 @@ ghost use Rattle.xs_gram.specs.Grammar.{items};
 ghost use Rattle.xs_forest.specs.Rows.{AreEarlier};
 ghost use Rattle.xs_grow.specs.Making.{FindsFront, FindsItem, IsMade, CanBeMade, AreMade, AllCanBeMade, ChildrenAreEarlier, AreRowsOf};
 
-use crate::Groups;
+use crate::groups::Groups;
 use bumpalo::Bump;
 use std::alloc::Global;
 use xs_class::Memory;

@@ -1,6 +1,5 @@
 use Rattle.std.proofs.Common.{◌∙◌, Some, sym, ap, subst}
 use Rattle.std.specs.Prelude.{length}
-use Rattle.xs_gram.specs.Grammar.{term_of, skip_of}
 use Rattle.xs_regex.specs.declared.position.Position.{Position}
 use Rattle.xs_regex.specs.Automaton.{IsWellFormed}
 use Rattle.xs_items.proofs.Spelling.{term_agrees, skip_agrees}

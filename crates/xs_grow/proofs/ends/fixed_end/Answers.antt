@@ -1,4 +1,4 @@
-use Rattle.std.proofs.Common.{◌≡◌, ◌≤◌, ◌+◌, ◌∷◌, ◌++◌, [], length, refl, sym, ap, subst, ◌∙◌, inl, inr, arith}
+use Rattle.std.proofs.Common.{◌+◌, ◌∷◌, ◌++◌, [], length, refl, ap, ◌∙◌, inl, inr, arith}
 use Rattle.xs_items.proofs.Words.{Reads-within}
 use Rattle.xs_grow.proofs.Ending.{fixed_ends}
 use Rattle.xs_grow.proofs.ends.fixed_end.Goals as goal

@@ -1,6 +1,6 @@
-use Rattle.std.proofs.Common.{◌≡◌, ◌+◌, ◌∙◌, suc, length, slice_get, Some, refl, ap, sym, subst, arith}
+use Rattle.std.proofs.Common.{◌≡◌, ◌+◌, ◌∙◌, suc, length, slice_get, refl, ap, sym, subst, arith}
 use Rattle.std.proofs.lemmas.Option.{slice_get_read}
-use Rattle.xs_gram.specs.Grammar.{items, ItemAt}
+use Rattle.xs_gram.specs.Grammar.{ItemAt}
 use Rattle.xs_grow.specs.Lists.{HasAllOf}
 use Rattle.xs_grow.specs.Marks.{EndsAt}
 use Rattle.xs_grow.proofs.Gathering.{front_inside, front_end, front_ends}

@@ -1,5 +1,4 @@
 use Rattle.std.proofs.Common.{◌∷◌, ◌++◌, [], ◌∙◌, ap, sym, inl, inr, refl, true≢false}
-use Rattle.xs_gram.specs.Grammar.{rule_of}
 use Rattle.xs_unfold.specs.declared.span.What.TheVariants.{Whole}
 use Rattle.xs_unfold.specs.Forest.{key_at}
 use Rattle.xs_grow.proofs.Gathering.{whole_one}

@@ -1,6 +1,6 @@
-use Rattle.std.proofs.Common.{◌≡◌, ◌+◌, ◌<◌, ◌∙◌, suc, length, slice_get, refl, ap, sym, subst, arith, inl, inr}
+use Rattle.std.proofs.Common.{◌≡◌, ◌+◌, ◌∙◌, suc, length, slice_get, refl, ap, sym, arith, inl, inr}
 use Rattle.std.proofs.lemmas.Option.{slice_get_read}
-use Rattle.xs_gram.specs.Grammar.{items, ItemAt}
+use Rattle.xs_gram.specs.Grammar.{ItemAt}
 use Rattle.xs_unfold.specs.Order.{is_nullable_by}
 use Rattle.xs_unfold.proofs.Tails.{nullable_item}
 use Rattle.xs_grow.specs.Levels.{flag_by}

@@ -1,4 +1,4 @@
-use Rattle.std.proofs.Common.{◌≡◌, ◌+◌, ◌∷◌, ◌++◌, [], ◌∙◌, suc, ap, sym, subst, arith}
+use Rattle.std.proofs.Common.{◌≡◌, ◌+◌, suc, sym, subst, arith}
 use Rattle.xs_grow.specs.Making.{AreMade}
 use Rattle.xs_grow.proofs.Rowing.{row_earlier, row_more}
 use Rattle.xs_grow.proofs.rows.rows.Goals as goal

@@ -1,4 +1,4 @@
-use Rattle.std.proofs.Common.{ap, ◌∙◌, sym}
+use Rattle.std.proofs.Common.{ap, ◌∙◌}
 use Rattle.xs_grow.proofs.Runnings.{begun_then, begun_else}
 use Rattle.xs_grow.proofs.runs.begun.Goals as goal
 use Rattle.xs_grow.proofs.runs.begun.Goals.{then-at_start+in_ok-enter, else-at_start}

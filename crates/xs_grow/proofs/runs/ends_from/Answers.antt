@@ -1,4 +1,4 @@
-use Rattle.std.proofs.Common.{suc, ◌≤◌, ◌≡◌, ◌↔◌, ◌⊎◌, ◌+◌, ◌<◌, ◌∷◌, ◌++◌, [], ℕ, List, length, take, get_or, sym, subst, arith, ap, ◌∙◌, inl, inr, true≢false, Vec, Global, vec_len}
+use Rattle.std.proofs.Common.{suc, ◌≤◌, ◌≡◌, ◌↔◌, ◌+◌, ◌∷◌, ◌++◌, [], ℕ, List, length, sym, subst, arith, ap, ◌∙◌, inl, inr, true≢false, Vec, Global, vec_len}
 use Rattle.std.specs.Prelude.{Contains, IsTrue, slice_range, ◌==◌}
 use Rattle.std.proofs.lemmas.Bool.{eqb-true}
 use Rattle.std.proofs.lemmas.Bool.Decides.{Decides-eqb}

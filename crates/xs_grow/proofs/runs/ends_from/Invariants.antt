@@ -1,4 +1,4 @@
-use Rattle.std.proofs.Common.{◌↔◌, ◌≤◌, ℕ, length}
+use Rattle.std.proofs.Common.{◌↔◌, ℕ}
 use Rattle.std.specs.Prelude.{Contains, slice_range}
 use Rattle.xs_regex.specs.Automaton.{Runs}
 use Rattle.xs_grow.specs.Lists.{HasAllOf}

@@ -1,7 +1,7 @@
-use Rattle.std.proofs.Common.{◌≡◌, ◌≤◌, ◌+◌, length, suc, arith}
+use Rattle.std.proofs.Common.{arith}
 use Rattle.xs_grow.proofs.Charting.{places}
 use Rattle.xs_grow.proofs.Planting.{once_each, marked}
-use Rattle.xs_grow.proofs.grow.marks_of.Goals as goal
+use Rattle.xs_grow.proofs.forest.marks_of.Goals as goal
 
 pub wholes-requires : goal.wholes-requires
 wholes-requires c = record { places = places c.args.g.now c.args.doc.now c.args.chart.now.sets c.requires.chart }

@@ -1,11 +1,11 @@
-use Rattle.std.proofs.Common.{◌≡◌, ℕ, List, length, Option, Some, None, refl, sym, subst, ap, ◌∙◌}
+use Rattle.std.proofs.Common.{◌≡◌, ℕ, List, length, subst, ap, ◌∙◌}
 use Rattle.xs_unfold.specs.declared.span.What.TheVariants.{Whole}
 use Rattle.xs_unfold.specs.Forest.{key_at}
 use Rattle.std.specs.Prelude.{MatchOption}
 use Rattle.xs_unfold.specs.declared.span.SpanKey.{SpanKey}
 use Rattle.xs_grow.specs.Grouped.{IsGroup, HasNone}
 use Rattle.xs_grow.proofs.Planting.{made, earlier, root_there, forest_of, exact_of, found_some, found_group}
-use Rattle.xs_grow.proofs.grow.grow_by.Goals as goal
+use Rattle.xs_grow.proofs.forest.grow_by.Goals as goal
 
 pub rows-requires-clause-made : goal.rows-requires-clause-made
 rows-requires-clause-made c = made c.args.g.now c.args.doc.now c.args.chart.now.sets c.requires.built c.requires.chart c.in_ok-marks.marks.items c.deref.result.now c.deref.ensures.value c.in_ok-marks.ensures c.in_ok-groups.groups c.sort.new.groups c.in_ok-groups.ensures c.in_ok-sort.ensures.same c.in_ok-sort.ensures.apart
