@@ -100,7 +100,7 @@ module _ (w : List ℕ) where
   at_below out (sub q qs ps) vs (v, kids, us, e, at, hq, h) = subst (λ (l : List ℕ). All (λ v. v < length out) l) (sym e) (All-cons (λ v. v < length out) v us (get_lt out v (node q kids) at) (at_below out ps us h))
 
 -- a rule that has an item is there
-item_rule : (g : Grammar) (p d : ℕ) → d < length (items g p) → p < length g.rules
+pub item_rule : (g : Grammar) (p d : ℕ) → d < length (items g p) → p < length g.rules
 item_rule g p d lt = by_rules g.rules p lt
   where
     by_rules : (rs : List RulePart) (p : ℕ) → d < length (slice_index_or rs p no_rule).items → p < length rs
