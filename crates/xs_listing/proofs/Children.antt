@@ -1,5 +1,5 @@
 -- The children of rows stand before them, and what of the document they begin with.
-use Rattle.std.proofs.Common.{◌≡◌, ◌⊎◌, inl, inr, ℕ, zero, suc, ◌<◌, ◌≤◌, List, [], ◌∷◌, length, Option, Some, None, refl, sym, ◌∙◌, ap, arith, subst}
+use Rattle.std.proofs.Common.{◌≡◌, ◌⊎◌, inl, inr, ℕ, zero, suc, ◌<◌, ◌≤◌, List, [], ◌∷◌, length, Option, Some, None, refl, sym, ap, arith, subst}
 use Rattle.std.specs.Prelude.{slice_get, Contains}
 use Rattle.std.proofs.lemmas.Option.{slice_get-get_or}
 use Rattle.xs_gram.specs.declared.parts.GItem.{GItem}
@@ -12,7 +12,7 @@ use Rattle.xs_forest.specs.Rows.{IsEarlier, AreEarlier, AreBelow}
 use Rattle.xs_unfold.specs.declared.span.SpanKey.{SpanKey}
 use Rattle.xs_unfold.specs.declared.span.What.{What}
 use Rattle.xs_unfold.specs.declared.span.What.TheVariants.{Whole, Front}
-use Rattle.xs_unfold.specs.Forest.{Forest, key_at, no_row, key_of, alts_of, IsRow, FrontAt, ItemRow, IsAlt, IsSpelt, IsRight}
+use Rattle.xs_unfold.specs.Forest.{Forest, no_row, key_of, alts_of, IsRow, FrontAt, ItemRow, IsAlt, IsSpelt, IsRight}
 use Rattle.xs_unfold.proofs.Read.{get_or_is}
 use Rattle.xs_unfold.proofs.Number.{contains_of}
 

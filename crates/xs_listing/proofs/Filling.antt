@@ -1,10 +1,9 @@
 -- Kids at the slots of a rule: which are the children of a node, in the order of the slots.
-use Rattle.std.proofs.Common.{◌≡◌, ◌≢◌, ◌⊎◌, inl, inr, ℕ, zero, suc, ◌+◌, ◌<◌, ◌≤◌, List, [], ◌∷◌, ◌++◌, length, Bool, true, false, eqb, Option, Some, None, refl, sym, ◌∙◌, ap, arith, subst, drop, drop-cons, add-one, get_or-set_same, get_or-set_other, All, take, append-nil, append_assoc, length-append, ◌||◌}
+use Rattle.std.proofs.Common.{◌≡◌, ◌≢◌, inl, inr, ℕ, zero, suc, ◌+◌, ◌<◌, ◌≤◌, List, [], ◌∷◌, ◌++◌, length, Bool, true, false, eqb, Option, Some, None, refl, sym, ◌∙◌, ap, arith, subst, drop, drop-cons, add-one, get_or-set_same, get_or-set_other, All, take, append-nil, append_assoc, length-append, ◌||◌}
 use Rattle.std.proofs.Math.ListN.{length-set}
 use Rattle.std.proofs.Math.Seq.{get_or-append_seam}
 use Rattle.std.specs.Prelude.{slice_index, slice_set}
 use Rattle.std.specs.List.{AllByRecursion, IsDistinct as HasNoTwo, list_any}
-use Rattle.std.proofs.lemmas.Bool.{eqb-true}
 use Rattle.std.proofs.lemmas.Bool.Decides.{nat_tests, eqb_tells}
 use Rattle.std.proofs.lemmas.List.{take_all, drop_all}
 use Rattle.std.proofs.lemmas.List.Elements.{All-from_get_or}
@@ -12,9 +11,9 @@ use Rattle.std.proofs.lemmas.Map.Keys.{IsDistinct-cons}
 use Rattle.std.proofs.lemmas.Map.Steps.{length-le_from_distinct_below}
 use Rattle.xs_gram.specs.declared.parts.GItem.{GItem}
 use Rattle.xs_gram.specs.declared.parts.GItem.TheVariants.{Fixed, Term, Non, Skip}
-use Rattle.xs_gram.specs.Grammar.{Grammar, items, slots}
+use Rattle.xs_gram.specs.Grammar.{Grammar, slots}
 use Rattle.xs_gram.specs.Derivations.{Parts, done, fixed, leaf, skip, sub, FitsItems}
-use Rattle.xs_gram.specs.Common.{Common, word, Kids, kid, lookup, child_of, in_order, children, named}
+use Rattle.xs_gram.specs.Common.{Common, word, kid, lookup, child_of, in_order, children, named}
 use Rattle.xs_gram.specs.Laws.{Every, IsDistinct, IsNumbered}
 use Rattle.xs_gram.proofs.Lookup.{keys, length-keys}
 use Rattle.xs_tree.specs.declared.part.TreePart.{TreePart}

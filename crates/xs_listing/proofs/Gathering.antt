@@ -1,13 +1,13 @@
 -- The kids of a node, from the last item of its rule to the first.
-use Rattle.std.proofs.Common.{◌≡◌, ◌⊎◌, ℕ, zero, suc, ◌+◌, ◌<◌, ◌≤◌, List, [], ◌∷◌, ◌++◌, length, Option, Some, None, refl, sym, ◌∙◌, ap, arith, subst, drop, length-append}
+use Rattle.std.proofs.Common.{◌≡◌, ℕ, zero, suc, ◌<◌, ◌≤◌, List, [], ◌∷◌, ◌++◌, length, Option, Some, None, refl, sym, ◌∙◌, ap, arith, subst, drop, length-append}
 use Rattle.std.specs.Prelude.{slice_get, slice_index, slice_set, slice_range}
 use Rattle.std.proofs.Math.ListN.{length-set}
 use Rattle.std.proofs.lemmas.List.{drop_all}
 use Rattle.xs_gram.specs.declared.parts.GItem.{GItem}
 use Rattle.xs_gram.specs.declared.parts.GItem.TheVariants.{Fixed, Term, Non, Skip}
 use Rattle.xs_gram.specs.Grammar.{Grammar, items, slots, ItemAt}
-use Rattle.xs_gram.specs.Derivations.{Parts, done, fixed, leaf, skip, sub, parts_yield}
-use Rattle.xs_gram.specs.Common.{Common, word, named}
+use Rattle.xs_gram.specs.Derivations.{Parts, done, sub, parts_yield}
+use Rattle.xs_gram.specs.Common.{word, named}
 use Rattle.xs_gram.specs.Laws.{Every, IsNumbered}
 use Rattle.xs_items.proofs.Words.{get_drop, Reads-is}
 use Rattle.xs_items.proofs.Spelling.{parts_then}
@@ -16,8 +16,8 @@ use Rattle.xs_tree.specs.declared.part.TreePart.{TreePart}
 use Rattle.xs_tree.specs.declared.part.TreePart.TheVariants.{Leaf}
 use Rattle.xs_tree.specs.Flat.{tree_at, trees_of}
 use Rattle.xs_unfold.specs.declared.span.SpanKey.{SpanKey}
-use Rattle.xs_unfold.specs.declared.span.What.TheVariants.{Whole, Front}
-use Rattle.xs_unfold.specs.Forest.{Forest, key_of, alts_of, IsRow, Unfolding, bare, pick, word_part, last_part, read, end_of, IsSpelt, FrontAt, ItemRow, FrontAlt, IsRight}
+use Rattle.xs_unfold.specs.declared.span.What.TheVariants.{Front}
+use Rattle.xs_unfold.specs.Forest.{Forest, key_of, alts_of, IsRow, Unfolding, bare, pick, last_part, read, end_of, IsSpelt, FrontAt, ItemRow, FrontAlt, IsRight}
 use Rattle.xs_unfold.specs.First.{IsFirst}
 use Rattle.xs_unfold.proofs.Read.{end_is, read_front}
 use Rattle.xs_unfold.proofs.All.{then_done, then_assoc}

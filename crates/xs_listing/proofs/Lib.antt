@@ -6,3 +6,4 @@ pub mod Preparing
 pub mod Sums
 pub mod Walking
 pub mod Spelling
+pub mod Sizing

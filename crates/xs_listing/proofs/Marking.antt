@@ -1,5 +1,5 @@
 -- Marking the children of one row after the other, from the root down, marks all that the root's unfolding has.
-use Rattle.std.proofs.Common.{◌≡◌, ◌⊎◌, inl, inr, ℕ, zero, suc, ◌+◌, ◌<◌, ◌≤◌, List, [], ◌∷◌, length, Bool, true, false, Option, Some, None, refl, sym, ◌∙◌, ap, arith, subst, replicate}
+use Rattle.std.proofs.Common.{◌≡◌, ◌⊎◌, inl, inr, ℕ, zero, suc, ◌<◌, ◌≤◌, List, [], ◌∷◌, length, Bool, true, false, Option, Some, None, refl, sym, ◌∙◌, ap, arith, subst, replicate}
 use Rattle.std.specs.Prelude.{slice_get, slice_index_or, slice_set}
 use Rattle.std.proofs.lemmas.Bool.{cases_lt}
 use Rattle.xs_gram.specs.Grammar.{Grammar}
@@ -7,7 +7,7 @@ use Rattle.xs_forest.specs.declared.row.Alt.{Alt}
 use Rattle.xs_forest.specs.Rows.{IsEarlier}
 use Rattle.xs_unfold.specs.Forest.{Forest, alts_of, Unfolding, bare, pick, IsRight}
 use Rattle.xs_unfold.specs.First.{IsFirst}
-use Rattle.xs_listing.specs.Marks.{IsFirstAlt, IsReady, IsMarked, IsMarkedChild, AreMarked, with_mark, with_children, passed, pass}
+use Rattle.xs_listing.specs.Marks.{IsFirstAlt, IsReady, IsMarked, IsMarkedChild, AreMarked, with_mark, passed, pass}
 use Rattle.xs_listing.proofs.Children.{earlier_more, IsInside, children_inside, left_earlier, right_earlier}
 
 pub set_there : (m : List Bool) (c : ℕ) → c < length m → slice_get (slice_set m c true) c ≡ Some true

@@ -1,37 +1,36 @@
 -- What the node of a row needs is made where the rows before it are.
-use Rattle.std.proofs.Common.{◌≡◌, ◌⊎◌, ℕ, zero, suc, ◌+◌, ◌<◌, ◌≤◌, List, [], ◌∷◌, ◌++◌, length, Bool, true, Option, Some, None, refl, sym, ◌∙◌, ap, arith, subst, All, inl, inr, length-append}
-use Rattle.std.specs.Prelude.{slice_get, slice_index}
+use Rattle.std.proofs.Common.{◌≡◌, ℕ, zero, suc, ◌<◌, List, [], ◌∷◌, ◌++◌, length, Bool, Option, Some, None, refl, sym, ◌∙◌, ap, arith, subst, All, inl, inr, length-append}
+use Rattle.std.specs.Prelude.{slice_index}
 use Rattle.std.proofs.Math.Seq.{take-length, get_or-append_seam}
 use Rattle.std.proofs.lemmas.Bool.{cases_lt}
 use Rattle.std.proofs.lemmas.List.{get_or_append_left}
 use Rattle.xs_gram.specs.declared.parts.GItem.{GItem}
 use Rattle.xs_gram.specs.declared.parts.GItem.TheVariants.{Fixed, Term, Non, Skip}
 use Rattle.xs_gram.specs.Grammar.{Grammar, items, slots}
-use Rattle.xs_gram.specs.Derivations.{Parts, done, sub, FitsItems, Derivation}
+use Rattle.xs_gram.specs.Derivations.{done, sub, FitsItems}
 use Rattle.xs_gram.specs.Common.{made, named, children, strip}
-use Rattle.xs_gram.specs.Languages.{Derives, InLang, HasTree}
+use Rattle.xs_gram.specs.Languages.{InLang, HasTree}
 use Rattle.xs_gram.specs.Laws.{IsNumbered}
 use Rattle.xs_items.proofs.Words.{get_lt}
 use Rattle.xs_forest.specs.declared.row.Alt.{Alt}
 use Rattle.xs_forest.specs.Rows.{IsEarlier}
 use Rattle.xs_tree.specs.declared.part.TreePart.{TreePart}
 use Rattle.xs_tree.specs.declared.part.TreePart.TheVariants.{Node}
-use Rattle.xs_tree.specs.Flat.{tree_at, kids_at, trees_of}
+use Rattle.xs_tree.specs.Flat.{tree_at, trees_of}
 use Rattle.xs_unfold.specs.declared.span.SpanKey.{SpanKey}
-use Rattle.xs_unfold.specs.declared.span.What.{What}
 use Rattle.xs_unfold.specs.declared.span.What.TheVariants.{Whole, Front}
-use Rattle.xs_unfold.specs.Forest.{Forest, key_at, key_of, alts_of, IsRow, Unfolding, bare, pick, Unfolds, read, FrontAt, ItemRow, WholeAlt, IsRight}
+use Rattle.xs_unfold.specs.Forest.{Forest, key_at, key_of, alts_of, IsRow, Unfolding, bare, pick, read, FrontAt, ItemRow, WholeAlt, IsRight}
 use Rattle.xs_unfold.specs.First.{IsFirst}
-use Rattle.xs_unfold.specs.Laws.{IsRoot, IsForestOf, IsExact}
+use Rattle.xs_unfold.specs.Laws.{IsRoot}
 use Rattle.xs_unfold.proofs.Read.{read_whole, front_good, unfolding_fits}
 use Rattle.xs_unfold.proofs.Root.{exact}
 use Rattle.xs_unfold.proofs.Once.{sub_rule, sub_parts}
 use Rattle.xs_unfold.proofs.Number.{contains_of}
 use Rattle.xs_unfold.proofs.First.{has_first, first_unfolds}
 use Rattle.xs_listing.specs.Marks.{IsFirstAlt, IsReady, IsMarked, IsMarkedChild, AreMarked}
-use Rattle.xs_listing.specs.Making.{IsTreeOf, IsMade, IsWhole, AreMade, IsMadeChild, IsPrepared, CanMake, CanGather, Extends, Fills}
+use Rattle.xs_listing.specs.Making.{IsMade, IsWhole, AreMade, IsMadeChild, IsPrepared, CanMake, CanGather, Extends, Fills}
 use Rattle.xs_listing.proofs.Children.{earlier_more, left_earlier, right_earlier}
-use Rattle.xs_listing.proofs.Filling.{extends_longer, last_tree, kids_there, kids_are}
+use Rattle.xs_listing.proofs.Filling.{last_tree, kids_there, kids_are}
 use Rattle.xs_listing.proofs.Gathering.{one_first, made_more}
 
 -- A row of a nonterminal: its first alternative, and the unfolding of its left child.

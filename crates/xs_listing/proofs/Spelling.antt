@@ -1,15 +1,13 @@
 -- The derivation of a number, and the first so many, written flat.
-use Rattle.std.proofs.Common.{◌≡◌, ◌⊎◌, inl, inr, ℕ, zero, suc, ◌+◌, ◌<◌, ◌≤◌, List, [], ◌∷◌, ◌++◌, length, min, Bool, ltb, Option, Some, None, refl, sym, ◌∙◌, ap, arith, subst, length-append}
+use Rattle.std.proofs.Common.{◌≡◌, ◌⊎◌, inl, inr, ℕ, zero, suc, ◌+◌, ◌<◌, List, [], ◌∷◌, ◌++◌, length, min, ltb, Option, Some, None, refl, sym, ◌∙◌, ap, arith, subst, length-append}
 use Rattle.std.specs.Prelude.{slice_get}
-use Rattle.xs_gram.specs.Grammar.{Grammar, items}
-use Rattle.xs_gram.specs.Derivations.{Parts, done, sub, Derivation}
-use Rattle.xs_forest.specs.declared.row.Alt.{Alt}
+use Rattle.xs_gram.specs.Derivations.{done, sub, Derivation}
 use Rattle.xs_forest.specs.Rows.{IsEarlier}
 use Rattle.xs_unfold.specs.declared.span.SpanKey.{SpanKey}
 use Rattle.xs_unfold.specs.declared.span.What.TheVariants.{Whole}
-use Rattle.xs_unfold.specs.Forest.{Forest, key_of, alts_of, Unfolding, bare, pick, read, WholeAlt}
+use Rattle.xs_unfold.specs.Forest.{key_of, alts_of, Unfolding, bare, pick, read, WholeAlt}
 use Rattle.xs_unfold.specs.Number.{count_of, At, IsChosen, IsCounted}
-use Rattle.xs_unfold.specs.Listing.{IsListed, IsByNumber}
+use Rattle.xs_unfold.specs.Listing.{IsByNumber}
 use Rattle.xs_unfold.specs.Laws.{IsRoot}
 use Rattle.xs_unfold.proofs.Read.{read_whole}
 use Rattle.xs_unfold.proofs.Counts.{left_within, at_chosen}

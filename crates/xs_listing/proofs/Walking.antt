@@ -1,5 +1,5 @@
 -- Each step of the writing keeps what it ends with.
-use Rattle.std.proofs.Common.{◌≡◌, ◌⊎◌, inl, inr, ℕ, zero, suc, ◌+◌, ◌-◌, ◌*◌, ◌<◌, ◌≤◌, List, [], ◌∷◌, ◌++◌, length, map, reverse, take, drop, All, Option, Some, None, refl, sym, ◌∙◌, ap, arith, subst, append-nil, length-append}
+use Rattle.std.proofs.Common.{◌≡◌, ◌⊎◌, inl, inr, ℕ, zero, suc, ◌-◌, ◌<◌, ◌≤◌, List, [], ◌∷◌, ◌++◌, length, map, reverse, take, drop, All, Option, Some, None, refl, sym, ◌∙◌, ap, arith, subst, append-nil, length-append}
 use Rattle.std.specs.Prelude.{slice_get, slice_index_or, slice_range}
 use Rattle.std.proofs.Math.Seq.{take-length}
 use Rattle.std.proofs.lemmas.List.{drop_all, reverse-append, map-append, length-map, take-append-le, drop-append-le}
@@ -12,11 +12,10 @@ use Rattle.xs_gram.specs.Derivations.{Parts, done, fixed, leaf, skip, sub, parts
 use Rattle.xs_items.proofs.Words.{get_lt, Reads-is}
 use Rattle.xs_items.proofs.Spelling.{parts_then}
 use Rattle.xs_forest.specs.declared.row.Alt.{Alt}
-use Rattle.xs_unfold.specs.declared.span.SpanKey.{SpanKey}
 use Rattle.xs_unfold.specs.declared.span.What.{What}
 use Rattle.xs_unfold.specs.declared.span.What.TheVariants.{Whole, Front}
 use Rattle.xs_unfold.specs.Forest.{Forest, key_at, key_of, alts_of, IsRow, Unfolding, bare, pick, word_part, item_of, last_part, read, end_of, FrontAlt, IsAlt, IsRight}
-use Rattle.xs_unfold.specs.Number.{count_of, alt_count, alts_count, IsCounted, At, IsChosen}
+use Rattle.xs_unfold.specs.Number.{count_of, At, IsChosen}
 use Rattle.xs_unfold.specs.Walk.{Flat, node, leaf_at, skip_at, AreAt}
 use Rattle.xs_unfold.proofs.Read.{get_or_is, end_is, read_front, read_whole}
 use Rattle.xs_unfold.proofs.All.{then_done, then_assoc}
@@ -30,7 +29,7 @@ use Rattle.xs_listing.specs.declared.write.Source.{Source}
 use Rattle.xs_listing.specs.declared.write.Task.{Task}
 use Rattle.xs_listing.specs.declared.write.Task.TheVariants.{Visit, Word, Close}
 use Rattle.xs_listing.specs.Spelt.{flat_of, IsInOrder, AreInOrder}
-use Rattle.xs_listing.specs.Writing.{child_task, item_task, last_task, IsVisited, Added, IsWordWritten, IsDone, AreWritten, IsSource, HasChild, CanVisit, CanDo}
+use Rattle.xs_listing.specs.Writing.{child_task, item_task, last_task, Added, IsWordWritten, IsDone, AreWritten, IsSource, HasChild, CanDo}
 use Rattle.xs_listing.proofs.Children.{IsInside, children_inside, spelt_inside}
 
 -- the next task is the last of the list
@@ -100,7 +99,7 @@ module _ (w : List ℕ) where
   at_below out (sub q qs ps) vs (v, kids, us, e, at, hq, h) = subst (λ (l : List ℕ). All (λ v. v < length out) l) (sym e) (All-cons (λ v. v < length out) v us (get_lt out v (node q kids) at) (at_below out ps us h))
 
 -- a rule that has an item is there
-item_rule : (g : Grammar) (p d : ℕ) → d < length (items g p) → p < length g.rules
+pub item_rule : (g : Grammar) (p d : ℕ) → d < length (items g p) → p < length g.rules
 item_rule g p d lt = by_rules g.rules p lt
   where
     by_rules : (rs : List RulePart) (p : ℕ) → d < length (slice_index_or rs p no_rule).items → p < length rs

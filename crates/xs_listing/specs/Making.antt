@@ -1,5 +1,5 @@
 -- The common trees of rows by the first alternative of each row, made row by row.
-use Rattle.std.specs.Prelude.{◌≡◌, ℕ, zero, suc, ◌<◌, ◌≤◌, List, [], ◌∷◌, ◌++◌, length, Bool, None, Some, slice_get, slice_index, slice_set, slice_range}
+use Rattle.std.specs.Prelude.{◌≡◌, ℕ, ◌<◌, ◌≤◌, List, [], ◌∷◌, ◌++◌, length, Bool, None, Some, slice_index, slice_set, slice_range}
 use Rattle.std.specs.declared.option.Option.{Option}
 use Rattle.xs_gram.specs.declared.parts.GItem.{GItem}
 use Rattle.xs_gram.specs.declared.parts.GItem.TheVariants.{Fixed, Term, Non, Skip}
@@ -10,8 +10,7 @@ use Rattle.xs_forest.specs.declared.row.Alt.{Alt}
 use Rattle.xs_tree.specs.declared.part.TreePart.{TreePart}
 use Rattle.xs_tree.specs.declared.part.TreePart.TheVariants.{Leaf}
 use Rattle.xs_tree.specs.Flat.{tree_at, trees_of}
-use Rattle.xs_unfold.specs.declared.span.What.{What}
-use Rattle.xs_unfold.specs.declared.span.What.TheVariants.{Whole, Front}
+use Rattle.xs_unfold.specs.declared.span.What.TheVariants.{Whole}
 use Rattle.xs_unfold.specs.Forest.{Forest, key_of, Unfolding, bare, pick, read, end_of, FrontAt}
 use Rattle.xs_unfold.specs.First.{IsFirst}
 use Rattle.xs_listing.specs.declared.rows.Step.{Step}

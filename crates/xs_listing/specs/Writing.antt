@@ -1,5 +1,5 @@
 -- What is still to be written of a derivation, and what one step of the writing does.
-use Rattle.std.specs.Prelude.{◌≡◌, ℕ, zero, ◌-◌, ◌<◌, ◌≤◌, List, [], ◌∷◌, ◌++◌, length, take, drop, map, None, Some, slice_get}
+use Rattle.std.specs.Prelude.{◌≡◌, ℕ, ◌-◌, ◌<◌, ◌≤◌, List, [], ◌∷◌, ◌++◌, length, take, drop, map, None, Some}
 use Rattle.std.specs.declared.option.Option.{Option}
 use Rattle.xs_gram.specs.declared.parts.GItem.{GItem}
 use Rattle.xs_gram.specs.declared.parts.GItem.TheVariants.{Fixed, Term, Non, Skip as Ignored}
@@ -59,10 +59,11 @@ IsDone g f cap cs (Visit r k) tasks parts places tasks' parts' places' = IsVisit
 IsDone g f cap cs (Word p d i j) tasks parts places tasks' parts' places' = (tasks' ≡ tasks) × IsWordWritten (item_of g p d) i j parts places parts' places'
 IsDone g f cap cs (Close q n) tasks parts places tasks' parts' places' = (tasks' ≡ tasks) × Added parts (take n places) (Node q (drop n places)) parts' places'
 
--- the forest is right, and each row's unfoldings are counted up to the cap
+-- the forest is right, each row's unfoldings are counted up to the cap, and each row has a size
 pub record IsSource (s : Source) : Type 0 where
   pub right : IsRight s.g.now s.doc.now s.forest.now
   pub long : length s.counts.now ≡ length s.forest.now
+  pub sized : length s.sizes.now ≡ length s.forest.now
   pub counted : IsCounted s.forest.now s.cap s.counts.now
 
 -- the row that is a child, if there is one, is there and begins within the document

@@ -7,6 +7,7 @@ ghost use Rattle.xs_listing.specs.Numbered.{IsSpeltBy, AreSpeltBy};
 
 use crate::count::{choose, count_rows};
 use crate::rows::alts_at;
+use crate::sizes::first_sizes;
 use crate::write::{Source, Written, write_front};
 use crate::{Listing, Spelt, SpeltPart, Spelts};
 use std::alloc::Global;
@@ -71,11 +72,13 @@ pub fn list_trees(
 {
     let max = u64::from(max);
     let counts = count_rows(alloc, &grown.forest, max + 1)?;
+    let sizes = first_sizes(alloc, g, doc, &grown.forest)?;
     let source = Source {
         g,
         doc,
         forest: &grown.forest,
         counts: &counts,
+        sizes: &sizes,
         cap: max + 1,
     };
     let count = counts[grown.root as usize];

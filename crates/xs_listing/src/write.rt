@@ -10,19 +10,22 @@ ghost use Rattle.xs_listing.specs.Writing.{child_task, last_task, IsVisited, Add
 use crate::SpeltPart;
 use crate::count::{Chosen, choose};
 use crate::rows::{alts_at, end_of, label_at};
+use crate::sizes::size_of;
 use std::alloc::Global;
 use xs_class::{Listed, Memory, Word};
 use xs_forest::Forest;
 use xs_gram::{GItem, Gram};
 use xs_unfold::{SpanKey, What};
 
-/// The forest of a document, with the number of unfoldings of each row up to a cap.
+/// The forest of a document, with the number of unfoldings of each row up to a cap, and the number of
+/// parts of the row's unfolding by first alternatives.
 #[derive(Drop)]
 pub(crate) struct Source<'s, 'b> {
     pub g: &'s Gram,
     pub doc: &'s Word,
     pub forest: &'s Forest<'b, SpanKey>,
     pub counts: &'s [u64],
+    pub sizes: &'s [u64],
     pub cap: u64,
 }
 
@@ -92,8 +95,12 @@ fn write_node(rule: u32, from: u64, written: &mut Written) -> Result<(), Memory>
     )
 }
 
-// An unfolding of a child is to be written next.
-fn push_child(child: Option<u64>, number: u64, tasks: &mut Vec<Task>) -> Result<(), Memory>
+/// An unfolding of a child is to be written next.
+pub(crate) fn push_child(
+    child: Option<u64>,
+    number: u64,
+    tasks: &mut Vec<Task>,
+) -> Result<(), Memory>
     ensures { OnOk result (tasks.new.items ≡ tasks.old.items ++ child_task child number) }
 {
     match child {
@@ -131,8 +138,8 @@ fn task_after(forest: &Forest<'_, SpanKey>, label: SpanKey, chosen: Chosen, from
     }
 }
 
-// An unfolding of a row is taken apart.
-fn visit(
+/// An unfolding of a row is taken apart.
+pub(crate) fn visit(
     source: &Source<'_, '_>,
     row: u64,
     number: u64,
@@ -193,8 +200,10 @@ pub(crate) fn write_front(
     requires within { number < count_of source.now.counts.now front }
     ensures { IfOk result (λ written. (u : Unfolding) → At source.now.forest.now source.now.cap source.now.counts.now front number u → AreWritten source.now.doc.now (read source.now.g.now source.now.doc.now source.now.forest.now front u) written.parts.items written.places.items) }
 {
+    let size = size_of(alloc, source, front, number)?;
+    let parts = Vec::with_capacity(alloc, size as usize)?;
     let mut written = Written {
-        parts: Vec::new(alloc),
+        parts,
         places: Vec::new(alloc),
     };
     let mut tasks = Vec::new(alloc);

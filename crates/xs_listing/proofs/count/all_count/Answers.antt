@@ -1,4 +1,4 @@
-use Rattle.std.proofs.Common.{◌≡◌, ◌∙◌, sym, ap, min, drop, length, [], arith}
+use Rattle.std.proofs.Common.{◌≡◌, ap, drop, [], arith}
 use Rattle.std.proofs.lemmas.List.{drop_all}
 use Rattle.xs_unfold.specs.Number.{alts_sum}
 use Rattle.xs_unfold.proofs.Counts.{alts_count-is}

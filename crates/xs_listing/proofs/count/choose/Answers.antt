@@ -1,8 +1,4 @@
-use Rattle.std.proofs.Common.{◌≡◌, ◌+◌, ◌*◌, ◌/◌, ◌%◌, ◌<◌, Some, ℕ, length, take, get_or, sym, ◌∙◌, ap, subst, arith}
-use Rattle.std.specs.Prelude.{slice_get}
-use Rattle.std.proofs.lemmas.Option.{slice_get-get_or}
-use Rattle.xs_forest.specs.declared.row.Alt.{Alt}
-use Rattle.xs_unfold.specs.Number.{count_of, alts_count, alts_sum, alt_count, IsChosen}
+use Rattle.std.proofs.Common.{length, arith}
 use Rattle.xs_unfold.proofs.Counts.{alts_count-is}
 use Rattle.xs_listing.proofs.Sums.{next, chosen_here}
 use Rattle.xs_listing.proofs.count.choose.Goals as goal

@@ -1,4 +1,4 @@
-use Rattle.std.proofs.Common.{◌≡◌, ◌+◌, ◌<◌, ◌++◌, ◌∷◌, [], ℕ, List, length, sym, ◌∙◌, ap, subst, arith, length-append}
+use Rattle.std.proofs.Common.{◌≡◌, ◌++◌, ◌∷◌, [], ℕ, List, length, sym, ◌∙◌, ap, subst, arith, length-append}
 use Rattle.xs_forest.specs.declared.row.Alt.{Alt}
 use Rattle.xs_unfold.specs.Forest.{alts_of}
 use Rattle.xs_unfold.specs.Number.{alts_count, AreCounts}

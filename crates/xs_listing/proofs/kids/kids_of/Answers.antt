@@ -1,10 +1,10 @@
-use Rattle.std.proofs.Common.{◌≡◌, ◌<◌, ◌≤◌, ◌++◌, ℕ, get_or, refl, ◌-◌, suc, Some, take, drop, length, List, Bool, sym, ◌∙◌, ap, subst, arith, rules}
+use Rattle.std.proofs.Common.{◌≡◌, ◌<◌, ◌≤◌, ℕ, get_or, refl, ◌-◌, suc, Some, length, List, sym, ◌∙◌, ap, subst, arith}
 use Rattle.std.specs.Prelude.{slice_get}
 use Rattle.std.proofs.lemmas.Option.{slice_get_read}
 use Rattle.xs_gram.specs.declared.parts.GItem.{GItem}
-use Rattle.xs_gram.specs.Grammar.{items, slots, ItemAt}
+use Rattle.xs_gram.specs.Grammar.{items, slots}
 use Rattle.xs_gram.specs.Laws.{IsNumbered}
-use Rattle.xs_listing.specs.Making.{CanPlace, IsPlaced, Extends, Fills}
+use Rattle.xs_listing.specs.Making.{CanPlace, IsPlaced}
 use Rattle.xs_listing.proofs.Children.{rows_below}
 use Rattle.xs_listing.proofs.Filling.{written_back, extends_none, extends_all}
 use Rattle.xs_listing.proofs.Gathering.{Gathers, gathers_all, gathered, step_on, can_place, length_placed}

@@ -1,5 +1,5 @@
 use Rattle.std.proofs.Common.{◌≡◌, ◌≤◌, length}
-use Rattle.xs_gram.specs.Grammar.{items, slots}
+use Rattle.xs_gram.specs.Grammar.{slots}
 use Rattle.xs_listing.specs.Making.{Extends}
 use Rattle.xs_listing.proofs.Gathering.{Gathers}
 use Rattle.xs_listing.proofs.kids.kids_of.Given as goal

@@ -1,4 +1,4 @@
-use Rattle.std.proofs.Common.{◌≡◌, ◌<◌, ◌+◌, ◌++◌, ◌∷◌, [], ℕ, length, List, sym, ◌∙◌, ap, subst, arith}
+use Rattle.std.proofs.Common.{◌≡◌, ◌+◌, List, sym, subst, arith}
 use Rattle.xs_listing.specs.declared.spelt.SpeltPart.{SpeltPart}
 use Rattle.xs_listing.specs.Numbered.{AreSpeltBy}
 use Rattle.xs_listing.proofs.Spelling.{none_spelt, next_spelt}

@@ -1,4 +1,4 @@
-use Rattle.std.proofs.Common.{◌≡◌, ◌≤◌, Some, sym, ◌∙◌, ap, length, arith, subst}
+use Rattle.std.proofs.Common.{◌≡◌, Some, sym, ◌∙◌, ap, length, arith}
 use Rattle.std.specs.Prelude.{slice_get, List}
 use Rattle.xs_forest.specs.declared.row.Alt.{Alt}
 use Rattle.xs_unfold.specs.Forest.{alts_of}

@@ -1,8 +1,7 @@
-use Rattle.std.proofs.Common.{◌≡◌, ◌+◌, ◌<◌, ◌≤◌, length, sym, ◌∙◌, ap, subst, arith, suc, List, Bool, true, false, ℕ, ◌-◌, ◌++◌, take, drop, replicate}
+use Rattle.std.proofs.Common.{◌≡◌, length, sym, ◌∙◌, ap, subst, arith, suc, List, Bool, true, false, ◌-◌, ◌++◌, take, drop, replicate}
 use Rattle.std.specs.Prelude.{slice_set}
 use Rattle.std.proofs.lemmas.List.{length-replicate}
-use Rattle.xs_unfold.specs.Forest.{IsRight}
-use Rattle.xs_listing.specs.Marks.{IsReady, IsMarked, AreMarked, pass}
+use Rattle.xs_listing.specs.Marks.{IsMarked, AreMarked, pass}
 use Rattle.xs_listing.proofs.Marking.{first_marked, set_there, length_set, length_pass, pass_keeps, pass_marked}
 use Rattle.xs_listing.proofs.Filling.{written_back}
 use Rattle.xs_listing.proofs.marks.mark_rows.Goals as goal

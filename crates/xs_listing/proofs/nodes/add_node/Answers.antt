@@ -1,5 +1,4 @@
-use Rattle.std.proofs.Common.{◌≡◌, ◌<◌, ◌++◌, ◌∷◌, [], length, List, ℕ, All, sym, ◌∙◌, ap, subst, arith}
-use Rattle.xs_gram.specs.Grammar.{items, slots}
+use Rattle.std.proofs.Common.{◌≡◌, ◌<◌, ◌++◌, ◌∷◌, [], length, List, ℕ, All, sym, ◌∙◌, ap, subst}
 use Rattle.xs_tree.specs.declared.part.TreePart.{TreePart}
 use Rattle.xs_tree.specs.declared.part.TreePart.TheVariants.{Node}
 use Rattle.xs_listing.specs.Making.{IsMade}

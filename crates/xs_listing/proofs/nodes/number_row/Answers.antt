@@ -1,5 +1,4 @@
-use Rattle.std.proofs.Common.{◌≡◌, ◌<◌, length, List, ℕ, true, Some, sym, ◌∙◌, ap, subst, arith}
-use Rattle.std.specs.Prelude.{slice_get}
+use Rattle.std.proofs.Common.{length, sym, ◌∙◌, ap, arith}
 use Rattle.xs_unfold.specs.declared.span.SpanKey.{SpanKey}
 use Rattle.xs_listing.specs.Marks.{IsMarked}
 use Rattle.xs_listing.specs.Making.{IsWhole}

@@ -1,4 +1,4 @@
-use Rattle.std.proofs.Common.{◌≡◌, ◌+◌, ◌<◌, ◌++◌, ◌∷◌, [], length, List, ℕ, sym, ◌∙◌, ap, subst, arith, length-append}
+use Rattle.std.proofs.Common.{◌≡◌, ◌++◌, ◌∷◌, [], length, List, ℕ, sym, ap, subst, arith, length-append}
 use Rattle.xs_listing.specs.Marks.{IsMarked}
 use Rattle.xs_listing.specs.Making.{IsWhole, IsMade, AreMade}
 use Rattle.xs_listing.proofs.Preparing.{made_next}

@@ -1,4 +1,4 @@
-use Rattle.std.proofs.Common.{◌≡◌, ◌<◌, length, List, sym, ◌∙◌, ap, subst, arith}
+use Rattle.std.proofs.Common.{length, List, sym, ◌∙◌, ap, subst, arith}
 use Rattle.xs_forest.specs.declared.row.Alt.{Alt}
 use Rattle.xs_forest.specs.Rows.{AreEarlier}
 use Rattle.xs_unfold.specs.declared.span.SpanKey.{SpanKey}

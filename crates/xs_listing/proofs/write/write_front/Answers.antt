@@ -1,6 +1,5 @@
-use Rattle.std.proofs.Common.{◌≡◌, ◌<◌, ◌++◌, ◌∷◌, [], length, reverse, List, ℕ, sym, ◌∙◌, ap, subst, arith, rules}
+use Rattle.std.proofs.Common.{◌≡◌, ◌++◌, ◌∷◌, [], reverse, List, ℕ, sym, ◌∙◌, ap, subst, rules}
 use Rattle.xs_unfold.specs.Forest.{read}
-use Rattle.xs_gram.specs.Derivations.{Parts}
 use Rattle.xs_listing.specs.declared.spelt.SpeltPart.{SpeltPart}
 use Rattle.xs_listing.specs.declared.write.Task.{Task}
 use Rattle.xs_listing.specs.Writing.{child_task}
@@ -13,8 +12,8 @@ tasks-init c u at =
     let end = read s.g.now s.doc.now s.forest.now c.args.front u in
     let first : c.push_child.new.tasks.items ≡ child_task c.args.front c.args.number = c.in_ok-push_child.ensures ∙ ap (λ (l : List Task). l ++ child_task c.args.front c.args.number) c.new-tasks.ensures.items in
     let goes = task_first s c.requires.source c.args.front c.args.number c.push_child.new.tasks.items u c.requires.front c.requires.within first at in
-    subst (λ (l : List SpeltPart). Goes s.g.now s.doc.now s.forest.now s.cap s.counts.now (reverse c.push_child.new.tasks.items) l c.new-2.result.items end) (sym c.new.ensures.items)
-    (subst (λ (l : List ℕ). Goes s.g.now s.doc.now s.forest.now s.cap s.counts.now (reverse c.push_child.new.tasks.items) [] l end) (sym c.new-2.ensures.items) goes)
+    subst (λ (l : List SpeltPart). Goes s.g.now s.doc.now s.forest.now s.cap s.counts.now (reverse c.push_child.new.tasks.items) l c.new.result.items end) (sym c.in_ok-parts.ensures.items)
+    (subst (λ (l : List ℕ). Goes s.g.now s.doc.now s.forest.now s.cap s.counts.now (reverse c.push_child.new.tasks.items) [] l end) (sym c.new.ensures.items) goes)
 
 pub returns-in-None : goal.returns-in-None
 returns-in-None c u at =
