@@ -4,8 +4,17 @@
 //! are named here.
 #![tactic(auto)]
 
+mod directory;
 mod fault;
+mod flat;
 mod ill;
+mod mark;
+mod names;
+mod production;
 
+pub use directory::Directory;
 pub use fault::PairFault;
 pub use ill::{Ill, IllRule};
+pub use mark::{Mark, Marks};
+pub use names::{Sort, firsts, is_of, names_of, unit_line, unit_name};
+pub use production::{Rule, names_in, rules_of};
