@@ -1,0 +1,17 @@
+pub mod Places
+pub mod FirstPlaces
+pub mod Lines
+pub mod Once
+pub mod Twins
+pub mod Shorter
+pub mod Tests
+pub mod Taken
+pub mod Orders
+pub mod Numbering
+pub mod Buildable
+pub mod Ready
+pub mod Marks
+pub mod Added
+pub mod SlotKinds
+pub mod Trees
+pub mod Alike
