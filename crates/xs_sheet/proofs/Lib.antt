@@ -13,3 +13,4 @@ mod Lexed
 mod Sources
 mod Renewed
 mod ReadBack
+pub mod Readable

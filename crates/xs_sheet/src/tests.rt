@@ -1,3 +1,5 @@
+mod writing;
+
 use crate::{Sheet, SheetFault, Unit, XItem, read_sheet};
 use std::alloc::Global;
 use std::test::Fail;
