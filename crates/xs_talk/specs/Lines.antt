@@ -2,9 +2,9 @@
 use Rattle.std.specs.Prelude.{ℕ, List, [], ◌++◌, codes, decimal, encode_utf8_all}
 use Rattle.xs_class.specs.declared.side.Side.{Side}
 use Rattle.xs_class.specs.declared.side.Side.TheVariants.{Text, Xml}
-use Rattle.xs_ill.specs.declared.rule.Ill.{Ill}
-use Rattle.xs_ill.specs.declared.rule.IllRule.{IllRule}
-use Rattle.xs_ill.specs.declared.rule.IllRule.TheVariants.{Twice, Undefined, NoStart, NameOnce, Kind, AttrTwice, RootShape, EmptyClass, NotChar, Normal, Unproductive, Loop}
+use Rattle.xs_pair.specs.declared.ill.Ill.{Ill}
+use Rattle.xs_pair.specs.declared.ill.IllRule.{IllRule}
+use Rattle.xs_pair.specs.declared.ill.IllRule.TheVariants.{Twice, Undefined, NoStart, NameOnce, Kind, AttrTwice, RootShape, EmptyClass, NotChar, Normal, Unproductive, Loop}
 use Rattle.xs_talk.specs.declared.outcome.Report.{Report}
 use Rattle.xs_talk.specs.declared.outcome.Report.TheVariants.{Vertical, Horizontal}
 use Rattle.xs_talk.specs.declared.outcome.Outcome.{Outcome}

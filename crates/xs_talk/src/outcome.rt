@@ -1,5 +1,5 @@
 use xs_class::{Side, Text, Word};
-use xs_ill::Ill;
+use xs_pair::Ill;
 
 /// What makes a sheet suspect of ambiguity: names and lines of the sheet, and words that show it.
 #[derive(Debug, Drop)]

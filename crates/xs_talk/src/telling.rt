@@ -6,7 +6,7 @@ use crate::{Outcome, Report};
 use itoa::Buffer;
 use std::alloc::Global;
 use xs_class::{Bytes, Memory, Names, Side, Text, Word};
-use xs_ill::{Ill, IllRule};
+use xs_pair::{Ill, IllRule};
 
 const USAGE: &[u8] =
     b"usage: xsugar check S | to-xml S [F] | to-text S | round S text [F] | round S xml | trees S M | sheet | make SEED LINES\n";

@@ -2,7 +2,7 @@ use crate::{Outcome, Report, fault_line, line_of, room};
 use std::alloc::Global;
 use std::test::Fail;
 use xs_class::{Bytes, Memory, Names, Side, Sym, Text, Word};
-use xs_ill::{Ill, IllRule};
+use xs_pair::{Ill, IllRule};
 
 fn word_of(alloc: Global, symbols: &[u32]) -> Result<Word, Memory> {
     let mut word = Word::new(alloc);
