@@ -8,3 +8,4 @@ pub mod Filling
 pub mod Tables
 pub mod Wholes
 pub mod Reach
+pub mod Samples

@@ -23,3 +23,6 @@ mod words;
 
 pub use fault::SeeFault;
 pub use recogniser::recognise;
+
+#[cfg(test)]
+mod tests;
