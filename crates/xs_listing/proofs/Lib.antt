@@ -7,3 +7,4 @@ pub mod Sums
 pub mod Walking
 pub mod Spelling
 pub mod Sizing
+pub mod Samples

@@ -3,3 +3,4 @@ pub mod Making
 pub mod Spelt
 pub mod Writing
 pub mod Numbered
+pub mod Sample

@@ -1,4 +1,4 @@
-ghost use Rattle.std.specs.Prelude.{◌≡◌, ◌<◌, ◌≤◌, Some, IfOk};
+ghost use Rattle.std.specs.Prelude.{◌<◌, ◌≤◌, Some, IfOk};
 ghost use Rattle.xs_unfold.specs.Number.{count_of};
 ghost use Rattle.xs_unfold.specs.Laws.{IsRoot, IsForestOf};
 ghost use Rattle.xs_listing.specs.Writing.{IsSource};

@@ -1,10 +1,9 @@
-ghost use Rattle.std.specs.Prelude.{◌≡◌, ℕ, ◌<◌, ◌≤◌, ◌++◌, ◌∷◌, [], length, take, drop, IfOk, OnOk};
+ghost use Rattle.std.specs.Prelude.{◌≡◌, ℕ, ◌<◌, ◌≤◌, ◌++◌, length, take, drop, IfOk, OnOk};
 ghost use Rattle.xs_unfold.specs.declared.span.What.TheVariants.{Front};
 ghost use Rattle.xs_listing.specs.declared.spelt.SpeltPart.TheVariants.{Node};
-ghost use Rattle.xs_gram.specs.Grammar.{items};
 ghost use Rattle.xs_forest.specs.Rows.{IsEarlier};
-ghost use Rattle.xs_unfold.specs.Forest.{IsRight, Unfolding, read, item_of, key_of, alts_of};
-ghost use Rattle.xs_unfold.specs.Number.{count_of, alts_count, IsCounted, At};
+ghost use Rattle.xs_unfold.specs.Forest.{Unfolding, read};
+ghost use Rattle.xs_unfold.specs.Number.{count_of, At};
 ghost use Rattle.xs_listing.specs.Writing.{child_task, last_task, IsVisited, Added, IsWordWritten, IsDone, AreWritten, IsSource, HasChild, CanVisit, CanDo};
 
 use crate::SpeltPart;
