@@ -15,3 +15,5 @@ pub mod Added
 pub mod SlotKinds
 pub mod Trees
 pub mod Alike
+pub mod Light
+pub mod MarksLight

@@ -8,7 +8,7 @@ ghost use Rattle.xs_class.specs.Ordered.{AreNamesOf};
 ghost use Rattle.xs_pair.specs.Listing.{rules_of, names_in as listed_names};
 ghost use Rattle.xs_pair.specs.Marks.{slot_names};
 ghost use Rattle.xs_pair.specs.Verdict.{FailsAt, NoneFails, IsRefusal, IsOutlineOf};
-ghost use Rattle.xs_pair.specs.Weights.{weight, rule_weight, AreLight};
+ghost use Rattle.xs_pair.specs.Weights.{weight, rule_weight, AreLight, IsOfBytes};
 
 use crate::outline::Outline;
 use crate::production::names_in;
@@ -195,11 +195,10 @@ impl Outline {
 /// The two grammars of a sheet.
 ///
 /// `Ill` comes exactly where one of the first seven rules fails: the first that does, with the least
-/// line at which it does. The sheet weighs less than 65,536, and each regex is that of its pattern,
-/// as in each sheet that was read. The time is n log n in the sheet, but for that of its regexes.
+/// line at which it does. The sheet is one that some bytes, at most 65,536 of them, spell. The time
+/// is n log n in the sheet, but for that of its regexes.
 pub fn both(alloc: Global, sheet: &Sheet) -> Result<Two, PairFault>
-    requires small { weight sheet.now.units < 65536 }
-    requires regexes { HaveRegexes sheet.now.units }
+    requires { IsOfBytes sheet.now }
     ensures two { IfOk result (IsPairOf sheet.now) }
     ensures text { IfOk result (λ p. IsBuilt p.text) }
     ensures xml { IfOk result (λ p. IsBuilt p.xml) }
