@@ -1,3 +1,4 @@
 pub mod Words
 pub mod Room
 pub mod Lines
+pub mod Derivations

@@ -2,6 +2,7 @@
 #![tactic(auto)]
 
 mod line;
+mod derivations;
 mod outcome;
 mod telling;
 #[cfg(test)]
@@ -9,5 +10,6 @@ mod tests;
 mod words;
 
 pub use line::{Line, fault_line, room};
+pub use derivations::listing;
 pub use outcome::{Outcome, Report};
 pub use telling::line_of;

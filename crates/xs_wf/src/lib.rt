@@ -1,0 +1,6 @@
+//! Stub.
+#![tactic(auto)]
+
+mod well;
+
+pub use well::{WfFault, well_formed};
