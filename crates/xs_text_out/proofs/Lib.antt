@@ -1,0 +1,3 @@
+pub mod Words
+mod Counting
+mod Walking
