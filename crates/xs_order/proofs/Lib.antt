@@ -4,3 +4,6 @@ pub mod Empty
 pub mod Clauses
 pub mod Steps
 pub mod Live
+pub mod Edges
+pub mod Leads
+pub mod Parted

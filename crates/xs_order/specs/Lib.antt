@@ -1,3 +1,4 @@
+pub mod Graphs
 pub mod Leaves
 pub mod Order
 pub mod Rules

@@ -60,7 +60,7 @@ fn add_rule(
 }
 
 /// The nonterminals among items, in order.
-fn nons_of(alloc: Global, items: &[GItem]) -> Result<Premises, Memory>
+pub fn nons_of(alloc: Global, items: &[GItem]) -> Result<Premises, Memory>
     ensures { IfOk result (λ nons. nons ≡ nons_of items.now) }
 {
     let mut nons = Premises::new(alloc);
@@ -71,7 +71,7 @@ fn nons_of(alloc: Global, items: &[GItem]) -> Result<Premises, Memory>
 }
 
 /// Adds the item's nonterminal, if it is one.
-fn add_non(nons: &mut Premises, item: &GItem) -> Result<(), Memory>
+pub fn add_non(nons: &mut Premises, item: &GItem) -> Result<(), Memory>
     ensures { OnOk result (nons.new ≡ nons.old ++ nons_of (item.now ∷ [])) }
 {
     match item {

@@ -1,16 +1,16 @@
 -- What the grammar reads, the reader reads.
-use Rattle.std.proofs.Common.{◌≡◌, ◌⊎◌, inl, inr, ℕ, suc, ◌+◌, ◌<◌, List, [], ◌∷◌, ◌++◌, length, append-nil, append_assoc, true, false, Bool, not, ◌&&◌, ◌||◌, nat_lt, if◌then◌else◌, codes, refl, sym, ap, ◌∙◌, subst, arith}
+use Rattle.std.proofs.Common.{◌≡◌, ◌⊎◌, inl, inr, ℕ, ◌+◌, ◌<◌, List, [], ◌∷◌, ◌++◌, length, append-nil, append_assoc, true, false, Bool, ◌&&◌, ◌||◌, nat_lt, codes, refl, sym, ap, ◌∙◌, subst, arith}
 use Rattle.std.proofs.lemmas.Bool.Decides.{nat_tests}
 use Rattle.xs_lex.specs.declared.kind.Kind.{Kind}
-use Rattle.xs_lex.specs.declared.kind.Kind.TheVariants.{Plain, Qual, Quoted, Pattern, Colon, Equals, SquareIn, SquareOut, Angle, AngleSlash, AngleEnd, SlashEnd, End, Bad}
+use Rattle.xs_lex.specs.declared.kind.Kind.TheVariants.{Plain, Qual, Quoted, Pattern, Colon, Equals, SquareIn, SquareOut, Angle, AngleSlash, AngleEnd, SlashEnd, End}
 use Rattle.xs_sheet.specs.declared.piece.Piece.{Piece}
 use Rattle.xs_sheet.specs.declared.item.Item.{Item}
 use Rattle.xs_sheet.specs.declared.item.Item.TheVariants.{Fixed, Named, Skip}
 use Rattle.xs_sheet.specs.declared.x_item.Attr.{Attr}
 use Rattle.xs_sheet.specs.Outline.{Content, nothing, item, element, UnitOutline, terminal, ignorable, production, Outline}
-use Rattle.xs_sheet.specs.Pieces.{same, is_reserved}
-use Rattle.xs_sheet.specs.Grammar.{IsWord, IsUnitName, IsName, IsString, IsRegular, ReadsItem, ReadsItems, ReadsAttr, ReadsAttrs, ReadsOpening, ReadsClosing, ReadsSign, ReadsContent, ReadsTerminal, ReadsIgnorable, ReadsProduction, ReadsUnit, ReadsUnits, ReadsSheet}
-use Rattle.xs_sheet.specs.Machine.{is_kind, is_word, is_unit_name, is_name, Head, with_unit, Draft, Opened, Inside, with_content, Place, left_side, inside, value, put, puts, State, begin, versioned, started, units, named, equals, regular, normal, colon, at, square, square_name, square_slot, angle, attrs, attr_equals, closing, closed, Step, go, finish, refuse, go_if, outline_at, between, in_tag, with_attr, with_empty, with_open, with_production, step, Outcome, done, stuck, unfinished, follow, run}
+use Rattle.xs_sheet.specs.Pieces.{same}
+use Rattle.xs_sheet.specs.Grammar.{IsWord, IsUnitName, IsName, IsString, IsRegular, ReadsItem, ReadsItems, ReadsAttrs, ReadsClosing, ReadsSign, ReadsContent, ReadsUnit, ReadsUnits, ReadsSheet}
+use Rattle.xs_sheet.specs.Machine.{is_kind, is_word, is_unit_name, is_name, Head, with_unit, Draft, Opened, Inside, Place, left_side, inside, value, put, puts, State, begin, versioned, started, units, named, equals, regular, normal, colon, at, square, square_name, square_slot, angle, attrs, attr_equals, closing, closed, Step, go, finish, go_if, outline_at, between, in_tag, with_attr, with_empty, with_open, with_production, step, done, follow, run}
 use Rattle.xs_sheet.proofs.KindLaws.{kind_here, same_self, same_here}
 
 pub run_go : (s t : State) (p : Piece) (rest : List Piece) → step s p ≡ go t → run s (p ∷ rest) ≡ run t rest

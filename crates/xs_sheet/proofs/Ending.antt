@@ -1,12 +1,12 @@
 -- Reading a file's pieces comes to an end, at the last piece and at no other.
-use Rattle.std.proofs.Common.{◌≡◌, ◌⊎◌, inl, inr, ℕ, List, [], ◌∷◌, length, true, false, Bool, not, ◌&&◌, nat_lt, if◌then◌else◌, codes, refl, sym, ap, ◌∙◌, subst}
+use Rattle.std.proofs.Common.{◌≡◌, ◌⊎◌, inl, inr, List, [], ◌∷◌, length, true, false, Bool, ◌&&◌, nat_lt, if◌then◌else◌, codes, refl, sym, subst}
 use Rattle.xs_lex.specs.declared.kind.Kind.{Kind}
-use Rattle.xs_lex.specs.declared.kind.Kind.TheVariants.{Plain, Qual, Quoted, Pattern, Colon, Equals, SquareIn, SquareOut, Angle, AngleSlash, AngleEnd, SlashEnd, End, Bad}
+use Rattle.xs_lex.specs.declared.kind.Kind.TheVariants.{Quoted, Colon, Equals, SquareIn, SquareOut, Angle, AngleSlash, AngleEnd, End, Bad}
 use Rattle.xs_sheet.specs.declared.piece.Piece.{Piece}
 use Rattle.xs_sheet.specs.declared.item.Item.TheVariants.{Fixed, Named, Skip}
-use Rattle.xs_sheet.specs.Outline.{Content, nothing, element, UnitOutline, terminal, ignorable, Outline}
+use Rattle.xs_sheet.specs.Outline.{nothing, element, ignorable, Outline}
 use Rattle.xs_sheet.specs.Pieces.{same}
-use Rattle.xs_sheet.specs.Machine.{is_kind, is_word, is_unit_name, is_name, is_regular, Head, with_unit, Draft, Opened, Inside, Place, left_side, inside, value, put, State, begin, versioned, started, units, named, equals, regular, normal, colon, at, square, square_name, square_slot, angle, attrs, attr_equals, closing, closed, Step, go, finish, refuse, go_if, outline_at, between, behind_pattern, closes, leaves, leave, in_tag, with_attr, with_empty, with_open, with_production, step, Outcome, done, stuck, unfinished, follow, run}
+use Rattle.xs_sheet.specs.Machine.{is_kind, is_word, is_unit_name, is_name, is_regular, Head, with_unit, Opened, Inside, Place, left_side, inside, value, put, State, begin, versioned, started, units, named, equals, regular, normal, colon, at, square, square_name, square_slot, angle, attrs, attr_equals, closing, closed, Step, go, finish, refuse, go_if, outline_at, between, behind_pattern, closes, leaves, leave, with_attr, with_production, step, done, unfinished, follow, run}
 use Rattle.xs_sheet.proofs.Pieced.{IsEnding}
 use Rattle.xs_sheet.proofs.Whole.{done_inj, go_if_no, if_no, in_tag_no, closes_no}
 

@@ -1,5 +1,5 @@
 -- Kinds of pieces are told apart by their numbers.
-use Rattle.std.proofs.Common.{◌≡◌, ℕ, zero, suc, Bool, true, false, List, [], ◌∷◌, ◌==◌, ◌&&◌, refl, sym, ap, ◌∙◌, subst, eqb-true}
+use Rattle.std.proofs.Common.{◌≡◌, ℕ, zero, suc, Bool, true, false, List, [], ◌∷◌, ◌==◌, ◌&&◌, refl, sym, ap, ◌∙◌, eqb-true}
 use Rattle.std.proofs.Common.{arith, nat_eq, nat_lt, ◌<◌, encode_utf8_all}
 use Rattle.std.specs.Str.{chars, IsAscii}
 use Rattle.std.specs.List.{list_all}

@@ -6,3 +6,10 @@ mod Whole
 pub mod Pieced
 mod Ending
 mod Verdict
+mod Strings
+mod Spaced
+mod Escapes
+mod Lexed
+mod Sources
+mod Renewed
+mod ReadBack

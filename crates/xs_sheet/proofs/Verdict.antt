@@ -1,8 +1,7 @@
 -- What reading a file's pieces says of the file.
-use Rattle.std.proofs.Common.{◌≡◌, ◌⊎◌, ℕ, List, [], ◌∷◌, ◌++◌, map, Ok, Err, refl, sym, ap, ◌∙◌, subst}
+use Rattle.std.proofs.Common.{◌≡◌, ℕ, List, [], map, Ok, Err, sym, ap, ◌∙◌, subst}
 use Rattle.std.specs.declared.result.Result.{Result}
 use Rattle.std.specs.Result.{IfOk, IfErr}
-use Rattle.std.specs.List.{All}
 use Rattle.std.specs.Str.{chars}
 use Rattle.xs_lex.specs.declared.token.Token.{Token}
 use Rattle.xs_lex.specs.Reading.{Lexeme, AreTokens, extent_of, behind_mark, valid, lexeme_of}
@@ -12,8 +11,8 @@ use Rattle.xs_sheet.specs.declared.reader.SheetFault.{SheetFault}
 use Rattle.xs_sheet.specs.declared.reader.SheetFault.TheVariants as F
 use Rattle.xs_sheet.specs.Pieces.{ArePieces}
 use Rattle.xs_sheet.specs.Outline.{outline_of}
-use Rattle.xs_sheet.specs.Grammar.{HaveRegexes, ReadsSheet, IsSheetOf, IsSheetBrokenAt}
-use Rattle.xs_sheet.specs.Machine.{Outcome, done, stuck, unfinished, begin, run}
+use Rattle.xs_sheet.specs.Grammar.{HaveRegexes, IsSheetOf, IsSheetBrokenAt}
+use Rattle.xs_sheet.specs.Machine.{done, stuck, unfinished, begin, run}
 use Rattle.xs_sheet.specs.Faults.{IsBad, IsStuck, IsDone}
 use Rattle.xs_sheet.proofs.Complete.{sheet_complete}
 use Rattle.xs_sheet.proofs.Whole.{sheet_sound, sheet_broken, done_stuck}

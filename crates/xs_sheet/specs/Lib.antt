@@ -5,3 +5,5 @@ pub mod Grammar
 pub mod Machine
 pub mod View
 pub mod Faults
+pub mod Layout
+pub mod Lines

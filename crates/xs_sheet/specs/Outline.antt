@@ -6,7 +6,6 @@ use Rattle.xs_sheet.specs.declared.x_item.XItem.{XItem}
 use Rattle.xs_sheet.specs.declared.x_item.XItem.TheOpen as O
 use Rattle.xs_sheet.specs.declared.x_item.XItem.TheOpen.{XItem-F, XItems-F}
 use Rattle.xs_sheet.specs.declared.x_item.XItem.TheFolds.{fold-XItem}
-use Rattle.xs_sheet.specs.declared.x_item.XItems.{XItems}
 use Rattle.xs_sheet.specs.declared.unit.Unit.{Unit}
 use Rattle.xs_sheet.specs.declared.unit.Unit.TheVariants.{Terminal, Ignorable, Production}
 use Rattle.xs_sheet.specs.declared.sheet.Sheet.{Sheet}

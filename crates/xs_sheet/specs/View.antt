@@ -1,12 +1,9 @@
 -- What the reader's own types mean.
-use Rattle.std.specs.Prelude.{◌≡◌, ⊤, ℕ, Bool, true, List, [], ◌∷◌, map, reverse}
-use Rattle.xs_regex.specs.declared.regex.Regex.{Regex}
+use Rattle.std.specs.Prelude.{⊤, List, map, reverse}
 use Rattle.xs_sheet.specs.declared.state.Head.{Head}
 use Rattle.xs_sheet.specs.declared.state.Draft.{Draft}
 use Rattle.xs_sheet.specs.declared.state.Opened.{Opened}
 use Rattle.xs_sheet.specs.declared.state.Inside.{Inside}
-use Rattle.xs_sheet.specs.declared.state.Value.{Value}
-use Rattle.xs_sheet.specs.declared.state.Closing.{Closing}
 use Rattle.xs_sheet.specs.declared.state.Place.{Place}
 use Rattle.xs_sheet.specs.declared.state.Place.TheVariants as P
 use Rattle.xs_sheet.specs.declared.state.State.{State}
@@ -43,9 +40,9 @@ state_view S.Begin = M.begin
 state_view S.Versioned = M.versioned
 state_view (S.Started line) = M.started line
 state_view (S.Units head) = M.units (head_view head)
-state_view (S.Named head t line) = M.named (head_view head) t line
-state_view (S.Equals head t line name) = M.equals (head_view head) t line name
-state_view (S.Regular head t line name) = M.regular (head_view head) t line name
+state_view (S.Named begun) = M.named (head_view begun.head) begun.terminal begun.line
+state_view (S.Equals begun name) = M.equals (head_view begun.head) begun.terminal begun.line name
+state_view (S.Regular begun name) = M.regular (head_view begun.head) begun.terminal begun.line name
 state_view (S.Normal head line name pattern regex) = M.normal (head_view head) line name pattern
 state_view (S.Colon head name line) = M.colon (head_view head) name line
 state_view (S.At place) = M.at (place_view place)
@@ -74,9 +71,9 @@ StateHasRegexes S.Begin = ⊤
 StateHasRegexes S.Versioned = ⊤
 StateHasRegexes (S.Started line) = ⊤
 StateHasRegexes (S.Units head) = HaveRegexes head.units.items
-StateHasRegexes (S.Named head t line) = HaveRegexes head.units.items
-StateHasRegexes (S.Equals head t line name) = HaveRegexes head.units.items
-StateHasRegexes (S.Regular head t line name) = HaveRegexes head.units.items
+StateHasRegexes (S.Named begun) = HaveRegexes begun.head.units.items
+StateHasRegexes (S.Equals begun name) = HaveRegexes begun.head.units.items
+StateHasRegexes (S.Regular begun name) = HaveRegexes begun.head.units.items
 StateHasRegexes (S.Normal head line name pattern regex) = HaveRegexes head.units.items × IsRegex pattern regex
 StateHasRegexes (S.Colon head name line) = HaveRegexes head.units.items
 StateHasRegexes (S.At place) = PlaceHasRegexes place

@@ -6,15 +6,18 @@
 
 mod elements;
 mod item;
+mod page;
 mod piece;
 mod pieces;
 mod places;
+mod quoting;
 mod reader;
 mod regular;
 mod sheet;
 mod state;
 mod unit;
 mod units;
+mod writer;
 mod x_item;
 
 pub use item::{Item, Items};
@@ -22,6 +25,7 @@ pub use piece::Piece;
 pub use reader::{SheetFault, read_sheet};
 pub use sheet::Sheet;
 pub use unit::{Unit, Units};
+pub use writer::write_sheet;
 pub use x_item::{Attr, Attrs, XItem, XItems};
 
 #[cfg(test)]

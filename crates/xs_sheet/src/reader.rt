@@ -58,31 +58,12 @@ pub fn step(alloc: Global, state: State, piece: &Piece) -> Result<Step, Memory>
         State::Versioned => Ok(go_if(piece.is_word("start"), State::Started(piece.line))),
         State::Started(line) => started(alloc, line, piece),
         State::Units(head) => between(alloc, head, piece),
-        State::Named {
-            head,
-            terminal,
-            line,
-        } => named(alloc, head, terminal, line, piece),
-        State::Equals {
-            head,
-            terminal,
-            line,
-            name,
-        } => Ok(go_if(
+        State::Named(begun) => named(alloc, begun, piece),
+        State::Equals(begun, name) => Ok(go_if(
             piece.is(Kind::Equals),
-            State::Regular {
-                head,
-                terminal,
-                line,
-                name,
-            },
+            State::Regular(begun, name),
         )),
-        State::Regular {
-            head,
-            terminal,
-            line,
-            name,
-        } => regular(alloc, head, terminal, line, name, piece),
+        State::Regular(begun, name) => regular(alloc, begun, name, piece),
         State::Normal {
             head,
             line,

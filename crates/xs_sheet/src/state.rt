@@ -10,6 +10,14 @@ pub struct Head {
     pub units: Vec<Unit>,
 }
 
+/// A unit that began with `terminal`, or where that is false with `ignorable`.
+#[derive(Debug, Drop)]
+pub struct Begun {
+    pub head: Head,
+    pub terminal: bool,
+    pub line: u32,
+}
+
 /// A production whose XML side is being read.
 #[derive(Debug, Drop)]
 pub struct Draft {
@@ -78,26 +86,12 @@ pub enum State {
     Started(u32),
     /// Between units.
     Units(Head),
-    /// Behind `terminal`, or where that is false behind `ignorable`.
-    Named {
-        head: Head,
-        terminal: bool,
-        line: u32,
-    },
+    /// Behind `terminal` or `ignorable`.
+    Named(Begun),
     /// Behind the name.
-    Equals {
-        head: Head,
-        terminal: bool,
-        line: u32,
-        name: Text,
-    },
+    Equals(Begun, Text),
     /// Behind the `=`.
-    Regular {
-        head: Head,
-        terminal: bool,
-        line: u32,
-        name: Text,
-    },
+    Regular(Begun, Text),
     /// Behind an ignorable's pattern.
     Normal {
         head: Head,

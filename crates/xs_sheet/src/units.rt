@@ -9,7 +9,7 @@ ghost use Rattle.xs_sheet.specs.View.{head_view, step_view, StepHasRegexes};
 
 use crate::piece::Piece;
 use crate::regular::regex_of;
-use crate::state::{Head, Place, State, Step};
+use crate::state::{Begun, Head, Place, State, Step};
 use crate::{Sheet, Unit, Units};
 use std::alloc::Global;
 use xs_class::{Memory, Text};
@@ -66,18 +66,18 @@ pub fn between(alloc: Global, head: Head, piece: &Piece) -> Result<Step, Memory>
     }
     let line = piece.line;
     if piece.is_word("terminal") {
-        return Ok(Step::Go(State::Named {
+        return Ok(Step::Go(State::Named(Begun {
             head,
             terminal: true,
             line,
-        }));
+        })));
     }
     if piece.is_word("ignorable") {
-        return Ok(Step::Go(State::Named {
+        return Ok(Step::Go(State::Named(Begun {
             head,
             terminal: false,
             line,
-        }));
+        })));
     }
     if !piece.is_unit_name() {
         return Ok(Step::Refuse);
@@ -87,41 +87,23 @@ pub fn between(alloc: Global, head: Head, piece: &Piece) -> Result<Step, Memory>
 }
 
 /// Behind `terminal` or `ignorable`.
-pub fn named(
-    alloc: Global,
-    head: Head,
-    terminal: bool,
-    line: u32,
-    piece: &Piece,
-) -> Result<Step, Memory>
-    requires { HaveRegexes head.units.items }
-    ensures view { IfOk result (λ s. step_view s ≡ M.step (M.named (head_view head) terminal line) piece.now) }
+pub fn named(alloc: Global, begun: Begun, piece: &Piece) -> Result<Step, Memory>
+    requires { HaveRegexes begun.head.units.items }
+    ensures view { IfOk result (λ s. step_view s ≡ M.step (M.named (head_view begun.head) begun.terminal begun.line) piece.now) }
     ensures regexes { IfOk result StepHasRegexes }
 {
     if !piece.is_unit_name() {
         return Ok(Step::Refuse);
     }
     let name = copy(alloc, &piece.text)?;
-    Ok(Step::Go(State::Equals {
-        head,
-        terminal,
-        line,
-        name,
-    }))
+    Ok(Step::Go(State::Equals(begun, name)))
 }
 
 /// At a terminal's or an ignorable's pattern.
-pub fn regular(
-    alloc: Global,
-    head: Head,
-    terminal: bool,
-    line: u32,
-    name: Text,
-    piece: &Piece,
-) -> Result<Step, Memory>
-    requires head { HaveRegexes head.units.items }
+pub fn regular(alloc: Global, begun: Begun, name: Text, piece: &Piece) -> Result<Step, Memory>
+    requires head { HaveRegexes begun.head.units.items }
     requires piece { piece.now.regular ≡ true → (r : Regex) × IsRegex piece.now.text r }
-    ensures view { IfOk result (λ s. step_view s ≡ M.step (M.regular (head_view head) terminal line name) piece.now) }
+    ensures view { IfOk result (λ s. step_view s ≡ M.step (M.regular (head_view begun.head) begun.terminal begun.line name) piece.now) }
     ensures regexes { IfOk result StepHasRegexes }
 {
     if !piece.is(Kind::Pattern) {
@@ -134,6 +116,11 @@ pub fn regular(
         unreachable!()
     };
     let pattern = copy(alloc, &piece.text)?;
+    let Begun {
+        head,
+        terminal,
+        line,
+    } = begun;
     if !terminal {
         return Ok(Step::Go(State::Normal {
             head,

@@ -12,3 +12,6 @@ mod printing;
 mod walk;
 
 pub use printing::print_syms;
+
+#[cfg(test)]
+mod tests;

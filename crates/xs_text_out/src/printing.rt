@@ -10,19 +10,16 @@ use xs_gram::Gram;
 use xs_tree::Tree;
 
 /// The word of the common tree on this grammar's side, each ignorable in its normal spelling; a part
-/// that is shared is printed each time. Where the word is longer than any list can be, the answer is
-/// want of memory, before anything is written.
+/// that is shared is printed each time.
 ///
-/// The parts' lengths are counted, and then all room is reserved at once. In time linear in the flat
-/// tree and, where the tree fits the grammar and no nonterminal derives itself alone, in the word.
+/// The parts' lengths are counted, and then all room is reserved at once: where the word is longer
+/// than any list can be, that is refused, and nothing is written. In time linear in the flat tree
+/// and, where the tree fits the grammar and no nonterminal derives itself alone, in the word.
 pub fn print_syms(alloc: Global, g: &Gram, t: &Tree) -> Result<Word, Memory>
     ensures { IfOk result (λ word. word ≡ print g.now (common_of t.now)) }
 {
     let lengths = lengths_of(alloc, g, t)?;
     let length = lengths[t.root() as usize];
-    if length == u64::MAX {
-        return Err(Memory);
-    }
     let symbols = Vec::with_capacity(alloc, length as usize)?;
     let tasks = Vec::with_capacity(alloc, lengths.len())?;
     Ok(Word::from_vec(walk(g, t, &lengths, tasks, symbols)))

@@ -1,5 +1,5 @@
 -- Numbers of trees in a table of different parts: equal trees have equal numbers.
-use Rattle.std.proofs.Common.{◌≡◌, IsTrue, Bool, ◌⊎◌, ◌↔◌, inl, inr, ℕ, suc, ◌+◌, ◌<◌, List, [], ◌∷◌, ◌++◌, length, map, take, All, get_or, slice_get, Some, refl, sym, ◌∙◌, ap, subst, append_assoc, length-append, arith, ◌≤◌}
+use Rattle.std.proofs.Common.{◌≡◌, IsTrue, Bool, ◌↔◌, inl, inr, ℕ, ◌+◌, ◌<◌, List, [], ◌∷◌, ◌++◌, length, map, take, All, get_or, slice_get, Some, refl, sym, ◌∙◌, ap, subst, append_assoc, length-append, arith, ◌≤◌}
 use Rattle.std.proofs.lemmas.List.{append-nil, get_or-map, map-append, length-map, length-take-le, take_all}
 use Rattle.std.proofs.lemmas.List.Elements.{All-nil, All-cons, All-head, All-tail}
 use Rattle.std.proofs.lemmas.Option.{none-some, slice_get-get_or, slice_get_within}

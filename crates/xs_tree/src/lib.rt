@@ -19,3 +19,6 @@ pub use compare::same;
 #[doc(hidden)]
 pub use part::{Places, TreePart};
 pub use tree::Tree;
+
+#[cfg(test)]
+mod tests;

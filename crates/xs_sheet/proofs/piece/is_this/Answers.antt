@@ -1,8 +1,7 @@
-use Rattle.std.proofs.Common.{◌≡◌, ◌∙◌, sym, ap, refl, List, ℕ, Bool, true, false, encode_utf8_all, nat_eq}
+use Rattle.std.proofs.Common.{◌≡◌, ◌∙◌, sym, ap, encode_utf8_all}
 use Rattle.std.specs.Str.{chars}
 use Rattle.std.proofs.lemmas.Str.{encodes-chars}
 use Rattle.xs_sheet.proofs.KindLaws.{text_test, ascii_chars}
-use Rattle.xs_sheet.specs.Pieces.{same}
 use Rattle.xs_sheet.proofs.piece.is_this.Goals as goal
 
 pub returns : goal.returns

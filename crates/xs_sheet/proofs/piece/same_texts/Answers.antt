@@ -1,4 +1,4 @@
-use Rattle.std.proofs.Common.{◌≡◌, ◌∙◌, refl, List, ℕ, Bool, true, false, encode_utf8_all, nat_eq}
+use Rattle.std.proofs.Common.{◌∙◌}
 use Rattle.xs_sheet.proofs.KindLaws.{text_test}
 use Rattle.xs_sheet.proofs.piece.same_texts.Goals as goal
 

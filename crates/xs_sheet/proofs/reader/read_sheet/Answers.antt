@@ -1,8 +1,8 @@
-use Rattle.std.proofs.Common.{◌≡◌, ◌∙◌, sym, ap, subst, true, List, ℕ, map}
+use Rattle.std.proofs.Common.{◌≡◌, sym, subst, true, List, ℕ, map}
 use Rattle.std.specs.List.{All}
 use Rattle.std.specs.Str.{chars}
 use Rattle.xs_lex.specs.declared.token.Token.{Token}
-use Rattle.xs_lex.specs.Reading.{Lexeme, AreTokens, IsSlice, extent_of, behind_mark, valid, lexeme_of}
+use Rattle.xs_lex.specs.Reading.{Lexeme, AreTokens, extent_of, behind_mark, valid, lexeme_of}
 use Rattle.xs_regex.specs.declared.regex.Regex.{Regex}
 use Rattle.xs_sheet.specs.declared.piece.Piece.{Piece}
 use Rattle.xs_sheet.specs.Regular.{IsRegex}

@@ -1,4 +1,4 @@
-use Rattle.std.proofs.Common.{◌∙◌, ap, map, length, arith}
+use Rattle.std.proofs.Common.{◌∙◌, ap, map, length}
 use Rattle.xs_tree.specs.Tables.{part_of}
 use Rattle.xs_tree.proofs.Trees.{part_ready}
 use Rattle.xs_tree.proofs.Numbering.{numbered_long, one_more_item, so_far_first, so_far_end}

@@ -1,0 +1,170 @@
+-- Sets to which items are added.
+use Rattle.std.proofs.Common.{◌≡◌, ℕ, suc, ◌+◌, ◌<◌, List, [], ◌∷◌, ◌++◌, length, take, get_or, set, Bool, true, false, if◌then◌else◌, refl, sym, ◌∙◌, ap, subst, arith, append_assoc, append-nil, ◌⊎◌, inl, inr, ◌↔◌, length-set, get_or-set_same, get_or-set_other}
+use Rattle.std.specs.Prelude.{Contains, IsTrue, slice_get, Some}
+use Rattle.std.proofs.lemmas.Bool.{cases_eq, false≢true}
+use Rattle.std.proofs.lemmas.List.{take_more}
+use Rattle.std.proofs.lemmas.Option.{slice_get-get_or, slice_get_within, get_or_from_slice_get}
+use Rattle.std.proofs.lemmas.List.Elements.{Contains-append_left, Contains-append_right, Contains-append_cases, Contains-push, Contains-push_cases}
+use Rattle.xs_chart.specs.declared.item.Item.{Item}
+use Rattle.xs_chart.specs.Charted.{Charted, items_of, last_set, with_item}
+use Rattle.xs_gram.specs.declared.places.Place.{Place}
+use Rattle.xs_gram.specs.Grammar.{Grammar}
+use Rattle.xs_items.specs.Charts.{IsNumber, set_at}
+use Rattle.xs_items.proofs.Settling.{has_place_more}
+use Rattle.xs_earley.specs.Adding.{Puts, IsOf, Adds, Is}
+
+pub contains_at : {X : Type 0} (xs : List X) (x : X) → Contains xs x → (n : ℕ) × (slice_get xs n ≡ Some x)
+contains_at xs x h = (h.0, slice_get-get_or xs h.0 x h.1 ∙ ap (λ y. Some y) h.2)
+
+pub at_contains : {X : Type 0} (xs : List X) (n : ℕ) (x : X) → slice_get xs n ≡ Some x → Contains xs x
+at_contains xs n x e = (n, slice_get_within xs n x e, get_or_from_slice_get xs n x x e)
+
+pub no_element : {X : Type 0} (x : X) → Contains [] x → ⊥
+no_element x h = absurd (omega (arith, h.1))
+
+same_fields : (a b c d : ℕ) → a ≡ c → b ≡ d → ◌≡◌ {A = Item} (record { state = a; origin = b }) (record { state = c; origin = d })
+same_fields a b c d e f = cc
+
+item_cases : (x y : Item) → (x ≡ y) ⊎ (x ≡ y → ⊥)
+item_cases x y = elim (cases_eq x.state y.state) [
+  | inl s ↦ elim (cases_eq x.origin y.origin) [ inl o ↦ inl (same_fields x.state x.origin y.state y.origin s o) | inr n ↦ inr (λ e. n (ap (λ (z : Item). z.origin) e)) ]
+  | inr n ↦ inr (λ e. n (ap (λ (z : Item). z.state) e))
+]
+
+contains_cases : (items : List Item) (item : Item) → Contains items item ⊎ (Contains items item → ⊥)
+contains_cases [] item = inr (no_element item)
+contains_cases (x ∷ items) item = elim (item_cases x item) [
+  | inl e ↦ inl (Contains-append_left (x ∷ []) items item (0, omega arith, e))
+  | inr n ↦ elim (contains_cases items item) [
+    | inl h ↦ inl (Contains-append_right (x ∷ []) items item h)
+    | inr never ↦ inr (λ h. elim (Contains-append_cases (x ∷ []) items item h) [ inl one ↦ n (elim (Contains-push_cases [] x item one) [ inl none ↦ absurd (no_element item none) | inr e ↦ e ]) | inr rest ↦ never rest ])
+  ]
+]
+
+-- nothing is added
+pub puts_none : (at : ℕ) (P : Item → Type 0) (a : List (List Item)) → Puts at P a a
+puts_none at P a = record { counted = refl; more = []; last = sym (append-nil (set_at a at)); each = λ item h. absurd (no_element item h); others = λ k ne. refl }
+
+-- first some items and then others
+pub puts_then : (at : ℕ) (P Q R : Item → Type 0) (a b c : List (List Item)) → ((item : Item) → P item → R item) → ((item : Item) → Q item → R item) → Puts at P a b → Puts at Q b c → Puts at R a c
+puts_then at P Q R a b c p q first next = record {
+  counted = next.counted ∙ first.counted;
+  more = first.more ++ next.more;
+  last = next.last ∙ ap (λ l. l ++ next.more) first.last ∙ append_assoc (set_at a at) first.more next.more;
+  each = λ item h. elim (Contains-append_cases first.more next.more item h) [ inl x ↦ p item (first.each item x) | inr x ↦ q item (next.each item x) ];
+  others = λ k ne. next.others k ne ∙ first.others k ne;
+}
+
+pub puts_weaker : (at : ℕ) (P R : Item → Type 0) (a b : List (List Item)) → ((item : Item) → P item → R item) → Puts at P a b → Puts at R a b
+puts_weaker at P R a b p puts = record { counted = puts.counted; more = puts.more; last = puts.last; each = λ item h. p item (puts.each item h); others = puts.others }
+
+-- what was there stays
+pub puts_kept : (at : ℕ) (P : Item → Type 0) (a b : List (List Item)) → Puts at P a b → (k : ℕ) (item : Item) → Contains (set_at a k) item → Contains (set_at b k) item
+puts_kept at P a b puts k item h = elim (cases_eq k at) [
+  | inl e ↦ subst (λ j. Contains (set_at b j) item) (sym e) (subst (λ (l : List Item). Contains l item) (sym puts.last) (Contains-append_left (set_at a at) puts.more item (subst (λ j. Contains (set_at a j) item) e h)))
+  | inr ne ↦ subst (λ (l : List Item). Contains l item) (sym (puts.others k ne)) h
+]
+
+-- one item is put last in a set
+pub set_puts : (sets : List (List Item)) (at : ℕ) (item : Item) (items : List Item) → at < length sets → items ≡ set_at sets at ++ item ∷ [] → Puts at (λ x. x ≡ item) sets (set sets at items)
+set_puts sets at item items lt is = record {
+  counted = length-set sets at items;
+  more = item ∷ [];
+  last = get_or-set_same sets at items [] lt ∙ is;
+  each = λ x h. elim (Contains-push_cases [] item x h) [ inl none ↦ absurd (no_element x none) | inr e ↦ sym e ];
+  others = λ k ne. get_or-set_other sets at k items [] ne;
+}
+
+pub set_there : (sets : List (List Item)) (at : ℕ) (item : Item) (items : List Item) → at < length sets → items ≡ set_at sets at ++ item ∷ [] → Contains (set_at (set sets at items) at) item
+set_there sets at item items lt is = subst (λ (l : List Item). Contains l item) (sym (get_or-set_same sets at items [] lt ∙ is)) (Contains-push (set_at sets at) item)
+
+pub last_at : (chart : Charted) (at : ℕ) → length chart.sets ≡ suc at → last_set chart ≡ at
+last_at chart at last = omega arith
+
+-- an item is added to the last set of a chart
+pub added_puts : (old new : Charted) (at : ℕ) (item : Item) (added : Bool) → length old.sets ≡ suc at → new ≡ (if added then with_item old item else old) → Puts at (λ x. x ≡ item) old.sets new.sets
+added_puts old new at item true last is =
+    let e = last_at old at last in
+    let lt : at < length old.sets = omega arith in
+    let here = set_puts old.sets at item (set_at old.sets at ++ item ∷ []) lt refl in
+    subst (λ (c : Charted). Puts at (λ x. x ≡ item) old.sets c.sets) (sym is) (subst (λ k. Puts at (λ x. x ≡ item) old.sets (set old.sets k (set_at old.sets k ++ item ∷ []))) (sym e) here)
+added_puts old new at item false last is = subst (λ (c : Charted). Puts at (λ x. x ≡ item) old.sets c.sets) (sym is) (puts_none at (λ x. x ≡ item) old.sets)
+
+pub added_there : (old new : Charted) (at : ℕ) (item : Item) (added : Bool) → length old.sets ≡ suc at → new ≡ (if added then with_item old item else old) → IsTrue added ↔ (Contains (items_of old (last_set old)) item → ⊥) → Contains (set_at new.sets at) item
+added_there old new at item true last is iff =
+    let e = last_at old at last in
+    let lt : at < length old.sets = omega arith in
+    let here = set_there old.sets at item (set_at old.sets at ++ item ∷ []) lt refl in
+    subst (λ (c : Charted). Contains (set_at c.sets at) item) (sym is) (subst (λ k. Contains (set_at (set old.sets k (set_at old.sets k ++ item ∷ [])) at) item) (sym e) here)
+added_there old new at item false last is iff = elim (contains_cases (set_at old.sets at) item) [
+  | inl h ↦ subst (λ (c : Charted). Contains (set_at c.sets at) item) (sym is) h
+  | inr never ↦ absurd (false≢true (iff.1 (λ h. never (subst (λ k. Contains (set_at old.sets k) item) (last_at old at last) h))))
+]
+
+-- the property for one of the numbers of a list
+abbrev pub Among : (ℕ → Place → ℕ → Type 0) → List ℕ → Place → ℕ → Type 0
+Among R list c i = (x : ℕ) × Contains list x × R x c i
+
+module _ (g : Grammar) (at : ℕ) where
+  -- the item of a place and an origin
+  pub adds_one : (p : Place) (k o : ℕ) (a b : List (List Item)) → IsNumber g k p → Puts at (λ x. x ≡ record { state = k; origin = o }) a b → Contains (set_at b at) (record { state = k; origin = o }) → Adds g at (Is p o) a b
+  adds_one p k o a b num puts there = record {
+    puts = puts_weaker at (λ x. x ≡ record { state = k; origin = o }) (IsOf g (Is p o)) a b (λ x e. (p, subst (λ n. IsNumber g n p) (sym (ap (λ (y : Item). y.state) e)) num, (refl, ap (λ (y : Item). y.origin) e))) puts;
+    there = λ c i q. (k, subst (λ d. IsNumber g k d) (sym q.0) num, subst (λ n. Contains (set_at b at) (record { state = k; origin = n })) (sym q.1) there);
+  }
+
+  pub adds_none : (P : Place → ℕ → Type 0) (a : List (List Item)) → ((c : Place) (i : ℕ) → P c i → ⊥) → Adds g at P a a
+  adds_none P a none = record { puts = puts_none at (IsOf g P) a; there = λ c i p. absurd (none c i p) }
+
+  pub adds_same : (P Q : Place → ℕ → Type 0) (a b : List (List Item)) → ((c : Place) (i : ℕ) → P c i → Q c i) → ((c : Place) (i : ℕ) → Q c i → P c i) → Adds g at P a b → Adds g at Q a b
+  adds_same P Q a b to from adds = record {
+    puts = puts_weaker at (IsOf g P) (IsOf g Q) a b (λ item h. (h.0, h.1, to h.0 item.origin h.2)) adds.puts;
+    there = λ c i q. adds.there c i (from c i q);
+  }
+
+  pub adds_then : (P Q R : Place → ℕ → Type 0) (a b c : List (List Item)) → ((d : Place) (i : ℕ) → P d i → R d i) → ((d : Place) (i : ℕ) → Q d i → R d i) → ((d : Place) (i : ℕ) → R d i → P d i ⊎ Q d i) → Adds g at P a b → Adds g at Q b c → Adds g at R a c
+  adds_then P Q R a b c p q split first next = record {
+    puts = puts_then at (IsOf g P) (IsOf g Q) (IsOf g R) a b c (λ item h. (h.0, h.1, p h.0 item.origin h.2)) (λ item h. (h.0, h.1, q h.0 item.origin h.2)) first.puts next.puts;
+    there = λ d i r. elim (split d i r) [
+      | inl h ↦ has_place_more g b c at d i (puts_kept at (IsOf g Q) b c next.puts at) (first.there d i h)
+      | inr h ↦ next.there d i h
+    ];
+  }
+
+  pub among_none : (R : ℕ → Place → ℕ → Type 0) (a : List (List Item)) → Adds g at (Among R []) a a
+  among_none R a = adds_none (Among R []) a (λ c i h. no_element h.0 h.1)
+
+  -- one more number of the list
+  pub among_more : (R : ℕ → Place → ℕ → Type 0) (list : List ℕ) (n x : ℕ) (a b c : List (List Item)) → n < length list → x ≡ get_or list n 0 → Adds g at (Among R (take n list)) a b → Adds g at (R x) b c → Adds g at (Among R (take (n + 1) list)) a c
+  among_more R list n x a b c lt is first next = adds_then (Among R (take n list)) (R x) (Among R (take (n + 1) list)) a b c before here split first next
+    where
+      more : take (n + 1) list ≡ take n list ++ x ∷ []
+      more = take_more list n 0 lt ∙ ap (λ y. take n list ++ y ∷ []) (sym is)
+
+      before : (d : Place) (i : ℕ) → Among R (take n list) d i → Among R (take (n + 1) list) d i
+      before d i (y, h, r) = (y, subst (λ (l : List ℕ). Contains l y) (sym more) (Contains-append_left (take n list) (x ∷ []) y h), r)
+
+      here : (d : Place) (i : ℕ) → R x d i → Among R (take (n + 1) list) d i
+      here d i r = (x, subst (λ (l : List ℕ). Contains l x) (sym more) (Contains-push (take n list) x), r)
+
+      split : (d : Place) (i : ℕ) → Among R (take (n + 1) list) d i → Among R (take n list) d i ⊎ R x d i
+      split d i (y, h, r) = elim (Contains-push_cases (take n list) x y (subst (λ (l : List ℕ). Contains l y) more h)) [
+        | inl l ↦ inl (y, l, r)
+        | inr e ↦ inr (subst (λ z. R z d i) (sym e) r)
+      ]
+
+-- one item more of a list
+pub put_more : (items : List Item) (n at : ℕ) (item : Item) (a b c : List (List Item)) → take (n + 1) items ≡ take n items ++ item ∷ [] → Puts at (Contains (take n items)) a b → Puts at (λ x. x ≡ item) b c → Puts at (Contains (take (n + 1) items)) a c
+put_more items n at item a b c more first next = puts_then at (Contains (take n items)) (λ x. x ≡ item) (Contains (take (n + 1) items)) a b c before here first next
+  where
+    before : (x : Item) → Contains (take n items) x → Contains (take (n + 1) items) x
+    before x h = subst (λ (l : List Item). Contains l x) (sym more) (Contains-append_left (take n items) (item ∷ []) x h)
+
+    here : (x : Item) → x ≡ item → Contains (take (n + 1) items) x
+    here x e = subst (λ (l : List Item). Contains l x) (sym more) (subst (λ y. Contains (take n items ++ item ∷ []) y) (sym e) (Contains-push (take n items) item))
+
+pub put_there : (items : List Item) (n at : ℕ) (item : Item) (b c : List (List Item)) → take (n + 1) items ≡ take n items ++ item ∷ [] → ((x : Item) → Contains (take n items) x → Contains (set_at b at) x) → Puts at (λ x. x ≡ item) b c → Contains (set_at c at) item → (x : Item) → Contains (take (n + 1) items) x → Contains (set_at c at) x
+put_there items n at item b c more before puts here x h = elim (Contains-push_cases (take n items) item x (subst (λ (l : List Item). Contains l x) more h)) [
+  | inl l ↦ puts_kept at (λ y. y ≡ item) b c puts at x (before x l)
+  | inr e ↦ subst (λ y. Contains (set_at c at) y) e here
+]

@@ -1,0 +1,10 @@
+pub mod Additions
+pub mod Completing
+pub mod Growths
+pub mod Settlings
+pub mod Spelt
+pub mod Queues
+pub mod Filling
+pub mod Tables
+pub mod Wholes
+pub mod Reach

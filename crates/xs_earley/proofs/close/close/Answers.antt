@@ -1,0 +1,69 @@
+use Rattle.std.proofs.Common.{◌≡◌, ◌≢◌, ◌<◌, ◌+◌, ◌∙◌, ℕ, List, length, sym, subst, arith, inl, inr}
+use Rattle.std.proofs.lemmas.Bool.{cases_lt}
+use Rattle.std.proofs.lemmas.Option.{slice_get_within}
+use Rattle.xs_chart.specs.declared.item.Item.{Item}
+use Rattle.xs_chart.specs.Charted.{Charted, items_of}
+use Rattle.xs_gram.specs.Grammar.{Grammar}
+use Rattle.xs_gram.specs.Places.{all_places}
+use Rattle.xs_items.specs.Charts.{set_at}
+use Rattle.xs_items.proofs.Words.{get_lt, get_some}
+use Rattle.xs_earley.specs.Growing.{Grown, IsSettledAt, IsOpen}
+use Rattle.xs_earley.specs.Waiting.{Waited}
+use Rattle.xs_earley.proofs.Additions.{at_contains}
+use Rattle.xs_earley.proofs.Completing.{waiting_same}
+use Rattle.xs_earley.proofs.Growths.{grown_none, grown_then, settled_at_more, open_more, grows_item_more}
+use Rattle.xs_earley.proofs.Queues.{waits_more}
+use Rattle.xs_earley.proofs.close.close.Goals as goal
+
+pub enlist-requires-clause-numbers : goal.enlist-requires-clause-numbers
+enlist-requires-clause-numbers c item e =
+    let st = c.items.invariant.ready.stand c.args.at item (at_contains (items_of c.items.chart c.args.at) c.items.k item e) in
+    get_lt (all_places c.args.g.now) item.state st.0 st.1
+
+-- the set stays open while a number is put in a waiting list of it
+still_open : (g : Grammar) (w : List ℕ) (at k state : ℕ) (old mid : Charted) (due : List (List Item)) → IsOpen g w at old due → mid.sets ≡ old.sets → Waited g at k state old mid → IsOpen g w at mid due
+still_open g w at k state old mid due ready sets waited =
+    open_more g w at old mid due due (subst (λ s. Grown g w at old.sets due s due) (sym sets) (grown_none g w at old.sets due)) (λ j non lt. let ne : j ≢ at = omega arith in waited.elsewhere j non ne) ready
+
+pub settle-requires-clause-open : goal.settle-requires-clause-open
+settle-requires-clause-open c =
+    let old = c.items.chart in
+    let lt : c.items.k < length (items_of old c.args.at) = omega (arith, c.len.ensures) in
+    let item = get_some (items_of old c.args.at) c.items.k lt in
+    still_open c.args.g.now c.args.doc.now c.args.at c.items.k item.0.state old c.enlist.new.chart c.items.due c.items.invariant.ready c.in_ok-enlist.ensures.sets (c.in_ok-enlist.ensures.waited item.0 item.1)
+
+settled_below : (g : Grammar) (w : List ℕ) (at k : ℕ) (old due new later : List (List Item)) → Grown g w at old due new later → k < length (set_at old at) → ((m : ℕ) → m < k → IsSettledAt g w old due at m) → IsSettledAt g w new later at k → (m : ℕ) → m < k + 1 → IsSettledAt g w new later at m
+settled_below g w at k old due new later grown lt before here m below = elim (cases_lt m k) [
+  | inl less ↦ settled_at_more g w at old due new later grown m (omega arith) (before m less)
+  | inr le ↦ (let e : k ≡ m = omega arith in subst (λ n. IsSettledAt g w new later at n) e here)
+]
+
+pub items-preserved : goal.items-preserved
+items-preserved c =
+    let g = c.args.g.now in
+    let w = c.args.doc.now in
+    let at = c.args.at in
+    let k = c.items.k in
+    let old = c.items.chart in
+    let mid = c.enlist.new.chart in
+    let new = c.settle.new.chart in
+    let due = c.items.due in
+    let later = c.settle.new.due in
+    let first = c.args.chart.now in
+    let inv = c.items.invariant in
+    let lt : k < length (items_of old at) = omega (arith, c.len.ensures) in
+    let item = get_some (items_of old at) k lt in
+    let waited = c.in_ok-enlist.ensures.waited item.0 item.1 in
+    let sets = c.in_ok-enlist.ensures.sets in
+    let kept = c.in_ok-settle.ensures.waits in
+    let grown : Grown g w at old.sets due new.sets later = subst (λ s. Grown g w at s due new.sets later) sets c.in_ok-settle.ensures.grown in
+    let same = λ (j non : ℕ) (ne : j ≢ at). waiting_same mid new j non kept ∙ waited.elsewhere j non ne in
+    let longer : k < length (items_of new at) = slice_get_within (items_of new at) k item.0 (grows_item_more g w old.sets new.sets grown.chart at k item.0 item.1) in
+    record {
+      within = omega arith;
+      grown = grown_then g w at first.sets old.sets new.sets c.args.due.now due later inv.grown grown;
+      ready = open_more g w at old new due later grown (λ j non below. let ne : j ≢ at = omega arith in same j non ne) inv.ready;
+      settled = settled_below g w at k old.sets due new.sets later grown lt inv.settled c.in_ok-settle.ensures.settled;
+      earlier = λ j non ne. same j non ne ∙ inv.earlier j non ne;
+      waits = waits_more g w old mid new at k item.0 inv.waits item.1 waited sets c.in_ok-settle.ensures.grown.chart kept;
+    }

@@ -1,0 +1,71 @@
+use Rattle.std.proofs.Common.{◌≡◌, ◌∙◌, ℕ, List, take, Some, sym, subst, arith}
+use Rattle.std.specs.Prelude.{slice_get}
+use Rattle.std.proofs.lemmas.List.{take_all}
+use Rattle.std.proofs.lemmas.Option.{get_or_from_slice_get}
+use Rattle.xs_gram.specs.Places.{all_places}
+use Rattle.xs_chart.specs.Charted.{items_of, waiting_of}
+use Rattle.xs_gram.specs.declared.parts.GItem.TheVariants.{Non}
+use Rattle.xs_items.proofs.Words.{get_lt}
+use Rattle.xs_items.specs.Charts.{IsNumberBefore}
+use Rattle.xs_earley.specs.Adding.{Adds, Follows}
+use Rattle.xs_earley.proofs.Additions.{Among, among_more}
+use Rattle.xs_earley.proofs.Completing.{waiting_now, waiter_there, waiter_before, waiter_was, before_at, follows_one, follows_all}
+use Rattle.xs_earley.proofs.steps.complete.Goals as goal
+
+pub item-item-requires : goal.item-item-requires
+item-item-requires c =
+    let old = c.args.chart.now in
+    let P = Among (Follows c.args.g.now (items_of old c.args.from)) (take c.waiters.n (waiting_of old c.args.from c.args.non)) in
+    waiter_there c.args.g.now old c.waiters.chart c.args.at c.args.from c.args.non P c.requires.from c.requires.waiting c.waiters.invariant.adds c.waiters.invariant.waits c.waiters.n c.waiter.result c.waiter.ensures
+
+pub place-place-requires : goal.place-place-requires
+place-place-requires c =
+    let old = c.args.chart.now in
+    let g = c.args.g.now in
+    let P = Among (Follows g (items_of old c.args.from)) (take c.waiters.n (waiting_of old c.args.from c.args.non)) in
+    let item = c.item-item.result in
+    let before : IsNumberBefore g item.state c.args.non = waiter_before g old c.waiters.chart c.args.at c.args.from c.args.non P c.requires.from c.requires.waiting c.waiters.invariant.adds c.waiters.invariant.waits c.waiters.n c.waiter.result item c.waiter.ensures c.item-item.ensures in
+    get_lt (all_places g) item.state before.0 before.1
+
+pub behind-requires-clause-item : goal.behind-requires-clause-item
+behind-requires-clause-item c =
+    let old = c.args.chart.now in
+    let g = c.args.g.now in
+    let P = Among (Follows g (items_of old c.args.from)) (take c.waiters.n (waiting_of old c.args.from c.args.non)) in
+    let item = c.item-item.result in
+    let before : IsNumberBefore g item.state c.args.non = waiter_before g old c.waiters.chart c.args.at c.args.from c.args.non P c.requires.from c.requires.waiting c.waiters.invariant.adds c.waiters.invariant.waits c.waiters.n c.waiter.result item c.waiter.ensures c.item-item.ensures in
+    let here = before_at g item.state c.args.non c.place-place.result before c.place-place.ensures.listed in
+    (Non c.args.non here.1, here.2)
+
+pub waiters-preserved : goal.waiters-preserved
+waiters-preserved c =
+    let old = c.args.chart.now in
+    let g = c.args.g.now in
+    let from = c.args.from in
+    let non = c.args.non in
+    let n = c.waiters.n in
+    let list = waiting_of old from non in
+    let R = Follows g (items_of old from) in
+    let P = Among R (take n list) in
+    let k = c.waiter.result in
+    let item = c.item-item.result in
+    let now = c.waiters.chart in
+    let same = c.waiters.invariant.waits in
+    let entry : slice_get list n ≡ Some k = subst (λ (l : List ℕ). slice_get l n ≡ Some k) (waiting_now g old now c.args.at from non P c.requires.from c.requires.waiting c.waiters.invariant.adds same) c.waiter.ensures in
+    let was = waiter_was g old now c.args.at from non P c.requires.from c.requires.waiting c.waiters.invariant.adds same k item c.item-item.ensures in
+    let next = follows_one g c.args.at (items_of old from) k item c.place-place.result c.behind.result now.sets c.put.new.chart.sets was c.place-place.ensures.listed c.behind.ensures.is c.in_ok-put.ensures.adds in
+    record {
+      adds = among_more g c.args.at R list n k old.sets now.sets c.put.new.chart.sets (get_lt list n k entry) (sym (get_or_from_slice_get list n k 0 entry)) c.waiters.invariant.adds next;
+      waits = c.in_ok-put.ensures.waits ∙ same;
+    }
+
+pub returns-clause-adds : goal.returns-clause-adds
+returns-clause-adds c =
+    let old = c.args.chart.now in
+    let g = c.args.g.now in
+    let from = c.args.from in
+    let non = c.args.non in
+    let list = waiting_of old from non in
+    let R = Follows g (items_of old from) in
+    let all = take_all c.waiters.n list (omega (arith, c.waiting-n-end.ensures)) in
+    follows_all g c.args.at old from non old.sets c.waiters.chart.sets c.requires.waiting (subst (λ (l : List ℕ). Adds g c.args.at (Among R l) old.sets c.waiters.chart.sets) all c.waiters.invariant.adds)

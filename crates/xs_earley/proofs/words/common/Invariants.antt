@@ -1,0 +1,6 @@
+use Rattle.std.proofs.Common.{◌+◌, take}
+use Rattle.xs_items.specs.Reading.{Reads}
+use Rattle.xs_earley.proofs.words.common.Given as goal
+
+abbrev pub invariant-symbols : goal.invariant-symbols
+invariant-symbols l = Reads l.doc l.at (take l.n l.word) (l.at + l.n)

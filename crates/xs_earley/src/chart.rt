@@ -1,0 +1,107 @@
+ghost use Rattle.std.specs.Prelude.{◌≡◌, ◌≢◌, ◌<◌, ◌≤◌, suc, ℕ, length, Contains, IfOk};
+ghost use Rattle.xs_chart.specs.declared.item.Item.{Item};
+ghost use Rattle.xs_chart.specs.Charted.{items_of, waiting_of};
+ghost use Rattle.xs_gram.specs.Sound.{IsBuilt};
+ghost use Rattle.xs_items.specs.Charts.{IsChartOf, HasWaiters};
+ghost use Rattle.xs_earley.specs.Adding.{Puts, Adds, Starts};
+ghost use Rattle.xs_earley.specs.Asked.{AreCalls};
+ghost use Rattle.xs_earley.specs.Growing.{IsOpen, IsFilled};
+ghost use Rattle.xs_earley.specs.Opening.{IsOpened};
+
+use crate::adding::Items;
+use crate::calls::Calls;
+use crate::close::close;
+use crate::lists::empty_lists;
+use crate::steps::predict;
+use std::alloc::Global;
+use xs_chart::{Chart, Item};
+use xs_class::{Memory, Word};
+use xs_gram::Gram;
+
+/// Adds the items to the last set, each unless it is there.
+fn put_all(chart: &mut Chart, at: u32, items: &[Item]) -> Result<(), Memory>
+    requires last { length chart.old.sets ≡ suc at }
+    ensures puts { IfOk result (λ _. Puts at (Contains items.now) chart.old.sets chart.new.sets) }
+    ensures there { IfOk result (λ _. (item : Item) → Contains items.now item → Contains (items_of chart.new at) item) }
+    ensures waits { IfOk result (λ _. chart.new.waits ≡ chart.old.waits) }
+{
+    'items: for item in items {
+        chart.add(*item)?;
+    }
+    Ok(())
+}
+
+/// In the first set, adds the beginnings of the rules of the start.
+fn begin(chart: &mut Chart, g: &Gram, calls: &Calls, at: u32) -> Result<(), Memory>
+    requires built { IsBuilt g.now }
+    requires calls { AreCalls g.now calls.now }
+    requires last { length chart.old.sets ≡ suc at }
+    ensures adds { IfOk result (λ _. Adds g.now at (Starts g.now at) chart.old.sets chart.new.sets) }
+    ensures waits { IfOk result (λ _. chart.new.waits ≡ chart.old.waits) }
+{
+    if at == 0 {
+        predict(chart, g, at, calls.rules(g, g.start()))
+    } else {
+        Ok(())
+    }
+}
+
+/// Opens the next set with what is due there, and the first one with the rules of the start.
+fn open_next(
+    chart: &mut Chart,
+    due: &[Items],
+    g: &Gram,
+    doc: &Word,
+    calls: &Calls,
+    at: u32,
+) -> Result<(), Memory>
+    requires built { IsBuilt g.now }
+    requires calls { AreCalls g.now calls.now }
+    requires filled { IsFilled g.now doc.now at chart.old due.now }
+    requires within { at ≤ length doc.now }
+    requires few { length doc.now < 4294967295 }
+    ensures { IfOk result (λ _. IsOpened g.now doc.now at chart.old due.now chart.new) }
+{
+    chart.push_set()?;
+    begin(chart, g, calls, at)?;
+    put_all(chart, at, due[at as usize].as_slice())?;
+    Ok(())
+}
+
+/// Fills the next set.
+fn fill_next(
+    chart: &mut Chart,
+    due: &mut [Items],
+    g: &Gram,
+    doc: &Word,
+    calls: &Calls,
+    at: u32,
+) -> Result<(), Memory>
+    requires built { IsBuilt g.now }
+    requires calls { AreCalls g.now calls.now }
+    requires filled { IsFilled g.now doc.now at chart.old due.old }
+    requires within { at ≤ length doc.now }
+    requires few { length doc.now < 4294967295 }
+    ensures { IfOk result (λ _. IsFilled g.now doc.now (suc at) chart.new due.new) }
+{
+    open_next(chart, due, g, doc, calls, at)?;
+    close(chart, due, g, doc, calls, at)?;
+    Ok(())
+}
+
+/// The chart of a document, in time linear in what its items lead to.
+pub fn chart_of(alloc: Global, g: &Gram, doc: &Word, calls: &Calls) -> Result<Chart, Memory>
+    requires built { IsBuilt g.now }
+    requires calls { AreCalls g.now calls.now }
+    requires few { length doc.now < 4294967295 }
+    ensures chart { IfOk result (λ chart. IsChartOf g.now doc.now chart.sets) }
+    ensures waiters { IfOk result (λ chart. HasWaiters g.now chart) }
+{
+    let mut chart = Chart::new(alloc)?;
+    let mut due: Vec<Items> = empty_lists(alloc, doc.len() + 1)?;
+    'sets: while (chart.sets() as usize) <= doc.len() {
+        let at = chart.sets();
+        fill_next(&mut chart, &mut due, g, doc, calls, at)?;
+    }
+    Ok(chart)
+}

@@ -1,0 +1,51 @@
+ghost use Rattle.std.specs.Prelude.{◌≡◌, ◌<◌, ℕ, length, MatchOption};
+ghost use Rattle.xs_gram.specs.declared.parts.GItem.{GItem};
+ghost use Rattle.xs_gram.specs.Grammar.{items, ItemAt};
+ghost use Rattle.xs_gram.specs.Places.{IsPlace};
+ghost use Rattle.xs_items.specs.Steps.{next_of, IsBefore};
+
+use xs_gram::{GItem, Gram, Place};
+
+/// The item at the place, none at the end of a rule.
+pub fn item_at(g: &Gram, place: Place) -> Option<&GItem>
+    requires place { IsPlace g.now place }
+    ensures { MatchOption result (place.dot ≡ length (items g.now place.rule)) (λ item. ItemAt g.now place.rule place.dot item.now) }
+{
+    g.items(place.rule).get(place.dot as usize)
+}
+
+/// The place behind the item at the place.
+pub fn behind(g: &Gram, place: Place) -> Place
+    requires place { IsPlace g.now place }
+    requires item { (item : GItem) × ItemAt g.now place.rule place.dot item }
+    ensures is { result ≡ next_of place }
+    ensures place { IsPlace g.now result }
+{
+    let items = g.items(place.rule);
+    if (place.dot as usize) < items.len() {
+        Place {
+            rule: place.rule,
+            dot: place.dot + 1,
+            inside: None,
+        }
+    } else {
+        place
+    }
+}
+
+/// The nonterminal before which the place stands, if it stands before one.
+pub fn awaited(g: &Gram, place: Place) -> Option<u32>
+    requires place { IsPlace g.now place }
+    ensures { MatchOption result ((non : ℕ) → IsBefore g.now place non → ⊥) (λ non. IsBefore g.now place non) }
+{
+    match place.inside {
+        Some(_) => None,
+        None => match item_at(g, place) {
+            Some(GItem::Non { non, .. }) => Some(*non),
+            Some(GItem::Fixed(_)) => None,
+            Some(GItem::Term { .. }) => None,
+            Some(GItem::Skip { .. }) => None,
+            None => None,
+        },
+    }
+}

@@ -1,0 +1,10 @@
+pub mod ListLemmas
+pub mod Grouping
+pub mod Runnings
+pub mod Gathering
+pub mod Ending
+pub mod Leveling
+pub mod Rowing
+pub mod Growing
+pub mod Charting
+pub mod Planting

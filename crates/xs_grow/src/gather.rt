@@ -1,0 +1,176 @@
+ghost use Rattle.std.specs.Prelude.{◌≡◌, ◌↔◌, ◌<◌, ◌≤◌, ◌++◌, ◌+◌, ℕ, None, length, map, OnOk, IsTrue};
+ghost use Rattle.xs_gram.specs.Sound.{IsBuilt};
+ghost use Rattle.xs_gram.specs.Grammar.{items};
+ghost use Rattle.xs_gram.specs.Places.{all_places, IsPlace};
+ghost use Rattle.xs_items.specs.Charts.{set_at};
+ghost use Rattle.xs_unfold.specs.Forest.{key_at};
+ghost use Rattle.xs_grow.specs.Lists.{Appends};
+ghost use Rattle.xs_grow.specs.Marks.{WholeAt, FrontFrom, InSet, InSets, EndOnce, HasPlaces};
+
+use crate::call::Call;
+use crate::ends::ends_of;
+use crate::groups::Groups;
+use std::alloc::Global;
+use xs_chart::{Chart, Item};
+use xs_class::{Memory, Word};
+use xs_gram::{Gram, Place};
+use xs_unfold::{SpanKey, What};
+
+/// Whether the place stands at the end of its rule.
+fn is_end(g: &Gram, place: Place) -> bool
+    requires { IsPlace g.now place }
+    ensures { IsTrue result ↔ ((place.inside ≡ None) × (place.dot ≡ length (items g.now place.rule))) }
+{
+    place.inside.is_none() && place.dot as usize == g.items(place.rule).len()
+}
+
+/// Adds the mark of an item that stands at the end of its rule.
+fn whole_at(g: &Gram, set: u32, item: Item, marks: &mut Vec<(SpanKey, u32)>) -> Result<(), Memory>
+    requires { item.state < length (all_places g.now) }
+    ensures { OnOk result (Appends (WholeAt g.now set item) marks.old.items marks.new.items) }
+{
+    let place = g.place(item.state);
+    if is_end(g, place) {
+        let key = SpanKey {
+            what: What::Whole(g.non_of(place.rule)),
+            start: item.origin,
+            end: set,
+        };
+        marks.push((key, place.rule))?;
+    }
+    Ok(())
+}
+
+/// Adds the marks of the rules that are finished in the set.
+fn wholes_in(
+    g: &Gram,
+    chart: &Chart,
+    set: u32,
+    marks: &mut Vec<(SpanKey, u32)>,
+) -> Result<(), Memory>
+    requires set { set < length chart.now.sets }
+    requires places { HasPlaces g.now chart.now.sets }
+    ensures { OnOk result (Appends (InSet (WholeAt g.now) chart.now.sets set (length (set_at chart.now.sets set))) marks.old.items marks.new.items) }
+{
+    'items: for k in 0..chart.len(set) {
+        whole_at(g, set, chart.item(set, k), marks)?;
+    }
+    Ok(())
+}
+
+/// Adds the marks of the rules that are finished: a label for each stretch of a nonterminal, with
+/// the rule.
+pub(crate) fn wholes(g: &Gram, chart: &Chart, marks: &mut Vec<(SpanKey, u32)>) -> Result<(), Memory>
+    requires places { HasPlaces g.now chart.now.sets }
+    ensures { OnOk result (Appends (InSets (WholeAt g.now) chart.now.sets (length chart.now.sets)) marks.old.items marks.new.items) }
+{
+    'sets: for set in 0..chart.sets() {
+        wholes_in(g, chart, set, marks)?;
+    }
+    Ok(())
+}
+
+/// Adds a mark of the place for each of the ends.
+fn push_ends(
+    what: What,
+    start: u32,
+    place: u32,
+    ends: &[u32],
+    marks: &mut Vec<(SpanKey, u32)>,
+) -> Result<(), Memory>
+    ensures { OnOk result (marks.new.items ≡ marks.old.items ++ map (λ end. (key_at what start end, place)) ends.now) }
+{
+    'ends: for end in ends {
+        let key = SpanKey {
+            what,
+            start,
+            end: *end,
+        };
+        marks.push((key, place))?;
+    }
+    Ok(())
+}
+
+/// Adds the marks of an item that stands before an item of its rule: one for each place where
+/// that may end.
+fn fronts_at(
+    alloc: Global,
+    g: &Gram,
+    doc: &Word,
+    calls: &Groups<Call>,
+    set: u32,
+    item: Item,
+    marks: &mut Vec<(SpanKey, u32)>,
+) -> Result<(), Memory>
+    requires built { IsBuilt g.now }
+    requires once { EndOnce calls.now }
+    requires short { length doc.now < 4294967295 }
+    requires within { set ≤ length doc.now }
+    requires place { item.state < length (all_places g.now) }
+    ensures { OnOk result (Appends (FrontFrom g.now doc.now calls.now set item) marks.old.items marks.new.items) }
+{
+    let place = g.place(item.state);
+    let items = g.items(place.rule);
+    match place.inside {
+        Some(_) => Ok(()),
+        None => {
+            if place.dot as usize == items.len() {
+                return Ok(());
+            }
+            let ends = ends_of(alloc, g, doc, calls, &items[place.dot as usize], set)?;
+            let what = What::Front {
+                rule: place.rule,
+                dot: place.dot + 1,
+            };
+            push_ends(what, item.origin, set, &ends, marks)?;
+            Ok(())
+        }
+    }
+}
+
+/// Adds the marks of the items of the set that stand before an item of their rule.
+fn fronts_in(
+    alloc: Global,
+    g: &Gram,
+    chart: &Chart,
+    doc: &Word,
+    calls: &Groups<Call>,
+    set: u32,
+    marks: &mut Vec<(SpanKey, u32)>,
+) -> Result<(), Memory>
+    requires built { IsBuilt g.now }
+    requires once { EndOnce calls.now }
+    requires short { length doc.now < 4294967295 }
+    requires within { set ≤ length doc.now }
+    requires set { set < length chart.now.sets }
+    requires places { HasPlaces g.now chart.now.sets }
+    ensures { OnOk result (Appends (InSet (FrontFrom g.now doc.now calls.now) chart.now.sets set (length (set_at chart.now.sets set))) marks.old.items marks.new.items) }
+{
+    'items: for k in 0..chart.len(set) {
+        fronts_at(alloc, g, doc, calls, set, chart.item(set, k), marks)?;
+    }
+    Ok(())
+}
+
+/// Adds the marks of first items: a label for each stretch of them, with a place where the last of
+/// them may begin.
+pub(crate) fn fronts(
+    alloc: Global,
+    g: &Gram,
+    chart: &Chart,
+    doc: &Word,
+    calls: &Groups<Call>,
+    marks: &mut Vec<(SpanKey, u32)>,
+) -> Result<(), Memory>
+    requires built { IsBuilt g.now }
+    requires once { EndOnce calls.now }
+    requires short { length doc.now < 4294967295 }
+    requires counted { length chart.now.sets ≤ length doc.now + 1 }
+    requires places { HasPlaces g.now chart.now.sets }
+    ensures { OnOk result (Appends (InSets (FrontFrom g.now doc.now calls.now) chart.now.sets (length chart.now.sets)) marks.old.items marks.new.items) }
+{
+    'sets: for set in 0..chart.sets() {
+        fronts_in(alloc, g, chart, doc, calls, set, marks)?;
+    }
+    Ok(())
+}

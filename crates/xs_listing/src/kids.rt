@@ -1,0 +1,99 @@
+ghost use Rattle.std.specs.Prelude.{◌≡◌, ◌<◌, ◌≤◌, ◌++◌, ◌∷◌, [], length, slice_range, IfOk, OnOk};
+ghost use Rattle.xs_gram.specs.Grammar.{items, slots};
+ghost use Rattle.xs_tree.specs.declared.part.TreePart.TheVariants.{Leaf};
+ghost use Rattle.xs_gram.specs.Common.{named};
+ghost use Rattle.xs_gram.specs.Sound.{IsBuilt};
+ghost use Rattle.xs_unfold.specs.Forest.{IsRight, Unfolding, read};
+ghost use Rattle.xs_unfold.specs.First.{IsFirst};
+ghost use Rattle.xs_listing.specs.Making.{CanPlace, IsPlaced, CanGather, Extends, Fills};
+
+use crate::rows::{Step, first_step};
+use std::alloc::Global;
+use xs_class::{Memory, Word};
+use xs_forest::{Alt, Forest};
+use xs_gram::{GItem, Gram};
+use xs_tree::Builder;
+use xs_unfold::SpanKey;
+
+// The number of slots of the items.
+fn slot_count(items: &[GItem]) -> usize
+    ensures { result ≡ length (slots items.now) }
+{
+    let mut count = 0;
+    'items: for item in items {
+        match item {
+            GItem::Fixed(_) | GItem::Skip { .. } => (),
+            GItem::Term { .. } | GItem::Non { .. } => count += 1,
+        }
+    }
+    count
+}
+
+// A new leaf with the word of a stretch of the document.
+fn add_leaf(alloc: Global, doc: &Word, step: &Step, builder: &mut Builder) -> Result<u64, Memory>
+    requires start { step.now.start ≤ step.now.end }
+    requires end { step.now.end ≤ length doc.now }
+    ensures number { IfOk result (λ number. number ≡ length builder.old) }
+    ensures added { OnOk result (builder.new ≡ builder.old ++ Leaf (slice_range doc.now step.now.start step.now.end) ∷ []) }
+{
+    let stretch = &doc.as_slice()[step.start as usize..step.end as usize];
+    let word = Word::of(alloc, stretch)?;
+    let number = builder.leaf(&word)?;
+    Ok(number)
+}
+
+// Puts an item among the kids.
+fn place(
+    alloc: Global,
+    doc: &Word,
+    numbers: &[u64],
+    item: &GItem,
+    step: &Step,
+    builder: &mut Builder,
+    kids: &mut [u64],
+) -> Result<(), Memory>
+    requires { CanPlace doc.now numbers.now (length kids.old) item.now step.now }
+    ensures { OnOk result (IsPlaced doc.now numbers.now item.now step.now builder.old kids.old builder.new kids.new) }
+{
+    match item {
+        GItem::Fixed(_) | GItem::Skip { .. } => (),
+        GItem::Term { slot, .. } => {
+            let number = add_leaf(alloc, doc, step, builder)?;
+            kids[*slot as usize] = number;
+        }
+        GItem::Non { slot, .. } => kids[*slot as usize] = numbers[step.right.unwrap() as usize],
+    }
+    Ok(())
+}
+
+/// The parts of a node's kids in the order of the slots, with a new leaf for each word of a
+/// terminal, in time linear in the rule's items and the words.
+pub(crate) fn kids_of(
+    alloc: Global,
+    g: &Gram,
+    doc: &Word,
+    forest: &Forest<'_, SpanKey>,
+    numbers: &[u64],
+    alt: Alt,
+    builder: &mut Builder,
+) -> Result<Vec<u64>, Memory>
+    requires built { IsBuilt g.now }
+    requires right { IsRight g.now doc.now forest.now }
+    requires rule { alt.rule < length g.now.rules }
+    requires gather { CanGather g.now doc.now forest.now builder.old numbers.now alt.rule alt.left }
+    ensures long { IfOk result (λ kids. length kids.items ≡ length (slots (items g.now alt.rule))) }
+    ensures extends { OnOk result (Extends builder.old builder.new) }
+    ensures kids { IfOk result (λ kids. (u : Unfolding) → IsFirst forest.now alt.left u → Fills builder.new kids.items (named g.now (items g.now alt.rule) (read g.now doc.now forest.now alt.left u))) }
+{
+    let items = g.items(alt.rule);
+    let mut kids = vec![in alloc; 0; slot_count(items)]?;
+    let mut dot = items.len();
+    let mut front = alt.left;
+    'fronts: while dot > 0 {
+        dot -= 1;
+        let step = first_step(forest, front.unwrap());
+        place(alloc, doc, numbers, &items[dot], &step, builder, &mut kids)?;
+        front = step.left;
+    }
+    Ok(kids)
+}

@@ -1,0 +1,116 @@
+ghost use Rattle.std.specs.Prelude.{◌≡◌, ℕ, ◌<◌, ◌≤◌, length, All, IfOk, OnOk};
+ghost use Rattle.xs_gram.specs.Grammar.{items};
+ghost use Rattle.xs_forest.specs.Rows.{IsEarlier};
+ghost use Rattle.xs_unfold.specs.declared.span.What.TheVariants.{Front};
+ghost use Rattle.xs_unfold.specs.Forest.{IsRight};
+ghost use Rattle.xs_unfold.specs.Number.{count_of};
+ghost use Rattle.xs_listing.specs.Writing.{IsSource, HasChild, CanDo};
+
+use crate::rows::{alts_at, label_at};
+use crate::write::{Source, Task, push_child, visit};
+use std::alloc::Global;
+use xs_class::{Memory, Word};
+use xs_forest::{Alt, Forest};
+use xs_gram::{GItem, Gram};
+use xs_unfold::{SpanKey, What};
+
+// How many parts an item's word is.
+fn word_size(item: &GItem) -> u64 {
+    match item {
+        GItem::Fixed(_) | GItem::Non { .. } => 0,
+        GItem::Term { .. } | GItem::Skip { .. } => 1,
+    }
+}
+
+// How many parts a child's unfolding by first alternatives has.
+fn child_size(sizes: &[u64], child: Option<u64>) -> u64
+    requires { IsEarlier child (length sizes.now) }
+{
+    match child {
+        None => 0,
+        Some(row) => sizes[row as usize],
+    }
+}
+
+// How many parts come behind those of the left child.
+fn last_size(g: &Gram, sizes: &[u64], what: What, alt: Alt) -> u64
+    requires right { IsEarlier alt.right (length sizes.now) }
+    requires dotted { (p d : ℕ) → what ≡ Front p d → (0 < d) × (d ≤ length (items g.now p)) }
+{
+    match what {
+        What::Whole(_) => 1,
+        What::Front { rule, dot } => match alt.right {
+            Some(_) => child_size(sizes, alt.right),
+            None => word_size(&g.items(rule)[dot as usize - 1]),
+        },
+    }
+}
+
+/// How many parts the unfolding of each row by first alternatives has, at most 2^64 less 1, in time
+/// linear in the rows.
+pub(crate) fn first_sizes(
+    alloc: Global,
+    g: &Gram,
+    doc: &Word,
+    forest: &Forest<'_, SpanKey>,
+) -> Result<Vec<u64>, Memory>
+    requires { IsRight g.now doc.now forest.now }
+    ensures { IfOk result (λ sizes. length sizes.items ≡ length forest.now) }
+{
+    let rows = forest.len();
+    let mut sizes = Vec::with_capacity(alloc, rows as usize)?;
+    'rows: for row in 0..rows {
+        let size = match alts_at(forest, row).first() {
+            None => 0,
+            Some(alt) => {
+                let left = child_size(&sizes, alt.left);
+                let last = last_size(g, &sizes, label_at(forest, row).what, *alt);
+                left.saturating_add(last)
+            }
+        };
+        sizes.push(size)?;
+    }
+    Ok(sizes)
+}
+
+// How many parts a task writes at once; what it leaves to be counted goes to the tasks.
+fn count_task(source: &Source<'_, '_>, task: Task, tasks: &mut Vec<Task>) -> Result<u64, Memory>
+    requires source { IsSource source.now }
+    requires can { CanDo source.now task 0 }
+    requires all { All (λ t. CanDo source.now t 0) tasks.old.items }
+    ensures { OnOk result (All (λ t. CanDo source.now t 0) tasks.new.items) }
+{
+    match task {
+        Task::Visit { row, number: 0 } => Ok(source.sizes[row as usize]),
+        Task::Visit { row, number } => {
+            visit(source, row, number, 0, tasks)?;
+            Ok(0)
+        }
+        Task::Word { rule, dot, .. } => Ok(word_size(&source.g.items(rule)[dot as usize])),
+        Task::Close { .. } => Ok(1),
+    }
+}
+
+/// How many parts an unfolding of a child has by its number, at most 2^64 less 1. Unfoldings by
+/// first alternatives are not walked through, so that the time is linear in the rows.
+pub(crate) fn size_of(
+    alloc: Global,
+    source: &Source<'_, '_>,
+    child: Option<u64>,
+    number: u64,
+) -> Result<u64, Memory>
+    requires source { IsSource source.now }
+    requires child { HasChild source.now child }
+    requires within { number < count_of source.now.counts.now child }
+{
+    let mut size: u64 = 0;
+    let mut tasks = Vec::new(alloc);
+    push_child(child, number, &mut tasks)?;
+    'tasks: for _ in 0..u64::MAX {
+        match tasks.pop() {
+            None => return Ok(size),
+            Some(task) => size = size.saturating_add(count_task(source, task, &mut tasks)?),
+        }
+    }
+    Err(Memory)
+}

@@ -1,0 +1,33 @@
+use std::error::Error;
+use std::fmt;
+use xs_class::Memory;
+
+/// Why nonterminals have no order.
+#[derive(Clone, Copy, Debug, PartialEq, Eq)]
+pub enum OrderFault {
+    /// The nonterminal derives itself alone, and no smaller one does.
+    Loop { non: u32 },
+    Memory,
+}
+
+impl fmt::Display for OrderFault {
+    fn fmt<W: fmt::Write>(&self, f: &mut fmt::Formatter<W>) -> fmt::Result {
+        match self {
+            OrderFault::Loop { non } => write!(f, "nonterminal {non} derives itself alone"),
+            OrderFault::Memory => write!(f, "out of memory"),
+        }
+    }
+}
+
+impl Error for OrderFault {}
+
+impl From<Memory> for OrderFault {
+    ghost use Rattle.std.specs.Prelude.{◌≡◌};
+    ghost use Rattle.xs_order.specs.declared.fault.OrderFault.TheVariants as fault;
+
+    ghost from_gives = { λ _ e. e ≡ fault.Memory };
+
+    fn from(_: Memory) -> Self {
+        OrderFault::Memory
+    }
+}

@@ -1,0 +1,5 @@
+use Rattle.xs_sheet.proofs.Spaced.{items_on}
+use Rattle.xs_sheet.proofs.writer.push_items.Goals as goal
+
+pub items-preserved : goal.items-preserved
+items-preserved c = items_on c.args.page.now c.items.page c.push_item.new.page c.args.items.now c.items.item-index c.item-item.result c.items-test.true c.item-item.is c.items.invariant c.in_ok-push_item.ensures
