@@ -1,6 +1,8 @@
 -- Where the devices are sure, the sheet well formed and the document of its language, a run is done.
-use Rattle.std.proofs.Common.{◌≡◌, ◌∙◌, ℕ, ◌<◌, ◌≤◌, List, length, Some, None, refl, sym, subst, ap, arith}
+use Rattle.std.proofs.Common.{◌≡◌, ◌∙◌, ℕ, ◌<◌, ◌≤◌, List, length, Some, None, inl, inr, refl, sym, subst, ap, arith}
+use Rattle.std.specs.Prelude.{Result, Ok, Err, IfOk}
 use Rattle.std.specs.declared.option.Option.{Option}
+use Rattle.xs_class.specs.declared.memory.Memory.{Memory as Refusal}
 use Rattle.std.specs.Str.{IsUtf8}
 use Rattle.xs_io.specs.Whole.{Drains, Exceeds}
 use Rattle.xs_class.specs.declared.side.Side.{Side}
@@ -113,21 +115,12 @@ module _ (law : OneReading) (run : Run) (honest : IsHonest run) where
   went_done DocLong comes = absurd (not_stopped DocLong comes)
 
   told_done : (o result : Outcome) → Comes run o → Tells run.notes o result → result ≡ Done
-  told_done o (NoteFault of written) comes tells = absurd (honest.notes_sure tells.rose)
-  told_done o Done comes tells = tells.0 ∙ went_done o comes
-  told_done o (Foreign viable) comes tells = tells.0 ∙ went_done o comes
-  told_done o SheetLong comes tells = tells.0 ∙ went_done o comes
-  told_done o (SheetBad at) comes tells = tells.0 ∙ went_done o comes
-  told_done o (SheetIll ill) comes tells = tells.0 ∙ went_done o comes
-  told_done o (Heavy weight) comes tells = tells.0 ∙ went_done o comes
-  told_done o (Suspect report) comes tells = tells.0 ∙ went_done o comes
-  told_done o (NotUtf8 at) comes tells = tells.0 ∙ went_done o comes
-  told_done o (NotXml at) comes tells = tells.0 ∙ went_done o comes
-  told_done o Usage comes tells = tells.0 ∙ went_done o comes
-  told_done o SheetFault comes tells = tells.0 ∙ went_done o comes
-  told_done o ReadFault comes tells = tells.0 ∙ went_done o comes
-  told_done o (WriteFault written) comes tells = tells.0 ∙ went_done o comes
-  told_done o DocLong comes tells = tells.0 ∙ went_done o comes
+  told_done o result comes (inl told) = told.0 ∙ went_done o comes
+  told_done o result comes (inr (of, written, is, fails)) = absurd (honest.notes_sure fails.rose)
 
 pub complete : OneReading → (run : Run) (result : Outcome) → Told run result → IsComplete run result
 complete law run result (o, went, tells) honest = told_done law run honest o result went.comes tells
+
+pub complete_if : OneReading → (run : Run) (r : Result Outcome Refusal) → IfOk r (Told run) → IfOk r (IsComplete run)
+complete_if law run (Ok result) told = complete law run result told
+complete_if law run (Err e) told = told

@@ -1,9 +1,13 @@
 -- How a run goes, by what its steps did.
-use Rattle.std.proofs.Common.{◌≡◌, ℕ, List, [], ◌∷◌, ◌++◌, Some, None, IsSome, sym, refl, append-nil}
-use Rattle.std.specs.Prelude.{Result, Ok, Err, IfErr}
+use Rattle.std.proofs.Common.{◌≡◌, ℕ, ◌<◌, List, [], ◌∷◌, ◌++◌, length, take, Some, None, IsSome, inl, inr, sym, subst, refl, append-nil}
+use Rattle.std.specs.Prelude.{Result, Ok, Err, IfErr, IfOk, Contains}
 use Rattle.std.specs.declared.option.Option.{Option}
 use Rattle.std.specs.Io.KnownBytes.{Appends, IsAtEnd}
+use Rattle.xs_io.specs.Causes.{Rose}
 use Rattle.xs_io.specs.Whole.{Drains}
+use Rattle.xs_class.specs.Ordered.{AreNamesOf}
+use Rattle.xs_class.specs.declared.memory.Memory.{Memory as Refusal}
+use Rattle.xs_talk.specs.Lines.{line}
 use Rattle.xs_pair.specs.Grammars.{Pair}
 use Rattle.xs_talk.specs.declared.outcome.Outcome.{Outcome}
 use Rattle.xs_talk.specs.declared.outcome.Outcome.TheVariants.{Done, Foreign, SheetLong, SheetBad, SheetIll, Heavy, Suspect, NotUtf8, NotXml, Usage, SheetFault, ReadFault, WriteFault, NoteFault, DocLong}
@@ -13,7 +17,7 @@ use Rattle.xs_top.specs.Answers.{IsUnread, side_of, form_of}
 use Rattle.xs_top.specs.declared.stop.Stop.{Stop}
 use Rattle.xs_top.specs.declared.stop.Stop.TheVariants.{Refused, Memory}
 use Rattle.xs_top.specs.Stops.{StopsBy}
-use Rattle.xs_top.specs.Ran.{HasPair, Takes, HasAnswer, IsStop, ReadAll, Went, Took, Told, Tells}
+use Rattle.xs_top.specs.Ran.{HasPair, Takes, HasAnswer, IsStop, ReadAll, Went, Took, IsWritten, Told, Tells, FailsAtNotes, status_of}
 
 pub drained : (old new : Option (List ℕ)) (text : List ℕ) (limit : ℕ) → Drains old new text limit → IsSome old → IsAtEnd new
 drained None new text limit drains told = cc
@@ -86,3 +90,32 @@ stopped_went run ask (NoteFault of written) is stop took = record { comes = (ask
 stopped_went run ask Done is stop took = let (p, has, bytes, takes, unread) = stop.refused in absurd unread
 stopped_went run ask (WriteFault written) is stop took = let (p, has, bytes, takes, unread) = stop.refused in absurd unread
 stopped_went run ask Usage is stop took = let (p, has, bytes, takes, unread) = stop.refused in absurd unread
+
+-- an answer that was written, and told where out failed
+pub answered_told : (run : Run) (ask : Ask) (answer bytes : List ℕ) (result : Outcome) → asked run.words ≡ Some ask → HasAnswer run.inputs ask answer → ReadAll run.inputs → bytes ≡ answer → IsWritten run.out run.notes bytes result → Told run result
+answered_told run ask answer bytes result is has read same (o, took, tells) = (o, written_went run ask answer o is has read (subst (λ (b : List ℕ). Took run.out b o) same took), tells)
+
+-- a run that went no further, and told it
+pub stopped_told : (run : Run) (ask : Ask) (stop : Stop) (o : Outcome) (r : Result Outcome Refusal) → asked run.words ≡ Some ask → StopsBy (IsStop run.inputs ask) stop → stop ≡ Refused o → TookNothing run.out → IfOk r (Tells run.notes o) → IfOk r (Told run)
+stopped_told run ask stop o (Ok result) is stops same took tells = (o, stopped_went run ask o is (subst (λ s. StopsBy (IsStop run.inputs ask) s) same stops) took, tells)
+stopped_told run ask stop o (Err e) is stops same took tells = tells
+
+-- what notes took
+pub told_all : (notes : Output) (o : Outcome) (bytes : List ℕ) → bytes ≡ line [] o → Appends notes.taken_before notes.taken_now bytes → Tells notes o o
+told_all notes o bytes is appends = inl (refl, subst (λ (b : List ℕ). Appends notes.taken_before notes.taken_now b) is appends)
+
+pub told_part : (notes : Output) (o : Outcome) (of written : ℕ) (bytes : List ℕ) → bytes ≡ line [] o → of ≡ status_of o → Appends notes.taken_before notes.taken_now (take written bytes) → written < length bytes → Rose notes.faults_before notes.faults_now → Tells notes o (NoteFault of written)
+told_part notes o of written bytes is status appends shorter rose = inr (of, written, refl, record {
+  status = status;
+  taken = subst (λ (b : List ℕ). Appends notes.taken_before notes.taken_now (take written b)) is appends;
+  shorter = subst (λ (b : List ℕ). written < length b) is shorter;
+  rose = rose;
+})
+
+-- a list of names without names
+pub no_names : (names : List (List ℕ)) → AreNamesOf [] names → names ≡ []
+no_names [] are = refl
+no_names (n ∷ ns) are = absurd (nothing n (are.same n).0 (0, refl))
+  where
+    nothing : (name : List ℕ) → (Contains (n ∷ ns) name → Contains [] name) → Contains (n ∷ ns) name → ⊥
+    nothing name to has = ?

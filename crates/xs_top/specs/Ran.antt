@@ -1,5 +1,5 @@
 -- What a run did, outcome by outcome.
-use Rattle.std.specs.Prelude.{◌≡◌, ◌≢◌, ℕ, ◌<◌, ◌≤◌, List, [], take, length, None, Some, IsSome}
+use Rattle.std.specs.Prelude.{◌≡◌, ◌⊎◌, ℕ, ◌<◌, ◌≤◌, List, [], take, length, None, Some, IsSome}
 use Rattle.std.specs.Io.KnownBytes.{Appends, IsAtEnd}
 use Rattle.std.specs.Str.{IsUtf8}
 use Rattle.xs_io.specs.Causes.{Rose}
@@ -121,8 +121,7 @@ pub record FailsAtNotes (notes : Output) (o : Outcome) (of written : ℕ) : Type
 
 -- notes took the line of the outcome, which is answered; or it failed
 abbrev pub Tells : Output → Outcome → Outcome → Type 0
-Tells notes o (NoteFault of written) = FailsAtNotes notes o of written
-Tells notes o answer = (answer ≡ o) × Appends notes.taken_before notes.taken_now (line [] o)
+Tells notes o answer = ((answer ≡ o) × Appends notes.taken_before notes.taken_now (line [] o)) ⊎ ((of : ℕ) × (written : ℕ) × (answer ≡ NoteFault of written) × FailsAtNotes notes o of written)
 
 -- what out took of an answer, by the outcome
 abbrev pub Took : Output → List ℕ → Outcome → Type 0
