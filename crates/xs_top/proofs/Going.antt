@@ -1,5 +1,5 @@
 -- How a run goes, by what its steps did.
-use Rattle.std.proofs.Common.{◌≡◌, ℕ, ◌<◌, List, [], ◌∷◌, ◌++◌, length, take, Some, None, IsSome, inl, inr, sym, subst, refl, append-nil}
+use Rattle.std.proofs.Common.{◌≡◌, ℕ, ◌<◌, List, [], ◌∷◌, ◌++◌, length, take, slice_get, Some, None, IsSome, inl, inr, sym, subst, refl, append-nil}
 use Rattle.std.specs.Prelude.{Result, Ok, Err, IfErr, IfOk, Contains}
 use Rattle.std.specs.declared.option.Option.{Option}
 use Rattle.std.specs.Io.KnownBytes.{Appends, IsAtEnd}
@@ -112,10 +112,13 @@ told_part notes o of written bytes is status appends shorter rose = inr (of, wri
   rose = rose;
 })
 
+not_in_none : (name : List ℕ) → Contains [] name → ⊥
+not_in_none name (k, is) = none k is
+  where
+    none : (k : ℕ) → slice_get [] k ≡ Some name → ⊥
+    none k e = cc
+
 -- a list of names without names
 pub no_names : (names : List (List ℕ)) → AreNamesOf [] names → names ≡ []
 no_names [] are = refl
-no_names (n ∷ ns) are = absurd (nothing n (are.same n).0 (0, refl))
-  where
-    nothing : (name : List ℕ) → (Contains (n ∷ ns) name → Contains [] name) → Contains (n ∷ ns) name → ⊥
-    nothing name to has = ?
+no_names (n ∷ ns) are = absurd (not_in_none n ((are.same n).0 (0, refl)))
