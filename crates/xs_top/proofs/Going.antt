@@ -1,5 +1,5 @@
 -- How a run goes, by what its steps did.
-use Rattle.std.proofs.Common.{◌≡◌, ℕ, ◌<◌, List, [], ◌∷◌, ◌++◌, length, take, slice_get, Some, None, IsSome, inl, inr, sym, subst, refl, append-nil}
+use Rattle.std.proofs.Common.{◌≡◌, ℕ, ◌<◌, List, [], ◌∷◌, ◌++◌, length, take, arith, Some, None, IsSome, inl, inr, sym, subst, refl, append-nil}
 use Rattle.std.specs.Prelude.{Result, Ok, Err, IfErr, IfOk, Contains}
 use Rattle.std.specs.declared.option.Option.{Option}
 use Rattle.std.specs.Io.KnownBytes.{Appends, IsAtEnd}
@@ -58,7 +58,7 @@ module _ (i : Inputs) (ask : Ask) (p : Pair) (bytes : List ℕ) (has : HasPair i
 -- an answer that was written
 pub written_went : (run : Run) (ask : Ask) (answer : List ℕ) (o : Outcome) → asked run.words ≡ Some ask → HasAnswer run.inputs ask answer → ReadAll run.inputs → Took run.out answer o → Went run o
 written_went run ask answer Done is has read took = record { comes = (answer, record { ask = ask; is = is; has = has }, took); wrote = cc; read = read }
-written_went run ask answer (WriteFault written) is has read took = record { comes = (answer, record { ask = ask; is = is; has = has }, took); wrote = cc; read = read }
+written_went run ask answer (WriteFault written) is has read took = record { comes = (answer, record { ask = ask; is = is; has = has }, took.0, took.1, took.2); wrote = cc; read = read }
 written_went run ask answer (Foreign viable) is has read took = absurd took
 written_went run ask answer SheetLong is has read took = absurd took
 written_went run ask answer (SheetBad at) is has read took = absurd took
@@ -113,12 +113,9 @@ told_part notes o of written bytes is status appends shorter rose = inr (of, wri
 })
 
 not_in_none : (name : List ℕ) → Contains [] name → ⊥
-not_in_none name (k, is) = none k is
-  where
-    none : (k : ℕ) → slice_get [] k ≡ Some name → ⊥
-    none k e = cc
+not_in_none name (k, below, is) = omega (arith, below)
 
 -- a list of names without names
 pub no_names : (names : List (List ℕ)) → AreNamesOf [] names → names ≡ []
 no_names [] are = refl
-no_names (n ∷ ns) are = absurd (not_in_none n ((are.same n).0 (0, refl)))
+no_names (n ∷ ns) are = absurd (not_in_none n ((are.same n).0 (0, omega arith, refl)))
