@@ -20,8 +20,7 @@ pub fn put(chart: &mut Chart, g: &Gram, at: u32, place: Place, origin: u32) -> R
     ensures waits { IfOk result (λ _. chart.new.waits ≡ chart.old.waits) }
 {
     let state = g.number(place);
-    let added = chart.add(Item { state, origin })?;
-    let _ = added;
+    chart.add(Item { state, origin })?;
     Ok(())
 }
 

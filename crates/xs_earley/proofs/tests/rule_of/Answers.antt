@@ -1,4 +1,4 @@
-use Rattle.std.proofs.Common.{◌≡◌, ℕ, ◌+◌, List, [], ◌∷◌, ◌++◌, sym, subst}
+use Rattle.std.proofs.Common.{◌+◌, List, [], ◌∷◌, ◌++◌, sym, subst}
 use Rattle.xs_gram.specs.declared.parts.GItem.{GItem}
 use Rattle.xs_earley.proofs.Samples.{Begins, begins_more}
 use Rattle.xs_earley.proofs.tests.rule_of.Goals as goal

@@ -1,4 +1,4 @@
-use Rattle.std.proofs.Common.{◌≡◌, ℕ, ◌+◌, ◌∙◌, List, sym, subst}
+use Rattle.std.proofs.Common.{◌+◌, ◌∙◌, List, sym, subst}
 use Rattle.xs_gram.specs.declared.parts.RulePart.{RulePart}
 use Rattle.xs_earley.proofs.Samples.{Gathered, gathered_same, gathered_more}
 use Rattle.xs_earley.proofs.tests.rules_of.Goals as goal
