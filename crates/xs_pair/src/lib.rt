@@ -1,0 +1,20 @@
+//! Two grammars of one sheet: the text side and the XML side, rule by rule.
+//!
+//! A sheet has two grammars where the first seven rules of a well-formed sheet hold. All twelve rules
+//! are named here.
+#![tactic(auto)]
+
+mod directory;
+mod fault;
+mod flat;
+mod ill;
+mod mark;
+mod names;
+mod production;
+
+pub use directory::Directory;
+pub use fault::PairFault;
+pub use ill::{Ill, IllRule};
+pub use mark::{Mark, Marks};
+pub use names::{Sort, firsts, is_of, names_of, unit_line, unit_name};
+pub use production::{Rule, names_in, rules_of};
