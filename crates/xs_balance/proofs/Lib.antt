@@ -1,0 +1,4 @@
+pub mod Lists
+pub mod Characters
+pub mod Spelling
+pub mod Texts
