@@ -1,5 +1,5 @@
 -- What holds of each element of a list.
-use Rattle.std.proofs.Common.{◌≡◌, ℕ, zero, suc, List, [], ◌∷◌, ◌++◌, map, get_or, take, drop, Some, refl}
+use Rattle.std.proofs.Common.{◌≡◌, ◌<◌, ℕ, zero, suc, length, arith, List, [], ◌∷◌, ◌++◌, map, get_or, take, drop, Some, refl}
 use Rattle.std.specs.Prelude.{slice_get}
 use Rattle.std.specs.List.{flat_map, insert}
 use Rattle.xs_gram.specs.Building.{EachOf}
@@ -51,3 +51,24 @@ pub each_inserted : {A : Type 0} (P : A → Type 0) (xs : List A) (k : ℕ) (x :
 each_inserted P xs k x p =
     let back = each_back P (take k xs) (x ∷ drop k xs) p in
     (back.0, each_taken P xs k (each_front P (take k xs) (x ∷ drop k xs) p) back.1)
+
+pub each_take : {A : Type 0} (P : A → Type 0) (xs : List A) (k : ℕ) → EachOf P xs → EachOf P (take k xs)
+each_take P [] zero p = tt
+each_take P [] (suc k) p = tt
+each_take P (x ∷ xs) zero p = tt
+each_take P (x ∷ xs) (suc k) p = (p.0, each_take P xs k p.1)
+
+pub each_drop : {A : Type 0} (P : A → Type 0) (xs : List A) (k : ℕ) → EachOf P xs → EachOf P (drop k xs)
+each_drop P [] zero p = tt
+each_drop P [] (suc k) p = tt
+each_drop P (x ∷ xs) zero p = p
+each_drop P (x ∷ xs) (suc k) p = each_drop P xs k p.1
+
+pub each_of_flat_map : {A B : Type 0} (P : B → Type 0) (f : A → List B) (xs : List A) → EachOf P (flat_map f xs) → EachOf (λ x. EachOf P (f x)) xs
+each_of_flat_map P f [] p = tt
+each_of_flat_map P f (x ∷ xs) p = (each_front P (f x) (flat_map f xs) p, each_of_flat_map P f xs (each_back P (f x) (flat_map f xs) p))
+
+pub each_in : {A : Type 0} (P : A → Type 0) (xs : List A) (k : ℕ) (d : A) → k < length xs → EachOf P xs → P (get_or xs k d)
+each_in P [] k d lt p = absurd (omega arith)
+each_in P (x ∷ xs) zero d lt p = p.0
+each_in P (x ∷ xs) (suc k) d lt p = each_in P xs k d (omega arith) p.1
