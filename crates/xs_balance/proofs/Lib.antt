@@ -6,3 +6,6 @@ pub mod Nested
 pub mod Ascending
 pub mod Cuts
 pub mod Elements
+pub mod Heads
+pub mod Good
+pub mod Documents
