@@ -1,16 +1,16 @@
 -- Attributes in ascending order of their names' numbers.
-use Rattle.std.proofs.Common.{◌≡◌, ◌≢◌, ◌∙◌, ◌⊎◌, ◌<◌, ◌≤◌, ℕ, zero, suc, List, [], ◌∷◌, ◌++◌, map, length, take, drop, get_or, Bool, true, false, cond, ltb, Some, refl, sym, ap, subst, inl, inr, arith, encode_utf8_all, if◌then◌else◌}
+use Rattle.std.proofs.Common.{◌≡◌, ◌≢◌, ◌∙◌, ◌⊎◌, ◌<◌, ◌≤◌, ℕ, suc, List, [], ◌∷◌, map, length, take, drop, get_or, Bool, true, false, cond, ltb, Some, refl, sym, ap, subst, inl, inr, arith, encode_utf8_all, if◌then◌else◌}
 use Rattle.std.specs.Prelude.{slice_get}
 use Rattle.std.specs.List.{insert}
 use Rattle.std.specs.Ordering.{nat_cmp, is_lt, ordering_reverse}
 use Rattle.std.specs.Cmp.Lexicographic.{slice_cmp}
 use Rattle.std.specs.declared.cmp.Ordering.{Ordering}
-use Rattle.std.specs.declared.cmp.Ordering.TheVariants.{Less, Equal, Greater}
+use Rattle.std.specs.declared.cmp.Ordering.TheVariants.{Less, Equal}
 use Rattle.std.proofs.lemmas.Bool.{cases_lt}
 use Rattle.std.proofs.lemmas.Bool.Decides.{nat_tests}
 use Rattle.std.proofs.lemmas.Cmp.{tied_itself, nat_list_cmp_total}
 use Rattle.std.proofs.lemmas.Option.{same_Some, get_or_from_slice_get, slice_get_within}
-use Rattle.xs_class.specs.Ordered.{IsBefore, IsOrdered, place_of}
+use Rattle.xs_class.specs.Ordered.{IsBefore, IsOrdered}
 use Rattle.xs_sheet.specs.declared.x_item.Attr.{Attr}
 use Rattle.xs_gram.specs.Building.{EachOf}
 use Rattle.xs_pair.specs.Rules.{IsAmong, HasRepeat}
@@ -128,7 +128,7 @@ put_insert names up a (b ∷ bs) at are =
     by true rest = refl
     by false rest = ap (λ ns. attr_number names b ∷ ns) rest
 
-each_insert : {A : Type 0} (P : A → Type 0) (xs : List A) (k : ℕ) (x : A) → P x → EachOf P xs → EachOf P (insert xs k x)
+pub each_insert : {A : Type 0} (P : A → Type 0) (xs : List A) (k : ℕ) (x : A) → P x → EachOf P xs → EachOf P (insert xs k x)
 each_insert P xs k x p q = each_append P (take k xs) (x ∷ drop k xs) (each_take P xs k q) (p, each_drop P xs k q)
 
 placed_numbers : (names : List (List ℕ)) → IsOrdered names → (sorted attrs : List Attr) → AreAmong names sorted → AreAmong names attrs → numbers names (placed sorted attrs) ≡ put_all (numbers names sorted) (numbers names attrs)

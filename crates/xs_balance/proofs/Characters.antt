@@ -21,11 +21,11 @@ pub chars_append : (u v : List ℕ) → AreChars u → AreChars v → AreChars (
 chars_append [] v p q = q
 chars_append (c ∷ u) v p q = let both = and_true (is_char c) (all_of is_char u) p in both_true (is_char c) (all_of is_char (u ++ v)) both.0 (chars_append u v both.1 q)
 
-or_left : (a b : Bool) → a ≡ true → (a || b) ≡ true
+pub or_left : (a b : Bool) → a ≡ true → (a || b) ≡ true
 or_left true b is = refl
 or_left false b is = absurd (cc)
 
-or_right : (a b : Bool) → b ≡ true → (a || b) ≡ true
+pub or_right : (a b : Bool) → b ≡ true → (a || b) ≡ true
 or_right true b is = refl
 or_right false b is = is
 

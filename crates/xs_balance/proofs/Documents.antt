@@ -1,6 +1,5 @@
 -- The words of the language of XML documents.
-use Rattle.std.proofs.Common.{◌≡◌, ◌∙◌, ◌<◌, ℕ, List, [], ◌∷◌, map, length, get_or, true, refl, sym, ap, subst, inl, inr}
-use Rattle.xs_class.specs.declared.side.Side.{Side}
+use Rattle.std.proofs.Common.{◌≡◌, ◌∙◌, ◌<◌, ℕ, List, [], ◌∷◌, map, length, true, refl, sym, subst, inl, inr}
 use Rattle.xs_class.specs.declared.side.Side.TheVariants.{Xml}
 use Rattle.xs_class.specs.Ordered.{IsOrdered}
 use Rattle.xs_sheet.specs.declared.x_item.XItem.{XItem}
@@ -13,7 +12,6 @@ use Rattle.xs_gram.specs.declared.parts.RulePart.{RulePart}
 use Rattle.xs_gram.specs.Grammar.{Grammar, items, rule_of, no_rule}
 use Rattle.xs_gram.specs.Derivations.{Parts, done, fixed, leaf, skip, sub, FitsItems, parts_yield}
 use Rattle.xs_gram.specs.Building.{EachOf}
-use Rattle.xs_gram.specs.Languages.{InLang}
 use Rattle.xs_xml_out.specs.Balanced.{IsContent, IsBalanced}
 use Rattle.xs_pair.specs.declared.mark.Mark.{Mark}
 use Rattle.xs_pair.specs.declared.names.Sort.TheVariants as S
@@ -22,7 +20,7 @@ use Rattle.xs_pair.specs.Rules.{IsAmong}
 use Rattle.xs_pair.specs.Listing.{rules_of}
 use Rattle.xs_pair.specs.Marks.{all_marks, is_element, slot_names}
 use Rattle.xs_pair.specs.Units.{names_of, nons_of, number_of}
-use Rattle.xs_pair.specs.Grammars.{Numbering, numbering, flat_marks, rule_part, IsGramOf, Pair, IsPairOf}
+use Rattle.xs_pair.specs.Grammars.{Numbering, numbering, flat_marks, rule_part, Pair, IsPairOf}
 use Rattle.xs_pair.proofs.Places.{found_there, among_or_absent}
 use Rattle.xs_balance.specs.Laws.{IsWritable, DocumentsAreBalanced}
 use Rattle.xs_balance.proofs.Lists.{each_at, each_in, each_weaker}
@@ -67,13 +65,13 @@ together n start (r ∷ rules) shaped good root among = (record { shaped = shape
 
 xml_rule : (n : Numbering) (start : List ℕ) → IsAmong n.nons start → (r : Rule) → IsReady n start r → IsXmlRule n (number_of n.nons start) (rule_part n Xml r)
 xml_rule n start there r ready = record {
-      marks = r.right;
-      slots = slot_names r.left;
-      nested = subst IsNested (sym ready.shaped.1) (all_nested ready.shaped.0);
-      good = ready.good;
-      is_flat = refl;
-      root = λ same. subst IsElement (sym ready.shaped.1) (root_element ready.shaped.0 (sym ready.shaped.2 ∙ ready.root (same_number n.nons r.name start ready.among there same)))
-    }
+  marks = r.right;
+  slots = slot_names r.left;
+  nested = subst IsNested (sym ready.shaped.1) (all_nested ready.shaped.0);
+  good = ready.good;
+  is_flat = refl;
+  root = λ same. subst IsElement (sym ready.shaped.1) (root_element ready.shaped.0 (sym ready.shaped.2 ∙ ready.root (same_number n.nons r.name start ready.among there same)));
+}
 
 xml_rules : (n : Numbering) (start : List ℕ) → IsAmong n.nons start → (rules : List Rule) → EachOf (IsReady n start) rules → EachOf (IsXmlRule n (number_of n.nons start)) (map (rule_part n Xml) rules)
 xml_rules n start there [] ready = tt
@@ -82,9 +80,9 @@ xml_rules n start there (r ∷ rules) ready = (xml_rule n start there r ready.0,
 -- the start is a nonterminal
 start_among : (s : Sheet) → IsWritable s → IsAmong (nons_of s.units) s.start
 start_among s well = elim (among_or_absent (names_of S.Production s.units) s.start) [
-    | inl among ↦ head_among s.units s.start among.0 (found_there (names_of S.Production s.units) s.start among.0 among.1)
-    | inr absent ↦ absurd (well.start s.start_line (absent, refl))
-  ]
+  | inl among ↦ head_among s.units s.start among.0 (found_there (names_of S.Production s.units) s.start among.0 among.1)
+  | inr absent ↦ absurd (well.start s.start_line (absent, refl))
+]
 
 -- of a grammar whose rules all have good marks
 abbrev Rules : Numbering → ℕ → Grammar → Type 0

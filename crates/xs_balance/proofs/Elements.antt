@@ -1,10 +1,9 @@
 -- The words of elements laid out flat.
-use Rattle.std.proofs.Common.{◌≡◌, ◌∙◌, ◌<◌, ◌≤◌, ℕ, suc, List, [], ◌∷◌, ◌++◌, map, length, Some, refl, sym, ap, subst, append_assoc}
+use Rattle.std.proofs.Common.{◌≡◌, ◌∙◌, ◌<◌, ℕ, suc, List, [], ◌∷◌, ◌++◌, map, length, refl, sym, ap, subst, append_assoc}
 use Rattle.std.specs.declared.option.Option.{Option}
-use Rattle.std.specs.List.{flat_map}
 use Rattle.std.proofs.lemmas.List.Concat.{flat_map-append}
 use Rattle.xs_class.specs.Marks.{attr_end, opening_mark, attribute_mark, closing_mark}
-use Rattle.xs_class.specs.Ordered.{IsOrdered, place_of}
+use Rattle.xs_class.specs.Ordered.{IsOrdered}
 use Rattle.xs_sheet.specs.declared.item.Item.{Item}
 use Rattle.xs_sheet.specs.declared.item.Item.TheVariants as I
 use Rattle.xs_sheet.specs.declared.x_item.Attr.{Attr}
@@ -18,7 +17,7 @@ use Rattle.xs_xml_out.specs.Balanced.{IsContent, nothing, element, attributes_wo
 use Rattle.xs_xml_out.specs.Balanced.{Attribute as XAttribute}
 use Rattle.xs_pair.specs.declared.mark.Mark.{Mark}
 use Rattle.xs_pair.specs.declared.mark.Mark.TheVariants.{Opening, Attribute, AttributeEnd, Closing, Value, Content}
-use Rattle.xs_pair.specs.Marks.{attr_marks, attrs_marks, attr_names, by_name, opening_marks}
+use Rattle.xs_pair.specs.Marks.{attr_marks, attrs_marks, by_name, opening_marks}
 use Rattle.xs_pair.specs.Units.{number_of}
 use Rattle.xs_pair.specs.Rules.{IsAmong, HasRepeat}
 use Rattle.xs_pair.specs.Grammars.{Numbering, named_item, fixed_item, flat_item, flat_mark, flat_marks}
@@ -29,7 +28,7 @@ use Rattle.xs_balance.proofs.Texts.{text_item}
 use Rattle.xs_balance.proofs.Nested as N
 use Rattle.xs_balance.proofs.Nested.{IsNested, IsElement}
 use Rattle.xs_balance.proofs.Ascending.{Rises, numbers, attr_number, AreAmong, among_below, sorted_rise}
-use Rattle.xs_balance.proofs.Cuts.{HasContent, Cut, cut, Behind, behind, attributes_more, content_append, IsValueItem, value_word, content_word}
+use Rattle.xs_balance.proofs.Cuts.{HasContent, cut, behind, attributes_more, content_append, IsValueItem, value_word, content_word}
 
 -- a string of characters of XML, a terminal or an ignorable
 abbrev pub IsValue : List (List ℕ) → Item → Type 0
@@ -74,6 +73,9 @@ record HasAttributes (names : List (List ℕ)) (attrs : List Attr) (word : List 
 attr_word : (m e : ℕ) (w w1 v w2 w3 u : List ℕ) → w ≡ m ∷ w1 → w1 ≡ v ++ w2 → w2 ≡ e ∷ w3 → w3 ≡ u → w ≡ m ∷ (v ++ e ∷ u)
 attr_word m e w w1 v w2 w3 u p q r s = p ∙ ap (λ z. m ∷ z) (q ∙ ap (λ z. v ++ z) (r ∙ ap (λ z. e ∷ z) s))
 
+numbers_more : (names : List (List ℕ)) (a : Attr) (attrs : List Attr) (value : List ℕ) (all : List XAttribute) → map (λ (x : XAttribute). x.name) all ≡ numbers names attrs → map (λ (x : XAttribute). x.name) (record { name = attr_number names a; value = value } ∷ all) ≡ numbers names (a ∷ attrs)
+numbers_more names a attrs value all e = ap (λ ns. attr_number names a ∷ ns) e
+
 attrs_parts : (g : Grammar) (n : Numbering) (slots : List (List ℕ)) → IsSpelt g → (attrs : List Attr) (ps : Parts) → EachOf (IsGood n) (attrs_marks attrs) → FitsItems g (flat_marks n slots (attrs_marks attrs)) ps → HasContent n.names ps → HasAttributes n.names attrs (parts_yield ps)
 attrs_parts g n slots spelt [] ps good fit inner = record { all = []; are = tt; are_numbered = refl; is = ap parts_yield (done_parts g ps fit) }
 attrs_parts g n slots spelt (a ∷ attrs) ps good fit inner =
@@ -88,8 +90,8 @@ attrs_parts g n slots spelt (a ∷ attrs) ps good fit inner =
     record {
       all = record { name = k; value = parts_yield c.front } ∷ more.all;
       are = (among_below n.names a.name here.0, value_word g spelt (flat_marks n slots (map Value a.value)) c.front values c.fits_front, more.are);
-      are_numbered = ap (λ ns. k ∷ ns) more.are_numbered;
-      is = attr_word (attribute_mark k) attr_end (parts_yield ps) (parts_yield first.rest) (parts_yield c.front) (parts_yield c.back) (parts_yield last.rest) (attributes_word more.all []) first.is_word c.is_word last.is_word more.is
+      are_numbered = numbers_more n.names a attrs (parts_yield c.front) more.all more.are_numbered;
+      is = attr_word (attribute_mark k) attr_end (parts_yield ps) (parts_yield first.rest) (parts_yield c.front) (parts_yield c.back) (parts_yield last.rest) (attributes_word more.all []) first.is_word c.is_word last.is_word more.is;
     }
 
 rises_ascending : (low : ℕ) (all : List XAttribute) → Rises low (map (λ (a : XAttribute). a.name) all) → IsAscending all
@@ -157,7 +159,7 @@ element_parts g n slots spelt up tag attrs inner rest ps good fit content =
       content_back = last.content;
       good_inner = each_front (IsGood n) inner (Closing tag ∷ rest) later;
       good_rest = (each_back (IsGood n) inner (Closing tag ∷ rest) later).1;
-      is = whole_word (opening_mark k) (closing_mark k) has.all (parts_yield ps) (parts_yield first.rest) (parts_yield c.front) (parts_yield c.back) (parts_yield d.front) (parts_yield d.back) (parts_yield last.rest) first.is_word c.is_word has.is d.is_word last.is_word
+      is = whole_word (opening_mark k) (closing_mark k) has.all (parts_yield ps) (parts_yield first.rest) (parts_yield c.front) (parts_yield c.back) (parts_yield d.front) (parts_yield d.back) (parts_yield last.rest) first.is_word c.is_word has.is d.is_word last.is_word;
     }
 
 -- parts for items and elements yield content
@@ -183,5 +185,5 @@ element_balanced g n slots spelt up ms el ps good fit content =
       are_attributes = h.are_attributes;
       is_ascending = h.is_ascending;
       is_content = nested_content g n slots spelt up el.nested h.front h.good_inner h.fits_front h.content_front;
-      is = h.is ∙ ap (λ w. element_word h.name h.attributes (parts_yield h.front) w) (ap parts_yield (done_parts g h.back h.fits_back))
+      is = h.is ∙ ap (λ w. element_word h.name h.attributes (parts_yield h.front) w) (ap parts_yield (done_parts g h.back h.fits_back));
     }

@@ -1,5 +1,5 @@
 -- What the rules of a well-formed sheet say of the marks of its XML sides.
-use Rattle.std.proofs.Common.{◌≡◌, ◌∙◌, ◌⊎◌, ℕ, List, [], ◌∷◌, Some, None, Bool, true, false, get_or, ap, inl, inr, refl}
+use Rattle.std.proofs.Common.{◌≡◌, ◌∙◌, ℕ, List, [], ◌∷◌, Some, Bool, true, false, ap, inl, inr, refl}
 use Rattle.std.specs.Prelude.{slice_get}
 use Rattle.std.specs.List.{Contains}
 use Rattle.std.proofs.lemmas.Option.{get_or_from_slice_get, slice_get_within, slice_get-get_or}
@@ -8,7 +8,6 @@ use Rattle.xs_sheet.specs.declared.item.Item.{Item}
 use Rattle.xs_sheet.specs.declared.item.Item.TheVariants as I
 use Rattle.xs_sheet.specs.declared.sheet.Sheet.{Sheet}
 use Rattle.xs_gram.specs.Building.{EachOf}
-use Rattle.xs_pair.specs.declared.ill.IllRule.TheVariants.{Kind, AttrTwice, RootShape}
 use Rattle.xs_pair.specs.declared.mark.Mark.{Mark}
 use Rattle.xs_pair.specs.declared.mark.Mark.TheVariants.{Opening, Attribute, AttributeEnd, Closing, Value, Content}
 use Rattle.xs_pair.specs.declared.production.Rule.{Rule}
@@ -68,7 +67,7 @@ sound s names well k r at =
     record {
       kinds = none_of (IsMiskinded n.terms n.skips) r.right (λ some. well.kinds r.line (k, r, at, inr (inl some), refl));
       once = none_of RepeatsAttribute r.right (λ some. well.attributes r.line (k, r, at, some, refl));
-      chars = well.strings.right k r at
+      chars = well.strings.right k r at;
     }
 
 goods : (n : Numbering) (rules : List Rule) → EachOf (λ (r : Rule). EachOf (AreKnown n.names) r.right) rules → EachOf (IsSound n) rules → EachOf (λ (r : Rule). EachOf (IsGood n) r.right) rules

@@ -9,3 +9,6 @@ pub mod Elements
 pub mod Heads
 pub mod Good
 pub mod Documents
+pub mod NameWords
+pub mod NamesRead
+pub mod Names

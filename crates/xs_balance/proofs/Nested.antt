@@ -1,5 +1,5 @@
 -- The marks of an XML side: items, and elements that stand in each other.
-use Rattle.std.proofs.Common.{◌≡◌, ◌⊎◌, ℕ, List, [], ◌∷◌, ◌++◌, map, true, false, refl, sym, subst, inl, inr, append_assoc, append-nil}
+use Rattle.std.proofs.Common.{◌≡◌, ◌⊎◌, ℕ, List, [], ◌∷◌, ◌++◌, map, true, false, sym, subst, inl, inr, append_assoc, append-nil}
 use Rattle.xs_sheet.specs.declared.item.Item.{Item}
 use Rattle.xs_sheet.specs.declared.x_item.Attr.{Attr}
 use Rattle.xs_sheet.specs.declared.x_item.XItem.{XItem, Plain, Element, map-XItem, roll-XItem}
@@ -10,7 +10,7 @@ use Rattle.xs_sheet.specs.declared.x_item.XItem.TheFolds.{ind-XItem}
 use Rattle.xs_sheet.specs.declared.x_item.XItems.{XItems, map-XItems, roll-XItems}
 use Rattle.xs_gram.specs.Building.{EachOf}
 use Rattle.xs_pair.specs.declared.mark.Mark.{Mark}
-use Rattle.xs_pair.specs.declared.mark.Mark.TheVariants.{Opening, Closing, Content}
+use Rattle.xs_pair.specs.declared.mark.Mark.TheVariants.{Closing, Content}
 use Rattle.xs_pair.specs.Marks.{marks_of, all_marks, opening_marks, opens, is_element}
 use Rattle.xs_pair.proofs.Marks.{marks_plain, marks_element}
 
