@@ -99,6 +99,9 @@ rises_ascending low [] up = tt
 rises_ascending low (a ∷ []) up = tt
 rises_ascending low (a ∷ b ∷ bs) up = (up.1.0, rises_ascending (suc a.name) (b ∷ bs) up.1)
 
+numbered_ascend : (ns : List ℕ) (all : List XAttribute) → map (λ (a : XAttribute). a.name) all ≡ ns → Rises 0 ns → IsAscending all
+numbered_ascend ns all e up = rises_ascending 0 all (subst (Rises 0) (sym e) up)
+
 attrs_among : (n : Numbering) (attrs : List Attr) → EachOf (IsGood n) (attrs_marks attrs) → AreAmong n.names attrs
 attrs_among n [] good = tt
 attrs_among n (a ∷ attrs) good = (good.0, attrs_among n attrs (each_back (IsGood n) (attr_marks a) (attrs_marks attrs) good))
@@ -152,7 +155,7 @@ element_parts g n slots spelt up tag attrs inner rest ps good fit content =
       back = last.rest;
       is_named = among_below n.names tag good.0.0;
       are_attributes = has.are;
-      is_ascending = rises_ascending 0 has.all (subst (Rises 0) (sym has.are_numbered) rise);
+      is_ascending = numbered_ascend (numbers n.names sorted) has.all has.are_numbered rise;
       fits_front = d.fits_front;
       fits_back = last.fits;
       content_front = d.content_front;
