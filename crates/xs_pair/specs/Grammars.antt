@@ -1,5 +1,5 @@
 -- The two grammars of a sheet.
-use Rattle.std.specs.Prelude.{◌≡◌, ◌↔◌, ⊤, ℕ, List, [], ◌∷◌, length, map, None, Some}
+use Rattle.std.specs.Prelude.{◌≡◌, ◌↔◌, ⊤, ℕ, List, [], ◌∷◌, ◌++◌, length, map, None, Some}
 use Rattle.std.specs.List.{flat_map}
 use Rattle.std.specs.declared.option.Option.{Option}
 use Rattle.xs_class.specs.declared.side.Side.{Side}
@@ -20,10 +20,11 @@ use Rattle.xs_gram.specs.declared.parts.SkipPart.{SkipPart}
 use Rattle.xs_gram.specs.declared.parts.Terminal.{Terminal as GTerminal}
 use Rattle.xs_gram.specs.declared.parts.GramParts.{GramParts}
 use Rattle.xs_gram.specs.Grammar.{Grammar}
-use Rattle.xs_gram.specs.Building.{skip_part}
+use Rattle.xs_gram.specs.Building.{skip_part, IsFit}
 use Rattle.xs_gram.specs.Common.{Common, TreeFits}
 use Rattle.xs_pair.specs.declared.mark.Mark.{Mark}
 use Rattle.xs_pair.specs.declared.mark.Mark.TheVariants.{Opening, Attribute, AttributeEnd, Closing, Value, Content}
+use Rattle.xs_pair.specs.declared.outline.Outline.{Outline}
 use Rattle.xs_pair.specs.declared.production.Rule.{Rule}
 use Rattle.xs_pair.specs.Units.{nons_of, terms_of, skips_of, number_of}
 use Rattle.xs_pair.specs.Marks.{slot_names}
@@ -38,6 +39,10 @@ pub record Numbering : Type 0 where
 
 abbrev pub numbering : List Unit → List (List ℕ) → Numbering
 numbering us names = record { names = names; terms = terms_of us; nons = nons_of us; skips = skips_of us }
+
+-- the same, as the code has it
+abbrev pub numbering_in : Outline → List (List ℕ) → Numbering
+numbering_in o names = record { names = names; terms = o.terms; nons = o.nons; skips = o.skips }
 
 -- a terminal where the name is one, else a nonterminal
 abbrev pub named_item : Option ℕ → ℕ → ℕ → GItem
@@ -97,6 +102,18 @@ AreSkipsOf (Terminal name pattern regex line ∷ us) ks = AreSkipsOf us ks
 AreSkipsOf (Ignorable name pattern regex normal line ∷ us) [] = ⊥
 AreSkipsOf (Ignorable name pattern regex normal line ∷ us) (k ∷ ks) = IsPatternOf pattern k.regex × (k.normal ≡ normal) × AreSkipsOf us ks
 AreSkipsOf (Production name left right line ∷ us) ks = AreSkipsOf us ks
+
+-- a terminal adds the regex of its pattern, another unit none
+abbrev pub IsTermAdded : Unit → List Regex → List Regex → Type 0
+IsTermAdded (Terminal name pattern regex line) old new = (r : Regex) × IsPatternOf pattern r × IsFit r × (new ≡ old ++ r ∷ [])
+IsTermAdded (Ignorable name pattern regex normal line) old new = new ≡ old
+IsTermAdded (Production name left right line) old new = new ≡ old
+
+-- an ignorable adds its part, another unit none
+abbrev pub IsSkipAdded : Unit → List SkipPart → List SkipPart → Type 0
+IsSkipAdded (Terminal name pattern regex line) old new = new ≡ old
+IsSkipAdded (Ignorable name pattern regex normal line) old new = (k : SkipPart) × IsPatternOf pattern k.regex × IsFit k.regex × (k.normal ≡ normal) × (new ≡ old ++ k ∷ [])
+IsSkipAdded (Production name left right line) old new = new ≡ old
 
 -- the parts of one side's grammar, where the names of elements and attributes are given
 pub record ArePartsOf (s : Sheet) (names : List (List ℕ)) (side : Side) (parts : GramParts) : Type 0 where

@@ -1,6 +1,8 @@
 -- How much a sheet weighs, which bounds how many names, slots, items and symbols it has.
-use Rattle.std.specs.Prelude.{ℕ, ◌+◌, ◌<◌, List, [], ◌∷◌, length}
+use Rattle.std.specs.Prelude.{◌≡◌, ℕ, ◌+◌, ◌<◌, ◌≤◌, List, [], ◌∷◌, length, Some, slice_get}
 use Rattle.xs_sheet.specs.declared.item.Item.{Item}
+use Rattle.xs_sheet.specs.declared.sheet.Sheet.{Sheet}
+use Rattle.xs_sheet.specs.Grammar.{IsSheetOf}
 use Rattle.xs_sheet.specs.declared.item.Item.TheVariants as I
 use Rattle.xs_sheet.specs.declared.unit.Unit.{Unit}
 use Rattle.xs_sheet.specs.declared.unit.Unit.TheVariants.{Terminal, Ignorable, Production}
@@ -36,3 +38,11 @@ weight [] = 0
 weight (Terminal name pattern regex line ∷ us) = weight us + 1
 weight (Ignorable name pattern regex normal line ∷ us) = weight us + 1
 weight (Production name left right line ∷ us) = rule_weight (rule_of name left right.all.items line) + weight us
+
+-- no production is too heavy to be counted by 16 bits
+abbrev pub AreLight : List Rule → Type 0
+AreLight rules = (k : ℕ) (r : Rule) → slice_get rules k ≡ Some r → rule_weight r < 65536
+
+-- some bytes, at most 65,536 of them, spell the sheet
+abbrev pub IsOfBytes : Sheet → Type 0
+IsOfBytes s = (bytes : List ℕ) × (length bytes ≤ 65536) × IsSheetOf bytes s

@@ -83,11 +83,22 @@ impl Directory {
 
     /// Whether the name stands in the list.
     pub fn has(&self, name: &str) -> bool
-        ensures { MatchBool result (IsAmong self.now (chars name.now)) (IsAbsent self.now (chars name.now)) }
+        ensures told { MatchBool result (IsAmong self.now (chars name.now)) (IsAbsent self.now (chars name.now)) }
+        ensures among { IsTrue result ↔ IsAmong self.now (chars name.now) }
     {
         match self.place(name) {
             Some(_) => true,
             None => false,
+        }
+    }
+
+    /// Whether the name does not stand in the list.
+    pub fn lacks(&self, name: &str) -> bool
+        ensures { IsTrue result ↔ IsAbsent self.now (chars name.now) }
+    {
+        match self.place(name) {
+            Some(_) => false,
+            None => true,
         }
     }
 

@@ -1,7 +1,8 @@
 //! Two grammars of one sheet: the text side and the XML side, rule by rule.
 //!
 //! A sheet has two grammars where the first seven rules of a well-formed sheet hold. All twelve rules
-//! are named here.
+//! are named here. The definitions stand in specs/: Units (names and numbers), Marks and Listing (a
+//! side laid out flat), Rules and Verdict (what fails where), Grammars (the flat items of each rule).
 #![tactic(auto)]
 
 mod directory;
@@ -10,11 +11,22 @@ mod flat;
 mod ill;
 mod mark;
 mod names;
+mod outline;
+mod parts;
 mod production;
+mod rules;
+mod slots;
+mod two;
 
 pub use directory::Directory;
 pub use fault::PairFault;
 pub use ill::{Ill, IllRule};
 pub use mark::{Mark, Marks};
 pub use names::{Sort, firsts, is_of, names_of, unit_line, unit_name};
+pub use outline::Outline;
 pub use production::{Rule, names_in, rules_of};
+pub use slots::{slot_directory, slots_of};
+pub use two::{Two, both};
+
+#[cfg(test)]
+mod tests;

@@ -1,4 +1,4 @@
-ghost use Rattle.std.specs.Prelude.{◌≡◌, IfOk};
+ghost use Rattle.std.specs.Prelude.{◌≡◌, ◌<◌, length, IfOk};
 ghost use Rattle.xs_pair.specs.Units as U;
 
 use crate::Directory;
@@ -75,7 +75,8 @@ pub fn names_of(alloc: Global, sort: Sort, units: &[Unit]) -> Result<Vec<Text>, 
 
 /// Each name of a list once, in the order of their first places.
 pub fn firsts(alloc: Global, list: &Directory) -> Result<Vec<Text>, Memory>
-    ensures { IfOk result (λ v. v.items ≡ U.firsts list.now) }
+    ensures names { IfOk result (λ v. v.items ≡ U.firsts list.now) }
+    ensures few { IfOk result (λ v. length v.items < 65536) }
 {
     let mut names = Vec::new(alloc);
     let texts = list.as_slice();

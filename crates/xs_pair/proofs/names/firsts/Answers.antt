@@ -1,5 +1,7 @@
-use Rattle.std.proofs.Common.{◌≡◌, ◌+◌, ◌∙◌, sym, subst, refl, ap, take, List, [], ◌∷◌, ◌++◌, ℕ, Some}
+use Rattle.std.proofs.Common.{arith, length, ◌≡◌, ◌+◌, ◌∙◌, sym, subst, refl, ap, take, List, [], ◌∷◌, ◌++◌, ℕ, Some}
+use Rattle.std.proofs.Math.ListN.{drop_of_length-le}
 use Rattle.xs_class.specs.Ordered.{place_of}
+use Rattle.xs_pair.proofs.Shorter.{firsts_short}
 use Rattle.xs_pair.specs.Units as U
 use Rattle.xs_pair.proofs.Places.{get_at, told, told_not, when_true, when_false, first_step, again_step, same_more, same_again, among_same, among_before, take_next, HaveSame}
 use Rattle.xs_pair.proofs.names.firsts.Goals as goal
@@ -28,3 +30,9 @@ texts-preserved c =
             same = rw (old, next) (same_again c.texts.names.items (take i list) n among c.texts.invariant.same);
           }
     ]
+
+pub returns-clause-few : goal.returns-clause-few
+returns-clause-few c =
+    let texts = c.as_slice-texts.result.now in
+    let same : c.texts.names.items ≡ U.firsts texts = ap (λ (l : List (List ℕ)). U.with_names c.texts.names.items l) (sym (drop_of_length-le texts c.texts-test.false)) ∙ c.texts.invariant.rest in
+    omega (arith, ap length same, firsts_short texts, ap length c.as_slice-texts.ensures.list, c.as_slice-texts.ensures.few)

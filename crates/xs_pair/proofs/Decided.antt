@@ -1,0 +1,36 @@
+-- What tests say.
+use Rattle.std.proofs.Common.{◌≡◌, ◌⊎◌, inl, inr, ℕ, List, Some, None, Bool, true, false, not, refl, slice_get}
+use Rattle.std.specs.Prelude.{IsTrue, ◌↔◌, MatchBool, if◌then◌else◌}
+use Rattle.xs_pair.specs.Directories.{IsDistinct}
+use Rattle.xs_pair.specs.Rules.{HasRepeat, IsAmong, IsAbsent, IsNotOnce}
+use Rattle.xs_pair.proofs.Once.{distinct_no_repeat, once_is, right_lacks}
+
+pub repeat_test : (b : Bool) (ns : List (List ℕ)) → MatchBool b (IsDistinct ns) (HasRepeat ns) → IsTrue (not b) ↔ HasRepeat ns
+repeat_test true ns once = (λ t. (let e : false ≡ true = t in cc), λ twice. absurd (distinct_no_repeat ns once twice))
+repeat_test false ns twice = (λ t. twice, λ h. refl)
+
+-- a test that holds, and one that does not
+pub yes : {P : Type 0} → P → IsTrue true ↔ P
+yes p = (λ t. p, λ h. refl)
+
+pub no : {P : Type 0} → (P → ⊥) → IsTrue false ↔ P
+no not_p = (λ t. (let e : false ≡ true = t in cc), λ p. absurd (not_p p))
+
+pub has_all_true : (A B : Type 0) (b : Bool) → MatchBool b A B → b ≡ true → A
+has_all_true A B true m t = m
+has_all_true A B false m t = absurd (bad t)
+  where
+    bad : false ≡ true → ⊥
+    bad e = cc
+
+pub has_all_false : (A B : Type 0) (b : Bool) → MatchBool b A B → b ≡ false → B
+has_all_false A B true m t = absurd (bad t)
+  where
+    bad : true ≡ false → ⊥
+    bad e = cc
+has_all_false A B false m t = m
+
+-- the last test of whether each slot stands once
+pub last_test : (b : Bool) (left right : List (List ℕ)) → IsDistinct left → IsDistinct right → ((k : ℕ) (name : List ℕ) → slice_get right k ≡ Some name → IsAmong left name) → MatchBool b ((k : ℕ) (name : List ℕ) → slice_get left k ≡ Some name → IsAmong right name) ((k : ℕ) × (name : List ℕ) × (slice_get left k ≡ Some name) × IsAbsent right name) → IsTrue (not b) ↔ IsNotOnce left right
+last_test true left right one two back forth = no (once_is left right one two back forth)
+last_test false left right one two back (k, name, at, none) = yes (right_lacks left right k name at none)

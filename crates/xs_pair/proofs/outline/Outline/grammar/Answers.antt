@@ -1,0 +1,6 @@
+use Rattle.xs_pair.proofs.Ready.{can_build, gram_is}
+use Rattle.xs_pair.proofs.outline.Outline.grammar.Goals as goal
+
+pub build-requires : goal.build-requires
+build-requires c =
+    can_build c.args.sheet.now c.args.names.now c.args.side c.in_ok-parts.parts c.in_ok-parts.ensures.of c.in_ok-parts.ensures.terms c.in_ok-parts.ensures.skips c.requires.passed c.requires.small

@@ -1,0 +1,13 @@
+use Rattle.std.proofs.Common.{◌≡◌, ◌≤◌, take, length}
+use Rattle.xs_pair.specs.declared.names.Sort.TheVariants as S
+use Rattle.xs_pair.specs.Units as U
+use Rattle.xs_pair.specs.Rules.{IsTwice}
+use Rattle.xs_pair.specs.Verdict.{IsFirstLine, IsLineWhere}
+use Rattle.xs_pair.proofs.outline.Outline.least_twice.Given as goal
+
+abbrev pub invariant-units : goal.invariant-units
+invariant-units l = record {
+  few : l.lexical ≤ l.place;
+  count : l.lexical ≡ length (U.names_of S.Lexical (take l.place l.units));
+  first : IsFirstLine (IsLineWhere (IsTwice l.units) U.unit_line (take l.place l.units)) l.least;
+}

@@ -1,0 +1,289 @@
+ghost use Rattle.std.specs.Prelude.{◌≡◌, ◌++◌, ◌∷◌, ◌<◌, [], IfOk, OnOk};
+ghost use Rattle.std.specs.Str.{chars};
+ghost use Rattle.xs_gram.specs.declared.parts.GItem.TheVariants as G;
+ghost use Rattle.xs_gram.specs.Building.{EachOf, IsFit};
+ghost use Rattle.xs_regex.specs.declared.regex.Regex.{Regex as AnyRegex};
+ghost use Rattle.xs_regex.specs.Meaning.{IsPatternOf};
+ghost use Rattle.xs_sheet.specs.Grammar.{HasRegex, HaveRegexes};
+ghost use Rattle.xs_class.specs.Ordered.{place_of};
+ghost use Rattle.xs_pair.specs.Units.{number_of};
+ghost use Rattle.xs_pair.specs.Verdict.{IsOutlineOf};
+ghost use Rattle.xs_pair.specs.Weights.{rule_weight, AreLight};
+ghost use Rattle.xs_pair.specs.Grammars.{flat_item, flat_mark, flat_marks, named_item, rule_part, rule_parts, numbering_in, AreTermsOf, AreSkipsOf, IsTermAdded, IsSkipAdded, ArePartsOf};
+
+use crate::outline::Outline;
+use crate::slots::slot_directory;
+use crate::{Directory, Mark, Rule};
+use std::alloc::{AllocError, Global};
+use xs_class::{ATTR_END, Memory, Names, Side, Sym, Text, Word};
+use xs_gram::{GItem, GItems, GramParts, Regexes, RulePart, Rules, SkipPart, Skips};
+use xs_regex::{Regex, RegexFault, read_regex};
+use xs_sheet::{Item, Sheet, Unit};
+
+fn letters(alloc: Global, text: &str) -> Result<Vec<char>, AllocError>
+    ensures { IfOk result (λ v. v.items ≡ chars text.now) }
+{
+    text.chars().collect(alloc)
+}
+
+// The word of a text's characters.
+fn word_of(alloc: Global, text: &Text) -> Result<Word, Memory>
+    ensures { IfOk result (λ w. w ≡ text.now) }
+{
+    let letters = letters(alloc, text.as_str())?;
+    let mut word = Word::new(alloc);
+    'letters: for letter in &letters {
+        word.push(Sym::of_char(*letter))?;
+    }
+    Ok(word)
+}
+
+// The number of a name that is in the directory.
+fn number(directory: &Directory, name: &Text) -> u32
+    ensures { result ≡ number_of directory.now name.now }
+{
+    match directory.place(name.as_str()) {
+        Some(number) => number,
+        None => 0,
+    }
+}
+
+// The number of an element's or an attribute's name.
+fn mark_number(names: &Names, name: &Text) -> u32
+    ensures number { result ≡ number_of names.now name.now }
+    ensures few { result < 65536 }
+{
+    let _count = names.len();
+    match names.place(name.as_str()) {
+        Some(number) => number,
+        None => 0,
+    }
+}
+
+fn push_symbol(alloc: Global, symbol: Sym, out: &mut Vec<GItem>) -> Result<(), Memory>
+    ensures { OnOk result (out.new.items ≡ out.old.items ++ G.Fixed (symbol ∷ []) ∷ []) }
+{
+    let mut word = Word::new(alloc);
+    word.push(symbol)?;
+    out.push(GItem::Fixed(word))?;
+    Ok(())
+}
+
+// The regex of a pattern that has one.
+fn regex_of(alloc: Global, pattern: &Text) -> Result<Regex, Memory>
+    requires { (r : AnyRegex) × IsPatternOf pattern.now r }
+    ensures of { IfOk result (IsPatternOf pattern.now) }
+    ensures fit { IfOk result IsFit }
+{
+    match read_regex(alloc, pattern.as_str()) {
+        Ok(regex) => Ok(regex),
+        Err(RegexFault::BadRegex) => unreachable!(),
+        Err(RegexFault::Memory) => Err(Memory),
+    }
+}
+
+// The regex of a terminal, read from its pattern.
+fn push_regex(alloc: Global, unit: &Unit, regexes: &mut Vec<Regex>) -> Result<(), Memory>
+    requires { HasRegex unit.now }
+    ensures { OnOk result (IsTermAdded unit.now regexes.old.items regexes.new.items) }
+{
+    match unit {
+        Unit::Terminal { pattern, .. } => {
+            let regex = regex_of(alloc, pattern)?;
+            regexes.push(regex)?;
+            Ok(())
+        }
+        Unit::Ignorable { .. } => Ok(()),
+        Unit::Production { .. } => Ok(()),
+    }
+}
+
+fn regexes(alloc: Global, units: &[Unit]) -> Result<Vec<Regex>, Memory>
+    requires { HaveRegexes units.now }
+    ensures of { IfOk result (λ v. AreTermsOf units.now v.items) }
+    ensures fit { IfOk result (λ v. EachOf IsFit v.items) }
+{
+    let mut regexes = Vec::new(alloc);
+    'units: for unit in units {
+        push_regex(alloc, unit, &mut regexes)?;
+    }
+    Ok(regexes)
+}
+
+// The regex of an ignorable, read from its pattern, and its normal spelling.
+fn push_skip(alloc: Global, unit: &Unit, parts: &mut Vec<SkipPart>) -> Result<(), Memory>
+    requires { HasRegex unit.now }
+    ensures { OnOk result (IsSkipAdded unit.now parts.old.items parts.new.items) }
+{
+    match unit {
+        Unit::Ignorable {
+            pattern,
+            normal,
+            ..
+        } => {
+            let regex = regex_of(alloc, pattern)?;
+            let normal = word_of(alloc, normal)?;
+            parts.push(SkipPart { regex, normal })?;
+            Ok(())
+        }
+        Unit::Terminal { .. } => Ok(()),
+        Unit::Production { .. } => Ok(()),
+    }
+}
+
+fn skip_parts(alloc: Global, units: &[Unit]) -> Result<Vec<SkipPart>, Memory>
+    requires { HaveRegexes units.now }
+    ensures of { IfOk result (λ v. AreSkipsOf units.now v.items) }
+    ensures fit { IfOk result (λ v. EachOf (λ k. IsFit k.regex) v.items) }
+{
+    let mut parts = Vec::new(alloc);
+    'units: for unit in units {
+        push_skip(alloc, unit, &mut parts)?;
+    }
+    Ok(parts)
+}
+
+impl Outline {
+    // What stands for a slot: a terminal, or else a nonterminal.
+    fn named_item(&self, name: &Text, slot: u32) -> GItem
+        ensures { result ≡ named_item (place_of self.now.terms name.now) (number_of self.now.nons name.now) slot }
+    {
+        match self.terms.place(name.as_str()) {
+            Some(term) => GItem::Term { term, slot },
+            None => GItem::Non {
+                non: number(&self.nons, name),
+                slot,
+            },
+        }
+    }
+
+    fn push_item(
+        &self,
+        alloc: Global,
+        slots: &Directory,
+        item: &Item,
+        out: &mut Vec<GItem>,
+    ) -> Result<(), Memory>
+        ensures { OnOk result (out.new.items ≡ out.old.items ++ flat_item (numbering_in self.now []) slots.now item.now) }
+    {
+        match item {
+            Item::Fixed(text) => {
+                let word = word_of(alloc, text)?;
+                if !word.is_empty() {
+                    out.push(GItem::Fixed(word))?;
+                }
+            }
+            Item::Named { name, slot } => {
+                let item = self.named_item(name, number(slots, slot));
+                out.push(item)?;
+            }
+            Item::Skip { name } => {
+                let skip = number(&self.skips, name);
+                out.push(GItem::Skip { skip })?;
+            }
+        }
+        Ok(())
+    }
+
+    fn push_mark(
+        &self,
+        alloc: Global,
+        names: &Names,
+        slots: &Directory,
+        mark: &Mark,
+        out: &mut Vec<GItem>,
+    ) -> Result<(), Memory>
+        ensures { OnOk result (out.new.items ≡ out.old.items ++ flat_mark (numbering_in self.now names.now) slots.now mark.now) }
+    {
+        match mark {
+            Mark::Opening { tag, .. } => {
+                push_symbol(alloc, Sym::opening(mark_number(names, tag)), out)
+            }
+            Mark::Attribute(name) => {
+                push_symbol(alloc, Sym::attribute(mark_number(names, name)), out)
+            }
+            Mark::AttributeEnd => push_symbol(alloc, ATTR_END, out),
+            Mark::Closing(tag) => { push_symbol(alloc, Sym::closing(mark_number(names, tag)), out) }
+            Mark::Value(item) => self.push_item(alloc, slots, item, out),
+            Mark::Content(item) => self.push_item(alloc, slots, item, out),
+        }
+    }
+
+    fn flat_items(
+        &self,
+        alloc: Global,
+        names: &Names,
+        slots: &Directory,
+        marks: &[Mark],
+    ) -> Result<Vec<GItem>, Memory>
+        ensures { IfOk result (λ v. v.items ≡ flat_marks (numbering_in self.now names.now) slots.now marks.now) }
+    {
+        let mut items = Vec::new(alloc);
+        'marks: for mark in marks {
+            self.push_mark(alloc, names, slots, mark, &mut items)?;
+        }
+        Ok(items)
+    }
+
+    fn rule_part(
+        &self,
+        alloc: Global,
+        names: &Names,
+        side: Side,
+        rule: &Rule,
+    ) -> Result<RulePart, Memory>
+        requires { rule_weight rule.now < 65536 }
+        ensures { IfOk result (λ r. r ≡ rule_part (numbering_in self.now names.now) side rule.now) }
+    {
+        let slots = slot_directory(alloc, rule.left.as_slice())?;
+        let marks = match side {
+            Side::Text => rule.left.as_slice(),
+            Side::Xml => rule.right.as_slice(),
+        };
+        let items = self.flat_items(alloc, names, &slots, marks)?;
+        Ok(RulePart {
+            non: number(&self.nons, &rule.name),
+            items: GItems::from_vec(items),
+        })
+    }
+
+    fn rule_parts(&self, alloc: Global, names: &Names, side: Side) -> Result<Vec<RulePart>, Memory>
+        requires { AreLight self.now.rules.items }
+        ensures { IfOk result (λ v. v.items ≡ rule_parts (numbering_in self.now names.now) side self.now.rules.items) }
+    {
+        let rules = self.rules.as_slice();
+        let mut parts = Vec::with_capacity(alloc, rules.len())?;
+        'rules: for rule in rules {
+            let part = self.rule_part(alloc, names, side, rule)?;
+            parts.push(part)?;
+        }
+        Ok(parts)
+    }
+
+    /// The parts of the grammar of one side.
+    pub fn gram_parts(
+        &self,
+        alloc: Global,
+        sheet: &Sheet,
+        names: &Names,
+        side: Side,
+    ) -> Result<GramParts, Memory>
+        requires outline { IsOutlineOf sheet.now self.now }
+        requires light { AreLight self.now.rules.items }
+        requires regexes { HaveRegexes sheet.now.units }
+        ensures of { IfOk result (ArePartsOf sheet.now names.now side) }
+        ensures terms { IfOk result (λ p. EachOf IsFit p.terms) }
+        ensures skips { IfOk result (λ p. EachOf (λ k. IsFit k.regex) p.skips) }
+    {
+        let rules = self.rule_parts(alloc, names, side)?;
+        let terms = regexes(alloc, sheet.units.as_slice())?;
+        let skips = skip_parts(alloc, sheet.units.as_slice())?;
+        Ok(GramParts {
+            start: number(&self.nons, &self.start),
+            nons: self.nons.as_slice().len() as u32,
+            rules: Rules::from_vec(rules),
+            terms: Regexes::from_vec(terms),
+            skips: Skips::from_vec(skips),
+        })
+    }
+}

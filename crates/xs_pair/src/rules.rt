@@ -1,0 +1,331 @@
+ghost use Rattle.std.specs.Prelude.{◌≡◌, ◌<◌, ◌↔◌, ◌+◌, ◌^◌, ◌≤◌, ◌∷◌, [], ℕ, length, IfOk, OnOk, IfErr, IsTrue, if◌then◌else◌};
+ghost use Rattle.xs_pair.specs.declared.ill.IllRule.TheVariants as R;
+ghost use Rattle.xs_pair.specs.declared.names.Sort.TheVariants as S;
+ghost use Rattle.xs_pair.specs.Units as U;
+ghost use Rattle.xs_pair.specs.Weights.{mark_weight, marks_weight, rule_weight, AreLight};
+ghost use Rattle.xs_pair.specs.Rules.{SomeOf, IsNameless, IsUndefined, IsMisnamed, IsNoTerminal, IsMiskinded, RepeatsAttribute, IsTwice, IsAbsent};
+ghost use Rattle.xs_pair.specs.Verdict.{IsIllMark, FailsIn, FailsAmong, FailsAt, IsFirstLine, IsLineWhere, NoneBefore, NoneFails, IsRefusal, IsOutlineOf, IsTaken, order, tables_in, earlier as earlier_of};
+
+use crate::outline::Outline;
+use crate::slots::{has_two_names, is_not_once, slot_directory, slots_of};
+use crate::{Directory, Ill, IllRule, Mark, PairFault, Rule, Sort, is_of, unit_line};
+use std::alloc::Global;
+use xs_class::{Memory, Text};
+use xs_sheet::{Item, Sheet, Unit};
+
+// The lesser of two lines.
+fn earlier(least: Option<u32>, line: u32) -> u32
+    ensures { result ≡ earlier_of least line }
+{
+    match least {
+        None => line,
+        Some(other) => other.min(line),
+    }
+}
+
+// The least line, with one more where the rule fails there.
+fn with_line(least: Option<u32>, line: u32, fails: bool) -> Option<u32>
+    ensures { result ≡ (if fails then Some (earlier_of least line) else least) }
+{
+    if fails {
+        Some(earlier(least, line))
+    } else {
+        least
+    }
+}
+
+// The number of terminals and ignorables, with one more unit.
+fn with_unit(lexical: usize, unit: &Unit) -> usize
+    requires { lexical < 2 ^ 63 }
+    ensures count { result ≡ lexical + length (U.names_of S.Lexical (unit.now ∷ [])) }
+    ensures few { result ≤ lexical + 1 }
+{
+    if is_of(Sort::Lexical, unit) {
+        lexical + 1
+    } else {
+        lexical
+    }
+}
+
+fn copies(alloc: Global, names: &[Text]) -> Result<Vec<Text>, Memory>
+    ensures { IfOk result (λ v. v.items ≡ names.now) }
+{
+    let mut all = Vec::with_capacity(alloc, names.len())?;
+    'names: for name in names {
+        let name = name.copy()?;
+        all.push(name)?;
+    }
+    Ok(all)
+}
+
+// Whether an element has two attributes of one name.
+fn repeats_attribute(alloc: Global, mark: &Mark) -> Result<bool, Memory>
+    requires { mark_weight mark.now < 65536 }
+    ensures { IfOk result (λ b. IsTrue b ↔ RepeatsAttribute mark.now) }
+{
+    match mark {
+        Mark::Opening { attributes, .. } => {
+            let names = copies(alloc, attributes.as_slice())?;
+            let directory = Directory::of(alloc, names)?;
+            let distinct = directory.is_distinct();
+            Ok(!distinct)
+        }
+        Mark::Attribute(_) | Mark::AttributeEnd | Mark::Closing(_) => Ok(false),
+        Mark::Value(_) | Mark::Content(_) => Ok(false),
+    }
+}
+
+impl Outline {
+    // Whether the item's name is the name of no unit.
+    fn is_nameless(&self, item: &Item) -> bool
+        ensures { IsTrue result ↔ IsNameless self.now.units item.now }
+    {
+        match item {
+            Item::Fixed(_) => false,
+            Item::Named { name, .. } => self.units.lacks(name.as_str()),
+            Item::Skip { name } => self.units.lacks(name.as_str()),
+        }
+    }
+
+    fn is_undefined(&self, mark: &Mark) -> bool
+        ensures { IsTrue result ↔ IsUndefined self.now.units mark.now }
+    {
+        match mark {
+            Mark::Opening { .. } | Mark::Attribute(_) | Mark::AttributeEnd => false,
+            Mark::Closing(_) => false,
+            Mark::Value(item) => self.is_nameless(item),
+            Mark::Content(item) => self.is_nameless(item),
+        }
+    }
+
+    // Whether the item is of another kind than its form asks for.
+    fn is_misnamed(&self, item: &Item) -> bool
+        ensures { IsTrue result ↔ IsMisnamed self.now.skips item.now }
+    {
+        match item {
+            Item::Fixed(_) => false,
+            Item::Named { name, .. } => self.skips.has(name.as_str()),
+            Item::Skip { name } => self.skips.lacks(name.as_str()),
+        }
+    }
+
+    fn is_no_terminal(&self, item: &Item) -> bool
+        ensures { IsTrue result ↔ IsNoTerminal self.now.terms item.now }
+    {
+        match item {
+            Item::Fixed(_) => false,
+            Item::Named { name, .. } => self.terms.lacks(name.as_str()),
+            Item::Skip { name } => self.terms.lacks(name.as_str()),
+        }
+    }
+
+    fn is_miskinded(&self, mark: &Mark) -> bool
+        ensures { IsTrue result ↔ IsMiskinded self.now.terms self.now.skips mark.now }
+    {
+        match mark {
+            Mark::Opening { .. } | Mark::Attribute(_) | Mark::AttributeEnd => false,
+            Mark::Closing(_) => false,
+            Mark::Value(item) => self.is_misnamed(item) || self.is_no_terminal(item),
+            Mark::Content(item) => self.is_misnamed(item),
+        }
+    }
+
+    // Whether a rule that speaks of single marks fails at this one.
+    fn is_ill(&self, alloc: Global, rule: IllRule, mark: &Mark) -> Result<bool, Memory>
+        requires { mark_weight mark.now < 65536 }
+        ensures { IfOk result (λ b. IsTrue b ↔ IsIllMark rule (tables_in self.now) mark.now) }
+    {
+        match rule {
+            IllRule::Undefined => Ok(self.is_undefined(mark)),
+            IllRule::Kind => Ok(self.is_miskinded(mark)),
+            IllRule::AttrTwice => {
+                let repeats = repeats_attribute(alloc, mark)?;
+                Ok(repeats)
+            }
+            IllRule::Twice | IllRule::NoStart | IllRule::NameOnce | IllRule::RootShape => Ok(false),
+            IllRule::EmptyClass | IllRule::NotChar | IllRule::Normal => Ok(false),
+            IllRule::Unproductive | IllRule::Loop => Ok(false),
+        }
+    }
+
+    fn some_ill(&self, alloc: Global, rule: IllRule, marks: &[Mark]) -> Result<bool, Memory>
+        requires { marks_weight marks.now < 65536 }
+        ensures { IfOk result (λ b. IsTrue b ↔ SomeOf (IsIllMark rule (tables_in self.now)) marks.now) }
+    {
+        'marks: for mark in marks {
+            if self.is_ill(alloc, rule, mark)? {
+                return Ok(true);
+            }
+        }
+        Ok(false)
+    }
+
+    // Whether an item is of another kind than its form, its place, or its slot on the other side asks for.
+    fn fails_kind(&self, alloc: Global, rule: &Rule) -> Result<bool, Memory>
+        requires light { rule_weight rule.now < 65536 }
+        requires once { FailsIn R.NameOnce (tables_in self.now) rule.now → ⊥ }
+        ensures { IfOk result (λ b. IsTrue b ↔ FailsIn R.Kind (tables_in self.now) rule.now) }
+    {
+        let on_left = self.some_ill(alloc, IllRule::Kind, rule.left.as_slice())?;
+        let on_right = self.some_ill(alloc, IllRule::Kind, rule.right.as_slice())?;
+        let slots = slot_directory(alloc, rule.left.as_slice())?;
+        let left = slots_of(alloc, rule.left.as_slice())?;
+        let right = slots_of(alloc, rule.right.as_slice())?;
+        let two_names = has_two_names(&slots, &left, &right);
+        Ok(on_left || on_right || two_names)
+    }
+
+    fn fails_undefined(&self, alloc: Global, rule: &Rule) -> Result<bool, Memory>
+        requires { rule_weight rule.now < 65536 }
+        ensures { IfOk result (λ b. IsTrue b ↔ FailsIn R.Undefined (tables_in self.now) rule.now) }
+    {
+        let on_left = self.some_ill(alloc, IllRule::Undefined, rule.left.as_slice())?;
+        let on_right = self.some_ill(alloc, IllRule::Undefined, rule.right.as_slice())?;
+        Ok(on_left || on_right)
+    }
+
+    fn fails_once(&self, alloc: Global, rule: &Rule) -> Result<bool, Memory>
+        requires { rule_weight rule.now < 65536 }
+        ensures { IfOk result (λ b. IsTrue b ↔ FailsIn R.NameOnce (tables_in self.now) rule.now) }
+    {
+        let left = slot_directory(alloc, rule.left.as_slice())?;
+        let right = slot_directory(alloc, rule.right.as_slice())?;
+        Ok(is_not_once(&left, &right))
+    }
+
+    // Whether the XML side of a production of the start is no single element.
+    fn has_no_root(&self, rule: &Rule) -> bool
+        ensures { IsTrue result ↔ FailsIn R.RootShape (tables_in self.now) rule.now }
+    {
+        rule.name.as_str() == self.start.as_str() && !rule.is_element
+    }
+
+    // Whether a rule that speaks of productions fails in this one.
+    fn fails_in(&self, alloc: Global, kind: IllRule, rule: &Rule) -> Result<bool, Memory>
+        requires light { rule_weight rule.now < 65536 }
+        requires once { kind ≡ R.Kind → FailsIn R.NameOnce (tables_in self.now) rule.now → ⊥ }
+        ensures { IfOk result (λ b. IsTrue b ↔ FailsIn kind (tables_in self.now) rule.now) }
+    {
+        match kind {
+            IllRule::Undefined => self.fails_undefined(alloc, rule),
+            IllRule::NameOnce => self.fails_once(alloc, rule),
+            IllRule::Kind => self.fails_kind(alloc, rule),
+            IllRule::AttrTwice => self.some_ill(alloc, IllRule::AttrTwice, rule.right.as_slice()),
+            IllRule::RootShape => Ok(self.has_no_root(rule)),
+            IllRule::Twice | IllRule::NoStart => Ok(false),
+            IllRule::EmptyClass | IllRule::NotChar | IllRule::Normal => Ok(false),
+            IllRule::Unproductive | IllRule::Loop => Ok(false),
+        }
+    }
+
+    // The least line of a production in which the rule fails.
+    fn least_among(&self, alloc: Global, kind: IllRule) -> Result<Option<u32>, Memory>
+        requires light { AreLight self.now.rules.items }
+        requires once { kind ≡ R.Kind → (line : ℕ) → FailsAmong (tables_in self.now) self.now.rules.items R.NameOnce line → ⊥ }
+        ensures { IfOk result (IsFirstLine (FailsAmong (tables_in self.now) self.now.rules.items kind)) }
+    {
+        let mut least = None;
+        let rules = self.rules.as_slice();
+        'rules: for rule in rules {
+            let fails = self.fails_in(alloc, kind, rule)?;
+            least = with_line(least, rule.line, fails);
+        }
+        Ok(least)
+    }
+
+    // Whether the unit's name is among so many names of units, or, for a production, of terminals and ignorables.
+    fn is_taken(&self, place: usize, lexical: usize, unit: &Unit) -> bool
+        ensures { IsTrue result ↔ IsTaken self.now place lexical unit.now }
+    {
+        match unit {
+            Unit::Terminal { name, .. } => self.units.is_within(name.as_str(), place),
+            Unit::Ignorable { name, .. } => self.units.is_within(name.as_str(), place),
+            Unit::Production { name, .. } => self.lexical.is_within(name.as_str(), lexical),
+        }
+    }
+
+    // The least line of a unit that has a name twice.
+    fn least_twice(&self, units: &[Unit]) -> Option<u32>
+        requires units { self.now.units ≡ U.names_of S.Any units.now }
+        requires lexical { self.now.lexical ≡ U.names_of S.Lexical units.now }
+        requires few { length units.now < 65536 }
+        ensures { IsFirstLine (IsLineWhere (IsTwice units.now) U.unit_line units.now) result }
+    {
+        let mut least = None;
+        let mut lexical = 0usize;
+        'units: for (place, unit) in units.iter().enumerate() {
+            let fails = self.is_taken(place, lexical, unit);
+            least = with_line(least, unit_line(unit), fails);
+            lexical = with_unit(lexical, unit);
+        }
+        least
+    }
+
+    fn no_start(&self) -> Option<u32>
+        ensures { IsFirstLine (λ line. IsAbsent self.now.heads self.now.start × (self.now.start_line ≡ line)) result }
+    {
+        if self.heads.lacks(self.start.as_str()) {
+            Some(self.start_line)
+        } else {
+            None
+        }
+    }
+
+    // The least line at which the rule fails.
+    fn least(&self, alloc: Global, sheet: &Sheet, rule: IllRule) -> Result<Option<u32>, Memory>
+        requires outline { IsOutlineOf sheet.now self.now }
+        requires light { AreLight self.now.rules.items }
+        requires few { length sheet.now.units < 65536 }
+        requires before { NoneBefore (FailsAt sheet.now) (order rule) }
+        ensures { IfOk result (IsFirstLine (FailsAt sheet.now rule)) }
+    {
+        match rule {
+            IllRule::Twice => Ok(self.least_twice(sheet.units.as_slice())),
+            IllRule::Undefined => self.least_among(alloc, IllRule::Undefined),
+            IllRule::NoStart => Ok(self.no_start()),
+            IllRule::NameOnce => self.least_among(alloc, IllRule::NameOnce),
+            IllRule::Kind => self.least_among(alloc, IllRule::Kind),
+            IllRule::AttrTwice => self.least_among(alloc, IllRule::AttrTwice),
+            IllRule::RootShape => self.least_among(alloc, IllRule::RootShape),
+            IllRule::EmptyClass => Ok(None),
+            IllRule::NotChar => Ok(None),
+            IllRule::Normal => Ok(None),
+            IllRule::Unproductive => Ok(None),
+            IllRule::Loop => Ok(None),
+        }
+    }
+
+    // Goes on where the rule fails nowhere.
+    fn pass(&self, alloc: Global, sheet: &Sheet, rule: IllRule) -> Result<(), PairFault>
+        requires outline { IsOutlineOf sheet.now self.now }
+        requires light { AreLight self.now.rules.items }
+        requires few { length sheet.now.units < 65536 }
+        requires before { NoneBefore (FailsAt sheet.now) (order rule) }
+        ensures ok { OnOk result (NoneBefore (FailsAt sheet.now) (order rule + 1)) }
+        ensures ill { IfErr result (IsRefusal sheet.now) }
+    {
+        let least = self.least(alloc, sheet, rule)?;
+        match least {
+            None => Ok(()),
+            Some(line) => Err(PairFault::Ill(Ill { rule, line })),
+        }
+    }
+
+    /// Refuses the first of the first seven rules that fails, at the least line at which it does.
+    pub fn check(&self, alloc: Global, sheet: &Sheet) -> Result<(), PairFault>
+        requires outline { IsOutlineOf sheet.now self.now }
+        requires light { AreLight self.now.rules.items }
+        requires few { length sheet.now.units < 65536 }
+        ensures ok { OnOk result (NoneFails (FailsAt sheet.now)) }
+        ensures ill { IfErr result (IsRefusal sheet.now) }
+    {
+        self.pass(alloc, sheet, IllRule::Twice)?;
+        self.pass(alloc, sheet, IllRule::Undefined)?;
+        self.pass(alloc, sheet, IllRule::NoStart)?;
+        self.pass(alloc, sheet, IllRule::NameOnce)?;
+        self.pass(alloc, sheet, IllRule::Kind)?;
+        self.pass(alloc, sheet, IllRule::AttrTwice)?;
+        self.pass(alloc, sheet, IllRule::RootShape)?;
+        Ok(())
+    }
+}

@@ -1,0 +1,213 @@
+ghost use Rattle.std.specs.Prelude.{◌≡◌, ◌<◌, [], length, map, slice_get, slice_index_or, IfOk, OnOk, IfErr};
+ghost use Rattle.std.specs.Str.{chars};
+ghost use Rattle.xs_gram.specs.Sound.{IsBuilt};
+ghost use Rattle.xs_sheet.specs.Grammar.{HaveRegexes};
+ghost use Rattle.xs_pair.specs.declared.production.Rule.{Rule as AnyRule};
+ghost use Rattle.xs_pair.specs.Grammars.{Pair, IsPairOf, IsGramOf, HaveSameTrees, grammar_of};
+ghost use Rattle.xs_class.specs.Ordered.{AreNamesOf};
+ghost use Rattle.xs_pair.specs.Listing.{rules_of, names_in as listed_names};
+ghost use Rattle.xs_pair.specs.Marks.{slot_names};
+ghost use Rattle.xs_pair.specs.Verdict.{FailsAt, NoneFails, IsRefusal, IsOutlineOf};
+ghost use Rattle.xs_pair.specs.Weights.{weight, rule_weight, AreLight, IsOfBytes};
+
+use crate::outline::Outline;
+use crate::production::names_in;
+use crate::slots::slot_directory;
+use crate::{PairFault, Rule};
+use std::alloc::Global;
+use std::marker::Model;
+use xs_class::{Listed, Memory, Names, Side, Text};
+use xs_gram::Gram;
+use xs_sheet::Sheet;
+
+/// The two grammars of a sheet, and the names that their numbers stand for.
+#[derive(Debug, Drop)]
+pub struct Two {
+    text: Gram,
+    xml: Gram,
+    names: Names,
+    lines: Vec<u32>,
+    nons: Vec<Text>,
+    slots: Vec<Listed<Text>>,
+}
+
+impl Model for Two {
+    ghost use Rattle.xs_pair.specs.Grammars.{Pair};
+    ghost use Rattle.xs_regex.specs.contracts.regex.Regex as e;
+    ghost use Rattle.std.specs.Coded.{codes};
+
+    ghost Value = { Pair };
+
+    ghost coded = { Prim.hlevel (codes, e.the_row.coded) };
+
+    ghost view = { λ t. record { text = t.text; xml = t.xml; names = t.names; lines = t.lines.items; nons = t.nons.items; slots = t.slots.items } };
+}
+
+impl Two {
+    /// The grammar of a side. Rule p of either side is the flat form of production p.
+    pub fn gram(&self, side: Side) -> &Gram
+        ensures { result.now ≡ grammar_of self.now side }
+    {
+        match side {
+            Side::Text => &self.text,
+            Side::Xml => &self.xml,
+        }
+    }
+
+    /// The names of elements and attributes, whose places number their marks.
+    pub fn names(&self) -> &Names
+        ensures { result.now ≡ self.now.names }
+    {
+        &self.names
+    }
+
+    /// The line of a production, counted from 1.
+    pub fn line(&self, rule: u32) -> u32
+        requires { rule < length self.now.lines }
+        ensures { slice_get self.now.lines rule ≡ Some result }
+    {
+        self.lines[rule as usize]
+    }
+
+    /// The name of a nonterminal.
+    pub fn non_name(&self, non: u32) -> &str
+        requires { non < length self.now.nons }
+        ensures { slice_get self.now.nons non ≡ Some (chars result.now) }
+    {
+        self.nons[non as usize].as_str()
+    }
+
+    /// The name of a slot of a production.
+    pub fn slot_name(&self, rule: u32, slot: u32) -> &str
+        requires rule { rule < length self.now.slots }
+        requires slot { slot < length (slice_index_or self.now.slots rule []) }
+        ensures { slice_get (slice_index_or self.now.slots rule []) slot ≡ Some (chars result.now) }
+    {
+        self.slots[rule as usize].at(slot as usize).as_str()
+    }
+}
+
+// The texts once more.
+fn copies(alloc: Global, texts: &[Text]) -> Result<Vec<Text>, Memory>
+    ensures { IfOk result (λ v. v.items ≡ texts.now) }
+{
+    let mut all = Vec::with_capacity(alloc, texts.len())?;
+    'texts: for text in texts {
+        let text = text.copy()?;
+        all.push(text)?;
+    }
+    Ok(all)
+}
+
+// The lines of the productions.
+fn lines_of(alloc: Global, rules: &[Rule]) -> Result<Vec<u32>, Memory>
+    ensures { IfOk result (λ v. v.items ≡ map (λ (r : AnyRule). r.line) rules.now) }
+{
+    let mut lines = Vec::with_capacity(alloc, rules.len())?;
+    'rules: for rule in rules {
+        lines.push(rule.line)?;
+    }
+    Ok(lines)
+}
+
+// The slots of a production, in the order of its text side.
+fn slot_list(alloc: Global, rule: &Rule) -> Result<Listed<Text>, Memory>
+    requires { rule_weight rule.now < 65536 }
+    ensures { IfOk result (λ l. l ≡ slot_names rule.now.left) }
+{
+    let directory = slot_directory(alloc, rule.left.as_slice())?;
+    let names = copies(alloc, directory.as_slice())?;
+    Ok(Listed::from_vec(names))
+}
+
+fn slot_lists(alloc: Global, rules: &[Rule]) -> Result<Vec<Listed<Text>>, Memory>
+    requires { AreLight rules.now }
+    ensures { IfOk result (λ v. v.items ≡ map (λ (r : AnyRule). slot_names r.left) rules.now) }
+{
+    let mut lists = Vec::with_capacity(alloc, rules.len())?;
+    'rules: for rule in rules {
+        let list = slot_list(alloc, rule)?;
+        lists.push(list)?;
+    }
+    Ok(lists)
+}
+
+// The names of elements and attributes, in order.
+fn names_of_marks(alloc: Global, sheet: &Sheet, rules: &[Rule]) -> Result<Names, Memory>
+    requires rules { rules.now ≡ rules_of sheet.now.units }
+    requires small { weight sheet.now.units < 65536 }
+    ensures { IfOk result (AreNamesOf (listed_names rules.now)) }
+{
+    let list = names_in(alloc, rules)?;
+    let names = Names::of(alloc, &list)?;
+    Ok(names)
+}
+
+impl Outline {
+    // The grammar of one side.
+    fn grammar(
+        &self,
+        alloc: Global,
+        sheet: &Sheet,
+        names: &Names,
+        side: Side,
+    ) -> Result<Gram, Memory>
+        requires outline { IsOutlineOf sheet.now self.now }
+        requires passed { NoneFails (FailsAt sheet.now) }
+        requires light { AreLight self.now.rules.items }
+        requires small { weight sheet.now.units < 65536 }
+        requires regexes { HaveRegexes sheet.now.units }
+        ensures of { IfOk result (IsGramOf sheet.now names.now side) }
+        ensures built { IfOk result IsBuilt }
+    {
+        let parts = self.gram_parts(alloc, sheet, names, side)?;
+        let gram = Gram::build(alloc, parts)?;
+        Ok(gram)
+    }
+
+    fn two(&self, alloc: Global, sheet: &Sheet) -> Result<Two, Memory>
+        requires outline { IsOutlineOf sheet.now self.now }
+        requires passed { NoneFails (FailsAt sheet.now) }
+        requires light { AreLight self.now.rules.items }
+        requires small { weight sheet.now.units < 65536 }
+        requires regexes { HaveRegexes sheet.now.units }
+        ensures of { IfOk result (IsPairOf sheet.now) }
+        ensures text { IfOk result (λ p. IsBuilt p.text) }
+        ensures xml { IfOk result (λ p. IsBuilt p.xml) }
+    {
+        let names = names_of_marks(alloc, sheet, &self.rules)?;
+        let text = self.grammar(alloc, sheet, &names, Side::Text)?;
+        let xml = self.grammar(alloc, sheet, &names, Side::Xml)?;
+        let lines = lines_of(alloc, &self.rules)?;
+        let nons = copies(alloc, self.nons.as_slice())?;
+        let slots = slot_lists(alloc, &self.rules)?;
+        Ok(Two {
+            text,
+            xml,
+            names,
+            lines,
+            nons,
+            slots,
+        })
+    }
+}
+
+/// The two grammars of a sheet.
+///
+/// `Ill` comes exactly where one of the first seven rules fails: the first that does, with the least
+/// line at which it does. The sheet is one that some bytes, at most 65,536 of them, spell. The time
+/// is n log n in the sheet, but for that of its regexes.
+pub fn both(alloc: Global, sheet: &Sheet) -> Result<Two, PairFault>
+    requires { IsOfBytes sheet.now }
+    ensures two { IfOk result (IsPairOf sheet.now) }
+    ensures text { IfOk result (λ p. IsBuilt p.text) }
+    ensures xml { IfOk result (λ p. IsBuilt p.xml) }
+    ensures trees { IfOk result (λ p. HaveSameTrees p.text p.xml) }
+    ensures passed { OnOk result (NoneFails (FailsAt sheet.now)) }
+    ensures ill { IfErr result (IsRefusal sheet.now) }
+{
+    let outline = Outline::of(alloc, sheet)?;
+    outline.check(alloc, sheet)?;
+    let two = outline.two(alloc, sheet)?;
+    Ok(two)
+}
