@@ -65,7 +65,7 @@ sound : (s : Sheet) (names : List (List ℕ)) → IsWritable s → (k : ℕ) (r 
 sound s names well k r at =
     let n : Numbering = numbering s.units names in
     record {
-      kinds = none_of (IsMiskinded n.terms n.skips) r.right (λ some. well.kinds r.line (k, r, at, inr (inl some), refl));
+      kinds = none_of (IsMiskinded n.terms n.skips) r.right (λ some. well.kinds r.line (k, r, at, inl (inr some), refl));
       once = none_of RepeatsAttribute r.right (λ some. well.attributes r.line (k, r, at, some, refl));
       chars = well.strings.right k r at;
     }
