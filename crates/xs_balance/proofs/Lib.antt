@@ -1,0 +1,14 @@
+pub mod Lists
+pub mod Characters
+pub mod Spelling
+pub mod Texts
+pub mod Nested
+pub mod Ascending
+pub mod Cuts
+pub mod Elements
+pub mod Heads
+pub mod Good
+pub mod Documents
+pub mod NameWords
+pub mod NamesRead
+pub mod Names
