@@ -8,3 +8,4 @@ pub mod Rowing
 pub mod Growing
 pub mod Charting
 pub mod Planting
+pub mod Tiny

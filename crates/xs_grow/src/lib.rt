@@ -23,3 +23,6 @@ mod rows;
 mod runs;
 
 pub use forest::grow;
+
+#[cfg(test)]
+mod tests;
