@@ -5,10 +5,10 @@ use Rattle.std.proofs.lemmas.Option.{none-some, same_Some, slice_get_within}
 use Rattle.xs_items.proofs.Words.{get_some}
 use Rattle.xs_gram.specs.Grammar.{Grammar}
 use Rattle.xs_forest.specs.declared.row.Alt.{Alt}
-use Rattle.xs_forest.specs.Rows.{IsEarlier, AreEarlier}
+use Rattle.xs_forest.specs.Rows.{IsEarlier, AreEarlier, HasLabel}
 use Rattle.xs_unfold.specs.declared.span.SpanKey.{SpanKey}
 use Rattle.xs_unfold.specs.Forest.{Forest}
-use Rattle.xs_grow.specs.Grouped.{Grouped, IsGroup}
+use Rattle.xs_grow.specs.Grouped.{Grouped, IsGroup, AreApart}
 use Rattle.xs_grow.specs.Making.{IsMade, AreMade, ChildrenAreEarlier, AreRowsOf}
 use Rattle.xs_grow.proofs.ListLemmas.{get_contains, get_push_cases, get_append_left, get_end}
 
@@ -77,3 +77,14 @@ module _ (g : Grammar) (groups : Grouped SpanKey) where
             let last : r ≡ length old = omega arith in
             (alts, ap (λ z. slice_get (old ++ (key, alts) ∷ []) z) last ∙ (get_end old (key, alts) ∙ ap (λ (z : SpanKey). Some (z, alts)) keys.0), subst (λ z. AreMade g groups z ns alts) keys.0 (subst (λ z. AreMade g groups key z alts) keys.1 made))
       ]
+
+  -- the next row's label is new
+  pub row_new : (r : ℕ) (key : SpanKey) (numbers : List ℕ) (old : Forest) → AreApart groups → r ≤ length groups → IsGroup groups r key numbers → AreRowsOf g groups r old → (at : ℕ) → HasLabel old at key → ⊥
+  row_new r key numbers old apart within is h at (alts, there) =
+      let lt = slice_get_within old at (key, alts) there in
+      let l = h.long in
+      let e = get_some groups at (omega arith) in
+      let a = h.each at e.0.0 e.0.1 (omega arith) e.1 in
+      let same : e.0.0 ≡ key = ap (λ (z : SpanKey × List Alt). z.0) (same_Some (e.0.0, a.0) (key, alts) (sym a.1 ∙ there)) in
+      let again : at ≡ r = apart at r key e.0.1 numbers (subst (λ (z : SpanKey). IsGroup groups at z e.0.1) same e.1) is in
+      absurd (omega arith)
