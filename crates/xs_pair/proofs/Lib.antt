@@ -4,7 +4,7 @@ pub mod Lines
 pub mod Once
 pub mod Twins
 pub mod Shorter
-pub mod Tests
+pub mod Decided
 pub mod Taken
 pub mod Orders
 pub mod Numbering

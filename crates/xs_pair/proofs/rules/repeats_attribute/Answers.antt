@@ -2,7 +2,7 @@ use Rattle.std.proofs.Common.{◌≡◌, ◌∙◌, subst}
 use Rattle.std.specs.Prelude.{MatchBool}
 use Rattle.xs_pair.specs.Directories.{IsDistinct}
 use Rattle.xs_pair.specs.Rules.{HasRepeat}
-use Rattle.xs_pair.proofs.Tests.{repeat_test}
+use Rattle.xs_pair.proofs.Decided.{repeat_test}
 use Rattle.xs_pair.proofs.rules.repeats_attribute.Goals as goal
 
 pub returns-in_ok-directory-in-Opening : goal.returns-in_ok-directory-in-Opening

@@ -4,7 +4,7 @@ use Rattle.std.proofs.lemmas.Option.{slice_get-get_or}
 use Rattle.xs_class.specs.Ordered.{place_of}
 use Rattle.std.proofs.Common.{None}
 use Rattle.xs_pair.proofs.Places.{get_at, when_true, when_false}
-use Rattle.xs_pair.proofs.Tests.{yes, no}
+use Rattle.xs_pair.proofs.Decided.{yes, no}
 use Rattle.xs_pair.proofs.Twins.{slot_bound, two_here, same_here, none_here, same_more, all_same}
 use Rattle.xs_pair.proofs.slots.has_two_names.Goals as goal
 use Rattle.xs_pair.proofs.slots.has_two_names.Goals.{in-Some+else-not-is_same, in_default}

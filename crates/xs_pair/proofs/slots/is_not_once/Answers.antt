@@ -3,7 +3,7 @@ use Rattle.std.specs.Prelude.{MatchBool}
 use Rattle.xs_pair.specs.Directories.{IsDistinct}
 use Rattle.xs_pair.specs.Rules.{HasRepeat, IsAmong, IsAbsent}
 use Rattle.xs_pair.proofs.Once.{Has, left_repeats, right_repeats}
-use Rattle.xs_pair.proofs.Tests.{yes, has_all_true, has_all_false, last_test}
+use Rattle.xs_pair.proofs.Decided.{yes, has_all_true, has_all_false, last_test}
 use Rattle.xs_pair.proofs.slots.is_not_once.Goals as goal
 
 pub returns-then-not-is_distinct : goal.returns-then-not-is_distinct

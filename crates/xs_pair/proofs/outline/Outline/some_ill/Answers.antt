@@ -2,7 +2,7 @@ use Rattle.std.proofs.Common.{arith}
 use Rattle.xs_pair.proofs.Places.{get_at, when_true}
 use Rattle.xs_pair.specs.Verdict.{IsIllMark, tables_in}
 use Rattle.xs_pair.proofs.Lines.{mark_light, some_at}
-use Rattle.xs_pair.proofs.Tests.{yes}
+use Rattle.xs_pair.proofs.Decided.{yes}
 use Rattle.xs_pair.proofs.outline.Outline.some_ill.Goals as goal
 
 pub is_ill-requires : goal.is_ill-requires

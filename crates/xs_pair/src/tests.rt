@@ -1,0 +1,88 @@
+use crate::{Ill, IllRule, PairFault, Two, both};
+use std::alloc::Global;
+use std::test::Fail;
+use xs_class::Side;
+use xs_sheet::read_sheet;
+
+const PAIR: &str =
+    "xsugar-1\nstart s\nterminal d = /[0-9]/\ns : \"(\" [d a] \",\" [d b] \")\" = <p><y>[d b]</y><x>[d a]</x></p>\n";
+
+fn pair(alloc: Global, text: &str) -> Result<Two, PairFault> {
+    if text.len() > 65536 {
+        return Err(PairFault::Memory);
+    }
+    match read_sheet(alloc, text.as_bytes()) {
+        Ok(sheet) => both(alloc, &sheet),
+        Err(_) => Err(PairFault::Memory),
+    }
+}
+
+// The failure of the sheet of these units.
+fn ill(alloc: Global, text: &str) -> Option<Ill> {
+    match pair(alloc, text) {
+        Err(PairFault::Ill(ill)) => Some(ill),
+        Err(PairFault::Memory) => None,
+        Ok(_) => None,
+    }
+}
+
+fn told(rule: IllRule, line: u32) -> Option<Ill> {
+    Some(Ill { rule, line })
+}
+
+#[test]
+fn the_pair_sheet_has_two_grammars(rt: HostRuntime) -> Result<(), Fail> {
+    let two = pair(rt.alloc(), PAIR)?;
+    assert_eq!(rt; two.names().len(), 3);
+    let text = two.gram(Side::Text);
+    assert_eq!(rt; text.rules(), 1);
+    assert_eq!(rt; text.terms(), 1);
+    assert_eq!(rt; text.items(0).len(), 5);
+    let xml = two.gram(Side::Xml);
+    assert_eq!(rt; xml.rules(), 1);
+    assert_eq!(rt; xml.items(0).len(), 8);
+    Ok(())
+}
+
+#[test]
+fn the_least_line_of_each_rule_is_told(rt: HostRuntime) -> Result<(), Fail> {
+    let alloc = rt.alloc();
+    let table = [
+        (
+            "xsugar-1\nstart s\nterminal d = /a/\nterminal d = /b/\nd : = <s/>\ns : = <s/>\n",
+            told(IllRule::Twice, 4),
+        ),
+        (
+            "xsugar-1\nstart s\ns : [x a] = <s>[x a]</s>\ns : [y a] = <s>[y a]</s>\n",
+            told(IllRule::Undefined, 3),
+        ),
+        (
+            "xsugar-1\nstart s\nterminal d = /a/\nt : = <s/>\n",
+            told(IllRule::NoStart, 2),
+        ),
+        (
+            "xsugar-1\nstart s\nterminal d = /[0-9]/\ns : [d a] = <p/>\ns : = <p>[d a]</p>\n",
+            told(IllRule::NameOnce, 4),
+        ),
+        (
+            "xsugar-1\nstart s\nterminal d = /[0-9]/\ns : [d a] [d a] = <p>[d a]</p>\n",
+            told(IllRule::NameOnce, 4),
+        ),
+        (
+            "xsugar-1\nstart s\nterminal d = /a/\ns : [d] = <s>[d]</s>\ns : [s x] = <s a=[s x]/>\n",
+            told(IllRule::Kind, 4),
+        ),
+        (
+            "xsugar-1\nstart s\ns : = <s><t a=\"x\" a=\"y\"/></s>\ns : = <s b=\"x\" b=\"x\"/>\n",
+            told(IllRule::AttrTwice, 3),
+        ),
+        (
+            "xsugar-1\nstart s\nt : = \"a\"\ns : = \"a\" <s/>\ns : \"a\" = \"a\"\n",
+            told(IllRule::RootShape, 4),
+        ),
+    ];
+    for (text, answer) in table {
+        assert_eq!(rt; ill(alloc, text), answer);
+    }
+    Ok(())
+}
