@@ -9,6 +9,8 @@ use Rattle.xs_sheet.specs.declared.item.Item.{Item}
 use Rattle.xs_sheet.specs.declared.item.Item.TheVariants as I
 use Rattle.xs_sheet.specs.declared.unit.Unit.{Unit}
 use Rattle.xs_sheet.specs.declared.unit.Unit.TheVariants.{Terminal, Ignorable, Production}
+use Rattle.xs_pair.specs.declared.ill.IllRule.{IllRule}
+use Rattle.xs_pair.specs.declared.ill.IllRule.TheVariants.{Twice, Undefined, NoStart, NameOnce, Kind, AttrTwice, RootShape, EmptyClass, NotChar, Normal, Unproductive, Loop}
 use Rattle.xs_pair.specs.declared.mark.Mark.{Mark}
 use Rattle.xs_pair.specs.declared.mark.Mark.TheVariants.{Opening, Attribute, AttributeEnd, Closing, Value, Content}
 use Rattle.xs_pair.specs.declared.production.Rule.{Rule}
@@ -47,6 +49,21 @@ abbrev pub IsUnmatchedUnit : Unit → Type 0
 IsUnmatchedUnit (Terminal name pattern regex line) = ⊥
 IsUnmatchedUnit (Ignorable name pattern regex normal line) = IsUnmatched pattern normal
 IsUnmatchedUnit (Production name left right line) = ⊥
+
+-- a rule that speaks of single units fails at one
+abbrev pub IsIllUnit : IllRule → Unit → Type 0
+IsIllUnit Twice u = ⊥
+IsIllUnit Undefined u = ⊥
+IsIllUnit NoStart u = ⊥
+IsIllUnit NameOnce u = ⊥
+IsIllUnit Kind u = ⊥
+IsIllUnit AttrTwice u = ⊥
+IsIllUnit RootShape u = ⊥
+IsIllUnit EmptyClass u = IsEmptyUnit u
+IsIllUnit NotChar u = IsStrangeUnit u
+IsIllUnit Normal u = IsUnmatchedUnit u
+IsIllUnit Unproductive u = ⊥
+IsIllUnit Loop u = ⊥
 
 -- a string holds a character that XML does not have
 abbrev pub IsStrangeItem : Item → Type 0

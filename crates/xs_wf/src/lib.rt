@@ -5,8 +5,10 @@
 //! Rules (all twelve), Sound (what a well-formed sheet's grammars are).
 #![tactic(auto)]
 
+mod least;
 mod units;
 mod well;
 
+pub use least::{least_strange, least_unit};
 pub use units::{is_empty_unit, is_strange_rule, is_strange_unit, is_unmatched_unit};
 pub use well::WfFault;
