@@ -11,3 +11,4 @@ mod words;
 pub use line::{Line, fault_line, room};
 pub use outcome::{Outcome, Report};
 pub use telling::line_of;
+pub use words::push_quoted;
