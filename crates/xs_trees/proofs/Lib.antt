@@ -1,2 +1,3 @@
 pub mod Slots
 mod Walking
+mod Listing
