@@ -6,3 +6,4 @@ pub mod Rules
 pub mod Verdict
 pub mod Grammars
 pub mod Directories
+pub mod Sound

@@ -1,3 +1,4 @@
-mod Told
-mod Refused
-mod Answered
+mod Reading
+mod Writing
+mod Going
+mod Completing

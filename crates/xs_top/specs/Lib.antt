@@ -1,4 +1,8 @@
-pub mod Command
+pub mod Asked
+pub mod Meaning
 pub mod Devices
-pub mod Turning
+pub mod Stops
+pub mod Sheets
+pub mod Documents
+pub mod Answers
 pub mod Ran

@@ -1,36 +1,46 @@
 //! The top call: all that the program does, over the words and the devices that it is handed.
 //!
-//! `run` reads the sheet from the shelf and the document from the input, and writes the answer to
-//! `out`. Its contract says, outcome by outcome, when it comes and what was taken.
+//! `run` reads the sheet from the shelf and the document from the input, writes the answer to `out`,
+//! and tells every other outcome to `notes` in one line. Its contract says, outcome by outcome, when
+//! it comes, what was read and what was written.
 #![tactic(auto)]
 
 ghost use Rattle.std.specs.Prelude.{◌≡◌, map, string_bytes, IfOk, OnErr};
-ghost use Rattle.xs_top.specs.Devices.{run_of};
-ghost use Rattle.xs_top.specs.Ran.{Ran, WritesNothing, ReadsNothing, ReadsAll, IsComplete};
+ghost use Rattle.xs_top.specs.Devices.{inputs_of, output_of, run_of};
+ghost use Rattle.xs_top.specs.Ran.{Told, IsComplete};
 
-mod command;
+mod answer;
+mod asking;
+mod documents;
+mod listed;
+mod notes;
 mod outcome;
-mod turning;
+mod sheets;
+mod stop;
+mod turned;
+mod written;
 
-use crate::command::command_of;
-use crate::turning::{Answer, turn};
-pub use outcome::{Outcome, status};
+use crate::answer::answer_of;
+use crate::asking::asked;
+use crate::notes::tell;
+use crate::stop::Stop;
+use crate::written::written;
+pub use answer::DOCUMENT_LIMIT;
+pub use outcome::status;
+pub use sheets::SHEET_LIMIT;
 use std::alloc::Global;
 use xs_class::Memory;
-use xs_io::{ReadStop, Shelf, Sink, Source, WriteFault, put_all, read_all, read_file};
-use xs_pair_sheet::is_pair_sheet;
-
-/// How many bytes a sheet may have.
-pub const SHEET_LIMIT: usize = 65_536;
-
-/// How many bytes a document that is read may have.
-pub const DOCUMENT_LIMIT: usize = 1_048_576;
+use xs_io::{Shelf, Sink, Source};
+use xs_piece::one_reading;
+pub use xs_talk::Outcome;
+use xs_talk::room;
 
 /// The run of these words.
 ///
-/// The words `to-xml SHEET` and `to-xml SHEET FORM` turn the text of `input` into XML, by the sheet
-/// that the file SHEET of the shelf has. All memory is taken before the first write to `out`. Time
-/// is linear in the document.
+/// A document of one side of a sheet is read from `input` and written to `out` as a document of the
+/// other side, or of the same side, with the same tree; or the derivations of a text are listed. The
+/// sheet is a file of the shelf, or the one that the program brings along. All memory is taken before
+/// the first write.
 pub fn run<S: Source, H: Shelf, K: Sink, N: Sink>(
     alloc: Global,
     words: &[String],
@@ -39,46 +49,23 @@ pub fn run<S: Source, H: Shelf, K: Sink, N: Sink>(
     out: &mut K,
     notes: &mut N,
 ) -> Result<Outcome, Memory>
-    ensures outcome { IfOk result (Ran (run_of H.files H.faults H.name_faults S.left S.faults K.taken K.faults
-        (map string_bytes words.now) shelf.old shelf.new input.old input.new out.old out.new)) }
-    ensures complete { IfOk result (IsComplete (run_of H.files H.faults H.name_faults S.left S.faults K.taken K.faults
-        (map string_bytes words.now) shelf.old shelf.new input.old input.new out.old out.new)) }
-    ensures drained { IfOk result (ReadsAll (run_of H.files H.faults H.name_faults S.left S.faults K.taken K.faults
-        (map string_bytes words.now) shelf.old shelf.new input.old input.new out.old out.new)) }
-    ensures unread { IfOk result (λ o. ReadsNothing o (input.new ≡ input.old)) }
-    ensures nothing_written { IfOk result (λ o. WritesNothing o (out.new ≡ out.old)) }
-    ensures memory { OnErr result (out.new ≡ out.old) }
-    ensures notes { notes.new ≡ notes.old }
+    ensures told { IfOk result (Told (run_of (map string_bytes words.now)
+        (inputs_of H.files H.faults H.name_faults S.left S.faults shelf.old shelf.new input.old input.new)
+        (output_of K.taken K.faults out.old out.new) (output_of N.taken N.faults notes.old notes.new))) }
+    ensures complete { IfOk result (IsComplete (run_of (map string_bytes words.now)
+        (inputs_of H.files H.faults H.name_faults S.left S.faults shelf.old shelf.new input.old input.new)
+        (output_of K.taken K.faults out.old out.new) (output_of N.taken N.faults notes.old notes.new))) }
+    ensures memory_out { OnErr result (out.new ≡ out.old) }
+    ensures memory_notes { OnErr result (notes.new ≡ notes.old) }
 {
-    let _ = &notes;
-    let Some(command) = command_of(words) else {
-        return Ok(Outcome::Usage);
+    one_reading();
+    let room = room(alloc)?;
+    let Some(ask) = asked(words) else {
+        return tell(alloc, notes, Outcome::Usage);
     };
-    match read_file(alloc, shelf, command.sheet, SHEET_LIMIT) {
-        Ok(sheet) => {
-            if !is_pair_sheet(sheet.as_slice()) {
-                return Ok(Outcome::Later);
-            }
-        }
-        Err(ReadStop::ReadFault) => return Ok(Outcome::SheetFault),
-        Err(ReadStop::TooLong) => return Ok(Outcome::Later),
-        Err(ReadStop::Memory) => return Err(Memory),
-    }
-    let bytes = match read_all(alloc, input, DOCUMENT_LIMIT) {
-        Ok(bytes) => bytes,
-        Err(ReadStop::ReadFault) => return Ok(Outcome::ReadFault),
-        Err(ReadStop::TooLong) => return Ok(Outcome::DocLong),
-        Err(ReadStop::Memory) => return Err(Memory),
-    };
-    match turn(alloc, bytes.as_slice(), command.form)? {
-        Answer::NotUtf8 { at } => Ok(Outcome::NotUtf8 { at }),
-        Answer::Foreign { viable } => Ok(Outcome::Foreign { viable }),
-        Answer::Document(document) => match put_all(out, document.as_slice()) {
-            Ok(()) => Ok(Outcome::Done),
-            Err(WriteFault { written }) => Ok(Outcome::WriteFault { written }),
-        },
+    match answer_of(alloc, &ask, shelf, input) {
+        Ok(answer) => Ok(written(out, notes, room, answer.as_slice())),
+        Err(Stop::Refused(outcome)) => tell(alloc, notes, outcome),
+        Err(Stop::Memory) => Err(Memory),
     }
 }
-
-#[cfg(test)]
-mod tests;

@@ -1,4 +1,5 @@
 ghost use Rattle.std.specs.Prelude.{◌≡◌, ◌+◌, ◌++◌, ◌^◌, ◌≤◌, length, IfOk, IfSome, IfNone, string_bytes, string_len, string_capacity};
+ghost use Rattle.std.specs.Str.{IsUtf8};
 ghost use Rattle.xs_xml_out.specs.Balanced.{IsBalanced};
 ghost use Rattle.xs_xml_out.specs.Written.{xml_bytes};
 ghost use Rattle.xs_xml_out.specs.Part.{AreKnown};
@@ -45,7 +46,8 @@ fn put_all(names: &Names, symbols: &[Sym], out: &mut String)
 /// Takes time linear in the word and the document, and memory once, for the whole document.
 pub fn write_xml(alloc: Global, names: &Names, word: &Word) -> Result<Bytes, Memory>
     requires { IsBalanced names.now word.now }
-    ensures { IfOk result (λ bytes. bytes ≡ xml_bytes names.now word.now) }
+    ensures written { IfOk result (λ bytes. bytes ≡ xml_bytes names.now word.now) }
+    ensures utf8 { IfOk result IsUtf8 }
 {
     let symbols = word.as_slice();
     let Some(length) = length_of(names, symbols) else {

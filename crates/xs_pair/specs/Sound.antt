@@ -1,0 +1,22 @@
+-- Two grammars that documents can be turned by.
+use Rattle.std.specs.Prelude.{◌≡◌}
+use Rattle.xs_class.specs.declared.side.Side.{Side}
+use Rattle.xs_class.specs.declared.side.Side.TheVariants.{Text, Xml}
+use Rattle.xs_gram.specs.Sound.{IsSound}
+use Rattle.xs_gram.specs.Laws.{HasNormals}
+use Rattle.xs_pair.specs.Grammars.{Pair, HaveSameTrees}
+
+-- both grammars are sound, their ignorables match their normal spellings, and they have the same trees and
+-- the same start
+pub record IsSoundPair (p : Pair) : Type 0 where
+  pub text : IsSound p.text
+  pub xml : IsSound p.xml
+  pub text_normals : HasNormals p.text
+  pub xml_normals : HasNormals p.xml
+  pub same : HaveSameTrees p.text p.xml
+  pub starts : p.text.start ≡ p.xml.start
+
+-- the other side
+abbrev pub other : Side → Side
+other Text = Xml
+other Xml = Text

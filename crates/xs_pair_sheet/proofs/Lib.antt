@@ -1,5 +1,0 @@
-mod Before
-mod Fronts
-mod Ordered
-pub mod Pairs
-mod Balanced

@@ -1,3 +1,0 @@
-pub mod PairSheet
-pub mod Pattern
-pub mod Laws

@@ -1,0 +1,24 @@
+-- The print of a tree that fits can be written.
+use Rattle.std.proofs.Common.{◌≡◌, ℕ, List, sym, subst}
+use Rattle.xs_class.specs.declared.side.Side.{Side}
+use Rattle.xs_class.specs.declared.side.Side.TheVariants.{Text, Xml}
+use Rattle.xs_gram.specs.Common.{Common, print}
+use Rattle.xs_gram.specs.Languages.{HasTree}
+use Rattle.xs_gram.specs.Laws.{PrintedHasTree}
+use Rattle.xs_pair.specs.Grammars.{Pair, grammar_of}
+use Rattle.xs_pair.specs.Sound.{IsSoundPair}
+use Rattle.xs_balance.specs.Laws.{CanBeWritten}
+use Rattle.xs_turn.specs.Turned.{FitsBoth}
+use Rattle.xs_top.specs.Documents.{CanWrite}
+
+-- on either side it has that tree
+pub printed_back : PrintedHasTree → (p : Pair) (t : Common) → IsSoundPair p → FitsBoth p t → (side : Side) → HasTree (grammar_of p side) (print (grammar_of p side) t) t
+printed_back law p t sound fits Text = law p.text t sound.text.built.slots sound.text_normals (fits Text)
+printed_back law p t sound fits Xml = law p.xml t sound.xml.built.slots sound.xml_normals (fits Xml)
+
+can_write : (p : Pair) (t : Common) (w : List ℕ) → CanBeWritten p → (side : Side) → HasTree (grammar_of p side) w t → CanWrite p.names side w
+can_write p t w can Text has = can.text w (has.0, has.1)
+can_write p t w can Xml has = can.xml w (has.0, has.1)
+
+pub can_write_print : PrintedHasTree → (p : Pair) (t : Common) (w : List ℕ) → IsSoundPair p → CanBeWritten p → FitsBoth p t → (side : Side) → w ≡ print (grammar_of p side) t → CanWrite p.names side w
+can_write_print law p t w sound can fits side is = subst (λ (v : List ℕ). CanWrite p.names side v) (sym is) (can_write p t (print (grammar_of p side) t) can side (printed_back law p t sound fits side))

@@ -1,0 +1,84 @@
+ghost use Rattle.std.specs.Prelude.{◌≡◌, IfOk, IfErr};
+ghost use Rattle.xs_gram.specs.Common.{print};
+ghost use Rattle.xs_tree.specs.Flat.{common_of};
+ghost use Rattle.xs_pair.specs.Grammars.{grammar_of};
+ghost use Rattle.xs_pair.specs.Sound.{IsSoundPair, other};
+ghost use Rattle.xs_balance.specs.Laws.{CanBeWritten};
+ghost use Rattle.xs_turn.specs.Turned.{FitsBoth};
+ghost use Rattle.xs_top.specs.Documents.{IsDocument, document_bytes};
+ghost use Rattle.xs_top.specs.Answers.{IsTurnedInto, IsWrittenTree, IsUnread};
+ghost use Rattle.xs_top.specs.Stops.{StopsBy};
+
+use crate::documents::{read_document, write_document};
+use crate::stop::Stop;
+use bumpalo::Bump;
+use std::alloc::Global;
+use xs_chars::Form;
+use xs_class::{Bytes, Memory, Side, Word};
+use xs_gram::printed_has_tree;
+use xs_pair::Two;
+use xs_talk::Outcome;
+use xs_text_out::print_syms;
+use xs_tree::Tree;
+use xs_turn::{TurnFault, Turned, turn};
+
+// The tree printed on a side, where its print on the other side of `from` is at hand.
+fn printed(
+    alloc: Global,
+    two: &Two,
+    from: Side,
+    to: Side,
+    tree: &Tree,
+    word: Word,
+) -> Result<Word, Memory>
+    requires { word ≡ print (grammar_of two.now (other from)) (common_of tree.now) }
+    ensures { IfOk result (λ w. w ≡ print (grammar_of two.now to) (common_of tree.now)) }
+{
+    if from == to {
+        print_syms(alloc, two.gram(to), tree)
+    } else {
+        Ok(word)
+    }
+}
+
+// The document of a tree's print.
+fn written(alloc: Global, two: &Two, to: Side, tree: &Tree, word: &Word) -> Result<Bytes, Memory>
+    requires sound { IsSoundPair two.now }
+    requires writable { CanBeWritten two.now }
+    requires fits { FitsBoth two.now (common_of tree.now) }
+    requires printed { word.now ≡ print (grammar_of two.now to) (common_of tree.now) }
+    ensures { IfOk result (IsWrittenTree two.now to (common_of tree.now)) }
+{
+    printed_has_tree();
+    write_document(alloc, to, two.names(), word)
+}
+
+/// The document on side `to` that has the same tree as the document on side `from`.
+pub fn turned_into(
+    alloc: Global,
+    two: &Two,
+    from: Side,
+    to: Side,
+    form: Form,
+    bytes: &[u8],
+) -> Result<Bytes, Stop>
+    requires sound { IsSoundPair two.now }
+    requires writable { CanBeWritten two.now }
+    ensures answer { IfOk result (IsTurnedInto two.now from to form bytes.now) }
+    ensures stop { IfErr result (StopsBy (IsUnread two.now from form bytes.now)) }
+{
+    let doc = match read_document(alloc, from, form, two.names(), bytes) {
+        Ok(doc) => doc,
+        Err(stop) => return Err(stop),
+    };
+    let bump = Bump::new(alloc);
+    match turn(alloc, &bump, two, from, &doc) {
+        Ok(Turned { tree, word, .. }) => {
+            let word = printed(alloc, two, from, to, &tree, word)?;
+            let answer = written(alloc, two, to, &tree, &word)?;
+            Ok(answer)
+        }
+        Err(TurnFault::Foreign { viable }) => Err(Stop::Refused(Outcome::Foreign { viable })),
+        Err(TurnFault::Memory) => Err(Stop::Memory),
+    }
+}

@@ -1,0 +1,48 @@
+ghost use Rattle.std.specs.Prelude.{◌≡◌, ◌<◌, length, IfOk, IfErr};
+ghost use Rattle.xs_tree.specs.Flat.{common_of};
+ghost use Rattle.xs_pair.specs.Sound.{IsSoundPair, other};
+ghost use Rattle.xs_turn.specs.Turned.{IsTurned, IsRefusal};
+
+use crate::between::turn_between;
+use crate::{TurnFault, Turned};
+use bumpalo::Bump;
+use std::alloc::Global;
+use xs_class::{Side, Word};
+use xs_pair::Two;
+
+// The other side.
+fn other_side(side: Side) -> Side
+    ensures { result ≡ other side }
+{
+    match side {
+        Side::Text => Side::Xml,
+        Side::Xml => Side::Text,
+    }
+}
+
+/// Turns a document of this side into the word of the other side that has the same tree.
+///
+/// `Foreign` is answered exactly where the document has no derivation, with the greatest number of
+/// its leading symbols that begin some document of this side. The forest lies in the arena. A
+/// document without ambiguity takes time linear in its chart and its two words.
+pub fn turn<'b>(
+    alloc: Global,
+    bump: &'b Bump<Global>,
+    two: &Two,
+    side: Side,
+    doc: &Word,
+) -> Result<Turned<'b>, TurnFault>
+    requires sound { IsSoundPair two.now }
+    requires short { length doc.now < 4294967295 }
+    ensures turned { IfOk result (λ t. IsTurned two.now side doc.now t.grown.forest t.grown.root (common_of t.tree) t.word) }
+    ensures foreign { IfErr result (IsRefusal two.now side doc.now) }
+{
+    let turned = turn_between(
+        alloc,
+        bump,
+        two.gram(side),
+        two.gram(other_side(side)),
+        doc,
+    )?;
+    Ok(turned)
+}

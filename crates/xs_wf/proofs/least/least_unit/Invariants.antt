@@ -1,0 +1,8 @@
+use Rattle.std.proofs.Common.{take}
+use Rattle.xs_pair.specs.Units.{unit_line}
+use Rattle.xs_pair.specs.Verdict.{IsFirstLine, IsLineWhere}
+use Rattle.xs_wf.specs.Units.{IsIllUnit}
+use Rattle.xs_wf.proofs.least.least_unit.Given as goal
+
+abbrev pub invariant-units : goal.invariant-units
+invariant-units l = IsFirstLine (IsLineWhere (λ k u. IsIllUnit l.rule u) unit_line (take l.unit-index l.units)) l.least

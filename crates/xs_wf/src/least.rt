@@ -1,0 +1,73 @@
+ghost use Rattle.std.specs.Prelude.{◌≡◌, IsTrue, ◌↔◌, IfOk, if◌then◌else◌};
+ghost use Rattle.xs_sheet.specs.Grammar.{HasRegex, HaveRegexes};
+ghost use Rattle.xs_pair.specs.declared.production.Rule.{Rule as AnyRule};
+ghost use Rattle.xs_pair.specs.Units as U;
+ghost use Rattle.xs_pair.specs.Verdict.{IsFirstLine, IsLineWhere, earlier as earlier_of};
+ghost use Rattle.xs_wf.specs.Units.{IsIllUnit, IsStrangeRule};
+
+use crate::units::{is_empty_unit, is_strange_rule, is_strange_unit, is_unmatched_unit};
+use std::alloc::Global;
+use xs_class::Memory;
+use xs_pair::{IllRule, Rule, unit_line};
+use xs_sheet::Unit;
+
+// The lesser of two lines.
+fn earlier(least: Option<u32>, line: u32) -> u32
+    ensures { result ≡ earlier_of least line }
+{
+    match least {
+        None => line,
+        Some(other) => other.min(line),
+    }
+}
+
+// The least line, with one more where the rule fails there.
+fn with_line(least: Option<u32>, line: u32, fails: bool) -> Option<u32>
+    ensures { result ≡ (if fails then Some (earlier_of least line) else least) }
+{
+    if fails {
+        Some(earlier(least, line))
+    } else {
+        least
+    }
+}
+
+// Whether a rule that speaks of single units fails at this one.
+fn is_ill_unit(alloc: Global, rule: IllRule, unit: &Unit) -> Result<bool, Memory>
+    requires { HasRegex unit.now }
+    ensures { IfOk result (λ b. IsTrue b ↔ IsIllUnit rule unit.now) }
+{
+    match rule {
+        IllRule::EmptyClass => Ok(is_empty_unit(unit)),
+        IllRule::NotChar => is_strange_unit(alloc, unit),
+        IllRule::Normal => is_unmatched_unit(alloc, unit),
+        IllRule::Twice | IllRule::Undefined | IllRule::NoStart | IllRule::NameOnce => Ok(false),
+        IllRule::Kind | IllRule::AttrTwice | IllRule::RootShape => Ok(false),
+        IllRule::Unproductive | IllRule::Loop => Ok(false),
+    }
+}
+
+/// The least line of a unit at which a rule that speaks of single units fails.
+pub fn least_unit(alloc: Global, rule: IllRule, units: &[Unit]) -> Result<Option<u32>, Memory>
+    requires { HaveRegexes units.now }
+    ensures { IfOk result (IsFirstLine (IsLineWhere (λ k u. IsIllUnit rule u) U.unit_line units.now)) }
+{
+    let mut least = None;
+    'units: for unit in units {
+        let fails = is_ill_unit(alloc, rule, unit)?;
+        least = with_line(least, unit_line(unit), fails);
+    }
+    Ok(least)
+}
+
+/// The least line of a production with a string that holds a character that XML does not have.
+pub fn least_strange(alloc: Global, rules: &[Rule]) -> Result<Option<u32>, Memory>
+    ensures { IfOk result (IsFirstLine (IsLineWhere (λ k r. IsStrangeRule r) (λ (r : AnyRule). r.line) rules.now)) }
+{
+    let mut least = None;
+    'rules: for rule in rules {
+        let fails = is_strange_rule(alloc, rule)?;
+        least = with_line(least, rule.line, fails);
+    }
+    Ok(least)
+}

@@ -1,0 +1,14 @@
+//! Well-formed sheets: those in which none of twelve rules fails.
+//!
+//! The first seven rules give a sheet its two grammars; here stand the other five. The definitions
+//! stand in specs/: Units (classes, characters, normal spellings), Nonterminals (words and loops),
+//! Rules (all twelve).
+#![tactic(auto)]
+
+mod least;
+mod units;
+mod well;
+
+pub use least::{least_strange, least_unit};
+pub use units::{is_empty_unit, is_strange_rule, is_strange_unit, is_unmatched_unit};
+pub use well::WfFault;

@@ -1,0 +1,146 @@
+ghost use Rattle.std.specs.Prelude.{◌≡◌, ◌↔◌, IsTrue, IfOk};
+ghost use Rattle.std.specs.Str.{chars};
+ghost use Rattle.xs_regex.specs.Size.{HasMember, HasMembers};
+ghost use Rattle.xs_sheet.specs.Grammar.{HasRegex};
+ghost use Rattle.xs_pair.specs.Rules.{SomeOf};
+ghost use Rattle.xs_wf.specs.Units.{IsStrange, HasStrange, IsStrangeItem, IsStrangeMark, IsStrangeRule, IsEmptyUnit, IsStrangeUnit, IsUnmatchedUnit};
+
+use std::alloc::{AllocError, Global};
+use xs_class::{Class, Memory, Sym, Text, Word, is_char};
+use xs_pair::{Mark, Rule};
+use xs_regex::{Regex, matches};
+use xs_sheet::{Item, Unit};
+
+fn has_member(class: &Class) -> bool
+    ensures { IsTrue result ↔ HasMember class.now }
+{
+    match class.least() {
+        Some(_) => true,
+        None => false,
+    }
+}
+
+// Whether each class in the regex has a member. The depth of the recursion is that of the regex.
+fn has_members(regex: &Regex) -> bool
+    ensures { IsTrue result ↔ HasMembers regex.now }
+{
+    match regex {
+        Regex::Empty => true,
+        Regex::Set(class) => has_member(class),
+        Regex::Then(first, rest) => has_members(first) && has_members(rest),
+        Regex::Or(one, other) => has_members(one) && has_members(other),
+        Regex::Star(inner) => has_members(inner),
+        Regex::Times(inner, _, _) => has_members(inner),
+    }
+}
+
+/// Whether the regex of a terminal or of an ignorable has a class without member.
+pub fn is_empty_unit(unit: &Unit) -> bool
+    requires { HasRegex unit.now }
+    ensures { IsTrue result ↔ IsEmptyUnit unit.now }
+{
+    match unit {
+        Unit::Terminal { regex, .. } => !has_members(regex),
+        Unit::Ignorable { regex, .. } => !has_members(regex),
+        Unit::Production { .. } => false,
+    }
+}
+
+fn letters(alloc: Global, text: &str) -> Result<Vec<char>, AllocError>
+    ensures { IfOk result (λ v. v.items ≡ chars text.now) }
+{
+    text.chars().collect(alloc)
+}
+
+// Whether the text holds a character that XML does not have.
+fn has_strange(alloc: Global, text: &Text) -> Result<bool, Memory>
+    ensures { IfOk result (λ b. IsTrue b ↔ HasStrange text.now) }
+{
+    let letters = letters(alloc, text.as_str())?;
+    'letters: for letter in &letters {
+        if !is_char(*letter as u32) {
+            return Ok(true);
+        }
+    }
+    Ok(false)
+}
+
+fn is_strange_item(alloc: Global, item: &Item) -> Result<bool, Memory>
+    ensures { IfOk result (λ b. IsTrue b ↔ IsStrangeItem item.now) }
+{
+    match item {
+        Item::Fixed(text) => has_strange(alloc, text),
+        Item::Named { .. } => Ok(false),
+        Item::Skip { .. } => Ok(false),
+    }
+}
+
+fn is_strange_mark(alloc: Global, mark: &Mark) -> Result<bool, Memory>
+    ensures { IfOk result (λ b. IsTrue b ↔ IsStrangeMark mark.now) }
+{
+    match mark {
+        Mark::Value(item) => is_strange_item(alloc, item),
+        Mark::Content(item) => is_strange_item(alloc, item),
+        Mark::Opening { .. } | Mark::Attribute(_) => Ok(false),
+        Mark::AttributeEnd | Mark::Closing(_) => Ok(false),
+    }
+}
+
+fn some_strange(alloc: Global, marks: &[Mark]) -> Result<bool, Memory>
+    ensures { IfOk result (λ b. IsTrue b ↔ SomeOf IsStrangeMark marks.now) }
+{
+    'marks: for mark in marks {
+        if is_strange_mark(alloc, mark)? {
+            return Ok(true);
+        }
+    }
+    Ok(false)
+}
+
+/// Whether a string on either side of a production holds a character that XML does not have.
+pub fn is_strange_rule(alloc: Global, rule: &Rule) -> Result<bool, Memory>
+    ensures { IfOk result (λ b. IsTrue b ↔ IsStrangeRule rule.now) }
+{
+    let on_left = some_strange(alloc, rule.left.as_slice())?;
+    let on_right = some_strange(alloc, rule.right.as_slice())?;
+    Ok(on_left || on_right)
+}
+
+/// Whether the normal spelling of an ignorable holds a character that XML does not have.
+pub fn is_strange_unit(alloc: Global, unit: &Unit) -> Result<bool, Memory>
+    ensures { IfOk result (λ b. IsTrue b ↔ IsStrangeUnit unit.now) }
+{
+    match unit {
+        Unit::Ignorable { normal, .. } => has_strange(alloc, normal),
+        Unit::Terminal { .. } => Ok(false),
+        Unit::Production { .. } => Ok(false),
+    }
+}
+
+// The word of a text's characters.
+fn word_of(alloc: Global, text: &Text) -> Result<Word, Memory>
+    ensures { IfOk result (λ w. w ≡ text.now) }
+{
+    let letters = letters(alloc, text.as_str())?;
+    let mut word = Word::new(alloc);
+    'letters: for letter in &letters {
+        word.push(Sym::of_char(*letter))?;
+    }
+    Ok(word)
+}
+
+/// Whether the regex of an ignorable does not match its normal spelling.
+pub fn is_unmatched_unit(alloc: Global, unit: &Unit) -> Result<bool, Memory>
+    requires { HasRegex unit.now }
+    ensures { IfOk result (λ b. IsTrue b ↔ IsUnmatchedUnit unit.now) }
+{
+    match unit {
+        Unit::Ignorable { regex, normal, .. } => {
+            let word = word_of(alloc, normal)?;
+            let fits = matches(alloc, regex, &word)?;
+            Ok(!fits)
+        }
+        Unit::Terminal { .. } => Ok(false),
+        Unit::Production { .. } => Ok(false),
+    }
+}
