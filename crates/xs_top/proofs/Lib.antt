@@ -1,4 +1,5 @@
 mod Reading
 mod Writing
+mod Writable
 mod Going
 mod Completing

@@ -5,7 +5,7 @@ use Rattle.xs_leiden.specs.Sheet.{leiden_core}
 use Rattle.xs_words.specs.Command.{Sheet as Named, leiden, file}
 use Rattle.xs_sheet.specs.declared.sheet.Sheet.{Sheet}
 use Rattle.xs_sheet.specs.Grammar.{IsSheetOf, IsSheetBrokenAt}
-use Rattle.xs_ill.specs.declared.rule.Ill.{Ill}
+use Rattle.xs_pair.specs.declared.ill.Ill.{Ill}
 use Rattle.xs_pair.specs.Grammars.{Pair, IsPairOf}
 use Rattle.xs_wf.specs.Rules.{IsWell, IsIll}
 use Rattle.xs_talk.specs.declared.outcome.Outcome.{Outcome}

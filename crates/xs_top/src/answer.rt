@@ -57,7 +57,7 @@ pub fn answer_of<S: Source, H: Shelf>(
         Ok(two) => two,
         Err(stop) => return Err(stop),
     };
-    words_can_be_written(alloc)?;
+    words_can_be_written();
     let document = match read_all(alloc, input, DOCUMENT_LIMIT) {
         Ok(document) => document,
         Err(ReadStop::ReadFault) => return Err(Stop::Refused(Outcome::ReadFault)),
