@@ -20,6 +20,9 @@ mod stop;
 mod turned;
 mod written;
 
+#[cfg(test)]
+mod tests;
+
 use crate::answer::answer_of;
 use crate::asking::asked;
 use crate::notes::tell;

@@ -1,0 +1,95 @@
+use super::{SHEET, ran, tried};
+use std::alloc::Global;
+use std::test::Fail;
+use xs_class::{Bytes, Memory};
+
+// A sheet that is refused on its own, with the line that says why.
+type Row<'t> = (&'t str, &'t [u8]);
+
+fn are_refused(rt: HostRuntime, rows: &[Row<'_>]) -> Result<(), Fail> {
+    for (sheet, notes) in rows {
+        let run = tried(rt.alloc(), &["to-xml", SHEET], sheet, b"a")?;
+        assert_eq!(rt; run.notes.as_slice(), *notes);
+        assert_eq!(rt; run.status, 2);
+        assert_eq!(rt; run.out.as_slice(), b"");
+    }
+    Ok(())
+}
+
+#[test]
+fn sheets_with_a_token_out_of_place(rt: HostRuntime) -> Result<(), Fail> {
+    let rows: [Row<'_>; 6] = [
+        ("xsugar-1\nstart s\ns : \"a = <s/>\n", b"sheet: byte 21: not expected here\n"),
+        ("xsugar-1\nstart s\nterminal d = /\\p{nosuchclass}/\n", b"sheet: byte 30: not expected here\n"),
+        ("xsugar-3\nstart s\ns : = <s/>\n", b"sheet: byte 0: not expected here\n"),
+        ("xsugar-1\n", b"sheet: byte 9: not expected here\n"),
+        ("", b"sheet: byte 0: not expected here\n"),
+        ("xsugar-1\nstart s\ns : = <s></t>\n", b"sheet: byte 28: not expected here\n"),
+    ];
+    are_refused(rt, &rows)
+}
+
+#[test]
+fn sheets_that_break_a_rule(rt: HostRuntime) -> Result<(), Fail> {
+    let rows: [Row<'_>; 14] = [
+        ("xsugar-1\nstart s\nterminal d = /a/\nterminal d = /b/\ns : = <s/>\n", b"sheet: line 4: name defined twice\n"),
+        ("xsugar-1\nstart s\ns : [x a] = <s>[x a]</s>\n", b"sheet: line 3: name not defined\n"),
+        ("xsugar-1\nstart s\nt : = <s/>\n", b"sheet: line 2: start is not a nonterminal\n"),
+        ("xsugar-1\nstart s\nterminal d = /[0-9]/\ns : [d a] = <p/>\n", b"sheet: line 4: named item not once on both sides\n"),
+        ("xsugar-1\nstart s\nterminal d = /[0-9]/\ns : [d a] [d a] = <p>[d a]</p>\n", b"sheet: line 4: named item not once on both sides\n"),
+        ("xsugar-1\nstart s\ns : [s a] = <s a=[s a]/>\n", b"sheet: line 3: item of a wrong kind\n"),
+        ("xsugar-1\nstart s\ns : = <s a=\"1\" a=\"2\"/>\n", b"sheet: line 3: attribute twice\n"),
+        ("xsugar-1\nstart s\ns : = <s/> <s/>\n", b"sheet: line 3: start is not one element\n"),
+        ("xsugar-1\nstart s\nterminal d = /[^\\u{0}-\\u{10ffff}]/\ns : = <s/>\n", b"sheet: line 3: empty class\n"),
+        ("xsugar-1\nstart s\ns : \"\\u{1}\" = <s/>\n", b"sheet: line 3: character not allowed\n"),
+        ("xsugar-1\nstart s\nignorable w = / */ \"x\"\ns : [w] = <s/>\n", b"sheet: line 3: normal spelling does not match\n"),
+        ("xsugar-1\nstart A\nA : [A x] = <e>[A x]</e>\n", b"sheet: line 3: derives no word\n"),
+        ("xsugar-1\nstart A\nA : [A x] = <e>[A x]</e>\nA : \"a\" = <a/>\n", b"sheet: line 3: derives itself\n"),
+        ("xsugar-1\nstart s\nterminal d = /[^\\u{0}-\\u{10ffff}]/\ns : [s x] = <s>[s x]</s>\n", b"sheet: line 3: empty class\n"),
+    ];
+    are_refused(rt, &rows)
+}
+
+// So many copies of a piece behind each other.
+fn many(alloc: Global, piece: &[u8], count: u32) -> Result<Bytes, Memory> {
+    let mut bytes = Bytes::new(alloc);
+    for _ in 0..count {
+        bytes.extend(piece)?;
+    }
+    Ok(bytes)
+}
+
+// A sheet with so many elements inside each other.
+fn deep(alloc: Global, depth: u32) -> Result<Bytes, Memory> {
+    let mut sheet = Bytes::of(alloc, b"xsugar-1\nstart s\ns : = ")?;
+    sheet.extend(many(alloc, b"<e>", depth)?.as_slice())?;
+    sheet.extend(many(alloc, b"</e>", depth)?.as_slice())?;
+    sheet.extend(b"\n")?;
+    Ok(sheet)
+}
+
+#[test]
+fn elements_inside_each_other(rt: HostRuntime) -> Result<(), Fail> {
+    let alloc = rt.alloc();
+    let most = ran(alloc, &["to-xml", SHEET], deep(alloc, 64)?.as_slice(), b"", 1000)?;
+    assert_eq!(rt; most.status, 0);
+    let more = ran(alloc, &["to-xml", SHEET], deep(alloc, 65)?.as_slice(), b"", 1000)?;
+    assert_eq!(rt; more.status, 2);
+    assert_eq!(rt; more.notes.as_slice(), b"sheet: byte 215: not expected here\n");
+    Ok(())
+}
+
+#[test]
+fn sheets_at_their_limit(rt: HostRuntime) -> Result<(), Fail> {
+    let alloc = rt.alloc();
+    let mut sheet = Bytes::of(alloc, b"xsugar-1\nstart s\ns : = <s/>\n#")?;
+    sheet.extend(many(alloc, b"x", 65_536 - 29)?.as_slice())?;
+    let most = ran(alloc, &["to-xml", SHEET], sheet.as_slice(), b"", 1000)?;
+    assert_eq!(rt; sheet.len(), 65_536);
+    assert_eq!(rt; most.out.as_slice(), b"<s/>\n");
+    sheet.extend(b"x")?;
+    let more = ran(alloc, &["to-xml", SHEET], sheet.as_slice(), b"", 1000)?;
+    assert_eq!(rt; more.status, 2);
+    assert_eq!(rt; more.notes.as_slice(), b"sheet: more than 65536 bytes\n");
+    Ok(())
+}
