@@ -6,9 +6,9 @@ use Rattle.std.proofs.lemmas.Map.Keys.{IsDistinct-cons}
 use Rattle.std.proofs.lemmas.Map.Steps.{length-le_from_distinct_below}
 use Rattle.xs_gram.specs.declared.parts.GItem.{GItem}
 use Rattle.xs_gram.specs.declared.parts.GItem.TheVariants.{Fixed, Term, Non, Skip}
-use Rattle.xs_gram.specs.Grammar.{Grammar, items, slots, IsRuleOf, IsTermWord}
-use Rattle.xs_gram.specs.Derivations.{Parts, done, fixed, leaf, skip, sub, Derivation, Fits, FitsItems}
-use Rattle.xs_gram.specs.Common.{Common, word, made, Kids, no_kid, kid, lookup, child_of, in_order, children, named, strip, Kind, of_term, of_non, kinds, TreeFits, KidsFit, KidFits}
+use Rattle.xs_gram.specs.Grammar.{Grammar, items, slots}
+use Rattle.xs_gram.specs.Derivations.{Parts, done, fixed, leaf, skip, sub, FitsItems}
+use Rattle.xs_gram.specs.Common.{Common, lookup, child_of, in_order, children, named, Kind, kinds, KidsFit, KidFits}
 use Rattle.xs_gram.specs.Laws.{Every, IsDistinct, IsNumbered, HasNumberedSlots}
 use Rattle.xs_gram.proofs.Lookup.{keys, length-keys}
 use Rattle.xs_turn.specs.Laws.{StrippedFits}
@@ -115,7 +115,7 @@ ordered_fit g is es of all (suc n) slot e =
 children_fit : (g : Grammar) (is : List GItem) (ps : Parts) → IsNumbered (slots is) → FitsItems g is ps → AreOf g (kinds is) (named g is ps) → KidsFit g is 0 (children (named g is ps))
 children_fit g is ps numbered fit of =
     let es : List (ℕ × Common) = named g is ps in
-    ordered_fit g is es of (found es (subst IsNumbered (sym (keys_are g is ps fit)) numbered)) (length es) 0 refl
+    ordered_fit g is es of (found es (subst IsNumbered (sym (keys_are g is ps fit)) numbered)) (length es) 0 (omega arith)
 
 -- the parts that have a slot are of the slots' kinds
 named_fit : (g : Grammar) → HasNumberedSlots g → (is : List GItem) (ps : Parts) → FitsItems g is ps → AreOf g (kinds is) (named g is ps)

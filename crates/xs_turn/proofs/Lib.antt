@@ -1,3 +1,2 @@
 pub mod Fitting
-pub mod Stopping
-pub mod Turning
+pub mod Sides

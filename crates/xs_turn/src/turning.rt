@@ -25,6 +25,7 @@ fn other_side(side: Side) -> Side
 /// `Foreign` is answered exactly where the document has no derivation, with the greatest number of
 /// its leading symbols that begin some document of this side. The forest lies in the arena. A
 /// document without ambiguity takes time linear in its chart and its two words.
+#[tactic(auto, using(crate::proofs::Sides::refusal_of))]
 pub fn turn<'b>(
     alloc: Global,
     bump: &'b Bump<Global>,
@@ -37,12 +38,6 @@ pub fn turn<'b>(
     ensures turned { IfOk result (λ t. IsTurned two.now side doc.now t.grown.forest t.grown.root (common_of t.tree) t.word) }
     ensures foreign { IfErr result (IsRefusal two.now side doc.now) }
 {
-    let turned = turn_between(
-        alloc,
-        bump,
-        two.gram(side),
-        two.gram(other_side(side)),
-        doc,
-    )?;
+    let turned = turn_between(alloc, bump, two.gram(side), two.gram(other_side(side)), doc)?;
     Ok(turned)
 }

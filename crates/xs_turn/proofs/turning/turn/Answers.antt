@@ -1,0 +1,8 @@
+use Rattle.xs_tree.specs.Flat.{common_of}
+use Rattle.xs_turn.proofs.Sides.{turned_of}
+use Rattle.xs_turn.proofs.turning.turn.Goals as goal
+
+pub returns-clause-turned : goal.returns-clause-turned
+returns-clause-turned c =
+    let t = c.in_ok-turned.turned in
+    turned_of c.args.two.now c.requires.sound c.args.side c.args.doc.now t.grown.forest t.grown.root (common_of t.tree) t.word c.gram.ensures c.other_side.ensures c.gram-2.ensures c.in_ok-turned.ensures.between
