@@ -1,5 +1,5 @@
 -- What is known of all regexes of one pattern.
-use Rattle.std.proofs.Common.{◌≡◌, ◌≤◌, sym, subst, ℕ, List, Bool, true, false, not, refl, arith}
+use Rattle.std.proofs.Common.{◌≡◌, ◌≤◌, subst, ℕ, List, Bool, true, false, not, refl, arith}
 use Rattle.std.specs.Prelude.{IsTrue, ◌↔◌}
 use Rattle.xs_regex.specs.declared.regex.Regex.{Regex}
 use Rattle.xs_regex.specs.declared.regex.Regex.TheVariants.{Empty, Set, Then', Or', Star', Times'}
@@ -9,7 +9,7 @@ use Rattle.xs_regex.specs.Pattern.{Tree, nothing, class, both, either, any, time
 use Rattle.xs_regex.specs.Size.{size, HasMembers}
 use Rattle.xs_regex.proofs.Meanings.{means_size, same_words}
 use Rattle.xs_regex.proofs.Readings.{same_reading}
-use Rattle.xs_pair.proofs.Tests.{yes, no}
+use Rattle.xs_pair.proofs.Decided.{yes, no}
 use Rattle.xs_wf.specs.Units.{HasEmptyClass, IsUnmatched}
 
 -- regexes of one tree have classes with the same members
