@@ -21,6 +21,7 @@ use Rattle.xs_top.specs.Sheets.{IsPairOfBytes}
 
 -- what is not strange is a character, letter by letter
 char_of : (c : ℕ) → (IsStrange c → ⊥) → is_char c ≡ true
+unfolding is_char
 char_of c sure = by (is_char c) refl
   where
     by : (t : Bool) → is_char c ≡ t → is_char c ≡ true
