@@ -1,5 +1,5 @@
 -- What makes the rules on the two grammars of a sheet fail.
-use Rattle.std.specs.Prelude.{◌≡◌, ◌⊎◌, ℕ, ◌<◌, Some, slice_get}
+use Rattle.std.specs.Prelude.{◌≡◌, ◌⊎◌, ℕ, ◌<◌, ◌≤◌, List, Some, slice_get}
 use Rattle.xs_sheet.specs.declared.sheet.Sheet.{Sheet}
 use Rattle.xs_gram.specs.Grammar.{Grammar, IsRuleOf}
 use Rattle.xs_gram.specs.Sound.{IsProductive, DerivesItself}
@@ -29,3 +29,7 @@ pub record IsFirstLineOf (p : Pair) (P : ℕ → Type 0) (line : ℕ) : Type 0 w
 -- the two grammars of the sheet have such a nonterminal, whose first production has this line
 abbrev pub FailsAmongNons : (Pair → ℕ → Type 0) → Sheet → ℕ → Type 0
 FailsAmongNons P s line = (p : Pair) × IsPairOf s p × IsFirstLineOf p (P p) line
+
+-- no line is less than an earlier one
+abbrev pub HaveOrderedLines : List ℕ → Type 0
+HaveOrderedLines lines = (j k a b : ℕ) → slice_get lines j ≡ Some a → slice_get lines k ≡ Some b → j ≤ k → a ≤ b
