@@ -1,2 +1,4 @@
 pub mod Lines
 pub mod Patterns
+pub mod Members
+pub mod Leasts

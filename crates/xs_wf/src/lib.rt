@@ -9,6 +9,9 @@ mod least;
 mod units;
 mod well;
 
-pub use least::{least_strange, least_unit};
+pub use least::{least_not_char, least_strange, least_unit};
 pub use units::{is_empty_unit, is_strange_rule, is_strange_unit, is_unmatched_unit};
 pub use well::WfFault;
+
+#[cfg(test)]
+mod tests;
