@@ -1,16 +1,13 @@
 -- The first seven rules among all twelve, and the order in which rules are told.
-use Rattle.std.proofs.Common.{◌≡◌, ◌<◌, ◌+◌, ℕ, refl, arith, Some, None}
-use Rattle.std.specs.declared.option.Option.{Option}
+use Rattle.std.proofs.Common.{◌≡◌, ◌<◌, ◌+◌, ℕ, arith, None}
 use Rattle.xs_sheet.specs.declared.sheet.Sheet.{Sheet}
 use Rattle.xs_pair.specs.declared.ill.Ill.{Ill}
 use Rattle.xs_pair.specs.declared.ill.IllRule.{IllRule}
 use Rattle.xs_pair.specs.declared.ill.IllRule.TheVariants.{Twice, Undefined, NoStart, NameOnce, Kind, AttrTwice, RootShape, EmptyClass, NotChar, Normal, Unproductive, Loop}
 use Rattle.xs_pair.specs.declared.fault.PairFault.{PairFault}
 use Rattle.xs_pair.specs.declared.fault.PairFault.TheVariants as P
-use Rattle.xs_pair.specs.Grammars.{Pair, IsPairOf}
+use Rattle.xs_pair.specs.Grammars.{Pair}
 use Rattle.xs_pair.specs.Verdict.{FailsAt, NoneFails, NoneBefore, IsLeast, IsFirstLine, IsFirstIll, IsRefusal as IsPairRefusal, order}
-use Rattle.xs_pair.proofs.Orders.{first_same}
-use Rattle.xs_wf.specs.Nonterminals.{IsFirstLineOf, FailsAmongNons}
 use Rattle.xs_wf.specs.Passing.{fault_of, Gives, AllGive}
 use Rattle.xs_wf.specs.Rules.{Fails, IsRefusal, IsWell}
 
@@ -107,7 +104,3 @@ all_give s p empty normal words straight NotChar = tt
 all_give s p empty normal words straight Normal = normal
 all_give s p empty normal words straight Unproductive = words
 all_give s p empty normal words straight Loop = straight
-
--- a nonterminal of one pair of the sheet is one of each, where all pairs agree
-pub nons_first : (P : Pair → ℕ → Type 0) (s : Sheet) (p : Pair) (o : Option ℕ) → IsPairOf s p → ((q : Pair) (line : ℕ) → IsPairOf s q → IsFirstLineOf q (P q) line → IsFirstLineOf p (P p) line) → IsFirstLine (IsFirstLineOf p (P p)) o → IsFirstLine (FailsAmongNons P s) o
-nons_first P s p o of agree first = first_same (IsFirstLineOf p (P p)) (FailsAmongNons P s) o (λ line fails. (p, of, fails)) (λ line (q, of_q, fails). agree q line of_q fails) first

@@ -1,7 +1,7 @@
 -- What is known of a sheet while its last five rules are tried.
-use Rattle.std.specs.Prelude.{⊤, ℕ, ◌<◌}
+use Rattle.std.specs.Prelude.{⊤, ℕ}
 use Rattle.xs_sheet.specs.declared.sheet.Sheet.{Sheet}
-use Rattle.xs_gram.specs.Sound.{IsBuilt, IsProductive, DerivesItself}
+use Rattle.xs_gram.specs.Sound.{IsBuilt}
 use Rattle.xs_pair.specs.declared.ill.IllRule.{IllRule}
 use Rattle.xs_pair.specs.declared.ill.IllRule.TheVariants.{Twice, Undefined, NoStart, NameOnce, Kind, AttrTwice, RootShape, EmptyClass, NotChar, Normal, Unproductive, Loop}
 use Rattle.xs_pair.specs.declared.fault.PairFault.{PairFault}
@@ -12,6 +12,7 @@ use Rattle.xs_pair.specs.Weights.{IsOfBytes}
 use Rattle.xs_wf.specs.declared.well.WfFault.{WfFault}
 use Rattle.xs_wf.specs.declared.well.WfFault.TheVariants as F
 use Rattle.xs_wf.specs.Units.{AreFine}
+use Rattle.xs_wf.specs.Nonterminals.{IsLooping, AreProductive}
 
 -- the same refusal
 abbrev pub fault_of : PairFault → WfFault
@@ -39,8 +40,8 @@ Gives s p RootShape = ⊤
 Gives s p EmptyClass = AreFine EmptyClass s.units
 Gives s p NotChar = ⊤
 Gives s p Normal = AreFine Normal s.units
-Gives s p Unproductive = (n : ℕ) → n < p.text.nons → IsProductive p.text n × IsProductive p.xml n
-Gives s p Loop = (n : ℕ) → (DerivesItself p.text n → ⊥) × (DerivesItself p.xml n → ⊥)
+Gives s p Unproductive = AreProductive p
+Gives s p Loop = (n : ℕ) → IsLooping p n → ⊥
 
 -- each rule that is tried gives what it does
 abbrev pub AllGive : Sheet → Pair → Type 0

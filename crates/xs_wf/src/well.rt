@@ -1,4 +1,5 @@
 ghost use Rattle.std.specs.Prelude.{◌≡◌, ◌+◌, None, IfOk, OnOk, IfErr};
+ghost use Rattle.xs_sheet.specs.Grammar.{HaveRegexes};
 ghost use Rattle.xs_pair.specs.declared.ill.IllRule.TheVariants as R;
 ghost use Rattle.xs_pair.specs.Grammars.{IsPairOf};
 ghost use Rattle.xs_pair.specs.Sound.{IsSoundPair};
@@ -49,6 +50,7 @@ impl From<PairFault> for WfFault {
 
 // The least line at which the rule on characters fails.
 fn least_character(alloc: Global, sheet: &Sheet) -> Result<Option<u32>, Memory>
+    requires { HaveRegexes sheet.now.units }
     ensures { IfOk result (IsFirstLine (Fails sheet.now R.NotChar)) }
 {
     let units = sheet.units.as_slice();
