@@ -147,10 +147,10 @@ from_first p ps behind rest line low is on keeps rise =
 
 unit_rises : (u : Unit) (ps rest : List Piece) (low : ℕ) → ReadsUnit (unit_outline u) ps rest → RiseFrom low (piece_lines ps) → (low ≤ unit_line u) × RiseFrom (unit_line u) (piece_lines rest)
 unit_rises (Terminal name pattern regex line) ps rest low r =
-    let front = r.name_piece ∷ r.equals ∷ r.pattern_piece ∷ [] in
+    let front : List Piece = r.name_piece ∷ r.equals ∷ r.pattern_piece ∷ [] in
     from_first r.word ps (front ++ rest) rest line low r.is r.line_is (cut front (front ++ rest) rest refl)
 unit_rises (Ignorable name pattern regex normal line) ps rest low r =
-    let front = r.name_piece ∷ r.equals ∷ r.pattern_piece ∷ r.normal_piece ∷ [] in
+    let front : List Piece = r.name_piece ∷ r.equals ∷ r.pattern_piece ∷ r.normal_piece ∷ [] in
     from_first r.word ps (front ++ rest) rest line low r.is r.line_is (cut front (front ++ rest) rest refl)
 unit_rises (Production name left right line) ps rest low r =
     from_first r.name_piece ps (r.colon ∷ r.behind) rest line low r.is r.line_is

@@ -11,7 +11,7 @@ use Rattle.xs_pair.specs.Grammars.{Pair, IsGramOf}
 use Rattle.xs_pair.specs.Sound.{IsSoundPair}
 use Rattle.xs_wf.specs.Units.{AreFine}
 use Rattle.xs_wf.specs.Passing.{AreGrammarsOf, AllGive}
-use Rattle.xs_wf.proofs.Members.{term_members, skip_members, has_normals}
+use Rattle.xs_wf.proofs.Members.{term_members as full_terms, skip_members as full_skips, has_normals}
 
 pub have_regexes : (s : Sheet) (p : Pair) → AreGrammarsOf s p → HaveRegexes s.units
 have_regexes s p are = are.bytes.2.regexes
@@ -19,8 +19,8 @@ have_regexes s p are = are.bytes.2.regexes
 sound_side : (s : Sheet) (p : Pair) (side : Side) (g : Grammar) → HaveRegexes s.units → IsGramOf s p.names side g → IsBuilt g → AreFine EmptyClass s.units → ((n : ℕ) → n < g.nons → IsProductive g n) → ((n : ℕ) → DerivesItself g n → ⊥) → IsSound g
 sound_side s p side g have of built full words straight = record {
   built = built;
-  term_members = term_members s p.names side g have full of;
-  skip_members = skip_members s p.names side g have full of;
+  term_members = full_terms s p.names side g have full of;
+  skip_members = full_skips s p.names side g have full of;
   productive = words;
   straight = straight;
 }
