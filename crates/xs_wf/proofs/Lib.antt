@@ -1,1 +1,4 @@
 pub mod Patterns
+pub mod Agreement
+pub mod Firsts
+pub mod Wordless
