@@ -174,31 +174,25 @@ rules_in_order s names side g is n m j k one two less = by_case (cases_lt j k)
     by_case (inr le) = not_before le (cases_lt k j)
 
 -- each nonterminal has a first rule
-side_has_rule : (s : Sheet) (names : List (List ℕ)) (side : Side) (g : Grammar) → IsGramOf s names side g → (n : ℕ) → n < g.nons → (k : ℕ) × IsFirstRule g n k
-side_has_rule s names side g is n lt = by_case (among_or_absent heads x)
+named_has_rule : (s : Sheet) (names : List (List ℕ)) (side : Side) (g : Grammar) → IsGramOf s names side g → (n : ℕ) (x : List ℕ) → slice_get (nons_of s.units) n ≡ Some x → IsAmong (names_of S.Production s.units) x ⊎ IsAbsent (names_of S.Production s.units) x → (k : ℕ) × IsFirstRule g n k
+named_has_rule s names side g is n x at (inl (k, found)) =
+    let heads : List (List ℕ) = names_of S.Production s.units in
+    (k, record { of = name_rule s names side g is n k x (found_there heads x k found) (firsts_distinct heads n x at); first = λ i low of. earlier i low of })
   where
-    heads : List (List ℕ)
-    heads = names_of S.Production s.units
-
-    x : List ℕ
-    x = get_or (nons_of s.units) n []
-
-    at : slice_get (nons_of s.units) n ≡ Some x
-    at = let long : g.nons ≡ length (nons_of s.units) = is.nons in slice_get-get_or (nons_of s.units) n [] (omega arith)
-
-    place : place_of (nons_of s.units) x ≡ Some n
-    place = firsts_distinct heads n x at
-
-    earlier : (k : ℕ) → place_of heads x ≡ Some k → (i : ℕ) → i < k → IsRuleOf g n i → ⊥
-    earlier k found i low of =
+    earlier : (i : ℕ) → i < k → IsRuleOf g n i → ⊥
+    earlier i low of =
         let (y, at_y, place_y) = rule_name s names side g is n i of in
         let same : y ≡ x = same_Some y x (sym (found_there (nons_of s.units) y n place_y) ∙ at) in
-        let (h, le, first) = first_before heads x i (at_y ∙ ap Some same) in
+        let (h, le, first) = first_before (names_of S.Production s.units) x i (at_y ∙ ap Some same) in
         let one : h ≡ k = same_Some h k (sym first ∙ found) in omega arith
+named_has_rule s names side g is n x at (inr none) = absurd (stands_nowhere (nons_of s.units) x n (absent_names [] (names_of S.Production s.units) x refl none) at)
 
-    by_case : IsAmong heads x ⊎ IsAbsent heads x → (k : ℕ) × IsFirstRule g n k
-    by_case (inl (k, found)) = (k, record { of = name_rule s names side g is n k x (found_there heads x k found) place; first = earlier k found })
-    by_case (inr none) = absurd (stands_nowhere (nons_of s.units) x n (absent_names [] heads x refl none) at)
+side_has_rule : (s : Sheet) (names : List (List ℕ)) (side : Side) (g : Grammar) → IsGramOf s names side g → (n : ℕ) → n < g.nons → (k : ℕ) × IsFirstRule g n k
+side_has_rule s names side g is n lt =
+    let x : List ℕ = get_or (nons_of s.units) n [] in
+    let long : g.nons ≡ length (nons_of s.units) = is.nons in
+    let at : slice_get (nons_of s.units) n ≡ Some x = slice_get-get_or (nons_of s.units) n [] (omega arith) in
+    named_has_rule s names side g is n x at (among_or_absent (names_of S.Production s.units) x)
 
 pub has_first_rule : (p : Pair) → IsPair p → (n : ℕ) → n < p.text.nons → (k : ℕ) × IsFirstRule p.text n k
 has_first_rule p (s, is) n lt = side_has_rule s p.names Text p.text is.text n lt
