@@ -1,7 +1,7 @@
 -- Nonterminals are numbered in the order of their first productions, so the first at which a rule fails
 -- tells the least line.
 use Rattle.std.proofs.Common.{◌≡◌, ◌⊎◌, ◌∙◌, ◌<◌, ◌≤◌, inl, inr, ap, sym, refl, subst, ℕ, suc, zero, List, [], ◌∷◌, ◌++◌, length, map, take, drop, get_or, Some, None, arith, slice_get}
-use Rattle.std.specs.Prelude.{IfSome, min}
+use Rattle.std.specs.Prelude.{IfSome}
 use Rattle.std.specs.Option.{option_map}
 use Rattle.std.specs.declared.option.Option.{Option}
 use Rattle.std.proofs.lemmas.Bool.{cases_lt}
@@ -26,7 +26,7 @@ use Rattle.xs_pair.specs.Units.{names_of, nons_of, with_name, with_names, firsts
 use Rattle.xs_pair.specs.Verdict.{IsLeast, IsFirstLine}
 use Rattle.xs_pair.proofs.Numbering.{number_is, among_at, firsts_have, rule_names, rule_is_named}
 use Rattle.xs_pair.proofs.Places.{found_there, first_before, stands_nowhere, among_or_absent, get_front, get_snoc, get_take, take_get, absent_snoc}
-use Rattle.xs_wf.specs.Nonterminals.{IsFirstRule, IsFirstLineOf, IsLineOf, IsLineOfSome, IsFirstNon, IsPair, HaveOrderedLines, IsLooping, lesser_of}
+use Rattle.xs_wf.specs.Nonterminals.{IsFirstRule, IsFirstLineOf, IsLineOf, IsLineOfSome, IsFirstNon, IsPair, HaveOrderedLines, IsLooping}
 
 -- an element among the first of two joined lists
 front_get : {A : Type 0} (xs ys : List A) (j : ℕ) (x : A) → j < length xs → slice_get (xs ++ ys) j ≡ Some x → slice_get xs j ≡ Some x
@@ -242,33 +242,6 @@ pub none_from : (p : Pair) (non least : Option ℕ) → IsLineOfSome p non least
 none_from p None least is none = refl
 none_from p (Some n) None is none = absurd is
 none_from p (Some n) (Some line) is none = cc
-
--- the first of which one of two holds
-pub first_of_two : (P Q : ℕ → Type 0) (one other : Option ℕ) → IsFirstNon P one → IsFirstNon Q other → IsFirstNon (λ n. P n ⊎ Q n) (lesser_of one other)
-first_of_two P Q None None first second = λ n holds. neither n holds
-  where
-    neither : (n : ℕ) → P n ⊎ Q n → ⊥
-    neither n (inl h) = first n h
-    neither n (inr h) = second n h
-first_of_two P Q (Some m) None first second = record { fails = inl first.fails; least = λ n holds. lower n holds }
-  where
-    lower : (n : ℕ) → P n ⊎ Q n → m ≤ n
-    lower n (inl h) = first.least n h
-    lower n (inr h) = absurd (second n h)
-first_of_two P Q None (Some m) first second = record { fails = inr second.fails; least = λ n holds. lower n holds }
-  where
-    lower : (n : ℕ) → P n ⊎ Q n → m ≤ n
-    lower n (inl h) = absurd (first n h)
-    lower n (inr h) = second.least n h
-first_of_two P Q (Some l) (Some m) first second = record { fails = by_case (cases_lt l m); least = λ n holds. lower n holds }
-  where
-    by_case : (l < m) ⊎ (m ≤ l) → P (min l m) ⊎ Q (min l m)
-    by_case (inl lt) = let is : l ≡ min l m = omega arith in inl (subst (λ n. P n) is first.fails)
-    by_case (inr le) = let is : m ≡ min l m = omega arith in inr (subst (λ n. Q n) is second.fails)
-
-    lower : (n : ℕ) → P n ⊎ Q n → min l m ≤ n
-    lower n (inl h) = let low = first.least n h in omega arith
-    lower n (inr h) = let low = second.least n h in omega arith
 
 pub loop_first : (g : Grammar) (n : ℕ) → IsFirstLoop g n → IsLeast (DerivesItself g) n
 loop_first g n first = record { fails = first.loops; least = λ m loops. by_case m loops (cases_lt m n) }

@@ -1,4 +1,6 @@
 pub mod Patterns
+pub mod Members
+pub mod Leasts
 pub mod Agreement
 pub mod Firsts
 pub mod Wordless

@@ -9,7 +9,7 @@ use Rattle.xs_regex.specs.Pattern.{Tree, nothing, class, both, either, any, time
 use Rattle.xs_regex.specs.Size.{size, HasMembers}
 use Rattle.xs_regex.proofs.Meanings.{means_size, same_words}
 use Rattle.xs_regex.proofs.Readings.{same_reading}
-use Rattle.xs_pair.proofs.Tests.{yes, no}
+use Rattle.xs_pair.proofs.Decided.{yes, no}
 use Rattle.xs_wf.specs.Units.{HasEmptyClass, IsUnmatched}
 
 -- regexes of one tree have classes with the same members
@@ -52,4 +52,12 @@ unmatched_test true pattern text r of test = no (λ (q, of_q, none). none (same_
 unmatched_test false pattern text r of test = yes (r, of, λ m. bad (test.1 m))
   where
     bad : false ≡ true → ⊥
+    bad e = cc
+
+-- what a test that is turned round says where it answers no
+pub fine_test : {P : Type 0} (b : Bool) → IsTrue b ↔ P → not b ≡ false → P
+fine_test true test e = test.0 refl
+fine_test false test e = absurd (bad e)
+  where
+    bad : true ≡ false → ⊥
     bad e = cc

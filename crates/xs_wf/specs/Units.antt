@@ -1,5 +1,6 @@
 -- What makes the rules on classes, characters and normal spellings fail.
-use Rattle.std.specs.Prelude.{◌⊎◌, ℕ, List}
+use Rattle.std.specs.Prelude.{◌⊎◌, ⊤, ℕ, List, None, Some}
+use Rattle.std.specs.declared.option.Option.{Option}
 use Rattle.xs_class.specs.Tables.{IsChar}
 use Rattle.xs_regex.specs.declared.regex.Regex.{Regex}
 use Rattle.xs_regex.specs.Matches.{Matches}
@@ -9,12 +10,14 @@ use Rattle.xs_sheet.specs.declared.item.Item.{Item}
 use Rattle.xs_sheet.specs.declared.item.Item.TheVariants as I
 use Rattle.xs_sheet.specs.declared.unit.Unit.{Unit}
 use Rattle.xs_sheet.specs.declared.unit.Unit.TheVariants.{Terminal, Ignorable, Production}
+use Rattle.xs_gram.specs.Building.{EachOf}
 use Rattle.xs_pair.specs.declared.ill.IllRule.{IllRule}
 use Rattle.xs_pair.specs.declared.ill.IllRule.TheVariants.{Twice, Undefined, NoStart, NameOnce, Kind, AttrTwice, RootShape, EmptyClass, NotChar, Normal, Unproductive, Loop}
 use Rattle.xs_pair.specs.declared.mark.Mark.{Mark}
 use Rattle.xs_pair.specs.declared.mark.Mark.TheVariants.{Opening, Attribute, AttributeEnd, Closing, Value, Content}
 use Rattle.xs_pair.specs.declared.production.Rule.{Rule}
 use Rattle.xs_pair.specs.Rules.{SomeOf}
+use Rattle.xs_pair.specs.Verdict.{earlier}
 
 -- a class in the pattern's regex has no member
 abbrev pub HasEmptyClass : List ℕ → Type 0
@@ -65,6 +68,37 @@ IsIllUnit Normal u = IsUnmatchedUnit u
 IsIllUnit Unproductive u = ⊥
 IsIllUnit Loop u = ⊥
 
+-- each class in the regex of a terminal or of an ignorable has a member
+abbrev pub IsFullUnit : Unit → Type 0
+IsFullUnit (Terminal name pattern regex line) = HasMembers regex
+IsFullUnit (Ignorable name pattern regex normal line) = HasMembers regex
+IsFullUnit (Production name left right line) = ⊤
+
+-- the regex of an ignorable matches its normal spelling
+abbrev pub IsMatchedUnit : Unit → Type 0
+IsMatchedUnit (Terminal name pattern regex line) = ⊤
+IsMatchedUnit (Ignorable name pattern regex normal line) = Matches regex normal
+IsMatchedUnit (Production name left right line) = ⊤
+
+-- what is known of a unit where a rule that speaks of single units does not fail
+abbrev pub IsFineUnit : IllRule → Unit → Type 0
+IsFineUnit Twice u = ⊤
+IsFineUnit Undefined u = ⊤
+IsFineUnit NoStart u = ⊤
+IsFineUnit NameOnce u = ⊤
+IsFineUnit Kind u = ⊤
+IsFineUnit AttrTwice u = ⊤
+IsFineUnit RootShape u = ⊤
+IsFineUnit EmptyClass u = IsFullUnit u
+IsFineUnit NotChar u = ⊤
+IsFineUnit Normal u = IsMatchedUnit u
+IsFineUnit Unproductive u = ⊤
+IsFineUnit Loop u = ⊤
+
+-- the same of each unit
+abbrev pub AreFine : IllRule → List Unit → Type 0
+AreFine rule us = EachOf (IsFineUnit rule) us
+
 -- a string holds a character that XML does not have
 abbrev pub IsStrangeItem : Item → Type 0
 IsStrangeItem (I.Fixed text) = HasStrange text
@@ -83,3 +117,8 @@ IsStrangeMark (Content i) = IsStrangeItem i
 -- a string on either side of the production holds a character that XML does not have
 abbrev pub IsStrangeRule : Rule → Type 0
 IsStrangeRule r = SomeOf IsStrangeMark r.left ⊎ SomeOf IsStrangeMark r.right
+
+-- the lesser of two lines, where there are any
+abbrev pub lesser : Option ℕ → Option ℕ → Option ℕ
+lesser None other = other
+lesser (Some line) other = Some (earlier other line)

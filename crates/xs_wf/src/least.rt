@@ -1,9 +1,9 @@
-ghost use Rattle.std.specs.Prelude.{◌≡◌, IsTrue, ◌↔◌, IfOk, if◌then◌else◌};
+ghost use Rattle.std.specs.Prelude.{◌≡◌, ◌⊎◌, ◌↔◌, None, false, IsTrue, IfOk, if◌then◌else◌};
 ghost use Rattle.xs_sheet.specs.Grammar.{HasRegex, HaveRegexes};
 ghost use Rattle.xs_pair.specs.declared.production.Rule.{Rule as AnyRule};
 ghost use Rattle.xs_pair.specs.Units as U;
 ghost use Rattle.xs_pair.specs.Verdict.{IsFirstLine, IsLineWhere, earlier as earlier_of};
-ghost use Rattle.xs_wf.specs.Units.{IsIllUnit, IsStrangeRule};
+ghost use Rattle.xs_wf.specs.Units.{IsIllUnit, IsStrangeUnit, IsStrangeRule, IsFineUnit, AreFine, lesser as lesser_of};
 
 use crate::units::{is_empty_unit, is_strange_rule, is_strange_unit, is_unmatched_unit};
 use std::alloc::Global;
@@ -32,10 +32,21 @@ fn with_line(least: Option<u32>, line: u32, fails: bool) -> Option<u32>
     }
 }
 
+// The lesser of two lines, where there are any.
+pub(crate) fn lesser(one: Option<u32>, other: Option<u32>) -> Option<u32>
+    ensures { result ≡ lesser_of one other }
+{
+    match one {
+        None => other,
+        Some(line) => Some(earlier(other, line)),
+    }
+}
+
 // Whether a rule that speaks of single units fails at this one.
 fn is_ill_unit(alloc: Global, rule: IllRule, unit: &Unit) -> Result<bool, Memory>
     requires { HasRegex unit.now }
-    ensures { IfOk result (λ b. IsTrue b ↔ IsIllUnit rule unit.now) }
+    ensures ill { IfOk result (λ b. IsTrue b ↔ IsIllUnit rule unit.now) }
+    ensures fine { IfOk result (λ b. b ≡ false → IsFineUnit rule unit.now) }
 {
     match rule {
         IllRule::EmptyClass => Ok(is_empty_unit(unit)),
@@ -50,7 +61,8 @@ fn is_ill_unit(alloc: Global, rule: IllRule, unit: &Unit) -> Result<bool, Memory
 /// The least line of a unit at which a rule that speaks of single units fails.
 pub fn least_unit(alloc: Global, rule: IllRule, units: &[Unit]) -> Result<Option<u32>, Memory>
     requires { HaveRegexes units.now }
-    ensures { IfOk result (IsFirstLine (IsLineWhere (λ k u. IsIllUnit rule u) U.unit_line units.now)) }
+    ensures ill { IfOk result (IsFirstLine (IsLineWhere (λ k u. IsIllUnit rule u) U.unit_line units.now)) }
+    ensures fine { IfOk result (λ least. least ≡ None → AreFine rule units.now) }
 {
     let mut least = None;
     'units: for unit in units {
@@ -70,4 +82,15 @@ pub fn least_strange(alloc: Global, rules: &[Rule]) -> Result<Option<u32>, Memor
         least = with_line(least, rule.line, fails);
     }
     Ok(least)
+}
+
+/// The least line of a unit in which a string or a normal spelling holds a character that XML does not
+/// have. The rules are the productions among the units.
+pub fn least_not_char(alloc: Global, units: &[Unit], rules: &[Rule]) -> Result<Option<u32>, Memory>
+    requires { HaveRegexes units.now }
+    ensures { IfOk result (IsFirstLine (λ line. IsLineWhere (λ k u. IsStrangeUnit u) U.unit_line units.now line ⊎ IsLineWhere (λ k r. IsStrangeRule r) (λ (r : AnyRule). r.line) rules.now line)) }
+{
+    let among_units = least_unit(alloc, IllRule::NotChar, units)?;
+    let among_rules = least_strange(alloc, rules)?;
+    Ok(lesser(among_units, among_rules))
 }

@@ -10,7 +10,10 @@ mod nonterminals;
 mod units;
 mod well;
 
-pub use least::{least_strange, least_unit};
+pub use least::{least_not_char, least_strange, least_unit};
 pub use nonterminals::{least_loop, least_unproductive};
 pub use units::{is_empty_unit, is_strange_rule, is_strange_unit, is_unmatched_unit};
 pub use well::WfFault;
+
+#[cfg(test)]
+mod tests;

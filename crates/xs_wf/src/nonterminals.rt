@@ -2,8 +2,9 @@ ghost use Rattle.std.specs.Prelude.{◌≡◌, ◌<◌, ◌&&◌, ℕ, false, No
 ghost use Rattle.xs_gram.specs.Sound.{IsBuilt, DerivesItself};
 ghost use Rattle.xs_order.specs.Order as O;
 ghost use Rattle.xs_pair.specs.Verdict.{IsFirstLine};
-ghost use Rattle.xs_wf.specs.Nonterminals.{IsUnproductive, IsLooping, IsWordless, IsFirstLineOf, IsPair, HaveOrderedLines, AreProductive, IsFirstNon, IsLineOf, IsLineOfSome, lesser_of};
+ghost use Rattle.xs_wf.specs.Nonterminals.{IsUnproductive, IsLooping, IsWordless, IsFirstLineOf, IsPair, HaveOrderedLines, AreProductive, IsFirstNon, IsLineOf, IsLineOfSome};
 
+use crate::least::lesser;
 use std::alloc::Global;
 use xs_class::{Memory, Side};
 use xs_gram::Gram;
@@ -58,17 +59,6 @@ fn first_loop(alloc: Global, gram: &Gram) -> Result<Option<u32>, Memory>
         Ok(_) => Ok(None),
         Err(OrderFault::Loop { non }) => Ok(Some(non)),
         Err(OrderFault::Memory) => Err(Memory),
-    }
-}
-
-// The lesser of two nonterminals, where there are two.
-fn lesser(one: Option<u32>, other: Option<u32>) -> Option<u32>
-    ensures { result ≡ lesser_of one other }
-{
-    match (one, other) {
-        (None, _) => other,
-        (Some(_), None) => one,
-        (Some(m), Some(n)) => Some(m.min(n)),
     }
 }
 

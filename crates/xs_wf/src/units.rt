@@ -1,9 +1,9 @@
-ghost use Rattle.std.specs.Prelude.{◌≡◌, ◌↔◌, IsTrue, IfOk};
+ghost use Rattle.std.specs.Prelude.{◌≡◌, ◌↔◌, false, IsTrue, IfOk};
 ghost use Rattle.std.specs.Str.{chars};
 ghost use Rattle.xs_regex.specs.Size.{HasMember, HasMembers};
 ghost use Rattle.xs_sheet.specs.Grammar.{HasRegex};
 ghost use Rattle.xs_pair.specs.Rules.{SomeOf};
-ghost use Rattle.xs_wf.specs.Units.{IsStrange, HasStrange, IsStrangeItem, IsStrangeMark, IsStrangeRule, IsEmptyUnit, IsStrangeUnit, IsUnmatchedUnit};
+ghost use Rattle.xs_wf.specs.Units.{IsStrange, HasStrange, IsStrangeItem, IsStrangeMark, IsStrangeRule, IsEmptyUnit, IsStrangeUnit, IsUnmatchedUnit, IsFullUnit, IsMatchedUnit};
 
 use std::alloc::{AllocError, Global};
 use xs_class::{Class, Memory, Sym, Text, Word, is_char};
@@ -37,7 +37,8 @@ fn has_members(regex: &Regex) -> bool
 /// Whether the regex of a terminal or of an ignorable has a class without member.
 pub fn is_empty_unit(unit: &Unit) -> bool
     requires { HasRegex unit.now }
-    ensures { IsTrue result ↔ IsEmptyUnit unit.now }
+    ensures ill { IsTrue result ↔ IsEmptyUnit unit.now }
+    ensures fine { result ≡ false → IsFullUnit unit.now }
 {
     match unit {
         Unit::Terminal { regex, .. } => !has_members(regex),
@@ -52,13 +53,19 @@ fn letters(alloc: Global, text: &str) -> Result<Vec<char>, AllocError>
     text.chars().collect(alloc)
 }
 
+fn is_strange(letter: char) -> bool
+    ensures { IsTrue result ↔ IsStrange letter }
+{
+    !is_char(letter as u32)
+}
+
 // Whether the text holds a character that XML does not have.
 fn has_strange(alloc: Global, text: &Text) -> Result<bool, Memory>
     ensures { IfOk result (λ b. IsTrue b ↔ HasStrange text.now) }
 {
     let letters = letters(alloc, text.as_str())?;
     'letters: for letter in &letters {
-        if !is_char(*letter as u32) {
+        if is_strange(*letter) {
             return Ok(true);
         }
     }
@@ -132,7 +139,8 @@ fn word_of(alloc: Global, text: &Text) -> Result<Word, Memory>
 /// Whether the regex of an ignorable does not match its normal spelling.
 pub fn is_unmatched_unit(alloc: Global, unit: &Unit) -> Result<bool, Memory>
     requires { HasRegex unit.now }
-    ensures { IfOk result (λ b. IsTrue b ↔ IsUnmatchedUnit unit.now) }
+    ensures ill { IfOk result (λ b. IsTrue b ↔ IsUnmatchedUnit unit.now) }
+    ensures fine { IfOk result (λ b. b ≡ false → IsMatchedUnit unit.now) }
 {
     match unit {
         Unit::Ignorable { regex, normal, .. } => {

@@ -1,6 +1,6 @@
 use Rattle.xs_pair.proofs.Places.{get_at, when_true}
 use Rattle.xs_pair.proofs.Lines.{some_at}
-use Rattle.xs_pair.proofs.Tests.{yes}
+use Rattle.xs_pair.proofs.Decided.{yes}
 use Rattle.xs_wf.specs.Units.{IsStrangeMark}
 use Rattle.xs_wf.proofs.units.some_strange.Goals as goal
 
