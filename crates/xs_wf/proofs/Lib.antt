@@ -4,5 +4,6 @@ pub mod Members
 pub mod Leasts
 pub mod Agreement
 pub mod Firsts
+pub mod Wordless
 mod Refusals
 mod Soundness

@@ -5,7 +5,7 @@ use Rattle.xs_sheet.specs.declared.sheet.Sheet.{Sheet}
 use Rattle.xs_gram.specs.Grammar.{Grammar, IsRuleOf}
 use Rattle.xs_gram.specs.Sound.{IsProductive, DerivesItself}
 use Rattle.xs_pair.specs.Grammars.{Pair, IsPairOf}
-use Rattle.xs_pair.specs.Verdict.{IsLeast, earlier}
+use Rattle.xs_pair.specs.Verdict.{IsFirstLine}
 
 -- the nonterminal derives no word on one of the sides
 abbrev pub IsUnproductive : Pair → ℕ → Type 0
@@ -50,13 +50,7 @@ IsWordless p n = (n < p.text.nons) × IsUnproductive p n
 
 -- the least nonterminal of which P holds, or none where it holds of none
 abbrev pub IsFirstNon : (ℕ → Type 0) → Option ℕ → Type 0
-IsFirstNon P None = (n : ℕ) → P n → ⊥
-IsFirstNon P (Some n) = IsLeast P n
-
--- the lesser of two nonterminals, where there are two
-abbrev pub lesser_of : Option ℕ → Option ℕ → Option ℕ
-lesser_of one None = one
-lesser_of one (Some n) = Some (earlier one n)
+IsFirstNon P non = IsFirstLine P non
 
 -- the line of the first production of the nonterminal
 pub record IsLineOf (p : Pair) (n line : ℕ) : Type 0 where

@@ -80,7 +80,7 @@ IsMatchedUnit (Terminal name pattern regex line) = ⊤
 IsMatchedUnit (Ignorable name pattern regex normal line) = Matches regex normal
 IsMatchedUnit (Production name left right line) = ⊤
 
--- what a rule that speaks of single units asks of one, where that is more than that nothing fails
+-- what is known of a unit where a rule that speaks of single units does not fail
 abbrev pub IsFineUnit : IllRule → Unit → Type 0
 IsFineUnit Twice u = ⊤
 IsFineUnit Undefined u = ⊤
