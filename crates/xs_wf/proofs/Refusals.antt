@@ -1,15 +1,14 @@
 -- The first seven rules among all twelve, and the order in which rules are told.
-use Rattle.std.proofs.Common.{◌≡◌, ◌<◌, ◌+◌, ℕ, arith, None}
+use Rattle.std.proofs.Common.{◌≡◌, ◌<◌, sym, subst, ℕ, arith}
 use Rattle.xs_sheet.specs.declared.sheet.Sheet.{Sheet}
 use Rattle.xs_pair.specs.declared.ill.Ill.{Ill}
 use Rattle.xs_pair.specs.declared.ill.IllRule.{IllRule}
 use Rattle.xs_pair.specs.declared.ill.IllRule.TheVariants.{Twice, Undefined, NoStart, NameOnce, Kind, AttrTwice, RootShape, EmptyClass, NotChar, Normal, Unproductive, Loop}
 use Rattle.xs_pair.specs.declared.fault.PairFault.{PairFault}
 use Rattle.xs_pair.specs.declared.fault.PairFault.TheVariants as P
-use Rattle.xs_pair.specs.Grammars.{Pair}
-use Rattle.xs_pair.specs.Verdict.{FailsAt, NoneFails, NoneBefore, IsLeast, IsFirstLine, IsFirstIll, IsRefusal as IsPairRefusal, order}
-use Rattle.xs_wf.specs.Passing.{fault_of, Gives, AllGive}
-use Rattle.xs_wf.specs.Rules.{Fails, IsRefusal, IsWell}
+use Rattle.xs_pair.specs.Verdict.{FailsAt, NoneFails, NoneBefore, IsFirstIll, IsRefusal as IsPairRefusal, order}
+use Rattle.xs_wf.specs.Passing.{fault_of}
+use Rattle.xs_wf.specs.Rules.{Fails, IsRefusal}
 
 -- where one of the first seven rules fails, it is one of the first seven
 seven_fail : (s : Sheet) (rule : IllRule) (line : ℕ) → FailsAt s rule line → Fails s rule line
@@ -70,37 +69,6 @@ refusal_kept s P.Memory is = is
 pub before_eight : (s : Sheet) → NoneFails (FailsAt s) → NoneBefore (Fails s) 7
 before_eight s passed = λ rule line lt fails. passed rule line (fail_seven s rule line lt fails)
 
--- one of the first seven rules, where none of them fails
-pub none_of_seven : (s : Sheet) (rule : IllRule) → order rule < 7 → NoneFails (FailsAt s) → IsFirstLine (Fails s rule) None
-none_of_seven s rule lt passed = λ line fails. passed rule line (fail_seven s rule line lt fails)
-
-in_order : (rule : IllRule) → order rule < 12
-in_order Twice = omega arith
-in_order Undefined = omega arith
-in_order NoStart = omega arith
-in_order NameOnce = omega arith
-in_order Kind = omega arith
-in_order AttrTwice = omega arith
-in_order RootShape = omega arith
-in_order EmptyClass = omega arith
-in_order NotChar = omega arith
-in_order Normal = omega arith
-in_order Unproductive = omega arith
-in_order Loop = omega arith
-
-pub all_pass : (s : Sheet) → NoneBefore (Fails s) 12 → IsWell s
-all_pass s before = λ rule line fails. before rule line (in_order rule) fails
-
-pub all_give : (s : Sheet) (p : Pair) → Gives s p EmptyClass → Gives s p Normal → Gives s p Unproductive → Gives s p Loop → AllGive s p
-all_give s p empty normal words straight Twice = tt
-all_give s p empty normal words straight Undefined = tt
-all_give s p empty normal words straight NoStart = tt
-all_give s p empty normal words straight NameOnce = tt
-all_give s p empty normal words straight Kind = tt
-all_give s p empty normal words straight AttrTwice = tt
-all_give s p empty normal words straight RootShape = tt
-all_give s p empty normal words straight EmptyClass = empty
-all_give s p empty normal words straight NotChar = tt
-all_give s p empty normal words straight Normal = normal
-all_give s p empty normal words straight Unproductive = words
-all_give s p empty normal words straight Loop = straight
+-- a rule that is one of the first seven fails nowhere, where none of them does
+pub none_of_seven : (s : Sheet) (rule first : IllRule) → rule ≡ first → order first < 7 → NoneFails (FailsAt s) → (line : ℕ) → Fails s rule line → ⊥
+none_of_seven s rule first is lt passed line fails = passed rule line (fail_seven s rule line (subst (λ r. order r < 7) (sym is) lt) fails)

@@ -16,6 +16,8 @@ pub use units::{is_empty_unit, is_strange_rule, is_strange_unit, is_unmatched_un
 pub use well::{WfFault, well_formed};
 
 #[cfg(test)]
+mod nonterminal_tests;
+#[cfg(test)]
 mod tests;
 #[cfg(test)]
 mod well_tests;
