@@ -16,4 +16,6 @@ pub use units::{is_empty_unit, is_strange_rule, is_strange_unit, is_unmatched_un
 pub use well::WfFault;
 
 #[cfg(test)]
+mod nonterminal_tests;
+#[cfg(test)]
 mod tests;
