@@ -1,5 +1,5 @@
 -- What is known of the regexes of a grammar, from what was tested of the units.
-use Rattle.std.proofs.Common.{◌≡◌, ◌⊎◌, ◌∙◌, ◌<◌, ◌+◌, inl, inr, sym, refl, subst, ℕ, suc, zero, List, [], ◌∷◌, ◌++◌, length, map, take, get_or, Some, None, Bool, true, false, slice_index_or}
+use Rattle.std.proofs.Common.{◌≡◌, ◌∙◌, ◌<◌, ◌+◌, sym, refl, subst, ℕ, suc, zero, List, [], ◌∷◌, ◌++◌, length, map, take, get_or, Some, None, Bool, true, false, slice_index_or}
 use Rattle.std.specs.Prelude.{if◌then◌else◌}
 use Rattle.std.specs.declared.option.Option.{Option}
 use Rattle.std.proofs.lemmas.Option.{none-some}
@@ -22,7 +22,7 @@ use Rattle.xs_pair.specs.declared.ill.IllRule.TheVariants as R
 use Rattle.xs_pair.specs.Grammars.{AreTermsOf, AreSkipsOf, IsGramOf}
 use Rattle.xs_pair.specs.Verdict.{earlier}
 use Rattle.xs_pair.proofs.Places.{take_next}
-use Rattle.xs_wf.specs.Units.{IsFineUnit, AreFine}
+use Rattle.xs_wf.specs.Units.{AreFine}
 use Rattle.xs_wf.proofs.Patterns.{same_members}
 
 -- P holds at each number, where it holds of what stands for one that is not there

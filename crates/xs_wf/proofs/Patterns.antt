@@ -1,5 +1,5 @@
 -- What is known of all regexes of one pattern.
-use Rattle.std.proofs.Common.{◌≡◌, ◌≤◌, sym, subst, ℕ, List, Bool, true, false, not, refl, arith}
+use Rattle.std.proofs.Common.{◌≡◌, ◌≤◌, subst, ℕ, List, Bool, true, false, not, refl, arith}
 use Rattle.std.specs.Prelude.{IsTrue, ◌↔◌}
 use Rattle.xs_regex.specs.declared.regex.Regex.{Regex}
 use Rattle.xs_regex.specs.declared.regex.Regex.TheVariants.{Empty, Set, Then', Or', Star', Times'}
@@ -52,12 +52,4 @@ unmatched_test true pattern text r of test = no (λ (q, of_q, none). none (same_
 unmatched_test false pattern text r of test = yes (r, of, λ m. bad (test.1 m))
   where
     bad : false ≡ true → ⊥
-    bad e = cc
-
--- what a test that is turned round says where it answers no
-pub fine_test : {P : Type 0} (b : Bool) → IsTrue b ↔ P → not b ≡ false → P
-fine_test true test e = test.0 refl
-fine_test false test e = absurd (bad e)
-  where
-    bad : true ≡ false → ⊥
     bad e = cc

@@ -1,4 +1,4 @@
-use Rattle.std.proofs.Common.{ℕ, take, subst, refl}
+use Rattle.std.proofs.Common.{ℕ, subst, refl}
 use Rattle.std.proofs.lemmas.List.{take_all}
 use Rattle.xs_pair.specs.declared.production.Rule.{Rule}
 use Rattle.xs_pair.specs.Verdict.{IsFirstLine, IsLineWhere}

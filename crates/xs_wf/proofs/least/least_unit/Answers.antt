@@ -1,4 +1,4 @@
-use Rattle.std.proofs.Common.{ℕ, take, subst}
+use Rattle.std.proofs.Common.{ℕ, subst}
 use Rattle.std.proofs.lemmas.List.{take_all}
 use Rattle.xs_sheet.specs.declared.unit.Unit.{Unit}
 use Rattle.xs_pair.specs.Units.{unit_line}

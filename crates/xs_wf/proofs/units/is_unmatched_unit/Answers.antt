@@ -1,4 +1,4 @@
-use Rattle.std.proofs.Common.{◌≡◌, sym, subst, not}
+use Rattle.std.proofs.Common.{sym, subst, not}
 use Rattle.std.specs.Prelude.{IsTrue, ◌↔◌}
 use Rattle.xs_regex.specs.Matches.{Matches}
 use Rattle.xs_sheet.specs.declared.unit.Unit.{Unit}
