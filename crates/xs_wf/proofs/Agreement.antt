@@ -25,9 +25,9 @@ use Rattle.xs_gram.specs.Building.{skip_part}
 use Rattle.xs_gram.specs.Derivations.{Parts, done, fixed, leaf, skip, sub, FitsItems}
 use Rattle.xs_gram.specs.Grammar.{Grammar, no_rule, no_terminal, no_ignorable, items, IsRuleOf, IsTermWord, IsSkipWord}
 use Rattle.xs_gram.specs.Sound.{IsNullable, IsProductive, IsNullableItem, LeadsTo, LeadsOn, once, onward, DerivesItself}
-use Rattle.xs_pair.specs.Grammars.{Pair, IsPairOf, IsGramOf, AreTermsOf, AreSkipsOf, numbering, rule_parts, grammar_of}
+use Rattle.xs_pair.specs.Grammars.{Pair, IsPairOf, IsGramOf, AreTermsOf, AreSkipsOf, numbering, rule_parts}
 use Rattle.xs_pair.specs.Listing.{rules_of}
-use Rattle.xs_pair.specs.Verdict.{IsLeast, IsFirstLine}
+use Rattle.xs_pair.specs.Verdict.{IsFirstLine}
 use Rattle.xs_wf.specs.Nonterminals.{IsUnproductive, IsLooping, IsFirstRule, IsFirstLineOf, FailsAmongNons}
 
 -- names in order are known by their members

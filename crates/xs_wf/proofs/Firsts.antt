@@ -1,7 +1,6 @@
 -- Nonterminals are numbered in the order of their first productions, so the first at which a rule fails
 -- tells the least line.
 use Rattle.std.proofs.Common.{◌≡◌, ◌⊎◌, ◌∙◌, ◌<◌, ◌≤◌, inl, inr, ap, sym, refl, subst, ℕ, suc, zero, List, [], ◌∷◌, ◌++◌, length, map, take, drop, get_or, Some, None, arith, slice_get}
-use Rattle.std.specs.Prelude.{IfSome}
 use Rattle.std.specs.Option.{option_map}
 use Rattle.std.specs.declared.option.Option.{Option}
 use Rattle.std.proofs.lemmas.Bool.{cases_lt}
@@ -9,24 +8,23 @@ use Rattle.std.proofs.lemmas.List.{length-map, take-append-drop, append_assoc, a
 use Rattle.std.proofs.lemmas.Option.{none-some, same_Some, slice_get_within, slice_get-get_or, slice_get-map}
 use Rattle.xs_class.specs.Ordered.{place_of}
 use Rattle.xs_class.specs.declared.side.Side.{Side}
-use Rattle.xs_class.specs.declared.side.Side.TheVariants.{Text, Xml}
+use Rattle.xs_class.specs.declared.side.Side.TheVariants.{Text}
 use Rattle.xs_class.proofs.Places.{first_is_found, nowhere_is_none}
 use Rattle.xs_sheet.specs.declared.sheet.Sheet.{Sheet}
 use Rattle.xs_gram.specs.declared.parts.RulePart.{RulePart}
 use Rattle.xs_gram.specs.Grammar.{Grammar, no_rule, rule_of, IsRuleOf}
-use Rattle.xs_gram.specs.Sound.{IsInRange, LeadsOn, once, onward, DerivesItself}
-use Rattle.xs_order.specs.Order.{IsFirstLoop}
+use Rattle.xs_gram.specs.Sound.{IsInRange}
 use Rattle.xs_pair.specs.declared.names.Sort.TheVariants as S
 use Rattle.xs_pair.specs.declared.production.Rule.{Rule}
 use Rattle.xs_pair.specs.Directories.{IsDistinct}
-use Rattle.xs_pair.specs.Grammars.{Pair, IsPairOf, IsGramOf, Numbering, numbering, rule_part}
+use Rattle.xs_pair.specs.Grammars.{Pair, IsGramOf, Numbering, numbering, rule_part}
 use Rattle.xs_pair.specs.Listing.{rules_of}
 use Rattle.xs_pair.specs.Rules.{IsAmong, IsAbsent}
 use Rattle.xs_pair.specs.Units.{names_of, nons_of, with_name, with_names, firsts, number_of}
-use Rattle.xs_pair.specs.Verdict.{IsLeast, IsFirstLine}
+use Rattle.xs_pair.specs.Verdict.{IsFirstLine}
 use Rattle.xs_pair.proofs.Numbering.{number_is, among_at, firsts_have, rule_names, rule_is_named}
 use Rattle.xs_pair.proofs.Places.{found_there, first_before, stands_nowhere, among_or_absent, get_front, get_snoc, get_take, take_get, absent_snoc}
-use Rattle.xs_wf.specs.Nonterminals.{IsFirstRule, IsFirstLineOf, IsLineOf, IsLineOfSome, IsFirstNon, IsPair, HaveOrderedLines, IsLooping}
+use Rattle.xs_wf.specs.Nonterminals.{IsFirstRule, IsFirstLineOf, IsLineOfSome, IsFirstNon, IsPair, HaveOrderedLines}
 
 -- an element among the first of two joined lists
 front_get : {A : Type 0} (xs ys : List A) (j : ℕ) (x : A) → j < length xs → slice_get (xs ++ ys) j ≡ Some x → slice_get xs j ≡ Some x
@@ -197,28 +195,9 @@ side_has_rule s names side g is n lt =
 pub has_first_rule : (p : Pair) → IsPair p → (n : ℕ) → n < p.text.nons → (k : ℕ) × IsFirstRule p.text n k
 has_first_rule p (s, is) n lt = side_has_rule s p.names Text p.text is.text n lt
 
--- what the two sides of a pair have in common
-pub lines_long : (p : Pair) → IsPair p → length p.lines ≡ length p.text.rules
-lines_long p (s, is) = ap length is.lines ∙ length-map (rules_of s.units) (λ (r : Rule). r.line) ∙ sym (ap length is.text.rules ∙ length-map (rules_of s.units) (rule_part (numbering s.units p.names) Text))
-
-pub nons_same : (p : Pair) → IsPair p → p.text.nons ≡ p.xml.nons
-nons_same p (s, is) = is.text.nons ∙ sym is.xml.nons
-
--- nonterminals that have a rule, or that derive themselves alone, are there
+-- a nonterminal that has a rule is there
 pub rule_bound : (g : Grammar) → IsInRange g → (n rule : ℕ) → IsRuleOf g n rule → n < g.nons
 rule_bound g range n rule of = subst (λ (m : ℕ). m < g.nons) of.1 (range.rules rule of.0)
-
-leads_bound : (g : Grammar) → IsInRange g → (n m : ℕ) → LeadsOn g n m → n < g.nons
-leads_bound g range n m (once leads) = rule_bound g range n leads.rule leads.of
-leads_bound g range n m (onward leads rest) = rule_bound g range n leads.rule leads.of
-
-pub looping_bound : (p : Pair) → IsPair p → IsInRange p.text → IsInRange p.xml → (n : ℕ) → IsLooping p n → n < p.text.nons
-looping_bound p pair text xml n (inl loops) = leads_bound p.text text n n loops
-looping_bound p pair text xml n (inr loops) = let low : n < p.xml.nons = leads_bound p.xml xml n n loops in let same = nons_same p pair in omega arith
-
-pub first_bound : (count : ℕ) (P : ℕ → Type 0) → ((n : ℕ) → P n → n < count) → (non : Option ℕ) → IsFirstNon P non → IfSome non (λ n. n < count)
-first_bound count P bound None first = tt
-first_bound count P bound (Some n) first = bound n first.fails
 
 -- the line of the first nonterminal is the least one
 pub first_line_is : (p : Pair) (P Q : ℕ → Type 0) (non least : Option ℕ) → IsPair p → HaveOrderedLines p.lines → ((n : ℕ) → P n → Q n) → ((n rule : ℕ) → IsRuleOf p.text n rule → Q n → P n) → IsFirstNon P non → IsLineOfSome p non least → IsFirstLine (IsFirstLineOf p Q) least
@@ -242,10 +221,3 @@ pub none_from : (p : Pair) (non least : Option ℕ) → IsLineOfSome p non least
 none_from p None least is none = refl
 none_from p (Some n) None is none = absurd is
 none_from p (Some n) (Some line) is none = cc
-
-pub loop_first : (g : Grammar) (n : ℕ) → IsFirstLoop g n → IsLeast (DerivesItself g) n
-loop_first g n first = record { fails = first.loops; least = λ m loops. by_case m loops (cases_lt m n) }
-  where
-    by_case : (m : ℕ) → DerivesItself g m → (m < n) ⊎ (n ≤ m) → n ≤ m
-    by_case m loops (inl lt) = absurd (first.first m lt loops)
-    by_case m loops (inr le) = le

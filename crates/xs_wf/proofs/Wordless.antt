@@ -1,7 +1,6 @@
 -- The first nonterminal without a word on one of the sides, by flags.
-use Rattle.std.proofs.Common.{◌≡◌, ◌⊎◌, ◌<◌, ◌≤◌, ◌+◌, inl, inr, subst, refl, ℕ, List, Bool, true, false, get_or, Some, None, arith}
+use Rattle.std.proofs.Common.{◌≡◌, ◌⊎◌, ◌<◌, ◌≤◌, ◌+◌, inl, inr, subst, ℕ, List, Bool, true, false, get_or, Some, None, arith}
 use Rattle.std.specs.Prelude.{IsTrue, ◌↔◌, ◌&&◌}
-use Rattle.std.specs.declared.option.Option.{Option}
 use Rattle.std.proofs.lemmas.Bool.{cases_lt, and_parts}
 use Rattle.xs_gram.specs.Sound.{IsProductive}
 use Rattle.xs_order.specs.Order as O
