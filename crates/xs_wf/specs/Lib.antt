@@ -1,3 +1,4 @@
 pub mod Units
 pub mod Nonterminals
 pub mod Rules
+pub mod Passing

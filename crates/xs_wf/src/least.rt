@@ -33,7 +33,7 @@ fn with_line(least: Option<u32>, line: u32, fails: bool) -> Option<u32>
 }
 
 // The lesser of two lines, where there are any.
-fn lesser(one: Option<u32>, other: Option<u32>) -> Option<u32>
+pub(crate) fn lesser(one: Option<u32>, other: Option<u32>) -> Option<u32>
     ensures { result ≡ lesser_of one other }
 {
     match one {

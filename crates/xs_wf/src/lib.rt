@@ -2,16 +2,22 @@
 //!
 //! The first seven rules give a sheet its two grammars; here stand the other five. The definitions
 //! stand in specs/: Units (classes, characters, normal spellings), Nonterminals (words and loops),
-//! Rules (all twelve).
+//! Rules (all twelve), Passing (what is known while the last five are tried).
 #![tactic(auto)]
 
 mod least;
+mod nonterminals;
 mod units;
 mod well;
 
 pub use least::{least_not_char, least_strange, least_unit};
+pub use nonterminals::{least_loop, least_unproductive};
 pub use units::{is_empty_unit, is_strange_rule, is_strange_unit, is_unmatched_unit};
-pub use well::WfFault;
+pub use well::{WfFault, well_formed};
 
 #[cfg(test)]
+mod nonterminal_tests;
+#[cfg(test)]
 mod tests;
+#[cfg(test)]
+mod well_tests;

@@ -1,13 +1,17 @@
-ghost use Rattle.std.specs.Prelude.{◌≡◌, IfOk, IfErr};
-ghost use Rattle.xs_gram.specs.Sound.{IsBuilt};
+ghost use Rattle.std.specs.Prelude.{◌≡◌, ◌+◌, None, IfOk, OnOk, IfErr};
+ghost use Rattle.xs_sheet.specs.Grammar.{HaveRegexes};
+ghost use Rattle.xs_pair.specs.declared.ill.IllRule.TheVariants as R;
 ghost use Rattle.xs_pair.specs.Grammars.{IsPairOf};
 ghost use Rattle.xs_pair.specs.Sound.{IsSoundPair};
+ghost use Rattle.xs_pair.specs.Verdict.{IsFirstLine, NoneBefore, order};
 ghost use Rattle.xs_pair.specs.Weights.{IsOfBytes};
-ghost use Rattle.xs_wf.specs.Rules.{IsWell, IsRefusal};
+ghost use Rattle.xs_wf.specs.Passing.{AreGrammarsOf, Gives, AllGive};
+ghost use Rattle.xs_wf.specs.Rules.{Fails, IsWell, IsRefusal};
 
+use crate::{least_loop, least_not_char, least_unit, least_unproductive};
 use std::alloc::Global;
 use xs_class::Memory;
-use xs_pair::{Ill, Two};
+use xs_pair::{Ill, IllRule, PairFault, Two, both, rules_of};
 use xs_sheet::Sheet;
 
 /// Why a sheet is not well formed.
@@ -30,6 +34,82 @@ impl From<Memory> for WfFault {
     }
 }
 
+impl From<PairFault> for WfFault {
+    ghost use Rattle.std.specs.Prelude.{◌≡◌};
+    ghost use Rattle.xs_wf.specs.Passing.{fault_of};
+
+    ghost from_gives = { λ fault e. e ≡ fault_of fault };
+
+    fn from(fault: PairFault) -> Self {
+        match fault {
+            PairFault::Ill(ill) => WfFault::Ill(ill),
+            PairFault::Memory => WfFault::Memory,
+        }
+    }
+}
+
+// The least line at which the rule on characters fails.
+fn least_character(alloc: Global, sheet: &Sheet) -> Result<Option<u32>, Memory>
+    requires { HaveRegexes sheet.now.units }
+    ensures { IfOk result (IsFirstLine (Fails sheet.now R.NotChar)) }
+{
+    let units = sheet.units.as_slice();
+    let rules = rules_of(alloc, units)?;
+    least_not_char(alloc, units, &rules)
+}
+
+// The least line at which the rule fails.
+fn least(alloc: Global, sheet: &Sheet, two: &Two, rule: IllRule) -> Result<Option<u32>, Memory>
+    requires { AreGrammarsOf sheet.now two.now }
+    ensures first { IfOk result (IsFirstLine (Fails sheet.now rule)) }
+    ensures gives { IfOk result (λ least. least ≡ None → Gives sheet.now two.now rule) }
+{
+    match rule {
+        IllRule::Twice => Ok(None),
+        IllRule::Undefined => Ok(None),
+        IllRule::NoStart => Ok(None),
+        IllRule::NameOnce => Ok(None),
+        IllRule::Kind => Ok(None),
+        IllRule::AttrTwice => Ok(None),
+        IllRule::RootShape => Ok(None),
+        IllRule::EmptyClass => least_unit(alloc, IllRule::EmptyClass, sheet.units.as_slice()),
+        IllRule::NotChar => least_character(alloc, sheet),
+        IllRule::Normal => least_unit(alloc, IllRule::Normal, sheet.units.as_slice()),
+        IllRule::Unproductive => least_unproductive(alloc, two),
+        IllRule::Loop => least_loop(alloc, two),
+    }
+}
+
+// Goes on where the rule fails nowhere.
+fn pass(alloc: Global, sheet: &Sheet, two: &Two, rule: IllRule) -> Result<(), WfFault>
+    requires grammars { AreGrammarsOf sheet.now two.now }
+    requires before { NoneBefore (Fails sheet.now) (order rule) }
+    ensures ok { OnOk result (NoneBefore (Fails sheet.now) (order rule + 1)) }
+    ensures gives { OnOk result (Gives sheet.now two.now rule) }
+    ensures ill { IfErr result (IsRefusal sheet.now) }
+{
+    let least = least(alloc, sheet, two, rule)?;
+    match least {
+        None => Ok(()),
+        Some(line) => Err(WfFault::Ill(Ill { rule, line })),
+    }
+}
+
+// Refuses the first of the last five rules that fails, at the least line at which it does.
+fn check(alloc: Global, sheet: &Sheet, two: &Two) -> Result<(), WfFault>
+    requires { AreGrammarsOf sheet.now two.now }
+    ensures well { OnOk result (IsWell sheet.now) }
+    ensures gives { OnOk result (AllGive sheet.now two.now) }
+    ensures ill { IfErr result (IsRefusal sheet.now) }
+{
+    pass(alloc, sheet, two, IllRule::EmptyClass)?;
+    pass(alloc, sheet, two, IllRule::NotChar)?;
+    pass(alloc, sheet, two, IllRule::Normal)?;
+    pass(alloc, sheet, two, IllRule::Unproductive)?;
+    pass(alloc, sheet, two, IllRule::Loop)?;
+    Ok(())
+}
+
 /// The two grammars of a well-formed sheet.
 ///
 /// `Ill` comes exactly where one of the twelve rules fails: the first that does, with the least line
@@ -42,5 +122,7 @@ pub fn well_formed(alloc: Global, sheet: &Sheet) -> Result<Two, WfFault>
     ensures well { IfOk result (λ _. IsWell sheet.now) }
     ensures ill { IfErr result (IsRefusal sheet.now) }
 {
-    Err(WfFault::Memory)
+    let two = both(alloc, sheet)?;
+    check(alloc, sheet, &two)?;
+    Ok(two)
 }
