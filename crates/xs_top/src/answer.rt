@@ -1,4 +1,6 @@
 ghost use Rattle.std.specs.Prelude.{IfOk, IfErr};
+ghost use Rattle.xs_sheet.specs.declared.sheet.Sheet.{Sheet as AnySheet};
+ghost use Rattle.xs_pair.specs.Grammars.{IsPairOf};
 ghost use Rattle.xs_pair.specs.Sound.{IsSoundPair};
 ghost use Rattle.xs_balance.specs.Laws.{CanBeWritten};
 ghost use Rattle.xs_top.specs.Meaning.{ask_meant};
@@ -24,6 +26,7 @@ pub const DOCUMENT_LIMIT: usize = 1_048_576;
 
 // The answer to a document.
 fn answer_to(alloc: Global, two: &Two, job: Job, bytes: &[u8]) -> Result<Bytes, Stop>
+    requires pair { (s : AnySheet) × IsPairOf s two.now }
     requires sound { IsSoundPair two.now }
     requires writable { CanBeWritten two.now }
     ensures answer { IfOk result (IsAnswer two.now job bytes.now) }

@@ -17,3 +17,6 @@ returns-clause-stop g c =
 
 pub answer_to-requires-clause-writable : goal.answer_to-requires-clause-writable
 answer_to-requires-clause-writable g c = can_be_written c.words_can_be_written.ensures c.as_slice.result.now c.in-Ok-pair_of.two c.in-Ok-pair_of.ensures.pair
+
+pub answer_to-requires-clause-pair : goal.answer_to-requires-clause-pair
+answer_to-requires-clause-pair g c = (c.in-Ok-pair_of.ensures.pair.sheet, c.in-Ok-pair_of.ensures.pair.pair)
