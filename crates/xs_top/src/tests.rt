@@ -25,7 +25,8 @@ const RIGHT: &str = "xsugar-1\nstart s\ns : [l x] = <s>[l x]</s>\nl : =\nl : \"a
 const TWINS: &str = "xsugar-1\nstart s\ns : [s a] [s b] = <s>[s a][s b]</s>\ns : \"a\" = <a/>\n";
 
 // What a run gave: its status, and what `out` and `notes` took.
-struct Ran {
+#[derive(Drop)]
+struct Ended {
     status: u8,
     out: Bytes,
     notes: Bytes,
@@ -46,7 +47,7 @@ fn ran(
     sheet: &[u8],
     input: &[u8],
     room: usize,
-) -> Result<Ran, Memory> {
+) -> Result<Ended, Memory> {
     let mut shelf = SureShelf::new(alloc);
     shelf.add(Text::of(alloc, SHEET)?, Bytes::of(alloc, sheet)?)?;
     let mut input = SureSource::new(Bytes::of(alloc, input)?);
@@ -54,7 +55,7 @@ fn ran(
     let mut notes = SureSink::with_room(alloc, 1000)?;
     let words = strings(alloc, words)?;
     let outcome: Outcome = run(alloc, &words, &mut shelf, &mut input, &mut out, &mut notes)?;
-    Ok(Ran {
+    Ok(Ended {
         status: status(&outcome),
         out: Bytes::of(alloc, out.taken())?,
         notes: Bytes::of(alloc, notes.taken())?,
@@ -62,6 +63,6 @@ fn ran(
 }
 
 // A run of these words over the sheet, with room for a thousand bytes.
-fn tried(alloc: Global, words: &[&str], sheet: &str, input: &[u8]) -> Result<Ran, Memory> {
+fn tried(alloc: Global, words: &[&str], sheet: &str, input: &[u8]) -> Result<Ended, Memory> {
     ran(alloc, words, sheet.as_bytes(), input, 1000)
 }

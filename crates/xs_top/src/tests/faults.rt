@@ -17,7 +17,8 @@ enum Device {
 }
 
 // What a run gave: its outcome, and what `out` and `notes` took.
-struct Ran {
+#[derive(Drop)]
+struct Ended {
     outcome: Outcome,
     out: Bytes,
     notes: Bytes,
@@ -37,7 +38,7 @@ fn failing(
     device: Device,
     call: u64,
     step: usize,
-) -> Result<Ran, Memory> {
+) -> Result<Ended, Memory> {
     let step = step.max(1);
     let mut shelf = MemShelf::new(alloc, vec![in alloc; call_of(Device::Shelf, device, call)]?);
     shelf.add(Text::of(alloc, SHEET)?, Bytes::of(alloc, PAIR.as_bytes())?)?;
@@ -50,7 +51,7 @@ fn failing(
     let mut notes = MemSink::new(alloc, step, vec![in alloc; call_of(Device::Notes, device, call)]?);
     let words = strings(alloc, words)?;
     let outcome = run(alloc, &words, &mut shelf, &mut input, &mut out, &mut notes)?;
-    Ok(Ran {
+    Ok(Ended {
         outcome,
         out: Bytes::of(alloc, out.taken())?,
         notes: Bytes::of(alloc, notes.taken())?,
@@ -80,18 +81,18 @@ fn the_rows_of_single_faults(rt: HostRuntime) -> Result<(), Fail> {
     let alloc = rt.alloc();
     let read = failing(alloc, &TO_XML, b"(3,7)", Device::Input, 2, 5)?;
     assert_eq!(rt; status(&read.outcome), 6);
-    assert_eq!(rt; read.notes.as_slice(), b"input: cannot be read\n");
+    assert_eq!(rt; read.notes.as_slice(), "input: cannot be read\n".as_bytes());
     let write = failing(alloc, &TO_XML, b"(3,7)", Device::Out, 3, 1)?;
     assert_eq!(rt; cut_of(&write.outcome), Some(2));
-    assert_eq!(rt; write.out.as_slice(), b"<p");
-    assert_eq!(rt; write.notes.as_slice(), b"output: cannot be written after 2 bytes\n");
+    assert_eq!(rt; write.out.as_slice(), "<p".as_bytes());
+    assert_eq!(rt; write.notes.as_slice(), "output: cannot be written after 2 bytes\n".as_bytes());
     let told = failing(alloc, &TO_XML, b"(3,7]", Device::Notes, 6, 1)?;
     assert_eq!(rt; untold(&told.outcome), Some((1, 5)));
-    assert_eq!(rt; told.notes.as_slice(), b"input");
+    assert_eq!(rt; told.notes.as_slice(), "input".as_bytes());
     assert_eq!(rt; status(&told.outcome), 6);
     let none = failing(alloc, &[], b"", Device::Notes, 1, 1)?;
     assert_eq!(rt; untold(&none.outcome), Some((5, 0)));
-    assert_eq!(rt; none.notes.as_slice(), b"");
+    assert_eq!(rt; none.notes.as_slice(), "".as_bytes());
     Ok(())
 }
 
@@ -145,7 +146,7 @@ fn each_failing_call_of_notes_is_answered(rt: HostRuntime) -> Result<(), Fail> {
                 assert_eq!(rt; status(&run.outcome), 1);
                 assert_eq!(rt; run.notes.as_slice(), line);
             }
-            assert_eq!(rt; run.out.as_slice(), b"");
+            assert_eq!(rt; run.out.as_slice(), "".as_bytes());
         }
     }
     Ok(())
@@ -162,7 +163,7 @@ fn notes_may_fail_at_the_line_of_a_failing_out(rt: HostRuntime) -> Result<(), Fa
     let words = strings(alloc, &TO_XML)?;
     let outcome = run(alloc, &words, &mut shelf, &mut input, &mut out, &mut notes)?;
     assert_eq!(rt; untold(&outcome), Some((6, 6)));
-    assert_eq!(rt; out.taken(), b"<p");
-    assert_eq!(rt; notes.taken(), b"output");
+    assert_eq!(rt; out.taken(), "<p".as_bytes());
+    assert_eq!(rt; notes.taken(), "output".as_bytes());
     Ok(())
 }

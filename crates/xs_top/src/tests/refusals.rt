@@ -1,15 +1,17 @@
 use super::{LETTERS, NESTED, PAIR, SHEET, TWINS, tried};
+use std::alloc::Global;
+use std::process::Abort;
 use std::test::Fail;
 
 // Runs that are refused: the words, the sheet, the input, the status, and what `notes` takes.
 type Row<'t> = (&'t [&'t str], &'t str, &'t [u8], u8, &'t [u8]);
 
-fn are_refused(rt: HostRuntime, rows: &[Row<'_>]) -> Result<(), Fail> {
+fn are_refused(rt: &impl Abort, alloc: Global, rows: &[Row<'_>]) -> Result<(), Fail> {
     for (words, sheet, input, status, notes) in rows {
-        let run = tried(rt.alloc(), words, sheet, input)?;
+        let run = tried(alloc, words, sheet, input)?;
         assert_eq!(rt; run.notes.as_slice(), *notes);
         assert_eq!(rt; run.status, *status);
-        assert_eq!(rt; run.out.as_slice(), b"");
+        assert_eq!(rt; run.out.as_slice(), "".as_bytes());
     }
     Ok(())
 }
@@ -32,7 +34,7 @@ fn foreign_texts(rt: HostRuntime) -> Result<(), Fail> {
         (&["trees", SHEET, "7"], TWINS, b"aab", 1, b"input: foreign after 2 symbols\n"),
         (&["round", SHEET, "xml"], LETTERS, b"<q/>", 1, b"input: foreign after 0 symbols\n"),
     ];
-    are_refused(rt, &rows)
+    are_refused(&rt, rt.alloc(), &rows)
 }
 
 #[test]
@@ -43,7 +45,7 @@ fn inputs_that_are_no_utf8(rt: HostRuntime) -> Result<(), Fail> {
         (TO_TEXT, LETTERS, b"<s>\xc3", 4, b"input: byte 3: not UTF-8\n"),
         (&["trees", SHEET, "7"], TWINS, b"\x80", 4, b"input: byte 0: not UTF-8\n"),
     ];
-    are_refused(rt, &rows)
+    are_refused(&rt, rt.alloc(), &rows)
 }
 
 #[test]
@@ -60,7 +62,7 @@ fn inputs_that_are_no_xml(rt: HostRuntime) -> Result<(), Fail> {
         (b"<s>aa</t>", b"input: character 5: not XML\n"),
     ];
     for (input, notes) in rows {
-        are_refused(rt, &[(TO_TEXT, LETTERS, input, 4, notes)])?;
+        are_refused(&rt, rt.alloc(), &[(TO_TEXT, LETTERS, input, 4, notes)])?;
     }
     Ok(())
 }
@@ -72,7 +74,7 @@ fn documents_of_other_names(rt: HostRuntime) -> Result<(), Fail> {
         (TO_TEXT, LETTERS, b"<s z=\"1\">aa</s>", 1, b"input: foreign after 1 symbols\n"),
         (TO_TEXT, LETTERS, b"<s>ab</s>", 1, b"input: foreign after 2 symbols\n"),
     ];
-    are_refused(rt, &rows)
+    are_refused(&rt, rt.alloc(), &rows)
 }
 
 const USAGE: &[u8] = b"usage: xsugar check S | to-xml S [F] | to-text S | round S text [F] | round S xml | trees S M | sheet | make SEED LINES\n";
@@ -94,12 +96,12 @@ fn words_that_are_no_command(rt: HostRuntime) -> Result<(), Fail> {
         &["--help"],
     ];
     for words in lists {
-        are_refused(rt, &[(words, PAIR, b"(3,7)", 5, USAGE)])?;
+        are_refused(&rt, rt.alloc(), &[(words, PAIR, b"(3,7)", 5, USAGE)])?;
     }
     Ok(())
 }
 
 #[test]
 fn a_sheet_that_is_not_there(rt: HostRuntime) -> Result<(), Fail> {
-    are_refused(rt, &[(&["to-xml", "gone"], PAIR, b"(3,7)", 6, b"sheet: cannot be read\n")])
+    are_refused(&rt, rt.alloc(), &[(&["to-xml", "gone"], PAIR, b"(3,7)", 6, b"sheet: cannot be read\n")])
 }

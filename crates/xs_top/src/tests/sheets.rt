@@ -1,17 +1,18 @@
 use super::{SHEET, ran, tried};
 use std::alloc::Global;
+use std::process::Abort;
 use std::test::Fail;
 use xs_class::{Bytes, Memory};
 
 // A sheet that is refused on its own, with the line that says why.
 type Row<'t> = (&'t str, &'t [u8]);
 
-fn are_refused(rt: HostRuntime, rows: &[Row<'_>]) -> Result<(), Fail> {
+fn are_refused(rt: &impl Abort, alloc: Global, rows: &[Row<'_>]) -> Result<(), Fail> {
     for (sheet, notes) in rows {
-        let run = tried(rt.alloc(), &["to-xml", SHEET], sheet, b"a")?;
+        let run = tried(alloc, &["to-xml", SHEET], sheet, b"a")?;
         assert_eq!(rt; run.notes.as_slice(), *notes);
         assert_eq!(rt; run.status, 2);
-        assert_eq!(rt; run.out.as_slice(), b"");
+        assert_eq!(rt; run.out.as_slice(), "".as_bytes());
     }
     Ok(())
 }
@@ -26,7 +27,7 @@ fn sheets_with_a_token_out_of_place(rt: HostRuntime) -> Result<(), Fail> {
         ("", b"sheet: byte 0: not expected here\n"),
         ("xsugar-1\nstart s\ns : = <s></t>\n", b"sheet: byte 28: not expected here\n"),
     ];
-    are_refused(rt, &rows)
+    are_refused(&rt, rt.alloc(), &rows)
 }
 
 #[test]
@@ -47,7 +48,7 @@ fn sheets_that_break_a_rule(rt: HostRuntime) -> Result<(), Fail> {
         ("xsugar-1\nstart A\nA : [A x] = <e>[A x]</e>\nA : \"a\" = <a/>\n", b"sheet: line 3: derives itself\n"),
         ("xsugar-1\nstart s\nterminal d = /[^\\u{0}-\\u{10ffff}]/\ns : [s x] = <s>[s x]</s>\n", b"sheet: line 3: empty class\n"),
     ];
-    are_refused(rt, &rows)
+    are_refused(&rt, rt.alloc(), &rows)
 }
 
 #[test]
@@ -67,7 +68,7 @@ fn the_least_line_of_a_rule_is_told(rt: HostRuntime) -> Result<(), Fail> {
         ("xsugar-1\nstart s\ns : = <s/>\nt : [t a] = <t>[t a]</t>\nt : \"a\" = <a/>\nu : [u a] = <u>[u a]</u>\nu : \"a\" = <a/>\n", b"sheet: line 4: derives itself\n"),
         ("xsugar-1\nstart s\ns : = <s/>\nt : \"(\" [t a] = [t a]\nt : \"a\" = <a/>\nu : [u a] = <u>[u a]</u>\nu : \"a\" = <a/>\n", b"sheet: line 4: derives itself\n"),
     ];
-    are_refused(rt, &rows)
+    are_refused(&rt, rt.alloc(), &rows)
 }
 
 #[test]
@@ -85,7 +86,7 @@ fn of_two_rules_the_earlier_is_told(rt: HostRuntime) -> Result<(), Fail> {
         ("xsugar-1\nstart s\ns : [s a] = <s>[s a]</s>\nignorable w = / */ \"x\"\n", b"sheet: line 4: normal spelling does not match\n"),
         ("xsugar-1\nstart s\ns : [s a] = <s>[s a]</s>\ns : \"a\" = <a/>\nt : \"b\" [t a] = <t>[t a]</t>\n", b"sheet: line 5: derives no word\n"),
     ];
-    are_refused(rt, &rows)
+    are_refused(&rt, rt.alloc(), &rows)
 }
 
 // So many copies of a piece behind each other.
@@ -113,7 +114,7 @@ fn elements_inside_each_other(rt: HostRuntime) -> Result<(), Fail> {
     assert_eq!(rt; most.status, 0);
     let more = ran(alloc, &["to-xml", SHEET], deep(alloc, 65)?.as_slice(), b"", 1000)?;
     assert_eq!(rt; more.status, 2);
-    assert_eq!(rt; more.notes.as_slice(), b"sheet: byte 215: not expected here\n");
+    assert_eq!(rt; more.notes.as_slice(), "sheet: byte 215: not expected here\n".as_bytes());
     Ok(())
 }
 
@@ -124,10 +125,10 @@ fn sheets_at_their_limit(rt: HostRuntime) -> Result<(), Fail> {
     sheet.extend(many(alloc, b"x", 65_536 - 29)?.as_slice())?;
     let most = ran(alloc, &["to-xml", SHEET], sheet.as_slice(), b"", 1000)?;
     assert_eq!(rt; sheet.len(), 65_536);
-    assert_eq!(rt; most.out.as_slice(), b"<s/>\n");
+    assert_eq!(rt; most.out.as_slice(), "<s/>\n".as_bytes());
     sheet.extend(b"x")?;
     let more = ran(alloc, &["to-xml", SHEET], sheet.as_slice(), b"", 1000)?;
     assert_eq!(rt; more.status, 2);
-    assert_eq!(rt; more.notes.as_slice(), b"sheet: more than 65536 bytes\n");
+    assert_eq!(rt; more.notes.as_slice(), "sheet: more than 65536 bytes\n".as_bytes());
     Ok(())
 }

@@ -1,5 +1,6 @@
 use super::{EMPTY, IN_CONTENT, IN_VALUE, LEFT, LETTERS, NESTED, PAIR, RIGHT, SHEET, TWINS, tried};
 use std::alloc::Global;
+use std::process::Abort;
 use std::test::Fail;
 
 // A sheet, a text and the XML document with the same tree.
@@ -33,7 +34,7 @@ fn each_text_is_translated_and_back(rt: HostRuntime) -> Result<(), Fail> {
             let run = tried(alloc, words, sheet, input)?;
             assert_eq!(rt; run.status, 0);
             assert_eq!(rt; run.out.as_slice(), answer);
-            assert_eq!(rt; run.notes.as_slice(), b"");
+            assert_eq!(rt; run.notes.as_slice(), "".as_bytes());
         }
     }
     Ok(())
@@ -41,16 +42,17 @@ fn each_text_is_translated_and_back(rt: HostRuntime) -> Result<(), Fail> {
 
 // The document, read and answered.
 fn answers(
-    rt: HostRuntime,
+    rt: &impl Abort,
+    alloc: Global,
     words: &[&str],
     sheet: &str,
     rows: &[(&[u8], &[u8])],
 ) -> Result<(), Fail> {
     for (input, answer) in rows {
-        let run = tried(rt.alloc(), words, sheet, input)?;
+        let run = tried(alloc, words, sheet, input)?;
         assert_eq!(rt; run.status, 0);
         assert_eq!(rt; run.out.as_slice(), *answer);
-        assert_eq!(rt; run.notes.as_slice(), b"");
+        assert_eq!(rt; run.notes.as_slice(), "".as_bytes());
     }
     Ok(())
 }
@@ -58,18 +60,18 @@ fn answers(
 #[test]
 fn one_mark_before_a_document_is_dropped(rt: HostRuntime) -> Result<(), Fail> {
     let xml: &[u8] = b"<p><y>7</y><x>3</x></p>\n";
-    answers(rt, &["to-xml", SHEET], PAIR, &[(b"\xef\xbb\xbf(3,7)", xml)])?;
-    answers(rt, &["to-text", SHEET], PAIR, &[(b"\xef\xbb\xbf<p><y>7</y><x>3</x></p>", b"(3,7)")])
+    answers(&rt, rt.alloc(), &["to-xml", SHEET], PAIR, &[(b"\xef\xbb\xbf(3,7)", xml)])?;
+    answers(&rt, rt.alloc(), &["to-text", SHEET], PAIR, &[(b"\xef\xbb\xbf<p><y>7</y><x>3</x></p>", b"(3,7)")])
 }
 
 #[test]
 fn forms_are_put_on_texts(rt: HostRuntime) -> Result<(), Fail> {
     let text = "\u{1ea1}".as_bytes();
     let apart = "a\u{323}".as_bytes();
-    answers(rt, &["round", SHEET, "text"], IN_CONTENT, &[(text, text), (apart, apart)])?;
-    answers(rt, &["round", SHEET, "text", "asis"], IN_CONTENT, &[(text, text), (apart, apart)])?;
-    answers(rt, &["round", SHEET, "text", "nfc"], IN_CONTENT, &[(text, text), (apart, text)])?;
-    answers(rt, &["round", SHEET, "text", "nfd"], IN_CONTENT, &[(text, apart), (apart, apart)])
+    answers(&rt, rt.alloc(), &["round", SHEET, "text"], IN_CONTENT, &[(text, text), (apart, apart)])?;
+    answers(&rt, rt.alloc(), &["round", SHEET, "text", "asis"], IN_CONTENT, &[(text, text), (apart, apart)])?;
+    answers(&rt, rt.alloc(), &["round", SHEET, "text", "nfc"], IN_CONTENT, &[(text, text), (apart, text)])?;
+    answers(&rt, rt.alloc(), &["round", SHEET, "text", "nfd"], IN_CONTENT, &[(text, apart), (apart, apart)])
 }
 
 #[test]
@@ -80,7 +82,7 @@ fn xml_is_written_in_its_normal_spelling(rt: HostRuntime) -> Result<(), Fail> {
         (b"<s><!-- none --></s>", b"<s/>\n"),
         (b" \r\n<s>a</s >\n", b"<s>a</s>\n"),
     ];
-    answers(rt, &["round", SHEET, "xml"], LETTERS, &rows)
+    answers(&rt, rt.alloc(), &["round", SHEET, "xml"], LETTERS, &rows)
 }
 
 const FIVE: &str = "(1 a:(1 a:(1 a:(2) b:(2)) b:(2)) b:(2))\n\
@@ -108,11 +110,11 @@ fn trees_are_listed(rt: HostRuntime) -> Result<(), Fail> {
     let answer = all.out.as_slice();
     let (lines, end) = answer.split_at(FIVE.len().min(answer.len()));
     assert_eq!(rt; lines, FIVE.as_bytes());
-    assert_eq!(rt; end, b"5 trees, no more\n");
+    assert_eq!(rt; end, "5 trees, no more\n".as_bytes());
     let exact = tried(alloc, &["trees", SHEET, "5"], TWINS, b"aaaa")?;
     assert_eq!(rt; exact.out.as_slice(), answer);
-    answers(rt, &["trees", SHEET, "1"], EMPTY, &[(b"", b"(1)\n1 trees, no more\n")])?;
-    answers(rt, &["trees", SHEET, "9"], PAIR, &[(b"(3,7)", b"(1 a:\"3\" b:\"7\")\n1 trees, no more\n")])
+    answers(&rt, rt.alloc(), &["trees", SHEET, "1"], EMPTY, &[(b"", b"(1)\n1 trees, no more\n")])?;
+    answers(&rt, rt.alloc(), &["trees", SHEET, "9"], PAIR, &[(b"(3,7)", b"(1 a:\"3\" b:\"7\")\n1 trees, no more\n")])
 }
 
 #[test]
