@@ -1,3 +1,4 @@
 pub mod Laws
 pub mod Between
 pub mod Turned
+pub mod Sample
