@@ -1,3 +1,7 @@
 pub mod Words
 pub mod Room
 pub mod Lines
+pub mod Derivations
+pub mod Slots
+pub mod Walk
+pub mod Sample

@@ -1,13 +1,23 @@
-//! The line that tells how a run ended, and the lines of derivations.
+//! What a run says in lines: how it ended, and the derivations of a text.
+//!
+//! `line_of` gives the line of an outcome, and `room` and `fault_line` that of a write fault without
+//! memory at that moment. `tree_line` gives the line of one derivation, and `listing` the lines of
+//! different derivations in order. The definitions stand in specs/: Words shows the symbols of a word,
+//! Lines and Room are the lines of outcomes, Derivations the line of a derivation and the listing of a
+//! text, Slots says when slots have names, and Walk what a step over a derivation written flat writes.
 #![tactic(auto)]
 
+mod derivations;
 mod line;
 mod outcome;
 mod telling;
 #[cfg(test)]
 mod tests;
+mod walk;
 mod words;
 
+pub use derivations::listing;
 pub use line::{Line, fault_line, room};
 pub use outcome::{Outcome, Report};
 pub use telling::line_of;
+pub use walk::tree_line;

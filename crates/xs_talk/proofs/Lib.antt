@@ -1,0 +1,4 @@
+pub mod Slots
+mod Walking
+mod Listed
+mod Samples

@@ -1,0 +1,5 @@
+use Rattle.xs_talk.proofs.Walking.{Remains}
+use Rattle.xs_talk.proofs.walk.tree_line.Given as goal
+
+abbrev pub invariant-tasks : goal.invariant-tasks
+invariant-tasks l = Remains l.two l.doc l.tree l.tasks.items l.out
