@@ -20,7 +20,10 @@ fn two_of(alloc: Global, text: &str) -> Result<Two, PairFault>
         return Err(PairFault::Memory);
     }
     match read_sheet(alloc, text.as_bytes()) {
-        Ok(sheet) => both(alloc, &sheet),
+        Ok(sheet) => {
+            let two = both(alloc, &sheet)?;
+            Ok(two)
+        }
         Err(_) => Err(PairFault::Memory),
     }
 }
