@@ -12,7 +12,7 @@ use Rattle.xs_gram.specs.Laws.{Every, HasNumberedSlots}
 use Rattle.xs_sheet.specs.declared.sheet.Sheet.{Sheet}
 use Rattle.xs_pair.specs.declared.mark.Mark.{Mark}
 use Rattle.xs_pair.specs.declared.production.Rule.{Rule}
-use Rattle.xs_pair.specs.Grammars.{Pair, IsPairOf, Numbering, numbering, flat_marks, rule_part, rule_parts}
+use Rattle.xs_pair.specs.Grammars.{Pair, IsPairOf, Numbering, numbering, flat_marks, rule_part}
 use Rattle.xs_pair.specs.Listing.{rules_of}
 use Rattle.xs_pair.specs.Marks.{slot_names, slots_of}
 use Rattle.xs_pair.proofs.SlotKinds.{numbered, flat_kinds}

@@ -1,22 +1,21 @@
 -- A stack of open nodes, the innermost last, and what is still to be written of them.
-use Rattle.std.proofs.Common.{◌≡◌, ℕ, zero, suc, ◌<◌, ◌≤◌, ◌+◌, ◌-◌, List, [], ◌∷◌, ◌++◌, length, map, Some, None, refl, sym, ◌∙◌, ap, subst, append_assoc, arith}
+use Rattle.std.proofs.Common.{◌≡◌, ℕ, zero, suc, ◌<◌, ◌+◌, ◌-◌, List, [], ◌∷◌, ◌++◌, length, map, Some, refl, sym, ◌∙◌, ap, subst, append_assoc, arith}
 use Rattle.std.specs.Prelude.{codes, decimal, slice_get, slice_range}
-use Rattle.std.specs.declared.option.Option.{Option}
 use Rattle.std.proofs.lemmas.List.{append-nil, length-append}
 use Rattle.xs_gram.specs.declared.parts.GItem.{GItem}
 use Rattle.xs_gram.specs.declared.parts.GItem.TheVariants.{Fixed, Term, Non, Skip as Ignored}
 use Rattle.xs_gram.specs.Grammar.{items}
-use Rattle.xs_gram.specs.Derivations.{Parts, done, fixed, leaf, skip, sub, Derivation, FitsItems}
+use Rattle.xs_gram.specs.Derivations.{Parts, fixed, leaf, skip, sub, Derivation, FitsItems}
 use Rattle.xs_gram.specs.Languages.{Derives}
-use Rattle.xs_unfold.specs.Walk.{Flat, node, leaf_at, skip_at, AreAt}
+use Rattle.xs_unfold.specs.Walk.{node, leaf_at, skip_at, AreAt}
 use Rattle.xs_listing.specs.declared.spelt.SpeltPart.{SpeltPart}
 use Rattle.xs_listing.specs.declared.spelt.SpeltPart.TheVariants.{Node, Leaf, Skip}
-use Rattle.xs_listing.specs.Spelt.{flat_of, IsInOrder, AreInOrder, IsSpeltOf}
+use Rattle.xs_listing.specs.Spelt.{flat_of, AreInOrder, IsSpeltOf}
 use Rattle.xs_pair.specs.Grammars.{Pair}
 use Rattle.xs_talk.specs.Words.{quoted}
 use Rattle.xs_talk.specs.declared.walk.Task.{Task}
-use Rattle.xs_talk.specs.Derivations.{slot_begin, node_text, parts_text, derivation_line}
-use Rattle.xs_talk.specs.Slots.{IsNamed, AreNamed, HasSlotNames}
+use Rattle.xs_talk.specs.Derivations.{node_text, parts_text, derivation_line}
+use Rattle.xs_talk.specs.Slots.{AreNamed, HasSlotNames}
 use Rattle.xs_talk.specs.Walk.{IsSpelt, IsLineOf, label, IsOpened, CanWrite, IsWritten, HasKid, IsKidWritten, CanDo, IsDone}
 
 -- what stands in the flat list where a part is

@@ -1,5 +1,5 @@
 -- A grammar and a forest of the tests.
-use Rattle.std.specs.Prelude.{◌≡◌, ℕ, List, [], ◌∷◌, length, None}
+use Rattle.std.specs.Prelude.{◌≡◌, ℕ, [], ◌∷◌, length, None}
 use Rattle.xs_gram.specs.Grammar.{Grammar, rule_of, items}
 use Rattle.xs_forest.specs.declared.row.Alt.{Alt}
 use Rattle.xs_unfold.specs.declared.span.What.TheVariants.{Whole}

@@ -1,5 +1,5 @@
 -- The nodes that a walk over a derivation is in, the innermost last, and what a step of the walk does.
-use Rattle.std.specs.Prelude.{◌≡◌, ℕ, suc, ◌<◌, ◌≤◌, List, [], ◌∷◌, ◌++◌, length, map, None, Some, codes, decimal, slice_get, slice_range}
+use Rattle.std.specs.Prelude.{◌≡◌, ℕ, suc, ◌<◌, ◌≤◌, List, [], ◌∷◌, ◌++◌, length, None, Some, codes, decimal, slice_get, slice_range}
 use Rattle.std.specs.declared.option.Option.{Option}
 use Rattle.xs_gram.specs.declared.parts.GItem.{GItem}
 use Rattle.xs_gram.specs.declared.parts.GItem.TheVariants.{Fixed, Term, Non, Skip as Ignored}

@@ -1,4 +1,4 @@
-use Rattle.std.proofs.Common.{◌≡◌, [], sym, ◌∙◌, ap, encode_utf8_all}
+use Rattle.std.proofs.Common.{[], sym, ◌∙◌, ap, encode_utf8_all}
 use Rattle.std.proofs.lemmas.Option.{get_or_from_slice_get}
 use Rattle.std.proofs.lemmas.Str.{encodes-chars}
 use Rattle.xs_talk.proofs.walk.slot_bytes.Goals as goal

@@ -1,4 +1,4 @@
-use Rattle.std.proofs.Common.{◌≡◌, ◌-◌, [], List, length, Some, sym, ◌∙◌, ap, subst, rules, arith}
+use Rattle.std.proofs.Common.{◌-◌, sym, ◌∙◌, ap, rules, arith}
 use Rattle.std.specs.Prelude.{slice_get}
 use Rattle.xs_talk.proofs.Walking.{spelt_long, root_can, remains_first, remains_next, remains_none, next_can}
 use Rattle.xs_talk.proofs.walk.tree_line.Goals as goal
