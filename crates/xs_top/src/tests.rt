@@ -9,6 +9,7 @@ mod limits;
 mod refusals;
 mod sheets;
 mod translations;
+mod trees;
 
 // The name of the file that has the sheet.
 const SHEET: &str = "sheet";
