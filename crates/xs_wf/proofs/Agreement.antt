@@ -1,5 +1,5 @@
 -- Two pairs of grammars of one sheet agree: what their nonterminals derive, and the lines of rules.
-use Rattle.std.proofs.Common.{◌≡◌, ◌⊎◌, ◌∙◌, ◌<◌, ◌≤◌, inl, inr, ap, sym, refl, subst, ℕ, suc, zero, List, [], ◌∷◌, length, map, get_or, Some, None, arith, slice_get}
+use Rattle.std.proofs.Common.{◌≡◌, ◌⊎◌, ◌∙◌, ◌<◌, inl, inr, ap, sym, refl, subst, ℕ, suc, zero, List, [], ◌∷◌, length, map, get_or, Some, None, arith, slice_get}
 use Rattle.std.specs.List.{Contains}
 use Rattle.std.specs.declared.option.Option.{Option}
 use Rattle.std.specs.declared.cmp.Ordering.TheVariants.{Less, Greater}
@@ -24,7 +24,7 @@ use Rattle.xs_gram.specs.declared.parts.Ignorable.{Ignorable}
 use Rattle.xs_gram.specs.Building.{skip_part}
 use Rattle.xs_gram.specs.Derivations.{Parts, done, fixed, leaf, skip, sub, FitsItems}
 use Rattle.xs_gram.specs.Grammar.{Grammar, no_rule, no_terminal, no_ignorable, items, IsRuleOf, IsTermWord, IsSkipWord}
-use Rattle.xs_gram.specs.Sound.{IsNullable, IsProductive, IsNullableItem, LeadsTo, LeadsOn, once, onward, DerivesItself}
+use Rattle.xs_gram.specs.Sound.{IsNullable, IsProductive, IsNullableItem, LeadsTo, LeadsOn, once, onward}
 use Rattle.xs_pair.specs.Grammars.{Pair, IsPairOf, IsGramOf, AreTermsOf, AreSkipsOf, numbering, rule_parts}
 use Rattle.xs_pair.specs.Listing.{rules_of}
 use Rattle.xs_pair.specs.Verdict.{IsFirstLine}

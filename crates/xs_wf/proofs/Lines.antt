@@ -1,5 +1,5 @@
 -- The lines of productions never fall along a sheet.
-use Rattle.std.proofs.Common.{◌≡◌, ◌⊎◌, ◌∙◌, ◌<◌, ◌≤◌, ◌+◌, inl, inr, ap, sym, refl, subst, ℕ, suc, zero, List, [], ◌∷◌, ◌++◌, map, Some, Bool, true, false, arith, slice_get}
+use Rattle.std.proofs.Common.{◌≡◌, ◌⊎◌, ◌∙◌, ◌≤◌, ◌+◌, inl, inr, ap, sym, refl, subst, ℕ, suc, zero, List, [], ◌∷◌, ◌++◌, map, Some, Bool, true, false, arith, slice_get}
 use Rattle.std.specs.Prelude.{⊤, if◌then◌else◌, ◌==◌}
 use Rattle.std.specs.Str.{chars}
 use Rattle.std.proofs.lemmas.Option.{none-some, same_Some}

@@ -1,5 +1,5 @@
 -- The two grammars of a well-formed sheet are sound.
-use Rattle.std.proofs.Common.{◌≡◌, ◌∙◌, ◌<◌, sym, subst, inl, inr, ℕ, length}
+use Rattle.std.proofs.Common.{◌≡◌, ◌∙◌, ◌<◌, sym, subst, inl, inr, ℕ}
 use Rattle.xs_class.specs.declared.side.Side.{Side}
 use Rattle.xs_class.specs.declared.side.Side.TheVariants.{Text, Xml}
 use Rattle.xs_sheet.specs.declared.sheet.Sheet.{Sheet}

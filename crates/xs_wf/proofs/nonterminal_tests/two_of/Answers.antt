@@ -1,4 +1,4 @@
-use Rattle.std.proofs.Common.{◌≡◌, ◌≤◌, length, rules}
+use Rattle.std.proofs.Common.{◌≤◌, length, rules}
 use Rattle.xs_pair.specs.Weights.{IsOfBytes}
 use Rattle.xs_wf.proofs.Lines.{pair_ordered}
 use Rattle.xs_wf.proofs.nonterminal_tests.two_of.Goals as goal

@@ -1,4 +1,4 @@
-use Rattle.std.proofs.Common.{◌≡◌, ◌⊎◌, ◌∙◌, ap, subst, ℕ, List}
+use Rattle.std.proofs.Common.{◌≡◌, ◌⊎◌, ◌∙◌, subst, List}
 use Rattle.std.specs.Prelude.{IfOk}
 use Rattle.xs_sheet.specs.declared.unit.Unit.{Unit}
 use Rattle.xs_pair.specs.declared.production.Rule.{Rule}

@@ -1,4 +1,3 @@
-use Rattle.std.proofs.Common.{sym, subst}
 use Rattle.std.proofs.lemmas.Result.{err_from_is_err_and}
 use Rattle.xs_wf.proofs.Refusals.{refusal_kept}
 use Rattle.xs_wf.proofs.Soundness.{sound_pair}
