@@ -25,6 +25,10 @@ const LEFT: &str = "xsugar-1\nstart s\ns : [l x] = <s>[l x]</s>\nl : =\nl : [l x
 const RIGHT: &str = "xsugar-1\nstart s\ns : [l x] = <s>[l x]</s>\nl : =\nl : \"a\" [l x] = <a/> [l x]\n";
 const TWINS: &str = "xsugar-1\nstart s\ns : [s a] [s b] = <s>[s a][s b]</s>\ns : \"a\" = <a/>\n";
 
+// Pairs with spaces, which carry nothing, round each part.
+const SPACED: &str = "xsugar-1\nstart s\nterminal d = /[0-9]/\nignorable w = / */ \"\"\n\
+    s : \"(\" [w] [d a] [w] \",\" [w] [d b] [w] \")\" = <p><y>[d b]</y><x>[d a]</x></p>\n";
+
 // What a run gave: its status, and what `out` and `notes` took.
 #[derive(Drop)]
 struct Ended {

@@ -1,4 +1,4 @@
-use super::{EMPTY, IN_CONTENT, IN_VALUE, LEFT, LETTERS, NESTED, PAIR, RIGHT, SHEET, TWINS, tried};
+use super::{EMPTY, IN_CONTENT, IN_VALUE, LEFT, LETTERS, NESTED, PAIR, RIGHT, SHEET, SPACED, TWINS, tried};
 use std::alloc::Global;
 use std::process::Abort;
 use std::test::Fail;
@@ -72,6 +72,16 @@ fn forms_are_put_on_texts(rt: HostRuntime) -> Result<(), Fail> {
     answers(&rt, rt.alloc(), &["round", SHEET, "text", "asis"], IN_CONTENT, &[(text, text), (apart, apart)])?;
     answers(&rt, rt.alloc(), &["round", SHEET, "text", "nfc"], IN_CONTENT, &[(text, text), (apart, text)])?;
     answers(&rt, rt.alloc(), &["round", SHEET, "text", "nfd"], IN_CONTENT, &[(text, apart), (apart, apart)])
+}
+
+#[test]
+fn ignorables_are_written_in_their_normal_spelling(rt: HostRuntime) -> Result<(), Fail> {
+    let xml: &[u8] = b"<p><y>7</y><x>3</x></p>\n";
+    let rows: [(&[u8], &[u8]); 3] = [(b"(3,7)", b"(3,7)"), (b"( 3 , 7 )", b"(3,7)"), (b"(3,   7)", b"(3,7)")];
+    answers(&rt, rt.alloc(), &["round", SHEET, "text"], SPACED, &rows)?;
+    answers(&rt, rt.alloc(), &["to-xml", SHEET], SPACED, &[(b"( 3,7 )", xml)])?;
+    let line: &[u8] = b"(1 ~\"\" a:\"3\" ~\"\" ~\" \" b:\"7\" ~\"\")\n1 trees, no more\n";
+    answers(&rt, rt.alloc(), &["trees", SHEET, "9"], SPACED, &[(b"(3, 7)", line)])
 }
 
 #[test]

@@ -1,3 +1,4 @@
+use super::SPACED;
 use crate::documents::read_document;
 use crate::sheets::pair_of;
 use bumpalo::Bump;
@@ -8,11 +9,7 @@ use xs_class::{Memory, Side};
 use xs_tree::{Tree, same};
 use xs_turn::turn;
 
-// Pairs with spaces, which carry nothing, round each part.
-const SPACED: &str = "xsugar-1\nstart s\nterminal d = /[0-9]/\nignorable w = / */ \"\"\n\
-    s : \"(\" [w] [d a] [w] \",\" [w] [d b] [w] \")\" = <p><y>[d b]</y><x>[d a]</x></p>\n";
-
-// The tree of a text of that sheet.
+// The tree of a text of the pairs with spaces.
 fn tree_of(alloc: Global, text: &[u8]) -> Result<Tree, Memory> {
     if SPACED.len() > 65_536 {
         return Err(Memory);
