@@ -1,0 +1,73 @@
+-- Items of a grammar that is in range, and members of components by the components' numbers.
+use Rattle.std.proofs.Common.{◌≡◌, ℕ, zero, suc, ◌<◌, ◌≤◌, List, [], ◌∷◌, length, get_or, refl, sym, subst, ◌∙◌, arith, slice_get, Some}
+use Rattle.std.specs.List.{All}
+use Rattle.xs_gram.specs.declared.parts.GItem.{GItem}
+use Rattle.xs_gram.specs.declared.parts.GItem.TheVariants.{Fixed, Term, Non, Skip}
+use Rattle.xs_gram.specs.Grammar.{Grammar, rule_of, items, ItemAt}
+use Rattle.xs_gram.specs.Building.{NamesAreThere}
+use Rattle.xs_gram.specs.Loose.{Uses, AreOne, IsMember, AreComponents}
+use Rattle.xs_gram.specs.Sound.{IsInRange}
+use Rattle.xs_loose.specs.Groups.{IsNonOf, IsRuleIn}
+use Rattle.xs_loose.specs.Weighing.{AreWeights, AreWeightsBefore, HasWeight, IsUnder, IsOneOf}
+
+pub got_at : {X : Type 0} (xs : List X) (k : ℕ) (d : X) → k < length xs → slice_get xs k ≡ Some (get_or xs k d)
+got_at [] k d l = absurd (omega arith)
+got_at (x ∷ xs) zero d l = refl
+got_at (x ∷ xs) (suc k) d l = got_at xs k d (omega arith)
+
+-- what the items of a rule name is there
+pub names_there : (g : Grammar) → IsInRange g → (p : ℕ) → All (NamesAreThere g) (items g p)
+names_there g range p k d l = by_item (get_or (items g p) k d) (got_at (items g p) k d l)
+  where
+    by_item : (i : GItem) → ItemAt g p k i → NamesAreThere g i
+    by_item (Fixed f) at = range.words p k f at
+    by_item (Term t s) at = range.terms p k t s at
+    by_item (Non n s) at = range.nons p k n s at
+    by_item (Skip j) at = range.skips p k j at
+
+-- no item of a rule is of a component after the rule's
+pub all_under : (g : Grammar) (comps : List ℕ) → IsInRange g → AreComponents g comps → (component p : ℕ) → IsRuleIn g comps component p → All (IsUnder comps component) (items g p)
+all_under g comps range are component p of k d l = by_item (get_or (items g p) k d) (got_at (items g p) k d l)
+  where
+    by_item : (i : GItem) → ItemAt g p k i → IsUnder comps component i
+    by_item (Fixed f) at = tt
+    by_item (Term t s) at = tt
+    by_item (Non n s) at =
+        let uses : Uses g (rule_of g p).non n = record { rule = p; dot = k; slot = s; of = (of.0, refl); item = at } in
+        omega (arith, are.falls (rule_of g p).non n (range.rules p of.0) uses, of.1)
+    by_item (Skip j) at = tt
+
+module _ (g : Grammar) (comps : List ℕ) (are : AreComponents g comps) (component c : ℕ) (of : IsNonOf g comps component c) where
+  pub one_there : (m : ℕ) → m < g.nons → get_or comps m 0 ≡ component → AreOne g c m
+  one_there m l e = (are.one c m of.0 l).0 (of.1 ∙ sym e)
+
+  pub one_only : (m : ℕ) → m < g.nons → AreOne g c m → get_or comps m 0 ≡ component
+  one_only m l one = sym ((are.one c m of.0 l).1 one) ∙ of.1
+
+  pub is_member : (i : GItem) (n : ℕ) → NamesAreThere g i → IsOneOf comps component i n → IsMember g c i
+  is_member (Fixed f) n there h = absurd h
+  is_member (Term t s) n there h = absurd h
+  is_member (Non m s) n there h = one_there m there h.1
+  is_member (Skip k) n there h = absurd h
+
+  pub no_member : (i : GItem) → NamesAreThere g i → ((n : ℕ) → IsOneOf comps component i n → ⊥) → IsMember g c i → ⊥
+  no_member (Fixed f) there none h = h
+  no_member (Term t s) there none h = h
+  no_member (Non m s) there none h = none m (refl, one_only m there h)
+  no_member (Skip k) there none h = h
+
+-- an item of a lower component has its weight in the table
+pub has_weight : (g : Grammar) (comps weights : List ℕ) (component : ℕ) (i : GItem) → AreWeightsBefore g comps component weights → NamesAreThere g i → IsUnder comps component i → ((n : ℕ) → IsOneOf comps component i n → ⊥) → HasWeight g weights i
+has_weight g comps weights component (Fixed f) are there under none = tt
+has_weight g comps weights component (Term t s) are there under none = tt
+has_weight g comps weights component (Non m s) are there under none =
+    let apart : get_or comps m 0 ≡ component → ⊥ = λ e. none m (refl, e) in
+    are.each m there (omega arith)
+has_weight g comps weights component (Skip k) are there under none = tt
+
+-- each item has its weight in a table of all
+pub weight_there : (g : Grammar) (weights : List ℕ) (i : GItem) → AreWeights g weights → NamesAreThere g i → HasWeight g weights i
+weight_there g weights (Fixed f) are there = tt
+weight_there g weights (Term t s) are there = tt
+weight_there g weights (Non m s) are there = are.each m there
+weight_there g weights (Skip k) are there = tt

@@ -1,0 +1,4 @@
+pub mod Grouping
+pub mod Items
+pub mod Bounds
+pub mod Summing

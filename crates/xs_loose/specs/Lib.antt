@@ -1,0 +1,4 @@
+pub mod Parts
+pub mod Weighing
+pub mod Accepting
+pub mod Groups
