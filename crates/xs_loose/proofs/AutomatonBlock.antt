@@ -8,7 +8,7 @@ use Rattle.xs_loose.specs.Arcs.{Path, IsMove, Below, Either}
 use Rattle.xs_loose.specs.Laying.{IsInto, IsFollowing, IsLeaving, IsSkipping, AutomatonArc}
 use Rattle.xs_loose.proofs.Paths.{IsBlock, path_one, path_snoc}
 
-leads_at : (rows : List (List ℕ)) (j k : ℕ) → j < length rows → Contains (get_or rows j []) k → IsSomeAnd (slice_get rows j) (λ row. Contains row k)
+pub leads_at : (rows : List (List ℕ)) (j k : ℕ) → j < length rows → Contains (get_or rows j []) k → IsSomeAnd (slice_get rows j) (λ row. Contains row k)
 leads_at [] j k l h = absurd (omega arith)
 leads_at (r ∷ rs) zero k l h = h
 leads_at (r ∷ rs) (suc j) k l h = leads_at rs j k (omega arith) h

@@ -19,6 +19,7 @@ net_draft g P count old new links entries bases grows = record {
     states = grows.states;
     start = grows.start;
     finals = grows.finals;
+    few = grows.few;
     arcs = subst (λ (ls : List Link). Adds P (Arc g old.net old.links.items) (Arc g new.net ls)) (sym links) (with_links g P old.net new.net old.links.items grows.arcs);
   };
   entries = entries;
@@ -37,20 +38,20 @@ module _ (g : Grammar) (i : GItem) (l : Link) (there : ItemAt g l.rule l.dot i) 
   link_arc a w b h = record { from = h.0; to = h.1; item = i; is = there; loose = h.2 }
 
   -- a draft that grows by a block for the link has laid its item
-  pub block_laid : (old new : Draft) (P : ℕ → List ℕ → ℕ → Type 0) (count : ℕ) (Loose : List ℕ → Type 0) (M : ℕ → List ℕ → Type 0) → IsDraft g old → IsLink g (states old.net) l → HasTables g new → DraftGrows g P count old new → IsBlock Loose M (states old.net) l.from l.to P → ((w : List ℕ) → Loose w → Path (Arc g new.net new.links.items) l.from w l.to) → ((a : ℕ) (w : List ℕ) (b : ℕ) → P a w b → (a < states new.net) × (b < states new.net)) → ((w : List ℕ) → Loose w → LooseItem g i w) → ((w : List ℕ) → LooseItem g i w → Loose w) → IsLaid g l old new
-  block_laid old new P count Loose M draft link tables grows block whole inside to back = record {
-    draft = record { arcs = arcs; links = links; tables = tables };
+  pub block_laid : (old new : Draft) (P : ℕ → List ℕ → ℕ → Type 0) (count : ℕ) (Loose : List ℕ → Type 0) (M : ℕ → List ℕ → Type 0) → IsDraft g old → IsLink g (states old.net) l → HasTables g new → Grows P (Arc g old.net old.links.items) (Arc g new.net new.links.items) count old.net new.net → ((m : Link) → Contains new.links.items m → Contains old.links.items m ⊎ IsLink g (states new.net) m) → IsBlock Loose M (states old.net) l.from l.to P → ((w : List ℕ) → Loose w → Path (Arc g new.net new.links.items) l.from w l.to) → ((a : ℕ) (w : List ℕ) (b : ℕ) → P a w b → (a < states new.net) × (b < states new.net)) → ((w : List ℕ) → Loose w → LooseItem g i w) → ((w : List ℕ) → LooseItem g i w → Loose w) → IsLaid g l old new
+  block_laid old new P count Loose M draft link tables grows old_links block whole inside to back = record {
+    draft = record { arcs = arcs; links = links; tables = tables; few = grows.few draft.few };
     more = more;
-    start = grows.grows.start;
-    finals = grows.grows.finals;
+    start = grows.start;
+    finals = grows.finals;
     paths = λ a w b x y. (λ p. path_map forth (block_is_through (Arc g old.net old.links.items) (Arc g new.net new.links.items) P Loose M (states old.net) l.from l.to adds block draft.arcs link.from link.to x y p), λ p. through_is_block (Arc g old.net old.links.items) (Arc g new.net new.links.items) P Loose M (states old.net) l.from l.to adds block draft.arcs link.from link.to whole (path_map again p));
   }
     where
       adds : Adds P (Arc g old.net old.links.items) (Arc g new.net new.links.items)
-      adds = grows.grows.arcs
+      adds = grows.arcs
 
       more : states old.net ≤ states new.net
-      more = omega (arith, grows.grows.states)
+      more = omega (arith, grows.states)
 
       arcs : (a : ℕ) (w : List ℕ) (b : ℕ) → Arc g new.net new.links.items a w b → (a < states new.net) × (b < states new.net)
       arcs a w b u = elim (adds.only a w b u) [
@@ -59,7 +60,7 @@ module _ (g : Grammar) (i : GItem) (l : Link) (there : ItemAt g l.rule l.dot i) 
       ]
 
       links : (m : Link) → Contains new.links.items m → IsLink g (states new.net) m
-      links m h = elim (grows.links m h) [
+      links m h = elim (old_links m h) [
         | inl old_one ↦ let k = draft.links m old_one in record { from = omega (arith, k.from, more); to = omega (arith, k.to, more); rule = k.rule; dot = k.dot }
         | inr right ↦ right
       ]

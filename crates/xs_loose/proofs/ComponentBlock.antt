@@ -73,10 +73,10 @@ walk_as {g} {c} {x} {y} e h = subst (λ (l : List ℕ). Walk g c x l y) e h
 
 module _ (g : Grammar) (comps : List ℕ) (range : IsInRange g) (are : AreComponents g comps) (component : ℕ) (members rules : List ℕ) (nons : IsGroup (IsNonOf g comps component) members) (own : IsGroup (IsRuleIn g comps component) rules) (entries bases : List ℕ) (n high : ℕ) (spots : AreSpots g members rules n high entries bases) (c : ℕ) (of : IsNonOf g comps component c) where
   entry_in : (m : ℕ) → IsNonOf g comps component m → (n ≤ get_or entries m 0) × (get_or entries m 0 + 2 ≤ spots.middle)
-  entry_in m h = placed_within member_size members n spots.middle entries nons spots.members m h
+  entry_in m h = placed_within member_size members n spots.middle entries nons spots.placed_members m h
 
   base_in : (p : ℕ) → IsRuleIn g comps component p → (spots.middle ≤ get_or bases p 0) × (get_or bases p 0 + (length (items g p) + 1) ≤ high)
-  base_in p h = placed_within (rule_size g) rules spots.middle high bases own spots.rules p h
+  base_in p h = placed_within (rule_size g) rules spots.middle high bases own spots.placed_rules p h
 
   middle_low : n ≤ spots.middle
   middle_low = let h = entry_in c of in omega (arith, h.0, h.1)
@@ -93,19 +93,19 @@ module _ (g : Grammar) (comps : List ℕ) (range : IsInRange g) (are : AreCompon
 
   -- two spots have two states
   members_differ : (j k : ℕ) → IsNonOf g comps component j → IsNonOf g comps component k → get_or entries j 0 ≡ get_or entries k 0 + 1 → ⊥
-  members_differ j k h l e = elim (placed_apart member_size members n spots.middle entries nons spots.members j k h l) [
+  members_differ j k h l e = elim (placed_apart member_size members n spots.middle entries nons spots.placed_members j k h l) [
     | inl same ↦ let f : get_or entries j 0 ≡ get_or entries k 0 = ap (λ (m : ℕ). get_or entries m 0) same in omega arith
     | inr apart ↦ elim apart [ inl x ↦ omega arith | inr x ↦ omega arith ]
   ]
 
   members_same : (j k : ℕ) → IsNonOf g comps component j → IsNonOf g comps component k → get_or entries j 0 ≡ get_or entries k 0 → j ≡ k
-  members_same j k h l e = elim (placed_apart member_size members n spots.middle entries nons spots.members j k h l) [
+  members_same j k h l e = elim (placed_apart member_size members n spots.middle entries nons spots.placed_members j k h l) [
     | inl same ↦ same
     | inr apart ↦ absurd (elim apart [ inl x ↦ omega arith | inr x ↦ omega arith ])
   ]
 
   places_same : (p k q l : ℕ) → IsRuleIn g comps component p → k ≤ length (items g p) → IsRuleIn g comps component q → l ≤ length (items g q) → state_at bases p k ≡ state_at bases q l → at p k ≡ at q l
-  places_same p k q l h x j y e = elim (placed_apart (rule_size g) rules spots.middle high bases own spots.rules p q h j) [
+  places_same p k q l h x j y e = elim (placed_apart (rule_size g) rules spots.middle high bases own spots.placed_rules p q h j) [
     | inl same ↦
         let f : get_or bases p 0 ≡ get_or bases q 0 = ap (λ (m : ℕ). get_or bases m 0) same in
         let i : k ≡ l = omega arith in

@@ -1,5 +1,5 @@
 -- How nets and drafts grow, step after step.
-use Rattle.std.proofs.Common.{◌≡◌, ◌⊎◌, ℕ, zero, suc, ◌+◌, ◌<◌, List, [], ◌∷◌, ◌++◌, length, refl, sym, ap, subst, ◌∙◌, inl, inr, arith}
+use Rattle.std.proofs.Common.{◌≡◌, ◌⊎◌, ℕ, zero, suc, ◌+◌, ◌<◌, ◌^◌, List, [], ◌∷◌, ◌++◌, length, refl, sym, ap, subst, ◌∙◌, inl, inr, arith}
 use Rattle.std.specs.List.{Contains}
 use Rattle.std.proofs.lemmas.Bool.{cases_lt, cases_eq}
 use Rattle.std.proofs.lemmas.List.Elements.{Contains-append_left, Contains-push, Contains-push_cases}
@@ -29,13 +29,14 @@ module _ (P Q T U V : ℕ → List ℕ → ℕ → Type 0) where
   }
 
   pub grows_as : {count : ℕ} {old new : Graph} → ((a : ℕ) (w : List ℕ) (b : ℕ) → P a w b → Q a w b) → ((a : ℕ) (w : List ℕ) (b : ℕ) → Q a w b → P a w b) → Grows P T U count old new → Grows Q T U count old new
-  grows_as to back grows = record { states = grows.states; start = grows.start; finals = grows.finals; arcs = adds_as to back grows.arcs }
+  grows_as to back grows = record { states = grows.states; start = grows.start; finals = grows.finals; few = grows.few; arcs = adds_as to back grows.arcs }
 
   pub grows_then : {j k count : ℕ} {l m n : Graph} → count ≡ j + k → Grows P T U j l m → Grows Q U V k m n → Grows (Either P Q) T V count l n
   grows_then e first second = record {
     states = omega (arith, first.states, second.states);
     start = second.start ∙ first.start;
     finals = λ i. second.finals i ∙ first.finals i;
+    few = λ h. second.few (first.few h);
     arcs = adds_then first.arcs second.arcs;
   }
 
@@ -44,6 +45,7 @@ grows_none T n = record {
   states = omega arith;
   start = refl;
   finals = λ i. refl;
+  few = λ h. h;
   arcs = record { kept = λ a w b t. t; there = λ a w b h. absurd h; only = λ a w b t. inl t };
 }
 
@@ -72,15 +74,16 @@ below_more R T U V i e first second = grows_as (Either (Below i R) (R i)) (Below
     ]
 
 -- what is the same in a net leads as before
-same_arcs : (old new : Graph) → ((i : ℕ) → edges_of new i ≡ edges_of old i) → ((i : ℕ) → moves_of new i ≡ moves_of old i) → (a : ℕ) (w : List ℕ) (b : ℕ) → NetArc old a w b → NetArc new a w b
+pub same_arcs : (old new : Graph) → ((i : ℕ) → edges_of new i ≡ edges_of old i) → ((i : ℕ) → moves_of new i ≡ moves_of old i) → (a : ℕ) (w : List ℕ) (b : ℕ) → NetArc old a w b → NetArc new a w b
 same_arcs old new edges moves a w b (by_move e h) = by_move e (rw (moves a) h)
 same_arcs old new edges moves a w b (by_edge x s h has to e) = by_edge x s (rw (edges a) h) has to e
 
-pub state_grows : (old new : Graph) → AddsState old new → NetGrows NoArc 1 old new
-state_grows old new adds = record {
+pub state_grows : (old new : Graph) → states new < 2 ^ 32 → AddsState old new → NetGrows NoArc 1 old new
+state_grows old new few adds = record {
   states = omega (arith, adds.states);
   start = adds.start;
   finals = adds.finals;
+  few = λ h. few;
   arcs = record {
     kept = same_arcs old new adds.edges adds.moves;
     there = λ a w b h. absurd h;
@@ -93,6 +96,7 @@ move_grows old new s t adds = record {
   states = omega (arith, adds.keeps.states);
   start = adds.keeps.start;
   finals = adds.keeps.finals;
+  few = λ h. omega (arith, h, adds.keeps.states);
   arcs = record { kept = kept; there = λ a w b h. by_move h.1 (rw (h.0, h.2, adds.moves) (Contains-push (moves_of old s) t)); only = only };
 }
   where
@@ -121,6 +125,7 @@ edge_grows old new s edge adds = record {
   states = omega (arith, adds.keeps.states);
   start = adds.keeps.start;
   finals = adds.keeps.finals;
+  few = λ h. omega (arith, h, adds.keeps.states);
   arcs = record { kept = kept; there = λ a w b h. by_edge edge h.symbol (rw (h.from, adds.edges) (Contains-push (edges_of old s) edge)) h.has (sym h.to) h.word; only = only };
 }
   where

@@ -21,24 +21,27 @@ abbrev pub IsOver : Grammar → Part → ℕ → ℕ → List ℕ → ℕ → Ty
 IsOver g part j = IsLinkArc g (link_over part j)
 
 module _ (g : Grammar) (part : Part) (is : IsPart g part) where
-  count : length (part_items g part) ≡ part.end - part.start
-  count = length-take (part.end - part.start) (drop part.start (items g part.rule)) ∙ short
+  pub part_count : length (part_items g part) ≡ part.end - part.start
+  part_count = length-take (part.end - part.start) (drop part.start (items g part.rule)) ∙ short
     where
       short : min (part.end - part.start) (length (drop part.start (items g part.rule))) ≡ part.end - part.start
       short = omega (arith, length-drop part.start (items g part.rule), is.within, is.order)
 
   -- item j of the part stands in the rule
   same_item : (j : ℕ) (d : GItem) → j < length (part_items g part) → get_or (part_items g part) j d ≡ get_or (items g part.rule) (part.start + j) d
-  same_item j d l = get_or-take (part.end - part.start) (drop part.start (items g part.rule)) j d (omega (arith, count)) ∙ get_or-drop part.start (items g part.rule) j d
+  same_item j d l = get_or-take (part.end - part.start) (drop part.start (items g part.rule)) j d (omega (arith, part_count)) ∙ get_or-drop part.start (items g part.rule) j d
 
   pub item_over : (j : ℕ) (d : GItem) → j < length (part_items g part) → ItemAt g part.rule (part.start + j) (get_or (part_items g part) j d)
-  item_over j d l = got_at (items g part.rule) (part.start + j) d (omega (arith, count, is.within, is.order)) ∙ ap (λ (i : GItem). Some i) (sym (same_item j d l))
+  item_over j d l = got_at (items g part.rule) (part.start + j) d (omega (arith, part_count, is.within, is.order)) ∙ ap (λ (i : GItem). Some i) (sym (same_item j d l))
 
   module _ (T : ℕ → List ℕ → ℕ → Type 0) (to : (a : ℕ) (w : List ℕ) (b : ℕ) → T a w b → Below (length (part_items g part)) (IsOver g part) a w b) (back : (a : ℕ) (w : List ℕ) (b : ℕ) → Below (length (part_items g part)) (IsOver g part) a w b → T a w b) where
     loose_from : {j k : ℕ} {w : List ℕ} → Path T j w k → k ≡ length (part_items g part) → j ≤ k → IsLoose g (drop j (part_items g part)) w
     loose_from {j} {k} stays e l = subst (λ (xs : List GItem). IsLoose g xs []) (sym (drop_all j (part_items g part) (omega arith))) loose_none
     loose_from {j} {k} {w} (goes {b = x} {u = u} {v = v} t p f) e l = step (to j u x t)
       where
+        some_same : {x y : GItem} → Some x ≡ Some y → x ≡ y
+        some_same e = cc
+
         step : Below (length (part_items g part)) (IsOver g part) j u x → IsLoose g (drop j (part_items g part)) w
         step h =
             let own : IsLinkArc g (link_over part h.0) j u x = h.2 in
@@ -51,9 +54,6 @@ module _ (g : Grammar) (part : Part) (is : IsPart g part) where
             let rest : IsLoose g (drop x (part_items g part)) v = loose_from p e (omega arith) in
             let tail : IsLoose g (drop (j + 1) (part_items g part)) v = subst (λ (m : ℕ). IsLoose g (drop m (part_items g part)) v) next rest in
             subst (λ (xs : List GItem). IsLoose g xs w) (sym (drop_more (part_items g part) j i within ∙ ap (λ (y : GItem). y ∷ drop (j + 1) (part_items g part)) same)) (loose_then own.loose tail f)
-
-        some_same : {x y : GItem} → Some x ≡ Some y → x ≡ y
-        some_same e = cc
 
     path_from : {js : List GItem} {w : List ℕ} → IsLoose g js w → (j : ℕ) → js ≡ drop j (part_items g part) → j ≤ length (part_items g part) → Path T j w (length (part_items g part))
     path_from loose_none j e l =

@@ -1,5 +1,5 @@
 -- What a net that is being made reads from state to state, and how it grows.
-use Rattle.std.specs.Prelude.{◌≡◌, ◌⊎◌, ℕ, suc, ◌+◌, ◌<◌, List, [], ◌∷◌, ◌++◌, length}
+use Rattle.std.specs.Prelude.{◌≡◌, ◌⊎◌, ℕ, ◌+◌, ◌<◌, ◌^◌, List, [], ◌∷◌, ◌++◌, length}
 use Rattle.std.specs.List.{Contains}
 use Rattle.xs_class.specs.Classes.{Has}
 use Rattle.xs_gram.specs.declared.parts.GItem.{GItem}
@@ -39,8 +39,10 @@ pub record Adds (P T U : ℕ → List ℕ → ℕ → Type 0) : Type 0 where
   pub there : (a : ℕ) (w : List ℕ) (b : ℕ) → P a w b → U a w b
   pub only : (a : ℕ) (w : List ℕ) (b : ℕ) → U a w b → T a w b ⊎ P a w b
 
--- so many states more and the arcs of P; the start and what is final are the same
+-- so many states more and the arcs of P; the start and what is final are the same, and states still
+-- have numbers
 pub record Grows (P T U : ℕ → List ℕ → ℕ → Type 0) (count : ℕ) (old new : Graph) : Type 0 where
+  pub few : states old < 2 ^ 32 → states new < 2 ^ 32
   pub states : states new ≡ states old + count
   pub start : new.start ≡ old.start
   pub finals : (i : ℕ) → final_at new i ≡ final_at old i

@@ -1,5 +1,5 @@
 -- The arcs that are laid for an item: those of a fixed word, of an automaton, and of a component.
-use Rattle.std.specs.Prelude.{◌≡◌, ◌⊎◌, ◌↔◌, ℕ, zero, suc, ◌+◌, ◌<◌, ◌≤◌, true, List, [], ◌∷◌, length, Some, IsTrue, slice_index_or}
+use Rattle.std.specs.Prelude.{◌≡◌, ◌⊎◌, ◌↔◌, ℕ, zero, suc, ◌+◌, ◌<◌, ◌≤◌, ◌^◌, true, List, [], ◌∷◌, length, Some, IsTrue, slice_index_or}
 use Rattle.std.specs.List.{Contains}
 use Rattle.xs_regex.specs.declared.position.Position.{Position}
 use Rattle.xs_regex.specs.Automaton.{HasAt}
@@ -10,7 +10,7 @@ use Rattle.xs_gram.specs.Loose.{AreOne, IsMember, LooseItem, IsLoose}
 use Rattle.xs_auto.specs.Nets.{states, final_at}
 use Rattle.xs_loose.specs.declared.draft.Draft.{Draft}
 use Rattle.xs_loose.specs.Groups.{IsNonOf, IsRuleIn}
-use Rattle.xs_loose.specs.Arcs.{Arc, Path, IsLink, IsLinkArc, IsMove, IsSymbol, Below, Either}
+use Rattle.xs_loose.specs.Arcs.{Arc, Path, GrowsBare, IsLink, IsLinkArc, IsMove, IsSymbol, Below, Either}
 use Rattle.xs_loose.specs.declared.link.Link.{Link}
 
 -- the state before symbol k of a word that begins at s, where the state behind symbol k is base + k
@@ -99,17 +99,25 @@ rule_size g p = length (items g p) + 1
 pub record AreSpots (g : Grammar) (members rules : List ℕ) (low high : ℕ) (entries bases : List ℕ) : Type 0 where
   pub middle : ℕ
   pub ordered : middle ≤ high
-  pub members : ArePlaced member_size members (length members) low middle entries
-  pub rules : ArePlaced (rule_size g) rules (length rules) middle high bases
+  pub placed_members : ArePlaced member_size members (length members) low middle entries
+  pub placed_rules : ArePlaced (rule_size g) rules (length rules) middle high bases
 
 -- a draft has a table of all nonterminals and one of all rules
 pub record HasTables (g : Grammar) (d : Draft) : Type 0 where
   pub entries : length d.entries.items ≡ g.nons
   pub bases : length d.bases.items ≡ length g.rules
 
+-- the states of a component were added, and nothing else
+pub record Places (g : Grammar) (members rules : List ℕ) (old new : Draft) : Type 0 where
+  pub bare : GrowsBare old.net new.net
+  pub links : new.links.items ≡ old.links.items
+  pub tables : HasTables g new
+  pub spots : AreSpots g members rules (states old.net) (states new.net) new.entries.items new.bases.items
+
 -- the states of a component are there
 pub record HasSpots (g : Grammar) (comps : List ℕ) (component : ℕ) (d : Draft) : Type 0 where
   pub tables : HasTables g d
+  pub few : states d.net < 2 ^ 32
   pub entries : (n : ℕ) → IsNonOf g comps component n → slice_index_or d.entries.items n 0 + 1 < states d.net
   pub bases : (p : ℕ) → IsRuleIn g comps component p → state_at d.bases.items p (length (items g p)) < states d.net
 
@@ -118,6 +126,7 @@ pub record IsDraft (g : Grammar) (d : Draft) : Type 0 where
   pub arcs : (a : ℕ) (w : List ℕ) (b : ℕ) → Arc g d.net d.links.items a w b → (a < states d.net) × (b < states d.net)
   pub links : (l : Link) → Contains d.links.items l → IsLink g (states d.net) l
   pub tables : HasTables g d
+  pub few : states d.net < 2 ^ 32
 
 -- between old states the new draft has the paths that the old one has where it leads from s to t by
 -- each loose word of the item

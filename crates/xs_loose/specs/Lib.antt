@@ -1,4 +1,6 @@
 pub mod Parts
+pub mod Groups
 pub mod Weighing
 pub mod Accepting
-pub mod Groups
+pub mod Arcs
+pub mod Laying

@@ -5,7 +5,7 @@ ghost use Rattle.xs_gram.specs.Sound.{IsBuilt};
 ghost use Rattle.xs_auto.specs.Nets.{states};
 ghost use Rattle.xs_loose.specs.Arcs.{DraftGrows, Below};
 ghost use Rattle.xs_loose.specs.Groups.{IsGroup, IsNonOf, IsRuleIn};
-ghost use Rattle.xs_loose.specs.Laying.{ItemArc, RuleArc, RulesArc, HasSpots};
+ghost use Rattle.xs_loose.specs.Laying.{ItemArc, RuleArc, RulesArc, ComponentArc, HasSpots};
 
 use crate::draft::Draft;
 use crate::link::Link;
@@ -14,8 +14,34 @@ use xs_class::Memory;
 use xs_gram::{Comps, GItem, Gram};
 
 impl Draft {
+    /// Lays the component of a nonterminal between the states of a link.
+    pub fn lay_component(
+        &mut self,
+        g: &Gram,
+        comps: &Comps,
+        component: usize,
+        rules: &[u32],
+        non: u32,
+        link: Link,
+    ) -> Result<(), Memory>
+        requires built { IsBuilt g.now }
+        requires comps { AreComponents g.now comps.now }
+        requires rules { IsGroup (IsRuleIn g.now comps.now component) rules.now }
+        requires spots { HasSpots g.now comps.now component self.old }
+        requires non { IsNonOf g.now comps.now component non }
+        requires from { link.from < states self.old.net }
+        requires to { link.to < states self.old.net }
+        ensures { OnOk result (DraftGrows g.now (ComponentArc g.now self.old.entries.items self.old.bases.items rules.now non link.from link.to) 0 self.old self.new) }
+    {
+        let entry = self.entries[non as usize];
+        self.lay_rules(g, comps, component, rules)?;
+        self.move_on(link.from, entry)?;
+        self.move_on(entry + 1, link.to)?;
+        Ok(())
+    }
+
     /// Lays the items of all rules of a component.
-    pub fn lay_rules(
+    fn lay_rules(
         &mut self,
         g: &Gram,
         comps: &Comps,
@@ -71,7 +97,8 @@ impl Draft {
         requires spots { HasSpots g.now comps.now component self.old }
         ensures { (c : ℕ) → IsNonOf g.now comps.now component c → OnOk result (DraftGrows g.now (Below (length (items g.now rule)) (ItemArc g.now self.old.entries.items self.old.bases.items c rule)) 0 self.old self.new) }
     {
-        'items: for (dot, item) in g.items(rule).iter().enumerate() {
+        let items = g.items(rule);
+        'dots: for (dot, item) in items.iter().enumerate() {
             self.lay_item(g, comps, component, rule, dot as u32, item)?;
         }
         Ok(())
@@ -102,12 +129,15 @@ impl Draft {
                 self.move_on(entry + 1, from + 1)?;
                 Ok(())
             }
-            None => self.link(Link {
-                from,
-                to: from + 1,
-                rule,
-                dot,
-            }),
+            None => {
+                self.link(Link {
+                    from,
+                    to: from + 1,
+                    rule,
+                    dot,
+                })?;
+                Ok(())
+            }
         }
     }
 }

@@ -46,7 +46,8 @@ impl Draft {
         requires to { to < states self.old.net }
         ensures { (g : Grammar) → OnOk result (DraftGrows g (IsMove from to) 0 self.old self.new) }
     {
-        pass(&mut self.net, from, to)
+        pass(&mut self.net, from, to)?;
+        Ok(())
     }
 
     /// Adds a link.

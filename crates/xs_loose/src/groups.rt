@@ -1,4 +1,4 @@
-ghost use Rattle.std.specs.Prelude.{◌≡◌, ℕ, ◌<◌, [], length, slice_index_or, IfOk};
+ghost use Rattle.std.specs.Prelude.{◌≡◌, ℕ, ◌<◌, ◌≤◌, [], length, slice_index_or, IfOk};
 ghost use Rattle.std.specs.List.{All};
 ghost use Rattle.xs_gram.specs.Loose.{AreComponents};
 ghost use Rattle.xs_gram.specs.Sound.{IsBuilt};
@@ -51,9 +51,21 @@ fn bound(keys: &[u32]) -> usize
 {
     let mut bound = 0;
     'keys: for key in keys {
-        bound = bound.max(*key as usize + 1);
+        bound = above(bound, *key);
     }
     bound
+}
+
+/// A number above the key that is not below the bound.
+fn above(bound: usize, key: u32) -> usize
+    ensures bound { bound ≤ result }
+    ensures key { key < result }
+{
+    if (key as usize) < bound {
+        bound
+    } else {
+        key as usize + 1
+    }
 }
 
 /// For each key the places at which it stands, in ascending order.

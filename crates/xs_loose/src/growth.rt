@@ -14,7 +14,8 @@ pub fn state(net: &mut Net) -> Result<u32, Memory>
     if net.len() == u32::MAX {
         return Err(Memory);
     }
-    net.state()
+    let number = net.state()?;
+    Ok(number)
 }
 
 /// Adds so many states.
@@ -33,7 +34,8 @@ pub fn pass(net: &mut Net, from: u32, to: u32) -> Result<(), Memory>
     requires to { to < states net.old }
     ensures { OnOk result (NetGrows (IsMove from to) 0 net.old net.new) }
 {
-    net.pass(from, to)
+    net.pass(from, to)?;
+    Ok(())
 }
 
 /// Adds an edge by a class.
@@ -42,7 +44,8 @@ pub fn read(net: &mut Net, from: u32, class: &Class, to: u32) -> Result<(), Memo
     requires to { to < states net.old }
     ensures { OnOk result (NetGrows (IsReading class.now from to) 0 net.old net.new) }
 {
-    net.edge(from, class, to)
+    net.edge(from, class, to)?;
+    Ok(())
 }
 
 /// Adds an edge by one symbol.
@@ -59,5 +62,6 @@ pub fn read_symbol(
 {
     let number = symbol.number();
     let class = Class::from_ranges(alloc, &[(number, number)])?;
-    read(net, from, &class, to)
+    read(net, from, &class, to)?;
+    Ok(())
 }

@@ -6,12 +6,21 @@
 //! word, the positions of an automaton, or a copy of the component of a nonterminal.
 #![tactic(auto)]
 
+mod automaton;
+mod component;
+mod draft;
 mod fault;
 mod groups;
+mod growth;
+mod link;
 mod members;
+mod net;
 mod part;
+mod placing;
 mod weighing;
+mod word;
 
 pub use fault::LooseFault;
+pub use net::{net_by, net_of};
 pub use part::Part;
 pub use weighing::{Weights, weight_by, weight_of, weights};

@@ -1,4 +1,6 @@
-ghost use Rattle.std.specs.Prelude.{◌≡◌, ◌<◌, ◌≤◌, IfOk, IfErr, OnOk, IsSome};
+ghost use Rattle.std.specs.Prelude.{ℕ, IfOk, IfErr, OnOk, IsSome};
+ghost use Rattle.xs_gram.specs.declared.parts.GItem.TheVariants.{Non};
+ghost use Rattle.xs_gram.specs.Grammar.{ItemAt};
 ghost use Rattle.xs_gram.specs.Loose.{AreComponents};
 ghost use Rattle.xs_gram.specs.Sound.{IsBuilt};
 ghost use Rattle.xs_auto.specs.Nets.{states};
@@ -14,7 +16,6 @@ use crate::draft::Draft;
 use crate::groups::Groups;
 use crate::growth::state;
 use crate::link::Link;
-use crate::placing::{place_members, place_rules};
 use crate::weighing::{Weights, weight_by, weights};
 use crate::word::lay_word;
 use crate::{LooseFault, Part};
@@ -128,14 +129,26 @@ impl Draft {
         ensures { OnOk result (IsLaid g.now link self.old self.new) }
     {
         match &g.items(link.rule)[link.dot as usize] {
-            GItem::Fixed(word) => lay_word(&mut self.net, alloc, word.as_slice(), link.from, link.to),
-            GItem::Term { term, .. } => lay_automaton(&mut self.net, g.term(*term), link.from, link.to),
-            GItem::Non { non, .. } => self.lay_non(g, comps, groups, *non, link),
-            GItem::Skip { skip } => lay_automaton(&mut self.net, g.skip(*skip), link.from, link.to),
+            GItem::Fixed(word) => {
+                lay_word(&mut self.net, alloc, word.as_slice(), link.from, link.to)?;
+                Ok(())
+            }
+            GItem::Term { term, .. } => {
+                lay_automaton(&mut self.net, g.term(*term), link.from, link.to)?;
+                Ok(())
+            }
+            GItem::Non { non, .. } => {
+                self.lay_non(g, comps, groups, *non, link)?;
+                Ok(())
+            }
+            GItem::Skip { skip } => {
+                lay_automaton(&mut self.net, g.skip(*skip), link.from, link.to)?;
+                Ok(())
+            }
         }
     }
 
-    /// Lays a copy of a nonterminal's component.
+    /// Lays a nonterminal in place of its link: a copy of its component.
     fn lay_non(
         &mut self,
         g: &Gram,
@@ -144,15 +157,19 @@ impl Draft {
         non: u32,
         link: Link,
     ) -> Result<(), Memory>
+        requires built { IsBuilt g.now }
+        requires comps { AreComponents g.now comps.now }
+        requires groups { AreGrouped g.now comps.now groups.now }
+        requires draft { IsDraft g.now self.old }
+        requires link { IsLink g.now (states self.old.net) link }
+        requires item { (slot : ℕ) × ItemAt g.now link.rule link.dot (Non non slot) }
+        ensures { OnOk result (IsLaid g.now link self.old self.new) }
     {
         let component = *comps.at(non as usize) as usize;
         let members = groups.members[component].as_slice();
         let rules = groups.rules[component].as_slice();
-        place_members(&mut self.net, &mut self.entries, members)?;
-        place_rules(&mut self.net, g, &mut self.bases, rules)?;
-        self.lay_rules(g, comps, component, rules)?;
-        let entry = self.entries[non as usize];
-        self.move_on(link.from, entry)?;
-        self.move_on(entry + 1, link.to)
+        self.place(g, members, rules)?;
+        self.lay_component(g, comps, component, rules, non, link)?;
+        Ok(())
     }
 }

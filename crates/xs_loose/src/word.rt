@@ -26,5 +26,6 @@ pub fn lay_word(
         read_symbol(net, alloc, last, *symbol, next)?;
         last = next;
     }
-    pass(net, last, to)
+    pass(net, last, to)?;
+    Ok(())
 }
