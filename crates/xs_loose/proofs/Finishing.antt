@@ -25,9 +25,9 @@ path_walk g stays = rests
 path_walk g {n} (goes {a = a} {b = x} {c = c} {u = u} {v = v} {w = w} arc p e) = step arc (path_walk g p)
   where
     step : Arc g n [] a u x → Walks n x v c → Walks n a w c
-    step (of_net (by_move f m)) rest = subst (λ (l : List ℕ). Walks n a l c) (sym (e ∙ ap (λ (l : List ℕ). l ++ v) f)) (passes m rest)
-    step (of_net (by_edge edge s m h to f)) rest = subst (λ (l : List ℕ). Walks n a l c) (sym (e ∙ ap (λ (l : List ℕ). l ++ v) f)) (reads edge m h (subst (λ (k : ℕ). Walks n k v c) (sym to) rest))
-    step (of_link l h k) rest = absurd (omega (arith, h.1))
+    step (of_net (by_move f m)) later = subst (λ (l : List ℕ). Walks n a l c) (sym (e ∙ ap (λ (l : List ℕ). l ++ v) f)) (passes m later)
+    step (of_net (by_edge edge s m h to f)) later = subst (λ (l : List ℕ). Walks n a l c) (sym (e ∙ ap (λ (l : List ℕ). l ++ v) f)) (reads edge m h (subst (λ (k : ℕ). Walks n k v c) (sym to) later))
+    step (of_link l h k) later = absurd (omega (arith, h.1))
 
 some_same : {x y : ℕ} → Some x ≡ Some y → x ≡ y
 some_same e = cc

@@ -101,3 +101,15 @@ pub read_at : (xs : List ℕ) (k x : ℕ) → slice_get xs k ≡ Some x → get_
 read_at [] k x e = cc
 read_at (y ∷ xs) zero x e = cc
 read_at (y ∷ xs) (suc k) x e = read_at xs k x e
+
+pub one_low : (g : Grammar) (comps : List ℕ) (component : ℕ) (i : GItem) (n : ℕ) → NamesAreThere g i → IsOneOf comps component i n → n < g.nons
+one_low g comps component (Fixed f) n there h = absurd h
+one_low g comps component (Term t s) n there h = absurd h
+one_low g comps component (Non m s) n there h = subst (λ (k : ℕ). k < g.nons) h.0 there
+one_low g comps component (Skip k) n there h = absurd h
+
+pub one_of : (g : Grammar) (comps : List ℕ) (component : ℕ) (i : GItem) (n : ℕ) → NamesAreThere g i → IsOneOf comps component i n → IsNonOf g comps component n
+one_of g comps component (Fixed f) n there h = absurd h
+one_of g comps component (Term t s) n there h = absurd h
+one_of g comps component (Non m s) n there h = (subst (λ (k : ℕ). k < g.nons) h.0 there, subst (λ (k : ℕ). get_or comps k 0 ≡ component) h.0 h.1)
+one_of g comps component (Skip k) n there h = absurd h

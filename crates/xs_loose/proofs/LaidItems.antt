@@ -1,6 +1,7 @@
 -- What is laid for a fixed word, an automaton and a nonterminal has laid the link's item.
-use Rattle.std.proofs.Common.{◌≡◌, ◌⊎◌, ℕ, zero, suc, ◌+◌, ◌<◌, ◌≤◌, ◌^◌, List, [], length, get_or, refl, sym, ap, subst, ◌∙◌, inl, inr, arith}
+use Rattle.std.proofs.Common.{◌≡◌, ◌⊎◌, ℕ, zero, suc, ◌+◌, ◌<◌, ◌≤◌, ◌^◌, List, [], length, get_or, refl, sym, ap, subst, ◌∙◌, inl, inr, arith, slice_get, Some}
 use Rattle.std.specs.List.{Contains}
+use Rattle.std.proofs.lemmas.List.{get_or_read}
 use Rattle.xs_regex.specs.declared.position.Position.{Position}
 use Rattle.xs_regex.specs.Automaton.{Leads, Accepts, IsWellFormed}
 use Rattle.xs_gram.specs.declared.parts.GItem.{GItem}
@@ -11,7 +12,9 @@ use Rattle.xs_gram.specs.Sound.{IsInRange, IsBuilt, IsAutomaton}
 use Rattle.xs_auto.specs.Nets.{states}
 use Rattle.xs_loose.specs.declared.link.Link.{Link}
 use Rattle.xs_loose.specs.declared.draft.Draft.{Draft}
-use Rattle.xs_loose.specs.Groups.{IsGroup, IsNonOf, IsRuleIn}
+use Rattle.xs_loose.specs.declared.groups.Groups.{Groups}
+use Rattle.xs_loose.specs.Groups.{IsGroup, IsNonOf, IsRuleIn, AreGrouped}
+use Rattle.xs_loose.proofs.Items.{read_at}
 use Rattle.xs_loose.specs.Arcs.{NetArc, Arc, Adds, Grows, NetGrows, DraftGrows, NoArc, IsLink, GrowsBare, Below, Either}
 use Rattle.xs_loose.specs.Laying.{state_before, WordArc, AutomatonArc, ComponentArc, HasTables, HasSpots, IsDraft, IsLaid, Places}
 use Rattle.xs_loose.proofs.Growing.{with_links, bare_grows}
@@ -141,3 +144,17 @@ module _ (g : Grammar) (l : Link) (old new : Draft) (draft : IsDraft g old) (lin
       inside a w b h =
           let k = component_in g comps range are component members rules nons own mid.entries.items mid.bases.items (states old.net) (states mid.net) places.spots m of l.from l.to link.from link.to a w b h in
           (omega (arith, k.0, grows.grows.states), omega (arith, k.1, grows.grows.states))
+
+-- what is read in the groups of the component of a nonterminal that is an item
+pub non_of_item : (g : Grammar) (comps : List ℕ) (l : Link) (non x : ℕ) → IsInRange g → (slot : ℕ) × ItemAt g l.rule l.dot (Non non slot) → slice_get comps non ≡ Some x → IsNonOf g comps x non
+non_of_item g comps l non x range item e = (range.nons l.rule l.dot non item.0 item.1, read_at comps non x e)
+
+pub members_read : (g : Grammar) (comps : List ℕ) (groups : Groups) (x non : ℕ) (read : List ℕ) → AreGrouped g comps groups → IsNonOf g comps x non → read ≡ get_or groups.members.items x read → IsGroup (IsNonOf g comps x) read
+members_read g comps groups x non read grouped of e =
+    let low : x < length groups.members.items = omega (arith, grouped.below non of.0, of.1) in
+    rw (get_or_read groups.members.items x read low e []) (grouped.members x)
+
+pub rules_read : (g : Grammar) (comps : List ℕ) (groups : Groups) (x non : ℕ) (read : List ℕ) → AreGrouped g comps groups → IsNonOf g comps x non → read ≡ get_or groups.rules.items x read → IsGroup (IsRuleIn g comps x) read
+rules_read g comps groups x non read grouped of e =
+    let low : x < length groups.rules.items = omega (arith, grouped.below non of.0, of.1, grouped.counted) in
+    rw (get_or_read groups.rules.items x read low e []) (grouped.rules x)

@@ -35,15 +35,15 @@ module _ (g : Grammar) (part : Part) (is : IsPart g part) where
   item_over j d l = got_at (items g part.rule) (part.start + j) d (omega (arith, part_count, is.within, is.order)) ∙ ap (λ (i : GItem). Some i) (sym (same_item j d l))
 
   module _ (T : ℕ → List ℕ → ℕ → Type 0) (to : (a : ℕ) (w : List ℕ) (b : ℕ) → T a w b → Below (length (part_items g part)) (IsOver g part) a w b) (back : (a : ℕ) (w : List ℕ) (b : ℕ) → Below (length (part_items g part)) (IsOver g part) a w b → T a w b) where
-    loose_from : {j k : ℕ} {w : List ℕ} → Path T j w k → k ≡ length (part_items g part) → j ≤ k → IsLoose g (drop j (part_items g part)) w
-    loose_from {j} {k} stays e l = subst (λ (xs : List GItem). IsLoose g xs []) (sym (drop_all j (part_items g part) (omega arith))) loose_none
-    loose_from {j} {k} {w} (goes {b = x} {u = u} {v = v} t p f) e l = step (to j u x t)
+    loose_from : {j k : ℕ} {w : List ℕ} → Path T j w k → k ≡ length (part_items g part) → IsLoose g (drop j (part_items g part)) w
+    loose_from {j} {k} stays e = subst (λ (xs : List GItem). IsLoose g xs []) (sym (drop_all j (part_items g part) (omega arith))) loose_none
+    loose_from {j} {k} {w} (goes {b = x} {u = u} {v = v} t p f) e = step (to j u x t) (loose_from p e)
       where
         some_same : {x y : GItem} → Some x ≡ Some y → x ≡ y
         some_same e = cc
 
-        step : Below (length (part_items g part)) (IsOver g part) j u x → IsLoose g (drop j (part_items g part)) w
-        step h =
+        step : Below (length (part_items g part)) (IsOver g part) j u x → IsLoose g (drop x (part_items g part)) v → IsLoose g (drop j (part_items g part)) w
+        step h rest =
             let own : IsLinkArc g (link_over part h.0) j u x = h.2 in
             let at : h.0 ≡ j = sym own.from in
             let within : j < length (part_items g part) = omega (arith, h.1) in
@@ -51,7 +51,6 @@ module _ (g : Grammar) (part : Part) (is : IsPart g part) where
             let next : x ≡ j + 1 = omega (arith, own.to) in
             let there : ItemAt g part.rule (part.start + j) i = subst (λ (k : ℕ). ItemAt g part.rule (part.start + k) i) at own.is in
             let same : get_or (part_items g part) j i ≡ i = some_same (sym (item_over j i within) ∙ there) in
-            let rest : IsLoose g (drop x (part_items g part)) v = loose_from p e (omega arith) in
             let tail : IsLoose g (drop (j + 1) (part_items g part)) v = subst (λ (m : ℕ). IsLoose g (drop m (part_items g part)) v) next rest in
             subst (λ (xs : List GItem). IsLoose g xs w) (sym (drop_more (part_items g part) j i within ∙ ap (λ (y : GItem). y ∷ drop (j + 1) (part_items g part)) same)) (loose_then own.loose tail f)
 
@@ -73,4 +72,4 @@ module _ (g : Grammar) (part : Part) (is : IsPart g part) where
         tail_same e = cc
 
     pub outline_words : (w : List ℕ) → Path T 0 w (length (part_items g part)) ↔ IsLoose g (part_items g part) w
-    outline_words w = (λ p. loose_from p refl (omega arith), λ h. path_from h 0 refl (omega arith))
+    outline_words w = (λ p. loose_from p refl, λ h. path_from h 0 refl (omega arith))

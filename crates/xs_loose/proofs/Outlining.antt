@@ -141,4 +141,7 @@ outline_done g part is last first old new all zero_first same entries bases sets
     words w = subst (λ (k : ℕ). Path (Arc g new.net new.links.items) 0 w k ↔ IsLoose g (part_items g part) w) count (outline_words g part is (Arc g new.net new.links.items) (λ a x b h. subst (λ (k : ℕ). Below k (IsOver g part) a x b) (sym count) (over a x b h)) (λ a x b h. to_new a x b (was.arcs.there a x b (subst (λ (k : ℕ). Below k (IsOver g part) a x b) count h))) w)
 
 pub over_is : (part : Part) (last : ℕ) (l : Link) → l.from ≡ last → l.to ≡ last + 1 → l.rule ≡ part.rule → l.dot ≡ part.start + last → l ≡ link_over part last
-over_is part last l e f h k = cc
+over_is part last l e f h k = same_link e f h k
+  where
+    same_link : {a b c d a' b' c' d' : ℕ} → a ≡ a' → b ≡ b' → c ≡ c' → d ≡ d' → ◌≡◌ {A = Link} (record { from = a; to = b; rule = c; dot = d }) (record { from = a'; to = b'; rule = c'; dot = d' })
+    same_link e f h k = rw (e, f, h, k) refl

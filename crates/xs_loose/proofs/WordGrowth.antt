@@ -2,7 +2,7 @@
 use Rattle.std.proofs.Common.{◌≡◌, ◌⊎◌, ℕ, zero, suc, ◌+◌, ◌<◌, ◌≤◌, List, [], ◌∷◌, ◌++◌, length, get_or, take, slice_get, Some, true, false, Bool, refl, sym, ap, subst, ◌∙◌, inl, inr, arith, add-one}
 use Rattle.std.specs.Prelude.{IsSomeAnd, IsTrue}
 use Rattle.std.specs.List.{Contains}
-use Rattle.std.proofs.lemmas.Bool.{false≢true}
+use Rattle.std.proofs.lemmas.Bool.{both_ways}
 use Rattle.std.proofs.lemmas.List.{take_more, take_all}
 use Rattle.std.proofs.lemmas.List.Elements.{Contains-append_left, Contains-push, Contains-push_cases}
 use Rattle.xs_class.specs.Classes.{Has}
@@ -85,10 +85,10 @@ leaving_all base t lasts i l m h grows = subst (λ (ts : List ℕ). NetGrows (Is
 
 -- the move past an automaton, where there is one
 pub skipping_there : (p : Position) (s t : ℕ) (m n : Graph) → p.nullable ≡ true → NetGrows (IsMove s t) 0 m n → NetGrows (IsSkipping p s t) 0 m n
-skipping_there p s t m n e grows = grows_as (IsMove s t) (IsSkipping p s t) (NetArc m) (NetArc n) (NetArc n) (λ a w b h. (rw e tt, h)) (λ a w b h. h.1) grows
+skipping_there p s t m n e grows = grows_as (IsMove s t) (IsSkipping p s t) (NetArc m) (NetArc n) (NetArc n) (λ a w b h. (e, h)) (λ a w b h. h.1) grows
 
 pub skipping_none : (p : Position) (s t : ℕ) (n : Graph) → p.nullable ≡ false → NetGrows (IsSkipping p s t) 0 n n
-skipping_none p s t n e = grows_as NoArc (IsSkipping p s t) (NetArc n) (NetArc n) (NetArc n) (λ a w b h. absurd h) (λ a w b h. absurd (rw e at h.0)) (grows_none (NetArc n) n)
+skipping_none p s t n e = grows_as NoArc (IsSkipping p s t) (NetArc n) (NetArc n) (NetArc n) (λ a w b h. absurd h) (λ a w b h. absurd (both_ways p.nullable e h.0)) (grows_none (NetArc n) n)
 
 -- all of an automaton
 pub automaton_all : (p : Position) (s base t count : ℕ) (n0 n1 n2 n3 n4 n5 : Graph) → NetGrows NoArc count n0 n1 → NetGrows (IsInto p base s p.first) 0 n1 n2 → NetGrows (Below (length p.follow) (IsFollowing p base)) 0 n2 n3 → NetGrows (IsLeaving base t p.last) 0 n3 n4 → NetGrows (IsSkipping p s t) 0 n4 n5 → NetGrows (AutomatonArc p s base t) count n0 n5

@@ -26,7 +26,7 @@ impl Draft {
 /// Adds the states of the members of a component, an entry and behind it an exit for each, and writes
 /// the entries into a table.
 fn place_members(net: &mut Net, entries: &mut [u32], members: &[u32]) -> Result<(), Memory>
-    requires members { IsListed (length entries.old) members.now }
+    requires { IsListed (length entries.old) members.now }
     ensures placed { OnOk result (ArePlaced member_size members.now (length members.now) (states net.old) (states net.new) entries.new) }
     ensures grows { OnOk result (GrowsBare net.old net.new) }
     ensures length { length entries.new ≡ length entries.old }

@@ -19,7 +19,7 @@ lay-requires-clause-link c =
 pub links-preserved : goal.links-preserved
 links-preserved c =
     let rest : Draft = record c.links.draft { links = c.pop.new.self } in
-    laid_words c.args.g.now c.links.draft rest c.in-Some.link refl c.in-Some.ensures.items (record { entries = c.links.invariant.draft.tables.entries; bases = c.links.invariant.draft.tables.bases }) (part_items c.args.g.now c.args.part.now) c.lay.new.self c.links.invariant c.in_ok-lay.ensures
+    laid_words c.args.g.now c.links.draft rest c.in-Some.link refl c.in-Some.ensures.items (record { entries = c.links.invariant.draft.tables.entries; bases = c.links.invariant.draft.tables.bases }) (part_items c.args.g.now c.args.part.now) c.lay.new.self c.links.invariant c.in_ok-lay-in-Some.ensures
 
 pub returns-in-None-clause-start : goal.returns-in-None-clause-start
 returns-in-None-clause-start c = some_start c.args.g.now (part_items c.args.g.now c.args.part.now) c.links.draft c.links.invariant

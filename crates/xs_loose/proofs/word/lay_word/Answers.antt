@@ -1,4 +1,5 @@
 use Rattle.std.proofs.Common.{◌≡◌, get_or, length, refl, arith}
+use Rattle.std.proofs.lemmas.List.{get_or_read}
 use Rattle.xs_auto.specs.Nets.{states}
 use Rattle.xs_loose.specs.Arcs.{NetArc}
 use Rattle.xs_loose.specs.Laying.{IsLetter}
@@ -13,7 +14,7 @@ pub symbols-preserved : goal.symbols-preserved
 symbols-preserved c =
     let i = c.symbols.symbol-index in
     let base = states c.args.net.now in
-    let more = letter_more c.args.word.now c.args.from base i c.args.net.now c.symbols.net _ _ c.symbols.last (get_or c.args.word.now i 0) c.in_ok-next.next refl c.symbols.invariant.last refl c.in_ok-next.ensures.number c.symbols.invariant.grows c.in_ok-next.ensures.grows c.in_ok-read_symbol.ensures in
+    let more = letter_more c.args.word.now c.args.from base i c.args.net.now c.symbols.net _ _ c.symbols.last c.symbol-item.result c.in_ok-next.next refl c.symbols.invariant.last (get_or_read c.args.word.now i c.symbol-item.result c.symbols-test.true c.symbol-item.is 0) c.in_ok-next.ensures.number c.symbols.invariant.grows c.in_ok-next.ensures.grows c.in_ok-read_symbol.ensures in
     record {
       last = next_before c.args.from base i c.in_ok-next.next (omega (arith, c.in_ok-next.ensures.number, c.symbols.invariant.grows.states));
       low = omega (arith, c.in_ok-next.ensures.number, more.states, c.symbols.invariant.grows.states);

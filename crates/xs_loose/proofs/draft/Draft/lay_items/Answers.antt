@@ -1,6 +1,7 @@
 use Rattle.std.proofs.Common.{◌≡◌, ◌∙◌, ℕ, ◌<◌, List, length, get_or, refl, ap, subst, sym, arith, Some}
 use Rattle.xs_gram.specs.declared.parts.GItem.{GItem}
 use Rattle.xs_gram.specs.Grammar.{rule_of, items}
+use Rattle.xs_loose.specs.Groups.{IsNonOf}
 use Rattle.xs_loose.specs.Arcs.{DraftGrows, Below}
 use Rattle.xs_loose.specs.Laying.{ItemArc}
 use Rattle.xs_loose.proofs.Items.{got_at}
@@ -13,7 +14,7 @@ dots-init c = record { spots = c.requires.spots; grows = λ m of. draft_none c.a
 pub dots-preserved : goal.dots-preserved
 dots-preserved c =
     let g = c.args.g.now in
-    let own = (c.requires.built.range.rules c.args.rule c.requires.rule.0, c.requires.rule.1) in
+    let own : IsNonOf g c.args.comps.now c.args.component (rule_of g c.args.rule).non = (c.requires.built.range.rules c.args.rule c.requires.rule.0, c.requires.rule.1) in
     record {
       spots = spots_kept g c.args.comps.now c.args.component (ItemArc g c.dots.self.entries.items c.dots.self.bases.items (rule_of g c.args.rule).non c.args.rule c.dots.dot) (c.in_ok-lay_item.ensures (rule_of g c.args.rule).non own) c.dots.invariant.spots;
       grows = λ m of. draft_more g (ItemArc g c.args.self.now.entries.items c.args.self.now.bases.items m c.args.rule) c.dots.dot (c.dots.invariant.grows m of) (item_tables g c.dots.self.entries.items c.args.self.now.entries.items c.dots.self.bases.items c.args.self.now.bases.items m c.args.rule c.dots.dot (c.dots.invariant.grows m of).entries (c.dots.invariant.grows m of).bases (c.in_ok-lay_item.ensures m of));
