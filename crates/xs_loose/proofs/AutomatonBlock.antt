@@ -4,8 +4,8 @@ use Rattle.std.specs.Prelude.{IsSomeAnd}
 use Rattle.std.specs.List.{Contains}
 use Rattle.xs_regex.specs.declared.position.Position.{Position}
 use Rattle.xs_regex.specs.Automaton.{Leads, Runs, begins, goes, Accepts}
-use Rattle.xs_loose.specs.Arcs.{Path, IsMove, Below, Either}
-use Rattle.xs_loose.specs.Laying.{IsInto, IsFollowing, IsLeaving, IsSkipping, AutomatonArc}
+use Rattle.xs_loose.specs.Arcs.{Path}
+use Rattle.xs_loose.specs.Laying.{AutomatonArc}
 use Rattle.xs_loose.proofs.Paths.{IsBlock, path_one, path_snoc}
 
 pub leads_at : (rows : List (List ℕ)) (j k : ℕ) → j < length rows → Contains (get_or rows j []) k → IsSomeAnd (slice_get rows j) (λ row. Contains row k)

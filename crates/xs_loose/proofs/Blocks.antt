@@ -1,13 +1,13 @@
 -- A link that is replaced by a block, in drafts.
-use Rattle.std.proofs.Common.{◌≡◌, ◌⊎◌, ℕ, ◌+◌, ◌<◌, ◌≤◌, List, [], length, refl, sym, ap, subst, ◌∙◌, inl, inr, arith, Some}
+use Rattle.std.proofs.Common.{◌≡◌, ◌⊎◌, ℕ, ◌<◌, ◌≤◌, List, sym, subst, ◌∙◌, inl, inr, arith, Some}
 use Rattle.std.specs.List.{Contains}
 use Rattle.xs_gram.specs.declared.parts.GItem.{GItem}
-use Rattle.xs_gram.specs.Grammar.{Grammar, items, ItemAt}
+use Rattle.xs_gram.specs.Grammar.{Grammar, ItemAt}
 use Rattle.xs_gram.specs.Loose.{LooseItem}
-use Rattle.xs_auto.specs.Nets.{Graph, states}
+use Rattle.xs_auto.specs.Nets.{states}
 use Rattle.xs_loose.specs.declared.link.Link.{Link}
 use Rattle.xs_loose.specs.declared.draft.Draft.{Draft}
-use Rattle.xs_loose.specs.Arcs.{Path, NetArc, Arc, of_net, of_link, IsLink, IsLinkArc, Adds, Grows, NetGrows, DraftGrows, Either}
+use Rattle.xs_loose.specs.Arcs.{Path, Arc, IsLink, IsLinkArc, Adds, Grows, NetGrows, DraftGrows, Either}
 use Rattle.xs_loose.specs.Laying.{HasTables, IsDraft, IsLaid}
 use Rattle.xs_loose.proofs.Growing.{with_links}
 use Rattle.xs_loose.proofs.Paths.{IsBlock, Through, path_map, block_is_through, through_is_block}

@@ -1,12 +1,12 @@
 -- A component as a block of states.
-use Rattle.std.proofs.Common.{◌≡◌, ◌⊎◌, ℕ, zero, suc, ◌+◌, ◌<◌, ◌≤◌, List, [], ◌∷◌, ◌++◌, length, get_or, refl, sym, ap, subst, ◌∙◌, inl, inr, arith, append-nil}
+use Rattle.std.proofs.Common.{◌≡◌, ◌⊎◌, ℕ, suc, ◌+◌, ◌<◌, ◌≤◌, List, [], ◌++◌, length, get_or, refl, sym, ap, subst, ◌∙◌, inl, inr, arith, append-nil}
 use Rattle.std.proofs.lemmas.Bool.{cases_order}
 use Rattle.std.proofs.lemmas.Option.{slice_get_within}
 use Rattle.std.proofs.lemmas.List.Elements.{Contains-get_or}
 use Rattle.xs_gram.specs.declared.parts.GItem.{GItem}
 use Rattle.xs_gram.specs.declared.parts.GItem.TheVariants.{Non}
 use Rattle.xs_gram.specs.Grammar.{Grammar, rule_of, items, IsRuleOf, ItemAt}
-use Rattle.xs_gram.specs.Loose.{AreOne, AreComponents, IsMember, Spot, entry, exit, at, LooseItem, Step, begins, passes, calls, ends, returns, Walk, stays, goes}
+use Rattle.xs_gram.specs.Loose.{AreOne, AreComponents, Spot, entry, exit, at, Step, begins, passes, calls, ends, returns, Walk, stays, goes}
 use Rattle.xs_gram.specs.Sound.{IsInRange}
 use Rattle.xs_ambiguity.proofs.Walks.{joined, stepped}
 use Rattle.xs_loose.specs.Groups.{IsGroup, IsNonOf, IsRuleIn}
@@ -133,26 +133,51 @@ module _ (g : Grammar) (comps : List ℕ) (range : IsInRange g) (are : AreCompon
   -- each arc of the rules is a step
   item_step : (p k a : ℕ) (w : List ℕ) (b : ℕ) → IsRuleIn g comps component p → k < length (items g p) → ItemArc g entries bases c p k a w b → IsStep g comps component c entries bases a w b
   item_step p k a w b h l (past i there apart loose e f) = record {
-    from = at p k; to = at p (suc k); from_in = (h, omega arith); to_in = (h, omega arith); source = e; target = omega arith;
+    from = at p k;
+    to = at p (suc k);
+    from_in = (h, omega arith);
+    to_in = (h, omega arith);
+    source = e;
+    target = omega arith;
     step = passes {m = (rule_of g p).non} {i = i} (h.0, refl) (one_of_rule p h) there apart loose;
   }
   item_step p k a w b h l (call m s there one move) = record {
-    from = at p k; to = entry m; from_in = (h, omega arith); to_in = (range.nons p k m s there, one_only g comps are component c of m (range.nons p k m s there) one); source = move.0; target = move.2;
+    from = at p k;
+    to = entry m;
+    from_in = (h, omega arith);
+    to_in = (range.nons p k m s there, one_only g comps are component c of m (range.nons p k m s there) one);
+    source = move.0;
+    target = move.2;
     step = subst (λ (x : List ℕ). Step g c (at p k) x (entry m)) (sym move.1) (calls {m = (rule_of g p).non} {s = s} (h.0, refl) (one_of_rule p h) there one);
   }
   item_step p k a w b h l (return m s there one move) = record {
-    from = exit m; to = at p (suc k); from_in = (range.nons p k m s there, one_only g comps are component c of m (range.nons p k m s there) one); to_in = (h, omega arith); source = move.0; target = omega (arith, move.2);
+    from = exit m;
+    to = at p (suc k);
+    from_in = (range.nons p k m s there, one_only g comps are component c of m (range.nons p k m s there) one);
+    to_in = (h, omega arith);
+    source = move.0;
+    target = omega (arith, move.2);
     step = subst (λ (x : List ℕ). Step g c (exit m) x (at p (suc k))) (sym move.1) (returns {m = (rule_of g p).non} {s = s} (h.0, refl) (one_of_rule p h) there one);
   }
 
   rule_step : (p a : ℕ) (w : List ℕ) (b : ℕ) → IsRuleIn g comps component p → RuleArc g entries bases c p a w b → IsStep g comps component c entries bases a w b
   rule_step p a w b h (inl (inl move)) = record {
-    from = entry (rule_of g p).non; to = at p 0; from_in = (range.rules p h.0, h.1); to_in = (h, omega arith); source = move.0; target = move.2;
+    from = entry (rule_of g p).non;
+    to = at p 0;
+    from_in = (range.rules p h.0, h.1);
+    to_in = (h, omega arith);
+    source = move.0;
+    target = move.2;
     step = subst (λ (x : List ℕ). Step g c (entry (rule_of g p).non) x (at p 0)) (sym move.1) (begins (h.0, refl) (one_of_rule p h));
   }
   rule_step p a w b h (inl (inr arc)) = item_step p arc.0 a w b h arc.1 arc.2
   rule_step p a w b h (inr move) = record {
-    from = at p (length (items g p)); to = exit (rule_of g p).non; from_in = (h, omega arith); to_in = (range.rules p h.0, h.1); source = move.0; target = move.2;
+    from = at p (length (items g p));
+    to = exit (rule_of g p).non;
+    from_in = (h, omega arith);
+    to_in = (range.rules p h.0, h.1);
+    source = move.0;
+    target = move.2;
     step = subst (λ (x : List ℕ). Step g c (at p (length (items g p))) x (exit (rule_of g p).non)) (sym move.1) (ends (h.0, refl) (one_of_rule p h) refl);
   }
 

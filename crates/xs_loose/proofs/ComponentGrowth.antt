@@ -1,5 +1,5 @@
 -- A draft to which the arcs of a component are added, item by item and rule by rule.
-use Rattle.std.proofs.Common.{◌≡◌, ◌⊎◌, ℕ, zero, suc, ◌+◌, ◌<◌, ◌≤◌, List, [], ◌∷◌, ◌++◌, length, get_or, Some, refl, sym, ap, subst, ◌∙◌, inl, inr, arith}
+use Rattle.std.proofs.Common.{◌≡◌, ◌⊎◌, ℕ, ◌+◌, ◌<◌, List, [], ◌∷◌, ◌++◌, length, get_or, Some, refl, sym, ap, subst, ◌∙◌, inl, inr, arith}
 use Rattle.std.specs.List.{Contains}
 use Rattle.std.proofs.lemmas.Option.{slice_get_within}
 use Rattle.std.proofs.lemmas.List.Elements.{Contains-push_cases}
@@ -7,16 +7,15 @@ use Rattle.xs_gram.specs.declared.parts.GItem.{GItem}
 use Rattle.xs_gram.specs.declared.parts.GItem.TheVariants.{Fixed, Term, Non, Skip}
 use Rattle.xs_gram.specs.Grammar.{Grammar, rule_of, items, ItemAt}
 use Rattle.xs_gram.specs.Building.{NamesAreThere}
-use Rattle.xs_gram.specs.Loose.{AreOne, AreComponents, IsMember, LooseItem}
-use Rattle.xs_gram.specs.Sound.{IsInRange}
+use Rattle.xs_gram.specs.Loose.{AreOne, AreComponents, IsMember}
 use Rattle.xs_auto.specs.Nets.{Graph, states}
 use Rattle.xs_loose.specs.declared.link.Link.{Link}
 use Rattle.xs_loose.specs.declared.draft.Draft.{Draft}
-use Rattle.xs_loose.specs.Groups.{IsNonOf, IsRuleIn}
+use Rattle.xs_loose.specs.Groups.{IsNonOf}
 use Rattle.xs_loose.specs.Weighing.{IsOneOf}
-use Rattle.xs_loose.specs.Arcs.{Arc, IsLink, IsLinkArc, Adds, Grows, DraftGrows, NoArc, IsMove, Below, Either}
-use Rattle.xs_loose.specs.Laying.{state_at, ItemArc, past, call, return, RuleArc, RulesArc, ComponentArc, HasTables, HasSpots}
-use Rattle.xs_loose.proofs.Growing.{grows_as, grows_then, grows_none, below_none, below_more, link_more}
+use Rattle.xs_loose.specs.Arcs.{Arc, IsLink, IsLinkArc, DraftGrows, IsMove, Below, Either}
+use Rattle.xs_loose.specs.Laying.{state_at, ItemArc, past, call, return, RuleArc, HasSpots}
+use Rattle.xs_loose.proofs.Growing.{grows_as, grows_then, below_none, below_more, link_more}
 use Rattle.xs_loose.proofs.Items.{one_there, no_member}
 
 pub some_same : {X : Type 0} {x y : X} → Some x ≡ Some y → x ≡ y
@@ -162,7 +161,7 @@ rule_grows g entries bases c p entry base next last d0 d1 d2 d3 e b x y first al
     let begin : DraftGrows g (IsMove (get_or entries (rule_of g p).non 0) (state_at bases p 0)) 0 d0 d1 = moved first (e) (omega arith) in
     let end : DraftGrows g (IsMove (state_at bases p (length (items g p))) (get_or entries (rule_of g p).non 0 + 1)) 0 d2 d3 = moved second (omega arith) (omega arith) in
     draft_then g (Either (IsMove (get_or entries (rule_of g p).non 0) (state_at bases p 0)) (Below (length (items g p)) (ItemArc g entries bases c p))) (IsMove (state_at bases p (length (items g p))) (get_or entries (rule_of g p).non 0 + 1)) refl
-      (draft_then g (IsMove (get_or entries (rule_of g p).non 0) (state_at bases p 0)) (Below (length (items g p)) (ItemArc g entries bases c p)) refl begin all) end
+    (draft_then g (IsMove (get_or entries (rule_of g p).non 0) (state_at bases p 0)) (Below (length (items g p)) (ItemArc g entries bases c p)) refl begin all) end
   where
     moved : {s t u v : ℕ} {old new : Draft} → DraftGrows g (IsMove s t) 0 old new → s ≡ u → t ≡ v → DraftGrows g (IsMove u v) 0 old new
     moved {s} {t} {u} {v} {old} {new} h f k = subst (λ (x : ℕ). DraftGrows g (IsMove x v) 0 old new) f (subst (λ (x : ℕ). DraftGrows g (IsMove s x) 0 old new) k h)

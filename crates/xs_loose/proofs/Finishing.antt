@@ -1,7 +1,6 @@
 -- From a draft with links to the net that accepts the loose words.
-use Rattle.std.proofs.Common.{◌≡◌, ◌⊎◌, ◌↔◌, ℕ, ◌+◌, ◌<◌, ◌≤◌, true, List, [], ◌∷◌, ◌++◌, length, refl, sym, ap, subst, ◌∙◌, inl, inr, arith, Some}
+use Rattle.std.proofs.Common.{◌≡◌, ℕ, ◌<◌, List, [], ◌∷◌, ◌++◌, refl, sym, ap, subst, ◌∙◌, inl, inr, arith, Some}
 use Rattle.std.specs.Prelude.{IsSome}
-use Rattle.std.specs.List.{Contains}
 use Rattle.std.proofs.lemmas.List.Elements.{Contains-append_left, Contains-push}
 use Rattle.xs_gram.specs.declared.parts.GItem.{GItem}
 use Rattle.xs_gram.specs.Grammar.{Grammar}
@@ -10,7 +9,7 @@ use Rattle.xs_auto.specs.Nets.{Graph, states, Walks, rests, passes, reads, Accep
 use Rattle.xs_loose.specs.declared.link.Link.{Link}
 use Rattle.xs_loose.specs.declared.draft.Draft.{Draft}
 use Rattle.xs_loose.specs.Accepting.{AcceptsLoose}
-use Rattle.xs_loose.specs.Arcs.{NetArc, by_move, by_edge, Arc, of_net, of_link, Path, stays, goes, IsLink, IsLinkArc, Either}
+use Rattle.xs_loose.specs.Arcs.{by_move, by_edge, Arc, of_net, of_link, Path, stays, goes, IsLink, IsLinkArc, Either}
 use Rattle.xs_loose.specs.Laying.{IsDraft, IsLaid, IsDraftOf, HasTables}
 use Rattle.xs_loose.proofs.Growing.{link_more}
 use Rattle.xs_loose.proofs.Paths.{path_map}

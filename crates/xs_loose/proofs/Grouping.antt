@@ -1,5 +1,5 @@
 -- Groups by a key, made place by place.
-use Rattle.std.proofs.Common.{◌≡◌, ℕ, zero, suc, ◌+◌, ◌<◌, ◌≤◌, List, [], ◌∷◌, ◌++◌, length, get_or, set, take, refl, sym, ap, subst, ◌∙◌, inl, inr, arith, get_or-set_same, get_or-set_other}
+use Rattle.std.proofs.Common.{◌≡◌, ℕ, ◌+◌, ◌<◌, ◌≤◌, List, [], ◌∷◌, ◌++◌, length, get_or, set, take, sym, ap, subst, ◌∙◌, inl, inr, arith, get_or-set_same, get_or-set_other}
 use Rattle.std.specs.List.{All, Contains}
 use Rattle.std.proofs.lemmas.Bool.{cases_lt, cases_eq}
 use Rattle.std.proofs.lemmas.List.{get_or_append_left, get_or_push, get_or_past, get_or_default, length_push}
@@ -43,10 +43,10 @@ pub groups_more : (keys : List ℕ) (groups new : List (List ℕ)) (end key : �
 groups_more keys groups new end key group is low r e are other = elim (cases_eq other key) [
   | inl same ↦ rw (same, e, get_or-set_same groups key (group ++ end ∷ []) [] low) own
   | inr ne ↦ rw (e, get_or-set_other groups key other (group ++ end ∷ []) [] ne) (record {
-      there = λ i h. (are other).there i (before i h ne);
-      only = λ i h. longer keys end other i ((are other).only i h);
-      rising = (are other).rising;
-    })
+    there = λ i h. (are other).there i (before i h ne);
+    only = λ i h. longer keys end other i ((are other).only i h);
+    rising = (are other).rising;
+  })
 ]
   where
     before : (i : ℕ) → HasKey keys (end + 1) other i → (other ≡ key → ⊥) → HasKey keys end other i

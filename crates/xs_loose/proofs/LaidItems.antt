@@ -3,7 +3,7 @@ use Rattle.std.proofs.Common.{◌≡◌, ◌⊎◌, ℕ, zero, suc, ◌+◌, ◌
 use Rattle.std.specs.List.{Contains}
 use Rattle.std.proofs.lemmas.List.{get_or_read}
 use Rattle.xs_regex.specs.declared.position.Position.{Position}
-use Rattle.xs_regex.specs.Automaton.{Leads, Accepts, IsWellFormed}
+use Rattle.xs_regex.specs.Automaton.{Accepts, IsWellFormed}
 use Rattle.xs_gram.specs.declared.parts.GItem.{GItem}
 use Rattle.xs_gram.specs.declared.parts.GItem.TheVariants.{Fixed, Term, Non, Skip}
 use Rattle.xs_gram.specs.Grammar.{Grammar, term_of, skip_of, items, ItemAt}
@@ -15,7 +15,7 @@ use Rattle.xs_loose.specs.declared.draft.Draft.{Draft}
 use Rattle.xs_loose.specs.declared.groups.Groups.{Groups}
 use Rattle.xs_loose.specs.Groups.{IsGroup, IsNonOf, IsRuleIn, AreGrouped}
 use Rattle.xs_loose.proofs.Items.{read_at}
-use Rattle.xs_loose.specs.Arcs.{NetArc, Arc, Adds, Grows, NetGrows, DraftGrows, NoArc, IsLink, GrowsBare, Below, Either}
+use Rattle.xs_loose.specs.Arcs.{Arc, Adds, Grows, NetGrows, DraftGrows, NoArc, IsLink}
 use Rattle.xs_loose.specs.Laying.{state_before, WordArc, AutomatonArc, ComponentArc, HasTables, HasSpots, IsDraft, IsLaid, Places}
 use Rattle.xs_loose.proofs.Growing.{with_links, bare_grows}
 use Rattle.xs_loose.proofs.Blocks.{block_laid}
@@ -59,9 +59,9 @@ module _ (g : Grammar) (l : Link) (old new : Draft) (draft : IsDraft g old) (lin
   pub word_laid : (f : List ℕ) → ItemAt g l.rule l.dot (Fixed f) → new.links.items ≡ old.links.items → new.entries.items ≡ old.entries.items → new.bases.items ≡ old.bases.items → NetGrows (WordArc f l.from (states old.net) l.to) (length f) old.net new.net → IsLaid g l old new
   word_laid f there links entries bases grows =
       block_laid g (Fixed f) l there old new (WordArc f l.from (states old.net) l.to) (length f) (λ (w : List ℕ). w ≡ f) (Behind f (states old.net)) draft link (tables_kept g old new entries bases draft.tables) all (λ m h. inl (rw links at h))
-        (word_block f (states old.net) l.from l.to link.from link.to)
-        (word_whole f (states old.net) l.from l.to (Arc g new.net new.links.items) all.arcs.there)
-        inside (fixed_to g f) (fixed_back g f)
+      (word_block f (states old.net) l.from l.to link.from link.to)
+      (word_whole f (states old.net) l.from l.to (Arc g new.net new.links.items) all.arcs.there)
+      inside (fixed_to g f) (fixed_back g f)
     where
       all : Grows (WordArc f l.from (states old.net) l.to) (Arc g old.net old.links.items) (Arc g new.net new.links.items) (length f) old.net new.net
       all = net_grows g (WordArc f l.from (states old.net) l.to) (length f) old new links grows
@@ -77,9 +77,9 @@ module _ (g : Grammar) (l : Link) (old new : Draft) (draft : IsDraft g old) (lin
   pub automaton_laid : (i : GItem) (p : Position) → ItemAt g l.rule l.dot i → ((w : List ℕ) → Accepts p w → LooseItem g i w) → ((w : List ℕ) → LooseItem g i w → Accepts p w) → IsWellFormed p → new.links.items ≡ old.links.items → new.entries.items ≡ old.entries.items → new.bases.items ≡ old.bases.items → NetGrows (AutomatonArc p l.from (states old.net) l.to) (length p.classes) old.net new.net → IsLaid g l old new
   automaton_laid i p there to back formed links entries bases grows =
       block_laid g i l there old new (AutomatonArc p l.from (states old.net) l.to) (length p.classes) (Accepts p) (AtPosition p (states old.net)) draft link (tables_kept g old new entries bases draft.tables) all (λ m h. inl (rw links at h))
-        (automaton_block p (states old.net) l.from l.to link.from link.to)
-        (automaton_whole p (states old.net) l.from l.to (Arc g new.net new.links.items) all.arcs.there)
-        inside to back
+      (automaton_block p (states old.net) l.from l.to link.from link.to)
+      (automaton_whole p (states old.net) l.from l.to (Arc g new.net new.links.items) all.arcs.there)
+      inside to back
     where
       all : Grows (AutomatonArc p l.from (states old.net) l.to) (Arc g old.net old.links.items) (Arc g new.net new.links.items) (length p.classes) old.net new.net
       all = net_grows g (AutomatonArc p l.from (states old.net) l.to) (length p.classes) old new links grows
@@ -127,9 +127,9 @@ module _ (g : Grammar) (l : Link) (old new : Draft) (draft : IsDraft g old) (lin
   pub non_laid : (comps : List ℕ) (component : ℕ) (members rules : List ℕ) (m s : ℕ) (mid : Draft) → IsInRange g → AreComponents g comps → IsGroup (IsNonOf g comps component) members → IsGroup (IsRuleIn g comps component) rules → IsNonOf g comps component m → ItemAt g l.rule l.dot (Non m s) → Places g members rules old mid → DraftGrows g (ComponentArc g mid.entries.items mid.bases.items rules m l.from l.to) 0 mid new → IsLaid g l old new
   non_laid comps component members rules m s mid range are nons own of there places grows =
       block_laid g (Non m s) l there old new (ComponentArc g mid.entries.items mid.bases.items rules m l.from l.to) places.bare.0 (λ (w : List ℕ). Walk g m (entry m) w (exit m)) (AtSpot g comps component m mid.entries.items mid.bases.items) draft link (tables_kept g mid new grows.entries grows.bases places.tables) all links
-        (component_block g comps range are component members rules nons own mid.entries.items mid.bases.items (states old.net) (states mid.net) places.spots m of l.from l.to link.from link.to)
-        (component_whole g comps range are component members rules nons own mid.entries.items mid.bases.items (states old.net) (states mid.net) places.spots m of l.from l.to (Arc g new.net new.links.items) all.arcs.there)
-        inside (non_to m s) (non_back m s)
+      (component_block g comps range are component members rules nons own mid.entries.items mid.bases.items (states old.net) (states mid.net) places.spots m of l.from l.to link.from link.to)
+      (component_whole g comps range are component members rules nons own mid.entries.items mid.bases.items (states old.net) (states mid.net) places.spots m of l.from l.to (Arc g new.net new.links.items) all.arcs.there)
+      inside (non_to m s) (non_back m s)
     where
       bare : Grows NoArc (Arc g old.net old.links.items) (Arc g mid.net mid.links.items) places.bare.0 old.net mid.net
       bare = net_grows g NoArc places.bare.0 old mid places.links places.bare.1

@@ -1,11 +1,9 @@
 -- A draft with one link over each item of a part.
-use Rattle.std.proofs.Common.{◌≡◌, ◌⊎◌, ◌↔◌, ℕ, zero, suc, min, ◌+◌, ◌-◌, ◌<◌, ◌≤◌, List, [], ◌∷◌, ◌++◌, length, get_or, take, drop, refl, sym, ap, subst, ◌∙◌, inl, inr, arith, slice_get, Some, length-take, length-drop, get_or-drop, get_or-take}
-use Rattle.std.specs.Prelude.{slice_range}
-use Rattle.std.proofs.lemmas.Bool.{cases_lt}
+use Rattle.std.proofs.Common.{◌≡◌, ◌↔◌, ℕ, suc, min, ◌+◌, ◌-◌, ◌<◌, ◌≤◌, List, [], ◌∷◌, length, get_or, drop, refl, sym, ap, subst, ◌∙◌, arith, Some, length-take, length-drop, get_or-drop, get_or-take}
 use Rattle.std.proofs.lemmas.List.{drop_more, drop_all}
 use Rattle.xs_gram.specs.declared.parts.GItem.{GItem}
 use Rattle.xs_gram.specs.Grammar.{Grammar, items, ItemAt}
-use Rattle.xs_gram.specs.Loose.{LooseItem, IsLoose, loose_none, loose_then}
+use Rattle.xs_gram.specs.Loose.{IsLoose, loose_none, loose_then}
 use Rattle.xs_loose.specs.declared.link.Link.{Link}
 use Rattle.xs_loose.specs.declared.part.Part.{Part}
 use Rattle.xs_loose.specs.Arcs.{Path, stays, goes, IsLinkArc, Below}

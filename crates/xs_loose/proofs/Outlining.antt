@@ -1,16 +1,15 @@
 -- An outline that grows by one link after another.
-use Rattle.std.proofs.Common.{◌≡◌, ◌≢◌, ◌⊎◌, ◌↔◌, ℕ, ◌+◌, ◌-◌, ◌<◌, ◌≤◌, ◌^◌, true, false, List, [], ◌∷◌, length, refl, sym, ap, subst, ◌∙◌, inl, inr, arith, Some, None, min, drop, length-take, length-drop}
+use Rattle.std.proofs.Common.{◌≡◌, ◌⊎◌, ◌↔◌, ℕ, ◌+◌, ◌<◌, ◌^◌, true, false, List, [], length, refl, sym, ap, subst, ◌∙◌, inl, inr, arith, Some, None}
 use Rattle.std.specs.List.{Contains}
 use Rattle.std.proofs.lemmas.Bool.{cases_eq, false≢true}
-use Rattle.xs_gram.specs.declared.parts.GItem.{GItem}
-use Rattle.xs_gram.specs.Grammar.{Grammar, items}
+use Rattle.xs_gram.specs.Grammar.{Grammar}
 use Rattle.xs_auto.specs.Nets.{Graph, states, final_at, edges_of, moves_of, SetsFinal}
 use Rattle.xs_loose.specs.declared.link.Link.{Link}
 use Rattle.xs_loose.specs.declared.draft.Draft.{Draft}
 use Rattle.xs_loose.specs.declared.part.Part.{Part}
 use Rattle.xs_gram.specs.Loose.{IsLoose}
 use Rattle.xs_loose.specs.Arcs.{NetArc, by_move, by_edge, Arc, of_net, of_link, Path, IsLink, IsLinkArc, Adds, NetGrows, DraftGrows, NoArc, Below}
-use Rattle.xs_loose.specs.Laying.{HasTables, IsDraft, IsDraftOf}
+use Rattle.xs_loose.specs.Laying.{HasTables, IsDraftOf}
 use Rattle.xs_loose.specs.Parts.{IsPart, part_items}
 use Rattle.xs_loose.proofs.Growing.{same_arcs, with_links}
 use Rattle.xs_loose.proofs.Outlines.{link_over, IsOver, part_count, outline_words}

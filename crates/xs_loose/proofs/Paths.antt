@@ -1,5 +1,5 @@
 -- Paths over arcs, and a block of new states in place of arcs between two old ones.
-use Rattle.std.proofs.Common.{◌≡◌, ◌⊎◌, ℕ, ◌<◌, ◌≤◌, List, [], ◌++◌, sym, ap, subst, ◌∙◌, refl, inl, inr, arith, append_assoc, append-nil}
+use Rattle.std.proofs.Common.{◌≡◌, ◌⊎◌, ℕ, ◌<◌, ◌≤◌, List, ◌++◌, sym, ap, subst, ◌∙◌, refl, inl, inr, arith, append_assoc, append-nil}
 use Rattle.xs_loose.specs.Arcs.{Path, stays, goes, Adds, Either}
 
 pub path_on : {T : ℕ → List ℕ → ℕ → Type 0} {a b c : ℕ} {u v : List ℕ} → Path T a u b → Path T b v c → Path T a (u ++ v) c

@@ -1,8 +1,8 @@
 -- States that are placed one behind another.
-use Rattle.std.proofs.Common.{◌≡◌, ℕ, suc, ◌+◌, ◌<◌, ◌≤◌, List, [], length, get_or, set, refl, sym, ap, subst, ◌∙◌, inl, inr, arith, get_or-set_same, get_or-set_other}
+use Rattle.std.proofs.Common.{◌≡◌, ℕ, ◌+◌, ◌<◌, ◌≤◌, List, length, get_or, set, refl, subst, inl, inr, arith, get_or-set_same, get_or-set_other}
 use Rattle.std.proofs.lemmas.Bool.{cases_lt}
-use Rattle.xs_auto.specs.Nets.{Graph, states}
-use Rattle.xs_loose.specs.Arcs.{NetArc, NetGrows, NoArc, GrowsBare}
+use Rattle.xs_auto.specs.Nets.{Graph}
+use Rattle.xs_loose.specs.Arcs.{NetArc, NoArc, GrowsBare}
 use Rattle.xs_loose.specs.Groups.{IsGroup}
 use Rattle.xs_loose.specs.Laying.{ArePlaced, IsListed}
 use Rattle.std.proofs.lemmas.List.Elements.{Contains-get_or}

@@ -1,5 +1,5 @@
 -- Weights of bodies, of rules and of components, step by step.
-use Rattle.std.proofs.Common.{◌≡◌, ◌⊎◌, ℕ, zero, suc, ◌+◌, ◌*◌, ◌<◌, ◌≤◌, List, [], ◌∷◌, ◌++◌, length, get_or, take, set, refl, sym, ap, subst, ◌∙◌, inl, inr, arith, length-set, get_or-set_same, get_or-set_other}
+use Rattle.std.proofs.Common.{◌≡◌, ℕ, zero, suc, ◌+◌, ◌*◌, ◌<◌, ◌≤◌, List, [], ◌∷◌, ◌++◌, length, get_or, take, set, sym, ap, subst, ◌∙◌, inl, inr, arith, get_or-set_same, get_or-set_other}
 use Rattle.std.specs.List.{Contains}
 use Rattle.std.proofs.lemmas.Bool.{cases_lt, cases_eq}
 use Rattle.std.proofs.lemmas.List.{take_more}
@@ -82,9 +82,9 @@ module _ (g : Grammar) (comps : List ℕ) (are : AreComponents g comps) (compone
         let own : IsUpTo members at.0 r = subst (λ (x : ℕ). IsUpTo members at.0 x) at.3 (up_to_own members group at.0 at.2) in
         subst (λ (k : ℕ). Members g c (suc r) k) (sym last) (member_next (one_there g comps are component c of r (omega arith) e) (counted r at.0 (omega arith) own (omega (arith, at.2))))
     | inr ne ↦ other_next (λ one. ne (one_only g comps are component c of r (omega arith) one)) (counted r i (omega arith) (record {
-        before = λ j l. lower ne j l;
-        after = λ j l h. let m = up.after j l h in omega arith;
-      }) le)
+      before = λ j l. lower ne j l;
+      after = λ j l h. let m = up.after j l h in omega arith;
+    }) le)
   ]
     where
       ends : (at : (j : ℕ) × (j < i) × (j < length members) × (get_or members j 0 ≡ r)) → i ≡ suc at.0

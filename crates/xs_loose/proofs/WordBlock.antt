@@ -1,8 +1,8 @@
 -- A fixed word as a block of states.
 use Rattle.std.proofs.Common.{◌≡◌, ◌⊎◌, ℕ, zero, suc, ◌+◌, ◌<◌, ◌≤◌, List, [], ◌∷◌, ◌++◌, length, get_or, take, refl, sym, ap, subst, ◌∙◌, inl, inr, arith, add-one, append-nil, take_all}
 use Rattle.std.proofs.lemmas.List.{take_more, nil_from_length}
-use Rattle.xs_loose.specs.Arcs.{Path, stays, IsMove, Below, Either}
-use Rattle.xs_loose.specs.Laying.{state_before, IsLetter, WordArc}
+use Rattle.xs_loose.specs.Arcs.{Path, stays}
+use Rattle.xs_loose.specs.Laying.{state_before, WordArc}
 use Rattle.xs_loose.proofs.Paths.{IsBlock, path_snoc}
 
 -- the state behind a symbol is reached by the word up to there

@@ -1,6 +1,5 @@
 -- A net to which a fixed word or an automaton is added, arc by arc.
-use Rattle.std.proofs.Common.{◌≡◌, ◌⊎◌, ℕ, zero, suc, ◌+◌, ◌<◌, ◌≤◌, List, [], ◌∷◌, ◌++◌, length, get_or, take, slice_get, Some, true, false, Bool, refl, sym, ap, subst, ◌∙◌, inl, inr, arith, add-one}
-use Rattle.std.specs.Prelude.{IsSomeAnd, IsTrue}
+use Rattle.std.proofs.Common.{◌≡◌, ℕ, zero, suc, ◌+◌, ◌<◌, ◌≤◌, List, [], ◌∷◌, ◌++◌, length, get_or, take, slice_get, Some, true, false, refl, sym, ap, subst, ◌∙◌, inl, inr, arith, add-one}
 use Rattle.std.specs.List.{Contains}
 use Rattle.std.proofs.lemmas.Bool.{both_ways}
 use Rattle.std.proofs.lemmas.List.{take_more, take_all}
@@ -9,7 +8,7 @@ use Rattle.xs_class.specs.Classes.{Has}
 use Rattle.xs_regex.specs.declared.position.Position.{Position}
 use Rattle.xs_regex.specs.Automaton.{HasAt, Leads}
 use Rattle.xs_auto.specs.Nets.{Graph, states}
-use Rattle.xs_loose.specs.Arcs.{NetArc, Grows, NetGrows, NoArc, IsMove, IsReading, IsSymbol, Below, Either}
+use Rattle.xs_loose.specs.Arcs.{NetArc, NetGrows, NoArc, IsMove, IsReading, IsSymbol, Below, Either}
 use Rattle.xs_loose.specs.Laying.{state_before, IsLetter, WordArc, IsInto, IsFollowing, IsLeaving, IsSkipping, AutomatonArc}
 use Rattle.xs_loose.proofs.Growing.{grows_as, grows_then, grows_none, bare_grows, below_more}
 

@@ -11,12 +11,7 @@ use xs_class::Memory;
 use xs_regex::Position;
 
 /// Lays an automaton between two states: a state for each of its positions.
-pub fn lay_automaton(
-    net: &mut Net,
-    automaton: &Position,
-    from: u32,
-    to: u32,
-) -> Result<(), Memory>
+pub fn lay_automaton(net: &mut Net, automaton: &Position, from: u32, to: u32) -> Result<(), Memory>
     requires formed { IsWellFormed automaton.now }
     requires few { states net.old < 2 ^ 32 }
     requires from { from < states net.old }

@@ -69,12 +69,7 @@ fn above(bound: usize, key: u32) -> usize
 }
 
 /// For each key the places at which it stands, in ascending order.
-fn grouped(
-    alloc: Global,
-    keys: &[u32],
-    end: u32,
-    count: usize,
-) -> Result<Vec<Numbers>, Memory>
+fn grouped(alloc: Global, keys: &[u32], end: u32, count: usize) -> Result<Vec<Numbers>, Memory>
     requires end { length keys.now ≡ end }
     requires below { All (λ k. k < count) keys.now }
     ensures counted { IfOk result (λ groups. length groups.items ≡ count) }

@@ -17,6 +17,8 @@ mod members;
 mod net;
 mod part;
 mod placing;
+#[cfg(test)]
+mod tests;
 mod weighing;
 mod word;
 

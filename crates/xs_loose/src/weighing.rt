@@ -121,13 +121,7 @@ fn component_weight(
 }
 
 /// The weight of the items of a rule in its component.
-fn body_weight(
-    g: &Gram,
-    comps: &Comps,
-    component: usize,
-    items: &[GItem],
-    weights: &[u64],
-) -> u64
+fn body_weight(g: &Gram, comps: &Comps, component: usize, items: &[GItem], weights: &[u64]) -> u64
     requires built { IsBuilt g.now }
     requires comps { AreComponents g.now comps.now }
     requires there { All (NamesAreThere g.now) items.now }
@@ -145,13 +139,7 @@ fn body_weight(
 }
 
 /// What an item counts in a component.
-fn item_count(
-    g: &Gram,
-    comps: &Comps,
-    component: usize,
-    item: &GItem,
-    weights: &[u64],
-) -> u64
+fn item_count(g: &Gram, comps: &Comps, component: usize, item: &GItem, weights: &[u64]) -> u64
     requires built { IsBuilt g.now }
     requires comps { AreComponents g.now comps.now }
     requires there { NamesAreThere g.now item.now }

@@ -1,7 +1,4 @@
-use Rattle.std.proofs.Common.{ℕ, ◌+◌, ◌<◌, ◌≤◌, length, subst, arith}
-use Rattle.xs_auto.specs.Nets.{states}
-use Rattle.xs_loose.specs.Arcs.{NetGrows}
-use Rattle.xs_loose.specs.Laying.{AutomatonArc}
+use Rattle.std.proofs.Common.{length, arith}
 use Rattle.xs_loose.proofs.WordGrowth.{automaton_all}
 use Rattle.xs_loose.proofs.automaton.lay_automaton.Goals as goal
 

@@ -1,4 +1,4 @@
-use Rattle.std.proofs.Common.{◌<◌, get_or, length, refl, arith}
+use Rattle.std.proofs.Common.{get_or, refl}
 use Rattle.std.proofs.lemmas.List.Elements.{Contains-get_or}
 use Rattle.xs_loose.proofs.WordGrowth.{into_none, into_more, into_all}
 use Rattle.xs_loose.proofs.automaton.read_all.Goals as goal

@@ -1,4 +1,4 @@
-use Rattle.std.proofs.Common.{◌≡◌, ℕ, List, [], ◌∷◌, ◌++◌, ◌∙◌, ap, get_or, set, subst, arith, length, length-set, refl, ◌<◌}
+use Rattle.std.proofs.Common.{◌≡◌, ℕ, List, [], ◌∙◌, ap, get_or, set, subst, arith, length, length-set, refl, ◌<◌}
 use Rattle.std.proofs.lemmas.List.{get_or_read}
 use Rattle.xs_loose.specs.Groups.{AreGroups}
 use Rattle.xs_loose.proofs.Grouping.{groups_none, groups_more}

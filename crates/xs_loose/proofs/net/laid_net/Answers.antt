@@ -1,7 +1,6 @@
-use Rattle.std.proofs.Common.{◌≡◌, [], List, refl, arith}
+use Rattle.std.proofs.Common.{◌≡◌, [], refl, arith}
 use Rattle.std.proofs.lemmas.List.{nil_from_length}
 use Rattle.xs_loose.specs.declared.draft.Draft.{Draft}
-use Rattle.xs_loose.specs.declared.link.Link.{Link}
 use Rattle.xs_loose.specs.Parts.{part_items}
 use Rattle.xs_loose.proofs.Finishing.{net_done, popped, last_link, laid_words, some_start}
 use Rattle.xs_loose.proofs.net.laid_net.Goals as goal

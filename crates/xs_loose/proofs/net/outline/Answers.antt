@@ -1,5 +1,5 @@
-use Rattle.std.proofs.Common.{◌≡◌, ◌∙◌, ℕ, ◌+◌, ◌<◌, ◌≤◌, ap, sym, subst, refl, arith}
-use Rattle.xs_auto.specs.Nets.{Graph, states, SetsFinal}
+use Rattle.std.proofs.Common.{◌≡◌, ◌∙◌, ℕ, ◌+◌, ap, sym, subst, refl, arith}
+use Rattle.xs_auto.specs.Nets.{Graph, states}
 use Rattle.xs_loose.specs.declared.draft.Draft.{Draft}
 use Rattle.xs_loose.specs.declared.link.Link.{Link}
 use Rattle.xs_loose.proofs.Outlines.{link_over}

@@ -1,4 +1,4 @@
-use Rattle.std.proofs.Common.{◌≡◌, ◌+◌, ◌≤◌}
+use Rattle.std.proofs.Common.{◌≡◌, ◌+◌}
 use Rattle.xs_loose.proofs.Outlining.{IsOutline}
 use Rattle.xs_loose.proofs.net.outline.Given as goal
 

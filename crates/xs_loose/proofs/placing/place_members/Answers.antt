@@ -1,4 +1,4 @@
-use Rattle.std.proofs.Common.{◌≡◌, ◌<◌, ◌∙◌, get_or, set, length, refl, arith, length-set}
+use Rattle.std.proofs.Common.{◌<◌, ◌∙◌, get_or, set, length, refl, arith, length-set}
 use Rattle.xs_auto.specs.Nets.{states}
 use Rattle.xs_loose.specs.Laying.{member_size}
 use Rattle.xs_loose.proofs.Spotting.{placed_none, placed_more, placed_all, bare_none, bare_then}

@@ -1,4 +1,4 @@
-use Rattle.std.proofs.Common.{◌≡◌, ◌<◌, ◌+◌, ◌∙◌, ap, get_or, set, length, refl, arith, length-set, List}
+use Rattle.std.proofs.Common.{◌<◌, ◌∙◌, ap, get_or, set, length, refl, arith, length-set, List}
 use Rattle.xs_gram.specs.declared.parts.GItem.{GItem}
 use Rattle.xs_auto.specs.Nets.{states}
 use Rattle.xs_loose.specs.Laying.{rule_size}

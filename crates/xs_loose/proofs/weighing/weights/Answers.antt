@@ -1,6 +1,5 @@
-use Rattle.std.proofs.Common.{◌≡◌, ◌<◌, ℕ, List, [], length, get_or, ap, ◌∙◌, arith, subst, sym}
+use Rattle.std.proofs.Common.{◌≡◌, ℕ, List, [], length, ap, ◌∙◌, arith}
 use Rattle.std.proofs.lemmas.List.{get_or_read, with_items_is}
-use Rattle.xs_loose.specs.Groups.{IsGroup, IsNonOf, IsRuleIn}
 use Rattle.xs_loose.proofs.Summing.{members_within, weights_more}
 use Rattle.xs_loose.proofs.weighing.weights.Goals as goal
 

@@ -1,4 +1,4 @@
-use Rattle.std.proofs.Common.{◌≡◌, get_or, length, refl, arith}
+use Rattle.std.proofs.Common.{refl, arith}
 use Rattle.std.proofs.lemmas.List.{get_or_read}
 use Rattle.xs_auto.specs.Nets.{states}
 use Rattle.xs_loose.specs.Arcs.{NetArc}

@@ -1,4 +1,4 @@
-use Rattle.std.proofs.Common.{◌≡◌, ◌<◌, length}
+use Rattle.std.proofs.Common.{◌≡◌, ◌<◌}
 use Rattle.xs_auto.specs.Nets.{states}
 use Rattle.xs_loose.specs.Arcs.{NetGrows, Below}
 use Rattle.xs_loose.specs.Laying.{state_before, IsLetter}

@@ -1,6 +1,6 @@
-use Rattle.std.proofs.Common.{◌≡◌, List, subst, refl}
+use Rattle.std.proofs.Common.{subst, refl}
 use Rattle.xs_gram.specs.declared.parts.GItem.{GItem}
-use Rattle.xs_gram.specs.declared.parts.GItem.TheVariants.{Fixed, Term, Non, Skip}
+use Rattle.xs_gram.specs.declared.parts.GItem.TheVariants.{Fixed, Term, Skip}
 use Rattle.xs_gram.specs.Grammar.{ItemAt}
 use Rattle.xs_loose.proofs.Items.{item_read}
 use Rattle.xs_loose.proofs.LaidItems.{word_laid, term_laid, skip_laid}

@@ -1,4 +1,4 @@
-use Rattle.std.proofs.Common.{◌≡◌, ◌∙◌, ◌<◌, ℕ, List, length}
+use Rattle.std.proofs.Common.{length}
 use Rattle.xs_loose.specs.Groups.{IsGroup, IsNonOf, IsRuleIn}
 use Rattle.xs_loose.proofs.Spotting.{listed_of}
 use Rattle.xs_loose.proofs.LaidItems.{non_laid, has_spots, non_of_item, members_read, rules_read}

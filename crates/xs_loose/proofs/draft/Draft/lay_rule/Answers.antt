@@ -1,9 +1,7 @@
-use Rattle.std.proofs.Common.{◌≡◌, ◌∙◌, ℕ, ◌+◌, ◌<◌, List, length, get_or, refl, ap, subst, sym, arith}
+use Rattle.std.proofs.Common.{◌∙◌, ℕ, ◌+◌, ◌<◌, List, length, get_or, refl, ap, arith}
 use Rattle.std.proofs.lemmas.List.{get_or_read}
 use Rattle.xs_gram.specs.declared.parts.GItem.{GItem}
-use Rattle.xs_gram.specs.Grammar.{rule_of, items}
-use Rattle.xs_loose.specs.Groups.{IsNonOf}
-use Rattle.xs_loose.specs.Arcs.{IsMove}
+use Rattle.xs_gram.specs.Grammar.{items}
 use Rattle.xs_loose.proofs.ComponentGrowth.{rule_grows, items_tables, spots_kept}
 use Rattle.xs_loose.proofs.draft.Draft.lay_rule.Goals as goal
 

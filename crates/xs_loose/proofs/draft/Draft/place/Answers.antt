@@ -1,7 +1,6 @@
-use Rattle.std.proofs.Common.{◌≡◌, ◌∙◌, List, ℕ, length, refl, sym, ap, subst, arith}
+use Rattle.std.proofs.Common.{◌≡◌, ◌∙◌, List, ℕ, length, refl, ap, arith}
 use Rattle.std.proofs.lemmas.List.{with_items_is}
 use Rattle.xs_auto.specs.Nets.{states}
-use Rattle.xs_loose.specs.Laying.{IsListed}
 use Rattle.xs_loose.proofs.Spotting.{bare_then}
 use Rattle.xs_loose.proofs.draft.Draft.place.Goals as goal
 

@@ -1,5 +1,4 @@
-use Rattle.std.proofs.Common.{◌≡◌, ◌<◌, ℕ, List, ap, subst, sym, ◌∙◌, arith, length, get_or}
-use Rattle.std.specs.List.{All}
+use Rattle.std.proofs.Common.{◌<◌, ℕ, subst, sym, ◌∙◌, length, get_or}
 use Rattle.xs_loose.specs.Groups.{AreGroups}
 use Rattle.xs_loose.proofs.Grouping.{members_grouped, rules_grouped, keys_below, components_below}
 use Rattle.xs_loose.proofs.groups.Groups.of.Goals as goal
