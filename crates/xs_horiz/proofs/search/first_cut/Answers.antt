@@ -1,4 +1,4 @@
-use Rattle.std.proofs.Common.{below_more, arith}
+use Rattle.std.proofs.Common.{ap, length, below_more, arith}
 use Rattle.xs_light.proofs.First.{at_none}
 use Rattle.xs_horiz.specs.Cuts.{OverlapsAt}
 use Rattle.xs_horiz.proofs.Cuts.{none_in_row}
@@ -8,4 +8,4 @@ pub cuts-preserved : goal.cuts-preserved
 cuts-preserved c = below_more (λ k. OverlapsAt c.args.g.now c.args.rule k → ⊥) c.cuts.cut c.cuts.invariant (at_none c.in_ok-found.found c.in_default.not-Some c.in_ok-found.ensures.none)
 
 pub returns-clause-none : goal.returns-clause-none
-returns-clause-none c = none_in_row c.args.g.now c.args.rule c.cuts.cut (omega (arith, c.cuts-test.false)) c.cuts.invariant
+returns-clause-none c = none_in_row c.args.g.now c.args.rule c.cuts.cut (omega (arith, c.cuts-test.false, ap length c.items.ensures.items)) c.cuts.invariant
