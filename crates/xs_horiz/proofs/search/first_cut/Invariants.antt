@@ -1,0 +1,6 @@
+use Rattle.xs_light.specs.First.{HasNoneInRow}
+use Rattle.xs_horiz.specs.Cuts.{OverlapsAt}
+use Rattle.xs_horiz.proofs.search.first_cut.Given as goal
+
+abbrev pub invariant-cuts : goal.invariant-cuts
+invariant-cuts l = HasNoneInRow (OverlapsAt l.g) l.rule l.cut

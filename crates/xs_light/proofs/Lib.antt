@@ -1,0 +1,2 @@
+pub mod Lightness
+pub mod First

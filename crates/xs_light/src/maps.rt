@@ -1,0 +1,79 @@
+ghost use Rattle.std.specs.Prelude.{ℕ, ◌≡◌, ◌≤◌, List, IsSome, IfOk, IfSome, IfNone, OnOk};
+ghost use Rattle.xs_auto.specs.Shared.{IsShared, AreOverlap};
+
+use std::alloc::Global;
+use std::marker::Model;
+use xs_auto::{Net, Overlap, Pairs, meet_word, overlap_word};
+use xs_class::{Memory, Word};
+
+/// Maps for searches over pairs of states, which contracts see as the number of cells of each.
+///
+/// A search that needs more cells is given larger maps; one that needs fewer uses those that are there.
+#[derive(Debug, Drop)]
+pub struct Maps {
+    pairs: Pairs,
+    cells: u64,
+    alloc: Global,
+}
+
+impl Model for Maps {
+    ghost use Rattle.std.specs.Prelude.{◌≡◌, ℕ};
+
+    ghost Value = { ℕ };
+
+    ghost view = { λ m. m.cells };
+
+    ghost invariant = { λ m. m.pairs.cells ≡ m.cells };
+}
+
+impl Maps {
+    /// Maps without cells.
+    pub fn new(alloc: Global) -> Result<Maps, Memory>
+        ensures { IfOk result (λ m. m ≡ 0) }
+    {
+        let pairs = Pairs::with_room(alloc, 0)?;
+        Ok(Maps {
+            pairs,
+            cells: 0,
+            alloc,
+        })
+    }
+
+    /// Makes sure that there are so many cells.
+    fn make_room(&mut self, cells: u64) -> Result<(), Memory>
+        ensures { OnOk result (cells ≤ self.new) }
+    {
+        if self.cells < cells {
+            self.pairs = Pairs::with_room(self.alloc, cells)?;
+            self.cells = cells;
+        }
+        Ok(())
+    }
+
+    /// A word that both nets accept, or none where there is none.
+    pub fn meet_word(&mut self, a: &Net, b: &Net) -> Result<Option<Word>, Memory>
+        requires start_a { IsSome a.now.start }
+        requires start_b { IsSome b.now.start }
+        ensures some { IfOk result (λ o. IfSome o (IsShared a.now b.now)) }
+        ensures none { IfOk result (λ o. IfNone o ((w : List ℕ) → IsShared a.now b.now w → ⊥)) }
+    {
+        let cells = a.len() as u64 * b.len() as u64;
+        self.make_room(cells)?;
+        meet_word(self.alloc, a, b, &mut self.pairs)
+    }
+
+    /// Words x, a and y, a not empty, such that the front net accepts x and xa and the rest net
+    /// accepts y and ay, or none where there are none.
+    pub fn overlap_word(&mut self, front: &Net, rest: &Net) -> Result<Option<Overlap>, Memory>
+        requires start_front { IsSome front.now.start }
+        requires start_rest { IsSome rest.now.start }
+        ensures some { IfOk result (λ o. IfSome o (λ w. AreOverlap front.now rest.now w.x w.a w.y)) }
+        ensures none { IfOk result (λ o. IfNone o ((x a y : List ℕ) → AreOverlap front.now rest.now x a y → ⊥)) }
+    {
+        let high = front.len() as u64;
+        let wide = rest.len() as u64;
+        let cells = (high * high).max(high * wide).max(wide * wide);
+        self.make_room(cells)?;
+        overlap_word(self.alloc, front, rest, &mut self.pairs)
+    }
+}

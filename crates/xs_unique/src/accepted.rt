@@ -1,0 +1,38 @@
+ghost use Rattle.std.specs.Prelude.{◌≡◌};
+ghost use Rattle.xs_gram.specs.Languages.{IsUnique};
+
+use std::marker::Model;
+use xs_pair::Two;
+
+/// Two grammars that are accepted: no rule of either is heavy, neither has a suspect, and so each word
+/// of either has at most one derivation.
+#[derive(Debug, Drop)]
+pub struct Accepted<'t> {
+    pub(crate) two: &'t Two,
+}
+
+impl<'t> Model for Accepted<'t> {
+    ghost use Rattle.xs_pair.specs.Grammars.{Pair};
+    ghost use Rattle.xs_regex.specs.contracts.regex.Regex as e;
+    ghost use Rattle.std.specs.Coded.{codes};
+    ghost use Rattle.xs_unique.specs.Keeping.{KeepsUnique};
+
+    ghost Value = { Pair };
+
+    ghost coded = { Prim.hlevel (codes, e.the_row.coded) };
+
+    ghost view = { λ a. a.two.now };
+
+    ghost invariant = { λ a. KeepsUnique a.two.now };
+}
+
+impl<'t> Accepted<'t> {
+    /// The two grammars.
+    pub fn two(&self) -> &'t Two
+        ensures same { result.now ≡ self.now }
+        ensures text { IsUnique self.now.text }
+        ensures xml { IsUnique self.now.xml }
+    {
+        self.two
+    }
+}

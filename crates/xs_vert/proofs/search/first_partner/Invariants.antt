@@ -1,0 +1,6 @@
+use Rattle.xs_light.specs.First.{HasNoneInRow}
+use Rattle.xs_vert.specs.Partners.{ArePartners}
+use Rattle.xs_vert.proofs.search.first_partner.Given as goal
+
+abbrev pub invariant-partners : goal.invariant-partners
+invariant-partners l = HasNoneInRow (ArePartners l.g) l.rule l.rule2

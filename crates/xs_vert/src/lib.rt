@@ -1,0 +1,12 @@
+//! Vertical suspects: two rules of one nonterminal with a word that is loose for both.
+//!
+//! Rules are compared in order, each with those behind it, so that the suspect that is found is the
+//! first. Where no rule weighs more than 8,192, either a suspect is found or there is none.
+#![tactic(auto)]
+
+mod search;
+#[cfg(test)]
+mod tests;
+
+pub use search::{Vert, vertical};
+pub use xs_light::CheckFault;
