@@ -5,6 +5,8 @@
 #![tactic(auto)]
 
 mod search;
+#[cfg(test)]
+mod tests;
 
 pub use search::{Horiz, horizontal};
 pub use xs_light::CheckFault;

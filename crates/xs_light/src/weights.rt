@@ -1,24 +1,24 @@
-ghost use Rattle.std.specs.Prelude.{◌<◌, length, IfOk, IfErr, OnOk};
+ghost use Rattle.std.specs.Prelude.{◌<◌, length, IfErr, OnOk};
 ghost use Rattle.xs_gram.specs.Loose.{AreComponents};
 ghost use Rattle.xs_gram.specs.Sound.{IsBuilt};
 ghost use Rattle.xs_ambiguity.specs.Acceptance.{IsLight};
 ghost use Rattle.xs_ambiguity.specs.Weights.{RuleWeighs};
+ghost use Rattle.xs_loose.specs.Weighing.{AreWeights};
 ghost use Rattle.xs_light.specs.Causes.{IsCause};
 
 use crate::CheckFault;
 use crate::nets::whole;
 use std::alloc::Global;
-use xs_class::Memory;
 use xs_gram::{Comps, Gram};
-use xs_loose::weight_of;
+use xs_loose::{Weights, weight_by, weights};
 
 /// What a light rule weighs at most.
-const LIGHT: u64 = 8_192;
+const HEAVIEST: u64 = 8_192;
 
 /// What every greater sum counts as.
 const CAP: u64 = 1_000_000;
 
-/// Makes sure that each rule of a grammar weighs at most 8,192.
+/// Makes sure that each rule of a grammar weighs at most 8,192, in time linear in the grammar.
 ///
 /// Fails with `Heavy` exactly where one weighs more, with the weight of the first such rule.
 pub fn light(alloc: Global, g: &Gram, comps: &Comps) -> Result<(), CheckFault>
@@ -27,9 +27,10 @@ pub fn light(alloc: Global, g: &Gram, comps: &Comps) -> Result<(), CheckFault>
     ensures light { OnOk result (IsLight g.now) }
     ensures fault { IfErr result (IsCause g.now) }
 {
+    let weights = weights(alloc, g, comps)?;
     'rules: for rule in 0..g.rules() {
-        let weight = rule_weight(alloc, g, comps, rule)?;
-        if weight > LIGHT {
+        let weight = rule_weight(g, &weights, rule);
+        if weight > HEAVIEST {
             return Err(CheckFault::Heavy { weight });
         }
     }
@@ -37,13 +38,12 @@ pub fn light(alloc: Global, g: &Gram, comps: &Comps) -> Result<(), CheckFault>
 }
 
 /// The weight of a rule: 1 more than that of all its items.
-fn rule_weight(alloc: Global, g: &Gram, comps: &Comps, rule: u32) -> Result<u64, Memory>
+fn rule_weight(g: &Gram, weights: &Weights, rule: u32) -> u64
     requires built { IsBuilt g.now }
-    requires comps { AreComponents g.now comps.now }
+    requires weights { AreWeights g.now weights.now }
     requires rule { rule < length g.now.rules }
-    ensures { IfOk result (RuleWeighs g.now rule) }
+    ensures { RuleWeighs g.now rule result }
 {
-    let part = whole(g, rule);
-    let items = weight_of(alloc, g, comps, &part)?;
-    Ok((items + 1).min(CAP))
+    let items = weight_by(g, weights, &whole(g, rule));
+    (items + 1).min(CAP)
 }

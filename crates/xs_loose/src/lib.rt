@@ -1,14 +1,28 @@
 //! Weights of parts of rules, and nets that accept exactly their loose words.
 //!
-//! A stub: its calls have their contracts, and answer want of memory alone.
+//! A part is a stretch of a rule's items. Its weight says how many states its loose words take; one
+//! table has the weights of all components of a grammar, each computed once. A part that weighs at
+//! most 8,192 has a net: a state before and after each item, and between them the symbols of a fixed
+//! word, the positions of an automaton, or a copy of the component of a nonterminal.
 #![tactic(auto)]
 
+mod automaton;
+mod component;
+mod draft;
 mod fault;
+mod groups;
+mod growth;
+mod link;
+mod members;
 mod net;
 mod part;
-mod weight;
+mod placing;
+#[cfg(test)]
+mod tests;
+mod weighing;
+mod word;
 
 pub use fault::LooseFault;
-pub use net::net_of;
+pub use net::{net_by, net_of};
 pub use part::Part;
-pub use weight::weight_of;
+pub use weighing::{Weights, weight_by, weight_of, weights};

@@ -5,6 +5,8 @@
 #![tactic(auto)]
 
 mod search;
+#[cfg(test)]
+mod tests;
 
 pub use search::{Vert, vertical};
 pub use xs_light::CheckFault;

@@ -3,4 +3,4 @@ use Rattle.xs_ambiguity.proofs.Weights.{part_within}
 use Rattle.xs_light.proofs.weights.rule_weight.Goals as goal
 
 pub overflow_add-items : goal.overflow_add-items
-overflow_add-items c = omega (arith, part_within c.in_ok-items.ensures)
+overflow_add-items c = omega (arith, part_within c.weight_by-items.ensures)

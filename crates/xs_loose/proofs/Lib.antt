@@ -1,0 +1,17 @@
+pub mod Grouping
+pub mod Items
+pub mod Bounds
+pub mod Summing
+pub mod Paths
+pub mod Growing
+pub mod WordGrowth
+pub mod WordBlock
+pub mod AutomatonBlock
+pub mod ComponentBlock
+pub mod Blocks
+pub mod ComponentGrowth
+pub mod Spotting
+pub mod Finishing
+pub mod Outlining
+pub mod LaidItems
+pub mod Outlines

@@ -1,0 +1,166 @@
+//! A grammar of lists in brackets, with known weights and words.
+ghost use Rattle.std.specs.Prelude.{◌≡◌, [], ◌∷◌, IsSome, IfOk, IfSome};
+ghost use Rattle.xs_gram.specs.declared.parts.GItem.TheVariants.{Fixed, Term, Non};
+ghost use Rattle.xs_gram.specs.Building.{CanBuild, IsFit};
+ghost use Rattle.xs_loose.specs.Parts.{IsPart};
+
+use super::*;
+use crate::growth::state;
+use crate::word::lay_word;
+use std::alloc::Global;
+use std::test::Fail;
+use xs_auto::{Net, Pairs, meet_word};
+use xs_class::{Class, Memory, Sym, Word};
+use xs_gram::{GItem, GItems, Gram, GramParts, Regexes, RulePart, Rules, Skips};
+use xs_order::components;
+use xs_regex::Regex;
+
+fn symbol(alloc: Global, code: u32) -> Result<GItem, Memory>
+    ensures { IfOk result (λ i. i ≡ Fixed (code ∷ [])) }
+{
+    let mut word = Word::new(alloc);
+    word.push(Sym(code))?;
+    Ok(GItem::Fixed(word))
+}
+
+fn digit(alloc: Global) -> Result<Regex, Memory>
+    ensures { IfOk result IsFit }
+{
+    let class = Class::from_ranges(alloc, &[(48, 57)])?;
+    Ok(Regex::Set(class))
+}
+
+/// `<`, a list and `>`.
+fn whole(alloc: Global) -> Result<GItems, Memory>
+    ensures { IfOk result (λ is. is ≡ Fixed (60 ∷ []) ∷ Non 1 0 ∷ Fixed (62 ∷ []) ∷ []) }
+{
+    let mut items = GItems::new(alloc);
+    items.push(symbol(alloc, 60)?)?;
+    items.push(GItem::Non { non: 1, slot: 0 })?;
+    items.push(symbol(alloc, 62)?)?;
+    Ok(items)
+}
+
+/// One digit.
+fn last(alloc: Global) -> Result<GItems, Memory>
+    ensures { IfOk result (λ is. is ≡ Term 0 0 ∷ []) }
+{
+    let mut items = GItems::new(alloc);
+    items.push(GItem::Term { term: 0, slot: 0 })?;
+    Ok(items)
+}
+
+/// A list, a comma and a digit.
+fn more(alloc: Global) -> Result<GItems, Memory>
+    ensures { IfOk result (λ is. is ≡ Non 1 0 ∷ Fixed (44 ∷ []) ∷ Term 0 1 ∷ []) }
+{
+    let mut items = GItems::new(alloc);
+    items.push(GItem::Non { non: 1, slot: 0 })?;
+    items.push(symbol(alloc, 44)?)?;
+    items.push(GItem::Term { term: 0, slot: 1 })?;
+    Ok(items)
+}
+
+/// Digits with commas between them, in brackets.
+fn list_parts(alloc: Global) -> Result<GramParts, Memory>
+    ensures { IfOk result CanBuild }
+{
+    let mut terms = Regexes::new(alloc);
+    terms.push(digit(alloc)?)?;
+    let mut rules = Rules::new(alloc);
+    rules.push(RulePart {
+        non: 0,
+        items: whole(alloc)?,
+    })?;
+    rules.push(RulePart {
+        non: 1,
+        items: last(alloc)?,
+    })?;
+    rules.push(RulePart {
+        non: 1,
+        items: more(alloc)?,
+    })?;
+    Ok(GramParts {
+        start: 0,
+        nons: 2,
+        rules,
+        terms,
+        skips: Skips::new(alloc),
+    })
+}
+
+/// The net of one word.
+fn net_of_word(alloc: Global, word: &[Sym]) -> Result<Net, Memory>
+    ensures { IfOk result (λ n. IsSome n.start) }
+{
+    let mut net = Net::new(alloc)?;
+    let first = state(&mut net)?;
+    let end = state(&mut net)?;
+    lay_word(&mut net, alloc, word, first, end)?;
+    net.set_start(first);
+    net.set_final(end)?;
+    Ok(net)
+}
+
+/// This part of the rule, if there is one.
+fn part(gram: &Gram, rule: u32, start: u32, end: u32) -> Option<Part>
+    ensures { IfSome result (IsPart gram.now) }
+{
+    if rule >= gram.rules() {
+        return None;
+    }
+    if start > end || end as usize > gram.items(rule).len() {
+        return None;
+    }
+    Some(Part { rule, start, end })
+}
+
+/// Whether the word is loose for the three items of a rule of the lists.
+fn is_loose(alloc: Global, rule: u32, word: &[Sym]) -> Result<bool, LooseFault> {
+    let gram = Gram::build(alloc, list_parts(alloc)?)?;
+    let comps = components(alloc, &gram)?;
+    match part(&gram, rule, 0, 3) {
+        None => Ok(false),
+        Some(part) => {
+            let net = net_of(alloc, &gram, &comps, &part)?;
+            let other = net_of_word(alloc, word)?;
+            let cells = net.len() as u64 * other.len() as u64;
+            let mut pairs = Pairs::with_room(alloc, cells)?;
+            let found = meet_word(alloc, &net, &other, &mut pairs)?;
+            Ok(found.is_some())
+        }
+    }
+}
+
+#[test]
+fn weights_count_states(rt: HostRuntime) -> Result<(), Fail> {
+    let alloc = rt.alloc();
+    let gram = Gram::build(alloc, list_parts(alloc)?)?;
+    let comps = components(alloc, &gram)?;
+    let table = weights(alloc, &gram, &comps)?;
+    assert_eq!(rt; table.as_slice(), [15, 10].as_slice());
+    for (rule, start, end, wanted) in [(0, 0, 3, 12), (0, 1, 1, 0), (2, 0, 3, 13), (2, 1, 3, 3)] {
+        match part(&gram, rule, start, end) {
+            None => assert!(rt; false),
+            Some(part) => {
+                assert_eq!(rt; weight_by(&gram, &table, &part), wanted);
+                assert_eq!(rt; weight_of(alloc, &gram, &comps, &part)?, wanted);
+            }
+        }
+    }
+    Ok(())
+}
+
+#[test]
+fn nets_accept_loose_words(rt: HostRuntime) -> Result<(), Fail> {
+    let alloc = rt.alloc();
+    let two = [Sym(60), Sym(49), Sym(44), Sym(50), Sym(62)];
+    assert!(rt; is_loose(alloc, 0, &two)?);
+    assert!(rt; !is_loose(alloc, 2, &two)?);
+    let bare = [Sym(49), Sym(44), Sym(50)];
+    assert!(rt; is_loose(alloc, 2, &bare)?);
+    assert!(rt; !is_loose(alloc, 0, &bare)?);
+    let open = [Sym(60), Sym(49), Sym(44), Sym(62)];
+    assert!(rt; !is_loose(alloc, 0, &open)?);
+    Ok(())
+}
