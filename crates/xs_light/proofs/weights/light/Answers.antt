@@ -3,4 +3,4 @@ use Rattle.xs_ambiguity.specs.Acceptance.{IsLightRule}
 use Rattle.xs_light.proofs.weights.light.Goals as goal
 
 pub rules-preserved : goal.rules-preserved
-rules-preserved c = below_more (λ p. IsLightRule c.args.g.now p) c.rules.rule c.rules.invariant (c.rule_weight-weight.result, c.rule_weight-weight.ensures, c.if-weight-gt-LIGHT.false)
+rules-preserved c = below_more (λ p. IsLightRule c.args.g.now p) c.rules.rule c.rules.invariant (c.rule_weight-weight.result, c.rule_weight-weight.ensures, c.if-weight-gt-HEAVIEST.false)

@@ -1,6 +1,7 @@
 use Rattle.std.proofs.Common.{◌≡◌, ◌∙◌, List, ℕ, length, refl, ap, arith}
 use Rattle.std.proofs.lemmas.List.{with_items_is}
 use Rattle.xs_auto.specs.Nets.{states}
+use Rattle.xs_loose.specs.declared.link.Link.{Link}
 use Rattle.xs_loose.proofs.Spotting.{bare_then}
 use Rattle.xs_loose.proofs.draft.Draft.place.Goals as goal
 
@@ -23,7 +24,7 @@ returns c =
     let bases = with_items_is c.args.self.now.bases c.place_rules.new.bases (omega (arith, long_too, c.args.self.now.bases.ok.0)) in
     record {
       bare = bare_then _ _ _ first second;
-      links = refl;
+      links = refl {A = List Link};
       tables = record { entries = ap (λ (l : List ℕ). length l) entries ∙ long ∙ c.requires.tables.entries; bases = ap (λ (l : List ℕ). length l) bases ∙ long_too ∙ c.requires.tables.bases };
       spots = record {
         middle = states c.place_members.new.net;
