@@ -105,12 +105,17 @@ pub told_all : (notes : Output) (o : Outcome) (bytes : List ℕ) → bytes ≡ l
 told_all notes o bytes is appends = inl (refl, subst (λ (b : List ℕ). Appends notes.taken_before notes.taken_now b) is appends)
 
 pub told_part : (notes : Output) (o : Outcome) (of written : ℕ) (bytes : List ℕ) → bytes ≡ line [] o → of ≡ status_of o → Appends notes.taken_before notes.taken_now (take written bytes) → written < length bytes → Rose notes.faults_before notes.faults_now → Tells notes o (NoteFault of written)
-told_part notes o of written bytes is status appends shorter rose = inr (of, written, refl, record {
-  status = status;
-  taken = subst (λ (b : List ℕ). Appends notes.taken_before notes.taken_now (take written b)) is appends;
-  shorter = subst (λ (b : List ℕ). written < length b) is shorter;
-  rose = rose;
-})
+told_part notes o of written bytes is status appends shorter rose = inr (
+  of,
+  written,
+  refl,
+  record {
+    status = status;
+    taken = subst (λ (b : List ℕ). Appends notes.taken_before notes.taken_now (take written b)) is appends;
+    shorter = subst (λ (b : List ℕ). written < length b) is shorter;
+    rose = rose;
+  },
+)
 
 not_in_none : (name : List ℕ) → Contains [] name → ⊥
 not_in_none name (k, below, is) = omega (arith, below)

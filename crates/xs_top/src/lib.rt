@@ -17,11 +17,10 @@ mod notes;
 mod outcome;
 mod sheets;
 mod stop;
-mod turned;
-mod written;
-
 #[cfg(test)]
 mod tests;
+mod turned;
+mod written;
 
 use crate::answer::answer_of;
 use crate::asking::asked;

@@ -47,8 +47,16 @@ fn failing(
         step,
         vec![in alloc; call_of(Device::Input, device, call)]?,
     );
-    let mut out = MemSink::new(alloc, step, vec![in alloc; call_of(Device::Out, device, call)]?);
-    let mut notes = MemSink::new(alloc, step, vec![in alloc; call_of(Device::Notes, device, call)]?);
+    let mut out = MemSink::new(
+        alloc,
+        step,
+        vec![in alloc; call_of(Device::Out, device, call)]?,
+    );
+    let mut notes = MemSink::new(
+        alloc,
+        step,
+        vec![in alloc; call_of(Device::Notes, device, call)]?,
+    );
     let words = strings(alloc, words)?;
     let outcome = run(alloc, &words, &mut shelf, &mut input, &mut out, &mut notes)?;
     Ok(Ended {
@@ -85,7 +93,10 @@ fn the_rows_of_single_faults(rt: HostRuntime) -> Result<(), Fail> {
     let write = failing(alloc, &TO_XML, b"(3,7)", Device::Out, 3, 1)?;
     assert_eq!(rt; cut_of(&write.outcome), Some(2));
     assert_eq!(rt; write.out.as_slice(), "<p".as_bytes());
-    assert_eq!(rt; write.notes.as_slice(), "output: cannot be written after 2 bytes\n".as_bytes());
+    assert_eq!(rt;
+        write.notes.as_slice(),
+        "output: cannot be written after 2 bytes\n".as_bytes()
+    );
     let told = failing(alloc, &TO_XML, b"(3,7]", Device::Notes, 6, 1)?;
     assert_eq!(rt; untold(&told.outcome), Some((1, 5)));
     assert_eq!(rt; told.notes.as_slice(), "input".as_bytes());

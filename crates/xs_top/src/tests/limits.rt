@@ -33,7 +33,13 @@ fn parentheses(alloc: Global, depth: usize) -> Result<Bytes, Memory> {
 fn length_of(rt: &impl Abort, alloc: Global, sheet: &str, text: &[u8]) -> Result<usize, Fail> {
     let xml = ran(alloc, &["to-xml", SHEET], sheet.as_bytes(), text, ROOM)?;
     assert_eq!(rt; xml.status, 0);
-    let back = ran(alloc, &["to-text", SHEET], sheet.as_bytes(), xml.out.as_slice(), ROOM)?;
+    let back = ran(
+        alloc,
+        &["to-text", SHEET],
+        sheet.as_bytes(),
+        xml.out.as_slice(),
+        ROOM,
+    )?;
     assert_eq!(rt; back.status, 0);
     assert_eq!(rt; back.out.as_slice() == text, true);
     Ok(xml.out.len())
@@ -42,7 +48,10 @@ fn length_of(rt: &impl Abort, alloc: Global, sheet: &str, text: &[u8]) -> Result
 #[test]
 fn a_hundred_thousand_parentheses_nest(rt: HostRuntime) -> Result<(), Fail> {
     let text = parentheses(rt.alloc(), 100_000)?;
-    assert_eq!(rt; length_of(&rt, rt.alloc(), NESTED, text.as_slice())?, 700_005);
+    assert_eq!(rt;
+        length_of(&rt, rt.alloc(), NESTED, text.as_slice())?,
+        700_005
+    );
     Ok(())
 }
 
@@ -59,15 +68,36 @@ fn long_lists_are_translated_and_back(rt: HostRuntime) -> Result<(), Fail> {
 fn documents_at_their_limit(rt: HostRuntime) -> Result<(), Fail> {
     let alloc = rt.alloc();
     let mut text = letters(alloc, DOCUMENT_LIMIT)?;
-    let most = ran(alloc, &["to-xml", SHEET], LETTERS.as_bytes(), text.as_slice(), ROOM)?;
+    let most = ran(
+        alloc,
+        &["to-xml", SHEET],
+        LETTERS.as_bytes(),
+        text.as_slice(),
+        ROOM,
+    )?;
     assert_eq!(rt; most.status, 0);
     assert_eq!(rt; most.out.len(), 1_048_584);
-    let back = ran(alloc, &["to-text", SHEET], LETTERS.as_bytes(), most.out.as_slice(), ROOM)?;
+    let back = ran(
+        alloc,
+        &["to-text", SHEET],
+        LETTERS.as_bytes(),
+        most.out.as_slice(),
+        ROOM,
+    )?;
     assert_eq!(rt; back.status, 7);
     text.push(b'a')?;
-    let more = ran(alloc, &["to-xml", SHEET], LETTERS.as_bytes(), text.as_slice(), ROOM)?;
+    let more = ran(
+        alloc,
+        &["to-xml", SHEET],
+        LETTERS.as_bytes(),
+        text.as_slice(),
+        ROOM,
+    )?;
     assert_eq!(rt; more.status, 7);
-    assert_eq!(rt; more.notes.as_slice(), "input: more than 1048576 bytes\n".as_bytes());
+    assert_eq!(rt;
+        more.notes.as_slice(),
+        "input: more than 1048576 bytes\n".as_bytes()
+    );
     assert_eq!(rt; more.out.len(), 0);
     Ok(())
 }

@@ -17,22 +17,77 @@ fn are_refused(rt: &impl Abort, alloc: Global, rows: &[Row<'_>]) -> Result<(), F
 }
 
 const TO_XML: &[&str] = &["to-xml", SHEET];
+
 const TO_TEXT: &[&str] = &["to-text", SHEET];
 
 #[test]
 fn foreign_texts(rt: HostRuntime) -> Result<(), Fail> {
     let rows: [Row<'_>; 11] = [
-        (TO_XML, PAIR, b"(3,7]", 1, b"input: foreign after 4 symbols\n"),
-        (TO_XML, PAIR, b"(3,7)\n", 1, b"input: foreign after 5 symbols\n"),
+        (
+            TO_XML,
+            PAIR,
+            b"(3,7]",
+            1,
+            b"input: foreign after 4 symbols\n",
+        ),
+        (
+            TO_XML,
+            PAIR,
+            b"(3,7)\n",
+            1,
+            b"input: foreign after 5 symbols\n",
+        ),
         (TO_XML, PAIR, b"(3,", 1, b"input: foreign after 3 symbols\n"),
         (TO_XML, PAIR, b"", 1, b"input: foreign after 0 symbols\n"),
-        (TO_XML, PAIR, b"(3,\xc3\xa9)", 1, b"input: foreign after 3 symbols\n"),
-        (TO_XML, NESTED, b"(a", 1, b"input: foreign after 2 symbols\n"),
-        (TO_XML, NESTED, b"(b)", 1, b"input: foreign after 1 symbols\n"),
-        (TO_XML, NESTED, b"a)", 1, b"input: foreign after 1 symbols\n"),
-        (&["round", SHEET, "text"], NESTED, b"a)", 1, b"input: foreign after 1 symbols\n"),
-        (&["trees", SHEET, "7"], TWINS, b"aab", 1, b"input: foreign after 2 symbols\n"),
-        (&["round", SHEET, "xml"], LETTERS, b"<q/>", 1, b"input: foreign after 0 symbols\n"),
+        (
+            TO_XML,
+            PAIR,
+            b"(3,\xc3\xa9)",
+            1,
+            b"input: foreign after 3 symbols\n",
+        ),
+        (
+            TO_XML,
+            NESTED,
+            b"(a",
+            1,
+            b"input: foreign after 2 symbols\n",
+        ),
+        (
+            TO_XML,
+            NESTED,
+            b"(b)",
+            1,
+            b"input: foreign after 1 symbols\n",
+        ),
+        (
+            TO_XML,
+            NESTED,
+            b"a)",
+            1,
+            b"input: foreign after 1 symbols\n",
+        ),
+        (
+            &["round", SHEET, "text"],
+            NESTED,
+            b"a)",
+            1,
+            b"input: foreign after 1 symbols\n",
+        ),
+        (
+            &["trees", SHEET, "7"],
+            TWINS,
+            b"aab",
+            1,
+            b"input: foreign after 2 symbols\n",
+        ),
+        (
+            &["round", SHEET, "xml"],
+            LETTERS,
+            b"<q/>",
+            1,
+            b"input: foreign after 0 symbols\n",
+        ),
     ];
     are_refused(&rt, rt.alloc(), &rows)
 }
@@ -42,8 +97,20 @@ fn inputs_that_are_no_utf8(rt: HostRuntime) -> Result<(), Fail> {
     let rows: [Row<'_>; 4] = [
         (TO_XML, PAIR, b"(\xff", 4, b"input: byte 1: not UTF-8\n"),
         (TO_XML, PAIR, b"<s>\xc3", 4, b"input: byte 3: not UTF-8\n"),
-        (TO_TEXT, LETTERS, b"<s>\xc3", 4, b"input: byte 3: not UTF-8\n"),
-        (&["trees", SHEET, "7"], TWINS, b"\x80", 4, b"input: byte 0: not UTF-8\n"),
+        (
+            TO_TEXT,
+            LETTERS,
+            b"<s>\xc3",
+            4,
+            b"input: byte 3: not UTF-8\n",
+        ),
+        (
+            &["trees", SHEET, "7"],
+            TWINS,
+            b"\x80",
+            4,
+            b"input: byte 0: not UTF-8\n",
+        ),
     ];
     are_refused(&rt, rt.alloc(), &rows)
 }
@@ -70,14 +137,33 @@ fn inputs_that_are_no_xml(rt: HostRuntime) -> Result<(), Fail> {
 #[test]
 fn documents_of_other_names(rt: HostRuntime) -> Result<(), Fail> {
     let rows: [Row<'_>; 3] = [
-        (TO_TEXT, LETTERS, b"<q/>", 1, b"input: foreign after 0 symbols\n"),
-        (TO_TEXT, LETTERS, b"<s z=\"1\">aa</s>", 1, b"input: foreign after 1 symbols\n"),
-        (TO_TEXT, LETTERS, b"<s>ab</s>", 1, b"input: foreign after 2 symbols\n"),
+        (
+            TO_TEXT,
+            LETTERS,
+            b"<q/>",
+            1,
+            b"input: foreign after 0 symbols\n",
+        ),
+        (
+            TO_TEXT,
+            LETTERS,
+            b"<s z=\"1\">aa</s>",
+            1,
+            b"input: foreign after 1 symbols\n",
+        ),
+        (
+            TO_TEXT,
+            LETTERS,
+            b"<s>ab</s>",
+            1,
+            b"input: foreign after 2 symbols\n",
+        ),
     ];
     are_refused(&rt, rt.alloc(), &rows)
 }
 
-const USAGE: &[u8] = b"usage: xsugar check S | to-xml S [F] | to-text S | round S text [F] | round S xml | trees S M | sheet | make SEED LINES\n";
+const USAGE: &[u8] =
+    b"usage: xsugar check S | to-xml S [F] | to-text S | round S text [F] | round S xml | trees S M | sheet | make SEED LINES\n";
 
 #[test]
 fn words_that_are_no_command(rt: HostRuntime) -> Result<(), Fail> {
@@ -103,5 +189,15 @@ fn words_that_are_no_command(rt: HostRuntime) -> Result<(), Fail> {
 
 #[test]
 fn a_sheet_that_is_not_there(rt: HostRuntime) -> Result<(), Fail> {
-    are_refused(&rt, rt.alloc(), &[(&["to-xml", "gone"], PAIR, b"(3,7)", 6, b"sheet: cannot be read\n")])
+    are_refused(
+        &rt,
+        rt.alloc(),
+        &[(
+            &["to-xml", "gone"],
+            PAIR,
+            b"(3,7)",
+            6,
+            b"sheet: cannot be read\n",
+        )],
+    )
 }

@@ -1,4 +1,6 @@
-use super::{EMPTY, IN_CONTENT, IN_VALUE, LEFT, LETTERS, NESTED, PAIR, RIGHT, SHEET, SPACED, TWINS, tried};
+use super::{
+    EMPTY, IN_CONTENT, IN_VALUE, LEFT, LETTERS, NESTED, PAIR, RIGHT, SHEET, SPACED, TWINS, tried,
+};
 use std::alloc::Global;
 use std::process::Abort;
 use std::test::Fail;
@@ -10,7 +12,11 @@ const ROWS: [Row<'static>; 9] = [
     (PAIR, b"(3,7)", b"<p><y>7</y><x>3</x></p>\n"),
     (EMPTY, b"", b"<s/>\n"),
     (LETTERS, b"aa", b"<s>aa</s>\n"),
-    (IN_VALUE, b"a\tb\n\"<", b"<s a=\"a&#x9;b&#xA;&quot;&lt;\"/>\n"),
+    (
+        IN_VALUE,
+        b"a\tb\n\"<",
+        b"<s a=\"a&#x9;b&#xA;&quot;&lt;\"/>\n",
+    ),
     (IN_CONTENT, b"]]>\r\n", b"<s>]]&gt;&#xD;\n</s>\n"),
     (NESTED, b"((a))", b"<s><s><a/></s></s>\n"),
     (LEFT, b"aaa", b"<s><a/><a/><a/></s>\n"),
@@ -60,34 +66,89 @@ fn answers(
 #[test]
 fn one_mark_before_a_document_is_dropped(rt: HostRuntime) -> Result<(), Fail> {
     let xml: &[u8] = b"<p><y>7</y><x>3</x></p>\n";
-    answers(&rt, rt.alloc(), &["to-xml", SHEET], PAIR, &[(b"\xef\xbb\xbf(3,7)", xml)])?;
-    answers(&rt, rt.alloc(), &["to-text", SHEET], PAIR, &[(b"\xef\xbb\xbf<p><y>7</y><x>3</x></p>", b"(3,7)")])
+    answers(
+        &rt,
+        rt.alloc(),
+        &["to-xml", SHEET],
+        PAIR,
+        &[(b"\xef\xbb\xbf(3,7)", xml)],
+    )?;
+    answers(
+        &rt,
+        rt.alloc(),
+        &["to-text", SHEET],
+        PAIR,
+        &[(b"\xef\xbb\xbf<p><y>7</y><x>3</x></p>", b"(3,7)")],
+    )
 }
 
 #[test]
 fn forms_are_put_on_texts(rt: HostRuntime) -> Result<(), Fail> {
     let text = "\u{1ea1}".as_bytes();
     let apart = "a\u{323}".as_bytes();
-    answers(&rt, rt.alloc(), &["round", SHEET, "text"], IN_CONTENT, &[(text, text), (apart, apart)])?;
-    answers(&rt, rt.alloc(), &["round", SHEET, "text", "asis"], IN_CONTENT, &[(text, text), (apart, apart)])?;
-    answers(&rt, rt.alloc(), &["round", SHEET, "text", "nfc"], IN_CONTENT, &[(text, text), (apart, text)])?;
-    answers(&rt, rt.alloc(), &["round", SHEET, "text", "nfd"], IN_CONTENT, &[(text, apart), (apart, apart)])
+    answers(
+        &rt,
+        rt.alloc(),
+        &["round", SHEET, "text"],
+        IN_CONTENT,
+        &[(text, text), (apart, apart)],
+    )?;
+    answers(
+        &rt,
+        rt.alloc(),
+        &["round", SHEET, "text", "asis"],
+        IN_CONTENT,
+        &[(text, text), (apart, apart)],
+    )?;
+    answers(
+        &rt,
+        rt.alloc(),
+        &["round", SHEET, "text", "nfc"],
+        IN_CONTENT,
+        &[(text, text), (apart, text)],
+    )?;
+    answers(
+        &rt,
+        rt.alloc(),
+        &["round", SHEET, "text", "nfd"],
+        IN_CONTENT,
+        &[(text, apart), (apart, apart)],
+    )
 }
 
 #[test]
 fn ignorables_are_written_in_their_normal_spelling(rt: HostRuntime) -> Result<(), Fail> {
     let xml: &[u8] = b"<p><y>7</y><x>3</x></p>\n";
-    let rows: [(&[u8], &[u8]); 3] = [(b"(3,7)", b"(3,7)"), (b"( 3 , 7 )", b"(3,7)"), (b"(3,   7)", b"(3,7)")];
+    let rows: [(&[u8], &[u8]); 3] = [
+        (b"(3,7)", b"(3,7)"),
+        (b"( 3 , 7 )", b"(3,7)"),
+        (b"(3,   7)", b"(3,7)"),
+    ];
     answers(&rt, rt.alloc(), &["round", SHEET, "text"], SPACED, &rows)?;
-    answers(&rt, rt.alloc(), &["to-xml", SHEET], SPACED, &[(b"( 3,7 )", xml)])?;
+    answers(
+        &rt,
+        rt.alloc(),
+        &["to-xml", SHEET],
+        SPACED,
+        &[(b"( 3,7 )", xml)],
+    )?;
     let line: &[u8] = b"(1 ~\"\" a:\"3\" ~\"\" ~\" \" b:\"7\" ~\"\")\n1 trees, no more\n";
-    answers(&rt, rt.alloc(), &["trees", SHEET, "9"], SPACED, &[(b"(3, 7)", line)])
+    answers(
+        &rt,
+        rt.alloc(),
+        &["trees", SHEET, "9"],
+        SPACED,
+        &[(b"(3, 7)", line)],
+    )
 }
 
 #[test]
 fn xml_is_written_in_its_normal_spelling(rt: HostRuntime) -> Result<(), Fail> {
     let rows: [(&[u8], &[u8]); 4] = [
-        (b"<?xml version=\"1.0\"?><s><![CDATA[a]]>&#97;</s><!-- x -->", b"<s>aa</s>\n"),
+        (
+            b"<?xml version=\"1.0\"?><s><![CDATA[a]]>&#97;</s><!-- x -->",
+            b"<s>aa</s>\n",
+        ),
         (b"<s></s>", b"<s/>\n"),
         (b"<s><!-- none --></s>", b"<s/>\n"),
         (b" \r\n<s>a</s >\n", b"<s>a</s>\n"),
@@ -123,8 +184,20 @@ fn trees_are_listed(rt: HostRuntime) -> Result<(), Fail> {
     assert_eq!(rt; end, "5 trees, no more\n".as_bytes());
     let exact = tried(alloc, &["trees", SHEET, "5"], TWINS, b"aaaa")?;
     assert_eq!(rt; exact.out.as_slice(), answer);
-    answers(&rt, rt.alloc(), &["trees", SHEET, "1"], EMPTY, &[(b"", b"(1)\n1 trees, no more\n")])?;
-    answers(&rt, rt.alloc(), &["trees", SHEET, "9"], PAIR, &[(b"(3,7)", b"(1 a:\"3\" b:\"7\")\n1 trees, no more\n")])
+    answers(
+        &rt,
+        rt.alloc(),
+        &["trees", SHEET, "1"],
+        EMPTY,
+        &[(b"", b"(1)\n1 trees, no more\n")],
+    )?;
+    answers(
+        &rt,
+        rt.alloc(),
+        &["trees", SHEET, "9"],
+        PAIR,
+        &[(b"(3,7)", b"(1 a:\"3\" b:\"7\")\n1 trees, no more\n")],
+    )
 }
 
 #[test]
