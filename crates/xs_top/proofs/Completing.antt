@@ -12,14 +12,24 @@ use Rattle.xs_chars.specs.declared.form.Form.TheVariants.{AsIs}
 use Rattle.xs_chars.specs.Text.{text_of}
 use Rattle.xs_piece.specs.Laws.{OneReading}
 use Rattle.xs_gram.specs.Languages.{InLang}
+use Rattle.xs_gram.specs.Grammar.{Grammar}
+use Rattle.xs_gram.specs.declared.suspect.Suspect.{Suspect as Found}
+use Rattle.xs_gram.specs.declared.suspect.Suspect.TheVariants.{Vertical, Horizontal}
+use Rattle.xs_ambiguity.specs.Acceptance.{IsAccepted, IsLight, IsHeaviness, IsFirstHeavy, IsSuspect}
+use Rattle.xs_ambiguity.specs.Laws.{RuleWeighsOnce}
+use Rattle.xs_unique.specs.Reasons.{shown}
 use Rattle.xs_pair.specs.Grammars.{Pair, grammar_of}
 use Rattle.xs_talk.specs.declared.outcome.Outcome.{Outcome}
 use Rattle.xs_talk.specs.declared.outcome.Outcome.TheVariants.{Done, Foreign, SheetLong, SheetBad, SheetIll, Heavy, Suspect, NotUtf8, NotXml, Usage, SheetFault, ReadFault, WriteFault, NoteFault, DocLong}
+use Rattle.xs_top.specs.declared.asking.Job.{Job}
+use Rattle.xs_top.specs.declared.asking.Job.TheVariants.{Check, Turn, Trees}
 use Rattle.xs_top.specs.Asked.{Ask, asked}
-use Rattle.xs_top.specs.Devices.{Run}
+use Rattle.xs_top.specs.Devices.{Run, Input}
+use Rattle.xs_top.specs.Sheets.{SpellsPair, IsUnpaired}
+use Rattle.xs_top.specs.Checks.{IsUnsure}
 use Rattle.xs_top.specs.Documents.{IsWordOf}
-use Rattle.xs_top.specs.Answers.{IsUnread, side_of, form_of}
-use Rattle.xs_top.specs.Ran.{HasPair, Takes, IsRefused, Comes, Went, Tells, Told, IsHonest, IsComplete}
+use Rattle.xs_top.specs.Answers.{IsUnread}
+use Rattle.xs_top.specs.Ran.{IsUntaken, IsUnanswered, IsUndone, Took, Went, no_command, unpaired, undone, answered, Tells, Told, IsReadable, IsDoable, IsHonest, IsComplete}
 
 same_ask : (a b : Ask) → Some a ≡ Some b → a ≡ b
 same_ask a b e = cc
@@ -48,79 +58,159 @@ one_word : OneReading → (side : Side) (form : Form) (names : List (List ℕ)) 
 one_word law Text form names bytes v w is_v is_w = is_v ∙ sym is_w
 one_word law Xml form names bytes v w is_v is_w = law names (text_of bytes AsIs) v w is_v is_w
 
-module _ (law : OneReading) (run : Run) (honest : IsHonest run) where
-  -- a document that is of the language is not refused
-  not_unread : (p : Pair) → HasPair run.inputs honest.ask p → (o : Outcome) → IsUnread p (side_of honest.ask.job) (form_of honest.ask.job) honest.document o → ⊥
-  not_unread p has (NotUtf8 at) unread = unread.bad honest.utf8
-  not_unread p has (NotXml at) unread =
-      let (w, word, in_language) = honest.language p has in
-      unread.1.none w (subst (λ side. IsWordOf side (form_of honest.ask.job) p.names honest.document w) unread.0 word)
-  not_unread p has (Foreign viable) unread =
-      let (w, word, in_language) = honest.language p has in
-      let same : unread.word ≡ w = one_word law (side_of honest.ask.job) (form_of honest.ask.job) p.names honest.document unread.word w unread.document.word word in
-      unread.foreign.foreign (subst (λ (v : List ℕ). InLang (grammar_of p (side_of honest.ask.job)) v) (sym same) in_language)
-  not_unread p has Done unread = absurd unread
-  not_unread p has SheetLong unread = absurd unread
-  not_unread p has (SheetBad at) unread = absurd unread
-  not_unread p has (SheetIll ill) unread = absurd unread
-  not_unread p has (Heavy weight) unread = absurd unread
-  not_unread p has (Suspect report) unread = absurd unread
-  not_unread p has Usage unread = absurd unread
-  not_unread p has SheetFault unread = absurd unread
-  not_unread p has ReadFault unread = absurd unread
-  not_unread p has (WriteFault written) unread = absurd unread
-  not_unread p has (NoteFault of written) unread = absurd unread
-  not_unread p has DocLong unread = absurd unread
+-- a rule that is light is not heavy
+not_heavy_rule : RuleWeighsOnce → (g : Grammar) (w : ℕ) → IsLight g → IsHeaviness g w → ⊥
+not_heavy_rule law g w light (p, at) =
+    let (v, weighs, few) = light p at.rule in
+    let same : v ≡ w = law g p v w weighs at.weighs in
+    omega (arith, few, same, at.heavy)
 
-  not_read : (o : Outcome) → (p : Pair) → HasPair run.inputs honest.ask p → (bytes : List ℕ) → Takes run.inputs bytes → IsUnread p (side_of honest.ask.job) (form_of honest.ask.job) bytes o → ⊥
-  not_read o p has bytes takes unread =
-      let same : bytes ≡ honest.document = read_is run.inputs.left_before run.inputs.left_now honest.document bytes 1048576 honest.input takes in
-      not_unread p has o (subst (λ (b : List ℕ). IsUnread p (side_of honest.ask.job) (form_of honest.ask.job) b o) same unread)
+not_heavy : RuleWeighsOnce → (p : Pair) (w : ℕ) → IsAccepted p.text p.xml → IsFirstHeavy p.text p.xml w → ⊥
+not_heavy law p w accepted (inl heavy) = not_heavy_rule law p.text w accepted.light_text heavy
+not_heavy law p w accepted (inr heavy) = not_heavy_rule law p.xml w accepted.light_xml heavy.1
 
-  not_refused : (o : Outcome) → IsRefused run.inputs honest.ask o → ⊥
-  not_refused SheetFault refused = honest.sheet_sure refused
-  not_refused SheetLong refused = honest.sheet_short refused
-  not_refused (SheetBad at) (bytes, are, bad) = let (s, spelled) = honest.spelled bytes are in bad.none s spelled
-  not_refused (SheetIll ill) (bytes, are, is) = honest.well bytes is.sheet are is.spelled ill.rule ill.line is.is_ill.line.fails
-  not_refused ReadFault (p, has, rose) = honest.input_sure rose
-  not_refused DocLong (p, has, exceeds) = not_long run.inputs.left_before run.inputs.left_now honest.document 1048576 honest.input honest.limit exceeds
-  not_refused Done (p, has, bytes, takes, unread) = not_read Done p has bytes takes unread
-  not_refused (Foreign viable) (p, has, bytes, takes, unread) = not_read (Foreign viable) p has bytes takes unread
-  not_refused (Heavy weight) (p, has, bytes, takes, unread) = not_read (Heavy weight) p has bytes takes unread
-  not_refused (Suspect report) (p, has, bytes, takes, unread) = not_read (Suspect report) p has bytes takes unread
-  not_refused (NotUtf8 at) (p, has, bytes, takes, unread) = not_read (NotUtf8 at) p has bytes takes unread
-  not_refused (NotXml at) (p, has, bytes, takes, unread) = not_read (NotXml at) p has bytes takes unread
-  not_refused Usage (p, has, bytes, takes, unread) = not_read Usage p has bytes takes unread
-  not_refused (WriteFault written) (p, has, bytes, takes, unread) = not_read (WriteFault written) p has bytes takes unread
-  not_refused (NoteFault of written) (p, has, bytes, takes, unread) = not_read (NoteFault of written) p has bytes takes unread
+not_shown : (text xml : Grammar) (found : Found) → IsAccepted text xml → IsSuspect text xml (shown found) → ⊥
+not_shown text xml (Vertical Text rule rule2 word) accepted is = accepted.clear_text.0 rule rule2 word is
+not_shown text xml (Vertical Xml rule rule2 word) accepted is = accepted.clear_xml.0 rule rule2 word is
+not_shown text xml (Horizontal Text rule cut x a y) accepted is = accepted.clear_text.1 rule cut x a y is
+not_shown text xml (Horizontal Xml rule cut x a y) accepted is = accepted.clear_xml.1 rule cut x a y is
 
-  not_stopped : (o : Outcome) → (ask : Ask) × (asked run.words ≡ Some ask) × IsRefused run.inputs ask o → ⊥
-  not_stopped o (ask, is, refused) = not_refused o (subst (λ a. IsRefused run.inputs a o) (same_ask ask honest.ask (sym is ∙ honest.is)) refused)
+module _ (law : OneReading) (weigh : RuleWeighsOnce) where
+  -- an accepted sheet is not refused by its check
+  not_unsure : (p : Pair) (o : Outcome) → IsAccepted p.text p.xml → IsUnsure p o → ⊥
+  not_unsure p (Heavy weight) accepted unsure = not_heavy weigh p weight accepted unsure
+  not_unsure p (Suspect report) accepted unsure = not_shown p.text p.xml unsure.found accepted unsure.shows.1
+  not_unsure p Done accepted unsure = absurd unsure
+  not_unsure p (Foreign viable) accepted unsure = absurd unsure
+  not_unsure p SheetLong accepted unsure = absurd unsure
+  not_unsure p (SheetBad at) accepted unsure = absurd unsure
+  not_unsure p (SheetIll ill) accepted unsure = absurd unsure
+  not_unsure p (NotUtf8 at) accepted unsure = absurd unsure
+  not_unsure p (NotXml at) accepted unsure = absurd unsure
+  not_unsure p Usage accepted unsure = absurd unsure
+  not_unsure p SheetFault accepted unsure = absurd unsure
+  not_unsure p ReadFault accepted unsure = absurd unsure
+  not_unsure p (WriteFault written) accepted unsure = absurd unsure
+  not_unsure p (NoteFault of written) accepted unsure = absurd unsure
+  not_unsure p DocLong accepted unsure = absurd unsure
 
-  went_done : (o : Outcome) → Comes run o → o ≡ Done
-  went_done Done comes = refl
-  went_done Usage comes = absurd (not_none honest.ask (asked run.words) comes honest.is)
-  went_done (WriteFault written) (answer, answered, appends, shorter, rose) = absurd (honest.out_sure rose)
-  went_done (Foreign viable) comes = absurd (not_stopped (Foreign viable) comes)
-  went_done SheetLong comes = absurd (not_stopped SheetLong comes)
-  went_done (SheetBad at) comes = absurd (not_stopped (SheetBad at) comes)
-  went_done (SheetIll ill) comes = absurd (not_stopped (SheetIll ill) comes)
-  went_done (Heavy weight) comes = absurd (not_stopped (Heavy weight) comes)
-  went_done (Suspect report) comes = absurd (not_stopped (Suspect report) comes)
-  went_done (NotUtf8 at) comes = absurd (not_stopped (NotUtf8 at) comes)
-  went_done (NotXml at) comes = absurd (not_stopped (NotXml at) comes)
-  went_done SheetFault comes = absurd (not_stopped SheetFault comes)
-  went_done ReadFault comes = absurd (not_stopped ReadFault comes)
-  went_done (NoteFault of written) comes = absurd (not_stopped (NoteFault of written) comes)
-  went_done DocLong comes = absurd (not_stopped DocLong comes)
+  -- a document of the language is not refused
+  not_unread : (p : Pair) (i : Input) (side : Side) (form : Form) (readable : IsReadable p i side form) (o : Outcome) → IsUnread p side form readable.document o → ⊥
+  not_unread p i side form readable (NotUtf8 at) unread = unread.bad readable.utf8
+  not_unread p i side form readable (NotXml at) unread = unread.1.none readable.word (subst (λ s. IsWordOf s form p.names readable.document readable.word) unread.0 readable.word_is)
+  not_unread p i side form readable (Foreign viable) unread =
+      let same : unread.word ≡ readable.word = one_word law side form p.names readable.document unread.word readable.word unread.document.word readable.word_is in
+      unread.foreign.foreign (subst (λ (v : List ℕ). InLang (grammar_of p side) v) (sym same) readable.language)
+  not_unread p i side form readable Done unread = absurd unread
+  not_unread p i side form readable SheetLong unread = absurd unread
+  not_unread p i side form readable (SheetBad at) unread = absurd unread
+  not_unread p i side form readable (SheetIll ill) unread = absurd unread
+  not_unread p i side form readable (Heavy weight) unread = absurd unread
+  not_unread p i side form readable (Suspect report) unread = absurd unread
+  not_unread p i side form readable Usage unread = absurd unread
+  not_unread p i side form readable SheetFault unread = absurd unread
+  not_unread p i side form readable ReadFault unread = absurd unread
+  not_unread p i side form readable (WriteFault written) unread = absurd unread
+  not_unread p i side form readable (NoteFault of written) unread = absurd unread
+  not_unread p i side form readable DocLong unread = absurd unread
 
-  told_done : (o result : Outcome) → Comes run o → Tells run.notes o result → result ≡ Done
-  told_done o result comes (inl told) = told.0 ∙ went_done o comes
-  told_done o result comes (inr (of, written, is, fails)) = absurd (honest.notes_sure fails.rose)
+  not_untaken : (p : Pair) (i : Input) (side : Side) (form : Form) → IsReadable p i side form → (o : Outcome) → IsUntaken i o → ⊥
+  not_untaken p i side form readable ReadFault untaken = readable.sure untaken
+  not_untaken p i side form readable DocLong untaken = not_long i.left_before i.left_now readable.document 1048576 readable.input readable.limit untaken
+  not_untaken p i side form readable Done untaken = absurd untaken
+  not_untaken p i side form readable (Foreign viable) untaken = absurd untaken
+  not_untaken p i side form readable SheetLong untaken = absurd untaken
+  not_untaken p i side form readable (SheetBad at) untaken = absurd untaken
+  not_untaken p i side form readable (SheetIll ill) untaken = absurd untaken
+  not_untaken p i side form readable (Heavy weight) untaken = absurd untaken
+  not_untaken p i side form readable (Suspect report) untaken = absurd untaken
+  not_untaken p i side form readable (NotUtf8 at) untaken = absurd untaken
+  not_untaken p i side form readable (NotXml at) untaken = absurd untaken
+  not_untaken p i side form readable Usage untaken = absurd untaken
+  not_untaken p i side form readable SheetFault untaken = absurd untaken
+  not_untaken p i side form readable (WriteFault written) untaken = absurd untaken
+  not_untaken p i side form readable (NoteFault of written) untaken = absurd untaken
 
-pub complete : OneReading → (run : Run) (result : Outcome) → Told run result → IsComplete run result
-complete law run result (o, went, tells) honest = told_done law run honest o result went.comes tells
+  not_unanswered : (p : Pair) (i : Input) (side : Side) (form : Form) → IsReadable p i side form → (o : Outcome) → IsUnanswered p i side form o → ⊥
+  not_unanswered p i side form readable o (inl untaken) = not_untaken p i side form readable o untaken
+  not_unanswered p i side form readable o (inr (bytes, takes, unread)) =
+      let same : bytes ≡ readable.document = read_is i.left_before i.left_now readable.document bytes 1048576 readable.input takes in
+      not_unread p i side form readable o (subst (λ (b : List ℕ). IsUnread p side form b o) same unread)
 
-pub complete_if : OneReading → (run : Run) (r : Result Outcome Refusal) → IfOk r (Told run) → IfOk r (IsComplete run)
-complete_if law run (Ok result) told = complete law run result told
-complete_if law run (Err e) told = told
+  not_undone : (p : Pair) (i : Input) (job : Job) → IsDoable p i job → (o : Outcome) → IsUndone p i job o → ⊥
+  not_undone p i Check doable o why = not_unsure p o doable why.1
+  not_undone p i (Turn from to form) doable o (inl unchecked) = not_unsure p o doable.0 unchecked.1
+  not_undone p i (Turn from to form) doable o (inr unanswered) = not_unanswered p i from form doable.1 o unanswered.1
+  not_undone p i (Trees max) doable o why = not_unanswered p i Text AsIs doable o why
+
+  module _ (run : Run) (honest : IsHonest run) where
+    not_unpaired : (o : Outcome) → IsUnpaired run.shelf honest.ask.sheet o → ⊥
+    not_unpaired SheetFault (inl stopped) = honest.sheet_sure stopped
+    not_unpaired SheetLong (inl stopped) = honest.sheet_short stopped
+    not_unpaired (SheetBad at) (inr (bytes, are, bad)) = let (s, spelled) = honest.spelled bytes are in bad.none s spelled
+    not_unpaired (SheetIll ill) (inr (bytes, are, is)) = honest.well bytes is.sheet are is.spelled ill.rule ill.line is.is_ill.line.fails
+    not_unpaired SheetFault (inr (bytes, are, bad)) = absurd bad
+    not_unpaired SheetLong (inr (bytes, are, bad)) = absurd bad
+    not_unpaired (SheetBad at) (inl stopped) = absurd stopped
+    not_unpaired (SheetIll ill) (inl stopped) = absurd stopped
+    not_unpaired Done (inl stopped) = absurd stopped
+    not_unpaired Done (inr (bytes, are, bad)) = absurd bad
+    not_unpaired (Foreign viable) (inl stopped) = absurd stopped
+    not_unpaired (Foreign viable) (inr (bytes, are, bad)) = absurd bad
+    not_unpaired (Heavy weight) (inl stopped) = absurd stopped
+    not_unpaired (Heavy weight) (inr (bytes, are, bad)) = absurd bad
+    not_unpaired (Suspect report) (inl stopped) = absurd stopped
+    not_unpaired (Suspect report) (inr (bytes, are, bad)) = absurd bad
+    not_unpaired (NotUtf8 at) (inl stopped) = absurd stopped
+    not_unpaired (NotUtf8 at) (inr (bytes, are, bad)) = absurd bad
+    not_unpaired (NotXml at) (inl stopped) = absurd stopped
+    not_unpaired (NotXml at) (inr (bytes, are, bad)) = absurd bad
+    not_unpaired Usage (inl stopped) = absurd stopped
+    not_unpaired Usage (inr (bytes, are, bad)) = absurd bad
+    not_unpaired ReadFault (inl stopped) = absurd stopped
+    not_unpaired ReadFault (inr (bytes, are, bad)) = absurd bad
+    not_unpaired (WriteFault written) (inl stopped) = absurd stopped
+    not_unpaired (WriteFault written) (inr (bytes, are, bad)) = absurd bad
+    not_unpaired (NoteFault of written) (inl stopped) = absurd stopped
+    not_unpaired (NoteFault of written) (inr (bytes, are, bad)) = absurd bad
+    not_unpaired DocLong (inl stopped) = absurd stopped
+    not_unpaired DocLong (inr (bytes, are, bad)) = absurd bad
+
+    its_ask : (ask : Ask) → asked run.words ≡ Some ask → ask ≡ honest.ask
+    its_ask ask is = same_ask ask honest.ask (sym is ∙ honest.is)
+
+    took_done : (answer : List ℕ) (o : Outcome) → Took run.out answer o → o ≡ Done
+    took_done answer Done took = refl
+    took_done answer (WriteFault written) took = absurd (honest.out_sure took.2)
+    took_done answer (Foreign viable) took = absurd took
+    took_done answer SheetLong took = absurd took
+    took_done answer (SheetBad at) took = absurd took
+    took_done answer (SheetIll ill) took = absurd took
+    took_done answer (Heavy weight) took = absurd took
+    took_done answer (Suspect report) took = absurd took
+    took_done answer (NotUtf8 at) took = absurd took
+    took_done answer (NotXml at) took = absurd took
+    took_done answer Usage took = absurd took
+    took_done answer SheetFault took = absurd took
+    took_done answer ReadFault took = absurd took
+    took_done answer (NoteFault of written) took = absurd took
+    took_done answer DocLong took = absurd took
+
+    went_done : (o : Outcome) (names : List (List ℕ)) → Went run o names → o ≡ Done
+    went_done o names (no_command none read took) = absurd (not_none honest.ask (asked run.words) none honest.is)
+    went_done o names (unpaired ask is why read took) = absurd (not_unpaired o (subst (λ (a : Ask). IsUnpaired run.shelf a.sheet o) (its_ask ask is) why))
+    went_done o names (undone ask p is spells why took) =
+        let theirs : SpellsPair run.shelf.files honest.ask.sheet p = subst (λ (a : Ask). SpellsPair run.shelf.files a.sheet p) (its_ask ask is) spells in
+        absurd (not_undone p run.input honest.ask.job (honest.doable p theirs) o (subst (λ (a : Ask). IsUndone p run.input a.job o) (its_ask ask is) why))
+    went_done o names (answered ask p answer is spells has took) = took_done answer o took
+
+    told_done : (o result : Outcome) (names : List (List ℕ)) → Went run o names → Tells run.notes names o result → result ≡ Done
+    told_done o result names went (inl told) = told.0 ∙ went_done o names went
+    told_done o result names went (inr (of, written, is, fails)) = absurd (honest.notes_sure fails.rose)
+
+pub complete : OneReading → RuleWeighsOnce → (run : Run) (result : Outcome) → Told run result → IsComplete run result
+complete law weigh run result (o, names, went, tells) honest = told_done law weigh run honest o result names went tells
+
+pub complete_if : OneReading → RuleWeighsOnce → (run : Run) (r : Result Outcome Refusal) → IfOk r (Told run) → IfOk r (IsComplete run)
+complete_if law weigh run (Ok result) told = complete law weigh run result told
+complete_if law weigh run (Err e) told = told

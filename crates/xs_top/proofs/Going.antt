@@ -1,111 +1,72 @@
 -- How a run goes, by what its steps did.
-use Rattle.std.proofs.Common.{◌≡◌, ℕ, ◌<◌, List, [], ◌∷◌, ◌++◌, length, take, arith, Some, None, IsSome, inl, inr, sym, subst, refl, append-nil}
+use Rattle.std.proofs.Common.{◌≡◌, ℕ, ◌<◌, List, [], ◌∷◌, length, take, arith, Some, None, inl, inr, sym, subst, refl, append-nil}
 use Rattle.std.specs.Prelude.{Result, Ok, Err, IfErr, IfOk, Contains}
 use Rattle.std.specs.declared.option.Option.{Option}
-use Rattle.std.specs.Io.KnownBytes.{Appends, IsAtEnd}
+use Rattle.std.specs.Io.KnownBytes.{Appends}
 use Rattle.xs_io.specs.Causes.{Rose}
-use Rattle.xs_io.specs.Whole.{Drains}
 use Rattle.xs_class.specs.Ordered.{AreNamesOf}
 use Rattle.xs_class.specs.declared.memory.Memory.{Memory as Refusal}
 use Rattle.xs_talk.specs.Lines.{line}
 use Rattle.xs_pair.specs.Grammars.{Pair}
 use Rattle.xs_talk.specs.declared.outcome.Outcome.{Outcome}
-use Rattle.xs_talk.specs.declared.outcome.Outcome.TheVariants.{Done, Foreign, SheetLong, SheetBad, SheetIll, Heavy, Suspect, NotUtf8, NotXml, Usage, SheetFault, ReadFault, WriteFault, NoteFault, DocLong}
+use Rattle.xs_talk.specs.declared.outcome.Outcome.TheVariants.{NoteFault}
 use Rattle.xs_top.specs.Asked.{Ask, asked}
-use Rattle.xs_top.specs.Devices.{Inputs, Output, Run, ReadNothing, TookNothing}
-use Rattle.xs_top.specs.Answers.{IsUnread, side_of, form_of}
+use Rattle.xs_top.specs.Devices.{Output, Run, ReadNothing, TookNothing}
+use Rattle.xs_top.specs.Sheets.{SpellsPair, IsUnpaired}
 use Rattle.xs_top.specs.declared.stop.Stop.{Stop}
 use Rattle.xs_top.specs.declared.stop.Stop.TheVariants.{Refused, Memory}
 use Rattle.xs_top.specs.Stops.{StopsBy}
-use Rattle.xs_top.specs.Ran.{HasPair, Takes, HasAnswer, IsStop, ReadAll, Went, Took, IsWritten, Told, Tells, FailsAtNotes, status_of}
+use Rattle.xs_top.specs.Ran.{IsAnswer, IsUndone, Went, no_command, unpaired, undone, answered, Took, IsWritten, Told, Tells, FailsAtNotes, status_of}
 
-pub drained : (old new : Option (List ℕ)) (text : List ℕ) (limit : ℕ) → Drains old new text limit → IsSome old → IsAtEnd new
-drained None new text limit drains told = cc
-drained (Some xs) None text limit drains told = absurd drains
-drained (Some xs) (Some ys) text limit drains told = drains.1
+-- a stop by another cause
+pub stops_as : {P Q : Outcome → Type 0} → ((o : Outcome) → P o → Q o) → (stop : Stop) → StopsBy P stop → StopsBy Q stop
+stops_as causes (Refused o) stops = causes o stops
+stops_as causes Memory stops = stops
+
+pub refused_as : {T : Type 0} {P Q : Outcome → Type 0} → ((o : Outcome) → P o → Q o) → (r : Result T Stop) → IfErr r (StopsBy P) → IfErr r (StopsBy Q)
+refused_as causes (Ok x) stops = stops
+refused_as causes (Err stop) stops = stops_as causes stop stops
+
+pub answered_as : {T : Type 0} {P Q : T → Type 0} → ((x : T) → P x → Q x) → (r : Result T Stop) → IfOk r P → IfOk r Q
+answered_as gives (Ok x) has = gives x has
+answered_as gives (Err stop) has = has
 
 -- nothing appended
 pub appends_nothing : (old : Option (List ℕ)) → Appends old old []
 appends_nothing None = cc
 appends_nothing (Some xs) = sym (append-nil xs)
 
-module _ (i : Inputs) (ask : Ask) (p : Pair) (bytes : List ℕ) (has : HasPair i ask p) (takes : Takes i bytes) where
-  all_read : ReadAll i
-  all_read told = drained i.left_before i.left_now bytes 1048576 takes told
+told_as : (run : Run) (o : Outcome) (names : List (List ℕ)) (r : Result Outcome Refusal) → Went run o names → IfOk r (Tells run.notes names o) → IfOk r (Told run)
+told_as run o names (Ok result) went tells = (o, names, went, tells)
+told_as run o names (Err e) went tells = tells
 
-  stop_of : (o : Outcome) → IsUnread p (side_of ask.job) (form_of ask.job) bytes o → IsStop i ask o
-  stop_of (NotUtf8 at) u = record { refused = (p, has, bytes, takes, u); read = all_read }
-  stop_of (NotXml at) u = record { refused = (p, has, bytes, takes, u); read = all_read }
-  stop_of (Foreign viable) u = record { refused = (p, has, bytes, takes, u); read = all_read }
-  stop_of Done u = absurd u
-  stop_of SheetLong u = absurd u
-  stop_of (SheetBad at) u = absurd u
-  stop_of (SheetIll ill) u = absurd u
-  stop_of (Heavy weight) u = absurd u
-  stop_of (Suspect report) u = absurd u
-  stop_of Usage u = absurd u
-  stop_of SheetFault u = absurd u
-  stop_of ReadFault u = absurd u
-  stop_of (WriteFault written) u = absurd u
-  stop_of (NoteFault of written) u = absurd u
-  stop_of DocLong u = absurd u
+stop_is : (P : Outcome → Type 0) (stop : Stop) (o : Outcome) → StopsBy P stop → stop ≡ Refused o → P o
+stop_is P stop o stops is = subst (StopsBy P) is stops
 
-  pub stop_result : {T : Type 0} (r : Result T Stop) → IfErr r (StopsBy (IsUnread p (side_of ask.job) (form_of ask.job) bytes)) → IfErr r (StopsBy (IsStop i ask))
-  stop_result (Ok x) h = h
-  stop_result (Err (Refused o)) h = stop_of o h
-  stop_result (Err Memory) h = h
+-- words that are no command
+pub usage_told : (run : Run) (names : List (List ℕ)) (o : Outcome) (r : Result Outcome Refusal) → names ≡ [] → Went run o [] → IfOk r (Tells run.notes names o) → IfOk r (Told run)
+usage_told run names o r none went tells = told_as run o [] r went (subst (λ (ns : List (List ℕ)). IfOk r (Tells run.notes ns o)) none tells)
 
--- an answer that was written
-pub written_went : (run : Run) (ask : Ask) (answer : List ℕ) (o : Outcome) → asked run.words ≡ Some ask → HasAnswer run.inputs ask answer → ReadAll run.inputs → Took run.out answer o → Went run o
-written_went run ask answer Done is has read took = record { comes = (answer, record { ask = ask; is = is; has = has }, took); wrote = cc; read = read }
-written_went run ask answer (WriteFault written) is has read took = record { comes = (answer, record { ask = ask; is = is; has = has }, took.0, took.1, took.2); wrote = cc; read = read }
-written_went run ask answer (Foreign viable) is has read took = absurd took
-written_went run ask answer SheetLong is has read took = absurd took
-written_went run ask answer (SheetBad at) is has read took = absurd took
-written_went run ask answer (SheetIll ill) is has read took = absurd took
-written_went run ask answer (Heavy weight) is has read took = absurd took
-written_went run ask answer (Suspect report) is has read took = absurd took
-written_went run ask answer (NotUtf8 at) is has read took = absurd took
-written_went run ask answer (NotXml at) is has read took = absurd took
-written_went run ask answer Usage is has read took = absurd took
-written_went run ask answer SheetFault is has read took = absurd took
-written_went run ask answer ReadFault is has read took = absurd took
-written_went run ask answer (NoteFault of written) is has read took = absurd took
-written_went run ask answer DocLong is has read took = absurd took
+-- a sheet that spells no grammars
+pub unpaired_told : (run : Run) (ask : Ask) (stop : Stop) (o : Outcome) (names : List (List ℕ)) (r : Result Outcome Refusal) → asked run.words ≡ Some ask → StopsBy (IsUnpaired run.shelf ask.sheet) stop → stop ≡ Refused o → ReadNothing run.input → TookNothing run.out → names ≡ [] → IfOk r (Tells run.notes names o) → IfOk r (Told run)
+unpaired_told run ask stop o names r is stops same read took none tells =
+    usage_told run names o r none (unpaired ask is (stop_is (IsUnpaired run.shelf ask.sheet) stop o stops same) read took) tells
 
--- a run that went no further
-pub stopped_went : (run : Run) (ask : Ask) (o : Outcome) → asked run.words ≡ Some ask → IsStop run.inputs ask o → TookNothing run.out → Went run o
-stopped_went run ask (Foreign viable) is stop took = record { comes = (ask, is, stop.refused); wrote = took; read = stop.read }
-stopped_went run ask SheetLong is stop took = record { comes = (ask, is, stop.refused); wrote = took; read = stop.read }
-stopped_went run ask (SheetBad at) is stop took = record { comes = (ask, is, stop.refused); wrote = took; read = stop.read }
-stopped_went run ask (SheetIll ill) is stop took = record { comes = (ask, is, stop.refused); wrote = took; read = stop.read }
-stopped_went run ask (Heavy weight) is stop took = record { comes = (ask, is, stop.refused); wrote = took; read = stop.read }
-stopped_went run ask (Suspect report) is stop took = record { comes = (ask, is, stop.refused); wrote = took; read = stop.read }
-stopped_went run ask (NotUtf8 at) is stop took = record { comes = (ask, is, stop.refused); wrote = took; read = stop.read }
-stopped_went run ask (NotXml at) is stop took = record { comes = (ask, is, stop.refused); wrote = took; read = stop.read }
-stopped_went run ask SheetFault is stop took = record { comes = (ask, is, stop.refused); wrote = took; read = stop.read }
-stopped_went run ask ReadFault is stop took = record { comes = (ask, is, stop.refused); wrote = took; read = stop.read }
-stopped_went run ask DocLong is stop took = record { comes = (ask, is, stop.refused); wrote = took; read = stop.read }
-stopped_went run ask (NoteFault of written) is stop took = record { comes = (ask, is, stop.refused); wrote = took; read = stop.read }
-stopped_went run ask Done is stop took = let (p, has, bytes, takes, unread) = stop.refused in absurd unread
-stopped_went run ask (WriteFault written) is stop took = let (p, has, bytes, takes, unread) = stop.refused in absurd unread
-stopped_went run ask Usage is stop took = let (p, has, bytes, takes, unread) = stop.refused in absurd unread
+-- a job that is not done
+pub undone_told : (run : Run) (ask : Ask) (p : Pair) (stop : Stop) (o : Outcome) (names : List (List ℕ)) (r : Result Outcome Refusal) → asked run.words ≡ Some ask → SpellsPair run.shelf.files ask.sheet p → StopsBy (IsUndone p run.input ask.job) stop → stop ≡ Refused o → TookNothing run.out → names ≡ p.names → IfOk r (Tells run.notes names o) → IfOk r (Told run)
+undone_told run ask p stop o names r is spells stops same took theirs tells =
+    told_as run o p.names r (undone ask p is spells (stop_is (IsUndone p run.input ask.job) stop o stops same) took) (subst (λ (ns : List (List ℕ)). IfOk r (Tells run.notes ns o)) theirs tells)
 
 -- an answer that was written, and told where out failed
-pub answered_told : (run : Run) (ask : Ask) (answer bytes : List ℕ) (result : Outcome) → asked run.words ≡ Some ask → HasAnswer run.inputs ask answer → ReadAll run.inputs → bytes ≡ answer → IsWritten run.out run.notes bytes result → Told run result
-answered_told run ask answer bytes result is has read same (o, took, tells) = (o, written_went run ask answer o is has read (subst (λ (b : List ℕ). Took run.out b o) same took), tells)
-
--- a run that went no further, and told it
-pub stopped_told : (run : Run) (ask : Ask) (stop : Stop) (o : Outcome) (r : Result Outcome Refusal) → asked run.words ≡ Some ask → StopsBy (IsStop run.inputs ask) stop → stop ≡ Refused o → TookNothing run.out → IfOk r (Tells run.notes o) → IfOk r (Told run)
-stopped_told run ask stop o (Ok result) is stops same took tells = (o, stopped_went run ask o is (subst (λ s. StopsBy (IsStop run.inputs ask) s) same stops) took, tells)
-stopped_told run ask stop o (Err e) is stops same took tells = tells
+pub answered_told : (run : Run) (ask : Ask) (p : Pair) (answer bytes : List ℕ) (result : Outcome) → asked run.words ≡ Some ask → SpellsPair run.shelf.files ask.sheet p → IsAnswer p run.input ask.job answer → bytes ≡ answer → IsWritten run.out run.notes bytes result → Told run result
+answered_told run ask p answer bytes result is spells has same (o, took, tells) = (o, [], answered ask p answer is spells has (subst (λ (b : List ℕ). Took run.out b o) same took), tells)
 
 -- what notes took
-pub told_all : (notes : Output) (o : Outcome) (bytes : List ℕ) → bytes ≡ line [] o → Appends notes.taken_before notes.taken_now bytes → Tells notes o o
-told_all notes o bytes is appends = inl (refl, subst (λ (b : List ℕ). Appends notes.taken_before notes.taken_now b) is appends)
+pub told_all : (notes : Output) (names : List (List ℕ)) (o : Outcome) (bytes : List ℕ) → bytes ≡ line names o → Appends notes.taken_before notes.taken_now bytes → Tells notes names o o
+told_all notes names o bytes is appends = inl (refl, subst (λ (b : List ℕ). Appends notes.taken_before notes.taken_now b) is appends)
 
-pub told_part : (notes : Output) (o : Outcome) (of written : ℕ) (bytes : List ℕ) → bytes ≡ line [] o → of ≡ status_of o → Appends notes.taken_before notes.taken_now (take written bytes) → written < length bytes → Rose notes.faults_before notes.faults_now → Tells notes o (NoteFault of written)
-told_part notes o of written bytes is status appends shorter rose = inr (
+pub told_part : (notes : Output) (names : List (List ℕ)) (o : Outcome) (of written : ℕ) (bytes : List ℕ) → bytes ≡ line names o → of ≡ status_of o → Appends notes.taken_before notes.taken_now (take written bytes) → written < length bytes → Rose notes.faults_before notes.faults_now → Tells notes names o (NoteFault of written)
+told_part notes names o of written bytes is status appends shorter rose = inr (
   of,
   written,
   refl,
@@ -121,6 +82,10 @@ not_in_none : (name : List ℕ) → Contains [] name → ⊥
 not_in_none name (k, below, is) = omega (arith, below)
 
 -- a list of names without names
-pub no_names : (names : List (List ℕ)) → AreNamesOf [] names → names ≡ []
-no_names [] are = refl
-no_names (n ∷ ns) are = absurd (not_in_none n ((are.same n).0 (0, omega arith, refl)))
+pub none_are : (names : List (List ℕ)) → AreNamesOf [] names → names ≡ []
+none_are [] are = refl
+none_are (n ∷ ns) are = absurd (not_in_none n ((are.same n).0 (0, omega arith, refl)))
+
+pub none_if : (r : Result (List (List ℕ)) Refusal) → IfOk r (AreNamesOf []) → IfOk r (λ names. names ≡ [])
+none_if (Ok names) are = none_are names are
+none_if (Err e) are = are

@@ -4,15 +4,14 @@ use Rattle.xs_class.specs.declared.side.Side.{Side}
 use Rattle.xs_class.specs.declared.side.Side.TheVariants.{Text, Xml}
 use Rattle.xs_chars.specs.declared.form.Form.{Form}
 use Rattle.xs_chars.specs.declared.form.Form.TheVariants.{AsIs}
-use Rattle.xs_gram.specs.Common.{Common, print}
-use Rattle.xs_gram.specs.Languages.{HasTree}
+use Rattle.xs_gram.specs.Common.{Common, print, strip}
+use Rattle.xs_gram.specs.Derivations.{Derivation, yield, normal}
+use Rattle.xs_gram.specs.Languages.{Derives, HasTree}
 use Rattle.xs_pair.specs.Grammars.{Pair, grammar_of}
 use Rattle.xs_turn.specs.Turned.{IsForeign}
 use Rattle.xs_talk.specs.Derivations.{IsListing}
 use Rattle.xs_talk.specs.declared.outcome.Outcome.{Outcome}
 use Rattle.xs_talk.specs.declared.outcome.Outcome.TheVariants.{Foreign}
-use Rattle.xs_top.specs.declared.asking.Job.{Job}
-use Rattle.xs_top.specs.declared.asking.Job.TheVariants.{Turn, Trees}
 use Rattle.xs_top.specs.Documents.{IsDocument, IsNoDocument, document_bytes}
 
 -- the bytes are a tree printed on a side: they read as the print, whose tree it is
@@ -21,33 +20,21 @@ pub record IsWrittenTree (p : Pair) (to : Side) (tree : Common) (bytes : List �
   pub reads : IsDocument to AsIs p.names bytes (print (grammar_of p to) tree)
   pub back : HasTree (grammar_of p to) (print (grammar_of p to) tree) tree
 
--- the document has a tree, and the answer is that tree printed
+-- The document has a derivation, whose tree is printed on its own side with each ignorable in its normal spelling;
+-- the answer is that tree printed.
 pub record IsTurnedInto (p : Pair) (from to : Side) (form : Form) (bytes answer : List ℕ) : Type 0 where
   pub word : List ℕ
   pub document : IsDocument from form p.names bytes word
-  pub tree : Common
-  pub has : HasTree (grammar_of p from) word tree
-  pub written : IsWrittenTree p to tree answer
+  pub derivation : Derivation
+  pub derives : Derives (grammar_of p from) word derivation
+  pub normal : print (grammar_of p from) (strip (grammar_of p from) derivation) ≡ yield (normal (grammar_of p from) derivation)
+  pub written : IsWrittenTree p to (strip (grammar_of p from) derivation) answer
 
 -- the answer is a listing of the text's derivations
 pub record IsListingOf (p : Pair) (max : ℕ) (bytes answer : List ℕ) : Type 0 where
   pub word : List ℕ
   pub document : IsDocument Text AsIs p.names bytes word
   pub is : IsListing p word max answer
-
--- the answer to a document
-abbrev pub IsAnswer : Pair → Job → List ℕ → List ℕ → Type 0
-IsAnswer p (Turn from to form) bytes answer = IsTurnedInto p from to form bytes answer
-IsAnswer p (Trees max) bytes answer = IsListingOf p max bytes answer
-
--- the side and the form of the document that a job reads
-abbrev pub side_of : Job → Side
-side_of (Turn from to form) = from
-side_of (Trees max) = Text
-
-abbrev pub form_of : Job → Form
-form_of (Turn from to form) = form
-form_of (Trees max) = AsIs
 
 -- the document has no derivation, and so many of its leading symbols are viable
 pub record IsForeignDocument (p : Pair) (side : Side) (form : Form) (bytes : List ℕ) (viable : ℕ) : Type 0 where

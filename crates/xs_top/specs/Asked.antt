@@ -7,7 +7,7 @@ use Rattle.xs_chars.specs.declared.form.Form.{Form}
 use Rattle.xs_chars.specs.declared.form.Form.TheVariants.{AsIs}
 use Rattle.xs_words.specs.Command.{Sheet, Command, check, to_xml, to_text, round_text, round_xml, trees, print_sheet, make, command_of}
 use Rattle.xs_top.specs.declared.asking.Job.{Job}
-use Rattle.xs_top.specs.declared.asking.Job.TheVariants.{Turn, Trees}
+use Rattle.xs_top.specs.declared.asking.Job.TheVariants.{Check, Turn, Trees}
 
 -- a sheet, and a job
 pub record Ask : Type 0 where
@@ -18,9 +18,9 @@ pub record Ask : Type 0 where
 abbrev pub turning : Sheet → Side → Side → Form → Ask
 turning sheet from to form = record { sheet = sheet; job = Turn from to form }
 
--- what a command asks for; the check and what rests on it are not there yet
+-- what a command asks for; the shipped sheet's own commands are not there yet
 abbrev pub ask_of : Command → Option Ask
-ask_of (check sheet) = None
+ask_of (check sheet) = Some (record { sheet = sheet; job = Check })
 ask_of (to_xml sheet form) = Some (turning sheet Text Xml form)
 ask_of (to_text sheet) = Some (turning sheet Xml Text AsIs)
 ask_of (round_text sheet form) = Some (turning sheet Text Text form)

@@ -3,30 +3,32 @@ use Rattle.std.specs.Prelude.{◌≡◌, ℕ, List}
 use Rattle.std.specs.declared.option.Option.{Option}
 use Rattle.xs_io.specs.Shown.{Files}
 
--- the shelf and the input
-pub record Inputs : Type 0 where
+-- the shelf
+pub record Shelves : Type 0 where
   pub files : Files
-  pub shelf_before : ℕ
-  pub shelf_now : ℕ
+  pub faults_before : ℕ
+  pub faults_now : ℕ
   pub name_before : List ℕ → ℕ
   pub name_now : List ℕ → ℕ
-  pub left_before : Option (List ℕ)
-  pub left_now : Option (List ℕ)
-  pub input_before : ℕ
-  pub input_now : ℕ
 
-abbrev pub inputs_of : {H S : Type 0} → (H → Files) → (H → ℕ) → (H → List ℕ → ℕ) → (S → Option (List ℕ)) → (S → ℕ) → H → H → S → S → Inputs
-inputs_of files shelf_faults name_faults left input_faults shelf shelf' input input' = record {
+abbrev pub shelves_of : {H : Type 0} → (H → Files) → (H → ℕ) → (H → List ℕ → ℕ) → H → H → Shelves
+shelves_of files faults name_faults shelf shelf' = record {
   files = files shelf;
-  shelf_before = shelf_faults shelf;
-  shelf_now = shelf_faults shelf';
+  faults_before = faults shelf;
+  faults_now = faults shelf';
   name_before = name_faults shelf;
   name_now = name_faults shelf';
-  left_before = left input;
-  left_now = left input';
-  input_before = input_faults input;
-  input_now = input_faults input';
 }
+
+-- the input
+pub record Input : Type 0 where
+  pub left_before : Option (List ℕ)
+  pub left_now : Option (List ℕ)
+  pub faults_before : ℕ
+  pub faults_now : ℕ
+
+abbrev pub input_of : {S : Type 0} → (S → Option (List ℕ)) → (S → ℕ) → S → S → Input
+input_of left faults input input' = record { left_before = left input; left_now = left input'; faults_before = faults input; faults_now = faults input' }
 
 -- a sink
 pub record Output : Type 0 where
@@ -44,16 +46,17 @@ pub record TookNothing (o : Output) : Type 0 where
   pub faults : o.faults_now ≡ o.faults_before
 
 -- nothing was read of the input
-pub record ReadNothing (i : Inputs) : Type 0 where
+pub record ReadNothing (i : Input) : Type 0 where
   pub left : i.left_now ≡ i.left_before
-  pub faults : i.input_now ≡ i.input_before
+  pub faults : i.faults_now ≡ i.faults_before
 
 -- the words and all devices of a run
 pub record Run : Type 0 where
   pub words : List (List ℕ)
-  pub inputs : Inputs
+  pub shelf : Shelves
+  pub input : Input
   pub out : Output
   pub notes : Output
 
-abbrev pub run_of : List (List ℕ) → Inputs → Output → Output → Run
-run_of words inputs out notes = record { words = words; inputs = inputs; out = out; notes = notes }
+abbrev pub run_of : List (List ℕ) → Shelves → Input → Output → Output → Run
+run_of words shelf input out notes = record { words = words; shelf = shelf; input = input; out = out; notes = notes }

@@ -1,10 +1,15 @@
 -- What a run did, outcome by outcome.
-use Rattle.std.specs.Prelude.{◌≡◌, ◌⊎◌, ℕ, ◌<◌, ◌≤◌, List, [], take, length, None, Some, IsSome}
-use Rattle.std.specs.Io.KnownBytes.{Appends, IsAtEnd}
+use Rattle.std.specs.Prelude.{◌≡◌, ◌⊎◌, ℕ, ◌<◌, ◌≤◌, List, [], take, length, None, Some}
+use Rattle.std.specs.Io.KnownBytes.{Appends}
 use Rattle.std.specs.Str.{IsUtf8}
 use Rattle.xs_io.specs.Causes.{Rose}
 use Rattle.xs_io.specs.Whole.{Drains, Exceeds}
+use Rattle.xs_class.specs.declared.side.Side.{Side}
+use Rattle.xs_class.specs.declared.side.Side.TheVariants.{Text}
+use Rattle.xs_chars.specs.declared.form.Form.{Form}
+use Rattle.xs_chars.specs.declared.form.Form.TheVariants.{AsIs}
 use Rattle.xs_gram.specs.Languages.{InLang}
+use Rattle.xs_ambiguity.specs.Acceptance.{IsAccepted}
 use Rattle.xs_sheet.specs.declared.sheet.Sheet.{Sheet}
 use Rattle.xs_sheet.specs.Grammar.{IsSheetOf}
 use Rattle.xs_pair.specs.Grammars.{Pair, grammar_of}
@@ -12,87 +17,58 @@ use Rattle.xs_wf.specs.Rules.{IsWell}
 use Rattle.xs_talk.specs.Lines.{line}
 use Rattle.xs_talk.specs.declared.outcome.Outcome.{Outcome}
 use Rattle.xs_talk.specs.declared.outcome.Outcome.TheVariants.{Done, Foreign, SheetLong, SheetBad, SheetIll, Heavy, Suspect, NotUtf8, NotXml, Usage, SheetFault, ReadFault, WriteFault, NoteFault, DocLong}
+use Rattle.xs_top.specs.declared.asking.Job.{Job}
+use Rattle.xs_top.specs.declared.asking.Job.TheVariants.{Check, Turn, Trees}
 use Rattle.xs_top.specs.Asked.{Ask, asked}
-use Rattle.xs_top.specs.Devices.{Inputs, Output, Run, ReadNothing, TookNothing}
-use Rattle.xs_top.specs.Sheets.{AreSheetBytes, SheetFailed, IsLongSheet, IsBadSheet, IsIllSheet, IsPairOfBytes}
+use Rattle.xs_top.specs.Devices.{Shelves, Input, Output, Run, ReadNothing, TookNothing}
+use Rattle.xs_top.specs.Sheets.{AreBytesOf, IsFailed, IsLong, SpellsPair, IsUnpaired}
+use Rattle.xs_top.specs.Checks.{IsSure, IsUnsure, accepted_line}
 use Rattle.xs_top.specs.Documents.{IsWordOf}
-use Rattle.xs_top.specs.Answers.{IsAnswer, IsUnread, side_of, form_of}
-
--- the sheet that is asked for spells these two grammars
-pub record HasPair (i : Inputs) (ask : Ask) (p : Pair) : Type 0 where
-  pub bytes : List ℕ
-  pub are : AreSheetBytes i ask.sheet bytes
-  pub is : IsPairOfBytes bytes p
+use Rattle.xs_top.specs.Answers.{IsTurnedInto, IsListingOf, IsUnread}
 
 -- the input was read to its end, and is these bytes
-abbrev pub Takes : Inputs → List ℕ → Type 0
+abbrev pub Takes : Input → List ℕ → Type 0
 Takes i bytes = Drains i.left_before i.left_now bytes 1048576
 
--- the answer to the input that was read
-pub record HasAnswer (i : Inputs) (ask : Ask) (answer : List ℕ) : Type 0 where
-  pub pair : Pair
-  pub has : HasPair i ask pair
-  pub bytes : List ℕ
-  pub input : Takes i bytes
-  pub is : IsAnswer pair ask.job bytes answer
+-- What a job answers. A sheet is checked before a document is turned by it, and before the input is read.
+abbrev pub IsAnswer : Pair → Input → Job → List ℕ → Type 0
+IsAnswer p i Check answer = ReadNothing i × IsSure p × (answer ≡ accepted_line p)
+IsAnswer p i (Turn from to form) answer = IsSure p × (bytes : List ℕ) × Takes i bytes × IsTurnedInto p from to form bytes answer
+IsAnswer p i (Trees max) answer = (bytes : List ℕ) × Takes i bytes × IsListingOf p max bytes answer
 
--- why there is no answer: because of the sheet, of the reading, or of the document
-abbrev pub IsRefused : Inputs → Ask → Outcome → Type 0
-IsRefused i ask SheetFault = SheetFailed i ask.sheet
-IsRefused i ask SheetLong = IsLongSheet i ask.sheet
-IsRefused i ask (SheetBad at) = (bytes : List ℕ) × AreSheetBytes i ask.sheet bytes × IsBadSheet bytes at
-IsRefused i ask (SheetIll ill) = (bytes : List ℕ) × AreSheetBytes i ask.sheet bytes × IsIllSheet bytes ill
-IsRefused i ask ReadFault = (p : Pair) × HasPair i ask p × Rose i.input_before i.input_now
-IsRefused i ask DocLong = (p : Pair) × HasPair i ask p × Exceeds i.left_before i.left_now 1048576
-IsRefused i ask o = (p : Pair) × HasPair i ask p × (bytes : List ℕ) × Takes i bytes × IsUnread p (side_of ask.job) (form_of ask.job) bytes o
+-- why the input cannot be had
+abbrev pub IsUntaken : Input → Outcome → Type 0
+IsUntaken i ReadFault = Rose i.faults_before i.faults_now
+IsUntaken i DocLong = Exceeds i.left_before i.left_now 1048576
+IsUntaken i other = ⊥
 
--- nothing of the input is left
-abbrev pub ReadAll : Inputs → Type 0
-ReadAll i = IsSome i.left_before → IsAtEnd i.left_now
+-- why a document is not answered: it cannot be had, or was read to its end and is none of the language
+abbrev pub IsUnanswered : Pair → Input → Side → Form → Outcome → Type 0
+IsUnanswered p i side form o = IsUntaken i o ⊎ ((bytes : List ℕ) × Takes i bytes × IsUnread p side form bytes o)
 
--- what was read of the input
-abbrev pub HasRead : Inputs → Outcome → Type 0
-HasRead i Usage = ReadNothing i
-HasRead i SheetFault = ReadNothing i
-HasRead i SheetLong = ReadNothing i
-HasRead i (SheetBad at) = ReadNothing i
-HasRead i (SheetIll ill) = ReadNothing i
-HasRead i (NotUtf8 at) = ReadAll i
-HasRead i (NotXml at) = ReadAll i
-HasRead i (Foreign viable) = ReadAll i
-HasRead i Done = ReadAll i
-HasRead i (WriteFault written) = ReadAll i
-HasRead i other = Unit {0}
+-- why the check of a sheet is not passed; nothing of the input was read
+abbrev pub IsUnchecked : Pair → Input → Outcome → Type 0
+IsUnchecked p i o = ReadNothing i × IsUnsure p o
 
--- why there is no answer, and what was read then
-pub record IsStop (i : Inputs) (ask : Ask) (o : Outcome) : Type 0 where
-  pub refused : IsRefused i ask o
-  pub read : HasRead i o
+-- why a job is not done
+abbrev pub IsUndone : Pair → Input → Job → Outcome → Type 0
+IsUndone p i Check o = IsUnchecked p i o
+IsUndone p i (Turn from to form) o = IsUnchecked p i o ⊎ (IsSure p × IsUnanswered p i from form o)
+IsUndone p i (Trees max) o = IsUnanswered p i Text AsIs o
 
--- what the words ask for has this answer
-pub record IsAnswered (run : Run) (answer : List ℕ) : Type 0 where
-  pub ask : Ask
-  pub is : asked run.words ≡ Some ask
-  pub has : HasAnswer run.inputs ask answer
+-- what out took of an answer, by the outcome
+abbrev pub Took : Output → List ℕ → Outcome → Type 0
+Took out answer Done = Appends out.taken_before out.taken_now answer
+Took out answer (WriteFault written) = Appends out.taken_before out.taken_now (take written answer) × (written < length answer) × Rose out.faults_before out.faults_now
+Took out answer other = ⊥
 
--- when each outcome comes
-abbrev pub Comes : Run → Outcome → Type 0
-Comes run Usage = asked run.words ≡ None
-Comes run Done = (answer : List ℕ) × IsAnswered run answer × Appends run.out.taken_before run.out.taken_now answer
-Comes run (WriteFault written) = (answer : List ℕ) × IsAnswered run answer × Appends run.out.taken_before run.out.taken_now (take written answer) × (written < length answer) × Rose run.out.faults_before run.out.faults_now
-Comes run o = (ask : Ask) × (asked run.words ≡ Some ask) × IsRefused run.inputs ask o
-
--- out took something only for an answer
-abbrev pub Wrote : Run → Outcome → Type 0
-Wrote run Done = Unit {0}
-Wrote run (WriteFault written) = Unit {0}
-Wrote run other = TookNothing run.out
-
--- how a run went until it was to be told
-pub record Went (run : Run) (o : Outcome) : Type 0 where
-  pub comes : Comes run o
-  pub wrote : Wrote run o
-  pub read : HasRead run.inputs o
+-- The outcome to which a run went, with the names by which it is told: the words are no command; or the sheet
+-- that is asked for spells no grammars; or the job is not done by them; or it is answered.
+pub data Went (run : Run) : Outcome → List (List ℕ) → Type 0 where
+  no_command : asked run.words ≡ None → ReadNothing run.input → TookNothing run.out → Went run Usage []
+  unpaired : (ask : Ask) {o : Outcome} → asked run.words ≡ Some ask → IsUnpaired run.shelf ask.sheet o → ReadNothing run.input → TookNothing run.out → Went run o []
+  undone : (ask : Ask) (p : Pair) {o : Outcome} → asked run.words ≡ Some ask → SpellsPair run.shelf.files ask.sheet p → IsUndone p run.input ask.job o → TookNothing run.out → Went run o p.names
+  answered : (ask : Ask) (p : Pair) (answer : List ℕ) {o : Outcome} → asked run.words ≡ Some ask → SpellsPair run.shelf.files ask.sheet p → IsAnswer p run.input ask.job answer → Took run.out answer o → Went run o []
 
 -- the status that a program ends with
 abbrev pub status_of : Outcome → ℕ
@@ -113,45 +89,51 @@ status_of (NoteFault of written) = 6
 status_of DocLong = 7
 
 -- notes failed at the line of an outcome, of which it took so many bytes
-pub record FailsAtNotes (notes : Output) (o : Outcome) (of written : ℕ) : Type 0 where
+pub record FailsAtNotes (notes : Output) (names : List (List ℕ)) (o : Outcome) (of written : ℕ) : Type 0 where
   pub status : of ≡ status_of o
-  pub taken : Appends notes.taken_before notes.taken_now (take written (line [] o))
-  pub shorter : written < length (line [] o)
+  pub taken : Appends notes.taken_before notes.taken_now (take written (line names o))
+  pub shorter : written < length (line names o)
   pub rose : Rose notes.faults_before notes.faults_now
 
 -- notes took the line of the outcome, which is answered; or it failed
-abbrev pub Tells : Output → Outcome → Outcome → Type 0
-Tells notes o answer = ((answer ≡ o) × Appends notes.taken_before notes.taken_now (line [] o)) ⊎ ((of : ℕ) × (written : ℕ) × (answer ≡ NoteFault of written) × FailsAtNotes notes o of written)
-
--- what out took of an answer, by the outcome
-abbrev pub Took : Output → List ℕ → Outcome → Type 0
-Took out answer Done = Appends out.taken_before out.taken_now answer
-Took out answer (WriteFault written) = Appends out.taken_before out.taken_now (take written answer) × (written < length answer) × Rose out.faults_before out.faults_now
-Took out answer other = ⊥
+abbrev pub Tells : Output → List (List ℕ) → Outcome → Outcome → Type 0
+Tells notes names o answer = ((answer ≡ o) × Appends notes.taken_before notes.taken_now (line names o)) ⊎ ((of : ℕ) × (written : ℕ) × (answer ≡ NoteFault of written) × FailsAtNotes notes names o of written)
 
 -- an answer was written to its end, or out failed, which was told
 abbrev pub IsWritten : Output → Output → List ℕ → Outcome → Type 0
-IsWritten out notes answer result = (o : Outcome) × Took out answer o × Tells notes o result
+IsWritten out notes answer result = (o : Outcome) × Took out answer o × Tells notes [] o result
 
 -- the run went to an outcome, which was told
 abbrev pub Told : Run → Outcome → Type 0
-Told run answer = (o : Outcome) × Went run o × Tells run.notes o answer
+Told run answer = (o : Outcome) × (names : List (List ℕ)) × Went run o names × Tells run.notes names o answer
 
--- The words ask for something; their sheet is told, did not fail, and is well formed; the input is told, within
--- its limit, UTF-8, and a document of the sheet's language; and no count of input, out and notes rose.
+-- The input is told, within its limit, UTF-8, and a document of the language of a side, and did not fail.
+pub record IsReadable (p : Pair) (i : Input) (side : Side) (form : Form) : Type 0 where
+  pub document : List ℕ
+  pub input : i.left_before ≡ Some document
+  pub limit : length document ≤ 1048576
+  pub utf8 : IsUtf8 document
+  pub word : List ℕ
+  pub word_is : IsWordOf side form p.names document word
+  pub language : InLang (grammar_of p side) word
+  pub sure : Rose i.faults_before i.faults_now → ⊥
+
+-- nothing stands against a job by these grammars
+abbrev pub IsDoable : Pair → Input → Job → Type 0
+IsDoable p i Check = IsAccepted p.text p.xml
+IsDoable p i (Turn from to form) = IsAccepted p.text p.xml × IsReadable p i from form
+IsDoable p i (Trees max) = IsReadable p i Text AsIs
+
+-- The words ask for something; their sheet is told, did not fail, and is well formed; nothing stands against the
+-- job; and no count of out and notes rose.
 pub record IsHonest (run : Run) : Type 0 where
   pub ask : Ask
   pub is : asked run.words ≡ Some ask
-  pub sheet_sure : SheetFailed run.inputs ask.sheet → ⊥
-  pub sheet_short : IsLongSheet run.inputs ask.sheet → ⊥
-  pub spelled : (bytes : List ℕ) → AreSheetBytes run.inputs ask.sheet bytes → (s : Sheet) × IsSheetOf bytes s
-  pub well : (bytes : List ℕ) (s : Sheet) → AreSheetBytes run.inputs ask.sheet bytes → IsSheetOf bytes s → IsWell s
-  pub document : List ℕ
-  pub input : run.inputs.left_before ≡ Some document
-  pub limit : length document ≤ 1048576
-  pub utf8 : IsUtf8 document
-  pub language : (p : Pair) → HasPair run.inputs ask p → (w : List ℕ) × IsWordOf (side_of ask.job) (form_of ask.job) p.names document w × InLang (grammar_of p (side_of ask.job)) w
-  pub input_sure : Rose run.inputs.input_before run.inputs.input_now → ⊥
+  pub sheet_sure : IsFailed run.shelf ask.sheet → ⊥
+  pub sheet_short : IsLong run.shelf.files ask.sheet → ⊥
+  pub spelled : (bytes : List ℕ) → AreBytesOf run.shelf.files ask.sheet bytes → (s : Sheet) × IsSheetOf bytes s
+  pub well : (bytes : List ℕ) (s : Sheet) → AreBytesOf run.shelf.files ask.sheet bytes → IsSheetOf bytes s → IsWell s
+  pub doable : (p : Pair) → SpellsPair run.shelf.files ask.sheet p → IsDoable p run.input ask.job
   pub out_sure : Rose run.out.faults_before run.out.faults_now → ⊥
   pub notes_sure : Rose run.notes.faults_before run.notes.faults_now → ⊥
 

@@ -1,71 +1,101 @@
 ghost use Rattle.std.specs.Prelude.{IfOk, IfErr};
-ghost use Rattle.xs_sheet.specs.declared.sheet.Sheet.{Sheet as AnySheet};
-ghost use Rattle.xs_pair.specs.Grammars.{IsPairOf};
+ghost use Rattle.xs_class.specs.declared.side.Side.TheVariants as S;
+ghost use Rattle.xs_chars.specs.declared.form.Form.TheVariants as F;
 ghost use Rattle.xs_pair.specs.Sound.{IsSoundPair};
+ghost use Rattle.xs_wf.specs.Nonterminals.{IsPair};
 ghost use Rattle.xs_balance.specs.Laws.{CanBeWritten};
-ghost use Rattle.xs_top.specs.Meaning.{ask_meant};
-ghost use Rattle.xs_top.specs.Devices.{inputs_of};
-ghost use Rattle.xs_top.specs.Answers.{IsAnswer, IsUnread, side_of, form_of};
-ghost use Rattle.xs_top.specs.Ran.{HasAnswer, IsStop, ReadAll};
+ghost use Rattle.xs_top.specs.declared.asking.Job.TheVariants as J;
+ghost use Rattle.xs_top.specs.Devices.{input_of};
+ghost use Rattle.xs_top.specs.Ran.{IsAnswer, IsUndone, IsUntaken, Takes};
 ghost use Rattle.xs_top.specs.Stops.{StopsBy};
 
-use crate::asking::{Ask, Job};
+use crate::asking::Job;
+use crate::checked::{accepted_line, checked};
 use crate::listed::listed;
-use crate::sheets::{pair_of, sheet_bytes};
 use crate::stop::Stop;
 use crate::turned::turned_into;
 use std::alloc::Global;
-use xs_balance::words_can_be_written;
-use xs_class::Bytes;
-use xs_io::{ReadStop, Shelf, Source, read_all};
+use xs_chars::Form;
+use xs_class::{Bytes, Side};
+use xs_io::{ReadStop, Source, read_all};
 use xs_pair::Two;
 use xs_talk::Outcome;
 
 /// How many bytes a document that is read may have.
 pub const DOCUMENT_LIMIT: usize = 1_048_576;
 
-// The answer to a document.
-fn answer_to(alloc: Global, two: &Two, job: Job, bytes: &[u8]) -> Result<Bytes, Stop>
-    requires pair { (s : AnySheet) × IsPairOf s two.now }
-    requires sound { IsSoundPair two.now }
-    requires writable { CanBeWritten two.now }
-    ensures answer { IfOk result (IsAnswer two.now job bytes.now) }
-    ensures stop { IfErr result (StopsBy (IsUnread two.now (side_of job) (form_of job) bytes.now)) }
+// The bytes of the input.
+fn taken<S: Source>(alloc: Global, input: &mut S) -> Result<Bytes, Stop>
+    ensures all { IfOk result (Takes (input_of S.left S.faults input.old input.new)) }
+    ensures stop { IfErr result (StopsBy (IsUntaken (input_of S.left S.faults input.old input.new))) }
 {
-    match job {
-        Job::Turn { from, to, form } => turned_into(alloc, two, from, to, form, bytes),
-        Job::Trees { max } => listed(alloc, two, max, bytes),
+    match read_all(alloc, input, DOCUMENT_LIMIT) {
+        Ok(bytes) => Ok(bytes),
+        Err(ReadStop::ReadFault) => Err(Stop::Refused(Outcome::ReadFault)),
+        Err(ReadStop::TooLong) => Err(Stop::Refused(Outcome::DocLong)),
+        Err(ReadStop::Memory) => Err(Stop::Memory),
     }
 }
 
-/// The answer to what is asked for, by the sheet and the document that the devices give.
-pub fn answer_of<S: Source, H: Shelf>(
+// What is said of the sheet, once it is accepted.
+fn check<S: Source>(alloc: Global, two: &Two, input: &mut S) -> Result<Bytes, Stop>
+    requires pair { IsPair two.now }
+    requires sound { IsSoundPair two.now }
+    ensures answer { IfOk result (IsAnswer two.now (input_of S.left S.faults input.old input.new) J.Check) }
+    ensures stop { IfErr result (StopsBy (IsUndone two.now (input_of S.left S.faults input.old input.new) J.Check)) }
+{
+    checked(alloc, two)?;
+    let line = accepted_line(alloc, two)?;
+    Ok(line)
+}
+
+// The document on side `to` with the tree of the input, once the sheet is accepted.
+fn turn<S: Source>(
     alloc: Global,
-    ask: &Ask<'_>,
-    shelf: &mut H,
+    two: &Two,
+    from: Side,
+    to: Side,
+    form: Form,
     input: &mut S,
 ) -> Result<Bytes, Stop>
-    ensures answer { IfOk result (HasAnswer (inputs_of H.files H.faults H.name_faults S.left S.faults
-        shelf.old shelf.new input.old input.new) (ask_meant ask.now)) }
-    ensures read { IfOk result (λ _. ReadAll (inputs_of H.files H.faults H.name_faults S.left S.faults
-        shelf.old shelf.new input.old input.new)) }
-    ensures stop { IfErr result (StopsBy (IsStop (inputs_of H.files H.faults H.name_faults S.left S.faults
-        shelf.old shelf.new input.old input.new) (ask_meant ask.now))) }
+    requires pair { IsPair two.now }
+    requires sound { IsSoundPair two.now }
+    requires writable { CanBeWritten two.now }
+    ensures answer { IfOk result (IsAnswer two.now (input_of S.left S.faults input.old input.new) (J.Turn from to form)) }
+    ensures stop { IfErr result (StopsBy (IsUndone two.now (input_of S.left S.faults input.old input.new) (J.Turn from to form))) }
 {
-    let bytes = match sheet_bytes(alloc, shelf, ask.sheet) {
-        Ok(bytes) => bytes,
-        Err(stop) => return Err(stop),
-    };
-    let two = match pair_of(alloc, bytes.as_slice()) {
-        Ok(two) => two,
-        Err(stop) => return Err(stop),
-    };
-    words_can_be_written();
-    let document = match read_all(alloc, input, DOCUMENT_LIMIT) {
-        Ok(document) => document,
-        Err(ReadStop::ReadFault) => return Err(Stop::Refused(Outcome::ReadFault)),
-        Err(ReadStop::TooLong) => return Err(Stop::Refused(Outcome::DocLong)),
-        Err(ReadStop::Memory) => return Err(Stop::Memory),
-    };
-    answer_to(alloc, &two, ask.job, document.as_slice())
+    checked(alloc, two)?;
+    let bytes = taken(alloc, input)?;
+    turned_into(alloc, two, from, to, form, bytes.as_slice())
+}
+
+// The listing of at most `max` derivations of the input.
+fn list<S: Source>(alloc: Global, two: &Two, max: u32, input: &mut S) -> Result<Bytes, Stop>
+    requires pair { IsPair two.now }
+    requires sound { IsSoundPair two.now }
+    ensures answer { IfOk result (IsAnswer two.now (input_of S.left S.faults input.old input.new) (J.Trees max)) }
+    ensures stop { IfErr result (StopsBy (IsUndone two.now (input_of S.left S.faults input.old input.new) (J.Trees max))) }
+{
+    let bytes = taken(alloc, input)?;
+    listed(alloc, two, max, bytes.as_slice())
+}
+
+/// The answer of a job by the two grammars of a sheet.
+pub fn answer_of<S: Source>(
+    alloc: Global,
+    two: &Two,
+    job: Job,
+    input: &mut S,
+) -> Result<Bytes, Stop>
+    requires pair { IsPair two.now }
+    requires sound { IsSoundPair two.now }
+    requires writable { CanBeWritten two.now }
+    ensures answer { IfOk result (IsAnswer two.now (input_of S.left S.faults input.old input.new) job) }
+    ensures stop { IfErr result (StopsBy (IsUndone two.now (input_of S.left S.faults input.old input.new) job)) }
+{
+    match job {
+        Job::Check => check(alloc, two, input),
+        Job::Turn { from, to, form } => turn(alloc, two, from, to, form, input),
+        Job::Trees { max } => list(alloc, two, max, input),
+    }
 }

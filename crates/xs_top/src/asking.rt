@@ -11,6 +11,8 @@ use xs_words::{Command, SheetName, command_of};
 /// What is to be done with a document.
 #[derive(Clone, Copy, Debug, PartialEq, Eq)]
 pub enum Job {
+    /// The sheet is checked.
+    Check,
     /// A document of one side is read, a text in this form, and a document of the other or of the
     /// same side with the same tree is written.
     Turn { from: Side, to: Side, form: Form },
@@ -46,7 +48,11 @@ fn ask_of(command: Command<'_>) -> Option<Ask<'_>>
             sheet,
             job: Job::Trees { max },
         }),
-        Command::Check { .. } | Command::PrintSheet | Command::Make { .. } => None,
+        Command::Check { sheet } => Some(Ask {
+            sheet,
+            job: Job::Check,
+        }),
+        Command::PrintSheet | Command::Make { .. } => None,
     }
 }
 

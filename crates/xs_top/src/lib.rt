@@ -6,31 +6,32 @@
 #![tactic(auto)]
 
 ghost use Rattle.std.specs.Prelude.{◌≡◌, map, string_bytes, IfOk, OnErr};
-ghost use Rattle.xs_top.specs.Devices.{inputs_of, output_of, run_of};
+ghost use Rattle.xs_top.specs.Devices.{shelves_of, input_of, output_of, run_of};
 ghost use Rattle.xs_top.specs.Ran.{Told, IsComplete};
 
 mod answer;
 mod asking;
+mod checked;
 mod documents;
 mod listed;
 mod notes;
 mod outcome;
 mod sheets;
 mod stop;
-#[cfg(test)]
-mod tests;
 mod turned;
 mod written;
 
 use crate::answer::answer_of;
 use crate::asking::asked;
-use crate::notes::tell;
+use crate::notes::{no_names, tell};
+use crate::sheets::pair_for;
 use crate::stop::Stop;
 use crate::written::written;
 pub use answer::DOCUMENT_LIMIT;
 pub use outcome::status;
 pub use sheets::SHEET_LIMIT;
 use std::alloc::Global;
+use xs_ambiguity::weights_are_exact;
 use xs_class::Memory;
 use xs_io::{Shelf, Sink, Source};
 use xs_piece::one_reading;
@@ -52,22 +53,32 @@ pub fn run<S: Source, H: Shelf, K: Sink, N: Sink>(
     notes: &mut N,
 ) -> Result<Outcome, Memory>
     ensures told { IfOk result (Told (run_of (map string_bytes words.now)
-        (inputs_of H.files H.faults H.name_faults S.left S.faults shelf.old shelf.new input.old input.new)
+        (shelves_of H.files H.faults H.name_faults shelf.old shelf.new) (input_of S.left S.faults input.old input.new)
         (output_of K.taken K.faults out.old out.new) (output_of N.taken N.faults notes.old notes.new))) }
     ensures complete { IfOk result (IsComplete (run_of (map string_bytes words.now)
-        (inputs_of H.files H.faults H.name_faults S.left S.faults shelf.old shelf.new input.old input.new)
+        (shelves_of H.files H.faults H.name_faults shelf.old shelf.new) (input_of S.left S.faults input.old input.new)
         (output_of K.taken K.faults out.old out.new) (output_of N.taken N.faults notes.old notes.new))) }
     ensures memory_out { OnErr result (out.new ≡ out.old) }
     ensures memory_notes { OnErr result (notes.new ≡ notes.old) }
 {
     one_reading();
+    weights_are_exact();
     let room = room(alloc)?;
+    let none = no_names(alloc)?;
     let Some(ask) = asked(words) else {
-        return tell(alloc, notes, Outcome::Usage);
+        return tell(alloc, notes, &none, Outcome::Usage);
     };
-    match answer_of(alloc, &ask, shelf, input) {
-        Ok(answer) => Ok(written(out, notes, room, answer.as_slice())),
-        Err(Stop::Refused(outcome)) => tell(alloc, notes, outcome),
+    let two = match pair_for(alloc, shelf, ask.sheet) {
+        Ok(two) => two,
+        Err(Stop::Refused(outcome)) => return tell(alloc, notes, &none, outcome),
+        Err(Stop::Memory) => return Err(Memory),
+    };
+    match answer_of(alloc, &two, ask.job, input) {
+        Ok(answer) => Ok(written(out, notes, &none, room, answer.as_slice())),
+        Err(Stop::Refused(outcome)) => tell(alloc, notes, two.names(), outcome),
         Err(Stop::Memory) => Err(Memory),
     }
 }
+
+#[cfg(test)]
+mod tests;

@@ -9,10 +9,17 @@ use xs_class::{Memory, Names};
 use xs_io::{Sink, WriteFault, put_all};
 use xs_talk::{Outcome, line_of};
 
+/// The names of no sheet.
+pub fn no_names(alloc: Global) -> Result<Names, Memory>
+    ensures { IfOk result (λ names. names ≡ []) }
+{
+    Names::of(alloc, &[])
+}
+
 /// Writes the line of an outcome, and answers it; or a fault of `notes`.
-pub fn told<N: Sink>(notes: &mut N, line: &[u8], outcome: Outcome) -> Outcome
-    requires { line.now ≡ line_at [] outcome }
-    ensures { Tells (output_of N.taken N.faults notes.old notes.new) outcome result }
+pub fn told<N: Sink>(notes: &mut N, names: &Names, line: &[u8], outcome: Outcome) -> Outcome
+    requires { line.now ≡ line_at names.now outcome }
+    ensures { Tells (output_of N.taken N.faults notes.old notes.new) names.now outcome result }
 {
     match put_all(notes, line) {
         Ok(()) => outcome,
@@ -24,11 +31,15 @@ pub fn told<N: Sink>(notes: &mut N, line: &[u8], outcome: Outcome) -> Outcome
 }
 
 /// Takes memory for the line of an outcome, and then writes it.
-pub fn tell<N: Sink>(alloc: Global, notes: &mut N, outcome: Outcome) -> Result<Outcome, Memory>
-    ensures told { IfOk result (Tells (output_of N.taken N.faults notes.old notes.new) outcome) }
+pub fn tell<N: Sink>(
+    alloc: Global,
+    notes: &mut N,
+    names: &Names,
+    outcome: Outcome,
+) -> Result<Outcome, Memory>
+    ensures told { IfOk result (Tells (output_of N.taken N.faults notes.old notes.new) names.now outcome) }
     ensures memory { OnErr result (notes.new ≡ notes.old) }
 {
-    let names = Names::of(alloc, &[])?;
-    let line = line_of(alloc, &outcome, &names)?;
-    Ok(told(notes, line.as_slice(), outcome))
+    let line = line_of(alloc, &outcome, names)?;
+    Ok(told(notes, names, line.as_slice(), outcome))
 }

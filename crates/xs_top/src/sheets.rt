@@ -1,12 +1,14 @@
 ghost use Rattle.std.specs.Prelude.{◌≡◌, ◌≢◌, ◌≤◌, ℕ, List, length, IfOk, IfErr};
 ghost use Rattle.xs_pair.specs.Sound.{IsSoundPair};
 ghost use Rattle.xs_words.specs.Meaning.{sheet_meant};
-ghost use Rattle.xs_top.specs.Devices.{Inputs};
-ghost use Rattle.xs_top.specs.Sheets.{AreBytesOf, IsStopped, IsPairOfBytes, IsBadBytes};
+ghost use Rattle.xs_balance.specs.Laws.{CanBeWritten};
+ghost use Rattle.xs_top.specs.Devices.{shelves_of};
+ghost use Rattle.xs_top.specs.Sheets.{AreBytesOf, IsStopped, IsPairOfBytes, IsBadBytes, SpellsPair, IsUnpaired};
 ghost use Rattle.xs_top.specs.Stops.{StopsBy};
 
 use crate::stop::Stop;
 use std::alloc::Global;
+use xs_balance::words_can_be_written;
 use xs_class::Bytes;
 use xs_io::{ReadStop, Shelf, read_file};
 use xs_leiden::leiden_sheet;
@@ -19,15 +21,11 @@ use xs_words::SheetName;
 /// How many bytes a sheet may have.
 pub const SHEET_LIMIT: usize = 65_536;
 
-/// The bytes of a sheet.
-pub fn sheet_bytes<H: Shelf>(
-    alloc: Global,
-    shelf: &mut H,
-    sheet: SheetName<'_>,
-) -> Result<Bytes, Stop>
+// The bytes of a sheet.
+fn sheet_bytes<H: Shelf>(alloc: Global, shelf: &mut H, sheet: SheetName<'_>) -> Result<Bytes, Stop>
     ensures bytes { IfOk result (AreBytesOf (H.files shelf.old) (sheet_meant sheet.entry)) }
-    ensures stop { IfErr result (StopsBy (IsStopped (H.files shelf.old) (H.faults shelf.old) (H.faults shelf.new)
-        (H.name_faults shelf.old) (H.name_faults shelf.new) (sheet_meant sheet.entry))) }
+    ensures stop { IfErr result (StopsBy (IsStopped (shelves_of H.files H.faults H.name_faults shelf.old shelf.new)
+        (sheet_meant sheet.entry))) }
 {
     match sheet {
         SheetName::Leiden => {
@@ -60,4 +58,17 @@ pub fn pair_of(alloc: Global, bytes: &[u8]) -> Result<Two, Stop>
         Err(WfFault::Ill(ill)) => Err(Stop::Refused(Outcome::SheetIll(ill))),
         Err(WfFault::Memory) => Err(Stop::Memory),
     }
+}
+
+/// The two grammars of a sheet.
+pub fn pair_for<H: Shelf>(alloc: Global, shelf: &mut H, sheet: SheetName<'_>) -> Result<Two, Stop>
+    ensures pair { IfOk result (SpellsPair (H.files shelf.old) (sheet_meant sheet.entry)) }
+    ensures sound { IfOk result IsSoundPair }
+    ensures writable { IfOk result CanBeWritten }
+    ensures stop { IfErr result (StopsBy (IsUnpaired (shelves_of H.files H.faults H.name_faults shelf.old shelf.new)
+        (sheet_meant sheet.entry))) }
+{
+    words_can_be_written();
+    let bytes = sheet_bytes(alloc, shelf, sheet)?;
+    pair_of(alloc, bytes.as_slice())
 }

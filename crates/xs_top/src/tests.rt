@@ -4,6 +4,7 @@ use std::test::Fail;
 use xs_class::{Bytes, Memory, Text};
 use xs_io::{SureShelf, SureSink, SureSource};
 
+mod checks;
 mod faults;
 mod limits;
 mod refusals;

@@ -15,7 +15,7 @@ use bumpalo::Bump;
 use std::alloc::Global;
 use xs_chars::Form;
 use xs_class::{Bytes, Memory, Side, Word};
-use xs_gram::printed_has_tree;
+use xs_gram::{printed_has_tree, prints_normal};
 use xs_pair::Two;
 use xs_talk::Outcome;
 use xs_text_out::print_syms;
@@ -67,6 +67,7 @@ pub fn turned_into(
     ensures answer { IfOk result (IsTurnedInto two.now from to form bytes.now) }
     ensures stop { IfErr result (StopsBy (IsUnread two.now from form bytes.now)) }
 {
+    prints_normal();
     let doc = match read_document(alloc, from, form, two.names(), bytes) {
         Ok(doc) => doc,
         Err(stop) => return Err(stop),

@@ -4,11 +4,19 @@ ghost use Rattle.xs_top.specs.Devices.{output_of};
 ghost use Rattle.xs_top.specs.Ran.{IsWritten};
 
 use crate::notes::told;
+use xs_class::Names;
 use xs_io::{Sink, WriteFault, put_all};
 use xs_talk::{Line, Outcome, fault_line};
 
 /// Writes an answer, and tells a fault of `out` in the room that was made for its line.
-pub fn written<K: Sink, N: Sink>(out: &mut K, notes: &mut N, room: Line, answer: &[u8]) -> Outcome
+pub fn written<K: Sink, N: Sink>(
+    out: &mut K,
+    notes: &mut N,
+    names: &Names,
+    room: Line,
+    answer: &[u8],
+) -> Outcome
+    requires names { names.now ≡ [] }
     requires empty { line_bytes room ≡ [] }
     requires spare { longest_fault_line ≤ line_spare room }
     ensures { IsWritten (output_of K.taken K.faults out.old out.new) (output_of N.taken N.faults notes.old notes.new) answer.now result }
@@ -17,7 +25,12 @@ pub fn written<K: Sink, N: Sink>(out: &mut K, notes: &mut N, room: Line, answer:
         Ok(()) => Outcome::Done,
         Err(WriteFault { written }) => {
             let line = fault_line(room, written);
-            told(notes, line.as_slice(), Outcome::WriteFault { written })
+            told(
+                notes,
+                names,
+                line.as_slice(),
+                Outcome::WriteFault { written },
+            )
         }
     }
 }

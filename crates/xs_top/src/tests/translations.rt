@@ -8,7 +8,7 @@ use std::test::Fail;
 // A sheet, a text and the XML document with the same tree.
 type Row<'t> = (&'t str, &'t [u8], &'t [u8]);
 
-const ROWS: [Row<'static>; 9] = [
+const ROWS: [Row<'static>; 8] = [
     (PAIR, b"(3,7)", b"<p><y>7</y><x>3</x></p>\n"),
     (EMPTY, b"", b"<s/>\n"),
     (LETTERS, b"aa", b"<s>aa</s>\n"),
@@ -21,7 +21,6 @@ const ROWS: [Row<'static>; 9] = [
     (NESTED, b"((a))", b"<s><s><a/></s></s>\n"),
     (LEFT, b"aaa", b"<s><a/><a/><a/></s>\n"),
     (RIGHT, b"aaa", b"<s><a/><a/><a/></s>\n"),
-    (TWINS, b"aa", b"<s><a/><a/></s>\n"),
 ];
 
 #[test]

@@ -1,0 +1,125 @@
+ghost use Rattle.std.specs.Prelude.{◌≡◌, ◌<◌, ◌++◌, codes, decimal, length, IfOk, IfErr, OnOk};
+ghost use Rattle.std.specs.Str.{chars};
+ghost use Rattle.xs_gram.specs.Sound.{IsBuilt};
+ghost use Rattle.xs_pair.specs.Grammars.{grammar_of};
+ghost use Rattle.xs_pair.specs.Sound.{IsSoundPair};
+ghost use Rattle.xs_wf.specs.Nonterminals.{IsPair};
+ghost use Rattle.xs_top.specs.Checks.{IsSure, IsUnsure, HasRules, accepted_line as line_of_pair, name_at, line_at, report_at};
+ghost use Rattle.xs_top.specs.Stops.{StopsBy};
+
+use crate::stop::Stop;
+use itoa::Buffer;
+use std::alloc::Global;
+use xs_class::{Bytes, Memory, Side, Text};
+use xs_gram::Suspect;
+use xs_pair::Two;
+use xs_talk::{Outcome, Report};
+use xs_unique::{AcceptFault, accept};
+
+// The name of a production's nonterminal.
+fn name(alloc: Global, two: &Two, side: Side, rule: u32) -> Result<Text, Memory>
+    requires pair { IsPair two.now }
+    requires built { IsBuilt (grammar_of two.now side) }
+    requires there { rule < length (grammar_of two.now side).rules }
+    ensures { IfOk result (λ name. name ≡ name_at two.now side rule) }
+{
+    let non = two.gram(side).non_of(rule);
+    Text::of(alloc, two.non_name(non))
+}
+
+// The line of a production.
+fn line(two: &Two, side: Side, rule: u32) -> u32
+    requires pair { IsPair two.now }
+    requires there { rule < length (grammar_of two.now side).rules }
+    ensures { result ≡ line_at two.now rule }
+{
+    two.line(rule)
+}
+
+// What is told of a suspect.
+fn report(alloc: Global, two: &Two, suspect: Suspect) -> Result<Report, Memory>
+    requires pair { IsPair two.now }
+    requires sound { IsSoundPair two.now }
+    requires there { HasRules two.now suspect }
+    ensures { IfOk result (λ report. report ≡ report_at two.now suspect) }
+{
+    match suspect {
+        Suspect::Vertical {
+            side,
+            rule,
+            rule2,
+            word,
+        } => {
+            let name = name(alloc, two, side, rule)?;
+            let line1 = line(two, side, rule);
+            let line2 = line(two, side, rule2);
+            Ok(Report::Vertical {
+                side,
+                name,
+                line: line1,
+                line2,
+                word,
+            })
+        }
+        Suspect::Horizontal {
+            side,
+            rule,
+            cut,
+            x,
+            a,
+            y,
+        } => {
+            let name = name(alloc, two, side, rule)?;
+            let line = line(two, side, rule);
+            Ok(Report::Horizontal {
+                side,
+                name,
+                line,
+                cut,
+                x,
+                a,
+                y,
+            })
+        }
+    }
+}
+
+/// Makes sure that a sheet is accepted, so that each word of either side has at most one derivation.
+pub fn checked(alloc: Global, two: &Two) -> Result<(), Stop>
+    requires pair { IsPair two.now }
+    requires sound { IsSoundPair two.now }
+    ensures sure { OnOk result (IsSure two.now) }
+    ensures stop { IfErr result (StopsBy (IsUnsure two.now)) }
+{
+    match accept(alloc, two) {
+        Ok(_) => Ok(()),
+        Err(AcceptFault::Heavy { weight }) => Err(Stop::Refused(Outcome::Heavy { weight })),
+        Err(AcceptFault::Suspect(suspect)) => {
+            let report = report(alloc, two, suspect)?;
+            Err(Stop::Refused(Outcome::Suspect(report)))
+        }
+        Err(AcceptFault::Memory) => Err(Stop::Memory),
+    }
+}
+
+// Appends a number, and a text.
+fn push_count(line: &mut Bytes, count: u64, text: &[u8]) -> Result<(), Memory>
+    ensures { OnOk result (line.new ≡ line.old ++ decimal count ++ text.now) }
+{
+    let mut digits = Buffer::new();
+    line.extend(digits.format(count).as_bytes())?;
+    line.extend(text)
+}
+
+/// What is said of an accepted sheet: how many terminals, ignorables, nonterminals and productions it has.
+pub fn accepted_line(alloc: Global, two: &Two) -> Result<Bytes, Memory>
+    ensures { IfOk result (λ line. line ≡ line_of_pair two.now) }
+{
+    let gram = two.gram(Side::Text);
+    let mut line = Bytes::of(alloc, b"accepted: ")?;
+    push_count(&mut line, u64::from(gram.terms()), b" terminals, ")?;
+    push_count(&mut line, u64::from(gram.skips()), b" ignorables, ")?;
+    push_count(&mut line, u64::from(gram.nons()), b" nonterminals, ")?;
+    push_count(&mut line, u64::from(gram.rules()), b" productions\n")?;
+    Ok(line)
+}

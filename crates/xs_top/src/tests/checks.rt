@@ -1,0 +1,139 @@
+use super::{EMPTY, LEFT, LETTERS, NESTED, PAIR, RIGHT, SHEET, SPACED, TWINS, ran, tried};
+use std::alloc::Global;
+use std::process::Abort;
+use std::test::Fail;
+use xs_class::{Bytes, Memory};
+
+const CHECK: [&str; 2] = ["check", SHEET];
+
+const TWO_WORDS: &str =
+    "xsugar-1\nstart s\nterminal w = /[a-z]+/\ns : [w a] [w b] = <s a=[w a]>[w b]</s>\n";
+
+const TWO_WAYS: &str =
+    "xsugar-1\nstart s\nterminal w = /[a-z]+/\ns : \"a\" = <s/>\ns : [w x] = <t>[w x]</t>\n";
+
+const BRACKETS: &str = "xsugar-1\nstart doc\nterminal c = /[a-z]/\n\
+    doc : \"<\" [list l] \">\" = <d>[list l]</d>\nlist : =\n\
+    list : [list p] [item i] = [list p] [item i]\nitem : [c x] = [c x]\n\
+    item : \"[\" [list l] \"]\" = <b>[list l]</b>\n";
+
+#[test]
+fn sheets_that_are_accepted(rt: HostRuntime) -> Result<(), Fail> {
+    let rows: [(&str, &[u8]); 7] = [
+        (
+            PAIR,
+            b"accepted: 1 terminals, 0 ignorables, 1 nonterminals, 1 productions\n",
+        ),
+        (
+            EMPTY,
+            b"accepted: 0 terminals, 0 ignorables, 1 nonterminals, 1 productions\n",
+        ),
+        (
+            LETTERS,
+            b"accepted: 1 terminals, 0 ignorables, 1 nonterminals, 1 productions\n",
+        ),
+        (
+            NESTED,
+            b"accepted: 0 terminals, 0 ignorables, 1 nonterminals, 2 productions\n",
+        ),
+        (
+            LEFT,
+            b"accepted: 0 terminals, 0 ignorables, 2 nonterminals, 3 productions\n",
+        ),
+        (
+            RIGHT,
+            b"accepted: 0 terminals, 0 ignorables, 2 nonterminals, 3 productions\n",
+        ),
+        (
+            SPACED,
+            b"accepted: 1 terminals, 1 ignorables, 1 nonterminals, 1 productions\n",
+        ),
+    ];
+    for (sheet, line) in rows {
+        let run = tried(rt.alloc(), &CHECK, sheet, b"")?;
+        assert_eq!(rt; run.status, 0);
+        assert_eq!(rt; run.out.as_slice(), line);
+        assert_eq!(rt; run.notes.as_slice(), "".as_bytes());
+    }
+    Ok(())
+}
+
+#[test]
+fn the_shipped_sheet_is_accepted(rt: HostRuntime) -> Result<(), Fail> {
+    let run = tried(rt.alloc(), &["check", "@leiden"], PAIR, b"")?;
+    assert_eq!(rt; run.status, 0);
+    let line: &[u8] = b"accepted: 7 terminals, 2 ignorables, 10 nonterminals, 33 productions\n";
+    assert_eq!(rt; run.out.as_slice(), line);
+    Ok(())
+}
+
+// The sheet is suspect, and its line begins so; the translation says the same.
+fn are_suspect(rt: &impl Abort, alloc: Global, rows: &[(&str, &[u8])]) -> Result<(), Fail> {
+    for (sheet, begin) in rows {
+        for words in [CHECK, ["to-xml", SHEET], ["to-text", SHEET]] {
+            let run = tried(alloc, &words, sheet, b"zzz")?;
+            assert_eq!(rt; run.status, 3);
+            assert_eq!(rt; run.notes.as_slice().starts_with(begin), true);
+            assert_eq!(rt; run.out.as_slice(), "".as_bytes());
+        }
+    }
+    Ok(())
+}
+
+#[test]
+fn sheets_that_are_suspect(rt: HostRuntime) -> Result<(), Fail> {
+    let rows: [(&str, &[u8]); 4] = [
+        (TWO_WORDS, b"suspect: text: s: line 4, cut 1: "),
+        (TWO_WAYS, b"suspect: text: s: lines 4 and 5 share \"a\"\n"),
+        (BRACKETS, b"suspect: text: list: line 6, cut 1: "),
+        (TWINS, b"suspect: text: s: line 3, cut 1: "),
+    ];
+    are_suspect(&rt, rt.alloc(), &rows)
+}
+
+// So many named items of the terminal `t`, behind each other.
+fn push_items(sheet: &mut Bytes, count: u32) -> Result<(), Memory> {
+    for number in 0..count {
+        sheet.extend(b"[t a")?;
+        sheet.push(b'a' + (number % 26) as u8)?;
+        sheet.extend(b"] ")?;
+    }
+    Ok(())
+}
+
+// A sheet of so many items, and a string of so many hyphens on its text side.
+fn wide(alloc: Global, items: u32, hyphens: u32) -> Result<Bytes, Memory> {
+    let mut sheet = Bytes::of(
+        alloc,
+        b"xsugar-1\nstart s\nterminal t = /([a-z]{50}){10}/\ns : ",
+    )?;
+    push_items(&mut sheet, items)?;
+    if hyphens > 0 {
+        sheet.push(b'"')?;
+        for _ in 0..hyphens {
+            sheet.push(b'-')?;
+        }
+        sheet.push(b'"')?;
+    }
+    sheet.extend(b" = <s>")?;
+    push_items(&mut sheet, items)?;
+    sheet.extend(b"</s>\n")?;
+    Ok(sheet)
+}
+
+#[test]
+fn rules_at_the_limit_of_weight(rt: HostRuntime) -> Result<(), Fail> {
+    let alloc = rt.alloc();
+    let rows: [(u32, u32, u8, &[u8]); 3] = [
+        (17, 0, 2, b"sheet: weight 8518 is more than 8192\n"),
+        (16, 175, 0, b""),
+        (16, 176, 2, b"sheet: weight 8193 is more than 8192\n"),
+    ];
+    for (items, hyphens, status, notes) in rows {
+        let sheet = wide(alloc, items, hyphens)?;
+        let run = ran(alloc, &CHECK, sheet.as_slice(), b"", 1000)?;
+        assert_eq!(rt; run.notes.as_slice(), notes);
+        assert_eq!(rt; run.status, status);
+    }
+    Ok(())
+}
