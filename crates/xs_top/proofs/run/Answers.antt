@@ -14,11 +14,12 @@ returns-in_default-clause-told g c =
 
 pub returns-in-Err-Refused-clause-told : goal.returns-in-Err-Refused-clause-told
 returns-in-Err-Refused-clause-told g c =
+    let told = rw c.in-Err-Refused.field-0-is at c.tell-in-Err-Refused.ensures.told in
     unpaired_told
     (run_of (map string_bytes c.args.words.now) (shelves_of g.H.Shelf.files g.H.Shelf.faults g.H.Shelf.name_faults c.args.shelf.now c.pair_for.new.shelf) (input_of g.S.Source.left g.S.Source.faults c.args.input.now c.args.input.now)
     (output_of g.K.Sink.taken g.K.Sink.faults c.args.out.now c.args.out.now) (output_of g.N.Sink.taken g.N.Sink.faults c.args.notes.now c.tell-in-Err-Refused.new.notes))
     (ask_meant c.in-Some.ask) c.in-Err-Refused.field-0 c.in-Err-Refused.outcome c.in_ok-none.none c.tell-in-Err-Refused.result (sym c.asked.ensures ∙ ap (λ o. option_map ask_meant o) c.in-Some.is) c.in-Err-Refused.ensures.stop c.in-Err-Refused.field-0-is
-    (record { left = refl; faults = refl }) (record { taken = refl; faults = refl }) c.in_ok-none.ensures c.tell-in-Err-Refused.ensures.told
+    (record { left = refl; faults = refl }) (record { taken = refl; faults = refl }) c.in_ok-none.ensures told
 
 pub returns-in-Err-Refused-clause-complete : goal.returns-in-Err-Refused-clause-complete
 returns-in-Err-Refused-clause-complete g c = complete_if c.one_reading.ensures c.weights_are_exact.ensures.rule _ c.tell-in-Err-Refused.result (returns-in-Err-Refused-clause-told g c)
