@@ -4,12 +4,14 @@ use Rattle.xs_class.specs.declared.side.Side.{Side}
 use Rattle.xs_class.specs.declared.side.Side.TheVariants.{Text, Xml}
 use Rattle.xs_gram.specs.Common.{Common, print}
 use Rattle.xs_gram.specs.Languages.{HasTree}
-use Rattle.xs_gram.specs.Laws.{PrintedHasTree}
+use Rattle.xs_gram.specs.Laws.{PrintedHasTree, PrintsNormal, HasNumberedSlots}
 use Rattle.xs_pair.specs.Grammars.{Pair, grammar_of}
 use Rattle.xs_pair.specs.Sound.{IsSoundPair}
 use Rattle.xs_balance.specs.Laws.{CanBeWritten}
 use Rattle.xs_turn.specs.Turned.{FitsBoth}
-use Rattle.xs_top.specs.Documents.{CanWrite}
+use Rattle.xs_chars.specs.declared.form.Form.{Form}
+use Rattle.xs_top.specs.Documents.{IsDocument, CanWrite}
+use Rattle.xs_top.specs.Answers.{IsWrittenTree, IsTurnedInto}
 
 -- on either side it has that tree
 pub printed_back : PrintedHasTree → (p : Pair) (t : Common) → IsSoundPair p → FitsBoth p t → (side : Side) → HasTree (grammar_of p side) (print (grammar_of p side) t) t
@@ -22,3 +24,18 @@ can_write p t w can Xml has = can.xml w (has.0, has.1)
 
 pub can_write_print : PrintedHasTree → (p : Pair) (t : Common) (w : List ℕ) → IsSoundPair p → CanBeWritten p → FitsBoth p t → (side : Side) → w ≡ print (grammar_of p side) t → CanWrite p.names side w
 can_write_print law p t w sound can fits side is = subst (λ (v : List ℕ). CanWrite p.names side v) (sym is) (can_write p t (print (grammar_of p side) t) can side (printed_back law p t sound fits side))
+
+slots_numbered : (p : Pair) → IsSoundPair p → (side : Side) → HasNumberedSlots (grammar_of p side)
+slots_numbered p sound Text = sound.text.built.slots
+slots_numbered p sound Xml = sound.xml.built.slots
+
+-- a document of which a derivation's tree was written
+pub turned_by : PrintsNormal → (p : Pair) → IsSoundPair p → (from to : Side) (form : Form) (bytes answer word : List ℕ) (tree : Common) → IsDocument from form p.names bytes word → HasTree (grammar_of p from) word tree → IsWrittenTree p to tree answer → IsTurnedInto p from to form bytes answer
+turned_by law p sound from to form bytes answer word tree document has written = record {
+  word = word;
+  document = document;
+  derivation = has.0;
+  derives = has.1;
+  normal = law (grammar_of p from) (grammar_of p from).start has.0 (slots_numbered p sound from) has.1.0;
+  written = subst (λ (t : Common). IsWrittenTree p to t answer) (sym has.2) written;
+}

@@ -19,9 +19,14 @@ pub record IsSure (p : Pair) : Type 0 where
   pub text : IsUnique p.text
   pub xml : IsUnique p.xml
 
+-- a number behind one text and before another
+abbrev pub counted : List ℕ → ℕ → List ℕ → List ℕ
+counted before count after = before ++ decimal count ++ after
+
 -- what is said of an accepted sheet
 abbrev pub accepted_line : Pair → List ℕ
-accepted_line p = codes "accepted: " ++ decimal (length p.text.terms) ++ codes " terminals, " ++ decimal (length p.text.skips) ++ codes " ignorables, " ++ decimal p.text.nons ++ codes " nonterminals, " ++ decimal (length p.text.rules) ++ codes " productions\n"
+accepted_line p =
+    counted (counted (counted (counted (codes "accepted: ") (length p.text.terms) (codes " terminals, ")) (length p.text.skips) (codes " ignorables, ")) p.text.nons (codes " nonterminals, ")) (length p.text.rules) (codes " productions\n")
 
 -- the name of a production's nonterminal, and the production's line
 abbrev pub name_at : Pair → Side → ℕ → List ℕ

@@ -1,10 +1,10 @@
-ghost use Rattle.std.specs.Prelude.{◌≡◌, ◌<◌, ◌++◌, codes, decimal, length, IfOk, IfErr, OnOk};
+ghost use Rattle.std.specs.Prelude.{◌≡◌, ◌<◌, length, IfOk, IfErr, OnOk};
 ghost use Rattle.std.specs.Str.{chars};
 ghost use Rattle.xs_gram.specs.Sound.{IsBuilt};
 ghost use Rattle.xs_pair.specs.Grammars.{grammar_of};
 ghost use Rattle.xs_pair.specs.Sound.{IsSoundPair};
 ghost use Rattle.xs_wf.specs.Nonterminals.{IsPair};
-ghost use Rattle.xs_top.specs.Checks.{IsSure, IsUnsure, HasRules, accepted_line as line_of_pair, name_at, line_at, report_at};
+ghost use Rattle.xs_top.specs.Checks.{IsSure, IsUnsure, HasRules, counted, accepted_line as line_of_pair, name_at, line_at, report_at};
 ghost use Rattle.xs_top.specs.Stops.{StopsBy};
 
 use crate::stop::Stop;
@@ -104,7 +104,7 @@ pub fn checked(alloc: Global, two: &Two) -> Result<(), Stop>
 
 // Appends a number, and a text.
 fn push_count(line: &mut Bytes, count: u64, text: &[u8]) -> Result<(), Memory>
-    ensures { OnOk result (line.new ≡ line.old ++ decimal count ++ text.now) }
+    ensures { OnOk result (line.new ≡ counted line.old count text.now) }
 {
     let mut digits = Buffer::new();
     line.extend(digits.format(count).as_bytes())?;
