@@ -3,3 +3,4 @@ mod Writing
 mod Writable
 mod Going
 mod Completing
+mod Counting
