@@ -137,3 +137,53 @@ fn rules_at_the_limit_of_weight(rt: HostRuntime) -> Result<(), Fail> {
     }
     Ok(())
 }
+
+// The letter by which a nonterminal of the doubling sheet is named.
+fn letter(number: u32) -> u8 {
+    b'a'.saturating_add((number % 26) as u8)
+}
+
+// The production of a nonterminal that is another one twice.
+fn push_twice(sheet: &mut Bytes, name: u8, part: u8) -> Result<(), Memory> {
+    sheet.push(b'n')?;
+    sheet.push(name)?;
+    sheet.extend(b" : [n")?;
+    sheet.push(part)?;
+    sheet.extend(b" a] [n")?;
+    sheet.push(part)?;
+    sheet.extend(b" b] = [n")?;
+    sheet.push(part)?;
+    sheet.extend(b" a] [n")?;
+    sheet.push(part)?;
+    sheet.extend(b" b]\n")
+}
+
+// A sheet in which each nonterminal but the first is the one before it, twice.
+fn doubling(alloc: Global, most: u32) -> Result<Bytes, Memory> {
+    let mut sheet = Bytes::of(alloc, b"xsugar-1\nstart s\ns : [n")?;
+    sheet.push(letter(most))?;
+    sheet.extend(b" x] = <s>[n")?;
+    sheet.push(letter(most))?;
+    sheet.extend(b" x]</s>\nna : \"a\" = \"a\"\n")?;
+    for number in 1..most.saturating_add(1) {
+        push_twice(&mut sheet, letter(number), letter(number.saturating_sub(1)))?;
+    }
+    Ok(sheet)
+}
+
+#[test]
+fn a_component_weighs_as_often_as_it_is_called(rt: HostRuntime) -> Result<(), Fail> {
+    let alloc = rt.alloc();
+    let rows: [(u32, u8, &[u8]); 3] = [
+        (10, 0, b""),
+        (11, 2, b"sheet: weight 14334 is more than 8192\n"),
+        (20, 2, b"sheet: weight 1000000 is more than 8192\n"),
+    ];
+    for (most, status, notes) in rows {
+        let sheet = doubling(alloc, most)?;
+        let run = ran(alloc, &CHECK, sheet.as_slice(), b"", 1000)?;
+        assert_eq!(rt; run.notes.as_slice(), notes);
+        assert_eq!(rt; run.status, status);
+    }
+    Ok(())
+}
