@@ -3,7 +3,6 @@ use Rattle.std.proofs.Common.{◌≡◌, ◌∙◌, ℕ, ◌<◌, ◌≤◌, Lis
 use Rattle.std.specs.Prelude.{Result, Ok, Err, IfOk}
 use Rattle.std.specs.declared.option.Option.{Option}
 use Rattle.xs_class.specs.declared.memory.Memory.{Memory as Refusal}
-use Rattle.std.specs.Str.{IsUtf8}
 use Rattle.xs_io.specs.Whole.{Drains, Exceeds}
 use Rattle.xs_class.specs.declared.side.Side.{Side}
 use Rattle.xs_class.specs.declared.side.Side.TheVariants.{Text, Xml}
@@ -22,14 +21,17 @@ use Rattle.xs_pair.specs.Grammars.{Pair, grammar_of}
 use Rattle.xs_talk.specs.declared.outcome.Outcome.{Outcome}
 use Rattle.xs_talk.specs.declared.outcome.Outcome.TheVariants.{Done, Foreign, SheetLong, SheetBad, SheetIll, Heavy, Suspect, NotUtf8, NotXml, Usage, SheetFault, ReadFault, WriteFault, NoteFault, DocLong}
 use Rattle.xs_top.specs.declared.asking.Job.{Job}
-use Rattle.xs_top.specs.declared.asking.Job.TheVariants.{Check, Turn, Trees}
-use Rattle.xs_top.specs.Asked.{Ask, asked}
+use Rattle.xs_top.specs.declared.asking.Job.TheVariants.{Check, Turn, Trees, Make}
+use Rattle.xs_top.specs.Asked.{Ask, by, asked}
+use Rattle.xs_leiden.specs.Sheet.{leiden_core}
+use Rattle.xs_leiden.specs.Made.{made_text}
+use Rattle.xs_words.specs.Command.{Sheet as Named}
 use Rattle.xs_top.specs.Devices.{Run, Input}
-use Rattle.xs_top.specs.Sheets.{SpellsPair, IsUnpaired}
+use Rattle.xs_top.specs.Sheets.{IsUnpaired}
 use Rattle.xs_top.specs.Checks.{IsUnsure}
 use Rattle.xs_top.specs.Documents.{IsWordOf}
 use Rattle.xs_top.specs.Answers.{IsUnread}
-use Rattle.xs_top.specs.Ran.{IsUntaken, IsUnanswered, IsUndone, Took, Went, no_command, unpaired, undone, answered, Tells, Told, IsReadable, IsDoable, IsHonest, IsComplete}
+use Rattle.xs_top.specs.Ran.{IsUntaken, IsUnanswered, IsUndone, Took, Went, no_command, shipped_written, unpaired, undone, answered, Tells, Told, IsOfLanguage, IsReadable, IsDoable, IsClear, IsFree, IsHonest, IsComplete}
 
 same_ask : (a b : Ask) → Some a ≡ Some b → a ≡ b
 same_ask a b e = cc
@@ -95,24 +97,24 @@ module _ (law : OneReading) (weigh : RuleWeighsOnce) where
   not_unsure p DocLong accepted unsure = absurd unsure
 
   -- a document of the language is not refused
-  not_unread : (p : Pair) (i : Input) (side : Side) (form : Form) (readable : IsReadable p i side form) (o : Outcome) → IsUnread p side form readable.document o → ⊥
-  not_unread p i side form readable (NotUtf8 at) unread = unread.bad readable.utf8
-  not_unread p i side form readable (NotXml at) unread = unread.1.none readable.word (subst (λ s. IsWordOf s form p.names readable.document readable.word) unread.0 readable.word_is)
-  not_unread p i side form readable (Foreign viable) unread =
-      let same : unread.word ≡ readable.word = one_word law side form p.names readable.document unread.word readable.word unread.document.word readable.word_is in
-      unread.foreign.foreign (subst (λ (v : List ℕ). InLang (grammar_of p side) v) (sym same) readable.language)
-  not_unread p i side form readable Done unread = absurd unread
-  not_unread p i side form readable SheetLong unread = absurd unread
-  not_unread p i side form readable (SheetBad at) unread = absurd unread
-  not_unread p i side form readable (SheetIll ill) unread = absurd unread
-  not_unread p i side form readable (Heavy weight) unread = absurd unread
-  not_unread p i side form readable (Suspect report) unread = absurd unread
-  not_unread p i side form readable Usage unread = absurd unread
-  not_unread p i side form readable SheetFault unread = absurd unread
-  not_unread p i side form readable ReadFault unread = absurd unread
-  not_unread p i side form readable (WriteFault written) unread = absurd unread
-  not_unread p i side form readable (NoteFault of written) unread = absurd unread
-  not_unread p i side form readable DocLong unread = absurd unread
+  not_unread : (p : Pair) (side : Side) (form : Form) (bytes : List ℕ) (is : IsOfLanguage p side form bytes) (o : Outcome) → IsUnread p side form bytes o → ⊥
+  not_unread p side form bytes is (NotUtf8 at) unread = unread.bad is.utf8
+  not_unread p side form bytes is (NotXml at) unread = unread.1.none is.word (subst (λ s. IsWordOf s form p.names bytes is.word) unread.0 is.word_is)
+  not_unread p side form bytes is (Foreign viable) unread =
+      let same : unread.word ≡ is.word = one_word law side form p.names bytes unread.word is.word unread.document.word is.word_is in
+      unread.foreign.foreign (subst (λ (v : List ℕ). InLang (grammar_of p side) v) (sym same) is.language)
+  not_unread p side form bytes is Done unread = absurd unread
+  not_unread p side form bytes is SheetLong unread = absurd unread
+  not_unread p side form bytes is (SheetBad at) unread = absurd unread
+  not_unread p side form bytes is (SheetIll ill) unread = absurd unread
+  not_unread p side form bytes is (Heavy weight) unread = absurd unread
+  not_unread p side form bytes is (Suspect report) unread = absurd unread
+  not_unread p side form bytes is Usage unread = absurd unread
+  not_unread p side form bytes is SheetFault unread = absurd unread
+  not_unread p side form bytes is ReadFault unread = absurd unread
+  not_unread p side form bytes is (WriteFault written) unread = absurd unread
+  not_unread p side form bytes is (NoteFault of written) unread = absurd unread
+  not_unread p side form bytes is DocLong unread = absurd unread
 
   not_untaken : (p : Pair) (i : Input) (side : Side) (form : Form) → IsReadable p i side form → (o : Outcome) → IsUntaken i o → ⊥
   not_untaken p i side form readable ReadFault untaken = readable.sure untaken
@@ -135,20 +137,22 @@ module _ (law : OneReading) (weigh : RuleWeighsOnce) where
   not_unanswered p i side form readable o (inl untaken) = not_untaken p i side form readable o untaken
   not_unanswered p i side form readable o (inr (bytes, takes, unread)) =
       let same : bytes ≡ readable.document = read_is i.left_before i.left_now readable.document bytes 1048576 readable.input takes in
-      not_unread p i side form readable o (subst (λ (b : List ℕ). IsUnread p side form b o) same unread)
+      not_unread p side form readable.document readable.is o (subst (λ (b : List ℕ). IsUnread p side form b o) same unread)
 
   not_undone : (p : Pair) (i : Input) (job : Job) → IsDoable p i job → (o : Outcome) → IsUndone p i job o → ⊥
   not_undone p i Check doable o why = not_unsure p o doable why.1
   not_undone p i (Turn from to form) doable o (inl unchecked) = not_unsure p o doable.0 unchecked.1
   not_undone p i (Turn from to form) doable o (inr unanswered) = not_unanswered p i from form doable.1 o unanswered.1
   not_undone p i (Trees max) doable o why = not_unanswered p i Text AsIs doable o why
+  not_undone p i (Make seed lines) doable o (inl unchecked) = not_unsure p o doable.0 unchecked.1
+  not_undone p i (Make seed lines) doable o (inr unread) = not_unread p Text AsIs (made_text seed lines) doable.1 o unread.2
 
-  module _ (run : Run) (honest : IsHonest run) where
-    not_unpaired : (o : Outcome) → IsUnpaired run.shelf honest.ask.sheet o → ⊥
-    not_unpaired SheetFault (inl stopped) = honest.sheet_sure stopped
-    not_unpaired SheetLong (inl stopped) = honest.sheet_short stopped
-    not_unpaired (SheetBad at) (inr (bytes, are, bad)) = let (s, spelled) = honest.spelled bytes are in bad.none s spelled
-    not_unpaired (SheetIll ill) (inr (bytes, are, is)) = honest.well bytes is.sheet are is.spelled ill.rule ill.line is.is_ill.line.fails
+  module _ (run : Run) (sheet : Named) (job : Job) (clear : IsClear run sheet job) where
+    not_unpaired : (o : Outcome) → IsUnpaired run.shelf sheet o → ⊥
+    not_unpaired SheetFault (inl stopped) = clear.sheet_sure stopped
+    not_unpaired SheetLong (inl stopped) = clear.sheet_short stopped
+    not_unpaired (SheetBad at) (inr (bytes, are, bad)) = let (s, spelled) = clear.spelled bytes are in bad.none s spelled
+    not_unpaired (SheetIll ill) (inr (bytes, are, is)) = clear.well bytes is.sheet are is.spelled ill.rule ill.line is.is_ill.line.fails
     not_unpaired SheetFault (inr (bytes, are, bad)) = absurd bad
     not_unpaired SheetLong (inr (bytes, are, bad)) = absurd bad
     not_unpaired (SheetBad at) (inl stopped) = absurd stopped
@@ -176,8 +180,9 @@ module _ (law : OneReading) (weigh : RuleWeighsOnce) where
     not_unpaired DocLong (inl stopped) = absurd stopped
     not_unpaired DocLong (inr (bytes, are, bad)) = absurd bad
 
-    its_ask : (ask : Ask) → asked run.words ≡ Some ask → ask ≡ honest.ask
-    its_ask ask is = same_ask ask honest.ask (sym is ∙ honest.is)
+  module _ (run : Run) (honest : IsHonest run) where
+    its_clear : (sheet : Named) (job : Job) → asked run.words ≡ Some (by sheet job) → IsClear run sheet job
+    its_clear sheet job is = subst (λ (a : Ask). IsFree run a) (same_ask honest.ask (by sheet job) (sym honest.is ∙ is)) honest.free
 
     took_done : (answer : List ℕ) (o : Outcome) → Took run.out answer o → o ≡ Done
     took_done answer Done took = refl
@@ -198,11 +203,10 @@ module _ (law : OneReading) (weigh : RuleWeighsOnce) where
 
     went_done : (o : Outcome) (names : List (List ℕ)) → Went run o names → o ≡ Done
     went_done o names (no_command none read took) = absurd (not_none honest.ask (asked run.words) none honest.is)
-    went_done o names (unpaired ask is why read took) = absurd (not_unpaired o (subst (λ (a : Ask). IsUnpaired run.shelf a.sheet o) (its_ask ask is) why))
-    went_done o names (undone ask p is spells why took) =
-        let theirs : SpellsPair run.shelf.files honest.ask.sheet p = subst (λ (a : Ask). SpellsPair run.shelf.files a.sheet p) (its_ask ask is) spells in
-        absurd (not_undone p run.input honest.ask.job (honest.doable p theirs) o (subst (λ (a : Ask). IsUndone p run.input a.job o) (its_ask ask is) why))
-    went_done o names (answered ask p answer is spells has took) = took_done answer o took
+    went_done o names (shipped_written is read took) = took_done leiden_core o took
+    went_done o names (unpaired sheet job is why read took) = absurd (not_unpaired run sheet job (its_clear sheet job is) o why)
+    went_done o names (undone sheet job p is spells why took) = absurd (not_undone p run.input job ((its_clear sheet job is).doable p spells) o why)
+    went_done o names (answered sheet job p answer is spells has took) = took_done answer o took
 
     told_done : (o result : Outcome) (names : List (List ℕ)) → Went run o names → Tells run.notes names o result → result ≡ Done
     told_done o result names went (inl told) = told.0 ∙ went_done o names went

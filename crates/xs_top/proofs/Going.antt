@@ -10,13 +10,16 @@ use Rattle.xs_talk.specs.Lines.{line}
 use Rattle.xs_pair.specs.Grammars.{Pair}
 use Rattle.xs_talk.specs.declared.outcome.Outcome.{Outcome}
 use Rattle.xs_talk.specs.declared.outcome.Outcome.TheVariants.{NoteFault}
-use Rattle.xs_top.specs.Asked.{Ask, asked}
+use Rattle.xs_leiden.specs.Sheet.{leiden_core}
+use Rattle.xs_words.specs.Command.{Sheet as Named}
+use Rattle.xs_top.specs.declared.asking.Job.{Job}
+use Rattle.xs_top.specs.Asked.{shipped, by, asked}
 use Rattle.xs_top.specs.Devices.{Output, Run, ReadNothing, TookNothing}
 use Rattle.xs_top.specs.Sheets.{SpellsPair, IsUnpaired}
 use Rattle.xs_top.specs.declared.stop.Stop.{Stop}
 use Rattle.xs_top.specs.declared.stop.Stop.TheVariants.{Refused, Memory}
 use Rattle.xs_top.specs.Stops.{StopsBy}
-use Rattle.xs_top.specs.Ran.{IsAnswer, IsUndone, Went, no_command, unpaired, undone, answered, Took, IsWritten, Told, Tells, FailsAtNotes, status_of}
+use Rattle.xs_top.specs.Ran.{IsAnswer, IsUndone, Went, shipped_written, unpaired, undone, answered, Took, IsWritten, Told, Tells, status_of}
 
 -- a stop by another cause
 pub stops_as : {P Q : Outcome → Type 0} → ((o : Outcome) → P o → Q o) → (stop : Stop) → StopsBy P stop → StopsBy Q stop
@@ -48,18 +51,22 @@ pub usage_told : (run : Run) (names : List (List ℕ)) (o : Outcome) (r : Result
 usage_told run names o r none went tells = told_as run o [] r went (subst (λ (ns : List (List ℕ)). IfOk r (Tells run.notes ns o)) none tells)
 
 -- a sheet that spells no grammars
-pub unpaired_told : (run : Run) (ask : Ask) (stop : Stop) (o : Outcome) (names : List (List ℕ)) (r : Result Outcome Refusal) → asked run.words ≡ Some ask → StopsBy (IsUnpaired run.shelf ask.sheet) stop → stop ≡ Refused o → ReadNothing run.input → TookNothing run.out → names ≡ [] → IfOk r (Tells run.notes names o) → IfOk r (Told run)
-unpaired_told run ask stop o names r is stops same read took none tells =
-    usage_told run names o r none (unpaired ask is (stop_is (IsUnpaired run.shelf ask.sheet) stop o stops same) read took) tells
+pub unpaired_told : (run : Run) (sheet : Named) (job : Job) (stop : Stop) (o : Outcome) (names : List (List ℕ)) (r : Result Outcome Refusal) → asked run.words ≡ Some (by sheet job) → StopsBy (IsUnpaired run.shelf sheet) stop → stop ≡ Refused o → ReadNothing run.input → TookNothing run.out → names ≡ [] → IfOk r (Tells run.notes names o) → IfOk r (Told run)
+unpaired_told run sheet job stop o names r is stops same read took none tells =
+    usage_told run names o r none (unpaired sheet job is (stop_is (IsUnpaired run.shelf sheet) stop o stops same) read took) tells
 
 -- a job that is not done
-pub undone_told : (run : Run) (ask : Ask) (p : Pair) (stop : Stop) (o : Outcome) (names : List (List ℕ)) (r : Result Outcome Refusal) → asked run.words ≡ Some ask → SpellsPair run.shelf.files ask.sheet p → StopsBy (IsUndone p run.input ask.job) stop → stop ≡ Refused o → TookNothing run.out → names ≡ p.names → IfOk r (Tells run.notes names o) → IfOk r (Told run)
-undone_told run ask p stop o names r is spells stops same took theirs tells =
-    told_as run o p.names r (undone ask p is spells (stop_is (IsUndone p run.input ask.job) stop o stops same) took) (subst (λ (ns : List (List ℕ)). IfOk r (Tells run.notes ns o)) theirs tells)
+pub undone_told : (run : Run) (sheet : Named) (job : Job) (p : Pair) (stop : Stop) (o : Outcome) (names : List (List ℕ)) (r : Result Outcome Refusal) → asked run.words ≡ Some (by sheet job) → SpellsPair run.shelf.files sheet p → StopsBy (IsUndone p run.input job) stop → stop ≡ Refused o → TookNothing run.out → names ≡ p.names → IfOk r (Tells run.notes names o) → IfOk r (Told run)
+undone_told run sheet job p stop o names r is spells stops same took theirs tells =
+    told_as run o p.names r (undone sheet job p is spells (stop_is (IsUndone p run.input job) stop o stops same) took) (subst (λ (ns : List (List ℕ)). IfOk r (Tells run.notes ns o)) theirs tells)
 
 -- an answer that was written, and told where out failed
-pub answered_told : (run : Run) (ask : Ask) (p : Pair) (answer bytes : List ℕ) (result : Outcome) → asked run.words ≡ Some ask → SpellsPair run.shelf.files ask.sheet p → IsAnswer p run.input ask.job answer → bytes ≡ answer → IsWritten run.out run.notes bytes result → Told run result
-answered_told run ask p answer bytes result is spells has same (o, took, tells) = (o, [], answered ask p answer is spells has (subst (λ (b : List ℕ). Took run.out b o) same took), tells)
+pub answered_told : (run : Run) (sheet : Named) (job : Job) (p : Pair) (answer bytes : List ℕ) (result : Outcome) → asked run.words ≡ Some (by sheet job) → SpellsPair run.shelf.files sheet p → IsAnswer p run.input job answer → bytes ≡ answer → IsWritten run.out run.notes bytes result → Told run result
+answered_told run sheet job p answer bytes result is spells has same (o, took, tells) = (o, [], answered sheet job p answer is spells has (subst (λ (b : List ℕ). Took run.out b o) same took), tells)
+
+-- the shipped sheet that was written, and told where out failed
+pub shipped_told : (run : Run) (bytes : List ℕ) (result : Outcome) → asked run.words ≡ Some shipped → ReadNothing run.input → bytes ≡ leiden_core → IsWritten run.out run.notes bytes result → Told run result
+shipped_told run bytes result is read same (o, took, tells) = (o, [], shipped_written is read (subst (λ (b : List ℕ). Took run.out b o) same took), tells)
 
 -- what notes took
 pub told_all : (notes : Output) (names : List (List ℕ)) (o : Outcome) (bytes : List ℕ) → bytes ≡ line names o → Appends notes.taken_before notes.taken_now bytes → Tells notes names o o

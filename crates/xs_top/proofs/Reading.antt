@@ -1,5 +1,5 @@
 -- What is read of bytes, and what written bytes read as.
-use Rattle.std.proofs.Common.{◌≡◌, ◌≢◌, ◌∙◌, ℕ, List, [], ◌∷◌, Some, None, sym, subst, ap, slice_get, refl, ◌==◌, if◌then◌else◌}
+use Rattle.std.proofs.Common.{◌≡◌, ◌∙◌, ℕ, List, [], ◌∷◌, Some, sym, subst, ap, slice_get, refl, ◌==◌, if◌then◌else◌}
 use Rattle.std.specs.Str.{IsUtf8, chars}
 use Rattle.xs_class.specs.declared.side.Side.{Side}
 use Rattle.xs_class.specs.declared.side.Side.TheVariants.{Text, Xml}

@@ -1,6 +1,6 @@
 -- The words of a well-formed sheet's languages can be written.
-use Rattle.std.proofs.Common.{◌≡◌, ◌∙◌, ℕ, List, [], ◌∷◌, Bool, true, false, Some, inl, inr, refl, sym, subst, slice_get, ◌&&◌}
-use Rattle.xs_class.specs.Tables.{IsChar, char_table}
+use Rattle.std.proofs.Common.{◌≡◌, ℕ, List, [], ◌∷◌, Bool, true, false, inl, inr, refl, sym, subst, ◌&&◌}
+use Rattle.xs_class.specs.Tables.{char_table}
 use Rattle.xs_piece.specs.Tables.{is_char}
 use Rattle.xs_piece.specs.Piece.{all_of}
 use Rattle.xs_sheet.specs.declared.item.Item.{Item}
@@ -10,7 +10,6 @@ use Rattle.xs_gram.specs.Building.{EachOf}
 use Rattle.xs_pair.specs.declared.ill.IllRule.TheVariants.{NoStart, Kind, AttrTwice, RootShape, NotChar}
 use Rattle.xs_pair.specs.declared.mark.Mark.{Mark}
 use Rattle.xs_pair.specs.declared.mark.Mark.TheVariants.{Opening, Attribute, AttributeEnd, Closing, Value, Content}
-use Rattle.xs_pair.specs.declared.production.Rule.{Rule}
 use Rattle.xs_pair.specs.Grammars.{Pair}
 use Rattle.xs_pair.specs.Rules.{SomeOf}
 use Rattle.xs_wf.specs.Rules.{IsWell}

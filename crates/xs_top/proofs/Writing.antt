@@ -3,6 +3,7 @@ use Rattle.std.proofs.Common.{◌≡◌, ℕ, List, sym, subst}
 use Rattle.xs_class.specs.declared.side.Side.{Side}
 use Rattle.xs_class.specs.declared.side.Side.TheVariants.{Text, Xml}
 use Rattle.xs_gram.specs.Common.{Common, print}
+use Rattle.xs_gram.specs.Derivations.{yield, normal}
 use Rattle.xs_gram.specs.Languages.{HasTree}
 use Rattle.xs_gram.specs.Laws.{PrintedHasTree, PrintsNormal, HasNumberedSlots}
 use Rattle.xs_pair.specs.Grammars.{Pair, grammar_of}
@@ -30,12 +31,13 @@ slots_numbered p sound Text = sound.text.built.slots
 slots_numbered p sound Xml = sound.xml.built.slots
 
 -- a document of which a derivation's tree was written
-pub turned_by : PrintsNormal → (p : Pair) → IsSoundPair p → (from to : Side) (form : Form) (bytes answer word : List ℕ) (tree : Common) → IsDocument from form p.names bytes word → HasTree (grammar_of p from) word tree → IsWrittenTree p to tree answer → IsTurnedInto p from to form bytes answer
+pub turned_by : PrintsNormal → (p : Pair) → IsSoundPair p → (from to : Side) (form : Form) (bytes answer word : List ℕ) (tree : Common) → IsDocument from form p.names bytes word → HasTree (grammar_of p from) word tree → IsWrittenTree p to tree answer → IsTurnedInto p from to form bytes tree answer
 turned_by law p sound from to form bytes answer word tree document has written = record {
   word = word;
   document = document;
   derivation = has.0;
   derives = has.1;
-  normal = law (grammar_of p from) (grammar_of p from).start has.0 (slots_numbered p sound from) has.1.0;
-  written = subst (λ (t : Common). IsWrittenTree p to t answer) (sym has.2) written;
+  tree_is = has.2;
+  normal = subst (λ (t : Common). print (grammar_of p from) t ≡ yield (normal (grammar_of p from) has.0)) has.2 (law (grammar_of p from) (grammar_of p from).start has.0 (slots_numbered p sound from) has.1.0);
+  written = written;
 }

@@ -1,5 +1,5 @@
 -- What is answered to the bytes of a document.
-use Rattle.std.specs.Prelude.{◌≡◌, ℕ, List}
+use Rattle.std.specs.Prelude.{◌≡◌, ℕ, List, length}
 use Rattle.xs_class.specs.declared.side.Side.{Side}
 use Rattle.xs_class.specs.declared.side.Side.TheVariants.{Text, Xml}
 use Rattle.xs_chars.specs.declared.form.Form.{Form}
@@ -7,11 +7,14 @@ use Rattle.xs_chars.specs.declared.form.Form.TheVariants.{AsIs}
 use Rattle.xs_gram.specs.Common.{Common, print, strip}
 use Rattle.xs_gram.specs.Derivations.{Derivation, yield, normal}
 use Rattle.xs_gram.specs.Languages.{Derives, HasTree}
+use Rattle.xs_tree.specs.Counts.{capped_count}
+use Rattle.xs_leiden.specs.Made.{made_text}
 use Rattle.xs_pair.specs.Grammars.{Pair, grammar_of}
 use Rattle.xs_turn.specs.Turned.{IsForeign}
 use Rattle.xs_talk.specs.Derivations.{IsListing}
 use Rattle.xs_talk.specs.declared.outcome.Outcome.{Outcome}
 use Rattle.xs_talk.specs.declared.outcome.Outcome.TheVariants.{Foreign}
+use Rattle.xs_top.specs.Lines.{summary}
 use Rattle.xs_top.specs.Documents.{IsDocument, IsNoDocument, document_bytes}
 
 -- the bytes are a tree printed on a side: they read as the print, whose tree it is
@@ -20,15 +23,23 @@ pub record IsWrittenTree (p : Pair) (to : Side) (tree : Common) (bytes : List �
   pub reads : IsDocument to AsIs p.names bytes (print (grammar_of p to) tree)
   pub back : HasTree (grammar_of p to) (print (grammar_of p to) tree) tree
 
--- The document has a derivation, whose tree is printed on its own side with each ignorable in its normal spelling;
--- the answer is that tree printed.
-pub record IsTurnedInto (p : Pair) (from to : Side) (form : Form) (bytes answer : List ℕ) : Type 0 where
+-- The document has a derivation with this tree, whose print on its own side is the document with each ignorable in its
+-- normal spelling; the answer is the tree printed.
+pub record IsTurnedInto (p : Pair) (from to : Side) (form : Form) (bytes : List ℕ) (tree : Common) (answer : List ℕ) : Type 0 where
   pub word : List ℕ
   pub document : IsDocument from form p.names bytes word
   pub derivation : Derivation
   pub derives : Derives (grammar_of p from) word derivation
-  pub normal : print (grammar_of p from) (strip (grammar_of p from) derivation) ≡ yield (normal (grammar_of p from) derivation)
-  pub written : IsWrittenTree p to (strip (grammar_of p from) derivation) answer
+  pub tree_is : strip (grammar_of p from) derivation ≡ tree
+  pub normal : print (grammar_of p from) tree ≡ yield (normal (grammar_of p from) derivation)
+  pub written : IsWrittenTree p to tree answer
+
+-- the text that is made of a seed is turned to XML, and the answer is the summary of it
+pub record IsMade (p : Pair) (seed lines : ℕ) (answer : List ℕ) : Type 0 where
+  pub xml : List ℕ
+  pub tree : Common
+  pub turned : IsTurnedInto p Text Xml AsIs (made_text seed lines) tree xml
+  pub is : answer ≡ summary lines (length (made_text seed lines)) (length xml) (capped_count tree)
 
 -- the answer is a listing of the text's derivations
 pub record IsListingOf (p : Pair) (max : ℕ) (bytes answer : List ℕ) : Type 0 where

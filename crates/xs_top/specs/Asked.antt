@@ -1,38 +1,30 @@
--- What the words ask for: a sheet, and what is to be done by it.
-use Rattle.std.specs.Prelude.{ℕ, List, None, Some}
+-- What the words ask for: the shipped sheet, or what is to be done by a sheet.
+use Rattle.std.specs.Prelude.{ℕ, List}
 use Rattle.std.specs.declared.option.Option.{Option}
-use Rattle.xs_class.specs.declared.side.Side.{Side}
+use Rattle.std.specs.Option.{option_map}
 use Rattle.xs_class.specs.declared.side.Side.TheVariants.{Text, Xml}
-use Rattle.xs_chars.specs.declared.form.Form.{Form}
 use Rattle.xs_chars.specs.declared.form.Form.TheVariants.{AsIs}
-use Rattle.xs_words.specs.Command.{Sheet, Command, check, to_xml, to_text, round_text, round_xml, trees, print_sheet, make, command_of}
+use Rattle.xs_words.specs.Command.{Sheet, leiden, Command, check, to_xml, to_text, round_text, round_xml, trees, print_sheet, make, command_of}
 use Rattle.xs_top.specs.declared.asking.Job.{Job}
-use Rattle.xs_top.specs.declared.asking.Job.TheVariants.{Check, Turn, Trees}
+use Rattle.xs_top.specs.declared.asking.Job.TheVariants.{Check, Turn, Trees, Make}
 
--- a sheet, and a job
-pub record Ask : Type 0 where
-  pub sheet : Sheet
-  pub job : Job
+-- the shipped sheet, as it is; or a job by a sheet
+pub data Ask : Type 0 where
+  shipped : Ask
+  by : Sheet → Job → Ask
 
--- a document of one side is read, and one of a side is written
-abbrev pub turning : Sheet → Side → Side → Form → Ask
-turning sheet from to form = record { sheet = sheet; job = Turn from to form }
-
--- what a command asks for; the shipped sheet's own commands are not there yet
-abbrev pub ask_of : Command → Option Ask
-ask_of (check sheet) = Some (record { sheet = sheet; job = Check })
-ask_of (to_xml sheet form) = Some (turning sheet Text Xml form)
-ask_of (to_text sheet) = Some (turning sheet Xml Text AsIs)
-ask_of (round_text sheet form) = Some (turning sheet Text Text form)
-ask_of (round_xml sheet) = Some (turning sheet Xml Xml AsIs)
-ask_of (trees sheet max) = Some (record { sheet = sheet; job = Trees max })
-ask_of print_sheet = None
-ask_of (make seed lines) = None
-
-abbrev pub ask_of_some : Option Command → Option Ask
-ask_of_some None = None
-ask_of_some (Some command) = ask_of command
+-- what a command asks for: a document of one side is read, and one of a side is written; a text is made for the
+-- shipped sheet
+abbrev pub ask_of : Command → Ask
+ask_of (check sheet) = by sheet Check
+ask_of (to_xml sheet form) = by sheet (Turn Text Xml form)
+ask_of (to_text sheet) = by sheet (Turn Xml Text AsIs)
+ask_of (round_text sheet form) = by sheet (Turn Text Text form)
+ask_of (round_xml sheet) = by sheet (Turn Xml Xml AsIs)
+ask_of (trees sheet max) = by sheet (Trees max)
+ask_of print_sheet = shipped
+ask_of (make seed lines) = by leiden (Make seed lines)
 
 -- what the words ask for, or nothing where they are no command
 abbrev pub asked : List (List ℕ) → Option Ask
-asked words = ask_of_some (command_of words)
+asked words = option_map ask_of (command_of words)

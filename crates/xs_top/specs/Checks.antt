@@ -1,5 +1,5 @@
 -- The check that a sheet is not ambiguous: what it gives, and what is told where it fails.
-use Rattle.std.specs.Prelude.{◌≡◌, ◌++◌, ◌<◌, ℕ, List, [], codes, decimal, length, slice_index_or}
+use Rattle.std.specs.Prelude.{◌≡◌, ◌<◌, ℕ, List, [], length, slice_index_or}
 use Rattle.xs_class.specs.declared.side.Side.{Side}
 use Rattle.xs_gram.specs.declared.suspect.Suspect.{Suspect as Found}
 use Rattle.xs_gram.specs.declared.suspect.Suspect.TheVariants.{Vertical, Horizontal}
@@ -18,15 +18,6 @@ pub record IsSure (p : Pair) : Type 0 where
   pub accepted : IsAccepted p.text p.xml
   pub text : IsUnique p.text
   pub xml : IsUnique p.xml
-
--- a number behind one text and before another
-abbrev pub counted : List ℕ → ℕ → List ℕ → List ℕ
-counted before count after = before ++ decimal count ++ after
-
--- what is said of an accepted sheet
-abbrev pub accepted_line : Pair → List ℕ
-accepted_line p =
-    counted (counted (counted (counted (codes "accepted: ") (length p.text.terms) (codes " terminals, ")) (length p.text.skips) (codes " ignorables, ")) p.text.nons (codes " nonterminals, ")) (length p.text.rules) (codes " productions\n")
 
 -- the name of a production's nonterminal, and the production's line
 abbrev pub name_at : Pair → Side → ℕ → List ℕ

@@ -8,8 +8,12 @@ use Rattle.xs_class.specs.declared.side.Side.{Side}
 use Rattle.xs_class.specs.declared.side.Side.TheVariants.{Text}
 use Rattle.xs_chars.specs.declared.form.Form.{Form}
 use Rattle.xs_chars.specs.declared.form.Form.TheVariants.{AsIs}
+use Rattle.xs_gram.specs.Common.{Common}
 use Rattle.xs_gram.specs.Languages.{InLang}
 use Rattle.xs_ambiguity.specs.Acceptance.{IsAccepted}
+use Rattle.xs_leiden.specs.Sheet.{leiden_core}
+use Rattle.xs_leiden.specs.Made.{made_text}
+use Rattle.xs_words.specs.Command.{Sheet as Named}
 use Rattle.xs_sheet.specs.declared.sheet.Sheet.{Sheet}
 use Rattle.xs_sheet.specs.Grammar.{IsSheetOf}
 use Rattle.xs_pair.specs.Grammars.{Pair, grammar_of}
@@ -18,13 +22,14 @@ use Rattle.xs_talk.specs.Lines.{line}
 use Rattle.xs_talk.specs.declared.outcome.Outcome.{Outcome}
 use Rattle.xs_talk.specs.declared.outcome.Outcome.TheVariants.{Done, Foreign, SheetLong, SheetBad, SheetIll, Heavy, Suspect, NotUtf8, NotXml, Usage, SheetFault, ReadFault, WriteFault, NoteFault, DocLong}
 use Rattle.xs_top.specs.declared.asking.Job.{Job}
-use Rattle.xs_top.specs.declared.asking.Job.TheVariants.{Check, Turn, Trees}
-use Rattle.xs_top.specs.Asked.{Ask, asked}
-use Rattle.xs_top.specs.Devices.{Shelves, Input, Output, Run, ReadNothing, TookNothing}
+use Rattle.xs_top.specs.declared.asking.Job.TheVariants.{Check, Turn, Trees, Make}
+use Rattle.xs_top.specs.Asked.{Ask, shipped, by, asked}
+use Rattle.xs_top.specs.Devices.{Input, Output, Run, ReadNothing, TookNothing}
 use Rattle.xs_top.specs.Sheets.{AreBytesOf, IsFailed, IsLong, SpellsPair, IsUnpaired}
-use Rattle.xs_top.specs.Checks.{IsSure, IsUnsure, accepted_line}
+use Rattle.xs_top.specs.Checks.{IsSure, IsUnsure}
+use Rattle.xs_top.specs.Lines.{accepted_line}
 use Rattle.xs_top.specs.Documents.{IsWordOf}
-use Rattle.xs_top.specs.Answers.{IsTurnedInto, IsListingOf, IsUnread}
+use Rattle.xs_top.specs.Answers.{IsTurnedInto, IsMade, IsListingOf, IsUnread}
 
 -- the input was read to its end, and is these bytes
 abbrev pub Takes : Input → List ℕ → Type 0
@@ -33,8 +38,9 @@ Takes i bytes = Drains i.left_before i.left_now bytes 1048576
 -- What a job answers. A sheet is checked before a document is turned by it, and before the input is read.
 abbrev pub IsAnswer : Pair → Input → Job → List ℕ → Type 0
 IsAnswer p i Check answer = ReadNothing i × IsSure p × (answer ≡ accepted_line p)
-IsAnswer p i (Turn from to form) answer = IsSure p × (bytes : List ℕ) × Takes i bytes × IsTurnedInto p from to form bytes answer
+IsAnswer p i (Turn from to form) answer = IsSure p × (bytes : List ℕ) × (tree : Common) × Takes i bytes × IsTurnedInto p from to form bytes tree answer
 IsAnswer p i (Trees max) answer = (bytes : List ℕ) × Takes i bytes × IsListingOf p max bytes answer
+IsAnswer p i (Make seed lines) answer = ReadNothing i × IsSure p × IsMade p seed lines answer
 
 -- why the input cannot be had
 abbrev pub IsUntaken : Input → Outcome → Type 0
@@ -55,6 +61,7 @@ abbrev pub IsUndone : Pair → Input → Job → Outcome → Type 0
 IsUndone p i Check o = IsUnchecked p i o
 IsUndone p i (Turn from to form) o = IsUnchecked p i o ⊎ (IsSure p × IsUnanswered p i from form o)
 IsUndone p i (Trees max) o = IsUnanswered p i Text AsIs o
+IsUndone p i (Make seed lines) o = IsUnchecked p i o ⊎ (ReadNothing i × IsSure p × IsUnread p Text AsIs (made_text seed lines) o)
 
 -- what out took of an answer, by the outcome
 abbrev pub Took : Output → List ℕ → Outcome → Type 0
@@ -62,13 +69,14 @@ Took out answer Done = Appends out.taken_before out.taken_now answer
 Took out answer (WriteFault written) = Appends out.taken_before out.taken_now (take written answer) × (written < length answer) × Rose out.faults_before out.faults_now
 Took out answer other = ⊥
 
--- The outcome to which a run went, with the names by which it is told: the words are no command; or the sheet
--- that is asked for spells no grammars; or the job is not done by them; or it is answered.
+-- The outcome to which a run went, with the names by which it is told: the words are no command; or the shipped sheet
+-- is written; or the sheet that is asked for spells no grammars; or the job is not done by them; or it is answered.
 pub data Went (run : Run) : Outcome → List (List ℕ) → Type 0 where
   no_command : asked run.words ≡ None → ReadNothing run.input → TookNothing run.out → Went run Usage []
-  unpaired : (ask : Ask) {o : Outcome} → asked run.words ≡ Some ask → IsUnpaired run.shelf ask.sheet o → ReadNothing run.input → TookNothing run.out → Went run o []
-  undone : (ask : Ask) (p : Pair) {o : Outcome} → asked run.words ≡ Some ask → SpellsPair run.shelf.files ask.sheet p → IsUndone p run.input ask.job o → TookNothing run.out → Went run o p.names
-  answered : (ask : Ask) (p : Pair) (answer : List ℕ) {o : Outcome} → asked run.words ≡ Some ask → SpellsPair run.shelf.files ask.sheet p → IsAnswer p run.input ask.job answer → Took run.out answer o → Went run o []
+  shipped_written : {o : Outcome} → asked run.words ≡ Some shipped → ReadNothing run.input → Took run.out leiden_core o → Went run o []
+  unpaired : (sheet : Named) (job : Job) {o : Outcome} → asked run.words ≡ Some (by sheet job) → IsUnpaired run.shelf sheet o → ReadNothing run.input → TookNothing run.out → Went run o []
+  undone : (sheet : Named) (job : Job) (p : Pair) {o : Outcome} → asked run.words ≡ Some (by sheet job) → SpellsPair run.shelf.files sheet p → IsUndone p run.input job o → TookNothing run.out → Went run o p.names
+  answered : (sheet : Named) (job : Job) (p : Pair) (answer : List ℕ) {o : Outcome} → asked run.words ≡ Some (by sheet job) → SpellsPair run.shelf.files sheet p → IsAnswer p run.input job answer → Took run.out answer o → Went run o []
 
 -- the status that a program ends with
 abbrev pub status_of : Outcome → ℕ
@@ -107,15 +115,19 @@ IsWritten out notes answer result = (o : Outcome) × Took out answer o × Tells 
 abbrev pub Told : Run → Outcome → Type 0
 Told run answer = (o : Outcome) × (names : List (List ℕ)) × Went run o names × Tells run.notes names o answer
 
--- The input is told, within its limit, UTF-8, and a document of the language of a side, and did not fail.
+-- the bytes are UTF-8, and a document of the language of a side
+pub record IsOfLanguage (p : Pair) (side : Side) (form : Form) (bytes : List ℕ) : Type 0 where
+  pub utf8 : IsUtf8 bytes
+  pub word : List ℕ
+  pub word_is : IsWordOf side form p.names bytes word
+  pub language : InLang (grammar_of p side) word
+
+-- the input is told, within its limit, and a document of the language of a side, and did not fail
 pub record IsReadable (p : Pair) (i : Input) (side : Side) (form : Form) : Type 0 where
   pub document : List ℕ
   pub input : i.left_before ≡ Some document
   pub limit : length document ≤ 1048576
-  pub utf8 : IsUtf8 document
-  pub word : List ℕ
-  pub word_is : IsWordOf side form p.names document word
-  pub language : InLang (grammar_of p side) word
+  pub is : IsOfLanguage p side form document
   pub sure : Rose i.faults_before i.faults_now → ⊥
 
 -- nothing stands against a job by these grammars
@@ -123,17 +135,26 @@ abbrev pub IsDoable : Pair → Input → Job → Type 0
 IsDoable p i Check = IsAccepted p.text p.xml
 IsDoable p i (Turn from to form) = IsAccepted p.text p.xml × IsReadable p i from form
 IsDoable p i (Trees max) = IsReadable p i Text AsIs
+IsDoable p i (Make seed lines) = IsAccepted p.text p.xml × IsOfLanguage p Text AsIs (made_text seed lines)
 
--- The words ask for something; their sheet is told, did not fail, and is well formed; nothing stands against the
--- job; and no count of out and notes rose.
+-- the sheet is told, did not fail, and is well formed, and nothing stands against the job
+pub record IsClear (run : Run) (sheet : Named) (job : Job) : Type 0 where
+  pub sheet_sure : IsFailed run.shelf sheet → ⊥
+  pub sheet_short : IsLong run.shelf.files sheet → ⊥
+  pub spelled : (bytes : List ℕ) → AreBytesOf run.shelf.files sheet bytes → (s : Sheet) × IsSheetOf bytes s
+  pub well : (bytes : List ℕ) (s : Sheet) → AreBytesOf run.shelf.files sheet bytes → IsSheetOf bytes s → IsWell s
+  pub doable : (p : Pair) → SpellsPair run.shelf.files sheet p → IsDoable p run.input job
+
+-- nothing stands against what is asked for; never against the shipped sheet
+abbrev pub IsFree : Run → Ask → Type 0
+IsFree run shipped = Unit {0}
+IsFree run (by sheet job) = IsClear run sheet job
+
+-- The words ask for something; nothing stands against it; and no count of out and notes rose.
 pub record IsHonest (run : Run) : Type 0 where
   pub ask : Ask
   pub is : asked run.words ≡ Some ask
-  pub sheet_sure : IsFailed run.shelf ask.sheet → ⊥
-  pub sheet_short : IsLong run.shelf.files ask.sheet → ⊥
-  pub spelled : (bytes : List ℕ) → AreBytesOf run.shelf.files ask.sheet bytes → (s : Sheet) × IsSheetOf bytes s
-  pub well : (bytes : List ℕ) (s : Sheet) → AreBytesOf run.shelf.files ask.sheet bytes → IsSheetOf bytes s → IsWell s
-  pub doable : (p : Pair) → SpellsPair run.shelf.files ask.sheet p → IsDoable p run.input ask.job
+  pub free : IsFree run ask
   pub out_sure : Rose run.out.faults_before run.out.faults_now → ⊥
   pub notes_sure : Rose run.notes.faults_before run.notes.faults_now → ⊥
 

@@ -5,12 +5,14 @@ ghost use Rattle.xs_pair.specs.Sound.{IsSoundPair};
 ghost use Rattle.xs_wf.specs.Nonterminals.{IsPair};
 ghost use Rattle.xs_balance.specs.Laws.{CanBeWritten};
 ghost use Rattle.xs_top.specs.declared.asking.Job.TheVariants as J;
+ghost use Rattle.xs_top.specs.Meaning.{HasLines};
 ghost use Rattle.xs_top.specs.Devices.{input_of};
 ghost use Rattle.xs_top.specs.Ran.{IsAnswer, IsUndone, IsUntaken, Takes};
 ghost use Rattle.xs_top.specs.Stops.{StopsBy};
 
 use crate::asking::Job;
-use crate::checked::{accepted_line, checked};
+use crate::checked::checked;
+use crate::lines::{accepted_line, summary};
 use crate::listed::listed;
 use crate::stop::Stop;
 use crate::turned::turned_into;
@@ -18,8 +20,10 @@ use std::alloc::Global;
 use xs_chars::Form;
 use xs_class::{Bytes, Side};
 use xs_io::{ReadStop, Source, read_all};
+use xs_leiden::make_text;
 use xs_pair::Two;
 use xs_talk::Outcome;
+use xs_tree::parts_of;
 
 /// How many bytes a document that is read may have.
 pub const DOCUMENT_LIMIT: usize = 1_048_576;
@@ -66,7 +70,8 @@ fn turn<S: Source>(
 {
     checked(alloc, two)?;
     let bytes = taken(alloc, input)?;
-    turned_into(alloc, two, from, to, form, bytes.as_slice())
+    let turned = turned_into(alloc, two, from, to, form, bytes.as_slice())?;
+    Ok(turned.document)
 }
 
 // The listing of at most `max` derivations of the input.
@@ -80,6 +85,42 @@ fn list<S: Source>(alloc: Global, two: &Two, max: u32, input: &mut S) -> Result<
     listed(alloc, two, max, bytes.as_slice())
 }
 
+// The summary of a text that is made of a seed, once the sheet is accepted.
+fn make<S: Source>(
+    alloc: Global,
+    two: &Two,
+    seed: u32,
+    lines: u32,
+    input: &mut S,
+) -> Result<Bytes, Stop>
+    requires pair { IsPair two.now }
+    requires sound { IsSoundPair two.now }
+    requires writable { CanBeWritten two.now }
+    requires lines { HasLines (J.Make seed lines) }
+    ensures answer { IfOk result (IsAnswer two.now (input_of S.left S.faults input.old input.new) (J.Make seed lines)) }
+    ensures stop { IfErr result (StopsBy (IsUndone two.now (input_of S.left S.faults input.old input.new) (J.Make seed lines))) }
+{
+    checked(alloc, two)?;
+    let text = make_text(alloc, seed, lines)?;
+    let turned = turned_into(
+        alloc,
+        two,
+        Side::Text,
+        Side::Xml,
+        Form::AsIs,
+        text.as_slice(),
+    )?;
+    let parts = parts_of(alloc, &turned.tree)?;
+    let line = summary(
+        alloc,
+        lines,
+        text.len() as u64,
+        turned.document.len() as u64,
+        parts,
+    )?;
+    Ok(line)
+}
+
 /// The answer of a job by the two grammars of a sheet.
 pub fn answer_of<S: Source>(
     alloc: Global,
@@ -90,6 +131,7 @@ pub fn answer_of<S: Source>(
     requires pair { IsPair two.now }
     requires sound { IsSoundPair two.now }
     requires writable { CanBeWritten two.now }
+    requires lines { HasLines job }
     ensures answer { IfOk result (IsAnswer two.now (input_of S.left S.faults input.old input.new) job) }
     ensures stop { IfErr result (StopsBy (IsUndone two.now (input_of S.left S.faults input.old input.new) job)) }
 {
@@ -97,5 +139,6 @@ pub fn answer_of<S: Source>(
         Job::Check => check(alloc, two, input),
         Job::Turn { from, to, form } => turn(alloc, two, from, to, form, input),
         Job::Trees { max } => list(alloc, two, max, input),
+        Job::Make { seed, lines } => make(alloc, two, seed, lines, input),
     }
 }

@@ -1,14 +1,14 @@
-ghost use Rattle.std.specs.Prelude.{◌≡◌, Some, map, string_bytes};
+ghost use Rattle.std.specs.Prelude.{◌≡◌, Some, IfSome, map, string_bytes};
 ghost use Rattle.std.specs.Option.{option_map};
-ghost use Rattle.xs_words.specs.Meaning.{meant, sheet_meant};
-ghost use Rattle.xs_top.specs.Asked.{asked as asked_for, ask_of as asked_of, turning};
-ghost use Rattle.xs_top.specs.Meaning.{ask_meant};
+ghost use Rattle.xs_words.specs.Meaning.{meant, HasLines};
+ghost use Rattle.xs_top.specs.Asked.{asked as asked_for, ask_of as asked_of};
+ghost use Rattle.xs_top.specs.Meaning.{ask_meant, AsksForLines};
 
 use xs_chars::Form;
 use xs_class::Side;
 use xs_words::{Command, SheetName, command_of};
 
-/// What is to be done with a document.
+/// What is to be done by a sheet.
 #[derive(Clone, Copy, Debug, PartialEq, Eq)]
 pub enum Job {
     /// The sheet is checked.
@@ -18,50 +18,72 @@ pub enum Job {
     Turn { from: Side, to: Side, form: Form },
     /// At most so many derivations of a text are listed.
     Trees { max: u32 },
+    /// A text of so many lines is made of a seed and turned to XML, and a summary of it is written.
+    Make { seed: u32, lines: u32 },
 }
 
 /// What the words ask for.
 #[derive(Clone, Copy)]
-pub struct Ask<'w> {
-    pub sheet: SheetName<'w>,
-    pub job: Job,
+pub enum Ask<'w> {
+    /// The shipped sheet, as it is.
+    Shipped,
+    /// A job by a sheet.
+    By { sheet: SheetName<'w>, job: Job },
 }
 
-fn turn_of(sheet: SheetName<'_>, from: Side, to: Side, form: Form) -> Option<Ask<'_>>
-    ensures { option_map ask_meant result ≡ Some (turning (sheet_meant sheet.entry) from to form) }
+fn ask_of(command: Command<'_>) -> Ask<'_>
+    requires { HasLines command }
+    ensures ask { ask_meant result ≡ asked_of (meant command.entry) }
+    ensures lines { AsksForLines result }
 {
-    Some(Ask {
-        sheet,
-        job: Job::Turn { from, to, form },
-    })
-}
-
-fn ask_of(command: Command<'_>) -> Option<Ask<'_>>
-    ensures { option_map ask_meant result ≡ asked_of (meant command.entry) }
-{
-    match command {
-        Command::ToXml { sheet, form } => turn_of(sheet, Side::Text, Side::Xml, form),
-        Command::ToText { sheet } => turn_of(sheet, Side::Xml, Side::Text, Form::AsIs),
-        Command::RoundText { sheet, form } => turn_of(sheet, Side::Text, Side::Text, form),
-        Command::RoundXml { sheet } => turn_of(sheet, Side::Xml, Side::Xml, Form::AsIs),
-        Command::Trees { sheet, max } => Some(Ask {
+    let (sheet, job) = match command {
+        Command::Check { sheet } => (sheet, Job::Check),
+        Command::ToXml { sheet, form } => (
             sheet,
-            job: Job::Trees { max },
-        }),
-        Command::Check { sheet } => Some(Ask {
+            Job::Turn {
+                from: Side::Text,
+                to: Side::Xml,
+                form,
+            },
+        ),
+        Command::ToText { sheet } => (
             sheet,
-            job: Job::Check,
-        }),
-        Command::PrintSheet | Command::Make { .. } => None,
-    }
+            Job::Turn {
+                from: Side::Xml,
+                to: Side::Text,
+                form: Form::AsIs,
+            },
+        ),
+        Command::RoundText { sheet, form } => (
+            sheet,
+            Job::Turn {
+                from: Side::Text,
+                to: Side::Text,
+                form,
+            },
+        ),
+        Command::RoundXml { sheet } => (
+            sheet,
+            Job::Turn {
+                from: Side::Xml,
+                to: Side::Xml,
+                form: Form::AsIs,
+            },
+        ),
+        Command::Trees { sheet, max } => (sheet, Job::Trees { max }),
+        Command::PrintSheet => return Ask::Shipped,
+        Command::Make { seed, lines } => (SheetName::Leiden, Job::Make { seed, lines }),
+    };
+    Ask::By { sheet, job }
 }
 
 /// What the words ask for, or None where they are no command.
 pub fn asked(words: &[String]) -> Option<Ask<'_>>
-    ensures { option_map ask_meant result ≡ asked_for (map string_bytes words.now) }
+    ensures ask { option_map ask_meant result ≡ asked_for (map string_bytes words.now) }
+    ensures lines { IfSome result AsksForLines }
 {
     match command_of(words) {
-        Some(command) => ask_of(command),
+        Some(command) => Some(ask_of(command)),
         None => None,
     }
 }

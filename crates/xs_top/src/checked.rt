@@ -4,13 +4,12 @@ ghost use Rattle.xs_gram.specs.Sound.{IsBuilt};
 ghost use Rattle.xs_pair.specs.Grammars.{grammar_of};
 ghost use Rattle.xs_pair.specs.Sound.{IsSoundPair};
 ghost use Rattle.xs_wf.specs.Nonterminals.{IsPair};
-ghost use Rattle.xs_top.specs.Checks.{IsSure, IsUnsure, HasRules, counted, accepted_line as line_of_pair, name_at, line_at, report_at};
+ghost use Rattle.xs_top.specs.Checks.{IsSure, IsUnsure, HasRules, name_at, line_at, report_at};
 ghost use Rattle.xs_top.specs.Stops.{StopsBy};
 
 use crate::stop::Stop;
-use itoa::Buffer;
 use std::alloc::Global;
-use xs_class::{Bytes, Memory, Side, Text};
+use xs_class::{Memory, Side, Text};
 use xs_gram::Suspect;
 use xs_pair::Two;
 use xs_talk::{Outcome, Report};
@@ -100,26 +99,4 @@ pub fn checked(alloc: Global, two: &Two) -> Result<(), Stop>
         }
         Err(AcceptFault::Memory) => Err(Stop::Memory),
     }
-}
-
-// Appends a number, and a text.
-fn push_count(line: &mut Bytes, count: u64, text: &[u8]) -> Result<(), Memory>
-    ensures { OnOk result (line.new ≡ counted line.old count text.now) }
-{
-    let mut digits = Buffer::new();
-    line.extend(digits.format(count).as_bytes())?;
-    line.extend(text)
-}
-
-/// What is said of an accepted sheet: how many terminals, ignorables, nonterminals and productions it has.
-pub fn accepted_line(alloc: Global, two: &Two) -> Result<Bytes, Memory>
-    ensures { IfOk result (λ line. line ≡ line_of_pair two.now) }
-{
-    let gram = two.gram(Side::Text);
-    let mut line = Bytes::of(alloc, b"accepted: ")?;
-    push_count(&mut line, u64::from(gram.terms()), b" terminals, ")?;
-    push_count(&mut line, u64::from(gram.skips()), b" ignorables, ")?;
-    push_count(&mut line, u64::from(gram.nons()), b" nonterminals, ")?;
-    push_count(&mut line, u64::from(gram.rules()), b" productions\n")?;
-    Ok(line)
 }

@@ -13,6 +13,7 @@ mod answer;
 mod asking;
 mod checked;
 mod documents;
+mod lines;
 mod listed;
 mod notes;
 mod outcome;
@@ -22,7 +23,7 @@ mod turned;
 mod written;
 
 use crate::answer::answer_of;
-use crate::asking::asked;
+use crate::asking::{Ask, asked};
 use crate::notes::{no_names, tell};
 use crate::sheets::pair_for;
 use crate::stop::Stop;
@@ -34,6 +35,7 @@ use std::alloc::Global;
 use xs_ambiguity::weights_are_exact;
 use xs_class::Memory;
 use xs_io::{Shelf, Sink, Source};
+use xs_leiden::leiden_sheet;
 use xs_piece::one_reading;
 pub use xs_talk::Outcome;
 use xs_talk::room;
@@ -41,8 +43,9 @@ use xs_talk::room;
 /// The run of these words.
 ///
 /// A document of one side of a sheet is read from `input` and written to `out` as a document of the
-/// other side, or of the same side, with the same tree; or the derivations of a text are listed. The
-/// sheet is a file of the shelf, or the one that the program brings along. All memory is taken before
+/// other side, or of the same side, with the same tree; or the derivations of a text are listed; or
+/// the sheet is checked. The sheet is a file of the shelf, or the one that the program brings along,
+/// which can be written too, and of which a text can be made and turned. All memory is taken before
 /// the first write.
 pub fn run<S: Source, H: Shelf, K: Sink, N: Sink>(
     alloc: Global,
@@ -65,15 +68,17 @@ pub fn run<S: Source, H: Shelf, K: Sink, N: Sink>(
     weights_are_exact();
     let room = room(alloc)?;
     let none = no_names(alloc)?;
-    let Some(ask) = asked(words) else {
-        return tell(alloc, notes, &none, Outcome::Usage);
+    let (sheet, job) = match asked(words) {
+        Some(Ask::By { sheet, job }) => (sheet, job),
+        Some(Ask::Shipped) => return Ok(written(out, notes, &none, room, leiden_sheet())),
+        None => return tell(alloc, notes, &none, Outcome::Usage),
     };
-    let two = match pair_for(alloc, shelf, ask.sheet) {
+    let two = match pair_for(alloc, shelf, sheet) {
         Ok(two) => two,
         Err(Stop::Refused(outcome)) => return tell(alloc, notes, &none, outcome),
         Err(Stop::Memory) => return Err(Memory),
     };
-    match answer_of(alloc, &two, ask.job, input) {
+    match answer_of(alloc, &two, job, input) {
         Ok(answer) => Ok(written(out, notes, &none, room, answer.as_slice())),
         Err(Stop::Refused(outcome)) => tell(alloc, notes, two.names(), outcome),
         Err(Stop::Memory) => Err(Memory),

@@ -6,6 +6,7 @@ use xs_io::{SureShelf, SureSink, SureSource};
 
 mod checks;
 mod faults;
+mod leiden;
 mod limits;
 mod refusals;
 mod sheets;

@@ -53,6 +53,13 @@ fn written(alloc: Global, two: &Two, to: Side, tree: &Tree, word: &Word) -> Resu
     write_document(alloc, to, two.names(), word)
 }
 
+/// A document that was turned: what is written for it, and its tree.
+#[derive(Drop)]
+pub struct TurnedInto {
+    pub document: Bytes,
+    pub tree: Tree,
+}
+
 /// The document on side `to` that has the same tree as the document on side `from`.
 pub fn turned_into(
     alloc: Global,
@@ -61,10 +68,10 @@ pub fn turned_into(
     to: Side,
     form: Form,
     bytes: &[u8],
-) -> Result<Bytes, Stop>
+) -> Result<TurnedInto, Stop>
     requires sound { IsSoundPair two.now }
     requires writable { CanBeWritten two.now }
-    ensures answer { IfOk result (IsTurnedInto two.now from to form bytes.now) }
+    ensures answer { IfOk result (λ turned. IsTurnedInto two.now from to form bytes.now (common_of turned.tree) turned.document) }
     ensures stop { IfErr result (StopsBy (IsUnread two.now from form bytes.now)) }
 {
     prints_normal();
@@ -76,8 +83,8 @@ pub fn turned_into(
     match turn(alloc, &bump, two, from, &doc) {
         Ok(Turned { tree, word, .. }) => {
             let word = printed(alloc, two, from, to, &tree, word)?;
-            let answer = written(alloc, two, to, &tree, &word)?;
-            Ok(answer)
+            let document = written(alloc, two, to, &tree, &word)?;
+            Ok(TurnedInto { document, tree })
         }
         Err(TurnFault::Foreign { viable }) => Err(Stop::Refused(Outcome::Foreign { viable })),
         Err(TurnFault::Memory) => Err(Stop::Memory),

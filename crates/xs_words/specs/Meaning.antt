@@ -1,4 +1,5 @@
 -- What a command of the program means: the words that it borrows, read.
+use Rattle.std.specs.Prelude.{◌≤◌}
 use Rattle.xs_words.specs.declared.command.SheetName.{SheetName}
 use Rattle.xs_words.specs.declared.command.SheetName.TheVariants.{Leiden, File}
 use Rattle.xs_words.specs.declared.command.Command.{Command as Asked}
@@ -18,3 +19,8 @@ meant (RoundXml sheet) = round_xml (sheet_meant sheet)
 meant (Trees sheet max) = trees (sheet_meant sheet) max
 meant PrintSheet = print_sheet
 meant (Make seed lines) = make seed lines
+
+-- a text that is made has 1 to 2,000 lines
+abbrev pub HasLines : Asked → Type 0
+HasLines (Make seed lines) = (1 ≤ lines) × (lines ≤ 2000)
+HasLines other = Unit {0}

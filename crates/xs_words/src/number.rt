@@ -1,5 +1,5 @@
 // Numbers in decimal digits.
-ghost use Rattle.std.specs.Prelude.{◌≡◌};
+ghost use Rattle.std.specs.Prelude.{◌≡◌, ◌≤◌, IfSome};
 ghost use Rattle.xs_words.specs.Number.{is_digit, begins_well as begins_as_numbers_do, number_after, number_within, within};
 
 fn begins_well(bytes: &[u8]) -> bool
@@ -14,7 +14,8 @@ fn begins_well(bytes: &[u8]) -> bool
 
 // The number that the digits spell, where it lies between these two.
 fn spelled(bytes: &[u8], least: u32, most: u32) -> Option<u32>
-    ensures { result ≡ within least most (number_after 0 bytes.now) }
+    ensures number { result ≡ within least most (number_after 0 bytes.now) }
+    ensures range { IfSome result (λ n. (least ≤ n) × (n ≤ most)) }
 {
     let mut number: u64 = 0;
     'digits: for byte in bytes {
@@ -34,7 +35,8 @@ fn spelled(bytes: &[u8], least: u32, most: u32) -> Option<u32>
 
 // The number that a word is, where it lies between these two.
 pub fn number(word: &str, least: u32, most: u32) -> Option<u32>
-    ensures { result ≡ number_within least most word.now }
+    ensures number { result ≡ number_within least most word.now }
+    ensures range { IfSome result (λ n. (least ≤ n) × (n ≤ most)) }
 {
     let bytes = word.as_bytes();
     if !begins_well(bytes) {

@@ -1,7 +1,7 @@
-ghost use Rattle.std.specs.Prelude.{◌≡◌, map, string_bytes};
+ghost use Rattle.std.specs.Prelude.{◌≡◌, ◌≤◌, IfSome, map, string_bytes};
 ghost use Rattle.std.specs.Option.{option_map};
 ghost use Rattle.xs_words.specs.Command.{command_of as meant_by, command_of_two, command_of_three, command_of_four, form_of, sheet_of, round_of, make_of};
-ghost use Rattle.xs_words.specs.Meaning.{meant, sheet_meant};
+ghost use Rattle.xs_words.specs.Meaning.{meant, sheet_meant, HasLines};
 
 use crate::number::number;
 use crate::{Command, SheetName};
@@ -35,7 +35,8 @@ fn form_named(word: &str) -> Option<Form>
 }
 
 fn of_two<'w>(verb: &str, sheet: &'w str) -> Option<Command<'w>>
-    ensures { option_map meant result ≡ command_of_two verb.now sheet.now }
+    ensures command { option_map meant result ≡ command_of_two verb.now sheet.now }
+    ensures lines { IfSome result HasLines }
 {
     let sheet = sheet_name(sheet);
     match verb {
@@ -50,7 +51,8 @@ fn of_two<'w>(verb: &str, sheet: &'w str) -> Option<Command<'w>>
 }
 
 fn round<'w>(sheet: &'w str, side: &str) -> Option<Command<'w>>
-    ensures { option_map meant result ≡ round_of sheet.now side.now }
+    ensures command { option_map meant result ≡ round_of sheet.now side.now }
+    ensures lines { IfSome result HasLines }
 {
     let sheet = sheet_name(sheet);
     match side {
@@ -64,7 +66,9 @@ fn round<'w>(sheet: &'w str, side: &str) -> Option<Command<'w>>
 }
 
 fn make<'w>(seed: Option<u32>, lines: Option<u32>) -> Option<Command<'w>>
-    ensures { option_map meant result ≡ make_of seed lines }
+    requires { IfSome lines (λ n. (1 ≤ n) × (n ≤ 2000)) }
+    ensures command { option_map meant result ≡ make_of seed lines }
+    ensures lines { IfSome result HasLines }
 {
     match (seed, lines) {
         (Some(seed), Some(lines)) => Some(Command::Make { seed, lines }),
@@ -73,7 +77,8 @@ fn make<'w>(seed: Option<u32>, lines: Option<u32>) -> Option<Command<'w>>
 }
 
 fn of_three<'w>(verb: &str, first: &'w str, second: &str) -> Option<Command<'w>>
-    ensures { option_map meant result ≡ command_of_three verb.now first.now second.now }
+    ensures command { option_map meant result ≡ command_of_three verb.now first.now second.now }
+    ensures lines { IfSome result HasLines }
 {
     match verb {
         "to-xml" => {
@@ -96,7 +101,8 @@ fn of_three<'w>(verb: &str, first: &'w str, second: &str) -> Option<Command<'w>>
 }
 
 fn of_four<'w>(verb: &str, sheet: &'w str, side: &str, form: &str) -> Option<Command<'w>>
-    ensures { option_map meant result ≡ command_of_four verb.now sheet.now side.now form.now }
+    ensures command { option_map meant result ≡ command_of_four verb.now sheet.now side.now form.now }
+    ensures lines { IfSome result HasLines }
 {
     if verb == "round" && side == "text" {
         let form = form_named(form)?;
@@ -115,7 +121,8 @@ fn of_four<'w>(verb: &str, sheet: &'w str, side: &str, form: &str) -> Option<Com
 /// in decimal digits without a sign, and without a leading zero but for `0` itself. Takes no memory;
 /// time is linear in the words.
 pub fn command_of(words: &[String]) -> Option<Command<'_>>
-    ensures { option_map meant result ≡ meant_by (map string_bytes words.now) }
+    ensures command { option_map meant result ≡ meant_by (map string_bytes words.now) }
+    ensures lines { IfSome result HasLines }
 {
     match words {
         [] => None,

@@ -1,16 +1,21 @@
-use Rattle.std.proofs.Common.{◌≡◌, ◌∙◌, sym, ap, refl, map, string_bytes}
+use Rattle.std.proofs.Common.{◌∙◌, Some, sym, ap, refl, map, string_bytes}
 use Rattle.std.specs.Option.{option_map}
 use Rattle.xs_talk.specs.declared.outcome.Outcome.TheVariants.{Usage}
+use Rattle.xs_words.specs.Meaning.{sheet_meant}
 use Rattle.xs_top.specs.Meaning.{ask_meant}
 use Rattle.xs_top.specs.Devices.{shelves_of, input_of, output_of, run_of}
 use Rattle.xs_top.specs.Ran.{no_command}
-use Rattle.xs_top.proofs.Going.{usage_told, unpaired_told, undone_told, answered_told}
+use Rattle.xs_top.proofs.Going.{usage_told, shipped_told, unpaired_told, undone_told, answered_told}
 use Rattle.xs_top.proofs.Completing.{complete_if}
 use Rattle.xs_top.proofs.run.Goals as goal
 
-pub returns-in_default-clause-told : goal.returns-in_default-clause-told
-returns-in_default-clause-told g c =
-    usage_told _ c.in_ok-none.none Usage c.tell.result c.in_ok-none.ensures (no_command (sym c.asked.ensures ∙ ap (λ o. option_map ask_meant o) c.in_default.is) (record { left = refl; faults = refl }) (record { taken = refl; faults = refl })) c.tell.ensures.told
+pub returns-in-None-clause-told : goal.returns-in-None-clause-told
+returns-in-None-clause-told g c =
+    usage_told _ c.in_ok-none.none Usage c.tell.result c.in_ok-none.ensures (no_command (sym c.asked.ensures.ask ∙ ap (λ o. option_map ask_meant o) c.in-None.is) (record { left = refl; faults = refl }) (record { taken = refl; faults = refl })) c.tell.ensures.told
+
+pub returns-in-Some-Shipped-clause-told : goal.returns-in-Some-Shipped-clause-told
+returns-in-Some-Shipped-clause-told g c =
+    shipped_told _ c.leiden_sheet.result.now c.written.result (sym c.asked.ensures.ask ∙ ap (λ o. option_map ask_meant o) c.in-Some-Shipped.is ∙ ap (λ a. Some (ask_meant a)) c.in-Some-Shipped.field-0-is) (record { left = refl; faults = refl }) c.leiden_sheet.ensures c.written.ensures
 
 pub returns-in-Err-Refused-clause-told : goal.returns-in-Err-Refused-clause-told
 returns-in-Err-Refused-clause-told g c =
@@ -18,7 +23,7 @@ returns-in-Err-Refused-clause-told g c =
     unpaired_told
     (run_of (map string_bytes c.args.words.now) (shelves_of g.H.Shelf.files g.H.Shelf.faults g.H.Shelf.name_faults c.args.shelf.now c.pair_for.new.shelf) (input_of g.S.Source.left g.S.Source.faults c.args.input.now c.args.input.now)
     (output_of g.K.Sink.taken g.K.Sink.faults c.args.out.now c.args.out.now) (output_of g.N.Sink.taken g.N.Sink.faults c.args.notes.now c.tell-in-Err-Refused.new.notes))
-    (ask_meant c.in-Some.ask) c.in-Err-Refused.field-0 c.in-Err-Refused.outcome c.in_ok-none.none c.tell-in-Err-Refused.result (sym c.asked.ensures ∙ ap (λ o. option_map ask_meant o) c.in-Some.is) c.in-Err-Refused.ensures.stop c.in-Err-Refused.field-0-is
+    (sheet_meant c.in-Some-By.sheet) c.in-Some-By.job c.in-Err-Refused.field-0 c.in-Err-Refused.outcome c.in_ok-none.none c.tell-in-Err-Refused.result (sym c.asked.ensures.ask ∙ ap (λ o. option_map ask_meant o) c.in-Some-By.is ∙ ap (λ a. Some (ask_meant a)) c.in-Some-By.field-0-is) c.in-Err-Refused.ensures.stop c.in-Err-Refused.field-0-is
     (record { left = refl; faults = refl }) (record { taken = refl; faults = refl }) c.in_ok-none.ensures told
 
 pub returns-in-Err-Refused-clause-complete : goal.returns-in-Err-Refused-clause-complete
@@ -26,11 +31,11 @@ returns-in-Err-Refused-clause-complete g c = complete_if c.one_reading.ensures c
 
 pub returns-in-Ok-answer_of-clause-told : goal.returns-in-Ok-answer_of-clause-told
 returns-in-Ok-answer_of-clause-told g c =
-    answered_told _ (ask_meant c.in-Some.ask) c.in-Ok.two c.in-Ok-answer_of.answer c.as_slice.result.now c.written.result (sym c.asked.ensures ∙ ap (λ o. option_map ask_meant o) c.in-Some.is) c.in-Ok.ensures.pair c.in-Ok-answer_of.ensures.answer c.as_slice.ensures c.written.ensures
+    answered_told _ (sheet_meant c.in-Some-By.sheet) c.in-Some-By.job c.in-Ok.two c.in-Ok-answer_of.answer c.as_slice.result.now c.written-in-Ok-answer_of.result (sym c.asked.ensures.ask ∙ ap (λ o. option_map ask_meant o) c.in-Some-By.is ∙ ap (λ a. Some (ask_meant a)) c.in-Some-By.field-0-is) c.in-Ok.ensures.pair c.in-Ok-answer_of.ensures.answer c.as_slice.ensures c.written-in-Ok-answer_of.ensures
 
 pub returns-in-Err-Refused-answer_of-clause-told : goal.returns-in-Err-Refused-answer_of-clause-told
 returns-in-Err-Refused-answer_of-clause-told g c =
-    undone_told _ (ask_meant c.in-Some.ask) c.in-Ok.two c.in-Err-Refused-answer_of.field-0 c.in-Err-Refused-answer_of.outcome c.names.result.now c.tell-in-Err-Refused-answer_of.result (sym c.asked.ensures ∙ ap (λ o. option_map ask_meant o) c.in-Some.is) c.in-Ok.ensures.pair c.in-Err-Refused-answer_of.ensures.stop c.in-Err-Refused-answer_of.field-0-is
+    undone_told _ (sheet_meant c.in-Some-By.sheet) c.in-Some-By.job c.in-Ok.two c.in-Err-Refused-answer_of.field-0 c.in-Err-Refused-answer_of.outcome c.names.result.now c.tell-in-Err-Refused-answer_of.result (sym c.asked.ensures.ask ∙ ap (λ o. option_map ask_meant o) c.in-Some-By.is ∙ ap (λ a. Some (ask_meant a)) c.in-Some-By.field-0-is) c.in-Ok.ensures.pair c.in-Err-Refused-answer_of.ensures.stop c.in-Err-Refused-answer_of.field-0-is
     (record { taken = refl; faults = refl }) c.names.ensures c.tell-in-Err-Refused-answer_of.ensures.told
 
 pub returns-in-Err-Refused-answer_of-clause-complete : goal.returns-in-Err-Refused-answer_of-clause-complete

@@ -1,4 +1,4 @@
-use Rattle.std.proofs.Common.{◌≡◌, refl}
+use Rattle.std.proofs.Common.{refl}
 use Rattle.xs_top.proofs.Reading.{no_xml}
 use Rattle.xs_top.proofs.documents.symbols_of.Goals as goal
 

@@ -1,4 +1,4 @@
-use Rattle.std.proofs.Common.{◌≡◌, ℕ, List, sym, subst}
+use Rattle.std.proofs.Common.{ℕ, List, sym, subst}
 use Rattle.xs_tree.specs.Flat.{common_of}
 use Rattle.xs_top.specs.Documents.{CanWrite}
 use Rattle.xs_top.proofs.Writing.{can_write_print}

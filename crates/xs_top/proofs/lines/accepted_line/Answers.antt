@@ -1,7 +1,7 @@
-use Rattle.std.proofs.Common.{◌≡◌, ◌∙◌, ℕ, List, ap, length}
+use Rattle.std.proofs.Common.{◌∙◌, ap, length}
 use Rattle.xs_gram.specs.Grammar.{Grammar}
 use Rattle.xs_top.proofs.Counting.{counted_on}
-use Rattle.xs_top.proofs.checked.accepted_line.Goals as goal
+use Rattle.xs_top.proofs.lines.accepted_line.Goals as goal
 
 pub returns : goal.returns
 returns c =
