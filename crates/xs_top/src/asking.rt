@@ -1,6 +1,7 @@
-ghost use Rattle.std.specs.Prelude.{◌≡◌, Some, IfSome, map, string_bytes};
+ghost use Rattle.std.specs.Prelude.{◌≡◌, IfSome, map, string_bytes};
 ghost use Rattle.std.specs.Option.{option_map};
 ghost use Rattle.xs_words.specs.Meaning.{meant, HasLines};
+ghost use Rattle.xs_top.specs.declared.asking.Job.TheVariants as J;
 ghost use Rattle.xs_top.specs.Asked.{asked as asked_for, ask_of as asked_of};
 ghost use Rattle.xs_top.specs.Meaning.{ask_meant, AsksForLines};
 
@@ -31,6 +32,12 @@ pub enum Ask<'w> {
     By { sheet: SheetName<'w>, job: Job },
 }
 
+fn turning(from: Side, to: Side, form: Form) -> Job
+    ensures { result ≡ J.Turn from to form }
+{
+    Job::Turn { from, to, form }
+}
+
 fn ask_of(command: Command<'_>) -> Ask<'_>
     requires { HasLines command }
     ensures ask { ask_meant result ≡ asked_of (meant command.entry) }
@@ -38,38 +45,10 @@ fn ask_of(command: Command<'_>) -> Ask<'_>
 {
     let (sheet, job) = match command {
         Command::Check { sheet } => (sheet, Job::Check),
-        Command::ToXml { sheet, form } => (
-            sheet,
-            Job::Turn {
-                from: Side::Text,
-                to: Side::Xml,
-                form,
-            },
-        ),
-        Command::ToText { sheet } => (
-            sheet,
-            Job::Turn {
-                from: Side::Xml,
-                to: Side::Text,
-                form: Form::AsIs,
-            },
-        ),
-        Command::RoundText { sheet, form } => (
-            sheet,
-            Job::Turn {
-                from: Side::Text,
-                to: Side::Text,
-                form,
-            },
-        ),
-        Command::RoundXml { sheet } => (
-            sheet,
-            Job::Turn {
-                from: Side::Xml,
-                to: Side::Xml,
-                form: Form::AsIs,
-            },
-        ),
+        Command::ToXml { sheet, form } => (sheet, turning(Side::Text, Side::Xml, form)),
+        Command::ToText { sheet } => (sheet, turning(Side::Xml, Side::Text, Form::AsIs)),
+        Command::RoundText { sheet, form } => (sheet, turning(Side::Text, Side::Text, form)),
+        Command::RoundXml { sheet } => (sheet, turning(Side::Xml, Side::Xml, Form::AsIs)),
         Command::Trees { sheet, max } => (sheet, Job::Trees { max }),
         Command::PrintSheet => return Ask::Shipped,
         Command::Make { seed, lines } => (SheetName::Leiden, Job::Make { seed, lines }),
