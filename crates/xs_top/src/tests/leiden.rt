@@ -51,15 +51,18 @@ fn has(rt: &impl Abort, alloc: Global, row: Row) -> Result<(), Fail> {
     Ok(())
 }
 
-#[test]
-fn a_text_and_its_xml(rt: HostRuntime) -> Result<(), Fail> {
-    let done = |words, input, out| Row {
+fn done(words: &'static [&'static str], input: &'static str, out: &'static str) -> Row {
+    Row {
         words,
         input,
         status: 0,
         out,
         notes: "",
-    };
+    }
+}
+
+#[test]
+fn a_text_and_its_xml(rt: HostRuntime) -> Result<(), Fail> {
     let rows = [
         done(&["to-xml", "@leiden"], TEXT, XML),
         done(&["to-text", "@leiden"], XML_OTHERWISE, TEXT),
