@@ -1,4 +1,5 @@
 pub mod AttributeLaws
+pub mod LengthLaws
 pub mod NameLaws
 pub mod Numbers
 pub mod PieceLaws

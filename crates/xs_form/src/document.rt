@@ -59,14 +59,15 @@ fn broken(doc: &[Sym], text: &[Sym]) -> XmlFault
 ///
 /// An element gives its opening, its attributes in ascending order of the UTF-8 bytes of their
 /// names, its content and its closing, as XML 1.0, fifth edition, reads them without a document
-/// type. A name that the list does not have gives `STRANGE`. The pieces of a document and the
-/// rules for their lists are those of `xs_piece`.
+/// type. A name that the list does not have gives `STRANGE`. The symbols are no more than the
+/// characters. The pieces of a document and the rules for their lists are those of `xs_piece`.
 ///
 /// Fails with `NotXml` exactly where no list of pieces is a reading of the document; then `at` is
 /// the greatest total length of a legal list of pieces that begins the document. The time is linear
 /// in the document, but for sorting the attributes of each tag and looking up each name.
 pub fn read_xml(alloc: Global, names: &Names, doc: &Word) -> Result<Word, XmlFault>
     ensures read { IfOk result (λ w. Reads names.now doc.now w) }
+    ensures short { IfOk result (λ w. length w ≤ length doc.now) }
     ensures fault { IfErr result (λ e. IsFault names.now doc.now e) }
 {
     let whole = doc.as_slice();

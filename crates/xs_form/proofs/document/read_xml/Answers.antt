@@ -5,6 +5,7 @@ use Rattle.xs_piece.specs.Scan.{piece_at}
 use Rattle.xs_form.specs.Fault.{IsAt}
 use Rattle.xs_form.specs.Seen.{found, shown_event, shown_found}
 use Rattle.xs_form.specs.State.{state_of, step, taken}
+use Rattle.xs_form.proofs.LengthLaws.{reads_short}
 use Rattle.xs_form.proofs.ReadLaws.{IsSoFar, event_named, event_shorter, piece_more, no_piece, no_piece_left, piece_refused, broken_of, rest_shorter, all_read, empty_list, no_empty_list, finished_at, not_finished}
 use Rattle.xs_form.proofs.document.read_xml.Goals as goal
 
@@ -82,6 +83,9 @@ returns-in-Some-finish-clause-read c =
     let end = finished_at st.spot st.word c.in-Some-finish.word c.in-Some-finish.ensures in
     let whole : IsSoFar names doc [] st = subst (λ (x : List ℕ). IsSoFar names doc x st) none c.pieces.invariant in
     subst (λ (w : List ℕ). Reads names doc w) end.1 (all_read names doc st whole end.0)
+
+pub returns-in-Some-finish-clause-short : goal.returns-in-Some-finish-clause-short
+returns-in-Some-finish-clause-short c = reads_short c.args.names.now c.args.doc.now c.in-Some-finish.word (returns-in-Some-finish-clause-read c)
 
 pub returns-in-None-finish-clause-fault : goal.returns-in-None-finish-clause-fault
 returns-in-None-finish-clause-fault c =
