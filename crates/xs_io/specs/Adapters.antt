@@ -1,5 +1,5 @@
 -- What the adapters stand on, and how often they failed.
-use Rattle.std.specs.Prelude.{ℕ}
+use Rattle.std.specs.Prelude.{ℕ, List}
 use Rattle.xs_io.specs.declared.adapters.FromReader.{FromReader}
 use Rattle.xs_io.specs.declared.adapters.ToWriter.{ToWriter}
 use Rattle.xs_io.specs.declared.adapters.DirShelf.{DirShelf}
@@ -23,3 +23,7 @@ writer_faults s = s.faults
 -- how many calls failed; File and Dir are the runtime's types of open files and folders
 abbrev pub dir_faults : {R File Dir : Type 0} → DirShelf R File Dir → ℕ
 dir_faults s = s.faults
+
+-- nothing is told of the calls on one name
+abbrev pub dir_name_faults : {R File Dir : Type 0} → DirShelf R File Dir → List ℕ → ℕ
+dir_name_faults s name = 0

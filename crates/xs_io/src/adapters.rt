@@ -1,5 +1,9 @@
-ghost use Rattle.std.specs.Prelude.{◌≡◌, ◌≤◌, ◌<◌, length, take, IfSome, IfNone};
-ghost use Rattle.std.specs.Io.KnownBytes.{Appends, Consumes, IsAtEnd, Keeps};
+ghost use Rattle.std.specs.Prelude.{◌≡◌, ◌≤◌, ◌<◌, length, take, IfOk, OnOk, OnErr, IfSome, IfNone, MatchResult};
+ghost use Rattle.std.specs.Io.{ReadsAtMost, WritesAtMost};
+ghost use Rattle.std.specs.Io.KnownBytes.{Appends, Consumes, IsAtEnd, Keeps, ReadConsumes, WriteAppends};
+ghost use Rattle.xs_io.specs.Calls.{one_more};
+ghost use Rattle.xs_io.specs.Causes.{HasCause};
+ghost use Rattle.xs_io.specs.Shown.{StandIn, NameFailed};
 
 use crate::{Failed, Shelf, Sink, Source};
 use std::io::{ErrorKind, Read, Seek, SeekFrom, Write};
@@ -8,6 +12,9 @@ use std::{fs, io};
 
 // How often one call is tried again where a signal interrupts it.
 const RETRIES: u32 = 1_000;
+
+// How many bytes one read moves at most.
+const PIECE: usize = 4_096;
 
 // One read, tried again while it is interrupted. `None` is a failure.
 fn read_again<R: Read>(reader: &mut R, buf: &mut [u8]) -> Option<usize>
@@ -29,6 +36,23 @@ fn read_again<R: Read>(reader: &mut R, buf: &mut [u8]) -> Option<usize>
         }
     }
     None
+}
+
+// One read through a piece of its own: a reader that fails may leave anything in what it was given.
+fn read_whole<R: Read>(reader: &mut R, buf: &mut [u8]) -> Option<usize>
+    requires { 0 < length buf.old }
+    ensures bound { IfSome result (λ n. n ≤ length buf.new) }
+    ensures taken { IfSome result (λ n. Consumes (R.remaining reader.old) (R.remaining reader.new)
+        (take n buf.new)) }
+    ensures end { IfSome result (λ n. n ≡ 0 → IsAtEnd (R.remaining reader.new)) }
+    ensures none { IfNone result (Keeps (R.remaining reader.old) (R.remaining reader.new)) }
+    ensures kept { IfNone result (buf.new ≡ buf.old) }
+{
+    let mut piece = [0u8; PIECE];
+    let most = buf.len().min(PIECE);
+    let count = read_again(reader, &mut piece[..most])?;
+    buf[..count].copy_from_slice(&piece[..count]);
+    Some(count)
 }
 
 // One write, tried again while it is interrupted. `None` is a failure, as is a write of nothing.
@@ -82,8 +106,19 @@ impl<R: Read> Source for FromReader<R> {
 
     ghost faults = { λ s. reader_faults s };
 
-    fn read(&mut self, buf: &mut [u8]) -> Result<usize, Failed> {
-        match read_again(&mut self.reader, buf) {
+    fn read(&mut self, buf: &mut [u8]) -> Result<usize, Failed>
+        requires { 0 < length buf.old }
+        ensures bound { ReadsAtMost result buf.new }
+        ensures bytes { ReadConsumes (R.remaining (reader_of self.old))
+            (R.remaining (reader_of self.new)) result buf.new }
+        ensures kept { OnErr result (buf.new ≡ buf.old) }
+        ensures cause { HasCause (reader_faults self.old) (reader_faults self.new) result }
+
+        // Its count rises where it fails, and stays elsewhere.
+        ensures faults { MatchResult result (λ _. reader_faults self.new ≡ reader_faults self.old)
+            (λ _. reader_faults self.new ≡ one_more (reader_faults self.old)) }
+    {
+        match read_whole(&mut self.reader, buf) {
             Some(count) => Ok(count),
             None => {
                 self.faults = self.faults.saturating_add(1);
@@ -124,7 +159,18 @@ impl<W: Write> Sink for ToWriter<W> {
 
     ghost faults = { λ s. writer_faults s };
 
-    fn write(&mut self, piece: &[u8]) -> Result<usize, Failed> {
+    fn write(&mut self, piece: &[u8]) -> Result<usize, Failed>
+        requires { 0 < length piece.now }
+        ensures bound { WritesAtMost result piece.now }
+        ensures some { IfOk result (λ n. 0 < n) }
+        ensures bytes { WriteAppends (W.contents (writer_of self.old))
+            (W.contents (writer_of self.new)) result piece.now }
+        ensures cause { HasCause (writer_faults self.old) (writer_faults self.new) result }
+
+        // Its count rises where it fails, and stays elsewhere.
+        ensures faults { MatchResult result (λ _. writer_faults self.new ≡ writer_faults self.old)
+            (λ _. writer_faults self.new ≡ one_more (writer_faults self.old)) }
+    {
         match write_again(&mut self.writer, piece) {
             Some(count) => Ok(count),
             None => {
@@ -174,21 +220,37 @@ impl<'r, R: Files> DirShelf<'r, R> {
 
 impl<'r, R: Files> Shelf for DirShelf<'r, R> {
     ghost use Rattle.std.specs.Prelude.{None};
-    ghost use Rattle.xs_io.specs.Adapters.{dir_faults};
+    ghost use Rattle.xs_io.specs.Adapters.{dir_faults, dir_name_faults};
 
     ghost files = { λ _. None };
 
     ghost faults = { λ s. dir_faults s };
 
-    ghost name_faults = { λ _ _. 0 };
+    ghost name_faults = { λ s name. dir_name_faults s name };
 
-    fn read_at(&mut self, name: &str, at: u64, buf: &mut [u8]) -> Result<usize, Failed> {
+    fn read_at(&mut self, name: &str, at: u64, buf: &mut [u8]) -> Result<usize, Failed>
+        requires { 0 < length buf.old }
+        ensures bound { ReadsAtMost result buf.new }
+        ensures bytes { IfOk result (λ n. StandIn None name.now at (take n buf.new)) }
+        ensures kept { OnErr result (buf.new ≡ buf.old) }
+        ensures later { dir_faults self.old ≤ dir_faults self.new }
+        ensures name_later { dir_name_faults self.old name.now ≤ dir_name_faults self.new name.now }
+        ensures unmoved { OnOk result (dir_name_faults self.new name.now
+            ≡ dir_name_faults self.old name.now) }
+        ensures failed { OnErr result (NameFailed None name.now
+            (dir_faults self.old) (dir_faults self.new)
+            (dir_name_faults self.old name.now) (dir_name_faults self.new name.now)) }
+
+        // Its count rises where it fails, and stays elsewhere.
+        ensures faults { MatchResult result (λ _. dir_faults self.new ≡ dir_faults self.old)
+            (λ _. dir_faults self.new ≡ one_more (dir_faults self.old)) }
+    {
         let mut file = FileFrom {
             rt: self.rt,
             name,
             at,
         };
-        match read_again(&mut file, buf) {
+        match read_whole(&mut file, buf) {
             Some(count) => Ok(count),
             None => {
                 self.faults = self.faults.saturating_add(1);

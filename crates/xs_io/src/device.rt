@@ -8,8 +8,8 @@ ghost use Rattle.xs_io.specs.Shown.{Files, StandIn, NameFailed};
 use std::error::Error;
 use std::fmt;
 
-/// A call of a device failed. It took or gave nothing, and the device's count of faults rose: it
-/// is greater after the call than before, or stands at 2^64 - 1.
+/// A call of a device failed. It took or gave nothing, left the caller's buffer as it was, and the
+/// device's count of faults rose: it is greater after the call than before, or stands at 2^64 - 1.
 #[derive(Clone, Copy, Debug, PartialEq, Eq)]
 pub struct Failed;
 
@@ -35,6 +35,7 @@ pub trait Source {
         requires { 0 < length buf.old }
         ensures bound { ReadsAtMost result buf.new }
         ensures bytes { ReadConsumes (left self.old) (left self.new) result buf.new }
+        ensures kept { OnErr result (buf.new ≡ buf.old) }
         ensures cause { HasCause (faults self.old) (faults self.new) result };
 }
 
@@ -73,6 +74,7 @@ pub trait Shelf {
         requires { 0 < length buf.old }
         ensures bound { ReadsAtMost result buf.new }
         ensures bytes { IfOk result (λ n. StandIn (files self.old) name.now at (take n buf.new)) }
+        ensures kept { OnErr result (buf.new ≡ buf.old) }
         ensures same { files self.new ≡ files self.old }
         ensures later { faults self.old ≤ faults self.new }
         ensures name_later { name_faults self.old name.now ≤ name_faults self.new name.now }

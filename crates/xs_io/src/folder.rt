@@ -1,4 +1,4 @@
-ghost use Rattle.std.specs.Prelude.{◌≡◌, ◌≢◌, ◌<◌, ◌≤◌, ◌↔◌, List, ℕ, None, length, take, OnOk, OnErr, IfSome, IsNone, IsSome, encode_utf8_all};
+ghost use Rattle.std.specs.Prelude.{◌≡◌, ◌≢◌, ◌<◌, ◌≤◌, ◌↔◌, List, ℕ, None, length, take, OnOk, OnErr, IfSome, IfNone, IsNone, IsSome, encode_utf8_all};
 ghost use Rattle.std.specs.Option.{option_copied};
 ghost use Rattle.std.specs.List.{position_from};
 ghost use Rattle.xs_io.specs.Calls.{one_more};
@@ -73,6 +73,7 @@ impl Folder {
             (take n buf.new)) }
         ensures full { IfSome result (λ n. IsFull (file_in self.now name.now) at
             (length buf.old) n) }
+        ensures kept { IfNone result (buf.new ≡ buf.old) }
     {
         let bytes = self.bytes_of(name)?.as_slice();
         if at >= bytes.len() as u64 {

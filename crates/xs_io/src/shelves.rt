@@ -65,6 +65,7 @@ impl Shelf for MemShelf {
         ensures bound { ReadsAtMost result buf.new }
         ensures bytes { IfOk result (λ n. StandIn (Some (mem_file self.old)) name.now at
             (take n buf.new)) }
+        ensures kept { OnErr result (buf.new ≡ buf.old) }
         ensures same { Some (mem_file self.new) ≡ Some (mem_file self.old) }
         ensures later { faults_of (mem_calls self.old) ≤ faults_of (mem_calls self.new) }
         ensures name_later { mem_name_faults self.old name.now ≤ mem_name_faults self.new name.now }
@@ -147,6 +148,7 @@ impl Shelf for SureShelf {
         ensures bound { ReadsAtMost result buf.new }
         ensures bytes { IfOk result (λ n. StandIn (Some (sure_file self.old)) name.now at
             (take n buf.new)) }
+        ensures kept { OnErr result (buf.new ≡ buf.old) }
         ensures same { Some (sure_file self.new) ≡ Some (sure_file self.old) }
         ensures later { sure_faults self.old ≤ sure_faults self.new }
         ensures failed { OnErr result (NameFailed (Some (sure_file self.old)) name.now

@@ -1,4 +1,4 @@
-ghost use Rattle.std.specs.Prelude.{◌≡◌, ◌≤◌, ◌<◌, ◌↔◌, length, min, IfOk, IsOk, IsErr, MatchResult};
+ghost use Rattle.std.specs.Prelude.{◌≡◌, ◌≤◌, ◌<◌, ◌↔◌, length, min, IfOk, OnErr, IsOk, IsErr, MatchResult};
 ghost use Rattle.std.specs.Io.{ReadsAtMost};
 ghost use Rattle.std.specs.Io.KnownBytes.{ReadConsumes};
 ghost use Rattle.xs_io.specs.Calls.{IsListed, Begins, one_more, fails_of, made_of, faults_of};
@@ -63,6 +63,7 @@ impl Source for MemSource {
         ensures bound { ReadsAtMost result buf.new }
         ensures bytes { ReadConsumes (Some (mem_rest self.old)) (Some (mem_rest self.new))
             result buf.new }
+        ensures kept { OnErr result (buf.new ≡ buf.old) }
         ensures cause { HasCause (faults_of (mem_calls self.old)) (faults_of (mem_calls self.new))
             result }
 
@@ -123,6 +124,7 @@ impl Source for SureSource {
         ensures bound { ReadsAtMost result buf.new }
         ensures bytes { ReadConsumes (Some (sure_rest self.old)) (Some (sure_rest self.new))
             result buf.new }
+        ensures kept { OnErr result (buf.new ≡ buf.old) }
         ensures cause { HasCause 0 0 result }
         ensures sure { IsOk result }
         ensures count { IfOk result (λ n. n ≡ min (length buf.old) (length (sure_rest self.old))) }
