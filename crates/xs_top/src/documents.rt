@@ -14,8 +14,6 @@ use xs_form::{XmlFault, read_xml};
 use xs_talk::Outcome;
 use xs_xml_out::{write_xml, xml_is_read_back};
 
-const MOST_SYMBOLS: usize = 4_294_967_294;
-
 // The characters of the bytes in a form.
 fn characters_of(alloc: Global, form: Form, bytes: &[u8]) -> Result<Word, Stop>
     ensures text { IfOk result (λ w. IsDocument S.Text form [] bytes.now w) }
@@ -37,12 +35,7 @@ fn symbols_of(alloc: Global, names: &Names, bytes: &[u8]) -> Result<Word, Stop>
 {
     let characters = characters_of(alloc, Form::AsIs, bytes)?;
     match read_xml(alloc, names, &characters) {
-        Ok(word) => {
-            if word.len() > MOST_SYMBOLS {
-                return Err(Stop::Memory);
-            }
-            Ok(word)
-        }
+        Ok(word) => Ok(word),
         Err(XmlFault::NotXml { at }) => Err(Stop::Refused(Outcome::NotXml { at })),
         Err(XmlFault::Memory) => Err(Stop::Memory),
     }
