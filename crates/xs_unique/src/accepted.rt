@@ -1,5 +1,6 @@
 ghost use Rattle.std.specs.Prelude.{◌≡◌};
 ghost use Rattle.xs_gram.specs.Languages.{IsUnique};
+ghost use Rattle.xs_ambiguity.specs.Acceptance.{IsAccepted};
 
 use std::marker::Model;
 use xs_pair::Two;
@@ -30,6 +31,7 @@ impl<'t> Accepted<'t> {
     /// The two grammars.
     pub fn two(&self) -> &'t Two
         ensures same { result.now ≡ self.now }
+        ensures accepted { IsAccepted self.now.text self.now.xml }
         ensures text { IsUnique self.now.text }
         ensures xml { IsUnique self.now.xml }
     {
