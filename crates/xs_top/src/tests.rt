@@ -7,6 +7,7 @@ use xs_io::{SureShelf, SureSink, SureSource};
 mod checks;
 mod faults;
 mod limits;
+mod plain;
 mod refusals;
 mod sheets;
 mod translations;
