@@ -8,6 +8,7 @@ mod checks;
 mod faults;
 mod leiden;
 mod limits;
+mod plain;
 mod refusals;
 mod sheets;
 mod translations;
