@@ -59,3 +59,38 @@ fn texts_are_read_and_written(rt: HostRuntime) -> Result<(), Fail> {
     }
     Ok(())
 }
+
+#[test]
+fn a_word_is_put_into_a_form_and_encoded(rt: HostRuntime) -> Result<(), Fail> {
+    let alloc = rt.alloc();
+    let rows: [(&[u8], Form, &[Sym], &[u8]); 4] = [
+        (
+            b"\xe1\xba\xa1",
+            Form::Nfd,
+            &[Sym(97), Sym(0x323)],
+            b"a\xcc\xa3",
+        ),
+        (b"a\xcc\xa3", Form::Nfc, &[Sym(0x1EA1)], b"\xe1\xba\xa1"),
+        (
+            b"a\xcc\xa3",
+            Form::AsIs,
+            &[Sym(97), Sym(0x323)],
+            b"a\xcc\xa3",
+        ),
+        (
+            b"\xef\xbb\xbfa",
+            Form::AsIs,
+            &[Sym(0xFEFF), Sym(97)],
+            b"\xef\xbb\xbfa",
+        ),
+    ];
+    for (bytes, form, symbols, encoded) in rows {
+        let word = decode(alloc, bytes)?;
+        let changed = in_form(alloc, &word, form)?;
+        assert_eq!(rt; changed.as_slice(), symbols);
+        let written = encode(alloc, &changed)?;
+        assert_eq!(rt; written.as_slice(), encoded);
+        assert_eq!(rt; decode(alloc, written.as_slice())?.as_slice(), symbols);
+    }
+    Ok(())
+}

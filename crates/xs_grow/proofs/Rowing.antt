@@ -5,10 +5,10 @@ use Rattle.std.proofs.lemmas.Option.{none-some, same_Some, slice_get_within}
 use Rattle.xs_items.proofs.Words.{get_some}
 use Rattle.xs_gram.specs.Grammar.{Grammar}
 use Rattle.xs_forest.specs.declared.row.Alt.{Alt}
-use Rattle.xs_forest.specs.Rows.{IsEarlier, AreEarlier}
+use Rattle.xs_forest.specs.Rows.{IsEarlier, AreEarlier, HasLabel}
 use Rattle.xs_unfold.specs.declared.span.SpanKey.{SpanKey}
 use Rattle.xs_unfold.specs.Forest.{Forest}
-use Rattle.xs_grow.specs.Grouped.{Grouped, IsGroup}
+use Rattle.xs_grow.specs.Grouped.{Grouped, IsGroup, AreApart}
 use Rattle.xs_grow.specs.Making.{IsMade, AreMade, ChildrenAreEarlier, AreRowsOf}
 use Rattle.xs_grow.proofs.ListLemmas.{get_contains, get_push_cases, get_append_left, get_end}
 
@@ -57,6 +57,20 @@ module _ (g : Grammar) (groups : Grouped SpanKey) where
       let n = made_of g groups key numbers alts k a made at in
       let lt = earlier r c key numbers n.0 a is (get_contains numbers k n.0 n.1) n.2 child in
       omega arith)
+
+  -- the label of the next row is that of no row before it
+  pub row_missing : (t : ℕ) (key : SpanKey) (numbers : List ℕ) (rows : Forest) → AreApart groups → IsGroup groups t key numbers → AreRowsOf g groups t rows → (at : ℕ) → HasLabel rows at key → ⊥
+  row_missing t key numbers rows apart is h at has =
+      let long = h.long in
+      let inside = slice_get_within rows at (key, has.0) has.1 in
+      let within = slice_get_within groups t (key, numbers) is in
+      let before : at < t = omega arith in
+      let group = get_some groups at (omega arith) in
+      let other : SpanKey = group.0.0 in
+      let row = h.each at other group.0.1 before group.1 in
+      let same : other ≡ key = ap (λ (z : SpanKey × List Alt). z.0) (same_Some (other, row.0) (key, has.0) (sym row.1 ∙ has.1)) in
+      let one : at ≡ t = apart at t key group.0.1 numbers (subst (λ z. IsGroup groups at z group.0.1) same group.1) is in
+      omega arith
 
   pub no_rows : AreRowsOf g groups 0 []
   no_rows = record { long = refl; each = λ r key numbers lt is. absurd (omega arith) }

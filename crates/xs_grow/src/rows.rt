@@ -1,13 +1,13 @@
 ghost use Rattle.std.specs.Prelude.{◌≡◌, ◌<◌, ◌++◌, ◌∷◌, [], ℕ, length, Contains, IfOk, OnOk};
 ghost use Rattle.xs_gram.specs.Grammar.{items};
-ghost use Rattle.xs_forest.specs.Rows.{AreEarlier};
+ghost use Rattle.xs_forest.specs.Rows.{AreEarlier, HasLabel};
 ghost use Rattle.xs_grow.specs.Making.{FindsFront, FindsItem, IsMade, CanBeMade, AreMade, AllCanBeMade, ChildrenAreEarlier, AreRowsOf};
 
 use crate::groups::Groups;
 use bumpalo::Bump;
 use std::alloc::Global;
 use xs_class::Memory;
-use xs_forest::{Alt, Forest};
+use xs_forest::{AddFault, Alt, Forest};
 use xs_gram::{GItem, Gram};
 use xs_unfold::{SpanKey, What};
 
@@ -87,12 +87,14 @@ fn alternatives(
 
 /// Adds a row to the forest, which has no row of the label.
 fn add(forest: &mut Forest<'_, SpanKey>, key: SpanKey, alts: &[Alt]) -> Result<(), Memory>
-    requires { AreEarlier alts.now (length forest.old) }
+    requires earlier { AreEarlier alts.now (length forest.old) }
+    requires missing { (at : ℕ) → HasLabel forest.old at key → ⊥ }
     ensures { OnOk result (forest.new ≡ forest.old ++ (key, alts.now) ∷ []) }
 {
     match forest.add_row(key, alts) {
         Ok(_) => Ok(()),
-        Err(_) => Err(Memory),
+        Err(AddFault::Memory) => Err(Memory),
+        Err(AddFault::Repeated { .. }) => unreachable!(),
     }
 }
 

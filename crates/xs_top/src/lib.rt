@@ -61,6 +61,7 @@ pub fn run<S: Source, H: Shelf, K: Sink, N: Sink>(
     ensures complete { IfOk result (IsComplete (run_of (map string_bytes words.now)
         (shelves_of H.files H.faults H.name_faults shelf.old shelf.new) (input_of S.left S.faults input.old input.new)
         (output_of K.taken K.faults out.old out.new) (output_of N.taken N.faults notes.old notes.new))) }
+    ensures files { H.files shelf.new ≡ H.files shelf.old }
     ensures memory_out { OnErr result (out.new ≡ out.old) }
     ensures memory_notes { OnErr result (notes.new ≡ notes.old) }
 {

@@ -24,6 +24,7 @@ pub const SHEET_LIMIT: usize = 65_536;
 // The bytes of a sheet.
 fn sheet_bytes<H: Shelf>(alloc: Global, shelf: &mut H, sheet: SheetName<'_>) -> Result<Bytes, Stop>
     ensures bytes { IfOk result (AreBytesOf (H.files shelf.old) (sheet_meant sheet.entry)) }
+    ensures files { H.files shelf.new ≡ H.files shelf.old }
     ensures stop { IfErr result (StopsBy (IsStopped (shelves_of H.files H.faults H.name_faults shelf.old shelf.new)
         (sheet_meant sheet.entry))) }
 {
@@ -63,6 +64,7 @@ pub fn pair_of(alloc: Global, bytes: &[u8]) -> Result<Two, Stop>
 /// The two grammars of a sheet.
 pub fn pair_for<H: Shelf>(alloc: Global, shelf: &mut H, sheet: SheetName<'_>) -> Result<Two, Stop>
     ensures pair { IfOk result (SpellsPair (H.files shelf.old) (sheet_meant sheet.entry)) }
+    ensures files { H.files shelf.new ≡ H.files shelf.old }
     ensures sound { IfOk result IsSoundPair }
     ensures writable { IfOk result CanBeWritten }
     ensures stop { IfErr result (StopsBy (IsUnpaired (shelves_of H.files H.faults H.name_faults shelf.old shelf.new)

@@ -5,9 +5,12 @@ use xs_class::{Bytes, Memory, Text};
 use xs_io::{SureShelf, SureSink, SureSource};
 
 mod checks;
+mod cuts;
 mod faults;
 mod leiden;
 mod limits;
+mod patterns;
+mod plain;
 mod refusals;
 mod sheets;
 mod translations;

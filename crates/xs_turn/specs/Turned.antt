@@ -15,12 +15,11 @@ abbrev pub FitsBoth : Pair → Common → Type 0
 FitsBoth p tree = (side : Side) → TreeFits (grammar_of p side) (grammar_of p side).start tree
 
 -- The forest is that of the document on this side, whose unfoldings are exactly its derivations; the tree is
--- that of one of them, fits on either side, and the word is its print on the other side.
+-- that of one of them, and the word is its print on the other side.
 pub record IsTurned (p : Pair) (side : Side) (w : List ℕ) (forest : Forest) (root : ℕ) (tree : Common) (word : List ℕ) : Type 0 where
   pub forest_is : IsForestOf (grammar_of p side) w forest root
   pub exact : IsExact (grammar_of p side) w forest root
   pub has : HasTree (grammar_of p side) w tree
-  pub fits : FitsBoth p tree
   pub printed : word ≡ print (grammar_of p (other side)) tree
 
 -- the document has no derivation, and so many of its leading symbols are viable

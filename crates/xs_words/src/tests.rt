@@ -14,7 +14,7 @@ fn is_command(alloc: Global, words: &[&str]) -> Result<bool, Fail> {
 #[test]
 fn words_that_are_commands_and_others(rt: HostRuntime) -> Result<(), Fail> {
     let alloc = rt.alloc();
-    let rows: [(&[&str], bool); 14] = [
+    let rows: [(&[&str], bool); 19] = [
         (&["check", "pair.xsugar"], true),
         (&["to-xml", "@leiden", "nfd"], true),
         (&["round", "pair.xsugar", "text", "asis"], true),
@@ -26,9 +26,14 @@ fn words_that_are_commands_and_others(rt: HostRuntime) -> Result<(), Fail> {
         (&["to-xml"], false),
         (&["check", "a", "b"], false),
         (&["trees", "a", "0"], false),
+        (&["trees", "a", "1"], true),
+        (&["trees", "a", "1001"], false),
         (&["trees", "a", "01"], false),
         (&["to-xml", "a", "NFC"], false),
         (&["make", "2147483648", "1"], false),
+        (&["make", "0", "2001"], false),
+        (&["make", "0", "0"], false),
+        (&["make", "0", "01"], false),
     ];
     for (words, expected) in rows {
         assert_eq!(rt; is_command(alloc, words)?, expected);

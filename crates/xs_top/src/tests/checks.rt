@@ -1,8 +1,17 @@
+ghost use Rattle.std.specs.Prelude.{IfSome};
+ghost use Rattle.xs_loose.specs.Parts.{IsPart};
+ghost use Rattle.xs_pair.specs.Sound.{IsSoundPair};
+
 use super::{EMPTY, LEFT, LETTERS, NESTED, PAIR, RIGHT, SHEET, SPACED, TWINS, ran, tried};
+use crate::sheets::{SHEET_LIMIT, pair_of};
 use std::alloc::Global;
 use std::process::Abort;
 use std::test::Fail;
-use xs_class::{Bytes, Memory};
+use xs_class::{Bytes, Memory, Side};
+use xs_gram::Gram;
+use xs_loose::{LooseFault, Part, net_of, weight_of};
+use xs_order::components;
+use xs_pair::Two;
 
 const CHECK: [&str; 2] = ["check", SHEET];
 
@@ -119,6 +128,52 @@ fn wide(alloc: Global, items: u32, hyphens: u32) -> Result<Bytes, Memory> {
     push_items(&mut sheet, items)?;
     sheet.extend(b"</s>\n")?;
     Ok(sheet)
+}
+
+// All items of a rule, if there is one.
+fn all_items(gram: &Gram, rule: u32) -> Option<Part>
+    ensures { IfSome result (IsPart gram.now) }
+{
+    if rule >= gram.rules() {
+        return None;
+    }
+    let end = gram.items(rule).len() as u32;
+    Some(Part {
+        rule,
+        start: 0,
+        end,
+    })
+}
+
+// What all items of the first rule of the text side weigh, and the fault of their net.
+fn heaviness(alloc: Global, two: &Two) -> Result<(u64, Option<LooseFault>), Memory>
+    requires { IsSoundPair two.now }
+{
+    let gram = two.gram(Side::Text);
+    let comps = components(alloc, gram)?;
+    match all_items(gram, 0) {
+        None => Ok((0, None)),
+        Some(part) => {
+            let weight = weight_of(alloc, gram, &comps, &part)?;
+            let net = net_of(alloc, gram, &comps, &part);
+            Ok((weight, net.err()))
+        }
+    }
+}
+
+#[test]
+fn a_part_that_is_too_heavy_has_no_net(rt: HostRuntime) -> Result<(), Fail> {
+    let alloc = rt.alloc();
+    let sheet = wide(alloc, 17, 0)?;
+    assert!(rt; sheet.len() <= SHEET_LIMIT);
+    match pair_of(alloc, sheet.as_slice()) {
+        Ok(two) => {
+            let fault = LooseFault::Heavy { weight: 8517 };
+            assert_eq!(rt; heaviness(alloc, &two)?, (8517, Some(fault)));
+        }
+        Err(_) => assert!(rt; false),
+    }
+    Ok(())
 }
 
 #[test]

@@ -14,10 +14,10 @@ use xs_order::components;
 use xs_words::SheetName;
 
 // A text of the shipped sheet; the dots below stand behind their letters.
-const TEXT: &str = "<=\n1. (ἔτ(ους)) γ [.3] το[ῦ] .2\n\
+pub(super) const TEXT: &str = "<=\n1. (ἔτ(ους)) γ [.3] το[ῦ] .2\n\
     2.- α\u{323}β\u{323} καὶ <τὸ> {τὸ}\n=>\n";
 
-const XML: &str = "<ab>\n\
+pub(super) const XML: &str = "<ab>\n\
     <lb n=\"1\"/><expan>ἔτ<ex>ους</ex></expan> γ \
     <gap quantity=\"3\" reason=\"lost\" unit=\"character\"/> το<supplied reason=\"lost\">ῦ</supplied> \
     <gap quantity=\"2\" reason=\"illegible\" unit=\"character\"/>\n\
@@ -25,7 +25,7 @@ const XML: &str = "<ab>\n\
     <surplus>τὸ</surplus>\n</ab>\n";
 
 // The same document with single quotes, a reference, comments, other orders and other white space.
-const XML_OTHERWISE: &str = "<?xml version=\"1.0\" encoding=\"UTF-8\"?>\r\n<ab>\r\n\
+pub(super) const XML_OTHERWISE: &str = "<?xml version=\"1.0\" encoding=\"UTF-8\"?>\r\n<ab>\r\n\
     \x20 <lb n='1'/><expan>&#x1F14;τ<ex>ους</ex></expan> γ \
     <gap unit=\"character\" reason=\"lost\" quantity=\"3\"/><!-- two hands --> \
     το<supplied reason=\"lost\">ῦ</supplied> \

@@ -1,5 +1,5 @@
-use super::{LEFT, LETTERS, NESTED, RIGHT, SHEET, ran};
-use crate::DOCUMENT_LIMIT;
+use super::{EMPTY, LEFT, LETTERS, NESTED, RIGHT, SHEET, ran};
+use crate::{DOCUMENT_LIMIT, SHEET_LIMIT};
 use std::alloc::Global;
 use std::process::Abort;
 use std::test::Fail;
@@ -99,5 +99,47 @@ fn documents_at_their_limit(rt: HostRuntime) -> Result<(), Fail> {
         "input: more than 1048576 bytes\n".as_bytes()
     );
     assert_eq!(rt; more.out.len(), 0);
+    Ok(())
+}
+
+// A sheet whose production has so many elements inside each other.
+fn elements(alloc: Global, depth: usize) -> Result<Bytes, Memory> {
+    let mut sheet = Bytes::of(alloc, b"xsugar-1\nstart s\ns : = ")?;
+    for _ in 0..depth {
+        sheet.extend(b"<e>")?;
+    }
+    for _ in 0..depth {
+        sheet.extend(b"</e>")?;
+    }
+    sheet.push(b'\n')?;
+    Ok(sheet)
+}
+
+// A sheet of so many bytes, filled up with a comment.
+fn filled(alloc: Global, length: usize) -> Result<Bytes, Memory> {
+    let mut sheet = Bytes::of(alloc, EMPTY.as_bytes())?;
+    let rest = length.saturating_sub(sheet.len());
+    add(&mut sheet, b'#', rest)?;
+    Ok(sheet)
+}
+
+#[test]
+fn sheets_at_their_limits(rt: HostRuntime) -> Result<(), Fail> {
+    let alloc = rt.alloc();
+    let rows = [
+        (elements(alloc, 64)?, 0, ""),
+        (
+            elements(alloc, 65)?,
+            2,
+            "sheet: byte 215: not expected here\n",
+        ),
+        (filled(alloc, SHEET_LIMIT)?, 0, ""),
+        (filled(alloc, 65_537)?, 2, "sheet: more than 65536 bytes\n"),
+    ];
+    for (sheet, status, notes) in &rows {
+        let run = ran(alloc, &["check", SHEET], sheet.as_slice(), b"", ROOM)?;
+        assert_eq!(rt; run.notes.as_slice(), notes.as_bytes());
+        assert_eq!(rt; run.status, *status);
+    }
     Ok(())
 }

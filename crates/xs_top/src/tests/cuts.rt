@@ -1,0 +1,281 @@
+//! Documents, and the shipped sheet, cut before each of their bytes.
+ghost use Rattle.std.specs.Prelude.{IfOk};
+ghost use Rattle.xs_balance.specs.Laws.{CanBeWritten};
+ghost use Rattle.xs_pair.specs.Sound.{IsSoundPair};
+
+use super::leiden::{TEXT, XML, XML_OTHERWISE};
+use super::{LETTERS, SHEET, tried};
+use crate::Outcome;
+use crate::sheets::{SHEET_LIMIT, pair_for, pair_of};
+use crate::stop::Stop;
+use crate::turned::turned_into;
+use std::alloc::Global;
+use std::process::Abort;
+use std::test::Fail;
+use xs_chars::Form;
+use xs_class::Side;
+use xs_io::SureShelf;
+use xs_leiden::leiden_sheet;
+use xs_pair::{Ill, IllRule, Two};
+use xs_words::SheetName;
+
+// What comes of a document.
+#[derive(Clone, Copy, Debug, PartialEq, Eq)]
+enum Answer {
+    Turned,
+    NotUtf8(u64),
+    NotXml(u64),
+    Foreign(u64),
+}
+
+// The two grammars of the shipped sheet.
+fn shipped(alloc: Global) -> Result<Two, Fail>
+    ensures sound { IfOk result IsSoundPair }
+    ensures writable { IfOk result CanBeWritten }
+{
+    let mut shelf = SureShelf::new(alloc);
+    match pair_for(alloc, &mut shelf, SheetName::Leiden) {
+        Ok(two) => Ok(two),
+        Err(_) => Err(Fail::from("the shipped sheet is refused")),
+    }
+}
+
+fn other_side(side: Side) -> Side {
+    match side {
+        Side::Text => Side::Xml,
+        Side::Xml => Side::Text,
+    }
+}
+
+fn answer_to(alloc: Global, two: &Two, from: Side, bytes: &[u8]) -> Result<Answer, Fail>
+    requires sound { IsSoundPair two.now }
+    requires writable { CanBeWritten two.now }
+{
+    match turned_into(alloc, two, from, other_side(from), Form::AsIs, bytes) {
+        Ok(_) => Ok(Answer::Turned),
+        Err(Stop::Refused(Outcome::NotUtf8 { at })) => Ok(Answer::NotUtf8(at)),
+        Err(Stop::Refused(Outcome::NotXml { at })) => Ok(Answer::NotXml(at)),
+        Err(Stop::Refused(Outcome::Foreign { viable })) => Ok(Answer::Foreign(viable)),
+        Err(_) => Err(Fail::from("another outcome")),
+    }
+}
+
+// Each prefix of the document, from the empty one to the whole, has its answer by the shipped sheet.
+fn expect_answers(
+    rt: &impl Abort,
+    alloc: Global,
+    from: Side,
+    document: &str,
+    answers: &[Answer],
+) -> Result<(), Fail> {
+    let two = shipped(alloc)?;
+    let bytes = document.as_bytes();
+    assert_eq!(rt; answers.len(), bytes.len().saturating_add(1));
+    for (length, answer) in answers.iter().enumerate() {
+        let (prefix, _) = bytes.split_at(length.min(bytes.len()));
+        assert_eq!(rt; answer_to(alloc, &two, from, prefix)?, *answer, "{length}");
+    }
+    Ok(())
+}
+
+// The answers to cuts inside the character that begins at this byte.
+fn push_inner(answers: &mut Vec<Answer>, at: usize, c: char) -> Result<(), Fail> {
+    for _ in 1..c.len_utf8() {
+        answers.push(Answer::NotUtf8(at as u64))?;
+    }
+    Ok(())
+}
+
+// The answers to a text that is cut before each of its bytes: whole characters of it begin the
+// whole text, so that all of them are viable.
+fn answers_to_text(alloc: Global, text: &str) -> Result<Vec<Answer>, Fail> {
+    let mut answers = Vec::new(alloc);
+    let mut count = 0u64;
+    for (at, c) in text.char_indices() {
+        answers.push(Answer::Foreign(count))?;
+        push_inner(&mut answers, at, c)?;
+        count = count.saturating_add(1);
+    }
+    Ok(answers)
+}
+
+// Where the piece begins that is not whole behind this character: a tag, a comment or a declaration
+// goes on to `>`, and a reference to `;`.
+fn begun_behind(begun: Option<u64>, place: u64, c: char) -> Option<u64> {
+    match c {
+        '<' => Some(place),
+        '&' => Some(place),
+        '>' => None,
+        ';' => None,
+        _ => begun,
+    }
+}
+
+// The answers to XML that is cut before each of its bytes, where its root ends with its last byte:
+// the pieces before the one that is cut are legal.
+fn answers_to_xml(alloc: Global, xml: &str) -> Result<Vec<Answer>, Fail> {
+    let mut answers = Vec::new(alloc);
+    let mut begun = None;
+    let mut count = 0u64;
+    for (at, c) in xml.char_indices() {
+        answers.push(Answer::NotXml(begun.unwrap_or(count)))?;
+        push_inner(&mut answers, at, c)?;
+        begun = begun_behind(begun, count, c);
+        count = count.saturating_add(1);
+    }
+    Ok(answers)
+}
+
+#[test]
+fn each_prefix_of_a_text_is_viable(rt: HostRuntime) -> Result<(), Fail> {
+    let alloc = rt.alloc();
+    let mut answers = answers_to_text(alloc, TEXT.trim_end())?;
+    answers.push(Answer::Turned)?;
+    answers.push(Answer::Turned)?;
+    expect_answers(&rt, alloc, Side::Text, TEXT, &answers)
+}
+
+#[test]
+fn each_prefix_of_xml_ends_behind_its_last_piece(rt: HostRuntime) -> Result<(), Fail> {
+    let alloc = rt.alloc();
+    let mut answers = answers_to_xml(alloc, XML.trim_end())?;
+    answers.push(Answer::Turned)?;
+    answers.push(Answer::Turned)?;
+    expect_answers(&rt, alloc, Side::Xml, XML, &answers)
+}
+
+#[test]
+fn each_prefix_of_xml_with_references_and_comments(rt: HostRuntime) -> Result<(), Fail> {
+    let alloc = rt.alloc();
+    let mut answers = answers_to_xml(alloc, XML_OTHERWISE)?;
+    answers.push(Answer::Turned)?;
+    expect_answers(&rt, alloc, Side::Xml, XML_OTHERWISE, &answers)
+}
+
+#[test]
+fn each_prefix_of_an_element_of_letters(rt: HostRuntime) -> Result<(), Fail> {
+    let alloc = rt.alloc();
+    let document: &[u8] = b"<s>aa</s>";
+    let places = [0, 0, 0, 3, 4, 5, 5, 5, 5];
+    for (length, place) in places.into_iter().enumerate() {
+        let (prefix, _) = document.split_at(length.min(document.len()));
+        let run = tried(alloc, &["to-text", SHEET], LETTERS, prefix)?;
+        let line = format!(in alloc; "input: character {place}: not XML\n")?;
+        assert_eq!(rt; run.notes.as_slice(), line.as_bytes());
+        assert_eq!(rt; run.status, 4);
+        assert_eq!(rt; run.out.as_slice(), "".as_bytes());
+    }
+    let whole = tried(alloc, &["to-text", SHEET], LETTERS, document)?;
+    assert_eq!(rt; whole.status, 0);
+    assert_eq!(rt; whole.out.as_slice(), "aa".as_bytes());
+    Ok(())
+}
+
+// What bytes are as a sheet.
+#[derive(Clone, Copy, Debug, PartialEq, Eq)]
+enum Reading {
+    Bad(u64),
+    Ill(Ill),
+    Well,
+}
+
+fn reading_of(alloc: Global, bytes: &[u8]) -> Result<Reading, Fail> {
+    if bytes.len() > SHEET_LIMIT {
+        return Err(Fail::from("too many bytes"));
+    }
+    match pair_of(alloc, bytes) {
+        Ok(_) => Ok(Reading::Well),
+        Err(Stop::Refused(Outcome::SheetBad { at })) => Ok(Reading::Bad(at)),
+        Err(Stop::Refused(Outcome::SheetIll(ill))) => Ok(Reading::Ill(ill)),
+        Err(_) => Err(Fail::from("another outcome")),
+    }
+}
+
+// How many lines of the sheet have ended at the cut, with or without the last line feed; None inside
+// a line.
+fn lines_ended(before: &[u8], behind: &[u8]) -> Option<usize> {
+    let mut lines = 0usize;
+    for byte in before {
+        if *byte == b'\n' {
+            lines = lines.saturating_add(1);
+        }
+    }
+    if before.ends_with(b"\n") {
+        Some(lines)
+    } else if behind.starts_with(b"\n") {
+        Some(lines.saturating_add(1))
+    } else {
+        None
+    }
+}
+
+// The place of a refusal is none before `least`, and stands in the prefix.
+fn next_least(rt: &impl Abort, reading: Reading, least: u64, length: usize) -> u64 {
+    match reading {
+        Reading::Bad(at) => {
+            assert!(rt; least <= at, "{length}");
+            assert!(rt; at <= length as u64, "{length}");
+            at
+        }
+        Reading::Ill(_) => least,
+        Reading::Well => least,
+    }
+}
+
+#[test]
+fn no_longer_prefix_of_the_sheet_is_refused_earlier(rt: HostRuntime) -> Result<(), Fail> {
+    let alloc = rt.alloc();
+    let sheet = leiden_sheet();
+    let mut least = 0;
+    for length in 0..sheet.len().saturating_add(1) {
+        let (prefix, rest) = sheet.split_at(length.min(sheet.len()));
+        let reading = reading_of(alloc, prefix)?;
+        least = next_least(&rt, reading, least, length);
+        if lines_ended(prefix, rest).is_none() {
+            assert!(rt; reading != Reading::Well, "{length}");
+        }
+    }
+    assert_eq!(rt; reading_of(alloc, sheet)?, Reading::Well);
+    Ok(())
+}
+
+fn ill(rule: IllRule, line: u32) -> Reading {
+    Reading::Ill(Ill { rule, line })
+}
+
+// So many lines of the shipped sheet: up to line 12 there is no production, and from line 37 on
+// each nonterminal has one. `lines`, `line`, `k`, `w`, `u` and `mark` have their first productions
+// on lines 14, 16, 19, 25, 31 and 37, and stand in earlier ones on lines 13, 14, 16, 17, 18 and 21.
+fn reading_of_lines(lines: usize) -> Reading {
+    match lines {
+        3..=12 => ill(IllRule::NoStart, 3),
+        13 => ill(IllRule::Undefined, 13),
+        14..=15 => ill(IllRule::Undefined, 14),
+        16..=18 => ill(IllRule::Undefined, 16),
+        19..=24 => ill(IllRule::Undefined, 17),
+        25..=30 => ill(IllRule::Undefined, 18),
+        31..=36 => ill(IllRule::Undefined, 21),
+        _ => Reading::Well,
+    }
+}
+
+#[test]
+fn the_first_lines_of_the_sheet(rt: HostRuntime) -> Result<(), Fail> {
+    let alloc = rt.alloc();
+    let sheet = leiden_sheet();
+    let mut cuts = 0usize;
+    for length in 0..sheet.len().saturating_add(1) {
+        let (prefix, rest) = sheet.split_at(length.min(sheet.len()));
+        let lines = lines_ended(prefix, rest).unwrap_or(0);
+        if lines > 2 {
+            assert_eq!(rt;
+                reading_of(alloc, prefix)?,
+                reading_of_lines(lines),
+                "{lines}"
+            );
+            cuts = cuts.saturating_add(1);
+        }
+    }
+    assert_eq!(rt; cuts, 86);
+    Ok(())
+}

@@ -1,0 +1,173 @@
+//! The check beside a plain search: tiny sheets are drawn, and the words of six letters at most that
+//! have two derivations are sought by counting.
+use super::{SHEET, ran};
+use std::alloc::Global;
+use std::process::Abort;
+use std::test::Fail;
+use xs_class::{Bytes, Memory};
+
+mod ways;
+
+const CHECK: [&str; 2] = ["check", SHEET];
+
+// How many sheets are drawn.
+const SHEETS: u32 = 600;
+
+// What stands at a place of a production: nothing, a letter, the nonterminal at which a tiny sheet
+// starts, its other nonterminal, or the terminals `/a*/` and `/ab?/`.
+#[derive(Clone, Copy)]
+enum Item {
+    Nothing,
+    Letter(u8),
+    Start,
+    Other,
+    Many,
+    Maybe,
+}
+
+type Body = [Item; 3];
+
+// The productions of the two nonterminals.
+#[derive(Drop)]
+struct Tiny {
+    starts: Vec<Body>,
+    others: Vec<Body>,
+}
+
+// The next number of a sequence, below ten.
+fn drawn(seed: &mut u32) -> u32 {
+    *seed = seed.wrapping_mul(1_103_515_245).wrapping_add(12_345);
+    (*seed >> 16) % 10
+}
+
+fn drawn_item(seed: &mut u32) -> Item {
+    match drawn(seed) {
+        0 | 1 => Item::Nothing,
+        2 | 3 => Item::Letter(b'a'),
+        4 | 5 => Item::Letter(b'b'),
+        6 => Item::Start,
+        7 => Item::Other,
+        8 => Item::Many,
+        _ => Item::Maybe,
+    }
+}
+
+fn drawn_bodies(alloc: Global, seed: &mut u32, count: u32) -> Result<Vec<Body>, Memory> {
+    let mut bodies = Vec::new(alloc);
+    for _ in 0..count {
+        let body = [drawn_item(seed), drawn_item(seed), drawn_item(seed)];
+        bodies.push(body)?;
+    }
+    Ok(bodies)
+}
+
+// Two or three productions of the start, and one or two of the other nonterminal.
+fn drawn_tiny(alloc: Global, seed: &mut u32) -> Result<Tiny, Memory> {
+    let starts = 2 + drawn(seed) % 2;
+    let others = 1 + drawn(seed) % 2;
+    Ok(Tiny {
+        starts: drawn_bodies(alloc, seed, starts)?,
+        others: drawn_bodies(alloc, seed, others)?,
+    })
+}
+
+fn push_named(sheet: &mut Bytes, unit: &[u8], name: &[u8]) -> Result<(), Memory> {
+    sheet.extend(b"[")?;
+    sheet.extend(unit)?;
+    sheet.extend(b" ")?;
+    sheet.extend(name)?;
+    sheet.extend(b"] ")
+}
+
+fn push_item(sheet: &mut Bytes, item: Item, name: &[u8]) -> Result<(), Memory> {
+    match item {
+        Item::Nothing => Ok(()),
+        Item::Letter(letter) => {
+            sheet.push(b'"')?;
+            sheet.push(letter)?;
+            sheet.extend(b"\" ")
+        }
+        Item::Start => push_named(sheet, b"s", name),
+        Item::Other => push_named(sheet, b"t", name),
+        Item::Many => push_named(sheet, b"m", name),
+        Item::Maybe => push_named(sheet, b"q", name),
+    }
+}
+
+fn push_body(sheet: &mut Bytes, body: &Body) -> Result<(), Memory> {
+    push_item(sheet, body[0], b"x")?;
+    push_item(sheet, body[1], b"y")?;
+    push_item(sheet, body[2], b"z")
+}
+
+fn push_starts(sheet: &mut Bytes, bodies: &[Body]) -> Result<(), Memory> {
+    for body in bodies {
+        sheet.extend(b"s : ")?;
+        push_body(sheet, body)?;
+        sheet.extend(b"= <s>")?;
+        push_body(sheet, body)?;
+        sheet.extend(b"</s>\n")?;
+    }
+    Ok(())
+}
+
+fn push_others(sheet: &mut Bytes, bodies: &[Body]) -> Result<(), Memory> {
+    for body in bodies {
+        sheet.extend(b"t : ")?;
+        push_body(sheet, body)?;
+        sheet.extend(b"= ")?;
+        push_body(sheet, body)?;
+        sheet.extend(b"\n")?;
+    }
+    Ok(())
+}
+
+fn written(alloc: Global, tiny: &Tiny) -> Result<Bytes, Memory> {
+    let mut sheet = Bytes::of(
+        alloc,
+        b"xsugar-1\nstart s\nterminal m = /a*/\nterminal q = /ab?/\n",
+    )?;
+    push_starts(&mut sheet, &tiny.starts)?;
+    push_others(&mut sheet, &tiny.others)?;
+    Ok(sheet)
+}
+
+// Checks a sheet, and says whether a word of it has two derivations: then there is a suspect of the
+// text side. None where the sheet is not well formed.
+fn compared(
+    rt: &impl Abort,
+    alloc: Global,
+    number: u32,
+    tiny: &Tiny,
+) -> Result<Option<bool>, Fail> {
+    let sheet = written(alloc, tiny)?;
+    let run = ran(alloc, &CHECK, sheet.as_slice(), b"", 1000)?;
+    if run.status == 2 {
+        return Ok(None);
+    }
+    let has_two = ways::has_two(alloc, tiny)?;
+    if has_two {
+        assert_eq!(rt; run.status, 3, "sheet {number}");
+        let suspect = run.notes.as_slice().starts_with(b"suspect: text: ");
+        assert!(rt; suspect, "sheet {number}");
+    }
+    Ok(Some(has_two))
+}
+
+#[test]
+fn where_a_word_has_two_derivations_there_is_a_suspect(rt: HostRuntime) -> Result<(), Fail> {
+    let mut seed: u32 = 7;
+    let mut once: u32 = 0;
+    let mut twice: u32 = 0;
+    for number in 0..SHEETS {
+        let tiny = drawn_tiny(rt.alloc(), &mut seed)?;
+        match compared(&rt, rt.alloc(), number, &tiny)? {
+            None => {}
+            Some(false) => once = once.saturating_add(1),
+            Some(true) => twice = twice.saturating_add(1),
+        }
+    }
+    assert!(rt; once > 150);
+    assert!(rt; twice > 150);
+    Ok(())
+}
