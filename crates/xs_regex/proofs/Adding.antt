@@ -1,5 +1,5 @@
 -- Characters that the items of a set add.
-use Rattle.std.proofs.Common.{◌≡◌, ◌≢◌, ◌⊎◌, ◌∙◌, ◌↔◌, ℕ, zero, suc, ◌<◌, ◌≤◌, Bool, true, false, ◌==◌, List, [], ◌∷◌, ◌++◌, length, refl, sym, ap, subst, inl, inr, arith, None, Some, Ok, Err, Bor, if◌then◌else◌}
+use Rattle.std.proofs.Common.{◌≡◌, ◌≢◌, ◌⊎◌, ◌∙◌, ◌↔◌, ℕ, zero, suc, ◌≤◌, Bool, true, false, ◌==◌, List, [], ◌∷◌, ◌++◌, refl, sym, ap, subst, inl, inr, None, Some, Ok, Err, Bor, if◌then◌else◌}
 use Rattle.std.proofs.lemmas.Bool.Decides.{eqb_tells}
 use Rattle.std.specs.Option.{IsSomeAnd, is_some}
 use Rattle.std.specs.declared.option.Option.{Option}
@@ -7,12 +7,11 @@ use Rattle.std.specs.declared.result.Result.{Result}
 use Rattle.std.specs.Bool.{IsTrue}
 use Rattle.ucd_sets.specs.Sets.{in_set}
 use Rattle.ucd_sets.specs.declared.set.Set.{Set}
-use Rattle.xs_class.specs.Classes.{Has, IsIn}
+use Rattle.xs_class.specs.Classes.{Has}
 use Rattle.xs_class.specs.Named.{set_named, HasMembersOf}
 use Rattle.xs_class.specs.Tables.{IsChar}
 use Rattle.xs_regex.specs.declared.fault.RegexFault.{RegexFault}
-use Rattle.xs_regex.specs.declared.fault.RegexFault.TheVariants.{BadRegex}
-use Rattle.xs_regex.specs.Characters.{Item, span, named, is_known, known, with_left, known_item, item_at, item_more, items_more, items_at, Sort, some_of, none_of, sorted, one_at, one_set}
+use Rattle.xs_regex.specs.Characters.{Item, span, named, is_known, known, with_left, known_item, item_at, item_more, items_more, items_at, some_of, none_of, sorted, one_at, one_set}
 use Rattle.xs_regex.specs.Meaning.{IsOfItem, IsOfItems, IsClassOf}
 use Rattle.xs_regex.specs.Told.{IsTold, Adds}
 
@@ -74,6 +73,10 @@ known_same (named name) Q h = by_test (is_known name) refl h
     by_test : (b : Bool) → is_known name ≡ b → IsSomeAnd (if b then Some (named name) else None) Q → ((if b then Some (named name) else None) ≡ Some (named name)) × Q (named name)
     by_test true e h = (refl, h)
     by_test false e h = absurd h
+
+pub items_none : (n : ℕ) (cs : List ℕ) → item_at cs ≡ None → items_at n cs ≡ None
+items_none zero cs e = refl
+items_none (suc n) cs e = ap (λ o. items_more (known_item o) (λ left. items_at n left)) e
 
 pub items_unknown : (n : ℕ) (cs left : List ℕ) (item : Item) → item_at cs ≡ Some (item, left) → known item ≡ None → items_at n cs ≡ None
 items_unknown zero cs left item e k = refl

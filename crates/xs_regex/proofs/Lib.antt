@@ -4,9 +4,11 @@ pub mod Chains
 pub mod Choice
 pub mod Copies
 pub mod Flags
+pub mod Fronts
 pub mod Meanings
 pub mod Merging
 pub mod Names
+pub mod Passed
 pub mod Places
 pub mod Readings
 pub mod Repetition

@@ -24,6 +24,13 @@ AtMost k (Some n) = k ≤ n
 abbrev pub Repeats : (List ℕ → Type 0) → ℕ → Option ℕ → List ℕ → Type 0
 Repeats P least most w = (ws : List (List ℕ)) × (w ≡ joined ws) × Each P ws × (least ≤ length ws) × AtMost (length ws) most
 
+-- one word and then another, and a word of either
+abbrev pub InTurn : (List ℕ → Type 0) → (List ℕ → Type 0) → List ℕ → Type 0
+InTurn P Q w = (u : List ℕ) × (v : List ℕ) × (w ≡ u ++ v) × P u × Q v
+
+abbrev pub OfEither : (List ℕ → Type 0) → (List ℕ → Type 0) → List ℕ → Type 0
+OfEither P Q w = P w ⊎ Q w
+
 -- the words of each form: the empty word, one symbol of a class, one word and then another, a word
 -- of either, any number of words, and as many as the counts allow
 abbrev pub Matches : Regex → List ℕ → Type 0

@@ -1,7 +1,6 @@
 -- The regexes that a tree of a pattern stands for.
-use Rattle.std.specs.Prelude.{◌≡◌, ◌↔◌, ◌⊎◌, ℕ, ◌≤◌, List, [], ◌∷◌, IsTrue, IsSomeAnd, None, Some}
+use Rattle.std.specs.Prelude.{◌≡◌, ◌↔◌, ◌⊎◌, ℕ, ◌≤◌, List, [], ◌∷◌, IsTrue, IsSomeAnd}
 use Rattle.std.specs.Borrow.{Bor}
-use Rattle.std.specs.declared.option.Option.{Option}
 use Rattle.ucd_sets.specs.Sets.{in_set}
 use Rattle.xs_class.specs.Classes.{Has}
 use Rattle.xs_class.specs.Named.{set_named}
@@ -37,6 +36,17 @@ Means (either t u) (Or' p a q b) = Means t a × Means u b
 Means (any t) (Star' p a) = Means t a
 Means (times t least most) (Times' p a least_of most_of) = Means t a × (least ≡ least_of) × (most ≡ most_of)
 Means t r = ⊥
+
+-- the regexes have the forms of the trees, one by one
+abbrev pub MeanEach : List Tree → List Regex → Type 0
+MeanEach [] [] = Unit {0}
+MeanEach (t ∷ ts) (r ∷ rs) = Means t r × MeanEach ts rs
+MeanEach ts rs = ⊥
+
+-- the trees and then the last, joined from the right
+abbrev pub leaning : (Tree → Tree → Tree) → List Tree → Tree → Tree
+leaning join [] last = last
+leaning join (t ∷ ts) last = join t (leaning join ts last)
 
 -- the pattern is read as the regex
 abbrev pub IsPatternOf : List ℕ → Regex → Type 0

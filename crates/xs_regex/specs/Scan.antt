@@ -1,6 +1,6 @@
 -- The reader of patterns, as a function: what stands at the front, and what is left behind it. The first
 -- argument of a function that calls itself bounds its steps.
-use Rattle.std.specs.Prelude.{ℕ, zero, suc, Bool, true, false, ◌||◌, ◌==◌, List, [], ◌∷◌, None, Some, if◌then◌else◌}
+use Rattle.std.specs.Prelude.{ℕ, zero, suc, Bool, true, ◌||◌, ◌==◌, List, [], ◌∷◌, None, Some, if◌then◌else◌}
 use Rattle.std.specs.declared.option.Option.{Option}
 use Rattle.xs_regex.specs.Characters.{Sort, set_at, counts_at}
 use Rattle.xs_regex.specs.Pattern.{Tree, nothing, class, both, either, any, times}
@@ -8,6 +8,11 @@ use Rattle.xs_regex.specs.Pattern.{Tree, nothing, class, both, either, any, time
 abbrev pub stops : List ℕ → Bool
 stops [] = true
 stops (c ∷ cs) = c == 124 || c == 41
+
+-- what stands behind a bar
+abbrev pub behind_bar : List ℕ → Option (List ℕ)
+behind_bar [] = None
+behind_bar (c ∷ cs) = if c == 124 then Some cs else None
 
 -- a count behind a tree
 abbrev pub braced : Tree → Option ((ℕ × Option ℕ) × List ℕ) → Option (Tree × List ℕ)

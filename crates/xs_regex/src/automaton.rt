@@ -1,8 +1,8 @@
-ghost use Rattle.std.specs.Prelude.{◌≡◌, ◌≤◌, ℕ, List, length, IfOk};
+ghost use Rattle.std.specs.Prelude.{◌≡◌, ◌+◌, ◌*◌, ◌<◌, ◌≤◌, ◌++◌, ℕ, List, length, IfOk};
 ghost use Rattle.xs_regex.specs.Automaton.{Accepts, IsWellFormed, ClassesHaveMembers, EachEnds};
-ghost use Rattle.xs_regex.specs.Matches.{Matches};
+ghost use Rattle.xs_regex.specs.Matches.{joined, Each, InTurn, OfEither, Repeats, Matches};
 ghost use Rattle.xs_regex.specs.Parts.{IsAutomaton};
-ghost use Rattle.xs_regex.specs.Size.{size, sets, IsBounded, HasMembers};
+ghost use Rattle.xs_regex.specs.Size.{copies, times, size, sets, IsInOrder, IsBounded, HasMembers};
 
 use crate::compose::{either, maybe, nothing, round, sequence, single};
 use crate::repeat::repeated;
@@ -30,6 +30,10 @@ pub fn positions(alloc: Global, r: &Regex) -> Result<Position, Memory>
     Ok(p)
 }
 
+// It calls itself for what is nested, and goes along the parts of a sequence or of a choice in a
+// loop, so the depth of the stack is that of the parentheses.
+#[cycle(built)]
+#[inline(never)]
 fn built(alloc: Global, r: &Regex) -> Result<Position, Memory>
     requires { size r.now ≤ 512 }
     ensures { IfOk result (IsAutomaton (Matches r.now) (sets r.now) (IsBounded r.now)) }
@@ -37,24 +41,69 @@ fn built(alloc: Global, r: &Regex) -> Result<Position, Memory>
     match r {
         Regex::Empty => Ok(nothing(alloc, true)),
         Regex::Set(class) => single(alloc, class),
-        Regex::Then(a, b) => {
-            let p = built(alloc, a)?;
-            let q = built(alloc, b)?;
-            sequence(alloc, p, q)
-        }
-        Regex::Or(a, b) => {
-            let p = built(alloc, a)?;
-            let q = built(alloc, b)?;
-            either(alloc, p, q)
-        }
-        Regex::Star(a) => {
-            let p = built(alloc, a)?;
-            Ok(maybe(round(alloc, p)?))
-        }
+        Regex::Then(a, b) => in_turn(alloc, a, b),
+        Regex::Or(a, b) => of_either(alloc, a, b),
+        Regex::Star(a) => any_number(alloc, a),
         Regex::Times(_, least, Some(0)) => Ok(nothing(alloc, *least == 0)),
-        Regex::Times(a, least, most) => {
-            let p = built(alloc, a)?;
-            repeated(alloc, &p, *least, *most)
-        }
+        Regex::Times(a, least, most) => counted(alloc, a, *least, *most),
     }
+}
+
+/// One regex and then another, whose right parts are passed one after another.
+#[cycle(built)]
+#[inline(never)]
+fn in_turn(alloc: Global, a: &Regex, b: &Regex) -> Result<Position, Memory>
+    requires { size a.now + size b.now ≤ 512 }
+    ensures { IfOk result (IsAutomaton (InTurn (Matches a.now) (Matches b.now)) (sets a.now ++ sets b.now) (IsBounded a.now × IsBounded b.now)) }
+{
+    let mut all = built(alloc, a)?;
+    let mut rest = b;
+    'parts: while let Regex::Then(part, behind) = rest {
+        let next = built(alloc, part)?;
+        all = sequence(alloc, all, next)?;
+        rest = behind;
+    }
+    let last = built(alloc, rest)?;
+    sequence(alloc, all, last)
+}
+
+/// One regex or another, whose right parts are passed one after another.
+#[cycle(built)]
+#[inline(never)]
+fn of_either(alloc: Global, a: &Regex, b: &Regex) -> Result<Position, Memory>
+    requires { size a.now + size b.now ≤ 512 }
+    ensures { IfOk result (IsAutomaton (OfEither (Matches a.now) (Matches b.now)) (sets a.now ++ sets b.now) (IsBounded a.now × IsBounded b.now)) }
+{
+    let mut all = built(alloc, a)?;
+    let mut rest = b;
+    'parts: while let Regex::Or(part, behind) = rest {
+        let next = built(alloc, part)?;
+        all = either(alloc, all, next)?;
+        rest = behind;
+    }
+    let last = built(alloc, rest)?;
+    either(alloc, all, last)
+}
+
+/// A regex any number of times.
+#[cycle(built)]
+#[inline(never)]
+fn any_number(alloc: Global, a: &Regex) -> Result<Position, Memory>
+    requires { size a.now ≤ 512 }
+    ensures { IfOk result (IsAutomaton (λ w. (ws : List (List ℕ)) × (w ≡ joined ws) × Each (Matches a.now) ws) (sets a.now) (IsBounded a.now)) }
+{
+    let p = built(alloc, a)?;
+    Ok(maybe(round(alloc, p)?))
+}
+
+/// A regex as often as the counts allow, which is not only no times.
+#[cycle(built)]
+#[inline(never)]
+fn counted(alloc: Global, a: &Regex, least: u32, most: Option<u32>) -> Result<Position, Memory>
+    requires some { 0 < copies least most }
+    requires small { copies least most * size a.now ≤ 512 }
+    ensures { IfOk result (IsAutomaton (Repeats (Matches a.now) least most) (times (copies least most) (sets a.now)) (IsInOrder least most × IsBounded a.now)) }
+{
+    let p = built(alloc, a)?;
+    repeated(alloc, &p, least, most)
 }

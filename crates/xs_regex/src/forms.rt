@@ -1,5 +1,5 @@
-ghost use Rattle.std.specs.Prelude.{◌≡◌, ℕ, IfOk, IfErr};
-ghost use Rattle.xs_regex.specs.Meaning.{Means};
+ghost use Rattle.std.specs.Prelude.{List, IfOk};
+ghost use Rattle.xs_regex.specs.Meaning.{Means, MeanEach, leaning};
 ghost use Rattle.xs_regex.specs.Pattern as pattern;
 ghost use Rattle.xs_regex.specs.Pattern.{Tree};
 
@@ -8,7 +8,7 @@ use std::alloc::Global;
 use xs_class::Memory;
 
 /// One regex and then another.
-pub fn both(alloc: Global, a: Regex, b: Regex) -> Result<Regex, Memory>
+fn both(alloc: Global, a: Regex, b: Regex) -> Result<Regex, Memory>
     ensures { IfOk result (λ r. (t u : Tree) → Means t a → Means u b → Means (pattern.both t u) r) }
 {
     let first = Box::new(alloc, a)?;
@@ -17,12 +17,36 @@ pub fn both(alloc: Global, a: Regex, b: Regex) -> Result<Regex, Memory>
 }
 
 /// One regex or another.
-pub fn either(alloc: Global, a: Regex, b: Regex) -> Result<Regex, Memory>
+fn either(alloc: Global, a: Regex, b: Regex) -> Result<Regex, Memory>
     ensures { IfOk result (λ r. (t u : Tree) → Means t a → Means u b → Means (pattern.either t u) r) }
 {
     let first = Box::new(alloc, a)?;
     let second = Box::new(alloc, b)?;
     Ok(Regex::Or(first, second))
+}
+
+/// The regexes one after another, and then the last.
+pub fn in_turn(alloc: Global, front: Vec<Regex>, last: Regex) -> Result<Regex, Memory>
+    ensures { IfOk result (λ r. (ts : List Tree) (t : Tree) → MeanEach ts front.items → Means t last → Means (leaning pattern.both ts t) r) }
+{
+    let mut left = front;
+    let mut whole = last;
+    'parts: while let Some(part) = left.pop() {
+        whole = both(alloc, part, whole)?;
+    }
+    Ok(whole)
+}
+
+/// One of the regexes, or the last.
+pub fn of_either(alloc: Global, front: Vec<Regex>, last: Regex) -> Result<Regex, Memory>
+    ensures { IfOk result (λ r. (ts : List Tree) (t : Tree) → MeanEach ts front.items → Means t last → Means (leaning pattern.either ts t) r) }
+{
+    let mut left = front;
+    let mut whole = last;
+    'parts: while let Some(part) = left.pop() {
+        whole = either(alloc, part, whole)?;
+    }
+    Ok(whole)
 }
 
 /// A regex any number of times.

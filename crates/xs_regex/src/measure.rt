@@ -7,13 +7,26 @@ use crate::Regex;
 pub fn size_up_to(r: &Regex) -> u32
     ensures { result ≡ min (size r.now) 513 }
 {
-    match r {
-        Regex::Empty => 0,
-        Regex::Set(_) => 1,
-        Regex::Then(a, b) => (size_up_to(a) + size_up_to(b)).min(513),
-        Regex::Or(a, b) => (size_up_to(a) + size_up_to(b)).min(513),
-        Regex::Star(a) => size_up_to(a),
-        Regex::Times(a, least, most) => many(count_of(*least, *most), size_up_to(a)),
+    let mut passed = 0;
+    let mut rest = r;
+    'parts: loop {
+        match rest {
+            Regex::Empty => return passed,
+            Regex::Set(_) => return (passed + 1).min(513),
+            Regex::Then(a, b) => {
+                passed = (passed + size_up_to(a)).min(513);
+                rest = b;
+            }
+            Regex::Or(a, b) => {
+                passed = (passed + size_up_to(a)).min(513);
+                rest = b;
+            }
+            Regex::Star(a) => rest = a,
+            Regex::Times(a, least, most) => {
+                let inner = many(count_of(*least, *most), size_up_to(a));
+                return (passed + inner).min(513);
+            }
+        }
     }
 }
 

@@ -1,20 +1,21 @@
-ghost use Rattle.std.specs.Prelude.{◌≡◌, Some};
+ghost use Rattle.std.specs.Prelude.{◌≡◌};
+ghost use Rattle.std.specs.Option.{option_map};
 ghost use Rattle.xs_regex.specs.Characters.{set_at};
 ghost use Rattle.xs_regex.specs.Meaning.{Means, Reads};
 ghost use Rattle.xs_regex.specs.Pattern.{Tree};
 ghost use Rattle.xs_regex.specs.Scan as scan;
-ghost use Rattle.xs_regex.specs.Scan.{count_behind, class_of, closed, pieces_behind, regex_behind, regex_at, pieces_at, atom_at};
+ghost use Rattle.xs_regex.specs.Scan.{count_behind, class_of, closed, regex_at, pieces_at, atom_at};
 ghost use Rattle.xs_regex.specs.Told.{IsTold};
 
 use crate::characters::{counts, next};
-use crate::forms::{any, both, either, times};
+use crate::forms::{any, in_turn, of_either, times};
 use crate::sets::set;
 use crate::{Regex, RegexFault};
 use std::alloc::Global;
 
 /// Sequences with bars between them, and what is left behind them.
 ///
-/// It calls itself at most as often as there are steps, and goes into parentheses at most so deep.
+/// It takes at most as many steps as are given, and goes into parentheses at most so deep.
 #[cycle(reader)]
 pub fn regex(
     alloc: Global,
@@ -24,38 +25,32 @@ pub fn regex(
 ) -> Result<(Regex, &[char]), RegexFault>
     ensures { IsTold (regex_at steps depth cs.now) Reads result }
 {
-    if steps == 0 {
-        return Err(RegexFault::BadRegex);
+    let mut front = Vec::new(alloc);
+    let mut here = cs;
+    let mut bound = steps;
+    'sequences: while bound > 0 {
+        bound -= 1;
+        match sequence(alloc, bound, depth, here) {
+            Ok((part, left)) => {
+                let Some(rest) = behind_bar(left) else {
+                    let whole = of_either(alloc, front, part)?;
+                    return Ok((whole, left));
+                };
+                front.push(part)?;
+                here = rest;
+            }
+            Err(fault) => return Err(fault),
+        }
     }
-    match sequence(alloc, steps - 1, depth, cs) {
-        Ok((first, left)) => alternatives(alloc, steps - 1, depth, first, left),
-        Err(fault) => Err(fault),
-    }
+    Err(RegexFault::BadRegex)
 }
 
-#[cycle(reader)]
-fn alternatives(
-    alloc: Global,
-    steps: usize,
-    depth: u32,
-    first: Regex,
-    left: &[char],
-) -> Result<(Regex, &[char]), RegexFault>
-    ensures { (t : Tree) → Means t first → IsTold (regex_behind (Some (t, left.now)) (λ l. regex_at steps depth l)) Reads result }
+/// What stands behind a bar, where one is here.
+fn behind_bar(cs: &[char]) -> Option<&[char]>
+    ensures { option_map (λ r. r.now) result ≡ scan.behind_bar cs.now }
 {
-    let Some((c, rest)) = next(left) else {
-        return Ok((first, left));
-    };
-    if c != '|' {
-        return Ok((first, left));
-    }
-    match regex(alloc, steps, depth, rest) {
-        Ok((second, left)) => {
-            let whole = either(alloc, first, second)?;
-            Ok((whole, left))
-        }
-        Err(fault) => Err(fault),
-    }
+    let (c, rest) = next(cs)?;
+    if c == '|' { Some(rest) } else { None }
 }
 
 /// Whether a sequence ends here.
@@ -92,35 +87,24 @@ fn pieces(
 ) -> Result<(Regex, &[char]), RegexFault>
     ensures { IsTold (pieces_at steps depth cs.now) Reads result }
 {
-    if steps == 0 {
-        return Err(RegexFault::BadRegex);
-    }
-    match piece(alloc, steps - 1, depth, cs) {
-        Ok((first, left)) => more_pieces(alloc, steps - 1, depth, first, left),
-        Err(fault) => Err(fault),
-    }
-}
-
-#[cycle(reader)]
-fn more_pieces(
-    alloc: Global,
-    steps: usize,
-    depth: u32,
-    first: Regex,
-    left: &[char],
-) -> Result<(Regex, &[char]), RegexFault>
-    ensures { (t : Tree) → Means t first → IsTold (pieces_behind (Some (t, left.now)) (λ l. pieces_at steps depth l)) Reads result }
-{
-    if ends(left) {
-        return Ok((first, left));
-    }
-    match pieces(alloc, steps, depth, left) {
-        Ok((second, left)) => {
-            let whole = both(alloc, first, second)?;
-            Ok((whole, left))
+    let mut front = Vec::new(alloc);
+    let mut here = cs;
+    let mut bound = steps;
+    'pieces: while bound > 0 {
+        bound -= 1;
+        match piece(alloc, bound, depth, here) {
+            Ok((part, left)) => {
+                if ends(left) {
+                    let whole = in_turn(alloc, front, part)?;
+                    return Ok((whole, left));
+                }
+                front.push(part)?;
+                here = left;
+            }
+            Err(fault) => return Err(fault),
         }
-        Err(fault) => Err(fault),
     }
+    Err(RegexFault::BadRegex)
 }
 
 /// An atom with its count.

@@ -63,23 +63,26 @@ fn items<'a>(
 ) -> Result<&'a [char], RegexFault>
     ensures { IsTold (items_at steps cs.now) (λ a x. (a.1 ≡ x.now) × Adds into.old.items into.new.items (IsOfItems a.0)) result }
 {
-    if steps == 0 {
-        return Err(RegexFault::BadRegex);
+    let mut here = cs;
+    let mut bound = steps;
+    'items: while bound > 0 {
+        bound -= 1;
+        let Some((piece, left)) = item(here) else {
+            return Err(RegexFault::BadRegex);
+        };
+        match add(alloc, piece, into) {
+            Ok(()) => {}
+            Err(fault) => return Err(fault),
+        }
+        let Some((c, rest)) = next(left) else {
+            return Err(RegexFault::BadRegex);
+        };
+        if c == ']' {
+            return Ok(rest);
+        }
+        here = left;
     }
-    let Some((piece, left)) = item(cs) else {
-        return Err(RegexFault::BadRegex);
-    };
-    match add(alloc, piece, into) {
-        Ok(()) => {}
-        Err(fault) => return Err(fault),
-    }
-    let Some((c, rest)) = next(left) else {
-        return Err(RegexFault::BadRegex);
-    };
-    if c == ']' {
-        return Ok(rest);
-    }
-    items(alloc, steps - 1, left, into)
+    Err(RegexFault::BadRegex)
 }
 
 /// All characters of XML.

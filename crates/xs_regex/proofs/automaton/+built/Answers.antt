@@ -1,30 +1,120 @@
-use Rattle.std.proofs.Common.{◌≡◌, ℕ}
-use Rattle.xs_regex.proofs.Built.{class_is, then_is, either_is, star_is}
-use Rattle.xs_regex.specs.Size.{copies}
+use Rattle.std.proofs.Common.{◌≡◌, ◌+◌, ap, arith}
+use Rattle.xs_regex.specs.Size.{copies, size}
+use Rattle.xs_regex.proofs.Built.{class_is, star_is}
 use Rattle.xs_regex.proofs.Copies.{times_is}
-use Rattle.xs_regex.proofs.Places.{ok_weaker, both_small, copies_small}
+use Rattle.xs_regex.proofs.Passed.{nodes, passed_size, turn_begun, either_begun, turn_next, either_next, turn_ended, either_ended}
+use Rattle.xs_regex.proofs.Places.{ok_weaker, copies_small, size_is}
 use Rattle.xs_regex.proofs.automaton.+built.Goals as goal
 
-pub sequence-requires-clause-small : goal.sequence-requires-clause-small
-sequence-requires-clause-small t c = both_small c.in-Then.a.value c.in-Then.b.value _ _ _ _ c.in_ok-p-in-Then.p c.in_ok-q-in-Then.q (rw c.in-Then.is at c.requires) (rw c.deref.ensures at c.in_ok-p-in-Then.ensures) (rw c.deref-in-Then.ensures at c.in_ok-q-in-Then.ensures)
+pub any_number-returns : goal.any_number-returns
+any_number-returns t c = rw c.maybe.ensures (star_is c.in_ok-p.ensures c.in_ok-round.ensures)
 
-pub either-requires-clause-small : goal.either-requires-clause-small
-either-requires-clause-small t c = both_small c.in-Or.a.value c.in-Or.b.value _ _ _ _ c.in_ok-p-in-Or.p c.in_ok-q-in-Or.q (rw c.in-Or.is at c.requires) (rw c.deref-in-Or.ensures at c.in_ok-p-in-Or.ensures) (rw c.deref-in-Or-2.ensures at c.in_ok-q-in-Or.ensures)
+pub built-returns-in-Set : goal.built-returns-in-Set
+built-returns-in-Set t c = rw c.in-Set.is (ok_weaker c.single.result _ _ (λ p e. rw e (class_is c.in-Set.class _)) c.single.ensures)
 
-pub repeated-requires-clause-small : goal.repeated-requires-clause-small
-repeated-requires-clause-small t c = copies_small c.in-Times.a.value (copies c.in-Times.least c.in-Times.most) _ _ c.in_ok-p-in-Times.p (rw c.in-Times.is at c.requires) (rw c.deref-in-Times.ensures at c.in_ok-p-in-Times.ensures)
+pub built-returns-in-Then : goal.built-returns-in-Then
+built-returns-in-Then t c = rw c.in-Then.is (rw (c.deref.ensures, c.deref-in-Then.ensures) at c.in_turn.ensures)
 
-pub returns-in-Set : goal.returns-in-Set
-returns-in-Set t c = rw c.in-Set.is (ok_weaker c.single.result _ _ (λ p e. rw e (class_is c.in-Set.class _)) c.single.ensures)
+pub built-returns-in-Star : goal.built-returns-in-Star
+built-returns-in-Star t c = rw c.in-Star.is (rw c.deref-in-Star.ensures at c.any_number.ensures)
 
-pub returns-in_ok-q-in-Then : goal.returns-in_ok-q-in-Then
-returns-in_ok-q-in-Then t c = rw c.in-Then.is (ok_weaker c.sequence.result _ _ (λ r e. then_is (rw c.deref.ensures at c.in_ok-p-in-Then.ensures) (rw c.deref-in-Then.ensures at c.in_ok-q-in-Then.ensures) e) c.sequence.ensures)
+pub built-returns-in-Times : goal.built-returns-in-Times
+built-returns-in-Times t c = rw c.in-Times.is (rw c.deref-in-Times.ensures at c.counted.ensures)
 
-pub returns-in_ok-q-in-Or : goal.returns-in_ok-q-in-Or
-returns-in_ok-q-in-Or t c = rw c.in-Or.is (ok_weaker c.either.result _ _ (λ r e. either_is (rw c.deref-in-Or.ensures at c.in_ok-p-in-Or.ensures) (rw c.deref-in-Or-2.ensures at c.in_ok-q-in-Or.ensures) e) c.either.ensures)
+pub counted-repeated-requires-clause-small : goal.counted-repeated-requires-clause-small
+counted-repeated-requires-clause-small t c = copies_small c.args.a.now (copies c.args.least c.args.most) _ _ c.in_ok-p.p c.requires.small c.in_ok-p.ensures
 
-pub returns-in_ok-round-in-Star : goal.returns-in_ok-round-in-Star
-returns-in_ok-round-in-Star t c = rw (c.in-Star.is, c.maybe.ensures) (star_is (rw c.deref-in-Star.ensures at c.in_ok-p-in-Star.ensures) c.in_ok-round-in-Star.ensures)
+pub counted-returns : goal.counted-returns
+counted-returns t c = ok_weaker c.repeated.result _ _ (λ r e. times_is r c.args.least c.args.most c.in_ok-p.ensures e) c.repeated.ensures
 
-pub returns-in_ok-p-in-Times : goal.returns-in_ok-p-in-Times
-returns-in_ok-p-in-Times t c = rw c.in-Times.is (ok_weaker c.repeated.result _ _ (λ r e. times_is r c.in-Times.least c.in-Times.most (rw c.deref-in-Times.ensures at c.in_ok-p-in-Times.ensures) e) c.repeated.ensures)
+pub in_turn-parts-init : goal.in_turn-parts-init
+in_turn-parts-init t c = (omega arith, turn_begun c.in_ok-all.ensures)
+
+pub in_turn-built-requires-in-Then : goal.in_turn-built-requires-in-Then
+in_turn-built-requires-in-Then t c =
+    let n : nodes c.parts.rest.now ≡ 1 + nodes c.in-Then.part.value + nodes c.in-Then.behind.value = ap nodes c.in-Then.is in
+    let s : size c.parts.rest.now ≡ size c.in-Then.part.value + size c.in-Then.behind.value = ap size c.in-Then.is in
+    let m = passed_size c.args.a.now c.args.b.now c.parts.rest.now c.parts.all c.parts.invariant.1.classes_are in
+    rw c.deref.ensures (omega (arith, c.decreases, n, c.parts.invariant.0), omega (arith, s, m, c.requires))
+
+pub in_turn-sequence-requires-clause-front : goal.in_turn-sequence-requires-clause-front
+in_turn-sequence-requires-clause-front t c = c.parts.invariant.1.formed
+
+pub in_turn-sequence-requires-clause-small : goal.in_turn-sequence-requires-clause-small
+in_turn-sequence-requires-clause-small t c =
+    let s : size c.parts.rest.now ≡ size c.in-Then.part.value + size c.in-Then.behind.value = ap size c.in-Then.is in
+    let m = passed_size c.args.a.now c.args.b.now c.parts.rest.now c.parts.all c.parts.invariant.1.classes_are in
+    omega (arith, s, m, c.requires, ap size c.deref.ensures, size_is c.deref.result.now _ _ c.in_ok-next.next c.in_ok-next.ensures)
+
+pub in_turn-parts-preserved : goal.in_turn-parts-preserved
+in_turn-parts-preserved t c =
+    let n : nodes c.parts.rest.now ≡ 1 + nodes c.in-Then.part.value + nodes c.in-Then.behind.value = ap nodes c.in-Then.is in
+    rw c.deref-rest.ensures (omega (arith, n, c.parts.invariant.0), turn_next (rw c.in-Then.is at c.parts.invariant.1) (rw c.deref.ensures at c.in_ok-next.ensures) c.in_ok-all-2.ensures)
+
+pub in_turn-parts-smaller : goal.in_turn-parts-smaller
+in_turn-parts-smaller t c =
+    let n : nodes c.parts.rest.now ≡ 1 + nodes c.in-Then.part.value + nodes c.in-Then.behind.value = ap nodes c.in-Then.is in
+    rw c.deref-rest.ensures (omega (arith, n))
+
+pub in_turn-built-requires-2 : goal.in_turn-built-requires-2
+in_turn-built-requires-2 t c =
+    let m = passed_size c.args.a.now c.args.b.now c.parts.rest.now c.parts.all c.parts.invariant.1.classes_are in
+    (omega (arith, c.decreases, c.parts.invariant.0), omega (arith, m, c.requires))
+
+pub in_turn-sequence-requires-2 : goal.in_turn-sequence-requires-2
+in_turn-sequence-requires-2 t c =
+    let m = passed_size c.args.a.now c.args.b.now c.parts.rest.now c.parts.all c.parts.invariant.1.classes_are in
+    record {
+      front = c.parts.invariant.1.formed;
+      rest = c.in_ok-last.ensures.formed;
+      small = omega (arith, m, c.requires, size_is c.parts.rest.now _ _ c.in_ok-last.last c.in_ok-last.ensures);
+    }
+
+pub in_turn-returns : goal.in_turn-returns
+in_turn-returns t c = ok_weaker c.sequence-2.result _ _ (λ r e. turn_ended c.parts.invariant.1 c.in_ok-last.ensures e) c.sequence-2.ensures
+
+pub of_either-parts-init : goal.of_either-parts-init
+of_either-parts-init t c = (omega arith, either_begun c.in_ok-all.ensures)
+
+pub of_either-built-requires-in-Or : goal.of_either-built-requires-in-Or
+of_either-built-requires-in-Or t c =
+    let n : nodes c.parts.rest.now ≡ 1 + nodes c.in-Or.part.value + nodes c.in-Or.behind.value = ap nodes c.in-Or.is in
+    let s : size c.parts.rest.now ≡ size c.in-Or.part.value + size c.in-Or.behind.value = ap size c.in-Or.is in
+    let m = passed_size c.args.a.now c.args.b.now c.parts.rest.now c.parts.all c.parts.invariant.1.classes_are in
+    rw c.deref.ensures (omega (arith, c.decreases, n, c.parts.invariant.0), omega (arith, s, m, c.requires))
+
+pub of_either-either-requires-clause-front : goal.of_either-either-requires-clause-front
+of_either-either-requires-clause-front t c = c.parts.invariant.1.formed
+
+pub of_either-either-requires-clause-small : goal.of_either-either-requires-clause-small
+of_either-either-requires-clause-small t c =
+    let s : size c.parts.rest.now ≡ size c.in-Or.part.value + size c.in-Or.behind.value = ap size c.in-Or.is in
+    let m = passed_size c.args.a.now c.args.b.now c.parts.rest.now c.parts.all c.parts.invariant.1.classes_are in
+    omega (arith, s, m, c.requires, ap size c.deref.ensures, size_is c.deref.result.now _ _ c.in_ok-next.next c.in_ok-next.ensures)
+
+pub of_either-parts-preserved : goal.of_either-parts-preserved
+of_either-parts-preserved t c =
+    let n : nodes c.parts.rest.now ≡ 1 + nodes c.in-Or.part.value + nodes c.in-Or.behind.value = ap nodes c.in-Or.is in
+    rw c.deref-rest.ensures (omega (arith, n, c.parts.invariant.0), either_next (rw c.in-Or.is at c.parts.invariant.1) (rw c.deref.ensures at c.in_ok-next.ensures) c.in_ok-all-2.ensures)
+
+pub of_either-parts-smaller : goal.of_either-parts-smaller
+of_either-parts-smaller t c =
+    let n : nodes c.parts.rest.now ≡ 1 + nodes c.in-Or.part.value + nodes c.in-Or.behind.value = ap nodes c.in-Or.is in
+    rw c.deref-rest.ensures (omega (arith, n))
+
+pub of_either-built-requires-2 : goal.of_either-built-requires-2
+of_either-built-requires-2 t c =
+    let m = passed_size c.args.a.now c.args.b.now c.parts.rest.now c.parts.all c.parts.invariant.1.classes_are in
+    (omega (arith, c.decreases, c.parts.invariant.0), omega (arith, m, c.requires))
+
+pub of_either-either-requires-2 : goal.of_either-either-requires-2
+of_either-either-requires-2 t c =
+    let m = passed_size c.args.a.now c.args.b.now c.parts.rest.now c.parts.all c.parts.invariant.1.classes_are in
+    record {
+      front = c.parts.invariant.1.formed;
+      rest = c.in_ok-last.ensures.formed;
+      small = omega (arith, m, c.requires, size_is c.parts.rest.now _ _ c.in_ok-last.last c.in_ok-last.ensures);
+    }
+
+pub of_either-returns : goal.of_either-returns
+of_either-returns t c = ok_weaker c.either-2.result _ _ (λ r e. either_ended c.parts.invariant.1 c.in_ok-last.ensures e) c.either-2.ensures

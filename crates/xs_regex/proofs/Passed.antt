@@ -1,0 +1,93 @@
+-- The parts of a sequence or of a choice, passed from left to right.
+use Rattle.std.proofs.Common.{◌≡◌, ◌∙◌, ℕ, ◌+◌, ◌≤◌, List, ◌++◌, length, refl, sym, ap, inl, inr, arith, length-append}
+use Rattle.std.proofs.lemmas.List.{append_assoc}
+use Rattle.xs_regex.specs.declared.position.Position.{Position}
+use Rattle.xs_regex.specs.declared.regex.Regex.{Regex}
+use Rattle.xs_regex.specs.declared.regex.Regex.TheVariants.{Empty, Set, Then', Or', Star', Times'}
+use Rattle.xs_regex.specs.Automaton.{Accepts, IsWellFormed, ClassesHaveMembers}
+use Rattle.xs_regex.specs.Matches.{InTurn, OfEither, Matches}
+use Rattle.xs_regex.specs.Parts.{IsThen, IsEither, IsTrim, IsAutomaton}
+use Rattle.xs_regex.specs.Size.{sets, size, IsBounded}
+use Rattle.xs_regex.proofs.Built.{told, itself, then_is, either_is}
+use Rattle.xs_regex.proofs.Places.{length-sets}
+
+-- how many nodes the regex has, which bounds the calls
+abbrev pub nodes : Regex → ℕ
+nodes Empty = 1
+nodes (Set class) = 1
+nodes (Then' p a q b) = 1 + nodes a + nodes b
+nodes (Or' p a q b) = 1 + nodes a + nodes b
+nodes (Star' p a) = 1 + nodes a
+nodes (Times' p a least most) = 1 + nodes a
+
+-- the words of what was passed, joined with those of the rest, are those of the whole
+pub record IsPassed (Join : (List ℕ → Type 0) → (List ℕ → Type 0) → List ℕ → Type 0) (Word : List ℕ → Type 0) (classes : List (List (ℕ × ℕ))) (Sure : Type 0) (all : Position) (Rest : List ℕ → Type 0) (behind : List (List (ℕ × ℕ))) (SureRest : Type 0) : Type 0 where
+  pub formed : IsWellFormed all
+  pub sound : (w : List ℕ) → Join (Accepts all) Rest w → Word w
+  pub complete : (w : List ℕ) → Word w → Join (Accepts all) Rest w
+  pub classes_are : all.classes ++ behind ≡ classes
+  pub sure : Sure → (ClassesHaveMembers all → IsTrim all) × SureRest
+
+-- what was passed of a regex joined so with another, and what is left
+abbrev pub IsPassedOf : ((List ℕ → Type 0) → (List ℕ → Type 0) → List ℕ → Type 0) → Regex → Regex → Position → Regex → Type 0
+IsPassedOf Join a b all rest = (nodes rest ≤ nodes b) × IsPassed Join (Join (Matches a) (Matches b)) (sets a ++ sets b) (IsBounded a × IsBounded b) all (Matches rest) (sets rest) (IsBounded rest)
+
+pub passed_size : (a b rest : Regex) (all : Position) → all.classes ++ sets rest ≡ sets a ++ sets b → length all.classes + size rest ≡ size a + size b
+passed_size a b rest all e =
+    let n : length (all.classes ++ sets rest) ≡ length (sets a ++ sets b) = ap (λ (x : List (List (ℕ × ℕ))). length x) e in
+    omega (arith, n, length-append all.classes (sets rest), length-append (sets a) (sets b), length-sets rest, length-sets a, length-sets b)
+
+module _ {V W : List ℕ → Type 0} {c d : List (List (ℕ × ℕ))} {S T : Type 0} where
+  pub turn_begun : {p : Position} → IsAutomaton V c S p → IsPassed InTurn (InTurn V W) (c ++ d) (S × T) p W d T
+  turn_begun {p} x = record {
+    formed = x.formed;
+    sound = λ w h. (h.0, h.1, h.2, x.sound h.0 h.3, h.4);
+    complete = λ w h. (h.0, h.1, h.2, x.complete h.0 h.3, h.4);
+    classes_are = ap (λ (k : List (List (ℕ × ℕ))). k ++ d) x.classes_are;
+    sure = λ s. (x.trim s.0, s.1);
+  }
+
+  pub either_begun : {p : Position} → IsAutomaton V c S p → IsPassed OfEither (OfEither V W) (c ++ d) (S × T) p W d T
+  either_begun {p} x = record {
+    formed = x.formed;
+    sound = λ w h. elim h [ inl a ↦ inl (x.sound w a) | inr b ↦ inr b ];
+    complete = λ w h. elim h [ inl a ↦ inl (x.complete w a) | inr b ↦ inr b ];
+    classes_are = ap (λ (k : List (List (ℕ × ℕ))). k ++ d) x.classes_are;
+    sure = λ s. (x.trim s.0, s.1);
+  }
+
+module _ {Word : List ℕ → Type 0} {classes : List (List (ℕ × ℕ))} {Sure : Type 0} {V W : List ℕ → Type 0} {c d : List (List (ℕ × ℕ))} {S T : Type 0} where
+  pub turn_next : {all part next : Position} → IsPassed InTurn Word classes Sure all (InTurn V W) (c ++ d) (S × T) → IsAutomaton V c S part → IsThen all part next → IsPassed InTurn Word classes Sure next W d T
+  turn_next {all} {part} {next} h x t =
+      let y = then_is (itself all h.formed) x t in
+      record {
+        formed = y.formed;
+        sound = λ w m. let z = y.sound m.0 m.3 in h.sound w (z.0, z.1 ++ m.1, m.2 ∙ ap (λ (v : List ℕ). v ++ m.1) z.2 ∙ append_assoc z.0 z.1 m.1, z.3, (z.1, m.1, refl, z.4, m.4));
+        complete = λ w m. let z = h.complete w m in (z.0 ++ z.4.0, z.4.1, z.2 ∙ ap (λ (v : List ℕ). z.0 ++ v) z.4.2 ∙ sym (append_assoc z.0 z.4.0 z.4.1), y.complete (z.0 ++ z.4.0) (z.0, z.4.0, refl, z.3, z.4.3), z.4.4);
+        classes_are = ap (λ (k : List (List (ℕ × ℕ))). k ++ d) y.classes_are ∙ append_assoc all.classes c d ∙ h.classes_are;
+        sure = λ s. let z = h.sure s in (y.trim (z.0, z.1.0), z.1.1);
+      }
+
+  pub either_next : {all part next : Position} → IsPassed OfEither Word classes Sure all (OfEither V W) (c ++ d) (S × T) → IsAutomaton V c S part → IsEither all part next → IsPassed OfEither Word classes Sure next W d T
+  either_next {all} {part} {next} h x t =
+      let y = either_is (itself all h.formed) x t in
+      record {
+        formed = y.formed;
+        sound = λ w m. elim m [
+          | inl a ↦ elim (y.sound w a) [ inl k ↦ h.sound w (inl k) | inr k ↦ h.sound w (inr (inl k)) ]
+          | inr b ↦ h.sound w (inr (inr b))
+        ];
+        complete = λ w m. elim (h.complete w m) [
+          | inl a ↦ inl (y.complete w (inl a))
+          | inr b ↦ elim b [ inl k ↦ inl (y.complete w (inr k)) | inr k ↦ inr k ]
+        ];
+        classes_are = ap (λ (k : List (List (ℕ × ℕ))). k ++ d) y.classes_are ∙ append_assoc all.classes c d ∙ h.classes_are;
+        sure = λ s. let z = h.sure s in (y.trim (z.0, z.1.0), z.1.1);
+      }
+
+-- the last part
+pub turn_ended : {Word W : List ℕ → Type 0} {classes d : List (List (ℕ × ℕ))} {Sure T : Type 0} {all last r : Position} → IsPassed InTurn Word classes Sure all W d T → IsAutomaton W d T last → IsThen all last r → IsAutomaton Word classes Sure r
+turn_ended {all = all} h x t = told h.sound h.complete h.classes_are h.sure (then_is (itself all h.formed) x t)
+
+pub either_ended : {Word W : List ℕ → Type 0} {classes d : List (List (ℕ × ℕ))} {Sure T : Type 0} {all last r : Position} → IsPassed OfEither Word classes Sure all W d T → IsAutomaton W d T last → IsEither all last r → IsAutomaton Word classes Sure r
+either_ended {all = all} h x t = told h.sound h.complete h.classes_are h.sure (either_is (itself all h.formed) x t)

@@ -1,0 +1,31 @@
+use Rattle.std.proofs.Common.{◌+◌, ◌*◌}
+use Rattle.xs_regex.specs.Matches.{InTurn, OfEither}
+use Rattle.xs_regex.proofs.Passed.{nodes, IsPassedOf}
+use Rattle.xs_regex.proofs.automaton.+built.Given as goal
+
+abbrev pub decreases-any_number : goal.decreases-any_number
+decreases-any_number l = 2 * nodes l.a.now + 1
+
+abbrev pub decreases-built : goal.decreases-built
+decreases-built l = 2 * nodes l.r.now
+
+abbrev pub decreases-counted : goal.decreases-counted
+decreases-counted l = 2 * nodes l.a.now + 1
+
+abbrev pub decreases-in_turn : goal.decreases-in_turn
+decreases-in_turn l = 2 * (nodes l.a.now + nodes l.b.now) + 1
+
+abbrev pub invariant-in_turn-parts : goal.invariant-in_turn-parts
+invariant-in_turn-parts l = IsPassedOf InTurn l.fn.a l.fn.b l.all l.rest
+
+abbrev pub decreases-in_turn-parts : goal.decreases-in_turn-parts
+decreases-in_turn-parts l = nodes l.rest
+
+abbrev pub decreases-of_either : goal.decreases-of_either
+decreases-of_either l = 2 * (nodes l.a.now + nodes l.b.now) + 1
+
+abbrev pub invariant-of_either-parts : goal.invariant-of_either-parts
+invariant-of_either-parts l = IsPassedOf OfEither l.fn.a l.fn.b l.all l.rest
+
+abbrev pub decreases-of_either-parts : goal.decreases-of_either-parts
+decreases-of_either-parts l = nodes l.rest
