@@ -6,6 +6,12 @@ use Rattle.xs_sheet.specs.declared.state.Opened.{Opened}
 use Rattle.xs_sheet.specs.declared.state.Inside.{Inside}
 use Rattle.xs_sheet.specs.declared.state.Place.{Place}
 use Rattle.xs_sheet.specs.declared.state.Place.TheVariants as P
+use Rattle.xs_sheet.specs.declared.state.UnitState.{UnitState}
+use Rattle.xs_sheet.specs.declared.state.UnitState.TheVariants as U
+use Rattle.xs_sheet.specs.declared.state.ItemState.{ItemState}
+use Rattle.xs_sheet.specs.declared.state.ItemState.TheVariants as I
+use Rattle.xs_sheet.specs.declared.state.TagState.{TagState}
+use Rattle.xs_sheet.specs.declared.state.TagState.TheVariants as G
 use Rattle.xs_sheet.specs.declared.state.State.{State}
 use Rattle.xs_sheet.specs.declared.state.State.TheVariants as S
 use Rattle.xs_sheet.specs.declared.state.Step.{Step}
@@ -35,25 +41,34 @@ place_view (P.LeftSide head name line items) = M.left_side (head_view head) name
 place_view (P.Content c) = M.inside (inside_view c)
 place_view (P.Value v) = M.value (inside_view v.inside) v.tag v.attrs.items v.name v.items.items
 
+abbrev pub unit_view : UnitState → M.State
+unit_view U.Begin = M.begin
+unit_view U.Versioned = M.versioned
+unit_view (U.Started line) = M.started line
+unit_view (U.Units head) = M.units (head_view head)
+unit_view (U.Named begun) = M.named (head_view begun.head) begun.terminal begun.line
+unit_view (U.Equals begun name) = M.equals (head_view begun.head) begun.terminal begun.line name
+unit_view (U.Regular begun name) = M.regular (head_view begun.head) begun.terminal begun.line name
+unit_view (U.Normal head line name pattern regex) = M.normal (head_view head) line name pattern
+unit_view (U.Colon head name line) = M.colon (head_view head) name line
+
+abbrev pub item_view : ItemState → M.State
+item_view (I.At place) = M.at (place_view place)
+item_view (I.Square place) = M.square (place_view place)
+item_view (I.SquareName place name) = M.square_name (place_view place) name
+item_view (I.SquareSlot place name slot) = M.square_slot (place_view place) name slot
+
+abbrev pub tag_view : TagState → M.State
+tag_view (G.Angle c) = M.angle (inside_view c)
+tag_view (G.Attrs c tag as_) = M.attrs (inside_view c) tag as_.items
+tag_view (G.AttrEquals c tag as_ name) = M.attr_equals (inside_view c) tag as_.items name
+tag_view (G.Closing c) = M.closing (draft_view c.draft) (opened_view c.opened) (opens_view c.opens.items) (content_of c.content.items)
+tag_view (G.Closed c) = M.closed (draft_view c.draft) (opened_view c.opened) (opens_view c.opens.items) (content_of c.content.items)
+
 abbrev pub state_view : State → M.State
-state_view S.Begin = M.begin
-state_view S.Versioned = M.versioned
-state_view (S.Started line) = M.started line
-state_view (S.Units head) = M.units (head_view head)
-state_view (S.Named begun) = M.named (head_view begun.head) begun.terminal begun.line
-state_view (S.Equals begun name) = M.equals (head_view begun.head) begun.terminal begun.line name
-state_view (S.Regular begun name) = M.regular (head_view begun.head) begun.terminal begun.line name
-state_view (S.Normal head line name pattern regex) = M.normal (head_view head) line name pattern
-state_view (S.Colon head name line) = M.colon (head_view head) name line
-state_view (S.At place) = M.at (place_view place)
-state_view (S.Square place) = M.square (place_view place)
-state_view (S.SquareName place name) = M.square_name (place_view place) name
-state_view (S.SquareSlot place name slot) = M.square_slot (place_view place) name slot
-state_view (S.Angle c) = M.angle (inside_view c)
-state_view (S.Attrs c tag as_) = M.attrs (inside_view c) tag as_.items
-state_view (S.AttrEquals c tag as_ name) = M.attr_equals (inside_view c) tag as_.items name
-state_view (S.Closing c) = M.closing (draft_view c.draft) (opened_view c.opened) (opens_view c.opens.items) (content_of c.content.items)
-state_view (S.Closed c) = M.closed (draft_view c.draft) (opened_view c.opened) (opens_view c.opens.items) (content_of c.content.items)
+state_view (S.Unit s) = unit_view s
+state_view (S.Item s) = item_view s
+state_view (S.Tag s) = tag_view s
 
 abbrev pub step_view : Step → M.Step
 step_view (T.Go s) = M.go (state_view s)
@@ -66,25 +81,34 @@ PlaceHasRegexes (P.LeftSide head name line items) = HaveRegexes head.units.items
 PlaceHasRegexes (P.Content c) = HaveRegexes c.draft.head.units.items
 PlaceHasRegexes (P.Value v) = HaveRegexes v.inside.draft.head.units.items
 
+abbrev pub UnitHasRegexes : UnitState → Type 0
+UnitHasRegexes U.Begin = ⊤
+UnitHasRegexes U.Versioned = ⊤
+UnitHasRegexes (U.Started line) = ⊤
+UnitHasRegexes (U.Units head) = HaveRegexes head.units.items
+UnitHasRegexes (U.Named begun) = HaveRegexes begun.head.units.items
+UnitHasRegexes (U.Equals begun name) = HaveRegexes begun.head.units.items
+UnitHasRegexes (U.Regular begun name) = HaveRegexes begun.head.units.items
+UnitHasRegexes (U.Normal head line name pattern regex) = HaveRegexes head.units.items × IsRegex pattern regex
+UnitHasRegexes (U.Colon head name line) = HaveRegexes head.units.items
+
+abbrev pub ItemHasRegexes : ItemState → Type 0
+ItemHasRegexes (I.At place) = PlaceHasRegexes place
+ItemHasRegexes (I.Square place) = PlaceHasRegexes place
+ItemHasRegexes (I.SquareName place name) = PlaceHasRegexes place
+ItemHasRegexes (I.SquareSlot place name slot) = PlaceHasRegexes place
+
+abbrev pub TagHasRegexes : TagState → Type 0
+TagHasRegexes (G.Angle c) = HaveRegexes c.draft.head.units.items
+TagHasRegexes (G.Attrs c tag as_) = HaveRegexes c.draft.head.units.items
+TagHasRegexes (G.AttrEquals c tag as_ name) = HaveRegexes c.draft.head.units.items
+TagHasRegexes (G.Closing c) = HaveRegexes c.draft.head.units.items
+TagHasRegexes (G.Closed c) = HaveRegexes c.draft.head.units.items
+
 abbrev pub StateHasRegexes : State → Type 0
-StateHasRegexes S.Begin = ⊤
-StateHasRegexes S.Versioned = ⊤
-StateHasRegexes (S.Started line) = ⊤
-StateHasRegexes (S.Units head) = HaveRegexes head.units.items
-StateHasRegexes (S.Named begun) = HaveRegexes begun.head.units.items
-StateHasRegexes (S.Equals begun name) = HaveRegexes begun.head.units.items
-StateHasRegexes (S.Regular begun name) = HaveRegexes begun.head.units.items
-StateHasRegexes (S.Normal head line name pattern regex) = HaveRegexes head.units.items × IsRegex pattern regex
-StateHasRegexes (S.Colon head name line) = HaveRegexes head.units.items
-StateHasRegexes (S.At place) = PlaceHasRegexes place
-StateHasRegexes (S.Square place) = PlaceHasRegexes place
-StateHasRegexes (S.SquareName place name) = PlaceHasRegexes place
-StateHasRegexes (S.SquareSlot place name slot) = PlaceHasRegexes place
-StateHasRegexes (S.Angle c) = HaveRegexes c.draft.head.units.items
-StateHasRegexes (S.Attrs c tag as_) = HaveRegexes c.draft.head.units.items
-StateHasRegexes (S.AttrEquals c tag as_ name) = HaveRegexes c.draft.head.units.items
-StateHasRegexes (S.Closing c) = HaveRegexes c.draft.head.units.items
-StateHasRegexes (S.Closed c) = HaveRegexes c.draft.head.units.items
+StateHasRegexes (S.Unit s) = UnitHasRegexes s
+StateHasRegexes (S.Item s) = ItemHasRegexes s
+StateHasRegexes (S.Tag s) = TagHasRegexes s
 
 abbrev pub StepHasRegexes : Step → Type 0
 StepHasRegexes (T.Go s) = StateHasRegexes s

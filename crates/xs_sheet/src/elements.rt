@@ -1,12 +1,12 @@
-ghost use Rattle.std.specs.Prelude.{◌≡◌, IfOk};
+ghost use Rattle.std.specs.Prelude.{◌≡◌, length, nat_lt, IfOk};
 ghost use Rattle.xs_sheet.specs.Grammar.{HaveRegexes};
 ghost use Rattle.xs_sheet.specs.Machine as M;
 ghost use Rattle.xs_sheet.specs.Outline.{content_of, element};
-ghost use Rattle.xs_sheet.specs.View.{draft_view, opened_view, opens_view, inside_view, head_view, step_view, StepHasRegexes};
+ghost use Rattle.xs_sheet.specs.View.{draft_view, opened_view, opens_view, inside_view, head_view, tag_view, step_view, TagHasRegexes, StepHasRegexes};
 
 use crate::piece::{Piece, same_texts};
 use crate::places::push_content;
-use crate::state::{Closing, Head, Inside, Opened, Place, State, Step, Value};
+use crate::state::{Closing, Head, Inside, ItemState, Opened, Place, State, Step, TagState, Value};
 use crate::units::{between, copy, with_unit};
 use crate::{Attr, Attrs, Items, Unit, XItem, XItems};
 use std::alloc::Global;
@@ -62,8 +62,8 @@ fn empty_element(
     push_content(inside, item)
 }
 
-/// Behind a tag's name and some attributes.
-pub fn in_tag(
+// Behind a tag's name and some attributes.
+fn in_tag(
     alloc: Global,
     inside: Inside,
     tag: Text,
@@ -76,15 +76,15 @@ pub fn in_tag(
 {
     if piece.is_name() {
         let name = copy(alloc, &piece.text)?;
-        return Ok(Step::Go(State::AttrEquals(inside, tag, attrs, name)));
+        return Ok(Step::Go(State::Tag(TagState::AttrEquals(inside, tag, attrs, name))));
     }
     if piece.is(Kind::SlashEnd) {
         let inside = empty_element(alloc, inside, tag, attrs)?;
-        return Ok(Step::Go(State::At(Place::Content(inside))));
+        return Ok(Step::Go(State::Item(ItemState::At(Place::Content(inside)))));
     }
     if piece.is(Kind::AngleEnd) {
         let inside = open_element(alloc, inside, tag, attrs)?;
-        return Ok(Step::Go(State::At(Place::Content(inside))));
+        return Ok(Step::Go(State::Item(ItemState::At(Place::Content(inside)))));
     }
     Ok(Step::Refuse)
 }
@@ -126,12 +126,12 @@ fn close_element(inside: Inside) -> Step
     } = inside;
     match opens.pop() {
         None => Step::Refuse,
-        Some(opened) => Step::Go(State::Closing(Closing {
+        Some(opened) => Step::Go(State::Tag(TagState::Closing(Closing {
             draft,
             opened,
             opens,
             content,
-        })),
+        }))),
     }
 }
 
@@ -155,22 +155,26 @@ fn end_production(inside: Inside) -> Result<Head, Memory>
     with_unit(draft.head, unit)
 }
 
-/// Behind an item of an XML side, at a piece that begins none.
+// At `<` in content.
 #[tactic(auto, using(crate::proofs::ContentLaws::opens_length))]
-pub fn leave_content(alloc: Global, inside: Inside, piece: &Piece) -> Result<Step, Memory>
+fn begin_tag(inside: Inside) -> Step
     requires { HaveRegexes inside.draft.head.units.items }
-    ensures view { IfOk result (λ s. step_view s ≡ M.leave (M.inside (inside_view inside)) piece.now) }
+    ensures view { step_view result ≡ M.go_if (nat_lt (length (inside_view inside).opens) 64) (M.angle (inside_view inside)) }
+    ensures regexes { StepHasRegexes result }
+{
+    if inside.opens.len() < 64 {
+        return Step::Go(State::Tag(TagState::Angle(inside)));
+    }
+    Step::Refuse
+}
+
+// At a piece that content does not go on with.
+#[tactic(auto, using(crate::proofs::ContentLaws::opens_length))]
+fn leave_production(alloc: Global, inside: Inside, piece: &Piece) -> Result<Step, Memory>
+    requires { HaveRegexes inside.draft.head.units.items }
+    ensures view { IfOk result (λ s. step_view s ≡ M.leaves (inside_view inside) (inside_view inside).opens piece.now) }
     ensures regexes { IfOk result StepHasRegexes }
 {
-    if piece.is(Kind::Angle) {
-        if inside.opens.len() < 64 {
-            return Ok(Step::Go(State::Angle(inside)));
-        }
-        return Ok(Step::Refuse);
-    }
-    if piece.is(Kind::AngleSlash) {
-        return Ok(close_element(inside));
-    }
     if !inside.opens.is_empty() {
         return Ok(Step::Refuse);
     }
@@ -178,8 +182,23 @@ pub fn leave_content(alloc: Global, inside: Inside, piece: &Piece) -> Result<Ste
     between(alloc, head, piece)
 }
 
-/// Behind `<`.
-pub fn angle(alloc: Global, inside: Inside, piece: &Piece) -> Result<Step, Memory>
+/// Behind an item of an XML side, at a piece that begins none.
+pub fn leave_content(alloc: Global, inside: Inside, piece: &Piece) -> Result<Step, Memory>
+    requires { HaveRegexes inside.draft.head.units.items }
+    ensures view { IfOk result (λ s. step_view s ≡ M.leave (M.inside (inside_view inside)) piece.now) }
+    ensures regexes { IfOk result StepHasRegexes }
+{
+    if piece.is(Kind::Angle) {
+        return Ok(begin_tag(inside));
+    }
+    if piece.is(Kind::AngleSlash) {
+        return Ok(close_element(inside));
+    }
+    leave_production(alloc, inside, piece)
+}
+
+// Behind `<`.
+fn angle(alloc: Global, inside: Inside, piece: &Piece) -> Result<Step, Memory>
     requires { HaveRegexes inside.draft.head.units.items }
     ensures view { IfOk result (λ s. step_view s ≡ M.step (M.angle (inside_view inside)) piece.now) }
     ensures regexes { IfOk result StepHasRegexes }
@@ -188,11 +207,11 @@ pub fn angle(alloc: Global, inside: Inside, piece: &Piece) -> Result<Step, Memor
         return Ok(Step::Refuse);
     }
     let tag = copy(alloc, &piece.text)?;
-    Ok(Step::Go(State::Attrs(inside, tag, Vec::new(alloc))))
+    Ok(Step::Go(State::Tag(TagState::Attrs(inside, tag, Vec::new(alloc)))))
 }
 
-/// Behind an attribute's name.
-pub fn attr_equals(
+// Behind an attribute's name.
+fn attr_equals(
     alloc: Global,
     inside: Inside,
     tag: Text,
@@ -207,17 +226,17 @@ pub fn attr_equals(
     if !piece.is(Kind::Equals) {
         return Step::Refuse;
     }
-    Step::Go(State::At(Place::Value(Value {
+    Step::Go(State::Item(ItemState::At(Place::Value(Value {
         inside,
         tag,
         attrs,
         name,
         items: Vec::new(alloc),
-    })))
+    }))))
 }
 
-/// At the name of the tag that closes an element.
-pub fn closing(closing: Closing, piece: &Piece) -> Step
+// At the name of the tag that closes an element.
+fn closing(closing: Closing, piece: &Piece) -> Step
     requires { HaveRegexes closing.draft.head.units.items }
     ensures view { step_view result ≡ M.step (M.closing (draft_view closing.draft) (opened_view closing.opened) (opens_view closing.opens.items) (content_of closing.content.items)) piece.now }
     ensures regexes { StepHasRegexes result }
@@ -228,7 +247,7 @@ pub fn closing(closing: Closing, piece: &Piece) -> Step
     if !same_texts(&piece.text, &closing.opened.tag) {
         return Step::Refuse;
     }
-    Step::Go(State::Closed(closing))
+    Step::Go(State::Tag(TagState::Closed(closing)))
 }
 
 // The content with one more element.
@@ -249,8 +268,8 @@ fn push_element(
     Ok(outer)
 }
 
-/// Behind that name.
-pub fn closed(closing: Closing, piece: &Piece) -> Result<Step, Memory>
+// Behind that name.
+fn closed(closing: Closing, piece: &Piece) -> Result<Step, Memory>
     requires { HaveRegexes closing.draft.head.units.items }
     ensures view { IfOk result (λ s. step_view s ≡ M.step (M.closed (draft_view closing.draft) (opened_view closing.opened) (opens_view closing.opens.items) (content_of closing.content.items)) piece.now) }
     ensures regexes { IfOk result StepHasRegexes }
@@ -266,9 +285,26 @@ pub fn closed(closing: Closing, piece: &Piece) -> Result<Step, Memory>
     } = closing;
     let Opened { tag, attrs, outer } = opened;
     let content = push_element(outer, tag, attrs, content)?;
-    Ok(Step::Go(State::At(Place::Content(Inside {
+    Ok(Step::Go(State::Item(ItemState::At(Place::Content(Inside {
         draft,
         opens,
         content,
-    }))))
+    })))))
+}
+
+/// Where one more piece leads inside a tag.
+pub fn step_tag(alloc: Global, state: TagState, piece: &Piece) -> Result<Step, Memory>
+    requires { TagHasRegexes state }
+    ensures view { IfOk result (λ s. step_view s ≡ M.step (tag_view state) piece.now) }
+    ensures regexes { IfOk result StepHasRegexes }
+{
+    match state {
+        TagState::Angle(inside) => angle(alloc, inside, piece),
+        TagState::Attrs(inside, tag, attrs) => in_tag(alloc, inside, tag, attrs, piece),
+        TagState::AttrEquals(inside, tag, attrs, name) => {
+            Ok(attr_equals(alloc, inside, tag, attrs, name, piece))
+        }
+        TagState::Closing(element) => Ok(closing(element, piece)),
+        TagState::Closed(element) => closed(element, piece),
+    }
 }

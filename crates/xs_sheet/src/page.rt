@@ -6,7 +6,7 @@ use std::marker::Model;
 use xs_class::{Memory, Text};
 
 /// The text of a sheet that is being written, which contracts see as the list of its characters.
-#[derive(Debug, Drop)]
+#[derive(Drop)]
 pub struct Page {
     text: String,
 }

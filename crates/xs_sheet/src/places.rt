@@ -1,12 +1,12 @@
-ghost use Rattle.std.specs.Prelude.{◌≡◌, IfOk};
+ghost use Rattle.std.specs.Prelude.{◌≡◌, [], ◌∷◌, ◌++◌, IfOk};
 ghost use Rattle.xs_sheet.specs.Grammar.{HaveRegexes};
 ghost use Rattle.xs_sheet.specs.Outline.{with_item};
 ghost use Rattle.xs_sheet.specs.Machine as M;
-ghost use Rattle.xs_sheet.specs.View.{head_view, inside_view, place_view, step_view, StepHasRegexes, PlaceHasRegexes};
+ghost use Rattle.xs_sheet.specs.View.{head_view, inside_view, place_view, item_view, step_view, PlaceHasRegexes, ItemHasRegexes, StepHasRegexes};
 
 use crate::elements::{leave_content, leave_value};
 use crate::piece::Piece;
-use crate::state::{Draft, Head, Inside, Place, State, Step};
+use crate::state::{Draft, Head, Inside, ItemState, Place, State, Step, Value};
 use crate::units::copy;
 use crate::{Item, XItem};
 use std::alloc::Global;
@@ -24,9 +24,50 @@ pub fn push_content(mut inside: Inside, item: XItem) -> Result<Inside, Memory>
     Ok(inside)
 }
 
-/// The place with one more item.
+// The text side with one more item.
+fn put_left(
+    head: Head,
+    name: Text,
+    line: u32,
+    mut items: Vec<Item>,
+    item: Item,
+) -> Result<Place, Memory>
+    requires { HaveRegexes head.units.items }
+    ensures view { IfOk result (λ p. place_view p ≡ M.left_side (head_view head) name line (items.items ++ item ∷ [])) }
+    ensures regexes { IfOk result PlaceHasRegexes }
+{
+    items.push(item)?;
+    Ok(Place::LeftSide {
+        head,
+        name,
+        line,
+        items,
+    })
+}
+
+// The content with one more item that is no element.
 #[tactic(auto, using(crate::proofs::ContentLaws::with_plain))]
-pub fn put(place: Place, item: Item) -> Result<Place, Memory>
+fn put_content(inside: Inside, item: Item) -> Result<Place, Memory>
+    requires { HaveRegexes inside.draft.head.units.items }
+    ensures view { IfOk result (λ p. place_view p ≡ M.put (M.inside (inside_view inside)) item) }
+    ensures regexes { IfOk result PlaceHasRegexes }
+{
+    let inside = push_content(inside, XItem::Plain(item))?;
+    Ok(Place::Content(inside))
+}
+
+// The attribute's value with one more item.
+fn put_value(mut value: Value, item: Item) -> Result<Place, Memory>
+    requires { HaveRegexes value.inside.draft.head.units.items }
+    ensures view { IfOk result (λ p. place_view p ≡ M.value (inside_view value.inside) value.tag value.attrs.items value.name (value.items.items ++ item ∷ [])) }
+    ensures regexes { IfOk result PlaceHasRegexes }
+{
+    value.items.push(item)?;
+    Ok(Place::Value(value))
+}
+
+// The place with one more item.
+fn put(place: Place, item: Item) -> Result<Place, Memory>
     requires { PlaceHasRegexes place }
     ensures view { IfOk result (λ p. place_view p ≡ M.put (place_view place) item) }
     ensures regexes { IfOk result PlaceHasRegexes }
@@ -36,25 +77,21 @@ pub fn put(place: Place, item: Item) -> Result<Place, Memory>
             head,
             name,
             line,
-            mut items,
-        } => {
-            items.push(item)?;
-            Ok(Place::LeftSide {
-                head,
-                name,
-                line,
-                items,
-            })
-        }
-        Place::Content(inside) => {
-            let inside = push_content(inside, XItem::Plain(item))?;
-            Ok(Place::Content(inside))
-        }
-        Place::Value(mut value) => {
-            value.items.push(item)?;
-            Ok(Place::Value(value))
-        }
+            items,
+        } => put_left(head, name, line, items, item),
+        Place::Content(inside) => put_content(inside, item),
+        Place::Value(value) => put_value(value, item),
     }
+}
+
+// Behind one more item.
+fn behind(place: Place, item: Item) -> Result<Step, Memory>
+    requires { PlaceHasRegexes place }
+    ensures view { IfOk result (λ s. step_view s ≡ M.go (M.at (M.put (place_view place) item))) }
+    ensures regexes { IfOk result StepHasRegexes }
+{
+    let place = put(place, item)?;
+    Ok(Step::Go(State::Item(ItemState::At(place))))
 }
 
 // Behind a text side.
@@ -73,7 +110,7 @@ fn leave_left(
     if !piece.is(Kind::Equals) {
         return Step::Refuse;
     }
-    Step::Go(State::At(Place::Content(Inside {
+    Step::Go(State::Item(ItemState::At(Place::Content(Inside {
         draft: Draft {
             head,
             name,
@@ -82,7 +119,7 @@ fn leave_left(
         },
         opens: Vec::new(alloc),
         content: Vec::new(alloc),
-    })))
+    }))))
 }
 
 /// Where a piece leads that begins no item.
@@ -103,62 +140,90 @@ fn leave(alloc: Global, place: Place, piece: &Piece) -> Result<Step, Memory>
     }
 }
 
-/// Where an item may stand.
-pub fn at_place(alloc: Global, place: Place, piece: &Piece) -> Result<Step, Memory>
+// No item may stand here.
+fn refuse(_place: Place) -> Step
+    ensures view { step_view result ≡ M.refuse }
+    ensures regexes { StepHasRegexes result }
+{
+    Step::Refuse
+}
+
+// The place, and the piece's text.
+fn with_text(alloc: Global, place: Place, piece: &Piece) -> Result<(Place, Text), Memory>
+    ensures place { IfOk result (λ both. both.0 ≡ place) }
+    ensures text { IfOk result (λ both. both.1 ≡ piece.now.text) }
+{
+    let text = copy(alloc, &piece.text)?;
+    Ok((place, text))
+}
+
+// Where an item may stand.
+fn at_place(alloc: Global, place: Place, piece: &Piece) -> Result<Step, Memory>
     requires { PlaceHasRegexes place }
     ensures view { IfOk result (λ s. step_view s ≡ M.step (M.at (place_view place)) piece.now) }
     ensures regexes { IfOk result StepHasRegexes }
 {
     if piece.is(Kind::Quoted) {
-        let text = copy(alloc, &piece.text)?;
-        let place = put(place, Item::Fixed(text))?;
-        return Ok(Step::Go(State::At(place)));
+        let (place, text) = with_text(alloc, place, piece)?;
+        return behind(place, Item::Fixed(text));
     }
     if piece.is(Kind::SquareIn) {
-        return Ok(Step::Go(State::Square(place)));
+        return Ok(Step::Go(State::Item(ItemState::Square(place))));
     }
     leave(alloc, place, piece)
 }
 
-/// Behind `[`.
-pub fn square(alloc: Global, place: Place, piece: &Piece) -> Result<Step, Memory>
+// Behind `[`.
+fn square(alloc: Global, place: Place, piece: &Piece) -> Result<Step, Memory>
     requires { PlaceHasRegexes place }
     ensures view { IfOk result (λ s. step_view s ≡ M.step (M.square (place_view place)) piece.now) }
     ensures regexes { IfOk result StepHasRegexes }
 {
     if !piece.is_unit_name() {
-        return Ok(Step::Refuse);
+        return Ok(refuse(place));
     }
-    let name = copy(alloc, &piece.text)?;
-    Ok(Step::Go(State::SquareName(place, name)))
+    let (place, name) = with_text(alloc, place, piece)?;
+    Ok(Step::Go(State::Item(ItemState::SquareName(place, name))))
 }
 
-/// Behind the name in brackets.
-pub fn square_name(alloc: Global, place: Place, name: Text, piece: &Piece) -> Result<Step, Memory>
+// Behind the name in brackets.
+fn square_name(alloc: Global, place: Place, name: Text, piece: &Piece) -> Result<Step, Memory>
     requires { PlaceHasRegexes place }
     ensures view { IfOk result (λ s. step_view s ≡ M.step (M.square_name (place_view place) name) piece.now) }
     ensures regexes { IfOk result StepHasRegexes }
 {
     if piece.is(Kind::SquareOut) {
-        let place = put(place, Item::Skip { name })?;
-        return Ok(Step::Go(State::At(place)));
+        return behind(place, Item::Skip { name });
     }
     if !piece.is_unit_name() {
-        return Ok(Step::Refuse);
+        return Ok(refuse(place));
     }
-    let slot = copy(alloc, &piece.text)?;
-    Ok(Step::Go(State::SquareSlot(place, name, slot)))
+    let (place, slot) = with_text(alloc, place, piece)?;
+    Ok(Step::Go(State::Item(ItemState::SquareSlot(place, name, slot))))
 }
 
-/// Behind the slot in brackets.
-pub fn square_slot(place: Place, name: Text, slot: Text, piece: &Piece) -> Result<Step, Memory>
+// Behind the slot in brackets.
+fn square_slot(place: Place, name: Text, slot: Text, piece: &Piece) -> Result<Step, Memory>
     requires { PlaceHasRegexes place }
     ensures view { IfOk result (λ s. step_view s ≡ M.step (M.square_slot (place_view place) name slot) piece.now) }
     ensures regexes { IfOk result StepHasRegexes }
 {
     if !piece.is(Kind::SquareOut) {
-        return Ok(Step::Refuse);
+        return Ok(refuse(place));
     }
-    let place = put(place, Item::Named { name, slot })?;
-    Ok(Step::Go(State::At(place)))
+    behind(place, Item::Named { name, slot })
+}
+
+/// Where one more piece leads at an item.
+pub fn step_item(alloc: Global, state: ItemState, piece: &Piece) -> Result<Step, Memory>
+    requires { ItemHasRegexes state }
+    ensures view { IfOk result (λ s. step_view s ≡ M.step (item_view state) piece.now) }
+    ensures regexes { IfOk result StepHasRegexes }
+{
+    match state {
+        ItemState::At(place) => at_place(alloc, place, piece),
+        ItemState::Square(place) => square(alloc, place, piece),
+        ItemState::SquareName(place, name) => square_name(alloc, place, name, piece),
+        ItemState::SquareSlot(place, name, slot) => square_slot(place, name, slot, piece),
+    }
 }

@@ -8,15 +8,15 @@ ghost use Rattle.xs_sheet.specs.View.{state_view, step_view, StateHasRegexes, St
 ghost use Rattle.xs_sheet.specs.Faults.{IsBad, IsStuck, IsDone};
 
 use crate::Sheet;
-use crate::elements::{angle, attr_equals, closed, closing, in_tag};
+use crate::elements::step_tag;
 use crate::piece::Piece;
 use crate::pieces::pieces;
-use crate::places::{at_place, square, square_name, square_slot};
-use crate::state::{State, Step};
-use crate::units::{between, colon, named, normal, regular, started};
+use crate::places::step_item;
+use crate::state::{State, Step, UnitState};
+use crate::units::step_unit;
 use std::alloc::Global;
 use xs_class::Memory;
-use xs_lex::{Kind, tokens};
+use xs_lex::tokens;
 
 /// Why a file is no sheet.
 #[derive(Clone, Copy, Debug, PartialEq, Eq)]
@@ -38,14 +38,6 @@ impl From<Memory> for SheetFault {
     }
 }
 
-fn go_if(fits: bool, state: State) -> Step
-    requires { StateHasRegexes state }
-    ensures view { step_view result ≡ M.go_if fits (state_view state) }
-    ensures regexes { StepHasRegexes result }
-{
-    if fits { Step::Go(state) } else { Step::Refuse }
-}
-
 /// Where one more piece leads.
 pub fn step(alloc: Global, state: State, piece: &Piece) -> Result<Step, Memory>
     requires state { StateHasRegexes state }
@@ -54,35 +46,9 @@ pub fn step(alloc: Global, state: State, piece: &Piece) -> Result<Step, Memory>
     ensures regexes { IfOk result StepHasRegexes }
 {
     match state {
-        State::Begin => Ok(go_if(piece.is_word("xsugar-1"), State::Versioned)),
-        State::Versioned => Ok(go_if(piece.is_word("start"), State::Started(piece.line))),
-        State::Started(line) => started(alloc, line, piece),
-        State::Units(head) => between(alloc, head, piece),
-        State::Named(begun) => named(alloc, begun, piece),
-        State::Equals(begun, name) => Ok(go_if(
-            piece.is(Kind::Equals),
-            State::Regular(begun, name),
-        )),
-        State::Regular(begun, name) => regular(alloc, begun, name, piece),
-        State::Normal {
-            head,
-            line,
-            name,
-            pattern,
-            regex,
-        } => normal(alloc, head, line, name, pattern, regex, piece),
-        State::Colon { head, name, line } => Ok(colon(alloc, head, name, line, piece)),
-        State::At(place) => at_place(alloc, place, piece),
-        State::Square(place) => square(alloc, place, piece),
-        State::SquareName(place, name) => square_name(alloc, place, name, piece),
-        State::SquareSlot(place, name, slot) => square_slot(place, name, slot, piece),
-        State::Angle(inside) => angle(alloc, inside, piece),
-        State::Attrs(inside, tag, attrs) => in_tag(alloc, inside, tag, attrs, piece),
-        State::AttrEquals(inside, tag, attrs, name) => {
-            Ok(attr_equals(alloc, inside, tag, attrs, name, piece))
-        }
-        State::Closing(element) => Ok(closing(element, piece)),
-        State::Closed(element) => closed(element, piece),
+        State::Unit(state) => step_unit(alloc, state, piece),
+        State::Item(state) => step_item(alloc, state, piece),
+        State::Tag(state) => step_tag(alloc, state, piece),
     }
 }
 
@@ -94,7 +60,7 @@ fn read_pieces(alloc: Global, pieces: &[Piece]) -> Result<Sheet, SheetFault>
     ensures regexes { IfOk result (λ s. HaveRegexes s.units) }
     ensures bad { IfErr result (λ e. IsStuck e (M.run M.begin pieces.now)) }
 {
-    let mut state = State::Begin;
+    let mut state = State::Unit(UnitState::Begin);
     'pieces: for piece in pieces {
         match step(alloc, state, piece)? {
             Step::Go(next) => state = next,

@@ -3,7 +3,7 @@ use xs_class::Text;
 use xs_regex::Regex;
 
 /// The start and the units so far.
-#[derive(Debug, Drop)]
+#[derive(Drop)]
 pub struct Head {
     pub start: Text,
     pub start_line: u32,
@@ -11,7 +11,7 @@ pub struct Head {
 }
 
 /// A unit that began with `terminal`, or where that is false with `ignorable`.
-#[derive(Debug, Drop)]
+#[derive(Drop)]
 pub struct Begun {
     pub head: Head,
     pub terminal: bool,
@@ -19,7 +19,7 @@ pub struct Begun {
 }
 
 /// A production whose XML side is being read.
-#[derive(Debug, Drop)]
+#[derive(Drop)]
 pub struct Draft {
     pub head: Head,
     pub name: Text,
@@ -28,7 +28,7 @@ pub struct Draft {
 }
 
 /// An element that has not ended, and what stands before it.
-#[derive(Debug, Drop)]
+#[derive(Drop)]
 pub struct Opened {
     pub tag: Text,
     pub attrs: Vec<Attr>,
@@ -36,7 +36,7 @@ pub struct Opened {
 }
 
 /// The elements that have not ended, the innermost last, and the content of that one so far.
-#[derive(Debug, Drop)]
+#[derive(Drop)]
 pub struct Inside {
     pub draft: Draft,
     pub opens: Vec<Opened>,
@@ -44,7 +44,7 @@ pub struct Inside {
 }
 
 /// An attribute whose value is being read.
-#[derive(Debug, Drop)]
+#[derive(Drop)]
 pub struct Value {
     pub inside: Inside,
     pub tag: Text,
@@ -54,7 +54,7 @@ pub struct Value {
 }
 
 /// Where an item may stand.
-#[derive(Debug, Drop)]
+#[derive(Drop)]
 pub enum Place {
     LeftSide {
         head: Head,
@@ -67,7 +67,7 @@ pub enum Place {
 }
 
 /// An element behind its `</`.
-#[derive(Debug, Drop)]
+#[derive(Drop)]
 pub struct Closing {
     pub draft: Draft,
     pub opened: Opened,
@@ -75,9 +75,9 @@ pub struct Closing {
     pub content: Vec<XItem>,
 }
 
-/// What the reader has come to, which says what may follow.
-#[derive(Debug, Drop)]
-pub enum State {
+/// What the reader has come to outside the sides of a production.
+#[derive(Drop)]
+pub enum UnitState {
     /// At the front.
     Begin,
     /// Behind the version word.
@@ -106,6 +106,11 @@ pub enum State {
         name: Text,
         line: u32,
     },
+}
+
+/// What the reader has come to at an item.
+#[derive(Drop)]
+pub enum ItemState {
     /// Where an item may stand.
     At(Place),
     /// Behind `[`.
@@ -114,6 +119,11 @@ pub enum State {
     SquareName(Place, Text),
     /// Behind the slot in brackets.
     SquareSlot(Place, Text, Text),
+}
+
+/// What the reader has come to inside a tag.
+#[derive(Drop)]
+pub enum TagState {
     /// Behind `<`.
     Angle(Inside),
     /// Behind a tag's name and attributes.
@@ -126,8 +136,16 @@ pub enum State {
     Closed(Closing),
 }
 
+/// What the reader has come to, which says what may follow.
+#[derive(Drop)]
+pub enum State {
+    Unit(UnitState),
+    Item(ItemState),
+    Tag(TagState),
+}
+
 /// Where one more piece leads.
-#[derive(Debug, Drop)]
+#[derive(Drop)]
 pub enum Step {
     Go(State),
     Finish(Sheet),

@@ -23,77 +23,93 @@ fn refused(alloc: Global, text: &str) -> Option<u64> {
     }
 }
 
-#[test]
-fn the_pair_sheet_is_read(rt: HostRuntime) -> Result<(), Fail> {
-    let sheet = read(rt.alloc(), PAIR)?;
-    assert_eq!(rt; sheet.version, 1);
-    assert_eq!(rt; sheet.start.as_str(), "s");
-    assert_eq!(rt; sheet.start_line, 2);
-    let units = sheet.units.as_slice();
-    assert_eq!(rt; units.len(), 2);
-    if let Unit::Terminal {
-        name,
-        pattern,
-        regex: _,
-        line,
-    } = &units[0]
-    {
-        assert_eq!(rt; name.as_str(), "d");
-        assert_eq!(rt; pattern.as_str(), "[0-9]");
-        assert_eq!(rt; *line, 3);
+// The name, the pattern and the line of a terminal.
+fn terminal(unit: &Unit) -> Option<(&str, &str, u32)> {
+    match unit {
+        Unit::Terminal {
+            name,
+            pattern,
+            regex: _,
+            line,
+        } => Some((name.as_str(), pattern.as_str(), *line)),
+        _ => None,
     }
-    if let Unit::Production {
-        name,
-        left,
-        right,
-        line,
-    } = &units[1]
-    {
-        assert_eq!(rt; name.as_str(), "s");
-        assert_eq!(rt; *line, 4);
-        assert_eq!(rt; left.len(), 5);
-        assert_eq!(rt; right.len(), 1);
-        if let XItem::Element {
+}
+
+// The name and the line of a production, and the numbers of items of its sides.
+fn production(unit: &Unit) -> Option<(&str, u32, usize, usize)> {
+    match unit {
+        Unit::Production {
+            name,
+            left,
+            right,
+            line,
+        } => Some((name.as_str(), *line, left.len(), right.len())),
+        _ => None,
+    }
+}
+
+// The tag of the one element of a production's XML side, and its numbers of attributes and items.
+fn root(unit: &Unit) -> Option<(&str, usize, usize)> {
+    let Unit::Production { right, .. } = unit else {
+        return None;
+    };
+    if right.len() != 1 {
+        return None;
+    }
+    match right.at(0) {
+        XItem::Element {
             tag,
             attrs,
             content,
-        } = right.at(0)
-        {
-            assert_eq!(rt; tag.as_str(), "p");
-            assert_eq!(rt; attrs.len(), 0);
-            assert_eq!(rt; content.len(), 2);
-        }
+        } => Some((tag.as_str(), attrs.len(), content.len())),
+        XItem::Plain(_) => None,
     }
+}
+
+#[test]
+fn the_pair_sheet_is_read(rt: HostRuntime) -> Result<(), Fail> {
+    let sheet = read(rt.alloc(), PAIR)?;
+    let units = sheet.units.as_slice();
+    assert_eq!(rt;
+        (
+            sheet.version,
+            sheet.start.as_str(),
+            sheet.start_line,
+            units.len()
+        ),
+        (1, "s", 2, 2)
+    );
+    assert_eq!(rt;
+        (terminal(&units[0]), production(&units[1]), root(&units[1])),
+        (
+            Some(("d", "[0-9]", 3)),
+            Some(("s", 4, 5, 1)),
+            Some(("p", 0, 2))
+        )
+    );
     Ok(())
 }
 
 #[test]
 fn refusals_have_their_places(rt: HostRuntime) -> Result<(), Fail> {
     let alloc = rt.alloc();
-    assert_eq!(rt; refused(alloc, PAIR), None);
-    assert_eq!(rt;
-        refused(alloc, "xsugar-1\nstart s\ns : \"a = <s/>\n"),
-        Some(21)
-    );
-    assert_eq!(rt;
-        refused(
-            alloc,
-            "xsugar-1\nstart s\nterminal d = /\\p{nosuchclass}/\n"
+    for (text, answer) in [
+        (PAIR, None),
+        ("xsugar-1\nstart s\ns : \"a = <s/>\n", Some(21)),
+        (
+            "xsugar-1\nstart s\nterminal d = /\\p{nosuchclass}/\n",
+            Some(30),
         ),
-        Some(30)
-    );
-    assert_eq!(rt; refused(alloc, "xsugar-3\nstart s\n"), Some(0));
-    assert_eq!(rt; refused(alloc, "xsugar-1\nstart fence\n"), Some(15));
-    assert_eq!(rt;
-        refused(alloc, "xsugar-1\nstart s\ns : = <a></b>\n"),
-        Some(28)
-    );
-    assert_eq!(rt;
-        refused(alloc, "xsugar-1\nstart s\ns : = <a b=/>\n"),
-        Some(28)
-    );
-    assert_eq!(rt; refused(alloc, "xsugar-1\nstart s"), None);
-    assert_eq!(rt; refused(alloc, "xsugar-1\nstart"), Some(14));
+        ("xsugar-3\nstart s\n", Some(0)),
+        ("xsugar-1\nstart fence\n", Some(15)),
+        ("xsugar-1\nstart s\ns : = <a></b>\n", Some(28)),
+        ("xsugar-1\nstart s\ns : = <a b=/>\n", Some(28)),
+        ("xsugar-1\nstart s", None),
+        ("xsugar-1\nstart", Some(14)),
+    ] {
+        assert_eq!(rt; refused(alloc, text), answer);
+    }
     Ok(())
 }
 

@@ -5,11 +5,11 @@ ghost use Rattle.xs_sheet.specs.Grammar.{HaveRegexes};
 ghost use Rattle.xs_sheet.specs.Outline.{unit_outline};
 ghost use Rattle.xs_sheet.specs.Grammar.{HasRegex};
 ghost use Rattle.xs_sheet.specs.Machine as M;
-ghost use Rattle.xs_sheet.specs.View.{head_view, step_view, StepHasRegexes};
+ghost use Rattle.xs_sheet.specs.View.{head_view, unit_view, step_view, UnitHasRegexes, StepHasRegexes};
 
 use crate::piece::Piece;
 use crate::regular::regex_of;
-use crate::state::{Begun, Head, Place, State, Step};
+use crate::state::{Begun, Head, ItemState, Place, State, Step, UnitState};
 use crate::{Sheet, Unit, Units};
 use std::alloc::Global;
 use xs_class::{Memory, Text};
@@ -34,8 +34,30 @@ pub fn with_unit(mut head: Head, unit: Unit) -> Result<Head, Memory>
     Ok(head)
 }
 
-/// Behind the word `start`.
-pub fn started(alloc: Global, line: u32, piece: &Piece) -> Result<Step, Memory>
+// At the front.
+fn begin(piece: &Piece) -> Step
+    ensures view { step_view result ≡ M.step M.begin piece.now }
+    ensures regexes { StepHasRegexes result }
+{
+    if !piece.is_word("xsugar-1") {
+        return Step::Refuse;
+    }
+    Step::Go(State::Unit(UnitState::Versioned))
+}
+
+// Behind the version word.
+fn versioned(piece: &Piece) -> Step
+    ensures view { step_view result ≡ M.step M.versioned piece.now }
+    ensures regexes { StepHasRegexes result }
+{
+    if !piece.is_word("start") {
+        return Step::Refuse;
+    }
+    Step::Go(State::Unit(UnitState::Started(piece.line)))
+}
+
+// Behind the word `start`.
+fn started(alloc: Global, line: u32, piece: &Piece) -> Result<Step, Memory>
     ensures view { IfOk result (λ s. step_view s ≡ M.step (M.started line) piece.now) }
     ensures regexes { IfOk result StepHasRegexes }
 {
@@ -43,11 +65,11 @@ pub fn started(alloc: Global, line: u32, piece: &Piece) -> Result<Step, Memory>
         return Ok(Step::Refuse);
     }
     let start = copy(alloc, &piece.text)?;
-    Ok(Step::Go(State::Units(Head {
+    Ok(Step::Go(State::Unit(UnitState::Units(Head {
         start,
         start_line: line,
         units: Vec::new(alloc),
-    })))
+    }))))
 }
 
 /// Between units.
@@ -66,28 +88,28 @@ pub fn between(alloc: Global, head: Head, piece: &Piece) -> Result<Step, Memory>
     }
     let line = piece.line;
     if piece.is_word("terminal") {
-        return Ok(Step::Go(State::Named(Begun {
+        return Ok(Step::Go(State::Unit(UnitState::Named(Begun {
             head,
             terminal: true,
             line,
-        })));
+        }))));
     }
     if piece.is_word("ignorable") {
-        return Ok(Step::Go(State::Named(Begun {
+        return Ok(Step::Go(State::Unit(UnitState::Named(Begun {
             head,
             terminal: false,
             line,
-        })));
+        }))));
     }
     if !piece.is_unit_name() {
         return Ok(Step::Refuse);
     }
     let name = copy(alloc, &piece.text)?;
-    Ok(Step::Go(State::Colon { head, name, line }))
+    Ok(Step::Go(State::Unit(UnitState::Colon { head, name, line })))
 }
 
-/// Behind `terminal` or `ignorable`.
-pub fn named(alloc: Global, begun: Begun, piece: &Piece) -> Result<Step, Memory>
+// Behind `terminal` or `ignorable`.
+fn named(alloc: Global, begun: Begun, piece: &Piece) -> Result<Step, Memory>
     requires { HaveRegexes begun.head.units.items }
     ensures view { IfOk result (λ s. step_view s ≡ M.step (M.named (head_view begun.head) begun.terminal begun.line) piece.now) }
     ensures regexes { IfOk result StepHasRegexes }
@@ -96,11 +118,23 @@ pub fn named(alloc: Global, begun: Begun, piece: &Piece) -> Result<Step, Memory>
         return Ok(Step::Refuse);
     }
     let name = copy(alloc, &piece.text)?;
-    Ok(Step::Go(State::Equals(begun, name)))
+    Ok(Step::Go(State::Unit(UnitState::Equals(begun, name))))
 }
 
-/// At a terminal's or an ignorable's pattern.
-pub fn regular(alloc: Global, begun: Begun, name: Text, piece: &Piece) -> Result<Step, Memory>
+// Behind the name of a terminal or an ignorable.
+fn equals(begun: Begun, name: Text, piece: &Piece) -> Step
+    requires { HaveRegexes begun.head.units.items }
+    ensures view { step_view result ≡ M.step (M.equals (head_view begun.head) begun.terminal begun.line name) piece.now }
+    ensures regexes { StepHasRegexes result }
+{
+    if !piece.is(Kind::Equals) {
+        return Step::Refuse;
+    }
+    Step::Go(State::Unit(UnitState::Regular(begun, name)))
+}
+
+// At a terminal's or an ignorable's pattern.
+fn regular(alloc: Global, begun: Begun, name: Text, piece: &Piece) -> Result<Step, Memory>
     requires head { HaveRegexes begun.head.units.items }
     requires piece { piece.now.regular ≡ true → (r : Regex) × IsRegex piece.now.text r }
     ensures view { IfOk result (λ s. step_view s ≡ M.step (M.regular (head_view begun.head) begun.terminal begun.line name) piece.now) }
@@ -112,23 +146,23 @@ pub fn regular(alloc: Global, begun: Begun, name: Text, piece: &Piece) -> Result
     if !piece.regular {
         return Ok(Step::Refuse);
     }
+    let pattern = copy(alloc, &piece.text)?;
     let Some(regex) = regex_of(alloc, &piece.text)? else {
         unreachable!()
     };
-    let pattern = copy(alloc, &piece.text)?;
     let Begun {
         head,
         terminal,
         line,
     } = begun;
     if !terminal {
-        return Ok(Step::Go(State::Normal {
+        return Ok(Step::Go(State::Unit(UnitState::Normal {
             head,
             line,
             name,
             pattern,
             regex,
-        }));
+        })));
     }
     let unit = Unit::Terminal {
         name,
@@ -136,11 +170,11 @@ pub fn regular(alloc: Global, begun: Begun, name: Text, piece: &Piece) -> Result
         regex,
         line,
     };
-    Ok(Step::Go(State::Units(with_unit(head, unit)?)))
+    Ok(Step::Go(State::Unit(UnitState::Units(with_unit(head, unit)?))))
 }
 
-/// At an ignorable's normal spelling.
-pub fn normal(
+// At an ignorable's normal spelling.
+fn normal(
     alloc: Global,
     head: Head,
     line: u32,
@@ -165,11 +199,11 @@ pub fn normal(
         normal,
         line,
     };
-    Ok(Step::Go(State::Units(with_unit(head, unit)?)))
+    Ok(Step::Go(State::Unit(UnitState::Units(with_unit(head, unit)?))))
 }
 
-/// Behind a production's name.
-pub fn colon(alloc: Global, head: Head, name: Text, line: u32, piece: &Piece) -> Step
+// Behind a production's name.
+fn colon(alloc: Global, head: Head, name: Text, line: u32, piece: &Piece) -> Step
     requires { HaveRegexes head.units.items }
     ensures view { step_view result ≡ M.step (M.colon (head_view head) name line) piece.now }
     ensures regexes { StepHasRegexes result }
@@ -177,10 +211,36 @@ pub fn colon(alloc: Global, head: Head, name: Text, line: u32, piece: &Piece) ->
     if !piece.is(Kind::Colon) {
         return Step::Refuse;
     }
-    Step::Go(State::At(Place::LeftSide {
+    Step::Go(State::Item(ItemState::At(Place::LeftSide {
         head,
         name,
         line,
         items: Vec::new(alloc),
-    }))
+    })))
+}
+
+/// Where one more piece leads outside the sides of a production.
+pub fn step_unit(alloc: Global, state: UnitState, piece: &Piece) -> Result<Step, Memory>
+    requires state { UnitHasRegexes state }
+    requires piece { piece.now.regular ≡ true → (r : Regex) × IsRegex piece.now.text r }
+    ensures view { IfOk result (λ s. step_view s ≡ M.step (unit_view state) piece.now) }
+    ensures regexes { IfOk result StepHasRegexes }
+{
+    match state {
+        UnitState::Begin => Ok(begin(piece)),
+        UnitState::Versioned => Ok(versioned(piece)),
+        UnitState::Started(line) => started(alloc, line, piece),
+        UnitState::Units(head) => between(alloc, head, piece),
+        UnitState::Named(begun) => named(alloc, begun, piece),
+        UnitState::Equals(begun, name) => Ok(equals(begun, name, piece)),
+        UnitState::Regular(begun, name) => regular(alloc, begun, name, piece),
+        UnitState::Normal {
+            head,
+            line,
+            name,
+            pattern,
+            regex,
+        } => normal(alloc, head, line, name, pattern, regex, piece),
+        UnitState::Colon { head, name, line } => Ok(colon(alloc, head, name, line, piece)),
+    }
 }
