@@ -2,11 +2,9 @@ ghost use Rattle.std.specs.Prelude.{◌≡◌, ℕ, ◌<◌, ◌≤◌, length, 
 ghost use Rattle.xs_gram.specs.Grammar.{items};
 ghost use Rattle.xs_forest.specs.Rows.{IsEarlier};
 ghost use Rattle.xs_unfold.specs.declared.span.What.TheVariants.{Front};
-ghost use Rattle.xs_unfold.specs.Forest.{IsRight};
-ghost use Rattle.xs_unfold.specs.Number.{count_of};
+ghost use Rattle.xs_unfold.specs.Forest.{IsRight, Unfolding, read};
+ghost use Rattle.xs_unfold.specs.Number.{count_of, At};
 ghost use Rattle.xs_tree.specs.Counts.{capped};
-ghost use Rattle.xs_unfold.specs.Forest.{Unfolding, read};
-ghost use Rattle.xs_unfold.specs.Number.{At};
 ghost use Rattle.xs_listing.specs.Sizes.{spelt_count, word_count, size_at, last_count, IsSize, AreSizes};
 ghost use Rattle.xs_listing.specs.Writing.{IsSource, HasChild, CanDo};
 ghost use Rattle.xs_listing.specs.Owed.{IsCountedOff};
