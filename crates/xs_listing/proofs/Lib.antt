@@ -7,4 +7,6 @@ pub mod Sums
 pub mod Walking
 pub mod Spelling
 pub mod Sizing
+pub mod Sized
+pub mod Owing
 pub mod Samples

@@ -1,6 +1,8 @@
 pub mod Marks
 pub mod Making
 pub mod Spelt
+pub mod Sizes
 pub mod Writing
+pub mod Owed
 pub mod Numbered
 pub mod Sample

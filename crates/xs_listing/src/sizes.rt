@@ -2,9 +2,12 @@ ghost use Rattle.std.specs.Prelude.{◌≡◌, ℕ, ◌<◌, ◌≤◌, length, 
 ghost use Rattle.xs_gram.specs.Grammar.{items};
 ghost use Rattle.xs_forest.specs.Rows.{IsEarlier};
 ghost use Rattle.xs_unfold.specs.declared.span.What.TheVariants.{Front};
-ghost use Rattle.xs_unfold.specs.Forest.{IsRight};
-ghost use Rattle.xs_unfold.specs.Number.{count_of};
+ghost use Rattle.xs_unfold.specs.Forest.{IsRight, Unfolding, read};
+ghost use Rattle.xs_unfold.specs.Number.{count_of, At};
+ghost use Rattle.xs_tree.specs.Counts.{capped};
+ghost use Rattle.xs_listing.specs.Sizes.{spelt_count, word_count, size_at, last_count, IsSize, AreSizes};
 ghost use Rattle.xs_listing.specs.Writing.{IsSource, HasChild, CanDo};
+ghost use Rattle.xs_listing.specs.Owed.{IsCountedOff};
 
 use crate::rows::{alts_at, label_at};
 use crate::write::{Source, Task, push_child, visit};
@@ -15,7 +18,9 @@ use xs_gram::{GItem, Gram};
 use xs_unfold::{SpanKey, What};
 
 // How many parts an item's word is.
-fn word_size(item: &GItem) -> u64 {
+fn word_size(item: &GItem) -> u64
+    ensures { result ≡ word_count item.now }
+{
     match item {
         GItem::Fixed(_) | GItem::Non { .. } => 0,
         GItem::Term { .. } | GItem::Skip { .. } => 1,
@@ -25,6 +30,7 @@ fn word_size(item: &GItem) -> u64 {
 // How many parts a child's unfolding by first alternatives has.
 fn child_size(sizes: &[u64], child: Option<u64>) -> u64
     requires { IsEarlier child (length sizes.now) }
+    ensures { result ≡ size_at sizes.now child }
 {
     match child {
         None => 0,
@@ -36,6 +42,7 @@ fn child_size(sizes: &[u64], child: Option<u64>) -> u64
 fn last_size(g: &Gram, sizes: &[u64], what: What, alt: Alt) -> u64
     requires right { IsEarlier alt.right (length sizes.now) }
     requires dotted { (p d : ℕ) → what ≡ Front p d → (0 < d) × (d ≤ length (items g.now p)) }
+    ensures { result ≡ last_count g.now sizes.now what alt }
 {
     match what {
         What::Whole(_) => 1,
@@ -43,6 +50,24 @@ fn last_size(g: &Gram, sizes: &[u64], what: What, alt: Alt) -> u64
             Some(_) => child_size(sizes, alt.right),
             None => word_size(&g.items(rule)[dot as usize - 1]),
         },
+    }
+}
+
+// How many parts the unfolding of a row by first alternatives has, by the sizes of the rows before it.
+fn row_size(g: &Gram, doc: &Word, forest: &Forest<'_, SpanKey>, sizes: &[u64], row: u64) -> u64
+    requires right { IsRight g.now doc.now forest.now }
+    requires there { row < length forest.now }
+    requires before { row ≤ length sizes.now }
+    requires sizes { AreSizes g.now doc.now forest.now sizes.now }
+    ensures { IsSize g.now doc.now forest.now row result }
+{
+    match alts_at(forest, row).first() {
+        None => 0,
+        Some(alt) => {
+            let left = child_size(sizes, alt.left);
+            let last = last_size(g, sizes, label_at(forest, row).what, *alt);
+            left.saturating_add(last)
+        }
     }
 }
 
@@ -55,19 +80,13 @@ pub(crate) fn first_sizes(
     forest: &Forest<'_, SpanKey>,
 ) -> Result<Vec<u64>, Memory>
     requires { IsRight g.now doc.now forest.now }
-    ensures { IfOk result (λ sizes. length sizes.items ≡ length forest.now) }
+    ensures long { IfOk result (λ sizes. length sizes.items ≡ length forest.now) }
+    ensures sizes { IfOk result (λ sizes. AreSizes g.now doc.now forest.now sizes.items) }
 {
     let rows = forest.len();
     let mut sizes = Vec::with_capacity(alloc, rows as usize)?;
     'rows: for row in 0..rows {
-        let size = match alts_at(forest, row).first() {
-            None => 0,
-            Some(alt) => {
-                let left = child_size(&sizes, alt.left);
-                let last = last_size(g, &sizes, label_at(forest, row).what, *alt);
-                left.saturating_add(last)
-            }
-        };
+        let size = row_size(g, doc, forest, &sizes, row);
         sizes.push(size)?;
     }
     Ok(sizes)
@@ -78,7 +97,8 @@ fn count_task(source: &Source<'_, '_>, task: Task, tasks: &mut Vec<Task>) -> Res
     requires source { IsSource source.now }
     requires can { CanDo source.now task 0 }
     requires all { All (λ t. CanDo source.now t 0) tasks.old.items }
-    ensures { OnOk result (All (λ t. CanDo source.now t 0) tasks.new.items) }
+    ensures can { OnOk result (All (λ t. CanDo source.now t 0) tasks.new.items) }
+    ensures counted { IfOk result (IsCountedOff source.now task tasks.old.items tasks.new.items) }
 {
     match task {
         Task::Visit { row, number: 0 } => Ok(source.sizes[row as usize]),
@@ -102,6 +122,7 @@ pub(crate) fn size_of(
     requires source { IsSource source.now }
     requires child { HasChild source.now child }
     requires within { number < count_of source.now.counts.now child }
+    ensures { IfOk result (λ size. (u : Unfolding) → At source.now.forest.now source.now.cap source.now.counts.now child number u → size ≡ capped (spelt_count (read source.now.g.now source.now.doc.now source.now.forest.now child u))) }
 {
     let mut size: u64 = 0;
     let mut tasks = Vec::new(alloc);

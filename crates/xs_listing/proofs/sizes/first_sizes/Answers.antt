@@ -1,31 +1,24 @@
-use Rattle.std.proofs.Common.{◌≡◌, Some, List, length, sym, ◌∙◌, ap, arith}
-use Rattle.std.specs.Prelude.{slice_get}
-use Rattle.xs_forest.specs.declared.row.Alt.{Alt}
-use Rattle.xs_unfold.specs.declared.span.SpanKey.{SpanKey}
-use Rattle.xs_unfold.specs.Forest.{alts_of}
-use Rattle.xs_listing.proofs.Children.{earlier_more, left_earlier, right_earlier}
-use Rattle.xs_listing.proofs.Sizing.{dots_within}
+use Rattle.std.proofs.Common.{◌≡◌, ℕ, List, [], ◌∷◌, ◌++◌, length, sym, ◌∙◌, ap, subst, arith, length-append}
+use Rattle.xs_listing.specs.Sizes.{IsSize, AreSizes}
+use Rattle.xs_listing.proofs.Sized.{next_size}
 use Rattle.xs_listing.proofs.sizes.first_sizes.Goals as goal
 
-pub child_size-left-requires : goal.child_size-left-requires
-child_size-left-requires c =
-    let f = c.args.forest.now in
-    let len = c.len-rows.ensures.len in
-    let first : slice_get (alts_of f c.rows.row) 0 ≡ Some c.in-Some.alt.now = ap (λ (l : List Alt). slice_get l 0) (sym c.alts_at.ensures) ∙ sym c.in-Some.ensures.value in
-    let e = left_earlier c.args.g.now c.args.doc.now f c.requires c.rows.row 0 c.in-Some.alt.now (omega arith) first in
-    let long = ap length c.deref.ensures.value ∙ c.rows.invariant in
-    earlier_more c.in-Some.alt.now.left c.rows.row (length c.deref.result.now) (omega arith) e
+pub row_size-size-requires-clause-before : goal.row_size-size-requires-clause-before
+row_size-size-requires-clause-before c = let long = ap length c.deref.ensures.value ∙ c.rows.invariant.long in omega arith
 
-pub last_size-last-requires-clause-right : goal.last_size-last-requires-clause-right
-last_size-last-requires-clause-right c =
-    let f = c.args.forest.now in
-    let len = c.len-rows.ensures.len in
-    let first : slice_get (alts_of f c.rows.row) 0 ≡ Some c.in-Some.alt.now = ap (λ (l : List Alt). slice_get l 0) (sym c.alts_at.ensures) ∙ sym c.in-Some.ensures.value in
-    let e = right_earlier c.args.g.now c.args.doc.now f c.requires c.rows.row 0 c.in-Some.alt.now (omega arith) first in
-    let long = ap length c.deref-in-Some.ensures.value ∙ c.rows.invariant in
-    earlier_more c.in-Some.alt.now.right c.rows.row (length c.deref-in-Some.result.now) (omega arith) e
+pub row_size-size-requires-clause-sizes : goal.row_size-size-requires-clause-sizes
+row_size-size-requires-clause-sizes c = subst (λ (l : List ℕ). AreSizes c.args.g.now c.args.doc.now c.args.forest.now l) (sym c.deref.ensures.value) c.rows.invariant.sizes
 
-pub last_size-last-requires-clause-dotted : goal.last_size-last-requires-clause-dotted
-last_size-last-requires-clause-dotted c p d e =
-    let len = c.len-rows.ensures.len in
-    dots_within c.args.g.now c.args.doc.now c.args.forest.now c.requires c.rows.row (omega arith) p d (ap (λ (k : SpanKey). k.what) (sym c.label_at.ensures) ∙ e)
+pub rows-preserved : goal.rows-preserved
+rows-preserved c =
+    let g = c.args.g.now in
+    let w = c.args.doc.now in
+    let f = c.args.forest.now in
+    let sizes = c.rows.sizes.items in
+    let size = c.row_size-size.result in
+    let long = c.rows.invariant.long in
+    let new : c.push.new.self.items ≡ sizes ++ size ∷ [] = c.in_ok-push.ensures.items in
+    let more = length-append sizes (size ∷ []) in
+    let same = ap length new in
+    let here : IsSize g w f (length sizes) size = subst (λ r. IsSize g w f r size) (sym long) c.row_size-size.ensures in
+    record { long = omega arith; sizes = subst (λ (l : List ℕ). AreSizes g w f l) (sym new) (next_size g w f c.requires sizes c.rows.invariant.sizes size here) }
