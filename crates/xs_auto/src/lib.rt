@@ -19,8 +19,6 @@ mod pairs;
 mod seeds;
 mod spread;
 mod step;
-#[cfg(test)]
-mod tests;
 mod trace;
 
 pub use edge::Edge;

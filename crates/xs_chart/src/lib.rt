@@ -15,6 +15,3 @@ pub use item::Item;
 // Exported so that the contracts of other crates can name a chart.
 #[doc(hidden)]
 pub use set::Set;
-
-#[cfg(test)]
-mod tests;

@@ -15,8 +15,6 @@ mod names;
 mod side;
 mod sym;
 mod tables;
-#[cfg(test)]
-mod tests;
 mod text;
 mod word;
 

@@ -14,6 +14,3 @@ pub use fault::AddFault;
 pub use forest::Forest;
 pub use label::Label;
 pub use row::{Alt, Row};
-
-#[cfg(test)]
-mod tests;

@@ -9,8 +9,6 @@ mod draws;
 mod items;
 mod lines;
 mod sheet;
-#[cfg(test)]
-mod tests;
 mod words;
 
 pub use lines::make_text;

@@ -7,8 +7,6 @@
 mod command;
 mod number;
 mod reading;
-#[cfg(test)]
-mod tests;
 
 pub use command::{Command, SheetName};
 pub use reading::command_of;

@@ -2,9 +2,9 @@
 ghost use Rattle.std.specs.Prelude.{◌≡◌, IsSome, IfOk};
 ghost use Rattle.xs_auto.specs.Nets.{states};
 
-use crate::{Net, Overlap, Pairs, meet_word, overlap_word};
 use std::alloc::Global;
 use std::test::Fail;
+use xs_auto::{Net, Overlap, Pairs, meet_word, overlap_word};
 use xs_class::{Class, Memory, Word};
 
 /// A net that accepts one or more symbols of a range, by an edge and an empty move back.
@@ -50,34 +50,49 @@ fn only(word: &Word) -> u32 {
     }
 }
 
+/// The only symbol that is shared, or 0 where no word is.
+fn shared_symbol(alloc: Global, first: (u32, u32), second: (u32, u32)) -> Result<u32, Memory> {
+    match shared(alloc, first, second)? {
+        Some(word) => Ok(only(&word)),
+        None => Ok(0),
+    }
+}
+
 #[test]
-fn the_least_common_symbol_is_shared(rt: HostRuntime) -> Result<(), Fail> {
+fn the_least_common_symbol_is_shared(rt: HostRuntime) {
     for (first, second, wanted) in [
         ((97, 122), (109, 113), 109),
         ((97, 102), (102, 107), 102),
         ((97, 99), (100, 102), 0),
     ] {
-        match shared(rt.alloc(), first, second)? {
-            Some(word) => assert_eq!(rt; only(&word), wanted),
-            None => assert_eq!(rt; 0, wanted),
-        }
+        let found = shared_symbol(rt.alloc(), first, second);
+        assert!(rt;
+            matches!(found, Ok(symbol) if symbol == wanted),
+            "at {wanted}"
+        );
     }
-    Ok(())
+}
+
+/// The only symbols of the three words of an overlap, or zeros where there is none.
+fn overlap_symbols(
+    alloc: Global,
+    front: (u32, u32),
+    rest: (u32, u32),
+) -> Result<(u32, u32, u32), Memory> {
+    match overlapping(alloc, front, rest)? {
+        Some(words) => Ok((only(&words.x), only(&words.a), only(&words.y))),
+        None => Ok((0, 0, 0)),
+    }
 }
 
 #[test]
-fn runs_overlap_where_their_ranges_meet(rt: HostRuntime) -> Result<(), Fail> {
+fn runs_overlap_where_their_ranges_meet(rt: HostRuntime) {
     for (front, rest, wanted) in [
         ((97, 122), (97, 122), (97, 97, 97)),
         ((97, 99), (99, 102), (97, 99, 99)),
         ((97, 99), (100, 102), (0, 0, 0)),
     ] {
-        match overlapping(rt.alloc(), front, rest)? {
-            Some(words) => {
-                assert_eq!(rt; (only(&words.x), only(&words.a), only(&words.y)), wanted);
-            }
-            None => assert_eq!(rt; (0, 0, 0), wanted),
-        }
+        let found = overlap_symbols(rt.alloc(), front, rest);
+        assert!(rt; matches!(found, Ok(symbols) if symbols == wanted));
     }
-    Ok(())
 }

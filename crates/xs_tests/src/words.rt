@@ -1,6 +1,6 @@
-use super::*;
 use std::alloc::Global;
 use std::test::Fail;
+use xs_words::command_of;
 
 // Whether the words are a command.
 fn is_command(alloc: Global, words: &[&str]) -> Result<bool, Fail> {
@@ -36,7 +36,7 @@ fn words_that_are_commands_and_others(rt: HostRuntime) -> Result<(), Fail> {
         (&["make", "0", "01"], false),
     ];
     for (words, expected) in rows {
-        assert_eq!(rt; is_command(alloc, words)?, expected);
+        assert!(rt; is_command(alloc, words)? == expected, "{words:?}");
     }
     Ok(())
 }

@@ -1,5 +1,5 @@
-use super::*;
 use std::test::Fail;
+use xs_leiden::{leiden_sheet, make_text};
 
 #[test]
 fn texts_of_one_line(rt: HostRuntime) -> Result<(), Fail> {

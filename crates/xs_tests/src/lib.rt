@@ -1,0 +1,18 @@
+//! Tests of the layers below `xs_top`, one module for each crate.
+//!
+//! They stand apart from the crates that they try, so that each of those is proved once: a crate
+//! with tests is proved a second time with them.
+#![tactic(auto)]
+
+#[cfg(test)]
+mod auto;
+#[cfg(test)]
+mod chart;
+#[cfg(test)]
+mod class;
+#[cfg(test)]
+mod forest;
+#[cfg(test)]
+mod leiden;
+#[cfg(test)]
+mod words;
