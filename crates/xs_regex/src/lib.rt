@@ -25,6 +25,3 @@ pub use matching::matches;
 pub use position::{Classes, Follows, Numbers, Position};
 pub use read::{one_reading, read_regex};
 pub use regex::Regex;
-
-#[cfg(test)]
-mod tests;

@@ -27,6 +27,3 @@ pub use sheet::Sheet;
 pub use unit::{Unit, Units};
 pub use writer::write_sheet;
 pub use x_item::{Attr, Attrs, XItem, XItems};
-
-#[cfg(test)]
-mod tests;

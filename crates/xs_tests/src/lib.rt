@@ -15,4 +15,8 @@ mod forest;
 #[cfg(test)]
 mod leiden;
 #[cfg(test)]
+mod regex;
+#[cfg(test)]
+mod sheet;
+#[cfg(test)]
 mod words;

@@ -1,7 +1,7 @@
-use super::*;
 use std::alloc::Global;
 use std::test::Fail;
 use xs_class::{Memory, Sym, Word};
+use xs_regex::*;
 
 fn word_of(alloc: Global, text: &str) -> Result<Word, Memory> {
     let mut word = Word::new(alloc);
@@ -11,38 +11,78 @@ fn word_of(alloc: Global, text: &str) -> Result<Word, Memory> {
     Ok(word)
 }
 
+fn push_digits(shown: &mut String, numbers: &[u32]) -> Result<(), Memory> {
+    for number in numbers {
+        shown.push(char::from_digit(*number, 10).unwrap_or('?'))?;
+    }
+    shown.push(' ')?;
+    Ok(())
+}
+
+// The first positions, the last ones, and those behind each, where they are below ten.
+fn shown(alloc: Global, p: &Position) -> Result<String, Memory> {
+    let mut shown = String::new(alloc);
+    push_digits(&mut shown, p.first.as_slice())?;
+    push_digits(&mut shown, p.last.as_slice())?;
+    for behind in p.follow.as_slice() {
+        push_digits(&mut shown, behind.as_slice())?;
+    }
+    Ok(shown)
+}
+
+// Whether the automaton of the pattern is shown so, and matches no empty word.
+fn is_shown_so(alloc: Global, pattern: &str, wanted: &str) -> Result<bool, RegexFault> {
+    let regex = read_regex(alloc, pattern)?;
+    let p = positions(alloc, &regex)?;
+    let found = shown(alloc, &p)?;
+    Ok(found.as_str() == wanted && !p.nullable)
+}
+
+fn count_of_positions(alloc: Global, pattern: &str) -> Result<usize, RegexFault> {
+    let regex = read_regex(alloc, pattern)?;
+    let p = positions(alloc, &regex)?;
+    Ok(p.classes.len())
+}
+
 #[test]
 fn an_automaton_has_a_position_for_each_class(rt: HostRuntime) -> Result<(), Fail> {
-    let alloc = rt.alloc();
-    let p = positions(alloc, &read_regex(alloc, "a(b|c)*")?)?;
-    assert_eq!(rt; p.classes.len(), 3);
-    assert_eq!(rt; p.first.as_slice(), [0].as_slice());
-    assert_eq!(rt; p.last.as_slice(), [0, 1, 2].as_slice());
-    for k in 0..3 {
-        assert_eq!(rt; p.follow.at(k).as_slice(), [1, 2].as_slice());
+    for (pattern, wanted) in [
+        ("a(b|c)*", "0 012 12 12 12 "),
+        ("(ab?){1,3}", "0 012345 12 2 34 4 5  "),
+    ] {
+        assert!(rt; is_shown_so(rt.alloc(), pattern, wanted)?, "{pattern}");
     }
-    assert!(rt; !p.nullable);
-    let q = positions(alloc, &read_regex(alloc, "(ab?){1,3}")?)?;
-    assert_eq!(rt; q.classes.len(), 6);
-    assert_eq!(rt; q.last.as_slice(), [0, 1, 2, 3, 4, 5].as_slice());
-    assert_eq!(rt; q.follow.at(0).as_slice(), [1, 2].as_slice());
-    assert_eq!(rt; q.follow.at(1).as_slice(), [2].as_slice());
-    let large = positions(alloc, &read_regex(alloc, "([a-z]{50}){10}")?)?;
-    assert_eq!(rt; large.classes.len(), 500);
+    for (pattern, wanted) in [("a(b|c)*", 3), ("(ab?){1,3}", 6), ("([a-z]{50}){10}", 500)] {
+        assert_eq!(rt; count_of_positions(rt.alloc(), pattern)?, wanted);
+    }
     Ok(())
+}
+
+// Whether the pattern is a class, and then a sequence.
+fn leans_to_the_right(alloc: Global, pattern: &str) -> Result<bool, RegexFault> {
+    match read_regex(alloc, pattern)? {
+        Regex::Then(first, rest) => {
+            let begins = matches!(&*first, Regex::Set(_));
+            Ok(begins && matches!(&*rest, Regex::Then(_, _)))
+        }
+        _ => Ok(false),
+    }
+}
+
+fn is_empty(alloc: Global, pattern: &str) -> Result<bool, RegexFault> {
+    let regex = read_regex(alloc, pattern)?;
+    Ok(matches!(regex, Regex::Empty))
 }
 
 #[test]
 fn sequences_lean_to_the_right(rt: HostRuntime) -> Result<(), Fail> {
-    let alloc = rt.alloc();
-    assert!(rt; matches!(read_regex(alloc, "abc")?, Regex::Then(_, _)));
-    let Regex::Then(first, rest) = read_regex(alloc, "abc")? else {
-        return Ok(());
-    };
-    assert!(rt; matches!(&*first, Regex::Set(_)));
-    assert!(rt; matches!(&*rest, Regex::Then(_, _)));
-    assert!(rt; matches!(read_regex(alloc, "()")?, Regex::Empty));
+    assert!(rt; leans_to_the_right(rt.alloc(), "abc")?);
+    assert!(rt; is_empty(rt.alloc(), "()")?);
     Ok(())
+}
+
+fn is_refused(alloc: Global, pattern: &str) -> bool {
+    matches!(read_regex(alloc, pattern), Err(RegexFault::BadRegex))
 }
 
 #[test]
@@ -80,17 +120,20 @@ fn patterns_without_a_reading(rt: HostRuntime) -> Result<(), Fail> {
         "{2}",
         "}",
     ] {
-        assert!(rt;
-            matches!(read_regex(rt.alloc(), pattern), Err(RegexFault::BadRegex)),
-            "{pattern}"
-        );
+        assert!(rt; is_refused(rt.alloc(), pattern), "{pattern}");
     }
     Ok(())
 }
 
+fn has(alloc: Global, pattern: &str, number: u32) -> Result<bool, RegexFault> {
+    let regex = read_regex(alloc, pattern)?;
+    let mut word = Word::new(alloc);
+    word.push(Sym(number))?;
+    Ok(matches(alloc, &regex, &word)?)
+}
+
 #[test]
 fn classes_are_cut_to_characters(rt: HostRuntime) -> Result<(), Fail> {
-    let alloc = rt.alloc();
     for (pattern, number, want) in [
         ("\\p{Greek}", 0x3B1, true),
         ("\\p{Greek}", 0x61, false),
@@ -107,13 +150,8 @@ fn classes_are_cut_to_characters(rt: HostRuntime) -> Result<(), Fail> {
         ("\\u{3b1}", 0x3B1, true),
         ("[\\u{370}-\\u{3FF}]", 0x3B1, true),
     ] {
-        let mut word = Word::new(alloc);
-        word.push(Sym(number))?;
-        assert_eq!(rt;
-            matches(alloc, &read_regex(alloc, pattern)?, &word)?,
-            want,
-            "{pattern} at {number}"
-        );
+        let found = has(rt.alloc(), pattern, number)?;
+        assert!(rt; found == want, "{pattern} at {number}");
     }
     Ok(())
 }
@@ -465,13 +503,17 @@ static WORDS: [(&str, &str, bool); 343] = [
     ("(x{1,2}y){1,2}", "xyxyxy", false),
 ];
 
-/// The first row whose pattern does not answer as the row says, or the number of rows.
-fn first_wrong(alloc: Global, rows: &[(&str, &str, bool)]) -> Result<usize, Fail> {
+fn is_matched(alloc: Global, pattern: &str, text: &str) -> Result<bool, RegexFault> {
+    let regex = read_regex(alloc, pattern)?;
+    let word = word_of(alloc, text)?;
+    Ok(matches(alloc, &regex, &word)?)
+}
+
+// The first row whose pattern does not answer as the row says, or the number of rows.
+fn first_wrong(alloc: Global, rows: &[(&str, &str, bool)]) -> Result<usize, RegexFault> {
     for (k, row) in rows.iter().enumerate() {
         let (pattern, text, want) = *row;
-        let word = word_of(alloc, text)?;
-        let r = read_regex(alloc, pattern)?;
-        if matches(alloc, &r, &word)? != want {
+        if is_matched(alloc, pattern, text)? != want {
             return Ok(k);
         }
     }

@@ -1,8 +1,8 @@
 mod writing;
 
-use crate::{Sheet, SheetFault, Unit, XItem, read_sheet};
 use std::alloc::Global;
 use std::test::Fail;
+use xs_sheet::{Sheet, SheetFault, Unit, XItem, read_sheet};
 
 const PAIR: &str =
     "xsugar-1\nstart s\nterminal d = /[0-9]/\ns : \"(\" [d a] \",\" [d b] \")\" = <p><y>[d b]</y><x>[d a]</x></p>\n";
