@@ -1,4 +1,5 @@
 pub mod Adding
+pub mod Ascending
 pub mod Built
 pub mod Chains
 pub mod Choice

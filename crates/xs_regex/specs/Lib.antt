@@ -1,3 +1,4 @@
+pub mod Ascending
 pub mod Automaton
 pub mod Characters
 pub mod Marked

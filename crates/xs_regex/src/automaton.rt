@@ -1,4 +1,4 @@
-ghost use Rattle.std.specs.Prelude.{◌≡◌, ◌+◌, ◌*◌, ◌<◌, ◌≤◌, ◌++◌, ℕ, List, length, IfOk};
+ghost use Rattle.std.specs.Prelude.{◌≡◌, ◌+◌, ◌*◌, ◌≤◌, ◌++◌, ℕ, List, [], length, IfOk};
 ghost use Rattle.xs_regex.specs.Automaton.{Accepts, IsWellFormed, ClassesHaveMembers, EachEnds};
 ghost use Rattle.xs_regex.specs.Matches.{joined, Each, InTurn, OfEither, Repeats, Matches};
 ghost use Rattle.xs_regex.specs.Parts.{IsAutomaton};
@@ -31,7 +31,8 @@ pub fn positions(alloc: Global, r: &Regex) -> Result<Position, Memory>
 }
 
 // It calls itself for what is nested, and goes along the parts of a sequence or of a choice in a
-// loop, so the depth of the stack is that of the parentheses.
+// loop, so the depth of the stack is that of the parentheses. The functions are kept apart, since a
+// frame that holds no automaton is small.
 #[cycle(built)]
 #[inline(never)]
 fn built(alloc: Global, r: &Regex) -> Result<Position, Memory>
@@ -39,14 +40,21 @@ fn built(alloc: Global, r: &Regex) -> Result<Position, Memory>
     ensures { IfOk result (IsAutomaton (Matches r.now) (sets r.now) (IsBounded r.now)) }
 {
     match r {
-        Regex::Empty => Ok(nothing(alloc, true)),
+        Regex::Empty => no_symbol(alloc),
         Regex::Set(class) => single(alloc, class),
         Regex::Then(a, b) => in_turn(alloc, a, b),
         Regex::Or(a, b) => of_either(alloc, a, b),
         Regex::Star(a) => any_number(alloc, a),
-        Regex::Times(_, least, Some(0)) => Ok(nothing(alloc, *least == 0)),
         Regex::Times(a, least, most) => counted(alloc, a, *least, *most),
     }
+}
+
+/// The empty word.
+#[inline(never)]
+fn no_symbol(alloc: Global) -> Result<Position, Memory>
+    ensures { IfOk result (IsAutomaton (λ (w : List ℕ). w ≡ []) [] (Unit {0})) }
+{
+    Ok(nothing(alloc, true))
 }
 
 /// One regex and then another, whose right parts are passed one after another.
@@ -96,14 +104,16 @@ fn any_number(alloc: Global, a: &Regex) -> Result<Position, Memory>
     Ok(maybe(round(alloc, p)?))
 }
 
-/// A regex as often as the counts allow, which is not only no times.
+/// A regex as often as the counts allow.
 #[cycle(built)]
 #[inline(never)]
 fn counted(alloc: Global, a: &Regex, least: u32, most: Option<u32>) -> Result<Position, Memory>
-    requires some { 0 < copies least most }
-    requires small { copies least most * size a.now ≤ 512 }
+    requires { copies least most * size a.now ≤ 512 }
     ensures { IfOk result (IsAutomaton (Repeats (Matches a.now) least most) (times (copies least most) (sets a.now)) (IsInOrder least most × IsBounded a.now)) }
 {
+    if let Some(0) = most {
+        return Ok(nothing(alloc, least == 0));
+    }
     let p = built(alloc, a)?;
     repeated(alloc, &p, least, most)
 }

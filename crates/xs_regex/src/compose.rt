@@ -21,6 +21,7 @@ pub fn nothing(alloc: Global, nullable: bool) -> Position
 }
 
 /// The automaton of one class.
+#[inline(never)]
 pub fn single(alloc: Global, class: &Class) -> Result<Position, Memory>
     ensures { IfOk result (λ p. p ≡ of_class class.now) }
 {

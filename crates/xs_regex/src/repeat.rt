@@ -13,6 +13,7 @@ use xs_class::Memory;
 ///
 /// There is a copy of the automaton for each word. Of a greatest count, k words stand in the first
 /// k copies; without one the last copy goes round.
+#[inline(never)]
 pub fn repeated(
     alloc: Global,
     one: &Position,

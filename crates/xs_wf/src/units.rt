@@ -20,17 +20,31 @@ fn has_member(class: &Class) -> bool
     }
 }
 
-// Whether each class in the regex has a member. The depth of the recursion is that of the regex.
+// Whether each class in the regex has a member. It calls itself for what is nested, and goes along
+// the parts of a sequence or of a choice in a loop.
 fn has_members(regex: &Regex) -> bool
     ensures { IsTrue result ↔ HasMembers regex.now }
 {
-    match regex {
-        Regex::Empty => true,
-        Regex::Set(class) => has_member(class),
-        Regex::Then(first, rest) => has_members(first) && has_members(rest),
-        Regex::Or(one, other) => has_members(one) && has_members(other),
-        Regex::Star(inner) => has_members(inner),
-        Regex::Times(inner, _, _) => has_members(inner),
+    let mut rest = regex;
+    'parts: loop {
+        match rest {
+            Regex::Empty => return true,
+            Regex::Set(class) => return has_member(class),
+            Regex::Then(first, behind) => {
+                if !has_members(first) {
+                    return false;
+                }
+                rest = behind;
+            }
+            Regex::Or(one, other) => {
+                if !has_members(one) {
+                    return false;
+                }
+                rest = other;
+            }
+            Regex::Star(inner) => rest = inner,
+            Regex::Times(inner, _, _) => rest = inner,
+        }
     }
 }
 

@@ -22,7 +22,7 @@ pub built-returns-in-Times : goal.built-returns-in-Times
 built-returns-in-Times t c = rw c.in-Times.is (rw c.deref-in-Times.ensures at c.counted.ensures)
 
 pub counted-repeated-requires-clause-small : goal.counted-repeated-requires-clause-small
-counted-repeated-requires-clause-small t c = copies_small c.args.a.now (copies c.args.least c.args.most) _ _ c.in_ok-p.p c.requires.small c.in_ok-p.ensures
+counted-repeated-requires-clause-small t c = copies_small c.args.a.now (copies c.args.least c.args.most) _ _ c.in_ok-p.p c.requires c.in_ok-p.ensures
 
 pub counted-returns : goal.counted-returns
 counted-returns t c = ok_weaker c.repeated.result _ _ (λ r e. times_is r c.args.least c.args.most c.in_ok-p.ensures e) c.repeated.ensures
