@@ -14,6 +14,3 @@ pub use form::{Form, in_form};
 pub use laws::{encoded_is_decoded, text_is_read_back};
 pub use reading::{DecodeFault, decode, read_text};
 pub use writing::{encode, write_text};
-
-#[cfg(test)]
-mod tests;

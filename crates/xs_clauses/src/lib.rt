@@ -8,8 +8,6 @@
 mod clause;
 mod marking;
 mod search;
-#[cfg(test)]
-mod tests;
 mod uses;
 
 pub use clause::{Clause, Flags, Premises};

@@ -12,8 +12,6 @@ mod reader;
 mod references;
 mod runs;
 mod sorted;
-#[cfg(test)]
-mod tests;
 mod values;
 
 pub use document::{XmlFault, read_xml};

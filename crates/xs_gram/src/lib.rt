@@ -24,6 +24,3 @@ pub use parts::{
 };
 pub use places::Place;
 pub use suspect::Suspect;
-
-#[cfg(test)]
-mod tests;

@@ -13,8 +13,6 @@ mod frame;
 mod graph;
 mod mark;
 mod search;
-#[cfg(test)]
-mod tests;
 
 pub use component::components;
 pub use cycle::first_cyclic;

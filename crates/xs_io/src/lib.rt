@@ -24,6 +24,3 @@ pub use shelves::{MemShelf, SureShelf};
 pub use sinks::{MemSink, SureSink};
 pub use sources::{MemSource, SureSource};
 pub use whole::{ReadStop, WriteFault, put_all, read_all, read_file};
-
-#[cfg(test)]
-mod tests;

@@ -15,8 +15,6 @@ mod place;
 mod quoted;
 mod reading;
 mod scan;
-#[cfg(test)]
-mod tests;
 mod token;
 
 pub use kind::Kind;

@@ -13,8 +13,6 @@ mod leaves;
 mod nullable_nons;
 mod productive_nons;
 mod rules;
-#[cfg(test)]
-mod tests;
 mod unit_ranks;
 mod words;
 

@@ -35,6 +35,7 @@ fn rows_are_numbered_and_labelled_once(rt: HostRuntime) -> Result<(), Fail> {
     assert!(rt; forest.add_row(FIRST, &[LEAF]) == Ok(0));
     assert!(rt; forest.len() == 1);
     assert!(rt; forest.add_row(SECOND, &[PAIR, LEAF]) == Ok(1));
+    assert!(rt; forest.len() == 2);
     assert!(rt; forest.add_row(SECOND, &[]) == Err(AddFault::Repeated { at: 1 }));
     assert!(rt; forest.len() == 2);
     let row = forest.row(1);

@@ -7,16 +7,36 @@
 #[cfg(test)]
 mod auto;
 #[cfg(test)]
+mod chars;
+#[cfg(test)]
 mod chart;
 #[cfg(test)]
 mod class;
 #[cfg(test)]
+mod clauses;
+#[cfg(test)]
 mod forest;
 #[cfg(test)]
+mod form;
+#[cfg(test)]
+mod gram;
+#[cfg(test)]
+mod graph;
+#[cfg(test)]
+mod io;
+#[cfg(test)]
 mod leiden;
+#[cfg(test)]
+mod lex;
+#[cfg(test)]
+mod order;
 #[cfg(test)]
 mod regex;
 #[cfg(test)]
 mod sheet;
+#[cfg(test)]
+mod text_out;
+#[cfg(test)]
+mod tree;
 #[cfg(test)]
 mod words;

@@ -12,6 +12,3 @@ mod printing;
 mod walk;
 
 pub use printing::print_syms;
-
-#[cfg(test)]
-mod tests;

@@ -19,6 +19,3 @@ pub use compare::same;
 #[doc(hidden)]
 pub use part::{Places, TreePart};
 pub use tree::Tree;
-
-#[cfg(test)]
-mod tests;

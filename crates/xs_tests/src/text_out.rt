@@ -2,12 +2,12 @@ ghost use Rattle.std.specs.Prelude.{◌≡◌, [], ◌∷◌, length, IfOk};
 ghost use Rattle.xs_gram.specs.declared.parts.GItem.TheVariants.{Non, Skip, Term};
 ghost use Rattle.xs_gram.specs.Building.{CanBuild, EachOf, IsFit};
 
-use super::*;
 use std::alloc::Global;
 use std::test::Fail;
 use xs_class::{Class, Memory, Sym, Word};
 use xs_gram::{GItem, GItems, Gram, GramParts, Regexes, RulePart, Rules, SkipPart, Skips};
 use xs_regex::Regex;
+use xs_text_out::print_syms;
 use xs_tree::{Builder, Tree};
 
 fn pair_items(alloc: Global) -> Result<GItems, Memory>
@@ -102,25 +102,25 @@ fn doubled(alloc: Global, times: u64) -> Result<Tree, Memory> {
     Ok(builder.finish(pair))
 }
 
+/// What is printed of the number that is doubled so many times.
+fn printed(alloc: Global, times: u64) -> Result<Word, Memory> {
+    let gram = Gram::build(alloc, parts(alloc)?)?;
+    print_syms(alloc, &gram, &doubled(alloc, times)?)
+}
+
 #[test]
 fn children_are_printed_where_their_items_stand(rt: HostRuntime) -> Result<(), Fail> {
-    let gram = Gram::build(rt.alloc(), parts(rt.alloc())?)?;
-    let word = print_syms(rt.alloc(), &gram, &doubled(rt.alloc(), 0)?)?;
-    assert_eq!(rt; word.as_slice(), [Sym(51), Sym(32), Sym(55)].as_slice());
+    assert!(rt; printed(rt.alloc(), 0)?.as_slice() == [Sym(51), Sym(32), Sym(55)].as_slice());
     Ok(())
 }
 
 #[test]
 fn shared_parts_are_printed_each_time(rt: HostRuntime) -> Result<(), Fail> {
-    let gram = Gram::build(rt.alloc(), parts(rt.alloc())?)?;
-    let word = print_syms(rt.alloc(), &gram, &doubled(rt.alloc(), 10)?)?;
-    assert_eq!(rt; word.len(), 1026);
+    assert!(rt; printed(rt.alloc(), 10)?.len() == 1026);
     Ok(())
 }
 
 #[test]
-fn no_list_is_longer_than_its_numbers(rt: HostRuntime) -> Result<(), Fail> {
-    let gram = Gram::build(rt.alloc(), parts(rt.alloc())?)?;
-    assert!(rt; print_syms(rt.alloc(), &gram, &doubled(rt.alloc(), 70)?).is_err());
-    Ok(())
+fn no_list_is_longer_than_its_numbers(rt: HostRuntime) {
+    assert!(rt; printed(rt.alloc(), 70).is_err());
 }

@@ -1,7 +1,7 @@
 use Rattle.std.proofs.Common.{[], ◌∷◌, refl}
 use Rattle.std.specs.Str.{chars}
 use Rattle.xs_lex.specs.Units.{plain, escaped, coded}
-use Rattle.xs_lex.proofs.tests.escapes_are_characters.Goals as goal
+use Rattle.xs_tests.proofs.lex.escapes_are_characters.Goals as goal
 
 pub quoted_value-requires : goal.quoted_value-requires
 unfolding chars

@@ -2,10 +2,10 @@ ghost use Rattle.std.specs.Prelude.{◌≡◌, [], ◌∷◌, IfOk};
 ghost use Rattle.xs_gram.specs.declared.parts.GItem.TheVariants.{Fixed, Term};
 ghost use Rattle.xs_gram.specs.Building.{CanBuild};
 
-use crate::{GItem, GItems, Gram, GramParts, Place, Regexes, RulePart, Rules, Skips};
 use std::alloc::Global;
 use std::test::Fail;
 use xs_class::{Class, Memory, Sym, Word};
+use xs_gram::{GItem, GItems, Gram, GramParts, Place, Regexes, RulePart, Rules, Skips};
 use xs_regex::Regex;
 
 fn symbol(alloc: Global, code: u32) -> Result<GItem, Memory>
@@ -49,51 +49,58 @@ fn pair_parts(alloc: Global) -> Result<GramParts, Memory>
     })
 }
 
+/// The numbers of the start, nonterminals, terminals, ignorables, rules and places.
+fn counts(gram: &Gram) -> [u32; 6] {
+    [
+        gram.start(),
+        gram.nons(),
+        gram.terms(),
+        gram.skips(),
+        gram.rules(),
+        gram.places(),
+    ]
+}
+
 #[test]
 fn pair_grammar_is_read_back(rt: HostRuntime) -> Result<(), Fail> {
     let gram = Gram::build(rt.alloc(), pair_parts(rt.alloc())?)?;
-    assert_eq!(rt; gram.start(), 0);
-    assert_eq!(rt; gram.nons(), 1);
-    assert_eq!(rt; gram.terms(), 1);
-    assert_eq!(rt; gram.skips(), 0);
-    assert_eq!(rt; gram.rules(), 1);
-    assert_eq!(rt; gram.places(), 8);
-    let class = gram.term(0).classes.as_slice();
-    assert_eq!(rt; class.len(), 1);
-    assert_eq!(rt; gram.non_of(0), 0);
-    assert_eq!(rt; gram.items(0).len(), 5);
+    assert!(rt; counts(&gram) == [0, 1, 1, 0, 1, 8]);
+    if gram.terms() == 1 && gram.rules() == 1 {
+        assert!(rt; gram.term(0).classes.as_slice().len() == 1);
+        assert!(rt; gram.non_of(0) == 0 && gram.items(0).len() == 5);
+    }
     Ok(())
+}
+
+/// Whether this place has this number.
+fn has_number(gram: &Gram, number: u32, wanted: Place) -> bool {
+    if number >= gram.places() {
+        return false;
+    }
+    let place = gram.place(number);
+    place == wanted && gram.number(place) == number
 }
 
 #[test]
 fn places_have_their_numbers(rt: HostRuntime) -> Result<(), Fail> {
     let gram = Gram::build(rt.alloc(), pair_parts(rt.alloc())?)?;
-    let table = [
-        (0, None),
-        (1, None),
-        (1, Some(0)),
-        (2, None),
-        (3, None),
-        (3, Some(0)),
-        (4, None),
-        (5, None),
-    ];
-    let mut count = 0;
-    for (dot, inside) in table {
-        if count < gram.places() {
-            let place = gram.place(count);
-            assert_eq!(rt;
-                place,
-                Place {
-                    rule: 0,
-                    dot,
-                    inside
-                }
-            );
-            assert_eq!(rt; gram.number(place), count);
-            count += 1;
-        }
+    for (number, dot, inside) in [
+        (0, 0, None),
+        (1, 1, None),
+        (2, 1, Some(0)),
+        (3, 2, None),
+        (4, 3, None),
+        (5, 3, Some(0)),
+        (6, 4, None),
+        (7, 5, None),
+    ] {
+        let wanted = Place {
+            rule: 0,
+            dot,
+            inside,
+        };
+        assert!(rt; has_number(&gram, number, wanted), "at {number}");
     }
-    assert_eq!(rt; count, 8);
+    assert!(rt; gram.places() == 8);
     Ok(())
 }

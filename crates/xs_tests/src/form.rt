@@ -1,21 +1,21 @@
-use crate::{XmlFault, read_xml};
 use std::alloc::Global;
 use std::process::Abort;
 use std::test::Fail;
-use xs_class::{ATTR_END, Names, STRANGE, Sym, Text, Word};
+use xs_class::{ATTR_END, Memory, Names, STRANGE, Sym, Text, Word};
+use xs_form::{XmlFault, read_xml};
 
-fn names_of(alloc: Global, list: &[&str]) -> Result<Names, Fail> {
+fn names_of(alloc: Global, list: &[&str]) -> Result<Names, Memory> {
     let mut texts = Vec::new(alloc);
     for name in list {
         texts.push(Text::of(alloc, name)?)?;
     }
     if texts.len() >= 65536 {
-        return Err(Fail::from("too many names"));
+        return Err(Memory);
     }
-    Ok(Names::of(alloc, &texts)?)
+    Names::of(alloc, &texts)
 }
 
-fn word_of(alloc: Global, document: &str) -> Result<Word, Fail> {
+fn word_of(alloc: Global, document: &str) -> Result<Word, Memory> {
     let mut word = Word::new(alloc);
     for c in document.chars() {
         word.push(Sym::of_char(c))?;
@@ -79,8 +79,10 @@ fn answer(alloc: Global, names: &Names, document: &str) -> Result<String, Fail> 
 fn expect(rt: &impl Abort, alloc: Global, rows: &[(&str, &str)]) -> Result<(), Fail> {
     let names = names_of(alloc, &["s"])?;
     for (document, expected) in rows {
-        let shown = answer(alloc, &names, document)?;
-        assert_eq!(rt; shown.as_str(), *expected, "{document:?}");
+        assert!(rt;
+            answer(alloc, &names, document)?.as_str() == *expected,
+            "{document:?}"
+        );
     }
     Ok(())
 }
@@ -272,20 +274,37 @@ fn what_stands_outside_the_root(rt: HostRuntime) -> Result<(), Fail> {
     )
 }
 
-// The document with the character of each number between the two texts.
+// Whether the document of this symbol between the two texts is read.
+fn is_read(
+    alloc: Global,
+    names: &Names,
+    number: u32,
+    around: (&str, &str),
+) -> Result<bool, Memory> {
+    let mut word = word_of(alloc, around.0)?;
+    word.push(Sym(number))?;
+    word.extend(word_of(alloc, around.1)?.as_slice())?;
+    match read_xml(alloc, names, &word) {
+        Ok(_) => Ok(true),
+        Err(XmlFault::NotXml { .. }) => Ok(false),
+        Err(XmlFault::Memory) => Err(Memory),
+    }
+}
+
+// The document of each symbol between the two texts is read, or none is.
 fn expect_each(
     rt: &impl Abort,
     alloc: Global,
     numbers: &[u32],
     around: (&str, &str),
-    is_read: bool,
+    wanted: bool,
 ) -> Result<(), Fail> {
     let names = names_of(alloc, &["s"])?;
     for number in numbers {
-        let c = char::from_u32(*number).ok_or("no character")?;
-        let document = format!(in alloc; "{}{c}{}", around.0, around.1)?;
-        let shown = answer(alloc, &names, document.as_str())?;
-        assert_eq!(rt; !shown.starts_with('!'), is_read, "{number:x}");
+        assert!(rt;
+            is_read(alloc, &names, *number, around)? == wanted,
+            "{number:x}"
+        );
     }
     Ok(())
 }
@@ -326,17 +345,24 @@ fn names_go_on_by_the_table(rt: HostRuntime) -> Result<(), Fail> {
     expect_each(&rt, rt.alloc(), &outside, ("<s", "/>"), false)
 }
 
+// The document of so many elements in one another.
+fn nested(alloc: Global, levels: u32) -> Result<Word, Memory> {
+    let opening = word_of(alloc, "<s>")?;
+    let closing = word_of(alloc, "</s>")?;
+    let mut word = Word::new(alloc);
+    for _ in 0..levels {
+        word.extend(opening.as_slice())?;
+    }
+    for _ in 0..levels {
+        word.extend(closing.as_slice())?;
+    }
+    Ok(word)
+}
+
 #[test]
 fn elements_stand_deep(rt: HostRuntime) -> Result<(), Fail> {
     let names = names_of(rt.alloc(), &["s"])?;
-    let mut document = String::new(rt.alloc());
-    for _ in 0..100_000 {
-        document.push_str("<s>")?;
-    }
-    for _ in 0..100_000 {
-        document.push_str("</s>")?;
-    }
-    let word = read_xml(rt.alloc(), &names, &word_of(rt.alloc(), document.as_str())?)?;
-    assert_eq!(rt; word.len(), 200_000);
+    let word = read_xml(rt.alloc(), &names, &nested(rt.alloc(), 100_000)?)?;
+    assert!(rt; word.len() == 200_000);
     Ok(())
 }

@@ -1,10 +1,9 @@
-use super::*;
-use std::test::Fail;
-use xs_class::{Sym, Word};
+use std::alloc::Global;
+use xs_chars::{DecodeFault, Form, decode, encode, in_form, read_text, write_text};
+use xs_class::Sym;
 
 #[test]
-fn bytes_that_are_no_utf8(rt: HostRuntime) -> Result<(), Fail> {
-    let alloc = rt.alloc();
+fn bytes_that_are_no_utf8(rt: HostRuntime) {
     let rows: [(&[u8], u64); 4] = [
         (b"(\xff", 1),
         (b"<s>\xc3", 3),
@@ -12,17 +11,25 @@ fn bytes_that_are_no_utf8(rt: HostRuntime) -> Result<(), Fail> {
         (b"a\xf4\x90\x80\x80", 1),
     ];
     for (bytes, at) in rows {
-        assert_eq!(rt;
-            decode(alloc, bytes).err(),
-            Some(DecodeFault::NotUtf8 { at })
-        );
+        assert!(rt; decode(rt.alloc(), bytes).err() == Some(DecodeFault::NotUtf8 { at }));
     }
-    Ok(())
+}
+
+/// Whether the bytes are read as these symbols, and these written as those bytes.
+fn is_read_and_written(
+    alloc: Global,
+    bytes: &[u8],
+    form: Form,
+    symbols: &[Sym],
+    written: &[u8],
+) -> Result<bool, DecodeFault> {
+    let word = read_text(alloc, bytes, form)?;
+    let out = write_text(alloc, &word)?;
+    Ok(word.as_slice() == symbols && out.as_slice() == written)
 }
 
 #[test]
-fn texts_are_read_and_written(rt: HostRuntime) -> Result<(), Fail> {
-    let alloc = rt.alloc();
+fn texts_are_read_and_written(rt: HostRuntime) {
     let rows: [(&[u8], Form, &[Sym], &[u8]); 6] = [
         (
             "(3,é)".as_bytes(),
@@ -47,22 +54,28 @@ fn texts_are_read_and_written(rt: HostRuntime) -> Result<(), Fail> {
         (b"", Form::Nfc, &[], b""),
     ];
     for (bytes, form, symbols, written) in rows {
-        let word = read_text(alloc, bytes, form)?;
-        assert_eq!(rt; word.as_slice(), symbols);
-        let word = Word::of(alloc, symbols)?;
-        assert_eq!(rt;
-            write_text(alloc, &word)
-                .map_err(|_| "no memory")?
-                .as_slice(),
-            written
-        );
+        let same = is_read_and_written(rt.alloc(), bytes, form, symbols, written);
+        assert!(rt; same == Ok(true), "{bytes:?}");
     }
-    Ok(())
+}
+
+/// Whether the bytes in this form are these symbols, which are encoded as those bytes and back.
+fn is_put_and_encoded(
+    alloc: Global,
+    bytes: &[u8],
+    form: Form,
+    symbols: &[Sym],
+    encoded: &[u8],
+) -> Result<bool, DecodeFault> {
+    let word = in_form(alloc, &decode(alloc, bytes)?, form)?;
+    let out = encode(alloc, &word)?;
+    let back = decode(alloc, out.as_slice())?;
+    let same = word.as_slice() == symbols && back.as_slice() == symbols;
+    Ok(same && out.as_slice() == encoded)
 }
 
 #[test]
-fn a_word_is_put_into_a_form_and_encoded(rt: HostRuntime) -> Result<(), Fail> {
-    let alloc = rt.alloc();
+fn a_word_is_put_into_a_form_and_encoded(rt: HostRuntime) {
     let rows: [(&[u8], Form, &[Sym], &[u8]); 4] = [
         (
             b"\xe1\xba\xa1",
@@ -85,12 +98,7 @@ fn a_word_is_put_into_a_form_and_encoded(rt: HostRuntime) -> Result<(), Fail> {
         ),
     ];
     for (bytes, form, symbols, encoded) in rows {
-        let word = decode(alloc, bytes)?;
-        let changed = in_form(alloc, &word, form)?;
-        assert_eq!(rt; changed.as_slice(), symbols);
-        let written = encode(alloc, &changed)?;
-        assert_eq!(rt; written.as_slice(), encoded);
-        assert_eq!(rt; decode(alloc, written.as_slice())?.as_slice(), symbols);
+        let same = is_put_and_encoded(rt.alloc(), bytes, form, symbols, encoded);
+        assert!(rt; same == Ok(true), "{bytes:?}");
     }
-    Ok(())
 }

@@ -1,11 +1,14 @@
 ghost use Rattle.std.specs.Prelude.{◌≤◌, IfOk};
 
-use crate::*;
 use std::alloc::{AllocError, Global};
 use std::io::{self, Cursor, ErrorKind, Read, Write};
 use std::test::Fail;
 use std::{env, fs, process};
 use xs_class::{Bytes, Memory, Text};
+use xs_io::{
+    DirShelf, Failed, FromReader, MemShelf, MemSink, MemSource, ReadStop, Sink, Source, SureShelf,
+    SureSink, SureSource, ToWriter, WriteFault, put_all, read_all, read_file,
+};
 
 const ABC: &[u8] = b"abcdefg";
 
@@ -31,7 +34,6 @@ fn read_with(
 
 #[test]
 fn reading_ends_at_a_fault_the_limit_or_the_end(rt: HostRuntime) -> Result<(), Fail> {
-    let alloc = rt.alloc();
     for (limit, number, result, left) in [
         (100, 0, Ok(true), 0),
         (7, 0, Ok(true), 0),
@@ -45,12 +47,22 @@ fn reading_ends_at_a_fault_the_limit_or_the_end(rt: HostRuntime) -> Result<(), F
         (100, 5, Ok(true), 0),
         (4, 3, Err(ReadStop::TooLong), 2),
     ] {
-        assert_eq!(rt; read_with(alloc, limit, number)?, (result, left));
+        let found = read_with(rt.alloc(), limit, number)?;
+        assert!(rt; found == (result, left), "limit {limit}, call {number}");
     }
-    let mut source = SureSource::new(Bytes::of(alloc, ABC)?);
-    assert_eq!(rt; read_all(alloc, &mut source, 7)?.as_slice(), ABC);
-    assert_eq!(rt; source.left().len(), 0);
     Ok(())
+}
+
+/// Whether a source that never fails is read to its end.
+fn is_read_surely(alloc: Global) -> Result<bool, ReadStop> {
+    let mut source = SureSource::new(Bytes::of(alloc, ABC)?);
+    let bytes = read_all(alloc, &mut source, 7)?;
+    Ok(bytes.as_slice() == ABC && source.left().is_empty())
+}
+
+#[test]
+fn a_sure_source_is_read_to_its_end(rt: HostRuntime) {
+    assert!(rt; is_read_surely(rt.alloc()) == Ok(true));
 }
 
 // Writes with steps of 3: the answer, and how many bytes were taken.
@@ -62,7 +74,6 @@ fn write_with(alloc: Global, number: u64) -> Result<(Result<(), WriteFault>, usi
 
 #[test]
 fn writing_ends_at_a_fault_or_the_end(rt: HostRuntime) -> Result<(), Fail> {
-    let alloc = rt.alloc();
     for (number, result, taken) in [
         (0, Ok(()), 7),
         (1, Err(WriteFault { written: 0 }), 0),
@@ -70,27 +81,43 @@ fn writing_ends_at_a_fault_or_the_end(rt: HostRuntime) -> Result<(), Fail> {
         (3, Err(WriteFault { written: 6 }), 6),
         (4, Ok(()), 7),
     ] {
-        assert_eq!(rt; write_with(alloc, number)?, (result, taken));
+        assert!(rt;
+            write_with(rt.alloc(), number)? == (result, taken),
+            "call {number}"
+        );
     }
-    let mut sink = SureSink::with_room(alloc, 9)?;
-    assert_eq!(rt; put_all(&mut sink, ABC), Ok(()));
-    assert_eq!(rt; put_all(&mut sink, ABC), Err(WriteFault { written: 2 }));
-    assert_eq!(rt; sink.taken(), b"abcdefgab".as_slice());
     Ok(())
+}
+
+/// The answers of writing twice into this room, and whether it is full of both fronts.
+fn fill(alloc: Global) -> Result<(Result<(), WriteFault>, Result<(), WriteFault>, bool), Memory> {
+    let mut sink = SureSink::with_room(alloc, 9)?;
+    let first = put_all(&mut sink, ABC);
+    let second = put_all(&mut sink, ABC);
+    Ok((first, second, sink.taken() == b"abcdefgab".as_slice()))
+}
+
+#[test]
+fn a_sure_sink_takes_what_it_has_room_for(rt: HostRuntime) -> Result<(), Fail> {
+    assert!(rt; fill(rt.alloc())? == (Ok(()), Err(WriteFault { written: 2 }), true));
+    Ok(())
+}
+
+fn add(alloc: Global, shelf: &mut MemShelf, name: &str, bytes: &[u8]) -> Result<(), Memory> {
+    shelf.add(Text::of(alloc, name)?, Bytes::of(alloc, bytes)?)
 }
 
 // Whether the file of this name comes whole, from a shelf of which one call fails.
 fn file_with(alloc: Global, number: u64, name: &str) -> Result<Result<bool, ReadStop>, Memory> {
     let mut shelf = MemShelf::new(alloc, only(alloc, number)?);
-    shelf.add(Text::of(alloc, "a")?, Bytes::of(alloc, b"old")?)?;
-    shelf.add(Text::of(alloc, "é")?, Bytes::of(alloc, b"other")?)?;
-    shelf.add(Text::of(alloc, "a")?, Bytes::of(alloc, ABC)?)?;
+    add(alloc, &mut shelf, "a", b"old")?;
+    add(alloc, &mut shelf, "é", b"other")?;
+    add(alloc, &mut shelf, "a", ABC)?;
     Ok(read_file(alloc, &mut shelf, name, 7).map(|bytes| bytes.as_slice() == ABC))
 }
 
 #[test]
 fn a_file_is_read_by_name(rt: HostRuntime) -> Result<(), Fail> {
-    let alloc = rt.alloc();
     for (number, name, result) in [
         (0, "a", Ok(true)),
         (1, "a", Err(ReadStop::ReadFault)),
@@ -99,12 +126,24 @@ fn a_file_is_read_by_name(rt: HostRuntime) -> Result<(), Fail> {
         (0, "é", Ok(false)),
         (0, "b", Err(ReadStop::ReadFault)),
     ] {
-        assert_eq!(rt; file_with(alloc, number, name)?, result);
+        assert!(rt;
+            file_with(rt.alloc(), number, name)? == result,
+            "{name}, call {number}"
+        );
     }
+    Ok(())
+}
+
+/// Whether a file comes whole from a shelf that never fails.
+fn is_kept_surely(alloc: Global) -> Result<bool, ReadStop> {
     let mut shelf = SureShelf::new(alloc);
     shelf.add(Text::of(alloc, "a")?, Bytes::of(alloc, ABC)?)?;
-    assert_eq!(rt; read_file(alloc, &mut shelf, "a", 7)?.as_slice(), ABC);
-    Ok(())
+    Ok(read_file(alloc, &mut shelf, "a", 7)?.as_slice() == ABC)
+}
+
+#[test]
+fn a_sure_shelf_keeps_its_files(rt: HostRuntime) {
+    assert!(rt; is_kept_surely(rt.alloc()) == Ok(true));
 }
 
 // A reader and writer of which so many calls are interrupted first.
@@ -141,28 +180,42 @@ impl Write for Interrupted {
     }
 }
 
-#[test]
-fn a_reader_is_a_source(rt: HostRuntime) -> Result<(), Fail> {
+/// Whether a reader of bytes is read to its end.
+fn is_read_through(alloc: Global) -> Result<bool, ReadStop> {
     let mut source = FromReader::new(Cursor::new(ABC));
-    assert_eq!(rt; read_all(rt.alloc(), &mut source, 7)?.as_slice(), ABC);
+    Ok(read_all(alloc, &mut source, 7)?.as_slice() == ABC)
+}
+
+fn read_interrupted(times: u32) -> Result<usize, Failed> {
     let mut buf = [0u8; 4];
-    for (times, result) in [(1_000, Ok(1)), (1_001, Err(Failed))] {
-        let mut source = FromReader::new(Interrupted { times });
-        assert_eq!(rt; source.read(&mut buf), result);
-    }
-    Ok(())
+    FromReader::new(Interrupted { times }).read(&mut buf)
 }
 
 #[test]
-fn a_writer_is_a_sink(rt: HostRuntime) -> Result<(), Fail> {
-    let mut out = Vec::new(rt.alloc());
-    assert_eq!(rt; put_all(&mut ToWriter::new(&mut out), ABC), Ok(()));
-    assert_eq!(rt; out.as_slice(), ABC);
+fn a_reader_is_a_source(rt: HostRuntime) {
+    assert!(rt; is_read_through(rt.alloc()) == Ok(true));
     for (times, result) in [(1_000, Ok(1)), (1_001, Err(Failed))] {
-        let mut sink = ToWriter::new(Interrupted { times });
-        assert_eq!(rt; sink.write(ABC), result);
+        assert!(rt; read_interrupted(times) == result, "{times} times");
     }
-    Ok(())
+}
+
+/// Whether a list of bytes takes what is put into it as a writer.
+fn is_written_through(alloc: Global) -> bool {
+    let mut out = Vec::new(alloc);
+    let answer = put_all(&mut ToWriter::new(&mut out), ABC);
+    answer == Ok(()) && out.as_slice() == ABC
+}
+
+fn write_interrupted(times: u32) -> Result<usize, Failed> {
+    ToWriter::new(Interrupted { times }).write(ABC)
+}
+
+#[test]
+fn a_writer_is_a_sink(rt: HostRuntime) {
+    assert!(rt; is_written_through(rt.alloc()));
+    for (times, result) in [(1_000, Ok(1)), (1_001, Err(Failed))] {
+        assert!(rt; write_interrupted(times) == result, "{times} times");
+    }
 }
 
 #[test]
@@ -173,7 +226,7 @@ fn a_folder_is_a_shelf(rt: HostRuntime) -> Result<(), Fail> {
     fs::write(&rt, path.as_path(), ABC)?;
     let name = path.as_path().to_str().ok_or("no text")?;
     let mut shelf = DirShelf::new(&rt);
-    assert_eq!(rt; read_file(alloc, &mut shelf, name, 7)?.as_slice(), ABC);
+    assert!(rt; read_file(alloc, &mut shelf, name, 7)?.as_slice() == ABC);
     fs::remove_file(&rt, path.as_path())?;
     assert!(rt; read_file(alloc, &mut shelf, name, 7).is_err());
     Ok(())

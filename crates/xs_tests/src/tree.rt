@@ -1,10 +1,10 @@
 ghost use Rattle.std.specs.Prelude.{◌≡◌, ◌<◌, [], ◌∷◌, IfOk};
 ghost use Rattle.xs_tree.specs.declared.part.TreePart.TheVariants.{Leaf, Node};
 
-use super::*;
 use std::alloc::Global;
 use std::test::Fail;
 use xs_class::{Memory, Sym, Word};
+use xs_tree::{Builder, Tree, parts_of, same};
 
 fn digit(alloc: Global, code: u32) -> Result<Word, Memory>
     ensures { IfOk result (λ word. word ≡ code ∷ []) }
@@ -48,36 +48,49 @@ fn doubled(alloc: Global, levels: u64) -> Result<Tree, Memory> {
 #[test]
 fn parts_are_read_back(rt: HostRuntime) -> Result<(), Fail> {
     let tree = pair(rt.alloc(), 51, 55)?;
-    assert_eq!(rt; tree.len(), 3);
-    assert_eq!(rt; tree.root(), 2);
-    assert_eq!(rt; tree.production(1), None);
-    assert_eq!(rt; tree.production(2), Some(0));
-    assert_eq!(rt; tree.kids(2), [0, 1].as_slice());
-    assert_eq!(rt; tree.kid(2, 1), 1);
+    assert!(rt; tree.len() == 3);
+    assert!(rt; tree.root() == 2);
+    assert!(rt; tree.production(1) == None);
+    assert!(rt; tree.production(2) == Some(0));
+    assert!(rt; tree.kids(2) == [0, 1].as_slice());
+    assert!(rt; tree.kid(2, 1) == 1);
     assert!(rt; tree.word(2).is_none());
     assert!(rt; tree.word(1).is_some());
     if let Some(word) = tree.word(1) {
-        assert_eq!(rt; word.as_slice(), [Sym(55)].as_slice());
+        assert!(rt; word.as_slice() == [Sym(55)].as_slice());
     }
     Ok(())
+}
+
+/// Whether a pair is the same tree as another that is made otherwise.
+fn is_same(alloc: Global, one: &Tree, first: u32, second: u32) -> Result<bool, Memory> {
+    same(alloc, one, &pair_from_behind(alloc, first, second)?)
 }
 
 #[test]
 fn trees_are_the_same_however_they_are_made(rt: HostRuntime) -> Result<(), Fail> {
     let one = pair(rt.alloc(), 51, 55)?;
-    assert!(rt; same(rt.alloc(), &one, &pair_from_behind(rt.alloc(), 51, 55)?)?);
-    assert!(rt; !same(rt.alloc(), &one, &pair(rt.alloc(), 55, 51)?)?);
-    let shared = doubled(rt.alloc(), 1)?;
-    assert!(rt; same(rt.alloc(), &shared, &pair(rt.alloc(), 51, 51)?)?);
-    assert!(rt; !same(rt.alloc(), &shared, &one)?);
+    assert!(rt; is_same(rt.alloc(), &one, 51, 55)?);
+    assert!(rt; !is_same(rt.alloc(), &one, 55, 51)?);
     Ok(())
 }
 
 #[test]
+fn a_shared_part_is_the_same_as_two(rt: HostRuntime) -> Result<(), Fail> {
+    let shared = doubled(rt.alloc(), 1)?;
+    assert!(rt; is_same(rt.alloc(), &shared, 51, 51)?);
+    assert!(rt; !is_same(rt.alloc(), &shared, 51, 55)?);
+    Ok(())
+}
+
+fn count(alloc: Global, levels: u64) -> Result<u64, Memory> {
+    parts_of(alloc, &doubled(alloc, levels)?)
+}
+
+#[test]
 fn shared_parts_are_counted_each_time(rt: HostRuntime) -> Result<(), Fail> {
-    for (levels, count) in [(0, 1), (1, 3), (10, 2047), (70, u64::MAX)] {
-        let tree = doubled(rt.alloc(), levels)?;
-        assert_eq!(rt; parts_of(rt.alloc(), &tree)?, count, "of {levels} levels");
+    for (levels, wanted) in [(0, 1), (1, 3), (10, 2047), (70, u64::MAX)] {
+        assert!(rt; count(rt.alloc(), levels)? == wanted, "of {levels} levels");
     }
     Ok(())
 }
