@@ -27,6 +27,3 @@ pub use outline::Outline;
 pub use production::{Rule, names_in, rules_of};
 pub use slots::{slot_directory, slots_of};
 pub use two::{Two, both};
-
-#[cfg(test)]
-mod tests;

@@ -31,6 +31,8 @@ mod lex;
 #[cfg(test)]
 mod order;
 #[cfg(test)]
+mod pair;
+#[cfg(test)]
 mod regex;
 #[cfg(test)]
 mod sheet;

@@ -1,7 +1,7 @@
-use crate::{Ill, IllRule, PairFault, Two, both};
 use std::alloc::Global;
 use std::test::Fail;
 use xs_class::Side;
+use xs_pair::{Ill, IllRule, PairFault, Two, both};
 use xs_sheet::read_sheet;
 
 const PAIR: &str =
