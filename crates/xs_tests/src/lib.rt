@@ -31,6 +31,8 @@ mod leiden;
 #[cfg(test)]
 mod lex;
 #[cfg(test)]
+mod listing;
+#[cfg(test)]
 mod loose;
 #[cfg(test)]
 mod order;
