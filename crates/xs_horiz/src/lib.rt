@@ -5,8 +5,6 @@
 #![tactic(auto)]
 
 mod search;
-#[cfg(test)]
-mod tests;
 
 pub use search::{Horiz, horizontal};
 pub use xs_light::CheckFault;

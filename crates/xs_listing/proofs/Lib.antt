@@ -9,4 +9,3 @@ pub mod Spelling
 pub mod Sizing
 pub mod Sized
 pub mod Owing
-pub mod Samples

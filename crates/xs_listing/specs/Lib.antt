@@ -5,4 +5,3 @@ pub mod Sizes
 pub mod Writing
 pub mod Owed
 pub mod Numbered
-pub mod Sample

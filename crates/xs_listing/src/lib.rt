@@ -20,6 +20,3 @@ pub use list::list_trees;
 // Exported so that the contracts of other crates can name a part.
 pub use spelt::{Kids, Listing, Spelt, SpeltPart, Spelts};
 pub use tree::one_tree;
-
-#[cfg(test)]
-mod tests;

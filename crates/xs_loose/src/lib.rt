@@ -17,8 +17,6 @@ mod members;
 mod net;
 mod part;
 mod placing;
-#[cfg(test)]
-mod tests;
 mod weighing;
 mod word;
 

@@ -23,11 +23,17 @@ mod gram;
 #[cfg(test)]
 mod graph;
 #[cfg(test)]
+mod horiz;
+#[cfg(test)]
 mod io;
 #[cfg(test)]
 mod leiden;
 #[cfg(test)]
 mod lex;
+#[cfg(test)]
+mod listing;
+#[cfg(test)]
+mod loose;
 #[cfg(test)]
 mod order;
 #[cfg(test)]
@@ -41,4 +47,8 @@ mod text_out;
 #[cfg(test)]
 mod tree;
 #[cfg(test)]
+mod vert;
+#[cfg(test)]
 mod words;
+#[cfg(test)]
+mod xml_out;

@@ -5,8 +5,6 @@
 #![tactic(auto)]
 
 mod search;
-#[cfg(test)]
-mod tests;
 
 pub use search::{Vert, vertical};
 pub use xs_light::CheckFault;

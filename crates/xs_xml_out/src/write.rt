@@ -57,6 +57,3 @@ pub fn write_xml(alloc: Global, names: &Names, word: &Word) -> Result<Bytes, Mem
     put_all(names, symbols, &mut out);
     Ok(Bytes::from_vec(out.into_bytes()))
 }
-
-#[cfg(test)]
-mod tests;

@@ -13,7 +13,7 @@ use Rattle.xs_unfold.specs.declared.span.What.{What}
 use Rattle.xs_unfold.specs.declared.span.What.TheVariants.{Whole, Front}
 use Rattle.xs_unfold.specs.Forest.{Forest, alts_of, IsRow, IsSpelt, WholeAlt, IsAlt, IsRight}
 use Rattle.xs_unfold.specs.Laws.{IsForestOf}
-use Rattle.xs_listing.specs.Sample.{empty_rule, two_ways, by_rule, one_row}
+use Rattle.xs_tests.specs.ListingSample.{empty_rule, two_ways, by_rule, one_row}
 
 alt_of : (a : Alt) → Contains (by_rule 0 ∷ by_rule 1 ∷ []) a → (a ≡ by_rule 0) ⊎ (a ≡ by_rule 1)
 alt_of a (zero, lt, e) = inl (sym e)

@@ -1,14 +1,14 @@
 ghost use Rattle.std.specs.Prelude.{◌≡◌, IfOk};
 ghost use Rattle.xs_gram.specs.Sound.{IsBuilt};
-ghost use Rattle.xs_listing.specs.Sample.{two_ways, one_row};
+ghost use Rattle.xs_tests.specs.ListingSample.{two_ways, one_row};
 
-use super::*;
 use bumpalo::Bump;
 use std::alloc::Global;
 use std::test::Fail;
 use xs_class::{Memory, Word};
 use xs_forest::{Alt, Forest};
 use xs_gram::{GItems, Gram, GramParts, Regexes, RulePart, Rules, Skips};
+use xs_listing::{Listing, Spelt, SpeltPart, list_trees, one_tree};
 use xs_unfold::{Grown, SpanKey, What};
 
 /// Two rules of the start that have no items.
@@ -82,36 +82,41 @@ fn productions(alloc: Global, listing: &Listing) -> Result<Vec<Option<u32>>, Mem
     Ok(list)
 }
 
+/// Whether a list of so many trees of the empty document has these productions, and there are more.
+fn is_listed(
+    alloc: Global,
+    limit: u32,
+    wanted: &[Option<u32>],
+    more: bool,
+) -> Result<bool, Memory> {
+    let bump = Bump::new(alloc);
+    let grown = one_row(alloc, &bump)?;
+    let gram = two_ways(alloc)?;
+    let doc = Word::new(alloc);
+    let listing = list_trees(alloc, &grown, &gram, &doc, limit)?;
+    let found = productions(alloc, &listing)?;
+    Ok(listing.more == more && found.as_slice() == wanted)
+}
+
 #[test]
 fn the_empty_document_has_two_derivations(rt: HostRuntime) -> Result<(), Fail> {
-    let bump = Bump::new(rt.alloc());
-    let grown = one_row(rt.alloc(), &bump)?;
-    let gram = two_ways(rt.alloc())?;
-    let doc = Word::new(rt.alloc());
-    let all = list_trees(rt.alloc(), &grown, &gram, &doc, 1000)?;
-    assert!(rt; !all.more);
-    assert_eq!(rt;
-        productions(rt.alloc(), &all)?.as_slice(),
-        [Some(0), Some(1)].as_slice()
-    );
-    let first = list_trees(rt.alloc(), &grown, &gram, &doc, 1)?;
-    assert!(rt; first.more);
-    assert_eq!(rt;
-        productions(rt.alloc(), &first)?.as_slice(),
-        [Some(0)].as_slice()
-    );
+    assert!(rt; is_listed(rt.alloc(), 1000, &[Some(0), Some(1)], false)?);
+    assert!(rt; is_listed(rt.alloc(), 1, &[Some(0)], true)?);
     Ok(())
+}
+
+/// Whether the one tree of the empty document is a node of the first production.
+fn is_one_node(alloc: Global) -> Result<bool, Memory> {
+    let bump = Bump::new(alloc);
+    let grown = one_row(alloc, &bump)?;
+    let gram = two_ways(alloc)?;
+    let doc = Word::new(alloc);
+    let tree = one_tree(alloc, &grown, &gram, &doc)?;
+    Ok(tree.len() == 1 && tree.root() == 0 && tree.production(0) == Some(0))
 }
 
 #[test]
 fn one_tree_of_the_empty_document_is_a_node(rt: HostRuntime) -> Result<(), Fail> {
-    let bump = Bump::new(rt.alloc());
-    let grown = one_row(rt.alloc(), &bump)?;
-    let gram = two_ways(rt.alloc())?;
-    let doc = Word::new(rt.alloc());
-    let tree = one_tree(rt.alloc(), &grown, &gram, &doc)?;
-    assert_eq!(rt; tree.len(), 1);
-    assert_eq!(rt; tree.root(), 0);
-    assert_eq!(rt; tree.production(0), Some(0));
+    assert!(rt; is_one_node(rt.alloc())?);
     Ok(())
 }

@@ -1,7 +1,7 @@
 use Rattle.std.proofs.Common.{[], ◌∷◌, refl, arith}
 use Rattle.xs_piece.specs.Tables.{is_char}
 use Rattle.xs_xml_out.specs.Balanced.{nothing, text}
-use Rattle.xs_xml_out.proofs.write.tests.content_keeps_line_feeds.Goals as goal
+use Rattle.xs_tests.proofs.xml_out.content_keeps_line_feeds.Goals as goal
 
 pub is_written-requires : goal.is_written-requires
 unfolding is_char

@@ -1,6 +1,6 @@
 use Rattle.std.proofs.Common.{[], refl, arith}
 use Rattle.xs_xml_out.specs.Balanced.{nothing}
-use Rattle.xs_xml_out.proofs.write.tests.an_empty_element_is_one_tag.Goals as goal
+use Rattle.xs_tests.proofs.xml_out.an_empty_element_is_one_tag.Goals as goal
 
 pub is_written-requires : goal.is_written-requires
 is_written-requires g c = record {

@@ -1,10 +1,11 @@
 ghost use Rattle.std.specs.Prelude.{◌≡◌, ◌<◌, length, IfOk};
 ghost use Rattle.xs_xml_out.specs.Balanced.{IsBalanced};
 
-use super::*;
+use std::alloc::{AllocGlobal, Global};
 use std::process::Abort;
 use std::test::Fail;
-use xs_class::{ATTR_END, Text};
+use xs_class::{ATTR_END, Memory, Names, Sym, Text, Word};
+use xs_xml_out::write_xml;
 
 /// The list of these names, each of which is another.
 fn names_of(alloc: Global, texts: &[&str]) -> Result<Names, Memory>
@@ -33,7 +34,7 @@ fn is_written(
 {
     let word = Word::of(rt.alloc(), symbols)?;
     let bytes = write_xml(rt.alloc(), names, &word)?;
-    assert_eq!(rt; bytes.as_slice(), document.as_bytes());
+    assert!(rt; bytes.as_slice() == document.as_bytes());
     Ok(())
 }
 

@@ -4,14 +4,12 @@ ghost use Rattle.xs_gram.specs.declared.parts.GItem.TheVariants.{Fixed, Term, No
 ghost use Rattle.xs_gram.specs.Building.{CanBuild, IsFit};
 ghost use Rattle.xs_loose.specs.Parts.{IsPart};
 
-use super::*;
-use crate::growth::state;
-use crate::word::lay_word;
 use std::alloc::Global;
 use std::test::Fail;
 use xs_auto::{Net, Pairs, meet_word};
 use xs_class::{Class, Memory, Sym, Word};
 use xs_gram::{GItem, GItems, Gram, GramParts, Regexes, RulePart, Rules, Skips};
+use xs_loose::{LooseFault, Part, net_of, weight_by, weight_of, weights};
 use xs_order::components;
 use xs_regex::Regex;
 
@@ -89,16 +87,32 @@ fn list_parts(alloc: Global) -> Result<GramParts, Memory>
     })
 }
 
+/// A state that is reached from the last one by the symbol.
+fn grown(alloc: Global, net: &mut Net, last: u32, symbol: Sym) -> Result<u32, Memory> {
+    let class = Class::from_ranges(alloc, &[(symbol.number(), symbol.number())])?;
+    if net.len() == u32::MAX || last >= net.len() {
+        return Err(Memory);
+    }
+    let next = net.state()?;
+    net.edge(last, &class, next)?;
+    Ok(next)
+}
+
 /// The net of one word.
 fn net_of_word(alloc: Global, word: &[Sym]) -> Result<Net, Memory>
     ensures { IfOk result (λ n. IsSome n.start) }
 {
     let mut net = Net::new(alloc)?;
-    let first = state(&mut net)?;
-    let end = state(&mut net)?;
-    lay_word(&mut net, alloc, word, first, end)?;
+    let first = net.state()?;
+    let mut last = first;
+    'symbols: for symbol in word {
+        last = grown(alloc, &mut net, last, *symbol)?;
+    }
+    if first >= net.len() || last >= net.len() {
+        return Err(Memory);
+    }
     net.set_start(first);
-    net.set_final(end)?;
+    net.set_final(last)?;
     Ok(net)
 }
 
@@ -115,52 +129,71 @@ fn part(gram: &Gram, rule: u32, start: u32, end: u32) -> Option<Part>
     Some(Part { rule, start, end })
 }
 
+fn accepts(alloc: Global, net: &Net, word: &[Sym]) -> Result<bool, Memory>
+    requires { IsSome net.now.start }
+{
+    let other = net_of_word(alloc, word)?;
+    let cells = net.len() as u64 * other.len() as u64;
+    let mut pairs = Pairs::with_room(alloc, cells)?;
+    Ok(meet_word(alloc, net, &other, &mut pairs)?.is_some())
+}
+
 /// Whether the word is loose for the three items of a rule of the lists.
 fn is_loose(alloc: Global, rule: u32, word: &[Sym]) -> Result<bool, LooseFault> {
     let gram = Gram::build(alloc, list_parts(alloc)?)?;
     let comps = components(alloc, &gram)?;
     match part(&gram, rule, 0, 3) {
         None => Ok(false),
+        Some(part) => Ok(accepts(alloc, &net_of(alloc, &gram, &comps, &part)?, word)?),
+    }
+}
+
+fn are_weights(alloc: Global, wanted: &[u64]) -> Result<bool, Memory> {
+    let gram = Gram::build(alloc, list_parts(alloc)?)?;
+    let comps = components(alloc, &gram)?;
+    Ok(weights(alloc, &gram, &comps)?.as_slice() == wanted)
+}
+
+/// The weight of a part by the table of all weights, and the same alone.
+fn weighed(alloc: Global, rule: u32, start: u32, end: u32) -> Result<(u64, u64), Memory> {
+    let gram = Gram::build(alloc, list_parts(alloc)?)?;
+    let comps = components(alloc, &gram)?;
+    let table = weights(alloc, &gram, &comps)?;
+    match part(&gram, rule, start, end) {
+        None => Err(Memory),
         Some(part) => {
-            let net = net_of(alloc, &gram, &comps, &part)?;
-            let other = net_of_word(alloc, word)?;
-            let cells = net.len() as u64 * other.len() as u64;
-            let mut pairs = Pairs::with_room(alloc, cells)?;
-            let found = meet_word(alloc, &net, &other, &mut pairs)?;
-            Ok(found.is_some())
+            let by_table = weight_by(&gram, &table, &part);
+            Ok((by_table, weight_of(alloc, &gram, &comps, &part)?))
         }
     }
 }
 
 #[test]
 fn weights_count_states(rt: HostRuntime) -> Result<(), Fail> {
-    let alloc = rt.alloc();
-    let gram = Gram::build(alloc, list_parts(alloc)?)?;
-    let comps = components(alloc, &gram)?;
-    let table = weights(alloc, &gram, &comps)?;
-    assert_eq!(rt; table.as_slice(), [15, 10].as_slice());
+    assert!(rt; are_weights(rt.alloc(), &[15, 10])?);
     for (rule, start, end, wanted) in [(0, 0, 3, 12), (0, 1, 1, 0), (2, 0, 3, 13), (2, 1, 3, 3)] {
-        match part(&gram, rule, start, end) {
-            None => assert!(rt; false),
-            Some(part) => {
-                assert_eq!(rt; weight_by(&gram, &table, &part), wanted);
-                assert_eq!(rt; weight_of(alloc, &gram, &comps, &part)?, wanted);
-            }
-        }
+        assert!(rt;
+            weighed(rt.alloc(), rule, start, end)? == (wanted, wanted),
+            "rule {rule}"
+        );
     }
     Ok(())
 }
 
 #[test]
 fn nets_accept_loose_words(rt: HostRuntime) -> Result<(), Fail> {
-    let alloc = rt.alloc();
     let two = [Sym(60), Sym(49), Sym(44), Sym(50), Sym(62)];
-    assert!(rt; is_loose(alloc, 0, &two)?);
-    assert!(rt; !is_loose(alloc, 2, &two)?);
     let bare = [Sym(49), Sym(44), Sym(50)];
-    assert!(rt; is_loose(alloc, 2, &bare)?);
-    assert!(rt; !is_loose(alloc, 0, &bare)?);
     let open = [Sym(60), Sym(49), Sym(44), Sym(62)];
-    assert!(rt; !is_loose(alloc, 0, &open)?);
+    let rows: [(u32, &[Sym], bool); 5] = [
+        (0, &two, true),
+        (2, &two, false),
+        (2, &bare, true),
+        (0, &bare, false),
+        (0, &open, false),
+    ];
+    for (rule, word, wanted) in rows {
+        assert!(rt; is_loose(rt.alloc(), rule, word)? == wanted, "rule {rule}");
+    }
     Ok(())
 }
