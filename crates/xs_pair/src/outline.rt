@@ -1,4 +1,5 @@
 ghost use Rattle.std.specs.Prelude.{◌≡◌, ◌<◌, length, IfOk};
+ghost use Rattle.xs_pair.specs.declared.names.Sort.TheVariants as S;
 ghost use Rattle.xs_pair.specs.Units as U;
 ghost use Rattle.xs_pair.specs.Verdict.{IsOutlineOf};
 
@@ -44,6 +45,26 @@ fn distinct(alloc: Global, list: &Directory) -> Result<Directory, Memory>
     Directory::of(alloc, names)
 }
 
+// The names of terminals and ignorables, together and apart.
+#[derive(Drop)]
+struct LexicalNames {
+    all: Directory,
+    terms: Directory,
+    skips: Directory,
+}
+
+fn lexicon(alloc: Global, units: &[Unit]) -> Result<LexicalNames, Memory>
+    requires { length units.now < 65536 }
+    ensures all { IfOk result (λ l. l.all ≡ U.names_of S.Lexical units.now) }
+    ensures terms { IfOk result (λ l. l.terms ≡ U.terms_of units.now) }
+    ensures skips { IfOk result (λ l. l.skips ≡ U.skips_of units.now) }
+{
+    let all = directory(alloc, Sort::Lexical, units)?;
+    let terms = directory(alloc, Sort::Terminal, units)?;
+    let skips = directory(alloc, Sort::Ignorable, units)?;
+    Ok(LexicalNames { all, terms, skips })
+}
+
 impl Outline {
     /// The outline of a sheet, in time n log n of its length.
     pub fn of(alloc: Global, sheet: &Sheet) -> Result<Self, Memory>
@@ -51,19 +72,17 @@ impl Outline {
         ensures { IfOk result (IsOutlineOf sheet.now) }
     {
         let all = sheet.units.as_slice();
-        let units = directory(alloc, Sort::Any, all)?;
-        let lexical = directory(alloc, Sort::Lexical, all)?;
-        let terms = directory(alloc, Sort::Terminal, all)?;
-        let skips = directory(alloc, Sort::Ignorable, all)?;
-        let heads = directory(alloc, Sort::Production, all)?;
-        let nons = distinct(alloc, &heads)?;
         let rules = rules_of(alloc, all)?;
         let start = sheet.start.copy()?;
+        let heads = directory(alloc, Sort::Production, all)?;
+        let nons = distinct(alloc, &heads)?;
+        let units = directory(alloc, Sort::Any, all)?;
+        let lexicon = lexicon(alloc, all)?;
         Ok(Outline {
             units,
-            lexical,
-            terms,
-            skips,
+            lexical: lexicon.all,
+            terms: lexicon.terms,
+            skips: lexicon.skips,
             heads,
             nons,
             rules,

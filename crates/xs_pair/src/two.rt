@@ -176,11 +176,11 @@ impl Outline {
         ensures xml { IfOk result (λ p. IsBuilt p.xml) }
     {
         let names = names_of_marks(alloc, sheet, &self.rules)?;
-        let text = self.grammar(alloc, sheet, &names, Side::Text)?;
-        let xml = self.grammar(alloc, sheet, &names, Side::Xml)?;
         let lines = lines_of(alloc, &self.rules)?;
         let nons = copies(alloc, self.nons.as_slice())?;
         let slots = slot_lists(alloc, &self.rules)?;
+        let text = self.grammar(alloc, sheet, &names, Side::Text)?;
+        let xml = self.grammar(alloc, sheet, &names, Side::Xml)?;
         Ok(Two {
             text,
             xml,
@@ -189,6 +189,25 @@ impl Outline {
             nons,
             slots,
         })
+    }
+
+    // The two grammars, where no rule fails.
+    fn checked(&self, alloc: Global, sheet: &Sheet) -> Result<Two, PairFault>
+        requires outline { IsOutlineOf sheet.now self.now }
+        requires light { AreLight self.now.rules.items }
+        requires few { length sheet.now.units < 65536 }
+        requires small { weight sheet.now.units < 65536 }
+        requires regexes { HaveRegexes sheet.now.units }
+        ensures two { IfOk result (IsPairOf sheet.now) }
+        ensures text { IfOk result (λ p. IsBuilt p.text) }
+        ensures xml { IfOk result (λ p. IsBuilt p.xml) }
+        ensures trees { IfOk result (λ p. HaveSameTrees p.text p.xml) }
+        ensures passed { OnOk result (NoneFails (FailsAt sheet.now)) }
+        ensures ill { IfErr result (IsRefusal sheet.now) }
+    {
+        self.check(alloc, sheet)?;
+        let two = self.two(alloc, sheet)?;
+        Ok(two)
     }
 }
 
@@ -207,7 +226,5 @@ pub fn both(alloc: Global, sheet: &Sheet) -> Result<Two, PairFault>
     ensures ill { IfErr result (IsRefusal sheet.now) }
 {
     let outline = Outline::of(alloc, sheet)?;
-    outline.check(alloc, sheet)?;
-    let two = outline.two(alloc, sheet)?;
-    Ok(two)
+    outline.checked(alloc, sheet)
 }
