@@ -1,14 +1,16 @@
 use crate::{Outcome, run, status};
 use std::alloc::Global;
+use std::process::Abort;
 use std::test::Fail;
 use xs_class::{Bytes, Memory, Text};
-use xs_io::{SureShelf, SureSink, SureSource};
+use xs_io::{MemShelf, MemSink, MemSource};
 
 mod checks;
 mod cuts;
 mod faults;
 mod leiden;
 mod limits;
+mod pairs;
 mod patterns;
 mod plain;
 mod refusals;
@@ -18,6 +20,12 @@ mod trees;
 
 // The name of the file that has the sheet.
 const SHEET: &str = "sheet";
+
+const CHECK: &[&str] = &["check", SHEET];
+
+const TO_XML: &[&str] = &["to-xml", SHEET];
+
+const TO_TEXT: &[&str] = &["to-text", SHEET];
 
 const PAIR: &str = "xsugar-1\nstart s\nterminal d = /[0-9]/\n\
     s : \"(\" [d a] \",\" [d b] \")\" = <p><y>[d b]</y><x>[d a]</x></p>\n";
@@ -44,12 +52,101 @@ const TWINS: &str = "xsugar-1\nstart s\ns : [s a] [s b] = <s>[s a][s b]</s>\ns :
 const SPACED: &str = "xsugar-1\nstart s\nterminal d = /[0-9]/\nignorable w = / */ \"\"\n\
     s : \"(\" [w] [d a] [w] \",\" [w] [d b] [w] \")\" = <p><y>[d b]</y><x>[d a]</x></p>\n";
 
-// What a run gave: its status, and what `out` and `notes` took.
+// The calls at which devices fail, numbered from 1, where 0 is no call; each call moves at most `step`
+// bytes.
+#[derive(Clone, Copy)]
+struct Failures {
+    shelf: u64,
+    input: u64,
+    out: u64,
+    notes: u64,
+    step: usize,
+}
+
+// No call fails.
+const NONE: Failures = Failures {
+    shelf: 0,
+    input: 0,
+    out: 0,
+    notes: 0,
+    step: 65_536,
+};
+
+// The devices of a run, in memory.
+#[derive(Drop)]
+struct Devices {
+    shelf: MemShelf,
+    input: MemSource,
+    out: MemSink,
+    notes: MemSink,
+}
+
+// A run that ended.
 #[derive(Drop)]
 struct Ended {
+    outcome: Outcome,
+    devices: Devices,
+}
+
+// What is run: the words, the bytes of the sheet and the input.
+#[derive(Clone, Copy)]
+struct Run<'t> {
+    words: &'t [&'t str],
+    sheet: &'t [u8],
+    input: &'t [u8],
+}
+
+// How a run ends: its status, and what `out` and `notes` take.
+#[derive(Clone, Copy)]
+struct End<'t> {
     status: u8,
-    out: Bytes,
-    notes: Bytes,
+    out: &'t [u8],
+    notes: &'t [u8],
+}
+
+fn done(out: &[u8]) -> End<'_> {
+    End {
+        status: 0,
+        out,
+        notes: b"",
+    }
+}
+
+fn refused(status: u8, notes: &[u8]) -> End<'_> {
+    End {
+        status,
+        out: b"",
+        notes,
+    }
+}
+
+fn shelf_of(alloc: Global, sheet: &[u8], call: u64) -> Result<MemShelf, Memory> {
+    let mut shelf = MemShelf::new(alloc, vec![in alloc; call]?);
+    shelf.add(Text::of(alloc, SHEET)?, Bytes::of(alloc, sheet)?)?;
+    Ok(shelf)
+}
+
+fn source_of(alloc: Global, input: &[u8], call: u64, step: usize) -> Result<MemSource, Memory> {
+    let bytes = Bytes::of(alloc, input)?;
+    Ok(MemSource::new(bytes, step.max(1), vec![in alloc; call]?))
+}
+
+fn sink(alloc: Global, call: u64, step: usize) -> Result<MemSink, Memory> {
+    Ok(MemSink::new(alloc, step.max(1), vec![in alloc; call]?))
+}
+
+fn set_up(
+    alloc: Global,
+    sheet: &[u8],
+    input: &[u8],
+    failures: Failures,
+) -> Result<Devices, Memory> {
+    Ok(Devices {
+        shelf: shelf_of(alloc, sheet, failures.shelf)?,
+        input: source_of(alloc, input, failures.input, failures.step)?,
+        out: sink(alloc, failures.out, failures.step)?,
+        notes: sink(alloc, failures.notes, failures.step)?,
+    })
 }
 
 fn strings(alloc: Global, words: &[&str]) -> Result<Vec<String>, Memory> {
@@ -60,29 +157,79 @@ fn strings(alloc: Global, words: &[&str]) -> Result<Vec<String>, Memory> {
     Ok(list)
 }
 
-// A run over devices in memory that do not fail; `out` has room for so many bytes.
+fn outcome_of(alloc: Global, words: &[&str], devices: &mut Devices) -> Result<Outcome, Memory> {
+    let words = strings(alloc, words)?;
+    run(
+        alloc,
+        &words,
+        &mut devices.shelf,
+        &mut devices.input,
+        &mut devices.out,
+        &mut devices.notes,
+    )
+}
+
+// The run of these words over the sheet and the input, in which these calls fail.
 fn ran(
     alloc: Global,
     words: &[&str],
     sheet: &[u8],
     input: &[u8],
-    room: usize,
+    failures: Failures,
 ) -> Result<Ended, Memory> {
-    let mut shelf = SureShelf::new(alloc);
-    shelf.add(Text::of(alloc, SHEET)?, Bytes::of(alloc, sheet)?)?;
-    let mut input = SureSource::new(Bytes::of(alloc, input)?);
-    let mut out = SureSink::with_room(alloc, room)?;
-    let mut notes = SureSink::with_room(alloc, 1000)?;
-    let words = strings(alloc, words)?;
-    let outcome: Outcome = run(alloc, &words, &mut shelf, &mut input, &mut out, &mut notes)?;
-    Ok(Ended {
-        status: status(&outcome),
-        out: Bytes::of(alloc, out.taken())?,
-        notes: Bytes::of(alloc, notes.taken())?,
-    })
+    let mut devices = set_up(alloc, sheet, input, failures)?;
+    let outcome = outcome_of(alloc, words, &mut devices)?;
+    Ok(Ended { outcome, devices })
 }
 
-// A run of these words over the sheet, with room for a thousand bytes.
-fn tried(alloc: Global, words: &[&str], sheet: &str, input: &[u8]) -> Result<Ended, Memory> {
-    ran(alloc, words, sheet.as_bytes(), input, 1000)
+// The status of the outcome that `notes` failed to tell, or 0, and how many bytes the failing one of
+// `out` and `notes` took.
+fn broken_off(outcome: &Outcome) -> (u8, u64) {
+    match outcome {
+        Outcome::WriteFault { written } => (0, *written),
+        Outcome::NoteFault { of, written } => (*of, *written),
+        _ => (0, 0),
+    }
+}
+
+// The run of these words over the sheet and the input ends so where these calls fail, and breaks off so.
+fn expect_broken(
+    rt: &impl Abort,
+    alloc: Global,
+    run: Run<'_>,
+    failures: Failures,
+    end: End<'_>,
+    broken: (u8, u64),
+) -> Result<(), Fail> {
+    let ended = ran(alloc, run.words, run.sheet, run.input, failures)?;
+    assert_eq!(rt; ended.devices.notes.taken(), end.notes);
+    assert_eq!(rt; ended.devices.out.taken(), end.out);
+    assert_eq!(rt; status(&ended.outcome), end.status);
+    assert!(rt; broken_off(&ended.outcome) == broken);
+    Ok(())
+}
+
+// The run of these words over the sheet and the input ends so.
+fn expect(
+    rt: &impl Abort,
+    alloc: Global,
+    words: &[&str],
+    sheet: &[u8],
+    input: &[u8],
+    end: End<'_>,
+) -> Result<(), Fail> {
+    let run = Run {
+        words,
+        sheet,
+        input,
+    };
+    expect_broken(rt, alloc, run, NONE, end, (0, 0))
+}
+
+// The status of a run, and whether `notes` takes a line that begins so and `out` takes nothing.
+fn told(alloc: Global, words: &[&str], sheet: &[u8], begin: &[u8]) -> Result<(u8, bool), Memory> {
+    let ended = ran(alloc, words, sheet, b"zzz", NONE)?;
+    let is_told = ended.devices.notes.taken().starts_with(begin);
+    let is_silent = ended.devices.out.taken().is_empty();
+    Ok((status(&ended.outcome), is_told && is_silent))
 }

@@ -2,8 +2,11 @@ ghost use Rattle.std.specs.Prelude.{IfSome};
 ghost use Rattle.xs_loose.specs.Parts.{IsPart};
 ghost use Rattle.xs_pair.specs.Sound.{IsSoundPair};
 
-use super::{EMPTY, LEFT, LETTERS, NESTED, PAIR, RIGHT, SHEET, SPACED, TWINS, ran, tried};
-use crate::sheets::{SHEET_LIMIT, pair_of};
+use super::pairs::grammars;
+use super::{
+    CHECK, EMPTY, End, LEFT, LETTERS, NESTED, PAIR, RIGHT, SPACED, TO_TEXT, TO_XML, TWINS, done,
+    expect, told,
+};
 use std::alloc::Global;
 use std::process::Abort;
 use std::test::Fail;
@@ -12,8 +15,6 @@ use xs_gram::Gram;
 use xs_loose::{LooseFault, Part, net_of, weight_of};
 use xs_order::components;
 use xs_pair::Two;
-
-const CHECK: [&str; 2] = ["check", SHEET];
 
 const TWO_WORDS: &str =
     "xsugar-1\nstart s\nterminal w = /[a-z]+/\ns : [w a] [w b] = <s a=[w a]>[w b]</s>\n";
@@ -26,78 +27,82 @@ const BRACKETS: &str = "xsugar-1\nstart doc\nterminal c = /[a-z]/\n\
     list : [list p] [item i] = [list p] [item i]\nitem : [c x] = [c x]\n\
     item : \"[\" [list l] \"]\" = <b>[list l]</b>\n";
 
+// A sheet, and what is said of it.
+type Line<'t> = (&'t str, &'t [u8]);
+
+const ACCEPTED: [Line<'static>; 7] = [
+    (
+        PAIR,
+        b"accepted: 1 terminals, 0 ignorables, 1 nonterminals, 1 productions\n",
+    ),
+    (
+        EMPTY,
+        b"accepted: 0 terminals, 0 ignorables, 1 nonterminals, 1 productions\n",
+    ),
+    (
+        LETTERS,
+        b"accepted: 1 terminals, 0 ignorables, 1 nonterminals, 1 productions\n",
+    ),
+    (
+        NESTED,
+        b"accepted: 0 terminals, 0 ignorables, 1 nonterminals, 2 productions\n",
+    ),
+    (
+        LEFT,
+        b"accepted: 0 terminals, 0 ignorables, 2 nonterminals, 3 productions\n",
+    ),
+    (
+        RIGHT,
+        b"accepted: 0 terminals, 0 ignorables, 2 nonterminals, 3 productions\n",
+    ),
+    (
+        SPACED,
+        b"accepted: 1 terminals, 1 ignorables, 1 nonterminals, 1 productions\n",
+    ),
+];
+
 #[test]
 fn sheets_that_are_accepted(rt: HostRuntime) -> Result<(), Fail> {
-    let rows: [(&str, &[u8]); 7] = [
-        (
-            PAIR,
-            b"accepted: 1 terminals, 0 ignorables, 1 nonterminals, 1 productions\n",
-        ),
-        (
-            EMPTY,
-            b"accepted: 0 terminals, 0 ignorables, 1 nonterminals, 1 productions\n",
-        ),
-        (
-            LETTERS,
-            b"accepted: 1 terminals, 0 ignorables, 1 nonterminals, 1 productions\n",
-        ),
-        (
-            NESTED,
-            b"accepted: 0 terminals, 0 ignorables, 1 nonterminals, 2 productions\n",
-        ),
-        (
-            LEFT,
-            b"accepted: 0 terminals, 0 ignorables, 2 nonterminals, 3 productions\n",
-        ),
-        (
-            RIGHT,
-            b"accepted: 0 terminals, 0 ignorables, 2 nonterminals, 3 productions\n",
-        ),
-        (
-            SPACED,
-            b"accepted: 1 terminals, 1 ignorables, 1 nonterminals, 1 productions\n",
-        ),
-    ];
-    for (sheet, line) in rows {
-        let run = tried(rt.alloc(), &CHECK, sheet, b"")?;
-        assert_eq!(rt; run.status, 0);
-        assert_eq!(rt; run.out.as_slice(), line);
-        assert_eq!(rt; run.notes.as_slice(), "".as_bytes());
+    for (sheet, line) in ACCEPTED {
+        expect(&rt, rt.alloc(), CHECK, sheet.as_bytes(), b"", done(line))?;
     }
     Ok(())
 }
 
 #[test]
 fn the_shipped_sheet_is_accepted(rt: HostRuntime) -> Result<(), Fail> {
-    let run = tried(rt.alloc(), &["check", "@leiden"], PAIR, b"")?;
-    assert_eq!(rt; run.status, 0);
-    let line: &[u8] = b"accepted: 7 terminals, 2 ignorables, 10 nonterminals, 33 productions\n";
-    assert_eq!(rt; run.out.as_slice(), line);
-    Ok(())
+    let line = b"accepted: 7 terminals, 2 ignorables, 10 nonterminals, 33 productions\n";
+    expect(&rt, rt.alloc(), &["check", "@leiden"], b"", b"", done(line))
 }
 
-// The sheet is suspect, and its line begins so; the translation says the same.
-fn are_suspect(rt: &impl Abort, alloc: Global, rows: &[(&str, &[u8])]) -> Result<(), Fail> {
-    for (sheet, begin) in rows {
-        for words in [CHECK, ["to-xml", SHEET], ["to-text", SHEET]] {
-            let run = tried(alloc, &words, sheet, b"zzz")?;
-            assert_eq!(rt; run.status, 3);
-            assert_eq!(rt; run.notes.as_slice().starts_with(begin), true);
-            assert_eq!(rt; run.out.as_slice(), "".as_bytes());
-        }
-    }
+// A sheet that is suspect, and how its line begins.
+const SUSPECT: [Line<'static>; 4] = [
+    (TWO_WORDS, b"suspect: text: s: line 4, cut 1: "),
+    (TWO_WAYS, b"suspect: text: s: lines 4 and 5 share \"a\"\n"),
+    (BRACKETS, b"suspect: text: list: line 6, cut 1: "),
+    (TWINS, b"suspect: text: s: line 3, cut 1: "),
+];
+
+fn expect_suspect(
+    rt: &impl Abort,
+    alloc: Global,
+    words: &[&str],
+    line: Line<'_>,
+) -> Result<(), Fail> {
+    let (sheet, begin) = line;
+    let found = told(alloc, words, sheet.as_bytes(), begin)?;
+    assert_eq!(rt; found, (3, true), "{sheet}");
     Ok(())
 }
 
 #[test]
 fn sheets_that_are_suspect(rt: HostRuntime) -> Result<(), Fail> {
-    let rows: [(&str, &[u8]); 4] = [
-        (TWO_WORDS, b"suspect: text: s: line 4, cut 1: "),
-        (TWO_WAYS, b"suspect: text: s: lines 4 and 5 share \"a\"\n"),
-        (BRACKETS, b"suspect: text: list: line 6, cut 1: "),
-        (TWINS, b"suspect: text: s: line 3, cut 1: "),
-    ];
-    are_suspect(&rt, rt.alloc(), &rows)
+    for line in SUSPECT {
+        expect_suspect(&rt, rt.alloc(), CHECK, line)?;
+        expect_suspect(&rt, rt.alloc(), TO_XML, line)?;
+        expect_suspect(&rt, rt.alloc(), TO_TEXT, line)?;
+    }
+    Ok(())
 }
 
 // So many named items of the terminal `t`, behind each other.
@@ -110,6 +115,18 @@ fn push_items(sheet: &mut Bytes, count: u32) -> Result<(), Memory> {
     Ok(())
 }
 
+// A string of so many hyphens, if there are any.
+fn push_hyphens(sheet: &mut Bytes, count: u32) -> Result<(), Memory> {
+    if count == 0 {
+        return Ok(());
+    }
+    sheet.push(b'"')?;
+    for _ in 0..count {
+        sheet.push(b'-')?;
+    }
+    sheet.push(b'"')
+}
+
 // A sheet of so many items, and a string of so many hyphens on its text side.
 fn wide(alloc: Global, items: u32, hyphens: u32) -> Result<Bytes, Memory> {
     let mut sheet = Bytes::of(
@@ -117,13 +134,7 @@ fn wide(alloc: Global, items: u32, hyphens: u32) -> Result<Bytes, Memory> {
         b"xsugar-1\nstart s\nterminal t = /([a-z]{50}){10}/\ns : ",
     )?;
     push_items(&mut sheet, items)?;
-    if hyphens > 0 {
-        sheet.push(b'"')?;
-        for _ in 0..hyphens {
-            sheet.push(b'-')?;
-        }
-        sheet.push(b'"')?;
-    }
+    push_hyphens(&mut sheet, hyphens)?;
     sheet.extend(b" = <s>")?;
     push_items(&mut sheet, items)?;
     sheet.extend(b"</s>\n")?;
@@ -163,32 +174,29 @@ fn heaviness(alloc: Global, two: &Two) -> Result<(u64, Option<LooseFault>), Memo
 
 #[test]
 fn a_part_that_is_too_heavy_has_no_net(rt: HostRuntime) -> Result<(), Fail> {
-    let alloc = rt.alloc();
-    let sheet = wide(alloc, 17, 0)?;
-    assert!(rt; sheet.len() <= SHEET_LIMIT);
-    match pair_of(alloc, sheet.as_slice()) {
-        Ok(two) => {
-            let fault = LooseFault::Heavy { weight: 8517 };
-            assert_eq!(rt; heaviness(alloc, &two)?, (8517, Some(fault)));
-        }
-        Err(_) => assert!(rt; false),
-    }
+    let sheet = wide(rt.alloc(), 17, 0)?;
+    let two = grammars(rt.alloc(), sheet.as_slice())?;
+    let (weight, fault) = heaviness(rt.alloc(), &two)?;
+    assert_eq!(rt; weight, 8517);
+    assert!(rt; fault == Some(LooseFault::Heavy { weight: 8517 }));
     Ok(())
 }
 
+const ONE_OF_EACH: &[u8] = b"accepted: 1 terminals, 0 ignorables, 1 nonterminals, 1 productions\n";
+
+// So many items and hyphens, the status, `out` and `notes`.
+const WIDTHS: [(u32, u32, u8, &[u8], &[u8]); 3] = [
+    (17, 0, 2, b"", b"sheet: weight 8518 is more than 8192\n"),
+    (16, 175, 0, ONE_OF_EACH, b""),
+    (16, 176, 2, b"", b"sheet: weight 8193 is more than 8192\n"),
+];
+
 #[test]
 fn rules_at_the_limit_of_weight(rt: HostRuntime) -> Result<(), Fail> {
-    let alloc = rt.alloc();
-    let rows: [(u32, u32, u8, &[u8]); 3] = [
-        (17, 0, 2, b"sheet: weight 8518 is more than 8192\n"),
-        (16, 175, 0, b""),
-        (16, 176, 2, b"sheet: weight 8193 is more than 8192\n"),
-    ];
-    for (items, hyphens, status, notes) in rows {
-        let sheet = wide(alloc, items, hyphens)?;
-        let run = ran(alloc, &CHECK, sheet.as_slice(), b"", 1000)?;
-        assert_eq!(rt; run.notes.as_slice(), notes);
-        assert_eq!(rt; run.status, status);
+    for (items, hyphens, status, out, notes) in WIDTHS {
+        let sheet = wide(rt.alloc(), items, hyphens)?;
+        let end = End { status, out, notes };
+        expect(&rt, rt.alloc(), CHECK, sheet.as_slice(), b"", end)?;
     }
     Ok(())
 }
@@ -198,19 +206,24 @@ fn letter(number: u32) -> u8 {
     b'a'.saturating_add((number % 26) as u8)
 }
 
+// The names of the nonterminal of a letter, twice.
+fn push_twice(sheet: &mut Bytes, letter: u8) -> Result<(), Memory> {
+    sheet.extend(b"[n")?;
+    sheet.push(letter)?;
+    sheet.extend(b" a] [n")?;
+    sheet.push(letter)?;
+    sheet.extend(b" b]")
+}
+
 // The production of a nonterminal that is another one twice.
-fn push_twice(sheet: &mut Bytes, name: u8, part: u8) -> Result<(), Memory> {
+fn push_double(sheet: &mut Bytes, name: u8, part: u8) -> Result<(), Memory> {
     sheet.push(b'n')?;
     sheet.push(name)?;
-    sheet.extend(b" : [n")?;
-    sheet.push(part)?;
-    sheet.extend(b" a] [n")?;
-    sheet.push(part)?;
-    sheet.extend(b" b] = [n")?;
-    sheet.push(part)?;
-    sheet.extend(b" a] [n")?;
-    sheet.push(part)?;
-    sheet.extend(b" b]\n")
+    sheet.extend(b" : ")?;
+    push_twice(sheet, part)?;
+    sheet.extend(b" = ")?;
+    push_twice(sheet, part)?;
+    sheet.push(b'\n')
 }
 
 // A sheet in which each nonterminal but the first is the one before it, twice.
@@ -221,24 +234,26 @@ fn doubling(alloc: Global, most: u32) -> Result<Bytes, Memory> {
     sheet.push(letter(most))?;
     sheet.extend(b" x]</s>\nna : \"a\" = \"a\"\n")?;
     for number in 1..most.saturating_add(1) {
-        push_twice(&mut sheet, letter(number), letter(number.saturating_sub(1)))?;
+        push_double(&mut sheet, letter(number), letter(number.saturating_sub(1)))?;
     }
     Ok(sheet)
 }
 
+const TWELVE: &[u8] = b"accepted: 0 terminals, 0 ignorables, 12 nonterminals, 12 productions\n";
+
+// The number of the last nonterminal, the status, `out` and `notes`.
+const DOUBLES: [(u32, u8, &[u8], &[u8]); 3] = [
+    (10, 0, TWELVE, b""),
+    (11, 2, b"", b"sheet: weight 14334 is more than 8192\n"),
+    (20, 2, b"", b"sheet: weight 1000000 is more than 8192\n"),
+];
+
 #[test]
 fn a_component_weighs_as_often_as_it_is_called(rt: HostRuntime) -> Result<(), Fail> {
-    let alloc = rt.alloc();
-    let rows: [(u32, u8, &[u8]); 3] = [
-        (10, 0, b""),
-        (11, 2, b"sheet: weight 14334 is more than 8192\n"),
-        (20, 2, b"sheet: weight 1000000 is more than 8192\n"),
-    ];
-    for (most, status, notes) in rows {
-        let sheet = doubling(alloc, most)?;
-        let run = ran(alloc, &CHECK, sheet.as_slice(), b"", 1000)?;
-        assert_eq!(rt; run.notes.as_slice(), notes);
-        assert_eq!(rt; run.status, status);
+    for (most, status, out, notes) in DOUBLES {
+        let sheet = doubling(rt.alloc(), most)?;
+        let end = End { status, out, notes };
+        expect(&rt, rt.alloc(), CHECK, sheet.as_slice(), b"", end)?;
     }
     Ok(())
 }

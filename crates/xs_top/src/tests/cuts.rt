@@ -1,12 +1,12 @@
 //! Documents, and the shipped sheet, cut before each of their bytes.
-ghost use Rattle.std.specs.Prelude.{IfOk};
 ghost use Rattle.xs_balance.specs.Laws.{CanBeWritten};
 ghost use Rattle.xs_pair.specs.Sound.{IsSoundPair};
 
 use super::leiden::{TEXT, XML, XML_OTHERWISE};
-use super::{LETTERS, SHEET, tried};
+use super::pairs::shipped;
+use super::{LETTERS, TO_TEXT, done, expect, refused};
 use crate::Outcome;
-use crate::sheets::{SHEET_LIMIT, pair_for, pair_of};
+use crate::sheets::{SHEET_LIMIT, pair_of};
 use crate::stop::Stop;
 use crate::turned::turned_into;
 use std::alloc::Global;
@@ -14,10 +14,8 @@ use std::process::Abort;
 use std::test::Fail;
 use xs_chars::Form;
 use xs_class::Side;
-use xs_io::SureShelf;
 use xs_leiden::leiden_sheet;
 use xs_pair::{Ill, IllRule, Two};
-use xs_words::SheetName;
 
 // What comes of a document.
 #[derive(Clone, Copy, Debug, PartialEq, Eq)]
@@ -28,35 +26,23 @@ enum Answer {
     Foreign(u64),
 }
 
-// The two grammars of the shipped sheet.
-fn shipped(alloc: Global) -> Result<Two, Fail>
-    ensures sound { IfOk result IsSoundPair }
-    ensures writable { IfOk result CanBeWritten }
-{
-    let mut shelf = SureShelf::new(alloc);
-    match pair_for(alloc, &mut shelf, SheetName::Leiden) {
-        Ok(two) => Ok(two),
-        Err(_) => Err(Fail::from("the shipped sheet is refused")),
+fn answer_of(stop: &Stop) -> Result<Answer, Fail> {
+    match stop {
+        Stop::Refused(Outcome::NotUtf8 { at }) => Ok(Answer::NotUtf8(*at)),
+        Stop::Refused(Outcome::NotXml { at }) => Ok(Answer::NotXml(*at)),
+        Stop::Refused(Outcome::Foreign { viable }) => Ok(Answer::Foreign(*viable)),
+        _ => Err(Fail::from("another outcome")),
     }
 }
 
-fn other_side(side: Side) -> Side {
-    match side {
-        Side::Text => Side::Xml,
-        Side::Xml => Side::Text,
-    }
-}
-
-fn answer_to(alloc: Global, two: &Two, from: Side, bytes: &[u8]) -> Result<Answer, Fail>
+// What comes of bytes that are turned from one side into the other.
+fn answer_to(alloc: Global, two: &Two, from: Side, to: Side, bytes: &[u8]) -> Result<Answer, Fail>
     requires sound { IsSoundPair two.now }
     requires writable { CanBeWritten two.now }
 {
-    match turned_into(alloc, two, from, other_side(from), Form::AsIs, bytes) {
+    match turned_into(alloc, two, from, to, Form::AsIs, bytes) {
         Ok(_) => Ok(Answer::Turned),
-        Err(Stop::Refused(Outcome::NotUtf8 { at })) => Ok(Answer::NotUtf8(at)),
-        Err(Stop::Refused(Outcome::NotXml { at })) => Ok(Answer::NotXml(at)),
-        Err(Stop::Refused(Outcome::Foreign { viable })) => Ok(Answer::Foreign(viable)),
-        Err(_) => Err(Fail::from("another outcome")),
+        Err(stop) => answer_of(&stop),
     }
 }
 
@@ -65,6 +51,7 @@ fn expect_answers(
     rt: &impl Abort,
     alloc: Global,
     from: Side,
+    to: Side,
     document: &str,
     answers: &[Answer],
 ) -> Result<(), Fail> {
@@ -73,7 +60,8 @@ fn expect_answers(
     assert_eq!(rt; answers.len(), bytes.len().saturating_add(1));
     for (length, answer) in answers.iter().enumerate() {
         let (prefix, _) = bytes.split_at(length.min(bytes.len()));
-        assert_eq!(rt; answer_to(alloc, &two, from, prefix)?, *answer, "{length}");
+        let found = answer_to(alloc, &two, from, to, prefix)?;
+        assert_eq!(rt; found, *answer, "{length}");
     }
     Ok(())
 }
@@ -132,7 +120,7 @@ fn each_prefix_of_a_text_is_viable(rt: HostRuntime) -> Result<(), Fail> {
     let mut answers = answers_to_text(alloc, TEXT.trim_end())?;
     answers.push(Answer::Turned)?;
     answers.push(Answer::Turned)?;
-    expect_answers(&rt, alloc, Side::Text, TEXT, &answers)
+    expect_answers(&rt, alloc, Side::Text, Side::Xml, TEXT, &answers)
 }
 
 #[test]
@@ -141,7 +129,7 @@ fn each_prefix_of_xml_ends_behind_its_last_piece(rt: HostRuntime) -> Result<(), 
     let mut answers = answers_to_xml(alloc, XML.trim_end())?;
     answers.push(Answer::Turned)?;
     answers.push(Answer::Turned)?;
-    expect_answers(&rt, alloc, Side::Xml, XML, &answers)
+    expect_answers(&rt, alloc, Side::Xml, Side::Text, XML, &answers)
 }
 
 #[test]
@@ -149,26 +137,31 @@ fn each_prefix_of_xml_with_references_and_comments(rt: HostRuntime) -> Result<()
     let alloc = rt.alloc();
     let mut answers = answers_to_xml(alloc, XML_OTHERWISE)?;
     answers.push(Answer::Turned)?;
-    expect_answers(&rt, alloc, Side::Xml, XML_OTHERWISE, &answers)
+    expect_answers(&rt, alloc, Side::Xml, Side::Text, XML_OTHERWISE, &answers)
 }
+
+const ELEMENT: &[u8] = b"<s>aa</s>";
+
+// The place that is told of each prefix of the element but itself.
+const PLACES: [u8; 9] = [0, 0, 0, 3, 4, 5, 5, 5, 5];
 
 #[test]
 fn each_prefix_of_an_element_of_letters(rt: HostRuntime) -> Result<(), Fail> {
     let alloc = rt.alloc();
-    let document: &[u8] = b"<s>aa</s>";
-    let places = [0, 0, 0, 3, 4, 5, 5, 5, 5];
-    for (length, place) in places.into_iter().enumerate() {
-        let (prefix, _) = document.split_at(length.min(document.len()));
-        let run = tried(alloc, &["to-text", SHEET], LETTERS, prefix)?;
+    for (length, place) in PLACES.into_iter().enumerate() {
+        let (prefix, _) = ELEMENT.split_at(length.min(ELEMENT.len()));
         let line = format!(in alloc; "input: character {place}: not XML\n")?;
-        assert_eq!(rt; run.notes.as_slice(), line.as_bytes());
-        assert_eq!(rt; run.status, 4);
-        assert_eq!(rt; run.out.as_slice(), "".as_bytes());
+        let end = refused(4, line.as_bytes());
+        expect(&rt, alloc, TO_TEXT, LETTERS.as_bytes(), prefix, end)?;
     }
-    let whole = tried(alloc, &["to-text", SHEET], LETTERS, document)?;
-    assert_eq!(rt; whole.status, 0);
-    assert_eq!(rt; whole.out.as_slice(), "aa".as_bytes());
-    Ok(())
+    expect(
+        &rt,
+        alloc,
+        TO_TEXT,
+        LETTERS.as_bytes(),
+        ELEMENT,
+        done(b"aa"),
+    )
 }
 
 // What bytes are as a sheet.
@@ -179,15 +172,21 @@ enum Reading {
     Well,
 }
 
+fn refused_reading(stop: &Stop) -> Result<Reading, Fail> {
+    match stop {
+        Stop::Refused(Outcome::SheetBad { at }) => Ok(Reading::Bad(*at)),
+        Stop::Refused(Outcome::SheetIll(ill)) => Ok(Reading::Ill(*ill)),
+        _ => Err(Fail::from("another outcome")),
+    }
+}
+
 fn reading_of(alloc: Global, bytes: &[u8]) -> Result<Reading, Fail> {
     if bytes.len() > SHEET_LIMIT {
         return Err(Fail::from("too many bytes"));
     }
     match pair_of(alloc, bytes) {
         Ok(_) => Ok(Reading::Well),
-        Err(Stop::Refused(Outcome::SheetBad { at })) => Ok(Reading::Bad(at)),
-        Err(Stop::Refused(Outcome::SheetIll(ill))) => Ok(Reading::Ill(ill)),
-        Err(_) => Err(Fail::from("another outcome")),
+        Err(stop) => refused_reading(&stop),
     }
 }
 
@@ -222,23 +221,6 @@ fn next_least(rt: &impl Abort, reading: Reading, least: u64, length: usize) -> u
     }
 }
 
-#[test]
-fn no_longer_prefix_of_the_sheet_is_refused_earlier(rt: HostRuntime) -> Result<(), Fail> {
-    let alloc = rt.alloc();
-    let sheet = leiden_sheet();
-    let mut least = 0;
-    for length in 0..sheet.len().saturating_add(1) {
-        let (prefix, rest) = sheet.split_at(length.min(sheet.len()));
-        let reading = reading_of(alloc, prefix)?;
-        least = next_least(&rt, reading, least, length);
-        if lines_ended(prefix, rest).is_none() {
-            assert!(rt; reading != Reading::Well, "{length}");
-        }
-    }
-    assert_eq!(rt; reading_of(alloc, sheet)?, Reading::Well);
-    Ok(())
-}
-
 fn ill(rule: IllRule, line: u32) -> Reading {
     Reading::Ill(Ill { rule, line })
 }
@@ -259,23 +241,37 @@ fn reading_of_lines(lines: usize) -> Reading {
     }
 }
 
+// A prefix that ends inside a line is refused, and one of three lines or more as these lines are: then it
+// counts as one.
+fn compared_by_lines(rt: &impl Abort, reading: Reading, ended: Option<usize>) -> usize {
+    match ended {
+        None => {
+            assert!(rt; reading != Reading::Well);
+            0
+        }
+        Some(lines) => if lines > 2 {
+            assert_eq!(rt; reading, reading_of_lines(lines), "{lines}");
+            1
+        } else {
+            0
+        },
+    }
+}
+
+// No longer prefix is refused earlier, and those that end with a line are refused as their lines are.
 #[test]
-fn the_first_lines_of_the_sheet(rt: HostRuntime) -> Result<(), Fail> {
-    let alloc = rt.alloc();
+fn each_prefix_of_the_sheet(rt: HostRuntime) -> Result<(), Fail> {
     let sheet = leiden_sheet();
+    let mut least = 0;
     let mut cuts = 0usize;
     for length in 0..sheet.len().saturating_add(1) {
         let (prefix, rest) = sheet.split_at(length.min(sheet.len()));
-        let lines = lines_ended(prefix, rest).unwrap_or(0);
-        if lines > 2 {
-            assert_eq!(rt;
-                reading_of(alloc, prefix)?,
-                reading_of_lines(lines),
-                "{lines}"
-            );
-            cuts = cuts.saturating_add(1);
-        }
+        let reading = reading_of(rt.alloc(), prefix)?;
+        least = next_least(&rt, reading, least, length);
+        let compared = compared_by_lines(&rt, reading, lines_ended(prefix, rest));
+        cuts = cuts.saturating_add(compared);
     }
     assert_eq!(rt; cuts, 86);
+    assert_eq!(rt; reading_of(rt.alloc(), sheet)?, Reading::Well);
     Ok(())
 }

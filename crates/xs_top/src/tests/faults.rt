@@ -1,180 +1,209 @@
-use super::{PAIR, SHEET, strings};
-use crate::{Outcome, run, status};
+use super::{End, Failures, NONE, PAIR, Run, TO_XML, done, expect_broken, refused};
 use std::alloc::Global;
+use std::process::Abort;
 use std::test::Fail;
-use xs_class::{Bytes, Memory, Text};
-use xs_io::{MemShelf, MemSink, MemSource};
 
-const ANSWER: &[u8] = b"<p><y>7</y><x>3</x></p>\n";
+// Words, an input, the calls of `input`, `out` and `notes` that fail, how many bytes a call moves, what
+// `out` and `notes` take, and how the run breaks off.
+type Row = (
+    &'static [&'static str],
+    &'static [u8],
+    [u64; 3],
+    usize,
+    &'static [u8],
+    &'static [u8],
+    (u8, u64),
+);
 
-// The devices of a run, each of which can fail at one call.
-#[derive(Clone, Copy, PartialEq, Eq)]
-enum Device {
-    Shelf,
-    Input,
-    Out,
-    Notes,
-}
-
-// What a run gave: its outcome, and what `out` and `notes` took.
-#[derive(Drop)]
-struct Ended {
-    outcome: Outcome,
-    out: Bytes,
-    notes: Bytes,
-}
-
-// The call at which a device fails, or 0, which is the number of no call.
-fn call_of(device: Device, failing: Device, call: u64) -> u64 {
-    if device == failing { call } else { 0 }
-}
-
-// A run of these words over the pair sheet in which one call of one device fails; each call moves at most
-// `step` bytes.
-fn failing(
-    alloc: Global,
-    words: &[&str],
-    input: &[u8],
-    device: Device,
-    call: u64,
-    step: usize,
-) -> Result<Ended, Memory> {
-    let step = step.max(1);
-    let mut shelf = MemShelf::new(alloc, vec![in alloc; call_of(Device::Shelf, device, call)]?);
-    shelf.add(Text::of(alloc, SHEET)?, Bytes::of(alloc, PAIR.as_bytes())?)?;
-    let mut input = MemSource::new(
-        Bytes::of(alloc, input)?,
-        step,
-        vec![in alloc; call_of(Device::Input, device, call)]?,
-    );
-    let mut out = MemSink::new(
-        alloc,
-        step,
-        vec![in alloc; call_of(Device::Out, device, call)]?,
-    );
-    let mut notes = MemSink::new(
-        alloc,
-        step,
-        vec![in alloc; call_of(Device::Notes, device, call)]?,
-    );
-    let words = strings(alloc, words)?;
-    let outcome = run(alloc, &words, &mut shelf, &mut input, &mut out, &mut notes)?;
-    Ok(Ended {
-        outcome,
-        out: Bytes::of(alloc, out.taken())?,
-        notes: Bytes::of(alloc, notes.taken())?,
-    })
-}
-
-// How many bytes `out` took before it failed, or none where it did not.
-fn cut_of(outcome: &Outcome) -> Option<u64> {
-    match outcome {
-        Outcome::WriteFault { written } => Some(*written),
-        _ => None,
-    }
-}
-
-// The status of the outcome that `notes` failed to tell, and how many bytes it took.
-fn untold(outcome: &Outcome) -> Option<(u8, u64)> {
-    match outcome {
-        Outcome::NoteFault { of, written } => Some((*of, *written)),
-        _ => None,
-    }
-}
-
-const TO_XML: [&str; 2] = ["to-xml", SHEET];
+const ROWS: [Row; 5] = [
+    (
+        TO_XML,
+        b"(3,7)",
+        [2, 0, 0],
+        5,
+        b"",
+        b"input: cannot be read\n",
+        (0, 0),
+    ),
+    (
+        TO_XML,
+        b"(3,7)",
+        [0, 3, 0],
+        1,
+        b"<p",
+        b"output: cannot be written after 2 bytes\n",
+        (0, 2),
+    ),
+    (TO_XML, b"(3,7]", [0, 0, 6], 1, b"", b"input", (1, 5)),
+    (&[], b"", [0, 0, 1], 1, b"", b"", (5, 0)),
+    // `notes` fails at the line of a failing `out`
+    (TO_XML, b"(3,7)", [0, 3, 7], 1, b"<p", b"output", (6, 6)),
+];
 
 #[test]
 fn the_rows_of_single_faults(rt: HostRuntime) -> Result<(), Fail> {
-    let alloc = rt.alloc();
-    let read = failing(alloc, &TO_XML, b"(3,7)", Device::Input, 2, 5)?;
-    assert_eq!(rt; status(&read.outcome), 6);
-    assert_eq!(rt; read.notes.as_slice(), "input: cannot be read\n".as_bytes());
-    let write = failing(alloc, &TO_XML, b"(3,7)", Device::Out, 3, 1)?;
-    assert_eq!(rt; cut_of(&write.outcome), Some(2));
-    assert_eq!(rt; write.out.as_slice(), "<p".as_bytes());
-    assert_eq!(rt;
-        write.notes.as_slice(),
-        "output: cannot be written after 2 bytes\n".as_bytes()
-    );
-    let told = failing(alloc, &TO_XML, b"(3,7]", Device::Notes, 6, 1)?;
-    assert_eq!(rt; untold(&told.outcome), Some((1, 5)));
-    assert_eq!(rt; told.notes.as_slice(), "input".as_bytes());
-    assert_eq!(rt; status(&told.outcome), 6);
-    let none = failing(alloc, &[], b"", Device::Notes, 1, 1)?;
-    assert_eq!(rt; untold(&none.outcome), Some((5, 0)));
-    assert_eq!(rt; none.notes.as_slice(), "".as_bytes());
+    for (words, given, calls, step, out, notes, broken) in ROWS {
+        let run = Run {
+            words,
+            sheet: PAIR.as_bytes(),
+            input: given,
+        };
+        let failures = Failures {
+            input: calls[0],
+            out: calls[1],
+            notes: calls[2],
+            step,
+            ..NONE
+        };
+        let end = End {
+            status: 6,
+            out,
+            notes,
+        };
+        expect_broken(&rt, rt.alloc(), run, failures, end, broken)?;
+    }
     Ok(())
 }
 
-// The status of the run and the bytes that `out` takes where a call of the device fails: the calls are the
-// first two of the shelf (the sheet, and its end), so many of the input and so many of `out`.
-fn expected(device: Device, call: u64, step: usize, reads: u64, writes: u64) -> (u8, usize) {
-    let whole = ANSWER.len();
-    match device {
-        Device::Shelf => if call <= 2 { (6, 0) } else { (0, whole) },
-        Device::Input => if call <= reads { (6, 0) } else { (0, whole) },
-        Device::Out => if call <= writes {
-            (6, (call.saturating_sub(1) as usize).saturating_mul(step))
-        } else {
-            (0, whole)
-        },
-        Device::Notes => (0, whole),
+const ANSWER: &[u8] = b"<p><y>7</y><x>3</x></p>\n";
+
+// The run that turns this text into XML by the pair sheet.
+fn turning(text: &[u8]) -> Run<'_> {
+    Run {
+        words: TO_XML,
+        sheet: PAIR.as_bytes(),
+        input: text,
     }
 }
+
+// How many bytes calls before this one move.
+fn moved_before(call: u64, step: usize) -> usize {
+    (call.saturating_sub(1) as usize).saturating_mul(step)
+}
+
+// Either the fault is told by this line, or the run is done.
+fn end_of(is_told: bool, line: &[u8]) -> End<'_> {
+    if is_told {
+        refused(6, line)
+    } else {
+        done(ANSWER)
+    }
+}
+
+// This call of `out` fails, which is told with how many bytes `out` took.
+fn expect_cut(rt: &impl Abort, alloc: Global, failures: Failures) -> Result<(), Fail> {
+    let taken = moved_before(failures.out, failures.step);
+    let line = format!(in alloc; "output: cannot be written after {taken} bytes\n")?;
+    let end = End {
+        status: 6,
+        out: &ANSWER[..taken.min(ANSWER.len())],
+        notes: line.as_bytes(),
+    };
+    expect_broken(
+        rt,
+        alloc,
+        turning(b"(3,7)"),
+        failures,
+        end,
+        (0, taken as u64),
+    )
+}
+
+// These calls fail, of which a run makes one where `is_told`.
+fn expect_end(
+    rt: &impl Abort,
+    alloc: Global,
+    failures: Failures,
+    is_told: bool,
+    line: &[u8],
+) -> Result<(), Fail> {
+    let end = end_of(is_told, line);
+    expect_broken(rt, alloc, turning(b"(3,7)"), failures, end, (0, 0))
+}
+
+// This call of each device fails in turn, where a run makes so many calls of the shelf, of the input and
+// of `out`.
+fn expect_faults(
+    rt: &impl Abort,
+    alloc: Global,
+    call: u64,
+    step: usize,
+    calls: [u64; 3],
+) -> Result<(), Fail> {
+    let none = Failures { step, ..NONE };
+    let shelf = Failures {
+        shelf: call,
+        ..none
+    };
+    expect_end(
+        rt,
+        alloc,
+        shelf,
+        call <= calls[0],
+        b"sheet: cannot be read\n",
+    )?;
+    let input = Failures {
+        input: call,
+        ..none
+    };
+    expect_end(
+        rt,
+        alloc,
+        input,
+        call <= calls[1],
+        b"input: cannot be read\n",
+    )?;
+    let notes = Failures {
+        notes: call,
+        ..none
+    };
+    expect_end(rt, alloc, notes, false, b"")?;
+    let out = Failures { out: call, ..none };
+    if call <= calls[2] {
+        expect_cut(rt, alloc, out)
+    } else {
+        expect_end(rt, alloc, out, false, b"")
+    }
+}
+
+// By step: the calls of the shelf (the sheet, and its end), of the input up to its end, and of `out`.
+const CALLS: [(usize, [u64; 3]); 3] = [(1, [2, 6, 24]), (5, [2, 2, 5]), (100, [2, 2, 1])];
 
 #[test]
 fn each_failing_call_of_each_device_is_told(rt: HostRuntime) -> Result<(), Fail> {
-    let alloc = rt.alloc();
-    // by step: the calls of the input up to its end, and the calls of `out`
-    let rows: [(usize, u64, u64); 3] = [(1, 6, 24), (5, 2, 5), (100, 2, 1)];
-    for (step, reads, writes) in rows {
+    for (step, calls) in CALLS {
         for call in 1..41u64 {
-            for device in [Device::Shelf, Device::Input, Device::Out, Device::Notes] {
-                let run = failing(alloc, &TO_XML, b"(3,7)", device, call, step)?;
-                let (status_wanted, taken) = expected(device, call, step, reads, writes);
-                assert_eq!(rt; status(&run.outcome), status_wanted);
-                assert_eq!(rt; run.out.as_slice(), &ANSWER[..taken.min(ANSWER.len())]);
-            }
+            expect_faults(&rt, rt.alloc(), call, step, calls)?;
         }
     }
     Ok(())
+}
+
+// What a run tells of which this call of `notes` fails: a prefix of its line, where the line takes that
+// call.
+fn expect_untold(rt: &impl Abort, alloc: Global, call: u64, step: usize) -> Result<(), Fail> {
+    let line: &[u8] = b"input: foreign after 4 symbols\n";
+    let taken = moved_before(call, step);
+    let failures = Failures {
+        notes: call,
+        step,
+        ..NONE
+    };
+    let run = turning(b"(3,7]");
+    if taken < line.len() {
+        let end = refused(6, &line[..taken]);
+        expect_broken(rt, alloc, run, failures, end, (1, taken as u64))
+    } else {
+        expect_broken(rt, alloc, run, failures, refused(1, line), (0, 0))
+    }
 }
 
 #[test]
 fn each_failing_call_of_notes_is_answered(rt: HostRuntime) -> Result<(), Fail> {
-    let alloc = rt.alloc();
-    let line: &[u8] = b"input: foreign after 4 symbols\n";
     for step in [1usize, 7, 100] {
-        let calls = line.len().div_ceil(step.max(1)) as u64;
         for call in 1..41u64 {
-            let run = failing(alloc, &TO_XML, b"(3,7]", Device::Notes, call, step)?;
-            let taken = (call.saturating_sub(1) as usize).saturating_mul(step);
-            if call <= calls {
-                assert_eq!(rt; untold(&run.outcome), Some((1, taken as u64)));
-                assert_eq!(rt; run.notes.as_slice(), &line[..taken.min(line.len())]);
-            } else {
-                assert_eq!(rt; status(&run.outcome), 1);
-                assert_eq!(rt; run.notes.as_slice(), line);
-            }
-            assert_eq!(rt; run.out.as_slice(), "".as_bytes());
+            expect_untold(&rt, rt.alloc(), call, step)?;
         }
     }
-    Ok(())
-}
-
-#[test]
-fn notes_may_fail_at_the_line_of_a_failing_out(rt: HostRuntime) -> Result<(), Fail> {
-    let alloc = rt.alloc();
-    let mut shelf = MemShelf::new(alloc, Vec::new(alloc));
-    shelf.add(Text::of(alloc, SHEET)?, Bytes::of(alloc, PAIR.as_bytes())?)?;
-    let mut input = MemSource::new(Bytes::of(alloc, b"(3,7)")?, 9, Vec::new(alloc));
-    let mut out = MemSink::new(alloc, 1, vec![in alloc; 3u64]?);
-    let mut notes = MemSink::new(alloc, 1, vec![in alloc; 7u64]?);
-    let words = strings(alloc, &TO_XML)?;
-    let outcome = run(alloc, &words, &mut shelf, &mut input, &mut out, &mut notes)?;
-    assert_eq!(rt; untold(&outcome), Some((6, 6)));
-    assert_eq!(rt; out.taken(), "<p".as_bytes());
-    assert_eq!(rt; notes.taken(), "output".as_bytes());
     Ok(())
 }

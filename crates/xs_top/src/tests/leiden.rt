@@ -1,17 +1,17 @@
 ghost use Rattle.xs_gram.specs.Sound.{IsBuilt};
+ghost use Rattle.xs_pair.specs.Sound.{IsSoundPair};
 
-use super::{PAIR, ran, tried};
-use crate::sheets::pair_for;
+use super::pairs::shipped;
+use super::{NONE, done, expect, ran, refused};
+use crate::status;
 use std::alloc::Global;
-use std::process::Abort;
 use std::test::Fail;
 use xs_class::{Memory, Side};
 use xs_gram::Gram;
-use xs_io::SureShelf;
 use xs_leiden::leiden_sheet;
 use xs_loose::{Part, weight_of};
 use xs_order::components;
-use xs_words::SheetName;
+use xs_pair::Two;
 
 // A text of the shipped sheet; the dots below stand behind their letters.
 pub(super) const TEXT: &str = "<=\n1. (ἔτ(ους)) γ [.3] το[ῦ] .2\n\
@@ -33,78 +33,54 @@ pub(super) const XML_OTHERWISE: &str = "<?xml version=\"1.0\" encoding=\"UTF-8\"
     \x20  <lb n=\"2\" break=\"no\"/><unclear>αβ</unclear> καὶ <supplied reason=\"omitted\">τὸ</supplied> \
     <surplus>τὸ</surplus></ab>";
 
-// What the words and the input give on `out` and on `notes`, with this status.
-#[derive(Clone, Copy)]
-struct Row {
-    words: &'static [&'static str],
-    input: &'static str,
-    status: u8,
-    out: &'static str,
-    notes: &'static str,
-}
+// A letter with a dot below as one character.
+const COMPOSED: &str = "<=\n1. \u{1EA1}\n=>\n";
 
-fn has(rt: &impl Abort, alloc: Global, row: Row) -> Result<(), Fail> {
-    let run = tried(alloc, row.words, PAIR, row.input.as_bytes())?;
-    assert_eq!(rt; run.notes.as_slice(), row.notes.as_bytes());
-    assert_eq!(rt; run.out.as_slice(), row.out.as_bytes());
-    assert_eq!(rt; run.status, row.status);
-    Ok(())
-}
+const TO_XML: &[&str] = &["to-xml", "@leiden"];
 
-fn done(words: &'static [&'static str], input: &'static str, out: &'static str) -> Row {
-    Row {
-        words,
-        input,
-        status: 0,
-        out,
-        notes: "",
-    }
-}
+const TO_TEXT: &[&str] = &["to-text", "@leiden"];
+
+// Words, an input and its answer.
+const ROWS: [(&[&str], &str, &str); 6] = [
+    (TO_XML, TEXT, XML),
+    (TO_TEXT, XML_OTHERWISE, TEXT),
+    (&["round", "@leiden", "xml"], XML_OTHERWISE, XML),
+    (&["round", "@leiden", "text"], TEXT, TEXT),
+    // in this form a dot below is a character of its own
+    (
+        &["to-xml", "@leiden", "nfd"],
+        COMPOSED,
+        "<ab>\n<lb n=\"1\"/><unclear>a</unclear>\n</ab>\n",
+    ),
+    (
+        &["make", "1", "1"],
+        "",
+        "make: lines 1, text 39 bytes, xml 151 bytes, tree 21 parts\n",
+    ),
+];
 
 #[test]
-fn a_text_and_its_xml(rt: HostRuntime) -> Result<(), Fail> {
-    let rows = [
-        done(&["to-xml", "@leiden"], TEXT, XML),
-        done(&["to-text", "@leiden"], XML_OTHERWISE, TEXT),
-        done(&["round", "@leiden", "xml"], XML_OTHERWISE, XML),
-        done(&["round", "@leiden", "text"], TEXT, TEXT),
-    ];
-    for row in rows {
-        has(&rt, rt.alloc(), row)?;
+fn documents_and_their_answers(rt: HostRuntime) -> Result<(), Fail> {
+    for (words, input, answer) in ROWS {
+        let end = done(answer.as_bytes());
+        expect(&rt, rt.alloc(), words, b"", input.as_bytes(), end)?;
     }
     Ok(())
 }
+
+// Letters that are unclear side by side.
+const SPLIT: &str = "<ab><lb n=\"1\"/><unclear>α</unclear><unclear>β</unclear></ab>";
 
 #[test]
 fn unclear_letters_side_by_side_are_one_run(rt: HostRuntime) -> Result<(), Fail> {
-    let row = Row {
-        words: &["to-text", "@leiden"],
-        input: "<ab><lb n=\"1\"/><unclear>α</unclear><unclear>β</unclear></ab>",
-        status: 1,
-        out: "",
-        notes: "input: foreign after 9 symbols\n",
-    };
-    has(&rt, rt.alloc(), row)
+    let end = refused(1, b"input: foreign after 9 symbols\n");
+    expect(&rt, rt.alloc(), TO_TEXT, b"", SPLIT.as_bytes(), end)
 }
 
 #[test]
 fn a_dot_below_is_a_character_of_its_own(rt: HostRuntime) -> Result<(), Fail> {
-    let composed = Row {
-        words: &["to-xml", "@leiden"],
-        input: "<=\n1. \u{1EA1}\n=>\n",
-        status: 1,
-        out: "",
-        notes: "input: foreign after 6 symbols\n",
-    };
-    has(&rt, rt.alloc(), composed)?;
-    let apart = Row {
-        words: &["to-xml", "@leiden", "nfd"],
-        status: 0,
-        out: "<ab>\n<lb n=\"1\"/><unclear>a</unclear>\n</ab>\n",
-        notes: "",
-        ..composed
-    };
-    has(&rt, rt.alloc(), apart)
+    let end = refused(1, b"input: foreign after 6 symbols\n");
+    expect(&rt, rt.alloc(), TO_XML, b"", COMPOSED.as_bytes(), end)
 }
 
 // What the first production of a side weighs.
@@ -124,49 +100,34 @@ fn first_weight(alloc: Global, g: &Gram) -> Result<u64, Memory>
     Ok(weight_of(alloc, g, &comps, &part)?.saturating_add(1))
 }
 
+// What the first productions weigh: as text, and as XML.
+fn first_weights(alloc: Global, two: &Two) -> Result<(u64, u64), Memory>
+    requires { IsSoundPair two.now }
+{
+    let text = first_weight(alloc, two.gram(Side::Text))?;
+    let xml = first_weight(alloc, two.gram(Side::Xml))?;
+    Ok((text, xml))
+}
+
 #[test]
 fn the_first_production_weighs_less_as_text(rt: HostRuntime) -> Result<(), Fail> {
-    let mut shelf = SureShelf::new(rt.alloc());
-    match pair_for(rt.alloc(), &mut shelf, SheetName::Leiden) {
-        Ok(two) => {
-            assert_eq!(rt; first_weight(rt.alloc(), two.gram(Side::Text))?, 2_196);
-            assert_eq!(rt; first_weight(rt.alloc(), two.gram(Side::Xml))?, 4_944);
-        }
-        Err(_) => assert!(rt; false),
-    }
+    let two = shipped(rt.alloc())?;
+    let weights = first_weights(rt.alloc(), &two)?;
+    assert_eq!(rt; weights, (2_196, 4_944));
     Ok(())
 }
 
 #[test]
 fn the_shipped_sheet_is_written(rt: HostRuntime) -> Result<(), Fail> {
-    let run = ran(rt.alloc(), &["sheet"], b"", b"", 3000)?;
-    assert_eq!(rt; run.out.as_slice() == leiden_sheet(), true);
-    assert_eq!(rt; run.status, 0);
-    Ok(())
-}
-
-#[test]
-fn a_made_text_is_summed_up(rt: HostRuntime) -> Result<(), Fail> {
-    let row = Row {
-        words: &["make", "1", "1"],
-        input: "",
-        status: 0,
-        out: "make: lines 1, text 39 bytes, xml 151 bytes, tree 21 parts\n",
-        notes: "",
-    };
-    has(&rt, rt.alloc(), row)
+    expect(&rt, rt.alloc(), &["sheet"], b"", b"", done(leiden_sheet()))
 }
 
 #[test]
 fn a_long_text_is_made_twice_alike(rt: HostRuntime) -> Result<(), Fail> {
     let words = ["make", "5", "2000"];
-    let first = tried(rt.alloc(), &words, PAIR, b"")?;
-    let again = tried(rt.alloc(), &words, PAIR, b"")?;
-    assert_eq!(rt; first.status, 0);
-    assert_eq!(rt; first.out.as_slice(), again.out.as_slice());
-    assert_eq!(rt;
-        first.out.as_slice().starts_with(b"make: lines 2000, text "),
-        true
-    );
-    Ok(())
+    let first = ran(rt.alloc(), &words, b"", b"", NONE)?;
+    let out = first.devices.out.taken();
+    assert!(rt; out.starts_with(b"make: lines 2000, text "));
+    assert_eq!(rt; status(&first.outcome), 0);
+    expect(&rt, rt.alloc(), &words, b"", b"", done(out))
 }

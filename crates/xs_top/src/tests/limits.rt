@@ -1,145 +1,159 @@
-use super::{EMPTY, LEFT, LETTERS, NESTED, RIGHT, SHEET, ran};
-use crate::{DOCUMENT_LIMIT, SHEET_LIMIT};
+use super::{End, LEFT, LETTERS, NESTED, RIGHT, TO_TEXT, TO_XML, expect};
+use crate::DOCUMENT_LIMIT;
 use std::alloc::Global;
 use std::process::Abort;
 use std::test::Fail;
 use xs_class::{Bytes, Memory};
 
-const ROOM: usize = 1_100_000;
+// Bytes by their pieces, and how often each stands behind the one before.
+type Pieces<'t> = &'t [(&'t [u8], usize)];
 
-fn add(bytes: &mut Bytes, letter: u8, count: usize) -> Result<(), Memory> {
+fn push_many(bytes: &mut Bytes, piece: &[u8], count: usize) -> Result<(), Memory> {
     for _ in 0..count {
-        bytes.push(letter)?;
+        bytes.extend(piece)?;
     }
     Ok(())
 }
 
-fn letters(alloc: Global, count: usize) -> Result<Bytes, Memory> {
+fn joined(alloc: Global, pieces: Pieces<'_>) -> Result<Bytes, Memory> {
     let mut bytes = Bytes::new(alloc);
-    add(&mut bytes, b'a', count)?;
+    for (piece, count) in pieces {
+        push_many(&mut bytes, piece, *count)?;
+    }
     Ok(bytes)
 }
 
-// So many parentheses round an `a`.
-fn parentheses(alloc: Global, depth: usize) -> Result<Bytes, Memory> {
-    let mut bytes = Bytes::new(alloc);
-    add(&mut bytes, b'(', depth)?;
-    bytes.push(b'a')?;
-    add(&mut bytes, b')', depth)?;
-    Ok(bytes)
+// Words, a sheet and an input, and the status, `out` and `notes` of their run.
+type Row<'t> = (&'t [&'t str], &'t str, Pieces<'t>, u8, Pieces<'t>, &'t [u8]);
+
+fn expect_row(rt: &impl Abort, alloc: Global, row: Row<'_>) -> Result<(), Fail> {
+    let (words, sheet, input, status, out, notes) = row;
+    let input = joined(alloc, input)?;
+    let out = joined(alloc, out)?;
+    let end = End {
+        status,
+        out: out.as_slice(),
+        notes,
+    };
+    expect(rt, alloc, words, sheet.as_bytes(), input.as_slice(), end)
 }
 
-// The length of the XML of a text, of which the text was read back.
-fn length_of(rt: &impl Abort, alloc: Global, sheet: &str, text: &[u8]) -> Result<usize, Fail> {
-    let xml = ran(alloc, &["to-xml", SHEET], sheet.as_bytes(), text, ROOM)?;
-    assert_eq!(rt; xml.status, 0);
-    let back = ran(
-        alloc,
-        &["to-text", SHEET],
-        sheet.as_bytes(),
-        xml.out.as_slice(),
-        ROOM,
-    )?;
-    assert_eq!(rt; back.status, 0);
-    assert_eq!(rt; back.out.as_slice() == text, true);
-    Ok(xml.out.len())
+fn expect_rows(rt: &impl Abort, alloc: Global, rows: &[Row<'_>]) -> Result<(), Fail> {
+    for row in rows {
+        expect_row(rt, alloc, *row)?;
+    }
+    Ok(())
 }
+
+const NEST: Pieces<'static> = &[(b"(", 100_000), (b"a", 1), (b")", 100_000)];
+
+const NEST_XML: Pieces<'static> = &[
+    (b"<s>", 100_000),
+    (b"<a/>", 1),
+    (b"</s>", 100_000),
+    (b"\n", 1),
+];
+
+const NESTS: [Row<'static>; 2] = [
+    (TO_XML, NESTED, NEST, 0, NEST_XML, b""),
+    (TO_TEXT, NESTED, NEST_XML, 0, NEST, b""),
+];
 
 #[test]
 fn a_hundred_thousand_parentheses_nest(rt: HostRuntime) -> Result<(), Fail> {
-    let text = parentheses(rt.alloc(), 100_000)?;
-    assert_eq!(rt;
-        length_of(&rt, rt.alloc(), NESTED, text.as_slice())?,
-        700_005
-    );
-    Ok(())
+    expect_rows(&rt, rt.alloc(), &NESTS)
 }
+
+const LEFT_LIST: Pieces<'static> = &[(b"a", 100_000)];
+
+const LEFT_XML: Pieces<'static> = &[(b"<s>", 1), (b"<a/>", 100_000), (b"</s>\n", 1)];
+
+const RIGHT_LIST: Pieces<'static> = &[(b"a", 2_000)];
+
+const RIGHT_XML: Pieces<'static> = &[(b"<s>", 1), (b"<a/>", 2_000), (b"</s>\n", 1)];
+
+const LISTS: [Row<'static>; 4] = [
+    (TO_XML, LEFT, LEFT_LIST, 0, LEFT_XML, b""),
+    (TO_TEXT, LEFT, LEFT_XML, 0, LEFT_LIST, b""),
+    (TO_XML, RIGHT, RIGHT_LIST, 0, RIGHT_XML, b""),
+    (TO_TEXT, RIGHT, RIGHT_XML, 0, RIGHT_LIST, b""),
+];
 
 #[test]
 fn long_lists_are_translated_and_back(rt: HostRuntime) -> Result<(), Fail> {
-    let left = letters(rt.alloc(), 100_000)?;
-    assert_eq!(rt; length_of(&rt, rt.alloc(), LEFT, left.as_slice())?, 400_008);
-    let right = letters(rt.alloc(), 2_000)?;
-    assert_eq!(rt; length_of(&rt, rt.alloc(), RIGHT, right.as_slice())?, 8_008);
-    Ok(())
+    expect_rows(&rt, rt.alloc(), &LISTS)
 }
+
+const LONG: &[u8] = b"input: more than 1048576 bytes\n";
+
+const MOST_LETTERS: Pieces<'static> = &[(b"a", DOCUMENT_LIMIT)];
+
+const MOST_XML: Pieces<'static> = &[(b"<s>", 1), (b"a", DOCUMENT_LIMIT), (b"</s>\n", 1)];
+
+const DOCUMENTS: [Row<'static>; 3] = [
+    (TO_XML, LETTERS, MOST_LETTERS, 0, MOST_XML, b""),
+    (TO_TEXT, LETTERS, MOST_XML, 7, &[], LONG),
+    (TO_XML, LETTERS, &[(b"a", 1_048_577)], 7, &[], LONG),
+];
 
 #[test]
 fn documents_at_their_limit(rt: HostRuntime) -> Result<(), Fail> {
-    let alloc = rt.alloc();
-    let mut text = letters(alloc, DOCUMENT_LIMIT)?;
-    let most = ran(
-        alloc,
-        &["to-xml", SHEET],
-        LETTERS.as_bytes(),
-        text.as_slice(),
-        ROOM,
-    )?;
-    assert_eq!(rt; most.status, 0);
-    assert_eq!(rt; most.out.len(), 1_048_584);
-    let back = ran(
-        alloc,
-        &["to-text", SHEET],
-        LETTERS.as_bytes(),
-        most.out.as_slice(),
-        ROOM,
-    )?;
-    assert_eq!(rt; back.status, 7);
-    text.push(b'a')?;
-    let more = ran(
-        alloc,
-        &["to-xml", SHEET],
-        LETTERS.as_bytes(),
-        text.as_slice(),
-        ROOM,
-    )?;
-    assert_eq!(rt; more.status, 7);
-    assert_eq!(rt;
-        more.notes.as_slice(),
-        "input: more than 1048576 bytes\n".as_bytes()
-    );
-    assert_eq!(rt; more.out.len(), 0);
+    expect_rows(&rt, rt.alloc(), &DOCUMENTS)
+}
+
+// Sheets, and the status, `out` and `notes` of a run over each.
+type SheetRow<'t> = (Pieces<'t>, u8, Pieces<'t>, &'t [u8]);
+
+fn expect_sheets(rt: &impl Abort, alloc: Global, rows: &[SheetRow<'_>]) -> Result<(), Fail> {
+    for (sheet, status, out, notes) in rows {
+        let sheet = joined(alloc, sheet)?;
+        let out = joined(alloc, out)?;
+        let end = End {
+            status: *status,
+            out: out.as_slice(),
+            notes,
+        };
+        expect(rt, alloc, TO_XML, sheet.as_slice(), b"", end)?;
+    }
     Ok(())
 }
 
-// A sheet whose production has so many elements inside each other.
-fn elements(alloc: Global, depth: usize) -> Result<Bytes, Memory> {
-    let mut sheet = Bytes::of(alloc, b"xsugar-1\nstart s\ns : = ")?;
-    for _ in 0..depth {
-        sheet.extend(b"<e>")?;
-    }
-    for _ in 0..depth {
-        sheet.extend(b"</e>")?;
-    }
-    sheet.push(b'\n')?;
-    Ok(sheet)
-}
+const HEAD: &[u8] = b"xsugar-1\nstart s\ns : = ";
 
-// A sheet of so many bytes, filled up with a comment.
-fn filled(alloc: Global, length: usize) -> Result<Bytes, Memory> {
-    let mut sheet = Bytes::of(alloc, EMPTY.as_bytes())?;
-    let rest = length.saturating_sub(sheet.len());
-    add(&mut sheet, b'#', rest)?;
-    Ok(sheet)
-}
+const DEPTHS: [SheetRow<'static>; 2] = [
+    (
+        &[(HEAD, 1), (b"<e>", 64), (b"</e>", 64), (b"\n", 1)],
+        0,
+        &[(b"<e>", 63), (b"<e/>", 1), (b"</e>", 63), (b"\n", 1)],
+        b"",
+    ),
+    (
+        &[(HEAD, 1), (b"<e>", 65), (b"</e>", 65), (b"\n", 1)],
+        2,
+        &[],
+        b"sheet: byte 215: not expected here\n",
+    ),
+];
 
 #[test]
-fn sheets_at_their_limits(rt: HostRuntime) -> Result<(), Fail> {
-    let alloc = rt.alloc();
-    let rows = [
-        (elements(alloc, 64)?, 0, ""),
-        (
-            elements(alloc, 65)?,
-            2,
-            "sheet: byte 215: not expected here\n",
-        ),
-        (filled(alloc, SHEET_LIMIT)?, 0, ""),
-        (filled(alloc, 65_537)?, 2, "sheet: more than 65536 bytes\n"),
-    ];
-    for (sheet, status, notes) in &rows {
-        let run = ran(alloc, &["check", SHEET], sheet.as_slice(), b"", ROOM)?;
-        assert_eq!(rt; run.notes.as_slice(), notes.as_bytes());
-        assert_eq!(rt; run.status, *status);
-    }
-    Ok(())
+fn elements_inside_each_other(rt: HostRuntime) -> Result<(), Fail> {
+    expect_sheets(&rt, rt.alloc(), &DEPTHS)
+}
+
+// A sheet of 28 bytes, which a comment may follow.
+const COMMENTED: &[u8] = b"xsugar-1\nstart s\ns : = <s/>\n";
+
+const FILLED: [SheetRow<'static>; 2] = [
+    (&[(COMMENTED, 1), (b"#", 65_508)], 0, &[(b"<s/>\n", 1)], b""),
+    (
+        &[(COMMENTED, 1), (b"#", 65_509)],
+        2,
+        &[],
+        b"sheet: more than 65536 bytes\n",
+    ),
+];
+
+#[test]
+fn sheets_at_their_limit(rt: HostRuntime) -> Result<(), Fail> {
+    expect_sheets(&rt, rt.alloc(), &FILLED)
 }

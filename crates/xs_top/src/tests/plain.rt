@@ -1,14 +1,12 @@
 //! The check beside a plain search: tiny sheets are drawn, and the words of six letters at most that
 //! have two derivations are sought by counting.
-use super::{SHEET, ran};
+use super::{CHECK, told};
 use std::alloc::Global;
 use std::process::Abort;
 use std::test::Fail;
 use xs_class::{Bytes, Memory};
 
 mod ways;
-
-const CHECK: [&str; 2] = ["check", SHEET];
 
 // How many sheets are drawn.
 const SHEETS: u32 = 600;
@@ -71,26 +69,21 @@ fn drawn_tiny(alloc: Global, seed: &mut u32) -> Result<Tiny, Memory> {
     })
 }
 
-fn push_named(sheet: &mut Bytes, unit: &[u8], name: &[u8]) -> Result<(), Memory> {
-    sheet.extend(b"[")?;
-    sheet.extend(unit)?;
-    sheet.extend(b" ")?;
-    sheet.extend(name)?;
-    sheet.extend(b"] ")
+fn push_all(sheet: &mut Bytes, pieces: &[&[u8]]) -> Result<(), Memory> {
+    for piece in pieces {
+        sheet.extend(piece)?;
+    }
+    Ok(())
 }
 
 fn push_item(sheet: &mut Bytes, item: Item, name: &[u8]) -> Result<(), Memory> {
     match item {
         Item::Nothing => Ok(()),
-        Item::Letter(letter) => {
-            sheet.push(b'"')?;
-            sheet.push(letter)?;
-            sheet.extend(b"\" ")
-        }
-        Item::Start => push_named(sheet, b"s", name),
-        Item::Other => push_named(sheet, b"t", name),
-        Item::Many => push_named(sheet, b"m", name),
-        Item::Maybe => push_named(sheet, b"q", name),
+        Item::Letter(letter) => push_all(sheet, &[b"\"", &[letter], b"\" "]),
+        Item::Start => push_all(sheet, &[b"[s ", name, b"] "]),
+        Item::Other => push_all(sheet, &[b"[t ", name, b"] "]),
+        Item::Many => push_all(sheet, &[b"[m ", name, b"] "]),
+        Item::Maybe => push_all(sheet, &[b"[q ", name, b"] "]),
     }
 }
 
@@ -100,24 +93,20 @@ fn push_body(sheet: &mut Bytes, body: &Body) -> Result<(), Memory> {
     push_item(sheet, body[2], b"z")
 }
 
-fn push_starts(sheet: &mut Bytes, bodies: &[Body]) -> Result<(), Memory> {
+// The productions of a nonterminal, whose XML stands between two texts.
+fn push_bodies(
+    sheet: &mut Bytes,
+    name: &[u8],
+    bodies: &[Body],
+    before: &[u8],
+    behind: &[u8],
+) -> Result<(), Memory> {
     for body in bodies {
-        sheet.extend(b"s : ")?;
+        sheet.extend(name)?;
         push_body(sheet, body)?;
-        sheet.extend(b"= <s>")?;
+        sheet.extend(before)?;
         push_body(sheet, body)?;
-        sheet.extend(b"</s>\n")?;
-    }
-    Ok(())
-}
-
-fn push_others(sheet: &mut Bytes, bodies: &[Body]) -> Result<(), Memory> {
-    for body in bodies {
-        sheet.extend(b"t : ")?;
-        push_body(sheet, body)?;
-        sheet.extend(b"= ")?;
-        push_body(sheet, body)?;
-        sheet.extend(b"\n")?;
+        sheet.extend(behind)?;
     }
     Ok(())
 }
@@ -127,8 +116,8 @@ fn written(alloc: Global, tiny: &Tiny) -> Result<Bytes, Memory> {
         alloc,
         b"xsugar-1\nstart s\nterminal m = /a*/\nterminal q = /ab?/\n",
     )?;
-    push_starts(&mut sheet, &tiny.starts)?;
-    push_others(&mut sheet, &tiny.others)?;
+    push_bodies(&mut sheet, b"s : ", &tiny.starts, b"= <s>", b"</s>\n")?;
+    push_bodies(&mut sheet, b"t : ", &tiny.others, b"= ", b"\n")?;
     Ok(sheet)
 }
 
@@ -141,15 +130,13 @@ fn compared(
     tiny: &Tiny,
 ) -> Result<Option<bool>, Fail> {
     let sheet = written(alloc, tiny)?;
-    let run = ran(alloc, &CHECK, sheet.as_slice(), b"", 1000)?;
-    if run.status == 2 {
+    let (status, is_told) = told(alloc, CHECK, sheet.as_slice(), b"suspect: text: ")?;
+    if status == 2 {
         return Ok(None);
     }
     let has_two = ways::has_two(alloc, tiny)?;
     if has_two {
-        assert_eq!(rt; run.status, 3, "sheet {number}");
-        let suspect = run.notes.as_slice().starts_with(b"suspect: text: ");
-        assert!(rt; suspect, "sheet {number}");
+        assert_eq!(rt; (status, is_told), (3, true), "sheet {number}");
     }
     Ok(Some(has_two))
 }

@@ -1,6 +1,8 @@
 use super::{
-    EMPTY, IN_CONTENT, IN_VALUE, LEFT, LETTERS, NESTED, PAIR, RIGHT, SHEET, SPACED, TWINS, tried,
+    EMPTY, IN_CONTENT, IN_VALUE, LEFT, LETTERS, NESTED, NONE, PAIR, RIGHT, SHEET, SPACED, TO_TEXT,
+    TO_XML, TWINS, done, expect, ran,
 };
+use crate::status;
 use std::alloc::Global;
 use std::process::Abort;
 use std::test::Fail;
@@ -23,145 +25,170 @@ const ROWS: [Row<'static>; 8] = [
     (RIGHT, b"aaa", b"<s><a/><a/><a/></s>\n"),
 ];
 
-#[test]
-fn each_text_is_translated_and_back(rt: HostRuntime) -> Result<(), Fail> {
-    let alloc = rt.alloc();
-    for (sheet, text, xml) in ROWS {
-        let runs: [(&[&str], &[u8], &[u8]); 6] = [
-            (&["to-xml", SHEET], text, xml),
-            (&["to-xml", SHEET, "nfc"], text, xml),
-            (&["to-text", SHEET], xml, text),
-            (&["round", SHEET, "text"], text, text),
-            (&["round", SHEET, "text", "nfd"], text, text),
-            (&["round", SHEET, "xml"], xml, xml),
-        ];
-        for (words, input, answer) in runs {
-            let run = tried(alloc, words, sheet, input)?;
-            assert_eq!(rt; run.status, 0);
-            assert_eq!(rt; run.out.as_slice(), answer);
-            assert_eq!(rt; run.notes.as_slice(), "".as_bytes());
-        }
+const ROUND_TEXT: &[&str] = &["round", SHEET, "text"];
+
+const ROUND_TEXT_NFC: &[&str] = &["round", SHEET, "text", "nfc"];
+
+const ROUND_TEXT_NFD: &[&str] = &["round", SHEET, "text", "nfd"];
+
+const ROUND_XML: &[&str] = &["round", SHEET, "xml"];
+
+// The commands of texts and of XML, and whether their answer is XML.
+const OF_TEXT: [(&[&str], bool); 4] = [
+    (TO_XML, true),
+    (&["to-xml", SHEET, "nfc"], true),
+    (ROUND_TEXT, false),
+    (ROUND_TEXT_NFD, false),
+];
+
+const OF_XML: [(&[&str], bool); 2] = [(TO_TEXT, false), (ROUND_XML, true)];
+
+// The input is answered by the text or by the XML, as each of the commands has it.
+fn expect_each(
+    rt: &impl Abort,
+    alloc: Global,
+    commands: &[(&[&str], bool)],
+    input: &[u8],
+    row: Row<'_>,
+) -> Result<(), Fail> {
+    let (sheet, text, xml) = row;
+    for (words, is_xml) in commands {
+        let answer = if *is_xml { xml } else { text };
+        expect(rt, alloc, words, sheet.as_bytes(), input, done(answer))?;
     }
     Ok(())
 }
 
-// The document, read and answered.
-fn answers(
-    rt: &impl Abort,
-    alloc: Global,
-    words: &[&str],
-    sheet: &str,
-    rows: &[(&[u8], &[u8])],
-) -> Result<(), Fail> {
-    for (input, answer) in rows {
-        let run = tried(alloc, words, sheet, input)?;
-        assert_eq!(rt; run.status, 0);
-        assert_eq!(rt; run.out.as_slice(), *answer);
-        assert_eq!(rt; run.notes.as_slice(), "".as_bytes());
+#[test]
+fn each_text_is_translated_and_back(rt: HostRuntime) -> Result<(), Fail> {
+    for row in ROWS {
+        let (_, text, xml) = row;
+        expect_each(&rt, rt.alloc(), &OF_TEXT, text, row)?;
+        expect_each(&rt, rt.alloc(), &OF_XML, xml, row)?;
     }
     Ok(())
 }
+
+// Words, a sheet, an input and its answer.
+type Answer<'t> = (&'t [&'t str], &'t str, &'t [u8], &'t [u8]);
+
+fn are_answered(rt: &impl Abort, alloc: Global, rows: &[Answer<'_>]) -> Result<(), Fail> {
+    for (words, sheet, input, answer) in rows {
+        expect(rt, alloc, words, sheet.as_bytes(), input, done(answer))?;
+    }
+    Ok(())
+}
+
+const MARKED: [Answer<'static>; 2] = [
+    (
+        TO_XML,
+        PAIR,
+        b"\xef\xbb\xbf(3,7)",
+        b"<p><y>7</y><x>3</x></p>\n",
+    ),
+    (
+        TO_TEXT,
+        PAIR,
+        b"\xef\xbb\xbf<p><y>7</y><x>3</x></p>",
+        b"(3,7)",
+    ),
+];
 
 #[test]
 fn one_mark_before_a_document_is_dropped(rt: HostRuntime) -> Result<(), Fail> {
-    let xml: &[u8] = b"<p><y>7</y><x>3</x></p>\n";
-    answers(
-        &rt,
-        rt.alloc(),
-        &["to-xml", SHEET],
-        PAIR,
-        &[(b"\xef\xbb\xbf(3,7)", xml)],
-    )?;
-    answers(
-        &rt,
-        rt.alloc(),
-        &["to-text", SHEET],
-        PAIR,
-        &[(b"\xef\xbb\xbf<p><y>7</y><x>3</x></p>", b"(3,7)")],
-    )
+    are_answered(&rt, rt.alloc(), &MARKED)
 }
+
+// The letter `a` with a dot below as one character, U+1EA1, and as two, `a` and U+323.
+const ONE: &[u8] = b"\xe1\xba\xa1";
+
+const APART: &[u8] = b"a\xcc\xa3";
+
+const ROUND_TEXT_AS_IS: &[&str] = &["round", SHEET, "text", "asis"];
+
+const FORMS: [Answer<'static>; 8] = [
+    (ROUND_TEXT, IN_CONTENT, ONE, ONE),
+    (ROUND_TEXT, IN_CONTENT, APART, APART),
+    (ROUND_TEXT_AS_IS, IN_CONTENT, ONE, ONE),
+    (ROUND_TEXT_AS_IS, IN_CONTENT, APART, APART),
+    (ROUND_TEXT_NFC, IN_CONTENT, ONE, ONE),
+    (ROUND_TEXT_NFC, IN_CONTENT, APART, ONE),
+    (ROUND_TEXT_NFD, IN_CONTENT, ONE, APART),
+    (ROUND_TEXT_NFD, IN_CONTENT, APART, APART),
+];
 
 #[test]
 fn forms_are_put_on_texts(rt: HostRuntime) -> Result<(), Fail> {
-    let text = "\u{1ea1}".as_bytes();
-    let apart = "a\u{323}".as_bytes();
-    answers(
-        &rt,
-        rt.alloc(),
-        &["round", SHEET, "text"],
-        IN_CONTENT,
-        &[(text, text), (apart, apart)],
-    )?;
-    answers(
-        &rt,
-        rt.alloc(),
-        &["round", SHEET, "text", "asis"],
-        IN_CONTENT,
-        &[(text, text), (apart, apart)],
-    )?;
-    answers(
-        &rt,
-        rt.alloc(),
-        &["round", SHEET, "text", "nfc"],
-        IN_CONTENT,
-        &[(text, text), (apart, text)],
-    )?;
-    answers(
-        &rt,
-        rt.alloc(),
-        &["round", SHEET, "text", "nfd"],
-        IN_CONTENT,
-        &[(text, apart), (apart, apart)],
-    )
+    are_answered(&rt, rt.alloc(), &FORMS)
 }
+
+const SPACES: [Answer<'static>; 5] = [
+    (ROUND_TEXT, SPACED, b"(3,7)", b"(3,7)"),
+    (ROUND_TEXT, SPACED, b"( 3 , 7 )", b"(3,7)"),
+    (ROUND_TEXT, SPACED, b"(3,   7)", b"(3,7)"),
+    (TO_XML, SPACED, b"( 3,7 )", b"<p><y>7</y><x>3</x></p>\n"),
+    (
+        &["trees", SHEET, "9"],
+        SPACED,
+        b"(3, 7)",
+        b"(1 ~\"\" a:\"3\" ~\"\" ~\" \" b:\"7\" ~\"\")\n1 trees, no more\n",
+    ),
+];
 
 #[test]
 fn ignorables_are_written_in_their_normal_spelling(rt: HostRuntime) -> Result<(), Fail> {
-    let xml: &[u8] = b"<p><y>7</y><x>3</x></p>\n";
-    let rows: [(&[u8], &[u8]); 3] = [
-        (b"(3,7)", b"(3,7)"),
-        (b"( 3 , 7 )", b"(3,7)"),
-        (b"(3,   7)", b"(3,7)"),
-    ];
-    answers(&rt, rt.alloc(), &["round", SHEET, "text"], SPACED, &rows)?;
-    answers(
-        &rt,
-        rt.alloc(),
-        &["to-xml", SHEET],
-        SPACED,
-        &[(b"( 3,7 )", xml)],
-    )?;
-    let line: &[u8] = b"(1 ~\"\" a:\"3\" ~\"\" ~\" \" b:\"7\" ~\"\")\n1 trees, no more\n";
-    answers(
-        &rt,
-        rt.alloc(),
-        &["trees", SHEET, "9"],
-        SPACED,
-        &[(b"(3, 7)", line)],
-    )
+    are_answered(&rt, rt.alloc(), &SPACES)
 }
+
+const SPELLINGS: [Answer<'static>; 4] = [
+    (
+        ROUND_XML,
+        LETTERS,
+        b"<?xml version=\"1.0\"?><s><![CDATA[a]]>&#97;</s><!-- x -->",
+        b"<s>aa</s>\n",
+    ),
+    (ROUND_XML, LETTERS, b"<s></s>", b"<s/>\n"),
+    (ROUND_XML, LETTERS, b"<s><!-- none --></s>", b"<s/>\n"),
+    (ROUND_XML, LETTERS, b" \r\n<s>a</s >\n", b"<s>a</s>\n"),
+];
 
 #[test]
 fn xml_is_written_in_its_normal_spelling(rt: HostRuntime) -> Result<(), Fail> {
-    let rows: [(&[u8], &[u8]); 4] = [
-        (
-            b"<?xml version=\"1.0\"?><s><![CDATA[a]]>&#97;</s><!-- x -->",
-            b"<s>aa</s>\n",
-        ),
-        (b"<s></s>", b"<s/>\n"),
-        (b"<s><!-- none --></s>", b"<s/>\n"),
-        (b" \r\n<s>a</s >\n", b"<s>a</s>\n"),
-    ];
-    answers(&rt, rt.alloc(), &["round", SHEET, "xml"], LETTERS, &rows)
+    are_answered(&rt, rt.alloc(), &SPELLINGS)
 }
 
+// The five trees of `aaaa`.
 const FIVE: &str = "(1 a:(1 a:(1 a:(2) b:(2)) b:(2)) b:(2))\n\
     (1 a:(1 a:(2) b:(1 a:(2) b:(2))) b:(2))\n\
     (1 a:(1 a:(2) b:(2)) b:(1 a:(2) b:(2)))\n\
     (1 a:(2) b:(1 a:(1 a:(2) b:(2)) b:(2)))\n\
-    (1 a:(2) b:(1 a:(2) b:(1 a:(2) b:(2))))\n";
+    (1 a:(2) b:(1 a:(2) b:(1 a:(2) b:(2))))\n\
+    5 trees, no more\n";
 
-// The lines of the five trees of `aaaa` that stand in the answer, in their order.
+// A sheet, how many trees are asked for, a text, and what is listed.
+const LISTINGS: [(&str, &str, &[u8], &str); 4] = [
+    (TWINS, "1000", b"aaaa", FIVE),
+    (TWINS, "5", b"aaaa", FIVE),
+    (EMPTY, "1", b"", "(1)\n1 trees, no more\n"),
+    (
+        PAIR,
+        "9",
+        b"(3,7)",
+        "(1 a:\"3\" b:\"7\")\n1 trees, no more\n",
+    ),
+];
+
+#[test]
+fn trees_are_listed(rt: HostRuntime) -> Result<(), Fail> {
+    for (sheet, most, text, listing) in LISTINGS {
+        let words = ["trees", SHEET, most];
+        let end = done(listing.as_bytes());
+        expect(&rt, rt.alloc(), &words, sheet.as_bytes(), text, end)?;
+    }
+    Ok(())
+}
+
+// The lines of the five trees of `aaaa` that stand in the answer.
 fn lines_among(answer: &str) -> usize {
     let mut count = 0usize;
     for line in FIVE.lines() {
@@ -172,45 +199,19 @@ fn lines_among(answer: &str) -> usize {
     count
 }
 
-#[test]
-fn trees_are_listed(rt: HostRuntime) -> Result<(), Fail> {
-    let alloc = rt.alloc();
-    let all = tried(alloc, &["trees", SHEET, "1000"], TWINS, b"aaaa")?;
-    assert_eq!(rt; all.status, 0);
-    let answer = all.out.as_slice();
-    let (lines, end) = answer.split_at(FIVE.len().min(answer.len()));
-    assert_eq!(rt; lines, FIVE.as_bytes());
-    assert_eq!(rt; end, "5 trees, no more\n".as_bytes());
-    let exact = tried(alloc, &["trees", SHEET, "5"], TWINS, b"aaaa")?;
-    assert_eq!(rt; exact.out.as_slice(), answer);
-    answers(
-        &rt,
-        rt.alloc(),
-        &["trees", SHEET, "1"],
-        EMPTY,
-        &[(b"", b"(1)\n1 trees, no more\n")],
-    )?;
-    answers(
-        &rt,
-        rt.alloc(),
-        &["trees", SHEET, "9"],
-        PAIR,
-        &[(b"(3,7)", b"(1 a:\"3\" b:\"7\")\n1 trees, no more\n")],
-    )
+// Four of the five trees, in lines of their own.
+fn are_four(answer: &str) -> bool {
+    lines_among(answer) == 4 && answer.lines().count() == 5 && answer.ends_with("\n4 trees, more\n")
 }
 
 #[test]
 fn no_more_trees_are_listed_than_were_asked_for(rt: HostRuntime) -> Result<(), Fail> {
-    let alloc = rt.alloc();
-    let four = tried(alloc, &["trees", SHEET, "4"], TWINS, b"aaaa")?;
-    assert_eq!(rt; four.status, 0);
-    match std::str::from_utf8(four.out.as_slice()) {
-        Ok(answer) => {
-            assert_eq!(rt; lines_among(answer), 4);
-            assert_eq!(rt; answer.lines().count(), 5);
-            assert_eq!(rt; answer.ends_with("\n4 trees, more\n"), true);
-        }
-        Err(_) => assert_eq!(rt; 0, 1),
+    let words = ["trees", SHEET, "4"];
+    let four = ran(rt.alloc(), &words, TWINS.as_bytes(), b"aaaa", NONE)?;
+    assert_eq!(rt; status(&four.outcome), 0);
+    match std::str::from_utf8(four.devices.out.taken()) {
+        Ok(answer) => assert!(rt; are_four(answer)),
+        Err(_) => assert!(rt; false),
     }
     Ok(())
 }
