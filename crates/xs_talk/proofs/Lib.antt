@@ -1,4 +1,3 @@
 pub mod Slots
 mod Walking
 mod Listed
-mod Samples

@@ -4,4 +4,3 @@ pub mod Lines
 pub mod Derivations
 pub mod Slots
 pub mod Walk
-pub mod Sample

@@ -11,8 +11,6 @@ mod derivations;
 mod line;
 mod outcome;
 mod telling;
-#[cfg(test)]
-mod tests;
 mod walk;
 mod words;
 

@@ -1,1 +1,2 @@
 mod ListingSamples
+mod TalkSamples

@@ -1,1 +1,2 @@
 pub mod ListingSample
+pub mod TalkSample

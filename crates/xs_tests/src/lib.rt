@@ -43,6 +43,8 @@ mod regex;
 #[cfg(test)]
 mod sheet;
 #[cfg(test)]
+mod talk;
+#[cfg(test)]
 mod text_out;
 #[cfg(test)]
 mod tree;

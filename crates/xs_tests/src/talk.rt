@@ -2,9 +2,8 @@ ghost use Rattle.std.specs.Prelude.{◌≡◌, ◌<◌, ℕ, length, IfOk, IsTru
 ghost use Rattle.xs_gram.specs.Sound.{IsBuilt};
 ghost use Rattle.xs_sheet.specs.declared.sheet.Sheet.{Sheet as AnySheet};
 ghost use Rattle.xs_pair.specs.Grammars.{IsPairOf};
-ghost use Rattle.xs_talk.specs.Sample.{IsEmptyRule, HasTwoWays, one_row as row_of};
+ghost use Rattle.xs_tests.specs.TalkSample.{IsEmptyRule, HasTwoWays, one_row as row_of};
 
-use crate::{Outcome, Report, fault_line, line_of, listing, room};
 use bumpalo::Bump;
 use std::alloc::Global;
 use std::test::Fail;
@@ -13,6 +12,7 @@ use xs_forest::{Alt, Forest};
 use xs_gram::Gram;
 use xs_pair::{Ill, IllRule, Two, both};
 use xs_sheet::read_sheet;
+use xs_talk::{Outcome, Report, fault_line, line_of, listing, room};
 use xs_unfold::{Grown, SpanKey, What};
 
 fn word_of(alloc: Global, symbols: &[u32]) -> Result<Word, Memory> {
@@ -35,14 +35,14 @@ fn names_of(alloc: Global, list: &[&str]) -> Result<Names, Memory> {
     }
 }
 
-fn told(alloc: Global, outcome: &Outcome) -> Result<Bytes, Memory> {
+/// Whether this line tells the outcome of a sheet with the names `p` and `é`.
+fn is_told(alloc: Global, outcome: &Outcome, line: &str) -> Result<bool, Memory> {
     let names = names_of(alloc, &["p", "é"])?;
-    line_of(alloc, outcome, &names)
+    Ok(line_of(alloc, outcome, &names)?.as_slice() == line.as_bytes())
 }
 
 #[test]
 fn lines_of_outcomes(rt: HostRuntime) -> Result<(), Fail> {
-    let alloc = rt.alloc();
     let ill = Outcome::SheetIll(Ill {
         rule: IllRule::NameOnce,
         line: 4,
@@ -74,42 +74,54 @@ fn lines_of_outcomes(rt: HostRuntime) -> Result<(), Fail> {
         ),
     ];
     for (outcome, line) in &rows {
-        assert_eq!(rt; told(alloc, outcome)?.as_slice(), line.as_bytes());
+        assert!(rt; is_told(rt.alloc(), outcome, line)?);
     }
     Ok(())
 }
 
-#[test]
-fn lines_of_suspects(rt: HostRuntime) -> Result<(), Fail> {
-    let alloc = rt.alloc();
-    let vertical = Outcome::Suspect(Report::Vertical {
+fn vertical(alloc: Global) -> Result<Outcome, Memory> {
+    Ok(Outcome::Suspect(Report::Vertical {
         side: Side::Text,
         name: Text::of(alloc, "s")?,
         line: 4,
         line2: 5,
         word: word_of(alloc, &[97])?,
-    });
-    assert_eq!(rt;
-        told(alloc, &vertical)?.as_slice(),
-        b"suspect: text: s: lines 4 and 5 share \"a\"\n".as_slice()
-    );
-    // a quote, a line feed, a surrogate, the end of an attribute, a strange name, the marks of p, an
-    // attribute of the other name, and a mark of no name
-    let marks = [
-        34, 10, 0xD800, 0x110000, 0x110001, 0x110002, 0x110004, 0x110006, 0x110008,
-    ];
-    let horizontal = Outcome::Suspect(Report::Horizontal {
+    }))
+}
+
+/// A quote, a line feed, a surrogate, the end of an attribute, a strange name, the marks of `p`, an
+/// attribute of the other name, and a mark of no name.
+const MARKS: [u32; 9] = [
+    34, 10, 0xD800, 0x110000, 0x110001, 0x110002, 0x110004, 0x110006, 0x110008,
+];
+
+fn horizontal(alloc: Global) -> Result<Outcome, Memory> {
+    Ok(Outcome::Suspect(Report::Horizontal {
         side: Side::Xml,
         name: Text::of(alloc, "s")?,
         line: 4,
         cut: 1,
-        x: word_of(alloc, &[])?,
+        x: Word::new(alloc),
         a: word_of(alloc, &[97])?,
-        y: word_of(alloc, &marks)?,
-    });
-    assert_eq!(rt;
-        told(alloc, &horizontal)?.as_slice(),
-        "suspect: xml: s: line 4, cut 1: \"\" \"a\" \"\\u{22}\\u{a}<?><@><?><p></p><@é><?>\"\n".as_bytes()
+        y: word_of(alloc, &MARKS)?,
+    }))
+}
+
+#[test]
+fn lines_of_suspects(rt: HostRuntime) -> Result<(), Fail> {
+    assert!(rt;
+        is_told(
+            rt.alloc(),
+            &vertical(rt.alloc())?,
+            "suspect: text: s: lines 4 and 5 share \"a\"\n"
+        )?
+    );
+    assert!(rt;
+        is_told(
+            rt.alloc(),
+            &horizontal(rt.alloc())?,
+            "suspect: xml: s: line 4, cut 1: \"\" \"a\" \"\\u{22}\\u{a}<?><@><?><p></p><@é><?>\"\n"
+        )?
     );
     Ok(())
 }
@@ -185,20 +197,31 @@ fn one_row<'b>(alloc: Global, bump: &'b Bump<Global>) -> Result<Grown<'b>, Memor
     }
 }
 
+/// The listing of the empty text, where its grammar has just two rules, both without items.
+fn listing_of(alloc: Global, two: &Two, max: u32) -> Result<Bytes, Memory>
+    requires pair { (s : AnySheet) × IsPairOf s two.now }
+    requires built { IsBuilt two.now.text }
+{
+    let ways = has_two_ways(two.gram(Side::Text));
+    if ways {
+        let bump = Bump::new(alloc);
+        let grown = one_row(alloc, &bump)?;
+        let doc = Word::new(alloc);
+        listing(alloc, two, &grown, &doc, max)
+    } else {
+        Err(Memory)
+    }
+}
+
+/// Whether these are the lines of the empty text in a listing of so many derivations.
+fn is_listed(alloc: Global, max: u32, lines: &[u8]) -> Result<bool, Memory> {
+    let two = two_of(alloc, b"xsugar-1\nstart s\ns : = <p/>\ns : = <q/>\n")?;
+    Ok(listing_of(alloc, &two, max)?.as_slice() == lines)
+}
+
 #[test]
 fn the_empty_text_has_two_lines(rt: HostRuntime) -> Result<(), Fail> {
-    let alloc = rt.alloc();
-    let bump = Bump::new(alloc);
-    let two = two_of(alloc, b"xsugar-1\nstart s\ns : = <p/>\ns : = <q/>\n")?;
-    let grown = one_row(alloc, &bump)?;
-    let doc = Word::new(alloc);
-    let ways = has_two_ways(two.gram(Side::Text));
-    assert!(rt; ways);
-    if ways {
-        let all = listing(alloc, &two, &grown, &doc, 1000)?;
-        assert_eq!(rt; all.as_slice(), b"(1)\n(2)\n2 trees, no more\n".as_slice());
-        let first = listing(alloc, &two, &grown, &doc, 1)?;
-        assert_eq!(rt; first.as_slice(), b"(1)\n1 trees, more\n".as_slice());
-    }
+    assert!(rt; is_listed(rt.alloc(), 1000, b"(1)\n(2)\n2 trees, no more\n")?);
+    assert!(rt; is_listed(rt.alloc(), 1, b"(1)\n1 trees, more\n")?);
     Ok(())
 }

@@ -10,7 +10,7 @@ use Rattle.xs_unfold.specs.declared.span.What.{What}
 use Rattle.xs_unfold.specs.declared.span.What.TheVariants.{Whole, Front}
 use Rattle.xs_unfold.specs.Forest.{Forest, key_at, alts_of, IsRow, IsSpelt, FrontAt, WholeAlt, IsAlt, IsRight}
 use Rattle.xs_unfold.specs.Laws.{IsForestOf}
-use Rattle.xs_talk.specs.Sample.{IsEmptyRule, HasTwoWays, by_rule, one_row}
+use Rattle.xs_tests.specs.TalkSample.{IsEmptyRule, HasTwoWays, by_rule, one_row}
 
 alt_of : (a : Alt) → Contains (by_rule 0 ∷ by_rule 1 ∷ []) a → (q : ℕ) × (q < 2) × (a ≡ by_rule q)
 alt_of a (zero, lt, e) = (0, omega arith, sym e)
