@@ -1,2 +1,3 @@
 mod ListingSamples
 mod TalkSamples
+mod TurnSamples

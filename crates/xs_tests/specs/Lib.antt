@@ -1,2 +1,3 @@
 pub mod ListingSample
 pub mod TalkSample
+pub mod TurnSample

@@ -49,6 +49,8 @@ mod text_out;
 #[cfg(test)]
 mod tree;
 #[cfg(test)]
+mod turn;
+#[cfg(test)]
 mod vert;
 #[cfg(test)]
 mod words;

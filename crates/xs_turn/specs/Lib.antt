@@ -1,4 +1,3 @@
 pub mod Laws
 pub mod Between
 pub mod Turned
-pub mod Sample

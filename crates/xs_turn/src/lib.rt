@@ -15,6 +15,3 @@ pub use between::Turned;
 pub use fault::TurnFault;
 pub use laws::stripped_fits;
 pub use turning::turn;
-
-#[cfg(test)]
-mod tests;

@@ -1,8 +1,8 @@
 use Rattle.std.proofs.Common.{◌≡◌, List, true, subst, rules}
 use Rattle.xs_sheet.specs.declared.unit.Unit.{Unit}
-use Rattle.xs_turn.specs.Sample.{ArePlain, IsOrderly}
-use Rattle.xs_turn.proofs.Samples.{sample_sound}
-use Rattle.xs_turn.proofs.tests.two_of.Goals as goal
+use Rattle.xs_tests.specs.TurnSample.{ArePlain, IsOrderly}
+use Rattle.xs_tests.proofs.TurnSamples.{sample_sound}
+use Rattle.xs_tests.proofs.turn.two_of.Goals as goal
 
 pub returns : goal.returns
 returns g c =

@@ -21,7 +21,7 @@ use Rattle.xs_gram.specs.Laws.{HasNormals}
 use Rattle.xs_gram.specs.Sound.{IsBuilt, IsSound}
 use Rattle.xs_pair.specs.Grammars.{Pair, IsPairOf, IsGramOf, HaveSameTrees, AreTermsOf, AreSkipsOf}
 use Rattle.xs_pair.specs.Sound.{IsSoundPair}
-use Rattle.xs_turn.specs.Sample.{ArePlain, IsOrderly}
+use Rattle.xs_tests.specs.TurnSample.{ArePlain, IsOrderly}
 
 -- regexes of one tree have members together
 same_members : (t : Tree) (r q : Regex) → Means t r → Means t q → HasMembers r → HasMembers q

@@ -1,6 +1,6 @@
 use Rattle.std.proofs.Common.{◌≡◌, ℕ, ◌<◌, List, Bool, true, false, length, get_or, subst, sym, rules}
 use Rattle.std.specs.Prelude.{IsTrue}
-use Rattle.xs_turn.proofs.tests.expect_orderly.Goals as goal
+use Rattle.xs_tests.proofs.turn.expect_orderly.Goals as goal
 
 pub returns : goal.returns
 returns g c =
