@@ -49,6 +49,8 @@ mod tree;
 #[cfg(test)]
 mod vert;
 #[cfg(test)]
+mod wf;
+#[cfg(test)]
 mod words;
 #[cfg(test)]
 mod xml_out;
