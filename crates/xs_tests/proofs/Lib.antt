@@ -1,1 +1,2 @@
+mod EarleySamples
 mod ListingSamples

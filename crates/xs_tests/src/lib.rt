@@ -15,6 +15,8 @@ mod class;
 #[cfg(test)]
 mod clauses;
 #[cfg(test)]
+mod earley;
+#[cfg(test)]
 mod forest;
 #[cfg(test)]
 mod form;
