@@ -8,4 +8,3 @@ pub mod Filling
 pub mod Tables
 pub mod Wholes
 pub mod Reach
-pub mod Samples

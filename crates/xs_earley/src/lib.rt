@@ -23,6 +23,3 @@ mod words;
 
 pub use fault::SeeFault;
 pub use recogniser::recognise;
-
-#[cfg(test)]
-mod tests;

@@ -1,3 +1,4 @@
+mod EarleySamples
 mod ListingSamples
 mod TalkSamples
 mod TurnSamples

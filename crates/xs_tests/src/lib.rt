@@ -15,6 +15,8 @@ mod class;
 #[cfg(test)]
 mod clauses;
 #[cfg(test)]
+mod earley;
+#[cfg(test)]
 mod forest;
 #[cfg(test)]
 mod form;
@@ -52,6 +54,8 @@ mod tree;
 mod turn;
 #[cfg(test)]
 mod vert;
+#[cfg(test)]
+mod wf;
 #[cfg(test)]
 mod words;
 #[cfg(test)]

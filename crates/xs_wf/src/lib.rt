@@ -14,10 +14,3 @@ pub use least::{least_not_char, least_strange, least_unit};
 pub use nonterminals::{least_loop, least_unproductive};
 pub use units::{is_empty_unit, is_strange_rule, is_strange_unit, is_unmatched_unit};
 pub use well::{WfFault, well_formed};
-
-#[cfg(test)]
-mod nonterminal_tests;
-#[cfg(test)]
-mod tests;
-#[cfg(test)]
-mod well_tests;

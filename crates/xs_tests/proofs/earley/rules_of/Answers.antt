@@ -1,8 +1,8 @@
 use Rattle.std.proofs.Common.{◌+◌, ◌∙◌, List, sym, subst}
 use Rattle.xs_gram.specs.declared.parts.RulePart.{RulePart}
-use Rattle.xs_earley.proofs.Samples.{Gathered, gathered_same, gathered_more}
-use Rattle.xs_earley.proofs.tests.rules_of.Goals as goal
-use Rattle.xs_earley.proofs.tests.rules_of.Goals.{then-row-lt2+then-letters-le8+in_ok-rule+in_ok-push, else-row-lt2}
+use Rattle.xs_tests.proofs.EarleySamples.{Gathered, gathered_same, gathered_more}
+use Rattle.xs_tests.proofs.earley.rules_of.Goals as goal
+use Rattle.xs_tests.proofs.earley.rules_of.Goals.{then-row-lt2+then-letters-le8+in_ok-rule+in_ok-push, else-row-lt2}
 
 pub rows-preserved : goal.rows-preserved
 rows-preserved c =

@@ -1,7 +1,7 @@
 use Rattle.std.proofs.Common.{◌≤◌, length, rules}
 use Rattle.xs_pair.specs.Weights.{IsOfBytes}
 use Rattle.xs_wf.proofs.Lines.{pair_ordered}
-use Rattle.xs_wf.proofs.nonterminal_tests.two_of.Goals as goal
+use Rattle.xs_tests.proofs.wf.nonterminals.two_of.Goals as goal
 
 pub returns-in_ok-two-in-Ok-clause-lines : goal.returns-in_ok-two-in-Ok-clause-lines
 returns-in_ok-two-in-Ok-clause-lines c =

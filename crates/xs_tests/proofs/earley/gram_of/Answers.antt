@@ -1,7 +1,7 @@
 use Rattle.std.proofs.Common.{◌≡◌, ℕ, ◌<◌, List, Bool, false, true, length, get_or, subst, rules}
 use Rattle.std.specs.Prelude.{IsTrue}
-use Rattle.xs_earley.proofs.Samples.{sample_sound}
-use Rattle.xs_earley.proofs.tests.gram_of.Goals as goal
+use Rattle.xs_tests.proofs.EarleySamples.{sample_sound}
+use Rattle.xs_tests.proofs.earley.gram_of.Goals as goal
 
 pub returns : goal.returns
 returns g c =

@@ -7,11 +7,11 @@ ghost use Rattle.xs_gram.specs.Grammar.{slots};
 ghost use Rattle.xs_gram.specs.Sound.{IsSound};
 ghost use Rattle.xs_regex.specs.Size.{HasMembers};
 
-use super::*;
 use std::alloc::Global;
 use std::process::Abort;
 use std::test::Fail;
 use xs_class::{Memory, Sym, Word};
+use xs_earley::{SeeFault, recognise};
 use xs_gram::{GItem, GItems, Gram, GramParts, Regexes, RulePart, Rules, SkipPart, Skips};
 use xs_order::{productive, unit_order};
 use xs_regex::{Regex, read_regex};

@@ -1,7 +1,7 @@
 use Rattle.std.proofs.Common.{◌+◌, List, [], ◌∷◌, ◌++◌, sym, subst}
 use Rattle.xs_gram.specs.declared.parts.GItem.{GItem}
-use Rattle.xs_earley.proofs.Samples.{Begins, begins_more}
-use Rattle.xs_earley.proofs.tests.rule_of.Goals as goal
+use Rattle.xs_tests.proofs.EarleySamples.{Begins, begins_more}
+use Rattle.xs_tests.proofs.earley.rule_of.Goals as goal
 
 pub letters-preserved : goal.letters-preserved
 letters-preserved c =

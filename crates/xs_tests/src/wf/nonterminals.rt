@@ -1,0 +1,84 @@
+//! At which lines the rules on words and loops fail.
+ghost use Rattle.std.specs.Prelude.{IfOk};
+ghost use Rattle.xs_gram.specs.Sound.{IsBuilt};
+ghost use Rattle.xs_wf.specs.Nonterminals.{IsPair, HaveOrderedLines};
+
+use std::alloc::Global;
+use std::test::Fail;
+use xs_pair::{PairFault, Two, both};
+use xs_sheet::read_sheet;
+use xs_wf::{least_loop, least_unproductive};
+
+// The two grammars of the sheet of this text.
+fn two_of(alloc: Global, text: &str) -> Result<Two, PairFault>
+    ensures pair { IfOk result IsPair }
+    ensures text { IfOk result (λ p. IsBuilt p.text) }
+    ensures xml { IfOk result (λ p. IsBuilt p.xml) }
+    ensures lines { IfOk result (λ p. HaveOrderedLines p.lines) }
+{
+    if text.len() > 65536 {
+        return Err(PairFault::Memory);
+    }
+    match read_sheet(alloc, text.as_bytes()) {
+        Ok(sheet) => {
+            let two = both(alloc, &sheet)?;
+            Ok(two)
+        }
+        Err(_) => Err(PairFault::Memory),
+    }
+}
+
+// The lines at which the two rules fail.
+fn lines_of(alloc: Global, text: &str) -> Result<(Option<u32>, Option<u32>), PairFault> {
+    let two = two_of(alloc, text)?;
+    let wordless = least_unproductive(alloc, &two)?;
+    let looping = least_loop(alloc, &two)?;
+    Ok((wordless, looping))
+}
+
+const LINES: [(&str, (Option<u32>, Option<u32>)); 9] = [
+    (
+        "xsugar-1\nstart s\nterminal d = /[0-9]/\ns : [d a] = <s>[d a]</s>\ns : \"a\" [s x] = <s>[s x]</s>\n",
+        (None, None),
+    ),
+    (
+        "xsugar-1\nstart s\ns : = <s/>\ns : \"a\" [t x] = <s>[t x]</s>\nt : \"b\" [t x] = <t>[t x]</t>\nt : \"c\" [t x] = <t>[t x]</t>\n",
+        (Some(5), None),
+    ),
+    (
+        "xsugar-1\nstart s\ns : [t x] = <s>[t x]</s>\nt : \"b\" [t x] = <t>[t x]</t>\n",
+        (Some(3), None),
+    ),
+    (
+        "xsugar-1\nstart s\ns : [l x] = <s>[l x]</s>\nl : \"a\" = \"a\"\nl : [l x] = <a>[l x]</a>\n",
+        (None, Some(4)),
+    ),
+    (
+        "xsugar-1\nstart s\ns : [l x] = <s>[l x]</s>\nl : \"a\" = \"a\"\nl : \"a\" [l x] = [l x]\n",
+        (None, Some(4)),
+    ),
+    (
+        "xsugar-1\nstart s\ns : [l x] [m y] = <s>[l x][m y]</s>\nl : \"a\" = \"a\"\nm : \"b\" = \"b\"\nm : [m x] = <b>[m x]</b>\nl : \"a\" [l x] = [l x]\n",
+        (None, Some(4)),
+    ),
+    (
+        "xsugar-1\nstart s\ns : [l x] [m y] = <s>[l x][m y]</s>\nl : \"a\" = \"a\"\nl : [l x] = <a>[l x]</a>\nm : \"b\" = \"b\"\nm : \"b\" [m x] = [m x]\n",
+        (None, Some(4)),
+    ),
+    (
+        "xsugar-1\nstart s\nignorable e = /a*/ \"a\"\ns : [l x] = <s>[l x]</s>\nl : \"a\" = <a/>\nl : [e] [m x] = <a>[m x]</a>\nm : [l x] [n y] = <b>[l x][n y]</b>\nn : = <c/>\n",
+        (None, Some(5)),
+    ),
+    (
+        "xsugar-1\nstart s\ns : [l x] = <s>[l x]</s>\nl : [l x] = <a>[l x]</a>\n",
+        (Some(3), Some(4)),
+    ),
+];
+
+#[test]
+fn the_first_production_of_the_first_nonterminal_is_told(rt: HostRuntime) -> Result<(), Fail> {
+    for (text, answer) in LINES {
+        assert!(rt; lines_of(rt.alloc(), text)? == answer, "{text}");
+    }
+    Ok(())
+}
