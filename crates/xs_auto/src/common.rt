@@ -1,4 +1,4 @@
-ghost use Rattle.std.specs.Prelude.{◌≡◌, ℕ, ◌≤◌, IfSome, IfNone};
+ghost use Rattle.std.specs.Prelude.{ℕ, ◌≤◌, IfSome, IfNone};
 ghost use Rattle.xs_class.specs.Classes.{Has};
 
 use xs_class::{Class, Sym};

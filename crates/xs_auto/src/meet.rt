@@ -1,6 +1,6 @@
-ghost use Rattle.std.specs.Prelude.{◌≡◌, ℕ, ◌*◌, ◌≤◌, true, List, IsSome, IfOk, IfSome, IfNone};
-ghost use Rattle.xs_auto.specs.Nets.{states, final_at};
-ghost use Rattle.xs_auto.specs.Searches.{IsAt, InNets, EndsBoth};
+ghost use Rattle.std.specs.Prelude.{◌≡◌, ℕ, ◌*◌, ◌≤◌, List, IsSome, IfOk, IfSome, IfNone};
+ghost use Rattle.xs_auto.specs.Nets.{states};
+ghost use Rattle.xs_auto.specs.Searches.{InNets, EndsBoth};
 ghost use Rattle.xs_auto.specs.Shared.{IsShared};
 ghost use Rattle.xs_auto.specs.Traces.{IsSeeded, IsRoot};
 

@@ -1,6 +1,6 @@
 mod state;
 
-ghost use Rattle.std.specs.Prelude.{◌≡◌, ◌<◌, ◌-◌, ◌^◌, ◌++◌, ◌∷◌, [], OnOk, OnErr, IfOk, IfSome, Some, None};
+ghost use Rattle.std.specs.Prelude.{◌≡◌, ◌<◌, ◌-◌, ◌^◌, [], OnOk, OnErr, IfOk, IfSome, Some, None};
 ghost use Rattle.std.specs.List.{All};
 ghost use Rattle.xs_auto.specs.Nets.{states, final_at, edges_of, moves_of, AddsState, AddsEdge, AddsMove, SetsFinal, IsSound};
 

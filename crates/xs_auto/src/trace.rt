@@ -1,4 +1,4 @@
-ghost use Rattle.std.specs.Prelude.{◌≡◌, ℕ, ◌<◌, length, IfOk, IfSome, IfNone};
+ghost use Rattle.std.specs.Prelude.{ℕ, ◌<◌, length, IfOk, IfSome, IfNone};
 ghost use Rattle.xs_auto.specs.Nets.{states};
 ghost use Rattle.xs_auto.specs.Searches.{ReadsBoth, Crosses, ReadsWith, InNets, IsChained};
 ghost use Rattle.xs_auto.specs.Traces.{IsTrace};

@@ -1,5 +1,5 @@
 -- Characters and their UTF-8.
-use Rattle.std.proofs.Common.{◌≡◌, ◌<◌, ◌≤◌, ◌+◌, ◌==◌, ◌++◌, ℕ, suc, zero, List, [], ◌∷◌, length, take, drop, get_or, Bool, true, false, refl, sym, ◌∙◌, ap, subst, arith, encode_utf8, encode_utf8_all, Some, None, append_assoc, append-nil}
+use Rattle.std.proofs.Common.{◌≡◌, ◌<◌, ◌≤◌, ◌+◌, ◌==◌, ◌++◌, ℕ, suc, zero, List, [], ◌∷◌, length, take, get_or, Bool, true, false, refl, sym, ◌∙◌, ap, subst, arith, encode_utf8, encode_utf8_all, Some, None, append_assoc, append-nil}
 use Rattle.std.specs.Char.{IsScalar}
 use Rattle.std.specs.declared.option.Option.{Option}
 use Rattle.std.specs.Option.{SomeIff, IsSome}
@@ -9,8 +9,7 @@ use Rattle.std.specs.String.{string_bytes}
 use Rattle.std.specs.declared.string.String.{String}
 use Rattle.std.proofs.lemmas.Str.{chars-encodes, encodes_same, encodes-append, IsUtf8-string_bytes}
 use Rattle.std.proofs.lemmas.Bool.Decides.{nat_tests}
-use Rattle.xs_chars.specs.declared.form.Form.TheVariants.{AsIs}
-use Rattle.xs_chars.specs.Text.{AreCharacters, byte_order_mark, without_mark, with_mark, has_mark, text_of, text_bytes, IsUtf8BadAt}
+use Rattle.xs_chars.specs.Text.{AreCharacters, byte_order_mark, without_mark, with_mark, IsUtf8BadAt}
 use Rattle.xs_chars.specs.Laws.{IsReadBack}
 
 -- each character is a scalar value

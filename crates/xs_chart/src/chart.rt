@@ -1,4 +1,4 @@
-ghost use Rattle.std.specs.Prelude.{◌≡◌, ◌<◌, ◌≤◌, ◌+◌, ◌↔◌, ◌≢◌, ℕ, [], ◌∷◌, ◌++◌, length, slice_get, if◌then◌else◌, Contains, IsTrue, IfOk, OnOk, OnErr};
+ghost use Rattle.std.specs.Prelude.{◌≡◌, ◌<◌, ◌+◌, ◌↔◌, ◌≢◌, ℕ, [], ◌∷◌, ◌++◌, length, slice_get, if◌then◌else◌, Contains, IsTrue, IfOk, OnOk, OnErr};
 
 use crate::{Item, Set};
 use std::alloc::Global;

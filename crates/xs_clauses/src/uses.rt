@@ -1,4 +1,4 @@
-ghost use Rattle.std.specs.Prelude.{◌≡◌, ◌<◌, length, IfOk, OnOk};
+ghost use Rattle.std.specs.Prelude.{◌<◌, length, IfOk, OnOk};
 ghost use Rattle.std.specs.List.{All};
 ghost use Rattle.xs_clauses.specs.Made.{AreBelow};
 ghost use Rattle.xs_clauses.specs.Search.{AreBlank, AreUses, IsNoted};

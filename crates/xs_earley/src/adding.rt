@@ -1,4 +1,4 @@
-ghost use Rattle.std.specs.Prelude.{◌≡◌, ◌<◌, suc, ℕ, length, IfOk};
+ghost use Rattle.std.specs.Prelude.{◌≡◌, ◌<◌, suc, length, IfOk};
 ghost use Rattle.xs_gram.specs.declared.parts.GItem.{GItem};
 ghost use Rattle.xs_gram.specs.Grammar.{ItemAt};
 ghost use Rattle.xs_gram.specs.Places.{IsPlace};

@@ -1,4 +1,4 @@
-ghost use Rattle.std.specs.Prelude.{◌≡◌, ◌<◌, ◌↔◌, ℕ, [], length, slice_index_or, IfOk, IsTrue, Contains};
+ghost use Rattle.std.specs.Prelude.{◌<◌, ◌↔◌, ℕ, length, IfOk, IsTrue, Contains};
 ghost use Rattle.xs_gram.specs.Grammar.{IsRuleOf};
 ghost use Rattle.xs_gram.specs.Sound.{IsBuilt, IsNullable};
 ghost use Rattle.xs_order.specs.Order.{AreNullable};

@@ -1,4 +1,4 @@
-ghost use Rattle.std.specs.Prelude.{◌≡◌, ◌⊎◌, ◌<◌, ◌≤◌, suc, ℕ, length, Contains};
+ghost use Rattle.std.specs.Prelude.{◌≡◌, ◌⊎◌, ◌<◌, ◌≤◌, ℕ, length};
 ghost use Rattle.xs_chart.specs.Charted.{items_of};
 ghost use Rattle.xs_gram.specs.Languages.{IsViable};
 ghost use Rattle.xs_gram.specs.Places.{IsPlace};

@@ -1,9 +1,9 @@
-ghost use Rattle.std.specs.Prelude.{◌≡◌, ◌<◌, ◌≤◌, ◌+◌, suc, ℕ, length, None, Some, Contains, IfOk};
+ghost use Rattle.std.specs.Prelude.{◌≡◌, ◌<◌, ◌≤◌, ◌+◌, suc, ℕ, length, None, Some, IfOk};
 ghost use Rattle.xs_regex.specs.Automaton.{IsWellFormed};
 ghost use Rattle.xs_chart.specs.Charted.{items_of};
 ghost use Rattle.xs_gram.specs.declared.parts.GItem.{GItem};
 ghost use Rattle.xs_gram.specs.declared.parts.GItem.TheVariants.{Fixed, Non};
-ghost use Rattle.xs_gram.specs.Grammar.{ItemAt, items};
+ghost use Rattle.xs_gram.specs.Grammar.{ItemAt};
 ghost use Rattle.xs_gram.specs.Chart.{Stands};
 ghost use Rattle.xs_gram.specs.Places.{IsPlace};
 ghost use Rattle.xs_gram.specs.Sound.{IsBuilt};

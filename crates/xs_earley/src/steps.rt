@@ -1,9 +1,6 @@
-ghost use Rattle.std.specs.Prelude.{◌≡◌, ◌<◌, ◌≤◌, ◌↔◌, suc, ℕ, length, slice_get, Contains, IsTrue, IfOk};
+ghost use Rattle.std.specs.Prelude.{◌≡◌, ◌<◌, ◌↔◌, suc, ℕ, length, slice_get, Contains, IsTrue, IfOk};
 ghost use Rattle.xs_regex.specs.Automaton.{HasAt, Leads, IsBelow};
-ghost use Rattle.xs_gram.specs.declared.parts.GItem.{GItem};
-ghost use Rattle.xs_gram.specs.Grammar.{ItemAt};
 ghost use Rattle.xs_gram.specs.Places.{IsPlace};
-ghost use Rattle.xs_gram.specs.Sound.{IsBuilt};
 ghost use Rattle.xs_items.specs.Steps.{HasAutomaton};
 ghost use Rattle.xs_earley.specs.Adding.{Adds, Begins, Enters, GoesOn, Completes};
 ghost use Rattle.xs_earley.specs.Growing.{IsExact};

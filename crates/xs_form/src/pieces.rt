@@ -3,7 +3,7 @@ ghost use Rattle.std.specs.Option.{option_map};
 ghost use Rattle.xs_piece.specs.Piece.{same, is_apart};
 ghost use Rattle.xs_piece.specs.Scan.{char_at, reference_at, end_at, in_cdata, in_comment, bang_at, attrs_at, tag_at, declaration_attrs, instruction_at, markup_at, piece_at};
 ghost use Rattle.xs_form.specs.Attributes.{shown};
-ghost use Rattle.xs_form.specs.Seen.{found, shown_event, shown_found, shown_end, tag_ends, past_feed, held_version, held_encoding, held_standalone, held_settings, instruction_body};
+ghost use Rattle.xs_form.specs.Seen.{found, shown_found, shown_end, tag_ends, past_feed, held_version, held_encoding, held_standalone, held_settings, instruction_body};
 
 use crate::attributes::{Attribute, attributes_at};
 use crate::references::reference_char;

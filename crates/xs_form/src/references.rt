@@ -1,6 +1,6 @@
-ghost use Rattle.std.specs.Prelude.{◌≡◌, ◌<◌, ◌≤◌, ◌+◌, ◌*◌, ◌&&◌, min, true, codes, []};
+ghost use Rattle.std.specs.Prelude.{◌≡◌, ◌<◌, ◌≤◌, ◌+◌, ◌*◌, ◌&&◌, min, true, []};
 ghost use Rattle.xs_piece.specs.Tables.{is_char, is_digit, is_hex};
-ghost use Rattle.xs_piece.specs.Piece.{hex_value, number, when, numbered, named, ref_char, all_of};
+ghost use Rattle.xs_piece.specs.Piece.{hex_value, number, when, numbered, ref_char, all_of};
 ghost use Rattle.xs_form.specs.Seen.{named_reference};
 
 use crate::runs::{allowed, digit, hexadecimal, is, spells};

@@ -1,4 +1,5 @@
 pub mod Lookup
+pub mod Entries
 pub mod Printing
 pub mod Printed
 pub mod Numbers

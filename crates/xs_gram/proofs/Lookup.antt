@@ -1,5 +1,5 @@
 -- What stands in a list under distinct numbers is found.
-use Rattle.std.proofs.Common.{◌≡◌, ◌≢◌, ℕ, suc, List, [], ◌∷◌, length, refl, ap, subst, sym, ◌∙◌, Some, None, arith}
+use Rattle.std.proofs.Common.{◌≡◌, ◌≢◌, ℕ, suc, List, [], ◌∷◌, length, refl, ap, Some, arith}
 use Rattle.std.proofs.lemmas.Bool.Decides.{nat_tests}
 use Rattle.xs_gram.specs.Common.{lookup}
 use Rattle.xs_gram.specs.Laws.{Every, IsDistinct}

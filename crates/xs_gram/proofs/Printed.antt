@@ -5,9 +5,9 @@ use Rattle.std.proofs.lemmas.Bool.Decides.{nat_tests}
 use Rattle.xs_gram.specs.declared.parts.GItem.{GItem}
 use Rattle.xs_gram.specs.declared.parts.GItem.TheVariants.{Fixed, Term, Non, Skip}
 use Rattle.xs_gram.specs.Grammar.{Grammar, items, slots, IsRuleOf, IsTermWord, IsSkipWord, normal_word}
-use Rattle.xs_gram.specs.Derivations.{Parts, done, fixed, leaf, skip, sub, Derivation, FitsItems, parts_yield}
-use Rattle.xs_gram.specs.Common.{Common, word, made, Kids, no_kid, kid, lookup, child_of, in_order, children, named, spelling, word_at, print, print_kids, Kind, of_term, of_non, kinds, TreeFits, KidsFit, KidFits}
-use Rattle.xs_gram.specs.Laws.{Every, IsDistinct, IsNumbered, HasNumberedSlots, HasNormals, PrintedHasTree}
+use Rattle.xs_gram.specs.Derivations.{Parts, done, fixed, leaf, skip, sub, FitsItems, parts_yield}
+use Rattle.xs_gram.specs.Common.{Common, word, made, Kids, no_kid, kid, lookup, in_order, children, named, spelling, word_at, print, print_kids, Kind, of_term, of_non, kinds, KidsFit, KidFits}
+use Rattle.xs_gram.specs.Laws.{Every, IsDistinct, HasNumberedSlots, HasNormals, PrintedHasTree}
 use Rattle.xs_gram.proofs.Lookup.{AllOf, keys, length-keys, by_keys, each_found}
 
 -- what a child puts in the place of its item: a word, or a rule with its parts

@@ -1,27 +1,19 @@
 -- Printing the tree of a derivation gives its yield in normal form.
-use Rattle.std.proofs.Common.{◌≡◌, ◌≢◌, ℕ, suc, zero, ◌+◌, ◌<◌, List, [], ◌∷◌, ◌++◌, length, refl, sym, ◌∙◌, ap, subst, arith, Some}
+use Rattle.std.proofs.Common.{◌≡◌, ℕ, suc, zero, ◌+◌, ◌<◌, List, [], ◌∷◌, ◌++◌, length, refl, sym, ◌∙◌, ap, subst, arith, Some}
 use Rattle.xs_gram.specs.declared.parts.GItem.{GItem}
 use Rattle.xs_gram.specs.declared.parts.GItem.TheVariants.{Fixed, Term, Non, Skip}
 use Rattle.xs_gram.specs.Grammar.{Grammar, items, slots, normal_word}
-use Rattle.xs_gram.specs.Derivations.{Parts, done, fixed, leaf, skip, sub, Derivation, Fits, FitsItems, parts_yield, normal_parts}
-use Rattle.xs_gram.specs.Common.{Common, word, made, Kids, no_kid, kid, lookup, child_of, in_order, children, named, spelling, word_at, print, print_kids}
+use Rattle.xs_gram.specs.Derivations.{Parts, done, fixed, leaf, skip, sub, FitsItems, parts_yield, normal_parts}
+use Rattle.xs_gram.specs.Common.{Common, lookup, child_of, in_order, children, named, spelling, word_at, print, print_kids}
 use Rattle.xs_gram.specs.Laws.{Every, IsDistinct, IsNumbered, HasNumberedSlots, PrintsNormal}
-use Rattle.xs_gram.proofs.Lookup.{AllOf, keys, length-keys, by_keys, each_found}
+use Rattle.xs_gram.proofs.Entries.{keys_are}
+use Rattle.xs_gram.proofs.Lookup.{AllOf, length-keys, by_keys, each_found}
 
 -- the word at the k-th child is that of the entry found there
 kids_at : (g : Grammar) (es : List (ℕ × Common)) (n s k : ℕ) → k < n → word_at (print_kids g (in_order n s es)) k ≡ print g (child_of (lookup (s + k) es))
 kids_at g es zero s k lt = absurd (omega arith)
 kids_at g es (suc n) s zero lt = ap (λ m. print g (child_of (lookup m es))) (omega arith)
 kids_at g es (suc n) s (suc k) lt = kids_at g es n (s + 1) k (omega arith) ∙ ap (λ m. print g (child_of (lookup m es))) (omega arith)
-
--- the entries' numbers are the slots
-keys_are : (g : Grammar) (is : List GItem) (ps : Parts) → FitsItems g is ps → keys (named g is ps) ≡ slots is
-keys_are g [] done fit = refl
-keys_are g (Fixed f ∷ is) (fixed u ps) fit = keys_are g is ps fit.1
-keys_are g (Term t s ∷ is) (leaf u ps) fit = ap (λ (l : List ℕ). s ∷ l) (keys_are g is ps fit.1)
-keys_are g (Skip k ∷ is) (skip u ps) fit = keys_are g is ps fit.1
-keys_are g (Non n s ∷ is) (sub q qs ps) fit = ap (λ (l : List ℕ). s ∷ l) (keys_are g is ps fit.2)
-keys_are g is ps fit = absurd fit
 
 -- the words of the children agree with the entries
 agree : (g : Grammar) (es xs : List (ℕ × Common)) → AllOf (λ e. e.0 < length es) xs → AllOf (λ e. lookup e.0 es ≡ Some e.1) xs → AllOf (λ e. word_at (print_kids g (in_order (length es) 0 es)) e.0 ≡ print g e.1) xs

@@ -5,7 +5,6 @@ use Rattle.xs_gram.specs.declared.parts.GItem.TheVariants.{Fixed, Term, Non, Ski
 use Rattle.xs_gram.specs.declared.parts.RulePart.{RulePart}
 use Rattle.xs_gram.specs.declared.parts.Terminal.{Terminal}
 use Rattle.xs_gram.specs.declared.parts.GramParts.{GramParts}
-use Rattle.xs_gram.specs.declared.places.Place.{Place}
 use Rattle.xs_gram.specs.Grammar.{Grammar, no_rule, no_terminal, no_ignorable, items, slots, term_of, skip_of}
 use Rattle.xs_gram.specs.Laws.{IsNumbered, HasNumberedSlots}
 use Rattle.xs_gram.specs.Sound.{IsInRange, HasAutomata}

@@ -4,7 +4,7 @@ use Rattle.std.specs.declared.option.Option.{Option}
 use Rattle.xs_gram.specs.declared.parts.GItem.{GItem}
 use Rattle.xs_gram.specs.declared.parts.GItem.TheVariants.{Fixed, Term, Non, Skip}
 use Rattle.xs_gram.specs.Grammar.{Grammar, items, IsRuleOf, IsTermWord, normal_word}
-use Rattle.xs_gram.specs.Derivations.{Parts, done, fixed, leaf, skip, sub, Derivation}
+use Rattle.xs_gram.specs.Derivations.{Parts, fixed, leaf, skip, sub, Derivation}
 
 -- A common tree is a word, or a production and a child for each of its slots, in the order of the slots.
 mutual

@@ -1,6 +1,5 @@
 -- One side of a sheet: its start, its rules, and its terminals and ignorables.
 use Rattle.std.specs.Prelude.{◌≡◌, ℕ, ◌<◌, List, [], ◌∷◌, length, false, slice_get, slice_index_or, Some}
-use Rattle.xs_regex.specs.declared.regex.Regex.{Regex}
 use Rattle.xs_regex.specs.declared.regex.Regex.TheVariants.{Empty}
 use Rattle.xs_regex.specs.declared.position.Position.{Position}
 use Rattle.xs_regex.specs.Matches.{Matches}

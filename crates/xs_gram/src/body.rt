@@ -1,4 +1,4 @@
-ghost use Rattle.std.specs.Prelude.{◌≡◌, ◌<◌, ◌≤◌, ◌+◌, ◌^◌, ◌++◌, ◌∷◌, [], ℕ, suc, Some, length, slice_get, IfOk};
+ghost use Rattle.std.specs.Prelude.{◌≡◌, ◌<◌, ◌+◌, ◌^◌, ◌++◌, ◌∷◌, [], suc, Some, length, IfOk};
 ghost use Rattle.xs_gram.specs.Building.{EachOf, NamesAreThere, AreRowStarts, AreStarts, IsReady, CanBuild, IsOf};
 ghost use Rattle.xs_gram.specs.Grammar.{items};
 ghost use Rattle.xs_gram.specs.Places.{at_dot, positions_of, insides, rule_places, all_places};

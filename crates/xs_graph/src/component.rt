@@ -1,4 +1,4 @@
-ghost use Rattle.std.specs.Prelude.{◌≡◌, ◌≢◌, ℕ, ◌<◌, ◌^◌, [], length, IfOk};
+ghost use Rattle.std.specs.Prelude.{◌≡◌, ◌<◌, ◌^◌, [], length, IfOk};
 ghost use Rattle.xs_graph.specs.Graphs.{IsGraph, AreComponents};
 ghost use Rattle.xs_graph.specs.States.{state_of, IsState, AreAllSeen};
 

@@ -1,7 +1,7 @@
 ghost use Rattle.std.specs.Prelude.{◌≡◌, ◌≢◌, ◌+◌, ◌<◌, ◌≤◌, ◌^◌, [], length, IfOk, IfSome, IfNone, OnOk};
 ghost use Rattle.std.specs.List.{All};
 ghost use Rattle.xs_graph.specs.Graphs.{IsGraph};
-ghost use Rattle.xs_graph.specs.States.{state_of, mark_of, with_frame, opened, lower_first, merged, closed_from, followed, IsState, IsStep, KeepsSeen};
+ghost use Rattle.xs_graph.specs.States.{state_of, mark_of, with_frame, opened, merged, closed_from, followed, IsState, IsStep, KeepsSeen};
 
 use crate::Graph;
 use crate::frame::Frame;

@@ -1,4 +1,4 @@
-ghost use Rattle.std.specs.Prelude.{◌≡◌, ◌<◌, ◌≤◌, ◌++◌, [], length, IfOk, OnOk};
+ghost use Rattle.std.specs.Prelude.{◌<◌, length, IfOk};
 ghost use Rattle.xs_gram.specs.Sound.{IsBuilt, IsSound};
 ghost use Rattle.xs_order.specs.Order.{AreRanks};
 ghost use Rattle.xs_gram.specs.Languages.{InLang};

@@ -1,4 +1,4 @@
-ghost use Rattle.std.specs.Prelude.{◌≡◌, ◌↔◌, ◌<◌, ◌≤◌, ◌++◌, ◌+◌, ℕ, None, length, map, OnOk, IsTrue};
+ghost use Rattle.std.specs.Prelude.{◌≡◌, ◌↔◌, ◌<◌, ◌≤◌, ◌++◌, ◌+◌, None, length, map, OnOk, IsTrue};
 ghost use Rattle.xs_gram.specs.Sound.{IsBuilt};
 ghost use Rattle.xs_gram.specs.Grammar.{items};
 ghost use Rattle.xs_gram.specs.Places.{all_places, IsPlace};

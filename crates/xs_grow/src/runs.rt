@@ -1,5 +1,5 @@
-ghost use Rattle.std.specs.Prelude.{◌≡◌, ◌⊎◌, ◌↔◌, ◌<◌, ◌≤◌, ℕ, List, [], length, slice_range, IfOk, OnOk, IsTrue, Contains, MatchBool};
-ghost use Rattle.xs_regex.specs.Automaton.{Accepts, Runs, HasAt, Leads, IsBelow, IsWellFormed};
+ghost use Rattle.std.specs.Prelude.{◌⊎◌, ◌↔◌, ◌<◌, ◌≤◌, ℕ, length, IfOk, OnOk, IsTrue, Contains, MatchBool};
+ghost use Rattle.xs_regex.specs.Automaton.{HasAt, IsBelow, IsWellFormed};
 ghost use Rattle.xs_grow.specs.Lists.{HasAllOf};
 ghost use Rattle.xs_grow.specs.Running.{Enters, AcceptsTo};
 

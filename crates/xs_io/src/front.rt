@@ -1,4 +1,4 @@
-ghost use Rattle.std.specs.Prelude.{◌≡◌, ◌<◌, ◌++◌, length, take, drop, min};
+ghost use Rattle.std.specs.Prelude.{◌≡◌, ◌++◌, length, take, drop, min};
 
 /// Copies a front of the rest of at most `most` bytes, and answers its length.
 pub(crate) fn copy_front(rest: &[u8], buf: &mut [u8], most: usize) -> usize

@@ -1,5 +1,5 @@
 // The items of a line.
-ghost use Rattle.std.specs.Prelude.{◌≡◌, ◌<◌, ◌++◌, codes, OnOk};
+ghost use Rattle.std.specs.Prelude.{◌≡◌, ◌<◌, ◌++◌, OnOk};
 ghost use Rattle.xs_leiden.specs.Made.{item as item_at, item_of, after_item, after_item_of, more_items, after_items, word as word_drawn, digit};
 ghost use Rattle.xs_leiden.specs.Draws.{next};
 

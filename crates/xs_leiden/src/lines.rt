@@ -1,5 +1,5 @@
-ghost use Rattle.std.specs.Prelude.{◌≡◌, ◌≤◌, ◌++◌, IfOk, OnOk, codes};
-ghost use Rattle.xs_leiden.specs.Made.{line as line_at, line_begin, lines as lines_of, after_line, after_lines, made_text};
+ghost use Rattle.std.specs.Prelude.{◌≡◌, ◌≤◌, ◌++◌, IfOk, OnOk};
+ghost use Rattle.xs_leiden.specs.Made.{line as line_at, line_begin, lines as lines_of, after_line, made_text};
 ghost use Rattle.xs_leiden.specs.Draws.{next};
 
 use crate::draws::Draws;

@@ -1,4 +1,4 @@
-ghost use Rattle.std.specs.Prelude.{◌≡◌, ◌∷◌, ◌<◌, ◌≤◌, length, Some, IfOk, IfSome, option_to_list};
+ghost use Rattle.std.specs.Prelude.{◌≡◌, ◌<◌, ◌≤◌, Some, IfOk, IfSome, option_to_list};
 ghost use Rattle.std.specs.Str.{chars};
 ghost use Rattle.xs_lex.specs.Spelling.{Spells, IsQuoted};
 ghost use Rattle.xs_lex.specs.Units.{is_escape, escape_char};

@@ -1,5 +1,5 @@
-ghost use Rattle.std.specs.Prelude.{◌≡◌, ◌∷◌};
-ghost use Rattle.xs_lex.specs.Scan.{token_at, slash_at, angle_at, sign_at, of_kind};
+ghost use Rattle.std.specs.Prelude.{◌≡◌};
+ghost use Rattle.xs_lex.specs.Scan.{token_at, slash_at, angle_at, sign_at};
 
 use crate::Kind;
 use crate::classes::begins_plain;

@@ -1,21 +1,18 @@
 -- Kids at the slots of a rule: which are the children of a node, in the order of the slots.
-use Rattle.std.proofs.Common.{◌≡◌, ◌≢◌, inl, inr, ℕ, zero, suc, ◌+◌, ◌<◌, ◌≤◌, List, [], ◌∷◌, ◌++◌, length, Bool, true, false, eqb, Option, Some, None, refl, sym, ◌∙◌, ap, arith, subst, drop, drop-cons, add-one, get_or-set_same, get_or-set_other, All, take, append-nil, append_assoc, length-append, ◌||◌}
+use Rattle.std.proofs.Common.{◌≡◌, inl, inr, ℕ, zero, suc, ◌+◌, ◌<◌, ◌≤◌, List, [], ◌∷◌, ◌++◌, length, Some, sym, ◌∙◌, ap, arith, subst, drop, drop-cons, add-one, get_or-set_same, get_or-set_other, All, take, append-nil, append_assoc, length-append}
 use Rattle.std.proofs.Math.ListN.{length-set}
 use Rattle.std.proofs.Math.Seq.{get_or-append_seam}
 use Rattle.std.specs.Prelude.{slice_index, slice_set}
-use Rattle.std.specs.List.{AllByRecursion, IsDistinct as HasNoTwo, list_any}
-use Rattle.std.proofs.lemmas.Bool.Decides.{nat_tests, eqb_tells}
+use Rattle.std.proofs.lemmas.Bool.Decides.{eqb_tells}
 use Rattle.std.proofs.lemmas.List.{take_all, drop_all}
 use Rattle.std.proofs.lemmas.List.Elements.{All-from_get_or}
-use Rattle.std.proofs.lemmas.Map.Keys.{IsDistinct-cons}
-use Rattle.std.proofs.lemmas.Map.Steps.{length-le_from_distinct_below}
 use Rattle.xs_gram.specs.declared.parts.GItem.{GItem}
-use Rattle.xs_gram.specs.declared.parts.GItem.TheVariants.{Fixed, Term, Non, Skip}
 use Rattle.xs_gram.specs.Grammar.{Grammar, slots}
-use Rattle.xs_gram.specs.Derivations.{Parts, done, fixed, leaf, skip, sub, FitsItems}
+use Rattle.xs_gram.specs.Derivations.{Parts, FitsItems}
 use Rattle.xs_gram.specs.Common.{Common, word, kid, lookup, child_of, in_order, children, named}
-use Rattle.xs_gram.specs.Laws.{Every, IsDistinct, IsNumbered}
-use Rattle.xs_gram.proofs.Lookup.{keys, length-keys}
+use Rattle.xs_gram.specs.Laws.{IsNumbered}
+use Rattle.xs_gram.proofs.Lookup.{length-keys}
+use Rattle.xs_gram.proofs.Entries.{keys_are, lookup_same, lookup_other, found}
 use Rattle.xs_tree.specs.declared.part.TreePart.{TreePart}
 use Rattle.xs_tree.specs.Flat.{tree_at, kids_at, tree_of, trees_of}
 use Rattle.xs_tree.proofs.Trees.{trees_onward, tree_stays, trees_push, length-trees}
@@ -60,12 +57,6 @@ fills_more a b kids es ex fills s t e =
 pub fills_none : (parts : List TreePart) (kids : List ℕ) → Fills parts kids []
 fills_none parts kids s t e = cc
 
-lookup_same : (s : ℕ) (t : Common) (es : List (ℕ × Common)) → lookup s ((s, t) ∷ es) ≡ Some t
-lookup_same s t es = grind (arith, nat_tests)
-
-lookup_other : (s r : ℕ) (t : Common) (es : List (ℕ × Common)) → r ≢ s → lookup r ((s, t) ∷ es) ≡ lookup r es
-lookup_other s r t es ne = grind (arith, nat_tests)
-
 -- one more entry, whose tree is put at its slot
 pub fills_put : (parts : List TreePart) (kids : List ℕ) (es : List (ℕ × Common)) (s v : ℕ) (t : Common) → Fills parts kids es → s < length kids → v < length parts → tree_at (trees_of parts) v ≡ t → Fills parts (slice_set kids s v) ((s, t) ∷ es)
 fills_put parts kids es s v t fills lt there is r u e = elim (eqb_tells r s) [
@@ -84,50 +75,6 @@ fills_put parts kids es s v t fills lt there is r u e = elim (eqb_tells r s) [
     some_is : (x y : Common) → Some x ≡ Some y → x ≡ y
     some_is x y e = cc
 
--- a slot that no entry has is none of their numbers
-other_keys : (es : List (ℕ × Common)) (s : ℕ) → lookup s es ≡ None → AllByRecursion (λ y. eqb s y ≡ false) (keys es)
-other_keys [] s e = tt
-other_keys ((k, t) ∷ es) s e = elim (eqb_tells s k) [
-  | inl (one, same) ↦ absurd (some_none t (sym (lookup_same k t es) ∙ ap (λ x. lookup x ((k, t) ∷ es)) (sym same) ∙ e))
-  | inr (two, ne) ↦ (two, other_keys es s (sym (lookup_other k s t es ne) ∙ e))
-]
-  where
-    some_none : (t : Common) → Some t ≡ None → ⊥
-    some_none t e = cc
-
-others : (n : ℕ) (ns : List ℕ) → Every (λ m. m ≢ n) ns → AllByRecursion (λ y. eqb n y ≡ false) ns
-others n [] h = tt
-others n (m ∷ ns) h = elim (eqb_tells n m) [ inl (one, same) ↦ absurd (h.0 (sym same)) | inr (two, ne) ↦ (two, others n ns h.1) ]
-
-no_two : (ns : List ℕ) → IsDistinct ns → HasNoTwo eqb ns
-unfolding HasNoTwo
-no_two [] h = tt
-no_two (n ∷ ns) h = (others n ns h.0, no_two ns h.1)
-
-any_below : (ns : List ℕ) (n q : ℕ) → Every (λ m. m < n) ns → list_any (eqb q) ns ≡ true → q < n
-any_below [] n q h e = cc
-any_below (m ∷ ns) n q h e = elim (eqb_tells q m) [
-  | inl (one, same) ↦ let lt = h.0 in omega arith
-  | inr (two, ne) ↦ any_below ns n q h.1 (rest (eqb q m) (list_any (eqb q) ns) two e)
-]
-  where
-    rest : (a b : Bool) → a ≡ false → a || b ≡ true → b ≡ true
-    rest true b h e = cc
-    rest false b h e = e
-
--- each slot has an entry
-found : (es : List (ℕ × Common)) → IsNumbered (keys es) → (s : ℕ) → s < length es → (t : Common) × (lookup s es ≡ Some t)
-found es numbered s lt = by_case (lookup s es) refl
-  where
-    by_case : (o : Option Common) → lookup s es ≡ o → (t : Common) × (lookup s es ≡ Some t)
-    by_case (Some t) e = (t, e)
-    by_case None e =
-        let all : HasNoTwo eqb (s ∷ keys es) = IsDistinct-cons eqb s (keys es) (other_keys es s e) (no_two (keys es) numbered.once) in
-        let long = length-keys es in
-        let below : Every (λ m. m < length (keys es)) (s ∷ keys es) = (omega arith, numbered.below) in
-        let le = length-le_from_distinct_below (s ∷ keys es) (length (keys es)) all (λ q h. any_below (s ∷ keys es) (length (keys es)) q below h) in
-        absurd (omega arith)
-
 -- the kids from a slot on are the children from there on
 ordered : (parts : List TreePart) (kids : List ℕ) (es : List (ℕ × Common)) (n slot : ℕ) → slot + n ≡ length kids → Fills parts kids es → ((s : ℕ) → s < length kids → (t : Common) × (lookup s es ≡ Some t)) → kids_at (trees_of parts) (drop slot kids) ≡ in_order n slot es
 ordered parts kids es zero slot e fills all = ap (kids_at (trees_of parts)) (drop_all slot kids (omega arith))
@@ -137,14 +84,6 @@ ordered parts kids es (suc n) slot e fills all =
     let here : tree_at (trees_of parts) (slice_index kids slot) ≡ child_of (lookup slot es) = h.2 ∙ ap child_of (sym a.1) in
     let later : kids_at (trees_of parts) (drop (suc slot) kids) ≡ in_order n (slot + 1) es = ordered parts kids es n (suc slot) (omega arith) fills all ∙ ap (λ s. in_order n s es) (sym (add-one slot)) in
     ap (kids_at (trees_of parts)) (drop-cons kids slot 0 h.0) ∙ ap (λ t. kid t (kids_at (trees_of parts) (drop (suc slot) kids))) here ∙ ap (kid (child_of (lookup slot es))) later
-
-keys_are : (g : Grammar) (is : List GItem) (ps : Parts) → FitsItems g is ps → keys (named g is ps) ≡ slots is
-keys_are g [] done fit = refl
-keys_are g (Fixed f ∷ is) (fixed u ps) fit = keys_are g is ps fit.1
-keys_are g (Term t s ∷ is) (leaf u ps) fit = ap (λ (l : List ℕ). s ∷ l) (keys_are g is ps fit.1)
-keys_are g (Skip k ∷ is) (skip u ps) fit = keys_are g is ps fit.1
-keys_are g (Non n s ∷ is) (sub q qs ps) fit = ap (λ (l : List ℕ). s ∷ l) (keys_are g is ps fit.2)
-keys_are g is ps fit = absurd fit
 
 module _ (g : Grammar) (is : List GItem) (ps : Parts) (parts : List TreePart) (kids : List ℕ) (numbered : IsNumbered (slots is)) (fits : FitsItems g is ps) (long : length kids ≡ length (slots is)) (fills : Fills parts kids (named g is ps)) where
   as_long : length kids ≡ length (named g is ps)

@@ -22,6 +22,6 @@ abbrev pub AreLight : Grammar → List GItem → Type 0
 AreLight g is = (w : ℕ) × PartWeighs g is w × (w ≤ 8192)
 
 -- where the fault speaks of a weight, it is that of the items, and more than 8,192
-abbrev pub IsHeaviness : Grammar → List GItem → LooseFault → Type 0
-IsHeaviness g is (Heavy weight) = PartWeighs g is weight × (8192 < weight)
-IsHeaviness g is Memory = Unit {0}
+abbrev pub IsCause : Grammar → List GItem → LooseFault → Type 0
+IsCause g is (Heavy weight) = PartWeighs g is weight × (8192 < weight)
+IsCause g is Memory = Unit {0}

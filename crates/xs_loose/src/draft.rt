@@ -1,4 +1,4 @@
-ghost use Rattle.std.specs.Prelude.{◌≡◌, ◌<◌, [], None, length, IfOk, OnOk};
+ghost use Rattle.std.specs.Prelude.{◌≡◌, ◌<◌, [], None, IfOk, OnOk};
 ghost use Rattle.xs_gram.specs.Grammar.{Grammar};
 ghost use Rattle.xs_auto.specs.Nets.{states};
 ghost use Rattle.xs_loose.specs.Arcs.{DraftGrows, IsLink, IsLinkArc, IsMove};

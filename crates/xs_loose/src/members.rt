@@ -1,5 +1,4 @@
 ghost use Rattle.std.specs.Prelude.{ℕ, length, IfSome, IfNone};
-ghost use Rattle.xs_gram.specs.Grammar.{Grammar};
 ghost use Rattle.xs_gram.specs.Building.{NamesThere};
 ghost use Rattle.xs_loose.specs.Weighing.{IsOneOf};
 

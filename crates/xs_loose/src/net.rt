@@ -8,7 +8,7 @@ ghost use Rattle.xs_loose.specs.Accepting.{AcceptsLoose};
 ghost use Rattle.xs_loose.specs.Arcs.{IsLink};
 ghost use Rattle.xs_loose.specs.Groups.{AreGrouped};
 ghost use Rattle.xs_loose.specs.Laying.{IsDraft, IsLaid, IsDraftOf};
-ghost use Rattle.xs_loose.specs.Parts.{IsPart, part_items, AreLight, IsHeaviness};
+ghost use Rattle.xs_loose.specs.Parts.{IsPart, part_items, AreLight, IsCause};
 ghost use Rattle.xs_loose.specs.Weighing.{AreWeights};
 
 use crate::automaton::lay_automaton;
@@ -38,7 +38,7 @@ pub fn net_of(alloc: Global, g: &Gram, comps: &Comps, part: &Part) -> Result<Net
     ensures start { IfOk result (λ n. IsSome n.start) }
     ensures words { IfOk result (AcceptsLoose g.now (part_items g.now part.now)) }
     ensures light { IfOk result (λ _. AreLight g.now (part_items g.now part.now)) }
-    ensures heavy { IfErr result (IsHeaviness g.now (part_items g.now part.now)) }
+    ensures heavy { IfErr result (IsCause g.now (part_items g.now part.now)) }
 {
     let weights = weights(alloc, g, comps)?;
     net_by(alloc, g, comps, &weights, part)
@@ -59,7 +59,7 @@ pub fn net_by(
     ensures start { IfOk result (λ n. IsSome n.start) }
     ensures words { IfOk result (AcceptsLoose g.now (part_items g.now part.now)) }
     ensures light { IfOk result (λ _. AreLight g.now (part_items g.now part.now)) }
-    ensures heavy { IfErr result (IsHeaviness g.now (part_items g.now part.now)) }
+    ensures heavy { IfErr result (IsCause g.now (part_items g.now part.now)) }
 {
     let weight = weight_by(g, weights, part);
     if weight > HEAVIEST {

@@ -1,4 +1,4 @@
-ghost use Rattle.std.specs.Prelude.{◌≡◌, ℕ, ◌<◌, true, false, length};
+ghost use Rattle.std.specs.Prelude.{◌≡◌, ◌<◌, true, false};
 ghost use Rattle.std.specs.List.{All};
 ghost use Rattle.xs_order.specs.Leaves.{is_good, all_good, IsIn};
 

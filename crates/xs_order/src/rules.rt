@@ -1,5 +1,4 @@
 ghost use Rattle.std.specs.Prelude.{◌≡◌, ◌+◌, ◌<◌, [], ◌∷◌, ◌++◌, length, IfOk, OnOk};
-ghost use Rattle.xs_clauses.specs.Made.{AreBelow};
 ghost use Rattle.xs_gram.specs.Grammar.{items};
 ghost use Rattle.xs_gram.specs.Sound.{IsBuilt, IsInRange};
 ghost use Rattle.xs_order.specs.Leaves.{IsFor};

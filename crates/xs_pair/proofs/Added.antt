@@ -1,5 +1,5 @@
 -- Regexes of terminals and parts of ignorables, unit by unit.
-use Rattle.std.proofs.Common.{◌≡◌, ◌∙◌, ◌<◌, ◌+◌, ap, sym, refl, subst, ℕ, suc, zero, List, [], ◌∷◌, ◌++◌, length, take, get_or, Some, slice_get}
+use Rattle.std.proofs.Common.{◌≡◌, ◌<◌, ◌+◌, sym, subst, ℕ, suc, zero, List, [], ◌∷◌, ◌++◌, length, take, get_or, Some, slice_get}
 use Rattle.std.proofs.lemmas.Option.{none-some, same_Some}
 use Rattle.xs_regex.specs.declared.regex.Regex.{Regex}
 use Rattle.xs_regex.specs.Meaning.{IsPatternOf}
@@ -9,7 +9,7 @@ use Rattle.xs_sheet.specs.Grammar.{HasRegex, HaveRegexes}
 use Rattle.xs_gram.specs.declared.parts.SkipPart.{SkipPart}
 use Rattle.xs_gram.specs.Building.{EachOf, IsFit}
 use Rattle.xs_pair.specs.Grammars.{AreTermsOf, AreSkipsOf, IsTermAdded, IsSkipAdded}
-use Rattle.xs_pair.proofs.Places.{get_at, take_next}
+use Rattle.xs_pair.proofs.Places.{take_next}
 
 -- each unit has the regex of its pattern
 pub has_regex : (us : List Unit) (k : ℕ) (u : Unit) → HaveRegexes us → slice_get us k ≡ Some u → HasRegex u

@@ -1,12 +1,11 @@
 -- The two grammars of a sheet are alike: the same rules, kinds of slots and words of terminals.
-use Rattle.std.proofs.Common.{◌≡◌, ◌⊎◌, ◌∙◌, ◌<◌, ◌≤◌, ◌+◌, inl, inr, ap, sym, refl, subst, ℕ, suc, zero, List, [], ◌∷◌, length, map, get_or, Some, None, arith, slice_get}
+use Rattle.std.proofs.Common.{◌≡◌, ◌⊎◌, ◌∙◌, ◌<◌, ◌≤◌, inl, inr, ap, sym, refl, subst, ℕ, suc, zero, List, [], ◌∷◌, length, map, get_or, Some, arith, slice_get}
 use Rattle.std.proofs.lemmas.Bool.{cases_lt}
 use Rattle.std.proofs.lemmas.List.{length-map}
-use Rattle.std.proofs.lemmas.Option.{none-some, same_Some}
+use Rattle.std.proofs.lemmas.Option.{same_Some}
 use Rattle.xs_class.specs.declared.side.Side.{Side}
 use Rattle.xs_class.specs.declared.side.Side.TheVariants.{Text, Xml}
 use Rattle.xs_regex.specs.declared.regex.Regex.{Regex}
-use Rattle.xs_regex.specs.Meaning.{IsPatternOf}
 use Rattle.xs_regex.specs.Matches.{Matches}
 use Rattle.xs_regex.proofs.Meanings.{same_words}
 use Rattle.xs_sheet.specs.declared.sheet.Sheet.{Sheet}
@@ -15,12 +14,11 @@ use Rattle.xs_sheet.specs.declared.unit.Unit.TheVariants as V
 use Rattle.xs_gram.specs.declared.parts.GItem.{GItem}
 use Rattle.xs_gram.specs.declared.parts.RulePart.{RulePart}
 use Rattle.xs_gram.specs.declared.parts.Terminal.{Terminal}
-use Rattle.xs_gram.specs.Common.{kinds, lookup}
-use Rattle.xs_gram.specs.Grammar.{Grammar, no_rule, no_terminal, rule_of, items, IsRuleOf, IsTermWord}
+use Rattle.xs_gram.specs.Grammar.{Grammar, no_rule, no_terminal}
 use Rattle.xs_pair.specs.declared.production.Rule.{Rule}
 use Rattle.xs_pair.specs.Grammars.{Numbering, numbering, rule_part, rule_parts, side_of, flat_marks, AreTermsOf, IsGramOf, HaveSameTrees}
 use Rattle.xs_pair.specs.Listing.{rules_of}
-use Rattle.xs_pair.specs.Marks.{slots_of, slot_names}
+use Rattle.xs_pair.specs.Marks.{slot_names}
 use Rattle.xs_pair.specs.Verdict.{FailsAt, NoneFails}
 use Rattle.xs_pair.proofs.Once.{once_left, once_right, once_back, once_forth}
 use Rattle.xs_pair.proofs.Ready.{passes}
@@ -76,7 +74,7 @@ parts_non n a b (r ∷ rs) zero = refl
 parts_non n a b (r ∷ rs) (suc p) = parts_non n a b rs p
 
 -- terminals have the same words
-term_words : (us : List Unit) (rs qs : List Regex) → AreTermsOf us rs → AreTermsOf us qs → (t : ℕ) (d : Regex) (w : List ℕ) → Matches (get_or rs t d) w → Matches (get_or qs t d) w
+pub term_words : (us : List Unit) (rs qs : List Regex) → AreTermsOf us rs → AreTermsOf us qs → (t : ℕ) (d : Regex) (w : List ℕ) → Matches (get_or rs t d) w → Matches (get_or qs t d) w
 term_words [] [] [] one two t d w m = m
 term_words [] (r ∷ rs) qs one two t d w m = absurd one
 term_words [] [] (q ∷ qs) one two t d w m = absurd two

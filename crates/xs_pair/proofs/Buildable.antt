@@ -1,14 +1,12 @@
 -- A grammar can be built of the parts of either side, where none of the seven rules fails.
-use Rattle.std.proofs.Common.{◌≡◌, ◌≢◌, ◌⊎◌, ◌∙◌, ◌<◌, ◌≤◌, ◌+◌, inl, inr, ap, sym, refl, subst, ℕ, suc, zero, List, [], ◌∷◌, ◌++◌, length, map, get_or, Some, None, Bool, true, false, cond, arith, slice_get, length-append, eqb}
-use Rattle.std.specs.List.{flat_map, list_any}
+use Rattle.std.proofs.Common.{◌≡◌, ◌≢◌, ◌⊎◌, ◌∙◌, ◌<◌, ◌≤◌, ◌+◌, inl, inr, ap, sym, refl, ℕ, suc, zero, List, [], ◌∷◌, ◌++◌, length, map, get_or, Some, None, true, arith, slice_get, length-append, eqb}
+use Rattle.std.specs.List.{list_any}
 use Rattle.std.specs.declared.option.Option.{Option}
 use Rattle.std.specs.Option.{option_map}
 use Rattle.std.proofs.lemmas.List.{length-map, map-append}
 use Rattle.std.proofs.lemmas.Bool.Decides.{nat_tests}
 use Rattle.std.proofs.lemmas.Option.{none-some, same_Some, slice_get_within, slice_get-map, slice_get-get_or}
 use Rattle.std.proofs.lemmas.Map.Steps.{le-length_from_below}
-use Rattle.xs_class.specs.declared.side.Side.{Side}
-use Rattle.xs_class.specs.declared.side.Side.TheVariants.{Text, Xml}
 use Rattle.xs_class.specs.Ordered.{place_of}
 use Rattle.xs_sheet.specs.declared.item.Item.{Item}
 use Rattle.xs_sheet.specs.declared.item.Item.TheVariants as I
@@ -29,7 +27,7 @@ use Rattle.xs_pair.specs.Rules.{SomeOf, IsAmong, IsAbsent, IsNameless, IsUndefin
 use Rattle.xs_pair.specs.Units.{names_of, nons_of, terms_of, skips_of, number_of}
 use Rattle.xs_pair.specs.Weights.{item_weight, mark_weight, marks_weight}
 use Rattle.xs_pair.proofs.Places.{found_there, among_or_absent, not_both}
-use Rattle.xs_pair.proofs.Numbering.{number_is, number_bound, among_at, firsts_have, sorted}
+use Rattle.xs_pair.proofs.Numbering.{number_is, number_bound, firsts_have, sorted}
 use Rattle.xs_pair.proofs.Once.{distinct_no_repeat}
 
 each_append : {A : Type 0} (P : A → Type 0) (xs ys : List A) → EachOf P xs → EachOf P ys → EachOf P (xs ++ ys)

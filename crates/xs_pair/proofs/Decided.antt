@@ -1,6 +1,6 @@
 -- What tests say.
-use Rattle.std.proofs.Common.{◌≡◌, ◌⊎◌, inl, inr, ℕ, List, Some, None, Bool, true, false, not, refl, slice_get}
-use Rattle.std.specs.Prelude.{IsTrue, ◌↔◌, MatchBool, if◌then◌else◌}
+use Rattle.std.proofs.Common.{◌≡◌, ℕ, List, Some, Bool, true, false, not, refl, slice_get}
+use Rattle.std.specs.Prelude.{IsTrue, ◌↔◌, MatchBool}
 use Rattle.xs_pair.specs.Directories.{IsDistinct}
 use Rattle.xs_pair.specs.Rules.{HasRepeat, IsAmong, IsAbsent, IsNotOnce}
 use Rattle.xs_pair.proofs.Once.{distinct_no_repeat, once_is, right_lacks}

@@ -1,12 +1,11 @@
 -- How the first places of names are found from the end of a list to its front.
-use Rattle.std.proofs.Common.{◌≡◌, ◌⊎◌, ◌∙◌, ◌<◌, ◌≤◌, ◌+◌, ◌-◌, inl, inr, ap, sym, refl, subst, ℕ, suc, zero, List, [], ◌∷◌, length, drop, get_or, Some, None, Bool, true, false, cond, arith, slice_get}
+use Rattle.std.proofs.Common.{◌≡◌, ◌⊎◌, ◌∙◌, ◌<◌, ◌+◌, inl, inr, ap, sym, refl, subst, ℕ, suc, List, ◌∷◌, length, drop, get_or, Some, None, Bool, true, false, cond, arith, slice_get}
 use Rattle.std.specs.Prelude.{bytes_eq}
 use Rattle.std.specs.List.{Contains}
 use Rattle.std.specs.declared.option.Option.{Option}
 use Rattle.std.specs.Option.{option_map}
 use Rattle.std.specs.Cmp.Lexicographic.{bytes_decides}
 use Rattle.std.proofs.Math.ListN.{set}
-use Rattle.std.proofs.lemmas.Bool.{cases_lt}
 use Rattle.std.proofs.lemmas.Option.{none-some, same_Some, slice_get_within, get_or_from_slice_get}
 use Rattle.std.proofs.lemmas.List.{get_or-set_same, get_or-set_other}
 use Rattle.xs_gram.proofs.Building.{drop_next}
@@ -14,7 +13,7 @@ use Rattle.xs_class.specs.Ordered.{place_of, IsOrdered, AreNamesOf}
 use Rattle.xs_class.proofs.Places.{ordered_is_found}
 use Rattle.xs_pair.specs.Directories.{AreFirstPlaces}
 use Rattle.xs_pair.specs.Rules.{IsAbsent, IsAmong}
-use Rattle.xs_pair.proofs.Places.{HasPlacesFrom, found_there, first_before, among_or_absent, stands_nowhere, get_at}
+use Rattle.xs_pair.proofs.Places.{HasPlacesFrom, found_there, among_or_absent, stands_nowhere, get_at}
 
 -- where a name first stands in a list with one more at its front
 first_cons : (n : List ℕ) (ns : List (List ℕ)) (name : List ℕ) (j : ℕ) → place_of (n ∷ ns) name ≡ Some j → ((n ≡ name) × (j ≡ 0)) ⊎ ((n ≡ name → ⊥) × ((i : ℕ) × (place_of ns name ≡ Some i) × (j ≡ suc i)))

@@ -1,13 +1,13 @@
 -- A sheet weighs less than the bytes that spell it.
-use Rattle.std.proofs.Common.{◌≡◌, ◌⊎◌, ◌∙◌, ◌<◌, ◌≤◌, ◌+◌, inl, inr, ap, sym, refl, subst, ℕ, suc, zero, List, [], ◌∷◌, ◌++◌, length, map, Bool, true, false, arith, length-append}
+use Rattle.std.proofs.Common.{◌≡◌, ◌⊎◌, ◌∙◌, ◌≤◌, ◌+◌, inl, inr, ap, sym, subst, ℕ, List, [], ◌∷◌, length, map, Bool, true, false, arith, length-append}
 use Rattle.std.specs.Prelude.{◌&&◌, if◌then◌else◌}
 use Rattle.std.proofs.lemmas.List.{length-map}
 use Rattle.std.proofs.lemmas.Str.{length-le-encodes, utf8_valid_len_le}
 use Rattle.xs_lex.specs.declared.kind.Kind.{Kind}
 use Rattle.xs_lex.specs.declared.kind.Kind.TheVariants.{Plain, Qual, Quoted, Pattern, Colon, Equals, SquareIn, SquareOut, Angle, AngleSlash, AngleEnd, SlashEnd, End, Bad}
 use Rattle.xs_lex.specs.Between.{Blank, white, comment, spelt_blanks, IsApart}
-use Rattle.xs_lex.specs.Reading.{Lexeme, Extent, AreTokensFrom, AreTokens, extent_of, is_nothing, StandsAt, IsLast, IsTokenAt}
-use Rattle.xs_lex.specs.Spelling.{Spells, IsQual, IsQuoted, IsPattern}
+use Rattle.xs_lex.specs.Reading.{Lexeme, Extent, AreTokensFrom, AreTokens, extent_of, is_nothing, IsLast, IsTokenAt}
+use Rattle.xs_lex.specs.Spelling.{Spells, IsQuoted}
 use Rattle.xs_lex.specs.Units.{QuotedUnit, plain, escaped, coded, spelt_quoted, meaning}
 use Rattle.xs_lex.specs.Classes.{is_plain}
 use Rattle.xs_sheet.specs.declared.piece.Piece.{Piece}
@@ -17,7 +17,7 @@ use Rattle.xs_sheet.specs.declared.x_item.Attr.{Attr}
 use Rattle.xs_sheet.specs.declared.sheet.Sheet.{Sheet}
 use Rattle.xs_sheet.specs.Outline.{Content, nothing, item, element, UnitOutline, terminal, ignorable, production, unit_outline}
 use Rattle.xs_sheet.specs.Pieces.{IsPiece, ArePieces, IsTextOf}
-use Rattle.xs_sheet.specs.Grammar.{ReadsItem, ReadsItems, ReadsAttr, ReadsAttrs, ReadsSign, ReadsClosing, ReadsContent, ReadsUnit, ReadsUnits, ReadsSheet, IsSheetOf}
+use Rattle.xs_sheet.specs.Grammar.{ReadsItem, ReadsItems, ReadsAttr, ReadsAttrs, ReadsSign, ReadsClosing, ReadsContent, ReadsUnit, ReadsUnits, IsSheetOf}
 use Rattle.xs_pair.specs.Weights.{item_weight}
 
 -- what a token of this kind with this text weighs

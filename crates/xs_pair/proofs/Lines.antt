@@ -1,14 +1,14 @@
 -- The least line at which a rule fails, element by element.
-use Rattle.std.proofs.Common.{◌≡◌, ◌⊎◌, ◌∙◌, ◌<◌, ◌≤◌, ◌+◌, inl, inr, ap, sym, refl, subst, ℕ, suc, zero, List, [], ◌∷◌, ◌++◌, length, take, drop, get_or, Some, None, Bool, true, false, arith, slice_get}
-use Rattle.std.specs.Prelude.{min, IsTrue, ◌↔◌}
+use Rattle.std.proofs.Common.{◌≡◌, ◌⊎◌, ◌∙◌, ◌<◌, ◌≤◌, ◌+◌, inl, inr, ap, sym, refl, subst, ℕ, suc, zero, List, [], ◌∷◌, ◌++◌, length, take, drop, get_or, Some, None, arith, slice_get}
+use Rattle.std.specs.Prelude.{min}
 use Rattle.std.specs.declared.option.Option.{Option}
 use Rattle.std.proofs.lemmas.Bool.{cases_lt}
 use Rattle.std.proofs.lemmas.List.{length-take-le}
-use Rattle.std.proofs.lemmas.Option.{none-some, same_Some, slice_get_within}
+use Rattle.std.proofs.lemmas.Option.{none-some, same_Some}
 use Rattle.xs_gram.proofs.Building.{drop_next}
 use Rattle.xs_pair.specs.declared.mark.Mark.{Mark}
 use Rattle.xs_pair.specs.Rules.{SomeOf}
-use Rattle.xs_pair.specs.Verdict.{IsLineWhere, IsFirstLine, IsLeast, earlier}
+use Rattle.xs_pair.specs.Verdict.{IsLineWhere, IsFirstLine, earlier}
 use Rattle.xs_pair.specs.Weights.{mark_weight, marks_weight}
 use Rattle.xs_pair.proofs.Places.{get_front, get_last, get_snoc, take_next}
 

@@ -9,7 +9,7 @@ use Rattle.xs_sheet.specs.declared.x_item.XItem.TheOpen as O
 use Rattle.xs_sheet.specs.declared.x_item.XItem.TheFolds.{fold-roll-XItem, fold_out-XItems}
 use Rattle.xs_sheet.specs.declared.x_item.XItems.{XItems}
 use Rattle.xs_pair.specs.declared.mark.Mark.{Mark}
-use Rattle.xs_pair.specs.declared.mark.Mark.TheVariants.{Opening, Closing, Content}
+use Rattle.xs_pair.specs.declared.mark.Mark.TheVariants.{Closing, Content}
 use Rattle.xs_pair.specs.Marks.{marks_of, all_marks, item_marks, items_marks, joined, element_marks, opening_marks}
 
 joined_map : (f : XItem → List Mark) (items : List XItem) → joined (map f items) ≡ flat_map f items

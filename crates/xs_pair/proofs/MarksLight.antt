@@ -1,10 +1,8 @@
 -- The marks of an XML side weigh what its content weighs.
-use Rattle.std.proofs.Common.{◌≡◌, ◌∙◌, ◌<◌, ◌≤◌, ◌+◌, ap, sym, refl, subst, ℕ, suc, zero, List, [], ◌∷◌, ◌++◌, length, map, take, drop, arith, encode_utf8_all}
+use Rattle.std.proofs.Common.{◌≡◌, ◌<◌, ◌≤◌, ◌+◌, ap, sym, refl, subst, ℕ, suc, zero, List, [], ◌∷◌, ◌++◌, length, map, arith, encode_utf8_all}
 use Rattle.std.specs.Prelude.{insert}
-use Rattle.std.specs.List.{flat_map}
 use Rattle.std.proofs.lemmas.List.{length-map}
 use Rattle.xs_sheet.specs.declared.item.Item.{Item}
-use Rattle.xs_sheet.specs.declared.item.Item.TheVariants as I
 use Rattle.xs_sheet.specs.declared.x_item.Attr.{Attr}
 use Rattle.xs_sheet.specs.declared.unit.Unit.{Unit}
 use Rattle.xs_sheet.specs.declared.unit.Unit.TheVariants as V
@@ -16,14 +14,14 @@ use Rattle.xs_sheet.specs.declared.x_item.XItem.TheOpen as O
 use Rattle.xs_sheet.specs.declared.x_item.XItem.TheOpen.{XItem-F, XItems-F}
 use Rattle.xs_sheet.specs.declared.x_item.XItem.TheFolds.{ind-XItem, map-XItem}
 use Rattle.xs_sheet.specs.declared.x_item.XItems.{XItems}
-use Rattle.xs_sheet.specs.Outline.{Content, nothing, item, element, laid, with_item, content_of, unit_outline}
+use Rattle.xs_sheet.specs.Outline.{Content, nothing, laid, with_item, unit_outline}
 use Rattle.xs_sheet.proofs.ContentLaws.{with_plain, with_element}
 use Rattle.xs_pair.specs.declared.mark.Mark.{Mark}
-use Rattle.xs_pair.specs.declared.mark.Mark.TheVariants.{Opening, Attribute, AttributeEnd, Closing, Value, Content as ContentMark}
-use Rattle.xs_pair.specs.Marks.{marks_of, all_marks, attr_marks, attrs_marks, attr_names, by_name, placed, place_before, opening_marks}
-use Rattle.xs_pair.specs.Weights.{item_weight, mark_weight, marks_weight, weight}
+use Rattle.xs_pair.specs.declared.mark.Mark.TheVariants.{AttributeEnd, Closing, Value, Content as ContentMark}
+use Rattle.xs_pair.specs.Marks.{marks_of, all_marks, attr_marks, attrs_marks, placed, place_before, opening_marks}
+use Rattle.xs_pair.specs.Weights.{item_weight, marks_weight, weight}
 use Rattle.xs_pair.proofs.Marks.{marks_plain, marks_element}
-use Rattle.xs_pair.proofs.Light.{items_weight, attr_weight, attrs_weight, content_weight, units_weight, sheet_light}
+use Rattle.xs_pair.proofs.Light.{items_weight, attrs_weight, content_weight, units_weight, sheet_light}
 
 pub weight-append : (xs ys : List Mark) → marks_weight (xs ++ ys) ≡ marks_weight xs + marks_weight ys
 weight-append [] ys = omega arith

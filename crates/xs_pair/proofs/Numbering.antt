@@ -1,21 +1,17 @@
 -- Numbers of names, of terminals, nonterminals and slots.
-use Rattle.std.proofs.Common.{◌≡◌, ◌≢◌, ◌⊎◌, ◌∙◌, ◌<◌, ◌≤◌, ◌+◌, inl, inr, ap, sym, refl, subst, ℕ, suc, zero, List, [], ◌∷◌, ◌++◌, length, map, get_or, Some, None, Bool, true, false, cond, arith, slice_get, length-append}
-use Rattle.std.specs.Prelude.{filter, bytes_eq}
-use Rattle.std.specs.List.{flat_map, list_any}
+use Rattle.std.proofs.Common.{◌≡◌, ◌⊎◌, ◌∙◌, ◌<◌, inl, inr, ap, sym, refl, subst, ℕ, suc, zero, List, [], ◌∷◌, ◌++◌, length, map, Some, None, arith, slice_get}
 use Rattle.std.specs.declared.option.Option.{Option}
 use Rattle.std.specs.Option.{option_map}
-use Rattle.std.proofs.lemmas.List.{length-map}
 use Rattle.std.proofs.lemmas.Option.{none-some, same_Some, slice_get_within, slice_get-map}
 use Rattle.xs_class.specs.Ordered.{place_of}
 use Rattle.xs_sheet.specs.declared.unit.Unit.{Unit}
 use Rattle.xs_sheet.specs.declared.unit.Unit.TheVariants as V
-use Rattle.xs_pair.specs.declared.names.Sort.{Sort}
 use Rattle.xs_pair.specs.declared.names.Sort.TheVariants as S
 use Rattle.xs_pair.specs.declared.production.Rule.{Rule}
-use Rattle.xs_pair.specs.Listing.{rule_in, rules_of}
-use Rattle.xs_pair.specs.Units.{names_of, is_of, unit_name, nons_of, terms_of, skips_of, with_name, with_names, firsts, number_of, or_zero}
-use Rattle.xs_pair.specs.Rules.{IsAmong, IsAbsent}
-use Rattle.xs_pair.proofs.Places.{found_there, first_before, stands_nowhere, among_or_absent, not_both, get_front, get_last}
+use Rattle.xs_pair.specs.Listing.{rules_of}
+use Rattle.xs_pair.specs.Units.{names_of, nons_of, terms_of, skips_of, with_name, with_names, firsts, number_of, or_zero}
+use Rattle.xs_pair.specs.Rules.{IsAmong}
+use Rattle.xs_pair.proofs.Places.{found_there, first_before, get_front, get_last}
 
 -- the number of a name that is there
 pub number_is : (ns : List (List ℕ)) (name : List ℕ) (k : ℕ) → place_of ns name ≡ Some k → number_of ns name ≡ k

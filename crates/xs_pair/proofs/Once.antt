@@ -1,13 +1,11 @@
 -- Slots that stand exactly once on either side.
-use Rattle.std.proofs.Common.{◌≡◌, ◌≢◌, ◌⊎◌, ◌∙◌, ◌<◌, ◌≤◌, ◌+◌, inl, inr, ap, sym, refl, subst, ℕ, suc, zero, List, [], ◌∷◌, ◌++◌, length, map, get_or, Some, None, arith, slice_get}
-use Rattle.std.specs.declared.option.Option.{Option}
-use Rattle.std.specs.Option.{option_map}
+use Rattle.std.proofs.Common.{◌≡◌, ◌⊎◌, ◌∙◌, ◌<◌, ◌≤◌, inl, inr, ap, sym, ℕ, suc, zero, List, [], ◌∷◌, map, Some, arith, slice_get}
 use Rattle.std.proofs.lemmas.Bool.{cases_lt}
-use Rattle.std.proofs.lemmas.Option.{none-some, same_Some, slice_get_within, slice_get-map}
+use Rattle.std.proofs.lemmas.Option.{none-some, same_Some}
 use Rattle.xs_class.specs.Ordered.{place_of}
 use Rattle.xs_pair.specs.Directories.{IsDistinct}
-use Rattle.xs_pair.specs.Rules.{IsAbsent, IsAmong, IsOnce, IsNotOnce, HasRepeat, HasTwoNames}
-use Rattle.xs_pair.proofs.Places.{found_there, first_before, stands_nowhere, among_or_absent, not_both, get_at}
+use Rattle.xs_pair.specs.Rules.{IsAbsent, IsAmong, IsOnce, IsNotOnce, HasRepeat}
+use Rattle.xs_pair.proofs.Places.{found_there, first_before, stands_nowhere, among_or_absent}
 
 -- in a list where each name stands at one place only, none stands twice
 pub distinct_no_repeat : (ns : List (List ℕ)) → IsDistinct ns → HasRepeat ns → ⊥

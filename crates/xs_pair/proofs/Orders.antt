@@ -1,5 +1,5 @@
 -- The order of the rules, and what is known of the rules before one.
-use Rattle.std.proofs.Common.{◌≡◌, ◌⊎◌, ◌∙◌, ◌<◌, ◌≤◌, ◌+◌, inl, inr, ap, sym, refl, subst, ℕ, suc, zero, List, Some, None, arith, slice_get}
+use Rattle.std.proofs.Common.{◌≡◌, ◌⊎◌, ◌∙◌, ◌<◌, ◌≤◌, ◌+◌, inl, inr, ap, sym, refl, subst, ℕ, Some, None, arith}
 use Rattle.std.specs.Prelude.{◌==◌, if◌then◌else◌}
 use Rattle.std.specs.Prelude.{IfOk, Ok, Err}
 use Rattle.std.specs.declared.option.Option.{Option}
@@ -10,9 +10,8 @@ use Rattle.xs_sheet.specs.declared.sheet.Sheet.{Sheet}
 use Rattle.xs_pair.specs.declared.ill.IllRule.{IllRule}
 use Rattle.xs_pair.specs.declared.ill.IllRule.TheVariants.{Twice, Undefined, NoStart, NameOnce, Kind, AttrTwice, RootShape, EmptyClass, NotChar, Normal, Unproductive, Loop}
 use Rattle.xs_pair.specs.declared.outline.Outline.{Outline}
-use Rattle.xs_pair.specs.declared.production.Rule.{Rule}
 use Rattle.xs_pair.specs.Listing.{rules_of}
-use Rattle.xs_pair.specs.Verdict.{order, NoneBefore, NoneFails, IsLeast, IsFirstLine, FailsAt, FailsAmong, Tables, tables_of, tables_in, IsOutlineOf}
+use Rattle.xs_pair.specs.Verdict.{order, NoneBefore, NoneFails, IsFirstLine, FailsAt, FailsAmong, tables_of, tables_in, IsOutlineOf}
 
 rule_at : ℕ → IllRule
 rule_at n = if n == 0 then Twice else (if n == 1 then Undefined else (if n == 2 then NoStart else (if n == 3 then NameOnce else (if n == 4 then Kind else (if n == 5 then AttrTwice else (if n == 6 then RootShape else (if n == 7 then EmptyClass else (if n == 8 then NotChar else (if n == 9 then Normal else (if n == 10 then Unproductive else Loop))))))))))

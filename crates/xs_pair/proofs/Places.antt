@@ -1,5 +1,5 @@
 -- First places of names in lists.
-use Rattle.std.proofs.Common.{◌≡◌, ◌⊎◌, ◌∙◌, ◌<◌, ◌≤◌, ◌+◌, ◌-◌, inl, inr, ap, sym, refl, subst, ℕ, suc, zero, List, [], ◌∷◌, ◌++◌, length, take, drop, get_or, Some, None, Bool, true, false, cond, arith, add-one, drop-cons, slice_get}
+use Rattle.std.proofs.Common.{◌≡◌, ◌⊎◌, ◌∙◌, ◌<◌, ◌≤◌, ◌+◌, inl, inr, ap, sym, refl, subst, ℕ, suc, zero, List, [], ◌∷◌, ◌++◌, length, take, drop, get_or, Some, None, Bool, true, false, cond, arith, slice_get}
 use Rattle.std.specs.Prelude.{bytes_eq, IsTrue, ◌↔◌}
 use Rattle.std.specs.Option.{option_map}
 use Rattle.std.specs.declared.option.Option.{Option}
@@ -8,11 +8,11 @@ use Rattle.std.specs.Str.{chars}
 use Rattle.std.proofs.lemmas.Bool.{cases_lt}
 use Rattle.std.proofs.lemmas.List.{take_more}
 use Rattle.std.proofs.lemmas.Option.{none-some, same_Some, slice_get_within, slice_get_read}
-use Rattle.xs_class.specs.Ordered.{place_of, IsOrdered}
-use Rattle.xs_class.proofs.Places.{first_is_found, nowhere_is_none, ordered_is_found}
+use Rattle.xs_class.specs.Ordered.{place_of}
+use Rattle.xs_class.proofs.Places.{nowhere_is_none}
 use Rattle.xs_gram.proofs.Building.{drop_next}
 use Rattle.xs_pair.specs.Units.{with_name, with_names}
-use Rattle.xs_pair.specs.Directories.{IsDistinct, AreFirstPlaces}
+use Rattle.xs_pair.specs.Directories.{IsDistinct}
 use Rattle.xs_pair.specs.Rules.{IsAbsent, IsAmong, HasRepeat}
 
 -- a name that is found stands there

@@ -1,7 +1,5 @@
 -- The parts of either side are fit to build a grammar of, and what a sheet's weight bounds.
-use Rattle.std.proofs.Common.{◌≡◌, ◌⊎◌, ◌∙◌, ◌<◌, ◌≤◌, ◌+◌, inl, inr, ap, sym, refl, subst, ℕ, suc, zero, List, [], ◌∷◌, ◌++◌, length, map, Some, None, arith, slice_get, length-append}
-use Rattle.std.specs.List.{flat_map}
-use Rattle.std.specs.declared.option.Option.{Option}
+use Rattle.std.proofs.Common.{◌≡◌, ◌⊎◌, ◌∙◌, ◌<◌, ◌≤◌, inl, inr, ap, sym, refl, subst, ℕ, suc, zero, List, [], ◌∷◌, length, map, Some, arith, slice_get, length-append}
 use Rattle.std.proofs.lemmas.List.{length-map}
 use Rattle.std.proofs.lemmas.Option.{none-some, same_Some}
 use Rattle.xs_class.specs.declared.side.Side.{Side}
@@ -10,16 +8,12 @@ use Rattle.xs_regex.specs.declared.regex.Regex.{Regex}
 use Rattle.xs_sheet.specs.declared.sheet.Sheet.{Sheet}
 use Rattle.xs_sheet.specs.declared.unit.Unit.{Unit}
 use Rattle.xs_sheet.specs.declared.unit.Unit.TheVariants as V
-use Rattle.xs_gram.specs.declared.parts.GItem.{GItem}
-use Rattle.xs_gram.specs.declared.parts.RulePart.{RulePart}
 use Rattle.xs_gram.specs.declared.parts.SkipPart.{SkipPart}
 use Rattle.xs_gram.specs.declared.parts.GramParts.{GramParts}
 use Rattle.xs_gram.specs.Grammar.{slots}
 use Rattle.xs_gram.specs.Laws.{IsNumbered}
-use Rattle.xs_gram.specs.declared.parts.Terminal.{Terminal}
 use Rattle.xs_gram.specs.Grammar.{Grammar}
 use Rattle.xs_gram.specs.Building.{EachOf, NamesThere, IsRuleAmong, IsFit, IsOf, CanBuild, items_count, symbols_count}
-use Rattle.xs_pair.specs.declared.ill.IllRule.{IllRule}
 use Rattle.xs_pair.specs.declared.ill.IllRule.TheVariants.{Undefined, NoStart, NameOnce, Kind}
 use Rattle.xs_pair.specs.declared.mark.Mark.{Mark}
 use Rattle.xs_pair.specs.declared.mark.Mark.TheVariants.{Opening, Attribute, AttributeEnd, Closing, Value, Content}
@@ -27,11 +21,11 @@ use Rattle.xs_pair.specs.declared.names.Sort.TheVariants as S
 use Rattle.xs_pair.specs.declared.production.Rule.{Rule}
 use Rattle.xs_pair.specs.Grammars.{numbering, rule_part, rule_parts, flat_marks, side_of, AreTermsOf, AreSkipsOf, ArePartsOf, IsGramOf}
 use Rattle.xs_pair.specs.Listing.{rule_of, rules_of, names_in}
-use Rattle.xs_pair.specs.Marks.{mark_name, mark_names, slot_names}
+use Rattle.xs_pair.specs.Marks.{mark_names, slot_names}
 use Rattle.xs_pair.specs.Rules.{IsAmong, IsAbsent}
-use Rattle.xs_pair.specs.Units.{names_of, nons_of, terms_of, skips_of, number_of}
+use Rattle.xs_pair.specs.Units.{names_of, nons_of, terms_of, skips_of}
 use Rattle.xs_pair.specs.Verdict.{FailsAt, FailsIn, NoneFails, tables_of}
-use Rattle.xs_pair.specs.Weights.{mark_weight, marks_weight, rule_weight, weight, AreLight}
+use Rattle.xs_pair.specs.Weights.{marks_weight, rule_weight, weight, AreLight}
 use Rattle.xs_pair.proofs.Places.{among_or_absent}
 use Rattle.xs_pair.proofs.Numbering.{number_bound, among_at, firsts_have, rule_is_named}
 use Rattle.xs_pair.proofs.Once.{once_left, once_right, once_back, once_forth}

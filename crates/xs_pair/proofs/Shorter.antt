@@ -1,7 +1,6 @@
 -- How long lists of names and of slots are.
-use Rattle.std.proofs.Common.{◌≡◌, ◌∙◌, ◌≤◌, ◌+◌, ◌<◌, ap, sym, refl, subst, ℕ, suc, List, [], ◌∷◌, ◌++◌, length, map, Some, None, Bool, true, false, cond, arith, length-append}
+use Rattle.std.proofs.Common.{◌≡◌, ◌≤◌, ◌+◌, refl, ℕ, suc, List, [], ◌∷◌, ◌++◌, length, map, Some, None, Bool, true, false, cond, arith, length-append}
 use Rattle.std.specs.Prelude.{filter}
-use Rattle.std.specs.List.{flat_map}
 use Rattle.std.specs.declared.option.Option.{Option}
 use Rattle.xs_class.specs.Ordered.{place_of}
 use Rattle.xs_sheet.specs.declared.unit.Unit.{Unit}
@@ -11,7 +10,7 @@ use Rattle.xs_pair.specs.declared.mark.Mark.{Mark}
 use Rattle.xs_pair.specs.declared.mark.Mark.TheVariants.{Opening, Attribute, AttributeEnd, Closing, Value, Content}
 use Rattle.xs_pair.specs.declared.names.Sort.{Sort}
 use Rattle.xs_pair.specs.Units.{names_of, is_of, unit_name, with_name, with_names, firsts}
-use Rattle.xs_pair.specs.Marks.{item_slots, mark_slots, slots_of, slot_names}
+use Rattle.xs_pair.specs.Marks.{item_slots, mark_slots, slots_of}
 use Rattle.xs_pair.specs.Weights.{item_weight, mark_weight, marks_weight}
 
 pub names_short : (sort : Sort) (us : List Unit) → length (names_of sort us) ≤ length us

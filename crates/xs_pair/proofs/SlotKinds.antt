@@ -1,13 +1,12 @@
 -- The kinds of slots on both sides.
-use Rattle.std.proofs.Common.{◌≡◌, ◌≢◌, ◌⊎◌, ◌∙◌, ◌<◌, ◌≤◌, ◌+◌, inl, inr, ap, sym, refl, subst, ℕ, suc, zero, List, [], ◌∷◌, ◌++◌, length, map, get_or, Some, None, Bool, true, false, cond, arith, slice_get}
+use Rattle.std.proofs.Common.{◌≡◌, ◌⊎◌, ◌∙◌, ◌<◌, ◌≤◌, inl, inr, ap, sym, refl, subst, ℕ, suc, zero, List, [], ◌∷◌, ◌++◌, length, map, get_or, Some, None, Bool, true, false, arith, slice_get}
 use Rattle.std.specs.Prelude.{◌==◌, bytes_eq, if◌then◌else◌}
 use Rattle.std.specs.Cmp.Lexicographic.{bytes_decides}
-use Rattle.std.specs.List.{flat_map}
 use Rattle.std.specs.declared.option.Option.{Option}
-use Rattle.std.proofs.lemmas.Bool.{cases_lt, cases_eq}
+use Rattle.std.proofs.lemmas.Bool.{cases_lt}
 use Rattle.std.proofs.lemmas.Bool.Decides.{nat_tests}
 use Rattle.std.proofs.lemmas.List.{length-map, map-append}
-use Rattle.std.proofs.lemmas.Option.{none-some, same_Some, slice_get_within, slice_get-get_or}
+use Rattle.std.proofs.lemmas.Option.{none-some, same_Some, slice_get-get_or}
 use Rattle.xs_class.specs.Ordered.{place_of}
 use Rattle.xs_sheet.specs.declared.item.Item.{Item}
 use Rattle.xs_sheet.specs.declared.item.Item.TheVariants as I
@@ -19,7 +18,7 @@ use Rattle.xs_pair.specs.declared.mark.Mark.TheVariants.{Opening, Attribute, Att
 use Rattle.xs_pair.specs.Directories.{IsDistinct}
 use Rattle.xs_pair.specs.Grammars.{Numbering, flat_item, flat_mark, flat_marks, named_item}
 use Rattle.xs_pair.specs.Marks.{item_slots, mark_slots, slots_of}
-use Rattle.xs_pair.specs.Rules.{IsAmong, HasTwoNames, HasRepeat}
+use Rattle.xs_pair.specs.Rules.{HasTwoNames, HasRepeat}
 use Rattle.xs_pair.specs.Units.{number_of}
 use Rattle.xs_pair.proofs.Places.{found_there}
 use Rattle.xs_pair.proofs.Numbering.{number_is, number_bound, among_at}

@@ -1,8 +1,8 @@
 -- Slots that have the same name of a unit on both sides.
-use Rattle.std.proofs.Common.{◌≡◌, ◌≢◌, ◌⊎◌, ◌∙◌, ◌<◌, ◌≤◌, ◌+◌, inl, inr, ap, sym, refl, subst, ℕ, suc, List, [], ◌∷◌, length, map, get_or, Some, None, arith, slice_get}
+use Rattle.std.proofs.Common.{◌≡◌, ◌⊎◌, ◌∙◌, ◌<◌, ◌≤◌, ◌+◌, inl, inr, ap, sym, subst, ℕ, List, length, map, Some, None, arith, slice_get}
 use Rattle.std.proofs.lemmas.Bool.{cases_lt}
 use Rattle.std.proofs.lemmas.List.{length-map}
-use Rattle.std.proofs.lemmas.Option.{none-some, same_Some, slice_get_within}
+use Rattle.std.proofs.lemmas.Option.{same_Some, slice_get_within}
 use Rattle.xs_class.specs.Ordered.{place_of}
 use Rattle.xs_pair.specs.Directories.{IsDistinct}
 use Rattle.xs_pair.specs.Rules.{HasTwoNames}

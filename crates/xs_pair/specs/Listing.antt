@@ -5,7 +5,6 @@ use Rattle.xs_sheet.specs.declared.item.Item.{Item}
 use Rattle.xs_sheet.specs.declared.x_item.XItem.{XItem}
 use Rattle.xs_sheet.specs.declared.unit.Unit.{Unit}
 use Rattle.xs_sheet.specs.declared.unit.Unit.TheVariants.{Terminal, Ignorable, Production}
-use Rattle.xs_pair.specs.declared.mark.Mark.{Mark}
 use Rattle.xs_pair.specs.declared.mark.Mark.TheVariants.{Content}
 use Rattle.xs_pair.specs.declared.production.Rule.{Rule}
 use Rattle.xs_pair.specs.Marks.{all_marks, is_element, mark_names}

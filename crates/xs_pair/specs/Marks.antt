@@ -1,5 +1,5 @@
 -- An XML side as a list of marks and items, its elements laid out flat.
-use Rattle.std.specs.Prelude.{ℕ, ◌+◌, Bool, true, false, List, [], ◌∷◌, ◌++◌, map, suc, if◌then◌else◌, insert, encode_utf8_all}
+use Rattle.std.specs.Prelude.{ℕ, Bool, true, false, List, [], ◌∷◌, ◌++◌, map, suc, if◌then◌else◌, insert, encode_utf8_all}
 use Rattle.std.specs.List.{flat_map}
 use Rattle.std.specs.Ordering.{nat_cmp, is_lt}
 use Rattle.std.specs.Cmp.Lexicographic.{slice_cmp}

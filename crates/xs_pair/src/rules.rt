@@ -1,38 +1,18 @@
-ghost use Rattle.std.specs.Prelude.{◌≡◌, ◌<◌, ◌↔◌, ◌+◌, ◌^◌, ◌≤◌, ◌∷◌, [], ℕ, length, IfOk, OnOk, IfErr, IsTrue, if◌then◌else◌};
+ghost use Rattle.std.specs.Prelude.{◌≡◌, ◌<◌, ◌↔◌, ◌+◌, ◌^◌, ◌≤◌, ◌∷◌, [], ℕ, length, IfOk, OnOk, IfErr, IsTrue};
 ghost use Rattle.xs_pair.specs.declared.ill.IllRule.TheVariants as R;
 ghost use Rattle.xs_pair.specs.declared.names.Sort.TheVariants as S;
 ghost use Rattle.xs_pair.specs.Units as U;
 ghost use Rattle.xs_pair.specs.Weights.{mark_weight, marks_weight, rule_weight, AreLight};
 ghost use Rattle.xs_pair.specs.Rules.{SomeOf, IsNameless, IsUndefined, IsMisnamed, IsNoTerminal, IsMiskinded, RepeatsAttribute, IsTwice, IsAbsent};
-ghost use Rattle.xs_pair.specs.Verdict.{IsIllMark, FailsIn, FailsAmong, FailsAt, IsFirstLine, IsLineWhere, NoneBefore, NoneFails, IsRefusal, IsOutlineOf, IsTaken, order, tables_in, earlier as earlier_of};
+ghost use Rattle.xs_pair.specs.Verdict.{IsIllMark, FailsIn, FailsAmong, FailsAt, IsFirstLine, IsLineWhere, NoneBefore, NoneFails, IsRefusal, IsOutlineOf, IsTaken, order, tables_in};
 
+use crate::least::with_line;
 use crate::outline::Outline;
 use crate::slots::{has_two_names, is_not_once, slot_directory, slots_of};
 use crate::{Directory, Ill, IllRule, Mark, PairFault, Rule, Sort, is_of, unit_line};
 use std::alloc::Global;
 use xs_class::{Memory, Text};
 use xs_sheet::{Item, Sheet, Unit};
-
-// The lesser of two lines.
-fn earlier(least: Option<u32>, line: u32) -> u32
-    ensures { result ≡ earlier_of least line }
-{
-    match least {
-        None => line,
-        Some(other) => other.min(line),
-    }
-}
-
-// The least line, with one more where the rule fails there.
-fn with_line(least: Option<u32>, line: u32, fails: bool) -> Option<u32>
-    ensures { result ≡ (if fails then Some (earlier_of least line) else least) }
-{
-    if fails {
-        Some(earlier(least, line))
-    } else {
-        least
-    }
-}
 
 // The number of terminals and ignorables, with one more unit.
 fn with_unit(lexical: usize, unit: &Unit) -> usize

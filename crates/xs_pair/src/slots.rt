@@ -1,4 +1,4 @@
-ghost use Rattle.std.specs.Prelude.{◌≡◌, ◌++◌, ◌<◌, ◌↔◌, List, ℕ, map, length, IfOk, IsTrue};
+ghost use Rattle.std.specs.Prelude.{◌≡◌, ◌<◌, ◌↔◌, List, ℕ, map, IfOk, IsTrue};
 ghost use Rattle.xs_pair.specs.Directories.{IsDistinct};
 ghost use Rattle.xs_pair.specs.Marks as M;
 ghost use Rattle.xs_pair.specs.Rules.{IsNotOnce, HasTwoNames};

@@ -1,21 +1,20 @@
 -- The automata of the forms of a regular expression.
-use Rattle.std.proofs.Common.{◌≡◌, ◌⊎◌, ◌∙◌, ℕ, zero, suc, ◌+◌, ◌-◌, ◌*◌, ◌<◌, ◌≤◌, Bool, true, false, List, [], ◌∷◌, ◌++◌, length, slice_get, refl, sym, ap, subst, inl, inr, arith, None, Some, max, if◌then◌else◌}
-use Rattle.std.proofs.lemmas.List.{append-nil}
+use Rattle.std.proofs.Common.{◌≡◌, ◌⊎◌, ◌∙◌, ℕ, zero, suc, ◌+◌, Bool, true, false, List, [], ◌∷◌, ◌++◌, refl, sym, subst, inl, inr, arith, None}
 use Rattle.std.specs.List.{Contains}
 use Rattle.std.specs.Bool.{IsTrue}
 use Rattle.std.specs.declared.option.Option.{Option}
 use Rattle.xs_class.specs.Classes.{Has}
 use Rattle.xs_regex.specs.declared.position.Position.{Position}
-use Rattle.xs_regex.specs.Automaton.{HasAt, Leads, Runs, begins, goes, Accepts, GoesOn, stays, IsWellFormed, EachEnds, ClassesHaveMembers}
+use Rattle.xs_regex.specs.Automaton.{HasAt, Leads, Runs, begins, goes, Accepts, stays, IsWellFormed, ClassesHaveMembers}
 use Rattle.xs_regex.specs.Matches.{joined, Each, AtMost, Repeats}
-use Rattle.xs_regex.specs.Parts.{bare, of_class, optional, IsThen, IsEither, IsRound, IsTrim, IsAutomaton, IsSure}
-use Rattle.xs_regex.specs.Size.{times, copies, IsInOrder}
-use Rattle.xs_regex.proofs.Rows.{contains_nil, contains_one, one_contains, at_within}
+use Rattle.xs_regex.specs.Parts.{bare, of_class, optional, IsThen, IsEither, IsRound, IsTrim, IsAutomaton}
+use Rattle.xs_regex.specs.Size.{times}
+use Rattle.xs_regex.proofs.Rows.{contains_nil, contains_one, one_contains}
 use Rattle.xs_regex.proofs.Runs.{run_within, members_left, members_right}
 use Rattle.xs_regex.proofs.Sequence.{then_sound, then_complete, then_formed, then_trim}
 use Rattle.xs_regex.proofs.Choice.{either_sound, either_complete, either_formed, either_trim}
 use Rattle.xs_regex.proofs.Repetition.{round_sound, round_complete, round_formed, round_trim, optional_sound, optional_complete, optional_formed, optional_trim, each_weaker}
-use Rattle.xs_regex.proofs.Words.{one_more, fewer, first_word, none_or_first, all_empty, empty_words, length-times, times-nil}
+use Rattle.xs_regex.proofs.Words.{one_more, fewer, first_word, none_or_first}
 
 -- the same words, classes and condition, told otherwise
 pub told : {V W : List ℕ → Type 0} {c d : List (List (ℕ × ℕ))} {S T : Type 0} {p : Position} → ((w : List ℕ) → V w → W w) → ((w : List ℕ) → W w → V w) → c ≡ d → (T → S) → IsAutomaton V c S p → IsAutomaton W d T p

@@ -1,12 +1,12 @@
 -- One automaton or another: the words are those of either.
-use Rattle.std.proofs.Common.{◌≡◌, ◌⊎◌, ◌∙◌, ℕ, ◌+◌, ◌<◌, ◌||◌, Bool, true, false, List, [], ◌∷◌, ◌++◌, length, map, slice_get, refl, sym, ap, subst, inl, inr, arith, length-append}
+use Rattle.std.proofs.Common.{◌≡◌, ◌⊎◌, ◌∙◌, ℕ, ◌+◌, ◌||◌, Bool, true, false, List, ◌++◌, length, refl, sym, ap, subst, inl, inr, arith, length-append}
 use Rattle.std.proofs.lemmas.List.{length-map}
 use Rattle.std.proofs.lemmas.List.Elements.{Contains-append_left, Contains-append_right, Contains-append_cases}
 use Rattle.std.specs.List.{Contains}
 use Rattle.std.specs.Bool.{IsTrue}
 use Rattle.xs_class.specs.Classes.{Has}
 use Rattle.xs_regex.specs.declared.position.Position.{Position}
-use Rattle.xs_regex.specs.Automaton.{HasAt, Leads, Runs, begins, goes, Accepts, GoesOn, IsWellFormed, EachEnds, ClassesHaveMembers}
+use Rattle.xs_regex.specs.Automaton.{Leads, Runs, begins, goes, Accepts, GoesOn, IsWellFormed}
 use Rattle.xs_regex.specs.Parts.{shift, IsEither, IsTrim}
 use Rattle.xs_regex.proofs.Rows.{at_left, at_right, at_split, at_within, shift_contains, contains_shift, shift_row, row_shift, split_below}
 use Rattle.xs_regex.proofs.Runs.{Embeds, run_moved, on_moved, run_within, has_left, has_right}

@@ -1,5 +1,5 @@
 -- The copies of a repetition, added from the last to the first.
-use Rattle.std.proofs.Common.{◌≡◌, ◌≢◌, ◌⊎◌, ◌∙◌, ◌↔◌, ℕ, zero, suc, ◌+◌, ◌-◌, ◌*◌, ◌<◌, ◌≤◌, Bool, true, false, List, [], ◌∷◌, ◌++◌, length, refl, sym, ap, subst, inl, inr, arith, None, Some, min, max, nat_eq, nat_lt, nat_le, if◌then◌else◌}
+use Rattle.std.proofs.Common.{◌≡◌, ◌⊎◌, ◌∙◌, ◌↔◌, ℕ, suc, ◌+◌, ◌-◌, ◌*◌, ◌<◌, ◌≤◌, Bool, true, false, List, [], ◌∷◌, ◌++◌, length, refl, sym, ap, subst, inl, inr, arith, None, Some, min, max, nat_eq, nat_lt, nat_le, if◌then◌else◌}
 use Rattle.std.proofs.lemmas.List.{append-nil}
 use Rattle.std.proofs.lemmas.Bool.{ltb-true, ltb-false, leb-true, le-leb}
 use Rattle.std.proofs.lemmas.Bool.Decides.{eqb_tells}
@@ -7,11 +7,10 @@ use Rattle.std.proofs.Math.Nat.{mul-le-mul_left}
 use Rattle.std.specs.Bool.{IsTrue}
 use Rattle.std.specs.declared.option.Option.{Option}
 use Rattle.xs_regex.specs.declared.position.Position.{Position}
-use Rattle.xs_regex.specs.Automaton.{Accepts, IsWellFormed, ClassesHaveMembers}
+use Rattle.xs_regex.specs.Automaton.{Accepts, IsWellFormed}
 use Rattle.xs_regex.specs.Matches.{joined, Each, AtMost, Repeats}
-use Rattle.xs_regex.specs.Parts.{bare, optional, IsThen, IsRound, IsTrim, IsAutomaton, IsSure}
+use Rattle.xs_regex.specs.Parts.{bare, optional, IsThen, IsRound, IsAutomaton, IsSure}
 use Rattle.xs_regex.specs.Size.{times, copies, IsInOrder}
-use Rattle.xs_regex.proofs.Runs.{run_within}
 use Rattle.xs_regex.proofs.Repetition.{each_weaker}
 use Rattle.xs_regex.proofs.Words.{all_empty, empty_words, length-times, times-nil}
 use Rattle.xs_regex.proofs.Built.{told, itself, of_bare, round_is, optional_is, any_number, number_any, copy_is, free_copy_is, no_run}

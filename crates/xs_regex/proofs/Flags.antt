@@ -1,12 +1,12 @@
 -- Flags of positions, and the word that leads to them.
-use Rattle.std.proofs.Common.{◌≡◌, ◌≢◌, ◌⊎◌, ◌↔◌, ◌∙◌, ℕ, ◌+◌, ◌<◌, Bool, true, false, List, [], ◌∷◌, ◌++◌, length, take, set, get_or, refl, sym, ap, subst, inl, inr, arith, get_or-set_same, get_or-set_other, nat_eq}
+use Rattle.std.proofs.Common.{◌≡◌, ◌⊎◌, ◌↔◌, ◌∙◌, ℕ, ◌+◌, ◌<◌, Bool, true, false, List, [], ◌∷◌, ◌++◌, length, take, set, get_or, refl, sym, ap, subst, inl, inr, get_or-set_same, get_or-set_other, nat_eq}
 use Rattle.std.proofs.lemmas.Bool.{cases_eq, eqb-true, eq-eqb}
 use Rattle.std.proofs.lemmas.List.{take_more, same_from_push, nil_from_length}
-use Rattle.std.proofs.lemmas.List.Elements.{Contains-get_or, Contains-append_left, Contains-append_right, Contains-append_cases}
+use Rattle.std.proofs.lemmas.List.Elements.{Contains-append_left, Contains-append_right, Contains-append_cases}
 use Rattle.std.specs.List.{Contains}
 use Rattle.std.specs.Bool.{IsTrue}
 use Rattle.xs_regex.specs.declared.position.Position.{Position}
-use Rattle.xs_regex.specs.Automaton.{HasAt, Leads, Runs, begins, goes, Accepts}
+use Rattle.xs_regex.specs.Automaton.{HasAt, Runs, begins, goes, Accepts}
 use Rattle.xs_regex.specs.Marked.{Marked, MayCome, AreEntered, AreNext, IsReached}
 use Rattle.xs_regex.proofs.Rows.{contains_one, one_contains}
 use Rattle.xs_regex.proofs.Runs.{run_not_empty}

@@ -1,13 +1,12 @@
 -- What the regexes of a tree have in common.
-use Rattle.std.proofs.Common.{◌≡◌, ◌⊎◌, ◌∙◌, ◌↔◌, ℕ, zero, suc, ◌+◌, ◌-◌, ◌*◌, ◌<◌, ◌≤◌, Bool, true, false, ◌&&◌, ◌==◌, nat_lt, nat_le, List, [], ◌∷◌, ◌++◌, length, refl, sym, ap, subst, inl, inr, arith, None, Some, min, if◌then◌else◌}
+use Rattle.std.proofs.Common.{◌≡◌, ◌⊎◌, ◌∙◌, ℕ, zero, suc, ◌+◌, ◌*◌, ◌<◌, ◌≤◌, Bool, true, false, ◌&&◌, ◌==◌, nat_le, List, [], ◌∷◌, length, refl, sym, ap, subst, inl, inr, arith, None, Some, min, if◌then◌else◌}
 use Rattle.std.proofs.Common.{leb-true}
 use Rattle.std.proofs.Math.Nat.{mul-le-mul_left}
 use Rattle.std.specs.declared.option.Option.{Option}
-use Rattle.xs_class.specs.Classes.{Has}
 use Rattle.xs_regex.specs.declared.regex.Regex.{Regex}
 use Rattle.xs_regex.specs.declared.regex.Regex.TheVariants.{Empty, Set, Then', Or', Star', Times'}
-use Rattle.xs_regex.specs.Characters.{Sort, is_digit, second_digit, count_at, most_end, most_at, least_end, counts_at}
-use Rattle.xs_regex.specs.Matches.{joined, Each, AtMost, Repeats, Matches}
+use Rattle.xs_regex.specs.Characters.{count_at, most_end, most_at, least_end, counts_at}
+use Rattle.xs_regex.specs.Matches.{AtMost, Matches}
 use Rattle.xs_regex.specs.Meaning.{Means, IsPatternOf}
 use Rattle.xs_regex.specs.Pattern.{Tree, nothing, class, both, either, any, times, IsCounted, once, star, plus, question, braces, IsRegex, one_sequence, bar, IsSequence, no_piece, pieces, ArePieces, last_piece, next_piece, IsPiece, piece, IsAtom, set, group, IsReading, tree_size}
 use Rattle.xs_regex.specs.Scan.{regex_at}

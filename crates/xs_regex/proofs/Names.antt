@@ -1,8 +1,7 @@
 -- A name up to its closing brace, and the room for hexadecimal digits.
-use Rattle.std.proofs.Common.{◌≡◌, ◌∙◌, ℕ, zero, suc, ◌+◌, ◌-◌, ◌*◌, ◌<◌, ◌≤◌, Bool, true, false, ◌==◌, List, [], ◌∷◌, length, take, drop, get_or, refl, sym, ap, subst, inl, inr, arith, None, Some, if◌then◌else◌}
+use Rattle.std.proofs.Common.{◌≡◌, ℕ, zero, suc, ◌+◌, ◌*◌, ◌<◌, ◌≤◌, false, ◌==◌, List, [], ◌∷◌, length, take, drop, get_or, refl, inl, inr, arith, None, Some}
 use Rattle.std.proofs.lemmas.Bool.Decides.{eqb_tells}
-use Rattle.std.specs.declared.option.Option.{Option}
-use Rattle.xs_regex.specs.Characters.{hex_room, hex_value, is_hex, name_more, name_at}
+use Rattle.xs_regex.specs.Characters.{hex_room, name_at}
 
 not_brace : (c : ℕ) → (c ≡ 125 → ⊥) → (c == 125) ≡ false
 not_brace c n = elim (eqb_tells c 125) [ inl h ↦ absurd (n h.1) | inr h ↦ h.0 ]

@@ -1,14 +1,13 @@
 -- The classes of a regular expression, from left to right.
-use Rattle.std.proofs.Common.{◌≡◌, ◌∙◌, ℕ, zero, suc, ◌+◌, ◌*◌, ◌<◌, ◌≤◌, List, [], ◌∷◌, ◌++◌, length, slice_get, refl, sym, ap, subst, inl, inr, arith, length-append, None, Some, Ok, Err, max}
+use Rattle.std.proofs.Common.{◌≡◌, ◌∙◌, ℕ, zero, suc, ◌+◌, ◌*◌, ◌<◌, ◌≤◌, List, ◌++◌, length, slice_get, refl, sym, ap, subst, inl, inr, arith, length-append, Ok, Err}
 use Rattle.std.specs.Option.{IsSomeAnd}
 use Rattle.std.specs.Result.{IfOk}
-use Rattle.std.specs.declared.option.Option.{Option}
 use Rattle.std.specs.declared.result.Result.{Result}
 use Rattle.xs_class.specs.Classes.{Has}
 use Rattle.xs_regex.specs.declared.position.Position.{Position}
 use Rattle.xs_regex.specs.declared.regex.Regex.{Regex}
 use Rattle.xs_regex.specs.declared.regex.Regex.TheVariants.{Empty, Set, Then', Or', Star', Times'}
-use Rattle.xs_regex.specs.Automaton.{HasAt, ClassesHaveMembers}
+use Rattle.xs_regex.specs.Automaton.{ClassesHaveMembers}
 use Rattle.xs_regex.specs.Parts.{IsAutomaton}
 use Rattle.xs_regex.specs.Size.{copies, times, size, sets, HasMembers}
 use Rattle.xs_regex.proofs.Rows.{at_left, at_right, split_below}

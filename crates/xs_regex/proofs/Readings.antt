@@ -1,11 +1,11 @@
 -- The reader finds what the grammar has, and nothing else: so a pattern has at most one reading.
-use Rattle.std.proofs.Common.{◌≡◌, ◌≢◌, ◌⊎◌, ◌∙◌, ℕ, zero, suc, ◌+◌, ◌-◌, ◌*◌, ◌<◌, ◌≤◌, Bool, true, false, not, ◌&&◌, ◌||◌, ◌==◌, nat_lt, nat_le, List, [], ◌∷◌, length, refl, sym, ap, subst, inl, inr, arith, None, Some, if◌then◌else◌}
+use Rattle.std.proofs.Common.{◌≡◌, ◌≢◌, ◌⊎◌, ◌∙◌, ℕ, zero, suc, ◌+◌, ◌*◌, ◌≤◌, Bool, true, false, ◌==◌, List, [], ◌∷◌, length, refl, sym, ap, subst, inl, inr, arith, None, Some, if◌then◌else◌}
 use Rattle.std.proofs.lemmas.Bool.Decides.{eqb_tells}
 use Rattle.std.specs.declared.option.Option.{Option}
 use Rattle.xs_regex.specs.Characters.{Sort, set_at, counts_at}
 use Rattle.xs_regex.specs.Pattern.{Tree, nothing, class, both, either, any, times, Stops, Ends, IsPlainNext, IsCounted, once, star, plus, question, braces, IsRegex, one_sequence, bar, IsSequence, no_piece, pieces, ArePieces, last_piece, next_piece, IsPiece, piece, IsAtom, set, group, IsReading}
 use Rattle.xs_regex.specs.Scan.{stops, braced, count_behind, counted, class_of, closed, with_tree, pieces_behind, regex_behind, regex_at, pieces_at, atom_at}
-use Rattle.xs_regex.proofs.Scanning.{regex_shorter, sequence_shorter, pieces_shorter, piece_shorter, atom_shorter}
+use Rattle.xs_regex.proofs.Scanning.{sequence_shorter, piece_shorter}
 
 stops_true : (cs : List ℕ) → Stops cs → stops cs ≡ true
 stops_true [] s = refl

@@ -1,11 +1,10 @@
 -- An automaton once or more: the words are made of its words.
-use Rattle.std.proofs.Common.{◌≡◌, ◌⊎◌, ◌∙◌, ℕ, zero, suc, ◌+◌, ◌<◌, ◌≤◌, Bool, true, false, List, [], ◌∷◌, ◌++◌, length, slice_get, refl, sym, ap, subst, inl, inr, arith, append_assoc}
+use Rattle.std.proofs.Common.{◌≡◌, ◌⊎◌, ◌∙◌, ℕ, List, [], ◌∷◌, ◌++◌, length, refl, sym, ap, inl, inr, append_assoc}
 use Rattle.std.proofs.lemmas.List.{append-nil}
 use Rattle.std.specs.List.{Contains}
 use Rattle.std.specs.Bool.{IsTrue}
-use Rattle.xs_class.specs.Classes.{Has}
 use Rattle.xs_regex.specs.declared.position.Position.{Position}
-use Rattle.xs_regex.specs.Automaton.{HasAt, Leads, Runs, begins, goes, Accepts, GoesOn, IsWellFormed, EachEnds, ClassesHaveMembers}
+use Rattle.xs_regex.specs.Automaton.{HasAt, Leads, Runs, begins, goes, Accepts, IsWellFormed}
 use Rattle.xs_regex.specs.Matches.{joined, Each}
 use Rattle.xs_regex.specs.Parts.{IsRound, optional, IsTrim}
 use Rattle.xs_regex.proofs.Runs.{Embeds, run_moved, on_moved, run_after, run_not_empty}

@@ -1,16 +1,11 @@
 -- Runs of automata that are put together.
-use Rattle.std.proofs.Common.{◌≡◌, ◌⊎◌, ◌∙◌, ℕ, zero, suc, ◌+◌, ◌<◌, ◌≤◌, ◌&&◌, ◌||◌, Bool, true, false, List, [], ◌∷◌, ◌++◌, length, map, slice_get, refl, sym, ap, subst, inl, inr, arith, append_assoc, length-append, if◌then◌else◌}
+use Rattle.std.proofs.Common.{◌≡◌, ◌∙◌, ℕ, ◌+◌, ◌<◌, List, [], ◌∷◌, ◌++◌, length, refl, sym, ap, subst, inl, inr, arith, append_assoc, length-append}
 use Rattle.std.proofs.lemmas.List.{append-nil}
-use Rattle.std.proofs.lemmas.List.Elements.{Contains-append_left, Contains-append_right, Contains-append_cases}
 use Rattle.std.specs.List.{Contains}
-use Rattle.std.specs.Option.{IsSomeAnd}
-use Rattle.std.specs.Bool.{IsTrue}
 use Rattle.xs_class.specs.Classes.{Has}
 use Rattle.xs_regex.specs.declared.position.Position.{Position}
-use Rattle.xs_regex.specs.Automaton.{HasAt, Leads, Runs, begins, goes, Accepts, GoesOn, stays, steps, IsWellFormed, EachEnds, ClassesHaveMembers}
-use Rattle.xs_regex.specs.Matches.{joined, Each}
-use Rattle.xs_regex.specs.Parts.{shift, HasRow, IsLinked, IsThen, IsEither, IsRound, optional}
-use Rattle.xs_regex.proofs.Rows.{at_left, at_right, at_split, at_within, contains_nil, shift_contains, contains_shift, shift_row, row_shift}
+use Rattle.xs_regex.specs.Automaton.{HasAt, Leads, Runs, begins, goes, GoesOn, stays, steps, ClassesHaveMembers}
+use Rattle.xs_regex.proofs.Rows.{at_split, at_within}
 
 -- the steps of one automaton are those of another, at other positions
 pub record Embeds (f : ℕ → ℕ) (p r : Position) : Type 0 where

@@ -1,16 +1,15 @@
 -- One automaton and then another: the words are those of the first followed by those of the second.
-use Rattle.std.proofs.Common.{◌≡◌, ◌⊎◌, ◌∙◌, ℕ, zero, suc, ◌+◌, ◌<◌, ◌≤◌, ◌&&◌, Bool, true, false, List, [], ◌∷◌, ◌++◌, length, map, slice_get, refl, sym, ap, subst, inl, inr, arith, append_assoc, length-append, if◌then◌else◌}
+use Rattle.std.proofs.Common.{◌≡◌, ◌⊎◌, ◌∙◌, ℕ, ◌+◌, ◌<◌, ◌&&◌, Bool, true, false, List, [], ◌∷◌, ◌++◌, length, refl, sym, ap, subst, inl, inr, arith, append_assoc, length-append, if◌then◌else◌}
 use Rattle.std.proofs.lemmas.List.{append-nil, length-map}
 use Rattle.std.proofs.lemmas.List.Elements.{Contains-append_left, Contains-append_right, Contains-append_cases}
 use Rattle.std.specs.List.{Contains}
-use Rattle.std.specs.Option.{IsSomeAnd}
 use Rattle.std.specs.Bool.{IsTrue}
 use Rattle.xs_class.specs.Classes.{Has}
 use Rattle.xs_regex.specs.declared.position.Position.{Position}
-use Rattle.xs_regex.specs.Automaton.{HasAt, Leads, Runs, begins, goes, Accepts, GoesOn, stays, steps, IsWellFormed, EachEnds, ClassesHaveMembers}
-use Rattle.xs_regex.specs.Parts.{shift, HasRow, IsLinked, IsThen, IsTrim}
+use Rattle.xs_regex.specs.Automaton.{Leads, Runs, begins, goes, Accepts, GoesOn, steps, IsWellFormed, ClassesHaveMembers}
+use Rattle.xs_regex.specs.Parts.{shift, IsThen, IsTrim}
 use Rattle.xs_regex.proofs.Rows.{at_left, at_right, at_split, at_within, contains_nil, shift_contains, contains_shift, shift_row, row_shift, split_below}
-use Rattle.xs_regex.proofs.Runs.{Embeds, run_moved, on_moved, run_after, on_after, run_within, has_left, has_right, members_left, members_right}
+use Rattle.xs_regex.proofs.Runs.{Embeds, run_moved, on_moved, run_after, on_after, run_within, has_left, has_right, members_right}
 
 -- numbers that are added where a test holds
 added_split : (b : Bool) (xs ys : List ℕ) (k : ℕ) → Contains (xs ++ (if b then ys else [])) k → Contains xs k ⊎ (IsTrue b × Contains ys k)

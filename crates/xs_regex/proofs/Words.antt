@@ -1,6 +1,5 @@
 -- The words that are made of a number of words.
-use Rattle.std.proofs.Common.{◌≡◌, ◌⊎◌, ◌∙◌, ℕ, zero, suc, ◌+◌, ◌-◌, ◌*◌, ◌<◌, ◌≤◌, List, [], ◌∷◌, ◌++◌, length, refl, sym, ap, subst, inl, inr, arith, None, Some, length-append}
-use Rattle.std.proofs.lemmas.List.{append-nil}
+use Rattle.std.proofs.Common.{◌≡◌, ◌⊎◌, ◌∙◌, ℕ, zero, suc, ◌+◌, ◌*◌, ◌≤◌, List, [], ◌∷◌, ◌++◌, length, refl, ap, inl, inr, arith, length-append}
 use Rattle.std.specs.declared.option.Option.{Option}
 use Rattle.xs_regex.specs.Matches.{joined, Each, AtMost, Repeats}
 use Rattle.xs_regex.specs.Size.{times}

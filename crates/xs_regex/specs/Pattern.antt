@@ -1,7 +1,7 @@
 -- Patterns: the grammar of regular expressions as a relation between characters and a tree.
-use Rattle.std.specs.Prelude.{◌≡◌, ◌≢◌, ◌⊎◌, ℕ, suc, ◌+◌, ◌*◌, ◌<◌, ◌≤◌, List, [], ◌∷◌, ◌++◌, length, IsTrue, IsSomeAnd, None, Some}
+use Rattle.std.specs.Prelude.{◌≡◌, ◌≢◌, ◌⊎◌, ℕ, suc, ◌+◌, ◌*◌, ◌≤◌, List, [], ◌∷◌, length, None, Some}
 use Rattle.std.specs.declared.option.Option.{Option}
-use Rattle.xs_regex.specs.Characters.{Item, set_at, counts_at, Sort}
+use Rattle.xs_regex.specs.Characters.{set_at, counts_at, Sort}
 use Rattle.xs_regex.specs.Size.{copies}
 
 -- what a pattern says

@@ -1,5 +1,4 @@
 -- What the code reads as an item of a set.
-use Rattle.std.specs.Prelude.{ℕ, List}
 use Rattle.xs_regex.specs.declared.characters.Piece.{Piece}
 use Rattle.xs_regex.specs.declared.characters.Piece.TheVariants.{Span, Named}
 use Rattle.xs_regex.specs.Characters.{Item, span, named}

@@ -1,5 +1,5 @@
-ghost use Rattle.std.specs.Prelude.{◌≡◌, ◌≤◌, ◌⊎◌, ◌↔◌, ℕ, Bool, length, IsTrue, IfOk, Contains};
-ghost use Rattle.xs_regex.specs.Automaton.{Accepts, HasAt, IsBelow, IsWellFormed};
+ghost use Rattle.std.specs.Prelude.{◌≡◌, ◌≤◌, ◌⊎◌, ◌↔◌, ℕ, length, IsTrue, IfOk, Contains};
+ghost use Rattle.xs_regex.specs.Automaton.{Accepts, IsBelow, IsWellFormed};
 ghost use Rattle.xs_regex.specs.Marked.{Marked, AreEntered, AreNext};
 ghost use Rattle.xs_regex.specs.Matches.{Matches};
 ghost use Rattle.xs_regex.specs.Size.{size};

@@ -1,4 +1,4 @@
-ghost use Rattle.std.specs.Prelude.{◌≡◌, ◌+◌, ◌*◌, ◌<◌, ◌≤◌, [], ℕ, List, length, IfOk, IfErr, IsSomeAnd, Some};
+ghost use Rattle.std.specs.Prelude.{◌≡◌, ◌+◌, ◌*◌, ◌<◌, ◌≤◌, [], ℕ, List, length, IfOk, IfErr, Some};
 ghost use Rattle.std.specs.Str.{chars};
 ghost use Rattle.xs_regex.specs.Matches.{Matches};
 ghost use Rattle.xs_regex.specs.Meaning.{Means, IsPatternOf};

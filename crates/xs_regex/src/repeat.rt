@@ -1,4 +1,4 @@
-ghost use Rattle.std.specs.Prelude.{◌≡◌, ◌+◌, ◌*◌, ◌<◌, ◌≤◌, ◌↔◌, ◌⊎◌, ℕ, max, length, IsTrue, IfOk, None, Some, if◌then◌else◌};
+ghost use Rattle.std.specs.Prelude.{◌≡◌, ◌*◌, ◌<◌, ◌≤◌, ◌↔◌, ◌⊎◌, max, length, IsTrue, IfOk, None, Some, if◌then◌else◌};
 ghost use Rattle.xs_regex.specs.Automaton.{Accepts, IsWellFormed};
 ghost use Rattle.xs_regex.specs.Matches.{Repeats};
 ghost use Rattle.xs_regex.specs.Parts.{optional, IsAutomaton, IsSure};

@@ -1,7 +1,6 @@
 //! Small graphs with known answers.
 ghost use Rattle.std.specs.Prelude.{◌≡◌, ◌<◌, ◌^◌, length, IfOk};
 ghost use Rattle.std.specs.List.{All};
-ghost use Rattle.xs_graph.specs.Graphs.{IsGraph};
 
 use std::alloc::Global;
 use std::process::Abort;

@@ -1,4 +1,4 @@
-//! Tests of the layers below `xs_top`, one module for each crate.
+//! Tests of the layers below `xs_top`, one module for each crate, and one for the words of all faults.
 //!
 //! They stand apart from the crates that they try, so that each of those is proved once: a crate
 //! with tests is proved a second time with them.
@@ -16,6 +16,8 @@ mod class;
 mod clauses;
 #[cfg(test)]
 mod earley;
+#[cfg(test)]
+mod faults;
 #[cfg(test)]
 mod forest;
 #[cfg(test)]

@@ -1,5 +1,5 @@
 //! Two small grammars with known answers.
-ghost use Rattle.std.specs.Prelude.{◌≡◌, ◌<◌, [], ◌∷◌, length, IfOk};
+ghost use Rattle.std.specs.Prelude.{◌≡◌, ◌<◌, [], ◌∷◌, IfOk};
 ghost use Rattle.xs_gram.specs.declared.parts.GItem.TheVariants.{Fixed, Non, Skip, Term};
 ghost use Rattle.xs_gram.specs.Building.{CanBuild, IsFit};
 ghost use Rattle.xs_gram.specs.Sound.{IsBuilt};

@@ -1,5 +1,5 @@
 //! Documents of small sheets without ignorables, turned both ways.
-ghost use Rattle.std.specs.Prelude.{◌≡◌, ◌<◌, ℕ, length, false, slice_index_or, IsTrue, IfOk, OnOk};
+ghost use Rattle.std.specs.Prelude.{◌<◌, ℕ, length, false, slice_index_or, IsTrue, IfOk, OnOk};
 ghost use Rattle.xs_regex.specs.Size.{HasMembers};
 ghost use Rattle.xs_gram.specs.Sound.{IsBuilt};
 ghost use Rattle.xs_pair.specs.Sound.{IsSoundPair};

@@ -1,6 +1,5 @@
 ghost use Rattle.std.specs.Prelude.{IfOk, IfErr};
 ghost use Rattle.xs_class.specs.declared.side.Side.TheVariants as S;
-ghost use Rattle.xs_chars.specs.declared.form.Form.TheVariants as F;
 ghost use Rattle.xs_pair.specs.Sound.{IsSoundPair};
 ghost use Rattle.xs_wf.specs.Nonterminals.{IsPair};
 ghost use Rattle.xs_balance.specs.Laws.{CanBeWritten};

@@ -1,5 +1,4 @@
 ghost use Rattle.std.specs.Prelude.{◌≡◌, ◌<◌, length, IfOk, IfErr, OnOk};
-ghost use Rattle.std.specs.Str.{chars};
 ghost use Rattle.xs_gram.specs.Sound.{IsBuilt};
 ghost use Rattle.xs_pair.specs.Grammars.{grammar_of};
 ghost use Rattle.xs_pair.specs.Sound.{IsSoundPair};

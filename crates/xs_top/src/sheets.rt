@@ -1,4 +1,4 @@
-ghost use Rattle.std.specs.Prelude.{◌≡◌, ◌≢◌, ◌≤◌, ℕ, List, length, IfOk, IfErr};
+ghost use Rattle.std.specs.Prelude.{◌≡◌, ◌≤◌, length, IfOk, IfErr};
 ghost use Rattle.xs_pair.specs.Sound.{IsSoundPair};
 ghost use Rattle.xs_words.specs.Meaning.{sheet_meant};
 ghost use Rattle.xs_balance.specs.Laws.{CanBeWritten};

@@ -5,7 +5,6 @@ ghost use Rattle.xs_pair.specs.Grammars.{grammar_of};
 ghost use Rattle.xs_pair.specs.Sound.{IsSoundPair, other};
 ghost use Rattle.xs_balance.specs.Laws.{CanBeWritten};
 ghost use Rattle.xs_turn.specs.Turned.{FitsBoth};
-ghost use Rattle.xs_top.specs.Documents.{IsDocument, document_bytes};
 ghost use Rattle.xs_top.specs.Answers.{IsTurnedInto, IsWrittenTree, IsUnread};
 ghost use Rattle.xs_top.specs.Stops.{StopsBy};
 

@@ -9,7 +9,6 @@ use Rattle.std.proofs.lemmas.Cmp.{nat_list_cmp_total}
 use Rattle.xs_class.specs.Ordered.{IsBefore, IsOrdered, AreNamesOf}
 use Rattle.xs_class.specs.declared.side.Side.{Side}
 use Rattle.xs_class.specs.declared.side.Side.TheVariants.{Text, Xml}
-use Rattle.xs_regex.specs.declared.regex.Regex.{Regex}
 use Rattle.xs_regex.specs.Matches.{Matches}
 use Rattle.xs_regex.proofs.Meanings.{same_words}
 use Rattle.xs_sheet.specs.declared.sheet.Sheet.{Sheet}
@@ -25,9 +24,10 @@ use Rattle.xs_gram.specs.Building.{skip_part}
 use Rattle.xs_gram.specs.Derivations.{Parts, done, fixed, leaf, skip, sub, FitsItems}
 use Rattle.xs_gram.specs.Grammar.{Grammar, no_rule, no_terminal, no_ignorable, items, IsRuleOf, IsTermWord, IsSkipWord}
 use Rattle.xs_gram.specs.Sound.{IsNullable, IsProductive, IsNullableItem, LeadsTo, LeadsOn, once, onward}
-use Rattle.xs_pair.specs.Grammars.{Pair, IsPairOf, IsGramOf, AreTermsOf, AreSkipsOf, numbering, rule_parts}
+use Rattle.xs_pair.specs.Grammars.{Pair, IsPairOf, IsGramOf, AreSkipsOf, numbering, rule_parts}
 use Rattle.xs_pair.specs.Listing.{rules_of}
 use Rattle.xs_pair.specs.Verdict.{IsFirstLine}
+use Rattle.xs_pair.proofs.Alike.{term_words}
 use Rattle.xs_wf.specs.Nonterminals.{IsUnproductive, IsLooping, IsFirstRule, IsFirstLineOf, FailsAmongNons}
 
 -- names in order are known by their members
@@ -87,18 +87,7 @@ ordered_same (x ∷ xs) (y ∷ ys) ox oy same =
 names_same : (list ms ns : List (List ℕ)) → AreNamesOf list ms → AreNamesOf list ns → ms ≡ ns
 names_same list ms ns one two = ordered_same ms ns one.ordered two.ordered (λ n. (λ h. (two.same n).1 ((one.same n).0 h), λ h. (one.same n).1 ((two.same n).0 h)))
 
--- terminals and ignorables of the same units have the same words
-term_words : (us : List Unit) (rs qs : List Regex) → AreTermsOf us rs → AreTermsOf us qs → (t : ℕ) (d : Regex) (w : List ℕ) → Matches (get_or rs t d) w → Matches (get_or qs t d) w
-term_words [] [] [] one two t d w m = m
-term_words [] (r ∷ rs) qs one two t d w m = absurd one
-term_words [] [] (q ∷ qs) one two t d w m = absurd two
-term_words (V.Terminal name pattern regex line ∷ us) [] qs one two t d w m = absurd one
-term_words (V.Terminal name pattern regex line ∷ us) (r ∷ rs) [] one two t d w m = absurd two
-term_words (V.Terminal name pattern regex line ∷ us) (r ∷ rs) (q ∷ qs) one two zero d w m = same_words pattern r q one.0 two.0 w m
-term_words (V.Terminal name pattern regex line ∷ us) (r ∷ rs) (q ∷ qs) one two (suc t) d w m = term_words us rs qs one.1 two.1 t d w m
-term_words (V.Ignorable name pattern regex normal line ∷ us) rs qs one two t d w m = term_words us rs qs one two t d w m
-term_words (V.Production name left right line ∷ us) rs qs one two t d w m = term_words us rs qs one two t d w m
-
+-- ignorables of the same units have the same words
 skip_words : (us : List Unit) (js ks : List SkipPart) → AreSkipsOf us js → AreSkipsOf us ks → (k : ℕ) (d : SkipPart) (w : List ℕ) → Matches (get_or js k d).regex w → Matches (get_or ks k d).regex w
 skip_words [] [] [] one two k d w m = m
 skip_words [] (i ∷ js) ks one two k d w m = absurd one

@@ -1,36 +1,15 @@
-ghost use Rattle.std.specs.Prelude.{◌≡◌, ◌⊎◌, ◌↔◌, None, false, IsTrue, IfOk, if◌then◌else◌};
+ghost use Rattle.std.specs.Prelude.{◌≡◌, ◌⊎◌, ◌↔◌, None, false, IsTrue, IfOk};
 ghost use Rattle.xs_sheet.specs.Grammar.{HasRegex, HaveRegexes};
 ghost use Rattle.xs_pair.specs.declared.production.Rule.{Rule as AnyRule};
 ghost use Rattle.xs_pair.specs.Units as U;
-ghost use Rattle.xs_pair.specs.Verdict.{IsFirstLine, IsLineWhere, earlier as earlier_of};
+ghost use Rattle.xs_pair.specs.Verdict.{IsFirstLine, IsLineWhere};
 ghost use Rattle.xs_wf.specs.Units.{IsIllUnit, IsStrangeUnit, IsStrangeRule, IsFineUnit, AreFine, lesser as lesser_of};
 
 use crate::units::{is_empty_unit, is_strange_rule, is_strange_unit, is_unmatched_unit};
 use std::alloc::Global;
 use xs_class::Memory;
-use xs_pair::{IllRule, Rule, unit_line};
+use xs_pair::{IllRule, Rule, earlier, unit_line, with_line};
 use xs_sheet::Unit;
-
-// The lesser of two lines.
-fn earlier(least: Option<u32>, line: u32) -> u32
-    ensures { result ≡ earlier_of least line }
-{
-    match least {
-        None => line,
-        Some(other) => other.min(line),
-    }
-}
-
-// The least line, with one more where the rule fails there.
-fn with_line(least: Option<u32>, line: u32, fails: bool) -> Option<u32>
-    ensures { result ≡ (if fails then Some (earlier_of least line) else least) }
-{
-    if fails {
-        Some(earlier(least, line))
-    } else {
-        least
-    }
-}
 
 // The lesser of two lines, where there are any.
 pub(crate) fn lesser(one: Option<u32>, other: Option<u32>) -> Option<u32>

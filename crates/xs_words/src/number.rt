@@ -1,6 +1,6 @@
 // Numbers in decimal digits.
 ghost use Rattle.std.specs.Prelude.{◌≡◌, ◌≤◌, IfSome};
-ghost use Rattle.xs_words.specs.Number.{is_digit, begins_well as begins_as_numbers_do, number_after, number_within, within};
+ghost use Rattle.xs_words.specs.Number.{begins_well as begins_as_numbers_do, number_after, number_within, within};
 
 fn begins_well(bytes: &[u8]) -> bool
     ensures { result ≡ begins_as_numbers_do bytes.now }

@@ -1,5 +1,4 @@
-ghost use Rattle.std.specs.Prelude.{◌≡◌, [], ◌+◌, ◌++◌, ◌^◌, ◌<◌, ◌≤◌, length, IfSome, IfNone, codes, encode_utf8, encode_utf8_all, string_bytes, string_len, string_capacity};
-ghost use Rattle.std.specs.Char.{IsScalar};
+ghost use Rattle.std.specs.Prelude.{◌≡◌, [], ◌+◌, ◌++◌, ◌^◌, ◌<◌, ◌≤◌, length, IfSome, IfNone, encode_utf8, encode_utf8_all, string_bytes, string_len, string_capacity};
 ghost use Rattle.xs_xml_out.specs.Written.{put, name_at, content_char, value_char};
 ghost use Rattle.xs_xml_out.specs.Part.{IsKnown, body_bytes, part_bytes};
 

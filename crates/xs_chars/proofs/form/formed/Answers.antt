@@ -1,4 +1,4 @@
-use Rattle.std.proofs.Common.{◌≡◌, ◌∙◌, sym, ap, string_bytes}
+use Rattle.std.proofs.Common.{◌≡◌, ◌∙◌, ap, string_bytes}
 use Rattle.std.specs.Str.{chars}
 use Rattle.std.proofs.lemmas.Str.{chars-encodes}
 use Rattle.xs_chars.specs.Forms.{in_form}

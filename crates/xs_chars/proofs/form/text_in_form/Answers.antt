@@ -1,4 +1,4 @@
-use Rattle.std.proofs.Common.{◌≡◌, ◌∙◌, sym, ap, encode_utf8_all, string_bytes}
+use Rattle.std.proofs.Common.{◌∙◌, sym, ap, encode_utf8_all, string_bytes}
 use Rattle.std.specs.Str.{chars}
 use Rattle.xs_chars.specs.Forms.{in_form}
 use Rattle.xs_chars.proofs.Characters.{own_chars}

@@ -1,4 +1,4 @@
-use Rattle.std.proofs.Common.{◌≡◌, ◌∙◌, ◌++◌, sym, subst, ap, encode_utf8, encode_utf8_all, List, ℕ, take, string_bytes}
+use Rattle.std.proofs.Common.{◌∙◌, ◌++◌, sym, subst, ap, encode_utf8, encode_utf8_all, List, ℕ, take, string_bytes}
 use Rattle.std.specs.Char.{IsScalar}
 use Rattle.xs_chars.proofs.Characters.{scalar_at, encodes_more}
 use Rattle.xs_chars.proofs.strings.push_all.Goals as goal

@@ -1,4 +1,4 @@
-use Rattle.std.proofs.Common.{◌≡◌, ◌∙◌, sym, subst}
+use Rattle.std.proofs.Common.{◌∙◌, sym, subst}
 use Rattle.xs_chars.specs.Text.{AreCharacters}
 use Rattle.xs_chars.proofs.Characters.{utf8_characters}
 use Rattle.xs_chars.proofs.strings.word_of.Goals as goal

@@ -1,4 +1,4 @@
-use Rattle.std.proofs.Common.{◌≡◌, ◌∙◌, ◌-◌, ◌+◌, ◌<◌, sym, subst, refl, ap, arith, length, Some, None, ℕ, List}
+use Rattle.std.proofs.Common.{◌≡◌, ◌∙◌, ◌-◌, ◌+◌, ◌<◌, sym, subst, refl, ap, arith, length, Some, None, ℕ}
 use Rattle.std.proofs.Math.ListN.{set, length-set}
 use Rattle.xs_class.specs.Ordered.{place_of}
 use Rattle.xs_pair.proofs.FirstPlaces.{put_step, none_step, are_first}

@@ -1,4 +1,4 @@
-use Rattle.std.proofs.Common.{◌≡◌, take, drop, List, ℕ}
+use Rattle.std.proofs.Common.{◌≡◌, take, drop}
 use Rattle.xs_pair.specs.Units as U
 use Rattle.xs_pair.proofs.Places.{HaveSame}
 use Rattle.xs_pair.proofs.names.firsts.Given as goal

@@ -1,4 +1,4 @@
-use Rattle.std.proofs.Common.{arith, ap, length}
+use Rattle.std.proofs.Common.{arith}
 use Rattle.xs_pair.proofs.Shorter.{names_short}
 use Rattle.xs_pair.proofs.outline.directory.Goals as goal
 

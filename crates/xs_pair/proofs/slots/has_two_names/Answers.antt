@@ -1,4 +1,4 @@
-use Rattle.std.proofs.Common.{◌≡◌, ◌∙◌, sym, subst, refl, ap, arith, Some, ℕ, List, slice_get}
+use Rattle.std.proofs.Common.{◌≡◌, ◌∙◌, sym, subst, Some}
 use Rattle.std.proofs.Common.{get_or}
 use Rattle.std.proofs.lemmas.Option.{slice_get-get_or}
 use Rattle.xs_class.specs.Ordered.{place_of}

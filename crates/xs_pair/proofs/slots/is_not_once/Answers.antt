@@ -1,4 +1,4 @@
-use Rattle.std.proofs.Common.{◌≡◌, ◌∙◌, sym, subst, refl, ap, arith, Some, ℕ, List, slice_get}
+use Rattle.std.proofs.Common.{◌≡◌, subst, Some, ℕ, List, slice_get}
 use Rattle.std.specs.Prelude.{MatchBool}
 use Rattle.xs_pair.specs.Directories.{IsDistinct}
 use Rattle.xs_pair.specs.Rules.{HasRepeat, IsAmong, IsAbsent}

@@ -1,4 +1,4 @@
-use Rattle.std.proofs.Common.{arith, ap, length, map, List, ℕ}
+use Rattle.std.proofs.Common.{arith, List, ℕ}
 use Rattle.std.proofs.lemmas.List.{length-map}
 use Rattle.xs_pair.specs.Marks.{slots_of}
 use Rattle.xs_pair.proofs.Shorter.{slots_short}

@@ -1,4 +1,4 @@
-use Rattle.std.proofs.Common.{◌≡◌, ◌∙◌, ◌+◌, ◌<◌, suc, length, get_or, sym, arith, add-one}
+use Rattle.std.proofs.Common.{◌≡◌, ◌∙◌, ◌+◌, ◌<◌, suc, length, get_or, sym, arith}
 use Rattle.std.proofs.lemmas.List.{take_rest, get_or_default}
 use Rattle.xs_regex.proofs.Names.{name_none, name_split}
 use Rattle.xs_regex.proofs.characters.name.Goals as goal

@@ -1,4 +1,4 @@
-use Rattle.std.proofs.Common.{ℕ, arith}
+use Rattle.std.proofs.Common.{arith}
 use Rattle.xs_regex.proofs.compose.either.Goals as goal
 
 pub shifted-requires : goal.shifted-requires

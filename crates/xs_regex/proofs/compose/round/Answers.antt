@@ -1,4 +1,3 @@
-use Rattle.std.proofs.Common.{ℕ, ◌<◌}
 use Rattle.xs_regex.proofs.compose.round.Goals as goal
 
 pub linked-requires : goal.linked-requires

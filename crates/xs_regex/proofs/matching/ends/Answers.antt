@@ -1,4 +1,4 @@
-use Rattle.std.proofs.Common.{ℕ, arith}
+use Rattle.std.proofs.Common.{arith}
 use Rattle.xs_regex.proofs.matching.ends.Goals as goal
 
 pub some_marked-requires : goal.some_marked-requires

@@ -1,4 +1,4 @@
-use Rattle.std.proofs.Common.{◌<◌, ℕ, arith, length}
+use Rattle.std.proofs.Common.{◌<◌, arith, length}
 use Rattle.xs_regex.proofs.matching.follow.Goals as goal
 
 pub mark-requires : goal.mark-requires

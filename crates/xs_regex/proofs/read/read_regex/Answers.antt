@@ -1,4 +1,4 @@
-use Rattle.std.proofs.Common.{◌≡◌, ◌<◌, ◌≤◌, ℕ, List, length, subst, arith}
+use Rattle.std.proofs.Common.{◌<◌, ◌≤◌, ℕ, List, subst, arith}
 use Rattle.xs_regex.specs.Meaning.{IsPatternOf}
 use Rattle.xs_regex.specs.Pattern.{Tree, IsReading}
 use Rattle.xs_regex.specs.Size.{size}

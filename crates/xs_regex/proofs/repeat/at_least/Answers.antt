@@ -1,6 +1,4 @@
-use Rattle.std.proofs.Common.{◌≡◌, ◌∙◌, ◌<◌, ◌≤◌, max, length, List, ℕ, ap, sym, subst, arith, refl}
-use Rattle.xs_regex.specs.declared.position.Position.{Position}
-use Rattle.xs_regex.specs.Parts.{IsThen, IsRound}
+use Rattle.std.proofs.Common.{◌<◌, max, arith}
 use Rattle.xs_regex.proofs.Copies.{room, at_least_init, at_least_more, at_least_end}
 use Rattle.xs_regex.proofs.repeat.at_least.Goals as goal
 

@@ -1,4 +1,4 @@
-use Rattle.std.proofs.Common.{◌≡◌, ◌<◌, arith}
+use Rattle.std.proofs.Common.{arith}
 use Rattle.xs_regex.proofs.Copies.{room, between_init, between_more, between_end}
 use Rattle.xs_regex.proofs.repeat.between.Goals as goal
 

@@ -1,4 +1,3 @@
-use Rattle.std.proofs.Common.{◌≡◌}
 use Rattle.xs_regex.proofs.Copies.{empty_repeat}
 use Rattle.xs_regex.proofs.repeat.repeated.Goals as goal
 

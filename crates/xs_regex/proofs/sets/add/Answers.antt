@@ -1,4 +1,3 @@
-use Rattle.std.proofs.Common.{◌≡◌, ℕ, List}
 use Rattle.xs_regex.proofs.Adding.{add_span, add_named, unknown}
 use Rattle.xs_regex.proofs.sets.add.Goals as goal
 

@@ -1,4 +1,4 @@
-use Rattle.std.proofs.Common.{◌≡◌, ◌+◌, ◌<◌, ◌^◌, ◌∙◌, sym, ℕ, Some, None, length, slice_get, arith}
+use Rattle.std.proofs.Common.{◌+◌, arith}
 use Rattle.std.proofs.lemmas.Option.{slice_get_within}
 use Rattle.xs_gram.specs.Places.{all_places}
 use Rattle.xs_gram.proofs.Numbers.{place_once, number_inside, number_dot}

@@ -1,4 +1,4 @@
-use Rattle.std.proofs.Common.{◌≡◌, ◌+◌, ◌∙◌, sym, subst, arith, ap, Some, ℕ, List, ◌<◌, slice_get}
+use Rattle.std.proofs.Common.{◌≡◌, ◌+◌, sym, subst, Some, ℕ, List, ◌<◌, slice_get}
 use Rattle.xs_class.specs.Ordered.{place_of}
 use Rattle.xs_pair.specs.Directories.{IsDistinct}
 use Rattle.xs_pair.specs.Rules.{HasRepeat}

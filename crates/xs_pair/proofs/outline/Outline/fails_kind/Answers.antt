@@ -1,4 +1,4 @@
-use Rattle.std.proofs.Common.{◌≡◌, ◌∙◌, sym, subst, refl, ap, arith, Some, ℕ, List, slice_get}
+use Rattle.std.proofs.Common.{◌∙◌, sym, subst, ap}
 use Rattle.xs_pair.specs.Directories.{IsDistinct}
 use Rattle.xs_pair.specs.Marks.{slot_names}
 use Rattle.xs_pair.proofs.Once.{once_left}

@@ -1,4 +1,4 @@
-use Rattle.xs_pair.proofs.Ready.{can_build, gram_is}
+use Rattle.xs_pair.proofs.Ready.{can_build}
 use Rattle.xs_pair.proofs.outline.Outline.grammar.Goals as goal
 
 pub build-requires : goal.build-requires

@@ -1,4 +1,4 @@
-use Rattle.std.proofs.Common.{◌≡◌, ◌∙◌, sym, subst, arith, ℕ, List}
+use Rattle.std.proofs.Common.{sym, subst, arith, List}
 use Rattle.std.specs.Prelude.{IfOk}
 use Rattle.xs_sheet.specs.declared.unit.Unit.{Unit}
 use Rattle.xs_pair.specs.declared.ill.IllRule.TheVariants.{Undefined, NameOnce, Kind, AttrTwice, RootShape}

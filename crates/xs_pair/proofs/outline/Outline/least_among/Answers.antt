@@ -1,4 +1,4 @@
-use Rattle.std.proofs.Common.{◌≡◌, ◌∙◌, sym, subst, refl, ap, arith, Some, ℕ, List, slice_get}
+use Rattle.std.proofs.Common.{◌≡◌, ◌∙◌, subst, refl, Some, ℕ, slice_get}
 use Rattle.std.proofs.Common.{take}
 use Rattle.std.proofs.lemmas.List.{take_all}
 use Rattle.xs_pair.specs.declared.production.Rule.{Rule}

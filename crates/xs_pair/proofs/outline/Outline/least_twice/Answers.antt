@@ -1,5 +1,4 @@
-use Rattle.std.proofs.Common.{◌≡◌, ◌∙◌, sym, subst, refl, ap, arith, Some, ℕ, List, slice_get}
-use Rattle.std.proofs.Common.{◌+◌, take}
+use Rattle.std.proofs.Common.{arith}
 use Rattle.xs_pair.specs.Rules.{IsTwice}
 use Rattle.xs_pair.specs.Units.{unit_line}
 use Rattle.std.specs.Prelude.{IsTrue, ◌↔◌}
