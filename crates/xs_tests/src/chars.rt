@@ -15,90 +15,78 @@ fn bytes_that_are_no_utf8(rt: HostRuntime) {
     }
 }
 
-/// Whether the bytes are read as these symbols, and these written as those bytes.
-fn is_read_and_written(
-    alloc: Global,
-    bytes: &[u8],
-    form: Form,
-    symbols: &[Sym],
-    written: &[u8],
-) -> Result<bool, DecodeFault> {
-    let word = read_text(alloc, bytes, form)?;
-    let out = write_text(alloc, &word)?;
-    Ok(word.as_slice() == symbols && out.as_slice() == written)
+// Whether these are the numbers of the symbols.
+fn are(symbols: &[Sym], numbers: &[u32]) -> bool {
+    for (symbol, number) in symbols.iter().zip(numbers) {
+        if symbol.number() != *number {
+            return false;
+        }
+    }
+    symbols.len() == numbers.len()
 }
+
+// Bytes, a form, the numbers of symbols, and bytes again.
+type Row<'t> = (&'t [u8], Form, &'t [u32], &'t [u8]);
+
+/// Whether the bytes are read in this form as these symbols, and these written as those bytes.
+fn is_read_and_written(alloc: Global, row: Row<'_>) -> Result<bool, DecodeFault> {
+    let word = read_text(alloc, row.0, row.1)?;
+    let out = write_text(alloc, &word)?;
+    Ok(are(word.as_slice(), row.2) && out.as_slice() == row.3)
+}
+
+const READ: [Row<'static>; 6] = [
+    (
+        b"(3,\xc3\xa9)",
+        Form::AsIs,
+        &[40, 51, 44, 0xE9, 41],
+        b"(3,\xc3\xa9)",
+    ),
+    (b"\xef\xbb\xbfa", Form::AsIs, &[97], b"a"),
+    (
+        b"\xef\xbb\xbf\xef\xbb\xbfa",
+        Form::AsIs,
+        &[0xFEFF, 97],
+        b"\xef\xbb\xbf\xef\xbb\xbfa",
+    ),
+    (b"\xe1\xba\xa1", Form::Nfd, &[97, 0x323], b"a\xcc\xa3"),
+    (b"a\xcc\xa3", Form::Nfc, &[0x1EA1], b"\xe1\xba\xa1"),
+    (b"", Form::Nfc, &[], b""),
+];
 
 #[test]
 fn texts_are_read_and_written(rt: HostRuntime) {
-    let rows: [(&[u8], Form, &[Sym], &[u8]); 6] = [
-        (
-            "(3,é)".as_bytes(),
-            Form::AsIs,
-            &[Sym(40), Sym(51), Sym(44), Sym(0xE9), Sym(41)],
-            "(3,é)".as_bytes(),
-        ),
-        (b"\xef\xbb\xbfa", Form::AsIs, &[Sym(97)], b"a"),
-        (
-            b"\xef\xbb\xbf\xef\xbb\xbfa",
-            Form::AsIs,
-            &[Sym(0xFEFF), Sym(97)],
-            b"\xef\xbb\xbf\xef\xbb\xbfa",
-        ),
-        (
-            b"\xe1\xba\xa1",
-            Form::Nfd,
-            &[Sym(97), Sym(0x323)],
-            b"a\xcc\xa3",
-        ),
-        (b"a\xcc\xa3", Form::Nfc, &[Sym(0x1EA1)], b"\xe1\xba\xa1"),
-        (b"", Form::Nfc, &[], b""),
-    ];
-    for (bytes, form, symbols, written) in rows {
-        let same = is_read_and_written(rt.alloc(), bytes, form, symbols, written);
-        assert!(rt; same == Ok(true), "{bytes:?}");
+    for row in READ {
+        let same = is_read_and_written(rt.alloc(), row);
+        assert!(rt; same == Ok(true), "{:?}", row.0);
     }
 }
 
 /// Whether the bytes in this form are these symbols, which are encoded as those bytes and back.
-fn is_put_and_encoded(
-    alloc: Global,
-    bytes: &[u8],
-    form: Form,
-    symbols: &[Sym],
-    encoded: &[u8],
-) -> Result<bool, DecodeFault> {
-    let word = in_form(alloc, &decode(alloc, bytes)?, form)?;
+fn is_put_and_encoded(alloc: Global, row: Row<'_>) -> Result<bool, DecodeFault> {
+    let word = in_form(alloc, &decode(alloc, row.0)?, row.1)?;
     let out = encode(alloc, &word)?;
     let back = decode(alloc, out.as_slice())?;
-    let same = word.as_slice() == symbols && back.as_slice() == symbols;
-    Ok(same && out.as_slice() == encoded)
+    let same = are(word.as_slice(), row.2) && are(back.as_slice(), row.2);
+    Ok(same && out.as_slice() == row.3)
 }
+
+const PUT: [Row<'static>; 4] = [
+    (b"\xe1\xba\xa1", Form::Nfd, &[97, 0x323], b"a\xcc\xa3"),
+    (b"a\xcc\xa3", Form::Nfc, &[0x1EA1], b"\xe1\xba\xa1"),
+    (b"a\xcc\xa3", Form::AsIs, &[97, 0x323], b"a\xcc\xa3"),
+    (
+        b"\xef\xbb\xbfa",
+        Form::AsIs,
+        &[0xFEFF, 97],
+        b"\xef\xbb\xbfa",
+    ),
+];
 
 #[test]
 fn a_word_is_put_into_a_form_and_encoded(rt: HostRuntime) {
-    let rows: [(&[u8], Form, &[Sym], &[u8]); 4] = [
-        (
-            b"\xe1\xba\xa1",
-            Form::Nfd,
-            &[Sym(97), Sym(0x323)],
-            b"a\xcc\xa3",
-        ),
-        (b"a\xcc\xa3", Form::Nfc, &[Sym(0x1EA1)], b"\xe1\xba\xa1"),
-        (
-            b"a\xcc\xa3",
-            Form::AsIs,
-            &[Sym(97), Sym(0x323)],
-            b"a\xcc\xa3",
-        ),
-        (
-            b"\xef\xbb\xbfa",
-            Form::AsIs,
-            &[Sym(0xFEFF), Sym(97)],
-            b"\xef\xbb\xbfa",
-        ),
-    ];
-    for (bytes, form, symbols, encoded) in rows {
-        let same = is_put_and_encoded(rt.alloc(), bytes, form, symbols, encoded);
-        assert!(rt; same == Ok(true), "{bytes:?}");
+    for row in PUT {
+        let same = is_put_and_encoded(rt.alloc(), row);
+        assert!(rt; same == Ok(true), "{:?}", row.0);
     }
 }

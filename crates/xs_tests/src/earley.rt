@@ -1,20 +1,20 @@
 //! Small grammars, of which each rule is given by a letter for each item: `S` and `T` are the nonterminals
 //! 0 and 1, `x`, `y` and `z` the terminals `[ab]`, `a*` and `a{1,2}`, `k` and `l` the ignorables `b*` and
 //! `(ab)?`, `w` is the fixed word of an a and a b, and any other letter the fixed word of itself.
-ghost use Rattle.std.specs.Prelude.{◌≡◌, ◌≤◌, ◌<◌, ◌∷◌, ◌⊎◌, ℕ, [], length, false, slice_index_or, IsTrue, IfOk};
-ghost use Rattle.xs_gram.specs.Building.{CanBuild, EachOf, IsFit, IsRuleAmong, NamesThere, fixed_symbols, items_count, symbols_count};
-ghost use Rattle.xs_gram.specs.Grammar.{slots};
+ghost use Rattle.std.specs.Prelude.{◌≡◌, length, IfOk};
 ghost use Rattle.xs_gram.specs.Sound.{IsSound};
-ghost use Rattle.xs_regex.specs.Size.{HasMembers};
 
+use crate::sheets::two_of;
 use std::alloc::Global;
 use std::process::Abort;
 use std::test::Fail;
-use xs_class::{Memory, Sym, Word};
+use xs_class::{Bytes, Memory, Side, Sym, Word};
 use xs_earley::{SeeFault, recognise};
-use xs_gram::{GItem, GItems, Gram, GramParts, Regexes, RulePart, Rules, SkipPart, Skips};
-use xs_order::{productive, unit_order};
-use xs_regex::{Regex, read_regex};
+use xs_gram::Gram;
+
+const UNITS: &[u8] =
+    b"xsugar-1\nstart s\nterminal x = /[ab]/\nterminal y = /a*/\nterminal z = /a{1,2}/\n\
+    ignorable k = /b*/ \"\"\nignorable l = /(ab)?/ \"\"\n";
 
 /// The word of these letters.
 fn word_of(alloc: Global, letters: &[u8]) -> Result<Word, Memory>
@@ -27,174 +27,54 @@ fn word_of(alloc: Global, letters: &[u8]) -> Result<Word, Memory>
     Ok(word)
 }
 
-/// Whether each class in the regex has a member.
-fn has_members(regex: &Regex) -> bool
-    ensures { IsTrue result → HasMembers regex.now }
-{
-    match regex {
-        Regex::Empty => true,
-        Regex::Set(class) => class.least().is_some(),
-        Regex::Then(first, rest) => has_members(first) && has_members(rest),
-        Regex::Or(one, other) => has_members(one) && has_members(other),
-        Regex::Star(inner) => has_members(inner),
-        Regex::Times(inner, _, _) => has_members(inner),
+fn push_all(sheet: &mut Bytes, pieces: &[&[u8]]) -> Result<(), Memory> {
+    for piece in pieces {
+        sheet.extend(piece)?;
     }
+    Ok(())
 }
 
-fn regex_of(rt: &impl Abort, alloc: Global, pattern: &str) -> Result<Regex, Fail>
-    ensures fit { IfOk result IsFit }
-    ensures members { IfOk result HasMembers }
-{
-    let regex = read_regex(alloc, pattern)?;
-    assert!(rt; has_members(&regex));
-    Ok(regex)
-}
-
-fn terms(rt: &impl Abort, alloc: Global) -> Result<Regexes, Fail>
-    ensures fit { IfOk result (EachOf IsFit) }
-    ensures members { IfOk result (EachOf HasMembers) }
-    ensures counted { IfOk result (λ terms. length terms ≡ 3) }
-{
-    let mut terms = Regexes::new(alloc);
-    terms.push(regex_of(rt, alloc, "[ab]")?)?;
-    terms.push(regex_of(rt, alloc, "a*")?)?;
-    terms.push(regex_of(rt, alloc, "a{1,2}")?)?;
-    Ok(terms)
-}
-
-fn skips(rt: &impl Abort, alloc: Global) -> Result<Skips, Fail>
-    ensures fit { IfOk result (EachOf (λ k. IsFit k.regex)) }
-    ensures members { IfOk result (EachOf (λ k. HasMembers k.regex)) }
-    ensures counted { IfOk result (λ skips. length skips ≡ 2) }
-{
-    let mut skips = Skips::new(alloc);
-    skips.push(SkipPart {
-        regex: regex_of(rt, alloc, "b*")?,
-        normal: Word::new(alloc),
-    })?;
-    skips.push(SkipPart {
-        regex: regex_of(rt, alloc, "(ab)?")?,
-        normal: Word::new(alloc),
-    })?;
-    Ok(skips)
-}
-
-/// The item of a letter, which takes the slot if it has one.
-fn item_of(alloc: Global, letter: u8, slot: u32) -> Result<GItem, Memory>
-    ensures names { IfOk result (NamesThere 2 3 2) }
-    ensures slots { IfOk result (λ item. (slots (item ∷ []) ≡ []) ⊎ (slots (item ∷ []) ≡ slot ∷ [])) }
-    ensures symbols { IfOk result (λ item. fixed_symbols (item ∷ []) ≤ 2) }
-{
+/// Appends the item of a letter, by this name if it has a slot.
+fn push_item(sheet: &mut Bytes, letter: u8, name: u8) -> Result<(), Memory> {
     match letter {
-        b'S' => Ok(GItem::Non { non: 0, slot }),
-        b'T' => Ok(GItem::Non { non: 1, slot }),
-        b'x' => Ok(GItem::Term { term: 0, slot }),
-        b'y' => Ok(GItem::Term { term: 1, slot }),
-        b'z' => Ok(GItem::Term { term: 2, slot }),
-        b'k' => Ok(GItem::Skip { skip: 0 }),
-        b'l' => Ok(GItem::Skip { skip: 1 }),
-        b'w' => {
-            let word = word_of(alloc, &[97, 98])?;
-            Ok(GItem::Fixed(word))
+        b'S' => push_all(sheet, &[b"[s ", &[name], b"] "]),
+        b'T' => push_all(sheet, &[b"[t ", &[name], b"] "]),
+        b'x' | b'y' | b'z' => push_all(sheet, &[b"[", &[letter], b" ", &[name], b"] "]),
+        b'k' | b'l' => push_all(sheet, &[b"[", &[letter], b"] "]),
+        b'w' => sheet.extend(b"\"ab\" "),
+        _ => push_all(sheet, &[b"\"", &[letter], b"\" "]),
+    }
+}
+
+/// Appends the items of a rule, without ignorables if it is that of XML.
+fn push_items(sheet: &mut Bytes, side: Side, letters: &[u8]) -> Result<(), Memory> {
+    let mut name = b'a';
+    for letter in letters {
+        let is_left_out = side == Side::Xml && (*letter == b'k' || *letter == b'l');
+        if !is_left_out {
+            push_item(sheet, *letter, name)?;
         }
-        _ => {
-            let word = word_of(alloc, &[letter])?;
-            Ok(GItem::Fixed(word))
-        }
+        name = name.wrapping_add(1);
     }
+    Ok(())
 }
 
-/// How many slots an item has.
-fn slot_count(item: &GItem) -> u32
-    ensures { result ≡ length (slots (item.now ∷ [])) }
-{
-    match item {
-        GItem::Fixed(_) => 0,
-        GItem::Term { .. } => 1,
-        GItem::Non { .. } => 1,
-        GItem::Skip { .. } => 0,
+/// Appends the production of a rule, whose XML is an element round the same items.
+fn push_rule(sheet: &mut Bytes, row: (u32, &str)) -> Result<(), Memory> {
+    let letters = row.1.as_bytes();
+    sheet.extend(if row.0 == 0 { b"s : " } else { b"t : " })?;
+    push_items(sheet, Side::Text, letters)?;
+    sheet.extend(b"= <s>")?;
+    push_items(sheet, Side::Xml, letters)?;
+    sheet.extend(b"</s>\n")
+}
+
+fn sheet_of(alloc: Global, rows: &[(u32, &str)]) -> Result<Bytes, Memory> {
+    let mut sheet = Bytes::of(alloc, UNITS)?;
+    for row in rows {
+        push_rule(&mut sheet, *row)?;
     }
-}
-
-/// The rule of at most eight letters.
-fn rule_of(alloc: Global, non: u32, letters: &[u8]) -> Result<RulePart, Memory>
-    requires non { non < 2 }
-    requires letters { length letters.now ≤ 8 }
-    ensures among { IfOk result (IsRuleAmong 2 3 2) }
-    ensures items { IfOk result (λ rule. length rule.items ≤ 8) }
-    ensures symbols { IfOk result (λ rule. fixed_symbols rule.items ≤ 16) }
-{
-    let mut items = GItems::new(alloc);
-    let mut slots = 0;
-    'letters: for letter in letters {
-        let item = item_of(alloc, *letter, slots)?;
-        slots += slot_count(&item);
-        items.push(item)?;
-    }
-    Ok(RulePart { non, items })
-}
-
-/// The rules, without what is no rule of at most eight letters.
-fn rules_of(alloc: Global, rows: &[(u32, &str)]) -> Result<Rules, Memory>
-    requires { length rows.now ≤ 8 }
-    ensures each { IfOk result (EachOf (IsRuleAmong 2 3 2)) }
-    ensures rules { IfOk result (λ rules. length rules ≤ 8) }
-    ensures items { IfOk result (λ rules. items_count rules ≤ 64) }
-    ensures symbols { IfOk result (λ rules. symbols_count rules ≤ 128) }
-{
-    let mut rules = Rules::new(alloc);
-    'rows: for row in rows {
-        let letters = row.1.as_bytes();
-        if row.0 < 2 && letters.len() <= 8 {
-            let rule = rule_of(alloc, row.0, letters)?;
-            rules.push(rule)?;
-        }
-    }
-    Ok(rules)
-}
-
-fn parts_of(rt: &impl Abort, alloc: Global, rows: &[(u32, &str)]) -> Result<GramParts, Fail>
-    requires { length rows.now ≤ 8 }
-    ensures parts { IfOk result CanBuild }
-    ensures terms { IfOk result (λ parts. EachOf HasMembers parts.terms) }
-    ensures skips { IfOk result (λ parts. EachOf (λ k. HasMembers k.regex) parts.skips) }
-{
-    let rules = rules_of(alloc, rows)?;
-    let terms = terms(rt, alloc)?;
-    let skips = skips(rt, alloc)?;
-    Ok(GramParts {
-        start: 0,
-        nons: 2,
-        rules,
-        terms,
-        skips,
-    })
-}
-
-/// Whether all flags are set.
-fn are_set(flags: &[bool]) -> bool
-    ensures { IsTrue result → (n : ℕ) → n < length flags.now → IsTrue (slice_index_or flags.now n false) }
-{
-    'flags: for flag in flags {
-        if !*flag {
-            return false;
-        }
-    }
-    true
-}
-
-/// The grammar of these rules, which is to be sound.
-fn gram_of(rt: &impl Abort, alloc: Global, rows: &[(u32, &str)]) -> Result<Gram, Fail>
-    requires { length rows.now ≤ 8 }
-    ensures { IfOk result IsSound }
-{
-    let parts = parts_of(rt, alloc, rows)?;
-    let gram = Gram::build(alloc, parts)?;
-    unit_order(alloc, &gram)?;
-    let lively = productive(alloc, &gram)?;
-    let all = are_set(lively.as_slice());
-    assert!(rt; all);
-    Ok(gram)
+    Ok(sheet)
 }
 
 /// The document is of the language, or as many of its symbols as this begin a word of it.
@@ -215,20 +95,6 @@ fn expect(
             let viable = viable.unwrap_or(99);
             assert_eq!(rt; fault, SeeFault::Foreign { viable }, "at {letters:?}");
         }
-    }
-    Ok(())
-}
-
-#[test]
-fn a_broken_document_is_viable_up_to_where_it_breaks(rt: HostRuntime) -> Result<(), Fail> {
-    let gram = gram_of(&rt, rt.alloc(), &[(0, "a"), (0, "(S)"), (1, "")])?;
-    for (letters, viable) in [
-        ("((a))", None),
-        ("(a", Some(2)),
-        ("(b)", Some(1)),
-        ("a)", Some(1)),
-    ] {
-        expect(&rt, rt.alloc(), &gram, letters.as_bytes(), viable)?;
     }
     Ok(())
 }
@@ -431,24 +297,77 @@ fn farthest(fronts: &[bool], number: u32, length: usize) -> u64 {
     0
 }
 
-/// What is recognised of all words up to six letters is what the definitions say.
-fn expect_all(rt: &impl Abort, alloc: Global, rows: &[(u32, &str)]) -> Result<(), Fail>
-    requires { length rows.now ≤ 8 }
+/// What is recognised of all words up to six letters is what the flags say.
+fn expect_flagged(
+    rt: &impl Abort,
+    alloc: Global,
+    gram: &Gram,
+    words: &[bool],
+    fronts: &[bool],
+) -> Result<(), Fail>
+    requires { IsSound gram.now }
 {
-    let gram = gram_of(rt, alloc, rows)?;
+    for number in 1..128 {
+        let letters = numbered(alloc, number)?;
+        let viable = if is_set(words, number) {
+            None
+        } else {
+            Some(farthest(fronts, number, letters.len()))
+        };
+        expect(rt, alloc, gram, &letters, viable)?;
+    }
+    Ok(())
+}
+
+fn gram_reads_its_language(
+    rt: &impl Abort,
+    alloc: Global,
+    gram: &Gram,
+    rows: &[(u32, &str)],
+) -> Result<(), Fail>
+    requires { IsSound gram.now }
+{
     let limit = bit(LONGEST + 1);
     let words = language(alloc, rows, limit)?;
     let fronts = fronts(alloc, &words, limit)?;
-    for number in 1..128 {
-        let letters = numbered(alloc, number)?;
-        let viable = if is_set(&words, number) {
-            None
-        } else {
-            Some(farthest(&fronts, number, letters.len()))
-        };
-        expect(rt, alloc, &gram, &letters, viable)?;
+    expect_flagged(rt, alloc, gram, &words, &fronts)
+}
+
+/// What is recognised of all words up to six letters is what the definitions say.
+fn expect_all(rt: &impl Abort, alloc: Global, rows: &[(u32, &str)]) -> Result<(), Fail> {
+    let sheet = sheet_of(alloc, rows)?;
+    let two = two_of(alloc, sheet.as_slice())?;
+    gram_reads_its_language(rt, alloc, two.gram(Side::Text), rows)
+}
+
+const NESTED: &[u8] =
+    b"xsugar-1\nstart s\ns : \"a\" = <a/>\ns : \"(\" [s x] \")\" = <s>[s x]</s>\n";
+
+const BROKEN: [(&str, Option<u64>); 4] = [
+    ("((a))", None),
+    ("(a", Some(2)),
+    ("(b)", Some(1)),
+    ("a)", Some(1)),
+];
+
+fn expect_each(
+    rt: &impl Abort,
+    alloc: Global,
+    gram: &Gram,
+    rows: &[(&str, Option<u64>)],
+) -> Result<(), Fail>
+    requires { IsSound gram.now }
+{
+    for row in rows {
+        expect(rt, alloc, gram, row.0.as_bytes(), row.1)?;
     }
     Ok(())
+}
+
+#[test]
+fn a_broken_document_is_viable_up_to_where_it_breaks(rt: HostRuntime) -> Result<(), Fail> {
+    let two = two_of(rt.alloc(), NESTED)?;
+    expect_each(&rt, rt.alloc(), two.gram(Side::Text), &BROKEN)
 }
 
 #[test]

@@ -1,52 +1,19 @@
-//! A rule of two runs, which overlap where they have a symbol in common.
-ghost use Rattle.std.specs.Prelude.{◌≡◌, [], ◌∷◌, IfOk};
-ghost use Rattle.xs_gram.specs.declared.parts.GItem.TheVariants.{Term};
-ghost use Rattle.xs_gram.specs.Building.{CanBuild, IsFit};
+ghost use Rattle.xs_gram.specs.Sound.{IsBuilt};
 
+use crate::sheets::pair_of;
 use std::alloc::Global;
 use std::test::Fail;
-use xs_class::{Class, Memory};
-use xs_gram::{GItem, GItems, Gram, GramParts, Regexes, RulePart, Rules, Skips};
+use xs_class::Side;
+use xs_gram::Gram;
 use xs_horiz::{Horiz, horizontal};
 use xs_order::components;
-use xs_regex::Regex;
 
-/// Any number of symbols of a range.
-fn run_of(alloc: Global, range: (u32, u32)) -> Result<Regex, Memory>
-    ensures { IfOk result IsFit }
-{
-    let class = Class::from_ranges(alloc, &[range])?;
-    Ok(Regex::Star(Box::new(alloc, Regex::Set(class))?))
-}
+// A rule of two runs, which overlap where they have a symbol in common.
+const COMMON: &[u8] = b"xsugar-1\nstart s\nterminal m = /[a-c]*/\nterminal n = /[c-z]*/\n\
+    s : [m a] [n b] = <s x=[m a]>[n b]</s>\n";
 
-fn two_runs(alloc: Global) -> Result<GItems, Memory>
-    ensures { IfOk result (λ is. is ≡ Term 0 0 ∷ Term 1 1 ∷ []) }
-{
-    let mut items = GItems::new(alloc);
-    items.push(GItem::Term { term: 0, slot: 0 })?;
-    items.push(GItem::Term { term: 1, slot: 1 })?;
-    Ok(items)
-}
-
-fn parts(alloc: Global, first: (u32, u32), second: (u32, u32)) -> Result<GramParts, Memory>
-    ensures { IfOk result CanBuild }
-{
-    let mut terms = Regexes::new(alloc);
-    terms.push(run_of(alloc, first)?)?;
-    terms.push(run_of(alloc, second)?)?;
-    let mut rules = Rules::new(alloc);
-    rules.push(RulePart {
-        non: 0,
-        items: two_runs(alloc)?,
-    })?;
-    Ok(GramParts {
-        start: 0,
-        nons: 1,
-        rules,
-        terms,
-        skips: Skips::new(alloc),
-    })
-}
+const APART: &[u8] = b"xsugar-1\nstart s\nterminal m = /[a-c]*/\nterminal n = /[d-z]*/\n\
+    s : [m a] [n b] = <s x=[m a]>[n b]</s>\n";
 
 /// The rule and the cut, or 9 and 9 where there is no suspect.
 fn shown(found: &Option<Horiz>) -> (u32, u32) {
@@ -56,15 +23,21 @@ fn shown(found: &Option<Horiz>) -> (u32, u32) {
     }
 }
 
-fn suspect(alloc: Global, second: (u32, u32)) -> Result<(u32, u32), Fail> {
-    let gram = Gram::build(alloc, parts(alloc, (97, 99), second)?)?;
-    let comps = components(alloc, &gram)?;
-    Ok(shown(&horizontal(alloc, &gram, &comps)?))
+fn suspect(alloc: Global, gram: &Gram) -> Result<(u32, u32), Fail>
+    requires { IsBuilt gram.now }
+{
+    let comps = components(alloc, gram)?;
+    Ok(shown(&horizontal(alloc, gram, &comps)?))
+}
+
+fn suspect_of(alloc: Global, sheet: &[u8]) -> Result<(u32, u32), Fail> {
+    let two = pair_of(alloc, sheet)?;
+    suspect(alloc, two.gram(Side::Text))
 }
 
 #[test]
 fn runs_with_a_common_symbol_are_suspect(rt: HostRuntime) -> Result<(), Fail> {
-    assert!(rt; suspect(rt.alloc(), (99, 122))? == (0, 1));
-    assert!(rt; suspect(rt.alloc(), (100, 122))? == (9, 9));
+    assert!(rt; suspect_of(rt.alloc(), COMMON)? == (0, 1));
+    assert!(rt; suspect_of(rt.alloc(), APART)? == (9, 9));
     Ok(())
 }

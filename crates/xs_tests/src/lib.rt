@@ -35,8 +35,6 @@ mod leiden;
 #[cfg(test)]
 mod lex;
 #[cfg(test)]
-mod listing;
-#[cfg(test)]
 mod loose;
 #[cfg(test)]
 mod order;
@@ -46,6 +44,8 @@ mod pair;
 mod regex;
 #[cfg(test)]
 mod sheet;
+#[cfg(test)]
+mod sheets;
 #[cfg(test)]
 mod talk;
 #[cfg(test)]

@@ -1,25 +1,15 @@
+use crate::sheets::pair_of;
 use std::alloc::Global;
 use std::test::Fail;
 use xs_class::Side;
-use xs_pair::{Ill, IllRule, PairFault, Two, both};
-use xs_sheet::read_sheet;
+use xs_pair::{Ill, IllRule, PairFault};
 
 const PAIR: &str =
     "xsugar-1\nstart s\nterminal d = /[0-9]/\ns : \"(\" [d a] \",\" [d b] \")\" = <p><y>[d b]</y><x>[d a]</x></p>\n";
 
-fn pair(alloc: Global, text: &str) -> Result<Two, PairFault> {
-    if text.len() > 65536 {
-        return Err(PairFault::Memory);
-    }
-    match read_sheet(alloc, text.as_bytes()) {
-        Ok(sheet) => both(alloc, &sheet),
-        Err(_) => Err(PairFault::Memory),
-    }
-}
-
 // The failure of the sheet of these units.
 fn ill(alloc: Global, text: &str) -> Option<Ill> {
-    match pair(alloc, text) {
+    match pair_of(alloc, text.as_bytes()) {
         Err(PairFault::Ill(ill)) => Some(ill),
         Err(PairFault::Memory) => None,
         Ok(_) => None,
@@ -32,7 +22,7 @@ fn told(rule: IllRule, line: u32) -> Option<Ill> {
 
 #[test]
 fn the_pair_sheet_has_two_grammars(rt: HostRuntime) -> Result<(), Fail> {
-    let two = pair(rt.alloc(), PAIR)?;
+    let two = pair_of(rt.alloc(), PAIR.as_bytes())?;
     assert_eq!(rt; two.names().len(), 3);
     let text = two.gram(Side::Text);
     assert_eq!(rt; text.rules(), 1);

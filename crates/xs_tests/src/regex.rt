@@ -522,6 +522,7 @@ fn first_wrong(alloc: Global, rows: &[(&str, &str, bool)]) -> Result<usize, Rege
 
 #[test]
 fn words_match_as_elsewhere(rt: HostRuntime) -> Result<(), Fail> {
-    assert_eq!(rt; first_wrong(rt.alloc(), &WORDS)?, WORDS.len());
+    let rows: &[(&str, &str, bool)] = &WORDS;
+    assert_eq!(rt; first_wrong(rt.alloc(), rows)?, rows.len());
     Ok(())
 }

@@ -1,40 +1,17 @@
-//! Two rules of one nonterminal, each of one word.
-ghost use Rattle.std.specs.Prelude.{◌≡◌, [], ◌∷◌, IfOk};
-ghost use Rattle.xs_gram.specs.declared.parts.GItem.TheVariants.{Fixed};
-ghost use Rattle.xs_gram.specs.Building.{CanBuild};
+ghost use Rattle.xs_gram.specs.Sound.{IsBuilt};
 
+use crate::sheets::pair_of;
 use std::alloc::Global;
 use std::test::Fail;
-use xs_class::{Memory, Sym, Word};
-use xs_gram::{GItem, GItems, Gram, GramParts, Regexes, RulePart, Rules, Skips};
+use xs_class::Side;
+use xs_gram::Gram;
 use xs_order::components;
 use xs_vert::{Vert, vertical};
 
-/// A rule with one symbol.
-fn rule(alloc: Global, code: u32) -> Result<RulePart, Memory>
-    ensures { IfOk result (λ r. r ≡ record { non = 0; items = Fixed (code ∷ []) ∷ [] }) }
-{
-    let mut word = Word::new(alloc);
-    word.push(Sym(code))?;
-    let mut items = GItems::new(alloc);
-    items.push(GItem::Fixed(word))?;
-    Ok(RulePart { non: 0, items })
-}
+// Two rules of one nonterminal, each of one word.
+const SAME: &[u8] = b"xsugar-1\nstart s\ns : \"x\" = <a/>\ns : \"x\" = <b/>\n";
 
-fn parts(alloc: Global, first: u32, second: u32) -> Result<GramParts, Memory>
-    ensures { IfOk result CanBuild }
-{
-    let mut rules = Rules::new(alloc);
-    rules.push(rule(alloc, first)?)?;
-    rules.push(rule(alloc, second)?)?;
-    Ok(GramParts {
-        start: 0,
-        nons: 1,
-        rules,
-        terms: Regexes::new(alloc),
-        skips: Skips::new(alloc),
-    })
-}
+const OTHER: &[u8] = b"xsugar-1\nstart s\ns : \"x\" = <a/>\ns : \"y\" = <b/>\n";
 
 /// The rules and the word's length, or zeros where there is no suspect.
 fn shown(found: &Option<Vert>) -> (u32, u32, usize) {
@@ -44,15 +21,21 @@ fn shown(found: &Option<Vert>) -> (u32, u32, usize) {
     }
 }
 
-fn suspect(alloc: Global, second: u32) -> Result<(u32, u32, usize), Fail> {
-    let gram = Gram::build(alloc, parts(alloc, 120, second)?)?;
-    let comps = components(alloc, &gram)?;
-    Ok(shown(&vertical(alloc, &gram, &comps)?))
+fn suspect(alloc: Global, gram: &Gram) -> Result<(u32, u32, usize), Fail>
+    requires { IsBuilt gram.now }
+{
+    let comps = components(alloc, gram)?;
+    Ok(shown(&vertical(alloc, gram, &comps)?))
+}
+
+fn suspect_of(alloc: Global, sheet: &[u8]) -> Result<(u32, u32, usize), Fail> {
+    let two = pair_of(alloc, sheet)?;
+    suspect(alloc, two.gram(Side::Text))
 }
 
 #[test]
 fn rules_with_one_word_are_suspect(rt: HostRuntime) -> Result<(), Fail> {
-    assert!(rt; suspect(rt.alloc(), 120)? == (0, 1, 1));
-    assert!(rt; suspect(rt.alloc(), 121)? == (0, 0, 0));
+    assert!(rt; suspect_of(rt.alloc(), SAME)? == (0, 1, 1));
+    assert!(rt; suspect_of(rt.alloc(), OTHER)? == (0, 0, 0));
     Ok(())
 }

@@ -1,36 +1,13 @@
 //! At which lines the rules on words and loops fail.
-ghost use Rattle.std.specs.Prelude.{IfOk};
-ghost use Rattle.xs_gram.specs.Sound.{IsBuilt};
-ghost use Rattle.xs_wf.specs.Nonterminals.{IsPair, HaveOrderedLines};
-
+use crate::sheets::pair_of;
 use std::alloc::Global;
 use std::test::Fail;
-use xs_pair::{PairFault, Two, both};
-use xs_sheet::read_sheet;
+use xs_pair::PairFault;
 use xs_wf::{least_loop, least_unproductive};
-
-// The two grammars of the sheet of this text.
-fn two_of(alloc: Global, text: &str) -> Result<Two, PairFault>
-    ensures pair { IfOk result IsPair }
-    ensures text { IfOk result (λ p. IsBuilt p.text) }
-    ensures xml { IfOk result (λ p. IsBuilt p.xml) }
-    ensures lines { IfOk result (λ p. HaveOrderedLines p.lines) }
-{
-    if text.len() > 65536 {
-        return Err(PairFault::Memory);
-    }
-    match read_sheet(alloc, text.as_bytes()) {
-        Ok(sheet) => {
-            let two = both(alloc, &sheet)?;
-            Ok(two)
-        }
-        Err(_) => Err(PairFault::Memory),
-    }
-}
 
 // The lines at which the two rules fail.
 fn lines_of(alloc: Global, text: &str) -> Result<(Option<u32>, Option<u32>), PairFault> {
-    let two = two_of(alloc, text)?;
+    let two = pair_of(alloc, text.as_bytes())?;
     let wordless = least_unproductive(alloc, &two)?;
     let looping = least_loop(alloc, &two)?;
     Ok((wordless, looping))

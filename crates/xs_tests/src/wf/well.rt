@@ -1,23 +1,13 @@
+use crate::sheets::two_of;
 use std::alloc::Global;
 use std::test::Fail;
 use xs_class::Side;
-use xs_pair::{Ill, IllRule, Two};
-use xs_sheet::read_sheet;
-use xs_wf::{WfFault, well_formed};
-
-fn well(alloc: Global, text: &str) -> Result<Two, WfFault> {
-    if text.len() > 65536 {
-        return Err(WfFault::Memory);
-    }
-    match read_sheet(alloc, text.as_bytes()) {
-        Ok(sheet) => well_formed(alloc, &sheet),
-        Err(_) => Err(WfFault::Memory),
-    }
-}
+use xs_pair::{Ill, IllRule};
+use xs_wf::WfFault;
 
 // The number of productions of a well-formed sheet.
 fn productions(alloc: Global, text: &str) -> Option<u32> {
-    match well(alloc, text) {
+    match two_of(alloc, text.as_bytes()) {
         Ok(two) => Some(two.gram(Side::Text).rules()),
         Err(_) => None,
     }
@@ -25,7 +15,7 @@ fn productions(alloc: Global, text: &str) -> Option<u32> {
 
 // The failure of a sheet.
 fn ill(alloc: Global, text: &str) -> Option<Ill> {
-    match well(alloc, text) {
+    match two_of(alloc, text.as_bytes()) {
         Err(WfFault::Ill(ill)) => Some(ill),
         Err(WfFault::Memory) => None,
         Ok(_) => None,

@@ -1,4 +1,0 @@
-mod EarleySamples
-mod ListingSamples
-mod TalkSamples
-mod TurnSamples

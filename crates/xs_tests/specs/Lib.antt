@@ -1,3 +1,0 @@
-pub mod ListingSample
-pub mod TalkSample
-pub mod TurnSample
