@@ -9,7 +9,7 @@ use xs_class::{Listed, Memory};
 
 /// A search for what clauses make: the flags of the numbers that are made, those numbers in the
 /// order in which they were found, and for each clause how many of its premises in front are made.
-#[derive(Debug, Drop)]
+#[derive(Drop)]
 pub struct Search {
     pub flags: Vec<bool>,
     pub found: Vec<u32>,

@@ -12,7 +12,7 @@ use xs_order::Flags;
 use xs_regex::Numbers;
 
 /// Of each nonterminal, whether it derives the empty word, and its rules.
-#[derive(Debug, Drop)]
+#[derive(Drop)]
 pub struct Calls {
     nulls: Flags,
     rules: Vec<Numbers>,

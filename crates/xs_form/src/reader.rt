@@ -8,7 +8,7 @@ ghost use Rattle.xs_form.specs.State.{next_run as next_run_of, initial, line_sym
 use crate::marks::{closing_mark, opening_mark, spelled};
 use crate::pieces::Event;
 use crate::runs::{equal, white};
-use crate::sorted::symbols_of;
+use crate::sorted::push_attributes;
 use std::alloc::Global;
 use std::collections::BTreeMap;
 use xs_class::{Memory, Names, Sym, Word};
@@ -60,10 +60,8 @@ fn push_opening(
     ensures { OnOk result (word.new ≡ word.old ++ opening names.now name.now ∷ entry_symbols names.now (shown_entries attributes)) }
 {
     let text = spelled(alloc, name)?;
-    let symbols = symbols_of(alloc, names, attributes)?;
     word.push(opening_mark(names, text.as_str()))?;
-    word.extend(symbols.as_slice())?;
-    Ok(())
+    push_attributes(word, names, attributes)
 }
 
 // The mark of an element's end.

@@ -1,5 +1,5 @@
 /// A node whose edges a search is walking.
-#[derive(Clone, Copy, Debug, PartialEq, Eq)]
+#[derive(Clone, Copy)]
 pub struct Frame {
     pub node: u32,
     /// The node's place among those that wait.

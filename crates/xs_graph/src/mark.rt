@@ -7,7 +7,7 @@ use std::alloc::Global;
 use xs_class::{Listed, Memory};
 
 /// What a search knows of a node.
-#[derive(Clone, Copy, Debug, PartialEq, Eq)]
+#[derive(Clone, Copy)]
 pub enum Mark {
     /// It was not reached yet.
     Unseen,

@@ -10,7 +10,7 @@ use std::alloc::Global;
 use xs_class::Memory;
 
 /// A search through a graph along its edges, and the components that it has found.
-#[derive(Debug, Drop)]
+#[derive(Drop)]
 pub struct Search {
     /// What is known of each node.
     pub marks: Vec<Mark>,

@@ -1,7 +1,7 @@
 use xs_forest::Label;
 
 /// A nonterminal, and the place of the document where it begins, counted from 0.
-#[derive(Clone, Copy, Debug, PartialEq, Eq, Hash)]
+#[derive(Clone, Copy, PartialEq, Eq, Hash)]
 pub struct Call {
     pub non: u32,
     pub start: u32,

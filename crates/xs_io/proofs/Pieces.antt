@@ -1,10 +1,10 @@
 -- Pieces that follow one another.
-use Rattle.std.proofs.Common.{◌≡◌, ℕ, ◌+◌, ◌-◌, ◌<◌, ◌≤◌, List, ◌++◌, length, take, drop, sym, ◌∙◌, ap, Some, None, arith, append_assoc, length-append, length-drop}
+use Rattle.std.proofs.Common.{◌≡◌, ℕ, ◌+◌, ◌-◌, ◌<◌, ◌≤◌, List, [], ◌++◌, length, take, drop, sym, ◌∙◌, ap, Some, None, arith, append_assoc, length-append, length-drop}
 use Rattle.std.specs.declared.option.Option.{Option}
-use Rattle.std.specs.Io.KnownBytes.{Appends, Consumes, Keeps}
-use Rattle.std.proofs.lemmas.List.{take_all}
+use Rattle.std.specs.Io.KnownBytes.{Appends, Consumes, IsAtEnd, Keeps}
+use Rattle.std.proofs.lemmas.List.{append-nil, take_all}
 use Rattle.std.proofs.Math.Seq.{take-add}
-use Rattle.xs_io.specs.Whole.{Exceeds, TakesAtMost}
+use Rattle.xs_io.specs.Whole.{Drains, Exceeds, TakesAtMost}
 
 -- what was written, and a front of the rest, is a longer front
 pub appends_front : (old mid new : Option (List ℕ)) (xs : List ℕ) (i n : ℕ) → Appends old mid (take i xs) → Appends mid new (take n (take (length xs - i) (drop i xs))) → Appends old new (take (i + n) xs)
@@ -51,3 +51,12 @@ exceeds (Some a) (Some b) None taken piece limit first next more less = absurd n
 exceeds (Some a) (Some b) (Some c) taken piece limit first next more less =
     let whole : a ≡ (taken ++ piece) ++ c = consumes_both (Some a) (Some b) (Some c) taken piece first next in
     (omega (arith, ap length whole, length-append (taken ++ piece) c, length-append taken piece), taken ++ piece, whole, omega (arith, length-append taken piece))
+
+-- a read of nothing at the end
+pub drains : (old mid new : Option (List ℕ)) (taken piece : List ℕ) (limit : ℕ) → Consumes old mid taken → Consumes mid new piece → piece ≡ [] → IsAtEnd new → length taken ≤ limit → Drains old new taken limit
+drains None mid new taken piece limit first next none end few = few
+drains (Some a) None new taken piece limit first next none end few = absurd first
+drains (Some a) (Some b) None taken piece limit first next none end few = absurd next
+drains (Some a) (Some b) (Some c) taken piece limit first next none end few =
+    let nothing : b ≡ [] = next ∙ ap (λ (l : List ℕ). l ++ c) none ∙ end in
+    (sym (first ∙ ap (λ (l : List ℕ). taken ++ l) nothing ∙ append-nil taken), end, few)

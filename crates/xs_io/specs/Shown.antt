@@ -1,5 +1,5 @@
 -- What a shelf tells of its files.
-use Rattle.std.specs.Prelude.{◌≡◌, ℕ, ◌≤◌, ◌<◌, ◌-◌, List, [], ◌++◌, length, drop, min, ⊤, None, Some, IsSome}
+use Rattle.std.specs.Prelude.{◌≡◌, ◌≢◌, ℕ, ◌≤◌, ◌<◌, ◌-◌, List, [], ◌++◌, length, drop, min, ⊤, None, Some, IsSome}
 use Rattle.std.specs.declared.option.Option.{Option}
 use Rattle.xs_io.specs.Causes.{Rose}
 
@@ -41,3 +41,10 @@ IsFile (Some files) name bytes limit = (files name ≡ Some bytes) × (length by
 abbrev pub IsLongFile : Files → List ℕ → ℕ → Type 0
 IsLongFile None name limit = ⊤
 IsLongFile (Some files) name limit = (bytes : List ℕ) × (files name ≡ Some bytes) × (limit < length bytes)
+
+-- calls on one name: the files stay, no count falls, and no other name's count moves
+pub record Touches (files_before files_now : Files) (name : List ℕ) (before now : ℕ) (own_before own_now : List ℕ → ℕ) : Type 0 where
+  pub same : files_now ≡ files_before
+  pub later : before ≤ now
+  pub name_later : own_before name ≤ own_now name
+  pub others : (other : List ℕ) → other ≢ name → own_now other ≡ own_before other

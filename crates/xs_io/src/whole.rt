@@ -2,7 +2,7 @@ ghost use Rattle.std.specs.Prelude.{◌≡◌, ◌≢◌, ℕ, List, ◌+◌, �
 ghost use Rattle.std.specs.Io.KnownBytes.{Appends};
 ghost use Rattle.xs_io.specs.Causes.{Rose};
 ghost use Rattle.xs_io.specs.Whole.{Drains, Exceeds, TakesAtMost};
-ghost use Rattle.xs_io.specs.Shown.{IsFile, IsLongFile, NameFailed};
+ghost use Rattle.xs_io.specs.Shown.{IsFile, IsLongFile, NameFailed, Touches};
 
 use crate::{Failed, Shelf, Sink, Source};
 use std::alloc::Global;
@@ -163,11 +163,8 @@ fn read_file_pieces<H: Shelf>(
     ensures fault { IsErrOf result ReadStop.ReadFault → NameFailed (H.files shelf.old) name.now
         (H.faults shelf.old) (H.faults shelf.new) (H.name_faults shelf.old name.now)
         (H.name_faults shelf.new name.now) }
-    ensures same { H.files shelf.new ≡ H.files shelf.old }
-    ensures later { H.faults shelf.old ≤ H.faults shelf.new }
-    ensures name_later { H.name_faults shelf.old name.now ≤ H.name_faults shelf.new name.now }
-    ensures others { (other : List ℕ) → other ≢ name.now → H.name_faults shelf.new other
-        ≡ H.name_faults shelf.old other }
+    ensures touched { Touches (H.files shelf.old) (H.files shelf.new) name.now (H.faults shelf.old)
+        (H.faults shelf.new) (H.name_faults shelf.old) (H.name_faults shelf.new) }
 {
     let mut bytes = Bytes::new(alloc);
     'pieces: loop {

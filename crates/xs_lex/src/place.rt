@@ -2,7 +2,7 @@ ghost use Rattle.std.specs.Prelude.{◌≡◌, ◌+◌, ◌≤◌};
 ghost use Rattle.xs_lex.specs.Reading.{size_of, line_ends};
 
 /// A place in a file: a number of bytes before it, and its line counted from 1.
-#[derive(Clone, Copy, Debug, PartialEq, Eq)]
+#[derive(Clone, Copy)]
 pub struct Place {
     pub at: u32,
     pub line: u32,

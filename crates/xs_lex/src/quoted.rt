@@ -1,4 +1,4 @@
-ghost use Rattle.std.specs.Prelude.{◌≡◌, ◌<◌, ◌≤◌, Some, IfOk, IfSome, option_to_list};
+ghost use Rattle.std.specs.Prelude.{◌≡◌, ◌<◌, ◌≤◌, ◌++◌, Some, IfOk, IfSome, OnOk, option_to_list};
 ghost use Rattle.std.specs.Str.{chars};
 ghost use Rattle.xs_lex.specs.Spelling.{Spells, IsQuoted};
 ghost use Rattle.xs_lex.specs.Units.{is_escape, escape_char};
@@ -9,7 +9,7 @@ use std::alloc::Global;
 use xs_class::{Memory, Text};
 
 /// A place in a quoted string: between units, or inside one.
-#[derive(Clone, Copy, Debug, PartialEq, Eq)]
+#[derive(Clone, Copy)]
 pub enum Spot {
     Between,
     /// Behind a backslash.
@@ -56,22 +56,8 @@ impl Spot {
         ensures bounded { IfSome result IsBounded }
     {
         match self {
-            Spot::Between => {
-                if c == '\\' {
-                    return Some(Spot::Escaped);
-                }
-                if c == '\n' { None } else { Some(Spot::Between) }
-            }
-            Spot::Escaped => {
-                if c == 'u' {
-                    return Some(Spot::Opened);
-                }
-                if is_escape_sign(c) {
-                    Some(Spot::Between)
-                } else {
-                    None
-                }
-            }
+            Spot::Between => after_character(c),
+            Spot::Escaped => after_backslash(c),
             Spot::Opened => {
                 if c == '{' {
                     Some(Spot::Digits(0, 0))
@@ -97,6 +83,30 @@ impl Spot {
                 None
             },
         }
+    }
+}
+
+fn after_character(c: char) -> Option<Spot>
+    ensures value { result ≡ spot_after Spot.Between c }
+    ensures bounded { IfSome result IsBounded }
+{
+    if c == '\\' {
+        return Some(Spot::Escaped);
+    }
+    if c == '\n' { None } else { Some(Spot::Between) }
+}
+
+fn after_backslash(c: char) -> Option<Spot>
+    ensures value { result ≡ spot_after Spot.Escaped c }
+    ensures bounded { IfSome result IsBounded }
+{
+    if c == 'u' {
+        return Some(Spot::Opened);
+    }
+    if is_escape_sign(c) {
+        Some(Spot::Between)
+    } else {
+        None
     }
 }
 
@@ -135,6 +145,16 @@ pub fn quoted(text: &[char]) -> Option<usize>
     None
 }
 
+// The text with the character, if there is one.
+fn push_given(text: &mut Text, given: Option<char>) -> Result<(), Memory>
+    ensures { OnOk result (text.new ≡ text.old ++ option_to_list given) }
+{
+    if let Some(c) = given {
+        text.push(c)?;
+    }
+    Ok(())
+}
+
 // What a quoted string's text behind its first quotation mark stands for.
 fn value(alloc: Global, text: &[char]) -> Result<Text, Memory>
     ensures { IfOk result (λ t. t ≡ value_at (Some Spot.Between) text.now) }
@@ -145,9 +165,7 @@ fn value(alloc: Global, text: &[char]) -> Result<Text, Memory>
         if spot.closes(*c) {
             return Ok(value);
         }
-        if let Some(given) = spot.given(*c) {
-            value.push(given)?;
-        }
+        push_given(&mut value, spot.given(*c))?;
         match spot.after(*c) {
             Some(next) => spot = next,
             None => return Ok(value),

@@ -63,7 +63,7 @@ pub(crate) fn count_rows(
 }
 
 /// An alternative, and the numbers of its children's unfoldings.
-#[derive(Clone, Copy, Debug)]
+#[derive(Clone, Copy)]
 pub(crate) struct Chosen {
     pub alt: Alt,
     pub left: u64,

@@ -35,7 +35,7 @@ pub(crate) fn end_of(forest: &Forest<'_, SpanKey>, start: u32, left: Option<u64>
 }
 
 /// How the first alternative of a row goes on: its children, and the stretch of the row's last item.
-#[derive(Clone, Copy, Debug)]
+#[derive(Clone, Copy)]
 pub(crate) struct Step {
     pub left: Option<u64>,
     pub right: Option<u64>,

@@ -29,7 +29,7 @@ pub(crate) struct Source<'s, 'b> {
 }
 
 /// What is still to be written of a derivation.
-#[derive(Clone, Copy, Debug)]
+#[derive(Clone, Copy)]
 pub(crate) enum Task {
     /// An unfolding of a row, by its number.
     Visit {
@@ -51,7 +51,7 @@ pub(crate) enum Task {
 }
 
 /// The parts that are written, and the places of those that are no kids yet.
-#[derive(Debug, Drop)]
+#[derive(Drop)]
 pub(crate) struct Written {
     pub parts: Vec<SpeltPart>,
     pub places: Vec<u64>,

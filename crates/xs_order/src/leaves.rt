@@ -6,7 +6,7 @@ use xs_gram::GItem;
 
 /// Which items that are no nonterminals are good: whether fixed words are, and for each terminal
 /// and each ignorable whether it is.
-#[derive(Debug, Drop)]
+#[derive(Drop)]
 pub struct Leaves {
     pub fixed: bool,
     pub terms: Vec<bool>,

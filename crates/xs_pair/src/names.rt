@@ -88,3 +88,15 @@ pub fn firsts(alloc: Global, list: &Directory) -> Result<Vec<Text>, Memory>
     }
     Ok(names)
 }
+
+/// The texts once more.
+pub fn copies(alloc: Global, texts: &[Text]) -> Result<Vec<Text>, Memory>
+    ensures { IfOk result (λ v. v.items ≡ texts.now) }
+{
+    let mut all = Vec::with_capacity(alloc, texts.len())?;
+    'texts: for text in texts {
+        let text = text.copy()?;
+        all.push(text)?;
+    }
+    Ok(all)
+}

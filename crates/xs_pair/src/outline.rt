@@ -1,5 +1,6 @@
 ghost use Rattle.std.specs.Prelude.{◌≡◌, ◌<◌, length, IfOk};
 ghost use Rattle.xs_pair.specs.declared.names.Sort.TheVariants as S;
+ghost use Rattle.xs_pair.specs.Listing as L;
 ghost use Rattle.xs_pair.specs.Units as U;
 ghost use Rattle.xs_pair.specs.Verdict.{IsOutlineOf};
 
@@ -45,24 +46,52 @@ fn distinct(alloc: Global, list: &Directory) -> Result<Directory, Memory>
     Directory::of(alloc, names)
 }
 
-// The names of terminals and ignorables, together and apart.
+// The names of all units, of terminals and ignorables together, and of these apart.
 #[derive(Drop)]
-struct LexicalNames {
-    all: Directory,
+struct UnitNames {
+    units: Directory,
+    lexical: Directory,
     terms: Directory,
     skips: Directory,
 }
 
-fn lexicon(alloc: Global, units: &[Unit]) -> Result<LexicalNames, Memory>
+fn unit_names(alloc: Global, units: &[Unit]) -> Result<UnitNames, Memory>
     requires { length units.now < 65536 }
-    ensures all { IfOk result (λ l. l.all ≡ U.names_of S.Lexical units.now) }
-    ensures terms { IfOk result (λ l. l.terms ≡ U.terms_of units.now) }
-    ensures skips { IfOk result (λ l. l.skips ≡ U.skips_of units.now) }
+    ensures units { IfOk result (λ n. n.units ≡ U.names_of S.Any units.now) }
+    ensures lexical { IfOk result (λ n. n.lexical ≡ U.names_of S.Lexical units.now) }
+    ensures terms { IfOk result (λ n. n.terms ≡ U.terms_of units.now) }
+    ensures skips { IfOk result (λ n. n.skips ≡ U.skips_of units.now) }
 {
-    let all = directory(alloc, Sort::Lexical, units)?;
+    let lexical = directory(alloc, Sort::Lexical, units)?;
     let terms = directory(alloc, Sort::Terminal, units)?;
     let skips = directory(alloc, Sort::Ignorable, units)?;
-    Ok(LexicalNames { all, terms, skips })
+    let units = directory(alloc, Sort::Any, units)?;
+    Ok(UnitNames {
+        units,
+        lexical,
+        terms,
+        skips,
+    })
+}
+
+// The productions, their names, and the nonterminals.
+#[derive(Drop)]
+struct Productions {
+    rules: Vec<Rule>,
+    heads: Directory,
+    nons: Directory,
+}
+
+fn productions_of(alloc: Global, units: &[Unit]) -> Result<Productions, Memory>
+    requires { length units.now < 65536 }
+    ensures rules { IfOk result (λ p. p.rules.items ≡ L.rules_of units.now) }
+    ensures heads { IfOk result (λ p. p.heads ≡ U.names_of S.Production units.now) }
+    ensures nons { IfOk result (λ p. p.nons ≡ U.nons_of units.now) }
+{
+    let rules = rules_of(alloc, units)?;
+    let heads = directory(alloc, Sort::Production, units)?;
+    let nons = distinct(alloc, &heads)?;
+    Ok(Productions { rules, heads, nons })
 }
 
 impl Outline {
@@ -71,21 +100,18 @@ impl Outline {
         requires { length sheet.now.units < 65536 }
         ensures { IfOk result (IsOutlineOf sheet.now) }
     {
-        let all = sheet.units.as_slice();
-        let rules = rules_of(alloc, all)?;
+        let units = sheet.units.as_slice();
         let start = sheet.start.copy()?;
-        let heads = directory(alloc, Sort::Production, all)?;
-        let nons = distinct(alloc, &heads)?;
-        let units = directory(alloc, Sort::Any, all)?;
-        let lexicon = lexicon(alloc, all)?;
+        let productions = productions_of(alloc, units)?;
+        let names = unit_names(alloc, units)?;
         Ok(Outline {
-            units,
-            lexical: lexicon.all,
-            terms: lexicon.terms,
-            skips: lexicon.skips,
-            heads,
-            nons,
-            rules,
+            units: names.units,
+            lexical: names.lexical,
+            terms: names.terms,
+            skips: names.skips,
+            heads: productions.heads,
+            nons: productions.nons,
+            rules: productions.rules,
             start,
             start_line: sheet.start_line,
         })

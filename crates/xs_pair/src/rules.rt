@@ -1,4 +1,4 @@
-ghost use Rattle.std.specs.Prelude.{◌≡◌, ◌<◌, ◌↔◌, ◌+◌, ◌^◌, ◌≤◌, ◌∷◌, [], ℕ, length, IfOk, OnOk, IfErr, IsTrue};
+ghost use Rattle.std.specs.Prelude.{◌≡◌, ◌<◌, ◌↔◌, ◌⊎◌, ◌+◌, ◌^◌, ◌≤◌, ◌∷◌, [], ℕ, length, IfOk, OnOk, IfErr, IsTrue};
 ghost use Rattle.xs_pair.specs.declared.ill.IllRule.TheVariants as R;
 ghost use Rattle.xs_pair.specs.declared.names.Sort.TheVariants as S;
 ghost use Rattle.xs_pair.specs.Units as U;
@@ -7,8 +7,9 @@ ghost use Rattle.xs_pair.specs.Rules.{SomeOf, IsNameless, IsUndefined, IsMisname
 ghost use Rattle.xs_pair.specs.Verdict.{IsIllMark, FailsIn, FailsAmong, FailsAt, IsFirstLine, IsLineWhere, NoneBefore, NoneFails, IsRefusal, IsOutlineOf, IsTaken, order, tables_in};
 
 use crate::least::with_line;
+use crate::names::copies;
 use crate::outline::Outline;
-use crate::slots::{has_two_names, is_not_once, slot_directory, slots_of};
+use crate::slots::{has_two_names, is_not_once, slot_directory};
 use crate::{Directory, Ill, IllRule, Mark, PairFault, Rule, Sort, is_of, unit_line};
 use std::alloc::Global;
 use xs_class::{Memory, Text};
@@ -25,17 +26,6 @@ fn with_unit(lexical: usize, unit: &Unit) -> usize
     } else {
         lexical
     }
-}
-
-fn copies(alloc: Global, names: &[Text]) -> Result<Vec<Text>, Memory>
-    ensures { IfOk result (λ v. v.items ≡ names.now) }
-{
-    let mut all = Vec::with_capacity(alloc, names.len())?;
-    'names: for name in names {
-        let name = name.copy()?;
-        all.push(name)?;
-    }
-    Ok(all)
 }
 
 // Whether an element has two attributes of one name.
@@ -140,28 +130,24 @@ impl Outline {
         Ok(false)
     }
 
+    fn some_ill_on_a_side(&self, alloc: Global, kind: IllRule, rule: &Rule) -> Result<bool, Memory>
+        requires { rule_weight rule.now < 65536 }
+        ensures { IfOk result (λ b. IsTrue b ↔ (SomeOf (IsIllMark kind (tables_in self.now)) rule.now.left ⊎ SomeOf (IsIllMark kind (tables_in self.now)) rule.now.right)) }
+    {
+        let on_left = self.some_ill(alloc, kind, rule.left.as_slice())?;
+        let on_right = self.some_ill(alloc, kind, rule.right.as_slice())?;
+        Ok(on_left || on_right)
+    }
+
     // Whether an item is of another kind than its form, its place, or its slot on the other side asks for.
     fn fails_kind(&self, alloc: Global, rule: &Rule) -> Result<bool, Memory>
         requires light { rule_weight rule.now < 65536 }
         requires once { FailsIn R.NameOnce (tables_in self.now) rule.now → ⊥ }
         ensures { IfOk result (λ b. IsTrue b ↔ FailsIn R.Kind (tables_in self.now) rule.now) }
     {
-        let on_left = self.some_ill(alloc, IllRule::Kind, rule.left.as_slice())?;
-        let on_right = self.some_ill(alloc, IllRule::Kind, rule.right.as_slice())?;
-        let slots = slot_directory(alloc, rule.left.as_slice())?;
-        let left = slots_of(alloc, rule.left.as_slice())?;
-        let right = slots_of(alloc, rule.right.as_slice())?;
-        let two_names = has_two_names(&slots, &left, &right);
-        Ok(on_left || on_right || two_names)
-    }
-
-    fn fails_undefined(&self, alloc: Global, rule: &Rule) -> Result<bool, Memory>
-        requires { rule_weight rule.now < 65536 }
-        ensures { IfOk result (λ b. IsTrue b ↔ FailsIn R.Undefined (tables_in self.now) rule.now) }
-    {
-        let on_left = self.some_ill(alloc, IllRule::Undefined, rule.left.as_slice())?;
-        let on_right = self.some_ill(alloc, IllRule::Undefined, rule.right.as_slice())?;
-        Ok(on_left || on_right)
+        let on_a_side = self.some_ill_on_a_side(alloc, IllRule::Kind, rule)?;
+        let between = has_two_names(alloc, rule.left.as_slice(), rule.right.as_slice())?;
+        Ok(on_a_side || between)
     }
 
     fn fails_once(&self, alloc: Global, rule: &Rule) -> Result<bool, Memory>
@@ -187,7 +173,7 @@ impl Outline {
         ensures { IfOk result (λ b. IsTrue b ↔ FailsIn kind (tables_in self.now) rule.now) }
     {
         match kind {
-            IllRule::Undefined => self.fails_undefined(alloc, rule),
+            IllRule::Undefined => self.some_ill_on_a_side(alloc, IllRule::Undefined, rule),
             IllRule::NameOnce => self.fails_once(alloc, rule),
             IllRule::Kind => self.fails_kind(alloc, rule),
             IllRule::AttrTwice => self.some_ill(alloc, IllRule::AttrTwice, rule.right.as_slice()),

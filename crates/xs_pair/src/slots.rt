@@ -70,8 +70,8 @@ fn is_same(one: &Text, other: &Text) -> bool
     one.as_str() == other.as_str()
 }
 
-/// Whether a slot has two names of units on the two sides, where it stands once on the left side.
-pub fn has_two_names(slots: &Directory, left: &[(Text, Text)], right: &[(Text, Text)]) -> bool
+// Whether a slot has another name of a unit on the right side, where it stands once on the left side.
+fn names_differ(slots: &Directory, left: &[(Text, Text)], right: &[(Text, Text)]) -> bool
     requires slots { slots.now ≡ map (λ (s : List ℕ × List ℕ). s.0) left.now }
     requires distinct { IsDistinct slots.now }
     ensures { IsTrue result ↔ HasTwoNames left.now right.now }
@@ -84,4 +84,16 @@ pub fn has_two_names(slots: &Directory, left: &[(Text, Text)], right: &[(Text, T
         }
     }
     false
+}
+
+/// Whether a slot has two names of units on the two sides, where it stands once on the left side.
+pub fn has_two_names(alloc: Global, left: &[Mark], right: &[Mark]) -> Result<bool, Memory>
+    requires light { marks_weight left.now < 65536 }
+    requires distinct { IsDistinct (M.slot_names left.now) }
+    ensures { IfOk result (λ b. IsTrue b ↔ HasTwoNames (M.slots_of left.now) (M.slots_of right.now)) }
+{
+    let left_slots = slots_of(alloc, left)?;
+    let right_slots = slots_of(alloc, right)?;
+    let directory = slot_directory(alloc, left)?;
+    Ok(names_differ(&directory, &left_slots, &right_slots))
 }

@@ -7,9 +7,11 @@ ghost use Rattle.xs_pair.specs.Grammars.{Pair, IsPairOf, IsGramOf, HaveSameTrees
 ghost use Rattle.xs_class.specs.Ordered.{AreNamesOf};
 ghost use Rattle.xs_pair.specs.Listing.{rules_of, names_in as listed_names};
 ghost use Rattle.xs_pair.specs.Marks.{slot_names};
+ghost use Rattle.xs_pair.specs.Units.{nons_of};
 ghost use Rattle.xs_pair.specs.Verdict.{FailsAt, NoneFails, IsRefusal, IsOutlineOf};
 ghost use Rattle.xs_pair.specs.Weights.{weight, rule_weight, AreLight, IsOfBytes};
 
+use crate::names::copies;
 use crate::outline::Outline;
 use crate::production::names_in;
 use crate::slots::slot_directory;
@@ -87,18 +89,6 @@ impl Two {
     }
 }
 
-// The texts once more.
-fn copies(alloc: Global, texts: &[Text]) -> Result<Vec<Text>, Memory>
-    ensures { IfOk result (λ v. v.items ≡ texts.now) }
-{
-    let mut all = Vec::with_capacity(alloc, texts.len())?;
-    'texts: for text in texts {
-        let text = text.copy()?;
-        all.push(text)?;
-    }
-    Ok(all)
-}
-
 // The lines of the productions.
 fn lines_of(alloc: Global, rules: &[Rule]) -> Result<Vec<u32>, Memory>
     ensures { IfOk result (λ v. v.items ≡ map (λ (r : AnyRule). r.line) rules.now) }
@@ -143,6 +133,15 @@ fn names_of_marks(alloc: Global, sheet: &Sheet, rules: &[Rule]) -> Result<Names,
     Ok(names)
 }
 
+// What the numbers of the two grammars stand for.
+#[derive(Drop)]
+struct Legend {
+    names: Names,
+    lines: Vec<u32>,
+    nons: Vec<Text>,
+    slots: Vec<Listed<Text>>,
+}
+
 impl Outline {
     // The grammar of one side.
     fn grammar(
@@ -165,6 +164,27 @@ impl Outline {
         Ok(gram)
     }
 
+    fn legend(&self, alloc: Global, sheet: &Sheet) -> Result<Legend, Memory>
+        requires outline { IsOutlineOf sheet.now self.now }
+        requires light { AreLight self.now.rules.items }
+        requires small { weight sheet.now.units < 65536 }
+        ensures names { IfOk result (λ l. AreNamesOf (listed_names (rules_of sheet.now.units)) l.names) }
+        ensures lines { IfOk result (λ l. l.lines.items ≡ map (λ (r : AnyRule). r.line) (rules_of sheet.now.units)) }
+        ensures nons { IfOk result (λ l. l.nons.items ≡ nons_of sheet.now.units) }
+        ensures slots { IfOk result (λ l. l.slots.items ≡ map (λ (r : AnyRule). slot_names r.left) (rules_of sheet.now.units)) }
+    {
+        let names = names_of_marks(alloc, sheet, &self.rules)?;
+        let lines = lines_of(alloc, &self.rules)?;
+        let nons = copies(alloc, self.nons.as_slice())?;
+        let slots = slot_lists(alloc, &self.rules)?;
+        Ok(Legend {
+            names,
+            lines,
+            nons,
+            slots,
+        })
+    }
+
     fn two(&self, alloc: Global, sheet: &Sheet) -> Result<Two, Memory>
         requires outline { IsOutlineOf sheet.now self.now }
         requires passed { NoneFails (FailsAt sheet.now) }
@@ -175,19 +195,16 @@ impl Outline {
         ensures text { IfOk result (λ p. IsBuilt p.text) }
         ensures xml { IfOk result (λ p. IsBuilt p.xml) }
     {
-        let names = names_of_marks(alloc, sheet, &self.rules)?;
-        let lines = lines_of(alloc, &self.rules)?;
-        let nons = copies(alloc, self.nons.as_slice())?;
-        let slots = slot_lists(alloc, &self.rules)?;
-        let text = self.grammar(alloc, sheet, &names, Side::Text)?;
-        let xml = self.grammar(alloc, sheet, &names, Side::Xml)?;
+        let legend = self.legend(alloc, sheet)?;
+        let text = self.grammar(alloc, sheet, &legend.names, Side::Text)?;
+        let xml = self.grammar(alloc, sheet, &legend.names, Side::Xml)?;
         Ok(Two {
             text,
             xml,
-            names,
-            lines,
-            nons,
-            slots,
+            names: legend.names,
+            lines: legend.lines,
+            nons: legend.nons,
+            slots: legend.slots,
         })
     }
 

@@ -1,8 +1,9 @@
 ghost use Rattle.std.specs.Prelude.{◌≡◌, ◌+◌, ◌*◌, ◌≤◌, ◌++◌, ℕ, List, [], length, IfOk};
 ghost use Rattle.xs_regex.specs.Automaton.{Accepts, IsWellFormed, ClassesHaveMembers, EachEnds};
 ghost use Rattle.xs_regex.specs.Matches.{joined, Each, InTurn, OfEither, Repeats, Matches};
-ghost use Rattle.xs_regex.specs.Parts.{IsAutomaton};
+ghost use Rattle.xs_regex.specs.Parts.{IsAutomaton, IsThen, IsEither};
 ghost use Rattle.xs_regex.specs.Size.{copies, times, size, sets, IsInOrder, IsBounded, HasMembers};
+ghost use Rattle.xs_regex.specs.declared.position.Position.{Position as AnyPosition};
 
 use crate::compose::{either, maybe, nothing, round, sequence, single};
 use crate::repeat::repeated;
@@ -67,12 +68,23 @@ fn in_turn(alloc: Global, a: &Regex, b: &Regex) -> Result<Position, Memory>
     let mut all = built(alloc, a)?;
     let mut rest = b;
     'parts: while let Regex::Then(part, behind) = rest {
-        let next = built(alloc, part)?;
-        all = sequence(alloc, all, next)?;
+        add_behind(alloc, &mut all, part)?;
         rest = behind;
     }
-    let last = built(alloc, rest)?;
-    sequence(alloc, all, last)
+    add_behind(alloc, &mut all, rest)?;
+    Ok(all)
+}
+
+/// Puts the automaton of a part behind that of the parts before it.
+#[cycle(built)]
+#[inline(never)]
+fn add_behind(alloc: Global, all: &mut Position, part: &Regex) -> Result<(), Memory>
+    requires formed { IsWellFormed all.old }
+    requires small { length all.old.classes + size part.now ≤ 512 }
+    ensures { IfOk result (λ _. (next : AnyPosition) × IsAutomaton (Matches part.now) (sets part.now) (IsBounded part.now) next × IsThen all.old next all.new) }
+{
+    let mut next = built(alloc, part)?;
+    sequence(alloc, all, &mut next)
 }
 
 /// One regex or another, whose right parts are passed one after another.
@@ -85,12 +97,23 @@ fn of_either(alloc: Global, a: &Regex, b: &Regex) -> Result<Position, Memory>
     let mut all = built(alloc, a)?;
     let mut rest = b;
     'parts: while let Regex::Or(part, behind) = rest {
-        let next = built(alloc, part)?;
-        all = either(alloc, all, next)?;
+        add_beside(alloc, &mut all, part)?;
         rest = behind;
     }
-    let last = built(alloc, rest)?;
-    either(alloc, all, last)
+    add_beside(alloc, &mut all, rest)?;
+    Ok(all)
+}
+
+/// Puts the automaton of a part beside that of the parts before it.
+#[cycle(built)]
+#[inline(never)]
+fn add_beside(alloc: Global, all: &mut Position, part: &Regex) -> Result<(), Memory>
+    requires formed { IsWellFormed all.old }
+    requires small { length all.old.classes + size part.now ≤ 512 }
+    ensures { IfOk result (λ _. (next : AnyPosition) × IsAutomaton (Matches part.now) (sets part.now) (IsBounded part.now) next × IsEither all.old next all.new) }
+{
+    let mut next = built(alloc, part)?;
+    either(alloc, all, &mut next)
 }
 
 /// A regex any number of times.
@@ -100,8 +123,9 @@ fn any_number(alloc: Global, a: &Regex) -> Result<Position, Memory>
     requires { size a.now ≤ 512 }
     ensures { IfOk result (IsAutomaton (λ w. (ws : List (List ℕ)) × (w ≡ joined ws) × Each (Matches a.now) ws) (sets a.now) (IsBounded a.now)) }
 {
-    let p = built(alloc, a)?;
-    Ok(maybe(round(alloc, p)?))
+    let mut p = built(alloc, a)?;
+    round(alloc, &mut p)?;
+    Ok(maybe(p))
 }
 
 /// A regex as often as the counts allow.

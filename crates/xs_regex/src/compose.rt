@@ -1,8 +1,8 @@
-ghost use Rattle.std.specs.Prelude.{◌≡◌, ◌+◌, ◌≤◌, length, IfOk};
+ghost use Rattle.std.specs.Prelude.{◌≡◌, ◌+◌, ◌≤◌, false, length, IfOk};
 ghost use Rattle.xs_regex.specs.Automaton.{IsWellFormed};
 ghost use Rattle.xs_regex.specs.Parts.{bare, of_class, optional, IsThen, IsEither, IsRound};
 
-use crate::lists::{extended, extended_if, joined, kept_if, linked, rows_shifted, shifted};
+use crate::lists::{append, extended, link, link_behind, push_rows, push_shifted};
 use crate::{Follows, Numbers, Position};
 use std::alloc::Global;
 use xs_class::{Class, Listed, Memory};
@@ -26,80 +26,79 @@ pub fn single(alloc: Global, class: &Class) -> Result<Position, Memory>
     ensures { IfOk result (λ p. p ≡ of_class class.now) }
 {
     let mut p = nothing(alloc, false);
+    add_class(alloc, &mut p, class)?;
+    Ok(p)
+}
+
+/// Gives an automaton of no position one that begins and ends.
+fn add_class(alloc: Global, p: &mut Position, class: &Class) -> Result<(), Memory>
+    requires { p.old ≡ bare false }
+    ensures { IfOk result (λ _. p.new ≡ of_class class.now) }
+{
     p.classes.push(class.copy()?)?;
     p.first.push(0)?;
     p.last.push(0)?;
     p.follow.push(Listed::new(alloc))?;
-    Ok(p)
+    Ok(())
 }
 
-/// One automaton and then another.
-pub fn sequence(alloc: Global, p: Position, q: Position) -> Result<Position, Memory>
-    requires front { IsWellFormed p }
-    requires rest { IsWellFormed q }
-    requires small { length p.classes + length q.classes ≤ 512 }
-    ensures { IfOk result (IsThen p q) }
+/// Puts another automaton, which is used up, behind one.
+pub fn sequence(alloc: Global, p: &mut Position, q: &mut Position) -> Result<(), Memory>
+    requires front { IsWellFormed p.old }
+    requires rest { IsWellFormed q.old }
+    requires small { length p.old.classes + length q.old.classes ≤ 512 }
+    ensures { IfOk result (λ _. IsThen p.old q.old p.new) }
 {
     let by = p.classes.len() as u32;
-    let first = shifted(alloc, by, q.first.as_slice())?;
-    let last = shifted(alloc, by, q.last.as_slice())?;
-    let follow = rows_shifted(alloc, by, q.follow.as_slice())?;
-    let rows = linked(alloc, p.follow, p.last.as_slice(), first.as_slice())?;
-    Ok(Position {
-        classes: joined(p.classes, q.classes)?,
-        first: extended_if(p.nullable, p.first, first.as_slice())?,
-        last: extended(kept_if(alloc, q.nullable, p.last), last.as_slice())?,
-        follow: joined(rows, follow)?,
-        nullable: p.nullable && q.nullable,
-    })
+    link_behind(
+        alloc,
+        &mut p.follow,
+        p.last.as_slice(),
+        by,
+        q.first.as_slice(),
+    )?;
+    if p.nullable {
+        push_shifted(&mut p.first, by, q.first.as_slice())?;
+    }
+    if !q.nullable {
+        p.last = Numbers::new(alloc);
+    }
+    push_shifted(&mut p.last, by, q.last.as_slice())?;
+    push_rows(alloc, &mut p.follow, by, q.follow.as_slice())?;
+    p.nullable = p.nullable && q.nullable;
+    append(alloc, &mut p.classes, &mut q.classes)
 }
 
-/// One automaton or another.
-pub fn either(alloc: Global, p: Position, q: Position) -> Result<Position, Memory>
-    requires front { IsWellFormed p }
-    requires rest { IsWellFormed q }
-    requires small { length p.classes + length q.classes ≤ 512 }
-    ensures { IfOk result (IsEither p q) }
+/// Puts another automaton, which is used up, beside one.
+pub fn either(alloc: Global, p: &mut Position, q: &mut Position) -> Result<(), Memory>
+    requires front { IsWellFormed p.old }
+    requires rest { IsWellFormed q.old }
+    requires small { length p.old.classes + length q.old.classes ≤ 512 }
+    ensures { IfOk result (λ _. IsEither p.old q.old p.new) }
 {
     let by = p.classes.len() as u32;
-    let first = shifted(alloc, by, q.first.as_slice())?;
-    let last = shifted(alloc, by, q.last.as_slice())?;
-    let follow = rows_shifted(alloc, by, q.follow.as_slice())?;
-    Ok(Position {
-        classes: joined(p.classes, q.classes)?,
-        first: extended(p.first, first.as_slice())?,
-        last: extended(p.last, last.as_slice())?,
-        follow: joined(p.follow, follow)?,
-        nullable: p.nullable || q.nullable,
-    })
+    push_shifted(&mut p.first, by, q.first.as_slice())?;
+    push_shifted(&mut p.last, by, q.last.as_slice())?;
+    push_rows(alloc, &mut p.follow, by, q.follow.as_slice())?;
+    p.nullable = p.nullable || q.nullable;
+    append(alloc, &mut p.classes, &mut q.classes)
 }
 
-/// An automaton once or more.
-pub fn round(alloc: Global, p: Position) -> Result<Position, Memory>
-    requires { IsWellFormed p }
-    ensures { IfOk result (IsRound p) }
+/// Lets an automaton go once or more.
+pub fn round(alloc: Global, p: &mut Position) -> Result<(), Memory>
+    requires { IsWellFormed p.old }
+    ensures { IfOk result (λ _. IsRound p.old p.new) }
 {
-    let follow = linked(alloc, p.follow, p.last.as_slice(), p.first.as_slice())?;
-    Ok(Position {
-        classes: p.classes,
-        first: p.first,
-        last: p.last,
-        follow,
-        nullable: p.nullable,
-    })
+    link(alloc, &mut p.follow, p.last.as_slice(), p.first.as_slice())
 }
 
 /// An automaton, or the empty word.
 pub fn maybe(p: Position) -> Position
     ensures { result ≡ optional p }
 {
-    Position {
-        classes: p.classes,
-        first: p.first,
-        last: p.last,
-        follow: p.follow,
-        nullable: true,
-    }
+    let mut whole = p;
+    whole.nullable = true;
+    whole
 }
 
 /// The same automaton once more.

@@ -56,10 +56,13 @@ fn at_least(alloc: Global, one: &Position, least: u32) -> Result<Position, Memor
     requires small { max least 1 * length one.now.classes ≤ 512 }
     ensures { IfOk result (IsAutomaton (Repeats (Accepts one.now) least None) (times (max least 1) one.now.classes) (IsSure one.now least None)) }
 {
-    let last = round(alloc, copied(alloc, one)?)?;
+    let mut last = copied(alloc, one)?;
+    round(alloc, &mut last)?;
     let mut all = maybe_if(least == 0, last);
     'copies: for behind in 1..least {
-        all = sequence(alloc, copied(alloc, one)?, all)?;
+        let mut more = copied(alloc, one)?;
+        sequence(alloc, &mut more, &mut all)?;
+        all = more;
     }
     Ok(all)
 }
@@ -72,7 +75,8 @@ fn between(alloc: Global, one: &Position, least: u32, most: u32) -> Result<Posit
 {
     let mut all = nothing(alloc, least <= most);
     'copies: for behind in 0..most {
-        let more = sequence(alloc, copied(alloc, one)?, all)?;
+        let mut more = copied(alloc, one)?;
+        sequence(alloc, &mut more, &mut all)?;
         all = maybe_if(least < most - behind, more);
     }
     Ok(all)

@@ -1,9 +1,11 @@
 -- Content, one item after another.
-use Rattle.std.proofs.Common.{◌≡◌, List, [], ◌∷◌, ◌++◌, map, reverse, length, refl, sym, ap, ◌∙◌, ℕ}
+use Rattle.std.proofs.Common.{◌≡◌, List, [], ◌∷◌, ◌++◌, map, reverse, length, refl, sym, ap, ◌∙◌, ℕ, ◌==◌, true, false, eqb-true, arith}
 use Rattle.std.proofs.lemmas.List.{length-map, length-reverse}
 use Rattle.xs_sheet.specs.declared.unit.Unit.{Unit}
 use Rattle.xs_sheet.specs.declared.state.Opened.{Opened}
 use Rattle.xs_sheet.specs.Grammar.{HasRegex, HaveRegexes}
+use Rattle.xs_sheet.specs.declared.piece.Piece.{Piece}
+use Rattle.xs_sheet.specs.Machine as M
 use Rattle.xs_sheet.specs.View.{opened_view, opens_view}
 use Rattle.std.proofs.lemmas.List.{map-append, reverse-append}
 use Rattle.xs_sheet.specs.declared.item.Item.{Item}
@@ -42,3 +44,18 @@ regexes_push (v ∷ us) u all here = (all.0, regexes_push us u all.1 here)
 
 pub opens_length : (os : List Opened) → length (opens_view os) ≡ length os
 opens_length os = length-map (reverse os) opened_view ∙ length-reverse os
+
+-- a production ends where no element is open
+none_open : (c : M.Inside) (os : List M.Opened) (p : Piece) → (length os == 0) ≡ true → M.leaves c os p ≡ M.between (M.with_production c.draft c.so_far) p
+none_open c [] p e = refl
+none_open c (o ∷ os) p e = absurd (omega (arith, eqb-true _ _ e))
+
+some_open : (c : M.Inside) (os : List M.Opened) (p : Piece) → (length os == 0) ≡ false → M.leaves c os p ≡ M.refuse
+some_open c [] p e = absurd (cc)
+some_open c (o ∷ os) p e = refl
+
+pub leaves_none : (c : M.Inside) (os : List Opened) (p : Piece) → (length os == 0) ≡ true → M.leaves c (opens_view os) p ≡ M.between (M.with_production c.draft c.so_far) p
+leaves_none c os p e = none_open c (opens_view os) p (ap (λ (n : ℕ). n == 0) (opens_length os) ∙ e)
+
+pub leaves_some : (c : M.Inside) (os : List Opened) (p : Piece) → (length os == 0) ≡ false → M.leaves c (opens_view os) p ≡ M.refuse
+leaves_some c os p e = some_open c (opens_view os) p (ap (λ (n : ℕ). n == 0) (opens_length os) ∙ e)

@@ -23,6 +23,9 @@ pub if_ok : {T E : Type 0} (r : Result T E) (P Q : T → Type 0) → ((x : T) �
 if_ok (Ok x) P Q f h = f x h
 if_ok (Err e) P Q f h = h
 
+pub letter_some : (letters word : List ℕ) → letters ≡ word → Spells Pattern word → 1 ≤ length letters
+letter_some letters word same s = rw (same ∙ s.1.is) (omega arith)
+
 -- the inside of a pattern
 pub inner_some : (letters word : List ℕ) → letters ≡ word → Spells Pattern word → 1 ≤ length (take (length letters - 1) (drop 1 letters))
 inner_some letters word same s =

@@ -150,6 +150,10 @@ with_open c tag as_ = record { draft = c.draft; opens = record { tag = tag; attr
 abbrev pub in_tag : Inside → List ℕ → List Attr → Piece → Step
 in_tag c tag as_ p = if is_name p then go (attr_equals c tag as_ p.text) else (if is_kind p.kind SlashEnd then go (at (inside (with_empty c tag as_))) else go_if (is_kind p.kind AngleEnd) (at (inside (with_open c tag as_))))
 
+-- </ and the tag and > end an element, which stands behind what was before it
+abbrev pub ended : Draft → Opened → List Opened → Content → Inside
+ended d o os inner = record { draft = d; opens = os; so_far = element o.outer o.tag o.attrs inner }
+
 abbrev pub with_attr : List Attr → List ℕ → List Item → List Attr
 with_attr as_ name is = as_ ++ record { name = name; value = is } ∷ []
 
@@ -178,7 +182,7 @@ step (angle c) p = go_if (is_name p) (attrs c p.text [])
 step (attrs c tag as_) p = in_tag c tag as_ p
 step (attr_equals c tag as_ name) p = go_if (is_kind p.kind Equals) (at (value c tag as_ name []))
 step (closing d o os inner) p = go_if (is_name p && same p.text o.tag) (closed d o os inner)
-step (closed d o os inner) p = go_if (is_kind p.kind AngleEnd) (at (inside (record { draft = d; opens = os; so_far = element o.outer o.tag o.attrs inner })))
+step (closed d o os inner) p = go_if (is_kind p.kind AngleEnd) (at (inside (ended d o os inner)))
 
 -- the whole: an outline and what is left, the first piece that is refused, or neither
 pub data Outcome : Type 0 where

@@ -39,7 +39,7 @@ inside_view c = record { draft = draft_view c.draft; opens = opens_view c.opens.
 abbrev pub place_view : Place → M.Place
 place_view (P.LeftSide head name line items) = M.left_side (head_view head) name line items.items
 place_view (P.Content c) = M.inside (inside_view c)
-place_view (P.Value v) = M.value (inside_view v.inside) v.tag v.attrs.items v.name v.items.items
+place_view (P.Value v) = M.value (inside_view v.tag.inside) v.tag.name v.tag.attrs.items v.name v.items.items
 
 abbrev pub unit_view : UnitState → M.State
 unit_view U.Begin = M.begin
@@ -60,10 +60,10 @@ item_view (I.SquareSlot place name slot) = M.square_slot (place_view place) name
 
 abbrev pub tag_view : TagState → M.State
 tag_view (G.Angle c) = M.angle (inside_view c)
-tag_view (G.Attrs c tag as_) = M.attrs (inside_view c) tag as_.items
-tag_view (G.AttrEquals c tag as_ name) = M.attr_equals (inside_view c) tag as_.items name
-tag_view (G.Closing c) = M.closing (draft_view c.draft) (opened_view c.opened) (opens_view c.opens.items) (content_of c.content.items)
-tag_view (G.Closed c) = M.closed (draft_view c.draft) (opened_view c.opened) (opens_view c.opens.items) (content_of c.content.items)
+tag_view (G.Attrs t) = M.attrs (inside_view t.inside) t.name t.attrs.items
+tag_view (G.AttrEquals t name) = M.attr_equals (inside_view t.inside) t.name t.attrs.items name
+tag_view (G.Closing c o) = M.closing (draft_view c.draft) (opened_view o) (opens_view c.opens.items) (content_of c.content.items)
+tag_view (G.Closed c o) = M.closed (draft_view c.draft) (opened_view o) (opens_view c.opens.items) (content_of c.content.items)
 
 abbrev pub state_view : State → M.State
 state_view (S.Unit s) = unit_view s
@@ -79,7 +79,7 @@ step_view T.Refuse = M.refuse
 abbrev pub PlaceHasRegexes : Place → Type 0
 PlaceHasRegexes (P.LeftSide head name line items) = HaveRegexes head.units.items
 PlaceHasRegexes (P.Content c) = HaveRegexes c.draft.head.units.items
-PlaceHasRegexes (P.Value v) = HaveRegexes v.inside.draft.head.units.items
+PlaceHasRegexes (P.Value v) = HaveRegexes v.tag.inside.draft.head.units.items
 
 abbrev pub UnitHasRegexes : UnitState → Type 0
 UnitHasRegexes U.Begin = ⊤
@@ -100,10 +100,10 @@ ItemHasRegexes (I.SquareSlot place name slot) = PlaceHasRegexes place
 
 abbrev pub TagHasRegexes : TagState → Type 0
 TagHasRegexes (G.Angle c) = HaveRegexes c.draft.head.units.items
-TagHasRegexes (G.Attrs c tag as_) = HaveRegexes c.draft.head.units.items
-TagHasRegexes (G.AttrEquals c tag as_ name) = HaveRegexes c.draft.head.units.items
-TagHasRegexes (G.Closing c) = HaveRegexes c.draft.head.units.items
-TagHasRegexes (G.Closed c) = HaveRegexes c.draft.head.units.items
+TagHasRegexes (G.Attrs t) = HaveRegexes t.inside.draft.head.units.items
+TagHasRegexes (G.AttrEquals t name) = HaveRegexes t.inside.draft.head.units.items
+TagHasRegexes (G.Closing c o) = HaveRegexes c.draft.head.units.items
+TagHasRegexes (G.Closed c o) = HaveRegexes c.draft.head.units.items
 
 abbrev pub StateHasRegexes : State → Type 0
 StateHasRegexes (S.Unit s) = UnitHasRegexes s

@@ -1,137 +1,129 @@
-ghost use Rattle.std.specs.Prelude.{◌≡◌, length, nat_lt, IfOk};
+ghost use Rattle.std.specs.Prelude.{◌≡◌, ◌&&◌, length, nat_lt, IfOk};
 ghost use Rattle.xs_sheet.specs.Grammar.{HaveRegexes};
 ghost use Rattle.xs_sheet.specs.Machine as M;
+ghost use Rattle.xs_sheet.specs.Machine.{is_name};
+ghost use Rattle.xs_sheet.specs.Pieces.{same};
 ghost use Rattle.xs_sheet.specs.Outline.{content_of, element};
 ghost use Rattle.xs_sheet.specs.View.{draft_view, opened_view, opens_view, inside_view, head_view, tag_view, step_view, TagHasRegexes, StepHasRegexes};
 
 use crate::piece::{Piece, same_texts};
 use crate::places::push_content;
-use crate::state::{Closing, Head, Inside, ItemState, Opened, Place, State, Step, TagState, Value};
-use crate::units::{between, copy, with_unit};
-use crate::{Attr, Attrs, Items, Unit, XItem, XItems};
+use crate::state::{Head, Inside, ItemState, Opened, Place, State, Step, Tag, TagState, Value};
+use crate::units::{between, refuse, with_text, with_unit};
+use crate::{Attr, Attrs, Item, Items, Unit, XItem, XItems};
 use std::alloc::Global;
 use xs_class::{Memory, Text};
 use xs_lex::Kind;
 
-/// The element is open, and its content begins.
+// The element is open, and its content begins.
 #[tactic(auto, using(crate::proofs::ContentLaws::opens_push))]
-fn open_element(
-    alloc: Global,
-    inside: Inside,
-    tag: Text,
-    attrs: Vec<Attr>,
-) -> Result<Inside, Memory>
-    requires { HaveRegexes inside.draft.head.units.items }
-    ensures view { IfOk result (λ c. inside_view c ≡ M.with_open (inside_view inside) tag attrs.items) }
-    ensures regexes { IfOk result (λ c. HaveRegexes c.draft.head.units.items) }
+fn open_element(alloc: Global, tag: Tag) -> Result<Step, Memory>
+    requires { HaveRegexes tag.inside.draft.head.units.items }
+    ensures view { IfOk result (λ s. step_view s ≡ M.go (M.at (M.inside (M.with_open (inside_view tag.inside) tag.name tag.attrs.items)))) }
+    ensures regexes { IfOk result StepHasRegexes }
 {
+    let Tag {
+        inside,
+        name,
+        attrs,
+    } = tag;
     let Inside {
         draft,
         mut opens,
         content,
     } = inside;
     opens.push(Opened {
-        tag,
+        tag: name,
         attrs,
         outer: content,
     })?;
-    Ok(Inside {
+    Ok(Step::Go(State::Item(ItemState::At(Place::Content(Inside {
         draft,
         opens,
         content: Vec::new(alloc),
-    })
+    })))))
 }
 
-/// The content with one more element, which has none.
+// The content goes on behind one more element, which has none.
 #[tactic(auto, using(crate::proofs::ContentLaws::with_element))]
-fn empty_element(
-    alloc: Global,
-    inside: Inside,
-    tag: Text,
-    attrs: Vec<Attr>,
-) -> Result<Inside, Memory>
-    requires { HaveRegexes inside.draft.head.units.items }
-    ensures view { IfOk result (λ c. inside_view c ≡ M.with_empty (inside_view inside) tag attrs.items) }
-    ensures regexes { IfOk result (λ c. HaveRegexes c.draft.head.units.items) }
+fn empty_element(alloc: Global, tag: Tag) -> Result<Step, Memory>
+    requires { HaveRegexes tag.inside.draft.head.units.items }
+    ensures view { IfOk result (λ s. step_view s ≡ M.go (M.at (M.inside (M.with_empty (inside_view tag.inside) tag.name tag.attrs.items)))) }
+    ensures regexes { IfOk result StepHasRegexes }
 {
     let item = XItem::Element {
-        tag,
-        attrs: Attrs::from_vec(attrs),
+        tag: tag.name,
+        attrs: Attrs::from_vec(tag.attrs),
         content: XItems::new(alloc),
     };
-    push_content(inside, item)
+    let inside = push_content(tag.inside, item)?;
+    Ok(Step::Go(State::Item(ItemState::At(Place::Content(inside)))))
+}
+
+// An attribute begins.
+fn begin_attr(alloc: Global, tag: Tag, piece: &Piece) -> Result<Step, Memory>
+    requires { HaveRegexes tag.inside.draft.head.units.items }
+    ensures view { IfOk result (λ s. step_view s ≡ M.go (M.attr_equals (inside_view tag.inside) tag.name tag.attrs.items piece.now.text)) }
+    ensures regexes { IfOk result StepHasRegexes }
+{
+    let (tag, name) = with_text(alloc, tag, piece)?;
+    Ok(Step::Go(State::Tag(TagState::AttrEquals(tag, name))))
 }
 
 // Behind a tag's name and some attributes.
-fn in_tag(
-    alloc: Global,
-    inside: Inside,
-    tag: Text,
-    attrs: Vec<Attr>,
-    piece: &Piece,
-) -> Result<Step, Memory>
-    requires { HaveRegexes inside.draft.head.units.items }
-    ensures view { IfOk result (λ s. step_view s ≡ M.in_tag (inside_view inside) tag attrs.items piece.now) }
+fn in_tag(alloc: Global, tag: Tag, piece: &Piece) -> Result<Step, Memory>
+    requires { HaveRegexes tag.inside.draft.head.units.items }
+    ensures view { IfOk result (λ s. step_view s ≡ M.in_tag (inside_view tag.inside) tag.name tag.attrs.items piece.now) }
     ensures regexes { IfOk result StepHasRegexes }
 {
     if piece.is_name() {
-        let name = copy(alloc, &piece.text)?;
-        return Ok(Step::Go(State::Tag(TagState::AttrEquals(inside, tag, attrs, name))));
+        return begin_attr(alloc, tag, piece);
     }
     if piece.is(Kind::SlashEnd) {
-        let inside = empty_element(alloc, inside, tag, attrs)?;
-        return Ok(Step::Go(State::Item(ItemState::At(Place::Content(inside)))));
+        return empty_element(alloc, tag);
     }
     if piece.is(Kind::AngleEnd) {
-        let inside = open_element(alloc, inside, tag, attrs)?;
-        return Ok(Step::Go(State::Item(ItemState::At(Place::Content(inside)))));
+        return open_element(alloc, tag);
     }
-    Ok(Step::Refuse)
+    Ok(refuse(tag))
+}
+
+// The tag with one more attribute.
+fn push_attr(mut tag: Tag, name: Text, items: Vec<Item>) -> Result<Tag, Memory>
+    ensures inside { IfOk result (λ t. t.inside ≡ tag.inside) }
+    ensures name { IfOk result (λ t. t.name ≡ tag.name) }
+    ensures attrs { IfOk result (λ t. t.attrs.items ≡ M.with_attr tag.attrs.items name items.items) }
+{
+    tag.attrs.push(Attr {
+        name,
+        value: Items::from_vec(items),
+    })?;
+    Ok(tag)
 }
 
 /// Behind an attribute's value.
 pub fn leave_value(alloc: Global, value: Value, piece: &Piece) -> Result<Step, Memory>
-    requires { HaveRegexes value.inside.draft.head.units.items }
-    ensures view { IfOk result (λ s. step_view s ≡ M.leave (M.value (inside_view value.inside) value.tag value.attrs.items value.name value.items.items) piece.now) }
+    requires { HaveRegexes value.tag.inside.draft.head.units.items }
+    ensures view { IfOk result (λ s. step_view s ≡ M.leave (M.value (inside_view value.tag.inside) value.tag.name value.tag.attrs.items value.name value.items.items) piece.now) }
     ensures regexes { IfOk result StepHasRegexes }
 {
-    let Value {
-        inside,
-        tag,
-        mut attrs,
-        name,
-        items,
-    } = value;
-    if items.is_empty() {
-        return Ok(Step::Refuse);
+    if value.items.is_empty() {
+        return Ok(refuse(value));
     }
-    attrs.push(Attr {
-        name,
-        value: Items::from_vec(items),
-    })?;
-    in_tag(alloc, inside, tag, attrs, piece)
+    let tag = push_attr(value.tag, value.name, value.items)?;
+    in_tag(alloc, tag, piece)
 }
 
 // Behind `</`.
 #[tactic(auto, using(crate::proofs::ContentLaws::opens_push))]
-fn close_element(inside: Inside) -> Step
+fn close_element(mut inside: Inside) -> Step
     requires { HaveRegexes inside.draft.head.units.items }
     ensures view { step_view result ≡ M.closes (inside_view inside) (inside_view inside).opens }
     ensures regexes { StepHasRegexes result }
 {
-    let Inside {
-        draft,
-        mut opens,
-        content,
-    } = inside;
-    match opens.pop() {
-        None => Step::Refuse,
-        Some(opened) => Step::Go(State::Tag(TagState::Closing(Closing {
-            draft,
-            opened,
-            opens,
-            content,
-        }))),
+    match inside.opens.pop() {
+        None => refuse(inside),
+        Some(opened) => Step::Go(State::Tag(TagState::Closing(inside, opened))),
     }
 }
 
@@ -165,21 +157,20 @@ fn begin_tag(inside: Inside) -> Step
     if inside.opens.len() < 64 {
         return Step::Go(State::Tag(TagState::Angle(inside)));
     }
-    Step::Refuse
+    refuse(inside)
 }
 
 // At a piece that content does not go on with.
-#[tactic(auto, using(crate::proofs::ContentLaws::opens_length))]
 fn leave_production(alloc: Global, inside: Inside, piece: &Piece) -> Result<Step, Memory>
     requires { HaveRegexes inside.draft.head.units.items }
     ensures view { IfOk result (λ s. step_view s ≡ M.leaves (inside_view inside) (inside_view inside).opens piece.now) }
     ensures regexes { IfOk result StepHasRegexes }
 {
-    if !inside.opens.is_empty() {
-        return Ok(Step::Refuse);
+    if inside.opens.is_empty() {
+        let head = end_production(inside)?;
+        return between(alloc, head, piece);
     }
-    let head = end_production(inside)?;
-    between(alloc, head, piece)
+    Ok(refuse(inside))
 }
 
 /// Behind an item of an XML side, at a piece that begins none.
@@ -204,50 +195,49 @@ fn angle(alloc: Global, inside: Inside, piece: &Piece) -> Result<Step, Memory>
     ensures regexes { IfOk result StepHasRegexes }
 {
     if !piece.is_name() {
-        return Ok(Step::Refuse);
+        return Ok(refuse(inside));
     }
-    let tag = copy(alloc, &piece.text)?;
-    Ok(Step::Go(State::Tag(TagState::Attrs(inside, tag, Vec::new(alloc)))))
+    let (inside, name) = with_text(alloc, inside, piece)?;
+    Ok(Step::Go(State::Tag(TagState::Attrs(Tag {
+        inside,
+        name,
+        attrs: Vec::new(alloc),
+    }))))
 }
 
 // Behind an attribute's name.
-fn attr_equals(
-    alloc: Global,
-    inside: Inside,
-    tag: Text,
-    attrs: Vec<Attr>,
-    name: Text,
-    piece: &Piece,
-) -> Step
-    requires { HaveRegexes inside.draft.head.units.items }
-    ensures view { step_view result ≡ M.step (M.attr_equals (inside_view inside) tag attrs.items name) piece.now }
+fn attr_equals(alloc: Global, tag: Tag, name: Text, piece: &Piece) -> Step
+    requires { HaveRegexes tag.inside.draft.head.units.items }
+    ensures view { step_view result ≡ M.step (M.attr_equals (inside_view tag.inside) tag.name tag.attrs.items name) piece.now }
     ensures regexes { StepHasRegexes result }
 {
     if !piece.is(Kind::Equals) {
-        return Step::Refuse;
+        return refuse(tag);
     }
     Step::Go(State::Item(ItemState::At(Place::Value(Value {
-        inside,
         tag,
-        attrs,
         name,
         items: Vec::new(alloc),
     }))))
 }
 
+// Whether the piece is the name of the tag.
+fn is_tag(piece: &Piece, tag: &Text) -> bool
+    ensures { result ≡ is_name piece.now && same piece.now.text tag.now }
+{
+    piece.is_name() && same_texts(&piece.text, tag)
+}
+
 // At the name of the tag that closes an element.
-fn closing(closing: Closing, piece: &Piece) -> Step
-    requires { HaveRegexes closing.draft.head.units.items }
-    ensures view { step_view result ≡ M.step (M.closing (draft_view closing.draft) (opened_view closing.opened) (opens_view closing.opens.items) (content_of closing.content.items)) piece.now }
+fn closing(inside: Inside, opened: Opened, piece: &Piece) -> Step
+    requires { HaveRegexes inside.draft.head.units.items }
+    ensures view { step_view result ≡ M.step (M.closing (draft_view inside.draft) (opened_view opened) (opens_view inside.opens.items) (content_of inside.content.items)) piece.now }
     ensures regexes { StepHasRegexes result }
 {
-    if !piece.is_name() {
-        return Step::Refuse;
+    if !is_tag(piece, &opened.tag) {
+        return refuse(inside);
     }
-    if !same_texts(&piece.text, &closing.opened.tag) {
-        return Step::Refuse;
-    }
-    Step::Go(State::Tag(TagState::Closed(closing)))
+    Step::Go(State::Tag(TagState::Closed(inside, opened)))
 }
 
 // The content with one more element.
@@ -268,21 +258,17 @@ fn push_element(
     Ok(outer)
 }
 
-// Behind that name.
-fn closed(closing: Closing, piece: &Piece) -> Result<Step, Memory>
-    requires { HaveRegexes closing.draft.head.units.items }
-    ensures view { IfOk result (λ s. step_view s ≡ M.step (M.closed (draft_view closing.draft) (opened_view closing.opened) (opens_view closing.opens.items) (content_of closing.content.items)) piece.now) }
+// The element is whole, and the content round it goes on.
+fn end_element(inside: Inside, opened: Opened) -> Result<Step, Memory>
+    requires { HaveRegexes inside.draft.head.units.items }
+    ensures view { IfOk result (λ s. step_view s ≡ M.go (M.at (M.inside (M.ended (draft_view inside.draft) (opened_view opened) (opens_view inside.opens.items) (content_of inside.content.items))))) }
     ensures regexes { IfOk result StepHasRegexes }
 {
-    if !piece.is(Kind::AngleEnd) {
-        return Ok(Step::Refuse);
-    }
-    let Closing {
+    let Inside {
         draft,
-        opened,
         opens,
         content,
-    } = closing;
+    } = inside;
     let Opened { tag, attrs, outer } = opened;
     let content = push_element(outer, tag, attrs, content)?;
     Ok(Step::Go(State::Item(ItemState::At(Place::Content(Inside {
@@ -290,6 +276,18 @@ fn closed(closing: Closing, piece: &Piece) -> Result<Step, Memory>
         opens,
         content,
     })))))
+}
+
+// Behind that name.
+fn closed(inside: Inside, opened: Opened, piece: &Piece) -> Result<Step, Memory>
+    requires { HaveRegexes inside.draft.head.units.items }
+    ensures view { IfOk result (λ s. step_view s ≡ M.step (M.closed (draft_view inside.draft) (opened_view opened) (opens_view inside.opens.items) (content_of inside.content.items)) piece.now) }
+    ensures regexes { IfOk result StepHasRegexes }
+{
+    if !piece.is(Kind::AngleEnd) {
+        return Ok(refuse(inside));
+    }
+    end_element(inside, opened)
 }
 
 /// Where one more piece leads inside a tag.
@@ -300,11 +298,9 @@ pub fn step_tag(alloc: Global, state: TagState, piece: &Piece) -> Result<Step, M
 {
     match state {
         TagState::Angle(inside) => angle(alloc, inside, piece),
-        TagState::Attrs(inside, tag, attrs) => in_tag(alloc, inside, tag, attrs, piece),
-        TagState::AttrEquals(inside, tag, attrs, name) => {
-            Ok(attr_equals(alloc, inside, tag, attrs, name, piece))
-        }
-        TagState::Closing(element) => Ok(closing(element, piece)),
-        TagState::Closed(element) => closed(element, piece),
+        TagState::Attrs(tag) => in_tag(alloc, tag, piece),
+        TagState::AttrEquals(tag, name) => Ok(attr_equals(alloc, tag, name, piece)),
+        TagState::Closing(inside, opened) => Ok(closing(inside, opened, piece)),
+        TagState::Closed(inside, opened) => closed(inside, opened, piece),
     }
 }

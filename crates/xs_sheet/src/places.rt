@@ -7,7 +7,7 @@ ghost use Rattle.xs_sheet.specs.View.{head_view, inside_view, place_view, item_v
 use crate::elements::{leave_content, leave_value};
 use crate::piece::Piece;
 use crate::state::{Draft, Head, Inside, ItemState, Place, State, Step, Value};
-use crate::units::copy;
+use crate::units::{refuse, with_text};
 use crate::{Item, XItem};
 use std::alloc::Global;
 use xs_class::{Memory, Text};
@@ -58,8 +58,8 @@ fn put_content(inside: Inside, item: Item) -> Result<Place, Memory>
 
 // The attribute's value with one more item.
 fn put_value(mut value: Value, item: Item) -> Result<Place, Memory>
-    requires { HaveRegexes value.inside.draft.head.units.items }
-    ensures view { IfOk result (λ p. place_view p ≡ M.value (inside_view value.inside) value.tag value.attrs.items value.name (value.items.items ++ item ∷ [])) }
+    requires { HaveRegexes value.tag.inside.draft.head.units.items }
+    ensures view { IfOk result (λ p. place_view p ≡ M.value (inside_view value.tag.inside) value.tag.name value.tag.attrs.items value.name (value.items.items ++ item ∷ [])) }
     ensures regexes { IfOk result PlaceHasRegexes }
 {
     value.items.push(item)?;
@@ -138,23 +138,6 @@ fn leave(alloc: Global, place: Place, piece: &Piece) -> Result<Step, Memory>
         Place::Content(inside) => leave_content(alloc, inside, piece),
         Place::Value(value) => leave_value(alloc, value, piece),
     }
-}
-
-// No item may stand here.
-fn refuse(_place: Place) -> Step
-    ensures view { step_view result ≡ M.refuse }
-    ensures regexes { StepHasRegexes result }
-{
-    Step::Refuse
-}
-
-// The place, and the piece's text.
-fn with_text(alloc: Global, place: Place, piece: &Piece) -> Result<(Place, Text), Memory>
-    ensures place { IfOk result (λ both. both.0 ≡ place) }
-    ensures text { IfOk result (λ both. both.1 ≡ piece.now.text) }
-{
-    let text = copy(alloc, &piece.text)?;
-    Ok((place, text))
 }
 
 // Where an item may stand.

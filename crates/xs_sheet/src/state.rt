@@ -43,12 +43,18 @@ pub struct Inside {
     pub content: Vec<XItem>,
 }
 
+/// An element's first tag so far, and what stands before it.
+#[derive(Drop)]
+pub struct Tag {
+    pub inside: Inside,
+    pub name: Text,
+    pub attrs: Vec<Attr>,
+}
+
 /// An attribute whose value is being read.
 #[derive(Drop)]
 pub struct Value {
-    pub inside: Inside,
-    pub tag: Text,
-    pub attrs: Vec<Attr>,
+    pub tag: Tag,
     pub name: Text,
     pub items: Vec<Item>,
 }
@@ -64,15 +70,6 @@ pub enum Place {
     },
     Content(Inside),
     Value(Value),
-}
-
-/// An element behind its `</`.
-#[derive(Drop)]
-pub struct Closing {
-    pub draft: Draft,
-    pub opened: Opened,
-    pub opens: Vec<Opened>,
-    pub content: Vec<XItem>,
 }
 
 /// What the reader has come to outside the sides of a production.
@@ -127,13 +124,13 @@ pub enum TagState {
     /// Behind `<`.
     Angle(Inside),
     /// Behind a tag's name and attributes.
-    Attrs(Inside, Text, Vec<Attr>),
+    Attrs(Tag),
     /// Behind an attribute's name.
-    AttrEquals(Inside, Text, Vec<Attr>, Text),
-    /// Behind `</`.
-    Closing(Closing),
+    AttrEquals(Tag, Text),
+    /// Behind the `</` of an element whose content this is.
+    Closing(Inside, Opened),
     /// Behind `</` and the tag.
-    Closed(Closing),
+    Closed(Inside, Opened),
 }
 
 /// What the reader has come to, which says what may follow.

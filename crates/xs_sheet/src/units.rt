@@ -23,6 +23,23 @@ pub fn copy(alloc: Global, text: &Text) -> Result<Text, Memory>
     Text::of(alloc, text.as_str())
 }
 
+/// The piece is refused, and what was read so far is given up.
+pub fn refuse<T: Drop>(_so_far: T) -> Step
+    ensures view { step_view result ≡ M.refuse }
+    ensures regexes { StepHasRegexes result }
+{
+    Step::Refuse
+}
+
+/// What was read so far, and the piece's text.
+pub fn with_text<T: Drop>(alloc: Global, so_far: T, piece: &Piece) -> Result<(T, Text), Memory>
+    ensures so_far { IfOk result (λ both. both.0 ≡ so_far) }
+    ensures text { IfOk result (λ both. both.1 ≡ piece.now.text) }
+{
+    let text = copy(alloc, &piece.text)?;
+    Ok((so_far, text))
+}
+
 /// The head with one more unit.
 pub fn with_unit(mut head: Head, unit: Unit) -> Result<Head, Memory>
     requires head { HaveRegexes head.units.items }
@@ -72,6 +89,34 @@ fn started(alloc: Global, line: u32, piece: &Piece) -> Result<Step, Memory>
     }))))
 }
 
+// The sheet ends.
+fn finish(head: Head) -> Step
+    requires { HaveRegexes head.units.items }
+    ensures view { step_view result ≡ M.finish (M.outline_at (head_view head)) }
+    ensures regexes { StepHasRegexes result }
+{
+    Step::Finish(Sheet {
+        version: 1,
+        start: head.start,
+        start_line: head.start_line,
+        units: Units::from_vec(head.units),
+    })
+}
+
+// A production begins.
+fn begin_production(alloc: Global, head: Head, piece: &Piece) -> Result<Step, Memory>
+    requires { HaveRegexes head.units.items }
+    ensures view { IfOk result (λ s. step_view s ≡ M.go (M.colon (head_view head) piece.now.text piece.now.line)) }
+    ensures regexes { IfOk result StepHasRegexes }
+{
+    let name = copy(alloc, &piece.text)?;
+    Ok(Step::Go(State::Unit(UnitState::Colon {
+        head,
+        name,
+        line: piece.line,
+    })))
+}
+
 /// Between units.
 pub fn between(alloc: Global, head: Head, piece: &Piece) -> Result<Step, Memory>
     requires { HaveRegexes head.units.items }
@@ -79,12 +124,7 @@ pub fn between(alloc: Global, head: Head, piece: &Piece) -> Result<Step, Memory>
     ensures regexes { IfOk result StepHasRegexes }
 {
     if piece.is(Kind::End) {
-        return Ok(Step::Finish(Sheet {
-            version: 1,
-            start: head.start,
-            start_line: head.start_line,
-            units: Units::from_vec(head.units),
-        }));
+        return Ok(finish(head));
     }
     let line = piece.line;
     if piece.is_word("terminal") {
@@ -101,11 +141,10 @@ pub fn between(alloc: Global, head: Head, piece: &Piece) -> Result<Step, Memory>
             line,
         }))));
     }
-    if !piece.is_unit_name() {
-        return Ok(Step::Refuse);
+    if piece.is_unit_name() {
+        return begin_production(alloc, head, piece);
     }
-    let name = copy(alloc, &piece.text)?;
-    Ok(Step::Go(State::Unit(UnitState::Colon { head, name, line })))
+    Ok(Step::Refuse)
 }
 
 // Behind `terminal` or `ignorable`.
@@ -133,6 +172,67 @@ fn equals(begun: Begun, name: Text, piece: &Piece) -> Step
     Step::Go(State::Unit(UnitState::Regular(begun, name)))
 }
 
+// Behind one more unit.
+fn behind_unit(head: Head, unit: Unit) -> Result<Step, Memory>
+    requires head { HaveRegexes head.units.items }
+    requires unit { HasRegex unit }
+    ensures view { IfOk result (λ s. step_view s ≡ M.go (M.units (M.with_unit (head_view head) (unit_outline unit)))) }
+    ensures regexes { IfOk result StepHasRegexes }
+{
+    let head = with_unit(head, unit)?;
+    Ok(Step::Go(State::Unit(UnitState::Units(head))))
+}
+
+// The regular expression of a pattern that has one.
+fn regex_at(alloc: Global, piece: &Piece) -> Result<Regex, Memory>
+    requires { (r : Regex) × IsRegex piece.now.text r }
+    ensures { IfOk result (λ r. IsRegex piece.now.text r) }
+{
+    let Some(regex) = regex_of(alloc, &piece.text)? else {
+        unreachable!()
+    };
+    Ok(regex)
+}
+
+// Behind a terminal's or an ignorable's pattern.
+fn behind_pattern(
+    alloc: Global,
+    begun: Begun,
+    name: Text,
+    regex: Regex,
+    piece: &Piece,
+) -> Result<Step, Memory>
+    requires head { HaveRegexes begun.head.units.items }
+    requires regex { IsRegex piece.now.text regex }
+    ensures view { IfOk result (λ s. step_view s ≡ M.go (M.behind_pattern (head_view begun.head) begun.terminal begun.line name piece.now)) }
+    ensures regexes { IfOk result StepHasRegexes }
+{
+    let pattern = copy(alloc, &piece.text)?;
+    let Begun {
+        head,
+        terminal,
+        line,
+    } = begun;
+    if terminal {
+        return behind_unit(
+            head,
+            Unit::Terminal {
+                name,
+                pattern,
+                regex,
+                line,
+            },
+        );
+    }
+    Ok(Step::Go(State::Unit(UnitState::Normal {
+        head,
+        line,
+        name,
+        pattern,
+        regex,
+    })))
+}
+
 // At a terminal's or an ignorable's pattern.
 fn regular(alloc: Global, begun: Begun, name: Text, piece: &Piece) -> Result<Step, Memory>
     requires head { HaveRegexes begun.head.units.items }
@@ -146,31 +246,8 @@ fn regular(alloc: Global, begun: Begun, name: Text, piece: &Piece) -> Result<Ste
     if !piece.regular {
         return Ok(Step::Refuse);
     }
-    let pattern = copy(alloc, &piece.text)?;
-    let Some(regex) = regex_of(alloc, &piece.text)? else {
-        unreachable!()
-    };
-    let Begun {
-        head,
-        terminal,
-        line,
-    } = begun;
-    if !terminal {
-        return Ok(Step::Go(State::Unit(UnitState::Normal {
-            head,
-            line,
-            name,
-            pattern,
-            regex,
-        })));
-    }
-    let unit = Unit::Terminal {
-        name,
-        pattern,
-        regex,
-        line,
-    };
-    Ok(Step::Go(State::Unit(UnitState::Units(with_unit(head, unit)?))))
+    let regex = regex_at(alloc, piece)?;
+    behind_pattern(alloc, begun, name, regex, piece)
 }
 
 // At an ignorable's normal spelling.
@@ -199,7 +276,7 @@ fn normal(
         normal,
         line,
     };
-    Ok(Step::Go(State::Unit(UnitState::Units(with_unit(head, unit)?))))
+    behind_unit(head, unit)
 }
 
 // Behind a production's name.

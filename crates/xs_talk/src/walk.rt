@@ -13,7 +13,7 @@ use xs_listing::{Spelt, SpeltPart};
 use xs_pair::Two;
 
 /// A node that the walk is in: its production, and its items and kids that are still to be written.
-#[derive(Clone, Copy, Debug)]
+#[derive(Clone, Copy)]
 pub struct Task<'t> {
     pub rule: u32,
     pub items: &'t [GItem],

@@ -58,18 +58,18 @@ fn shared_symbol(alloc: Global, first: (u32, u32), second: (u32, u32)) -> Result
     }
 }
 
+// Two ranges, and the least symbol that both have, or 0.
+const SHARED: [((u32, u32), (u32, u32), u32); 3] = [
+    ((97, 122), (109, 113), 109),
+    ((97, 102), (102, 107), 102),
+    ((97, 99), (100, 102), 0),
+];
+
 #[test]
 fn the_least_common_symbol_is_shared(rt: HostRuntime) {
-    for (first, second, wanted) in [
-        ((97, 122), (109, 113), 109),
-        ((97, 102), (102, 107), 102),
-        ((97, 99), (100, 102), 0),
-    ] {
-        let found = shared_symbol(rt.alloc(), first, second);
-        assert!(rt;
-            matches!(found, Ok(symbol) if symbol == wanted),
-            "at {wanted}"
-        );
+    for (first, second, wanted) in &SHARED {
+        let found = shared_symbol(rt.alloc(), *first, *second);
+        assert!(rt; found == Ok(*wanted), "at {wanted}");
     }
 }
 
@@ -85,14 +85,16 @@ fn overlap_symbols(
     }
 }
 
+const OVERLAPPING: [((u32, u32), (u32, u32), (u32, u32, u32)); 3] = [
+    ((97, 122), (97, 122), (97, 97, 97)),
+    ((97, 99), (99, 102), (97, 99, 99)),
+    ((97, 99), (100, 102), (0, 0, 0)),
+];
+
 #[test]
 fn runs_overlap_where_their_ranges_meet(rt: HostRuntime) {
-    for (front, rest, wanted) in [
-        ((97, 122), (97, 122), (97, 97, 97)),
-        ((97, 99), (99, 102), (97, 99, 99)),
-        ((97, 99), (100, 102), (0, 0, 0)),
-    ] {
-        let found = overlap_symbols(rt.alloc(), front, rest);
-        assert!(rt; matches!(found, Ok(symbols) if symbols == wanted));
+    for (front, rest, wanted) in &OVERLAPPING {
+        let found = overlap_symbols(rt.alloc(), *front, *rest);
+        assert!(rt; found == Ok(*wanted));
     }
 }

@@ -1,17 +1,22 @@
+ghost use Rattle.std.specs.Prelude.{IfOk};
+ghost use Rattle.xs_chars.specs.Text.{AreCharacters};
+
 use std::alloc::Global;
 use xs_chars::{DecodeFault, Form, decode, encode, in_form, read_text, write_text};
-use xs_class::Sym;
+use xs_class::{Sym, Word};
+
+const BROKEN: [(&[u8], u64); 4] = [
+    (b"(\xff", 1),
+    (b"<s>\xc3", 3),
+    (b"\xed\xa0\x80", 0),
+    (b"a\xf4\x90\x80\x80", 1),
+];
 
 #[test]
 fn bytes_that_are_no_utf8(rt: HostRuntime) {
-    let rows: [(&[u8], u64); 4] = [
-        (b"(\xff", 1),
-        (b"<s>\xc3", 3),
-        (b"\xed\xa0\x80", 0),
-        (b"a\xf4\x90\x80\x80", 1),
-    ];
-    for (bytes, at) in rows {
-        assert!(rt; decode(rt.alloc(), bytes).err() == Some(DecodeFault::NotUtf8 { at }));
+    for (bytes, at) in &BROKEN {
+        let fault = decode(rt.alloc(), bytes).err();
+        assert!(rt; fault == Some(DecodeFault::NotUtf8 { at: *at }));
     }
 }
 
@@ -56,19 +61,37 @@ const READ: [Row<'static>; 6] = [
 
 #[test]
 fn texts_are_read_and_written(rt: HostRuntime) {
-    for row in READ {
-        let same = is_read_and_written(rt.alloc(), row);
+    for row in &READ {
+        let same = is_read_and_written(rt.alloc(), *row);
         assert!(rt; same == Ok(true), "{:?}", row.0);
     }
 }
 
+fn put(alloc: Global, bytes: &[u8], form: Form) -> Result<Word, DecodeFault>
+    ensures { IfOk result AreCharacters }
+{
+    let word = decode(alloc, bytes)?;
+    Ok(in_form(alloc, &word, form)?)
+}
+
+fn is_encoded(alloc: Global, word: &Word, bytes: &[u8]) -> Result<bool, DecodeFault>
+    requires { AreCharacters word.now }
+{
+    let out = encode(alloc, word)?;
+    Ok(out.as_slice() == bytes)
+}
+
+fn is_decoded(alloc: Global, bytes: &[u8], numbers: &[u32]) -> Result<bool, DecodeFault> {
+    let back = decode(alloc, bytes)?;
+    Ok(are(back.as_slice(), numbers))
+}
+
 /// Whether the bytes in this form are these symbols, which are encoded as those bytes and back.
 fn is_put_and_encoded(alloc: Global, row: Row<'_>) -> Result<bool, DecodeFault> {
-    let word = in_form(alloc, &decode(alloc, row.0)?, row.1)?;
-    let out = encode(alloc, &word)?;
-    let back = decode(alloc, out.as_slice())?;
-    let same = are(word.as_slice(), row.2) && are(back.as_slice(), row.2);
-    Ok(same && out.as_slice() == row.3)
+    let word = put(alloc, row.0, row.1)?;
+    let is_encoded = is_encoded(alloc, &word, row.3)?;
+    let is_decoded = is_decoded(alloc, row.3, row.2)?;
+    Ok(is_encoded && is_decoded && are(word.as_slice(), row.2))
 }
 
 const PUT: [Row<'static>; 4] = [
@@ -85,8 +108,8 @@ const PUT: [Row<'static>; 4] = [
 
 #[test]
 fn a_word_is_put_into_a_form_and_encoded(rt: HostRuntime) {
-    for row in PUT {
-        let same = is_put_and_encoded(rt.alloc(), row);
+    for row in &PUT {
+        let same = is_put_and_encoded(rt.alloc(), *row);
         assert!(rt; same == Ok(true), "{:?}", row.0);
     }
 }

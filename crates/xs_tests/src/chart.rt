@@ -1,6 +1,7 @@
-ghost use Rattle.std.specs.Prelude.{◌≡◌, length};
+ghost use Rattle.std.specs.Prelude.{◌≡◌, ◌<◌, [], length, OnOk};
+ghost use Rattle.xs_chart.specs.Charted.{items_of, last_set};
 
-use std::alloc::Global;
+use std::process::Abort;
 use xs_chart::{Chart, Item};
 use xs_class::Memory;
 
@@ -14,58 +15,75 @@ const SECOND: Item = Item {
     origin: 1,
 };
 
-/// One set, of both items.
-fn one_set(alloc: Global) -> Result<Chart, Memory> {
-    let mut chart = Chart::new(alloc)?;
+/// Adds a first set, of both items.
+fn add_set(chart: &mut Chart) -> Result<(), Memory>
+    requires { chart.old.sets ≡ [] }
+{
     chart.push_set()?;
     chart.add(FIRST)?;
     chart.add(SECOND)?;
-    Ok(chart)
+    Ok(())
 }
 
-// Whether an item that is there is not added, and one that is new in its set is.
-fn are_added_once(alloc: Global) -> Result<bool, Memory> {
-    let mut chart = one_set(alloc)?;
-    if chart.sets() != 1 || chart.add(FIRST)? || chart.len(0) != 2 {
-        return Ok(false);
-    }
+// Whether both items are in the first set, and only the second one in the other.
+fn are_found(chart: &Chart) -> bool {
+    chart.sets() == 2
+        && chart.len(0) == 2
+        && chart.len(1) == 1
+        && chart.item(0, 1) == SECOND
+        && chart.has(0, FIRST)
+        && !chart.has(1, FIRST)
+}
+
+/// An item that is there is not added, and one that is new in its set is.
+fn expect_added_once(rt: &impl Abort, chart: &mut Chart) -> Result<(), Memory>
+    requires { length chart.old.sets ≡ 1 }
+{
+    let again = chart.add(FIRST)?;
+    assert!(rt; !again);
     chart.push_set()?;
-    if !chart.add(SECOND)? || chart.sets() != 2 || chart.len(1) != 1 {
-        return Ok(false);
-    }
-    Ok(chart.item(0, 1) == SECOND && chart.has(0, FIRST) && !chart.has(1, FIRST))
+    let anew = chart.add(SECOND)?;
+    assert!(rt; anew);
+    assert!(rt; are_found(chart));
+    Ok(())
 }
 
 #[test]
-fn items_are_added_once_and_found(rt: HostRuntime) {
-    assert!(rt; are_added_once(rt.alloc()) == Ok(true));
+fn items_are_added_once_and_found(rt: HostRuntime) -> Result<(), Memory> {
+    let mut chart = Chart::new(rt.alloc())?;
+    add_set(&mut chart)?;
+    assert!(rt; chart.sets() == 1);
+    expect_added_once(&rt, &mut chart)
 }
 
-// Whether the first item waits for 5, and both, the second first, for 3.
-fn are_waiting(chart: &Chart) -> bool
-    requires { length chart.now.sets ≡ 1 }
-{
-    chart.waiting(0, 3) == 2
+// Whether the first item waits for 5, and both, the second first, for 3, and none in the other set.
+fn are_waiting(chart: &Chart) -> bool {
+    chart.sets() == 2
+        && chart.waiting(0, 3) == 2
         && chart.waiter(0, 3, 0) == 1
         && chart.waiter(0, 3, 1) == 0
         && chart.waiting(0, 5) == 1
         && chart.waiting(0, 4) == 0
+        && chart.waiting(1, 3) == 0
 }
 
-fn wait_by_set(alloc: Global) -> Result<bool, Memory> {
-    let mut chart = one_set(alloc)?;
-    if chart.sets() != 1 || chart.len(0) != 2 {
-        return Ok(false);
-    }
+fn wait_thrice(chart: &mut Chart) -> Result<(), Memory>
+    requires { 1 < length (items_of chart.old (last_set chart.old)) }
+    ensures { OnOk result (chart.new.sets ≡ chart.old.sets) }
+{
     chart.wait(3, 1)?;
     chart.wait(5, 0)?;
     chart.wait(3, 0)?;
-    let are = are_waiting(&chart);
-    chart.push_set()?;
-    Ok(are && chart.waiting(1, 3) == 0)
+    Ok(())
 }
 
 #[test]
-fn waiting_lists_are_kept_by_set_and_nonterminal(rt: HostRuntime) {
-    assert!(rt; wait_by_set(rt.alloc()) == Ok(true));
+fn waiting_lists_are_kept_by_set_and_nonterminal(rt: HostRuntime) -> Result<(), Memory> {
+    let mut chart = Chart::new(rt.alloc())?;
+    add_set(&mut chart)?;
+    assert!(rt; chart.sets() == 1 && chart.len(0) == 2);
+    wait_thrice(&mut chart)?;
+    chart.push_set()?;
+    assert!(rt; are_waiting(&chart));
+    Ok(())
 }

@@ -1,12 +1,32 @@
 //! Small lists of clauses with known answers.
-ghost use Rattle.std.specs.Prelude.{◌<◌, ◌^◌, length, IfOk};
+ghost use Rattle.std.specs.Prelude.{◌≡◌, ◌<◌, ◌^◌, [], length, IfOk, OnOk};
+ghost use Rattle.std.specs.List.{All};
 ghost use Rattle.xs_clauses.specs.Made.{IsBelow, AreBelow};
 
 use std::alloc::Global;
 use std::process::Abort;
-use std::test::Fail;
 use xs_class::Memory;
 use xs_clauses::{Clause, Premises, made};
+
+// The heads and premises of clauses.
+type Table<'t> = &'t [(u32, &'t [u32])];
+
+/// Adds premises, all of which are below the count.
+fn add_premises(
+    rt: &impl Abort,
+    premises: &mut Premises,
+    count: u32,
+    numbers: &[u32],
+) -> Result<(), Memory>
+    requires { premises.old ≡ [] }
+    ensures { OnOk result (All (λ n. n < count) premises.new) }
+{
+    'numbers: for number in numbers {
+        assert!(rt; *number < count);
+        premises.push(*number)?;
+    }
+    Ok(())
+}
 
 /// A clause, all of whose numbers are below the count.
 fn clause(
@@ -20,63 +40,66 @@ fn clause(
 {
     assert!(rt; head < count);
     let mut premises = Premises::new(alloc);
-    'numbers: for number in numbers {
-        assert!(rt; *number < count);
-        premises.push(*number)?;
-    }
+    add_premises(rt, &mut premises, count, numbers)?;
     Ok(Clause { head, premises })
 }
 
-/// The clauses of these heads and premises.
-fn clauses_of(
+/// Adds the clauses of these heads and premises.
+fn add_clauses(
     rt: &impl Abort,
     alloc: Global,
     count: u32,
-    table: &[(u32, &[u32])],
-) -> Result<Vec<Clause>, Memory>
-    ensures { IfOk result (λ clauses. AreBelow count clauses.items) }
+    table: Table<'_>,
+    clauses: &mut Vec<Clause>,
+) -> Result<(), Memory>
+    requires { clauses.old.items ≡ [] }
+    ensures { OnOk result (AreBelow count clauses.new.items) }
 {
-    let mut clauses = Vec::new(alloc);
     'rows: for row in table {
         let clause = clause(rt, alloc, count, row.0, row.1)?;
         clauses.push(clause)?;
     }
-    Ok(clauses)
+    Ok(())
 }
 
 /// The clauses make just the numbers whose flags are set.
 fn expect_made(
     rt: &impl Abort,
     alloc: Global,
-    table: &[(u32, &[u32])],
+    table: Table<'_>,
     flags: &[bool],
-) -> Result<(), Fail>
+) -> Result<(), Memory>
     requires { length flags.now < 2 ^ 32 }
 {
     let count = flags.len() as u32;
-    let clauses = clauses_of(rt, alloc, count, table)?;
+    let mut clauses = Vec::new(alloc);
+    add_clauses(rt, alloc, count, table, &mut clauses)?;
     let found = made(alloc, count, &clauses)?;
     assert!(rt; found.as_slice() == flags);
     Ok(())
 }
 
 #[test]
-fn no_clause_makes_nothing(rt: HostRuntime) -> Result<(), Fail> {
+fn no_clause_makes_nothing(rt: HostRuntime) -> Result<(), Memory> {
     expect_made(&rt, rt.alloc(), &[], &[false, false])
 }
 
-#[test]
-fn a_clause_waits_for_all_its_premises(rt: HostRuntime) -> Result<(), Fail> {
-    let table: [(u32, &[u32]); 4] = [(3, &[2, 1, 2]), (2, &[0, 1]), (1, &[0]), (0, &[])];
-    expect_made(&rt, rt.alloc(), &table, &[true, true, true, true])?;
-    let fewer: [(u32, &[u32]); 3] = [(3, &[2, 1, 2]), (2, &[0, 1]), (0, &[])];
-    expect_made(&rt, rt.alloc(), &fewer, &[true, false, false, false])
-}
+const WAITING: Table<'static> = &[(3, &[2, 1, 2]), (2, &[0, 1]), (1, &[0]), (0, &[])];
+
+const FEWER: Table<'static> = &[(3, &[2, 1, 2]), (2, &[0, 1]), (0, &[])];
 
 #[test]
-fn clauses_in_a_circle_make_nothing(rt: HostRuntime) -> Result<(), Fail> {
-    let circle: [(u32, &[u32]); 3] = [(0, &[1]), (1, &[0]), (2, &[2])];
-    expect_made(&rt, rt.alloc(), &circle, &[false, false, false])?;
-    let entered: [(u32, &[u32]); 4] = [(0, &[1]), (1, &[0]), (1, &[2]), (2, &[])];
-    expect_made(&rt, rt.alloc(), &entered, &[true, true, true])
+fn a_clause_waits_for_all_its_premises(rt: HostRuntime) -> Result<(), Memory> {
+    expect_made(&rt, rt.alloc(), WAITING, &[true, true, true, true])?;
+    expect_made(&rt, rt.alloc(), FEWER, &[true, false, false, false])
+}
+
+const CIRCLE: Table<'static> = &[(0, &[1]), (1, &[0]), (2, &[2])];
+
+const ENTERED: Table<'static> = &[(0, &[1]), (1, &[0]), (1, &[2]), (2, &[])];
+
+#[test]
+fn clauses_in_a_circle_make_nothing(rt: HostRuntime) -> Result<(), Memory> {
+    expect_made(&rt, rt.alloc(), CIRCLE, &[false, false, false])?;
+    expect_made(&rt, rt.alloc(), ENTERED, &[true, true, true])
 }

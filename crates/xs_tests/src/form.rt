@@ -1,30 +1,12 @@
+use crate::names::{add_characters, names_of, word_of};
 use std::alloc::Global;
 use std::process::Abort;
 use std::test::Fail;
-use xs_class::{ATTR_END, Memory, Names, STRANGE, Sym, Text, Word};
+use xs_class::{ATTR_END, Memory, Names, STRANGE, Sym, Word};
 use xs_form::{XmlFault, read_xml};
 
-fn names_of(alloc: Global, list: &[&str]) -> Result<Names, Memory> {
-    let mut texts = Vec::new(alloc);
-    for name in list {
-        texts.push(Text::of(alloc, name)?)?;
-    }
-    if texts.len() >= 65536 {
-        return Err(Memory);
-    }
-    Names::of(alloc, &texts)
-}
-
-fn word_of(alloc: Global, document: &str) -> Result<Word, Memory> {
-    let mut word = Word::new(alloc);
-    for c in document.chars() {
-        word.push(Sym::of_char(c))?;
-    }
-    Ok(word)
-}
-
 // The kind of a mark, in braces with the mark's name.
-fn push_mark(shown: &mut String, names: &Names, mark: u32) -> Result<(), Fail> {
+fn push_mark(shown: &mut String, names: &Names, mark: u32) -> Result<(), Memory> {
     let k = mark / 3;
     if k < names.len() {
         shown.push_str(match mark % 3 {
@@ -38,7 +20,7 @@ fn push_mark(shown: &mut String, names: &Names, mark: u32) -> Result<(), Fail> {
     Ok(())
 }
 
-fn push_symbol(shown: &mut String, names: &Names, symbol: Sym) -> Result<(), Fail> {
+fn push_symbol(shown: &mut String, names: &Names, symbol: Sym) -> Result<(), Memory> {
     if symbol == ATTR_END {
         shown.push_str("{@}")?;
         return Ok(());
@@ -59,32 +41,65 @@ fn push_symbol(shown: &mut String, names: &Names, symbol: Sym) -> Result<(), Fai
     Ok(())
 }
 
-// The symbols with each mark in braces, or the place behind an exclamation mark.
-fn answer(alloc: Global, names: &Names, document: &str) -> Result<String, Fail> {
-    let mut shown = String::new(alloc);
-    match read_xml(alloc, names, &word_of(alloc, document)?) {
-        Ok(word) => {
-            for symbol in word.as_slice() {
-                push_symbol(&mut shown, names, *symbol)?;
-            }
-        }
-        Err(XmlFault::NotXml { at }) => {
-            shown = format!(in alloc; "!{at}")?;
-        }
-        Err(XmlFault::Memory) => return Err(Fail::from("out of memory")),
+fn push_symbols(shown: &mut String, names: &Names, symbols: &[Sym]) -> Result<(), Memory> {
+    for symbol in symbols {
+        push_symbol(shown, names, *symbol)?;
     }
-    Ok(shown)
+    Ok(())
+}
+
+// Whether these are the symbols, with each mark in braces.
+fn are_shown(
+    alloc: Global,
+    names: &Names,
+    symbols: &[Sym],
+    expected: &str,
+) -> Result<bool, Memory> {
+    let mut shown = String::new(alloc);
+    push_symbols(&mut shown, names, symbols)?;
+    Ok(shown.as_str() == expected)
+}
+
+// Whether this is the place, behind an exclamation mark.
+fn is_place(alloc: Global, at: u64, expected: &str) -> Result<bool, Fail> {
+    let shown = format!(in alloc; "!{at}")?;
+    Ok(shown.as_str() == expected)
+}
+
+// Whether the document is answered by these symbols or by this place.
+fn is_answered(
+    alloc: Global,
+    names: &Names,
+    document: &Word,
+    expected: &str,
+) -> Result<bool, Fail> {
+    match read_xml(alloc, names, document) {
+        Ok(word) => Ok(are_shown(alloc, names, word.as_slice(), expected)?),
+        Err(XmlFault::NotXml { at }) => is_place(alloc, at, expected),
+        Err(XmlFault::Memory) => Err(Fail::from("out of memory")),
+    }
+}
+
+fn answers(alloc: Global, names: &Names, row: (&str, &str)) -> Result<bool, Fail> {
+    let document = word_of(alloc, row.0)?;
+    is_answered(alloc, names, &document, row.1)
+}
+
+fn expect_answers(
+    rt: &impl Abort,
+    alloc: Global,
+    names: &Names,
+    rows: &[(&str, &str)],
+) -> Result<(), Fail> {
+    for row in rows {
+        assert!(rt; answers(alloc, names, *row)?, "{row:?}");
+    }
+    Ok(())
 }
 
 fn expect(rt: &impl Abort, alloc: Global, rows: &[(&str, &str)]) -> Result<(), Fail> {
     let names = names_of(alloc, &["s"])?;
-    for (document, expected) in rows {
-        assert!(rt;
-            answer(alloc, &names, document)?.as_str() == *expected,
-            "{document:?}"
-        );
-    }
-    Ok(())
+    expect_answers(rt, alloc, &names, rows)
 }
 
 #[test]
@@ -274,6 +289,21 @@ fn what_stands_outside_the_root(rt: HostRuntime) -> Result<(), Fail> {
     )
 }
 
+// Adds this symbol between the two texts.
+fn add_between(word: &mut Word, number: u32, around: (&str, &str)) -> Result<(), Memory> {
+    add_characters(word, around.0)?;
+    word.push(Sym(number))?;
+    add_characters(word, around.1)
+}
+
+fn is_xml(alloc: Global, names: &Names, word: &Word) -> Result<bool, Memory> {
+    match read_xml(alloc, names, word) {
+        Ok(_) => Ok(true),
+        Err(XmlFault::NotXml { .. }) => Ok(false),
+        Err(XmlFault::Memory) => Err(Memory),
+    }
+}
+
 // Whether the document of this symbol between the two texts is read.
 fn is_read(
     alloc: Global,
@@ -281,44 +311,52 @@ fn is_read(
     number: u32,
     around: (&str, &str),
 ) -> Result<bool, Memory> {
-    let mut word = word_of(alloc, around.0)?;
-    word.push(Sym(number))?;
-    word.extend(word_of(alloc, around.1)?.as_slice())?;
-    match read_xml(alloc, names, &word) {
-        Ok(_) => Ok(true),
-        Err(XmlFault::NotXml { .. }) => Ok(false),
-        Err(XmlFault::Memory) => Err(Memory),
-    }
+    let mut word = Word::new(alloc);
+    add_between(&mut word, number, around)?;
+    is_xml(alloc, names, &word)
 }
 
 // The document of each symbol between the two texts is read, or none is.
 fn expect_each(
     rt: &impl Abort,
     alloc: Global,
+    names: &Names,
     numbers: &[u32],
     around: (&str, &str),
     wanted: bool,
-) -> Result<(), Fail> {
-    let names = names_of(alloc, &["s"])?;
+) -> Result<(), Memory> {
     for number in numbers {
         assert!(rt;
-            is_read(alloc, &names, *number, around)? == wanted,
+            is_read(alloc, names, *number, around)? == wanted,
             "{number:x}"
         );
     }
     Ok(())
 }
 
-#[test]
-fn characters_are_those_of_the_table(rt: HostRuntime) -> Result<(), Fail> {
-    let inside = [9, 0xA, 0xD, 0x20, 0xD7FF, 0xE000, 0xFFFD, 0x10000, 0x10FFFF];
-    let outside = [0, 8, 0xB, 0xC, 0xE, 0x1F, 0xFFFE, 0xFFFF];
-    expect_each(&rt, rt.alloc(), &inside, ("<s>", "</s>"), true)?;
-    expect_each(&rt, rt.alloc(), &outside, ("<s>", "</s>"), false)
+// Of the documents of a symbol between the two texts those of the symbols inside are read, and
+// those of the ones outside are not.
+fn expect_table(
+    rt: &impl Abort,
+    alloc: Global,
+    inside: &[u32],
+    outside: &[u32],
+    around: (&str, &str),
+) -> Result<(), Memory> {
+    let names = names_of(alloc, &["s"])?;
+    expect_each(rt, alloc, &names, inside, around, true)?;
+    expect_each(rt, alloc, &names, outside, around, false)
 }
 
 #[test]
-fn names_begin_by_the_table(rt: HostRuntime) -> Result<(), Fail> {
+fn characters_are_those_of_the_table(rt: HostRuntime) -> Result<(), Memory> {
+    let inside = [9, 0xA, 0xD, 0x20, 0xD7FF, 0xE000, 0xFFFD, 0x10000, 0x10FFFF];
+    let outside = [0, 8, 0xB, 0xC, 0xE, 0x1F, 0xFFFE, 0xFFFF];
+    expect_table(&rt, rt.alloc(), &inside, &outside, ("<s>", "</s>"))
+}
+
+#[test]
+fn names_begin_by_the_table(rt: HostRuntime) -> Result<(), Memory> {
     let inside = [
         0x3A, 0x41, 0x5A, 0x5F, 0x61, 0x7A, 0xC0, 0xD6, 0xD8, 0xF6, 0xF8, 0x2FF, 0x370, 0x37D,
         0x37F, 0x1FFF, 0x200C, 0x200D, 0x2070, 0x218F, 0x2C00, 0x2FEF, 0x3001, 0xD7FF, 0xF900,
@@ -329,40 +367,45 @@ fn names_begin_by_the_table(rt: HostRuntime) -> Result<(), Fail> {
         0x37E, 0x2000, 0x200B, 0x200E, 0x203F, 0x206F, 0x2190, 0x2BFF, 0x2FF0, 0x3000, 0xE000,
         0xF8FF, 0xFDD0, 0xFDEF, 0xFFFE, 0xF0000,
     ];
-    expect_each(&rt, rt.alloc(), &inside, ("<", "/>"), true)?;
-    expect_each(&rt, rt.alloc(), &outside, ("<", "/>"), false)
+    expect_table(&rt, rt.alloc(), &inside, &outside, ("<", "/>"))
 }
 
 #[test]
-fn names_go_on_by_the_table(rt: HostRuntime) -> Result<(), Fail> {
+fn names_go_on_by_the_table(rt: HostRuntime) -> Result<(), Memory> {
     let inside = [
         0x2D, 0x2E, 0x30, 0x39, 0x3A, 0xB7, 0x300, 0x36F, 0x203F, 0x2040, 0xEFFFF,
     ];
     let outside = [
         0x2C, 0x2F, 0x3B, 0xB6, 0xB8, 0xD7, 0x37E, 0x203E, 0x2041, 0xF0000,
     ];
-    expect_each(&rt, rt.alloc(), &inside, ("<s", "/>"), true)?;
-    expect_each(&rt, rt.alloc(), &outside, ("<s", "/>"), false)
+    expect_table(&rt, rt.alloc(), &inside, &outside, ("<s", "/>"))
+}
+
+fn add_times(word: &mut Word, text: &str, times: u32) -> Result<(), Memory> {
+    for _ in 0..times {
+        add_characters(word, text)?;
+    }
+    Ok(())
 }
 
 // The document of so many elements in one another.
 fn nested(alloc: Global, levels: u32) -> Result<Word, Memory> {
-    let opening = word_of(alloc, "<s>")?;
-    let closing = word_of(alloc, "</s>")?;
     let mut word = Word::new(alloc);
-    for _ in 0..levels {
-        word.extend(opening.as_slice())?;
-    }
-    for _ in 0..levels {
-        word.extend(closing.as_slice())?;
-    }
+    add_times(&mut word, "<s>", levels)?;
+    add_times(&mut word, "</s>", levels)?;
     Ok(word)
+}
+
+fn length_read(alloc: Global, names: &Names, document: &Word) -> Result<usize, XmlFault> {
+    let word = read_xml(alloc, names, document)?;
+    Ok(word.len())
 }
 
 #[test]
 fn elements_stand_deep(rt: HostRuntime) -> Result<(), Fail> {
     let names = names_of(rt.alloc(), &["s"])?;
-    let word = read_xml(rt.alloc(), &names, &nested(rt.alloc(), 100_000)?)?;
-    assert!(rt; word.len() == 200_000);
+    let document = nested(rt.alloc(), 100_000)?;
+    let length = length_read(rt.alloc(), &names, &document);
+    assert!(rt; length == Ok(200_000));
     Ok(())
 }

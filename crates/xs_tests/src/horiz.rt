@@ -2,11 +2,13 @@ ghost use Rattle.xs_gram.specs.Sound.{IsBuilt};
 
 use crate::sheets::pair_of;
 use std::alloc::Global;
-use std::test::Fail;
+use std::process::Abort;
 use xs_class::Side;
 use xs_gram::Gram;
 use xs_horiz::{Horiz, horizontal};
+use xs_light::CheckFault;
 use xs_order::components;
+use xs_pair::PairFault;
 
 // A rule of two runs, which overlap where they have a symbol in common.
 const COMMON: &[u8] = b"xsugar-1\nstart s\nterminal m = /[a-c]*/\nterminal n = /[c-z]*/\n\
@@ -23,21 +25,27 @@ fn shown(found: &Option<Horiz>) -> (u32, u32) {
     }
 }
 
-fn suspect(alloc: Global, gram: &Gram) -> Result<(u32, u32), Fail>
+fn suspect(alloc: Global, gram: &Gram) -> Result<(u32, u32), CheckFault>
     requires { IsBuilt gram.now }
 {
     let comps = components(alloc, gram)?;
     Ok(shown(&horizontal(alloc, gram, &comps)?))
 }
 
-fn suspect_of(alloc: Global, sheet: &[u8]) -> Result<(u32, u32), Fail> {
+fn expect_suspect(
+    rt: &impl Abort,
+    alloc: Global,
+    sheet: &[u8],
+    wanted: (u32, u32),
+) -> Result<(), PairFault> {
     let two = pair_of(alloc, sheet)?;
-    suspect(alloc, two.gram(Side::Text))
+    let found = suspect(alloc, two.gram(Side::Text));
+    assert!(rt; found == Ok(wanted));
+    Ok(())
 }
 
 #[test]
-fn runs_with_a_common_symbol_are_suspect(rt: HostRuntime) -> Result<(), Fail> {
-    assert!(rt; suspect_of(rt.alloc(), COMMON)? == (0, 1));
-    assert!(rt; suspect_of(rt.alloc(), APART)? == (9, 9));
-    Ok(())
+fn runs_with_a_common_symbol_are_suspect(rt: HostRuntime) -> Result<(), PairFault> {
+    expect_suspect(&rt, rt.alloc(), COMMON, (0, 1))?;
+    expect_suspect(&rt, rt.alloc(), APART, (9, 9))
 }

@@ -1,6 +1,6 @@
 ghost use Rattle.std.specs.Prelude.{◌≤◌, IfOk};
 
-use std::alloc::{AllocError, Global};
+use std::alloc::Global;
 use std::io::{self, Cursor, ErrorKind, Read, Write};
 use std::test::Fail;
 use std::{env, fs, process};
@@ -13,7 +13,7 @@ use xs_io::{
 const ABC: &[u8] = b"abcdefg";
 
 // The numbers of the calls that fail: one, or none at 0.
-fn only(alloc: Global, number: u64) -> Result<Vec<u64>, AllocError> {
+fn only(alloc: Global, number: u64) -> Result<Vec<u64>, Memory> {
     let mut fails = Vec::new(alloc);
     if number > 0 {
         fails.push(number)?;
@@ -32,25 +32,29 @@ fn read_with(
     Ok((result, source.left().len()))
 }
 
+const READINGS: [(usize, u64, Result<bool, ReadStop>, usize); 11] = [
+    (100, 0, Ok(true), 0),
+    (7, 0, Ok(true), 0),
+    (6, 0, Err(ReadStop::TooLong), 0),
+    (4, 0, Err(ReadStop::TooLong), 2),
+    (0, 0, Err(ReadStop::TooLong), 6),
+    (100, 1, Err(ReadStop::ReadFault), 7),
+    (100, 2, Err(ReadStop::ReadFault), 4),
+    (100, 3, Err(ReadStop::ReadFault), 1),
+    (100, 4, Err(ReadStop::ReadFault), 0),
+    (100, 5, Ok(true), 0),
+    (4, 3, Err(ReadStop::TooLong), 2),
+];
+
 #[test]
-fn reading_ends_at_a_fault_the_limit_or_the_end(rt: HostRuntime) -> Result<(), Fail> {
-    for (limit, number, result, left) in [
-        (100, 0, Ok(true), 0),
-        (7, 0, Ok(true), 0),
-        (6, 0, Err(ReadStop::TooLong), 0),
-        (4, 0, Err(ReadStop::TooLong), 2),
-        (0, 0, Err(ReadStop::TooLong), 6),
-        (100, 1, Err(ReadStop::ReadFault), 7),
-        (100, 2, Err(ReadStop::ReadFault), 4),
-        (100, 3, Err(ReadStop::ReadFault), 1),
-        (100, 4, Err(ReadStop::ReadFault), 0),
-        (100, 5, Ok(true), 0),
-        (4, 3, Err(ReadStop::TooLong), 2),
-    ] {
-        let found = read_with(rt.alloc(), limit, number)?;
-        assert!(rt; found == (result, left), "limit {limit}, call {number}");
+fn reading_ends_at_a_fault_the_limit_or_the_end(rt: HostRuntime) {
+    for (limit, number, result, left) in &READINGS {
+        let found = read_with(rt.alloc(), *limit, *number);
+        assert!(rt;
+            found == Ok((*result, *left)),
+            "limit {limit}, call {number}"
+        );
     }
-    Ok(())
 }
 
 /// Whether a source that never fails is read to its end.
@@ -72,21 +76,20 @@ fn write_with(alloc: Global, number: u64) -> Result<(Result<(), WriteFault>, usi
     Ok((result, sink.taken().len()))
 }
 
+const WRITINGS: [(u64, Result<(), WriteFault>, usize); 5] = [
+    (0, Ok(()), 7),
+    (1, Err(WriteFault { written: 0 }), 0),
+    (2, Err(WriteFault { written: 3 }), 3),
+    (3, Err(WriteFault { written: 6 }), 6),
+    (4, Ok(()), 7),
+];
+
 #[test]
-fn writing_ends_at_a_fault_or_the_end(rt: HostRuntime) -> Result<(), Fail> {
-    for (number, result, taken) in [
-        (0, Ok(()), 7),
-        (1, Err(WriteFault { written: 0 }), 0),
-        (2, Err(WriteFault { written: 3 }), 3),
-        (3, Err(WriteFault { written: 6 }), 6),
-        (4, Ok(()), 7),
-    ] {
-        assert!(rt;
-            write_with(rt.alloc(), number)? == (result, taken),
-            "call {number}"
-        );
+fn writing_ends_at_a_fault_or_the_end(rt: HostRuntime) {
+    for (number, result, taken) in &WRITINGS {
+        let found = write_with(rt.alloc(), *number);
+        assert!(rt; found == Ok((*result, *taken)), "call {number}");
     }
-    Ok(())
 }
 
 /// The answers of writing twice into this room, and whether it is full of both fronts.
@@ -98,40 +101,44 @@ fn fill(alloc: Global) -> Result<(Result<(), WriteFault>, Result<(), WriteFault>
 }
 
 #[test]
-fn a_sure_sink_takes_what_it_has_room_for(rt: HostRuntime) -> Result<(), Fail> {
-    assert!(rt; fill(rt.alloc())? == (Ok(()), Err(WriteFault { written: 2 }), true));
-    Ok(())
+fn a_sure_sink_takes_what_it_has_room_for(rt: HostRuntime) {
+    let found = fill(rt.alloc());
+    assert!(rt; found == Ok((Ok(()), Err(WriteFault { written: 2 }), true)));
 }
 
 fn add(alloc: Global, shelf: &mut MemShelf, name: &str, bytes: &[u8]) -> Result<(), Memory> {
     shelf.add(Text::of(alloc, name)?, Bytes::of(alloc, bytes)?)
 }
 
-// Whether the file of this name comes whole, from a shelf of which one call fails.
-fn file_with(alloc: Global, number: u64, name: &str) -> Result<Result<bool, ReadStop>, Memory> {
-    let mut shelf = MemShelf::new(alloc, only(alloc, number)?);
-    add(alloc, &mut shelf, "a", b"old")?;
-    add(alloc, &mut shelf, "é", b"other")?;
-    add(alloc, &mut shelf, "a", ABC)?;
-    Ok(read_file(alloc, &mut shelf, name, 7).map(|bytes| bytes.as_slice() == ABC))
+fn add_files(alloc: Global, shelf: &mut MemShelf) -> Result<(), Memory> {
+    add(alloc, shelf, "a", b"old")?;
+    add(alloc, shelf, "é", b"other")?;
+    add(alloc, shelf, "a", ABC)
 }
 
+// Whether the file of this name comes whole, from a shelf of which one call fails.
+fn file_with(alloc: Global, number: u64, name: &str) -> Result<bool, ReadStop> {
+    let mut shelf = MemShelf::new(alloc, only(alloc, number)?);
+    add_files(alloc, &mut shelf)?;
+    let bytes = read_file(alloc, &mut shelf, name, 7)?;
+    Ok(bytes.as_slice() == ABC)
+}
+
+const FILES: [(u64, &str, Result<bool, ReadStop>); 6] = [
+    (0, "a", Ok(true)),
+    (1, "a", Err(ReadStop::ReadFault)),
+    (2, "a", Err(ReadStop::ReadFault)),
+    (3, "a", Ok(true)),
+    (0, "é", Ok(false)),
+    (0, "b", Err(ReadStop::ReadFault)),
+];
+
 #[test]
-fn a_file_is_read_by_name(rt: HostRuntime) -> Result<(), Fail> {
-    for (number, name, result) in [
-        (0, "a", Ok(true)),
-        (1, "a", Err(ReadStop::ReadFault)),
-        (2, "a", Err(ReadStop::ReadFault)),
-        (3, "a", Ok(true)),
-        (0, "é", Ok(false)),
-        (0, "b", Err(ReadStop::ReadFault)),
-    ] {
-        assert!(rt;
-            file_with(rt.alloc(), number, name)? == result,
-            "{name}, call {number}"
-        );
+fn a_file_is_read_by_name(rt: HostRuntime) {
+    for (number, name, result) in &FILES {
+        let found = file_with(rt.alloc(), *number, name);
+        assert!(rt; found == *result, "{name}, call {number}");
     }
-    Ok(())
 }
 
 /// Whether a file comes whole from a shelf that never fails.
@@ -194,9 +201,8 @@ fn read_interrupted(times: u32) -> Result<usize, Failed> {
 #[test]
 fn a_reader_is_a_source(rt: HostRuntime) {
     assert!(rt; is_read_through(rt.alloc()) == Ok(true));
-    for (times, result) in [(1_000, Ok(1)), (1_001, Err(Failed))] {
-        assert!(rt; read_interrupted(times) == result, "{times} times");
-    }
+    assert!(rt; read_interrupted(1_000) == Ok(1));
+    assert!(rt; read_interrupted(1_001) == Err(Failed));
 }
 
 /// Whether a list of bytes takes what is put into it as a writer.
@@ -213,9 +219,8 @@ fn write_interrupted(times: u32) -> Result<usize, Failed> {
 #[test]
 fn a_writer_is_a_sink(rt: HostRuntime) {
     assert!(rt; is_written_through(rt.alloc()));
-    for (times, result) in [(1_000, Ok(1)), (1_001, Err(Failed))] {
-        assert!(rt; write_interrupted(times) == result, "{times} times");
-    }
+    assert!(rt; write_interrupted(1_000) == Ok(1));
+    assert!(rt; write_interrupted(1_001) == Err(Failed));
 }
 
 #[test]

@@ -1,4 +1,5 @@
-//! Tests of the layers below `xs_top`, one module for each crate, and one for the words of all faults.
+//! Tests of the layers, one module for each crate, where that of `xs_top` is `run`, and one for the words of
+//! all faults.
 //!
 //! They stand apart from the crates that they try, so that each of those is proved once: a crate
 //! with tests is proved a second time with them.
@@ -37,11 +38,15 @@ mod lex;
 #[cfg(test)]
 mod loose;
 #[cfg(test)]
+mod names;
+#[cfg(test)]
 mod order;
 #[cfg(test)]
 mod pair;
 #[cfg(test)]
 mod regex;
+#[cfg(test)]
+mod run;
 #[cfg(test)]
 mod sheet;
 #[cfg(test)]

@@ -17,15 +17,25 @@ const LISTS: &[u8] =
     b"xsugar-1\nstart w\nterminal d = /[0-9]/\nw : \"<\" [l a] \">\" = <w>[l a]</w>\n\
     l : [d a] = <l>[d a]</l>\nl : [l a] \",\" [d b] = <l>[l a]<d>[d b]</d></l>\n";
 
-/// A state that is reached from the last one by the symbol.
-fn grown(alloc: Global, net: &mut Net, last: u32, symbol: u32) -> Result<u32, Memory> {
-    let class = Class::from_ranges(alloc, &[(symbol, symbol)])?;
+/// A state that is reached from the last one by the class.
+fn add_state(net: &mut Net, last: u32, class: &Class) -> Result<u32, Memory> {
     if net.len() == u32::MAX || last >= net.len() {
         return Err(Memory);
     }
     let next = net.state()?;
-    net.edge(last, &class, next)?;
+    net.edge(last, class, next)?;
     Ok(next)
+}
+
+/// The state that is reached from the first one by the word.
+fn add_word(alloc: Global, net: &mut Net, first: u32, word: &[u8]) -> Result<u32, Memory> {
+    let mut last = first;
+    for symbol in word {
+        let number = *symbol as u32;
+        let class = Class::from_ranges(alloc, &[(number, number)])?;
+        last = add_state(net, last, &class)?;
+    }
+    Ok(last)
 }
 
 /// The net of one word.
@@ -34,10 +44,7 @@ fn net_of_word(alloc: Global, word: &[u8]) -> Result<Net, Memory>
 {
     let mut net = Net::new(alloc)?;
     let first = net.state()?;
-    let mut last = first;
-    'symbols: for symbol in word {
-        last = grown(alloc, &mut net, last, *symbol as u32)?;
-    }
+    let last = add_word(alloc, &mut net, first, word)?;
     if first >= net.len() || last >= net.len() {
         return Err(Memory);
     }

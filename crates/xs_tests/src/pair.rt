@@ -4,8 +4,10 @@ use std::test::Fail;
 use xs_class::Side;
 use xs_pair::{Ill, IllRule, PairFault};
 
-const PAIR: &str =
-    "xsugar-1\nstart s\nterminal d = /[0-9]/\ns : \"(\" [d a] \",\" [d b] \")\" = <p><y>[d b]</y><x>[d a]</x></p>\n";
+/// Two digits in parentheses with a comma between them, which are the other way round in XML: elements p, x
+/// and y have the numbers 0, 1 and 2.
+pub const PAIR: &[u8] =
+    b"xsugar-1\nstart s\nterminal d = /[0-9]/\ns : \"(\" [d a] \",\" [d b] \")\" = <p><y>[d b]</y><x>[d a]</x></p>\n";
 
 // The failure of the sheet of these units.
 fn ill(alloc: Global, text: &str) -> Option<Ill> {
@@ -16,13 +18,13 @@ fn ill(alloc: Global, text: &str) -> Option<Ill> {
     }
 }
 
-fn told(rule: IllRule, line: u32) -> Option<Ill> {
+pub fn told(rule: IllRule, line: u32) -> Option<Ill> {
     Some(Ill { rule, line })
 }
 
 #[test]
 fn the_pair_sheet_has_two_grammars(rt: HostRuntime) -> Result<(), Fail> {
-    let two = pair_of(rt.alloc(), PAIR.as_bytes())?;
+    let two = pair_of(rt.alloc(), PAIR)?;
     assert_eq!(rt; two.names().len(), 3);
     let text = two.gram(Side::Text);
     assert_eq!(rt; text.rules(), 1);
@@ -34,45 +36,52 @@ fn the_pair_sheet_has_two_grammars(rt: HostRuntime) -> Result<(), Fail> {
     Ok(())
 }
 
+const FAILING: [(&str, IllRule, u32); 8] = [
+    (
+        "xsugar-1\nstart s\nterminal d = /a/\nterminal d = /b/\nd : = <s/>\ns : = <s/>\n",
+        IllRule::Twice,
+        4,
+    ),
+    (
+        "xsugar-1\nstart s\ns : [x a] = <s>[x a]</s>\ns : [y a] = <s>[y a]</s>\n",
+        IllRule::Undefined,
+        3,
+    ),
+    (
+        "xsugar-1\nstart s\nterminal d = /a/\nt : = <s/>\n",
+        IllRule::NoStart,
+        2,
+    ),
+    (
+        "xsugar-1\nstart s\nterminal d = /[0-9]/\ns : [d a] = <p/>\ns : = <p>[d a]</p>\n",
+        IllRule::NameOnce,
+        4,
+    ),
+    (
+        "xsugar-1\nstart s\nterminal d = /[0-9]/\ns : [d a] [d a] = <p>[d a]</p>\n",
+        IllRule::NameOnce,
+        4,
+    ),
+    (
+        "xsugar-1\nstart s\nterminal d = /a/\ns : [d] = <s>[d]</s>\ns : [s x] = <s a=[s x]/>\n",
+        IllRule::Kind,
+        4,
+    ),
+    (
+        "xsugar-1\nstart s\ns : = <s><t a=\"x\" a=\"y\"/></s>\ns : = <s b=\"x\" b=\"x\"/>\n",
+        IllRule::AttrTwice,
+        3,
+    ),
+    (
+        "xsugar-1\nstart s\nt : = \"a\"\ns : = \"a\" <s/>\ns : \"a\" = \"a\"\n",
+        IllRule::RootShape,
+        4,
+    ),
+];
+
 #[test]
-fn the_least_line_of_each_rule_is_told(rt: HostRuntime) -> Result<(), Fail> {
-    let alloc = rt.alloc();
-    let table = [
-        (
-            "xsugar-1\nstart s\nterminal d = /a/\nterminal d = /b/\nd : = <s/>\ns : = <s/>\n",
-            told(IllRule::Twice, 4),
-        ),
-        (
-            "xsugar-1\nstart s\ns : [x a] = <s>[x a]</s>\ns : [y a] = <s>[y a]</s>\n",
-            told(IllRule::Undefined, 3),
-        ),
-        (
-            "xsugar-1\nstart s\nterminal d = /a/\nt : = <s/>\n",
-            told(IllRule::NoStart, 2),
-        ),
-        (
-            "xsugar-1\nstart s\nterminal d = /[0-9]/\ns : [d a] = <p/>\ns : = <p>[d a]</p>\n",
-            told(IllRule::NameOnce, 4),
-        ),
-        (
-            "xsugar-1\nstart s\nterminal d = /[0-9]/\ns : [d a] [d a] = <p>[d a]</p>\n",
-            told(IllRule::NameOnce, 4),
-        ),
-        (
-            "xsugar-1\nstart s\nterminal d = /a/\ns : [d] = <s>[d]</s>\ns : [s x] = <s a=[s x]/>\n",
-            told(IllRule::Kind, 4),
-        ),
-        (
-            "xsugar-1\nstart s\ns : = <s><t a=\"x\" a=\"y\"/></s>\ns : = <s b=\"x\" b=\"x\"/>\n",
-            told(IllRule::AttrTwice, 3),
-        ),
-        (
-            "xsugar-1\nstart s\nt : = \"a\"\ns : = \"a\" <s/>\ns : \"a\" = \"a\"\n",
-            told(IllRule::RootShape, 4),
-        ),
-    ];
-    for (text, answer) in table {
-        assert_eq!(rt; ill(alloc, text), answer);
+fn the_least_line_of_each_rule_is_told(rt: HostRuntime) {
+    for (text, rule, line) in &FAILING {
+        assert_eq!(rt; ill(rt.alloc(), text), told(*rule, *line));
     }
-    Ok(())
 }

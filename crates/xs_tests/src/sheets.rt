@@ -4,6 +4,7 @@ ghost use Rattle.xs_pair.specs.Sound.{IsSoundPair};
 ghost use Rattle.xs_wf.specs.Nonterminals.{IsPair, HaveOrderedLines};
 
 use std::alloc::Global;
+use xs_class::{Bytes, Memory};
 use xs_pair::{PairFault, Two, both};
 use xs_sheet::read_sheet;
 use xs_wf::{WfFault, well_formed};
@@ -37,5 +38,29 @@ pub fn two_of(alloc: Global, bytes: &[u8]) -> Result<Two, WfFault>
     match read_sheet(alloc, bytes) {
         Ok(sheet) => well_formed(alloc, &sheet),
         Err(_) => Err(WfFault::Memory),
+    }
+}
+
+pub fn push_all(sheet: &mut Bytes, pieces: &[&[u8]]) -> Result<(), Memory> {
+    for piece in pieces {
+        sheet.extend(piece)?;
+    }
+    Ok(())
+}
+
+/// Appends the item of a letter: `S` and `T` are the nonterminals s and t, `m`, `q`, `x`, `y` and `z`
+/// terminals, each by this name, `k` and `l` ignorables, `w` is the fixed word of an a and a b, and any
+/// other letter the fixed word of itself.
+pub fn push_item(sheet: &mut Bytes, letter: u8, name: u8) -> Result<(), Memory> {
+    match letter {
+        b'S' => push_all(sheet, &[b"[s ", &[name], b"] "]),
+        b'T' => push_all(sheet, &[b"[t ", &[name], b"] "]),
+        b'm' | b'q' | b'x' | b'y' | b'z' => push_all(
+            sheet,
+            &[b"[", &[letter], b" ", &[name], b"] "],
+        ),
+        b'k' | b'l' => push_all(sheet, &[b"[", &[letter], b"] "]),
+        b'w' => sheet.extend(b"\"ab\" "),
+        _ => push_all(sheet, &[b"\"", &[letter], b"\" "]),
     }
 }

@@ -1,37 +1,35 @@
+use crate::names::names_of;
 use std::alloc::Global;
-use std::test::Fail;
+use std::process::Abort;
 use xs_class::{Memory, Names, Side, Sym, Text, Word};
 use xs_pair::{Ill, IllRule};
 use xs_talk::{Outcome, Report, fault_line, line_of, room};
 
-fn word_of(alloc: Global, symbols: &[u32]) -> Result<Word, Memory> {
-    let mut word = Word::new(alloc);
-    for number in symbols {
-        word.push(Sym(*number))?;
-    }
-    Ok(word)
+fn is_told(alloc: Global, names: &Names, outcome: &Outcome, line: &str) -> Result<bool, Memory> {
+    let found = line_of(alloc, outcome, names)?;
+    Ok(found.as_slice() == line.as_bytes())
 }
 
-fn names_of(alloc: Global, list: &[&str]) -> Result<Names, Memory> {
-    let mut texts = Vec::new(alloc);
-    for name in list {
-        texts.push(Text::of(alloc, name)?)?;
+fn expect_each(
+    rt: &impl Abort,
+    alloc: Global,
+    names: &Names,
+    rows: &[(Outcome, &str)],
+) -> Result<(), Memory> {
+    for (outcome, line) in rows {
+        assert!(rt; is_told(alloc, names, outcome, line)?, "{line}");
     }
-    if texts.len() < 65_536 {
-        Names::of(alloc, &texts)
-    } else {
-        Err(Memory)
-    }
+    Ok(())
 }
 
-/// Whether this line tells the outcome of a sheet with the names `p` and `é`.
-fn is_told(alloc: Global, outcome: &Outcome, line: &str) -> Result<bool, Memory> {
+/// The lines tell the outcomes of a sheet with the names `p` and `é`.
+fn expect_told(rt: &impl Abort, alloc: Global, rows: &[(Outcome, &str)]) -> Result<(), Memory> {
     let names = names_of(alloc, &["p", "é"])?;
-    Ok(line_of(alloc, outcome, &names)?.as_slice() == line.as_bytes())
+    expect_each(rt, alloc, &names, rows)
 }
 
 #[test]
-fn lines_of_outcomes(rt: HostRuntime) -> Result<(), Fail> {
+fn lines_of_outcomes(rt: HostRuntime) -> Result<(), Memory> {
     let ill = Outcome::SheetIll(Ill {
         rule: IllRule::NameOnce,
         line: 4,
@@ -62,10 +60,7 @@ fn lines_of_outcomes(rt: HostRuntime) -> Result<(), Fail> {
             "usage: xsugar check S | to-xml S [F] | to-text S | round S text [F] | round S xml | trees S M | sheet | make SEED LINES\n",
         ),
     ];
-    for (outcome, line) in &rows {
-        assert!(rt; is_told(rt.alloc(), outcome, line)?);
-    }
-    Ok(())
+    expect_told(&rt, rt.alloc(), &rows)
 }
 
 fn vertical(alloc: Global) -> Result<Outcome, Memory> {
@@ -74,14 +69,22 @@ fn vertical(alloc: Global) -> Result<Outcome, Memory> {
         name: Text::of(alloc, "s")?,
         line: 4,
         line2: 5,
-        word: word_of(alloc, &[97])?,
+        word: Word::of(alloc, &[Sym(97)])?,
     }))
 }
 
 /// A quote, a line feed, a surrogate, the end of an attribute, a strange name, the marks of `p`, an
 /// attribute of the other name, and a mark of no name.
-const MARKS: [u32; 9] = [
-    34, 10, 0xD800, 0x110000, 0x110001, 0x110002, 0x110004, 0x110006, 0x110008,
+const MARKS: [Sym; 9] = [
+    Sym(34),
+    Sym(10),
+    Sym(0xD800),
+    Sym(0x110000),
+    Sym(0x110001),
+    Sym(0x110002),
+    Sym(0x110004),
+    Sym(0x110006),
+    Sym(0x110008),
 ];
 
 fn horizontal(alloc: Global) -> Result<Outcome, Memory> {
@@ -91,34 +94,25 @@ fn horizontal(alloc: Global) -> Result<Outcome, Memory> {
         line: 4,
         cut: 1,
         x: Word::new(alloc),
-        a: word_of(alloc, &[97])?,
-        y: word_of(alloc, &MARKS)?,
+        a: Word::of(alloc, &[Sym(97)])?,
+        y: Word::of(alloc, &MARKS)?,
     }))
 }
 
 const SHARED: &str = "suspect: text: s: lines 4 and 5 share \"a\"\n";
 
-fn vertical_is_told(alloc: Global) -> Result<bool, Memory> {
-    let outcome = vertical(alloc)?;
-    is_told(alloc, &outcome, SHARED)
-}
-
 const CUT: &str =
     "suspect: xml: s: line 4, cut 1: \"\" \"a\" \"\\u{22}\\u{a}<?><@><?><p></p><@é><?>\"\n";
 
-fn horizontal_is_told(alloc: Global) -> Result<bool, Memory> {
-    let outcome = horizontal(alloc)?;
-    is_told(alloc, &outcome, CUT)
+#[test]
+fn lines_of_suspects(rt: HostRuntime) -> Result<(), Memory> {
+    let alloc = rt.alloc();
+    let rows = [(vertical(alloc)?, SHARED), (horizontal(alloc)?, CUT)];
+    expect_told(&rt, alloc, &rows)
 }
 
 #[test]
-fn lines_of_suspects(rt: HostRuntime) {
-    assert!(rt; vertical_is_told(rt.alloc()) == Ok(true));
-    assert!(rt; horizontal_is_told(rt.alloc()) == Ok(true));
-}
-
-#[test]
-fn a_fault_is_told_in_its_room(rt: HostRuntime) -> Result<(), Fail> {
+fn a_fault_is_told_in_its_room(rt: HostRuntime) -> Result<(), Memory> {
     let made = room(rt.alloc())?;
     let line = fault_line(made, u64::MAX);
     assert_eq!(rt;

@@ -1,17 +1,15 @@
 //! Documents of small sheets without ignorables, turned both ways.
 ghost use Rattle.xs_pair.specs.Sound.{IsSoundPair};
 
+use crate::pair::PAIR;
 use crate::sheets::two_of;
 use bumpalo::Bump;
 use std::alloc::Global;
-use std::test::Fail;
-use xs_class::{Memory, Side, Sym, Word};
+use std::process::Abort;
+use xs_class::{Side, Sym, Word};
 use xs_pair::Two;
 use xs_turn::{TurnFault, turn};
-
-/// A pair of digits, which are the other way round in XML: elements p, x and y have the numbers 0, 1 and 2.
-const PAIR: &[u8] =
-    b"xsugar-1\nstart s\nterminal d = /[0-9]/\ns : \"(\" [d a] \",\" [d b] \")\" = <p><y>[d b]</y><x>[d a]</x></p>\n";
+use xs_wf::WfFault;
 
 /// The empty text, which is an empty element.
 const EMPTY: &[u8] = b"xsugar-1\nstart s\ns : = <s/>\n";
@@ -36,24 +34,10 @@ fn is_turned(
 }
 
 /// Whether the document is foreign, and just so many of its leading symbols are viable.
-fn is_foreign(
-    alloc: Global,
-    two: &Two,
-    side: Side,
-    doc: &[Sym],
-    viable: u64,
-) -> Result<bool, Memory>
+fn is_foreign(alloc: Global, two: &Two, side: Side, doc: &[Sym], viable: u64) -> bool
     requires { IsSoundPair two.now }
 {
-    if doc.len() >= 1000 {
-        return Ok(false);
-    }
-    let bump = Bump::new(alloc);
-    let doc = Word::of(alloc, doc)?;
-    match turn(alloc, &bump, two, side, &doc) {
-        Ok(_) => Ok(false),
-        Err(fault) => Ok(fault == TurnFault::Foreign { viable }),
-    }
+    is_turned(alloc, two, side, doc, &[]) == Err(TurnFault::Foreign { viable })
 }
 
 fn are_turned(alloc: Global, two: &Two, text: &[Sym], xml: &[Sym]) -> Result<bool, TurnFault>
@@ -64,19 +48,22 @@ fn are_turned(alloc: Global, two: &Two, text: &[Sym], xml: &[Sym]) -> Result<boo
     Ok(there && back)
 }
 
-/// Whether each document is turned into the other.
-fn turn_into_each_other(
+/// Each document is turned into the other.
+fn expect_turned(
+    rt: &impl Abort,
     alloc: Global,
     sheet: &[u8],
     text: &[Sym],
     xml: &[Sym],
-) -> Result<bool, Fail> {
+) -> Result<(), WfFault> {
     let two = two_of(alloc, sheet)?;
-    Ok(are_turned(alloc, &two, text, xml)?)
+    let same = are_turned(alloc, &two, text, xml);
+    assert!(rt; same == Ok(true));
+    Ok(())
 }
 
 #[test]
-fn a_pair_is_turned_both_ways(rt: HostRuntime) -> Result<(), Fail> {
+fn a_pair_is_turned_both_ways(rt: HostRuntime) -> Result<(), WfFault> {
     let text = [
         Sym::of_char('('),
         Sym::of_char('3'),
@@ -94,33 +81,29 @@ fn a_pair_is_turned_both_ways(rt: HostRuntime) -> Result<(), Fail> {
         Sym::closing(1),
         Sym::closing(0),
     ];
-    assert!(rt; turn_into_each_other(rt.alloc(), PAIR, &text, &xml)?);
-    Ok(())
+    expect_turned(&rt, rt.alloc(), PAIR, &text, &xml)
 }
 
 #[test]
-fn the_empty_document_is_turned_both_ways(rt: HostRuntime) -> Result<(), Fail> {
+fn the_empty_document_is_turned_both_ways(rt: HostRuntime) -> Result<(), WfFault> {
     let xml = [Sym::opening(0), Sym::closing(0)];
-    assert!(rt; turn_into_each_other(rt.alloc(), EMPTY, &[], &xml)?);
-    Ok(())
+    expect_turned(&rt, rt.alloc(), EMPTY, &[], &xml)
 }
 
 /// Whether of the two documents one symbol less than all is viable, and of the empty one none.
-fn are_foreign(alloc: Global, two: &Two, text: &[Sym], xml: &[Sym]) -> Result<bool, Memory>
+fn are_foreign(alloc: Global, two: &Two, text: &[Sym], xml: &[Sym]) -> bool
     requires { IsSoundPair two.now }
 {
-    let in_text = is_foreign(alloc, two, Side::Text, text, 2)?;
-    let in_xml = is_foreign(alloc, two, Side::Xml, xml, 1)?;
-    let in_nothing = is_foreign(alloc, two, Side::Text, &[], 0)?;
-    Ok(in_text && in_xml && in_nothing)
+    is_foreign(alloc, two, Side::Text, text, 2)
+        && is_foreign(alloc, two, Side::Xml, xml, 1)
+        && is_foreign(alloc, two, Side::Text, &[], 0)
 }
 
 #[test]
-fn a_foreign_document_is_told_with_its_viable_front(rt: HostRuntime) -> Result<(), Fail> {
+fn a_foreign_document_is_told_with_its_viable_front(rt: HostRuntime) -> Result<(), WfFault> {
     let text = [Sym::of_char('('), Sym::of_char('3'), Sym::of_char('x')];
     let xml = [Sym::opening(0), Sym::opening(1)];
     let two = two_of(rt.alloc(), PAIR)?;
-    let are = are_foreign(rt.alloc(), &two, &text, &xml)?;
-    assert!(rt; are);
+    assert!(rt; are_foreign(rt.alloc(), &two, &text, &xml));
     Ok(())
 }

@@ -2,10 +2,12 @@ ghost use Rattle.xs_gram.specs.Sound.{IsBuilt};
 
 use crate::sheets::pair_of;
 use std::alloc::Global;
-use std::test::Fail;
+use std::process::Abort;
 use xs_class::Side;
 use xs_gram::Gram;
+use xs_light::CheckFault;
 use xs_order::components;
+use xs_pair::PairFault;
 use xs_vert::{Vert, vertical};
 
 // Two rules of one nonterminal, each of one word.
@@ -21,21 +23,27 @@ fn shown(found: &Option<Vert>) -> (u32, u32, usize) {
     }
 }
 
-fn suspect(alloc: Global, gram: &Gram) -> Result<(u32, u32, usize), Fail>
+fn suspect(alloc: Global, gram: &Gram) -> Result<(u32, u32, usize), CheckFault>
     requires { IsBuilt gram.now }
 {
     let comps = components(alloc, gram)?;
     Ok(shown(&vertical(alloc, gram, &comps)?))
 }
 
-fn suspect_of(alloc: Global, sheet: &[u8]) -> Result<(u32, u32, usize), Fail> {
+fn expect_suspect(
+    rt: &impl Abort,
+    alloc: Global,
+    sheet: &[u8],
+    wanted: (u32, u32, usize),
+) -> Result<(), PairFault> {
     let two = pair_of(alloc, sheet)?;
-    suspect(alloc, two.gram(Side::Text))
+    let found = suspect(alloc, two.gram(Side::Text));
+    assert!(rt; found == Ok(wanted));
+    Ok(())
 }
 
 #[test]
-fn rules_with_one_word_are_suspect(rt: HostRuntime) -> Result<(), Fail> {
-    assert!(rt; suspect_of(rt.alloc(), SAME)? == (0, 1, 1));
-    assert!(rt; suspect_of(rt.alloc(), OTHER)? == (0, 0, 0));
-    Ok(())
+fn rules_with_one_word_are_suspect(rt: HostRuntime) -> Result<(), PairFault> {
+    expect_suspect(&rt, rt.alloc(), SAME, (0, 1, 1))?;
+    expect_suspect(&rt, rt.alloc(), OTHER, (0, 0, 0))
 }

@@ -1,22 +1,19 @@
 ghost use Rattle.std.specs.Prelude.{◌≡◌, ◌<◌, length, IfOk};
 ghost use Rattle.xs_xml_out.specs.Balanced.{IsBalanced};
 
+use crate::names::names_of;
 use std::alloc::{AllocGlobal, Global};
 use std::process::Abort;
 use std::test::Fail;
-use xs_class::{ATTR_END, Memory, Names, Sym, Text, Word};
+use xs_class::{ATTR_END, Memory, Names, Sym, Word};
 use xs_xml_out::write_xml;
 
 /// The list of these names, each of which is another.
-fn names_of(alloc: Global, texts: &[&str]) -> Result<Names, Memory>
+fn different(alloc: Global, texts: &[&str]) -> Result<Names, Memory>
     requires { length texts.now < 65536 }
     ensures { IfOk result (λ names. length names ≡ length texts.now) }
 {
-    let mut list = Vec::new(alloc);
-    'texts: for text in texts {
-        list.push(Text::of(alloc, text)?)?;
-    }
-    let names = Names::of(alloc, &list)?;
+    let names = names_of(alloc, texts)?;
     if names.len() as usize != texts.len() {
         return Err(Memory);
     }
@@ -40,13 +37,13 @@ fn is_written(
 
 #[test]
 fn an_empty_element_is_one_tag(rt: HostRuntime) -> Result<(), Fail> {
-    let names = names_of(rt.alloc(), &["s"])?;
+    let names = different(rt.alloc(), &["s"])?;
     is_written(&rt, &names, &[Sym(0x110002), Sym(0x110004)], "<s/>\n")
 }
 
 #[test]
 fn elements_stand_in_each_other(rt: HostRuntime) -> Result<(), Fail> {
-    let names = names_of(rt.alloc(), &["p", "x", "y"])?;
+    let names = different(rt.alloc(), &["p", "x", "y"])?;
     let symbols = [
         Sym(0x110002),
         Sym(0x110008),
@@ -62,7 +59,7 @@ fn elements_stand_in_each_other(rt: HostRuntime) -> Result<(), Fail> {
 
 #[test]
 fn content_keeps_line_feeds(rt: HostRuntime) -> Result<(), Fail> {
-    let names = names_of(rt.alloc(), &["s"])?;
+    let names = different(rt.alloc(), &["s"])?;
     let symbols = [
         Sym(0x110002),
         Sym(0x5D),
@@ -77,7 +74,7 @@ fn content_keeps_line_feeds(rt: HostRuntime) -> Result<(), Fail> {
 
 #[test]
 fn values_are_escaped(rt: HostRuntime) -> Result<(), Fail> {
-    let names = names_of(rt.alloc(), &["a", "s"])?;
+    let names = different(rt.alloc(), &["a", "s"])?;
     let symbols = [
         Sym(0x110005),
         Sym(0x110003),
@@ -96,7 +93,7 @@ fn values_are_escaped(rt: HostRuntime) -> Result<(), Fail> {
 
 #[test]
 fn attributes_stand_before_content(rt: HostRuntime) -> Result<(), Fail> {
-    let names = names_of(rt.alloc(), &["a", "b", "s"])?;
+    let names = different(rt.alloc(), &["a", "b", "s"])?;
     let symbols = [
         Sym(0x110008),
         Sym(0x110003),

@@ -12,7 +12,7 @@ use xs_gram::{GItem, Gram};
 use xs_tree::Tree;
 
 /// A node that the walk is in: its items from one on are still to be printed.
-#[derive(Clone, Copy, Debug)]
+#[derive(Clone, Copy)]
 pub struct Task {
     pub part: u64,
     pub dot: usize,

@@ -10,7 +10,7 @@ use xs_class::Side;
 use xs_words::{Command, SheetName, command_of};
 
 /// What is to be done by a sheet.
-#[derive(Clone, Copy, Debug, PartialEq, Eq)]
+#[derive(Clone, Copy)]
 pub enum Job {
     /// The sheet is checked.
     Check,

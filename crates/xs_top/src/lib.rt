@@ -85,6 +85,3 @@ pub fn run<S: Source, H: Shelf, K: Sink, N: Sink>(
         Err(Stop::Memory) => Err(Memory),
     }
 }
-
-#[cfg(test)]
-mod tests;

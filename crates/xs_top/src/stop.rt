@@ -2,7 +2,7 @@ use xs_class::Memory;
 use xs_talk::Outcome;
 
 /// Why a run goes no further.
-#[derive(Debug, Drop)]
+#[derive(Drop)]
 pub enum Stop {
     /// It ends with this outcome.
     Refused(Outcome),

@@ -8,7 +8,7 @@ use std::alloc::Global;
 use xs_class::{Memory, Sym};
 
 /// What tells a part from others where equal children have equal numbers.
-#[derive(Debug, PartialEq, Eq, Hash, Drop)]
+#[derive(PartialEq, Eq, Hash, Drop)]
 pub enum Shape {
     Word(Vec<Sym>),
     Made { production: u32, kids: Vec<u64> },

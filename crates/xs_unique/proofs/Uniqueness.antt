@@ -1,5 +1,5 @@
 -- Where components are known, two grammars that are accepted have one derivation for each word.
-use Rattle.std.proofs.Common.{◌≡◌, ℕ, ◌<◌, List, slice_index_or, inl, inr}
+use Rattle.std.proofs.Common.{ℕ, ◌<◌, List, slice_index_or, inl, inr}
 use Rattle.std.proofs.lemmas.Bool.{cases_eq}
 use Rattle.xs_gram.specs.Grammar.{Grammar}
 use Rattle.xs_gram.specs.Languages.{IsUnique}

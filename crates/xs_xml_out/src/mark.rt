@@ -4,7 +4,7 @@ ghost use Rattle.xs_xml_out.specs.Written.{mark_of};
 use xs_class::{ATTR_END, STRANGE, Sym};
 
 /// What a symbol is: a character by its code point, or a mark.
-#[derive(Clone, Copy, Debug, PartialEq, Eq)]
+#[derive(Clone, Copy)]
 pub enum Mark {
     Char(u32),
     /// The end of an attribute's value.

@@ -4,7 +4,7 @@ ghost use Rattle.xs_xml_out.specs.Written.{next};
 use crate::mark::Mark;
 
 /// Where a symbol stands: in content, in a start tag that is not ended yet, or in a value.
-#[derive(Clone, Copy, Debug, PartialEq, Eq)]
+#[derive(Clone, Copy)]
 pub enum Mode {
     Content,
     Tag,

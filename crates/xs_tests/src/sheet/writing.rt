@@ -16,78 +16,85 @@ fn written(alloc: Global, text: &str) -> Result<Bytes, SheetFault> {
     Ok(bytes)
 }
 
+fn is_layout(alloc: Global, text: &str, wanted: &str) -> Result<bool, SheetFault> {
+    let bytes = written(alloc, text)?;
+    Ok(bytes.as_slice() == wanted.as_bytes())
+}
+
 // Whether the layout of this text, and of that layout, is the one that is wanted.
 fn is_written_so(alloc: Global, text: &str, wanted: &str) -> Result<bool, SheetFault> {
-    let bytes = written(alloc, text)?;
-    if bytes.as_slice() != wanted.as_bytes() {
-        return Ok(false);
-    }
-    let again = written(alloc, wanted)?;
-    Ok(again.as_slice() == wanted.as_bytes())
+    Ok(is_layout(alloc, text, wanted)? && is_layout(alloc, wanted, wanted)?)
 }
 
-#[test]
-fn sheets_are_written_in_one_layout(rt: HostRuntime) -> Result<(), Fail> {
-    let alloc = rt.alloc();
-    for (text, want) in [
-        ("xsugar-1 start s", "xsugar-1\nstart s\n"),
-        (
-            "\u{FEFF}# nothing\r\nxsugar-1\tstart\r\n\ns#",
-            "xsugar-1\nstart s\n",
-        ),
-        (
-            "xsugar-1 start s terminal d=/[0-9]/terminal e = / +\\/\\u{41}#/",
-            "xsugar-1\nstart s\nterminal d = /[0-9]/\nterminal e = / +\\/\\u{41}#/\n",
-        ),
-        (
-            "xsugar-1 start s ignorable w=/ */\"\"s:[w]=",
-            "xsugar-1\nstart s\nignorable w = / */ \"\"\ns : [ w ] =\n",
-        ),
-        (
-            "xsugar-1 start s s:\"(\"[d a][w]=[w]\"x\"[d a]",
-            "xsugar-1\nstart s\ns : \"(\" [ d a ] [ w ] = [ w ] \"x\" [ d a ]\n",
-        ),
-    ] {
-        assert!(rt; is_written_so(alloc, text, want)?);
-    }
-    Ok(())
-}
+const SHEETS: [(&str, &str); 5] = [
+    ("xsugar-1 start s", "xsugar-1\nstart s\n"),
+    (
+        "\u{FEFF}# nothing\r\nxsugar-1\tstart\r\n\ns#",
+        "xsugar-1\nstart s\n",
+    ),
+    (
+        "xsugar-1 start s terminal d=/[0-9]/terminal e = / +\\/\\u{41}#/",
+        "xsugar-1\nstart s\nterminal d = /[0-9]/\nterminal e = / +\\/\\u{41}#/\n",
+    ),
+    (
+        "xsugar-1 start s ignorable w=/ */\"\"s:[w]=",
+        "xsugar-1\nstart s\nignorable w = / */ \"\"\ns : [ w ] =\n",
+    ),
+    (
+        "xsugar-1 start s s:\"(\"[d a][w]=[w]\"x\"[d a]",
+        "xsugar-1\nstart s\ns : \"(\" [ d a ] [ w ] = [ w ] \"x\" [ d a ]\n",
+    ),
+];
 
 #[test]
-fn elements_are_written_in_one_layout(rt: HostRuntime) -> Result<(), Fail> {
-    let alloc = rt.alloc();
-    for (text, want) in [
-        (
-            "xsugar-1\nstart s\ns:=<p/><x:p></x:p>",
-            "xsugar-1\nstart s\ns : = < p /> < x:p />\n",
-        ),
-        (
-            "xsugar-1\nstart s\ns:=<a.b><c-1/><d>\"x\"</d></a.b>\"y\"",
-            "xsugar-1\nstart s\ns : = < a.b > < c-1 /> < d > \"x\" </ d > </ a.b > \"y\"\n",
-        ),
-        (
-            "xsugar-1\nstart s\ns:=<p x:n=\"a\"[d a]\"b\"m=[w]>[d b]</p>",
-            "xsugar-1\nstart s\ns : = < p x:n = \"a\" [ d a ] \"b\" m = [ w ] > [ d b ] </ p >\n",
-        ),
-    ] {
-        assert!(rt; is_written_so(alloc, text, want)?);
+fn sheets_are_written_in_one_layout(rt: HostRuntime) {
+    for (text, want) in &SHEETS {
+        let same = is_written_so(rt.alloc(), text, want);
+        assert!(rt; same == Ok(true), "{text}");
     }
-    Ok(())
 }
+
+const ELEMENTS: [(&str, &str); 3] = [
+    (
+        "xsugar-1\nstart s\ns:=<p/><x:p></x:p>",
+        "xsugar-1\nstart s\ns : = < p /> < x:p />\n",
+    ),
+    (
+        "xsugar-1\nstart s\ns:=<a.b><c-1/><d>\"x\"</d></a.b>\"y\"",
+        "xsugar-1\nstart s\ns : = < a.b > < c-1 /> < d > \"x\" </ d > </ a.b > \"y\"\n",
+    ),
+    (
+        "xsugar-1\nstart s\ns:=<p x:n=\"a\"[d a]\"b\"m=[w]>[d b]</p>",
+        "xsugar-1\nstart s\ns : = < p x:n = \"a\" [ d a ] \"b\" m = [ w ] > [ d b ] </ p >\n",
+    ),
+];
+
+#[test]
+fn elements_are_written_in_one_layout(rt: HostRuntime) {
+    for (text, want) in &ELEMENTS {
+        let same = is_written_so(rt.alloc(), text, want);
+        assert!(rt; same == Ok(true), "{text}");
+    }
+}
+
+fn is_string_written_so(alloc: Global, string: &str, want: &str) -> Result<bool, Fail> {
+    let text = format!(in alloc; "xsugar-1\nstart s\ns : \"{string}\" =\n")?;
+    let wanted = format!(in alloc; "xsugar-1\nstart s\ns : \"{want}\" =\n")?;
+    Ok(is_written_so(alloc, text.as_str(), wanted.as_str())?)
+}
+
+const STRINGS: [(&str, &str); 5] = [
+    ("\\\"\\\\\\n\\t\\r", "\\\"\\\\\\n\\t\\r"),
+    ("\t\r \u{1}\u{7F}", "\\t\\r \\u{1}\\u{7f}"),
+    ("\\u{00001F}\\u{0}\\u{A}", "\\u{1f}\\u{0}\\n"),
+    ("\\u{E9}\\u{2019}\\u{10FFFF}/", "\u{E9}\u{2019}\u{10FFFF}/"),
+    ("\u{80}\u{A0}#~", "\u{80}\u{A0}#~"),
+];
 
 #[test]
 fn strings_are_written_with_their_escapes(rt: HostRuntime) -> Result<(), Fail> {
-    let alloc = rt.alloc();
-    for (string, want) in [
-        ("\\\"\\\\\\n\\t\\r", "\\\"\\\\\\n\\t\\r"),
-        ("\t\r \u{1}\u{7F}", "\\t\\r \\u{1}\\u{7f}"),
-        ("\\u{00001F}\\u{0}\\u{A}", "\\u{1f}\\u{0}\\n"),
-        ("\\u{E9}\\u{2019}\\u{10FFFF}/", "\u{E9}\u{2019}\u{10FFFF}/"),
-        ("\u{80}\u{A0}#~", "\u{80}\u{A0}#~"),
-    ] {
-        let text = format!(in alloc; "xsugar-1\nstart s\ns : \"{string}\" =\n")?;
-        let wanted = format!(in alloc; "xsugar-1\nstart s\ns : \"{want}\" =\n")?;
-        assert!(rt; is_written_so(alloc, text.as_str(), wanted.as_str())?);
+    for (string, want) in &STRINGS {
+        assert!(rt; is_string_written_so(rt.alloc(), string, want)?, "{string}");
     }
     Ok(())
 }

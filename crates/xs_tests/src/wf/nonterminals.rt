@@ -1,7 +1,6 @@
 //! At which lines the rules on words and loops fail.
 use crate::sheets::pair_of;
 use std::alloc::Global;
-use std::test::Fail;
 use xs_pair::PairFault;
 use xs_wf::{least_loop, least_unproductive};
 
@@ -53,9 +52,9 @@ const LINES: [(&str, (Option<u32>, Option<u32>)); 9] = [
 ];
 
 #[test]
-fn the_first_production_of_the_first_nonterminal_is_told(rt: HostRuntime) -> Result<(), Fail> {
-    for (text, answer) in LINES {
-        assert!(rt; lines_of(rt.alloc(), text)? == answer, "{text}");
+fn the_first_production_of_the_first_nonterminal_is_told(rt: HostRuntime) {
+    for (text, answer) in &LINES {
+        let lines = lines_of(rt.alloc(), text);
+        assert!(rt; lines == Ok(*answer), "{text}");
     }
-    Ok(())
 }

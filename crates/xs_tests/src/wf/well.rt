@@ -1,6 +1,6 @@
+use crate::pair::told;
 use crate::sheets::two_of;
 use std::alloc::Global;
-use std::test::Fail;
 use xs_class::Side;
 use xs_pair::{Ill, IllRule};
 use xs_wf::WfFault;
@@ -43,11 +43,10 @@ const COUNTED: [(&str, u32); 5] = [
 ];
 
 #[test]
-fn sheets_in_which_no_rule_fails_have_two_grammars(rt: HostRuntime) -> Result<(), Fail> {
-    for (text, count) in COUNTED {
-        assert!(rt; productions(rt.alloc(), text) == Some(count), "{text}");
+fn sheets_in_which_no_rule_fails_have_two_grammars(rt: HostRuntime) {
+    for (text, count) in &COUNTED {
+        assert!(rt; productions(rt.alloc(), text) == Some(*count), "{text}");
     }
-    Ok(())
 }
 
 const FAILING: [(&str, IllRule, u32); 9] = [
@@ -99,9 +98,9 @@ const FAILING: [(&str, IllRule, u32); 9] = [
 ];
 
 #[test]
-fn the_first_rule_that_fails_is_told_with_its_least_line(rt: HostRuntime) -> Result<(), Fail> {
-    for (text, rule, line) in FAILING {
-        assert!(rt; ill(rt.alloc(), text) == Some(Ill { rule, line }), "{text}");
+fn the_first_rule_that_fails_is_told_with_its_least_line(rt: HostRuntime) {
+    for (text, rule, line) in &FAILING {
+        let ill = ill(rt.alloc(), text);
+        assert!(rt; ill == told(*rule, *line), "{text}");
     }
-    Ok(())
 }

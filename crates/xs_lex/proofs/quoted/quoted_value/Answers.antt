@@ -1,9 +1,9 @@
-use Rattle.std.proofs.Common.{◌≡◌, ℕ, ◌-◌, List, [], length, take, drop, Ok, Err, Some, rules, ap, ◌∙◌}
+use Rattle.std.proofs.Common.{◌≡◌, ◌≤◌, ℕ, ◌-◌, List, [], length, take, drop, Ok, Err, Some, arith, ap, ◌∙◌}
 use Rattle.std.specs.declared.result.Result.{Result}
 use Rattle.std.specs.Result.{IfOk}
 use Rattle.std.specs.Str.{chars}
 use Rattle.std.proofs.lemmas.List.{take_rest}
-use Rattle.std.proofs.lemmas.Str.{chars_from_encodes}
+use Rattle.std.proofs.lemmas.Iterator.{YieldsList-from_chars, items_from_collect}
 use Rattle.xs_lex.specs.declared.kind.Kind.TheVariants.{Quoted}
 use Rattle.xs_lex.specs.declared.quoted.Spot.TheVariants.{Between}
 use Rattle.xs_lex.specs.Spelling.{IsQuoted, Spells}
@@ -17,11 +17,19 @@ tail_value letters word value same spells is =
     let whole = same ∙ q.is in
     record { units = q.units; is = q.is; each = q.each; means = is ∙ ap (λ (z : List ℕ). value_at (Some Between) z) (take_rest letters 1) ∙ ap (λ (z : List ℕ). value_at (Some Between) (drop 1 z)) whole ∙ value_read q.units [] q.each }
 
+some_letter : (letters word : List ℕ) → letters ≡ word → Spells Quoted word → 1 ≤ length letters
+some_letter letters word same spells = rw (same ∙ spells.1.is) (omega arith)
+
 if_ok : {T E : Type 0} (r : Result T E) (P Q : T → Type 0) → ((x : T) → P x → Q x) → IfOk r P → IfOk r Q
 if_ok (Ok x) P Q f h = f x h
 if_ok (Err e) P Q f h = h
 
+pub slice_bounds-value-count : goal.slice_bounds-value-count
+slice_bounds-value-count c =
+    let same : c.in_ok-letters.letters.items ≡ chars c.args.token_text.now = items_from_collect {E = ℕ} (Ok c.in_ok-letters.letters) c.in_ok-letters.ensures.ran (YieldsList-from_chars c.args.token_text.now c.utf8.token_text c.chars.ensures.rest) in
+    some_letter c.deref.result.now (chars c.args.token_text.now) (c.deref.ensures.value ∙ same) c.requires
+
 pub returns : goal.returns
 returns c =
-    let same : c.in_ok-letters.letters.items ≡ chars c.args.token_text.now = search (rules, chars_from_encodes) in
+    let same : c.in_ok-letters.letters.items ≡ chars c.args.token_text.now = items_from_collect {E = ℕ} (Ok c.in_ok-letters.letters) c.in_ok-letters.ensures.ran (YieldsList-from_chars c.args.token_text.now c.utf8.token_text c.chars.ensures.rest) in
     if_ok c.value.result _ _ (λ t h. tail_value c.deref.result.now (chars c.args.token_text.now) t (c.deref.ensures.value ∙ same) c.requires h) c.value.ensures

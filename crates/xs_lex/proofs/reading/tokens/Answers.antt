@@ -1,7 +1,7 @@
-use Rattle.std.proofs.Common.{◌≡◌, ◌∙◌, sym, ap, subst, rules, map, ℕ, List}
+use Rattle.std.proofs.Common.{◌≡◌, ◌∙◌, sym, ap, subst, map, ℕ, List, Ok}
 use Rattle.std.specs.Str.{chars}
 use Rattle.std.specs.List.{All}
-use Rattle.std.proofs.lemmas.Str.{chars_from_encodes}
+use Rattle.std.proofs.lemmas.Iterator.{YieldsList-from_chars, items_from_collect}
 use Rattle.xs_lex.specs.declared.token.Token.{Token}
 use Rattle.xs_lex.specs.Reading.{Lexeme, AreTokens, IsSlice, extent_of, behind_mark, valid, lexeme_of}
 use Rattle.xs_lex.proofs.Uniqueness.{one_list}
@@ -10,7 +10,7 @@ use Rattle.xs_lex.proofs.reading.tokens.Goals as goal
 
 pub scanned-requires-clause-letters : goal.scanned-requires-clause-letters
 scanned-requires-clause-letters c =
-    let same : c.in_ok-letters.letters.items ≡ chars c.valid_text-text.result.now = search (rules, chars_from_encodes) in
+    let same : c.in_ok-letters.letters.items ≡ chars c.valid_text-text.result.now = items_from_collect {E = ℕ} (Ok c.in_ok-letters.letters) c.in_ok-letters.ensures.ran (YieldsList-from_chars c.valid_text-text.result.now c.valid_text-text.utf8 c.chars.ensures.rest) in
     c.deref.ensures.value ∙ same ∙ ap chars c.valid_text-text.ensures
 
 pub scanned-requires-clause-whole : goal.scanned-requires-clause-whole

@@ -3,15 +3,15 @@ use Rattle.xs_regex.proofs.Copies.{room, at_least_init, at_least_more, at_least_
 use Rattle.xs_regex.proofs.repeat.at_least.Goals as goal
 
 pub copies-init : goal.copies-init
-copies-init c = (omega arith, at_least_init c.args.one.now c.in_ok-last.last c.maybe_if-all.result c.args.least c.requires.formed (rw c.in_ok-copied.ensures at c.in_ok-last.ensures) c.maybe_if-all.ensures)
+copies-init c = (omega arith, at_least_init c.args.one.now _ c.maybe_if-all.result c.args.least c.requires.formed (rw c.in_ok-last.ensures at c.in_ok-round.ensures) c.maybe_if-all.ensures)
 
 pub sequence-requires-clause-small : goal.sequence-requires-clause-small
 sequence-requires-clause-small c =
     let few : c.copies.behind < max c.args.least 1 = omega arith in
-    rw c.in_ok-copied-2.ensures (room c.args.one.now c.copies.all _ _ c.copies.behind (max c.args.least 1) few c.requires.small c.copies.invariant.1)
+    rw c.in_ok-more.ensures (room c.args.one.now c.copies.all _ _ c.copies.behind (max c.args.least 1) few c.requires.small c.copies.invariant.1)
 
 pub copies-preserved : goal.copies-preserved
-copies-preserved c = (omega arith, at_least_more c.args.one.now c.copies.all c.in_ok-all.all c.args.least c.copies.behind (omega arith) c.requires.formed c.copies.invariant.1 (rw c.in_ok-copied-2.ensures at c.in_ok-all.ensures))
+copies-preserved c = (omega arith, at_least_more c.args.one.now c.copies.all _ c.args.least c.copies.behind (omega arith) c.requires.formed c.copies.invariant.1 (rw c.in_ok-more.ensures at c.in_ok-sequence.ensures))
 
 pub returns : goal.returns
 returns c = at_least_end c.args.one.now c.copies.all c.args.least c.copies.behind (omega arith) (omega arith) c.copies.invariant.0 c.copies.invariant.1

@@ -1,0 +1,255 @@
+//! The whole run, over devices in memory, one module for each kind of input or answer.
+use std::alloc::Global;
+use std::process::Abort;
+use std::test::Fail;
+use xs_class::{Bytes, Memory, Text};
+use xs_io::{MemShelf, MemSink, MemSource};
+use xs_top::{Outcome, run, status};
+
+mod checks;
+mod cuts;
+mod faults;
+mod leiden;
+mod limits;
+mod patterns;
+mod plain;
+mod refusals;
+mod sheets;
+mod translations;
+mod trees;
+
+// The name of the file that has the sheet.
+const SHEET: &str = "sheet";
+
+const CHECK: &[&str] = &["check", SHEET];
+
+const TO_XML: &[&str] = &["to-xml", SHEET];
+
+const TO_TEXT: &[&str] = &["to-text", SHEET];
+
+const PAIR: &str = "xsugar-1\nstart s\nterminal d = /[0-9]/\n\
+    s : \"(\" [d a] \",\" [d b] \")\" = <p><y>[d b]</y><x>[d a]</x></p>\n";
+
+const EMPTY: &str = "xsugar-1\nstart s\ns : = <s/>\n";
+
+const LETTERS: &str = "xsugar-1\nstart s\nterminal v = /a*/\ns : [v x] = <s>[v x]</s>\n";
+
+const IN_VALUE: &str = "xsugar-1\nstart s\nterminal v = /.*/\ns : [v x] = <s a=[v x]/>\n";
+
+const IN_CONTENT: &str = "xsugar-1\nstart s\nterminal v = /.*/\ns : [v x] = <s>[v x]</s>\n";
+
+const NESTED: &str = "xsugar-1\nstart s\ns : \"a\" = <a/>\ns : \"(\" [s x] \")\" = <s>[s x]</s>\n";
+
+const LEFT: &str =
+    "xsugar-1\nstart s\ns : [l x] = <s>[l x]</s>\nl : =\nl : [l x] \"a\" = [l x] <a/>\n";
+
+const RIGHT: &str =
+    "xsugar-1\nstart s\ns : [l x] = <s>[l x]</s>\nl : =\nl : \"a\" [l x] = <a/> [l x]\n";
+
+const TWINS: &str = "xsugar-1\nstart s\ns : [s a] [s b] = <s>[s a][s b]</s>\ns : \"a\" = <a/>\n";
+
+// Pairs with spaces, which carry nothing, round each part.
+const SPACED: &str = "xsugar-1\nstart s\nterminal d = /[0-9]/\nignorable w = / */ \"\"\n\
+    s : \"(\" [w] [d a] [w] \",\" [w] [d b] [w] \")\" = <p><y>[d b]</y><x>[d a]</x></p>\n";
+
+// The calls at which devices fail, numbered from 1, where 0 is no call; each call moves at most `step`
+// bytes.
+#[derive(Clone, Copy)]
+struct Failures {
+    shelf: u64,
+    input: u64,
+    out: u64,
+    notes: u64,
+    step: usize,
+}
+
+// No call fails.
+const NONE: Failures = Failures {
+    shelf: 0,
+    input: 0,
+    out: 0,
+    notes: 0,
+    step: 65_536,
+};
+
+// The devices of a run, in memory.
+#[derive(Drop)]
+struct Devices {
+    shelf: MemShelf,
+    input: MemSource,
+    out: MemSink,
+    notes: MemSink,
+}
+
+// A run that ended.
+#[derive(Drop)]
+struct Ended {
+    outcome: Outcome,
+    devices: Devices,
+}
+
+// What is run: the words, the bytes of the sheet and the input.
+#[derive(Clone, Copy)]
+struct Run<'t> {
+    words: &'t [&'t str],
+    sheet: &'t [u8],
+    input: &'t [u8],
+}
+
+// How a run ends: its status, how it breaks off, and what `notes` and `out` take.
+#[derive(Clone, Copy, Debug, PartialEq)]
+struct End<'t> {
+    status: u8,
+    broken: (u8, u64),
+    notes: &'t [u8],
+    out: &'t [u8],
+}
+
+fn done(out: &[u8]) -> End<'_> {
+    End {
+        status: 0,
+        broken: (0, 0),
+        notes: b"",
+        out,
+    }
+}
+
+fn refused(status: u8, notes: &[u8]) -> End<'_> {
+    End {
+        status,
+        broken: (0, 0),
+        notes,
+        out: b"",
+    }
+}
+
+fn shelf_of(alloc: Global, sheet: &[u8], call: u64) -> Result<MemShelf, Memory> {
+    let name = Text::of(alloc, SHEET)?;
+    let bytes = Bytes::of(alloc, sheet)?;
+    let mut shelf = MemShelf::new(alloc, vec![in alloc; call]?);
+    shelf.add(name, bytes)?;
+    Ok(shelf)
+}
+
+fn source_of(alloc: Global, input: &[u8], call: u64, step: usize) -> Result<MemSource, Memory> {
+    let bytes = Bytes::of(alloc, input)?;
+    Ok(MemSource::new(bytes, step.max(1), vec![in alloc; call]?))
+}
+
+fn sink(alloc: Global, call: u64, step: usize) -> Result<MemSink, Memory> {
+    Ok(MemSink::new(alloc, step.max(1), vec![in alloc; call]?))
+}
+
+fn set_up(
+    alloc: Global,
+    sheet: &[u8],
+    input: &[u8],
+    failures: Failures,
+) -> Result<Devices, Memory> {
+    Ok(Devices {
+        shelf: shelf_of(alloc, sheet, failures.shelf)?,
+        input: source_of(alloc, input, failures.input, failures.step)?,
+        out: sink(alloc, failures.out, failures.step)?,
+        notes: sink(alloc, failures.notes, failures.step)?,
+    })
+}
+
+fn strings(alloc: Global, words: &[&str]) -> Result<Vec<String>, Memory> {
+    let mut list = Vec::new(alloc);
+    for word in words {
+        list.push(String::from_str(alloc, word)?)?;
+    }
+    Ok(list)
+}
+
+fn outcome_of(alloc: Global, words: &[&str], devices: &mut Devices) -> Result<Outcome, Memory> {
+    let words = strings(alloc, words)?;
+    run(
+        alloc,
+        &words,
+        &mut devices.shelf,
+        &mut devices.input,
+        &mut devices.out,
+        &mut devices.notes,
+    )
+}
+
+// The run of these words over the sheet and the input, in which these calls fail.
+fn ran(
+    alloc: Global,
+    words: &[&str],
+    sheet: &[u8],
+    input: &[u8],
+    failures: Failures,
+) -> Result<Ended, Memory> {
+    let mut devices = set_up(alloc, sheet, input, failures)?;
+    let outcome = outcome_of(alloc, words, &mut devices)?;
+    Ok(Ended { outcome, devices })
+}
+
+// The status of the outcome that `notes` failed to tell, or 0, and how many bytes the failing one of
+// `out` and `notes` took.
+fn broken_off(outcome: &Outcome) -> (u8, u64) {
+    match outcome {
+        Outcome::WriteFault { written } => (0, *written),
+        Outcome::NoteFault { of, written } => (*of, *written),
+        _ => (0, 0),
+    }
+}
+
+fn end_of(ended: &Ended) -> End<'_> {
+    End {
+        status: status(&ended.outcome),
+        broken: broken_off(&ended.outcome),
+        notes: ended.devices.notes.taken(),
+        out: ended.devices.out.taken(),
+    }
+}
+
+fn assert_end(rt: &impl Abort, ended: &Ended, end: End<'_>) {
+    assert_eq!(rt; end_of(ended), end);
+}
+
+// The run of these words over the sheet and the input ends so where these calls fail.
+fn expect_broken(
+    rt: &impl Abort,
+    alloc: Global,
+    run: Run<'_>,
+    failures: Failures,
+    end: End<'_>,
+) -> Result<(), Fail> {
+    let ended = ran(alloc, run.words, run.sheet, run.input, failures)?;
+    assert_end(rt, &ended, end);
+    Ok(())
+}
+
+// The run of these words over the sheet and the input ends so.
+fn expect(
+    rt: &impl Abort,
+    alloc: Global,
+    words: &[&str],
+    sheet: &[u8],
+    input: &[u8],
+    end: End<'_>,
+) -> Result<(), Fail> {
+    let run = Run {
+        words,
+        sheet,
+        input,
+    };
+    expect_broken(rt, alloc, run, NONE, end)
+}
+
+// The status, and whether `notes` took a line that begins so and `out` took nothing.
+fn told_by(end: End<'_>, begin: &[u8]) -> (u8, bool) {
+    (
+        end.status,
+        end.notes.starts_with(begin) && end.out.is_empty(),
+    )
+}
+
+// The status of a run, and whether `notes` takes a line that begins so and `out` takes nothing.
+fn told(alloc: Global, words: &[&str], sheet: &[u8], begin: &[u8]) -> Result<(u8, bool), Memory> {
+    let ended = ran(alloc, words, sheet, b"zzz", NONE)?;
+    Ok(told_by(end_of(&ended), begin))
+}

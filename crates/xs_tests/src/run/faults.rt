@@ -1,0 +1,211 @@
+use super::{End, Failures, NONE, PAIR, Run, TO_XML, done, expect_broken, refused};
+use std::alloc::Global;
+use std::process::Abort;
+use std::test::Fail;
+
+// Words, an input, the calls of `input`, `out` and `notes` that fail, how many bytes a call moves, what
+// `out` and `notes` take, and how the run breaks off.
+type Row = (
+    &'static [&'static str],
+    &'static [u8],
+    [u64; 3],
+    usize,
+    &'static [u8],
+    &'static [u8],
+    (u8, u64),
+);
+
+const ROWS: &[Row] = &[
+    (
+        TO_XML,
+        b"(3,7)",
+        [2, 0, 0],
+        5,
+        b"",
+        b"input: cannot be read\n",
+        (0, 0),
+    ),
+    (
+        TO_XML,
+        b"(3,7)",
+        [0, 3, 0],
+        1,
+        b"<p",
+        b"output: cannot be written after 2 bytes\n",
+        (0, 2),
+    ),
+    (TO_XML, b"(3,7]", [0, 0, 6], 1, b"", b"input", (1, 5)),
+    (&[], b"", [0, 0, 1], 1, b"", b"", (5, 0)),
+    // `notes` fails at the line of a failing `out`
+    (TO_XML, b"(3,7)", [0, 3, 7], 1, b"<p", b"output", (6, 6)),
+];
+
+fn expect_row(rt: &impl Abort, alloc: Global, row: Row) -> Result<(), Fail> {
+    let (words, input, calls, step, out, notes, broken) = row;
+    let run = Run {
+        words,
+        sheet: PAIR.as_bytes(),
+        input,
+    };
+    let failures = Failures {
+        shelf: 0,
+        input: calls[0],
+        out: calls[1],
+        notes: calls[2],
+        step,
+    };
+    let end = End {
+        status: 6,
+        broken,
+        notes,
+        out,
+    };
+    expect_broken(rt, alloc, run, failures, end)
+}
+
+#[test]
+fn the_rows_of_single_faults(rt: HostRuntime) -> Result<(), Fail> {
+    for row in ROWS {
+        expect_row(&rt, rt.alloc(), *row)?;
+    }
+    Ok(())
+}
+
+const ANSWER: &[u8] = b"<p><y>7</y><x>3</x></p>\n";
+
+// The run that turns this text into XML by the pair sheet.
+fn turning(text: &[u8]) -> Run<'_> {
+    Run {
+        words: TO_XML,
+        sheet: PAIR.as_bytes(),
+        input: text,
+    }
+}
+
+// How many bytes calls before this one move.
+fn moved_before(call: u64, step: usize) -> usize {
+    (call.saturating_sub(1) as usize).saturating_mul(step)
+}
+
+// Either the fault is told by this line, or the run is done.
+fn end_of(is_told: bool, line: &[u8]) -> End<'_> {
+    if is_told {
+        refused(6, line)
+    } else {
+        done(ANSWER)
+    }
+}
+
+// This call of `out` fails, which is told with how many bytes `out` took.
+fn expect_cut(rt: &impl Abort, alloc: Global, failures: Failures) -> Result<(), Fail> {
+    let taken = moved_before(failures.out, failures.step);
+    let line = format!(in alloc; "output: cannot be written after {taken} bytes\n")?;
+    let end = End {
+        status: 6,
+        broken: (0, taken as u64),
+        notes: line.as_bytes(),
+        out: &ANSWER[..taken.min(ANSWER.len())],
+    };
+    expect_broken(rt, alloc, turning(b"(3,7)"), failures, end)
+}
+
+// These calls fail, of which a run makes one where `is_told`.
+fn expect_end(
+    rt: &impl Abort,
+    alloc: Global,
+    failures: Failures,
+    is_told: bool,
+    line: &[u8],
+) -> Result<(), Fail> {
+    let end = end_of(is_told, line);
+    expect_broken(rt, alloc, turning(b"(3,7)"), failures, end)
+}
+
+// This call of each device fails in turn, where a run makes so many calls of the shelf, of the input and
+// of `out`.
+fn expect_faults(
+    rt: &impl Abort,
+    alloc: Global,
+    call: u64,
+    step: usize,
+    calls: [u64; 3],
+) -> Result<(), Fail> {
+    let none = Failures { step, ..NONE };
+    let shelf = Failures {
+        shelf: call,
+        ..none
+    };
+    expect_end(
+        rt,
+        alloc,
+        shelf,
+        call <= calls[0],
+        b"sheet: cannot be read\n",
+    )?;
+    let input = Failures {
+        input: call,
+        ..none
+    };
+    expect_end(
+        rt,
+        alloc,
+        input,
+        call <= calls[1],
+        b"input: cannot be read\n",
+    )?;
+    let notes = Failures {
+        notes: call,
+        ..none
+    };
+    expect_end(rt, alloc, notes, false, b"")?;
+    let out = Failures { out: call, ..none };
+    if call <= calls[2] {
+        expect_cut(rt, alloc, out)
+    } else {
+        expect_end(rt, alloc, out, false, b"")
+    }
+}
+
+// By step: the calls of the shelf (the sheet, and its end), of the input up to its end, and of `out`.
+const CALLS: &[(usize, [u64; 3])] = &[(1, [2, 6, 24]), (5, [2, 2, 5]), (100, [2, 2, 1])];
+
+#[test]
+fn each_failing_call_of_each_device_is_told(rt: HostRuntime) -> Result<(), Fail> {
+    for (step, calls) in CALLS {
+        for call in 1..41u64 {
+            expect_faults(&rt, rt.alloc(), call, *step, *calls)?;
+        }
+    }
+    Ok(())
+}
+
+// What a run tells of which this call of `notes` fails: a prefix of its line, where the line takes that
+// call.
+fn expect_untold(rt: &impl Abort, alloc: Global, call: u64, step: usize) -> Result<(), Fail> {
+    let line: &[u8] = b"input: foreign after 4 symbols\n";
+    let taken = moved_before(call, step);
+    let failures = Failures {
+        notes: call,
+        step,
+        ..NONE
+    };
+    let end = if taken < line.len() {
+        End {
+            broken: (1, taken as u64),
+            ..refused(6, &line[..taken])
+        }
+    } else {
+        refused(1, line)
+    };
+    expect_broken(rt, alloc, turning(b"(3,7]"), failures, end)
+}
+
+#[test]
+fn each_failing_call_of_notes_is_answered(rt: HostRuntime) -> Result<(), Fail> {
+    for step in [1usize, 7, 100] {
+        for call in 1..41u64 {
+            expect_untold(&rt, rt.alloc(), call, step)?;
+        }
+    }
+    Ok(())
+}
