@@ -9,8 +9,8 @@ use Rattle.xs_chart.specs.declared.item.Item.{Item}
 use Rattle.xs_chart.specs.Charted.{Charted, items_of, last_set, with_item}
 use Rattle.xs_gram.specs.declared.places.Place.{Place}
 use Rattle.xs_gram.specs.Grammar.{Grammar}
-use Rattle.xs_items.specs.Charts.{IsNumber, set_at}
-use Rattle.xs_items.proofs.Settling.{has_place_more}
+use Rattle.xs_chart_laws.specs.Charts.{IsNumber, set_at}
+use Rattle.xs_chart_laws.proofs.Settling.{has_place_more}
 use Rattle.xs_earley.specs.Adding.{Puts, IsOf, Adds, Is}
 
 pub contains_at : {X : Type 0} (xs : List X) (x : X) → Contains xs x → (n : ℕ) × (slice_get xs n ≡ Some x)

@@ -8,10 +8,10 @@ use Rattle.xs_chart.specs.Filled.{waiting_for}
 use Rattle.xs_chart.specs.Charted.{Charted, items_of, waiting_of}
 use Rattle.xs_gram.specs.declared.places.Place.{Place}
 use Rattle.xs_gram.specs.Grammar.{Grammar}
-use Rattle.xs_items.specs.Steps.{next_of, IsBefore}
-use Rattle.xs_items.specs.Charts.{IsNumber, IsNumberBefore, set_at}
-use Rattle.xs_items.proofs.Words.{get_lt}
-use Rattle.xs_items.proofs.Numbers.{one_place}
+use Rattle.xs_chart_laws.specs.Steps.{next_of, IsBefore}
+use Rattle.xs_chart_laws.specs.Charts.{IsNumber, IsNumberBefore, set_at}
+use Rattle.xs_chart_laws.proofs.Words.{get_lt}
+use Rattle.xs_chart_laws.proofs.Numbers.{one_place}
 use Rattle.xs_earley.specs.Adding.{Adds, Is, Completes, Follows}
 use Rattle.xs_earley.specs.Growing.{IsExact}
 use Rattle.xs_earley.proofs.Additions.{Among, adds_same, contains_at, at_contains}

@@ -12,10 +12,10 @@ use Rattle.xs_gram.specs.Grammar.{Grammar, IsRuleOf}
 use Rattle.xs_gram.specs.Sound.{IsBuilt}
 use Rattle.xs_gram.specs.Chart.{Stands}
 use Rattle.xs_gram.specs.Places.{at_dot}
-use Rattle.xs_items.specs.Steps.{IsSettled}
-use Rattle.xs_items.specs.Charts.{IsNumber, set_at, HasPlace, AllItemsStand, IsChartOf}
-use Rattle.xs_items.proofs.Steps.{start_stands}
-use Rattle.xs_items.proofs.Settling.{has_place_more, settled_kept, settled_is_chart}
+use Rattle.xs_chart_laws.specs.Steps.{IsSettled}
+use Rattle.xs_chart_laws.specs.Charts.{IsNumber, set_at, HasPlace, AllItemsStand, IsChartOf}
+use Rattle.xs_chart_laws.proofs.Steps.{start_stands}
+use Rattle.xs_chart_laws.proofs.Settling.{has_place_more, settled_kept, settled_is_chart}
 use Rattle.xs_earley.specs.Adding.{Puts, IsOf, Adds, Starts}
 use Rattle.xs_earley.specs.Growing.{Grown, Has, IsSettledAt, IsExact, IsFilled}
 use Rattle.xs_earley.specs.Opening.{IsOpened}

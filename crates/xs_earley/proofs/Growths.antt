@@ -9,9 +9,9 @@ use Rattle.xs_chart.specs.declared.item.Item.{Item}
 use Rattle.xs_chart.specs.Charted.{Charted, waiting_of}
 use Rattle.xs_gram.specs.declared.places.Place.{Place}
 use Rattle.xs_gram.specs.Grammar.{Grammar}
-use Rattle.xs_items.specs.Steps.{IsSettled}
-use Rattle.xs_items.specs.Charts.{set_at, ItemStands, AllItemsStand}
-use Rattle.xs_items.proofs.Settling.{has_place_more, settled_kept}
+use Rattle.xs_chart_laws.specs.Steps.{IsSettled}
+use Rattle.xs_chart_laws.specs.Charts.{set_at, ItemStands, AllItemsStand}
+use Rattle.xs_chart_laws.proofs.Settling.{has_place_more, settled_kept}
 use Rattle.xs_earley.specs.Adding.{Puts}
 use Rattle.xs_earley.specs.Growing.{GrowsAt, Grows, Grown, Has, IsSettledAt, IsExact, IsOpen}
 use Rattle.xs_earley.proofs.Additions.{no_element}

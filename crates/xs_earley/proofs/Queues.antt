@@ -9,8 +9,8 @@ use Rattle.xs_chart.specs.Charted.{Charted, items_of, waiting_of, last_set}
 use Rattle.xs_gram.specs.declared.parts.GItem.TheVariants.{Non}
 use Rattle.xs_gram.specs.declared.places.Place.{Place}
 use Rattle.xs_gram.specs.Grammar.{Grammar, items}
-use Rattle.xs_items.specs.Steps.{IsBefore}
-use Rattle.xs_items.specs.Charts.{IsNumber, IsNumberBefore}
+use Rattle.xs_chart_laws.specs.Steps.{IsBefore}
+use Rattle.xs_chart_laws.specs.Charts.{IsNumber, IsNumberBefore}
 use Rattle.xs_earley.specs.Growing.{Grows, IsExact}
 use Rattle.xs_earley.specs.Waiting.{Waited, IsWaiting, WaitsBelow}
 use Rattle.xs_earley.proofs.Additions.{no_element, last_at, at_contains}

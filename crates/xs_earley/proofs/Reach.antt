@@ -6,10 +6,10 @@ use Rattle.xs_chart.specs.declared.item.Item.{Item}
 use Rattle.xs_gram.specs.declared.places.Place.{Place}
 use Rattle.xs_gram.specs.Grammar.{Grammar}
 use Rattle.xs_gram.specs.Places.{all_places}
-use Rattle.xs_items.specs.Closed.{ReadsTo, IsReached}
-use Rattle.xs_items.specs.Charts.{IsNumber, set_at, HasPlace, IsChartOf}
-use Rattle.xs_items.proofs.Words.{get_lt, get_take}
-use Rattle.xs_items.proofs.Numbers.{one_place}
+use Rattle.xs_chart_laws.specs.Closed.{ReadsTo, IsReached}
+use Rattle.xs_chart_laws.specs.Charts.{IsNumber, set_at, HasPlace, IsChartOf}
+use Rattle.xs_chart_laws.proofs.Words.{get_lt, get_take}
+use Rattle.xs_chart_laws.proofs.Numbers.{one_place}
 use Rattle.xs_earley.specs.Seen.{ReachesFrom}
 use Rattle.xs_earley.proofs.Additions.{at_contains, no_element}
 

@@ -11,13 +11,13 @@ use Rattle.xs_gram.specs.Grammar.{Grammar, rule_of, items, IsRuleOf, ItemAt}
 use Rattle.xs_gram.specs.Sound.{IsBuilt, IsNullable}
 use Rattle.xs_gram.specs.Chart.{IsAutomatonOf, Stands}
 use Rattle.xs_gram.specs.Places.{at_dot, at_inside, positions_of, IsPlace}
-use Rattle.xs_items.specs.Steps.{next_of, IsBefore, HasAutomaton, IsPassed, GoesBy, IsSettled}
-use Rattle.xs_items.specs.Charts.{IsNumber, set_at, HasPlace, ItemStands, AllItemsStand}
-use Rattle.xs_items.proofs.Numbers.{one_place}
-use Rattle.xs_items.proofs.Words.{get_lt}
-use Rattle.xs_items.proofs.Charts.{chart_stands}
-use Rattle.xs_items.proofs.Steps.{passed_stands, called_stands, completed_stands, arrived_stands}
-use Rattle.xs_items.proofs.Settling.{has_place_more, settled_fixed, settled_non, settled_lex, settled_inside, settled_end}
+use Rattle.xs_chart_laws.specs.Steps.{next_of, IsBefore, HasAutomaton, IsPassed, GoesBy, IsSettled}
+use Rattle.xs_chart_laws.specs.Charts.{IsNumber, set_at, HasPlace, ItemStands, AllItemsStand}
+use Rattle.xs_chart_laws.proofs.Numbers.{one_place}
+use Rattle.xs_chart_laws.proofs.Words.{get_lt}
+use Rattle.xs_chart_laws.proofs.Charts.{chart_stands}
+use Rattle.xs_chart_laws.proofs.Steps.{passed_stands, called_stands, completed_stands, arrived_stands}
+use Rattle.xs_chart_laws.proofs.Settling.{has_place_more, settled_fixed, settled_non, settled_lex, settled_inside, settled_end}
 use Rattle.xs_earley.specs.Adding.{IsOf, Adds, Passes, Begins, GoesOn, Ends, Calls, ReadsWord}
 use Rattle.xs_earley.specs.Growing.{Grown, Has, IsSettledAt}
 use Rattle.xs_earley.proofs.Additions.{adds_then, at_contains}

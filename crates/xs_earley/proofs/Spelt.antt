@@ -3,8 +3,8 @@ use Rattle.std.proofs.Common.{◌≡◌, ◌↔◌, ℕ, zero, suc, ◌+◌, ◌
 use Rattle.std.proofs.lemmas.List.{take_rest, take_all}
 use Rattle.std.specs.Prelude.{slice_get}
 use Rattle.std.proofs.lemmas.Bool.{cases_lt}
-use Rattle.xs_items.specs.Reading.{Reads}
-use Rattle.xs_items.proofs.Words.{get_take, Reads-join}
+use Rattle.xs_chart_laws.specs.Reading.{Reads}
+use Rattle.xs_chart_laws.proofs.Words.{get_take, Reads-join}
 
 reads_get : (w : List ℕ) (i : ℕ) (u : List ℕ) (j k x : ℕ) → Reads w i u j → slice_get u k ≡ Some x → slice_get w (i + k) ≡ Some x
 reads_get w i [] j k x r e = cc

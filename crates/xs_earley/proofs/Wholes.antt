@@ -6,8 +6,8 @@ use Rattle.xs_chart.specs.declared.item.Item.{Item}
 use Rattle.xs_gram.specs.Grammar.{Grammar, items, IsRuleOf}
 use Rattle.xs_gram.specs.Languages.{InLang}
 use Rattle.xs_gram.specs.Places.{at_dot}
-use Rattle.xs_items.specs.Charts.{HasPlace, IsChartOf}
-use Rattle.xs_items.proofs.Charts.{chart_language}
+use Rattle.xs_chart_laws.specs.Charts.{HasPlace, IsChartOf}
+use Rattle.xs_chart_laws.proofs.Charts.{chart_language}
 
 module _ (g : Grammar) (w : List ℕ) (sets : List (List Item)) (at : ℕ) (chart : IsChartOf g w sets) (end : at ≡ length w) where
   -- one is

@@ -7,9 +7,9 @@ use Rattle.xs_gram.specs.declared.places.Place.{Place}
 use Rattle.xs_gram.specs.Grammar.{Grammar, rule_of, IsRuleOf}
 use Rattle.xs_gram.specs.Sound.{IsNullable}
 use Rattle.xs_gram.specs.Places.{at_dot, at_inside}
-use Rattle.xs_items.specs.Reading.{Reads}
-use Rattle.xs_items.specs.Steps.{next_of, IsBefore}
-use Rattle.xs_items.specs.Charts.{IsNumber, set_at, HasPlace}
+use Rattle.xs_chart_laws.specs.Reading.{Reads}
+use Rattle.xs_chart_laws.specs.Steps.{next_of, IsBefore}
+use Rattle.xs_chart_laws.specs.Charts.{IsNumber, set_at, HasPlace}
 
 -- set `at` has got items at its end, each with the property, and the other sets are as they were
 pub record Puts (at : ℕ) (P : Item → Type 0) (old new : List (List Item)) : Type 0 where

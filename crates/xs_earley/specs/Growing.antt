@@ -5,8 +5,8 @@ use Rattle.xs_chart.specs.Charted.{Charted, items_of, waiting_of}
 use Rattle.xs_gram.specs.declared.places.Place.{Place}
 use Rattle.xs_gram.specs.Grammar.{Grammar, IsRuleOf}
 use Rattle.xs_gram.specs.Places.{at_dot}
-use Rattle.xs_items.specs.Steps.{IsSettled}
-use Rattle.xs_items.specs.Charts.{IsNumber, IsNumberBefore, set_at, HasPlace, ItemStands, AllItemsStand, HasWaiters}
+use Rattle.xs_chart_laws.specs.Steps.{IsSettled}
+use Rattle.xs_chart_laws.specs.Charts.{IsNumber, IsNumberBefore, set_at, HasPlace, ItemStands, AllItemsStand, HasWaiters}
 
 -- set k has got items at its end, each of which stands there
 pub record GrowsAt (g : Grammar) (w : List ℕ) (old new : List (List Item)) (k : ℕ) : Type 0 where

@@ -4,7 +4,7 @@ use Rattle.xs_chart.specs.declared.item.Item.{Item}
 use Rattle.xs_chart.specs.Charted.{Charted, waiting_of}
 use Rattle.xs_gram.specs.Grammar.{Grammar, IsRuleOf}
 use Rattle.xs_gram.specs.Places.{at_dot}
-use Rattle.xs_items.specs.Charts.{HasPlace}
+use Rattle.xs_chart_laws.specs.Charts.{HasPlace}
 use Rattle.xs_earley.specs.Growing.{Grown, IsOpen}
 
 -- Set `at` is open after the filled sets of the old chart, of which none has grown; in the first set the

@@ -4,8 +4,8 @@ use Rattle.xs_chart.specs.declared.item.Item.{Item}
 use Rattle.xs_gram.specs.declared.places.Place.{Place}
 use Rattle.xs_gram.specs.Grammar.{Grammar}
 use Rattle.xs_gram.specs.Languages.{InLang, IsViable}
-use Rattle.xs_items.specs.Closed.{ReadsTo}
-use Rattle.xs_items.specs.Charts.{IsNumber}
+use Rattle.xs_chart_laws.specs.Closed.{ReadsTo}
+use Rattle.xs_chart_laws.specs.Charts.{IsNumber}
 use Rattle.xs_earley.specs.declared.fault.SeeFault.{SeeFault}
 use Rattle.xs_earley.specs.declared.fault.SeeFault.TheVariants.{Foreign, Memory}
 

@@ -3,7 +3,7 @@ use Rattle.std.specs.Prelude.{◌≡◌, ◌≢◌, ◌↔◌, ◌⊎◌, ℕ, �
 use Rattle.xs_chart.specs.declared.item.Item.{Item}
 use Rattle.xs_chart.specs.Charted.{Charted, items_of, waiting_of}
 use Rattle.xs_gram.specs.Grammar.{Grammar}
-use Rattle.xs_items.specs.Charts.{IsNumberBefore}
+use Rattle.xs_chart_laws.specs.Charts.{IsNumberBefore}
 
 -- Number k was put in the waiting list, in set `at`, of the nonterminal before which the place of this
 -- number stands, if it stands before one, and in no other list.

@@ -2,7 +2,7 @@ ghost use Rattle.std.specs.Prelude.{◌≡◌, ◌<◌, ◌≤◌, suc, length, 
 ghost use Rattle.xs_chart.specs.declared.item.Item.{Item};
 ghost use Rattle.xs_chart.specs.Charted.{items_of};
 ghost use Rattle.xs_gram.specs.Sound.{IsBuilt};
-ghost use Rattle.xs_items.specs.Charts.{IsChartOf, HasWaiters};
+ghost use Rattle.xs_chart_laws.specs.Charts.{IsChartOf, HasWaiters};
 ghost use Rattle.xs_earley.specs.Adding.{Puts, Adds, Starts};
 ghost use Rattle.xs_earley.specs.Asked.{AreCalls};
 ghost use Rattle.xs_earley.specs.Growing.{IsFilled};

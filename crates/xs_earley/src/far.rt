@@ -3,8 +3,8 @@ ghost use Rattle.xs_chart.specs.Charted.{items_of};
 ghost use Rattle.xs_gram.specs.Languages.{IsViable};
 ghost use Rattle.xs_gram.specs.Places.{IsPlace};
 ghost use Rattle.xs_gram.specs.Sound.{IsSound};
-ghost use Rattle.xs_items.specs.Closed.{ReadsTo};
-ghost use Rattle.xs_items.specs.Charts.{IsChartOf};
+ghost use Rattle.xs_chart_laws.specs.Closed.{ReadsTo};
+ghost use Rattle.xs_chart_laws.specs.Charts.{IsChartOf};
 ghost use Rattle.xs_earley.specs.Seen.{ReachesFrom};
 
 use crate::places::item_at;

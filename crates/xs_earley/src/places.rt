@@ -2,7 +2,7 @@ ghost use Rattle.std.specs.Prelude.{◌≡◌, ◌<◌, ℕ, length, MatchOption
 ghost use Rattle.xs_gram.specs.declared.parts.GItem.{GItem};
 ghost use Rattle.xs_gram.specs.Grammar.{items, ItemAt};
 ghost use Rattle.xs_gram.specs.Places.{IsPlace};
-ghost use Rattle.xs_items.specs.Steps.{next_of, IsBefore};
+ghost use Rattle.xs_chart_laws.specs.Steps.{next_of, IsBefore};
 
 use xs_gram::{GItem, Gram, Place};
 

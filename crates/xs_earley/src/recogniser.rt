@@ -3,7 +3,7 @@ ghost use Rattle.xs_gram.specs.Grammar.{items};
 ghost use Rattle.xs_gram.specs.Languages.{InLang};
 ghost use Rattle.xs_gram.specs.Places.{at_dot};
 ghost use Rattle.xs_gram.specs.Sound.{IsBuilt, IsSound};
-ghost use Rattle.xs_items.specs.Charts.{HasPlace, IsChartOf, HasWaiters};
+ghost use Rattle.xs_chart_laws.specs.Charts.{HasPlace, IsChartOf, HasWaiters};
 ghost use Rattle.xs_earley.specs.Asked.{AreCalls};
 ghost use Rattle.xs_earley.specs.Seen.{IsFault};
 

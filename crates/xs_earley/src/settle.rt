@@ -7,7 +7,7 @@ ghost use Rattle.xs_gram.specs.Grammar.{ItemAt};
 ghost use Rattle.xs_gram.specs.Chart.{Stands};
 ghost use Rattle.xs_gram.specs.Places.{IsPlace};
 ghost use Rattle.xs_gram.specs.Sound.{IsBuilt};
-ghost use Rattle.xs_items.specs.Steps.{HasAutomaton, IsSettled};
+ghost use Rattle.xs_chart_laws.specs.Steps.{HasAutomaton, IsSettled};
 ghost use Rattle.xs_earley.specs.Adding.{Adds, Ends, Calls as CallsOn, ReadsWord};
 ghost use Rattle.xs_earley.specs.Asked.{AreCalls};
 ghost use Rattle.xs_earley.specs.Growing.{Has, Grown, IsSettledAt, IsExact, IsOpen};

@@ -1,7 +1,7 @@
 ghost use Rattle.std.specs.Prelude.{◌≡◌, ◌<◌, ◌↔◌, suc, ℕ, length, slice_get, Contains, IsTrue, IfOk};
 ghost use Rattle.xs_regex.specs.Automaton.{HasAt, Leads, IsBelow};
 ghost use Rattle.xs_gram.specs.Places.{IsPlace};
-ghost use Rattle.xs_items.specs.Steps.{HasAutomaton};
+ghost use Rattle.xs_chart_laws.specs.Steps.{HasAutomaton};
 ghost use Rattle.xs_earley.specs.Adding.{Adds, Begins, Enters, GoesOn, Completes};
 ghost use Rattle.xs_earley.specs.Growing.{IsExact};
 

@@ -1,5 +1,5 @@
 ghost use Rattle.std.specs.Prelude.{◌≡◌, ◌≤◌, ◌+◌, ◌↔◌, ℕ, length, take, Some, slice_get, IsTrue};
-ghost use Rattle.xs_items.specs.Reading.{Reads};
+ghost use Rattle.xs_chart_laws.specs.Reading.{Reads};
 
 use xs_class::{Sym, Word};
 

@@ -5,9 +5,9 @@ use Rattle.std.specs.Char.{IsScalar}
 use Rattle.std.specs.Str.{chars, all_scalars}
 use Rattle.std.proofs.lemmas.Str.{chars-encodes}
 use Rattle.std.proofs.lemmas.Bool.Decides.{nat_tests}
-use Rattle.xs_piece.specs.Tables.{is_name_start, is_name_char}
-use Rattle.xs_piece.specs.Piece.{all_of, is_name}
-use Rattle.xs_piece.proofs.Reading.{and_true, both_true, name_chars}
+use Rattle.xs_xml.specs.Tables.{is_name_start, is_name_char}
+use Rattle.xs_xml.specs.Piece.{all_of, is_name}
+use Rattle.xs_xml.proofs.Reading.{and_true, both_true, name_chars}
 use Rattle.xs_form.proofs.Numbers.{drop_next}
 
 pub name_scalar : (c : ℕ) → is_name_char c ≡ true → IsScalar c

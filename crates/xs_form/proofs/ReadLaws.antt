@@ -3,16 +3,16 @@ use Rattle.std.proofs.Common.{◌≡◌, ℕ, ◌≤◌, ◌<◌, List, [], ◌�
 use Rattle.std.specs.declared.option.Option.{Option}
 use Rattle.std.specs.Option.{option_map}
 use Rattle.std.proofs.lemmas.Bool.Decides.{nat_tests}
-use Rattle.xs_piece.specs.Piece.{Piece, is_piece}
-use Rattle.xs_piece.specs.Legal.{Spot, ahead, inside, behind, is_first, passed, then_passed, is_that, no_section_end, IsLegal}
-use Rattle.xs_piece.specs.Reads.{symbols, all_symbols, Reads}
-use Rattle.xs_piece.specs.Scan.{piece_at}
-use Rattle.xs_piece.proofs.Reading.{and_true, or_false, not_true, both_true}
-use Rattle.xs_piece.proofs.Cutting.{some_inj}
-use Rattle.xs_piece.proofs.Tagsound.{read_is_spelt}
-use Rattle.xs_piece.proofs.Greatest.{IsStuck, all_long, piece_long, stuck_is_broken}
-use Rattle.xs_piece.proofs.Stuck.{stuck_unless, reads_whole}
-use Rattle.xs_piece.proofs.More.{legal_more, passed_append}
+use Rattle.xs_xml.specs.Piece.{Piece, is_piece}
+use Rattle.xs_xml.specs.Legal.{Spot, ahead, inside, behind, is_first, passed, then_passed, is_that, no_section_end, IsLegal}
+use Rattle.xs_xml.specs.Reads.{symbols, all_symbols, Reads}
+use Rattle.xs_xml.specs.Scan.{piece_at}
+use Rattle.xs_xml.proofs.Reading.{and_true, or_false, not_true, both_true}
+use Rattle.xs_xml.proofs.Cutting.{some_inj}
+use Rattle.xs_xml.proofs.Tagsound.{read_is_spelt}
+use Rattle.xs_xml.proofs.Greatest.{IsStuck, all_long, piece_long, stuck_is_broken}
+use Rattle.xs_xml.proofs.Stuck.{stuck_unless, reads_whole}
+use Rattle.xs_xml.proofs.More.{legal_more, passed_append}
 use Rattle.xs_form.specs.declared.document.XmlFault.{XmlFault}
 use Rattle.xs_form.specs.declared.document.XmlFault.TheVariants.{NotXml, Memory}
 use Rattle.xs_form.specs.Fault.{IsFault, IsAt}

@@ -1,10 +1,10 @@
 -- The rules of a legal list, when one more piece goes on it.
 use Rattle.std.proofs.Common.{◌≡◌, ℕ, List, [], ◌∷◌, ◌++◌, append-nil, append_assoc, Bool, true, false, not, ◌==◌, ◌&&◌, ◌||◌, if◌then◌else◌, Some, None, refl, sym, ◌∙◌, ap}
 use Rattle.std.specs.declared.option.Option.{Option}
-use Rattle.xs_piece.specs.Piece.{Piece, declaration, character, line_end, reference, start_tag, empty_tag, end_tag, comment, instruction, cdata}
-use Rattle.xs_piece.specs.Legal.{Spot, no_declaration, is_first, passed, all_passed, is_that, no_section_end}
-use Rattle.xs_piece.specs.Reads.{symbols, all_symbols}
-use Rattle.xs_piece.proofs.Reading.{and_no}
+use Rattle.xs_xml.specs.Piece.{Piece, declaration, character, line_end, reference, start_tag, empty_tag, end_tag, comment, instruction, cdata}
+use Rattle.xs_xml.specs.Legal.{Spot, no_declaration, is_first, passed, all_passed, is_that, no_section_end}
+use Rattle.xs_xml.specs.Reads.{symbols, all_symbols}
+use Rattle.xs_xml.proofs.Reading.{and_no}
 
 -- the first piece alone may be a declaration
 abbrev pub is_declaration : Piece → Bool

@@ -2,11 +2,11 @@
 use Rattle.std.proofs.Common.{◌≡◌, ℕ, List, map, Bool, true, false, not, ◌==◌, ◌&&◌, ◌||◌, if◌then◌else◌, None, refl, sym, ◌∙◌, ap, arith, eqb-true}
 use Rattle.std.specs.declared.option.Option.{Option}
 use Rattle.std.proofs.lemmas.Bool.Decides.{nat_tests}
-use Rattle.xs_piece.specs.Tables.{is_white}
-use Rattle.xs_piece.specs.Piece.{Piece, Attribute, declaration, character, line_end, reference, start_tag, empty_tag, end_tag, comment, instruction, cdata, is_piece, is_name, are_attributes, distinct, all_of}
-use Rattle.xs_piece.specs.Legal.{Spot, ahead, inside, behind, passed, is_that}
-use Rattle.xs_piece.specs.Reads.{symbols, in_order, attribute_symbols}
-use Rattle.xs_piece.proofs.Reading.{and_true}
+use Rattle.xs_xml.specs.Tables.{is_white}
+use Rattle.xs_xml.specs.Piece.{Piece, Attribute, declaration, character, line_end, reference, start_tag, empty_tag, end_tag, comment, instruction, cdata, is_piece, is_name, are_attributes, distinct, all_of}
+use Rattle.xs_xml.specs.Legal.{Spot, ahead, inside, behind, passed, is_that}
+use Rattle.xs_xml.specs.Reads.{symbols, in_order, attribute_symbols}
+use Rattle.xs_xml.proofs.Reading.{and_true}
 use Rattle.xs_form.specs.Attributes.{held}
 use Rattle.xs_form.specs.Sorted.{keyed, held_in_order, entry_symbols}
 use Rattle.xs_form.specs.Seen.{seen, letter}

@@ -3,13 +3,13 @@ use Rattle.std.proofs.Common.{◌≡◌, ℕ, zero, suc, ◌≤◌, ◌<◌, Lis
 use Rattle.std.specs.declared.option.Option.{Option}
 use Rattle.std.specs.Option.{option_map}
 use Rattle.std.proofs.lemmas.Bool.Decides.{nat_tests}
-use Rattle.xs_piece.specs.Tables.{is_white}
-use Rattle.xs_piece.specs.Piece.{Bit, plain, ref, spelt_bit}
-use Rattle.xs_piece.specs.Reads.{value}
-use Rattle.xs_piece.specs.Scan.{bit_at, bits_at}
-use Rattle.xs_piece.proofs.Cutting.{some_inj}
-use Rattle.xs_piece.proofs.Tags.{bit_long}
-use Rattle.xs_piece.proofs.Tagsound.{bit_is}
+use Rattle.xs_xml.specs.Tables.{is_white}
+use Rattle.xs_xml.specs.Piece.{Bit, plain, ref, spelt_bit}
+use Rattle.xs_xml.specs.Reads.{value}
+use Rattle.xs_xml.specs.Scan.{bit_at, bits_at}
+use Rattle.xs_xml.proofs.Cutting.{some_inj}
+use Rattle.xs_xml.proofs.Tags.{bit_long}
+use Rattle.xs_xml.proofs.Tagsound.{bit_is}
 use Rattle.xs_form.specs.declared.values.Part.{Part}
 use Rattle.xs_form.specs.Values.{part_of, kept_part, part_symbols, is_return, is_written, all_written}
 

@@ -2,10 +2,10 @@
 use Rattle.std.specs.Prelude.{ℕ, List, [], ◌∷◌, ◌++◌, map, reverse, Bool, true, false, ◌==◌, ◌&&◌, ◌||◌, if◌then◌else◌, Some, None}
 use Rattle.std.specs.declared.option.Option.{Option}
 use Rattle.std.specs.Borrow.{Bor}
-use Rattle.xs_piece.specs.Tables.{is_white}
-use Rattle.xs_piece.specs.Piece.{is_name, same}
-use Rattle.xs_piece.specs.Legal.{Spot, ahead, inside, behind, opened, closed}
-use Rattle.xs_piece.specs.Reads.{opening, closing, lines}
+use Rattle.xs_xml.specs.Tables.{is_white}
+use Rattle.xs_xml.specs.Piece.{is_name, same}
+use Rattle.xs_xml.specs.Legal.{Spot, ahead, inside, behind, opened, closed}
+use Rattle.xs_xml.specs.Reads.{opening, closing, lines}
 use Rattle.xs_form.specs.Sorted.{entry_symbols}
 use Rattle.xs_form.specs.Seen.{Seen, declared, letter, given, begins, stands, ends, aside, section}
 use Rattle.xs_form.specs.declared.reader.Reader.{Reader}

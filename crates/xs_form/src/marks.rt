@@ -2,9 +2,9 @@ ghost use Rattle.std.specs.Prelude.{◌≡◌, true, ◌++◌, IfOk, OnOk, encod
 ghost use Rattle.std.specs.Char.{IsScalar};
 ghost use Rattle.std.specs.Str.{chars};
 ghost use Rattle.std.specs.String.{string_bytes};
-ghost use Rattle.xs_piece.specs.Tables.{is_name_char};
-ghost use Rattle.xs_piece.specs.Piece.{all_of};
-ghost use Rattle.xs_piece.specs.Reads.{opening, attribute, closing};
+ghost use Rattle.xs_xml.specs.Tables.{is_name_char};
+ghost use Rattle.xs_xml.specs.Piece.{all_of};
+ghost use Rattle.xs_xml.specs.Reads.{opening, attribute, closing};
 
 use std::alloc::Global;
 use xs_class::{Memory, Names, STRANGE, Sym};

@@ -1,6 +1,6 @@
 ghost use Rattle.std.specs.Prelude.{◌≡◌, ◌<◌, ◌≤◌, ◌+◌, ◌*◌, ◌&&◌, min, true, []};
-ghost use Rattle.xs_piece.specs.Tables.{is_char, is_digit, is_hex};
-ghost use Rattle.xs_piece.specs.Piece.{hex_value, number, when, numbered, ref_char, all_of};
+ghost use Rattle.xs_xml.specs.Tables.{is_char, is_digit, is_hex};
+ghost use Rattle.xs_xml.specs.Piece.{hex_value, number, when, numbered, ref_char, all_of};
 ghost use Rattle.xs_form.specs.Seen.{named_reference};
 
 use crate::runs::{allowed, digit, hexadecimal, is, spells};
@@ -101,7 +101,7 @@ fn named_char(text: &[Sym]) -> Option<u32>
 }
 
 /// The character of a reference, by what stands between `&` and `;`.
-#[tactic(auto, unfolding(xs_piece::specs::Piece::ref_char))]
+#[tactic(auto, unfolding(xs_xml::specs::Piece::ref_char))]
 pub fn reference_char(text: &[Sym]) -> Option<u32>
     ensures { result ≡ ref_char text.now }
 {

@@ -1,8 +1,8 @@
 ghost use Rattle.std.specs.Prelude.{◌≡◌, ◌==◌, ◌<◌, map, length};
 ghost use Rattle.std.specs.Option.{option_map, option_copied};
-ghost use Rattle.xs_piece.specs.Tables.{is_char, is_name_start, is_name_char, is_white, is_digit, is_hex, is_quote};
-ghost use Rattle.xs_piece.specs.Piece.{is_name, all_of, same, lower};
-ghost use Rattle.xs_piece.specs.Scan.{after, span, cut};
+ghost use Rattle.xs_xml.specs.Tables.{is_char, is_name_start, is_name_char, is_white, is_digit, is_hex, is_quote};
+ghost use Rattle.xs_xml.specs.Piece.{is_name, all_of, same, lower};
+ghost use Rattle.xs_xml.specs.Scan.{after, span, cut};
 
 use xs_class::{Sym, is_char, is_name_char, is_name_start};
 
@@ -13,7 +13,7 @@ pub fn is(symbol: Sym, byte: u8) -> bool
     symbol.number() == u32::from(byte)
 }
 
-#[tactic(auto, unfolding(xs_piece::specs::Tables::is_white))]
+#[tactic(auto, unfolding(xs_xml::specs::Tables::is_white))]
 pub fn white(symbol: Sym) -> bool
     ensures { result ≡ is_white symbol }
 {
@@ -21,14 +21,14 @@ pub fn white(symbol: Sym) -> bool
     9 <= number && number <= 10 || number == 13 || number == 32
 }
 
-#[tactic(auto, unfolding(xs_piece::specs::Tables::is_quote))]
+#[tactic(auto, unfolding(xs_xml::specs::Tables::is_quote))]
 pub fn quotes(symbol: Sym) -> bool
     ensures { result ≡ is_quote symbol }
 {
     is(symbol, b'"') || is(symbol, b'\'')
 }
 
-#[tactic(auto, unfolding(xs_piece::specs::Tables::is_digit))]
+#[tactic(auto, unfolding(xs_xml::specs::Tables::is_digit))]
 pub fn digit(symbol: Sym) -> bool
     ensures { result ≡ is_digit symbol }
 {
@@ -36,7 +36,7 @@ pub fn digit(symbol: Sym) -> bool
     48 <= number && number <= 57
 }
 
-#[tactic(auto, unfolding(xs_piece::specs::Tables::is_hex))]
+#[tactic(auto, unfolding(xs_xml::specs::Tables::is_hex))]
 pub fn hexadecimal(symbol: Sym) -> bool
     ensures { result ≡ is_hex symbol }
 {

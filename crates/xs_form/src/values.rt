@@ -1,6 +1,6 @@
 ghost use Rattle.std.specs.Prelude.{◌≡◌, ◌++◌, OnOk, IfOk};
 ghost use Rattle.std.specs.Option.{option_map};
-ghost use Rattle.xs_piece.specs.Scan.{bit_at};
+ghost use Rattle.xs_xml.specs.Scan.{bit_at};
 ghost use Rattle.xs_form.specs.Values.{kept_part, shown_part, part_symbols, is_return, is_written, IsValue};
 
 use crate::references::reference_char;

@@ -11,14 +11,14 @@ use Rattle.xs_gram.specs.Places.{at_dot, all_places}
 use Rattle.xs_gram.specs.Chart.{Stands}
 use Rattle.xs_gram.specs.Languages.{InLang}
 use Rattle.xs_gram.proofs.Numbers.{as_dot}
-use Rattle.xs_items.specs.Charts.{IsNumber, HasPlace, IsChartOf, set_at}
-use Rattle.xs_items.proofs.Numbers.{one_place}
-use Rattle.xs_items.proofs.Charts.{chart_all_stand}
-use Rattle.xs_items.proofs.Language.{whole_of}
-use Rattle.xs_unfold.specs.declared.span.SpanKey.{SpanKey}
-use Rattle.xs_unfold.specs.declared.span.What.TheVariants.{Whole, Front}
-use Rattle.xs_unfold.specs.Forest.{key_at}
-use Rattle.xs_unfold.specs.Grown.{IsFinished, ItemOver, IsLabelBy}
+use Rattle.xs_chart_laws.specs.Charts.{IsNumber, HasPlace, IsChartOf, set_at}
+use Rattle.xs_chart_laws.proofs.Numbers.{one_place}
+use Rattle.xs_chart_laws.proofs.Charts.{chart_all_stand}
+use Rattle.xs_chart_laws.proofs.Language.{whole_of}
+use Rattle.xs_forest_laws.specs.declared.span.SpanKey.{SpanKey}
+use Rattle.xs_forest_laws.specs.declared.span.What.TheVariants.{Whole, Front}
+use Rattle.xs_forest_laws.specs.Forest.{key_at}
+use Rattle.xs_forest_laws.specs.Grown.{IsFinished, ItemOver, IsLabelBy}
 use Rattle.xs_grow.specs.declared.call.Call.{Call}
 use Rattle.xs_grow.specs.Lists.{HasAllOf}
 use Rattle.xs_grow.specs.Grouped.{Grouped, IsGroup, HasGroups}

@@ -5,9 +5,9 @@ use Rattle.std.proofs.lemmas.Option.{none-some, same_Some}
 use Rattle.xs_gram.specs.declared.parts.GItem.TheVariants.{Term, Non, Skip}
 use Rattle.xs_gram.specs.Grammar.{Grammar, term_of, skip_of, ItemAt}
 use Rattle.xs_gram.specs.Sound.{IsBuilt}
-use Rattle.xs_items.specs.Reading.{Reads}
-use Rattle.xs_items.proofs.Words.{get_take, Reads-join, Reads-is, Reads-within}
-use Rattle.xs_items.proofs.Spelling.{term_agrees, skip_agrees}
+use Rattle.xs_chart_laws.specs.Reading.{Reads}
+use Rattle.xs_chart_laws.proofs.Words.{get_take, Reads-join, Reads-is, Reads-within}
+use Rattle.xs_chart_laws.proofs.Spelling.{term_agrees, skip_agrees}
 use Rattle.xs_grow.specs.declared.call.Call.{Call}
 use Rattle.xs_grow.specs.Lists.{HasAllOf}
 use Rattle.xs_grow.specs.Grouped.{Grouped, IsGroup, HasNone, AreApart}

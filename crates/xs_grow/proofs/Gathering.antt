@@ -10,13 +10,13 @@ use Rattle.xs_gram.specs.declared.places.Place.{Place}
 use Rattle.xs_gram.specs.Grammar.{Grammar, rule_of, items, ItemAt}
 use Rattle.xs_gram.specs.Places.{at_dot}
 use Rattle.xs_gram.proofs.Numbers.{place_once, as_dot}
-use Rattle.xs_items.specs.Charts.{IsNumber, set_at}
-use Rattle.xs_items.proofs.Numbers.{one_place}
-use Rattle.xs_items.proofs.Words.{get_lt}
-use Rattle.xs_unfold.specs.declared.span.SpanKey.{SpanKey}
-use Rattle.xs_unfold.specs.declared.span.What.{What}
-use Rattle.xs_unfold.specs.declared.span.What.TheVariants.{Whole, Front}
-use Rattle.xs_unfold.specs.Forest.{key_at}
+use Rattle.xs_chart_laws.specs.Charts.{IsNumber, set_at}
+use Rattle.xs_chart_laws.proofs.Numbers.{one_place}
+use Rattle.xs_chart_laws.proofs.Words.{get_lt}
+use Rattle.xs_forest_laws.specs.declared.span.SpanKey.{SpanKey}
+use Rattle.xs_forest_laws.specs.declared.span.What.{What}
+use Rattle.xs_forest_laws.specs.declared.span.What.TheVariants.{Whole, Front}
+use Rattle.xs_forest_laws.specs.Forest.{key_at}
 use Rattle.xs_grow.specs.declared.call.Call.{Call}
 use Rattle.xs_grow.specs.Lists.{AreOnce, HasAllOf, Appends}
 use Rattle.xs_grow.specs.Grouped.{Grouped, IsGroup, AreApart}

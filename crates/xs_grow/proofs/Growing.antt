@@ -15,22 +15,22 @@ use Rattle.xs_gram.specs.Grammar.{Grammar, items, IsRuleOf, ItemAt}
 use Rattle.xs_gram.specs.Derivations.{done, parts_yield}
 use Rattle.xs_gram.specs.Places.{at_dot}
 use Rattle.xs_gram.specs.Sound.{IsBuilt}
-use Rattle.xs_items.specs.Reading.{Reads}
-use Rattle.xs_items.proofs.Words.{get_some, get_lt, Reads-split}
-use Rattle.xs_items.proofs.Spelling.{Spells-less}
-use Rattle.xs_items.proofs.Standing.{stood, stood_reads, more}
+use Rattle.xs_chart_laws.specs.Reading.{Reads}
+use Rattle.xs_chart_laws.proofs.Words.{get_some, get_lt, Reads-split}
+use Rattle.xs_chart_laws.proofs.Spelling.{Spells-less}
+use Rattle.xs_chart_laws.proofs.Standing.{stood, stood_reads, more}
 use Rattle.xs_forest.specs.declared.row.Alt.{Alt}
-use Rattle.xs_unfold.specs.declared.span.SpanKey.{SpanKey}
-use Rattle.xs_unfold.specs.declared.span.What.{What}
-use Rattle.xs_unfold.specs.declared.span.What.TheVariants.{Whole, Front}
-use Rattle.xs_unfold.specs.Forest.{Forest, key_at, key_of, alts_of, item_of, IsRow, IsSpelt, FrontAt, ItemRow}
-use Rattle.xs_unfold.specs.Grown.{IsExactChart, ItemOver, WholeBy, FrontBy, IsAltBy, IsLabelBy, IsGrown}
-use Rattle.xs_unfold.specs.Order.{IsRanked, IsTail, IsLess}
-use Rattle.xs_unfold.proofs.Read.{get_or_is}
-use Rattle.xs_unfold.proofs.Rows.{row_at}
-use Rattle.xs_unfold.proofs.Sorting.{sorted_rises, then_less}
-use Rattle.xs_unfold.proofs.Grows.{dot_spelt, over_spelt, spelt_over}
-use Rattle.xs_unfold.proofs.Below.{whole_below, front_below, last_below}
+use Rattle.xs_forest_laws.specs.declared.span.SpanKey.{SpanKey}
+use Rattle.xs_forest_laws.specs.declared.span.What.{What}
+use Rattle.xs_forest_laws.specs.declared.span.What.TheVariants.{Whole, Front}
+use Rattle.xs_forest_laws.specs.Forest.{Forest, key_at, key_of, alts_of, item_of, IsRow, IsSpelt, FrontAt, ItemRow}
+use Rattle.xs_forest_laws.specs.Grown.{IsExactChart, ItemOver, WholeBy, FrontBy, IsAltBy, IsLabelBy, IsGrown}
+use Rattle.xs_forest_laws.specs.Order.{IsRanked, IsTail, IsLess}
+use Rattle.xs_forest_laws.proofs.Read.{get_or_is}
+use Rattle.xs_forest_laws.proofs.Rows.{row_at}
+use Rattle.xs_forest_laws.proofs.Sorting.{sorted_rises, then_less}
+use Rattle.xs_forest_laws.proofs.Grows.{dot_spelt, over_spelt, spelt_over}
+use Rattle.xs_forest_laws.proofs.Below.{whole_below, front_below, last_below}
 use Rattle.xs_grow.specs.Lists.{HasAllOf}
 use Rattle.xs_grow.specs.Grouped.{Grouped, IsGroup, AreApart, HasGroups}
 use Rattle.xs_grow.specs.Levels.{rank_by, tail_by, level_by}

@@ -5,8 +5,8 @@ use Rattle.std.proofs.lemmas.Option.{same_Some}
 use Rattle.xs_gram.specs.declared.parts.GItem.{GItem}
 use Rattle.xs_gram.specs.Grammar.{Grammar, items, ItemAt}
 use Rattle.xs_gram.specs.Sound.{IsNullableItem}
-use Rattle.xs_items.proofs.Words.{get_lt}
-use Rattle.xs_unfold.specs.Order.{IsTailFrom}
+use Rattle.xs_chart_laws.proofs.Words.{get_lt}
+use Rattle.xs_forest_laws.specs.Order.{IsTailFrom}
 
 -- all items from `from` up to k are nullable, and the one before is not
 pub record IsTailTo (g : Grammar) (p from k : ℕ) : Type 0 where

@@ -8,17 +8,17 @@ use Rattle.xs_chart.specs.declared.item.Item.{Item}
 use Rattle.xs_gram.specs.Grammar.{Grammar}
 use Rattle.xs_gram.specs.Sound.{IsBuilt}
 use Rattle.xs_gram.specs.Languages.{InLang}
-use Rattle.xs_items.specs.Charts.{HasPlace, IsChartOf}
-use Rattle.xs_unfold.specs.declared.span.SpanKey.{SpanKey}
-use Rattle.xs_unfold.specs.declared.span.What.TheVariants.{Whole}
-use Rattle.xs_unfold.specs.Forest.{Forest, key_at}
-use Rattle.xs_unfold.specs.Grown.{IsExactChart}
-use Rattle.xs_unfold.specs.Order.{IsRanked, IsTail, IsTailFrom}
-use Rattle.xs_unfold.specs.Laws.{IsExact, IsForestOf}
-use Rattle.xs_unfold.proofs.Tails.{tails as tails_test}
-use Rattle.xs_unfold.proofs.Whole.{exact_chart}
-use Rattle.xs_unfold.proofs.Grows.{grown_is_right}
-use Rattle.xs_unfold.proofs.Root.{exact as root_exact}
+use Rattle.xs_chart_laws.specs.Charts.{HasPlace, IsChartOf}
+use Rattle.xs_forest_laws.specs.declared.span.SpanKey.{SpanKey}
+use Rattle.xs_forest_laws.specs.declared.span.What.TheVariants.{Whole}
+use Rattle.xs_forest_laws.specs.Forest.{Forest, key_at}
+use Rattle.xs_forest_laws.specs.Grown.{IsExactChart}
+use Rattle.xs_forest_laws.specs.Order.{IsRanked, IsTail, IsTailFrom}
+use Rattle.xs_forest_laws.specs.Laws.{IsExact, IsForestOf}
+use Rattle.xs_forest_laws.proofs.Tails.{tails as tails_test}
+use Rattle.xs_forest_laws.proofs.Whole.{exact_chart}
+use Rattle.xs_forest_laws.proofs.Grows.{grown_is_right}
+use Rattle.xs_forest_laws.proofs.Root.{exact as root_exact}
 use Rattle.xs_grow.specs.Lists.{HasAllOf, Appends}
 use Rattle.xs_grow.specs.Grouped.{Grouped, IsGroup, HasNone, AreApart, HasGroups}
 use Rattle.xs_grow.specs.Levels.{rank_by, tail_by, level_by}

@@ -9,7 +9,7 @@ use Rattle.std.proofs.lemmas.List.{same_from_push}
 use Rattle.std.proofs.lemmas.List.Elements.{Contains-append_left, Contains-push, Contains-push_cases}
 use Rattle.xs_regex.specs.declared.position.Position.{Position}
 use Rattle.xs_regex.specs.Automaton.{Accepts, HasAt, Leads, Runs, begins, goes}
-use Rattle.xs_items.proofs.Words.{Reads-join, Reads-slice, Reads-from_slice, Reads-is, get_some}
+use Rattle.xs_chart_laws.proofs.Words.{Reads-join, Reads-slice, Reads-from_slice, Reads-is, get_some}
 use Rattle.xs_grow.specs.Lists.{HasAllOf}
 use Rattle.xs_grow.specs.Running.{Enters, AcceptsTo}
 use Rattle.xs_grow.proofs.ListLemmas.{none_contained, all_none, all_one, all_same, all_push}

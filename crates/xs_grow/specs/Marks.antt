@@ -9,12 +9,12 @@ use Rattle.xs_gram.specs.declared.parts.GItem.TheVariants.{Fixed, Term, Non, Ski
 use Rattle.xs_gram.specs.declared.places.Place.{Place}
 use Rattle.xs_gram.specs.Grammar.{Grammar, rule_of, items, IsRuleOf, ItemAt, IsTermWord, IsSkipWord}
 use Rattle.xs_gram.specs.Places.{at_dot, all_places}
-use Rattle.xs_items.specs.Reading.{Reads}
-use Rattle.xs_items.specs.Charts.{IsNumber, set_at}
-use Rattle.xs_unfold.specs.declared.span.SpanKey.{SpanKey}
-use Rattle.xs_unfold.specs.declared.span.What.TheVariants.{Whole, Front}
-use Rattle.xs_unfold.specs.Forest.{key_at}
-use Rattle.xs_unfold.specs.Grown.{ItemOver}
+use Rattle.xs_chart_laws.specs.Reading.{Reads}
+use Rattle.xs_chart_laws.specs.Charts.{IsNumber, set_at}
+use Rattle.xs_forest_laws.specs.declared.span.SpanKey.{SpanKey}
+use Rattle.xs_forest_laws.specs.declared.span.What.TheVariants.{Whole, Front}
+use Rattle.xs_forest_laws.specs.Forest.{key_at}
+use Rattle.xs_forest_laws.specs.Grown.{ItemOver}
 use Rattle.xs_grow.specs.declared.call.Call.{Call}
 use Rattle.xs_grow.specs.Lists.{AreOnce, HasAllOf}
 use Rattle.xs_grow.specs.Grouped.{Grouped, IsGroup, HasGroups}

@@ -5,7 +5,7 @@ use crate::call::Call;
 use crate::groups::Groups;
 use std::alloc::Global;
 use xs_class::Memory;
-use xs_unfold::{SpanKey, What};
+use xs_forest_laws::{SpanKey, What};
 
 /// Adds the call of a nonterminal's stretch, with the stretch's end.
 fn push_call(key: SpanKey, marks: &mut Vec<(Call, u32)>) -> Result<(), Memory>

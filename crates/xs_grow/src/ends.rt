@@ -1,7 +1,7 @@
 ghost use Rattle.std.specs.Prelude.{◌↔◌, ◌<◌, ◌≤◌, ◌+◌, ℕ, length, IfOk, IsTrue};
 ghost use Rattle.xs_gram.specs.Sound.{IsBuilt};
 ghost use Rattle.xs_gram.specs.Grammar.{ItemAt};
-ghost use Rattle.xs_items.specs.Reading.{Reads};
+ghost use Rattle.xs_chart_laws.specs.Reading.{Reads};
 ghost use Rattle.xs_grow.specs.Lists.{HasAllOf};
 ghost use Rattle.xs_grow.specs.Marks.{EndsAt, EndOnce};
 

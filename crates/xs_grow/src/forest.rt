@@ -2,9 +2,9 @@ ghost use Rattle.std.specs.Prelude.{◌<◌, length, IfOk};
 ghost use Rattle.xs_gram.specs.Sound.{IsBuilt, IsSound};
 ghost use Rattle.xs_order.specs.Order.{AreRanks};
 ghost use Rattle.xs_gram.specs.Languages.{InLang};
-ghost use Rattle.xs_items.specs.Charts.{HasPlace, IsChartOf};
-ghost use Rattle.xs_unfold.specs.Order.{IsRanked, AreNullable};
-ghost use Rattle.xs_unfold.specs.Laws.{IsForestOf, IsExact};
+ghost use Rattle.xs_chart_laws.specs.Charts.{HasPlace, IsChartOf};
+ghost use Rattle.xs_forest_laws.specs.Order.{IsRanked, AreNullable};
+ghost use Rattle.xs_forest_laws.specs.Laws.{IsForestOf, IsExact};
 ghost use Rattle.xs_grow.specs.Lists.{HasAllOf};
 ghost use Rattle.xs_grow.specs.Levels.{flag_by, rank_by};
 ghost use Rattle.xs_grow.specs.Marks.{IsMark};
@@ -20,7 +20,7 @@ use xs_chart::Chart;
 use xs_class::{Memory, Word};
 use xs_gram::Gram;
 use xs_order::{OrderFault, Ranks, nullable, unit_order};
-use xs_unfold::{Grown, SpanKey, What};
+use xs_forest_laws::{Grown, SpanKey, What};
 
 /// The marks of a document's chart: each label of its forest, with each number that stands for an
 /// alternative of it, once.

@@ -2,8 +2,8 @@ ghost use Rattle.std.specs.Prelude.{◌≡◌, ◌↔◌, ◌<◌, ◌≤◌, �
 ghost use Rattle.xs_gram.specs.Sound.{IsBuilt};
 ghost use Rattle.xs_gram.specs.Grammar.{items};
 ghost use Rattle.xs_gram.specs.Places.{all_places, IsPlace};
-ghost use Rattle.xs_items.specs.Charts.{set_at};
-ghost use Rattle.xs_unfold.specs.Forest.{key_at};
+ghost use Rattle.xs_chart_laws.specs.Charts.{set_at};
+ghost use Rattle.xs_forest_laws.specs.Forest.{key_at};
 ghost use Rattle.xs_grow.specs.Lists.{Appends};
 ghost use Rattle.xs_grow.specs.Marks.{WholeAt, FrontFrom, InSet, InSets, EndOnce, HasPlaces};
 
@@ -14,7 +14,7 @@ use std::alloc::Global;
 use xs_chart::{Chart, Item};
 use xs_class::{Memory, Word};
 use xs_gram::{Gram, Place};
-use xs_unfold::{SpanKey, What};
+use xs_forest_laws::{SpanKey, What};
 
 /// Whether the place stands at the end of its rule.
 fn is_end(g: &Gram, place: Place) -> bool

@@ -1,13 +1,13 @@
 ghost use Rattle.std.specs.Prelude.{◌≡◌, ◌<◌, ℕ, length, slice_index_or, IfOk};
 ghost use Rattle.xs_gram.specs.Grammar.{rule_of, ItemAt};
 ghost use Rattle.xs_gram.specs.Sound.{IsBuilt};
-ghost use Rattle.xs_unfold.specs.Order.{is_nullable_by, AreNullable, IsTailFrom};
+ghost use Rattle.xs_forest_laws.specs.Order.{is_nullable_by, AreNullable, IsTailFrom};
 ghost use Rattle.xs_grow.specs.Levels.{flag_by, level_by};
 
 use std::alloc::Global;
 use xs_class::Memory;
 use xs_gram::{GItem, Gram};
-use xs_unfold::{SpanKey, What};
+use xs_forest_laws::{SpanKey, What};
 
 /// Whether the item can stand for the empty word, by the flags of the nonterminals.
 fn is_nullable(g: &Gram, flags: &[bool], item: &GItem) -> bool

@@ -1,8 +1,8 @@
 -- The first cut of the first rule that has one with an overlap is the first horizontal suspect.
 use Rattle.std.proofs.Common.{ℕ, ◌≤◌, length, sym, subst, arith}
 use Rattle.xs_gram.specs.Grammar.{Grammar, items}
-use Rattle.xs_ambiguity.specs.Freedom.{HasNoHorizontal}
-use Rattle.xs_ambiguity.specs.Acceptance.{ShowsHorizontal}
+use Rattle.xs_check_laws.specs.Freedom.{HasNoHorizontal}
+use Rattle.xs_check_laws.specs.Acceptance.{ShowsHorizontal}
 use Rattle.xs_light.specs.First.{HasNoneInRow, HasNoneInRows}
 use Rattle.xs_light.proofs.First.{none_before}
 use Rattle.xs_horiz.specs.declared.search.Horiz.{Horiz}

@@ -3,8 +3,8 @@ ghost use Rattle.xs_gram.specs.Grammar.{items};
 ghost use Rattle.xs_gram.specs.Loose.{AreComponents};
 ghost use Rattle.xs_gram.specs.Sound.{IsBuilt};
 ghost use Rattle.xs_gram.specs.Suspects.{IsHorizontal};
-ghost use Rattle.xs_ambiguity.specs.Freedom.{HasNoHorizontal};
-ghost use Rattle.xs_ambiguity.specs.Acceptance.{IsLight, ShowsHorizontal};
+ghost use Rattle.xs_check_laws.specs.Freedom.{HasNoHorizontal};
+ghost use Rattle.xs_check_laws.specs.Acceptance.{IsLight, ShowsHorizontal};
 ghost use Rattle.xs_light.specs.Causes.{IsCause};
 ghost use Rattle.xs_horiz.specs.Cuts.{OverlapsAt, IsFirstCut, HasNoCut};
 

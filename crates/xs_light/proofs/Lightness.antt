@@ -2,9 +2,9 @@
 use Rattle.std.proofs.Common.{◌≡◌, ℕ, zero, suc, ◌+◌, ◌-◌, ◌<◌, ◌≤◌, List, take, drop, slice_range, refl, arith}
 use Rattle.xs_gram.specs.declared.parts.GItem.{GItem}
 use Rattle.xs_gram.specs.Grammar.{Grammar, items}
-use Rattle.xs_ambiguity.specs.Weights.{capped, PartWeighs, no_part, part_then}
-use Rattle.xs_ambiguity.specs.Acceptance.{IsLightRule, IsLight, IsHeaviness}
-use Rattle.xs_ambiguity.proofs.Weights.{part_within, part_weighs_once_lem, rule_weighs_once_lem}
+use Rattle.xs_check_laws.specs.Weights.{capped, PartWeighs, no_part, part_then}
+use Rattle.xs_check_laws.specs.Acceptance.{IsLightRule, IsLight, IsHeaviness}
+use Rattle.xs_check_laws.proofs.Weights.{part_within, part_weighs_once_lem, rule_weighs_once_lem}
 
 -- the items weigh at most so much
 abbrev WeighAtMost : Grammar → List GItem → ℕ → Type 0

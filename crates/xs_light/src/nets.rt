@@ -2,7 +2,7 @@ ghost use Rattle.std.specs.Prelude.{◌≡◌, ◌<◌, length, IsSome, IfOk};
 ghost use Rattle.xs_gram.specs.Grammar.{items};
 ghost use Rattle.xs_gram.specs.Loose.{AreComponents};
 ghost use Rattle.xs_gram.specs.Sound.{IsBuilt};
-ghost use Rattle.xs_ambiguity.specs.Acceptance.{IsLight};
+ghost use Rattle.xs_check_laws.specs.Acceptance.{IsLight};
 ghost use Rattle.xs_loose.specs.Accepting.{AcceptsLoose};
 ghost use Rattle.xs_loose.specs.Parts.{IsPart, part_items};
 

@@ -1,8 +1,8 @@
 ghost use Rattle.std.specs.Prelude.{◌<◌, length, IfErr, OnOk};
 ghost use Rattle.xs_gram.specs.Loose.{AreComponents};
 ghost use Rattle.xs_gram.specs.Sound.{IsBuilt};
-ghost use Rattle.xs_ambiguity.specs.Acceptance.{IsLight};
-ghost use Rattle.xs_ambiguity.specs.Weights.{RuleWeighs};
+ghost use Rattle.xs_check_laws.specs.Acceptance.{IsLight};
+ghost use Rattle.xs_check_laws.specs.Weights.{RuleWeighs};
 ghost use Rattle.xs_loose.specs.Weighing.{AreWeights};
 ghost use Rattle.xs_light.specs.Causes.{IsCause};
 

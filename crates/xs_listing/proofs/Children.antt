@@ -6,15 +6,15 @@ use Rattle.xs_gram.specs.declared.parts.GItem.{GItem}
 use Rattle.xs_gram.specs.declared.parts.GItem.TheVariants.{Fixed, Term, Non, Skip}
 use Rattle.xs_gram.specs.Grammar.{Grammar, items}
 use Rattle.xs_gram.specs.Derivations.{parts_yield}
-use Rattle.xs_items.proofs.Words.{get_lt, Reads-within}
+use Rattle.xs_chart_laws.proofs.Words.{get_lt, Reads-within}
 use Rattle.xs_forest.specs.declared.row.Alt.{Alt}
 use Rattle.xs_forest.specs.Rows.{IsEarlier, AreEarlier, AreBelow}
-use Rattle.xs_unfold.specs.declared.span.SpanKey.{SpanKey}
-use Rattle.xs_unfold.specs.declared.span.What.{What}
-use Rattle.xs_unfold.specs.declared.span.What.TheVariants.{Whole, Front}
-use Rattle.xs_unfold.specs.Forest.{Forest, no_row, key_of, alts_of, IsRow, FrontAt, ItemRow, IsAlt, IsSpelt, IsRight}
-use Rattle.xs_unfold.proofs.Read.{get_or_is}
-use Rattle.xs_unfold.proofs.Number.{contains_of}
+use Rattle.xs_forest_laws.specs.declared.span.SpanKey.{SpanKey}
+use Rattle.xs_forest_laws.specs.declared.span.What.{What}
+use Rattle.xs_forest_laws.specs.declared.span.What.TheVariants.{Whole, Front}
+use Rattle.xs_forest_laws.specs.Forest.{Forest, no_row, key_of, alts_of, IsRow, FrontAt, ItemRow, IsAlt, IsSpelt, IsRight}
+use Rattle.xs_forest_laws.proofs.Read.{get_or_is}
+use Rattle.xs_forest_laws.proofs.Number.{contains_of}
 
 pub earlier_more : (o : Option ℕ) (m n : ℕ) → m ≤ n → IsEarlier o m → IsEarlier o n
 earlier_more None m n le h = tt

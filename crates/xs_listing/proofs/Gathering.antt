@@ -9,20 +9,20 @@ use Rattle.xs_gram.specs.Grammar.{Grammar, items, slots, ItemAt}
 use Rattle.xs_gram.specs.Derivations.{Parts, done, sub, parts_yield}
 use Rattle.xs_gram.specs.Common.{word, named}
 use Rattle.xs_gram.specs.Laws.{Every, IsNumbered}
-use Rattle.xs_items.proofs.Words.{get_drop, Reads-is}
-use Rattle.xs_items.proofs.Spelling.{parts_then}
+use Rattle.xs_chart_laws.proofs.Words.{get_drop, Reads-is}
+use Rattle.xs_chart_laws.proofs.Spelling.{parts_then}
 use Rattle.xs_forest.specs.declared.row.Alt.{Alt}
 use Rattle.xs_tree.specs.declared.part.TreePart.{TreePart}
 use Rattle.xs_tree.specs.declared.part.TreePart.TheVariants.{Leaf}
 use Rattle.xs_tree.specs.Flat.{tree_at, trees_of}
-use Rattle.xs_unfold.specs.declared.span.SpanKey.{SpanKey}
-use Rattle.xs_unfold.specs.declared.span.What.TheVariants.{Front}
-use Rattle.xs_unfold.specs.Forest.{Forest, key_of, alts_of, IsRow, Unfolding, bare, pick, last_part, read, end_of, IsSpelt, FrontAt, ItemRow, FrontAlt, IsRight}
-use Rattle.xs_unfold.specs.First.{IsFirst}
-use Rattle.xs_unfold.proofs.Read.{end_is, read_front}
-use Rattle.xs_unfold.proofs.All.{then_done, then_assoc}
-use Rattle.xs_unfold.proofs.Number.{contains_of}
-use Rattle.xs_unfold.proofs.Once.{pick_is}
+use Rattle.xs_forest_laws.specs.declared.span.SpanKey.{SpanKey}
+use Rattle.xs_forest_laws.specs.declared.span.What.TheVariants.{Front}
+use Rattle.xs_forest_laws.specs.Forest.{Forest, key_of, alts_of, IsRow, Unfolding, bare, pick, last_part, read, end_of, IsSpelt, FrontAt, ItemRow, FrontAlt, IsRight}
+use Rattle.xs_forest_laws.specs.First.{IsFirst}
+use Rattle.xs_forest_laws.proofs.Read.{end_is, read_front}
+use Rattle.xs_forest_laws.proofs.All.{then_done, then_assoc}
+use Rattle.xs_forest_laws.proofs.Number.{contains_of}
+use Rattle.xs_forest_laws.proofs.Once.{pick_is}
 use Rattle.xs_listing.specs.declared.rows.Step.{Step}
 use Rattle.xs_listing.specs.Marks.{IsFirstAlt}
 use Rattle.xs_listing.specs.Making.{IsStep, IsTreeOf, IsMade, IsMadeChild, IsPrepared, CanGather, Extends, Fills, CanPlace, IsPlaced}

@@ -5,8 +5,8 @@ use Rattle.std.proofs.lemmas.Bool.{cases_lt}
 use Rattle.xs_gram.specs.Grammar.{Grammar}
 use Rattle.xs_forest.specs.declared.row.Alt.{Alt}
 use Rattle.xs_forest.specs.Rows.{IsEarlier}
-use Rattle.xs_unfold.specs.Forest.{Forest, alts_of, Unfolding, bare, pick, IsRight}
-use Rattle.xs_unfold.specs.First.{IsFirst}
+use Rattle.xs_forest_laws.specs.Forest.{Forest, alts_of, Unfolding, bare, pick, IsRight}
+use Rattle.xs_forest_laws.specs.First.{IsFirst}
 use Rattle.xs_listing.specs.Marks.{IsFirstAlt, IsReady, IsMarked, IsMarkedChild, AreMarked, with_mark, passed, pass}
 use Rattle.xs_listing.proofs.Children.{earlier_more, IsInside, children_inside, left_earlier, right_earlier}
 

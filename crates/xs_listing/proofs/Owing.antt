@@ -5,12 +5,12 @@ use Rattle.std.proofs.lemmas.List.Elements.{All-nil, All-cons, All-head, All-tai
 use Rattle.xs_gram.specs.Derivations.{Parts}
 use Rattle.xs_forest.specs.declared.row.Alt.{Alt}
 use Rattle.xs_tree.specs.Counts.{capped}
-use Rattle.xs_unfold.specs.declared.span.SpanKey.{SpanKey}
-use Rattle.xs_unfold.specs.declared.span.What.{What}
-use Rattle.xs_unfold.specs.declared.span.What.TheVariants.{Whole, Front}
-use Rattle.xs_unfold.specs.Forest.{key_of, alts_of, Unfolding, item_of, end_of, last_part, read_alt, read}
-use Rattle.xs_unfold.specs.Number.{count_of, alts_count, At}
-use Rattle.xs_unfold.proofs.Counts.{chosen_at}
+use Rattle.xs_forest_laws.specs.declared.span.SpanKey.{SpanKey}
+use Rattle.xs_forest_laws.specs.declared.span.What.{What}
+use Rattle.xs_forest_laws.specs.declared.span.What.TheVariants.{Whole, Front}
+use Rattle.xs_forest_laws.specs.Forest.{key_of, alts_of, Unfolding, item_of, end_of, last_part, read_alt, read}
+use Rattle.xs_forest_laws.specs.Number.{count_of, alts_count, At}
+use Rattle.xs_forest_laws.proofs.Counts.{chosen_at}
 use Rattle.xs_listing.specs.declared.count.Chosen.{Chosen}
 use Rattle.xs_listing.specs.declared.write.Source.{Source}
 use Rattle.xs_listing.specs.declared.write.Task.{Task}

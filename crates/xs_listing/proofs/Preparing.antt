@@ -11,22 +11,22 @@ use Rattle.xs_gram.specs.Derivations.{done, sub, FitsItems}
 use Rattle.xs_gram.specs.Common.{made, named, children, strip}
 use Rattle.xs_gram.specs.Languages.{InLang, HasTree}
 use Rattle.xs_gram.specs.Laws.{IsNumbered}
-use Rattle.xs_items.proofs.Words.{get_lt}
+use Rattle.xs_chart_laws.proofs.Words.{get_lt}
 use Rattle.xs_forest.specs.declared.row.Alt.{Alt}
 use Rattle.xs_forest.specs.Rows.{IsEarlier}
 use Rattle.xs_tree.specs.declared.part.TreePart.{TreePart}
 use Rattle.xs_tree.specs.declared.part.TreePart.TheVariants.{Node}
 use Rattle.xs_tree.specs.Flat.{tree_at, trees_of}
-use Rattle.xs_unfold.specs.declared.span.SpanKey.{SpanKey}
-use Rattle.xs_unfold.specs.declared.span.What.TheVariants.{Whole, Front}
-use Rattle.xs_unfold.specs.Forest.{Forest, key_at, key_of, alts_of, IsRow, Unfolding, bare, pick, read, FrontAt, ItemRow, WholeAlt, IsRight}
-use Rattle.xs_unfold.specs.First.{IsFirst}
-use Rattle.xs_unfold.specs.Laws.{IsRoot}
-use Rattle.xs_unfold.proofs.Read.{read_whole, front_good, unfolding_fits}
-use Rattle.xs_unfold.proofs.Root.{exact}
-use Rattle.xs_unfold.proofs.Once.{sub_rule, sub_parts}
-use Rattle.xs_unfold.proofs.Number.{contains_of}
-use Rattle.xs_unfold.proofs.First.{has_first, first_unfolds}
+use Rattle.xs_forest_laws.specs.declared.span.SpanKey.{SpanKey}
+use Rattle.xs_forest_laws.specs.declared.span.What.TheVariants.{Whole, Front}
+use Rattle.xs_forest_laws.specs.Forest.{Forest, key_at, key_of, alts_of, IsRow, Unfolding, bare, pick, read, FrontAt, ItemRow, WholeAlt, IsRight}
+use Rattle.xs_forest_laws.specs.First.{IsFirst}
+use Rattle.xs_forest_laws.specs.Laws.{IsRoot}
+use Rattle.xs_forest_laws.proofs.Read.{read_whole, front_good, unfolding_fits}
+use Rattle.xs_forest_laws.proofs.Root.{exact}
+use Rattle.xs_forest_laws.proofs.Once.{sub_rule, sub_parts}
+use Rattle.xs_forest_laws.proofs.Number.{contains_of}
+use Rattle.xs_forest_laws.proofs.First.{has_first, first_unfolds}
 use Rattle.xs_listing.specs.Marks.{IsFirstAlt, IsReady, IsMarked, IsMarkedChild, AreMarked}
 use Rattle.xs_listing.specs.Making.{IsMade, IsWhole, AreMade, IsMadeChild, IsPrepared, CanMake, CanGather, Extends, Fills}
 use Rattle.xs_listing.proofs.Children.{earlier_more, left_earlier, right_earlier}

@@ -8,19 +8,19 @@ use Rattle.xs_gram.specs.declared.parts.GItem.{GItem}
 use Rattle.xs_gram.specs.declared.parts.GItem.TheVariants.{Fixed, Term, Non, Skip}
 use Rattle.xs_gram.specs.Grammar.{Grammar}
 use Rattle.xs_gram.specs.Derivations.{Parts, done, fixed, leaf, skip, sub}
-use Rattle.xs_items.proofs.Words.{get_lt, get_some}
-use Rattle.xs_items.proofs.Spelling.{parts_then}
+use Rattle.xs_chart_laws.proofs.Words.{get_lt, get_some}
+use Rattle.xs_chart_laws.proofs.Spelling.{parts_then}
 use Rattle.xs_forest.specs.declared.row.Alt.{Alt}
 use Rattle.xs_forest.specs.Rows.{IsEarlier}
 use Rattle.xs_tree.specs.Counts.{capped}
-use Rattle.xs_unfold.specs.declared.span.SpanKey.{SpanKey}
-use Rattle.xs_unfold.specs.declared.span.What.{What}
-use Rattle.xs_unfold.specs.declared.span.What.TheVariants.{Whole, Front}
-use Rattle.xs_unfold.specs.Forest.{Forest, key_of, alts_of, Unfolding, bare, pick, word_part, item_of, end_of, last_part, read_alt, read, IsRight}
-use Rattle.xs_unfold.specs.First.{IsFirst}
-use Rattle.xs_unfold.specs.Number.{count_of, IsCounted, At}
-use Rattle.xs_unfold.proofs.First.{HasUnfolding, children_unfold}
-use Rattle.xs_unfold.proofs.Number.{place_lt, place_one, alt_one, all_numbered, contains_of}
+use Rattle.xs_forest_laws.specs.declared.span.SpanKey.{SpanKey}
+use Rattle.xs_forest_laws.specs.declared.span.What.{What}
+use Rattle.xs_forest_laws.specs.declared.span.What.TheVariants.{Whole, Front}
+use Rattle.xs_forest_laws.specs.Forest.{Forest, key_of, alts_of, Unfolding, bare, pick, word_part, item_of, end_of, last_part, read_alt, read, IsRight}
+use Rattle.xs_forest_laws.specs.First.{IsFirst}
+use Rattle.xs_forest_laws.specs.Number.{count_of, IsCounted, At}
+use Rattle.xs_forest_laws.proofs.First.{HasUnfolding, children_unfold}
+use Rattle.xs_forest_laws.proofs.Number.{place_lt, place_one, alt_one, all_numbered, contains_of}
 use Rattle.xs_listing.specs.Sizes.{spelt_count, word_count, size_at, item_count, last_count, IsSize, AreSizes}
 use Rattle.xs_listing.proofs.Sizing.{dots_within}
 

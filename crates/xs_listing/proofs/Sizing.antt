@@ -3,11 +3,11 @@ use Rattle.std.proofs.Common.{◌≡◌, ℕ, zero, ◌-◌, ◌<◌, ◌≤◌,
 use Rattle.std.proofs.lemmas.List.Elements.{All-nil, All-cons, All-push, All-append}
 use Rattle.xs_gram.specs.Grammar.{Grammar, items}
 use Rattle.xs_forest.specs.Rows.{IsEarlier}
-use Rattle.xs_unfold.specs.declared.span.What.{What}
-use Rattle.xs_unfold.specs.declared.span.What.TheVariants.{Whole, Front}
-use Rattle.xs_unfold.specs.Forest.{Forest, key_at, key_of, IsRight}
-use Rattle.xs_unfold.specs.Number.{count_of}
-use Rattle.xs_unfold.proofs.Counts.{left_within}
+use Rattle.xs_forest_laws.specs.declared.span.What.{What}
+use Rattle.xs_forest_laws.specs.declared.span.What.TheVariants.{Whole, Front}
+use Rattle.xs_forest_laws.specs.Forest.{Forest, key_at, key_of, IsRight}
+use Rattle.xs_forest_laws.specs.Number.{count_of}
+use Rattle.xs_forest_laws.proofs.Counts.{left_within}
 use Rattle.xs_listing.specs.declared.count.Chosen.{Chosen}
 use Rattle.xs_listing.specs.declared.write.Source.{Source}
 use Rattle.xs_listing.specs.declared.write.Task.{Task}

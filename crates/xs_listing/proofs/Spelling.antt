@@ -3,16 +3,16 @@ use Rattle.std.proofs.Common.{◌≡◌, ◌⊎◌, inl, inr, ℕ, zero, suc, �
 use Rattle.std.specs.Prelude.{slice_get}
 use Rattle.xs_gram.specs.Derivations.{done, sub, Derivation}
 use Rattle.xs_forest.specs.Rows.{IsEarlier}
-use Rattle.xs_unfold.specs.declared.span.SpanKey.{SpanKey}
-use Rattle.xs_unfold.specs.declared.span.What.TheVariants.{Whole}
-use Rattle.xs_unfold.specs.Forest.{key_of, alts_of, Unfolding, bare, pick, read, WholeAlt}
-use Rattle.xs_unfold.specs.Number.{count_of, At, IsChosen, IsCounted}
-use Rattle.xs_unfold.specs.Listing.{IsByNumber}
-use Rattle.xs_unfold.specs.Laws.{IsRoot}
-use Rattle.xs_unfold.proofs.Read.{read_whole}
-use Rattle.xs_unfold.proofs.Counts.{left_within, at_chosen}
-use Rattle.xs_unfold.proofs.Number.{contains_of}
-use Rattle.xs_unfold.proofs.Listing.{listed}
+use Rattle.xs_forest_laws.specs.declared.span.SpanKey.{SpanKey}
+use Rattle.xs_forest_laws.specs.declared.span.What.TheVariants.{Whole}
+use Rattle.xs_forest_laws.specs.Forest.{key_of, alts_of, Unfolding, bare, pick, read, WholeAlt}
+use Rattle.xs_forest_laws.specs.Number.{count_of, At, IsChosen, IsCounted}
+use Rattle.xs_forest_laws.specs.Listing.{IsByNumber}
+use Rattle.xs_forest_laws.specs.Laws.{IsRoot}
+use Rattle.xs_forest_laws.proofs.Read.{read_whole}
+use Rattle.xs_forest_laws.proofs.Counts.{left_within, at_chosen}
+use Rattle.xs_forest_laws.proofs.Number.{contains_of}
+use Rattle.xs_forest_laws.proofs.Listing.{listed}
 use Rattle.xs_listing.specs.declared.count.Chosen.{Chosen}
 use Rattle.xs_listing.specs.declared.spelt.SpeltPart.{SpeltPart}
 use Rattle.xs_listing.specs.declared.spelt.SpeltPart.TheVariants.{Node}

@@ -3,7 +3,7 @@ use Rattle.std.proofs.Common.{◌≡◌, ℕ, zero, suc, ◌+◌, ◌-◌, ◌<�
 use Rattle.std.proofs.lemmas.Option.{slice_get-get_or}
 use Rattle.xs_forest.specs.declared.row.Alt.{Alt}
 use Rattle.xs_forest.specs.Rows.{AreEarlier}
-use Rattle.xs_unfold.specs.Number.{count_of, alts_sum, alt_count, IsChosen}
+use Rattle.xs_forest_laws.specs.Number.{count_of, alts_sum, alt_count, IsChosen}
 
 suc_more : (cap : ℕ) (cs : List ℕ) (alts : List Alt) (i : ℕ) (d : Alt) → i < length alts → alts_sum cap cs (take (suc i) alts) ≡ alts_sum cap cs (take i alts) + alt_count cap cs (get_or alts i d)
 suc_more cap cs [] i d h = absurd (omega arith)

@@ -9,19 +9,19 @@ use Rattle.xs_gram.specs.declared.parts.GItem.TheVariants.{Fixed, Term, Non, Ski
 use Rattle.xs_gram.specs.declared.parts.RulePart.{RulePart}
 use Rattle.xs_gram.specs.Grammar.{Grammar, no_rule, items, ItemAt}
 use Rattle.xs_gram.specs.Derivations.{Parts, done, fixed, leaf, skip, sub, parts_yield}
-use Rattle.xs_items.proofs.Words.{get_lt, Reads-is}
-use Rattle.xs_items.proofs.Spelling.{parts_then}
+use Rattle.xs_chart_laws.proofs.Words.{get_lt, Reads-is}
+use Rattle.xs_chart_laws.proofs.Spelling.{parts_then}
 use Rattle.xs_forest.specs.declared.row.Alt.{Alt}
-use Rattle.xs_unfold.specs.declared.span.What.{What}
-use Rattle.xs_unfold.specs.declared.span.What.TheVariants.{Whole, Front}
-use Rattle.xs_unfold.specs.Forest.{Forest, key_at, key_of, alts_of, IsRow, Unfolding, bare, pick, word_part, item_of, last_part, read, end_of, FrontAlt, IsAlt, IsRight}
-use Rattle.xs_unfold.specs.Number.{count_of, At, IsChosen}
-use Rattle.xs_unfold.specs.Walk.{Flat, node, leaf_at, skip_at, AreAt}
-use Rattle.xs_unfold.proofs.Read.{get_or_is, end_is, read_front, read_whole}
-use Rattle.xs_unfold.proofs.All.{then_done, then_assoc}
-use Rattle.xs_unfold.proofs.Counts.{left_within, chosen_at}
-use Rattle.xs_unfold.proofs.Number.{contains_of, numbered}
-use Rattle.xs_unfold.proofs.Walk.{are_more, are_then}
+use Rattle.xs_forest_laws.specs.declared.span.What.{What}
+use Rattle.xs_forest_laws.specs.declared.span.What.TheVariants.{Whole, Front}
+use Rattle.xs_forest_laws.specs.Forest.{Forest, key_at, key_of, alts_of, IsRow, Unfolding, bare, pick, word_part, item_of, last_part, read, end_of, FrontAlt, IsAlt, IsRight}
+use Rattle.xs_forest_laws.specs.Number.{count_of, At, IsChosen}
+use Rattle.xs_forest_laws.specs.Walk.{Flat, node, leaf_at, skip_at, AreAt}
+use Rattle.xs_forest_laws.proofs.Read.{get_or_is, end_is, read_front, read_whole}
+use Rattle.xs_forest_laws.proofs.All.{then_done, then_assoc}
+use Rattle.xs_forest_laws.proofs.Counts.{left_within, chosen_at}
+use Rattle.xs_forest_laws.proofs.Number.{contains_of, numbered}
+use Rattle.xs_forest_laws.proofs.Walk.{are_more, are_then}
 use Rattle.xs_listing.specs.declared.count.Chosen.{Chosen}
 use Rattle.xs_listing.specs.declared.spelt.SpeltPart.{SpeltPart}
 use Rattle.xs_listing.specs.declared.spelt.SpeltPart.TheVariants.{Node, Leaf, Skip}

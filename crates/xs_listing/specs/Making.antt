@@ -10,9 +10,9 @@ use Rattle.xs_forest.specs.declared.row.Alt.{Alt}
 use Rattle.xs_tree.specs.declared.part.TreePart.{TreePart}
 use Rattle.xs_tree.specs.declared.part.TreePart.TheVariants.{Leaf}
 use Rattle.xs_tree.specs.Flat.{tree_at, trees_of}
-use Rattle.xs_unfold.specs.declared.span.What.TheVariants.{Whole}
-use Rattle.xs_unfold.specs.Forest.{Forest, key_of, Unfolding, bare, pick, read, end_of, FrontAt}
-use Rattle.xs_unfold.specs.First.{IsFirst}
+use Rattle.xs_forest_laws.specs.declared.span.What.TheVariants.{Whole}
+use Rattle.xs_forest_laws.specs.Forest.{Forest, key_of, Unfolding, bare, pick, read, end_of, FrontAt}
+use Rattle.xs_forest_laws.specs.First.{IsFirst}
 use Rattle.xs_listing.specs.declared.rows.Step.{Step}
 use Rattle.xs_listing.specs.Marks.{IsFirstAlt, IsMarked}
 

@@ -2,8 +2,8 @@
 use Rattle.std.specs.Prelude.{◌≡◌, ℕ, zero, ◌≤◌, List, length, Bool, true, false, None, Some, slice_get, slice_index_or, slice_set}
 use Rattle.std.specs.declared.option.Option.{Option}
 use Rattle.xs_forest.specs.declared.row.Alt.{Alt}
-use Rattle.xs_unfold.specs.Forest.{Forest, key_of, alts_of, Unfolding}
-use Rattle.xs_unfold.specs.First.{IsFirst}
+use Rattle.xs_forest_laws.specs.Forest.{Forest, key_of, alts_of, Unfolding}
+use Rattle.xs_forest_laws.specs.First.{IsFirst}
 
 -- the alternative is the row's first
 abbrev pub IsFirstAlt : Forest → ℕ → Alt → Type 0

@@ -1,8 +1,8 @@
 -- The derivations of a document by their numbers, written flat.
 use Rattle.std.specs.Prelude.{◌≡◌, ℕ, List, length, Some, slice_get}
 use Rattle.xs_gram.specs.Derivations.{done, sub, Derivation}
-use Rattle.xs_unfold.specs.Forest.{Unfolding, read}
-use Rattle.xs_unfold.specs.Number.{At}
+use Rattle.xs_forest_laws.specs.Forest.{Unfolding, read}
+use Rattle.xs_forest_laws.specs.Number.{At}
 use Rattle.xs_listing.specs.declared.spelt.SpeltPart.{SpeltPart}
 use Rattle.xs_listing.specs.declared.write.Source.{Source}
 use Rattle.xs_listing.specs.Spelt.{IsSpeltOf, AreSpeltOf}

@@ -1,7 +1,7 @@
 -- How many parts the tasks of a derivation are still to write.
 use Rattle.std.specs.Prelude.{◌≡◌, ℕ, ◌+◌, List, [], ◌∷◌, Some}
-use Rattle.xs_unfold.specs.Forest.{Unfolding, item_of, read}
-use Rattle.xs_unfold.specs.Number.{At}
+use Rattle.xs_forest_laws.specs.Forest.{Unfolding, item_of, read}
+use Rattle.xs_forest_laws.specs.Number.{At}
 use Rattle.xs_tree.specs.Counts.{capped}
 use Rattle.xs_listing.specs.declared.write.Source.{Source}
 use Rattle.xs_listing.specs.declared.write.Task.{Task}

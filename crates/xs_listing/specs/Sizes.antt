@@ -6,10 +6,10 @@ use Rattle.xs_gram.specs.Grammar.{Grammar}
 use Rattle.xs_gram.specs.Derivations.{Parts, done, fixed, leaf, skip, sub}
 use Rattle.xs_forest.specs.declared.row.Alt.{Alt}
 use Rattle.xs_tree.specs.Counts.{capped}
-use Rattle.xs_unfold.specs.declared.span.What.{What}
-use Rattle.xs_unfold.specs.declared.span.What.TheVariants.{Whole, Front}
-use Rattle.xs_unfold.specs.Forest.{Forest, Unfolding, word_part, item_of, read}
-use Rattle.xs_unfold.specs.First.{IsFirst}
+use Rattle.xs_forest_laws.specs.declared.span.What.{What}
+use Rattle.xs_forest_laws.specs.declared.span.What.TheVariants.{Whole, Front}
+use Rattle.xs_forest_laws.specs.Forest.{Forest, Unfolding, word_part, item_of, read}
+use Rattle.xs_forest_laws.specs.First.{IsFirst}
 
 -- how many parts are spelt: those that are no fixed words, down to words
 abbrev pub spelt_count : Parts → ℕ

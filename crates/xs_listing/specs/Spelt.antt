@@ -2,8 +2,8 @@
 use Rattle.std.specs.Prelude.{◌≡◌, ℕ, ◌<◌, ◌≤◌, List, [], ◌∷◌, ◌++◌, length, map, All, Some, slice_get}
 use Rattle.xs_gram.specs.Grammar.{Grammar}
 use Rattle.xs_gram.specs.Derivations.{Derivation}
-use Rattle.xs_unfold.specs.Walk.{Flat, node, leaf_at, skip_at, AreAt}
-use Rattle.xs_unfold.specs.Listing.{IsListed}
+use Rattle.xs_forest_laws.specs.Walk.{Flat, node, leaf_at, skip_at, AreAt}
+use Rattle.xs_forest_laws.specs.Listing.{IsListed}
 use Rattle.xs_listing.specs.declared.spelt.SpeltPart.{SpeltPart}
 use Rattle.xs_listing.specs.declared.spelt.SpeltPart.TheVariants.{Node, Leaf, Skip}
 use Rattle.xs_listing.specs.declared.spelt.Listing.{Listing}

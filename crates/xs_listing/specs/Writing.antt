@@ -5,12 +5,12 @@ use Rattle.xs_gram.specs.declared.parts.GItem.{GItem}
 use Rattle.xs_gram.specs.declared.parts.GItem.TheVariants.{Fixed, Term, Non, Skip as Ignored}
 use Rattle.xs_gram.specs.Grammar.{Grammar, items}
 use Rattle.xs_gram.specs.Derivations.{Parts}
-use Rattle.xs_unfold.specs.declared.span.SpanKey.{SpanKey}
-use Rattle.xs_unfold.specs.declared.span.What.{What}
-use Rattle.xs_unfold.specs.declared.span.What.TheVariants.{Whole, Front}
-use Rattle.xs_unfold.specs.Forest.{Forest, key_of, alts_of, item_of, end_of, IsRight}
-use Rattle.xs_unfold.specs.Number.{alts_count, IsCounted, IsChosen}
-use Rattle.xs_unfold.specs.Walk.{AreAt}
+use Rattle.xs_forest_laws.specs.declared.span.SpanKey.{SpanKey}
+use Rattle.xs_forest_laws.specs.declared.span.What.{What}
+use Rattle.xs_forest_laws.specs.declared.span.What.TheVariants.{Whole, Front}
+use Rattle.xs_forest_laws.specs.Forest.{Forest, key_of, alts_of, item_of, end_of, IsRight}
+use Rattle.xs_forest_laws.specs.Number.{alts_count, IsCounted, IsChosen}
+use Rattle.xs_forest_laws.specs.Walk.{AreAt}
 use Rattle.xs_listing.specs.declared.count.Chosen.{Chosen}
 use Rattle.xs_listing.specs.declared.spelt.SpeltPart.{SpeltPart}
 use Rattle.xs_listing.specs.declared.spelt.SpeltPart.TheVariants.{Node, Leaf, Skip}

@@ -1,14 +1,14 @@
 ghost use Rattle.std.specs.Prelude.{◌≡◌, ℕ, ◌<◌, List, length, IfOk};
 ghost use Rattle.xs_gram.specs.Grammar.{Grammar};
 ghost use Rattle.xs_forest.specs.Rows.{IsEarlier, AreEarlier};
-ghost use Rattle.xs_unfold.specs.Forest.{IsRight};
-ghost use Rattle.xs_unfold.specs.Number.{count_of, alt_count, alts_count, IsCounted, IsChosen};
+ghost use Rattle.xs_forest_laws.specs.Forest.{IsRight};
+ghost use Rattle.xs_forest_laws.specs.Number.{count_of, alt_count, alts_count, IsCounted, IsChosen};
 
 use crate::rows::alts_at;
 use std::alloc::Global;
 use xs_class::Memory;
 use xs_forest::{Alt, Forest};
-use xs_unfold::SpanKey;
+use xs_forest_laws::SpanKey;
 
 /// How many unfoldings a child has: one where there is no child.
 pub(crate) fn child_count(counts: &[u64], child: Option<u64>) -> u64

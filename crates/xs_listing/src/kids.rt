@@ -3,8 +3,8 @@ ghost use Rattle.xs_gram.specs.Grammar.{items, slots};
 ghost use Rattle.xs_tree.specs.declared.part.TreePart.TheVariants.{Leaf};
 ghost use Rattle.xs_gram.specs.Common.{named};
 ghost use Rattle.xs_gram.specs.Sound.{IsBuilt};
-ghost use Rattle.xs_unfold.specs.Forest.{IsRight, Unfolding, read};
-ghost use Rattle.xs_unfold.specs.First.{IsFirst};
+ghost use Rattle.xs_forest_laws.specs.Forest.{IsRight, Unfolding, read};
+ghost use Rattle.xs_forest_laws.specs.First.{IsFirst};
 ghost use Rattle.xs_listing.specs.Making.{CanPlace, IsPlaced, CanGather, Extends, Fills};
 
 use crate::rows::{Step, first_step};
@@ -13,7 +13,7 @@ use xs_class::{Memory, Word};
 use xs_forest::{Alt, Forest};
 use xs_gram::{GItem, Gram};
 use xs_tree::Builder;
-use xs_unfold::SpanKey;
+use xs_forest_laws::SpanKey;
 
 // The number of slots of the items.
 fn slot_count(items: &[GItem]) -> usize

@@ -1,6 +1,6 @@
 ghost use Rattle.std.specs.Prelude.{◌<◌, ◌≤◌, Some, IfOk};
-ghost use Rattle.xs_unfold.specs.Number.{count_of};
-ghost use Rattle.xs_unfold.specs.Laws.{IsRoot, IsForestOf};
+ghost use Rattle.xs_forest_laws.specs.Number.{count_of};
+ghost use Rattle.xs_forest_laws.specs.Laws.{IsRoot, IsForestOf};
 ghost use Rattle.xs_listing.specs.Writing.{IsSource};
 ghost use Rattle.xs_listing.specs.Spelt.{IsListingOf};
 ghost use Rattle.xs_listing.specs.Numbered.{IsSpeltBy, AreSpeltBy};
@@ -13,7 +13,7 @@ use crate::{Listing, Spelt, SpeltPart, Spelts};
 use std::alloc::Global;
 use xs_class::{Listed, Memory, Word};
 use xs_gram::Gram;
-use xs_unfold::Grown;
+use xs_forest_laws::Grown;
 
 // The derivation of a number.
 fn spell(alloc: Global, source: &Source<'_, '_>, root: u64, number: u64) -> Result<Spelt, Memory>

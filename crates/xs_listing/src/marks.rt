@@ -1,14 +1,14 @@
 ghost use Rattle.std.specs.Prelude.{◌≡◌, ◌<◌, ℕ, List, length, IfOk};
 ghost use Rattle.xs_gram.specs.Grammar.{Grammar};
 ghost use Rattle.xs_forest.specs.Rows.{IsEarlier, AreBelow};
-ghost use Rattle.xs_unfold.specs.Forest.{IsRight};
+ghost use Rattle.xs_forest_laws.specs.Forest.{IsRight};
 ghost use Rattle.xs_listing.specs.Marks.{IsReady, IsMarked, AreMarked, with_mark, pass};
 
 use crate::rows::alts_at;
 use std::alloc::Global;
 use xs_class::Memory;
 use xs_forest::Forest;
-use xs_unfold::SpanKey;
+use xs_forest_laws::SpanKey;
 
 // Marks a child.
 fn mark(child: Option<u64>, marks: &mut [bool])

@@ -1,6 +1,6 @@
 ghost use Rattle.std.specs.Prelude.{◌≡◌, ◌<◌, length, IfOk, OnOk};
 ghost use Rattle.xs_gram.specs.Sound.{IsBuilt};
-ghost use Rattle.xs_unfold.specs.Forest.{IsRight};
+ghost use Rattle.xs_forest_laws.specs.Forest.{IsRight};
 ghost use Rattle.xs_listing.specs.Marks.{IsMarked, AreMarked};
 ghost use Rattle.xs_listing.specs.Making.{IsWhole, IsMade, AreMade, CanMake, Extends};
 
@@ -11,7 +11,7 @@ use xs_class::{Memory, Word};
 use xs_forest::Forest;
 use xs_gram::Gram;
 use xs_tree::Builder;
-use xs_unfold::{SpanKey, What};
+use xs_forest_laws::{SpanKey, What};
 
 // A new node for a row of a nonterminal.
 fn add_node(

@@ -1,11 +1,11 @@
 ghost use Rattle.std.specs.Prelude.{◌≡◌, ◌<◌, length};
 ghost use Rattle.xs_forest.specs.Rows.{IsEarlier, AreBelow};
-ghost use Rattle.xs_unfold.specs.Forest.{key_of, alts_of, end_of};
+ghost use Rattle.xs_forest_laws.specs.Forest.{key_of, alts_of, end_of};
 ghost use Rattle.xs_listing.specs.Marks.{IsFirstAlt};
 ghost use Rattle.xs_listing.specs.Making.{IsStep};
 
 use xs_forest::{Alt, Forest};
-use xs_unfold::SpanKey;
+use xs_forest_laws::SpanKey;
 
 /// The label of a row.
 pub(crate) fn label_at(forest: &Forest<'_, SpanKey>, row: u64) -> SpanKey

@@ -1,9 +1,9 @@
 ghost use Rattle.std.specs.Prelude.{◌≡◌, ℕ, ◌<◌, ◌≤◌, length, All, IfOk, OnOk};
 ghost use Rattle.xs_gram.specs.Grammar.{items};
 ghost use Rattle.xs_forest.specs.Rows.{IsEarlier};
-ghost use Rattle.xs_unfold.specs.declared.span.What.TheVariants.{Front};
-ghost use Rattle.xs_unfold.specs.Forest.{IsRight, Unfolding, read};
-ghost use Rattle.xs_unfold.specs.Number.{count_of, At};
+ghost use Rattle.xs_forest_laws.specs.declared.span.What.TheVariants.{Front};
+ghost use Rattle.xs_forest_laws.specs.Forest.{IsRight, Unfolding, read};
+ghost use Rattle.xs_forest_laws.specs.Number.{count_of, At};
 ghost use Rattle.xs_tree.specs.Counts.{capped};
 ghost use Rattle.xs_listing.specs.Sizes.{spelt_count, word_count, size_at, last_count, IsSize, AreSizes};
 ghost use Rattle.xs_listing.specs.Writing.{IsSource, HasChild, CanDo};
@@ -15,7 +15,7 @@ use std::alloc::Global;
 use xs_class::{Memory, Word};
 use xs_forest::{Alt, Forest};
 use xs_gram::{GItem, Gram};
-use xs_unfold::{SpanKey, What};
+use xs_forest_laws::{SpanKey, What};
 
 // How many parts an item's word is.
 fn word_size(item: &GItem) -> u64

@@ -2,7 +2,7 @@ ghost use Rattle.std.specs.Prelude.{IfOk};
 ghost use Rattle.xs_gram.specs.Languages.{InLang, HasTree};
 ghost use Rattle.xs_gram.specs.Sound.{IsBuilt};
 ghost use Rattle.xs_tree.specs.Flat.{common_of};
-ghost use Rattle.xs_unfold.specs.Laws.{IsForestOf};
+ghost use Rattle.xs_forest_laws.specs.Laws.{IsForestOf};
 
 use crate::marks::mark_rows;
 use crate::nodes::number_rows;
@@ -10,7 +10,7 @@ use std::alloc::Global;
 use xs_class::{Memory, Word};
 use xs_gram::Gram;
 use xs_tree::{Builder, Tree};
-use xs_unfold::Grown;
+use xs_forest_laws::Grown;
 
 /// The common tree of one of the document's derivations, that by the first alternative of each row.
 ///

@@ -1,9 +1,9 @@
 ghost use Rattle.std.specs.Prelude.{◌≡◌, ℕ, ◌<◌, ◌≤◌, ◌++◌, length, take, drop, IfOk, OnOk};
-ghost use Rattle.xs_unfold.specs.declared.span.What.TheVariants.{Front};
+ghost use Rattle.xs_forest_laws.specs.declared.span.What.TheVariants.{Front};
 ghost use Rattle.xs_listing.specs.declared.spelt.SpeltPart.TheVariants.{Node};
 ghost use Rattle.xs_forest.specs.Rows.{IsEarlier};
-ghost use Rattle.xs_unfold.specs.Forest.{Unfolding, read};
-ghost use Rattle.xs_unfold.specs.Number.{count_of, At};
+ghost use Rattle.xs_forest_laws.specs.Forest.{Unfolding, read};
+ghost use Rattle.xs_forest_laws.specs.Number.{count_of, At};
 ghost use Rattle.xs_listing.specs.Writing.{child_task, last_task, IsVisited, Added, IsWordWritten, IsDone, AreWritten, IsSource, HasChild, CanVisit, CanDo};
 
 use crate::SpeltPart;
@@ -14,7 +14,7 @@ use std::alloc::Global;
 use xs_class::{Listed, Memory, Word};
 use xs_forest::Forest;
 use xs_gram::{GItem, Gram};
-use xs_unfold::{SpanKey, What};
+use xs_forest_laws::{SpanKey, What};
 
 /// The forest of a document, with the number of unfoldings of each row up to a cap, and the number of
 /// parts of the row's unfolding by first alternatives.

@@ -8,7 +8,7 @@ use Rattle.xs_gram.specs.declared.parts.GItem.TheVariants.{Non}
 use Rattle.xs_gram.specs.Grammar.{Grammar, rule_of, items, IsRuleOf, ItemAt}
 use Rattle.xs_gram.specs.Loose.{AreOne, AreComponents, Spot, entry, exit, at, Step, begins, passes, calls, ends, returns, Walk, stays, goes}
 use Rattle.xs_gram.specs.Sound.{IsInRange}
-use Rattle.xs_ambiguity.proofs.Walks.{joined, stepped}
+use Rattle.xs_check_laws.proofs.Walks.{joined, stepped}
 use Rattle.xs_loose.specs.Groups.{IsGroup, IsNonOf, IsRuleIn}
 use Rattle.xs_loose.specs.Arcs.{Path, IsMove, Below, Either}
 use Rattle.xs_loose.specs.Arcs as arcs

@@ -8,7 +8,7 @@ use Rattle.xs_gram.specs.Grammar.{Grammar, rule_of, term_of, skip_of, items, Ite
 use Rattle.xs_gram.specs.Building.{NamesAreThere}
 use Rattle.xs_gram.specs.Loose.{Uses, AreOne, IsMember, AreComponents}
 use Rattle.xs_gram.specs.Sound.{IsInRange, IsBuilt}
-use Rattle.xs_ambiguity.specs.Weights.{ItemWeighs, fixed_weighs, term_weighs, skip_weighs, non_weighs}
+use Rattle.xs_check_laws.specs.Weights.{ItemWeighs, fixed_weighs, term_weighs, skip_weighs, non_weighs}
 use Rattle.xs_loose.specs.Groups.{IsNonOf, IsRuleIn}
 use Rattle.xs_loose.specs.Weighing.{AreWeights, AreWeightsBefore, HasWeight, IsUnder, IsOneOf}
 

@@ -8,8 +8,8 @@ use Rattle.xs_gram.specs.declared.parts.GItem.{GItem}
 use Rattle.xs_gram.specs.Grammar.{Grammar, rule_of, items}
 use Rattle.xs_gram.specs.Loose.{AreOne, AreComponents}
 use Rattle.xs_gram.specs.Sound.{IsInRange}
-use Rattle.xs_ambiguity.specs.Weights.{capped, Members, no_member, member_next, other_next, ItemWeighs, ComponentWeighs, component_weighs, RulesWeigh, no_rule_yet, rule_of_member, rule_of_other, BodyWeighs, no_body, member_then, other_then, PartWeighs, no_part, part_then}
-use Rattle.xs_ambiguity.proofs.Weights.{body_append, part_append}
+use Rattle.xs_check_laws.specs.Weights.{capped, Members, no_member, member_next, other_next, ItemWeighs, ComponentWeighs, component_weighs, RulesWeigh, no_rule_yet, rule_of_member, rule_of_other, BodyWeighs, no_body, member_then, other_then, PartWeighs, no_part, part_then}
+use Rattle.xs_check_laws.proofs.Weights.{body_append, part_append}
 use Rattle.xs_loose.specs.Groups.{IsGroup, IsNonOf, IsRuleIn}
 use Rattle.xs_loose.specs.Weighing.{AreWeights, AreWeightsBefore, Counts}
 use Rattle.xs_loose.proofs.Bounds.{IsUpTo, up_to_own, up_to_all, none_between}

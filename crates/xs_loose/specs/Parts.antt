@@ -2,7 +2,7 @@
 use Rattle.std.specs.Prelude.{ℕ, ◌<◌, ◌≤◌, List, length, slice_range}
 use Rattle.xs_gram.specs.declared.parts.GItem.{GItem}
 use Rattle.xs_gram.specs.Grammar.{Grammar, items}
-use Rattle.xs_ambiguity.specs.Weights.{PartWeighs}
+use Rattle.xs_check_laws.specs.Weights.{PartWeighs}
 use Rattle.xs_loose.specs.declared.part.Part.{Part}
 use Rattle.xs_loose.specs.declared.fault.LooseFault.{LooseFault}
 use Rattle.xs_loose.specs.declared.fault.LooseFault.TheVariants.{Heavy, Memory}

@@ -3,7 +3,7 @@ ghost use Rattle.std.specs.List.{All, Contains};
 ghost use Rattle.xs_gram.specs.Building.{NamesAreThere};
 ghost use Rattle.xs_gram.specs.Loose.{AreComponents};
 ghost use Rattle.xs_gram.specs.Sound.{IsBuilt};
-ghost use Rattle.xs_ambiguity.specs.Weights.{capped, ItemWeighs, BodyWeighs, ComponentWeighs, PartWeighs};
+ghost use Rattle.xs_check_laws.specs.Weights.{capped, ItemWeighs, BodyWeighs, ComponentWeighs, PartWeighs};
 ghost use Rattle.xs_loose.specs.Groups.{IsGroup, IsNonOf, IsRuleIn};
 ghost use Rattle.xs_loose.specs.Parts.{IsPart, part_items};
 ghost use Rattle.xs_loose.specs.Weighing.{AreWeights, AreWeightsBefore, HasWeight, IsUnder, Counts};

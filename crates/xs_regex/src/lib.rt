@@ -23,5 +23,5 @@ pub use automaton::positions;
 pub use fault::RegexFault;
 pub use matching::matches;
 pub use position::{Classes, Follows, Numbers, Position};
-pub use read::{one_reading, read_regex};
+pub use read::{one_regex, read_regex};
 pub use regex::Regex;

@@ -76,7 +76,7 @@ fn whole(alloc: Global, cs: &[char]) -> Result<Regex, RegexFault>
 }
 
 /// A pattern has at most one reading, and all regexes that it stands for match the same words.
-pub fn one_reading()
+pub fn one_regex()
     ensures tree { (pattern : List ℕ) (t u : Tree) → IsReading pattern t → IsReading pattern u → t ≡ u }
     ensures words { (pattern : List ℕ) (r q : AnyRegex) → IsPatternOf pattern r → IsPatternOf pattern q → (w : List ℕ) → Matches r w → Matches q w }
 {}

@@ -8,7 +8,7 @@ use Rattle.xs_gram.specs.declared.parts.GItem.{GItem}
 use Rattle.xs_gram.specs.declared.parts.GItem.TheVariants.{Fixed, Term, Non, Skip}
 use Rattle.xs_gram.specs.Grammar.{items}
 use Rattle.xs_gram.specs.Derivations.{Parts, fixed, leaf, skip, sub, Derivation}
-use Rattle.xs_unfold.specs.Listing.{IsListed}
+use Rattle.xs_forest_laws.specs.Listing.{IsListed}
 use Rattle.xs_pair.specs.Grammars.{Pair}
 use Rattle.xs_talk.specs.Words.{quoted}
 

@@ -1,7 +1,7 @@
 use bumpalo::Bump;
 use std::test::Fail;
 use xs_forest::{AddFault, Alt, Forest};
-use xs_unfold::{SpanKey, What};
+use xs_forest_laws::{SpanKey, What};
 
 const LEAF: Alt = Alt {
     rule: 2,

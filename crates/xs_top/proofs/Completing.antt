@@ -9,13 +9,13 @@ use Rattle.xs_class.specs.declared.side.Side.TheVariants.{Text, Xml}
 use Rattle.xs_chars.specs.declared.form.Form.{Form}
 use Rattle.xs_chars.specs.declared.form.Form.TheVariants.{AsIs}
 use Rattle.xs_chars.specs.Text.{text_of}
-use Rattle.xs_piece.specs.Laws.{OneReading}
+use Rattle.xs_xml.specs.Laws.{OneReading}
 use Rattle.xs_gram.specs.Languages.{InLang}
 use Rattle.xs_gram.specs.Grammar.{Grammar}
 use Rattle.xs_gram.specs.declared.suspect.Suspect.{Suspect as Found}
 use Rattle.xs_gram.specs.declared.suspect.Suspect.TheVariants.{Vertical, Horizontal}
-use Rattle.xs_ambiguity.specs.Acceptance.{IsAccepted, IsLight, IsHeaviness, IsFirstHeavy, IsSuspect}
-use Rattle.xs_ambiguity.specs.Laws.{RuleWeighsOnce}
+use Rattle.xs_check_laws.specs.Acceptance.{IsAccepted, IsLight, IsHeaviness, IsFirstHeavy, IsSuspect}
+use Rattle.xs_check_laws.specs.Laws.{RuleWeighsOnce}
 use Rattle.xs_unique.specs.Reasons.{shown}
 use Rattle.xs_pair.specs.Grammars.{Pair, grammar_of}
 use Rattle.xs_talk.specs.declared.outcome.Outcome.{Outcome}

@@ -1,8 +1,8 @@
 -- The words of a well-formed sheet's languages can be written.
 use Rattle.std.proofs.Common.{◌≡◌, ℕ, List, [], ◌∷◌, Bool, true, false, inl, inr, refl, sym, subst, ◌&&◌}
 use Rattle.xs_class.specs.Tables.{char_table}
-use Rattle.xs_piece.specs.Tables.{is_char}
-use Rattle.xs_piece.specs.Piece.{all_of}
+use Rattle.xs_xml.specs.Tables.{is_char}
+use Rattle.xs_xml.specs.Piece.{all_of}
 use Rattle.xs_sheet.specs.declared.item.Item.{Item}
 use Rattle.xs_sheet.specs.declared.item.Item.TheVariants.{Fixed, Named, Skip}
 use Rattle.xs_sheet.specs.declared.sheet.Sheet.{Sheet}
@@ -14,8 +14,8 @@ use Rattle.xs_pair.specs.Grammars.{Pair}
 use Rattle.xs_pair.specs.Rules.{SomeOf}
 use Rattle.xs_wf.specs.Rules.{IsWell}
 use Rattle.xs_wf.specs.Units.{IsStrange, HasStrange, IsStrangeItem, IsStrangeMark}
-use Rattle.xs_balance.specs.Laws.{AreChars, HasChars, IsOfChars, HasCharStrings, IsWritable, CanBeWritten, WordsCanBeWritten}
-use Rattle.xs_balance.proofs.Characters.{has_tested}
+use Rattle.xs_writing_laws.specs.Laws.{AreChars, HasChars, IsOfChars, HasCharStrings, IsWritable, CanBeWritten, WordsCanBeWritten}
+use Rattle.xs_writing_laws.proofs.Characters.{has_tested}
 use Rattle.xs_top.specs.Sheets.{IsPairOfBytes}
 
 -- what is not strange is a character, letter by letter

@@ -8,7 +8,7 @@ use Rattle.xs_gram.specs.Languages.{HasTree}
 use Rattle.xs_gram.specs.Laws.{PrintedHasTree, PrintsNormal, HasNumberedSlots}
 use Rattle.xs_pair.specs.Grammars.{Pair, grammar_of}
 use Rattle.xs_pair.specs.Sound.{IsSoundPair}
-use Rattle.xs_balance.specs.Laws.{CanBeWritten}
+use Rattle.xs_writing_laws.specs.Laws.{CanBeWritten}
 use Rattle.xs_turn.specs.Turned.{FitsBoth}
 use Rattle.xs_chars.specs.declared.form.Form.{Form}
 use Rattle.xs_top.specs.Documents.{IsDocument, CanWrite}

@@ -5,7 +5,7 @@ use Rattle.xs_gram.specs.declared.suspect.Suspect.{Suspect as Found}
 use Rattle.xs_gram.specs.declared.suspect.Suspect.TheVariants.{Vertical, Horizontal}
 use Rattle.xs_gram.specs.Grammar.{rule_of}
 use Rattle.xs_gram.specs.Languages.{IsUnique}
-use Rattle.xs_ambiguity.specs.Acceptance.{IsAccepted, IsLight, IsFirstHeavy, Shows}
+use Rattle.xs_check_laws.specs.Acceptance.{IsAccepted, IsLight, IsFirstHeavy, Shows}
 use Rattle.xs_unique.specs.Reasons.{shown}
 use Rattle.xs_pair.specs.Grammars.{Pair, grammar_of}
 use Rattle.xs_talk.specs.declared.outcome.Report.{Report}

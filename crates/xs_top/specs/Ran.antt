@@ -10,7 +10,7 @@ use Rattle.xs_chars.specs.declared.form.Form.{Form}
 use Rattle.xs_chars.specs.declared.form.Form.TheVariants.{AsIs}
 use Rattle.xs_gram.specs.Common.{Common}
 use Rattle.xs_gram.specs.Languages.{InLang}
-use Rattle.xs_ambiguity.specs.Acceptance.{IsAccepted}
+use Rattle.xs_check_laws.specs.Acceptance.{IsAccepted}
 use Rattle.xs_leiden.specs.Sheet.{leiden_core}
 use Rattle.xs_leiden.specs.Made.{made_text}
 use Rattle.xs_words.specs.Command.{Sheet as Named}

@@ -32,11 +32,11 @@ pub use answer::DOCUMENT_LIMIT;
 pub use outcome::status;
 pub use sheets::SHEET_LIMIT;
 use std::alloc::Global;
-use xs_ambiguity::weights_are_exact;
+use xs_check_laws::weights_are_exact;
 use xs_class::Memory;
 use xs_io::{Shelf, Sink, Source};
 use xs_leiden::leiden_sheet;
-use xs_piece::one_reading;
+use xs_xml::one_word;
 pub use xs_talk::Outcome;
 use xs_talk::room;
 
@@ -65,7 +65,7 @@ pub fn run<S: Source, H: Shelf, K: Sink, N: Sink>(
     ensures memory_out { OnErr result (out.new ≡ out.old) }
     ensures memory_notes { OnErr result (notes.new ≡ notes.old) }
 {
-    one_reading();
+    one_word();
     weights_are_exact();
     let room = room(alloc)?;
     let none = no_names(alloc)?;

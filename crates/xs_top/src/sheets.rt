@@ -1,14 +1,14 @@
 ghost use Rattle.std.specs.Prelude.{◌≡◌, ◌≤◌, length, IfOk, IfErr};
 ghost use Rattle.xs_pair.specs.Sound.{IsSoundPair};
 ghost use Rattle.xs_words.specs.Meaning.{sheet_meant};
-ghost use Rattle.xs_balance.specs.Laws.{CanBeWritten};
+ghost use Rattle.xs_writing_laws.specs.Laws.{CanBeWritten};
 ghost use Rattle.xs_top.specs.Devices.{shelves_of};
 ghost use Rattle.xs_top.specs.Sheets.{AreBytesOf, IsStopped, IsPairOfBytes, IsBadBytes, SpellsPair, IsUnpaired};
 ghost use Rattle.xs_top.specs.Stops.{StopsBy};
 
 use crate::stop::Stop;
 use std::alloc::Global;
-use xs_balance::words_can_be_written;
+use xs_writing_laws::words_can_be_written;
 use xs_class::Bytes;
 use xs_io::{ReadStop, Shelf, read_file};
 use xs_leiden::leiden_sheet;

@@ -3,7 +3,7 @@ ghost use Rattle.xs_gram.specs.Common.{print};
 ghost use Rattle.xs_tree.specs.Flat.{common_of};
 ghost use Rattle.xs_pair.specs.Grammars.{grammar_of};
 ghost use Rattle.xs_pair.specs.Sound.{IsSoundPair, other};
-ghost use Rattle.xs_balance.specs.Laws.{CanBeWritten};
+ghost use Rattle.xs_writing_laws.specs.Laws.{CanBeWritten};
 ghost use Rattle.xs_turn.specs.Turned.{FitsBoth};
 ghost use Rattle.xs_top.specs.Answers.{IsTurnedInto, IsWrittenTree, IsUnread};
 ghost use Rattle.xs_top.specs.Stops.{StopsBy};

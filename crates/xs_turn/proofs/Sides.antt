@@ -6,7 +6,7 @@ use Rattle.xs_gram.specs.Grammar.{Grammar}
 use Rattle.xs_gram.specs.Common.{Common, TreeFits}
 use Rattle.xs_gram.specs.Languages.{HasTree}
 use Rattle.xs_gram.specs.Sound.{IsSound}
-use Rattle.xs_unfold.specs.Forest.{Forest}
+use Rattle.xs_forest_laws.specs.Forest.{Forest}
 use Rattle.xs_pair.specs.Grammars.{Pair, grammar_of, HaveSameTrees}
 use Rattle.xs_turn.specs.declared.fault.TurnFault.{TurnFault}
 use Rattle.xs_turn.specs.declared.fault.TurnFault.TheVariants as F

@@ -3,8 +3,8 @@ use Rattle.std.specs.Prelude.{◌≡◌, ⊤, ℕ, List}
 use Rattle.xs_gram.specs.Grammar.{Grammar}
 use Rattle.xs_gram.specs.Common.{Common, print}
 use Rattle.xs_gram.specs.Languages.{InLang, HasTree, IsViable}
-use Rattle.xs_unfold.specs.Forest.{Forest}
-use Rattle.xs_unfold.specs.Laws.{IsForestOf, IsExact}
+use Rattle.xs_forest_laws.specs.Forest.{Forest}
+use Rattle.xs_forest_laws.specs.Laws.{IsForestOf, IsExact}
 use Rattle.xs_earley.specs.declared.fault.SeeFault.{SeeFault}
 use Rattle.xs_earley.specs.declared.fault.SeeFault.TheVariants as S
 use Rattle.xs_turn.specs.declared.fault.TurnFault.{TurnFault}

@@ -3,8 +3,8 @@ use Rattle.std.specs.Prelude.{◌≡◌, ⊤, ℕ, List}
 use Rattle.xs_class.specs.declared.side.Side.{Side}
 use Rattle.xs_gram.specs.Common.{Common, TreeFits, print}
 use Rattle.xs_gram.specs.Languages.{InLang, HasTree, IsViable}
-use Rattle.xs_unfold.specs.Forest.{Forest}
-use Rattle.xs_unfold.specs.Laws.{IsForestOf, IsExact}
+use Rattle.xs_forest_laws.specs.Forest.{Forest}
+use Rattle.xs_forest_laws.specs.Laws.{IsForestOf, IsExact}
 use Rattle.xs_pair.specs.Grammars.{Pair, grammar_of}
 use Rattle.xs_pair.specs.Sound.{other}
 use Rattle.xs_turn.specs.declared.fault.TurnFault.{TurnFault}

@@ -1,7 +1,7 @@
 -- A grammar whose rules are light is searched for suspects: no heavy rule keeps it from that.
 use Rattle.xs_class.specs.declared.side.Side.{Side}
 use Rattle.xs_gram.specs.Grammar.{Grammar}
-use Rattle.xs_ambiguity.specs.Acceptance.{IsLight}
+use Rattle.xs_check_laws.specs.Acceptance.{IsLight}
 use Rattle.xs_light.specs.Causes.{IsCause}
 use Rattle.xs_light.specs.declared.fault.CheckFault.{CheckFault}
 use Rattle.xs_light.specs.declared.fault.CheckFault.TheVariants as C

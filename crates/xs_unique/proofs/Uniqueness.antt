@@ -5,8 +5,8 @@ use Rattle.xs_gram.specs.Grammar.{Grammar}
 use Rattle.xs_gram.specs.Languages.{IsUnique}
 use Rattle.xs_gram.specs.Sound.{IsInRange}
 use Rattle.xs_gram.specs.Loose.{AreComponents, AreOne}
-use Rattle.xs_ambiguity.specs.Laws.{DecidedInRange, IsDecided, AcceptedIsUnique}
-use Rattle.xs_ambiguity.specs.Acceptance.{IsLight, HasNoSuspect}
+use Rattle.xs_check_laws.specs.Laws.{DecidedInRange, IsDecided, AcceptedIsUnique}
+use Rattle.xs_check_laws.specs.Acceptance.{IsLight, HasNoSuspect}
 
 decided_of_two : (g : Grammar) (comps : List ℕ) → AreComponents g comps → (m n : ℕ) → m < g.nons → n < g.nons → Dec (AreOne g m n)
 decided_of_two g comps are m n low high =

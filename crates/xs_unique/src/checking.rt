@@ -1,13 +1,13 @@
 ghost use Rattle.std.specs.Prelude.{◌≡◌, IfOk, IfErr, OnOk};
 ghost use Rattle.xs_gram.specs.Languages.{IsUnique};
 ghost use Rattle.xs_gram.specs.Sound.{IsBuilt, IsSound};
-ghost use Rattle.xs_ambiguity.specs.Acceptance.{IsAccepted};
+ghost use Rattle.xs_check_laws.specs.Acceptance.{IsAccepted};
 ghost use Rattle.xs_unique.specs.Reasons.{IsReason};
 
 use crate::suspects::clear;
 use crate::{AcceptFault, Accepted};
 use std::alloc::Global;
-use xs_ambiguity::{accepted_is_unique, decided_in_range};
+use xs_check_laws::{accepted_is_unique, decided_in_range};
 use xs_class::Side;
 use xs_gram::Gram;
 use xs_light::light;

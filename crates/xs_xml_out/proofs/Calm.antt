@@ -1,7 +1,7 @@
 -- Calm pieces that nest are a legal list.
 use Rattle.std.proofs.Common.{◌≡◌, ℕ, List, [], ◌∷◌, ◌++◌, Some, true, false, Bool, not, ◌&&◌, ◌==◌, refl}
-use Rattle.xs_piece.specs.Piece.{Piece, declaration, character, line_end, reference, start_tag, empty_tag, end_tag, comment, instruction, cdata, is_piece}
-use Rattle.xs_piece.specs.Legal.{spelt_all, are_pieces, no_declaration, is_first, Spot, ahead, all_passed, is_that, no_section_end, is_alone, are_alone, IsLegal}
+use Rattle.xs_xml.specs.Piece.{Piece, declaration, character, line_end, reference, start_tag, empty_tag, end_tag, comment, instruction, cdata, is_piece}
+use Rattle.xs_xml.specs.Legal.{spelt_all, are_pieces, no_declaration, is_first, Spot, ahead, all_passed, is_that, no_section_end, is_alone, are_alone, IsLegal}
 use Rattle.xs_xml_out.proofs.Tests.{and_true, both_true, not_true, and_no}
 use Rattle.xs_xml_out.proofs.Content.{is_calm, are_calm}
 

@@ -3,9 +3,9 @@ use Rattle.std.proofs.Common.{◌≡◌, ◌⊎◌, inl, inr, ℕ, ◌<◌, List
 use Rattle.std.proofs.lemmas.Bool.Decides.{nat_tests}
 use Rattle.xs_class.specs.Marks.{attr_end, opening_mark, attribute_mark, closing_mark}
 use Rattle.xs_class.specs.Ordered.{IsOrdered}
-use Rattle.xs_piece.specs.Piece.{Piece, start_tag, empty_tag, end_tag, spelt, spelt_attributes, is_piece, same, is_tag}
-use Rattle.xs_piece.specs.Legal.{closed, spelt_all, are_pieces, Spot, inside, passed, then_passed, all_passed}
-use Rattle.xs_piece.specs.Reads.{symbols, all_symbols, opening, closing}
+use Rattle.xs_xml.specs.Piece.{Piece, start_tag, empty_tag, end_tag, spelt, spelt_attributes, is_piece, same, is_tag}
+use Rattle.xs_xml.specs.Legal.{closed, spelt_all, are_pieces, Spot, inside, passed, then_passed, all_passed}
+use Rattle.xs_xml.specs.Reads.{symbols, all_symbols, opening, closing}
 use Rattle.xs_xml_out.specs.declared.mode.Mode.TheVariants.{Content, Tag}
 use Rattle.xs_xml_out.specs.Balanced.{Attribute, attributes_word, element_word, AreAttributes, IsAscending, IsContent, nothing, text, element}
 use Rattle.xs_xml_out.specs.Written.{name_at, written}

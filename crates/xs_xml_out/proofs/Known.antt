@@ -2,8 +2,8 @@
 use Rattle.std.proofs.Common.{◌≡◌, ℕ, ◌<◌, List, [], ◌∷◌, ◌++◌, length, true, sym, subst}
 use Rattle.std.proofs.lemmas.List.Elements.{All-nil, All-cons, All-append}
 use Rattle.xs_class.specs.Marks.{attr_end, opening_mark, attribute_mark, closing_mark}
-use Rattle.xs_piece.specs.Tables.{is_char}
-use Rattle.xs_piece.specs.Piece.{all_of}
+use Rattle.xs_xml.specs.Tables.{is_char}
+use Rattle.xs_xml.specs.Piece.{all_of}
 use Rattle.xs_xml_out.specs.Balanced.{Attribute, attributes_word, element_word, AreAttributes, IsContent, nothing, text, element, IsBalanced}
 use Rattle.xs_xml_out.specs.Part.{IsKnownSymbol, AreKnown}
 use Rattle.xs_xml_out.proofs.Tests.{and_true}

@@ -7,7 +7,7 @@ use Rattle.std.specs.Cmp.Lexicographic.{slice_cmp, bytes_decides}
 use Rattle.std.specs.declared.cmp.Ordering.TheVariants.{Equal}
 use Rattle.std.proofs.lemmas.Cmp.{tied_itself, nat_list_cmp_total}
 use Rattle.xs_class.specs.Ordered.{IsBefore, IsOrdered, place_of}
-use Rattle.xs_piece.specs.Piece.{same}
+use Rattle.xs_xml.specs.Piece.{same}
 use Rattle.xs_xml_out.specs.Written.{name_at}
 use Rattle.xs_xml_out.proofs.Tests.{and_true}
 

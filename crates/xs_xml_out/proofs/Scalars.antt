@@ -6,8 +6,8 @@ use Rattle.std.proofs.lemmas.Bool.Decides.{nat_tests}
 use Rattle.std.proofs.lemmas.Str.{chars-encodes}
 use Rattle.std.proofs.lemmas.List.Elements.{All-head, All-tail, All-get_or}
 use Rattle.xs_class.specs.Marks.{opening_mark, closing_mark}
-use Rattle.xs_piece.specs.Tables.{is_name_start, is_name_char}
-use Rattle.xs_piece.specs.Piece.{is_name, all_of}
+use Rattle.xs_xml.specs.Tables.{is_name_start, is_name_char}
+use Rattle.xs_xml.specs.Piece.{is_name, all_of}
 use Rattle.xs_xml_out.specs.declared.mark.Mark.{Mark}
 use Rattle.xs_xml_out.specs.declared.mark.Mark.TheVariants.{Char, ValueEnd, Strange, Opening, Attribute, Closing}
 use Rattle.xs_xml_out.specs.declared.mode.Mode.{Mode}

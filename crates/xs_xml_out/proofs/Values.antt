@@ -2,9 +2,9 @@
 use Rattle.std.proofs.Common.{◌≡◌, ◌⊎◌, inl, inr, ℕ, List, [], ◌∷◌, ◌++◌, true, false, Bool, if◌then◌else◌, ◌==◌, codes, refl, sym, ◌∙◌, ap, subst, arith, eqb-true}
 use Rattle.std.proofs.lemmas.Bool.Decides.{nat_tests}
 use Rattle.xs_class.specs.Marks.{attr_end}
-use Rattle.xs_piece.specs.Tables.{is_char, is_white, is_hex}
-use Rattle.xs_piece.specs.Piece.{Bit, plain, ref, spelt_bit, spelt_bits, all_of, ref_char, is_bit, are_bits}
-use Rattle.xs_piece.specs.Reads.{value}
+use Rattle.xs_xml.specs.Tables.{is_char, is_white, is_hex}
+use Rattle.xs_xml.specs.Piece.{Bit, plain, ref, spelt_bit, spelt_bits, all_of, ref_char, is_bit, are_bits}
+use Rattle.xs_xml.specs.Reads.{value}
 use Rattle.xs_xml_out.specs.declared.mark.Mark.TheVariants.{Char}
 use Rattle.xs_xml_out.specs.declared.mode.Mode.TheVariants.{Tag, Value}
 use Rattle.xs_xml_out.specs.Written.{mark_of, value_char, written}

@@ -1,7 +1,7 @@
 use Rattle.std.proofs.Common.{◌≡◌, List, [], ◌∷◌, ◌++◌, set, get_or, ◌∙◌, ap}
 use Rattle.std.proofs.lemmas.List.{get_or_default}
 use Rattle.xs_chart.specs.declared.item.Item.{Item}
-use Rattle.xs_items.specs.Charts.{set_at}
+use Rattle.xs_chart_laws.specs.Charts.{set_at}
 use Rattle.xs_earley.proofs.Additions.{set_puts, set_there, adds_one}
 use Rattle.xs_earley.proofs.adding.note.Goals as goal
 

@@ -3,7 +3,7 @@ use Rattle.std.specs.Prelude.{Contains}
 use Rattle.std.proofs.lemmas.List.{get_or_default}
 use Rattle.xs_chart.specs.declared.item.Item.{Item}
 use Rattle.xs_chart.specs.Charted.{items_of}
-use Rattle.xs_items.specs.Charts.{set_at}
+use Rattle.xs_chart_laws.specs.Charts.{set_at}
 use Rattle.xs_earley.specs.Adding.{Puts}
 use Rattle.xs_earley.proofs.Filling.{opened}
 use Rattle.xs_earley.proofs.chart.open_next.Goals as goal

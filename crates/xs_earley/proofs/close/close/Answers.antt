@@ -5,8 +5,8 @@ use Rattle.xs_chart.specs.declared.item.Item.{Item}
 use Rattle.xs_chart.specs.Charted.{Charted, items_of}
 use Rattle.xs_gram.specs.Grammar.{Grammar}
 use Rattle.xs_gram.specs.Places.{all_places}
-use Rattle.xs_items.specs.Charts.{set_at}
-use Rattle.xs_items.proofs.Words.{get_lt, get_some}
+use Rattle.xs_chart_laws.specs.Charts.{set_at}
+use Rattle.xs_chart_laws.proofs.Words.{get_lt, get_some}
 use Rattle.xs_earley.specs.Growing.{Grown, IsSettledAt, IsOpen}
 use Rattle.xs_earley.specs.Waiting.{Waited}
 use Rattle.xs_earley.proofs.Additions.{at_contains}

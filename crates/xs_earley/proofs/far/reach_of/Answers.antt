@@ -1,8 +1,8 @@
 use Rattle.std.proofs.Common.{◌≡◌, ◌<◌, ◌≤◌, ◌+◌, length, take, subst, arith}
 use Rattle.xs_gram.specs.declared.parts.GItem.TheVariants.{Fixed}
 use Rattle.xs_gram.specs.Grammar.{items, ItemAt}
-use Rattle.xs_items.proofs.Words.{get_lt, Reads-within}
-use Rattle.xs_items.proofs.Reaching.{reads_word, reads_most, reads_none}
+use Rattle.xs_chart_laws.proofs.Words.{get_lt, Reads-within}
+use Rattle.xs_chart_laws.proofs.Reaching.{reads_word, reads_most, reads_none}
 use Rattle.xs_earley.proofs.far.reach_of.Goals as goal
 
 pub overflow_add-result : goal.overflow_add-result

@@ -1,8 +1,8 @@
 use Rattle.std.proofs.Common.{◌<◌, ◌≤◌, sym, subst, arith, inl, inr}
 use Rattle.std.proofs.lemmas.Bool.{cases_eq}
-use Rattle.xs_items.specs.Charts.{HasPlace, set_at}
-use Rattle.xs_items.specs.Closed.{IsReached}
-use Rattle.xs_items.proofs.Reaching.{chart_start_reached, reached_is_viable}
+use Rattle.xs_chart_laws.specs.Charts.{HasPlace, set_at}
+use Rattle.xs_chart_laws.specs.Closed.{IsReached}
+use Rattle.xs_chart_laws.proofs.Reaching.{chart_start_reached, reached_is_viable}
 use Rattle.xs_earley.specs.Seen.{ReachesFrom}
 use Rattle.xs_earley.proofs.Reach.{set_reached, reached_most}
 use Rattle.xs_earley.proofs.far.viable.Goals as goal

@@ -1,6 +1,6 @@
 use Rattle.std.proofs.Common.{◌<◌, ◌≤◌, ℕ}
-use Rattle.xs_items.specs.Charts.{HasPlace, set_at}
-use Rattle.xs_items.specs.Closed.{IsReached}
+use Rattle.xs_chart_laws.specs.Charts.{HasPlace, set_at}
+use Rattle.xs_chart_laws.specs.Closed.{IsReached}
 use Rattle.xs_earley.specs.Seen.{ReachesFrom}
 use Rattle.xs_earley.proofs.far.viable.Given as goal
 

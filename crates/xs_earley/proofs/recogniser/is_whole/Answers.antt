@@ -3,7 +3,7 @@ use Rattle.std.proofs.lemmas.Bool.{false≢true}
 use Rattle.std.proofs.lemmas.List.Elements.{Contains-get_or}
 use Rattle.xs_gram.specs.Grammar.{items}
 use Rattle.xs_gram.specs.Places.{at_dot}
-use Rattle.xs_items.specs.Charts.{HasPlace}
+use Rattle.xs_chart_laws.specs.Charts.{HasPlace}
 use Rattle.xs_earley.proofs.Wholes.{whole_found, whole_missed}
 use Rattle.xs_earley.proofs.recogniser.is_whole.Goals as goal
 

@@ -1,7 +1,7 @@
 use Rattle.std.proofs.Common.{ℕ, ◌<◌, length, get_or}
 use Rattle.xs_gram.specs.Grammar.{items}
 use Rattle.xs_gram.specs.Places.{at_dot}
-use Rattle.xs_items.specs.Charts.{HasPlace}
+use Rattle.xs_chart_laws.specs.Charts.{HasPlace}
 use Rattle.xs_earley.proofs.recogniser.is_whole.Given as goal
 
 abbrev pub invariant-starts : goal.invariant-starts

@@ -1,7 +1,7 @@
 use Rattle.std.proofs.Common.{◌≤◌, ◌+◌, ◌∙◌, length, sym, subst, arith}
 use Rattle.std.specs.Prelude.{IfOk}
 use Rattle.std.proofs.lemmas.Result.{IfOk-weaker}
-use Rattle.xs_items.proofs.Words.{Reads-within}
+use Rattle.xs_chart_laws.proofs.Words.{Reads-within}
 use Rattle.xs_earley.specs.Adding.{Adds, Is, ReadsWord}
 use Rattle.xs_earley.proofs.Additions.{adds_same}
 use Rattle.xs_earley.proofs.settle.read_word.Goals as goal

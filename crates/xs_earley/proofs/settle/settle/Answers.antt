@@ -1,6 +1,6 @@
 use Rattle.xs_gram.specs.Places.{all_places}
-use Rattle.xs_items.proofs.Words.{get_lt}
-use Rattle.xs_items.specs.Charts.{set_at}
+use Rattle.xs_chart_laws.proofs.Words.{get_lt}
+use Rattle.xs_chart_laws.specs.Charts.{set_at}
 use Rattle.xs_earley.proofs.Additions.{at_contains}
 use Rattle.xs_earley.proofs.Settlings.{settled_by_place, stands_by_place}
 use Rattle.xs_earley.proofs.settle.settle.Goals as goal

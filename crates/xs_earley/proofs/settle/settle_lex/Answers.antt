@@ -1,6 +1,6 @@
 use Rattle.std.proofs.Common.{◌<◌, ℕ, suc, List, sym, subst}
 use Rattle.std.specs.Prelude.{Contains}
-use Rattle.xs_items.proofs.Numbers.{stands_at_place}
+use Rattle.xs_chart_laws.proofs.Numbers.{stands_at_place}
 use Rattle.xs_earley.specs.Adding.{Adds, GoesOn}
 use Rattle.xs_earley.proofs.Settlings.{inside_below, begin_grown, lex_settled, inside_grown, inside_settled}
 use Rattle.xs_earley.proofs.settle.settle_lex.Goals as goal

@@ -3,7 +3,7 @@ use Rattle.xs_regex.specs.declared.position.Position.{Position}
 use Rattle.xs_regex.specs.Automaton.{IsWellFormed}
 use Rattle.xs_gram.specs.declared.parts.GItem.TheVariants.{Fixed, Term, Non, Skip}
 use Rattle.xs_gram.specs.Grammar.{ItemAt}
-use Rattle.xs_items.proofs.Numbers.{stands_at_place}
+use Rattle.xs_chart_laws.proofs.Numbers.{stands_at_place}
 use Rattle.xs_earley.proofs.Settlings.{outside_end, outside_item, ends_grown, ends_settled, calls_grown, calls_settled, word_grown, word_settled}
 use Rattle.xs_earley.proofs.settle.settle_place.Goals as goal
 

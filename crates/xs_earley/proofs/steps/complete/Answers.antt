@@ -5,8 +5,8 @@ use Rattle.std.proofs.lemmas.Option.{get_or_from_slice_get}
 use Rattle.xs_gram.specs.Places.{all_places}
 use Rattle.xs_chart.specs.Charted.{items_of, waiting_of}
 use Rattle.xs_gram.specs.declared.parts.GItem.TheVariants.{Non}
-use Rattle.xs_items.proofs.Words.{get_lt}
-use Rattle.xs_items.specs.Charts.{IsNumberBefore}
+use Rattle.xs_chart_laws.proofs.Words.{get_lt}
+use Rattle.xs_chart_laws.specs.Charts.{IsNumberBefore}
 use Rattle.xs_earley.specs.Adding.{Adds, Follows}
 use Rattle.xs_earley.proofs.Additions.{Among, among_more}
 use Rattle.xs_earley.proofs.Completing.{waiting_now, waiter_there, waiter_before, waiter_was, before_at, follows_one, follows_all}

@@ -3,7 +3,7 @@ use Rattle.std.proofs.lemmas.Bool.{false≢true}
 use Rattle.std.proofs.lemmas.List.Elements.{Contains-get_or}
 use Rattle.xs_chart.specs.declared.item.Item.{Item}
 use Rattle.xs_gram.specs.Places.{at_inside}
-use Rattle.xs_items.proofs.Numbers.{inside_place}
+use Rattle.xs_chart_laws.proofs.Numbers.{inside_place}
 use Rattle.xs_earley.specs.Adding.{Adds, Is, Enters, EntersAt}
 use Rattle.xs_earley.proofs.Additions.{among_more, adds_same, adds_none}
 use Rattle.xs_earley.proofs.steps.enter.Goals as goal

@@ -2,7 +2,7 @@ use Rattle.std.proofs.Common.{◌∙◌, get_or, refl, subst, arith}
 use Rattle.std.proofs.lemmas.List.{take_all}
 use Rattle.std.proofs.lemmas.List.Elements.{Contains-get_or}
 use Rattle.xs_gram.specs.Places.{at_dot}
-use Rattle.xs_items.proofs.Numbers.{first_place}
+use Rattle.xs_chart_laws.proofs.Numbers.{first_place}
 use Rattle.xs_earley.specs.Adding.{Adds, Is, Begins}
 use Rattle.xs_earley.proofs.Additions.{among_none, among_more}
 use Rattle.xs_earley.proofs.steps.predict.Goals as goal

@@ -1,5 +1,5 @@
 use Rattle.std.proofs.Common.{◌+◌, take}
-use Rattle.xs_items.specs.Reading.{Reads}
+use Rattle.xs_chart_laws.specs.Reading.{Reads}
 use Rattle.xs_earley.proofs.words.common.Given as goal
 
 abbrev pub invariant-symbols : goal.invariant-symbols

@@ -1,7 +1,7 @@
 use Rattle.std.proofs.Common.{◌≡◌, ◌≤◌, ℕ, List, [], length, Bool, false, ◌==◌, Some, None, sym, ◌∙◌, ap, subst}
 use Rattle.std.specs.Option.{option_map}
-use Rattle.xs_piece.specs.Reads.{Reads}
-use Rattle.xs_piece.specs.Scan.{piece_at}
+use Rattle.xs_xml.specs.Reads.{Reads}
+use Rattle.xs_xml.specs.Scan.{piece_at}
 use Rattle.xs_form.specs.Fault.{IsAt}
 use Rattle.xs_form.specs.Seen.{found, shown_event, shown_found}
 use Rattle.xs_form.specs.State.{state_of, step, taken}

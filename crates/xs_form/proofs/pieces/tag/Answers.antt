@@ -1,6 +1,6 @@
 use Rattle.std.proofs.Common.{◌≡◌, Bool, map, Some, None, sym, ◌∙◌, ap, subst}
 use Rattle.std.specs.Option.{option_map}
-use Rattle.xs_piece.specs.Scan.{tag_at}
+use Rattle.xs_xml.specs.Scan.{tag_at}
 use Rattle.xs_form.specs.Attributes.{shown}
 use Rattle.xs_form.specs.Sorted.{shown_entries, sorted_entries}
 use Rattle.xs_form.specs.Seen.{found}

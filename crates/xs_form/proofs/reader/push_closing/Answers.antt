@@ -1,7 +1,7 @@
 use Rattle.std.proofs.Common.{◌≡◌, ◌++◌, ◌∷◌, [], List, ℕ, ◌∙◌, ap}
 use Rattle.std.specs.Str.{chars}
-use Rattle.xs_piece.specs.Reads.{closing}
-use Rattle.xs_piece.proofs.Reading.{name_chars}
+use Rattle.xs_xml.specs.Reads.{closing}
+use Rattle.xs_xml.proofs.Reading.{name_chars}
 use Rattle.xs_form.proofs.NameLaws.{name_back}
 use Rattle.xs_form.proofs.reader.push_closing.Goals as goal
 

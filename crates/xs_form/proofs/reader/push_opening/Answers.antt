@@ -1,8 +1,8 @@
 use Rattle.std.proofs.Common.{◌≡◌, ◌++◌, ◌∷◌, [], List, ℕ, ◌∙◌, ap, append_assoc}
 use Rattle.std.proofs.lemmas.Result.{on_ok_weaker}
 use Rattle.std.specs.Str.{chars}
-use Rattle.xs_piece.specs.Reads.{opening}
-use Rattle.xs_piece.proofs.Reading.{name_chars}
+use Rattle.xs_xml.specs.Reads.{opening}
+use Rattle.xs_xml.proofs.Reading.{name_chars}
 use Rattle.xs_form.specs.Sorted.{shown_entries, entry_symbols}
 use Rattle.xs_form.proofs.NameLaws.{name_back}
 use Rattle.xs_form.proofs.reader.push_opening.Goals as goal

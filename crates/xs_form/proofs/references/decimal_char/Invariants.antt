@@ -1,6 +1,6 @@
 use Rattle.std.proofs.Common.{◌≡◌, ◌≤◌, min, drop}
-use Rattle.xs_piece.specs.Tables.{is_digit}
-use Rattle.xs_piece.specs.Piece.{all_of, number}
+use Rattle.xs_xml.specs.Tables.{is_digit}
+use Rattle.xs_xml.specs.Piece.{all_of, number}
 use Rattle.xs_form.proofs.references.decimal_char.Given as goal
 
 abbrev pub invariant-digits : goal.invariant-digits

@@ -1,6 +1,6 @@
 use Rattle.std.proofs.Common.{sym, ◌∙◌, arith}
-use Rattle.xs_piece.specs.Tables.{is_hex}
-use Rattle.xs_piece.specs.Piece.{number, all_of}
+use Rattle.xs_xml.specs.Tables.{is_hex}
+use Rattle.xs_xml.specs.Piece.{number, all_of}
 use Rattle.xs_form.proofs.Numbers.{number_is, digit_step, digit_end}
 use Rattle.xs_form.proofs.references.hexadecimal_char.Goals as goal
 

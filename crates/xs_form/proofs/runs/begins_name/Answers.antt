@@ -1,6 +1,6 @@
 use Rattle.std.proofs.Common.{ap, ◌∙◌}
-use Rattle.xs_piece.specs.Tables.{is_name_start}
-use Rattle.xs_piece.proofs.TableLaws.{name_start_is}
+use Rattle.xs_xml.specs.Tables.{is_name_start}
+use Rattle.xs_xml.proofs.TableLaws.{name_start_is}
 use Rattle.xs_form.proofs.runs.begins_name.Goals as goal
 
 pub returns : goal.returns

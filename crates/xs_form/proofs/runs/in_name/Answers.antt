@@ -1,6 +1,6 @@
 use Rattle.std.proofs.Common.{ap, ◌∙◌}
-use Rattle.xs_piece.specs.Tables.{is_name_char}
-use Rattle.xs_piece.proofs.TableLaws.{name_char_is}
+use Rattle.xs_xml.specs.Tables.{is_name_char}
+use Rattle.xs_xml.proofs.TableLaws.{name_char_is}
 use Rattle.xs_form.proofs.runs.in_name.Goals as goal
 
 pub returns : goal.returns

@@ -1,5 +1,5 @@
 use Rattle.std.proofs.Common.{◌≡◌, drop}
-use Rattle.xs_piece.specs.Piece.{same}
+use Rattle.xs_xml.specs.Piece.{same}
 use Rattle.xs_form.proofs.runs.spells.Given as goal
 
 abbrev pub invariant-symbols : goal.invariant-symbols

@@ -1,6 +1,6 @@
 use Rattle.std.proofs.Common.{◌≡◌, length, ◌-◌, ◌≤◌, ◌++◌, take, drop}
-use Rattle.xs_piece.specs.Tables.{is_white}
-use Rattle.xs_piece.specs.Scan.{span}
+use Rattle.xs_xml.specs.Tables.{is_white}
+use Rattle.xs_xml.specs.Scan.{span}
 use Rattle.xs_form.proofs.runs.white_run.Given as goal
 
 abbrev pub invariant-run : goal.invariant-run

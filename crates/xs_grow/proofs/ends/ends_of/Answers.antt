@@ -2,7 +2,7 @@ use Rattle.std.proofs.Common.{◌∙◌, Some, sym, ap, subst}
 use Rattle.std.specs.Prelude.{length}
 use Rattle.xs_regex.specs.declared.position.Position.{Position}
 use Rattle.xs_regex.specs.Automaton.{IsWellFormed}
-use Rattle.xs_items.proofs.Spelling.{term_agrees, skip_agrees}
+use Rattle.xs_chart_laws.proofs.Spelling.{term_agrees, skip_agrees}
 use Rattle.xs_grow.specs.Lists.{HasAllOf}
 use Rattle.xs_grow.specs.Running.{AcceptsTo}
 use Rattle.xs_grow.proofs.Ending.{term_ends, skip_ends, non_ends}

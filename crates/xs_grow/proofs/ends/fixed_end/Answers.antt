@@ -1,5 +1,5 @@
 use Rattle.std.proofs.Common.{◌+◌, ◌∷◌, ◌++◌, [], length, refl, ap, ◌∙◌, inl, inr, arith}
-use Rattle.xs_items.proofs.Words.{Reads-within}
+use Rattle.xs_chart_laws.proofs.Words.{Reads-within}
 use Rattle.xs_grow.proofs.Ending.{fixed_ends}
 use Rattle.xs_grow.proofs.ends.fixed_end.Goals as goal
 use Rattle.xs_grow.proofs.ends.fixed_end.Goals.{then-reads+in_ok-push, else-reads}

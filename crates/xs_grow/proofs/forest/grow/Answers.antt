@@ -1,5 +1,5 @@
 use Rattle.std.proofs.Common.{ℕ, List, Bool, sym, subst}
-use Rattle.xs_unfold.specs.Order.{IsRanked, AreNullable}
+use Rattle.xs_forest_laws.specs.Order.{IsRanked, AreNullable}
 use Rattle.xs_grow.specs.Levels.{rank_by, flag_by}
 use Rattle.xs_grow.proofs.forest.grow.Goals as goal
 

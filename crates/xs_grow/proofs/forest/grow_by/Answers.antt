@@ -1,8 +1,8 @@
 use Rattle.std.proofs.Common.{◌≡◌, ℕ, List, length, subst, ap, ◌∙◌}
-use Rattle.xs_unfold.specs.declared.span.What.TheVariants.{Whole}
-use Rattle.xs_unfold.specs.Forest.{key_at}
+use Rattle.xs_forest_laws.specs.declared.span.What.TheVariants.{Whole}
+use Rattle.xs_forest_laws.specs.Forest.{key_at}
 use Rattle.std.specs.Prelude.{MatchOption}
-use Rattle.xs_unfold.specs.declared.span.SpanKey.{SpanKey}
+use Rattle.xs_forest_laws.specs.declared.span.SpanKey.{SpanKey}
 use Rattle.xs_grow.specs.Grouped.{IsGroup, HasNone}
 use Rattle.xs_grow.proofs.Planting.{made, earlier, root_there, forest_of, exact_of, found_some, found_group}
 use Rattle.xs_grow.proofs.forest.grow_by.Goals as goal

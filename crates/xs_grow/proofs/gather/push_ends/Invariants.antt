@@ -1,5 +1,5 @@
 use Rattle.std.proofs.Common.{◌≡◌, ◌++◌, map, take}
-use Rattle.xs_unfold.specs.Forest.{key_at}
+use Rattle.xs_forest_laws.specs.Forest.{key_at}
 use Rattle.xs_grow.proofs.gather.push_ends.Given as goal
 
 abbrev pub invariant-ends : goal.invariant-ends

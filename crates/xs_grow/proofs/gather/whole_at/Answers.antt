@@ -1,6 +1,6 @@
 use Rattle.std.proofs.Common.{◌∷◌, ◌++◌, [], ◌∙◌, ap, sym, inl, inr, refl, true≢false}
-use Rattle.xs_unfold.specs.declared.span.What.TheVariants.{Whole}
-use Rattle.xs_unfold.specs.Forest.{key_at}
+use Rattle.xs_forest_laws.specs.declared.span.What.TheVariants.{Whole}
+use Rattle.xs_forest_laws.specs.Forest.{key_at}
 use Rattle.xs_grow.proofs.Gathering.{whole_one}
 use Rattle.xs_grow.proofs.gather.whole_at.Goals as goal
 

@@ -1,5 +1,5 @@
 use Rattle.std.proofs.Common.{◌≡◌, ◌+◌, ℕ, suc, length, sym, subst, arith}
-use Rattle.xs_items.specs.Charts.{set_at}
+use Rattle.xs_chart_laws.specs.Charts.{set_at}
 use Rattle.xs_grow.specs.Lists.{Appends}
 use Rattle.xs_grow.specs.Marks.{WholeAt, InSet}
 use Rattle.xs_grow.proofs.ListLemmas.{get_contains}

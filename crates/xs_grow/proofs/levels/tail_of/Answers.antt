@@ -1,8 +1,8 @@
 use Rattle.std.proofs.Common.{◌≡◌, ◌+◌, ◌∙◌, suc, length, slice_get, refl, ap, sym, arith, inl, inr}
 use Rattle.std.proofs.lemmas.Option.{slice_get_read}
 use Rattle.xs_gram.specs.Grammar.{ItemAt}
-use Rattle.xs_unfold.specs.Order.{is_nullable_by}
-use Rattle.xs_unfold.proofs.Tails.{nullable_item}
+use Rattle.xs_forest_laws.specs.Order.{is_nullable_by}
+use Rattle.xs_forest_laws.proofs.Tails.{nullable_item}
 use Rattle.xs_grow.specs.Levels.{flag_by}
 use Rattle.xs_grow.proofs.Leveling.{no_tail, tail_more, tail_whole}
 use Rattle.xs_grow.proofs.levels.tail_of.Goals as goal

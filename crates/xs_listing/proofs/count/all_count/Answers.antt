@@ -1,7 +1,7 @@
 use Rattle.std.proofs.Common.{◌≡◌, ap, drop, [], arith}
 use Rattle.std.proofs.lemmas.List.{drop_all}
-use Rattle.xs_unfold.specs.Number.{alts_sum}
-use Rattle.xs_unfold.proofs.Counts.{alts_count-is}
+use Rattle.xs_forest_laws.specs.Number.{alts_sum}
+use Rattle.xs_forest_laws.proofs.Counts.{alts_count-is}
 use Rattle.xs_listing.proofs.count.all_count.Goals as goal
 
 pub returns : goal.returns

@@ -1,5 +1,5 @@
 use Rattle.std.proofs.Common.{length, arith}
-use Rattle.xs_unfold.proofs.Counts.{alts_count-is}
+use Rattle.xs_forest_laws.proofs.Counts.{alts_count-is}
 use Rattle.xs_listing.proofs.Sums.{next, chosen_here}
 use Rattle.xs_listing.proofs.count.choose.Goals as goal
 

@@ -1,6 +1,6 @@
 use Rattle.std.proofs.Common.{◌≡◌, ◌+◌, ◌<◌, length, drop, take}
 use Rattle.xs_forest.specs.Rows.{AreEarlier}
-use Rattle.xs_unfold.specs.Number.{alts_sum}
+use Rattle.xs_forest_laws.specs.Number.{alts_sum}
 use Rattle.xs_listing.proofs.count.choose.Given as goal
 
 abbrev pub invariant-alts : goal.invariant-alts

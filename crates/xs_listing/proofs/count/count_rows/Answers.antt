@@ -1,8 +1,8 @@
 use Rattle.std.proofs.Common.{◌≡◌, ◌++◌, ◌∷◌, [], ℕ, List, length, sym, ◌∙◌, ap, subst, arith, length-append}
 use Rattle.xs_forest.specs.declared.row.Alt.{Alt}
-use Rattle.xs_unfold.specs.Forest.{alts_of}
-use Rattle.xs_unfold.specs.Number.{alts_count, AreCounts}
-use Rattle.xs_unfold.proofs.Counts.{next_counted}
+use Rattle.xs_forest_laws.specs.Forest.{alts_of}
+use Rattle.xs_forest_laws.specs.Number.{alts_count, AreCounts}
+use Rattle.xs_forest_laws.proofs.Counts.{next_counted}
 use Rattle.xs_listing.proofs.count.count_rows.Goals as goal
 
 pub rows-preserved : goal.rows-preserved

@@ -1,7 +1,7 @@
 use Rattle.std.proofs.Common.{◌≡◌, ℕ, List, length}
 use Rattle.xs_gram.specs.Grammar.{Grammar}
-use Rattle.xs_unfold.specs.Forest.{IsRight}
-use Rattle.xs_unfold.specs.Number.{AreCounts}
+use Rattle.xs_forest_laws.specs.Forest.{IsRight}
+use Rattle.xs_forest_laws.specs.Number.{AreCounts}
 use Rattle.xs_listing.proofs.count.count_rows.Given as goal
 
 abbrev pub invariant-rows : goal.invariant-rows

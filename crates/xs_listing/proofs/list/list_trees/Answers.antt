@@ -1,7 +1,7 @@
 use Rattle.std.proofs.Common.{◌≡◌, ◌+◌, ℕ, suc, min, ltb, length, List, sym, ◌∙◌, ap, subst, arith, rules, Some}
 use Rattle.std.specs.Prelude.{slice_index_or}
 use Rattle.std.proofs.lemmas.List.{get_or_read}
-use Rattle.xs_unfold.specs.Number.{count_of, IsCounted}
+use Rattle.xs_forest_laws.specs.Number.{count_of, IsCounted}
 use Rattle.xs_listing.specs.Sizes.{AreSizes}
 use Rattle.xs_listing.proofs.Spelling.{listing_is}
 use Rattle.xs_listing.proofs.list.list_trees.Goals as goal

@@ -1,7 +1,7 @@
 use Rattle.std.proofs.Common.{◌≡◌, ◌++◌, ◌∷◌, [], ℕ, length, List, sym, ◌∙◌, ap, subst, arith}
 use Rattle.xs_forest.specs.declared.row.Alt.{Alt}
 use Rattle.xs_forest.specs.Rows.{AreEarlier}
-use Rattle.xs_unfold.specs.Number.{IsChosen}
+use Rattle.xs_forest_laws.specs.Number.{IsChosen}
 use Rattle.xs_listing.specs.declared.spelt.SpeltPart.{SpeltPart}
 use Rattle.xs_listing.specs.declared.spelt.SpeltPart.TheVariants.{Node}
 use Rattle.xs_listing.specs.Numbered.{IsSpeltBy}

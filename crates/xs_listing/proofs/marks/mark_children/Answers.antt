@@ -1,7 +1,7 @@
 use Rattle.std.proofs.Common.{◌≡◌, Some, sym, ◌∙◌, ap, length, arith}
 use Rattle.std.specs.Prelude.{slice_get, List}
 use Rattle.xs_forest.specs.declared.row.Alt.{Alt}
-use Rattle.xs_unfold.specs.Forest.{alts_of}
+use Rattle.xs_forest_laws.specs.Forest.{alts_of}
 use Rattle.xs_listing.proofs.Children.{alt_earlier, earlier_more}
 use Rattle.xs_listing.proofs.Marking.{length_mark}
 use Rattle.xs_listing.proofs.marks.mark_children.Goals as goal

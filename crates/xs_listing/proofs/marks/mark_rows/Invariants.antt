@@ -1,6 +1,6 @@
 use Rattle.std.proofs.Common.{◌≡◌, ◌≤◌, ℕ, List, length}
 use Rattle.xs_gram.specs.Grammar.{Grammar}
-use Rattle.xs_unfold.specs.Forest.{IsRight}
+use Rattle.xs_forest_laws.specs.Forest.{IsRight}
 use Rattle.xs_listing.specs.Marks.{IsReady, IsMarked, AreMarked}
 use Rattle.xs_listing.proofs.marks.mark_rows.Given as goal
 

@@ -1,5 +1,5 @@
 use Rattle.std.proofs.Common.{length, sym, ◌∙◌, ap, arith}
-use Rattle.xs_unfold.specs.declared.span.SpanKey.{SpanKey}
+use Rattle.xs_forest_laws.specs.declared.span.SpanKey.{SpanKey}
 use Rattle.xs_listing.specs.Marks.{IsMarked}
 use Rattle.xs_listing.specs.Making.{IsWhole}
 use Rattle.xs_listing.proofs.Marking.{marked_at}

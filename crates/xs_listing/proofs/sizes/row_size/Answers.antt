@@ -1,8 +1,8 @@
 use Rattle.std.proofs.Common.{◌≡◌, ◌+◌, Some, List, length, sym, ◌∙◌, ap, subst, arith}
 use Rattle.std.specs.Prelude.{slice_get}
 use Rattle.xs_forest.specs.declared.row.Alt.{Alt}
-use Rattle.xs_unfold.specs.declared.span.SpanKey.{SpanKey}
-use Rattle.xs_unfold.specs.Forest.{key_of, alts_of}
+use Rattle.xs_forest_laws.specs.declared.span.SpanKey.{SpanKey}
+use Rattle.xs_forest_laws.specs.Forest.{key_of, alts_of}
 use Rattle.xs_listing.proofs.Children.{earlier_more, left_earlier, right_earlier}
 use Rattle.xs_tree.specs.Counts.{capped}
 use Rattle.xs_listing.specs.Sizes.{size_at, last_count, IsSize}

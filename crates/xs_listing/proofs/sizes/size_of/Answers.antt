@@ -1,6 +1,6 @@
 use Rattle.std.proofs.Common.{◌≡◌, ◌+◌, ℕ, List, ◌++◌, All, sym, ◌∙◌, ap, subst, arith}
 use Rattle.xs_tree.specs.Counts.{capped}
-use Rattle.xs_unfold.specs.Forest.{read}
+use Rattle.xs_forest_laws.specs.Forest.{read}
 use Rattle.xs_listing.specs.declared.write.Task.{Task}
 use Rattle.xs_listing.specs.Sizes.{spelt_count}
 use Rattle.xs_listing.specs.Writing.{child_task, CanDo}

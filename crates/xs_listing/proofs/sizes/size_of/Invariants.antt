@@ -1,7 +1,7 @@
 use Rattle.std.proofs.Common.{All, ◌≡◌, ◌+◌, ◌≤◌, ◌-◌, ◌^◌, ℕ}
 use Rattle.xs_tree.specs.Counts.{capped}
-use Rattle.xs_unfold.specs.Forest.{Unfolding, read}
-use Rattle.xs_unfold.specs.Number.{At}
+use Rattle.xs_forest_laws.specs.Forest.{Unfolding, read}
+use Rattle.xs_forest_laws.specs.Number.{At}
 use Rattle.xs_listing.specs.Sizes.{spelt_count}
 use Rattle.xs_listing.specs.Writing.{CanDo}
 use Rattle.xs_listing.specs.Owed.{AllOwe}

@@ -1,7 +1,7 @@
 use Rattle.std.proofs.Common.{length, List, sym, ◌∙◌, ap, subst, arith}
 use Rattle.xs_forest.specs.declared.row.Alt.{Alt}
 use Rattle.xs_forest.specs.Rows.{AreEarlier}
-use Rattle.xs_unfold.specs.declared.span.SpanKey.{SpanKey}
+use Rattle.xs_forest_laws.specs.declared.span.SpanKey.{SpanKey}
 use Rattle.xs_listing.proofs.Children.{alts_earlier, rows_below}
 use Rattle.xs_listing.proofs.Walking.{dotted}
 use Rattle.xs_listing.proofs.write.visit.Goals as goal

@@ -1,5 +1,5 @@
 use Rattle.std.proofs.Common.{◌≡◌, ◌++◌, ◌∷◌, [], reverse, List, ℕ, sym, ◌∙◌, ap, subst, rules}
-use Rattle.xs_unfold.specs.Forest.{read}
+use Rattle.xs_forest_laws.specs.Forest.{read}
 use Rattle.xs_listing.specs.declared.spelt.SpeltPart.{SpeltPart}
 use Rattle.xs_listing.specs.declared.write.Task.{Task}
 use Rattle.xs_listing.specs.Writing.{child_task}

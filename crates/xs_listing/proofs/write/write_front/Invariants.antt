@@ -1,6 +1,6 @@
 use Rattle.std.proofs.Common.{reverse}
-use Rattle.xs_unfold.specs.Forest.{Unfolding, read}
-use Rattle.xs_unfold.specs.Number.{At}
+use Rattle.xs_forest_laws.specs.Forest.{Unfolding, read}
+use Rattle.xs_forest_laws.specs.Number.{At}
 use Rattle.xs_listing.proofs.Walking.{Goes}
 use Rattle.xs_listing.proofs.write.write_front.Given as goal
 

@@ -1,5 +1,5 @@
 use Rattle.std.proofs.Common.{ℕ, ◌≤◌, take}
-use Rattle.xs_ambiguity.specs.Weights.{BodyWeighs}
+use Rattle.xs_check_laws.specs.Weights.{BodyWeighs}
 use Rattle.xs_loose.specs.Groups.{IsNonOf}
 use Rattle.xs_loose.proofs.weighing.body_weight.Given as goal
 

@@ -1,5 +1,5 @@
 use Rattle.std.proofs.Common.{arith}
-use Rattle.xs_ambiguity.specs.Weights.{no_part}
+use Rattle.xs_check_laws.specs.Weights.{no_part}
 use Rattle.xs_loose.proofs.Summing.{part_more}
 use Rattle.xs_loose.proofs.weighing.items_weight.Goals as goal
 

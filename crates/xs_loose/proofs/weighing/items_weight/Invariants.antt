@@ -1,5 +1,5 @@
 use Rattle.std.proofs.Common.{take}
-use Rattle.xs_ambiguity.specs.Weights.{PartWeighs}
+use Rattle.xs_check_laws.specs.Weights.{PartWeighs}
 use Rattle.xs_loose.proofs.weighing.items_weight.Given as goal
 
 abbrev pub invariant-items : goal.invariant-items

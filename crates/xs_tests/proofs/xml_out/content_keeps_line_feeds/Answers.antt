@@ -1,5 +1,5 @@
 use Rattle.std.proofs.Common.{[], ◌∷◌, refl, arith}
-use Rattle.xs_piece.specs.Tables.{is_char}
+use Rattle.xs_xml.specs.Tables.{is_char}
 use Rattle.xs_xml_out.specs.Balanced.{nothing, text}
 use Rattle.xs_tests.proofs.xml_out.content_keeps_line_feeds.Goals as goal
 

@@ -1,5 +1,0 @@
-use Rattle.xs_ambiguity.proofs.Unique.{accepted_is_unique_lem}
-use Rattle.xs_ambiguity.proofs.laws.accepted_is_unique.Goals as goal
-
-pub returns : goal.returns
-returns c = accepted_is_unique_lem

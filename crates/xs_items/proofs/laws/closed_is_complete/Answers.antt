@@ -1,6 +1,0 @@
-use Rattle.xs_items.specs.Charts.{HasPlace}
-use Rattle.xs_items.proofs.Completeness.{complete}
-use Rattle.xs_items.proofs.laws.closed_is_complete.Goals as goal
-
-pub returns : goal.returns
-returns c = λ g w sets built closed. complete g w (HasPlace g sets) closed built

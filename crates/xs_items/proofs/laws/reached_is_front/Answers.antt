@@ -1,5 +1,0 @@
-use Rattle.xs_items.proofs.Charts.{chart_front}
-use Rattle.xs_items.proofs.laws.reached_is_front.Goals as goal
-
-pub returns : goal.returns
-returns c = chart_front

@@ -1,5 +1,0 @@
-use Rattle.xs_items.proofs.Charts.{chart_language}
-use Rattle.xs_items.proofs.laws.whole_is_in_language.Goals as goal
-
-pub returns : goal.returns
-returns c = chart_language

@@ -1,6 +1,0 @@
-use Rattle.xs_items.specs.Charts.{HasPlace}
-use Rattle.xs_unfold.proofs.Whole.{exact_chart, grown_is_exact as whole_is_exact}
-use Rattle.xs_unfold.proofs.laws.grown_is_exact.Goals as goal
-
-pub returns : goal.returns
-returns c = λ g w sets f place ks chart ordered made all grown in_lang. whole_is_exact g w (HasPlace g sets) f place ks (exact_chart g w sets chart) ordered made all grown in_lang

@@ -1,5 +1,0 @@
-use Rattle.xs_unfold.proofs.Read.{unfolding_fits as fits}
-use Rattle.xs_unfold.proofs.laws.unfolding_fits.Goals as goal
-
-pub returns : goal.returns
-returns c = λ g w f right r x i j u row un. fits g w f right u r x i j row un

@@ -1,0 +1,121 @@
+-- The words of tokens that are names are Names of XML.
+use Rattle.std.proofs.Common.{◌≡◌, ◌⊎◌, ℕ, List, [], ◌∷◌, ◌++◌, Bool, true, false, ◌==◌, not, refl, sym, subst, inl, inr, if◌then◌else◌}
+use Rattle.std.specs.List.{list_all}
+use Rattle.xs_class.specs.Classes.{Has}
+use Rattle.xs_class.specs.Tables.{name_start_table, name_more_table}
+use Rattle.xs_class.proofs.Adding.{has_append}
+use Rattle.xs_lex.specs.declared.kind.Kind.{Kind}
+use Rattle.xs_lex.specs.declared.kind.Kind.TheVariants.{Plain, Qual, End, Bad}
+use Rattle.xs_lex.specs.Classes as L
+use Rattle.xs_lex.specs.Classes.{is_plain}
+use Rattle.xs_lex.specs.Spelling.{IsQual, Spells}
+use Rattle.xs_lex.specs.Reading.{Lexeme, Extent, AreTokens, AreTokensFrom}
+use Rattle.xs_lex.proofs.Truth.{in_is}
+use Rattle.xs_gram.specs.Building.{EachOf}
+use Rattle.xs_sheet.specs.declared.piece.Piece.{Piece}
+use Rattle.xs_sheet.specs.Pieces.{IsPiece, IsTextOf, ArePieces}
+use Rattle.xs_xml.specs.Tables as P
+use Rattle.xs_xml.specs.Piece.{is_name, all_of}
+use Rattle.xs_writing_laws.proofs.Characters.{and_true, both_true, or_left, or_right, has_tested}
+
+start_has : (c : ℕ) → L.is_plain_start c ≡ true → Has name_start_table c
+unfolding L.is_plain_start L.is_name_start
+start_has c is = in_is c name_start_table (and_true (L.in_ranges c name_start_table) (not (c == 58)) is).0
+
+plain_has : (c : ℕ) → L.is_plain_char c ≡ true → Has (name_start_table ++ name_more_table) c
+unfolding L.is_plain_char L.is_name_char
+plain_has c is = in_is c (name_start_table ++ name_more_table) (and_true (L.in_ranges c (name_start_table ++ name_more_table)) (not (c == 58)) is).0
+
+start_tested : (c : ℕ) → Has name_start_table c → P.is_name_start c ≡ true
+unfolding P.is_name_start
+start_tested c has = has_tested c name_start_table has
+
+char_tested : (c : ℕ) → Has name_start_table c ⊎ Has name_more_table c → P.is_name_char c ≡ true
+unfolding P.is_name_char
+char_tested c (inl has) = or_left (P.is_name_start c) (P.in_ranges c name_more_table) (start_tested c has)
+char_tested c (inr has) = or_right (P.is_name_start c) (P.in_ranges c name_more_table) (has_tested c name_more_table has)
+
+start_is : (c : ℕ) → L.is_plain_start c ≡ true → P.is_name_start c ≡ true
+start_is c is = start_tested c (start_has c is)
+
+start_is_char : (c : ℕ) → L.is_plain_start c ≡ true → P.is_name_char c ≡ true
+start_is_char c is = char_tested c (inl (start_has c is))
+
+char_is : (c : ℕ) → L.is_plain_char c ≡ true → P.is_name_char c ≡ true
+char_is c is = char_tested c ((has_append name_start_table name_more_table c).0 (plain_has c is))
+
+colon_is : P.is_name_char 58 ≡ true
+unfolding P.is_name_char P.is_name_start
+colon_is = refl
+
+plain_chars : (cs : List ℕ) → list_all L.is_plain_char cs ≡ true → all_of P.is_name_char cs ≡ true
+plain_chars [] is = refl
+plain_chars (c ∷ cs) is =
+    let both = and_true (L.is_plain_char c) (list_all L.is_plain_char cs) is in both_true (P.is_name_char c) (all_of P.is_name_char cs) (char_is c both.0) (plain_chars cs both.1)
+
+all_append : (xs ys : List ℕ) → all_of P.is_name_char xs ≡ true → all_of P.is_name_char ys ≡ true → all_of P.is_name_char (xs ++ ys) ≡ true
+all_append [] ys p q = q
+all_append (c ∷ xs) ys p q =
+    let both = and_true (P.is_name_char c) (all_of P.is_name_char xs) p in both_true (P.is_name_char c) (all_of P.is_name_char (xs ++ ys)) both.0 (all_append xs ys both.1 q)
+
+plain_all : (w : List ℕ) → is_plain w ≡ true → all_of P.is_name_char w ≡ true
+plain_all [] is = refl
+plain_all (c ∷ cs) is =
+    let both = and_true (L.is_plain_start c) (list_all L.is_plain_char cs) is in both_true (P.is_name_char c) (all_of P.is_name_char cs) (start_is_char c both.0) (plain_chars cs both.1)
+
+with_more : (w more : List ℕ) → is_plain w ≡ true → all_of P.is_name_char more ≡ true → is_name (w ++ more) ≡ true
+with_more [] more is rest = absurd (cc)
+with_more (c ∷ cs) more is rest =
+    let both = and_true (L.is_plain_start c) (list_all L.is_plain_char cs) is in both_true (P.is_name_start c) (all_of P.is_name_char (cs ++ more)) (start_is c both.0) (all_append cs more (plain_chars cs both.1) rest)
+
+plain_name : (w : List ℕ) → is_plain w ≡ true → is_name w ≡ true
+plain_name [] is = absurd (cc)
+plain_name (c ∷ cs) is =
+    let both = and_true (L.is_plain_start c) (list_all L.is_plain_char cs) is in both_true (P.is_name_start c) (all_of P.is_name_char cs) (start_is c both.0) (plain_chars cs both.1)
+
+qual_name : (w : List ℕ) → IsQual w → is_name w ≡ true
+qual_name w q = subst (λ v. is_name v ≡ true) (sym q.is) (with_more q.prefix (58 ∷ q.local) q.plain_prefix (both_true (P.is_name_char 58) (all_of P.is_name_char q.local) colon_is (plain_all q.local q.plain_local)))
+
+abbrev IsNameKind : Kind → Type 0
+IsNameKind k = (k ≡ Plain) ⊎ (k ≡ Qual)
+
+name_word : (k : Kind) (w : List ℕ) → IsNameKind k → Spells k w → is_name w ≡ true
+name_word k w (inl e) spells = plain_name w (subst (λ (x : Kind). Spells x w) e spells)
+name_word k w (inr e) spells = qual_name w (subst (λ (x : Kind). Spells x w) e spells)
+
+-- a token that is a name is a Name
+abbrev IsNameToken : Lexeme → Type 0
+IsNameToken t = IsNameKind t.kind → is_name t.word ≡ true
+
+last_is_none : (k : Kind) (b : Bool) → k ≡ (if b then End else Bad) → IsNameKind k → ⊥
+last_is_none k true e (inl plain) = cc
+last_is_none k true e (inr qual) = cc
+last_is_none k false e (inl plain) = cc
+last_is_none k false e (inr qual) = cc
+
+tokens_named : (extent : Extent) (text : List ℕ) (ts : List Lexeme) → AreTokensFrom extent text ts → EachOf IsNameToken ts
+tokens_named extent text [] are = absurd are
+tokens_named extent text (t ∷ ts) (rest, apart, stands, inl last) = (λ kind. absurd (last_is_none t.kind _ last.1.kind kind), subst (EachOf IsNameToken) (sym last.0) tt)
+tokens_named extent text (t ∷ ts) (rest, apart, stands, inr more) = (λ kind. name_word t.kind t.word kind more.1.begins.spells, tokens_named extent more.0 ts more.2)
+
+-- a piece that is a name is a Name
+abbrev pub IsNamePiece : Piece → Type 0
+IsNamePiece p = (p.kind ≡ Plain) ⊎ (p.kind ≡ Qual) → is_name p.text ≡ true
+
+same_text : (k : Kind) (word text : List ℕ) → IsNameKind k → IsTextOf k word text → text ≡ word
+same_text k word text (inl e) is = subst (λ (x : Kind). IsTextOf x word text) e is
+same_text k word text (inr e) is = subst (λ (x : Kind). IsTextOf x word text) e is
+
+piece_named : (t : Lexeme) (p : Piece) → IsPiece t p → IsNameToken t → IsNamePiece p
+piece_named t p is named kind =
+    let same : IsNameKind t.kind = subst IsNameKind is.kind kind in
+    subst (λ w. is_name w ≡ true) (sym (same_text t.kind t.word p.text same is.text)) (named same)
+
+pieces_named : (ts : List Lexeme) (ps : List Piece) → ArePieces ts ps → EachOf IsNameToken ts → EachOf IsNamePiece ps
+pieces_named [] [] are each = tt
+pieces_named (t ∷ ts) (p ∷ ps) are each = (piece_named t p are.0 each.0, pieces_named ts ps are.1 each.1)
+pieces_named ts ps are each = absurd are
+
+-- the pieces of a file that are names are Names
+pub file_named : (bytes : List ℕ) (ts : List Lexeme) (ps : List Piece) → AreTokens bytes ts → ArePieces ts ps → EachOf IsNamePiece ps
+file_named bytes ts ps tokens pieces = pieces_named ts ps pieces (tokens_named _ _ ts tokens)
