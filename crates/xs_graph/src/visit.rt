@@ -8,7 +8,7 @@ use xs_class::{Listed, Memory};
 
 /// What a search knows of a node.
 #[derive(Clone, Copy)]
-pub enum Mark {
+pub enum Visit {
     /// It was not reached yet.
     Unseen,
     /// It was reached and has no component yet; its place among those that wait.
@@ -17,33 +17,33 @@ pub enum Mark {
     Closed(u32),
 }
 
-impl Mark {
+impl Visit {
     /// The component's number, or 0 where there is none.
     pub fn number(self) -> u32
         ensures { result ≡ number_of self }
     {
         match self {
-            Mark::Unseen => 0,
-            Mark::Open(_) => 0,
-            Mark::Closed(number) => number,
+            Visit::Unseen => 0,
+            Visit::Open(_) => 0,
+            Visit::Closed(number) => number,
         }
     }
 }
 
 /// Gives the nodes a component's number.
-pub fn close_all(marks: &mut [Mark], nodes: &[u32], number: u32)
-    requires { All (λ a. a < length marks.old) nodes.now }
-    ensures { marks.new ≡ close_all number marks.old nodes.now }
+pub fn close_all(visits: &mut [Visit], nodes: &[u32], number: u32)
+    requires { All (λ a. a < length visits.old) nodes.now }
+    ensures { visits.new ≡ close_all number visits.old nodes.now }
 {
     'nodes: for node in nodes {
-        marks[*node as usize] = Mark::Closed(number);
+        visits[*node as usize] = Visit::Closed(number);
     }
 }
 
 /// The components' numbers, in the order of the nodes.
-pub fn numbers_of(alloc: Global, marks: &[Mark]) -> Result<Numbers, Memory>
-    ensures { IfOk result (λ numbers. numbers ≡ map number_of marks.now) }
+pub fn numbers_of(alloc: Global, visits: &[Visit]) -> Result<Numbers, Memory>
+    ensures { IfOk result (λ numbers. numbers ≡ map number_of visits.now) }
 {
-    let numbers = marks.iter().map(|mark| mark.number()).collect(alloc)?;
+    let numbers = visits.iter().map(|visit| visit.number()).collect(alloc)?;
     Ok(Listed::from_vec(numbers))
 }
