@@ -3,7 +3,6 @@ use std::alloc::Global;
 use std::fmt::Display;
 use std::process::Abort;
 use xs_class::{Memory, NameFault};
-use xs_earley::SeeFault;
 use xs_form::XmlFault;
 use xs_io::{Failed, ReadStop, WriteFault};
 use xs_light::CheckFault;
@@ -27,13 +26,11 @@ fn expect<T: Display>(rt: &impl Abort, alloc: Global, fault: &T, words: &str) {
 #[test]
 fn faults_say_what_they_are(rt: HostRuntime) {
     let alloc = rt.alloc();
-    let foreign = SeeFault::Foreign { viable: 3 };
     let unwritten = WriteFault { written: 3 };
     let heavy_rule = CheckFault::Heavy { weight: 8_193 };
     let heavy_part = LooseFault::Heavy { weight: 8_193 };
     let looping = OrderFault::Loop { non: 3 };
     expect(&rt, alloc, &NameFault::NoSuchClass, "no such class");
-    expect(&rt, alloc, &foreign, "foreign after 3 symbols");
     expect(
         &rt,
         alloc,
@@ -60,7 +57,6 @@ fn want_of_memory_is_said_alike(rt: HostRuntime) {
     let alloc = rt.alloc();
     expect(&rt, alloc, &Memory, "out of memory");
     expect(&rt, alloc, &NameFault::Memory, "out of memory");
-    expect(&rt, alloc, &SeeFault::Memory, "out of memory");
     expect(&rt, alloc, &XmlFault::Memory, "out of memory");
     expect(&rt, alloc, &ReadStop::Memory, "out of memory");
     expect(&rt, alloc, &CheckFault::Memory, "out of memory");
