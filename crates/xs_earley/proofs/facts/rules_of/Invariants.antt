@@ -1,5 +1,5 @@
 use Rattle.xs_earley.specs.Asked.{AreRules}
-use Rattle.xs_earley.proofs.calls.rules_of.Given as goal
+use Rattle.xs_earley.proofs.facts.rules_of.Given as goal
 
 abbrev pub invariant-rules : goal.invariant-rules
 invariant-rules l = AreRules l.g l.rule l.rows.items

@@ -1,4 +1,4 @@
--- What a chart says of labels, mark by mark: of a nonterminal the rules that are finished over its stretch,
+-- What a chart says of labels, candidate by candidate: of a nonterminal the rules that are finished over its stretch,
 -- of first items the places where the last one begins. Throughout `has j c i` says that set j of the chart
 -- has the item of place c and origin i.
 use Rattle.std.specs.Prelude.{◌≡◌, ◌⊎◌, ℕ, suc, ◌<◌, ◌≤◌, List, [], ◌∷◌, length, None, Some, slice_get, slice_range, Contains}
@@ -20,14 +20,14 @@ use Rattle.xs_grow.specs.Lists.{AreOnce, HasAllOf}
 use Rattle.xs_grow.specs.Grouped.{Grouped, IsGroup, HasGroups}
 
 -- a label, and a number that belongs to it
-abbrev pub Mark : Type 0
-Mark = SpanKey × ℕ
+abbrev pub Candidate : Type 0
+Candidate = SpanKey × ℕ
 
 abbrev pub call_at : ℕ → ℕ → Call
 call_at n i = record { non = n; start = i }
 
 -- a nonterminal over a stretch, and a rule of it that is finished there
-pub record WholeMark (g : Grammar) (has : ℕ → Place → ℕ → Type 0) (c : Mark) : Type 0 where
+pub record WholeCandidate (g : Grammar) (has : ℕ → Place → ℕ → Type 0) (c : Candidate) : Type 0 where
   pub non : ℕ
   pub rule : ℕ
   pub start : ℕ
@@ -37,7 +37,7 @@ pub record WholeMark (g : Grammar) (has : ℕ → Place → ℕ → Type 0) (c :
   pub ended : has end (at_dot rule (length (items g rule))) start
 
 -- first items of a rule over a stretch, and a place where the last of them may begin
-pub record FrontMark (g : Grammar) (w : List ℕ) (has : ℕ → Place → ℕ → Type 0) (c : Mark) : Type 0 where
+pub record FrontCandidate (g : Grammar) (w : List ℕ) (has : ℕ → Place → ℕ → Type 0) (c : Candidate) : Type 0 where
   pub rule : ℕ
   pub dot : ℕ
   pub start : ℕ
@@ -50,11 +50,11 @@ pub record FrontMark (g : Grammar) (w : List ℕ) (has : ℕ → Place → ℕ �
   pub last : ItemOver g w has item split end
 
 -- one of the two
-abbrev pub IsMark : Grammar → List ℕ → (ℕ → Place → ℕ → Type 0) → Mark → Type 0
-IsMark g w has c = WholeMark g has c ⊎ FrontMark g w has c
+abbrev pub IsCandidate : Grammar → List ℕ → (ℕ → Place → ℕ → Type 0) → Candidate → Type 0
+IsCandidate g w has c = WholeCandidate g has c ⊎ FrontCandidate g w has c
 
--- the mark of an item of set j that stands at the end of a rule
-pub record WholeAt (g : Grammar) (j : ℕ) (it : Item) (c : Mark) : Type 0 where
+-- the candidate of an item of set j that stands at the end of a rule
+pub record WholeAt (g : Grammar) (j : ℕ) (it : Item) (c : Candidate) : Type 0 where
   pub place : Place
   pub numbered : IsNumber g it.state place
   pub plain : place.inside ≡ None
@@ -68,8 +68,8 @@ EndsAt g w calls (Term t s) m j = (m ≤ j) × (j ≤ length w) × IsTermWord g 
 EndsAt g w calls (Skip k) m j = (m ≤ j) × (j ≤ length w) × IsSkipWord g k (slice_range w m j)
 EndsAt g w calls (Non n s) m j = (r : ℕ) × (ends : List ℕ) × IsGroup calls r (call_at n m) ends × Contains ends j
 
--- a mark of an item of set j that stands before an item of a rule
-pub record FrontFrom (g : Grammar) (w : List ℕ) (calls : Grouped Call) (j : ℕ) (it : Item) (c : Mark) : Type 0 where
+-- a candidate of an item of set j that stands before an item of a rule
+pub record FrontFrom (g : Grammar) (w : List ℕ) (calls : Grouped Call) (j : ℕ) (it : Item) (c : Candidate) : Type 0 where
   pub place : Place
   pub numbered : IsNumber g it.state place
   pub plain : place.inside ≡ None
@@ -79,12 +79,12 @@ pub record FrontFrom (g : Grammar) (w : List ℕ) (calls : Grouped Call) (j : �
   pub last : EndsAt g w calls item j end
   pub is : c ≡ (key_at (Front place.rule (suc place.dot)) it.origin end, j)
 
--- it is a mark of one of the first t items of set j
-abbrev pub InSet : (ℕ → Item → Mark → Type 0) → List (List Item) → ℕ → ℕ → Mark → Type 0
+-- it is a candidate of one of the first t items of set j
+abbrev pub InSet : (ℕ → Item → Candidate → Type 0) → List (List Item) → ℕ → ℕ → Candidate → Type 0
 InSet P sets j t c = (k : ℕ) × (k < t) × (it : Item) × (slice_get (set_at sets j) k ≡ Some it) × P j it c
 
--- it is a mark of an item of one of the first n sets
-abbrev pub InSets : (ℕ → Item → Mark → Type 0) → List (List Item) → ℕ → Mark → Type 0
+-- it is a candidate of an item of one of the first n sets
+abbrev pub InSets : (ℕ → Item → Candidate → Type 0) → List (List Item) → ℕ → Candidate → Type 0
 InSets P sets n c = (j : ℕ) × (j < n) × InSet P sets j (length (set_at sets j)) c
 
 -- a call of a nonterminal, and a place where it ends, by one of the first t groups
@@ -93,7 +93,7 @@ CallIn groups t c = (r : ℕ) × (r < t) × (n : ℕ) × (i : ℕ) × (j : ℕ) 
 
 -- the calls have the places where they end, by all of the groups
 abbrev pub AreCallsOf : Grouped SpanKey → Grouped Call → Type 0
-AreCallsOf groups calls = (marks : List (Call × ℕ)) × HasAllOf (CallIn groups (length groups)) marks × HasGroups marks calls
+AreCallsOf groups calls = (candidates : List (Call × ℕ)) × HasAllOf (CallIn groups (length groups)) candidates × HasGroups candidates calls
 
 -- no call ends twice at one place
 abbrev pub EndOnce : Grouped Call → Type 0

@@ -2,7 +2,7 @@ use Rattle.std.proofs.Common.{◌≡◌, ◌<◌, ◌∙◌, ◌+◌, ℕ, List,
 use Rattle.std.proofs.lemmas.List.{get_or_default}
 use Rattle.xs_earley.specs.Asked.{AreRules}
 use Rattle.xs_earley.proofs.Tables.{rules_more}
-use Rattle.xs_earley.proofs.calls.rules_of.Goals as goal
+use Rattle.xs_earley.proofs.facts.rules_of.Goals as goal
 
 pub rules-preserved : goal.rules-preserved
 rules-preserved c =

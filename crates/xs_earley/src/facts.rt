@@ -2,7 +2,7 @@ ghost use Rattle.std.specs.Prelude.{◌<◌, ◌↔◌, ℕ, length, IfOk, IsTru
 ghost use Rattle.xs_gram.specs.Grammar.{IsRuleOf};
 ghost use Rattle.xs_gram.specs.Sound.{IsBuilt, IsNullable};
 ghost use Rattle.xs_order.specs.Order.{AreNullable};
-ghost use Rattle.xs_earley.specs.Asked.{AreRules, AreCalls};
+ghost use Rattle.xs_earley.specs.Asked.{AreRules, AreCallFacts};
 
 use crate::lists::empty_lists;
 use std::alloc::Global;
@@ -13,7 +13,7 @@ use xs_regex::Numbers;
 
 /// Of each nonterminal, whether it derives the empty word, and its rules.
 #[derive(Drop)]
-pub struct Calls {
+pub struct CallFacts {
     nulls: Flags,
     rules: Vec<Numbers>,
 }
@@ -31,21 +31,21 @@ fn rules_of(alloc: Global, g: &Gram) -> Result<Vec<Numbers>, Memory>
     Ok(rows)
 }
 
-impl Calls {
-    /// The table of a grammar, by the flags of the nonterminals that derive the empty word; linear in
-    /// its nonterminals and rules.
-    pub fn of(alloc: Global, g: &Gram, nulls: Flags) -> Result<Calls, Memory>
+impl CallFacts {
+    /// The table of a grammar, by the flags of the nonterminals that derive the empty word; linear
+    /// in its nonterminals and rules.
+    pub fn of(alloc: Global, g: &Gram, nulls: Flags) -> Result<CallFacts, Memory>
         requires built { IsBuilt g.now }
         requires nulls { AreNullable g.now nulls }
-        ensures { IfOk result (AreCalls g.now) }
+        ensures { IfOk result (AreCallFacts g.now) }
     {
         let rules = rules_of(alloc, g)?;
-        Ok(Calls { nulls, rules })
+        Ok(CallFacts { nulls, rules })
     }
 
     /// Whether the nonterminal derives the empty word.
     pub fn is_nullable(&self, g: &Gram, non: u32) -> bool
-        requires calls { AreCalls g.now self.now }
+        requires facts { AreCallFacts g.now self.now }
         requires non { non < g.now.nons }
         ensures { IsTrue result ↔ IsNullable g.now non }
     {
@@ -54,7 +54,7 @@ impl Calls {
 
     /// The rules of the nonterminal.
     pub fn rules(&self, g: &Gram, non: u32) -> &[u32]
-        requires calls { AreCalls g.now self.now }
+        requires facts { AreCallFacts g.now self.now }
         requires non { non < g.now.nons }
         ensures { (q : ℕ) → Contains result.now q ↔ IsRuleOf g.now non q }
     {
