@@ -12,7 +12,7 @@ AreCharacters w = all_scalars w ≡ true
 abbrev pub byte_order_mark : ℕ
 byte_order_mark = 65279
 
--- the characters behind one byte order mark at the very front, where there is one
+-- the characters after one byte order mark at the very front, where there is one
 abbrev pub without_mark : List ℕ → List ℕ
 without_mark [] = []
 without_mark (c ∷ w) = if c == byte_order_mark then w else c ∷ w
@@ -34,7 +34,7 @@ text_of bytes form = in_form form (without_mark (chars bytes))
 abbrev pub text_bytes : List ℕ → List ℕ
 text_bytes w = encode_utf8_all (with_mark w)
 
--- the bytes are no UTF-8, and so many are the longest prefix that is
+-- the bytes are no UTF-8, and that many are the longest prefix that is
 pub record IsUtf8BadAt (bytes : List ℕ) (at : ℕ) : Type 0 where
   pub bad : IsUtf8 bytes → ⊥
   pub within : at ≤ length bytes

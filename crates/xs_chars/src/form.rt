@@ -16,9 +16,10 @@ pub enum Form {
     Nfd,
 }
 
-// How many symbols a form may have, so that each place has a number of 32 bits.
+/// How many symbols a form may have, so that each place has a number of 32 bits.
 const MOST_SYMBOLS: usize = 4_294_967_294;
 
+/// The text in the form.
 fn text_in_form(alloc: Global, text: String, form: Form) -> Result<String, Memory>
     ensures { IfOk result (λ changed. string_bytes changed ≡ encode_utf8_all (in_form form (chars (string_bytes text)))) }
 {
@@ -29,6 +30,7 @@ fn text_in_form(alloc: Global, text: String, form: Form) -> Result<String, Memor
     }
 }
 
+/// The characters in the form.
 pub fn formed(alloc: Global, symbols: &[Sym], form: Form) -> Result<Word, Memory>
     requires { AreCharacters symbols.now }
     ensures form { IfOk result (λ w. w ≡ in_form form symbols.now) }

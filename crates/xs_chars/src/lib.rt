@@ -1,7 +1,7 @@
 //! Text documents: the characters of bytes, the bytes of characters, and normal forms.
 //!
-//! A text is read as UTF-8, without one byte order mark at the very front, in a form that its reader
-//! names; it is written as UTF-8 so that reading gives the same characters.
+//! A text is read as UTF-8, without one byte order mark at the very front, in a form that its
+//! reader names; it is written as UTF-8 so that reading gives the same characters.
 #![tactic(auto)]
 
 mod form;

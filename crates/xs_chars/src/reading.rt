@@ -44,8 +44,8 @@ pub fn decode(alloc: Global, bytes: &[u8]) -> Result<Word, DecodeFault>
     }
 }
 
-// The symbols behind one byte order mark at the very front, where there is one.
-fn behind_mark(symbols: &[Sym]) -> &[Sym]
+/// The symbols after one byte order mark at the very front, where there is one.
+fn after_mark(symbols: &[Sym]) -> &[Sym]
     ensures mark { result.now ≡ without_mark symbols.now }
     ensures characters { AreCharacters symbols.now → AreCharacters result.now }
 {
@@ -68,5 +68,5 @@ pub fn read_text(alloc: Global, bytes: &[u8], form: Form) -> Result<Word, Decode
     ensures short { IfOk result (λ w. length w < 4294967295) }
 {
     let word = decode(alloc, bytes)?;
-    Ok(formed(alloc, behind_mark(word.as_slice()), form)?)
+    Ok(formed(alloc, after_mark(word.as_slice()), form)?)
 }

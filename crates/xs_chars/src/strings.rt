@@ -7,12 +7,14 @@ ghost use Rattle.xs_chars.specs.Text.{AreCharacters};
 use std::alloc::Global;
 use xs_class::{Memory, Sym, Word};
 
+/// The characters of a text.
 fn chars_of(alloc: Global, text: &str) -> Result<Vec<char>, Memory>
     ensures { IfOk result (λ cs. cs.items ≡ chars text.now) }
 {
     Ok(text.chars().collect(alloc)?)
 }
 
+/// The word of the characters.
 fn symbols_of(alloc: Global, characters: &[char]) -> Result<Word, Memory>
     ensures { IfOk result (λ w. w ≡ characters.now) }
 {
@@ -23,7 +25,7 @@ fn symbols_of(alloc: Global, characters: &[char]) -> Result<Word, Memory>
     Ok(Word::from_vec(symbols))
 }
 
-// The word of a text's characters.
+/// The word of a text's characters.
 pub fn word_of(alloc: Global, text: &str) -> Result<Word, Memory>
     ensures word { IfOk result (λ w. w ≡ chars text.now) }
     ensures characters { IfOk result AreCharacters }
@@ -33,6 +35,7 @@ pub fn word_of(alloc: Global, text: &str) -> Result<Word, Memory>
     Ok(word)
 }
 
+/// The character that the symbol is.
 fn character(symbol: Sym) -> char
     requires { IsScalar symbol }
     ensures { result ≡ symbol }
@@ -40,7 +43,7 @@ fn character(symbol: Sym) -> char
     char::from_u32(symbol.number()).unwrap()
 }
 
-// Appends the characters to a text.
+/// Appends the characters to a text.
 pub fn push_all(text: &mut String, symbols: &[Sym]) -> Result<(), Memory>
     requires { AreCharacters symbols.now }
     ensures { IfOk result (λ _. string_bytes text.new ≡ string_bytes text.old ++ encode_utf8_all symbols.now) }
@@ -51,7 +54,7 @@ pub fn push_all(text: &mut String, symbols: &[Sym]) -> Result<(), Memory>
     Ok(())
 }
 
-// The text of a word's characters.
+/// The text of a word's characters.
 pub fn string_of(alloc: Global, symbols: &[Sym]) -> Result<String, Memory>
     requires { AreCharacters symbols.now }
     ensures { IfOk result (λ text. string_bytes text ≡ encode_utf8_all symbols.now) }

@@ -15,7 +15,7 @@ pub fn encode(alloc: Global, word: &Word) -> Result<Bytes, Memory>
     Ok(Bytes::from_vec(string_of(alloc, word.as_slice())?.into_bytes()))
 }
 
-// Whether the symbols begin with a byte order mark.
+/// Whether the symbols begin with a byte order mark.
 fn begins_with_mark(symbols: &[Sym]) -> bool
     ensures { result ≡ has_mark symbols.now }
 {

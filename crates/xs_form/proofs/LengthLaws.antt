@@ -7,7 +7,7 @@ use Rattle.std.specs.Ordering.{match_ordering}
 use Rattle.xs_class.specs.Marks.{attr_end}
 use Rattle.xs_xml.specs.Tables.{is_white}
 use Rattle.xs_xml.specs.Piece.{Piece, Attribute, Bit, plain, ref, declaration, character, line_end, reference, start_tag, empty_tag, end_tag, comment, instruction, cdata, spelt, spelt_bits, spelt_attribute, spelt_attributes}
-use Rattle.xs_xml.specs.Legal.{Spot, ahead, inside, behind, passed, spelt_all}
+use Rattle.xs_xml.specs.Legal.{Spot, ahead, inside, beyond, passed, spelt_all}
 use Rattle.xs_xml.specs.Reads.{Reads, lines, value, closing, name_order, placed, in_order, attribute_symbols, char_symbols, symbols, all_symbols}
 use Rattle.xs_xml.proofs.Cutting.{after_long}
 use Rattle.xs_xml.proofs.Greatest.{all_long, piece_long}
@@ -94,7 +94,7 @@ in_order_same names (b ∷ bs) = placed_same names b (in_order bs) ∙ attribute
 char_short : (s : Spot) (w : List ℕ) → length (char_symbols s w) ≤ length w
 char_short ahead w = omega arith
 char_short (inside m ms) w = omega arith
-char_short behind w = omega arith
+char_short beyond w = omega arith
 
 piece_short : (names : List (List ℕ)) (s : Spot) (p : Piece) (rest : List ℕ) → length (symbols names s p) + length rest ≤ length (spelt p rest)
 piece_short names s (declaration bs gap) rest = let a = piece_long (declaration bs gap) rest in omega (arith, a)

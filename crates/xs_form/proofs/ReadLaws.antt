@@ -4,7 +4,7 @@ use Rattle.std.specs.declared.option.Option.{Option}
 use Rattle.std.specs.Option.{option_map}
 use Rattle.std.proofs.lemmas.Bool.Decides.{nat_tests}
 use Rattle.xs_xml.specs.Piece.{Piece, is_piece}
-use Rattle.xs_xml.specs.Legal.{Spot, ahead, inside, behind, is_first, passed, then_passed, is_that, no_section_end, IsLegal}
+use Rattle.xs_xml.specs.Legal.{Spot, ahead, inside, beyond, is_first, passed, then_passed, is_that, no_section_end, IsLegal}
 use Rattle.xs_xml.specs.Reads.{symbols, all_symbols, Reads}
 use Rattle.xs_xml.specs.Scan.{piece_at}
 use Rattle.xs_xml.proofs.Reading.{and_true, or_false, not_true, both_true}
@@ -21,7 +21,7 @@ use Rattle.xs_form.specs.State.{State, initial, moved, step, ended_word, is_name
 use Rattle.xs_form.proofs.RuleLaws.{is_declaration, is_nil, first_more, run_after, run_of, section_more, run_more, nil_more, symbols_more}
 use Rattle.xs_form.proofs.StepLaws.{is_refused, next, step_is, piece_named}
 
--- a legal list was read up to rest, and the state is that behind it
+-- a legal list was read up to rest, and the state is that after it
 pub record IsSoFar (names : List (List ℕ)) (doc rest : List ℕ) (st : State) : Type 0 where
   pub pieces : List Piece
   pub legal : IsLegal doc pieces rest st.spot
@@ -146,7 +146,7 @@ piece_refused names doc rest more st s so is refused = stuck_unless doc so.piece
         none_moved t (symbols names st.spot q) (run_after st.run q) (n ∙ rw (l.1, l.0) refl)
 
 -- what is said where nothing goes on the list
-pub broken_of : (names : List (List ℕ)) (doc rest : List ℕ) (st : State) (e : XmlFault) (so : IsSoFar names doc rest st) → IsStuck doc so.pieces → (rest ≡ [] → st.spot ≡ behind → ⊥) → IsAt e (length doc) (length rest) → IsFault names doc e
+pub broken_of : (names : List (List ℕ)) (doc rest : List ℕ) (st : State) (e : XmlFault) (so : IsSoFar names doc rest st) → IsStuck doc so.pieces → (rest ≡ [] → st.spot ≡ beyond → ⊥) → IsAt e (length doc) (length rest) → IsFault names doc e
 broken_of names doc rest st (NotXml at) so stuck unread is = (
   λ w r. let whole = reads_whole names doc w so.pieces rest st.spot so.legal stuck r in unread whole.0 whole.1,
   stuck_is_broken doc so.pieces rest st.spot at so.legal stuck is,
@@ -157,7 +157,7 @@ pub rest_shorter : (names : List (List ℕ)) (doc rest : List ℕ) (st : State) 
 rest_shorter names doc rest st so = subst (λ (x : List ℕ). length rest ≤ length x) (sym so.legal.spells) (all_long so.pieces rest)
 
 -- a document that was read to its end
-pub all_read : (names : List (List ℕ)) (doc : List ℕ) (st : State) → IsSoFar names doc [] st → st.spot ≡ behind → Reads names doc st.word
+pub all_read : (names : List (List ℕ)) (doc : List ℕ) (st : State) → IsSoFar names doc [] st → st.spot ≡ beyond → Reads names doc st.word
 all_read names doc st so is = record {
   pieces = so.pieces;
   legal = subst (λ (x : Spot). IsLegal doc so.pieces [] x) is so.legal;
@@ -178,13 +178,13 @@ empty_list (x ∷ xs) is = absurd (grind (arith, nat_tests, is))
 pub no_empty_list : (xs : List ℕ) → (length xs == 0) ≡ false → xs ≡ [] → ⊥
 no_empty_list xs is none = let h : (0 == 0) ≡ false = subst (λ (x : List ℕ). (length x == 0) ≡ false) none is in cc
 
-pub finished_at : (s : Spot) (v w : List ℕ) → Some w ≡ ended_word s v → (s ≡ behind) × (v ≡ w)
+pub finished_at : (s : Spot) (v w : List ℕ) → Some w ≡ ended_word s v → (s ≡ beyond) × (v ≡ w)
 finished_at ahead v w is = absurd (cc)
 finished_at (inside m ms) v w is = absurd (cc)
-finished_at behind v w is = (refl, sym (word_inj w v is))
+finished_at beyond v w is = (refl, sym (word_inj w v is))
   where
     word_inj : (x y : List ℕ) → Some x ≡ Some y → x ≡ y
     word_inj x y e = cc
 
-pub not_finished : (s : Spot) (v : List ℕ) → None ≡ ended_word s v → s ≡ behind → ⊥
-not_finished s v is at = let h : None ≡ ended_word behind v = subst (λ (x : Spot). None ≡ ended_word x v) at is in cc
+pub not_finished : (s : Spot) (v : List ℕ) → None ≡ ended_word s v → s ≡ beyond → ⊥
+not_finished s v is at = let h : None ≡ ended_word beyond v = subst (λ (x : Spot). None ≡ ended_word x v) at is in cc

@@ -4,7 +4,7 @@ use Rattle.std.specs.declared.option.Option.{Option}
 use Rattle.std.proofs.lemmas.Bool.Decides.{nat_tests}
 use Rattle.xs_xml.specs.Tables.{is_white}
 use Rattle.xs_xml.specs.Piece.{Piece, Attribute, declaration, character, line_end, reference, start_tag, empty_tag, end_tag, comment, instruction, cdata, is_piece, is_name, are_attributes, distinct, all_of}
-use Rattle.xs_xml.specs.Legal.{Spot, ahead, inside, behind, passed, is_that}
+use Rattle.xs_xml.specs.Legal.{Spot, ahead, inside, beyond, passed, is_that}
 use Rattle.xs_xml.specs.Reads.{symbols, in_order, attribute_symbols}
 use Rattle.xs_xml.proofs.Reading.{and_true}
 use Rattle.xs_form.specs.Attributes.{held}
@@ -25,15 +25,15 @@ return_step : (names : List (List ℕ)) (st : State) (s : Spot) → st.spot ≡ 
 unfolding is_white
 return_step names st ahead is = rw is refl
 return_step names st (inside m ms) is = rw is refl
-return_step names st behind is = rw is refl
+return_step names st beyond is = rw is refl
 
 declared_step : (names : List (List ℕ)) (st : State) (as_ : List Attribute) (gap : List ℕ) (s : Spot) (f : Bool) → st.spot ≡ s → st.fresh ≡ f → step names st (seen (declaration as_ gap)) ≡ next names st (declaration as_ gap)
 declared_step names st as_ gap ahead true is e = rw (is, e) refl
 declared_step names st as_ gap ahead false is e = rw (is, e) refl
 declared_step names st as_ gap (inside m ms) true is e = rw (is, e) refl
 declared_step names st as_ gap (inside m ms) false is e = rw (is, e) refl
-declared_step names st as_ gap behind true is e = rw (is, e) refl
-declared_step names st as_ gap behind false is e = rw (is, e) refl
+declared_step names st as_ gap beyond true is e = rw (is, e) refl
+declared_step names st as_ gap beyond false is e = rw (is, e) refl
 
 swap : (x y : ℕ) → (x == y) ≡ (y == x)
 swap x y = grind (arith, nat_tests)
@@ -41,7 +41,7 @@ swap x y = grind (arith, nat_tests)
 letter_step : (names : List (List ℕ)) (st : State) (c : ℕ) (s : Spot) → (c == 13) ≡ false → st.spot ≡ s → step names st (letter c) ≡ next names st (character c)
 letter_step names st c ahead other is = rw (is, swap c 62, swap c 93) refl
 letter_step names st c (inside m ms) other is = rw (is, other, swap c 62, swap c 93) refl
-letter_step names st c behind other is = rw (is, swap c 62, swap c 93) refl
+letter_step names st c beyond other is = rw (is, swap c 62, swap c 93) refl
 
 character_step : (names : List (List ℕ)) (st : State) (c : ℕ) (t : Bool) → (c == 13) ≡ t → step names st (letter (if t then 10 else c)) ≡ next names st (character c)
 character_step names st c true e = return_step names st st.spot refl ∙ ap (λ (x : ℕ). next names st (character x)) (sym (eqb-true c 13 e))
@@ -51,42 +51,42 @@ line_step : (names : List (List ℕ)) (st : State) (s : Spot) → st.spot ≡ s 
 unfolding is_white
 line_step names st ahead is = rw is refl
 line_step names st (inside m ms) is = rw is refl
-line_step names st behind is = rw is refl
+line_step names st beyond is = rw is refl
 
 reference_step : (names : List (List ℕ)) (st : State) (body : List ℕ) (s : Spot) → st.spot ≡ s → step names st (seen (reference body)) ≡ next names st (reference body)
 reference_step names st body ahead is = rw is refl
 reference_step names st body (inside m ms) is = rw is refl
-reference_step names st body behind is = rw is refl
+reference_step names st body beyond is = rw is refl
 
 start_step : (names : List (List ℕ)) (st : State) (n : List ℕ) (as_ : List Attribute) (gap : List ℕ) (s : Spot) → st.spot ≡ s → entry_symbols names (map keyed (held_in_order (map held as_))) ≡ attribute_symbols names (in_order as_) → step names st (seen (start_tag n as_ gap)) ≡ next names st (start_tag n as_ gap)
 start_step names st n as_ gap ahead is e = rw (is, e) refl
 start_step names st n as_ gap (inside m ms) is e = rw (is, e) refl
-start_step names st n as_ gap behind is e = rw is refl
+start_step names st n as_ gap beyond is e = rw is refl
 
 empty_step : (names : List (List ℕ)) (st : State) (n : List ℕ) (as_ : List Attribute) (gap : List ℕ) (s : Spot) → st.spot ≡ s → entry_symbols names (map keyed (held_in_order (map held as_))) ≡ attribute_symbols names (in_order as_) → step names st (seen (empty_tag n as_ gap)) ≡ next names st (empty_tag n as_ gap)
 empty_step names st n as_ gap ahead is e = rw (is, e) refl
 empty_step names st n as_ gap (inside m ms) is e = rw (is, e) refl
-empty_step names st n as_ gap behind is e = rw is refl
+empty_step names st n as_ gap beyond is e = rw is refl
 
 end_step : (names : List (List ℕ)) (st : State) (n gap : List ℕ) (s : Spot) → st.spot ≡ s → step names st (seen (end_tag n gap)) ≡ next names st (end_tag n gap)
 end_step names st n gap ahead is = rw is refl
 end_step names st n gap (inside m ms) is = rw is refl
-end_step names st n gap behind is = rw is refl
+end_step names st n gap beyond is = rw is refl
 
 comment_step : (names : List (List ℕ)) (st : State) (body : List ℕ) (s : Spot) → st.spot ≡ s → step names st (seen (comment body)) ≡ next names st (comment body)
 comment_step names st body ahead is = rw is refl
 comment_step names st body (inside m ms) is = rw is refl
-comment_step names st body behind is = rw is refl
+comment_step names st body beyond is = rw is refl
 
 instruction_step : (names : List (List ℕ)) (st : State) (n body : List ℕ) (s : Spot) → st.spot ≡ s → step names st (seen (instruction n body)) ≡ next names st (instruction n body)
 instruction_step names st n body ahead is = rw is refl
 instruction_step names st n body (inside m ms) is = rw is refl
-instruction_step names st n body behind is = rw is refl
+instruction_step names st n body beyond is = rw is refl
 
 section_step : (names : List (List ℕ)) (st : State) (body : List ℕ) (s : Spot) → st.spot ≡ s → step names st (seen (cdata body)) ≡ next names st (cdata body)
 section_step names st body ahead is = rw is refl
 section_step names st body (inside m ms) is = rw is refl
-section_step names st body behind is = rw is refl
+section_step names st body beyond is = rw is refl
 
 tag_are : (n : List ℕ) (as_ : List Attribute) (gap : List ℕ) → is_piece (start_tag n as_ gap) ≡ true → (is_name n ≡ true) × (are_attributes as_ ≡ true)
 tag_are n as_ gap is =

@@ -10,7 +10,7 @@ use Rattle.xs_xml.specs.Scan.{bit_at, bits_at}
 use Rattle.xs_xml.proofs.Cutting.{some_inj}
 use Rattle.xs_xml.proofs.Tags.{bit_long}
 use Rattle.xs_xml.proofs.Tagsound.{bit_is}
-use Rattle.xs_form.specs.declared.values.Part.{Part}
+use Rattle.xs_form.specs.declared.values.ValuePart.{ValuePart}
 use Rattle.xs_form.specs.Values.{part_of, kept_part, part_symbols, is_return, is_written, all_written}
 
 -- what was read, and what is left, are the whole value
@@ -62,10 +62,10 @@ so_far_fuel q text word cr written rest more b (suc n) room v w r is =
     and_assoc true y z = refl
     and_assoc false y z = refl
 
-part_pair : (r s : Part × List ℕ) → Some r ≡ Some s → (r.0 ≡ s.0) × (r.1 ≡ s.1)
-part_pair r s is = let e : r ≡ s = some_inj r s is in (ap (λ (x : Part × List ℕ). x.0) e, ap (λ (x : Part × List ℕ). x.1) e)
+part_pair : (r s : ValuePart × List ℕ) → Some r ≡ Some s → (r.0 ≡ s.0) × (r.1 ≡ s.1)
+part_pair r s is = let e : r ≡ s = some_inj r s is in (ap (λ (x : ValuePart × List ℕ). x.0) e, ap (λ (x : ValuePart × List ℕ). x.1) e)
 
-pub so_far_more : (q : ℕ) (text word : List ℕ) (cr written : Bool) (rest more : List ℕ) (p : Part) → IsSoFar q text word cr written rest → Some (p, more) ≡ option_map kept_part (bit_at q rest) → IsSoFar q text (word ++ part_symbols cr p) (is_return p) (written && is_written p) more
+pub so_far_more : (q : ℕ) (text word : List ℕ) (cr written : Bool) (rest more : List ℕ) (p : ValuePart) → IsSoFar q text word cr written rest → Some (p, more) ≡ option_map kept_part (bit_at q rest) → IsSoFar q text (word ++ part_symbols cr p) (is_return p) (written && is_written p) more
 so_far_more q text word cr written rest more p so is = by (bit_at q rest) refl is
   where
     by : (o : Option (Bit × List ℕ)) → bit_at q rest ≡ o → Some (p, more) ≡ option_map kept_part o → IsSoFar q text (word ++ part_symbols cr p) (is_return p) (written && is_written p) more
@@ -73,9 +73,9 @@ so_far_more q text word cr written rest more p so is = by (bit_at q rest) refl i
     by (Some r) at h =
         let e = part_pair (p, more) (part_of r.0, r.1) h in
         let next = so_far_fuel q text word cr written rest r.1 r.0 so.fuel so.room so.value_is so.written_is so.rest_is at in
-        subst (λ (x : List ℕ). IsSoFar q text (word ++ part_symbols cr p) (is_return p) (written && is_written p) x) (sym e.1) (subst (λ (x : Part). IsSoFar q text (word ++ part_symbols cr x) (is_return x) (written && is_written x) r.1) (sym e.0) next)
+        subst (λ (x : List ℕ). IsSoFar q text (word ++ part_symbols cr p) (is_return p) (written && is_written p) x) (sym e.1) (subst (λ (x : ValuePart). IsSoFar q text (word ++ part_symbols cr x) (is_return x) (written && is_written x) r.1) (sym e.0) next)
 
-pub part_shorter : (q : ℕ) (rest more : List ℕ) (p : Part) → Some (p, more) ≡ option_map kept_part (bit_at q rest) → length more < length rest
+pub part_shorter : (q : ℕ) (rest more : List ℕ) (p : ValuePart) → Some (p, more) ≡ option_map kept_part (bit_at q rest) → length more < length rest
 part_shorter q rest more p is = by (bit_at q rest) refl is
   where
     by : (o : Option (Bit × List ℕ)) → bit_at q rest ≡ o → Some (p, more) ≡ option_map kept_part o → length more < length rest

@@ -29,7 +29,7 @@ kept_attribute r = (held r.0, r.1)
 abbrev pub shown_attribute : Attribute × Bor (List ℕ) → Held × List ℕ
 shown_attribute r = (shown r.0, r.1.now)
 
--- the name, the quote and what stands behind the quote
+-- the name, the quote and what stands after the quote
 abbrev pub Head : Type 0
 Head = List ℕ × ℕ × List ℕ
 

@@ -54,12 +54,12 @@ shown_event (Section body) = section body.now
 abbrev pub shown_found : Event × Bor (List ℕ) → Seen × List ℕ
 shown_found r = (shown_event r.0, r.1.now)
 
--- what stands behind a line end whose CR stands before
+-- what stands after a line end whose CR stands before
 abbrev pub past_feed : List ℕ → List ℕ
 past_feed [] = []
 past_feed (c ∷ cs) = if c == 10 then cs else c ∷ cs
 
--- the end of a tag: whether it is that of an empty tag, and what stands behind it
+-- the end of a tag: whether it is that of an empty tag, and what stands after it
 abbrev pub empty_end : List ℕ → Bool × List ℕ
 empty_end rest = (true, rest)
 
@@ -91,6 +91,6 @@ held_settings (v ∷ a ∷ []) = held_version v && (held_encoding a || held_stan
 held_settings (v ∷ e ∷ s ∷ []) = held_version v && (held_encoding e && held_standalone s)
 held_settings as_ = false
 
--- an instruction of this name, behind the name
+-- an instruction of this name, after the name
 abbrev pub instruction_body : List ℕ → List ℕ → Found
 instruction_body n text = cut (codes "?>") text >>= as_instruction n

@@ -4,7 +4,7 @@ use Rattle.std.specs.declared.option.Option.{Option}
 use Rattle.std.specs.Borrow.{Bor}
 use Rattle.xs_xml.specs.Tables.{is_white}
 use Rattle.xs_xml.specs.Piece.{is_name, same}
-use Rattle.xs_xml.specs.Legal.{Spot, ahead, inside, behind, opened, closed}
+use Rattle.xs_xml.specs.Legal.{Spot, ahead, inside, beyond, opened, closed}
 use Rattle.xs_xml.specs.Reads.{opening, closing, lines}
 use Rattle.xs_form.specs.Sorted.{entry_symbols}
 use Rattle.xs_form.specs.Seen.{Seen, declared, letter, given, begins, stands, ends, aside, section}
@@ -23,7 +23,7 @@ initial = record { spot = ahead; word = []; fresh = true; run = 0 }
 
 -- the names of the open elements, the innermost first
 abbrev pub spot_from : Bool → List (List ℕ) → Spot
-spot_from true [] = behind
+spot_from true [] = beyond
 spot_from false [] = ahead
 spot_from ended (m ∷ ms) = inside m ms
 
@@ -48,9 +48,9 @@ abbrev pub lettered : Spot → ℕ → Option Spot
 lettered s c = if is_inside s || is_white c then Some s else None
 
 abbrev pub emptied : Spot → Option Spot
-emptied ahead = Some behind
+emptied ahead = Some beyond
 emptied (inside m ms) = Some (inside m ms)
-emptied behind = None
+emptied beyond = None
 
 abbrev pub left : Spot → List ℕ → Option Spot
 left (inside m ms) n = if same n m then Some (closed ms) else None
@@ -84,7 +84,7 @@ taken false st = None
 
 -- the symbols of a document that ends here
 abbrev pub ended_word : Spot → List ℕ → Option (List ℕ)
-ended_word behind w = Some w
+ended_word beyond w = Some w
 ended_word s w = None
 
 abbrev pub finished : State → Option (List ℕ)

@@ -5,32 +5,32 @@ use Rattle.xs_xml.specs.Tables.{is_white}
 use Rattle.xs_xml.specs.Piece.{Bit, plain, ref, ref_char}
 use Rattle.xs_xml.specs.Reads.{value}
 use Rattle.xs_xml.specs.Scan.{bits_at}
-use Rattle.xs_form.specs.declared.values.Part.{Part}
-use Rattle.xs_form.specs.declared.values.Part.TheVariants.{Written, Given}
+use Rattle.xs_form.specs.declared.values.ValuePart.{ValuePart}
+use Rattle.xs_form.specs.declared.values.ValuePart.TheVariants.{Written, Given}
 use Rattle.xs_form.specs.declared.values.Value.{Value}
 
-abbrev pub part_of : Bit → Part
+abbrev pub part_of : Bit → ValuePart
 part_of (plain c) = Written c
 part_of (ref body) = Given (unwrap_or (ref_char body) 0)
 
 -- the part that stands in the text, and the rest; the same as the code has it
-abbrev pub kept_part : Bit × List ℕ → Part × List ℕ
+abbrev pub kept_part : Bit × List ℕ → ValuePart × List ℕ
 kept_part r = (part_of r.0, r.1)
 
-abbrev pub shown_part : Part × Bor (List ℕ) → Part × List ℕ
+abbrev pub shown_part : ValuePart × Bor (List ℕ) → ValuePart × List ℕ
 shown_part r = (r.0, r.1.now)
 
 -- a CR as it is written
-abbrev pub is_return : Part → Bool
+abbrev pub is_return : ValuePart → Bool
 is_return (Written c) = c == 13
 is_return (Given c) = false
 
-abbrev pub is_written : Part → Bool
+abbrev pub is_written : ValuePart → Bool
 is_written (Written c) = true
 is_written (Given c) = false
 
 -- the symbols of a part; cr says that a CR as it is written stands before
-abbrev pub part_symbols : Bool → Part → List ℕ
+abbrev pub part_symbols : Bool → ValuePart → List ℕ
 part_symbols cr (Written c) = if c == 10 && cr then [] else ((if is_white c then 32 else c) ∷ [])
 part_symbols cr (Given c) = c ∷ []
 

@@ -3,7 +3,7 @@ ghost use Rattle.std.specs.Option.{option_map, option_copied};
 ghost use Rattle.xs_xml.specs.Scan.{after, attr_at};
 ghost use Rattle.xs_form.specs.Attributes.{head_at, shown_head, kept_attribute, shown_attribute, AreAttributes};
 
-use crate::runs::{behind, is_name_text, name_run, quotes, white_run};
+use crate::runs::{after_prefix, is_name_text, name_run, quotes, white_run};
 use crate::values::{Value, value_at};
 use std::alloc::Global;
 use xs_class::{Memory, Sym};
@@ -23,13 +23,14 @@ struct Head<'a> {
     rest: &'a [Sym],
 }
 
+/// The head of the attribute that the text begins with.
 fn head_of(text: &[Sym]) -> Option<Head<'_>>
     ensures { option_map shown_head result ≡ head_at text.now }
 {
     let (gap, more) = white_run(text);
     let (name, more) = name_run(more);
     let (_, more) = white_run(more);
-    let more = behind(more, b"=")?;
+    let more = after_prefix(more, b"=")?;
     let (_, more) = white_run(more);
     match more {
         [] => None,
@@ -46,7 +47,8 @@ fn head_of(text: &[Sym]) -> Option<Head<'_>>
     }
 }
 
-fn behind_quote(quote: Sym, text: &[Sym]) -> Option<&[Sym]>
+/// What stands after the quote, where the text begins with it.
+fn after_quote(quote: Sym, text: &[Sym]) -> Option<&[Sym]>
     ensures { option_copied result ≡ after (quote ∷ []) text.now }
 {
     match text {
@@ -69,7 +71,7 @@ pub fn attribute_at(alloc: Global, text: &[Sym]) -> Result<Option<(Attribute<'_>
         return Ok(None);
     };
     let (value, more) = value_at(alloc, head.quote, head.rest)?;
-    match behind_quote(head.quote, more) {
+    match after_quote(head.quote, more) {
         None => Ok(None),
         Some(rest) => Ok(Some((
             Attribute {

@@ -5,8 +5,6 @@ ghost use Rattle.xs_form.specs.Fault.{IsFault, IsAt};
 use crate::pieces::event_at;
 use crate::reader::Reader;
 use std::alloc::Global;
-use std::error::Error;
-use std::fmt;
 use xs_class::{Memory, Names, Sym, Word};
 
 /// Why a document has no symbols.
@@ -19,17 +17,6 @@ pub enum XmlFault {
     Memory,
 }
 
-impl fmt::Display for XmlFault {
-    fn fmt<W: fmt::Write>(&self, f: &mut fmt::Formatter<W>) -> fmt::Result {
-        match self {
-            XmlFault::NotXml { at } => write!(f, "character {at}: not XML"),
-            XmlFault::Memory => f.write_str("out of memory"),
-        }
-    }
-}
-
-impl Error for XmlFault {}
-
 impl From<Memory> for XmlFault {
     ghost use Rattle.std.specs.Prelude.{◌≡◌};
     ghost use Rattle.xs_form.specs.declared.document.XmlFault.TheVariants.{Memory};
@@ -41,7 +28,7 @@ impl From<Memory> for XmlFault {
     }
 }
 
-// The fault at the text's beginning, in a document that ends with the text.
+/// The fault at the text's beginning, in a document that ends with the text.
 fn broken(doc: &[Sym], text: &[Sym]) -> XmlFault
     requires { length text.now ≤ length doc.now }
     ensures { IsAt result (length doc.now) (length text.now) }

@@ -9,6 +9,7 @@ ghost use Rattle.xs_xml.specs.Reads.{opening, attribute, closing};
 use std::alloc::Global;
 use xs_class::{Memory, Names, STRANGE, Sym};
 
+/// Appends a character.
 fn push_scalar(text: &mut String, symbol: Sym) -> Result<(), Memory>
     requires { IsScalar symbol }
     ensures { OnOk result (string_bytes text.new ≡ string_bytes text.old ++ encode_utf8 symbol) }

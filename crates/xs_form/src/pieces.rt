@@ -8,8 +8,8 @@ ghost use Rattle.xs_form.specs.Seen.{found, shown_found, shown_end, tag_ends, pa
 use crate::attributes::{Attribute, attributes_at};
 use crate::references::reference_char;
 use crate::runs::{
-    all_allowed, allowed, behind, cut_at, is, is_name_text, name_run, spells, spells_in_any_case,
-    white, white_run,
+    after_prefix, all_allowed, allowed, cut_at, is, is_name_text, name_run, spells,
+    spells_in_any_case, white, white_run,
 };
 use crate::sorted::by_name;
 use std::alloc::Global;
@@ -41,7 +41,7 @@ pub struct TagEnd<'a> {
     pub rest: &'a [Sym],
 }
 
-// What stands behind the line end whose CR stands before the text.
+/// What stands after the line end whose CR stands before the text.
 fn past_feed(text: &[Sym]) -> &[Sym]
     ensures { result.now ≡ past_feed text.now }
 {
@@ -51,6 +51,7 @@ fn past_feed(text: &[Sym]) -> &[Sym]
     }
 }
 
+/// A character that stands for itself, or a line end.
 fn character(first: Sym, rest: &[Sym]) -> Option<(Event<'_>, &[Sym])>
     ensures { option_map shown_found result ≡ option_map found (char_at first rest.now) }
 {
@@ -64,6 +65,7 @@ fn character(first: Sym, rest: &[Sym]) -> Option<(Event<'_>, &[Sym])>
     Some((Event::Character(number), rest))
 }
 
+/// A reference, after its `&`.
 fn reference(text: &[Sym]) -> Option<(Event<'_>, &[Sym])>
     ensures { option_map shown_found result ≡ option_map found (reference_at text.now) }
 {
@@ -72,18 +74,20 @@ fn reference(text: &[Sym]) -> Option<(Event<'_>, &[Sym])>
     Some((Event::Reference(number), rest))
 }
 
+/// An end tag, after its `</`.
 fn end_tag(text: &[Sym]) -> Option<(Event<'_>, &[Sym])>
     ensures { option_map shown_found result ≡ option_map found (end_at text.now) }
 {
     let (name, more) = name_run(text);
     let (_, more) = white_run(more);
-    let rest = behind(more, b">")?;
+    let rest = after_prefix(more, b">")?;
     if !is_name_text(name) {
         return None;
     }
     Some((Event::End(name), rest))
 }
 
+/// A CDATA section, after its `<![CDATA[`.
 fn section(text: &[Sym]) -> Option<(Event<'_>, &[Sym])>
     ensures { option_map shown_found result ≡ option_map found (in_cdata text.now) }
 {
@@ -94,18 +98,19 @@ fn section(text: &[Sym]) -> Option<(Event<'_>, &[Sym])>
     Some((Event::Section(body), rest))
 }
 
+/// A comment, after its `<!--`.
 fn comment(text: &[Sym]) -> Option<(Event<'_>, &[Sym])>
     ensures { option_map shown_found result ≡ option_map found (in_comment text.now) }
 {
     let (body, closing) = cut_at(text, b"--")?;
-    let rest = behind(closing, b">")?;
+    let rest = after_prefix(closing, b">")?;
     if !all_allowed(body) {
         return None;
     }
     Some((Event::Aside, rest))
 }
 
-// A comment or a CDATA section, behind its <!.
+/// A comment or a CDATA section, after its <!.
 fn marked(text: &[Sym]) -> Option<(Event<'_>, &[Sym])>
     ensures { option_map shown_found result ≡ option_map found (bang_at text.now) }
 {
@@ -113,13 +118,14 @@ fn marked(text: &[Sym]) -> Option<(Event<'_>, &[Sym])>
         [] => None,
         [first, more @ ..] => {
             if is(*first, b'-') {
-                return comment(behind(more, b"-")?);
+                return comment(after_prefix(more, b"-")?);
             }
-            section(behind(text, b"[CDATA[")?)
+            section(after_prefix(text, b"[CDATA[")?)
         }
     }
 }
 
+/// The end of a start tag or of an empty tag.
 fn tag_end(text: &[Sym]) -> Option<TagEnd<'_>>
     ensures { option_map shown_end result ≡ tag_ends text.now }
 {
@@ -132,13 +138,13 @@ fn tag_end(text: &[Sym]) -> Option<TagEnd<'_>>
                     rest: more,
                 });
             }
-            let rest = behind(text, b"/>")?;
+            let rest = after_prefix(text, b"/>")?;
             Some(TagEnd { empty: true, rest })
         }
     }
 }
 
-// A start tag or an empty tag, behind its <.
+/// A start tag or an empty tag, after its <.
 fn tag(alloc: Global, text: &[Sym]) -> Result<Option<(Event<'_>, &[Sym])>, Memory>
     ensures { IfOk result (λ o. option_map shown_found o ≡ option_map found (tag_at text.now)) }
 {
@@ -162,6 +168,7 @@ fn tag(alloc: Global, text: &[Sym]) -> Result<Option<(Event<'_>, &[Sym])>, Memor
     }
 }
 
+/// Whether the setting is version 1.0.
 fn is_version(setting: &Attribute<'_>) -> bool
     ensures { result ≡ held_version (shown setting.now) }
 {
@@ -170,6 +177,7 @@ fn is_version(setting: &Attribute<'_>) -> bool
         && spells(setting.value.symbols.as_slice(), b"1.0")
 }
 
+/// Whether the setting is the encoding UTF-8.
 fn is_encoding(setting: &Attribute<'_>) -> bool
     ensures { result ≡ held_encoding (shown setting.now) }
 {
@@ -178,6 +186,7 @@ fn is_encoding(setting: &Attribute<'_>) -> bool
         && spells_in_any_case(setting.value.symbols.as_slice(), b"utf-8")
 }
 
+/// Whether the setting is a standalone declaration.
 fn is_standalone(setting: &Attribute<'_>) -> bool
     ensures { result ≡ held_standalone (shown setting.now) }
 {
@@ -186,12 +195,14 @@ fn is_standalone(setting: &Attribute<'_>) -> bool
         && says_yes_or_no(setting.value.symbols.as_slice())
 }
 
+/// Whether the value is `yes` or `no`.
 fn says_yes_or_no(value: &[Sym]) -> bool
     ensures { result ≡ (same value.now (codes "yes") || same value.now (codes "no")) }
 {
     spells(value, b"yes") || spells(value, b"no")
 }
 
+/// Whether these are the settings of a declaration, in their order.
 fn are_settings(settings: &[Attribute<'_>]) -> bool
     ensures { result ≡ held_settings (map shown settings.now) }
 {
@@ -205,13 +216,13 @@ fn are_settings(settings: &[Attribute<'_>]) -> bool
     }
 }
 
-// A declaration, behind its <?xml.
+/// A declaration, after its <?xml.
 fn declaration(alloc: Global, text: &[Sym]) -> Result<Option<(Event<'_>, &[Sym])>, Memory>
     ensures { IfOk result (λ o. option_map shown_found o ≡ option_map found (declaration_attrs (attrs_at (length text.now) text.now))) }
 {
     let (list, more) = attributes_at(alloc, text)?;
     let (_, more) = white_run(more);
-    let Some(rest) = behind(more, b"?>") else {
+    let Some(rest) = after_prefix(more, b"?>") else {
         return Ok(None);
     };
     if !are_settings(&list) {
@@ -220,7 +231,7 @@ fn declaration(alloc: Global, text: &[Sym]) -> Result<Option<(Event<'_>, &[Sym])
     Ok(Some((Event::Declaration, rest)))
 }
 
-// An instruction, behind its name.
+/// An instruction, after its name.
 fn instruction<'a>(target: &[Sym], text: &'a [Sym]) -> Option<(Event<'a>, &'a [Sym])>
     ensures { option_map shown_found result ≡ option_map found (instruction_body target.now text.now) }
 {
@@ -235,7 +246,7 @@ fn instruction<'a>(target: &[Sym], text: &'a [Sym]) -> Option<(Event<'a>, &'a [S
     Some((Event::Aside, rest))
 }
 
-// Nothing, or what begins with white space.
+/// Nothing, or what begins with white space.
 fn is_apart_text(text: &[Sym]) -> bool
     ensures { result ≡ is_apart text.now }
 {
@@ -245,7 +256,7 @@ fn is_apart_text(text: &[Sym]) -> bool
     }
 }
 
-// An instruction or a declaration, behind its <?.
+/// An instruction or a declaration, after its <?.
 fn asked(alloc: Global, text: &[Sym]) -> Result<Option<(Event<'_>, &[Sym])>, Memory>
     ensures { IfOk result (λ o. option_map shown_found o ≡ option_map found (instruction_at text.now)) }
 {
@@ -256,7 +267,7 @@ fn asked(alloc: Global, text: &[Sym]) -> Result<Option<(Event<'_>, &[Sym])>, Mem
     Ok(instruction(target, more))
 }
 
-// What stands behind a <.
+/// What stands after a <.
 fn markup(alloc: Global, text: &[Sym]) -> Result<Option<(Event<'_>, &[Sym])>, Memory>
     ensures { IfOk result (λ o. option_map shown_found o ≡ option_map found (markup_at text.now)) }
 {

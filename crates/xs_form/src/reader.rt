@@ -25,7 +25,7 @@ pub struct Reader<'a> {
     word: Word,
 }
 
-// A CR gives LF, and the LF of CR LF nothing more.
+/// A CR gives LF, and the LF of CR LF nothing more.
 fn push_line(word: &mut Word, after_return: bool, number: u32) -> Result<(), Memory>
     ensures { OnOk result (word.new ≡ word.old ++ line_symbols after_return number) }
 {
@@ -36,6 +36,7 @@ fn push_line(word: &mut Word, after_return: bool, number: u32) -> Result<(), Mem
     Ok(())
 }
 
+/// Appends a text with its line ends as LF.
 fn push_lines(word: &mut Word, text: &[Sym]) -> Result<(), Memory>
     ensures { OnOk result (word.new ≡ word.old ++ lines false text.now) }
 {
@@ -48,7 +49,7 @@ fn push_lines(word: &mut Word, text: &[Sym]) -> Result<(), Memory>
     Ok(())
 }
 
-// The marks of a tag's opening and of its attributes.
+/// The marks of a tag's opening and of its attributes.
 fn push_opening(
     word: &mut Word,
     alloc: Global,
@@ -64,7 +65,7 @@ fn push_opening(
     push_attributes(word, names, attributes)
 }
 
-// The mark of an element's end.
+/// The mark of an element's end.
 fn push_closing(word: &mut Word, alloc: Global, names: &Names, name: &[Sym]) -> Result<(), Memory>
     requires { is_name name.now ≡ true }
     ensures { OnOk result (word.new ≡ word.old ++ closing names.now name.now ∷ []) }
@@ -75,6 +76,7 @@ fn push_closing(word: &mut Word, alloc: Global, names: &Names, name: &[Sym]) -> 
 }
 
 impl<'a> Reader<'a> {
+    /// A reader that has read nothing yet.
     pub fn new(alloc: Global) -> Self
         ensures { state_of result ≡ initial }
     {
@@ -87,12 +89,14 @@ impl<'a> Reader<'a> {
         }
     }
 
+    /// Whether an element is open.
     fn is_inside(&self) -> bool
         ensures { result ≡ is_inside (state_of self.now).spot }
     {
         !self.names.is_empty()
     }
 
+    /// Takes a declaration, where it may stand here.
     fn declaration(&mut self) -> bool
         ensures { taken result (state_of self.new) ≡ step [] (state_of self.old) declared }
     {
@@ -104,6 +108,7 @@ impl<'a> Reader<'a> {
         true
     }
 
+    /// Takes a comment or an instruction.
     fn aside(&mut self)
         ensures { taken true (state_of self.new) ≡ step [] (state_of self.old) aside }
     {
@@ -111,6 +116,7 @@ impl<'a> Reader<'a> {
         self.run = 0;
     }
 
+    /// Takes a character, where it may stand here.
     fn character(&mut self, c: u32) -> Result<bool, Memory>
         ensures { IfOk result (λ b. taken b (state_of self.new) ≡ step [] (state_of self.old) (letter c)) }
     {
@@ -127,6 +133,7 @@ impl<'a> Reader<'a> {
         Ok(true)
     }
 
+    /// Takes the character of a reference, where it may stand here.
     fn reference(&mut self, c: u32) -> Result<bool, Memory>
         ensures { IfOk result (λ b. taken b (state_of self.new) ≡ step [] (state_of self.old) (given c)) }
     {
@@ -139,6 +146,7 @@ impl<'a> Reader<'a> {
         Ok(true)
     }
 
+    /// Takes a start tag, where it may stand here.
     fn start(
         &mut self,
         alloc: Global,
@@ -159,6 +167,7 @@ impl<'a> Reader<'a> {
         Ok(true)
     }
 
+    /// Takes an empty tag, where it may stand here.
     fn empty(
         &mut self,
         alloc: Global,
@@ -182,6 +191,7 @@ impl<'a> Reader<'a> {
         Ok(true)
     }
 
+    /// Takes an end tag, where it may stand here.
     fn end(&mut self, alloc: Global, names: &Names, name: &[Sym]) -> Result<bool, Memory>
         requires { is_name name.now ≡ true }
         ensures { IfOk result (λ b. taken b (state_of self.new) ≡ step names.now (state_of self.old) (ends name.now)) }
@@ -199,6 +209,7 @@ impl<'a> Reader<'a> {
         Ok(true)
     }
 
+    /// Takes a CDATA section, where it may stand here.
     fn section(&mut self, body: &[Sym]) -> Result<bool, Memory>
         ensures { IfOk result (λ b. taken b (state_of self.new) ≡ step [] (state_of self.old) (section body.now)) }
     {
@@ -243,6 +254,7 @@ impl<'a> Reader<'a> {
     }
 }
 
+/// How many of the last pieces, two at most, are the character `]` after one more.
 fn next_run(run: u32, c: u32) -> u32
     ensures { result ≡ next_run_of run c }
 {

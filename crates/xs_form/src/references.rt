@@ -6,9 +6,10 @@ ghost use Rattle.xs_form.specs.Seen.{named_reference};
 use crate::runs::{allowed, digit, hexadecimal, is, spells};
 use xs_class::Sym;
 
-// Above every Char, and not one.
+/// Above every Char, and not one.
 const TOO_LARGE: u32 = 0x110000;
 
+/// The value of a digit.
 fn value_of(symbol: Sym) -> u32
     requires { is_hex symbol ≡ true }
     ensures value { result ≡ hex_value symbol }
@@ -24,6 +25,7 @@ fn value_of(symbol: Sym) -> u32
     }
 }
 
+/// The number with one more digit, or one above every Char.
 fn appended(number: u32, base: u32, value: u32) -> u32
     requires few { number ≤ 1114112 }
     requires small { base ≤ 16 }
@@ -33,13 +35,14 @@ fn appended(number: u32, base: u32, value: u32) -> u32
     (number * base + value).min(TOO_LARGE)
 }
 
+/// The number, where it is a Char.
 fn char_of(number: u32) -> Option<u32>
     ensures { result ≡ when (is_char number) number }
 {
     if allowed(number) { Some(number) } else { None }
 }
 
-// The number of the hexadecimal digits, where it is a Char.
+/// The number of the hexadecimal digits, where it is a Char.
 fn hexadecimal_char(digits: &[Sym]) -> Option<u32>
     ensures { result ≡ when (all_of is_hex digits.now && is_char (number 16 0 digits.now)) (number 16 0 digits.now) }
 {
@@ -53,7 +56,7 @@ fn hexadecimal_char(digits: &[Sym]) -> Option<u32>
     char_of(number)
 }
 
-// The number of the decimal digits, where it is a Char.
+/// The number of the decimal digits, where it is a Char.
 fn decimal_char(digits: &[Sym]) -> Option<u32>
     ensures { result ≡ when (all_of is_digit digits.now && is_char (number 10 0 digits.now)) (number 10 0 digits.now) }
 {
@@ -67,6 +70,7 @@ fn decimal_char(digits: &[Sym]) -> Option<u32>
     char_of(number)
 }
 
+/// The character of what stands between `&#` and `;`.
 fn numbered_char(text: &[Sym]) -> Option<u32>
     ensures { result ≡ numbered text.now }
 {
@@ -82,6 +86,7 @@ fn numbered_char(text: &[Sym]) -> Option<u32>
     }
 }
 
+/// The character of a name that XML declares.
 fn named_char(text: &[Sym]) -> Option<u32>
     ensures { result ≡ named_reference text.now }
 {

@@ -13,6 +13,7 @@ pub fn is(symbol: Sym, byte: u8) -> bool
     symbol.number() == u32::from(byte)
 }
 
+/// Whether the symbol is white space.
 #[tactic(auto, unfolding(xs_xml::specs::Tables::is_white))]
 pub fn white(symbol: Sym) -> bool
     ensures { result ≡ is_white symbol }
@@ -21,6 +22,7 @@ pub fn white(symbol: Sym) -> bool
     9 <= number && number <= 10 || number == 13 || number == 32
 }
 
+/// Whether the symbol is a quote.
 #[tactic(auto, unfolding(xs_xml::specs::Tables::is_quote))]
 pub fn quotes(symbol: Sym) -> bool
     ensures { result ≡ is_quote symbol }
@@ -28,6 +30,7 @@ pub fn quotes(symbol: Sym) -> bool
     is(symbol, b'"') || is(symbol, b'\'')
 }
 
+/// Whether the symbol is a decimal digit.
 #[tactic(auto, unfolding(xs_xml::specs::Tables::is_digit))]
 pub fn digit(symbol: Sym) -> bool
     ensures { result ≡ is_digit symbol }
@@ -36,6 +39,7 @@ pub fn digit(symbol: Sym) -> bool
     48 <= number && number <= 57
 }
 
+/// Whether the symbol is a hexadecimal digit.
 #[tactic(auto, unfolding(xs_xml::specs::Tables::is_hex))]
 pub fn hexadecimal(symbol: Sym) -> bool
     ensures { result ≡ is_hex symbol }
@@ -44,18 +48,21 @@ pub fn hexadecimal(symbol: Sym) -> bool
     48 <= number && number <= 57 || 65 <= number && number <= 70 || 97 <= number && number <= 102
 }
 
+/// Whether the number is that of a Char.
 pub fn allowed(number: u32) -> bool
     ensures { result ≡ is_char number }
 {
     is_char(number)
 }
 
+/// Whether a Name may begin with the symbol.
 pub fn begins_name(symbol: Sym) -> bool
     ensures { result ≡ is_name_start symbol }
 {
     is_name_start(symbol.number())
 }
 
+/// Whether the symbol may stand in a Name.
 pub fn in_name(symbol: Sym) -> bool
     ensures { result ≡ is_name_char symbol }
 {
@@ -84,8 +91,8 @@ pub fn white_run(text: &[Sym]) -> (&[Sym], &[Sym])
     (&text[..end], &text[end..])
 }
 
-/// What stands behind the prefix, where the text begins with it.
-pub fn behind<'a>(text: &'a [Sym], prefix: &[u8]) -> Option<&'a [Sym]>
+/// What stands after the prefix, where the text begins with it.
+pub fn after_prefix<'a>(text: &'a [Sym], prefix: &[u8]) -> Option<&'a [Sym]>
     ensures { option_copied result ≡ after prefix.now text.now }
 {
     let mut rest = text;
@@ -103,14 +110,14 @@ pub fn behind<'a>(text: &'a [Sym], prefix: &[u8]) -> Option<&'a [Sym]>
     Some(rest)
 }
 
-/// What stands before the first delimiter, and what stands behind it.
+/// What stands before the first delimiter, and what stands after it.
 pub fn cut_at<'a>(text: &'a [Sym], delimiter: &[u8]) -> Option<(&'a [Sym], &'a [Sym])>
     requires { 0 < length delimiter.now }
     ensures { option_map (λ r. (r.0.now, r.1.now)) result ≡ cut delimiter.now text.now }
 {
     let mut at = 0;
     'places: while at < text.len() {
-        if let Some(rest) = behind(&text[at..], delimiter) {
+        if let Some(rest) = after_prefix(&text[at..], delimiter) {
             return Some((&text[..at], rest));
         }
         at += 1;
@@ -130,6 +137,7 @@ pub fn all_allowed(text: &[Sym]) -> bool
     true
 }
 
+/// Whether each character may stand in a Name.
 fn all_in_name(text: &[Sym]) -> bool
     ensures { result ≡ all_of is_name_char text.now }
 {
@@ -189,6 +197,7 @@ pub fn spells(text: &[Sym], word: &[u8]) -> bool
     rest.is_empty()
 }
 
+/// An ASCII letter in lower case, and any other symbol as it is.
 fn lowered(symbol: Sym) -> Sym
     ensures { result ≡ lower symbol }
 {

@@ -10,7 +10,7 @@ use xs_class::{Memory, Sym, Word};
 
 /// A part of an attribute's value: a character as it is written, or that of a reference.
 #[derive(Clone, Copy)]
-pub enum Part {
+pub enum ValuePart {
     Written(u32),
     Given(u32),
 }
@@ -23,7 +23,7 @@ pub struct Value {
 }
 
 /// The part that the text begins with, and the rest, in a value between these quotes.
-fn part_at(quote: Sym, text: &[Sym]) -> Option<(Part, &[Sym])>
+fn part_at(quote: Sym, text: &[Sym]) -> Option<(ValuePart, &[Sym])>
     ensures { option_map shown_part result ≡ option_map kept_part (bit_at quote text.now) }
 {
     match text {
@@ -32,42 +32,44 @@ fn part_at(quote: Sym, text: &[Sym]) -> Option<(Part, &[Sym])>
             if is(*first, b'&') {
                 let (name, rest) = cut_at(more, b";")?;
                 let number = reference_char(name)?;
-                return Some((Part::Given(number), rest));
+                return Some((ValuePart::Given(number), rest));
             }
             let number = first.number();
             if is(*first, b'<') || number == quote.number() || !allowed(number) {
                 return None;
             }
-            Some((Part::Written(number), more))
+            Some((ValuePart::Written(number), more))
         }
     }
 }
 
-fn is_return_part(part: Part) -> bool
+/// Whether the part is a CR as it is written.
+fn is_return_part(part: ValuePart) -> bool
     ensures { result ≡ is_return part }
 {
     match part {
-        Part::Written(number) => number == 13,
-        Part::Given(_) => false,
+        ValuePart::Written(number) => number == 13,
+        ValuePart::Given(_) => false,
     }
 }
 
-fn is_written_part(part: Part) -> bool
+/// Whether the part is a character as it is written.
+fn is_written_part(part: ValuePart) -> bool
     ensures { result ≡ is_written part }
 {
     match part {
-        Part::Written(_) => true,
-        Part::Given(_) => false,
+        ValuePart::Written(_) => true,
+        ValuePart::Given(_) => false,
     }
 }
 
-// White space as it is written gives a space, and the LF of CR LF nothing more.
-fn push_part(symbols: &mut Word, after_return: bool, part: Part) -> Result<(), Memory>
+/// White space as it is written gives a space, and the LF of CR LF nothing more.
+fn push_part(symbols: &mut Word, after_return: bool, part: ValuePart) -> Result<(), Memory>
     ensures ok { OnOk result (symbols.new ≡ symbols.old ++ part_symbols after_return part) }
 {
     match part {
-        Part::Given(number) => symbols.push(Sym(number))?,
-        Part::Written(number) => {
+        ValuePart::Given(number) => symbols.push(Sym(number))?,
+        ValuePart::Written(number) => {
             if number == 10 && after_return {
                 return Ok(());
             }

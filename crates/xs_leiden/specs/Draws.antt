@@ -1,7 +1,7 @@
 -- Numbers drawn from a state, which a seed begins.
 use Rattle.std.specs.Prelude.{ℕ, ◌+◌, ◌*◌, ◌/◌, ◌%◌}
 
--- the state behind one draw
+-- the state after one draw
 abbrev pub next : ℕ → ℕ
 next x = (x * 1103515245 + 12345) % 2147483648
 

@@ -1,4 +1,4 @@
--- Made texts, as bytes: each part by the state at which it is drawn, and the state behind it.
+-- Made texts, as bytes: each part by the state at which it is drawn, and the state after it.
 use Rattle.std.specs.Prelude.{ℕ, zero, suc, ◌+◌, List, [], ◌∷◌, ◌++◌, ◌==◌, ◌&&◌, nat_lt, codes, decimal, encode_utf8_all, if◌then◌else◌}
 use Rattle.xs_leiden.specs.Draws.{next, drawn}
 use Rattle.xs_leiden.specs.Words.{word_at, dotted_at}
@@ -33,7 +33,7 @@ item x = item_of (drawn 8 x) (next x)
 abbrev pub after_item : ℕ → ℕ
 after_item x = after_item_of (drawn 8 x) (next x)
 
--- so many items more, each behind a space
+-- that many items more, each after a space
 abbrev pub after_items : ℕ → ℕ → ℕ
 after_items zero x = x
 after_items (suc n) x = after_item (after_items n x)
@@ -53,7 +53,7 @@ line i x = line_begin i x ++ item (next (next x)) ++ more_items (drawn 5 (next x
 abbrev pub after_line : ℕ → ℕ
 after_line x = after_items (drawn 5 (next x)) (after_item (next (next x)))
 
--- so many lines, numbered from 1, each ended by a line feed
+-- that many lines, numbered from 1, each ended by a line feed
 abbrev pub after_lines : ℕ → ℕ → ℕ
 after_lines zero x = x
 after_lines (suc n) x = after_line (after_lines n x)
@@ -62,6 +62,6 @@ abbrev pub lines : ℕ → ℕ → List ℕ
 lines zero x = []
 lines (suc n) x = lines n x ++ line (suc n) (after_lines n x) ++ codes "\n"
 
--- the block of so many lines that is made of a seed
+-- the block of that many lines that is made from a seed
 abbrev pub made_text : ℕ → ℕ → List ℕ
 made_text seed n = codes "<=\n" ++ lines n seed ++ codes "=>\n"

@@ -1,4 +1,4 @@
--- The sheet that the program brings along.
+-- The sheet that the program includes.
 use Rattle.std.specs.Prelude.{ℕ, List, codes}
 
 -- Leiden core 1, each line ended by a line feed

@@ -7,40 +7,35 @@ use crate::draws::Draws;
 use crate::words::{dotted_word, word};
 use xs_class::{Bytes, Memory};
 
-// Appends a word that is drawn, between these bytes.
-fn push_word(
-    text: &mut Bytes,
-    draws: &mut Draws,
-    before: &[u8],
-    behind: &[u8],
-) -> Result<(), Memory>
-    ensures text { OnOk result (text.new ≡ text.old ++ (before.now ++ word_drawn draws.old.state ++ behind.now)) }
+/// Appends a word that is drawn, between these bytes.
+fn push_word(text: &mut Bytes, draws: &mut Draws, before: &[u8], after: &[u8]) -> Result<(), Memory>
+    ensures text { OnOk result (text.new ≡ text.old ++ (before.now ++ word_drawn draws.old.state ++ after.now)) }
     ensures state { OnOk result (draws.new.state ≡ next draws.old.state) }
 {
     text.extend(before)?;
     text.extend(word(draws.draw(8)))?;
-    text.extend(behind)?;
+    text.extend(after)?;
     Ok(())
 }
 
-// Appends a digit from 1 to 9 that is drawn, between these bytes.
+/// Appends a digit from 1 to 9 that is drawn, between these bytes.
 fn push_digit(
     text: &mut Bytes,
     draws: &mut Draws,
     before: &[u8],
-    behind: &[u8],
+    after: &[u8],
 ) -> Result<(), Memory>
-    ensures text { OnOk result (text.new ≡ text.old ++ (before.now ++ digit draws.old.state ++ behind.now)) }
+    ensures text { OnOk result (text.new ≡ text.old ++ (before.now ++ digit draws.old.state ++ after.now)) }
     ensures state { OnOk result (draws.new.state ≡ next draws.old.state) }
 {
     text.extend(before)?;
     let number = draws.draw(9);
     text.push(b'1' + number as u8)?;
-    text.extend(behind)?;
+    text.extend(after)?;
     Ok(())
 }
 
-// Appends a word that is drawn, with a dot below each letter.
+/// Appends a word that is drawn, with a dot below each letter.
 fn push_dotted(text: &mut Bytes, draws: &mut Draws) -> Result<(), Memory>
     ensures text { OnOk result (text.new ≡ text.old ++ item_of 7 draws.old.state) }
     ensures state { OnOk result (draws.new.state ≡ next draws.old.state) }
@@ -49,7 +44,7 @@ fn push_dotted(text: &mut Bytes, draws: &mut Draws) -> Result<(), Memory>
     Ok(())
 }
 
-// Appends a word with its ending expanded, both drawn.
+/// Appends a word with its ending expanded, both drawn.
 fn push_expanded(text: &mut Bytes, draws: &mut Draws) -> Result<(), Memory>
     ensures text { OnOk result (text.new ≡ text.old ++ item_of 6 draws.old.state) }
     ensures state { OnOk result (draws.new.state ≡ next (next draws.old.state)) }
@@ -59,6 +54,7 @@ fn push_expanded(text: &mut Bytes, draws: &mut Draws) -> Result<(), Memory>
     Ok(())
 }
 
+/// Appends an item of this kind.
 fn push_kind(text: &mut Bytes, draws: &mut Draws, kind: u32) -> Result<(), Memory>
     ensures text { OnOk result (text.new ≡ text.old ++ item_of kind draws.old.state) }
     ensures state { OnOk result (draws.new.state ≡ after_item_of kind draws.old.state) }
@@ -75,7 +71,7 @@ fn push_kind(text: &mut Bytes, draws: &mut Draws, kind: u32) -> Result<(), Memor
     }
 }
 
-// Appends an item, all of it drawn.
+/// Appends an item, all of it drawn.
 pub fn push_item(text: &mut Bytes, draws: &mut Draws) -> Result<(), Memory>
     ensures text { OnOk result (text.new ≡ text.old ++ item_at draws.old.state) }
     ensures state { OnOk result (draws.new.state ≡ after_item draws.old.state) }
@@ -85,7 +81,7 @@ pub fn push_item(text: &mut Bytes, draws: &mut Draws) -> Result<(), Memory>
     Ok(())
 }
 
-// Appends so many items, each behind a space.
+/// Appends that many items, each after a space.
 pub fn push_items(text: &mut Bytes, draws: &mut Draws, count: u32) -> Result<(), Memory>
     ensures text { OnOk result (text.new ≡ text.old ++ more_items count draws.old.state) }
     ensures state { OnOk result (draws.new.state ≡ after_items count draws.old.state) }

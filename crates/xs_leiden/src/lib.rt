@@ -1,8 +1,9 @@
-//! The sheet that the program brings along, Leiden core 1, and texts of it that are made of a seed.
+//! The sheet that the program includes, Leiden core 1, and texts of it that are made from a seed.
 //!
 //! The sheet is a core of Leiden+, the notation in which papyri are edited, and of the EpiDoc XML
 //! that belongs to it. A made text is one block of numbered lines of words, gaps, supplements,
-//! expansions and unclear letters, all drawn from a seed, so that a text of any length can be tried.
+//! expansions and unclear letters, all drawn from a seed, so that a text of any length can be
+//! tried.
 #![tactic(auto)]
 
 mod draws;

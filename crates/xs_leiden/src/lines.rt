@@ -7,7 +7,7 @@ use crate::items::{push_item, push_items};
 use std::alloc::Global;
 use xs_class::{Bytes, Memory};
 
-// Appends the number of a line, and whether it goes on with a word of the line before.
+/// Appends the number of a line, and whether it goes on with a word of the line before.
 fn push_begin(alloc: Global, text: &mut Bytes, draws: &mut Draws, number: u32) -> Result<(), Memory>
     ensures text { OnOk result (text.new ≡ text.old ++ line_begin number draws.old.state) }
     ensures state { OnOk result (draws.new.state ≡ next draws.old.state) }
@@ -23,7 +23,7 @@ fn push_begin(alloc: Global, text: &mut Bytes, draws: &mut Draws, number: u32) -
     Ok(())
 }
 
-// Appends a line without its line feed.
+/// Appends a line without its line feed.
 fn push_line(alloc: Global, text: &mut Bytes, draws: &mut Draws, number: u32) -> Result<(), Memory>
     ensures text { OnOk result (text.new ≡ text.old ++ line_at number draws.old.state) }
     ensures state { OnOk result (draws.new.state ≡ after_line draws.old.state) }
@@ -35,7 +35,7 @@ fn push_line(alloc: Global, text: &mut Bytes, draws: &mut Draws, number: u32) ->
     Ok(())
 }
 
-// Appends so many lines, numbered from 1.
+/// Appends that many lines, numbered from 1.
 fn push_lines(alloc: Global, text: &mut Bytes, draws: &mut Draws, count: u32) -> Result<(), Memory>
     ensures { OnOk result (text.new ≡ text.old ++ lines_of count draws.old.state) }
 {
@@ -46,9 +46,9 @@ fn push_lines(alloc: Global, text: &mut Bytes, draws: &mut Draws, count: u32) ->
     Ok(())
 }
 
-/// The text of 1 to 2,000 lines that is made of a seed, in the notation of the sheet: `<=`, the lines
-/// numbered from 1, and `=>`, each ended by a line feed. The same seed gives the same text. Linear in
-/// the lines.
+/// The text of 1 to 2,000 lines that is made from a seed, in the notation of the sheet: `<=`, the
+/// lines numbered from 1, and `=>`, each ended by a line feed. The same seed gives the same text.
+/// Linear in the lines.
 pub fn make_text(alloc: Global, seed: u32, lines: u32) -> Result<Bytes, Memory>
     requires least { 1 ≤ lines }
     requires most { lines ≤ 2000 }

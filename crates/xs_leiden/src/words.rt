@@ -2,7 +2,7 @@
 ghost use Rattle.std.specs.Prelude.{◌≡◌, encode_utf8_all};
 ghost use Rattle.xs_leiden.specs.Words.{word_at, dotted_at};
 
-// The word of a number; 7 and above have the last.
+/// The word of a number; 7 and above have the last.
 pub fn word(number: u32) -> &'static [u8]
     ensures { result.now ≡ encode_utf8_all (word_at number) }
 {
@@ -18,7 +18,7 @@ pub fn word(number: u32) -> &'static [u8]
     }
 }
 
-// The word of a number with a dot below, U+0323, after each letter.
+/// The word of a number with a dot below, U+0323, after each letter.
 pub fn dotted_word(number: u32) -> &'static [u8]
     ensures { result.now ≡ encode_utf8_all (dotted_at number) }
 {

@@ -1,4 +1,4 @@
--- What stands between tokens is passed over exactly.
+-- What stands between tokens is skipped exactly.
 use Rattle.std.proofs.Common.{◌≡◌, ℕ, suc, ◌+◌, List, [], ◌∷◌, ◌++◌, length, length-append, append_assoc, add-zero, true, false, Bool, not, ◌&&◌, ◌==◌, refl, sym, ap, ◌∙◌, arith, eqb-true}
 use Rattle.std.specs.List.{list_all}
 use Rattle.xs_lex.specs.Classes.{is_white}
@@ -76,11 +76,11 @@ passed_is inside [] k = record { body = []; blanks = []; rest = []; is = refl; o
 passed_is true (c ∷ cs) k = in_comment (c == 10) c cs k refl (passed_is (not (c == 10)) cs (k + 1))
 passed_is false (c ∷ cs) k = outside_one (is_white c) (c == 35) c cs k refl refl (λ inside. passed_is inside cs (k + 1))
 
--- the place behind what stands between tokens
+-- the place after what stands between tokens
 pub apart_count : (text rest : List ℕ) → IsApart text rest → blank_end false 0 text + length rest ≡ length text
 apart_count text rest a = let h = blanks_read a.blanks rest 0 a.each a.ends in rw a.is (omega arith)
 
-pub record IsBehind (text rest : List ℕ) : Type 0 where
+pub record IsAfterBlanks (text rest : List ℕ) : Type 0 where
   pub front : List ℕ
   pub is : text ≡ front ++ rest
   pub count : length front ≡ blank_end false 0 text
@@ -91,8 +91,8 @@ blanks_front [] rest = ([], refl)
 blanks_front (white c ∷ bs) rest = let r = blanks_front bs rest in (c ∷ r.0, ap (λ (z : List ℕ). c ∷ z) r.1)
 blanks_front (comment body ∷ bs) rest = let r = blanks_front bs rest in (35 ∷ (body ++ r.0), ap (λ (z : List ℕ). 35 ∷ z) (ap (λ (z : List ℕ). body ++ z) r.1 ∙ sym (append_assoc body r.0 rest)))
 
-pub behind_is : (text : List ℕ) → (rest : List ℕ) × IsBehind text rest
-behind_is text =
+pub after_blanks : (text : List ℕ) → (rest : List ℕ) × IsAfterBlanks text rest
+after_blanks text =
     let p = passed_is false text 0 in
     let none = p.outside refl in
     let whole : text ≡ spelt_blanks p.blanks p.rest = p.is ∙ ap (λ (z : List ℕ). z ++ spelt_blanks p.blanks p.rest) none in

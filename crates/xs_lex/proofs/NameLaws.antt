@@ -42,7 +42,7 @@ pub plain_chars : (w : List ℕ) → is_plain w ≡ true → list_all is_plain_c
 plain_chars [] is = absurd (cc)
 plain_chars (c ∷ cs) is = let p = and_true (is_plain_start c) (list_all is_plain_char cs) is in both_true (is_plain_char c) (list_all is_plain_char cs) (plain_start_in c p.0) p.1
 
--- the run behind a first character of a name is a plain name
+-- the run after a first character of a name is a plain name
 pub run_plain : (c : ℕ) (cs : List ℕ) → is_plain_start c ≡ true → (w : List ℕ) × (r : List ℕ) × ((c ∷ cs) ≡ w ++ r) × (is_plain w ≡ true) × (run_end is_plain_char 0 (c ∷ cs) ≡ length w)
 run_plain c cs first =
     let r = run_is is_plain_char cs 1 in

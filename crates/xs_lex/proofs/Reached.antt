@@ -12,9 +12,9 @@ use Rattle.xs_lex.specs.declared.token.Token.{Token}
 use Rattle.xs_lex.specs.Spelling.{Spells}
 use Rattle.xs_lex.specs.Between.{IsApart}
 use Rattle.xs_lex.specs.Scan.{blank_end, token_at, front_at}
-use Rattle.xs_lex.specs.Reading.{IsTokenAt, NoToken, Lexeme, StandsAt, AreTokensFrom, AreTokens, IsSlice, size_of, line_ends, is_nothing, valid, behind_mark, extent_of, lexeme_of}
+use Rattle.xs_lex.specs.Reading.{IsTokenAt, NoToken, Lexeme, StandsAt, AreTokensFrom, AreTokens, IsSlice, size_of, line_ends, is_nothing, valid, after_mark, extent_of, lexeme_of}
 use Rattle.xs_lex.proofs.Truth.{and_true, both_true}
-use Rattle.xs_lex.proofs.BlankLaws.{behind_is}
+use Rattle.xs_lex.proofs.BlankLaws.{after_blanks}
 use Rattle.xs_lex.proofs.TokenLaws.{longest_is}
 
 pub size-append : (u v : List ℕ) → size_of (u ++ v) ≡ size_of u + size_of v
@@ -58,7 +58,7 @@ valid_size bytes letters spelt = ap length spelt ∙ length-take-le (utf8_valid_
 whole_is : (bytes letters : List ℕ) → encode_utf8_all letters ≡ valid bytes → bytes ≡ encode_utf8_all letters ++ drop (utf8_valid_len bytes) bytes
 whole_is bytes letters spelt = sym (ap (λ (z : List ℕ). z ++ drop (utf8_valid_len bytes) bytes) spelt ∙ take-append-drop (utf8_valid_len bytes) bytes)
 
-pub reached_front : (bytes letters : List ℕ) → IsUtf8 (valid bytes) → letters ≡ chars (valid bytes) → behind_mark letters ≡ letters → Reached bytes [] 0 1 letters
+pub reached_front : (bytes letters : List ℕ) → IsUtf8 (valid bytes) → letters ≡ chars (valid bytes) → after_mark letters ≡ letters → Reached bytes [] 0 1 letters
 reached_front bytes letters text is no_mark =
     let spelt = spelt_all bytes letters text is in
     let size_all = valid_size bytes letters spelt in
@@ -68,7 +68,7 @@ reached_front bytes letters text is no_mark =
       size = omega arith;
       lines = ap (λ (z : List ℕ). 1 + line_ends z) is;
       slices = none_yet bytes;
-      so_far = λ ms tokens. subst (λ (z : List ℕ). AreTokensFrom (extent_of bytes) z ms) (sym no_mark ∙ ap behind_mark is) tokens;
+      so_far = λ ms tokens. subst (λ (z : List ℕ). AreTokensFrom (extent_of bytes) z ms) (sym no_mark ∙ ap after_mark is) tokens;
     }
 
 mark_size : (others : List ℕ) → size_of (0xFEFF ∷ others) ≡ 3 + size_of others
@@ -92,7 +92,7 @@ reached_mark bytes letters others text is mark =
       size = omega arith;
       lines = ap (λ (z : List ℕ). 1 + line_ends z) (sym mark ∙ is);
       slices = none_yet bytes;
-      so_far = λ ms tokens. subst (λ (z : List ℕ). AreTokensFrom (extent_of bytes) (behind_mark z) ms) (sym mark ∙ is) tokens;
+      so_far = λ ms tokens. subst (λ (z : List ℕ). AreTokensFrom (extent_of bytes) (after_mark z) ms) (sym mark ∙ is) tokens;
     }
 
 pub reached_start : (bytes letters : List ℕ) → IsUtf8 (valid bytes) → letters ≡ chars (valid bytes) → Reached bytes [] (front_at letters).0 1 (front_at letters).1
@@ -113,7 +113,7 @@ slice_is bytes u v bad at left =
     let n : at + size_of u - at ≡ size_of u = omega arith in
     ap (λ (k : ℕ). take k (drop at bytes)) n ∙ ap (λ (z : List ℕ). take (size_of u) z) (left ∙ ap (λ (z : List ℕ). z ++ bad) (encodes-append u v) ∙ append_assoc (encode_utf8_all u) (encode_utf8_all v) bad) ∙ take_at (encode_utf8_all u) (encode_utf8_all v ++ bad) (size_of u) refl
 
--- a place between tokens passed over
+-- a place between tokens skipped
 pub reached_text : (bytes : List ℕ) (list : List Token) (at line : ℕ) (rest gap text : List ℕ) → Reached bytes list at line rest → rest ≡ gap ++ text → IsApart rest text → (t : Token) → t.start ≡ at + size_of gap → t.line ≡ line + line_ends gap → StandsAt (extent_of bytes) (lexeme_of bytes t) text
 reached_text bytes list at line rest gap text r split apart t start here =
     let sizes : size_of rest ≡ size_of gap + size_of text = ap size_of split ∙ size-append gap text in
@@ -133,34 +133,34 @@ pub record IsToken (bytes : List ℕ) (at line : ℕ) (gap : List ℕ) (kind : K
   pub end_is : t.end ≡ at + size_of gap + size_of word
   pub line_is : t.line ≡ line + line_ends gap
 
-pub reached_token : (bytes : List ℕ) (list : List Token) (at line : ℕ) (rest gap text word behind : List ℕ) (kind : Kind) (t : Token) → Reached bytes list at line rest → rest ≡ gap ++ text → IsApart rest text → text ≡ word ++ behind → IsTokenAt text kind word behind → IsToken bytes at line gap kind word t → Reached bytes (list ++ t ∷ []) (at + size_of gap + size_of word) (line + line_ends gap + line_ends word) behind
-reached_token bytes list at line rest gap text word behind kind t r split apart cut token is =
+pub reached_token : (bytes : List ℕ) (list : List Token) (at line : ℕ) (rest gap text word after : List ℕ) (kind : Kind) (t : Token) → Reached bytes list at line rest → rest ≡ gap ++ text → IsApart rest text → text ≡ word ++ after → IsTokenAt text kind word after → IsToken bytes at line gap kind word t → Reached bytes (list ++ t ∷ []) (at + size_of gap + size_of word) (line + line_ends gap + line_ends word) after
+reached_token bytes list at line rest gap text word after kind t r split apart cut token is =
     let bad : List ℕ = drop (utf8_valid_len bytes) bytes in
     let left_gap : drop (at + size_of gap) bytes ≡ encode_utf8_all text ++ bad = left_more bytes gap text bad at (r.left ∙ ap (λ (z : List ℕ). encode_utf8_all z ++ bad) split) in
-    let left_word : drop (at + size_of gap) bytes ≡ encode_utf8_all (word ++ behind) ++ bad = left_gap ∙ ap (λ (z : List ℕ). encode_utf8_all z ++ bad) cut in
-    let slice : slice_range bytes (at + size_of gap) (at + size_of gap + size_of word) ≡ encode_utf8_all word = slice_is bytes word behind bad (at + size_of gap) left_word in
+    let left_word : drop (at + size_of gap) bytes ≡ encode_utf8_all (word ++ after) ++ bad = left_gap ∙ ap (λ (z : List ℕ). encode_utf8_all z ++ bad) cut in
+    let slice : slice_range bytes (at + size_of gap) (at + size_of gap + size_of word) ≡ encode_utf8_all word = slice_is bytes word after bad (at + size_of gap) left_word in
     let slice_t : slice_range bytes t.start t.end ≡ encode_utf8_all word = rw (is.start_is, is.end_is) slice in
     let p = scalars_parts gap text (ap all_scalars (sym split) ∙ r.scalars) in
-    let q = scalars_parts word behind (ap all_scalars (sym cut) ∙ p.1) in
+    let q = scalars_parts word after (ap all_scalars (sym cut) ∙ p.1) in
     let word_is : chars (slice_range bytes t.start t.end) ≡ word = ap chars slice_t ∙ chars-encodes word q.0 in
     let sizes : size_of rest ≡ size_of gap + size_of text = ap size_of split ∙ size-append gap text in
-    let sizes_word : size_of text ≡ size_of word + size_of behind = ap size_of cut ∙ size-append word behind in
+    let sizes_word : size_of text ≡ size_of word + size_of after = ap size_of cut ∙ size-append word after in
     let ends : line_ends rest ≡ line_ends gap + line_ends text = ap line_ends split ∙ line_ends-append gap text in
-    let ends_word : line_ends text ≡ line_ends word + line_ends behind = ap line_ends cut ∙ line_ends-append word behind in
+    let ends_word : line_ends text ≡ line_ends word + line_ends after = ap line_ends cut ∙ line_ends-append word after in
     let total = r.size in
     let all_lines = r.lines in
     let short = utf8_valid_len_le bytes in
     let e1 = is.start_is in
     let e2 = is.end_is in
     let stands = reached_text bytes list at line rest gap text r split apart t is.start_is is.line_is in
-    let token_t : IsTokenAt text t.kind (chars (slice_range bytes t.start t.end)) behind = subst (λ (k : Kind). IsTokenAt text k (chars (slice_range bytes t.start t.end)) behind) (sym is.kind_is) (subst (λ (z : List ℕ). IsTokenAt text kind z behind) (sym word_is) token) in
+    let token_t : IsTokenAt text t.kind (chars (slice_range bytes t.start t.end)) after = subst (λ (k : Kind). IsTokenAt text k (chars (slice_range bytes t.start t.end)) after) (sym is.kind_is) (subst (λ (z : List ℕ). IsTokenAt text kind z after) (sym word_is) token) in
     record {
-      left = left_more bytes word behind bad (at + size_of gap) left_word;
+      left = left_more bytes word after bad (at + size_of gap) left_word;
       scalars = q.1;
       size = omega arith;
       lines = omega arith;
       slices = All-push (IsSlice bytes) list t r.slices (record { ordered = omega arith; within = omega arith; text = (word, (q.0, sym slice_t)) });
-      so_far = λ ms tokens. pushed bytes list t ms (r.so_far (lexeme_of bytes t ∷ ms) (text, apart, stands, inr (behind, token_t, tokens)));
+      so_far = λ ms tokens. pushed bytes list t ms (r.so_far (lexeme_of bytes t ∷ ms) (text, apart, stands, inr (after, token_t, tokens)));
     }
 
 -- the last token
@@ -206,10 +206,10 @@ small_gap bytes list at line rest gap text few utf8 r split =
     let spelt = valid_size bytes (chars (valid bytes)) (encodes-chars (valid bytes) utf8) in
     record { bytes = omega arith; lines = omega arith }
 
-pub small_word : (bytes : List ℕ) (list : List Token) (at line : ℕ) (rest gap text word behind : List ℕ) → length bytes ≤ 65536 → IsUtf8 (valid bytes) → Reached bytes list at line rest → rest ≡ gap ++ text → text ≡ word ++ behind → IsSmall (at + size_of gap + size_of word) (line + line_ends gap + line_ends word)
-small_word bytes list at line rest gap text word behind few utf8 r split cut =
-    let whole : rest ≡ (gap ++ word) ++ behind = split ∙ ap (λ (z : List ℕ). gap ++ z) cut ∙ sym (append_assoc gap word behind) in
-    let s = small_gap bytes list at line rest (gap ++ word) behind few utf8 r whole in
+pub small_word : (bytes : List ℕ) (list : List Token) (at line : ℕ) (rest gap text word after : List ℕ) → length bytes ≤ 65536 → IsUtf8 (valid bytes) → Reached bytes list at line rest → rest ≡ gap ++ text → text ≡ word ++ after → IsSmall (at + size_of gap + size_of word) (line + line_ends gap + line_ends word)
+small_word bytes list at line rest gap text word after few utf8 r split cut =
+    let whole : rest ≡ (gap ++ word) ++ after = split ∙ ap (λ (z : List ℕ). gap ++ z) cut ∙ sym (append_assoc gap word after) in
+    let s = small_gap bytes list at line rest (gap ++ word) after few utf8 r whole in
     let a = s.bytes in
     let b = s.lines in
     let sizes = size-append gap word in
@@ -237,28 +237,28 @@ word_some SlashEnd word s = quoted_some word _ 47 s
 word_some End word s = absurd s
 word_some Bad word s = absurd s
 
-pub shorter : (rest gap text word behind : List ℕ) (kind : Kind) → rest ≡ gap ++ text → IsTokenAt text kind word behind → length behind < length rest
-shorter rest gap text word behind kind split t =
+pub shorter : (rest gap text word after : List ℕ) (kind : Kind) → rest ≡ gap ++ text → IsTokenAt text kind word after → length after < length rest
+shorter rest gap text word after kind split t =
     let a : length rest ≡ length (gap ++ text) = ap length split in
-    let b : length text ≡ length (word ++ behind) = ap length t.begins.is in
+    let b : length text ≡ length (word ++ after) = ap length t.begins.is in
     let some = word_some kind word t.begins.spells in
-    omega (arith, length-append gap text, length-append word behind)
+    omega (arith, length-append gap text, length-append word after)
 
 -- what the reader's number of blanks cuts off
 pub blanks_cut : (text front back : List ℕ) (n : ℕ) → n ≡ blank_end false 0 text → front ≡ take n text → back ≡ drop n text → (text ≡ front ++ back) × IsApart text back
 blanks_cut text front back n is f b =
-    let r = behind_is text in
+    let r = after_blanks text in
     let e = r.1 in
     let same : back ≡ r.0 = b ∙ ap (λ (z : List ℕ). drop n z) e.is ∙ drop_at e.front r.0 n (e.count ∙ sym is) in
     (sym (ap (λ (z : List ℕ). z ++ back) f ∙ ap (λ (z : List ℕ). take n text ++ z) b ∙ take-append-drop n text), subst (λ (z : List ℕ). IsApart text z) (sym same) e.apart)
 
 -- what the reader's number of characters cuts off
-pub token_cut : (text word behind : List ℕ) (kind : Kind) (n : ℕ) → token_at text ≡ Some (kind, n) → word ≡ take n text → behind ≡ drop n text → IsTokenAt text kind word behind
-token_cut text word behind kind n is w b =
+pub token_cut : (text word after : List ℕ) (kind : Kind) (n : ℕ) → token_at text ≡ Some (kind, n) → word ≡ take n text → after ≡ drop n text → IsTokenAt text kind word after
+token_cut text word after kind n is w b =
     let l = longest_is text (kind, n) is in
     let whole = l.2.begins.is in
     let same_word : word ≡ l.0 = w ∙ ap (λ (z : List ℕ). take n z) whole ∙ take_at l.0 l.1 n l.3 in
-    let same_rest : behind ≡ l.1 = b ∙ ap (λ (z : List ℕ). drop n z) whole ∙ drop_at l.0 l.1 n l.3 in
+    let same_rest : after ≡ l.1 = b ∙ ap (λ (z : List ℕ). drop n z) whole ∙ drop_at l.0 l.1 n l.3 in
     subst (λ (z : List ℕ). IsTokenAt text kind word z) (sym same_rest) (subst (λ (z : List ℕ). IsTokenAt text kind z l.1) (sym same_word) l.2)
 
 pub token_within : (text : List ℕ) (kind : Kind) (n : ℕ) → token_at text ≡ Some (kind, n) → n ≤ length text

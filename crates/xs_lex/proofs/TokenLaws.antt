@@ -220,9 +220,9 @@ qual_covered c cs d ds rest front back =
     let same : ((c ∷ cs) ++ 58 ∷ d ∷ ds) ++ rest ≡ text = append_assoc (c ∷ cs) (58 ∷ d ∷ ds) rest in
     let n : ℕ = run_end is_plain_char 0 text in
     let stops : n ≡ 0 + length (c ∷ cs) = run_stops is_plain_char (c ∷ cs) 58 left 0 (plain_chars (c ∷ cs) front) colon_out in
-    let behind : drop n text ≡ 58 ∷ left = drop_at (c ∷ cs) (58 ∷ left) n (omega arith) in
+    let after : drop n text ≡ 58 ∷ left = drop_at (c ∷ cs) (58 ∷ left) n (omega arith) in
     let m : ℕ = n + 1 + run_end is_plain_char 0 left in
-    let found : name_at n text ≡ (Qual, m) = ap (λ (z : List ℕ). local_at n z) behind ∙ qual_local n d (ds ++ rest) second.0 in
+    let found : name_at n text ≡ (Qual, m) = ap (λ (z : List ℕ). local_at n z) after ∙ qual_local n d (ds ++ rest) second.0 in
     let covers : 0 + length (d ∷ ds) ≤ run_end is_plain_char 0 left = run_covers is_plain_char (d ∷ ds) rest 0 (plain_chars (d ∷ ds) back) in
     let enough : length ((c ∷ cs) ++ 58 ∷ d ∷ ds) ≤ m = omega (arith, length-append (c ∷ cs) (58 ∷ d ∷ ds)) in
     subst (λ (z : List ℕ). Covered z Qual ((c ∷ cs) ++ 58 ∷ d ∷ ds)) (sym same) ((Qual, m), name_found c (cs ++ 58 ∷ left) first.0 ∙ ap (λ (z : Kind × ℕ). Some z) found, name_longer m (length ((c ∷ cs) ++ 58 ∷ d ∷ ds)) Qual (Qual, m) enough (inl refl))
@@ -312,8 +312,8 @@ plain_alone c cs sep rest is white =
     let n : ℕ = run_end is_plain_char 0 text in
     let stops : n ≡ 0 + length (c ∷ cs) = run_stops is_plain_char (c ∷ cs) sep rest 0 (plain_chars (c ∷ cs) is) w.0 in
     let size : n ≡ length (c ∷ cs) = omega arith in
-    let behind : drop n text ≡ sep ∷ rest = drop_at (c ∷ cs) (sep ∷ rest) n (sym size) in
-    name_found c (cs ++ sep ∷ rest) first.0 ∙ ap (λ (z : List ℕ). Some (local_at n z)) behind ∙ ap (λ (z : Kind × ℕ). Some z) (local_alone n sep rest w.1) ∙ ap (λ (m : ℕ). Some (Plain, m)) size
+    let after : drop n text ≡ sep ∷ rest = drop_at (c ∷ cs) (sep ∷ rest) n (sym size) in
+    name_found c (cs ++ sep ∷ rest) first.0 ∙ ap (λ (z : List ℕ). Some (local_at n z)) after ∙ ap (λ (z : Kind × ℕ). Some z) (local_alone n sep rest w.1) ∙ ap (λ (m : ℕ). Some (Plain, m)) size
 
 qual_alone : (c : ℕ) (cs : List ℕ) (d : ℕ) (ds : List ℕ) (sep : ℕ) (rest : List ℕ) → is_plain (c ∷ cs) ≡ true → is_plain (d ∷ ds) ≡ true → is_white sep ≡ true → token_at (((c ∷ cs) ++ 58 ∷ d ∷ ds) ++ sep ∷ rest) ≡ Some (Qual, length ((c ∷ cs) ++ 58 ∷ d ∷ ds))
 qual_alone c cs d ds sep rest front back white =
@@ -325,10 +325,10 @@ qual_alone c cs d ds sep rest front back white =
     let same : ((c ∷ cs) ++ 58 ∷ d ∷ ds) ++ sep ∷ rest ≡ text = append_assoc (c ∷ cs) (58 ∷ d ∷ ds) (sep ∷ rest) in
     let n : ℕ = run_end is_plain_char 0 text in
     let stops : n ≡ 0 + length (c ∷ cs) = run_stops is_plain_char (c ∷ cs) 58 left 0 (plain_chars (c ∷ cs) front) colon_out in
-    let behind : drop n text ≡ 58 ∷ left = drop_at (c ∷ cs) (58 ∷ left) n (omega arith) in
+    let after : drop n text ≡ 58 ∷ left = drop_at (c ∷ cs) (58 ∷ left) n (omega arith) in
     let ends : run_end is_plain_char 0 left ≡ 0 + length (d ∷ ds) = run_stops is_plain_char (d ∷ ds) sep rest 0 (plain_chars (d ∷ ds) back) w.0 in
     let size : n + 1 + run_end is_plain_char 0 left ≡ length ((c ∷ cs) ++ 58 ∷ d ∷ ds) = omega (arith, length-append (c ∷ cs) (58 ∷ d ∷ ds)) in
-    ap token_at same ∙ name_found c (cs ++ 58 ∷ left) first.0 ∙ ap (λ (z : List ℕ). Some (local_at n z)) behind ∙ ap (λ (z : Kind × ℕ). Some z) (qual_local n d (ds ++ sep ∷ rest) second.0) ∙ ap (λ (m : ℕ). Some (Qual, m)) size
+    ap token_at same ∙ name_found c (cs ++ 58 ∷ left) first.0 ∙ ap (λ (z : List ℕ). Some (local_at n z)) after ∙ ap (λ (z : Kind × ℕ). Some z) (qual_local n d (ds ++ sep ∷ rest) second.0) ∙ ap (λ (m : ℕ). Some (Qual, m)) size
 
 angle_alone : (sep : ℕ) (rest : List ℕ) → (sep == 47) ≡ false → token_at (60 ∷ sep ∷ rest) ≡ Some (Angle, 1)
 unfolding token_at

@@ -58,7 +58,7 @@ pub record IsLast (extent : Extent) (token : Lexeme) (rest : List ℕ) : Type 0 
   pub kind : token.kind ≡ (if extent.whole && is_nothing rest then End else Bad)
   pub word : token.word ≡ []
 
--- the tokens of what is left of a file, each behind what may stand between tokens
+-- the tokens of what is left of a file, each after what may stand between tokens
 abbrev pub AreTokensFrom : Extent → List ℕ → List Lexeme → Type 0
 AreTokensFrom extent text [] = ⊥
 AreTokensFrom extent text (t ∷ ts) = (rest : List ℕ) × IsApart text rest × StandsAt extent t rest × (((ts ≡ []) × IsLast extent t rest) ⊎ ((after : List ℕ) × IsTokenAt rest t.kind t.word after × AreTokensFrom extent after ts))
@@ -67,17 +67,17 @@ AreTokensFrom extent text (t ∷ ts) = (rest : List ℕ) × IsApart text rest ×
 abbrev pub valid : List ℕ → List ℕ
 valid bytes = take (utf8_valid_len bytes) bytes
 
--- the byte order mark, U+FEFF, is passed over
-abbrev pub behind_mark : List ℕ → List ℕ
-behind_mark [] = []
-behind_mark (c ∷ cs) = if c == 0xFEFF then cs else c ∷ cs
+-- the byte order mark, U+FEFF, is skipped
+abbrev pub after_mark : List ℕ → List ℕ
+after_mark [] = []
+after_mark (c ∷ cs) = if c == 0xFEFF then cs else c ∷ cs
 
 abbrev pub extent_of : List ℕ → Extent
 extent_of bytes = record { size = utf8_valid_len bytes; lines = 1 + line_ends (chars (valid bytes)); whole = utf8_valid_len bytes == length bytes }
 
 -- these are the tokens of the bytes of a file
 abbrev pub AreTokens : List ℕ → List Lexeme → Type 0
-AreTokens bytes ts = AreTokensFrom (extent_of bytes) (behind_mark (chars (valid bytes))) ts
+AreTokens bytes ts = AreTokensFrom (extent_of bytes) (after_mark (chars (valid bytes))) ts
 
 -- a token of the file with its word, the characters of its slice of the bytes
 abbrev pub lexeme_of : List ℕ → Token → Lexeme

@@ -10,7 +10,7 @@ use Rattle.xs_lex.specs.Classes.{is_plain_start, is_plain_char, is_white}
 use Rattle.xs_lex.specs.Units.{is_escape, escape_char, is_hex, is_scalar}
 use Rattle.xs_lex.specs.Spelling.{begins_with}
 
--- how many characters of a class stand at the front, behind k others
+-- how many characters of a class stand at the front, after k others
 abbrev pub run_end : (ℕ → Bool) → ℕ → List ℕ → ℕ
 run_end f k [] = k
 run_end f k (c ∷ cs) = if f c then run_end f (k + 1) cs else k
@@ -61,7 +61,7 @@ value_at None cs = []
 value_at (Some s) [] = []
 value_at (Some s) (c ∷ cs) = if closes s c then [] else given s c ++ value_at (spot_after s c) cs
 
--- a pattern from inside it; guarded: behind a backslash
+-- a pattern from inside it; guarded: after a backslash
 abbrev pub pattern_end : Bool → ℕ → List ℕ → Option ℕ
 pattern_end guarded k [] = None
 pattern_end true k (c ∷ cs) = if c == 10 then None else pattern_end false (k + 1) cs
@@ -78,7 +78,7 @@ slash_at cs = if begins_with 62 cs then Some (SlashEnd, 2) else of_kind Pattern 
 abbrev pub angle_at : List ℕ → Kind × ℕ
 angle_at cs = if begins_with 47 cs then (AngleSlash, 2) else (Angle, 1)
 
--- behind a plain name of n characters: a colon and a second name make it a qualified one
+-- after a plain name of n characters: a colon and a second name make it a qualified one
 abbrev pub local_at : ℕ → List ℕ → Kind × ℕ
 local_at n [] = (Plain, n)
 local_at n (c ∷ []) = (Plain, n)
@@ -94,7 +94,7 @@ unfoldable pub token_at : List ℕ → Option (Kind × ℕ)
 token_at [] = None
 token_at (c ∷ cs) = if c == 34 then of_kind Quoted (quoted_end (Some Between) 1 cs) else (if c == 47 then slash_at cs else (if c == 60 then Some (angle_at cs) else (if is_plain_start c then Some (name_at (run_end is_plain_char 0 (c ∷ cs)) (c ∷ cs)) else sign_at c)))
 
--- the number of bytes of a mark at the front, and what stands behind it
+-- the number of bytes of a mark at the front, and what stands after it
 abbrev pub front_at : List ℕ → ℕ × List ℕ
 front_at [] = (0, [])
 front_at (c ∷ cs) = if c == 0xFEFF then (3, cs) else (0, c ∷ cs)

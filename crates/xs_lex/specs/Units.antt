@@ -35,7 +35,7 @@ is_quoted_unit (plain c) = not (c == 34 || (c == 92 || c == 10))
 is_quoted_unit (escaped c) = is_escape c
 is_quoted_unit (coded ds) = list_all is_hex ds && (nat_le 1 (length ds) && (nat_le (length ds) 6 && is_scalar (number 0 ds)))
 
--- the spelling of units, and what stands behind them: " is 34, \ is 92, u{ is 117 123, } is 125
+-- the spelling of units, and what stands after them: " is 34, \ is 92, u{ is 117 123, } is 125
 abbrev pub spelt_quoted_unit : QuotedUnit → List ℕ → List ℕ
 spelt_quoted_unit (plain c) rest = c ∷ rest
 spelt_quoted_unit (escaped c) rest = 92 ∷ c ∷ rest

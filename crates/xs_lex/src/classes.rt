@@ -3,13 +3,14 @@ ghost use Rattle.xs_lex.specs.Classes.{is_name_start, is_name_char, is_plain_sta
 
 use xs_class::{is_name_char, is_name_start};
 
-// The same as tests.
+/// Whether a Name may begin with the character.
 fn begins_name(c: u32) -> bool
     ensures { result ≡ is_name_start c }
 {
     is_name_start(c)
 }
 
+/// Whether the character may stand in a Name.
 fn in_name(c: u32) -> bool
     ensures { result ≡ is_name_char c }
 {

@@ -5,7 +5,7 @@ ghost use Rattle.xs_lex.specs.Scan.{run_end, name_at};
 use crate::Kind;
 use crate::classes::{begins_plain, in_plain};
 
-// How many characters at the front may stand in a plain name.
+/// How many characters at the front may stand in a plain name.
 fn run(text: &[char]) -> usize
     ensures value { result ≡ run_end is_plain_char 0 text.now }
     ensures within { result ≤ length text.now }

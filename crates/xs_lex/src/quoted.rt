@@ -12,20 +12,22 @@ use xs_class::{Memory, Text};
 #[derive(Clone, Copy)]
 pub enum Spot {
     Between,
-    /// Behind a backslash.
+    /// After a backslash.
     Escaped,
-    /// Behind `\u`.
+    /// After `\u`.
     Opened,
-    /// Behind `\u{` and so many digits, which have this value.
+    /// After `\u{` and that many digits, which have this value.
     Digits(u32, u32),
 }
 
+/// Whether the character may follow a backslash, apart from `u`.
 fn is_escape_sign(c: char) -> bool
     ensures { result ≡ is_escape c }
 {
     c == '"' || c == '\\' || c == 'n' || c == 't' || c == 'r'
 }
 
+/// The character that a backslash and this one stand for.
 fn escaped(c: char) -> char
     ensures { result ≡ escape_char c }
 {
@@ -38,6 +40,7 @@ fn escaped(c: char) -> char
 }
 
 impl Spot {
+    /// Whether the character ends the string here.
     fn closes(self, c: char) -> bool
         ensures { result ≡ closes self c }
     {
@@ -49,7 +52,7 @@ impl Spot {
         }
     }
 
-    // Where one more character leads, unless no unit goes on with it.
+    /// Where one more character leads, unless no unit goes on with it.
     fn after(self, c: char) -> Option<Spot>
         requires { IsBounded self }
         ensures value { result ≡ spot_after self c }
@@ -69,7 +72,7 @@ impl Spot {
         }
     }
 
-    // The character of the unit that ends with c, if one does.
+    /// The character of the unit that ends with c, if one does.
     fn given(self, c: char) -> Option<char>
         ensures { option_to_list result ≡ given self c }
     {
@@ -86,6 +89,7 @@ impl Spot {
     }
 }
 
+/// Where a character between units leads.
 fn after_character(c: char) -> Option<Spot>
     ensures value { result ≡ spot_after Spot.Between c }
     ensures bounded { IfSome result IsBounded }
@@ -96,6 +100,7 @@ fn after_character(c: char) -> Option<Spot>
     if c == '\n' { None } else { Some(Spot::Between) }
 }
 
+/// Where a character after a backslash leads.
 fn after_backslash(c: char) -> Option<Spot>
     ensures value { result ≡ spot_after Spot.Escaped c }
     ensures bounded { IfSome result IsBounded }
@@ -110,6 +115,7 @@ fn after_backslash(c: char) -> Option<Spot>
     }
 }
 
+/// Where a character after digits leads.
 fn after_digits(count: u32, number: u32, c: char) -> Option<Spot>
     requires few { count ≤ 6 }
     requires low { number < 0x110000 }
@@ -145,7 +151,7 @@ pub fn quoted(text: &[char]) -> Option<usize>
     None
 }
 
-// The text with the character, if there is one.
+/// The text with the character, if there is one.
 fn push_given(text: &mut Text, given: Option<char>) -> Result<(), Memory>
     ensures { OnOk result (text.new ≡ text.old ++ option_to_list given) }
 {
@@ -155,7 +161,7 @@ fn push_given(text: &mut Text, given: Option<char>) -> Result<(), Memory>
     Ok(())
 }
 
-// What a quoted string's text behind its first quotation mark stands for.
+/// What a quoted string's text after its first quotation mark stands for.
 fn value(alloc: Global, text: &[char]) -> Result<Text, Memory>
     ensures { IfOk result (λ t. t ≡ value_at (Some Spot.Between) text.now) }
 {

@@ -7,14 +7,14 @@ ghost use Rattle.xs_lex.specs.Laws.{Separated};
 ghost use Rattle.xs_lex.specs.Scan.{front_at};
 
 use crate::blanks::blanks;
-use crate::place::Place;
+use crate::location::Location;
 use crate::scan::token;
 use crate::{Kind, Token, Tokens};
 use std::alloc::Global;
 use std::str;
 use xs_class::Memory;
 
-// The bytes up to the first place that is not UTF-8.
+/// The bytes up to the first place that is not UTF-8.
 fn valid_text(bytes: &[u8]) -> &str
     ensures { result.now ≡ valid bytes.now }
 {
@@ -43,18 +43,18 @@ pub fn tokens(alloc: Global, bytes: &[u8]) -> Result<Tokens, Memory>
     Ok(Tokens::from_vec(list))
 }
 
-// The place behind a byte order mark at the front, and the rest.
-fn front(letters: &[char]) -> (Place, &[char])
+/// The place after a byte order mark at the front, and the rest.
+fn front(letters: &[char]) -> (Location, &[char])
     ensures rest { (result.0.at, result.1.now) ≡ front_at letters.now }
     ensures line { result.0.line ≡ 1 }
 {
     match letters {
-        ['\u{FEFF}', others @ ..] => (Place { at: 3, line: 1 }, others),
-        _ => (Place { at: 0, line: 1 }, letters),
+        ['\u{FEFF}', others @ ..] => (Location { at: 3, line: 1 }, others),
+        _ => (Location { at: 0, line: 1 }, letters),
     }
 }
 
-// What stands between tokens at the front of the text, and the rest.
+/// What stands between tokens at the front of the text, and the rest.
 fn split_blanks(text: &[char]) -> (&[char], &[char])
     ensures parts { text.now ≡ result.0.now ++ result.1.now }
     ensures apart { IsApart text.now result.1.now }
@@ -66,19 +66,20 @@ fn split_blanks(text: &[char]) -> (&[char], &[char])
 struct Cut<'a> {
     kind: Kind,
     word: &'a [char],
-    behind: &'a [char],
+    rest: &'a [char],
 }
 
-// The longest token at the front of the text, if there is one.
+/// The longest token at the front of the text, if there is one.
 fn split_token(text: &[char]) -> Option<Cut<'_>>
-    ensures found { IfSome result (λ c. IsTokenAt text.now c.kind c.word.now c.behind.now) }
+    ensures found { IfSome result (λ c. IsTokenAt text.now c.kind c.word.now c.rest.now) }
     ensures none { IfNone result (NoToken text.now) }
 {
     let (kind, length) = token(text)?;
-    let (word, behind) = text.split_at(length);
-    Some(Cut { kind, word, behind })
+    let (word, rest) = text.split_at(length);
+    Some(Cut { kind, word, rest })
 }
 
+/// The kind of the last token, where nothing more can be read.
 fn last_kind(whole: bool, text: &[char]) -> Kind
     ensures { result ≡ (if whole && is_nothing text.now then Kind.End else Kind.Bad) }
 {
@@ -90,7 +91,7 @@ fn last_kind(whole: bool, text: &[char]) -> Kind
     Kind::Bad
 }
 
-// The tokens of the file, whose part that is UTF-8 has these characters.
+/// The tokens of the file, whose part that is UTF-8 has these characters.
 fn scanned(alloc: Global, bytes: &[u8], whole: bool, letters: &[char]) -> Result<Vec<Token>, Memory>
     requires few { length bytes.now ≤ 65536 }
     requires text { IsUtf8 (valid bytes.now) }
@@ -100,10 +101,10 @@ fn scanned(alloc: Global, bytes: &[u8], whole: bool, letters: &[char]) -> Result
     ensures slices { IfOk result (λ ts. All (IsSlice bytes.now) ts.items) }
 {
     let mut list = Vec::new(alloc);
-    let (mut place, mut rest) = front(letters);
+    let (mut location, mut rest) = front(letters);
     'tokens: loop {
         let (gap, text) = split_blanks(rest);
-        let start = place.past(gap);
+        let start = location.past(gap);
         let Some(next) = split_token(text) else {
             let kind = last_kind(whole, text);
             list.push(Token {
@@ -121,8 +122,8 @@ fn scanned(alloc: Global, bytes: &[u8], whole: bool, letters: &[char]) -> Result
             end: end.at,
             line: start.line,
         })?;
-        place = end;
-        rest = next.behind;
+        location = end;
+        rest = next.rest;
     }
 }
 

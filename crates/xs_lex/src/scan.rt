@@ -7,6 +7,7 @@ use crate::names::name;
 use crate::patterns::pattern;
 use crate::quoted::quoted;
 
+/// The token that begins with a slash.
 fn slash(text: &[char]) -> Option<(Kind, usize)>
     ensures { result ≡ slash_at text.now }
 {
@@ -17,6 +18,7 @@ fn slash(text: &[char]) -> Option<(Kind, usize)>
     Some((Kind::Pattern, length))
 }
 
+/// The token that begins with `<`.
 fn angle(text: &[char]) -> (Kind, usize)
     ensures { result ≡ angle_at text.now }
 {
@@ -26,6 +28,7 @@ fn angle(text: &[char]) -> (Kind, usize)
     (Kind::Angle, 1)
 }
 
+/// The token of one sign.
 fn sign(c: char) -> Option<(Kind, usize)>
     ensures { result ≡ sign_at c }
 {

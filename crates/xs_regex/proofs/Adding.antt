@@ -13,7 +13,7 @@ use Rattle.xs_class.specs.Tables.{IsChar}
 use Rattle.xs_regex.specs.declared.fault.RegexFault.{RegexFault}
 use Rattle.xs_regex.specs.Characters.{Item, span, named, is_known, known, with_left, known_item, item_at, item_more, items_more, items_at, some_of, none_of, sorted, one_at, one_set}
 use Rattle.xs_regex.specs.Meaning.{IsOfItem, IsOfItems, IsClassOf}
-use Rattle.xs_regex.specs.Told.{IsTold, Adds}
+use Rattle.xs_regex.specs.Reported.{IsReported, Adds}
 
 pub has_append : (xs ys : List (ℕ × ℕ)) (s : ℕ) → Has (xs ++ ys) s ↔ (Has xs s ⊎ Has ys s)
 has_append [] ys s = (λ h. inr h, λ h. elim h [ inl a ↦ absurd a | inr b ↦ b ])
@@ -115,13 +115,13 @@ other_next n c rest item k = by_test (c == 93) (eqb_tells c 93)
 some_none : (a : List Item × List ℕ) → ◌≡◌ {A = Option (List Item × List ℕ)} (Some a) None → ⊥
 some_none a e = cc
 
-pub items_on : (n m : ℕ) (cs rest left : List ℕ) (c : ℕ) (item : Item) (old mid new : List (ℕ × ℕ)) (r : Result (Bor (List ℕ)) RegexFault) → n ≡ suc m → item_at cs ≡ Some (item, left) → left ≡ c ∷ rest → c ≢ 93 → IsSomeAnd (known item) (λ a. Adds old mid (IsOfItem a)) → IsTold (items_at m left) (λ a x. (a.1 ≡ x.now) × Adds mid new (IsOfItems a.0)) r → IsTold (items_at n cs) (λ a x. (a.1 ≡ x.now) × Adds old new (IsOfItems a.0)) r
+pub items_on : (n m : ℕ) (cs rest left : List ℕ) (c : ℕ) (item : Item) (old mid new : List (ℕ × ℕ)) (r : Result (Bor (List ℕ)) RegexFault) → n ≡ suc m → item_at cs ≡ Some (item, left) → left ≡ c ∷ rest → c ≢ 93 → IsSomeAnd (known item) (λ a. Adds old mid (IsOfItem a)) → IsReported (items_at m left) (λ a x. (a.1 ≡ x.now) × Adds mid new (IsOfItems a.0)) r → IsReported (items_at n cs) (λ a x. (a.1 ≡ x.now) × Adds old new (IsOfItems a.0)) r
 items_on n m cs rest left c item old mid new r p e f k h t =
     let same = known_same item (λ a. Adds old mid (IsOfItem a)) h in
     let whole : items_at n cs ≡ item_more item (items_at m left) = ap (λ x. items_at x cs) p ∙ first_item m cs left item e same.0 ∙ ap (λ l. items_more (Some (item, l)) (λ left. items_at m left)) f ∙ other_next m c rest item k ∙ ap (λ l. item_more item (items_at m l)) (sym f) in
-    subst (λ o. IsTold o (λ a x. (a.1 ≡ x.now) × Adds old new (IsOfItems a.0)) r) (sym whole) (more (items_at m left) r same.1 t)
+    subst (λ o. IsReported o (λ a x. (a.1 ≡ x.now) × Adds old new (IsOfItems a.0)) r) (sym whole) (more (items_at m left) r same.1 t)
   where
-    more : (o : Option (List Item × List ℕ)) (r : Result (Bor (List ℕ)) RegexFault) → Adds old mid (IsOfItem item) → IsTold o (λ a x. (a.1 ≡ x.now) × Adds mid new (IsOfItems a.0)) r → IsTold (item_more item o) (λ a x. (a.1 ≡ x.now) × Adds old new (IsOfItems a.0)) r
+    more : (o : Option (List Item × List ℕ)) (r : Result (Bor (List ℕ)) RegexFault) → Adds old mid (IsOfItem item) → IsReported o (λ a x. (a.1 ≡ x.now) × Adds mid new (IsOfItems a.0)) r → IsReported (item_more item o) (λ a x. (a.1 ≡ x.now) × Adds old new (IsOfItems a.0)) r
     more None (Ok x) g t = absurd t
     more (Some a) (Ok x) g t = (
       t.0,
@@ -140,9 +140,9 @@ items_on n m cs rest left c item old mid new r p e f k h t =
     more (Some a) (Err e) g t = λ k. absurd (some_none a (t k))
 
 -- sets of the characters that were added
-pub some_told : (o : Option (List Item × List ℕ)) (old ranges class : List (ℕ × ℕ)) (left : List ℕ) → old ≡ [] → IsSomeAnd o (λ a. (a.1 ≡ left) × Adds old ranges (IsOfItems a.0)) → ((s : ℕ) → Has class s ↔ (IsChar s × Has ranges s)) → IsSomeAnd (sorted some_of o) (λ a. (a.1 ≡ left) × IsClassOf a.0 class)
-some_told None old ranges class left e h k = absurd h
-some_told (Some a) old ranges class left e h k = (
+pub some_reported : (o : Option (List Item × List ℕ)) (old ranges class : List (ℕ × ℕ)) (left : List ℕ) → old ≡ [] → IsSomeAnd o (λ a. (a.1 ≡ left) × Adds old ranges (IsOfItems a.0)) → ((s : ℕ) → Has class s ↔ (IsChar s × Has ranges s)) → IsSomeAnd (sorted some_of o) (λ a. (a.1 ≡ left) × IsClassOf a.0 class)
+some_reported None old ranges class left e h k = absurd h
+some_reported (Some a) old ranges class left e h k = (
   h.0,
   λ s. (
     λ m. let b = (k s).0 m in (b.0, from_none s ((h.1 s).0 b.1)),
@@ -154,9 +154,9 @@ some_told (Some a) old ranges class left e h k = (
     from_none s (inl b) = absurd (rw e at b)
     from_none s (inr b) = b
 
-pub none_told : (o : Option (List Item × List ℕ)) (old ranges class : List (ℕ × ℕ)) (left : List ℕ) → old ≡ [] → IsSomeAnd o (λ a. (a.1 ≡ left) × Adds old ranges (IsOfItems a.0)) → ((s : ℕ) → Has class s ↔ (IsChar s × (Has ranges s → ⊥))) → IsSomeAnd (sorted none_of o) (λ a. (a.1 ≡ left) × IsClassOf a.0 class)
-none_told None old ranges class left e h k = absurd h
-none_told (Some a) old ranges class left e h k = (
+pub none_reported : (o : Option (List Item × List ℕ)) (old ranges class : List (ℕ × ℕ)) (left : List ℕ) → old ≡ [] → IsSomeAnd o (λ a. (a.1 ≡ left) × Adds old ranges (IsOfItems a.0)) → ((s : ℕ) → Has class s ↔ (IsChar s × (Has ranges s → ⊥))) → IsSomeAnd (sorted none_of o) (λ a. (a.1 ≡ left) × IsClassOf a.0 class)
+none_reported None old ranges class left e h k = absurd h
+none_reported (Some a) old ranges class left e h k = (
   h.0,
   λ s. (
     λ m. let b = (k s).0 m in (b.0, λ i. b.1 ((h.1 s).1 (inr i))),
@@ -168,9 +168,9 @@ none_told (Some a) old ranges class left e h k = (
     from_none s (inl b) = absurd (rw e at b)
     from_none s (inr b) = b
 
-pub one_told : (o : Option Item) (old ranges class : List (ℕ × ℕ)) (left : List ℕ) → old ≡ [] → IsSomeAnd o (λ a. Adds old ranges (IsOfItem a)) → ((s : ℕ) → Has class s ↔ (IsChar s × Has ranges s)) → IsSomeAnd (one_set (with_left left o)) (λ a. (a.1 ≡ left) × IsClassOf a.0 class)
-one_told None old ranges class left e h k = absurd h
-one_told (Some item) old ranges class left e h k = (
+pub one_reported : (o : Option Item) (old ranges class : List (ℕ × ℕ)) (left : List ℕ) → old ≡ [] → IsSomeAnd o (λ a. Adds old ranges (IsOfItem a)) → ((s : ℕ) → Has class s ↔ (IsChar s × Has ranges s)) → IsSomeAnd (one_set (with_left left o)) (λ a. (a.1 ≡ left) × IsClassOf a.0 class)
+one_reported None old ranges class left e h k = absurd h
+one_reported (Some item) old ranges class left e h k = (
   refl,
   λ s. (
     λ m. let b = (k s).0 m in (b.0, from_none s ((h s).0 b.1)),

@@ -16,9 +16,9 @@ use Rattle.xs_regex.proofs.Choice.{either_sound, either_complete, either_formed,
 use Rattle.xs_regex.proofs.Repetition.{round_sound, round_complete, round_formed, round_trim, optional_sound, optional_complete, optional_formed, optional_trim, each_weaker}
 use Rattle.xs_regex.proofs.Words.{one_more, fewer, first_word, none_or_first}
 
--- the same words, classes and condition, told otherwise
-pub told : {V W : List ℕ → Type 0} {c d : List (List (ℕ × ℕ))} {S T : Type 0} {p : Position} → ((w : List ℕ) → V w → W w) → ((w : List ℕ) → W w → V w) → c ≡ d → (T → S) → IsAutomaton V c S p → IsAutomaton W d T p
-told to back e sure a = record {
+-- the same words, classes and condition, stated otherwise
+pub restated : {V W : List ℕ → Type 0} {c d : List (List (ℕ × ℕ))} {S T : Type 0} {p : Position} → ((w : List ℕ) → V w → W w) → ((w : List ℕ) → W w → V w) → c ≡ d → (T → S) → IsAutomaton V c S p → IsAutomaton W d T p
+restated to back e sure a = record {
   formed = a.formed;
   sound = λ w h. to w (a.sound w h);
   complete = λ w h. a.complete w (back w h);
@@ -136,21 +136,21 @@ number_any V w h = elim (none_or_first V None None w (λ k m. tt) h) [
 ]
 
 pub star_is : {V : List ℕ → Type 0} {c : List (List (ℕ × ℕ))} {S : Type 0} {p r : Position} → IsAutomaton V c S p → IsRound p r → IsAutomaton (λ w. (ws : List (List ℕ)) × (w ≡ joined ws) × Each V ws) c S (optional r)
-star_is {V} a t = told (λ w h. let x = any_number V w h in (x.0, x.1, x.2)) (λ w h. number_any V w (h.0, h.1, h.2, omega arith, tt)) refl (λ s. s) (optional_is (round_is a t))
+star_is {V} a t = restated (λ w h. let x = any_number V w h in (x.0, x.1, x.2)) (λ w h. number_any V w (h.0, h.1, h.2, omega arith, tt)) refl (λ s. s) (optional_is (round_is a t))
 
 -- what is repeated is its own automaton
 pub itself : (p : Position) → IsWellFormed p → IsAutomaton (Accepts p) p.classes (ClassesHaveMembers p → IsTrim p) p
 itself p f = record { formed = f; sound = λ w h. h; complete = λ w h. h; classes_are = refl; trim = λ s m. s m }
 
--- one copy more, after which at least so many were wanted
+-- one copy more, after which at least that many were wanted
 pub copy_is : (one all r : Position) (least : ℕ) (most more : Option ℕ) (n : ℕ) (S : Type 0) → ((k : ℕ) → AtMost k most → AtMost (suc k) more) → ((k : ℕ) → AtMost (suc k) more → AtMost k most) → (S → ClassesHaveMembers one → IsTrim one) → IsWellFormed one → IsAutomaton (Repeats (Accepts one) least most) (times n one.classes) S all → IsThen one all r → IsAutomaton (Repeats (Accepts one) (least + 1) more) (times (suc n) one.classes) S r
 copy_is one all r least most more n S up down sure f a t =
-    told (λ w h. rw h.2 (one_more (Accepts one) least most more h.0 h.1 up h.3 h.4)) (λ w h. first_word (Accepts one) least most more w down h) refl (λ s. (sure s, s)) (then_is (itself one f) a t)
+    restated (λ w h. rw h.2 (one_more (Accepts one) least most more h.0 h.1 up h.3 h.4)) (λ w h. first_word (Accepts one) least most more w down h) refl (λ s. (sure s, s)) (then_is (itself one f) a t)
 
--- one copy more, which may be left out with all behind it
+-- one copy more, which may be left out with all after it
 pub free_copy_is : (one all r : Position) (most more : Option ℕ) (n : ℕ) (S : Type 0) → ((k : ℕ) → AtMost k most → AtMost (suc k) more) → ((k : ℕ) → AtMost (suc k) more → AtMost k most) → AtMost 0 more → (S → ClassesHaveMembers one → IsTrim one) → IsWellFormed one → IsAutomaton (Repeats (Accepts one) 0 most) (times n one.classes) S all → IsThen one all r → IsAutomaton (Repeats (Accepts one) 0 more) (times (suc n) one.classes) S (optional r)
 free_copy_is one all r most more n S up down none sure f a t =
-    told (λ w h. some w h) (λ w h. none_or_first (Accepts one) most more w down h) refl (λ s. (sure s, s)) (optional_is (then_is (itself one f) a t))
+    restated (λ w h. some w h) (λ w h. none_or_first (Accepts one) most more w down h) refl (λ s. (sure s, s)) (optional_is (then_is (itself one f) a t))
   where
     some : (w : List ℕ) → (w ≡ []) ⊎ ((u : List ℕ) × (v : List ℕ) × (w ≡ u ++ v) × Accepts one u × Repeats (Accepts one) 0 most v) → Repeats (Accepts one) 0 more w
     some w (inl e) = ([], e, tt, omega arith, none)

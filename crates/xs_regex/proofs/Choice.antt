@@ -23,7 +23,7 @@ or_right : (a b : Bool) → IsTrue b → IsTrue (a || b)
 or_right true b e = refl
 or_right false b e = e
 
--- numbers of the first, and those of the second behind them
+-- numbers of the first, and those of the second after them
 numbers_split : (n : ℕ) (xs ys zs : List ℕ) → zs ≡ xs ++ shift n ys → (k : ℕ) → Contains zs k → Contains xs k ⊎ ((m : ℕ) × (k ≡ n + m) × Contains ys m)
 numbers_split n xs ys zs e k c = elim (Contains-append_cases xs (shift n ys) k (rw e at c)) [
   | inl h ↦ inl h

@@ -13,7 +13,7 @@ use Rattle.xs_regex.specs.Parts.{bare, optional, IsThen, IsRound, IsAutomaton, I
 use Rattle.xs_regex.specs.Size.{times, copies, IsInOrder}
 use Rattle.xs_regex.proofs.Repetition.{each_weaker}
 use Rattle.xs_regex.proofs.Words.{all_empty, empty_words, length-times, times-nil}
-use Rattle.xs_regex.proofs.Built.{told, itself, of_bare, round_is, optional_is, any_number, number_any, copy_is, free_copy_is, no_run}
+use Rattle.xs_regex.proofs.Built.{restated, itself, of_bare, round_is, optional_is, any_number, number_any, copy_is, free_copy_is, no_run}
 
 -- there is room for one copy more
 pub room : (one all : Position) (Word : List ℕ → Type 0) (Sure : Type 0) (n most : ℕ) → n < most → most * length one.classes ≤ 512 → IsAutomaton Word (times n one.classes) Sure all → length one.classes + length all.classes ≤ 512
@@ -29,29 +29,29 @@ at_least_init one last r least f t is = elim (eqb_tells least 0) [
       let low : 0 ≡ min 1 least = omega (arith, h.1) in
       subst (λ p. IsAutomaton (Repeats (Accepts one) (min 1 least) None) (one.classes ++ []) (IsSure one least None) p) whole
       (subst (λ n. IsAutomaton (Repeats (Accepts one) n None) (one.classes ++ []) (IsSure one least None) (optional last)) low
-      (told (any_number (Accepts one)) (number_any (Accepts one)) (sym (append-nil one.classes)) (λ s. s.1) (optional_is (round_is (itself one f) t))))
+      (restated (any_number (Accepts one)) (number_any (Accepts one)) (sym (append-nil one.classes)) (λ s. s.1) (optional_is (round_is (itself one f) t))))
   | inr h ↦
       let whole : last ≡ r = sym (is ∙ ap (λ (b : Bool). if b then optional last else last) h.0) in
       let low : 1 ≡ min 1 least = omega (arith, h.1) in
       subst (λ p. IsAutomaton (Repeats (Accepts one) (min 1 least) None) (one.classes ++ []) (IsSure one least None) p) whole
       (subst (λ n. IsAutomaton (Repeats (Accepts one) n None) (one.classes ++ []) (IsSure one least None) last) low
-      (told (λ w a. a) (λ w a. a) (sym (append-nil one.classes)) (λ s. s.1) (round_is (itself one f) t)))
+      (restated (λ w a. a) (λ w a. a) (sym (append-nil one.classes)) (λ s. s.1) (round_is (itself one f) t)))
 ]
 
-pub at_least_more : (one all r : Position) (least behind : ℕ) → behind < least → IsWellFormed one → IsAutomaton (Repeats (Accepts one) (min behind least) None) (times behind one.classes) (IsSure one least None) all → IsThen one all r → IsAutomaton (Repeats (Accepts one) (min (behind + 1) least) None) (times (behind + 1) one.classes) (IsSure one least None) r
-at_least_more one all r least behind l f a t =
-    let low : min behind least + 1 ≡ min (behind + 1) least = omega arith in
-    let next : suc behind ≡ behind + 1 = omega arith in
-    subst (λ n. IsAutomaton (Repeats (Accepts one) (min (behind + 1) least) None) (times n one.classes) (IsSure one least None) r) next
-    (subst (λ n. IsAutomaton (Repeats (Accepts one) n None) (times (suc behind) one.classes) (IsSure one least None) r) low
-    (copy_is one all r (min behind least) None None behind (IsSure one least None) (λ k m. tt) (λ k m. tt) (λ s. s.1) f a t))
+pub at_least_more : (one all r : Position) (least later : ℕ) → later < least → IsWellFormed one → IsAutomaton (Repeats (Accepts one) (min later least) None) (times later one.classes) (IsSure one least None) all → IsThen one all r → IsAutomaton (Repeats (Accepts one) (min (later + 1) least) None) (times (later + 1) one.classes) (IsSure one least None) r
+at_least_more one all r least later l f a t =
+    let low : min later least + 1 ≡ min (later + 1) least = omega arith in
+    let next : suc later ≡ later + 1 = omega arith in
+    subst (λ n. IsAutomaton (Repeats (Accepts one) (min (later + 1) least) None) (times n one.classes) (IsSure one least None) r) next
+    (subst (λ n. IsAutomaton (Repeats (Accepts one) n None) (times (suc later) one.classes) (IsSure one least None) r) low
+    (copy_is one all r (min later least) None None later (IsSure one least None) (λ k m. tt) (λ k m. tt) (λ s. s.1) f a t))
 
-pub at_least_end : (one all : Position) (least behind : ℕ) → least ≤ behind → 1 ≤ behind → behind ≤ max least 1 → IsAutomaton (Repeats (Accepts one) (min behind least) None) (times behind one.classes) (IsSure one least None) all → IsAutomaton (Repeats (Accepts one) least None) (times (max least 1) one.classes) (IsSure one least None) all
-at_least_end one all least behind l m n a =
-    let low : min behind least ≡ least = omega arith in
-    let end : behind ≡ max least 1 = omega arith in
+pub at_least_end : (one all : Position) (least later : ℕ) → least ≤ later → 1 ≤ later → later ≤ max least 1 → IsAutomaton (Repeats (Accepts one) (min later least) None) (times later one.classes) (IsSure one least None) all → IsAutomaton (Repeats (Accepts one) least None) (times (max least 1) one.classes) (IsSure one least None) all
+at_least_end one all least later l m n a =
+    let low : min later least ≡ least = omega arith in
+    let end : later ≡ max least 1 = omega arith in
     subst (λ n. IsAutomaton (Repeats (Accepts one) least None) (times n one.classes) (IsSure one least None) all) end
-    (subst (λ n. IsAutomaton (Repeats (Accepts one) n None) (times behind one.classes) (IsSure one least None) all) low a)
+    (subst (λ n. IsAutomaton (Repeats (Accepts one) n None) (times later one.classes) (IsSure one least None) all) low a)
 
 pub between_init : (one r : Position) (least most : ℕ) → r ≡ bare (nat_le least most) → IsAutomaton (Repeats (Accepts one) (least - (most - 0)) (Some 0)) [] (IsSure one least (Some most)) r
 between_init one r least most is =
@@ -62,37 +62,37 @@ between_init one r least most is =
     none w [] e l m = (e, le-leb least most (omega arith))
     none w (u ∷ us) e l m = absurd (omega arith)
 
-pub between_more : (one all more r : Position) (least most behind : ℕ) → behind < most → IsWellFormed one → IsAutomaton (Repeats (Accepts one) (least - (most - behind)) (Some behind)) (times behind one.classes) (IsSure one least (Some most)) all → IsThen one all more → r ≡ (if nat_lt least (most - behind) then optional more else more) → IsAutomaton (Repeats (Accepts one) (least - (most - (behind + 1))) (Some (behind + 1))) (times (behind + 1) one.classes) (IsSure one least (Some most)) r
-between_more one all more r least most behind l f a t is = choose (nat_lt least (most - behind)) refl
+pub between_more : (one all more r : Position) (least most later : ℕ) → later < most → IsWellFormed one → IsAutomaton (Repeats (Accepts one) (least - (most - later)) (Some later)) (times later one.classes) (IsSure one least (Some most)) all → IsThen one all more → r ≡ (if nat_lt least (most - later) then optional more else more) → IsAutomaton (Repeats (Accepts one) (least - (most - (later + 1))) (Some (later + 1))) (times (later + 1) one.classes) (IsSure one least (Some most)) r
+between_more one all more r least most later l f a t is = choose (nat_lt least (most - later)) refl
   where
-    next : suc behind ≡ behind + 1
+    next : suc later ≡ later + 1
     next = omega arith
 
-    choose : (b : Bool) → nat_lt least (most - behind) ≡ b → IsAutomaton (Repeats (Accepts one) (least - (most - (behind + 1))) (Some (behind + 1))) (times (behind + 1) one.classes) (IsSure one least (Some most)) r
+    choose : (b : Bool) → nat_lt least (most - later) ≡ b → IsAutomaton (Repeats (Accepts one) (least - (most - (later + 1))) (Some (later + 1))) (times (later + 1) one.classes) (IsSure one least (Some most)) r
     choose true b =
-        let free : least < most - behind = ltb-true least (most - behind) b in
+        let free : least < most - later = ltb-true least (most - later) b in
         let whole : optional more ≡ r = sym (is ∙ ap (λ (c : Bool). if c then optional more else more) b) in
-        let low : 0 ≡ least - (most - (behind + 1)) = omega arith in
-        let before : least - (most - behind) ≡ 0 = omega arith in
-        subst (λ p. IsAutomaton (Repeats (Accepts one) (least - (most - (behind + 1))) (Some (behind + 1))) (times (behind + 1) one.classes) (IsSure one least (Some most)) p) whole
-        (subst (λ n. IsAutomaton (Repeats (Accepts one) n (Some (behind + 1))) (times (behind + 1) one.classes) (IsSure one least (Some most)) (optional more)) low
-        (subst (λ n. IsAutomaton (Repeats (Accepts one) 0 (Some (behind + 1))) (times n one.classes) (IsSure one least (Some most)) (optional more)) next
-        (free_copy_is one all more (Some behind) (Some (behind + 1)) behind (IsSure one least (Some most)) (λ k m. omega (arith, m)) (λ k m. omega (arith, m)) (omega arith) (λ s. s.1) f
-        (subst (λ n. IsAutomaton (Repeats (Accepts one) n (Some behind)) (times behind one.classes) (IsSure one least (Some most)) all) before a) t)))
+        let low : 0 ≡ least - (most - (later + 1)) = omega arith in
+        let before : least - (most - later) ≡ 0 = omega arith in
+        subst (λ p. IsAutomaton (Repeats (Accepts one) (least - (most - (later + 1))) (Some (later + 1))) (times (later + 1) one.classes) (IsSure one least (Some most)) p) whole
+        (subst (λ n. IsAutomaton (Repeats (Accepts one) n (Some (later + 1))) (times (later + 1) one.classes) (IsSure one least (Some most)) (optional more)) low
+        (subst (λ n. IsAutomaton (Repeats (Accepts one) 0 (Some (later + 1))) (times n one.classes) (IsSure one least (Some most)) (optional more)) next
+        (free_copy_is one all more (Some later) (Some (later + 1)) later (IsSure one least (Some most)) (λ k m. omega (arith, m)) (λ k m. omega (arith, m)) (omega arith) (λ s. s.1) f
+        (subst (λ n. IsAutomaton (Repeats (Accepts one) n (Some later)) (times later one.classes) (IsSure one least (Some most)) all) before a) t)))
     choose false b =
-        let full : most - behind ≤ least = ltb-false least (most - behind) b in
+        let full : most - later ≤ least = ltb-false least (most - later) b in
         let whole : more ≡ r = sym (is ∙ ap (λ (c : Bool). if c then optional more else more) b) in
-        let low : (least - (most - behind)) + 1 ≡ least - (most - (behind + 1)) = omega arith in
-        subst (λ p. IsAutomaton (Repeats (Accepts one) (least - (most - (behind + 1))) (Some (behind + 1))) (times (behind + 1) one.classes) (IsSure one least (Some most)) p) whole
-        (subst (λ n. IsAutomaton (Repeats (Accepts one) n (Some (behind + 1))) (times (behind + 1) one.classes) (IsSure one least (Some most)) more) low
-        (subst (λ n. IsAutomaton (Repeats (Accepts one) ((least - (most - behind)) + 1) (Some (behind + 1))) (times n one.classes) (IsSure one least (Some most)) more) next
-        (copy_is one all more (least - (most - behind)) (Some behind) (Some (behind + 1)) behind (IsSure one least (Some most)) (λ k m. omega (arith, m)) (λ k m. omega (arith, m)) (λ s. s.1) f a t)))
+        let low : (least - (most - later)) + 1 ≡ least - (most - (later + 1)) = omega arith in
+        subst (λ p. IsAutomaton (Repeats (Accepts one) (least - (most - (later + 1))) (Some (later + 1))) (times (later + 1) one.classes) (IsSure one least (Some most)) p) whole
+        (subst (λ n. IsAutomaton (Repeats (Accepts one) n (Some (later + 1))) (times (later + 1) one.classes) (IsSure one least (Some most)) more) low
+        (subst (λ n. IsAutomaton (Repeats (Accepts one) ((least - (most - later)) + 1) (Some (later + 1))) (times n one.classes) (IsSure one least (Some most)) more) next
+        (copy_is one all more (least - (most - later)) (Some later) (Some (later + 1)) later (IsSure one least (Some most)) (λ k m. omega (arith, m)) (λ k m. omega (arith, m)) (λ s. s.1) f a t)))
 
-pub between_end : (one all : Position) (least most behind : ℕ) → behind ≡ most → IsAutomaton (Repeats (Accepts one) (least - (most - behind)) (Some behind)) (times behind one.classes) (IsSure one least (Some most)) all → IsAutomaton (Repeats (Accepts one) least (Some most)) (times most one.classes) (IsSure one least (Some most)) all
-between_end one all least most behind e a =
-    let low : least - (most - behind) ≡ least = omega arith in
+pub between_end : (one all : Position) (least most later : ℕ) → later ≡ most → IsAutomaton (Repeats (Accepts one) (least - (most - later)) (Some later)) (times later one.classes) (IsSure one least (Some most)) all → IsAutomaton (Repeats (Accepts one) least (Some most)) (times most one.classes) (IsSure one least (Some most)) all
+between_end one all least most later e a =
+    let low : least - (most - later) ≡ least = omega arith in
     subst (λ n. IsAutomaton (Repeats (Accepts one) least (Some n)) (times n one.classes) (IsSure one least (Some most)) all) e
-    (subst (λ n. IsAutomaton (Repeats (Accepts one) n (Some behind)) (times behind one.classes) (IsSure one least (Some most)) all) low a)
+    (subst (λ n. IsAutomaton (Repeats (Accepts one) n (Some later)) (times later one.classes) (IsSure one least (Some most)) all) low a)
 
 -- an automaton of no position, again and again
 at_most_none : (most : Option ℕ) → AtMost 0 most
@@ -141,4 +141,4 @@ empty_repeat one r least most b f none is decides =
 -- what is repeated, by its own words and classes
 pub times_is : {V : List ℕ → Type 0} {c : List (List (ℕ × ℕ))} {S : Type 0} {p : Position} (r : Position) (least : ℕ) (most : Option ℕ) → IsAutomaton V c S p → IsAutomaton (Repeats (Accepts p) least most) (times (copies least most) p.classes) (IsSure p least most) r → IsAutomaton (Repeats V least most) (times (copies least most) c) (IsInOrder least most × S) r
 times_is {V} {p = p} r least most a b =
-    told (λ w h. (h.0, h.1, each_weaker (Accepts p) V a.sound h.0 h.2, h.3, h.4)) (λ w h. (h.0, h.1, each_weaker V (Accepts p) a.complete h.0 h.2, h.3, h.4)) (ap (λ (x : List (List (ℕ × ℕ))). times (copies least most) x) a.classes_are) (λ s. (s.0, λ m. a.trim s.1 m)) b
+    restated (λ w h. (h.0, h.1, each_weaker (Accepts p) V a.sound h.0 h.2, h.3, h.4)) (λ w h. (h.0, h.1, each_weaker V (Accepts p) a.complete h.0 h.2, h.3, h.4)) (ap (λ (x : List (List (ℕ × ℕ))). times (copies least most) x) a.classes_are) (λ s. (s.0, λ m. a.trim s.1 m)) b

@@ -8,7 +8,7 @@ use Rattle.xs_regex.specs.Automaton.{Accepts, IsWellFormed, ClassesHaveMembers}
 use Rattle.xs_regex.specs.Matches.{InTurn, OfEither, Matches}
 use Rattle.xs_regex.specs.Parts.{IsThen, IsEither, IsTrim, IsAutomaton}
 use Rattle.xs_regex.specs.Size.{sets, size, IsBounded}
-use Rattle.xs_regex.proofs.Built.{told, itself, then_is, either_is}
+use Rattle.xs_regex.proofs.Built.{restated, itself, then_is, either_is}
 use Rattle.xs_regex.proofs.Places.{length-sets}
 
 -- how many nodes the regex has, which bounds the calls
@@ -21,11 +21,11 @@ nodes (Star' p a) = 1 + nodes a
 nodes (Times' p a least most) = 1 + nodes a
 
 -- the words of what was passed, joined with those of the rest, are those of the whole
-pub record IsPassed (Join : (List ℕ → Type 0) → (List ℕ → Type 0) → List ℕ → Type 0) (Word : List ℕ → Type 0) (classes : List (List (ℕ × ℕ))) (Sure : Type 0) (all : Position) (Rest : List ℕ → Type 0) (behind : List (List (ℕ × ℕ))) (SureRest : Type 0) : Type 0 where
+pub record IsPassed (Join : (List ℕ → Type 0) → (List ℕ → Type 0) → List ℕ → Type 0) (Word : List ℕ → Type 0) (classes : List (List (ℕ × ℕ))) (Sure : Type 0) (all : Position) (Rest : List ℕ → Type 0) (later : List (List (ℕ × ℕ))) (SureRest : Type 0) : Type 0 where
   pub formed : IsWellFormed all
   pub sound : (w : List ℕ) → Join (Accepts all) Rest w → Word w
   pub complete : (w : List ℕ) → Word w → Join (Accepts all) Rest w
-  pub classes_are : all.classes ++ behind ≡ classes
+  pub classes_are : all.classes ++ later ≡ classes
   pub sure : Sure → (ClassesHaveMembers all → IsTrim all) × SureRest
 
 -- what was passed of a regex joined so with another, and what is left
@@ -87,7 +87,7 @@ module _ {Word : List ℕ → Type 0} {classes : List (List (ℕ × ℕ))} {Sure
 
 -- the last part
 pub turn_ended : {Word W : List ℕ → Type 0} {classes d : List (List (ℕ × ℕ))} {Sure T : Type 0} {all last r : Position} → IsPassed InTurn Word classes Sure all W d T → IsAutomaton W d T last → IsThen all last r → IsAutomaton Word classes Sure r
-turn_ended {all = all} h x t = told h.sound h.complete h.classes_are h.sure (then_is (itself all h.formed) x t)
+turn_ended {all = all} h x t = restated h.sound h.complete h.classes_are h.sure (then_is (itself all h.formed) x t)
 
 pub either_ended : {Word W : List ℕ → Type 0} {classes d : List (List (ℕ × ℕ))} {Sure T : Type 0} {all last r : Position} → IsPassed OfEither Word classes Sure all W d T → IsAutomaton W d T last → IsEither all last r → IsAutomaton Word classes Sure r
-either_ended {all = all} h x t = told h.sound h.complete h.classes_are h.sure (either_is (itself all h.formed) x t)
+either_ended {all = all} h x t = restated h.sound h.complete h.classes_are h.sure (either_is (itself all h.formed) x t)

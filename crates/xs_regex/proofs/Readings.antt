@@ -4,7 +4,7 @@ use Rattle.std.proofs.lemmas.Bool.Decides.{eqb_tells}
 use Rattle.std.specs.declared.option.Option.{Option}
 use Rattle.xs_regex.specs.Characters.{Sort, set_at, counts_at}
 use Rattle.xs_regex.specs.Pattern.{Tree, nothing, class, both, either, any, times, Stops, Ends, IsPlainNext, IsCounted, once, star, plus, question, braces, IsRegex, one_sequence, bar, IsSequence, no_piece, pieces, ArePieces, last_piece, next_piece, IsPiece, piece, IsAtom, set, group, IsReading}
-use Rattle.xs_regex.specs.Scan.{stops, braced, count_behind, counted, class_of, closed, with_tree, pieces_behind, regex_behind, regex_at, pieces_at, atom_at}
+use Rattle.xs_regex.specs.Scan.{stops, braced, count_after, counted, class_of, closed, with_tree, pieces_after, regex_after, regex_at, pieces_at, atom_at}
 use Rattle.xs_regex.proofs.Scanning.{sequence_shorter, piece_shorter}
 
 stops_true : (cs : List ℕ) → Stops cs → stops cs ≡ true
@@ -41,14 +41,14 @@ pieces_begin : {d : ℕ} {cs rest : List ℕ} {t : Tree} → ArePieces d cs t re
 pieces_begin (last_piece p) = piece_begins p
 pieces_begin (next_piece left p q) = piece_begins p
 
--- the count behind a tree is read
+-- the count after a tree is read
 not_here : (c k : ℕ) → c ≢ k → (c == k) ≡ false
 not_here c k n = elim (eqb_tells c k) [ inl h ↦ absurd (n h.1) | inr h ↦ h.0 ]
 
-read_counted : {t u : Tree} {cs rest : List ℕ} → IsCounted t cs u rest → count_behind t cs ≡ Some (u, rest)
+read_counted : {t u : Tree} {cs rest : List ℕ} → IsCounted t cs u rest → count_after t cs ≡ Some (u, rest)
 read_counted {t} {cs = cs} (once p) = plain cs p
   where
-    plain : (cs : List ℕ) → IsPlainNext cs → count_behind t cs ≡ Some (t, cs)
+    plain : (cs : List ℕ) → IsPlainNext cs → count_after t cs ≡ Some (t, cs)
     plain [] p = refl
     plain (c ∷ cs) p = rw (not_here c 42 p.0, not_here c 43 p.1, not_here c 63 p.2, not_here c 123 p.3) refl
 read_counted (star e) = rw e refl
@@ -65,15 +65,15 @@ read_set n d [] rest s is = absurd (none_here refl is)
 read_set n zero (c ∷ cs) rest s is = ap (λ o. class_of o) is
 read_set n (suc d) (c ∷ cs) rest s is = if_false (c == 40) (closed (regex_at n d cs)) (class_of (set_at (c ∷ cs))) (set_not 40 cs rest s c refl is) ∙ ap (λ o. class_of o) is
 
-behind_end : (t : Tree) (rest : List ℕ) (f : List ℕ → Option (Tree × List ℕ)) → Ends rest → regex_behind (Some (t, rest)) f ≡ Some (t, rest)
-behind_end t [] f e = refl
-behind_end t (c ∷ rest) f e = rw e refl
+after_end : (t : Tree) (rest : List ℕ) (f : List ℕ → Option (Tree × List ℕ)) → Ends rest → regex_after (Some (t, rest)) f ≡ Some (t, rest)
+after_end t [] f e = refl
+after_end t (c ∷ rest) f e = rw e refl
 
 mutual
   read_regex : {d : ℕ} {t : Tree} {cs rest : List ℕ} (n : ℕ) → 3 * length cs + 3 ≤ n → IsRegex d cs t rest → Ends rest → regex_at n d cs ≡ Some (t, rest)
   read_regex zero l r e = absurd (omega arith)
-  read_regex {d} {t} {cs} {rest} (suc n) l (one_sequence s) e = ap (λ o. regex_behind o (λ left. regex_at n d left)) (read_sequence n (omega arith) s (ends_stops rest e)) ∙ behind_end t rest (λ left. regex_at n d left) e
-  read_regex {d} (suc n) l (bar {t = t} left s r) e = ap (λ o. regex_behind o (λ left. regex_at n d left)) (read_sequence n (omega arith) s (inl refl)) ∙ ap (λ o. with_tree (λ u. either t u) o) (read_regex n (omega (arith, sequence_shorter s)) r e)
+  read_regex {d} {t} {cs} {rest} (suc n) l (one_sequence s) e = ap (λ o. regex_after o (λ left. regex_at n d left)) (read_sequence n (omega arith) s (ends_stops rest e)) ∙ after_end t rest (λ left. regex_at n d left) e
+  read_regex {d} (suc n) l (bar {t = t} left s r) e = ap (λ o. regex_after o (λ left. regex_at n d left)) (read_sequence n (omega arith) s (inl refl)) ∙ ap (λ o. with_tree (λ u. either t u) o) (read_regex n (omega (arith, sequence_shorter s)) r e)
 
   read_sequence : {d : ℕ} {t : Tree} {cs rest : List ℕ} (n : ℕ) → 3 * length cs + 2 ≤ n → IsSequence d cs t rest → Stops rest → (if stops cs then Some (nothing, cs) else pieces_at n d cs) ≡ Some (t, rest)
   read_sequence {cs = cs} n l no_piece s = rw (stops_true cs s) refl
@@ -81,8 +81,8 @@ mutual
 
   read_pieces : {d : ℕ} {t : Tree} {cs rest : List ℕ} (n : ℕ) → 3 * length cs + 2 ≤ n → ArePieces d cs t rest → Stops rest → pieces_at n d cs ≡ Some (t, rest)
   read_pieces zero l p s = absurd (omega arith)
-  read_pieces {d} {t} {rest = rest} (suc n) l (last_piece p) s = ap (λ o. pieces_behind o (λ left. pieces_at n d left)) (read_piece n (omega arith) p) ∙ rw (stops_true rest s) refl
-  read_pieces {d} (suc n) l (next_piece {t = t} left p q) s = ap (λ o. pieces_behind o (λ left. pieces_at n d left)) (read_piece n (omega arith) p) ∙ rw (pieces_begin q) (ap (λ o. with_tree (λ u. both t u) o) (read_pieces n (omega (arith, piece_shorter p)) q s))
+  read_pieces {d} {t} {rest = rest} (suc n) l (last_piece p) s = ap (λ o. pieces_after o (λ left. pieces_at n d left)) (read_piece n (omega arith) p) ∙ rw (stops_true rest s) refl
+  read_pieces {d} (suc n) l (next_piece {t = t} left p q) s = ap (λ o. pieces_after o (λ left. pieces_at n d left)) (read_piece n (omega arith) p) ∙ rw (pieces_begin q) (ap (λ o. with_tree (λ u. both t u) o) (read_pieces n (omega (arith, piece_shorter p)) q s))
 
   read_piece : {d : ℕ} {t : Tree} {cs rest : List ℕ} (n : ℕ) → 3 * length cs + 1 ≤ n → IsPiece d cs t rest → counted (atom_at n d cs) ≡ Some (t, rest)
   read_piece n l (piece t left a c) = ap (λ o. counted o) (read_atom n l a) ∙ read_counted c
@@ -119,7 +119,7 @@ with_found : (whole : Tree → Tree) (o : Option (Tree × List ℕ)) (t : Tree) 
 with_found whole None t rest e = absurd (none_here refl e)
 with_found whole (Some (u, left)) t rest e = let p = found_pair (whole u) t left rest e in (u, ap (λ (x : List ℕ). Some (u, x)) p.1, p.0)
 
-found_counted : (t u : Tree) (cs rest : List ℕ) → count_behind t cs ≡ Some (u, rest) → IsCounted t cs u rest
+found_counted : (t u : Tree) (cs rest : List ℕ) → count_after t cs ≡ Some (u, rest) → IsCounted t cs u rest
 found_counted t u [] rest e = let p = found_pair t u [] rest e in subst (λ x. IsCounted t [] x rest) p.0 (subst (λ x. IsCounted t [] t x) p.1 (once tt))
 found_counted t u (c ∷ cs) rest e = elim (split_if (c == 42) _ _ _ e) [
   | inl h ↦ let p = found_pair (any t) u cs rest h.1 in subst (λ x. IsCounted t (c ∷ cs) x rest) p.0 (star (front c 42 cs rest (is_same c 42 h.0) p.1))
@@ -149,17 +149,17 @@ found_piece : (d : ℕ) (cs : List ℕ) (o : Option (Tree × List ℕ)) (t : Tre
 found_piece d cs None t rest f e = absurd (none_here refl e)
 found_piece d cs (Some (u, left)) t rest f e = piece u left (f u left refl) (found_counted u t left rest e)
 
-found_pieces : (d : ℕ) (cs : List ℕ) (o : Option (Tree × List ℕ)) (others : List ℕ → Option (Tree × List ℕ)) (t : Tree) (rest : List ℕ) → ((u : Tree) (left : List ℕ) → o ≡ Some (u, left) → IsPiece d cs u left) → ((left : List ℕ) (u : Tree) (rest : List ℕ) → others left ≡ Some (u, rest) → ArePieces d left u rest) → pieces_behind o others ≡ Some (t, rest) → ArePieces d cs t rest
+found_pieces : (d : ℕ) (cs : List ℕ) (o : Option (Tree × List ℕ)) (others : List ℕ → Option (Tree × List ℕ)) (t : Tree) (rest : List ℕ) → ((u : Tree) (left : List ℕ) → o ≡ Some (u, left) → IsPiece d cs u left) → ((left : List ℕ) (u : Tree) (rest : List ℕ) → others left ≡ Some (u, rest) → ArePieces d left u rest) → pieces_after o others ≡ Some (t, rest) → ArePieces d cs t rest
 found_pieces d cs None others t rest f g e = absurd (none_here refl e)
 found_pieces d cs (Some (u, left)) others t rest f g e = elim (split_if (stops left) _ _ _ e) [
   | inl h ↦ let p = found_pair u t left rest h.1 in subst (λ x. ArePieces d cs x rest) p.0 (subst (λ x. ArePieces d cs u x) p.1 (last_piece (f u left refl)))
   | inr h ↦ let w = with_found (λ v. both u v) (others left) t rest h.1 in subst (λ x. ArePieces d cs x rest) w.2 (next_piece left (f u left refl) (g left w.0 rest w.1))
 ]
 
-found_behind : (d : ℕ) (cs : List ℕ) (o : Option (Tree × List ℕ)) (others : List ℕ → Option (Tree × List ℕ)) (t : Tree) (rest : List ℕ) → ((u : Tree) (left : List ℕ) → o ≡ Some (u, left) → IsSequence d cs u left) → ((left : List ℕ) (u : Tree) (rest : List ℕ) → others left ≡ Some (u, rest) → IsRegex d left u rest) → regex_behind o others ≡ Some (t, rest) → IsRegex d cs t rest
-found_behind d cs None others t rest f g e = absurd (none_here refl e)
-found_behind d cs (Some (u, [])) others t rest f g e = let p = found_pair u t [] rest e in subst (λ x. IsRegex d cs x rest) p.0 (subst (λ x. IsRegex d cs u x) p.1 (one_sequence (f u [] refl)))
-found_behind d cs (Some (u, c ∷ left)) others t rest f g e = elim (split_if (c == 124) _ _ _ e) [
+found_after : (d : ℕ) (cs : List ℕ) (o : Option (Tree × List ℕ)) (others : List ℕ → Option (Tree × List ℕ)) (t : Tree) (rest : List ℕ) → ((u : Tree) (left : List ℕ) → o ≡ Some (u, left) → IsSequence d cs u left) → ((left : List ℕ) (u : Tree) (rest : List ℕ) → others left ≡ Some (u, rest) → IsRegex d left u rest) → regex_after o others ≡ Some (t, rest) → IsRegex d cs t rest
+found_after d cs None others t rest f g e = absurd (none_here refl e)
+found_after d cs (Some (u, [])) others t rest f g e = let p = found_pair u t [] rest e in subst (λ x. IsRegex d cs x rest) p.0 (subst (λ x. IsRegex d cs u x) p.1 (one_sequence (f u [] refl)))
+found_after d cs (Some (u, c ∷ left)) others t rest f g e = elim (split_if (c == 124) _ _ _ e) [
   | inl h ↦
       let w = with_found (λ v. either u v) (others left) t rest h.1 in
       subst (λ x. IsRegex d cs x rest) w.2 (bar left (subst (λ x. IsSequence d cs u (x ∷ left)) (is_same c 124 h.0) (f u (c ∷ left) refl)) (g left w.0 rest w.1))
@@ -190,7 +190,7 @@ found_group d c cs (Some (u, b ∷ left)) t rest k f e = elim (split_if (b == 41
 mutual
   found_regex : (n d : ℕ) (cs : List ℕ) (t : Tree) (rest : List ℕ) → regex_at n d cs ≡ Some (t, rest) → IsRegex d cs t rest
   found_regex zero d cs t rest e = absurd (none_here refl e)
-  found_regex (suc n) d cs t rest e = found_behind d cs (if stops cs then Some (nothing, cs) else pieces_at n d cs) (λ left. regex_at n d left) t rest (λ u left f. found_sequence d cs (pieces_at n d cs) u left (λ v rest g. found_more n d cs v rest g) f) (λ left u rest f. found_regex n d left u rest f) e
+  found_regex (suc n) d cs t rest e = found_after d cs (if stops cs then Some (nothing, cs) else pieces_at n d cs) (λ left. regex_at n d left) t rest (λ u left f. found_sequence d cs (pieces_at n d cs) u left (λ v rest g. found_more n d cs v rest g) f) (λ left u rest f. found_regex n d left u rest f) e
 
   found_more : (n d : ℕ) (cs : List ℕ) (t : Tree) (rest : List ℕ) → pieces_at n d cs ≡ Some (t, rest) → ArePieces d cs t rest
   found_more zero d cs t rest e = absurd (none_here refl e)

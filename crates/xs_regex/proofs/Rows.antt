@@ -4,7 +4,7 @@ use Rattle.std.specs.List.{Contains}
 use Rattle.std.specs.Option.{IsSomeAnd}
 use Rattle.xs_regex.specs.Parts.{shift, HasRow}
 
--- what holds of the element at a place holds there with more behind
+-- what holds of the element at a place holds there with more after
 pub at_left : {X : Type 0} (P : X → Type 0) (xs ys : List X) (k : ℕ) → IsSomeAnd (slice_get xs k) P → IsSomeAnd (slice_get (xs ++ ys) k) P
 at_left P [] ys k h = absurd h
 at_left P (x ∷ xs) ys zero h = h

@@ -1,4 +1,4 @@
--- The parts of a pattern without parentheses: what stands at the front, and what is left behind it.
+-- The parts of a pattern without parentheses: what stands at the front, and what is left after it.
 use Rattle.std.specs.Prelude.{ℕ, zero, suc, ◌+◌, ◌-◌, ◌*◌, Bool, not, ◌&&◌, ◌||◌, ◌==◌, nat_lt, nat_le, List, [], ◌∷◌, length, None, Some, if◌then◌else◌}
 use Rattle.std.specs.declared.option.Option.{Option}
 use Rattle.std.specs.Option.{is_some}
@@ -40,7 +40,7 @@ hex_value c = if nat_le c 57 then c - 48 else (if nat_le c 70 then c - 55 else c
 abbrev pub is_scalar : ℕ → Bool
 is_scalar v = nat_le v 0x10FFFF && not (nat_le 0xD800 v && nat_le v 0xDFFF)
 
--- the values of so many hexadecimal digits are below it
+-- the values of that many hexadecimal digits are below it
 abbrev pub hex_room : ℕ → ℕ
 hex_room zero = 1
 hex_room (suc count) = 16 * hex_room count
@@ -57,7 +57,7 @@ abbrev pub code_at : List ℕ → Option (ℕ × List ℕ)
 code_at [] = None
 code_at (c ∷ cs) = if c == 123 then hex_at 0 0 cs else None
 
--- behind a backslash: n, t, r, u with a code in braces, or punctuation
+-- after a backslash: n, t, r, u with a code in braces, or punctuation
 abbrev pub escape_at : List ℕ → Option (ℕ × List ℕ)
 escape_at [] = None
 escape_at (c ∷ cs) =
@@ -76,7 +76,7 @@ abbrev pub name_at : List ℕ → Option (List ℕ × List ℕ)
 name_at [] = None
 name_at (c ∷ cs) = if c == 125 then Some ([], cs) else name_more c (name_at cs)
 
--- behind `\p`: a name in braces, of one character or more
+-- after `\p`: a name in braces, of one character or more
 abbrev pub name_end : Option (List ℕ × List ℕ) → Option (List ℕ × List ℕ)
 name_end None = None
 name_end (Some ([], left)) = None
@@ -98,7 +98,7 @@ abbrev pub count_at : List ℕ → Option (ℕ × List ℕ)
 count_at [] = None
 count_at (c ∷ cs) = if is_digit c then second_digit (c - 48) cs else None
 
--- behind an opening brace: a count, a count and a comma, or two counts that are in order
+-- after an opening brace: a count, a count and a comma, or two counts that are in order
 abbrev pub most_end : ℕ → Option (ℕ × List ℕ) → Option ((ℕ × Option ℕ) × List ℕ)
 most_end least None = None
 most_end least (Some (most, [])) = None
@@ -177,7 +177,7 @@ abbrev pub items_at : ℕ → List ℕ → Option (List Item × List ℕ)
 items_at zero cs = None
 items_at (suc steps) cs = items_more (known_item (item_at cs)) (λ left. items_at steps left)
 
--- behind an opening bracket
+-- after an opening bracket
 abbrev pub sorted : (List Item → Sort) → Option (List Item × List ℕ) → Option (Sort × List ℕ)
 sorted sort None = None
 sorted sort (Some (items, left)) = Some (sort items, left)

@@ -9,4 +9,4 @@ pub mod Pattern
 pub mod Pieces
 pub mod Scan
 pub mod Size
-pub mod Told
+pub mod Reported

@@ -15,12 +15,12 @@ abbrev pub Each : (List ℕ → Type 0) → List (List ℕ) → Type 0
 Each P [] = Unit {0}
 Each P (w ∷ ws) = P w × Each P ws
 
--- at most so many, where a greatest number is given
+-- at most that many, where a greatest number is given
 abbrev pub AtMost : ℕ → Option ℕ → Type 0
 AtMost k None = Unit {0}
 AtMost k (Some n) = k ≤ n
 
--- so many of these words, one after another
+-- that many of these words, one after another
 abbrev pub Repeats : (List ℕ → Type 0) → ℕ → Option ℕ → List ℕ → Type 0
 Repeats P least most w = (ws : List (List ℕ)) × (w ≡ joined ws) × Each P ws × (least ≤ length ws) × AtMost (length ws) most
 

@@ -20,7 +20,7 @@ pub record IsLinked (old : List (List ℕ)) (sources targets : List ℕ) (new : 
   pub linked : (j k : ℕ) → j < length old → Contains sources j → Contains targets k → HasRow new j k
   pub only : (j k : ℕ) → HasRow new j k → HasRow old j k ⊎ (Contains sources j × Contains targets k)
 
--- one automaton and then another, whose positions come behind
+-- one automaton and then another, whose positions come after
 pub record IsThen (p q r : Position) : Type 0 where
   pub rows : List (List ℕ)
   pub classes : r.classes ≡ p.classes ++ q.classes
@@ -30,7 +30,7 @@ pub record IsThen (p q r : Position) : Type 0 where
   pub linked : IsLinked p.follow p.last (shift (length p.classes) q.first) rows
   pub follow : r.follow ≡ rows ++ map (shift (length p.classes)) q.follow
 
--- one automaton or another, whose positions come behind
+-- one automaton or another, whose positions come after
 pub record IsEither (p q r : Position) : Type 0 where
   pub classes : r.classes ≡ p.classes ++ q.classes
   pub first : r.first ≡ p.first ++ shift (length p.classes) q.first

@@ -10,7 +10,7 @@ abbrev pub copies : ℕ → Option ℕ → ℕ
 copies least None = max least 1
 copies least (Some most) = most
 
--- the list, so many times over
+-- the list, that many times over
 abbrev pub times : {X : Type 0} → ℕ → List X → List X
 times zero xs = []
 times (suc n) xs = xs ++ times n xs

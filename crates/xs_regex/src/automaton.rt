@@ -31,9 +31,11 @@ pub fn positions(alloc: Global, r: &Regex) -> Result<Position, Memory>
     Ok(p)
 }
 
-// It calls itself for what is nested, and goes along the parts of a sequence or of a choice in a
-// loop, so the depth of the stack is that of the parentheses. The functions are kept apart, since a
-// frame that holds no automaton is small.
+/// The automaton of a regex.
+///
+/// It calls itself for what is nested, and goes along the parts of a sequence or of a choice in a
+/// loop, so the depth of the stack is that of the parentheses. The functions are kept apart, since
+/// a frame that holds no automaton is small.
 #[cycle(built)]
 #[inline(never)]
 fn built(alloc: Global, r: &Regex) -> Result<Position, Memory>
@@ -67,18 +69,18 @@ fn in_turn(alloc: Global, a: &Regex, b: &Regex) -> Result<Position, Memory>
 {
     let mut all = built(alloc, a)?;
     let mut rest = b;
-    'parts: while let Regex::Then(part, behind) = rest {
-        add_behind(alloc, &mut all, part)?;
-        rest = behind;
+    'parts: while let Regex::Then(part, next) = rest {
+        add_after(alloc, &mut all, part)?;
+        rest = next;
     }
-    add_behind(alloc, &mut all, rest)?;
+    add_after(alloc, &mut all, rest)?;
     Ok(all)
 }
 
-/// Puts the automaton of a part behind that of the parts before it.
+/// Puts the automaton of a part after that of the parts before it.
 #[cycle(built)]
 #[inline(never)]
-fn add_behind(alloc: Global, all: &mut Position, part: &Regex) -> Result<(), Memory>
+fn add_after(alloc: Global, all: &mut Position, part: &Regex) -> Result<(), Memory>
     requires formed { IsWellFormed all.old }
     requires small { length all.old.classes + size part.now ≤ 512 }
     ensures { IfOk result (λ _. (next : AnyPosition) × IsAutomaton (Matches part.now) (sets part.now) (IsBounded part.now) next × IsThen all.old next all.new) }
@@ -96,9 +98,9 @@ fn of_either(alloc: Global, a: &Regex, b: &Regex) -> Result<Position, Memory>
 {
     let mut all = built(alloc, a)?;
     let mut rest = b;
-    'parts: while let Regex::Or(part, behind) = rest {
+    'parts: while let Regex::Or(part, next) = rest {
         add_beside(alloc, &mut all, part)?;
-        rest = behind;
+        rest = next;
     }
     add_beside(alloc, &mut all, rest)?;
     Ok(all)

@@ -38,12 +38,14 @@ fn is_member_itself(c: char) -> bool
     !matches!(c, '\\' | '/' | '[' | ']' | '-' | '^')
 }
 
+/// Whether the character is a decimal digit.
 fn is_decimal(c: char) -> bool
     ensures { result ≡ is_digit c }
 {
     matches!(c, '0'..='9')
 }
 
+/// The value of a hexadecimal digit.
 fn hex_digit(c: char) -> Option<u32>
     ensures value { result ≡ (if is_hex c then Some (hex_value c) else None) }
     ensures small { IfSome result (λ d. d < 16) }
@@ -56,13 +58,14 @@ fn hex_digit(c: char) -> Option<u32>
     }
 }
 
+/// Whether the number is that of a character.
 fn is_character(value: u32) -> bool
     ensures { result ≡ is_scalar value }
 {
     value <= 0x10FFFF && !(0xD800 <= value && value <= 0xDFFF)
 }
 
-/// Behind a backslash, the character that it stands for, and what is left.
+/// After a backslash, the character that it stands for, and what is left.
 fn escape(cs: &[char]) -> Option<(u32, &[char])>
     ensures { option_map (λ r. (r.0, r.1.now)) result ≡ escape_at cs.now }
 {
@@ -84,6 +87,7 @@ fn escape(cs: &[char]) -> Option<(u32, &[char])>
     }
 }
 
+/// A character by its number in hexadecimal digits and a closing brace, and what is left.
 fn code(cs: &[char]) -> Option<(u32, &[char])>
     ensures { option_map (λ r. (r.0, r.1.now)) result ≡ code_at cs.now }
 {
@@ -121,7 +125,7 @@ fn hex(value: u32, count: u32, cs: &[char]) -> Option<(u32, &[char])>
     }
 }
 
-/// The characters up to a closing brace, and what is left behind it.
+/// The characters up to a closing brace, and what is left after it.
 fn name(cs: &[char]) -> Option<(&[char], &[char])>
     ensures { option_map (λ r. (r.0.now, r.1.now)) result ≡ name_at cs.now }
 {
@@ -147,6 +151,7 @@ fn count(cs: &[char]) -> Option<(u32, &[char])>
     }
 }
 
+/// The number that the decimal digits go on with, and what is left.
 fn second(n: u32, cs: &[char]) -> Option<(u32, &[char])>
     requires { n < 10 }
     ensures { option_map (λ r. (r.0, r.1.now)) result ≡ second_digit n cs.now }
@@ -165,7 +170,7 @@ fn second(n: u32, cs: &[char]) -> Option<(u32, &[char])>
     }
 }
 
-/// Behind an opening brace, the counts, and what is left behind the closing one.
+/// After an opening brace, the counts, and what is left after the closing one.
 pub fn counts(cs: &[char]) -> Option<((u32, Option<u32>), &[char])>
     ensures { option_map (λ r. (r.0, r.1.now)) result ≡ counts_at cs.now }
 {
@@ -182,6 +187,7 @@ pub fn counts(cs: &[char]) -> Option<((u32, Option<u32>), &[char])>
     }
 }
 
+/// The greatest count after a least one and a comma, and what is left.
 fn most(least: u32, cs: &[char]) -> Option<((u32, Option<u32>), &[char])>
     ensures { option_map (λ r. (r.0, r.1.now)) result ≡ most_at least cs.now }
 {
@@ -224,7 +230,7 @@ pub enum Piece<'a> {
     Named(&'a [char]),
 }
 
-/// Behind `\p`, the name in braces, and what is left.
+/// After `\p`, the name in braces, and what is left.
 fn named(cs: &[char]) -> Option<(&[char], &[char])>
     ensures { option_map (λ r. (r.0.now, r.1.now)) result ≡ named_at cs.now }
 {
@@ -277,6 +283,7 @@ pub fn item(cs: &[char]) -> Option<(Piece<'_>, &[char])>
     Some((Piece::Span(low, high), left))
 }
 
+/// An item of a set that begins with a backslash, and what is left.
 fn escaped_item(cs: &[char]) -> Option<(Piece<'_>, &[char])>
     ensures { option_map (λ r. (item_of r.0, r.1.now)) result ≡ spec.escaped_item cs.now }
 {
@@ -308,6 +315,7 @@ pub fn one(cs: &[char]) -> Option<(Piece<'_>, &[char])>
     Some((Piece::Span(*c as u32, *c as u32), rest))
 }
 
+/// What stands after a backslash, and what is left.
 fn escaped(cs: &[char]) -> Option<(Piece<'_>, &[char])>
     ensures { option_map (λ r. (item_of r.0, r.1.now)) result ≡ escaped_one cs.now }
 {

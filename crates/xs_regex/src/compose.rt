@@ -2,7 +2,7 @@ ghost use Rattle.std.specs.Prelude.{◌≡◌, ◌+◌, ◌≤◌, false, length
 ghost use Rattle.xs_regex.specs.Automaton.{IsWellFormed};
 ghost use Rattle.xs_regex.specs.Parts.{bare, of_class, optional, IsThen, IsEither, IsRound};
 
-use crate::lists::{append, extended, link, link_behind, push_rows, push_shifted};
+use crate::lists::{append, extended, link, link_after, push_rows, push_shifted};
 use crate::{Follows, Numbers, Position};
 use std::alloc::Global;
 use xs_class::{Class, Listed, Memory};
@@ -42,7 +42,7 @@ fn add_class(alloc: Global, p: &mut Position, class: &Class) -> Result<(), Memor
     Ok(())
 }
 
-/// Puts another automaton, which is used up, behind one.
+/// Puts another automaton, which is used up, after one.
 pub fn sequence(alloc: Global, p: &mut Position, q: &mut Position) -> Result<(), Memory>
     requires front { IsWellFormed p.old }
     requires rest { IsWellFormed q.old }
@@ -50,7 +50,7 @@ pub fn sequence(alloc: Global, p: &mut Position, q: &mut Position) -> Result<(),
     ensures { IfOk result (λ _. IsThen p.old q.old p.new) }
 {
     let by = p.classes.len() as u32;
-    link_behind(
+    link_after(
         alloc,
         &mut p.follow,
         p.last.as_slice(),
@@ -118,6 +118,7 @@ pub fn copied(alloc: Global, p: &Position) -> Result<Position, Memory>
     })
 }
 
+/// The same rows once more.
 fn rows_copied(alloc: Global, rows: &[Numbers]) -> Result<Follows, Memory>
     ensures { IfOk result (λ all. all ≡ rows.now) }
 {

@@ -1,6 +1,4 @@
 use std::alloc::{AllocError, AllocFailed};
-use std::error::Error;
-use std::fmt;
 use xs_class::Memory;
 
 /// Why a pattern gives no regex.
@@ -10,17 +8,6 @@ pub enum RegexFault {
     BadRegex,
     Memory,
 }
-
-impl fmt::Display for RegexFault {
-    fn fmt<W: fmt::Write>(&self, f: &mut fmt::Formatter<W>) -> fmt::Result {
-        match self {
-            RegexFault::BadRegex => write!(f, "not a regular expression"),
-            RegexFault::Memory => write!(f, "out of memory"),
-        }
-    }
-}
-
-impl Error for RegexFault {}
 
 impl From<Memory> for RegexFault {
     ghost use Rattle.std.specs.Prelude.{◌≡◌};

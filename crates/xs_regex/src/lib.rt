@@ -1,4 +1,5 @@
-//! Regular expressions over classes of symbols, and their automata of positions.
+//! Regular expressions over classes of symbols, and the position automaton of Glushkov for each: an
+//! NFA without empty moves.
 //!
 //! A regex matches words of symbols. Its automaton has one state for each place of a class in it,
 //! and accepts exactly the words that the regex matches.

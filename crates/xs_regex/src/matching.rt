@@ -59,6 +59,7 @@ fn ends(p: &Position, at_start: bool, reached: &[bool]) -> bool
     (at_start && p.nullable) || some_marked(reached, p.last.as_slice())
 }
 
+/// Clears every flag.
 fn clear(flags: &mut [bool])
     ensures { (k : ℕ) → ¬ (Marked flags.new k) }
 {
@@ -91,6 +92,7 @@ fn follow(p: &Position, reached: &[bool], may: &mut [bool])
     }
 }
 
+/// Sets the flags of the numbers.
 fn mark(flags: &mut [bool], numbers: &[u32])
     requires { IsBelow numbers.now (length flags.old) }
     ensures { (k : ℕ) → Marked flags.new k ↔ (Marked flags.old k ⊎ Contains numbers.now k) }
@@ -100,6 +102,7 @@ fn mark(flags: &mut [bool], numbers: &[u32])
     }
 }
 
+/// Whether the flag of one of the numbers is set.
 fn some_marked(flags: &[bool], numbers: &[u32]) -> bool
     requires { IsBelow numbers.now (length flags.now) }
     ensures { IsTrue result ↔ ((k : ℕ) × Contains numbers.now k × Marked flags.now k) }

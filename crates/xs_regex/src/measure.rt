@@ -40,6 +40,7 @@ fn count_of(least: u32, most: Option<u32>) -> u32
     }
 }
 
+/// The size of that many copies, as far as it is counted.
 fn many(count: u32, size: u32) -> u32
     ensures { result ≡ min (count * size) 513 }
 {

@@ -51,6 +51,7 @@ fn letters(alloc: Global, pattern: &str) -> Result<Vec<char>, RegexFault>
     Ok(cs)
 }
 
+/// The characters of the pattern.
 fn all_letters(alloc: Global, pattern: &str) -> Result<Vec<char>, AllocError>
     ensures { IfOk result (λ cs. cs.items ≡ chars pattern.now) }
 {

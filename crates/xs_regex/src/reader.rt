@@ -4,8 +4,8 @@ ghost use Rattle.xs_regex.specs.Characters.{set_at};
 ghost use Rattle.xs_regex.specs.Meaning.{Means, Reads};
 ghost use Rattle.xs_regex.specs.Pattern.{Tree};
 ghost use Rattle.xs_regex.specs.Scan as scan;
-ghost use Rattle.xs_regex.specs.Scan.{count_behind, class_of, closed, regex_at, pieces_at, atom_at};
-ghost use Rattle.xs_regex.specs.Told.{IsTold};
+ghost use Rattle.xs_regex.specs.Scan.{count_after, class_of, closed, regex_at, pieces_at, atom_at};
+ghost use Rattle.xs_regex.specs.Reported.{IsReported};
 
 use crate::characters::{counts, next};
 use crate::forms::{any, in_turn, of_either, times};
@@ -13,9 +13,9 @@ use crate::sets::set;
 use crate::{Regex, RegexFault};
 use std::alloc::Global;
 
-/// Sequences with bars between them, and what is left behind them.
+/// Sequences with bars between them, and what is left after them.
 ///
-/// It takes at most as many steps as are given, and goes into parentheses at most so deep.
+/// It takes at most as many steps as are given, and goes into parentheses at most to that depth.
 #[cycle(reader)]
 pub fn regex(
     alloc: Global,
@@ -23,7 +23,7 @@ pub fn regex(
     depth: u32,
     cs: &[char],
 ) -> Result<(Regex, &[char]), RegexFault>
-    ensures { IsTold (regex_at steps depth cs.now) Reads result }
+    ensures { IsReported (regex_at steps depth cs.now) Reads result }
 {
     let mut front = Vec::new(alloc);
     let mut here = cs;
@@ -32,7 +32,7 @@ pub fn regex(
         bound -= 1;
         match sequence(alloc, bound, depth, here) {
             Ok((part, left)) => {
-                let Some(rest) = behind_bar(left) else {
+                let Some(rest) = after_bar(left) else {
                     let whole = of_either(alloc, front, part)?;
                     return Ok((whole, left));
                 };
@@ -45,9 +45,9 @@ pub fn regex(
     Err(RegexFault::BadRegex)
 }
 
-/// What stands behind a bar, where one is here.
-fn behind_bar(cs: &[char]) -> Option<&[char]>
-    ensures { option_map (λ r. r.now) result ≡ scan.behind_bar cs.now }
+/// What stands after a bar, where one is here.
+fn after_bar(cs: &[char]) -> Option<&[char]>
+    ensures { option_map (λ r. r.now) result ≡ scan.after_bar cs.now }
 {
     let (c, rest) = next(cs)?;
     if c == '|' { Some(rest) } else { None }
@@ -63,6 +63,7 @@ fn ends(cs: &[char]) -> bool
     c == '|' || c == ')'
 }
 
+/// Pieces one after another, or none, and what is left after them.
 #[cycle(reader)]
 fn sequence(
     alloc: Global,
@@ -70,7 +71,7 @@ fn sequence(
     depth: u32,
     cs: &[char],
 ) -> Result<(Regex, &[char]), RegexFault>
-    ensures { IsTold (scan.sequence_at steps depth cs.now) Reads result }
+    ensures { IsReported (scan.sequence_at steps depth cs.now) Reads result }
 {
     if ends(cs) {
         return Ok((Regex::Empty, cs));
@@ -78,6 +79,7 @@ fn sequence(
     pieces(alloc, steps, depth, cs)
 }
 
+/// One piece or more, one after another, and what is left after them.
 #[cycle(reader)]
 fn pieces(
     alloc: Global,
@@ -85,7 +87,7 @@ fn pieces(
     depth: u32,
     cs: &[char],
 ) -> Result<(Regex, &[char]), RegexFault>
-    ensures { IsTold (pieces_at steps depth cs.now) Reads result }
+    ensures { IsReported (pieces_at steps depth cs.now) Reads result }
 {
     let mut front = Vec::new(alloc);
     let mut here = cs;
@@ -115,7 +117,7 @@ fn piece(
     depth: u32,
     cs: &[char],
 ) -> Result<(Regex, &[char]), RegexFault>
-    ensures { IsTold (scan.counted (atom_at steps depth cs.now)) Reads result }
+    ensures { IsReported (scan.counted (atom_at steps depth cs.now)) Reads result }
 {
     match atom(alloc, steps, depth, cs) {
         Ok((inner, left)) => counted(alloc, inner, left),
@@ -123,8 +125,9 @@ fn piece(
     }
 }
 
+/// A regex with the count that stands here, if one does, and what is left after it.
 fn counted(alloc: Global, inner: Regex, cs: &[char]) -> Result<(Regex, &[char]), RegexFault>
-    ensures { (t : Tree) → Means t inner → IsTold (count_behind t cs.now) Reads result }
+    ensures { (t : Tree) → Means t inner → IsReported (count_after t cs.now) Reads result }
 {
     let Some((c, rest)) = next(cs) else {
         return Ok((inner, cs));
@@ -149,6 +152,7 @@ fn counted(alloc: Global, inner: Regex, cs: &[char]) -> Result<(Regex, &[char]),
     }
 }
 
+/// A class or a regex in parentheses, and what is left after it.
 #[cycle(reader)]
 fn atom(
     alloc: Global,
@@ -156,7 +160,7 @@ fn atom(
     depth: u32,
     cs: &[char],
 ) -> Result<(Regex, &[char]), RegexFault>
-    ensures { IsTold (atom_at steps depth cs.now) Reads result }
+    ensures { IsReported (atom_at steps depth cs.now) Reads result }
 {
     if steps == 0 {
         return Err(RegexFault::BadRegex);
@@ -181,7 +185,7 @@ fn group(
     depth: u32,
     cs: &[char],
 ) -> Result<(Regex, &[char]), RegexFault>
-    ensures { IsTold (closed (regex_at steps depth cs.now)) Reads result }
+    ensures { IsReported (closed (regex_at steps depth cs.now)) Reads result }
 {
     match regex(alloc, steps, depth, cs) {
         Ok((inner, left)) => {
@@ -198,8 +202,9 @@ fn group(
     }
 }
 
+/// A class, and what is left after it.
 fn class(alloc: Global, cs: &[char]) -> Result<(Regex, &[char]), RegexFault>
-    ensures { IsTold (class_of (set_at cs.now)) Reads result }
+    ensures { IsReported (class_of (set_at cs.now)) Reads result }
 {
     match set(alloc, cs) {
         Ok((class, left)) => Ok((Regex::Set(class), left)),

@@ -33,7 +33,7 @@ pub fn repeated(
     }
 }
 
-/// Whether the empty word is so many words, each of which can only be empty.
+/// Whether the empty word is that many words, each of which can only be empty.
 fn allows_none(nullable: bool, least: u32, most: Option<u32>) -> bool
     ensures { IsTrue result ↔ ((least ≡ 0) ⊎ (IsTrue nullable × IsInOrder least most)) }
 {
@@ -50,6 +50,7 @@ fn is_in_order(least: u32, most: Option<u32>) -> bool
     }
 }
 
+/// At least as many words as the count.
 fn at_least(alloc: Global, one: &Position, least: u32) -> Result<Position, Memory>
     requires formed { IsWellFormed one.now }
     requires some { 0 < length one.now.classes }
@@ -59,7 +60,7 @@ fn at_least(alloc: Global, one: &Position, least: u32) -> Result<Position, Memor
     let mut last = copied(alloc, one)?;
     round(alloc, &mut last)?;
     let mut all = maybe_if(least == 0, last);
-    'copies: for behind in 1..least {
+    'copies: for later in 1..least {
         let mut more = copied(alloc, one)?;
         sequence(alloc, &mut more, &mut all)?;
         all = more;
@@ -67,6 +68,7 @@ fn at_least(alloc: Global, one: &Position, least: u32) -> Result<Position, Memor
     Ok(all)
 }
 
+/// As many words as lie between the counts.
 fn between(alloc: Global, one: &Position, least: u32, most: u32) -> Result<Position, Memory>
     requires formed { IsWellFormed one.now }
     requires some { 0 < length one.now.classes }
@@ -74,10 +76,10 @@ fn between(alloc: Global, one: &Position, least: u32, most: u32) -> Result<Posit
     ensures { IfOk result (IsAutomaton (Repeats (Accepts one.now) least (Some most)) (times most one.now.classes) (IsSure one.now least (Some most))) }
 {
     let mut all = nothing(alloc, least <= most);
-    'copies: for behind in 0..most {
+    'copies: for later in 0..most {
         let mut more = copied(alloc, one)?;
         sequence(alloc, &mut more, &mut all)?;
-        all = maybe_if(least < most - behind, more);
+        all = maybe_if(least < most - later, more);
     }
     Ok(all)
 }

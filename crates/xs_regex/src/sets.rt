@@ -6,7 +6,7 @@ ghost use Rattle.xs_regex.specs.Characters.{known, known_item, items_at, sorted,
 ghost use Rattle.xs_regex.specs.Characters as spec;
 ghost use Rattle.xs_regex.specs.Meaning.{IsOfItem, IsOfItems, IsClassOf};
 ghost use Rattle.xs_regex.specs.Pieces.{item_of};
-ghost use Rattle.xs_regex.specs.Told.{IsTold, Adds};
+ghost use Rattle.xs_regex.specs.Reported.{IsReported, Adds};
 
 use crate::RegexFault;
 use crate::characters::{Piece, item, next, one};
@@ -15,7 +15,7 @@ use xs_class::{Class, Memory, NameFault, Text};
 
 /// The class that a name stands for.
 fn class_named(alloc: Global, letters: &[char]) -> Result<Class, RegexFault>
-    ensures { IsTold (set_named letters.now) (λ set class. HasMembersOf class set) result }
+    ensures { IsReported (set_named letters.now) (λ set class. HasMembersOf class set) result }
 {
     let text = text_of(alloc, letters)?;
     match Class::named(alloc, text.as_str()) {
@@ -25,6 +25,7 @@ fn class_named(alloc: Global, letters: &[char]) -> Result<Class, RegexFault>
     }
 }
 
+/// The text of the characters.
 fn text_of(alloc: Global, letters: &[char]) -> Result<Text, Memory>
     ensures { IfOk result (λ t. t ≡ letters.now) }
 {
@@ -37,7 +38,7 @@ fn text_of(alloc: Global, letters: &[char]) -> Result<Text, Memory>
 
 /// Adds the characters of an item.
 fn add(alloc: Global, piece: Piece, into: &mut Vec<(u32, u32)>) -> Result<(), RegexFault>
-    ensures { IsTold (known (item_of piece.entry)) (λ a x. Adds into.old.items into.new.items (IsOfItem a)) result }
+    ensures { IsReported (known (item_of piece.entry)) (λ a x. Adds into.old.items into.new.items (IsOfItem a)) result }
 {
     match piece {
         Piece::Span(low, high) => {
@@ -54,14 +55,14 @@ fn add(alloc: Global, piece: Piece, into: &mut Vec<(u32, u32)>) -> Result<(), Re
     }
 }
 
-/// Adds the characters of the items up to a closing bracket, and tells what is left behind it.
+/// Adds the characters of the items up to a closing bracket, and gives what is left after it.
 fn items<'a>(
     alloc: Global,
     steps: usize,
     cs: &'a [char],
     into: &mut Vec<(u32, u32)>,
 ) -> Result<&'a [char], RegexFault>
-    ensures { IsTold (items_at steps cs.now) (λ a x. (a.1 ≡ x.now) × Adds into.old.items into.new.items (IsOfItems a.0)) result }
+    ensures { IsReported (items_at steps cs.now) (λ a x. (a.1 ≡ x.now) × Adds into.old.items into.new.items (IsOfItems a.0)) result }
 {
     let mut here = cs;
     let mut bound = steps;
@@ -122,9 +123,9 @@ fn apart(alloc: Global, ranges: &[(u32, u32)]) -> Result<Class, Memory>
     Ok(class)
 }
 
-/// The characters of the items up to a closing bracket, and what is left behind it.
+/// The characters of the items up to a closing bracket, and what is left after it.
 fn some_of(alloc: Global, cs: &[char]) -> Result<(Class, &[char]), RegexFault>
-    ensures { IsTold (sorted spec.some_of (items_at (length cs.now) cs.now)) (λ a x. (a.1 ≡ x.1.now) × IsClassOf a.0 x.0) result }
+    ensures { IsReported (sorted spec.some_of (items_at (length cs.now) cs.now)) (λ a x. (a.1 ≡ x.1.now) × IsClassOf a.0 x.0) result }
 {
     let mut ranges = Vec::new(alloc);
     match items(alloc, cs.len(), cs, &mut ranges) {
@@ -136,9 +137,9 @@ fn some_of(alloc: Global, cs: &[char]) -> Result<(Class, &[char]), RegexFault>
     }
 }
 
-/// The characters of none of the items up to a closing bracket, and what is left behind it.
+/// The characters of none of the items up to a closing bracket, and what is left after it.
 fn none_of(alloc: Global, cs: &[char]) -> Result<(Class, &[char]), RegexFault>
-    ensures { IsTold (sorted spec.none_of (items_at (length cs.now) cs.now)) (λ a x. (a.1 ≡ x.1.now) × IsClassOf a.0 x.0) result }
+    ensures { IsReported (sorted spec.none_of (items_at (length cs.now) cs.now)) (λ a x. (a.1 ≡ x.1.now) × IsClassOf a.0 x.0) result }
 {
     let mut ranges = Vec::new(alloc);
     match items(alloc, cs.len(), cs, &mut ranges) {
@@ -152,7 +153,7 @@ fn none_of(alloc: Global, cs: &[char]) -> Result<(Class, &[char]), RegexFault>
 
 /// The characters of one item outside brackets, and what is left.
 fn single(alloc: Global, cs: &[char]) -> Result<(Class, &[char]), RegexFault>
-    ensures { IsTold (one_set (known_item (one_at cs.now))) (λ a x. (a.1 ≡ x.1.now) × IsClassOf a.0 x.0) result }
+    ensures { IsReported (one_set (known_item (one_at cs.now))) (λ a x. (a.1 ≡ x.1.now) × IsClassOf a.0 x.0) result }
 {
     let Some((piece, left)) = one(cs) else {
         return Err(RegexFault::BadRegex);
@@ -167,9 +168,9 @@ fn single(alloc: Global, cs: &[char]) -> Result<(Class, &[char]), RegexFault>
     }
 }
 
-/// A set of characters, and what is left behind it.
+/// A set of characters, and what is left after it.
 pub fn set(alloc: Global, cs: &[char]) -> Result<(Class, &[char]), RegexFault>
-    ensures { IsTold (set_at cs.now) (λ a x. (a.1 ≡ x.1.now) × IsClassOf a.0 x.0) result }
+    ensures { IsReported (set_at cs.now) (λ a x. (a.1 ≡ x.1.now) × IsClassOf a.0 x.0) result }
 {
     let Some((c, rest)) = next(cs) else {
         return Err(RegexFault::BadRegex);
@@ -184,8 +185,9 @@ pub fn set(alloc: Global, cs: &[char]) -> Result<(Class, &[char]), RegexFault>
     single(alloc, cs)
 }
 
+/// A set of characters after its opening bracket, and what is left after it.
 fn bracket(alloc: Global, cs: &[char]) -> Result<(Class, &[char]), RegexFault>
-    ensures { IsTold (bracket_at cs.now) (λ a x. (a.1 ≡ x.1.now) × IsClassOf a.0 x.0) result }
+    ensures { IsReported (bracket_at cs.now) (λ a x. (a.1 ≡ x.1.now) × IsClassOf a.0 x.0) result }
 {
     let Some((c, rest)) = next(cs) else {
         return Err(RegexFault::BadRegex);

@@ -6,7 +6,7 @@ use Rattle.std.proofs.lemmas.Bool.Decides.{nat_tests}
 use Rattle.std.proofs.lemmas.List.{take_all}
 use Rattle.std.proofs.lemmas.Str.{chars-encodes, utf8_valid_len-IsUtf8, scalars-chars, IsUtf8-nil, IsUtf8-from_is_utf8}
 use Rattle.xs_lex.specs.declared.kind.Kind.TheVariants.{End}
-use Rattle.xs_lex.specs.Reading.{Lexeme, Extent, AreTokensFrom, AreTokens, extent_of, behind_mark, valid, size_of, line_ends}
+use Rattle.xs_lex.specs.Reading.{Lexeme, Extent, AreTokensFrom, AreTokens, extent_of, after_mark, valid, size_of, line_ends}
 use Rattle.xs_sheet.specs.declared.piece.Piece.{Piece}
 use Rattle.xs_sheet.specs.declared.unit.Unit.{Unit}
 use Rattle.xs_sheet.specs.declared.unit.Unit.TheVariants.{Terminal, Ignorable, Production}
@@ -26,7 +26,7 @@ eq_self n = grind (arith, nat_tests)
 same_extent : (a b c d : ℕ) (s t : Bool) → a ≡ b → c ≡ d → s ≡ t → ◌≡◌ {A = Extent} (record { size = a; lines = c; whole = s }) (record { size = b; lines = d; whole = t })
 same_extent a b c d s t e f g = ap (λ (z : ℕ). record { size = z; lines = c; whole = s }) e ∙ ap (λ (z : ℕ). record { size = b; lines = z; whole = s }) f ∙ ap (λ (z : Bool). record { size = b; lines = d; whole = z }) g
 
-bytes_lexed : (text : List ℕ) (ts : List Lexeme) → all_scalars text ≡ true → behind_mark text ≡ text → AreTokensFrom (whole_extent text) text ts → AreTokens (encode_utf8_all text) ts
+bytes_lexed : (text : List ℕ) (ts : List Lexeme) → all_scalars text ≡ true → after_mark text ≡ text → AreTokensFrom (whole_extent text) text ts → AreTokens (encode_utf8_all text) ts
 bytes_lexed text ts scalars mark are =
     let bytes = encode_utf8_all text in
     let utf8 : IsUtf8 bytes = (text, (scalars, refl)) in
@@ -34,8 +34,8 @@ bytes_lexed text ts scalars mark are =
     let whole : valid bytes ≡ bytes = ap (λ (n : ℕ). take n bytes) all ∙ take_all (length bytes) bytes (omega arith) in
     let letters : chars (valid bytes) ≡ text = ap chars whole ∙ chars-encodes text scalars in
     let extent : extent_of bytes ≡ whole_extent text = same_extent (utf8_valid_len bytes) (length bytes) (1 + line_ends (chars (valid bytes))) (1 + line_ends text) (utf8_valid_len bytes == length bytes) true all (ap (λ (z : List ℕ). 1 + line_ends z) letters) (ap (λ (n : ℕ). n == length bytes) all ∙ eq_self (length bytes)) in
-    let front : behind_mark (chars (valid bytes)) ≡ text = ap behind_mark letters ∙ mark in
-    subst (λ (x : Extent). AreTokensFrom x (behind_mark (chars (valid bytes))) ts) (sym extent) (subst (λ (z : List ℕ). AreTokensFrom (whole_extent text) z ts) (sym front) are)
+    let front : after_mark (chars (valid bytes)) ≡ text = ap after_mark letters ∙ mark in
+    subst (λ (x : Extent). AreTokensFrom x (after_mark (chars (valid bytes))) ts) (sym extent) (subst (λ (z : List ℕ). AreTokensFrom (whole_extent text) z ts) (sym front) are)
 
 -- units on lines of their own
 abbrev lined_from : ℕ → List UnitOutline → List UnitOutline
@@ -93,7 +93,7 @@ valid_utf8 : (bytes : List ℕ) → IsUtf8 (valid bytes)
 unfolding utf8_valid_len
 valid_utf8 bytes = front_utf8 bytes (length bytes)
 
-mark_scalars : (cs : List ℕ) → all_scalars cs ≡ true → all_scalars (behind_mark cs) ≡ true
+mark_scalars : (cs : List ℕ) → all_scalars cs ≡ true → all_scalars (after_mark cs) ≡ true
 mark_scalars [] is = refl
 mark_scalars (c ∷ cs) is = by (c == 0xFEFF)
   where
@@ -101,14 +101,14 @@ mark_scalars (c ∷ cs) is = by (c == 0xFEFF)
     by true = (scalars_parts (c ∷ []) cs is).1
     by false = is
 
-file_scalars : (bytes : List ℕ) → all_scalars (behind_mark (chars (valid bytes))) ≡ true
+file_scalars : (bytes : List ℕ) → all_scalars (after_mark (chars (valid bytes))) ≡ true
 file_scalars bytes = mark_scalars (chars (valid bytes)) (scalars-chars (valid bytes) (valid_utf8 bytes))
 
 -- a sheet of some bytes is the sheet, but for lines, of those that are written
 pub written_is_read : (bytes : List ℕ) (s : Sheet) → IsSheetOf bytes s → IsSheetOf (sheet_bytes s) (laid_out s)
 written_is_read bytes s sheet =
     let r = sheet.reads in
-    let good = tokens_good (extent_of bytes) (behind_mark (chars (valid bytes))) sheet.tokens sheet.pieces (file_scalars bytes) sheet.tokens_are sheet.pieces_are in
+    let good = tokens_good (extent_of bytes) (after_mark (chars (valid bytes))) sheet.tokens sheet.pieces (file_scalars bytes) sheet.tokens_are sheet.pieces_are in
     let g = subst (λ (z : List Piece). GoodPieces z) r.is good in
     let word : Written = as_is (codes "xsugar-1") in
     let us = map unit_outline s.units in

@@ -4,7 +4,7 @@ use Rattle.std.specs.declared.result.Result.{Result}
 use Rattle.std.specs.Result.{IfOk, IfErr}
 use Rattle.std.specs.Str.{chars}
 use Rattle.xs_lex.specs.declared.token.Token.{Token}
-use Rattle.xs_lex.specs.Reading.{Lexeme, AreTokens, extent_of, behind_mark, valid, lexeme_of}
+use Rattle.xs_lex.specs.Reading.{Lexeme, AreTokens, extent_of, after_mark, valid, lexeme_of}
 use Rattle.xs_sheet.specs.declared.piece.Piece.{Piece}
 use Rattle.xs_sheet.specs.declared.sheet.Sheet.{Sheet}
 use Rattle.xs_sheet.specs.declared.reader.SheetFault.{SheetFault}
@@ -26,11 +26,11 @@ pub record IsCut (bytes : List ℕ) (list : List Token) (ps : List Piece) : Type
   pub pieces : ArePieces (map (lexeme_of bytes) list) ps
 
 pub cut_whole : (bytes : List ℕ) (list : List Token) (ps : List Piece) → IsCut bytes list ps → run begin ps ≡ unfinished → ⊥
-cut_whole bytes list ps c is = never_unfinished ps begin (tokens_end (extent_of bytes) (behind_mark (chars (valid bytes))) (map (lexeme_of bytes) list) ps c.tokens c.pieces) is
+cut_whole bytes list ps c is = never_unfinished ps begin (tokens_end (extent_of bytes) (after_mark (chars (valid bytes))) (map (lexeme_of bytes) list) ps c.tokens c.pieces) is
 
 pub cut_sheet : (bytes : List ℕ) (list : List Token) (ps : List Piece) (s : Sheet) → IsCut bytes list ps → IsDone (outline_of s) (run begin ps) → HaveRegexes s.units → IsSheetOf bytes s
 cut_sheet bytes list ps s c is regexes =
-    let none = done_last ps begin (outline_of s) is.0 (tokens_end (extent_of bytes) (behind_mark (chars (valid bytes))) (map (lexeme_of bytes) list) ps c.tokens c.pieces) is.1 in
+    let none = done_last ps begin (outline_of s) is.0 (tokens_end (extent_of bytes) (after_mark (chars (valid bytes))) (map (lexeme_of bytes) list) ps c.tokens c.pieces) is.1 in
     record { tokens = map (lexeme_of bytes) list; tokens_are = c.tokens; pieces = ps; pieces_are = c.pieces; reads = sheet_sound ps (outline_of s) (is.1 ∙ ap (λ (z : List Piece). done (outline_of s) z) none); regexes = regexes }
 
 broken_at : (bytes : List ℕ) (list : List Token) (ps : List Piece) (p : Piece) (at : ℕ) → IsCut bytes list ps → run begin ps ≡ stuck p → p.start ≡ at → IsSheetBrokenAt bytes at

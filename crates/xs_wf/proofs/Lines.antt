@@ -6,7 +6,7 @@ use Rattle.std.proofs.lemmas.Option.{none-some, same_Some}
 use Rattle.xs_lex.specs.declared.kind.Kind.{Kind}
 use Rattle.xs_lex.specs.declared.kind.Kind.TheVariants.{SlashEnd, AngleEnd}
 use Rattle.xs_lex.specs.Between.{Blank, white, comment, spelt_blanks, IsApart}
-use Rattle.xs_lex.specs.Reading.{Lexeme, Extent, AreTokensFrom, AreTokens, IsLast, IsTokenAt, line_ends, behind_mark, valid, extent_of}
+use Rattle.xs_lex.specs.Reading.{Lexeme, Extent, AreTokensFrom, AreTokens, IsLast, IsTokenAt, line_ends, after_mark, valid, extent_of}
 use Rattle.xs_sheet.specs.declared.piece.Piece.{Piece}
 use Rattle.xs_sheet.specs.declared.item.Item.{Item}
 use Rattle.xs_sheet.specs.declared.item.Item.TheVariants.{Fixed, Named, Skip}
@@ -67,7 +67,7 @@ apart_ends text rest a = omega (arith, ap line_ends a.is, blanks_ends a.blanks r
 token_ends : (rest after : List ℕ) (kind : Kind) (word : List ℕ) → IsTokenAt rest kind word after → line_ends after ≤ line_ends rest
 token_ends rest after kind word token = omega (arith, ap line_ends token.begins.is, ends_behind word after)
 
-mark_ends : (text : List ℕ) → line_ends (behind_mark text) ≤ line_ends text
+mark_ends : (text : List ℕ) → line_ends (after_mark text) ≤ line_ends text
 mark_ends [] = omega arith
 mark_ends (c ∷ cs) = by_test (c == 0xFEFF)
   where
@@ -99,7 +99,7 @@ same_lines (t ∷ ts) (p ∷ ps) are = ap (λ (n : ℕ). n ∷ token_lines ts) (
 pieces_rise : (bytes : List ℕ) (ts : List Lexeme) (ps : List Piece) → AreTokens bytes ts → ArePieces ts ps → RiseFrom 0 (piece_lines ps)
 pieces_rise bytes ts ps tokens are =
     let text = chars (valid bytes) in
-    subst (λ (ls : List ℕ). RiseFrom 0 ls) (same_lines ts ps are) (tokens_rise (extent_of bytes) (behind_mark text) ts 0 (omega (arith, mark_ends text)) tokens)
+    subst (λ (ls : List ℕ). RiseFrom 0 ls) (same_lines ts ps are) (tokens_rise (extent_of bytes) (after_mark text) ts 0 (omega (arith, mark_ends text)) tokens)
 
 -- where the lines of pieces rise, those of what is left do
 abbrev Keeps : List Piece → List Piece → Type 0

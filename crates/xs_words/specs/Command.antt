@@ -7,7 +7,7 @@ use Rattle.xs_chars.specs.declared.form.Form.{Form}
 use Rattle.xs_chars.specs.declared.form.Form.TheVariants.{AsIs, Nfc, Nfd}
 use Rattle.xs_words.specs.Number.{number_within}
 
--- a sheet: the one that the program brings along, or that of a file of this name
+-- a sheet: the one that the program includes, or that of a file of this name
 pub data Sheet : Type 0 where
   leiden : Sheet
   file : List ℕ → Sheet

@@ -11,7 +11,7 @@ begins_well [] = false
 begins_well (b ∷ []) = true
 begins_well (b ∷ c ∷ bs) = not (b == 48)
 
--- the number that these digits spell behind the digits of n; None where one is no digit
+-- the number that these digits spell after the digits of n; None where one is no digit
 abbrev pub number_after : ℕ → List ℕ → Option ℕ
 number_after n [] = Some n
 number_after n (b ∷ bs) = if is_digit b then number_after (n * 10 + (b - 48)) bs else None

@@ -1,7 +1,7 @@
 use xs_chars::Form;
 
-/// The sheet that a word names: `@leiden` the one that the program brings along, and any other word
-/// a file.
+/// The sheet that a word names: `@leiden` names the one that the program includes, and any other
+/// word a file.
 #[derive(Clone, Copy)]
 pub enum SheetName<'w> {
     Leiden,
@@ -23,8 +23,9 @@ pub enum Command<'w> {
     RoundXml { sheet: SheetName<'w> },
     /// `trees SHEET MAX`: at most `max` derivations of the text of the input, 1 to 1,000.
     Trees { sheet: SheetName<'w>, max: u32 },
-    /// `sheet`: the sheet that the program brings along.
+    /// `sheet`: the sheet that the program includes.
     PrintSheet,
-    /// `make SEED LINES`: a text of 1 to 2,000 lines that is made of a seed of at most 2,147,483,647.
+    /// `make SEED LINES`: a text of 1 to 2,000 lines that is made from a seed of at most
+    /// 2,147,483,647.
     Make { seed: u32, lines: u32 },
 }

@@ -2,6 +2,7 @@
 ghost use Rattle.std.specs.Prelude.{◌≡◌, ◌≤◌, IfSome};
 ghost use Rattle.xs_words.specs.Number.{begins_well as begins_as_numbers_do, number_after, number_within, within};
 
+/// Whether there is a digit, and no zero before others.
 fn begins_well(bytes: &[u8]) -> bool
     ensures { result ≡ begins_as_numbers_do bytes.now }
 {
@@ -12,7 +13,7 @@ fn begins_well(bytes: &[u8]) -> bool
     }
 }
 
-// The number that the digits spell, where it lies between these two.
+/// The number that the digits spell, where it lies between these two.
 fn spelled(bytes: &[u8], least: u32, most: u32) -> Option<u32>
     ensures number { result ≡ within least most (number_after 0 bytes.now) }
     ensures range { IfSome result (λ n. (least ≤ n) × (n ≤ most)) }
@@ -33,7 +34,7 @@ fn spelled(bytes: &[u8], least: u32, most: u32) -> Option<u32>
     Some(number as u32)
 }
 
-// The number that a word is, where it lies between these two.
+/// The number that a word is, where it lies between these two.
 pub fn number(word: &str, least: u32, most: u32) -> Option<u32>
     ensures number { result ≡ number_within least most word.now }
     ensures range { IfSome result (λ n. (least ≤ n) × (n ≤ most)) }

@@ -13,6 +13,7 @@ const GREATEST_SEED: u32 = 2_147_483_647;
 
 const MOST_LINES: u32 = 2000;
 
+/// The sheet that the word names.
 fn sheet_name(word: &str) -> SheetName<'_>
     ensures { sheet_meant result ≡ sheet_of word.now }
 {
@@ -23,6 +24,7 @@ fn sheet_name(word: &str) -> SheetName<'_>
     }
 }
 
+/// The form that the word names.
 fn form_named(word: &str) -> Option<Form>
     ensures { result ≡ form_of word.now }
 {
@@ -34,6 +36,7 @@ fn form_named(word: &str) -> Option<Form>
     }
 }
 
+/// A command of two words.
 fn of_two<'w>(verb: &str, sheet: &'w str) -> Option<Command<'w>>
     ensures command { option_map meant result ≡ command_of_two verb.now sheet.now }
     ensures lines { IfSome result HasLines }
@@ -50,6 +53,7 @@ fn of_two<'w>(verb: &str, sheet: &'w str) -> Option<Command<'w>>
     }
 }
 
+/// The command `round` without a form.
 fn round<'w>(sheet: &'w str, side: &str) -> Option<Command<'w>>
     ensures command { option_map meant result ≡ round_of sheet.now side.now }
     ensures lines { IfSome result HasLines }
@@ -65,6 +69,7 @@ fn round<'w>(sheet: &'w str, side: &str) -> Option<Command<'w>>
     }
 }
 
+/// The command `make`, where both numbers are in range.
 fn make<'w>(seed: Option<u32>, lines: Option<u32>) -> Option<Command<'w>>
     requires { IfSome lines (λ n. (1 ≤ n) × (n ≤ 2000)) }
     ensures command { option_map meant result ≡ make_of seed lines }
@@ -76,6 +81,7 @@ fn make<'w>(seed: Option<u32>, lines: Option<u32>) -> Option<Command<'w>>
     }
 }
 
+/// A command of three words.
 fn of_three<'w>(verb: &str, first: &'w str, second: &str) -> Option<Command<'w>>
     ensures command { option_map meant result ≡ command_of_three verb.now first.now second.now }
     ensures lines { IfSome result HasLines }
@@ -100,6 +106,7 @@ fn of_three<'w>(verb: &str, first: &'w str, second: &str) -> Option<Command<'w>>
     }
 }
 
+/// A command of four words.
 fn of_four<'w>(verb: &str, sheet: &'w str, side: &str, form: &str) -> Option<Command<'w>>
     ensures command { option_map meant result ≡ command_of_four verb.now sheet.now side.now form.now }
     ensures lines { IfSome result HasLines }
@@ -117,9 +124,9 @@ fn of_four<'w>(verb: &str, sheet: &'w str, side: &str, form: &str) -> Option<Com
 /// The forms are `check SHEET`, `to-xml SHEET`, `to-xml SHEET FORM`, `to-text SHEET`,
 /// `round SHEET text`, `round SHEET text FORM`, `round SHEET xml`, `trees SHEET MAX`, `sheet` and
 /// `make SEED LINES`. SHEET is `@leiden` or a file's name, and FORM `asis`, which is meant where it
-/// is left out, `nfc` or `nfd`. MAX is 1 to 1,000, SEED 0 to 2,147,483,647 and LINES 1 to 2,000, each
-/// in decimal digits without a sign, and without a leading zero but for `0` itself. Takes no memory;
-/// time is linear in the words.
+/// is left out, `nfc` or `nfd`. MAX is 1 to 1,000, SEED 0 to 2,147,483,647 and LINES 1 to 2,000,
+/// each in decimal digits without a sign, and without a leading zero but for `0` itself. Takes no
+/// memory; time is linear in the words.
 pub fn command_of(words: &[String]) -> Option<Command<'_>>
     ensures command { option_map meant result ≡ meant_by (map string_bytes words.now) }
     ensures lines { IfSome result HasLines }

@@ -1,7 +1,7 @@
 -- There is one way to cut a document into pieces, so the pieces read one after the other are the most there are.
 use Rattle.std.proofs.Common.{◌≡◌, ◌⊎◌, inl, inr, ⊎_elim, ℕ, ◌≤◌, List, [], ◌∷◌, ◌++◌, length, length-append, append-nil, Some, true, refl, sym, ◌∙◌, ap, subst, arith}
 use Rattle.xs_xml.specs.Piece.{Piece, declaration, character, line_end, reference, start_tag, empty_tag, end_tag, comment, instruction, cdata, spelt, is_piece}
-use Rattle.xs_xml.specs.Legal.{spelt_all, are_pieces, Spot, ahead, behind, is_alone, are_alone, IsLegal}
+use Rattle.xs_xml.specs.Legal.{spelt_all, are_pieces, Spot, ahead, beyond, is_alone, are_alone, IsLegal}
 use Rattle.xs_xml.specs.Reads.{Reads, all_symbols}
 use Rattle.xs_xml.specs.Scan.{piece_at}
 use Rattle.xs_xml.proofs.Reading.{and_true, char_read_end, char_read_more, line_end_read, reference_read, end_read, comment_read, instruction_read, cdata_read}
@@ -92,4 +92,4 @@ one_list doc ps qs s t p q = ⊎_elim (λ on. goes_on_same ps qs q.each q.alone 
 
 -- one reading
 pub one_word : (names : List (List ℕ)) (doc v w : List ℕ) → Reads names doc v → Reads names doc w → v ≡ w
-one_word names doc v w r s = r.gives ∙ ap (λ (x : List Piece). all_symbols names (Some ahead) x) (one_list doc r.pieces s.pieces behind behind r.legal s.legal) ∙ sym s.gives
+one_word names doc v w r s = r.gives ∙ ap (λ (x : List Piece). all_symbols names (Some ahead) x) (one_list doc r.pieces s.pieces beyond beyond r.legal s.legal) ∙ sym s.gives

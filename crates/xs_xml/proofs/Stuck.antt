@@ -4,7 +4,7 @@ use Rattle.xs_xml.specs.Piece.{Piece, spelt, is_piece}
 use Rattle.xs_xml.specs.Legal.{spelt_all, are_pieces, Spot, is_alone, are_alone, IsLegal}
 use Rattle.xs_xml.specs.Scan.{piece_at}
 use Rattle.xs_xml.proofs.Reading.{and_true}
-use Rattle.xs_xml.specs.Legal.{all_passed, ahead, behind}
+use Rattle.xs_xml.specs.Legal.{all_passed, ahead, beyond}
 use Rattle.xs_xml.specs.Reads.{Reads}
 use Rattle.std.proofs.Common.{◌≤◌, length, arith}
 use Rattle.xs_xml.proofs.Cutting.{one_list}
@@ -28,7 +28,7 @@ stuck_unless doc ps rest s legal refused q r t on =
     let alone = (and_true (is_alone q r) true (are_alone_back ps (q ∷ []) r on.alone)).0 in
     refused q r t (ap piece_at is ∙ spelt_is_read q r piece alone) on
 
--- where a document is read at all, the list that nothing goes on spells all of it and ends behind the root
+-- where a document is read at all, the list that nothing goes on spells all of it and ends after the root
 no_length : (xs : List ℕ) → length xs ≤ 0 → xs ≡ []
 no_length [] h = refl
 no_length (x ∷ xs) h = absurd (omega (arith, h))
@@ -36,9 +36,9 @@ no_length (x ∷ xs) h = absurd (omega (arith, h))
 same_spot : (s t : Spot) → Some s ≡ Some t → s ≡ t
 same_spot s t h = cc
 
-pub reads_whole : (names : List (List ℕ)) (doc w : List ℕ) (ps : List Piece) (rest : List ℕ) (s : Spot) → IsLegal doc ps rest s → IsStuck doc ps → Reads names doc w → (rest ≡ []) × (s ≡ behind)
+pub reads_whole : (names : List (List ℕ)) (doc w : List ℕ) (ps : List Piece) (rest : List ℕ) (s : Spot) → IsLegal doc ps rest s → IsStuck doc ps → Reads names doc w → (rest ≡ []) × (s ≡ beyond)
 reads_whole names doc w ps rest s legal stuck r =
-    let none : rest ≡ [] = no_length rest (rest_least doc ps r.pieces rest [] s behind stuck legal r.legal) in
+    let none : rest ≡ [] = no_length rest (rest_least doc ps r.pieces rest [] s beyond stuck legal r.legal) in
     let all : IsLegal doc ps [] s = subst (λ (x : List ℕ). IsLegal doc ps x s) none legal in
-    let same : ps ≡ r.pieces = one_list doc ps r.pieces s behind all r.legal in
-    (none, same_spot s behind (sym legal.nested ∙ ap (λ (x : List Piece). all_passed (Some ahead) x) same ∙ r.legal.nested))
+    let same : ps ≡ r.pieces = one_list doc ps r.pieces s beyond all r.legal in
+    (none, same_spot s beyond (sym legal.nested ∙ ap (λ (x : List Piece). all_passed (Some ahead) x) same ∙ r.legal.nested))

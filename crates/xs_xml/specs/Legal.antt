@@ -4,7 +4,7 @@ use Rattle.std.specs.declared.option.Option.{Option}
 use Rattle.xs_xml.specs.Tables.{is_white}
 use Rattle.xs_xml.specs.Piece.{Piece, declaration, character, line_end, start_tag, empty_tag, end_tag, comment, instruction, spelt, is_piece, same, starts}
 
--- the pieces one after the other, and the rest behind them
+-- the pieces one after the other, and the rest after them
 abbrev pub spelt_all : List Piece → List ℕ → List ℕ
 spelt_all [] rest = rest
 spelt_all (p ∷ ps) rest = spelt p (spelt_all ps rest)
@@ -28,15 +28,15 @@ is_first (p ∷ ps) = no_declaration ps
 pub data Spot : Type 0 where
   ahead : Spot
   inside : List ℕ → List (List ℕ) → Spot
-  behind : Spot
+  beyond : Spot
 
 abbrev pub opened : Spot → List ℕ → Option Spot
 opened ahead n = Some (inside n [])
 opened (inside m ms) n = Some (inside n (m ∷ ms))
-opened behind n = None
+opened beyond n = None
 
 abbrev pub closed : List (List ℕ) → Spot
-closed [] = behind
+closed [] = beyond
 closed (m ∷ ms) = inside m ms
 
 -- the spot after a piece, where the piece may stand at the spot: before and after the root element only comments,
@@ -47,7 +47,7 @@ passed s (declaration as_ gap) = Some s
 passed s (comment body) = Some s
 passed s (instruction n body) = Some s
 passed s (start_tag n as_ gap) = opened s n
-passed ahead (empty_tag n as_ gap) = Some behind
+passed ahead (empty_tag n as_ gap) = Some beyond
 passed (inside m ms) (end_tag n gap) = if same n m then Some (closed ms) else None
 passed s (end_tag n gap) = None
 passed (inside m ms) p = Some (inside m ms)
@@ -92,7 +92,7 @@ pub record IsLegal (doc : List ℕ) (ps : List Piece) (rest : List ℕ) (at : Sp
   pub fences : no_section_end ps ≡ true
   pub alone : are_alone ps rest ≡ true
 
--- the document begins with the piece, and rest stands behind it
+-- the document begins with the piece, and rest stands after it
 pub record BeginsWith (doc : List ℕ) (p : Piece) (rest : List ℕ) : Type 0 where
   pub spells : doc ≡ spelt p rest
   pub is : is_piece p ≡ true

@@ -50,7 +50,7 @@ is_gap (c ∷ cs) = is_white c && all_of is_white cs
 abbrev pub hex_value : ℕ → ℕ
 hex_value c = if nat_le c 57 then c - 48 else (if nat_le c 70 then c - 55 else c - 87)
 
--- the number of the digits behind those that make so_far
+-- the number of the digits after those that make so_far
 abbrev pub number : ℕ → ℕ → List ℕ → ℕ
 number base so_far [] = so_far
 number base so_far (c ∷ cs) = number base (so_far * base + hex_value c) cs
@@ -128,7 +128,7 @@ pub data Piece : Type 0 where
   instruction : List ℕ → List ℕ → Piece
   cdata : List ℕ → Piece
 
--- a spelling, and the rest behind it
+-- a spelling, and the rest after it
 abbrev pub spelt_bit : Bit → List ℕ → List ℕ
 spelt_bit (plain c) rest = c ∷ rest
 spelt_bit (ref body) rest = 38 ∷ (body ++ 59 ∷ rest)

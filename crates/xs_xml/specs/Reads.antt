@@ -9,7 +9,7 @@ use Rattle.xs_class.specs.Marks.{attr_end, strange, opening_mark, attribute_mark
 use Rattle.xs_class.specs.Ordered.{place_of}
 use Rattle.xs_xml.specs.Tables.{is_white}
 use Rattle.xs_xml.specs.Piece.{Piece, character, line_end, reference, start_tag, empty_tag, end_tag, cdata, Attribute, Bit, plain, ref, ref_char}
-use Rattle.xs_xml.specs.Legal.{Spot, ahead, inside, behind, passed, IsLegal}
+use Rattle.xs_xml.specs.Legal.{Spot, ahead, inside, beyond, passed, IsLegal}
 
 -- a mark of the name at this place, or the one symbol for all marks of a name that the list does not have
 abbrev pub marked : (ℕ → ℕ) → Option ℕ → ℕ
@@ -78,7 +78,7 @@ all_symbols names (Some s) (p ∷ ps) = symbols names s p ++ all_symbols names (
 -- a legal list spells all of the document, its root element has ended, and its symbols are w
 pub record Reads (names : List (List ℕ)) (doc w : List ℕ) : Type 0 where
   pub pieces : List Piece
-  pub legal : IsLegal doc pieces [] behind
+  pub legal : IsLegal doc pieces [] beyond
   pub gives : w ≡ all_symbols names (Some ahead) pieces
 
 -- k is the greatest total length of a legal list that begins the document, in characters, of which CR LF is two

@@ -4,7 +4,7 @@ use Rattle.std.specs.declared.option.Option.{Option}
 use Rattle.xs_xml.specs.Tables.{is_name_char, is_white}
 use Rattle.xs_xml.specs.Piece.{Piece, declaration, character, line_end, reference, start_tag, empty_tag, end_tag, comment, instruction, cdata, is_piece, starts, same, Bit, plain, ref, Attribute, is_bit, is_attribute}
 
--- the characters of a class at the front, what stands behind a prefix, and what stands before a first delimiter and behind it
+-- the characters of a class at the front, what stands after a prefix, and what stands before a first delimiter and after it
 abbrev pub span : (ℕ → Bool) → List ℕ → List ℕ × List ℕ
 span f [] = ([], [])
 span f (c ∷ cs) = if f c then (c ∷ (span f cs).0, (span f cs).1) else ([], c ∷ cs)
@@ -162,7 +162,7 @@ instruction_name r = if same r.0 (codes "xml") then declaration_attrs (attrs_at 
 abbrev pub instruction_at : List ℕ → Found
 instruction_at cs = instruction_name (span is_name_char cs)
 
--- what stands behind <
+-- what stands after <
 abbrev pub markup_at : List ℕ → Found
 markup_at [] = None
 markup_at (c ∷ cs) = if c == 47 then end_at cs else (if c == 33 then bang_at cs else (if c == 63 then instruction_at cs else tag_at (c ∷ cs)))

@@ -1,4 +1,5 @@
-//! XML as a list of pieces: what a piece is, which lists of pieces are legal, and what they mean.
+//! The grammar of XML as a list of pieces: what a piece is, which lists of pieces are legal, and
+//! what they mean.
 //!
 //! The definitions stand in `specs/`: `Piece` has the nine kinds with their spellings, `Legal` the
 //! five rules of a legal list, `Reads` the symbols of a document and the place where it breaks.

@@ -12,7 +12,7 @@ use Rattle.xs_xml_out.specs.Balanced.{Attribute, attributes_word, AreAttributes,
 use Rattle.xs_xml_out.specs.Written.{name_at, written}
 use Rattle.xs_xml_out.specs.Laws.{AreNames}
 use Rattle.xs_xml_out.proofs.Tests.{both_true}
-use Rattle.xs_xml_out.proofs.Marks.{mark_of-attribute_mark}
+use Rattle.xs_xml_out.proofs.SymbolKinds.{symbol_kind-attribute_mark}
 use Rattle.xs_xml_out.proofs.Places.{name_before, names_apart, place_of-name_at}
 use Rattle.xs_xml_out.proofs.Values.{bits, are_bits-bits, value-bits, written-value}
 
@@ -25,7 +25,7 @@ tag_attributes names [] = []
 tag_attributes names (a ∷ as_) = tag_attribute (name_at names a.name) a.value ∷ tag_attributes names as_
 
 attribute_written : (names : List (List ℕ)) (k : ℕ) (v w y : List ℕ) → written names Value (v ++ attr_end ∷ w) ≡ spelt_bits (bits v) (34 ∷ y) → written names Tag (attribute_mark k ∷ (v ++ attr_end ∷ w)) ≡ spelt_attribute (tag_attribute (name_at names k) v) y
-attribute_written names k v w y again = rw (mark_of-attribute_mark k, again) (ap (λ (z : List ℕ). 32 ∷ z) (append_assoc (name_at names k) (codes "=\"") (spelt_bits (bits v) (34 ∷ y))))
+attribute_written names k v w y again = rw (symbol_kind-attribute_mark k, again) (ap (λ (z : List ℕ). 32 ∷ z) (append_assoc (name_at names k) (codes "=\"") (spelt_bits (bits v) (34 ∷ y))))
 
 pub written-attributes : (names : List (List ℕ)) (as_ : List Attribute) (y : List ℕ) → AreAttributes names as_ → written names Tag (attributes_word as_ y) ≡ spelt_attributes (tag_attributes names as_) (written names Tag y)
 written-attributes names [] y are = refl

@@ -5,11 +5,11 @@ use Rattle.xs_xml.specs.Tables.{is_char, is_hex}
 use Rattle.xs_xml.specs.Piece.{Piece, declaration, character, reference, spelt, is_piece, ref_char}
 use Rattle.xs_xml.specs.Legal.{spelt_all, are_pieces, Spot, inside, passed, all_passed}
 use Rattle.xs_xml.specs.Reads.{symbols, all_symbols}
-use Rattle.xs_xml_out.specs.declared.mark.Mark.TheVariants.{Char}
+use Rattle.xs_xml_out.specs.declared.kind.SymbolKind.TheVariants.{Char}
 use Rattle.xs_xml_out.specs.declared.mode.Mode.TheVariants.{Content}
-use Rattle.xs_xml_out.specs.Written.{mark_of, content_char, written}
+use Rattle.xs_xml_out.specs.Written.{symbol_kind, content_char, written}
 use Rattle.xs_xml_out.proofs.Tests.{both_true}
-use Rattle.xs_xml_out.proofs.Marks.{mark_of-char}
+use Rattle.xs_xml_out.proofs.SymbolKinds.{symbol_kind-char}
 
 -- no declaration, and neither > nor CR as it is
 abbrev pub is_calm : Piece → Bool
@@ -78,8 +78,8 @@ pub record IsSpelt (names : List (List ℕ)) (w : List ℕ) : Type 0 where
 pub spelt_nothing : (names : List (List ℕ)) → IsSpelt names []
 spelt_nothing names = record { pieces = []; spells = λ x. refl; each = refl; calm = refl; passes = λ m ms. refl; gives = λ m ms more. refl }
 
-text_spells : (names : List (List ℕ)) (c : ℕ) (w x : List ℕ) (p : Piece) (ps : List Piece) → mark_of c ≡ Char c → ((rest : List ℕ) → spelt p rest ≡ content_char c ++ rest) → written names Content (w ++ x) ≡ spelt_all ps (written names Content x) → written names Content (c ∷ (w ++ x)) ≡ spelt p (spelt_all ps (written names Content x))
-text_spells names c w x p ps mark here again = rw mark (ap (λ (y : List ℕ). content_char c ++ y) again ∙ sym (here (spelt_all ps (written names Content x))))
+text_spells : (names : List (List ℕ)) (c : ℕ) (w x : List ℕ) (p : Piece) (ps : List Piece) → symbol_kind c ≡ Char c → ((rest : List ℕ) → spelt p rest ≡ content_char c ++ rest) → written names Content (w ++ x) ≡ spelt_all ps (written names Content x) → written names Content (c ∷ (w ++ x)) ≡ spelt p (spelt_all ps (written names Content x))
+text_spells names c w x p ps kind here again = rw kind (ap (λ (y : List ℕ). content_char c ++ y) again ∙ sym (here (spelt_all ps (written names Content x))))
 
 text_passes : (p : Piece) (ps : List Piece) (s : Spot) → passed s p ≡ Some s → all_passed (Some s) ps ≡ Some s → all_passed (Some s) (p ∷ ps) ≡ Some s
 text_passes p ps s here again = rw here again
@@ -90,7 +90,7 @@ text_gives names c w p qs more s here is again = rw (is, here) (ap (λ (y : List
 pub spelt_text : (names : List (List ℕ)) (c : ℕ) (w : List ℕ) → is_char c ≡ true → IsSpelt names w → IsSpelt names (c ∷ w)
 spelt_text names c w is d = let one = char_content names c is in record {
   pieces = char_piece c ∷ d.pieces;
-  spells = λ x. text_spells names c w x (char_piece c) d.pieces (mark_of-char c is) one.spells (d.spells x);
+  spells = λ x. text_spells names c w x (char_piece c) d.pieces (symbol_kind-char c is) one.spells (d.spells x);
   each = both_true (is_piece (char_piece c)) (are_pieces d.pieces) one.is d.each;
   calm = both_true (is_calm (char_piece c)) (are_calm d.pieces) one.calm d.calm;
   passes = λ m ms. text_passes (char_piece c) d.pieces (inside m ms) (one.passes m ms) (d.passes m ms);

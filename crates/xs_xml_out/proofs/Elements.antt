@@ -11,7 +11,7 @@ use Rattle.xs_xml_out.specs.Balanced.{Attribute, attributes_word, element_word, 
 use Rattle.xs_xml_out.specs.Written.{name_at, written}
 use Rattle.xs_xml_out.specs.Laws.{AreNames}
 use Rattle.xs_xml_out.proofs.Tests.{both_true}
-use Rattle.xs_xml_out.proofs.Marks.{mark_of-char, mark_of-opening_mark, mark_of-closing_mark}
+use Rattle.xs_xml_out.proofs.SymbolKinds.{symbol_kind-char, symbol_kind-opening_mark, symbol_kind-closing_mark}
 use Rattle.xs_xml_out.proofs.Places.{place_of-name_at}
 use Rattle.xs_xml_out.proofs.Attributes.{tag_attributes, name_at-is_name, written-attributes, attributes_fit, attributes_distinct, attributes_in_order, attributes_give}
 use Rattle.xs_xml_out.proofs.Content.{IsSpelt, spelt_nothing, spelt_text}
@@ -41,11 +41,11 @@ abbrev pub EndsTag : List (List ℕ) → List ℕ → Type 0
 EndsTag names w = (x : List ℕ) → written names Tag (w ++ x) ≡ 62 ∷ written names Content (w ++ x)
 
 opening_ends : (names : List (List ℕ)) (k : ℕ) (z : List ℕ) → written names Tag (opening_mark k ∷ z) ≡ 62 ∷ written names Content (opening_mark k ∷ z)
-opening_ends names k z = rw (mark_of-opening_mark k) refl
+opening_ends names k z = rw (symbol_kind-opening_mark k) refl
 
 pub content_ends : (names : List (List ℕ)) (w : List ℕ) → IsContent names w → (w ≡ []) ⊎ EndsTag names w
 content_ends names w nothing = inl refl
-content_ends names w (text c v is rest) = inr (λ x. rw (mark_of-char c is) refl)
+content_ends names w (text c v is rest) = inr (λ x. rw (symbol_kind-char c is) refl)
 content_ends names w (element k as_ content rest whole below are ascend inner on e) = inr (λ x. subst (λ (z : List ℕ). written names Tag (z ++ x) ≡ 62 ∷ written names Content (z ++ x)) (sym e) (opening_ends names k (attributes_word as_ (content ++ closing_mark k ∷ rest) ++ x)))
 
 -- an element of name k with these attributes
@@ -60,13 +60,13 @@ module _ (names : List (List ℕ)) (ordered : IsOrdered names) (are_names : AreN
   closing_is = rw (place_of-name_at names ordered k below) refl
 
   tag_written : (y : List ℕ) → written names Content (opening_mark k ∷ attributes_word as_ y) ≡ 60 ∷ (name_at names k ++ spelt_attributes (tag_attributes names as_) (written names Tag y))
-  tag_written y = rw (mark_of-opening_mark k) (ap (λ (z : List ℕ). 60 ∷ (name_at names k ++ z)) (written-attributes names as_ y are))
+  tag_written y = rw (symbol_kind-opening_mark k) (ap (λ (z : List ℕ). 60 ∷ (name_at names k ++ z)) (written-attributes names as_ y are))
 
   close_empty : (y : List ℕ) → written names Tag (closing_mark k ∷ y) ≡ 47 ∷ 62 ∷ written names Content y
-  close_empty y = rw (mark_of-closing_mark k) refl
+  close_empty y = rw (symbol_kind-closing_mark k) refl
 
   close_full : (y : List ℕ) → written names Content (closing_mark k ∷ y) ≡ 60 ∷ 47 ∷ (name_at names k ++ 62 ∷ written names Content y)
-  close_full y = rw (mark_of-closing_mark k) (ap (λ (z : List ℕ). 60 ∷ 47 ∷ z) (append_assoc (name_at names k) (codes ">") (written names Content y)))
+  close_full y = rw (symbol_kind-closing_mark k) (ap (λ (z : List ℕ). 60 ∷ 47 ∷ z) (append_assoc (name_at names k) (codes ">") (written names Content y)))
 
   start_gives : (s : Spot) (y : List ℕ) → symbols names s (start_tag (name_at names k) (tag_attributes names as_) []) ++ y ≡ opening_mark k ∷ attributes_word as_ y
   start_gives s y = rw (opening_is, attributes_in_order names ordered are_names as_ ascend are) (ap (λ (z : List ℕ). opening_mark k ∷ z) (attributes_give names ordered are_names as_ y are))
@@ -80,7 +80,7 @@ module _ (names : List (List ℕ)) (ordered : IsOrdered names) (are_names : AreN
   pub end_passes : (ms : List (List ℕ)) → passed (inside (name_at names k) ms) (end_tag (name_at names k) []) ≡ Some (closed ms)
   end_passes ms = rw (same_itself (name_at names k)) refl
 
-  -- an empty tag, and what stands behind it
+  -- an empty tag, and what stands after it
   pub empty_spells : (v x rest : List ℕ) → written names Content (v ++ x) ≡ rest → written names Content (element_word k as_ [] v ++ x) ≡ spelt (empty_tag (name_at names k) (tag_attributes names as_) []) rest
   empty_spells v x rest again = ap (λ (z : List ℕ). written names Content z) (element_word-append k as_ [] v x) ∙ tag_written (closing_mark k ∷ (v ++ x)) ∙ ap (λ (z : List ℕ). 60 ∷ (name_at names k ++ spelt_attributes (tag_attributes names as_) z)) (close_empty (v ++ x) ∙ ap (λ (z : List ℕ). 47 ∷ 62 ∷ z) again)
 
@@ -97,7 +97,7 @@ module _ (names : List (List ℕ)) (ordered : IsOrdered names) (are_names : AreN
     gives = λ m ms more. empty_all v (d.pieces ++ more) (inside m ms) (inside m ms) (all_symbols names (Some (inside m ms)) more) refl (d.gives m ms more);
   }
 
-  -- a start tag, content, an end tag, and what stands behind it
+  -- a start tag, content, an end tag, and what stands after it
   pub full_spells : (w v x : List ℕ) (ps qs : List Piece) (rest : List ℕ) → EndsTag names w → ((y : List ℕ) → written names Content (w ++ y) ≡ spelt_all ps (written names Content y)) → written names Content (v ++ x) ≡ spelt_all qs rest → written names Content (element_word k as_ w v ++ x) ≡ spelt_all (start_tag (name_at names k) (tag_attributes names as_) [] ∷ (ps ++ end_tag (name_at names k) [] ∷ qs)) rest
   full_spells w v x ps qs rest ends inner again =
       ap (λ (z : List ℕ). written names Content z) (element_word-append k as_ w v x)

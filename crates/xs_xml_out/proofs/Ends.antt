@@ -6,44 +6,44 @@ use Rattle.xs_xml.specs.Piece.{all_of}
 use Rattle.xs_xml_out.specs.declared.mode.Mode.{Mode}
 use Rattle.xs_xml_out.specs.declared.mode.Mode.TheVariants.{Content, Tag, Value}
 use Rattle.xs_xml_out.specs.Balanced.{Attribute, attributes_word, element_word, AreAttributes}
-use Rattle.xs_xml_out.specs.Written.{mark_of, put, next, written, xml_chars}
+use Rattle.xs_xml_out.specs.Written.{symbol_kind, put, next, written, xml_chars}
 use Rattle.xs_xml_out.proofs.Tests.{and_true}
-use Rattle.xs_xml_out.proofs.Marks.{mark_of-char, mark_of-attr_end, mark_of-opening_mark, mark_of-attribute_mark, mark_of-closing_mark}
+use Rattle.xs_xml_out.proofs.SymbolKinds.{symbol_kind-char, symbol_kind-attr_end, symbol_kind-opening_mark, symbol_kind-attribute_mark, symbol_kind-closing_mark}
 
 abbrev mode_after : Mode → List ℕ → Mode
 mode_after mode [] = mode
-mode_after mode (symbol ∷ word) = mode_after (next mode (mark_of symbol)) word
+mode_after mode (symbol ∷ word) = mode_after (next mode (symbol_kind symbol)) word
 
 written-append : (names : List (List ℕ)) (mode : Mode) (u v : List ℕ) → written names mode (u ++ v) ≡ written names mode u ++ written names (mode_after mode u) v
 written-append names mode [] v = refl
-written-append names mode (symbol ∷ u) v = ap (λ (z : List ℕ). put names mode (mark_of symbol) ++ z) (written-append names (next mode (mark_of symbol)) u v) ∙ sym (append_assoc (put names mode (mark_of symbol)) (written names (next mode (mark_of symbol)) u) (written names (mode_after (next mode (mark_of symbol)) u) v))
+written-append names mode (symbol ∷ u) v = ap (λ (z : List ℕ). put names mode (symbol_kind symbol) ++ z) (written-append names (next mode (symbol_kind symbol)) u v) ∙ sym (append_assoc (put names mode (symbol_kind symbol)) (written names (next mode (symbol_kind symbol)) u) (written names (mode_after (next mode (symbol_kind symbol)) u) v))
 
 mode_after-append : (mode : Mode) (u v : List ℕ) → mode_after mode (u ++ v) ≡ mode_after (mode_after mode u) v
 mode_after-append mode [] v = refl
-mode_after-append mode (symbol ∷ u) v = mode_after-append (next mode (mark_of symbol)) u v
+mode_after-append mode (symbol ∷ u) v = mode_after-append (next mode (symbol_kind symbol)) u v
 
-value_step : (c : ℕ) → is_char c ≡ true → next Value (mark_of c) ≡ Value
-value_step c is = rw (mark_of-char c is) refl
+value_step : (c : ℕ) → is_char c ≡ true → next Value (symbol_kind c) ≡ Value
+value_step c is = rw (symbol_kind-char c is) refl
 
-value_end_step : next Value (mark_of attr_end) ≡ Tag
-value_end_step = rw mark_of-attr_end refl
+value_end_step : next Value (symbol_kind attr_end) ≡ Tag
+value_end_step = rw symbol_kind-attr_end refl
 
 value_ends : (v rest : List ℕ) → all_of is_char v ≡ true → mode_after Value (v ++ attr_end ∷ rest) ≡ mode_after Tag rest
 value_ends [] rest all = ap (λ (m : Mode). mode_after m rest) value_end_step
 value_ends (c ∷ cs) rest all = let both = and_true (is_char c) (all_of is_char cs) all in ap (λ (m : Mode). mode_after m (cs ++ attr_end ∷ rest)) (value_step c both.0) ∙ value_ends cs rest both.1
 
-attribute_step : (k : ℕ) → next Tag (mark_of (attribute_mark k)) ≡ Value
-attribute_step k = rw (mark_of-attribute_mark k) refl
+attribute_step : (k : ℕ) → next Tag (symbol_kind (attribute_mark k)) ≡ Value
+attribute_step k = rw (symbol_kind-attribute_mark k) refl
 
 attributes_end : (names : List (List ℕ)) (as_ : List Attribute) (rest : List ℕ) → AreAttributes names as_ → mode_after Tag (attributes_word as_ rest) ≡ mode_after Tag rest
 attributes_end names [] rest are = refl
 attributes_end names (a ∷ as_) rest are = ap (λ (m : Mode). mode_after m (a.value ++ attr_end ∷ attributes_word as_ rest)) (attribute_step a.name) ∙ value_ends a.value (attributes_word as_ rest) are.1 ∙ attributes_end names as_ rest are.2
 
-opening_step : (k : ℕ) → next Content (mark_of (opening_mark k)) ≡ Tag
-opening_step k = rw (mark_of-opening_mark k) refl
+opening_step : (k : ℕ) → next Content (symbol_kind (opening_mark k)) ≡ Tag
+opening_step k = rw (symbol_kind-opening_mark k) refl
 
-closing_step : (mode : Mode) (k : ℕ) → next mode (mark_of (closing_mark k)) ≡ Content
-closing_step mode k = rw (mark_of-closing_mark k) refl
+closing_step : (mode : Mode) (k : ℕ) → next mode (symbol_kind (closing_mark k)) ≡ Content
+closing_step mode k = rw (symbol_kind-closing_mark k) refl
 
 element_ends : (names : List (List ℕ)) (k : ℕ) (as_ : List Attribute) (content : List ℕ) → AreAttributes names as_ → mode_after Content (element_word k as_ content []) ≡ Content
 element_ends names k as_ content are =
@@ -53,10 +53,10 @@ element_ends names k as_ content are =
     ∙ closing_step (mode_after Tag content) k
 
 pub written-line_feed : (names : List (List ℕ)) → written names Content (10 ∷ []) ≡ codes "\n"
-unfolding mark_of
+unfolding symbol_kind
 written-line_feed names = refl
 
--- behind the root LF is a character of content
+-- after the root LF is a character of content
 pub xml_chars-element_word : (names : List (List ℕ)) (k : ℕ) (as_ : List Attribute) (content : List ℕ) → AreAttributes names as_ → written names Content (element_word k as_ content [] ++ 10 ∷ []) ≡ xml_chars names (element_word k as_ content [])
 xml_chars-element_word names k as_ content are =
     let word = element_word k as_ content [] in

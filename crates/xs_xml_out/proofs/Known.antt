@@ -5,25 +5,25 @@ use Rattle.xs_class.specs.Marks.{attr_end, opening_mark, attribute_mark, closing
 use Rattle.xs_xml.specs.Tables.{is_char}
 use Rattle.xs_xml.specs.Piece.{all_of}
 use Rattle.xs_xml_out.specs.Balanced.{Attribute, attributes_word, element_word, AreAttributes, IsContent, nothing, text, element, IsBalanced}
-use Rattle.xs_xml_out.specs.Part.{IsKnownSymbol, AreKnown}
+use Rattle.xs_xml_out.specs.Spelling.{IsKnownSymbol, AreKnown}
 use Rattle.xs_xml_out.proofs.Tests.{and_true}
-use Rattle.xs_xml_out.proofs.Marks.{char_scalar, mark_of-char, mark_of-attr_end, mark_of-opening_mark, mark_of-attribute_mark, mark_of-closing_mark}
+use Rattle.xs_xml_out.proofs.SymbolKinds.{char_scalar, symbol_kind-char, symbol_kind-attr_end, symbol_kind-opening_mark, symbol_kind-attribute_mark, symbol_kind-closing_mark}
 
 module _ (names : List (List ℕ)) where
   char_known : (c : ℕ) → is_char c ≡ true → IsKnownSymbol names c
-  char_known c is = rw (mark_of-char c is) (char_scalar c is)
+  char_known c is = rw (symbol_kind-char c is) (char_scalar c is)
 
   end_known : IsKnownSymbol names attr_end
-  end_known = rw mark_of-attr_end tt
+  end_known = rw symbol_kind-attr_end tt
 
   opening_known : (k : ℕ) → k < length names → IsKnownSymbol names (opening_mark k)
-  opening_known k below = rw (mark_of-opening_mark k) below
+  opening_known k below = rw (symbol_kind-opening_mark k) below
 
   attribute_known : (k : ℕ) → k < length names → IsKnownSymbol names (attribute_mark k)
-  attribute_known k below = rw (mark_of-attribute_mark k) below
+  attribute_known k below = rw (symbol_kind-attribute_mark k) below
 
   closing_known : (k : ℕ) → k < length names → IsKnownSymbol names (closing_mark k)
-  closing_known k below = rw (mark_of-closing_mark k) below
+  closing_known k below = rw (symbol_kind-closing_mark k) below
 
   more : (symbol : ℕ) (word : List ℕ) → IsKnownSymbol names symbol → AreKnown names word → AreKnown names (symbol ∷ word)
   more symbol word here later = All-cons (IsKnownSymbol names) symbol word here later

@@ -5,7 +5,7 @@ mod Content
 mod Elements
 mod Ends
 mod Known
-mod Marks
+mod SymbolKinds
 mod Places
 mod ReadBack
 mod Scalars

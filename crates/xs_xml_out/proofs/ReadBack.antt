@@ -3,7 +3,7 @@ use Rattle.std.proofs.Common.{◌≡◌, ◌⊎◌, inl, inr, ℕ, ◌<◌, List
 use Rattle.xs_class.specs.Ordered.{IsOrdered}
 use Rattle.xs_xml.specs.Tables.{is_char, is_white}
 use Rattle.xs_xml.specs.Piece.{character, start_tag, empty_tag, end_tag, is_tag}
-use Rattle.xs_xml.specs.Legal.{ahead, inside, behind, are_pieces, all_passed}
+use Rattle.xs_xml.specs.Legal.{ahead, inside, beyond, are_pieces, all_passed}
 use Rattle.xs_xml.specs.Reads.{Reads}
 use Rattle.xs_xml_out.specs.Balanced.{Attribute, element_word, AreAttributes, IsAscending}
 use Rattle.xs_xml_out.specs.Written.{name_at, xml_chars}
@@ -19,7 +19,7 @@ line_feed_fits : are_pieces (character 10 ∷ []) ≡ true
 unfolding is_char
 line_feed_fits = refl
 
-line_feed_passes : all_passed (Some behind) (character 10 ∷ []) ≡ Some behind
+line_feed_passes : all_passed (Some beyond) (character 10 ∷ []) ≡ Some beyond
 unfolding is_white
 line_feed_passes = refl
 
@@ -29,12 +29,12 @@ module _ (names : List (List ℕ)) (ordered : IsOrdered names) (are_names : AreN
       let tag = empty_tag (name_at names k) (tag_attributes names as_) [] in
       record {
         pieces = tag ∷ character 10 ∷ [];
-        legal = calm_legal (xml_chars names (element_word k as_ [] [])) (tag ∷ character 10 ∷ []) [] behind
+        legal = calm_legal (xml_chars names (element_word k as_ [] [])) (tag ∷ character 10 ∷ []) [] beyond
             (sym (xml_chars-element_word names k as_ [] are) ∙ empty_spells names ordered are_names k as_ below are ascend [] (10 ∷ []) (10 ∷ []) (written-line_feed names))
             (both_true (is_tag (name_at names k) (tag_attributes names as_) []) (are_pieces (character 10 ∷ [])) (tag_fits names ordered are_names k as_ below are ascend) line_feed_fits)
             refl
             line_feed_passes;
-        gives = sym (append-nil (element_word k as_ [] [])) ∙ sym (empty_all names ordered are_names k as_ below are ascend [] (character 10 ∷ []) ahead behind [] refl refl);
+        gives = sym (append-nil (element_word k as_ [] [])) ∙ sym (empty_all names ordered are_names k as_ below are ascend [] (character 10 ∷ []) ahead beyond [] refl refl);
       }
 
   root_full : (w : List ℕ) → IsSpelt names w → EndsTag names w → Reads names (xml_chars names (element_word k as_ w [])) (element_word k as_ w [])
@@ -43,12 +43,12 @@ module _ (names : List (List ℕ)) (ordered : IsOrdered names) (are_names : AreN
       let end = end_tag (name_at names k) [] in
       record {
         pieces = start ∷ (i.pieces ++ end ∷ character 10 ∷ []);
-        legal = calm_legal (xml_chars names (element_word k as_ w [])) (start ∷ (i.pieces ++ end ∷ character 10 ∷ [])) [] behind
+        legal = calm_legal (xml_chars names (element_word k as_ w [])) (start ∷ (i.pieces ++ end ∷ character 10 ∷ [])) [] beyond
             (sym (xml_chars-element_word names k as_ w are) ∙ full_spells names ordered are_names k as_ below are ascend w [] (10 ∷ []) i.pieces (character 10 ∷ []) [] ends i.spells (written-line_feed names))
             (full_each names ordered are_names k as_ below are ascend i.pieces (character 10 ∷ []) i.each line_feed_fits)
             (are_calm-append i.pieces (end ∷ character 10 ∷ []) i.calm refl)
-            (full_passes names ordered are_names k as_ below are ascend i.pieces (character 10 ∷ []) [] (Some behind) (i.passes (name_at names k) []) line_feed_passes);
-        gives = sym (append-nil (element_word k as_ w [])) ∙ sym (full_all names ordered are_names k as_ below are ascend w [] i.pieces (character 10 ∷ []) ahead (inside (name_at names k) []) behind [] refl (end_passes names ordered are_names k as_ below are ascend []) (i.gives (name_at names k) []) refl);
+            (full_passes names ordered are_names k as_ below are ascend i.pieces (character 10 ∷ []) [] (Some beyond) (i.passes (name_at names k) []) line_feed_passes);
+        gives = sym (append-nil (element_word k as_ w [])) ∙ sym (full_all names ordered are_names k as_ below are ascend w [] i.pieces (character 10 ∷ []) ahead (inside (name_at names k) []) beyond [] refl (end_passes names ordered are_names k as_ below are ascend []) (i.gives (name_at names k) []) refl);
       }
 
   root : (w : List ℕ) → IsSpelt names w → (w ≡ []) ⊎ EndsTag names w → Reads names (xml_chars names (element_word k as_ w [])) (element_word k as_ w [])

@@ -8,17 +8,17 @@ use Rattle.std.proofs.lemmas.List.Elements.{All-head, All-tail, All-get_or}
 use Rattle.xs_class.specs.Marks.{opening_mark, closing_mark}
 use Rattle.xs_xml.specs.Tables.{is_name_start, is_name_char}
 use Rattle.xs_xml.specs.Piece.{is_name, all_of}
-use Rattle.xs_xml_out.specs.declared.mark.Mark.{Mark}
-use Rattle.xs_xml_out.specs.declared.mark.Mark.TheVariants.{Char, ValueEnd, Strange, Opening, Attribute, Closing}
+use Rattle.xs_xml_out.specs.declared.kind.SymbolKind.{SymbolKind}
+use Rattle.xs_xml_out.specs.declared.kind.SymbolKind.TheVariants.{Char, ValueEnd, Strange, Opening, Attribute, Closing}
 use Rattle.xs_xml_out.specs.declared.mode.Mode.{Mode}
 use Rattle.xs_xml_out.specs.declared.mode.Mode.TheVariants.{Content, Tag, Value}
 use Rattle.xs_xml_out.specs.Balanced.{attributes_word, IsBalanced}
-use Rattle.xs_xml_out.specs.Written.{mark_of, name_at, content_char, value_char, put, next, written, xml_chars}
-use Rattle.xs_xml_out.specs.Part.{IsKnown, IsKnownSymbol, AreKnown}
+use Rattle.xs_xml_out.specs.Written.{symbol_kind, name_at, content_char, value_char, put, next, written, xml_chars}
+use Rattle.xs_xml_out.specs.Spelling.{IsKnown, IsKnownSymbol, AreKnown}
 use Rattle.xs_xml_out.specs.Laws.{AreNames, IsDecoded, BeginsWithTag}
 use Rattle.xs_xml_out.proofs.Tests.{and_true, both_true}
 use Rattle.xs_xml_out.proofs.Known.{balanced_known}
-use Rattle.xs_xml_out.proofs.Marks.{mark_of-opening_mark}
+use Rattle.xs_xml_out.proofs.SymbolKinds.{symbol_kind-opening_mark}
 
 scalars-append : (xs ys : List ℕ) → scalars xs ≡ true → scalars ys ≡ true → scalars (xs ++ ys) ≡ true
 scalars-append [] ys p q = q
@@ -66,7 +66,7 @@ module _ (names : List (List ℕ)) (are_names : AreNames names) where
   around : (front back : List ℕ) (k : ℕ) → scalars front ≡ true → scalars back ≡ true → k < length names → scalars (front ++ name_at names k ++ back) ≡ true
   around front back k f b below = scalars-append (front ++ name_at names k) back (scalars-append front (name_at names k) f (name_at_scalars k below)) b
 
-  put_scalars : (mode : Mode) (mark : Mark) → IsKnown names mark → scalars (put names mode mark) ≡ true
+  put_scalars : (mode : Mode) (kind : SymbolKind) → IsKnown names kind → scalars (put names mode kind) ≡ true
   put_scalars Content (Char c) known = content_scalars c known
   put_scalars Tag (Char c) known = content_scalars c known
   put_scalars Value (Char c) known = value_scalars c known
@@ -88,13 +88,13 @@ module _ (names : List (List ℕ)) (are_names : AreNames names) where
 
   written_scalars : (mode : Mode) (word : List ℕ) → AreKnown names word → scalars (written names mode word) ≡ true
   written_scalars mode [] known = refl
-  written_scalars mode (symbol ∷ word) known = scalars-append (put names mode (mark_of symbol)) (written names (next mode (mark_of symbol)) word) (put_scalars mode (mark_of symbol) (All-head (IsKnownSymbol names) symbol word known)) (written_scalars (next mode (mark_of symbol)) word (All-tail (IsKnownSymbol names) symbol word known))
+  written_scalars mode (symbol ∷ word) known = scalars-append (put names mode (symbol_kind symbol)) (written names (next mode (symbol_kind symbol)) word) (put_scalars mode (symbol_kind symbol) (All-head (IsKnownSymbol names) symbol word known)) (written_scalars (next mode (symbol_kind symbol)) word (All-tail (IsKnownSymbol names) symbol word known))
 
   pub xml_scalars : (word : List ℕ) → IsBalanced names word → scalars (xml_chars names word) ≡ true
   xml_scalars word balanced = scalars-append (written names Content word) (codes "\n") (written_scalars Content word (balanced_known names word balanced)) refl
 
 opening_first : (names : List (List ℕ)) (k : ℕ) (rest : List ℕ) → slice_get (xml_chars names (opening_mark k ∷ rest)) 0 ≡ Some 60
-opening_first names k rest = rw (mark_of-opening_mark k) refl
+opening_first names k rest = rw (symbol_kind-opening_mark k) refl
 
 pub is_decoded : IsDecoded
 is_decoded names word are_names balanced = chars-encodes (xml_chars names word) (xml_scalars names are_names word balanced)

@@ -5,11 +5,11 @@ use Rattle.xs_class.specs.Marks.{attr_end}
 use Rattle.xs_xml.specs.Tables.{is_char, is_white, is_hex}
 use Rattle.xs_xml.specs.Piece.{Bit, plain, ref, spelt_bit, spelt_bits, all_of, ref_char, is_bit, are_bits}
 use Rattle.xs_xml.specs.Reads.{value}
-use Rattle.xs_xml_out.specs.declared.mark.Mark.TheVariants.{Char}
+use Rattle.xs_xml_out.specs.declared.kind.SymbolKind.TheVariants.{Char}
 use Rattle.xs_xml_out.specs.declared.mode.Mode.TheVariants.{Tag, Value}
-use Rattle.xs_xml_out.specs.Written.{mark_of, value_char, written}
+use Rattle.xs_xml_out.specs.Written.{symbol_kind, value_char, written}
 use Rattle.xs_xml_out.proofs.Tests.{and_true, both_true}
-use Rattle.xs_xml_out.proofs.Marks.{mark_of-char, mark_of-attr_end}
+use Rattle.xs_xml_out.proofs.SymbolKinds.{symbol_kind-char, symbol_kind-attr_end}
 
 -- how a character of a value is written
 abbrev pub value_bit : ℕ → Bit
@@ -95,9 +95,9 @@ pub value-bits : (v : List ℕ) → all_of is_char v ≡ true → value false (b
 value-bits [] all = refl
 value-bits (c ∷ cs) all = let both = and_true (is_char c) (all_of is_char cs) all in (valued c both.0).gives (bits cs) ∙ ap (λ (x : List ℕ). c ∷ x) (value-bits cs both.1)
 
-value_next : (names : List (List ℕ)) (c : ℕ) (w : List ℕ) (b : Bit) (rest : List ℕ) → mark_of c ≡ Char c → ((r : List ℕ) → spelt_bit b r ≡ value_char c ++ r) → written names Value w ≡ rest → written names Value (c ∷ w) ≡ spelt_bit b rest
-value_next names c w b rest mark here again = rw mark (ap (λ (y : List ℕ). value_char c ++ y) again ∙ sym (here rest))
+value_next : (names : List (List ℕ)) (c : ℕ) (w : List ℕ) (b : Bit) (rest : List ℕ) → symbol_kind c ≡ Char c → ((r : List ℕ) → spelt_bit b r ≡ value_char c ++ r) → written names Value w ≡ rest → written names Value (c ∷ w) ≡ spelt_bit b rest
+value_next names c w b rest kind here again = rw kind (ap (λ (y : List ℕ). value_char c ++ y) again ∙ sym (here rest))
 
 pub written-value : (names : List (List ℕ)) (v y : List ℕ) → all_of is_char v ≡ true → written names Value (v ++ attr_end ∷ y) ≡ spelt_bits (bits v) (34 ∷ written names Tag y)
-written-value names [] y all = rw mark_of-attr_end refl
-written-value names (c ∷ cs) y all = let both = and_true (is_char c) (all_of is_char cs) all in value_next names c (cs ++ attr_end ∷ y) (value_bit c) (spelt_bits (bits cs) (34 ∷ written names Tag y)) (mark_of-char c both.0) (valued c both.0).spells (written-value names cs y both.1)
+written-value names [] y all = rw symbol_kind-attr_end refl
+written-value names (c ∷ cs) y all = let both = and_true (is_char c) (all_of is_char cs) all in value_next names c (cs ++ attr_end ∷ y) (value_bit c) (spelt_bits (bits cs) (34 ∷ written names Tag y)) (symbol_kind-char c both.0) (valued c both.0).spells (written-value names cs y both.1)

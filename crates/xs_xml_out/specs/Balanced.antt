@@ -9,12 +9,12 @@ pub record Attribute : Type 0 where
   pub name : ℕ
   pub value : List ℕ
 
--- the symbols of attributes, and what stands behind them
+-- the symbols of attributes, and what stands after them
 abbrev pub attributes_word : List Attribute → List ℕ → List ℕ
 attributes_word [] rest = rest
 attributes_word (a ∷ as_) rest = attribute_mark a.name ∷ (a.value ++ attr_end ∷ attributes_word as_ rest)
 
--- the symbols of an element, and what stands behind it
+-- the symbols of an element, and what stands after it
 abbrev pub element_word : ℕ → List Attribute → List ℕ → List ℕ → List ℕ
 element_word k attributes content rest = opening_mark k ∷ attributes_word attributes (content ++ closing_mark k ∷ rest)
 

@@ -1,4 +1,4 @@
 pub mod Balanced
 pub mod Written
-pub mod Part
+pub mod Spelling
 pub mod Laws

@@ -1,20 +1,20 @@
 -- The normal writing of a balanced word.
 use Rattle.std.specs.Prelude.{ℕ, zero, suc, ◌-◌, ◌/◌, ◌%◌, List, [], ◌∷◌, ◌++◌, codes, encode_utf8_all, slice_index_or, nat_lt, if◌then◌else◌, ◌==◌}
 use Rattle.xs_class.specs.Marks.{attr_end, strange, opening_mark}
-use Rattle.xs_xml_out.specs.declared.mark.Mark.{Mark}
-use Rattle.xs_xml_out.specs.declared.mark.Mark.TheVariants.{Char, ValueEnd, Strange, Opening, Attribute, Closing}
+use Rattle.xs_xml_out.specs.declared.kind.SymbolKind.{SymbolKind}
+use Rattle.xs_xml_out.specs.declared.kind.SymbolKind.TheVariants.{Char, ValueEnd, Strange, Opening, Attribute, Closing}
 use Rattle.xs_xml_out.specs.declared.mode.Mode.{Mode}
 use Rattle.xs_xml_out.specs.declared.mode.Mode.TheVariants.{Content, Tag, Value}
 
 -- the marks of name k are three numbers, one after the other
-abbrev pub mark_of_name : ℕ → ℕ → Mark
-mark_of_name zero k = Opening k
-mark_of_name (suc zero) k = Attribute k
-mark_of_name (suc (suc more)) k = Closing k
+abbrev pub kind_of_name : ℕ → ℕ → SymbolKind
+kind_of_name zero k = Opening k
+kind_of_name (suc zero) k = Attribute k
+kind_of_name (suc (suc more)) k = Closing k
 
 -- what a symbol is
-unfoldable pub mark_of : ℕ → Mark
-mark_of symbol = if nat_lt symbol attr_end then Char symbol else (if symbol == attr_end then ValueEnd else (if symbol == strange then Strange else mark_of_name ((symbol - opening_mark 0) % 3) ((symbol - opening_mark 0) / 3)))
+unfoldable pub symbol_kind : ℕ → SymbolKind
+symbol_kind symbol = if nat_lt symbol attr_end then Char symbol else (if symbol == attr_end then ValueEnd else (if symbol == strange then Strange else kind_of_name ((symbol - opening_mark 0) % 3) ((symbol - opening_mark 0) / 3)))
 
 -- the characters of name k
 abbrev pub name_at : List (List ℕ) → ℕ → List ℕ
@@ -28,8 +28,8 @@ content_char c = if c == 38 then codes "&amp;" else (if c == 60 then codes "&lt;
 abbrev pub value_char : ℕ → List ℕ
 value_char c = if c == 34 then codes "&quot;" else (if c == 9 then codes "&#x9;" else (if c == 10 then codes "&#xA;" else content_char c))
 
--- what is written for a symbol; the first one behind the attributes of a start tag also ends the tag
-abbrev pub put : List (List ℕ) → Mode → Mark → List ℕ
+-- what is written for a symbol; the first one after the attributes of a start tag also ends the tag
+abbrev pub put : List (List ℕ) → Mode → SymbolKind → List ℕ
 put names Content (Char c) = content_char c
 put names Tag (Char c) = codes ">" ++ content_char c
 put names Value (Char c) = value_char c
@@ -39,10 +39,10 @@ put names Tag (Attribute k) = codes " " ++ name_at names k ++ codes "=\""
 put names Value ValueEnd = codes "\""
 put names Content (Closing k) = codes "</" ++ name_at names k ++ codes ">"
 put names Tag (Closing k) = codes "/>"
-put names mode mark = []
+put names mode kind = []
 
 -- where the next symbol stands
-abbrev pub next : Mode → Mark → Mode
+abbrev pub next : Mode → SymbolKind → Mode
 next Value (Char c) = Value
 next mode (Char c) = Content
 next mode (Opening k) = Tag
@@ -54,7 +54,7 @@ next mode Strange = mode
 -- the writing of a word that begins in this mode
 abbrev pub written : List (List ℕ) → Mode → List ℕ → List ℕ
 written names mode [] = []
-written names mode (symbol ∷ word) = put names mode (mark_of symbol) ++ written names (next mode (mark_of symbol)) word
+written names mode (symbol ∷ word) = put names mode (symbol_kind symbol) ++ written names (next mode (symbol_kind symbol)) word
 
 -- the root element, and one LF
 abbrev pub xml_chars : List (List ℕ) → List ℕ → List ℕ

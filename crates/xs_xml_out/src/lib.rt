@@ -3,14 +3,14 @@
 //! A balanced word is the opening of a name, attributes in strictly ascending order of names, each
 //! a mark, its value's characters and the mark that ends it, then characters and balanced elements,
 //! and the closing of that name. Names are looked up by their places in a list. What is written
-//! has no declaration, each attribute behind one space and in double quotes, empty elements as one
-//! tag, and one line feed behind the root.
+//! has no declaration, each attribute after one space and in double quotes, empty elements as one
+//! tag, and one line feed after the root.
 #![tactic(auto)]
 
+mod kind;
 mod law;
-mod mark;
 mod mode;
-mod part;
+mod spelling;
 mod write;
 
 pub use law::xml_is_read_back;

@@ -1,7 +1,7 @@
 ghost use Rattle.std.specs.Prelude.{◌≡◌};
 ghost use Rattle.xs_xml_out.specs.Written.{next};
 
-use crate::mark::Mark;
+use crate::kind::SymbolKind;
 
 /// Where a symbol stands: in content, in a start tag that is not ended yet, or in a value.
 #[derive(Clone, Copy)]
@@ -11,17 +11,17 @@ pub enum Mode {
     Value,
 }
 
-/// Where the symbol behind this one stands.
-pub fn after(mode: Mode, mark: Mark) -> Mode
-    ensures { result ≡ next mode mark }
+/// Where the symbol after this one stands.
+pub fn after(mode: Mode, kind: SymbolKind) -> Mode
+    ensures { result ≡ next mode kind }
 {
-    match (mode, mark) {
-        (Mode::Value, Mark::Char(_)) => Mode::Value,
-        (_, Mark::Char(_)) => Mode::Content,
-        (_, Mark::Opening(_)) => Mode::Tag,
-        (_, Mark::Attribute(_)) => Mode::Value,
-        (_, Mark::ValueEnd) => Mode::Tag,
-        (_, Mark::Closing(_)) => Mode::Content,
-        (_, Mark::Strange) => mode,
+    match (mode, kind) {
+        (Mode::Value, SymbolKind::Char(_)) => Mode::Value,
+        (_, SymbolKind::Char(_)) => Mode::Content,
+        (_, SymbolKind::Opening(_)) => Mode::Tag,
+        (_, SymbolKind::Attribute(_)) => Mode::Value,
+        (_, SymbolKind::ValueEnd) => Mode::Tag,
+        (_, SymbolKind::Closing(_)) => Mode::Content,
+        (_, SymbolKind::Strange) => mode,
     }
 }

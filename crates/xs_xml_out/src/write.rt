@@ -2,11 +2,11 @@ ghost use Rattle.std.specs.Prelude.{◌≡◌, ◌+◌, ◌++◌, ◌^◌, ◌�
 ghost use Rattle.std.specs.Str.{IsUtf8};
 ghost use Rattle.xs_xml_out.specs.Balanced.{IsBalanced};
 ghost use Rattle.xs_xml_out.specs.Written.{xml_bytes};
-ghost use Rattle.xs_xml_out.specs.Part.{AreKnown};
+ghost use Rattle.xs_xml_out.specs.Spelling.{AreKnown};
 
-use crate::mark::mark_of;
+use crate::kind::symbol_kind;
 use crate::mode::{Mode, after};
-use crate::part::{part_of, put_text};
+use crate::spelling::{put_text, spelling_of};
 use std::alloc::Global;
 use xs_class::{Bytes, Memory, Names, Sym, Word};
 
@@ -19,9 +19,9 @@ fn length_of(names: &Names, symbols: &[Sym]) -> Option<usize>
     let mut length = 1;
     let mut mode = Mode::Content;
     'symbols: for symbol in symbols {
-        let mark = mark_of(*symbol);
-        length = part_of(names, mode, mark).counted(length)?;
-        mode = after(mode, mark);
+        let kind = symbol_kind(*symbol);
+        length = spelling_of(names, mode, kind).counted(length)?;
+        mode = after(mode, kind);
     }
     Some(length)
 }
@@ -34,9 +34,9 @@ fn put_all(names: &Names, symbols: &[Sym], out: &mut String)
 {
     let mut mode = Mode::Content;
     'symbols: for symbol in symbols {
-        let mark = mark_of(*symbol);
-        part_of(names, mode, mark).put(out);
-        mode = after(mode, mark);
+        let kind = symbol_kind(*symbol);
+        spelling_of(names, mode, kind).put(out);
+        mode = after(mode, kind);
     }
     put_text(out, "\n");
 }

@@ -3,7 +3,7 @@ use Rattle.std.specs.Str.{chars}
 use Rattle.std.specs.List.{All}
 use Rattle.std.proofs.lemmas.Iterator.{YieldsList-from_chars, items_from_collect}
 use Rattle.xs_lex.specs.declared.token.Token.{Token}
-use Rattle.xs_lex.specs.Reading.{Lexeme, AreTokens, IsSlice, extent_of, behind_mark, valid, lexeme_of}
+use Rattle.xs_lex.specs.Reading.{Lexeme, AreTokens, IsSlice, extent_of, after_mark, valid, lexeme_of}
 use Rattle.xs_lex.proofs.Uniqueness.{one_list}
 use Rattle.xs_lex.proofs.Reached.{whole_test}
 use Rattle.xs_lex.proofs.reading.tokens.Goals as goal
@@ -17,7 +17,7 @@ pub scanned-requires-clause-whole : goal.scanned-requires-clause-whole
 scanned-requires-clause-whole c = whole_test c.args.bytes.now c.valid_text-text.result.now c.valid_text-text.ensures
 
 only_list : (bytes : List ℕ) (list ts : List Token) → ts ≡ list → AreTokens bytes (map (lexeme_of bytes) list) → (us : List Lexeme) → AreTokens bytes us → us ≡ map (lexeme_of bytes) ts
-only_list bytes list ts is tokens us others = one_list (extent_of bytes) (behind_mark (chars (valid bytes))) us (map (lexeme_of bytes) list) others tokens ∙ ap (λ (z : List Token). map (lexeme_of bytes) z) (sym is)
+only_list bytes list ts is tokens us others = one_list (extent_of bytes) (after_mark (chars (valid bytes))) us (map (lexeme_of bytes) list) others tokens ∙ ap (λ (z : List Token). map (lexeme_of bytes) z) (sym is)
 
 pub returns-clause-only : goal.returns-clause-only
 returns-clause-only c = only_list c.args.bytes.now c.in_ok-list.list.items c.from_vec.result c.from_vec.ensures c.in_ok-list.ensures.tokens

@@ -3,8 +3,8 @@ use Rattle.xs_regex.specs.Matches.{InTurn, OfEither}
 use Rattle.xs_regex.proofs.Passed.{nodes, IsPassedOf}
 use Rattle.xs_regex.proofs.automaton.+built.Given as goal
 
-abbrev pub decreases-add_behind : goal.decreases-add_behind
-decreases-add_behind l = 3 * nodes l.part.now + 1
+abbrev pub decreases-add_after : goal.decreases-add_after
+decreases-add_after l = 3 * nodes l.part.now + 1
 
 abbrev pub decreases-add_beside : goal.decreases-add_beside
 decreases-add_beside l = 3 * nodes l.part.now + 1

@@ -1,11 +1,11 @@
 use Rattle.std.proofs.Common.{arith}
 use Rattle.xs_regex.proofs.compose.sequence.Goals as goal
 
-pub link_behind-requires-clause-sources : goal.link_behind-requires-clause-sources
-link_behind-requires-clause-sources c = λ k h. rw c.requires.front.rows (c.requires.front.last_in k (rw c.as_slice.ensures at h))
+pub link_after-requires-clause-sources : goal.link_after-requires-clause-sources
+link_after-requires-clause-sources c = λ k h. rw c.requires.front.rows (c.requires.front.last_in k (rw c.as_slice.ensures at h))
 
-pub link_behind-requires-clause-targets : goal.link_behind-requires-clause-targets
-link_behind-requires-clause-targets c = λ k h. omega (arith, c.requires.rest.first_in k (rw c.as_slice-2.ensures at h))
+pub link_after-requires-clause-targets : goal.link_after-requires-clause-targets
+link_after-requires-clause-targets c = λ k h. omega (arith, c.requires.rest.first_in k (rw c.as_slice-2.ensures at h))
 
 pub push_shifted-requires : goal.push_shifted-requires
 push_shifted-requires c = λ k h. omega (arith, c.requires.rest.first_in k (rw c.as_slice-then-p.ensures at h))

@@ -7,11 +7,11 @@ copies-init c = (omega arith, at_least_init c.args.one.now _ c.maybe_if-all.resu
 
 pub sequence-requires-clause-small : goal.sequence-requires-clause-small
 sequence-requires-clause-small c =
-    let few : c.copies.behind < max c.args.least 1 = omega arith in
-    rw c.in_ok-more.ensures (room c.args.one.now c.copies.all _ _ c.copies.behind (max c.args.least 1) few c.requires.small c.copies.invariant.1)
+    let few : c.copies.later < max c.args.least 1 = omega arith in
+    rw c.in_ok-more.ensures (room c.args.one.now c.copies.all _ _ c.copies.later (max c.args.least 1) few c.requires.small c.copies.invariant.1)
 
 pub copies-preserved : goal.copies-preserved
-copies-preserved c = (omega arith, at_least_more c.args.one.now c.copies.all _ c.args.least c.copies.behind (omega arith) c.requires.formed c.copies.invariant.1 (rw c.in_ok-more.ensures at c.in_ok-sequence.ensures))
+copies-preserved c = (omega arith, at_least_more c.args.one.now c.copies.all _ c.args.least c.copies.later (omega arith) c.requires.formed c.copies.invariant.1 (rw c.in_ok-more.ensures at c.in_ok-sequence.ensures))
 
 pub returns : goal.returns
-returns c = at_least_end c.args.one.now c.copies.all c.args.least c.copies.behind (omega arith) (omega arith) c.copies.invariant.0 c.copies.invariant.1
+returns c = at_least_end c.args.one.now c.copies.all c.args.least c.copies.later (omega arith) (omega arith) c.copies.invariant.0 c.copies.invariant.1

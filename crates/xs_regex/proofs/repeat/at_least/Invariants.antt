@@ -7,4 +7,4 @@ use Rattle.xs_regex.proofs.repeat.at_least.Given as goal
 
 -- before the first step there is the last copy, which is free where none is wanted
 abbrev pub invariant-copies : goal.invariant-copies
-invariant-copies l = (l.behind ≤ max l.least 1) × IsAutomaton (Repeats (Accepts l.one) (min l.behind l.least) None) (times l.behind l.one.classes) (IsSure l.one l.least None) l.all
+invariant-copies l = (l.later ≤ max l.least 1) × IsAutomaton (Repeats (Accepts l.one) (min l.later l.least) None) (times l.later l.one.classes) (IsSure l.one l.least None) l.all

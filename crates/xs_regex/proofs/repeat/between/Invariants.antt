@@ -5,6 +5,6 @@ use Rattle.xs_regex.specs.Parts.{IsAutomaton, IsSure}
 use Rattle.xs_regex.specs.Size.{times}
 use Rattle.xs_regex.proofs.repeat.between.Given as goal
 
--- the copies behind have what is wanted of them where all the copies before are full
+-- the copies after have what is wanted of them where all the copies before are full
 abbrev pub invariant-copies : goal.invariant-copies
-invariant-copies l = IsAutomaton (Repeats (Accepts l.one) (l.least - (l.most - l.behind)) (Some l.behind)) (times l.behind l.one.classes) (IsSure l.one l.least (Some l.most)) l.all
+invariant-copies l = IsAutomaton (Repeats (Accepts l.one) (l.least - (l.most - l.later)) (Some l.later)) (times l.later l.one.classes) (IsSure l.one l.least (Some l.most)) l.all

@@ -3,7 +3,7 @@ use Rattle.xs_regex.specs.declared.fault.RegexFault.TheVariants.{BadRegex}
 use Rattle.xs_regex.specs.Characters.{items_at}
 use Rattle.xs_regex.specs.Meaning.{IsOfItem}
 use Rattle.xs_regex.specs.Pieces.{item_of}
-use Rattle.xs_regex.specs.Told.{Adds}
+use Rattle.xs_regex.specs.Reported.{Adds}
 use Rattle.xs_regex.proofs.Adding.{items_none, items_unknown, items_cut, items_end, items_on}
 use Rattle.xs_regex.proofs.sets.items.Goals as goal
 

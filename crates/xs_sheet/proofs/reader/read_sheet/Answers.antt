@@ -2,7 +2,7 @@ use Rattle.std.proofs.Common.{◌≡◌, sym, subst, true, List, ℕ, map}
 use Rattle.std.specs.List.{All}
 use Rattle.std.specs.Str.{chars}
 use Rattle.xs_lex.specs.declared.token.Token.{Token}
-use Rattle.xs_lex.specs.Reading.{Lexeme, AreTokens, extent_of, behind_mark, valid, lexeme_of}
+use Rattle.xs_lex.specs.Reading.{Lexeme, AreTokens, extent_of, after_mark, valid, lexeme_of}
 use Rattle.xs_regex.specs.declared.regex.Regex.{Regex}
 use Rattle.xs_sheet.specs.declared.piece.Piece.{Piece}
 use Rattle.xs_sheet.specs.Regular.{IsRegex}
@@ -16,7 +16,7 @@ cut_of bytes list shown ps pieces same all tokens only are =
     record { tokens = tokens; only = only; pieces = subst (λ (z : List Piece). ArePieces (map (lexeme_of bytes) list) z) (sym all) (subst (λ (z : List Token). ArePieces (map (lexeme_of bytes) z) ps) same are) }
 
 pub pieces-requires-clause-spelt : goal.pieces-requires-clause-spelt
-pieces-requires-clause-spelt c = subst (λ (z : List Token). All (λ t. IsSpelt t.kind (lexeme_of c.args.bytes.now t).word) z) (sym c.as_slice.ensures) (tokens_spelt c.args.bytes.now (extent_of c.args.bytes.now) (behind_mark (chars (valid c.args.bytes.now))) c.in_ok-list.list c.in_ok-list.ensures.tokens)
+pieces-requires-clause-spelt c = subst (λ (z : List Token). All (λ t. IsSpelt t.kind (lexeme_of c.args.bytes.now t).word) z) (sym c.as_slice.ensures) (tokens_spelt c.args.bytes.now (extent_of c.args.bytes.now) (after_mark (chars (valid c.args.bytes.now))) c.in_ok-list.list c.in_ok-list.ensures.tokens)
 
 pub read_pieces-requires-clause-regular : goal.read_pieces-requires-clause-regular
 read_pieces-requires-clause-regular c = subst (λ (z : List Piece). All (λ p. p.regular ≡ true → (r : Regex) × IsRegex p.text r) z) (sym c.deref.ensures.value) (pieces_regular (map (lexeme_of c.args.bytes.now) c.as_slice.result.now) c.in_ok-all.all.items c.in_ok-all.ensures)

@@ -1,7 +1,7 @@
 use Rattle.std.proofs.Common.{List, ℕ, ◌∙◌, ap, subst, sym, vec_items}
 use Rattle.std.specs.Str.{IsUtf8}
 use Rattle.std.proofs.lemmas.Str.{IsUtf8-string_bytes}
-use Rattle.xs_xml_out.specs.Part.{AreKnown}
+use Rattle.xs_xml_out.specs.Spelling.{AreKnown}
 use Rattle.xs_xml_out.proofs.Known.{balanced_known}
 use Rattle.xs_xml_out.proofs.write.write_xml.Goals as goal
 

@@ -1,11 +1,11 @@
 ghost use Rattle.std.specs.Prelude.{◌≡◌};
-ghost use Rattle.xs_xml_out.specs.Written.{mark_of};
+ghost use Rattle.xs_xml_out.specs.Written.{symbol_kind};
 
 use xs_class::{ATTR_END, STRANGE, Sym};
 
 /// What a symbol is: a character by its code point, or a mark.
 #[derive(Clone, Copy)]
-pub enum Mark {
+pub enum SymbolKind {
     Char(u32),
     /// The end of an attribute's value.
     ValueEnd,
@@ -17,24 +17,24 @@ pub enum Mark {
 }
 
 /// What the symbol is.
-#[tactic(auto, unfolding(crate::specs::Written::mark_of))]
-pub fn mark_of(symbol: Sym) -> Mark
-    ensures { result ≡ mark_of symbol }
+#[tactic(auto, unfolding(crate::specs::Written::symbol_kind))]
+pub fn symbol_kind(symbol: Sym) -> SymbolKind
+    ensures { result ≡ symbol_kind symbol }
 {
     if symbol < ATTR_END {
-        return Mark::Char(symbol.number());
+        return SymbolKind::Char(symbol.number());
     }
     if symbol == ATTR_END {
-        return Mark::ValueEnd;
+        return SymbolKind::ValueEnd;
     }
     if symbol == STRANGE {
-        return Mark::Strange;
+        return SymbolKind::Strange;
     }
     let past = symbol.number() - Sym::opening(0).number();
     let k = past / 3;
     match past % 3 {
-        0 => Mark::Opening(k),
-        1 => Mark::Attribute(k),
-        _ => Mark::Closing(k),
+        0 => SymbolKind::Opening(k),
+        1 => SymbolKind::Attribute(k),
+        _ => SymbolKind::Closing(k),
     }
 }

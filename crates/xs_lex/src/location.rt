@@ -3,14 +3,14 @@ ghost use Rattle.xs_lex.specs.Reading.{size_of, line_ends};
 
 /// A place in a file: a number of bytes before it, and its line counted from 1.
 #[derive(Clone, Copy)]
-pub struct Place {
+pub struct Location {
     pub at: u32,
     pub line: u32,
 }
 
-impl Place {
-    /// The place behind this text.
-    pub fn past(self, text: &[char]) -> Place
+impl Location {
+    /// The place after this text.
+    pub fn past(self, text: &[char]) -> Location
         requires size { self.at + size_of text.now ≤ 65536 }
         requires lines { self.line + line_ends text.now ≤ 65537 }
         ensures at { result.at ≡ self.at + size_of text.now }
@@ -24,6 +24,6 @@ impl Place {
                 line += 1;
             }
         }
-        Place { at, line }
+        Location { at, line }
     }
 }

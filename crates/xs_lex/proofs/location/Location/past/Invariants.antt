@@ -1,6 +1,6 @@
 use Rattle.std.proofs.Common.{◌≡◌, ◌+◌, drop}
 use Rattle.xs_lex.specs.Reading.{size_of, line_ends}
-use Rattle.xs_lex.proofs.place.Place.past.Given as goal
+use Rattle.xs_lex.proofs.location.Location.past.Given as goal
 
 abbrev pub invariant-text : goal.invariant-text
 invariant-text l = record {

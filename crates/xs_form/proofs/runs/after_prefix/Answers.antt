@@ -1,6 +1,6 @@
 use Rattle.std.proofs.Common.{drop, sym, ◌∙◌, arith, length-drop}
 use Rattle.xs_xml.proofs.Steps.{after_none}
-use Rattle.xs_form.proofs.runs.behind.Goals as goal
+use Rattle.xs_form.proofs.runs.after_prefix.Goals as goal
 
 pub returns-in-empty : goal.returns-in-empty
 returns-in-empty c =

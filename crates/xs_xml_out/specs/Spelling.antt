@@ -2,24 +2,24 @@
 use Rattle.std.specs.Prelude.{ℕ, ◌<◌, List, ◌++◌, length, encode_utf8}
 use Rattle.std.specs.Char.{IsScalar}
 use Rattle.std.specs.List.{All}
-use Rattle.xs_xml_out.specs.declared.mark.Mark.{Mark}
-use Rattle.xs_xml_out.specs.declared.mark.Mark.TheVariants.{Char, Opening, Attribute, Closing}
-use Rattle.xs_xml_out.specs.declared.part.Body.{Body}
-use Rattle.xs_xml_out.specs.declared.part.Body.TheVariants.{Single, Text}
-use Rattle.xs_xml_out.specs.declared.part.Part.{Part}
-use Rattle.xs_xml_out.specs.Written.{mark_of}
+use Rattle.xs_xml_out.specs.declared.kind.SymbolKind.{SymbolKind}
+use Rattle.xs_xml_out.specs.declared.kind.SymbolKind.TheVariants.{Char, Opening, Attribute, Closing}
+use Rattle.xs_xml_out.specs.declared.spelling.Body.{Body}
+use Rattle.xs_xml_out.specs.declared.spelling.Body.TheVariants.{Single, Text}
+use Rattle.xs_xml_out.specs.declared.spelling.Spelling.{Spelling}
+use Rattle.xs_xml_out.specs.Written.{symbol_kind}
 
 -- a character is a scalar value, and a name is in the list
-abbrev pub IsKnown : List (List ℕ) → Mark → Type 0
+abbrev pub IsKnown : List (List ℕ) → SymbolKind → Type 0
 IsKnown names (Char c) = IsScalar c
 IsKnown names (Opening k) = k < length names
 IsKnown names (Attribute k) = k < length names
 IsKnown names (Closing k) = k < length names
-IsKnown names mark = Unit {0}
+IsKnown names kind = Unit {0}
 
 -- the symbol can be written
 abbrev pub IsKnownSymbol : List (List ℕ) → ℕ → Type 0
-IsKnownSymbol names symbol = IsKnown names (mark_of symbol)
+IsKnownSymbol names symbol = IsKnown names (symbol_kind symbol)
 
 -- each symbol of the word can be written
 abbrev pub AreKnown : List (List ℕ) → List ℕ → Type 0
@@ -30,6 +30,6 @@ abbrev pub body_bytes : Body → List ℕ
 body_bytes (Single c) = encode_utf8 c
 body_bytes (Text text) = text.now
 
--- the bytes of a part
-abbrev pub part_bytes : Part → List ℕ
-part_bytes part = part.front.now ++ body_bytes part.body ++ part.back.now
+-- the bytes of a spelling
+abbrev pub spelling_bytes : Spelling → List ℕ
+spelling_bytes spelling = spelling.front.now ++ body_bytes spelling.body ++ spelling.back.now

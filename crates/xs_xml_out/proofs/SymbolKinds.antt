@@ -4,8 +4,8 @@ use Rattle.std.specs.Char.{IsScalar}
 use Rattle.std.proofs.lemmas.Bool.Decides.{nat_tests}
 use Rattle.xs_class.specs.Marks.{attr_end, opening_mark, attribute_mark, closing_mark}
 use Rattle.xs_xml.specs.Tables.{is_char}
-use Rattle.xs_xml_out.specs.declared.mark.Mark.TheVariants.{Char, ValueEnd, Opening, Attribute, Closing}
-use Rattle.xs_xml_out.specs.Written.{mark_of}
+use Rattle.xs_xml_out.specs.declared.kind.SymbolKind.TheVariants.{Char, ValueEnd, Opening, Attribute, Closing}
+use Rattle.xs_xml_out.specs.Written.{symbol_kind}
 
 char_below : (c : ℕ) → is_char c ≡ true → nat_lt c 1114112 ≡ true
 unfolding is_char
@@ -15,17 +15,17 @@ pub char_scalar : (c : ℕ) → is_char c ≡ true → IsScalar c
 unfolding is_char
 char_scalar c is = grind (arith, nat_tests, is)
 
-pub mark_of-char : (c : ℕ) → is_char c ≡ true → mark_of c ≡ Char c
-unfolding mark_of
-mark_of-char c is = rw (char_below c is) refl
+pub symbol_kind-char : (c : ℕ) → is_char c ≡ true → symbol_kind c ≡ Char c
+unfolding symbol_kind
+symbol_kind-char c is = rw (char_below c is) refl
 
-pub mark_of-attr_end : mark_of attr_end ≡ ValueEnd
-unfolding mark_of
-mark_of-attr_end = refl
+pub symbol_kind-attr_end : symbol_kind attr_end ≡ ValueEnd
+unfolding symbol_kind
+symbol_kind-attr_end = refl
 
-pub mark_of-opening_mark : (k : ℕ) → mark_of (opening_mark k) ≡ Opening k
-unfolding mark_of
-mark_of-opening_mark k =
+pub symbol_kind-opening_mark : (k : ℕ) → symbol_kind (opening_mark k) ≡ Opening k
+unfolding symbol_kind
+symbol_kind-opening_mark k =
     let a : nat_lt (1114114 + 3 * k) 1114112 ≡ false = grind (arith, nat_tests) in
     let b : (1114114 + 3 * k == 1114112) ≡ false = grind (arith, nat_tests) in
     let s : (1114114 + 3 * k == 1114113) ≡ false = grind (arith, nat_tests) in
@@ -33,9 +33,9 @@ mark_of-opening_mark k =
     let d : (1114114 + 3 * k - 1114114) / 3 ≡ k = omega arith in
     rw (a, b, s, c, d) refl
 
-pub mark_of-attribute_mark : (k : ℕ) → mark_of (attribute_mark k) ≡ Attribute k
-unfolding mark_of
-mark_of-attribute_mark k =
+pub symbol_kind-attribute_mark : (k : ℕ) → symbol_kind (attribute_mark k) ≡ Attribute k
+unfolding symbol_kind
+symbol_kind-attribute_mark k =
     let a : nat_lt (1114115 + 3 * k) 1114112 ≡ false = grind (arith, nat_tests) in
     let b : (1114115 + 3 * k == 1114112) ≡ false = grind (arith, nat_tests) in
     let s : (1114115 + 3 * k == 1114113) ≡ false = grind (arith, nat_tests) in
@@ -43,9 +43,9 @@ mark_of-attribute_mark k =
     let d : (1114115 + 3 * k - 1114114) / 3 ≡ k = omega arith in
     rw (a, b, s, c, d) refl
 
-pub mark_of-closing_mark : (k : ℕ) → mark_of (closing_mark k) ≡ Closing k
-unfolding mark_of
-mark_of-closing_mark k =
+pub symbol_kind-closing_mark : (k : ℕ) → symbol_kind (closing_mark k) ≡ Closing k
+unfolding symbol_kind
+symbol_kind-closing_mark k =
     let a : nat_lt (1114116 + 3 * k) 1114112 ≡ false = grind (arith, nat_tests) in
     let b : (1114116 + 3 * k == 1114112) ≡ false = grind (arith, nat_tests) in
     let s : (1114116 + 3 * k == 1114113) ≡ false = grind (arith, nat_tests) in

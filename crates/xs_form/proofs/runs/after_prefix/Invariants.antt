@@ -1,6 +1,6 @@
 use Rattle.std.proofs.Common.{◌≡◌, drop}
 use Rattle.xs_xml.specs.Scan.{after}
-use Rattle.xs_form.proofs.runs.behind.Given as goal
+use Rattle.xs_form.proofs.runs.after_prefix.Given as goal
 
 abbrev pub invariant-bytes : goal.invariant-bytes
 invariant-bytes l = after l.prefix l.text ≡ after (drop l.byte-index l.prefix) l.rest
