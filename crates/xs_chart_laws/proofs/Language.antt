@@ -13,12 +13,10 @@ use Rattle.xs_chart_laws.specs.Closed.{AllStand, HasAllThatStand, IsWhole}
 use Rattle.xs_chart_laws.proofs.Words.{Reads-same, Reads-from_slice}
 use Rattle.xs_chart_laws.proofs.Spelling.{whole-Spells, Spells-whole}
 use Rattle.xs_chart_laws.proofs.Standing.{stood}
-
-pub slice-all : (w : List ℕ) → slice_range w 0 (length w) ≡ w
-slice-all w = let e : length w - 0 ≡ length w = omega arith in rw e (take-length w)
+use Rattle.xs_class.proofs.Lists.{slice_all}
 
 pub Reads-all : (w : List ℕ) → Reads w 0 w (length w)
-Reads-all w = Reads-same w 0 (slice_range w 0 (length w)) w (length w) (slice-all w) (Reads-from_slice w 0 (length w) (omega arith) (omega arith))
+Reads-all w = Reads-same w 0 (slice_range w 0 (length w)) w (length w) (slice_all w) (Reads-from_slice w 0 (length w) (omega arith) (omega arith))
 
 pub whole_of : (g : Grammar) (w : List ℕ) → InLang g w → IsWhole g w (λ j c i. Stands g w c i j)
 whole_of g w (d, ((rule, f), e)) = (
@@ -31,7 +29,7 @@ whole_of g w (d, ((rule, f), e)) = (
 pub language_of : (g : Grammar) (w : List ℕ) → IsWhole g w (λ j c i. Stands g w c i j) → InLang g w
 language_of g w (p, rule, st) =
     let s = Spells-whole g p (slice_range w 0 (length w)) st.5 in
-    (record { rule = p; parts = s.0 }, ((rule, s.1), s.2 ∙ slice-all w))
+    (record { rule = p; parts = s.0 }, ((rule, s.1), s.2 ∙ slice_all w))
 
 -- in sets that have what stands, and of which each item stands
 pub language_is_whole : (g : Grammar) (w : List ℕ) (has : ℕ → Place → ℕ → Type 0) → HasAllThatStand g w has → AllStand g w has → InLang g w ↔ IsWhole g w has

@@ -22,12 +22,9 @@ use Rattle.xs_chart_laws.proofs.Words.{get_lt, Reads-is}
 use Rattle.xs_chart_laws.proofs.Spelling.{one_automaton}
 use Rattle.xs_chart_laws.proofs.Recognising.{closed_by}
 use Rattle.xs_chart_laws.proofs.Charts.{chart_stands, closed_is_chart}
+use Rattle.xs_class.proofs.Lists.{some_same}
 
--- an item of a place is one
-same_item : (o : Option GItem) (x y : GItem) → o ≡ Some x → o ≡ Some y → x ≡ y
-same_item o x y a b = cc
-
-same_non : (m n s t : ℕ) → Non m s ≡ Non n t → m ≡ n
+pub same_non : (m n s t : ℕ) → Non m s ≡ Non n t → m ≡ n
 same_non m n s t e = cc
 
 same_word : (f h : List ℕ) → Fixed f ≡ Fixed h → f ≡ h
@@ -49,7 +46,7 @@ fixed_is_non : (f : List ℕ) (n s : ℕ) → Fixed f ≡ Non n s → ⊥
 fixed_is_non f n s e = cc
 
 one_of_place : (g : Grammar) (c : Place) (x y : GItem) → ItemAt g c.rule c.dot x → ItemAt g c.rule c.dot y → x ≡ y
-one_of_place g c x y a b = same_item (slice_get (items g c.rule) c.dot) x y a b
+one_of_place g c x y a b = some_same (slice_get (items g c.rule) c.dot) x y a b
 
 not_at_end : (g : Grammar) (c : Place) (item : GItem) (non : ℕ) → ItemAt g c.rule c.dot item → IsAtEnd g c non → ⊥
 not_at_end g c item non at end = let lt = get_lt (items g c.rule) c.dot item at in omega (arith, end.1)

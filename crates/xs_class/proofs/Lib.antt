@@ -5,4 +5,5 @@ pub mod Members
 pub mod Merging
 pub mod Places
 pub mod Sets
+pub mod TableLaws
 pub mod Truth

@@ -1,5 +1,5 @@
 -- Lists, their elements and stretches, and what an option has.
-use Rattle.std.proofs.Common.{arith, ◌≤◌, ◌<◌, ◌-◌, ◌≡◌, ◌⊎◌, inl, inr, ℕ, zero, suc, List, [], ◌∷◌, ◌++◌, length, length-append, None, Some, refl, ap}
+use Rattle.std.proofs.Common.{arith, ◌≤◌, ◌<◌, ◌-◌, ◌≡◌, ◌⊎◌, inl, inr, ℕ, zero, suc, List, [], ◌∷◌, ◌++◌, length, length-append, Some, refl, ap}
 use Rattle.std.specs.declared.option.Option.{Option}
 use Rattle.std.specs.Prelude.{slice_get, slice_range, Contains}
 use Rattle.std.proofs.Math.Seq.{take-length}

@@ -1,5 +1,5 @@
 -- The class of a set of characters.
-use Rattle.std.proofs.Common.{◌≡◌, ◌∙◌, ◌≤◌, ◌⊎◌, ◌&&◌, ◌||◌, inl, inr, ap, sym, refl, ℕ, List, [], ◌∷◌, Bool, true, false, leb, arith}
+use Rattle.std.proofs.Common.{◌≡◌, ◌∙◌, ◌≤◌, ◌⊎◌, ◌||◌, inl, inr, sym, refl, ℕ, List, [], ◌∷◌, Bool, true, false, leb, arith}
 use Rattle.std.proofs.lemmas.Bool.{leb-true, le-leb}
 use Rattle.ucd_table.specs.Rows.{in_ranges, is_range, HasExactly, AreRanges}
 use Rattle.ucd_sets.specs.Sets.{in_set}
@@ -7,44 +7,31 @@ use Rattle.ucd_sets.specs.declared.set.Set.{Set}
 use Rattle.std.specs.List.{list_all}
 use Rattle.xs_class.specs.Classes.{Has, HaveSame}
 use Rattle.xs_class.specs.Named.{HasMembersOf}
-
-both_true : (a b : Bool) → (a && b) ≡ true → (a ≡ true) × (b ≡ true)
-both_true true b h = (refl, h)
-both_true false b h = cc
-
-from_both : (a b : Bool) → a ≡ true → b ≡ true → (a && b) ≡ true
-from_both a b h k = ap (λ x. x && b) h ∙ k
+use Rattle.xs_class.proofs.Truth.{and_true, both_true, or_right, or_left}
 
 some_true : (a b : Bool) (P Q : Type 0) → (a ≡ true → P) → (b ≡ true → Q) → (a || b) ≡ true → P ⊎ Q
 some_true true b P Q f g h = inl (f refl)
 some_true false b P Q f g h = inr (g h)
 
-from_left : (a b : Bool) → a ≡ true → (a || b) ≡ true
-from_left a b h = ap (λ x. x || b) h
-
-from_right : (a b : Bool) → b ≡ true → (a || b) ≡ true
-from_right true b h = refl
-from_right false b h = h
-
 pub tested_has : (rs : List (ℕ × ℕ)) (s : ℕ) → in_ranges rs s ≡ true → Has rs s
 unfolding in_ranges
 tested_has [] s t = cc
 tested_has (r ∷ rs) s t =
-    some_true _ _ ((r.0 ≤ s) × (s ≤ r.1)) (Has rs s) (λ k. let both = both_true _ _ k in (leb-true _ _ both.0, leb-true _ _ both.1)) (tested_has rs s) t
+    some_true _ _ ((r.0 ≤ s) × (s ≤ r.1)) (Has rs s) (λ k. let both = and_true _ _ k in (leb-true _ _ both.0, leb-true _ _ both.1)) (tested_has rs s) t
 
 pub has_tested : (rs : List (ℕ × ℕ)) (s : ℕ) → Has rs s → in_ranges rs s ≡ true
 unfolding in_ranges
 has_tested [] s h = absurd h
-has_tested (r ∷ rs) s (inl h) = from_left _ _ (from_both _ _ (le-leb _ _ h.0) (le-leb _ _ h.1))
-has_tested (r ∷ rs) s (inr h) = from_right _ _ (has_tested rs s h)
+has_tested (r ∷ rs) s (inl h) = or_left _ _ (both_true _ _ (le-leb _ _ h.0) (le-leb _ _ h.1))
+has_tested (r ∷ rs) s (inr h) = or_right _ _ (has_tested rs s h)
 
 -- the members of ranges of Unicode are code points
 pub ranges_bound : (rs : List (ℕ × ℕ)) (s : ℕ) → AreRanges rs → Has rs s → s ≤ 0x10FFFF
 ranges_bound [] s valid h = absurd h
 ranges_bound (r ∷ rs) s valid (inl h) =
-    let parts = both_true (is_range r) (list_all is_range rs) valid in
-    let end : r.1 ≤ 0x10FFFF = leb-true r.1 0x10FFFF (both_true (leb r.0 r.1) (leb r.1 0x10FFFF) parts.0).1 in omega (arith, h.1)
-ranges_bound (r ∷ rs) s valid (inr h) = ranges_bound rs s (both_true _ _ valid).1 h
+    let parts = and_true (is_range r) (list_all is_range rs) valid in
+    let end : r.1 ≤ 0x10FFFF = leb-true r.1 0x10FFFF (and_true (leb r.0 r.1) (leb r.1 0x10FFFF) parts.0).1 in omega (arith, h.1)
+ranges_bound (r ∷ rs) s valid (inr h) = ranges_bound rs s (and_true _ _ valid).1 h
 
 pub members_of_set : (ranges c : List (ℕ × ℕ)) (set : Set) → HasExactly ranges (in_set set) → AreRanges ranges → HaveSame c ranges → HasMembersOf c set
 members_of_set ranges c set exact valid same s = (

@@ -1,5 +1,5 @@
 -- The characters and names of XML 1.0, fifth edition, sections 2.2 and 2.3.
-use Rattle.std.specs.Prelude.{ℕ, List, [], ◌∷◌, ◌++◌}
+use Rattle.std.specs.Prelude.{ℕ, List, [], ◌∷◌, ◌++◌, ◌&&◌, ◌||◌, nat_le, Bool, false}
 use Rattle.xs_class.specs.Classes.{Has}
 
 -- Char
@@ -24,3 +24,11 @@ IsNameStart c = Has name_start_table c
 
 abbrev pub IsNameChar : ℕ → Type 0
 IsNameChar c = Has (name_start_table ++ name_more_table) c
+
+-- the same as tests: whether a number is in one of the ranges
+abbrev pub in_ranges : ℕ → List (ℕ × ℕ) → Bool
+in_ranges c [] = false
+in_ranges c (r ∷ rs) = (nat_le r.0 c && nat_le c r.1) || in_ranges c rs
+
+unfoldable pub is_name_start : ℕ → Bool
+is_name_start c = in_ranges c name_start_table

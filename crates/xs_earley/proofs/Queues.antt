@@ -16,9 +16,7 @@ use Rattle.xs_earley.specs.Waiting.{Waited, IsWaiting, WaitsBelow}
 use Rattle.xs_earley.proofs.Additions.{no_element, last_at, at_contains}
 use Rattle.xs_earley.proofs.Completing.{same_at, before_at, waiting_same}
 use Rattle.xs_earley.proofs.Growths.{grows_item, grows_item_more}
-
-same_non : (m n s t : ℕ) → Non m s ≡ Non n t → m ≡ n
-same_non m n s t e = cc
+use Rattle.xs_chart_laws.proofs.Settling.{same_non}
 
 -- a place is before one nonterminal
 before_once : (g : Grammar) (c : Place) (m n : ℕ) → IsBefore g c m → IsBefore g c n → m ≡ n

@@ -23,6 +23,7 @@ use Rattle.xs_earley.specs.Growing.{Grown, Has, IsSettledAt}
 use Rattle.xs_earley.proofs.Additions.{adds_then, at_contains}
 use Rattle.xs_earley.proofs.Completing.{same_at}
 use Rattle.xs_earley.proofs.Growths.{grown_puts, grown_notes, grown_then, grows_item}
+use Rattle.xs_class.proofs.Lists.{some_same}
 
 -- where each place and origin with the property stands, so does each item of one
 pub of_stands : (g : Grammar) (w : List ℕ) (at : ℕ) (P : Place → ℕ → Type 0) → ((c : Place) (i : ℕ) → P c i → Stands g w c i at) → (item : Item) → IsOf g P item → ItemStands g w item at
@@ -48,14 +49,11 @@ positions_are g (Skip k) a lex = ap (λ (p : Position). length p.classes) (sym l
 positions_are g (Fixed f) a lex = absurd lex
 positions_are g (Non n s) a lex = absurd lex
 
-item_once : (o : Option GItem) (x y : GItem) → o ≡ Some x → o ≡ Some y → x ≡ y
-item_once o x y a b = cc
-
 -- a place inside a terminal or an ignorable is at one of its positions
 pub inside_below : (g : Grammar) (place : Place) (a : Position) (k : ℕ) → IsPlace g place → HasAutomaton g place a → place.inside ≡ Some k → k < length a.classes
 inside_below g place a k is lex some =
     let h = is.inside k some in
-    let same = item_once (slice_get (items g place.rule) place.dot) h.0 lex.0 h.1 lex.1 in
+    let same = some_same (slice_get (items g place.rule) place.dot) h.0 lex.0 h.1 lex.1 in
     subst (λ n. k < n) (ap (positions_of g) same ∙ positions_are g lex.0 a lex.2) h.2
 
 none_of : (o : Option ℕ) → ((k : ℕ) → o ≡ Some k → ⊥) → o ≡ None
@@ -76,7 +74,7 @@ outside_item g place item is there few = none_of place.inside never
     never : (k : ℕ) → place.inside ≡ Some k → ⊥
     never k some =
         let h = is.inside k some in
-        let below : k < positions_of g item = subst (λ x. k < positions_of g x) (item_once (slice_get (items g place.rule) place.dot) h.0 item h.1 there) h.2 in
+        let below : k < positions_of g item = subst (λ x. k < positions_of g x) (some_same (slice_get (items g place.rule) place.dot) h.0 item h.1 there) h.2 in
         omega (arith, few)
 
 module _ (g : Grammar) (w : List ℕ) (built : IsBuilt g) (at : ℕ) (place : Place) (o : ℕ) (st : Stands g w place o at) where

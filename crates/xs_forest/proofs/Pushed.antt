@@ -1,24 +1,17 @@
 -- A forest with one row more.
-use Rattle.std.proofs.Common.{◌≡◌, ℕ, zero, suc, ◌⊎◌, Bool, false, List, [], ◌∷◌, ◌++◌, length, slice_get, Option, None, Some, is_some, true≢false, refl, sym, ◌∙◌, ap, subst, inl, inr}
+use Rattle.std.proofs.Common.{◌≡◌, Bool, false, List, [], ◌∷◌, ◌++◌, length, Option, None, Some, is_some, true≢false, refl, sym, ◌∙◌, ap, subst, inl, inr}
 use Rattle.std.specs.Borrow.{Bor}
 use Rattle.std.proofs.lemmas.List.{map-append}
-use Rattle.std.proofs.lemmas.Option.{none-some, same_Some}
 use Rattle.indexmap.specs.IndexMap.{IndexMap, get, insert_entry}
 use Rattle.indexmap.proofs.CallerLemmas.{insert_entry-new}
 use Rattle.xs_forest.specs.declared.row.Alt.{Alt}
 use Rattle.xs_forest.specs.Rows.{Rows, rows_of, AreEarlier, AreBelow}
-
-slice_get_push : {X : Type 0} (xs : List X) (y x : X) (at : ℕ) → slice_get (xs ++ y ∷ []) at ≡ Some x → (slice_get xs at ≡ Some x) ⊎ ((at ≡ length xs) × (y ≡ x))
-slice_get_push [] y x zero is = inr (refl, same_Some y x is)
-slice_get_push [] y x (suc at) is = absurd (none-some x is)
-slice_get_push (z ∷ xs) y x zero is = inl is
-slice_get_push (z ∷ xs) y x (suc at) is =
-    elim (slice_get_push xs y x at is) [ inl before ↦ inl before | inr last ↦ inr (ap suc last.0, last.1) ]
+use Rattle.xs_class.proofs.Lists.{get_push}
 
 -- its children stand before it too
 pub below_more : {L : Type 0} (rows : Rows L) (label : L) (alts : List Alt) → AreBelow rows → AreEarlier alts (length rows) → AreBelow (rows ++ (label, alts) ∷ [])
 below_more rows label alts below earlier at other others is =
-    elim (slice_get_push rows (label, alts) (other, others) at is) [
+    elim (get_push rows (label, alts) (other, others) at is) [
       | inl before ↦ below at other others before
       | inr last ↦ subst (λ n. AreEarlier others n) (sym last.0) (subst (λ a. AreEarlier a (length rows)) (ap (λ r. r.1) last.1) earlier)
     ]

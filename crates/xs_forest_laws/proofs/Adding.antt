@@ -14,6 +14,7 @@ use Rattle.xs_forest_laws.specs.declared.span.What.TheVariants.{Whole, Front}
 use Rattle.xs_forest_laws.specs.Forest.{Forest, key_at, no_row, key_of, alts_of, IsRow, FrontAt, ItemRow}
 use Rattle.xs_forest_laws.specs.Grown.{ItemOver, WholeBy, FrontBy, IsAltBy, IsLabelBy, IsGrown}
 use Rattle.xs_forest_laws.specs.Adding.{more_of, IsNext}
+use Rattle.xs_class.proofs.Lists.{some_same}
 
 at_front : {X : Type 0} (xs : List X) (y : X) (r : ℕ) (d : X) → r < length xs → slice_index_or (xs ++ y ∷ []) r d ≡ slice_index_or xs r d
 at_front [] y r d h = absurd (omega arith)
@@ -30,9 +31,6 @@ one_longer (x ∷ xs) y = ap suc (one_longer xs y)
 
 none_some : {X : Type 0} (o : Option X) (x : X) → o ≡ None → o ≡ Some x → ⊥
 none_some o x e h = cc
-
-some_same : {X : Type 0} (o : Option X) (x y : X) → o ≡ Some x → o ≡ Some y → x ≡ y
-some_same o x y e h = cc
 
 module _ (f : Forest) (row : SpanKey × List Alt) where
   abbrev more : Forest

@@ -12,6 +12,7 @@ use Rattle.xs_chart_laws.proofs.Words.{get_lt, Reads-is}
 use Rattle.xs_forest_laws.specs.declared.span.What.TheVariants.{Whole, Front}
 use Rattle.xs_forest_laws.specs.Forest.{IsSpelt}
 use Rattle.xs_forest_laws.specs.Order.{IsRanked, IsNullableFrom, IsTail, level, IsLess}
+use Rattle.xs_class.proofs.Lists.{some_same, front_empty, rest_empty}
 
 no_length : (u : List ℕ) → length u ≡ 0 → u ≡ []
 no_length [] e = refl
@@ -19,14 +20,6 @@ no_length (x ∷ u) e = absurd (omega arith)
 
 reads_none : (w : List ℕ) (i : ℕ) (u : List ℕ) → Reads w i u i → u ≡ []
 reads_none w i u r = no_length u (omega (arith, Reads-is w i u i r))
-
-first_none : (u v : List ℕ) → u ++ v ≡ [] → u ≡ []
-first_none [] v e = refl
-first_none (x ∷ u) v e = cc
-
-last_none : (u v : List ℕ) → u ++ v ≡ [] → v ≡ []
-last_none [] v e = e
-last_none (x ∷ u) v e = cc
 
 get_taken : {X : Type 0} (xs : List X) (d k : ℕ) (x : X) → k < d → slice_get xs k ≡ Some x → slice_get (take d xs) k ≡ Some x
 get_taken [] d k x lt e = cc
@@ -40,23 +33,20 @@ get_none k x e = cc
 get_first : {X : Type 0} (xs : List X) (x y : X) → slice_get (x ∷ xs) 0 ≡ Some y → x ≡ y
 get_first xs x y e = cc
 
-some_same : {X : Type 0} (o : Option X) (x y : X) → o ≡ Some x → o ≡ Some y → x ≡ y
-some_same o x y e h = cc
-
 module _ (g : Grammar) where
   -- the first item of parts that spell the empty word is nullable, and the other parts spell it too
   first_nullable : (item : GItem) (is : List GItem) (ps : Parts) → FitsItems g (item ∷ is) ps → parts_yield ps ≡ [] → IsNullableItem g item
-  first_nullable (Fixed v) is (fixed u ps) f e = sym f.0 ∙ first_none u (parts_yield ps) e
-  first_nullable (Term t s) is (leaf u ps) f e = subst (λ z. IsTermWord g t z) (first_none u (parts_yield ps) e) f.0
-  first_nullable (Skip k) is (skip u ps) f e = subst (λ z. IsSkipWord g k z) (first_none u (parts_yield ps) e) f.0
-  first_nullable (Non n s) is (sub q qs ps) f e = (record { rule = q; parts = qs }, (f.0, f.1), first_none (parts_yield qs) (parts_yield ps) e)
+  first_nullable (Fixed v) is (fixed u ps) f e = sym f.0 ∙ front_empty u (parts_yield ps) e
+  first_nullable (Term t s) is (leaf u ps) f e = subst (λ z. IsTermWord g t z) (front_empty u (parts_yield ps) e) f.0
+  first_nullable (Skip k) is (skip u ps) f e = subst (λ z. IsSkipWord g k z) (front_empty u (parts_yield ps) e) f.0
+  first_nullable (Non n s) is (sub q qs ps) f e = (record { rule = q; parts = qs }, (f.0, f.1), front_empty (parts_yield qs) (parts_yield ps) e)
   first_nullable _ is _ f e = absurd f
 
   rest_empty : (item : GItem) (is : List GItem) (ps : Parts) → FitsItems g (item ∷ is) ps → parts_yield ps ≡ [] → (rs : Parts) × FitsItems g is rs × (parts_yield rs ≡ [])
-  rest_empty (Fixed v) is (fixed u ps) f e = (ps, f.1, last_none u (parts_yield ps) e)
-  rest_empty (Term t s) is (leaf u ps) f e = (ps, f.1, last_none u (parts_yield ps) e)
-  rest_empty (Skip k) is (skip u ps) f e = (ps, f.1, last_none u (parts_yield ps) e)
-  rest_empty (Non n s) is (sub q qs ps) f e = (ps, f.2, last_none (parts_yield qs) (parts_yield ps) e)
+  rest_empty (Fixed v) is (fixed u ps) f e = (ps, f.1, rest_empty u (parts_yield ps) e)
+  rest_empty (Term t s) is (leaf u ps) f e = (ps, f.1, rest_empty u (parts_yield ps) e)
+  rest_empty (Skip k) is (skip u ps) f e = (ps, f.1, rest_empty u (parts_yield ps) e)
+  rest_empty (Non n s) is (sub q qs ps) f e = (ps, f.2, rest_empty (parts_yield qs) (parts_yield ps) e)
   rest_empty _ is _ f e = absurd f
 
   -- each item of parts that spell the empty word is nullable

@@ -8,6 +8,7 @@ use Rattle.xs_forest.specs.declared.row.Alt.{Alt}
 use Rattle.xs_forest_laws.specs.Forest.{Forest, alts_of, Unfolding, bare, pick, IsRight}
 use Rattle.xs_forest_laws.specs.Number.{count_of, alts_count, alts_sum, IsCounted, At, AreCounts, IsChosen}
 use Rattle.xs_forest_laws.proofs.Number.{place_one, alt_one}
+use Rattle.xs_class.proofs.Lists.{first_in, rest_in}
 
 -- counted with the cap at each step, or at the end
 pub alts_count-is : (cap : ℕ) (cs : List ℕ) (alts : List Alt) → alts_count cap cs alts ≡ min cap (alts_sum cap cs alts)
@@ -22,12 +23,6 @@ count_more cs more (Some r) h = at_front cs more r 0 (h r refl)
     at_front [] ys r d h = absurd (omega arith)
     at_front (x ∷ xs) ys zero d h = refl
     at_front (x ∷ xs) ys (suc r) d h = at_front xs ys r d (omega arith)
-
-first_in : {X : Type 0} (x : X) (xs : List X) → Contains (x ∷ xs) x
-first_in x xs = (0, omega arith, refl)
-
-rest_in : {X : Type 0} (x : X) (xs : List X) (y : X) → Contains xs y → Contains (x ∷ xs) y
-rest_in x xs y (n, lt, e) = (suc n, omega arith, e)
 
 -- more counts after those of the children change nothing
 pub alts_more : (cap : ℕ) (cs more : List ℕ) (alts : List Alt) → ((a : Alt) (c : ℕ) → Contains alts a → (a.left ≡ Some c) ⊎ (a.right ≡ Some c) → c < length cs) → alts_count cap (cs ++ more) alts ≡ alts_count cap cs alts

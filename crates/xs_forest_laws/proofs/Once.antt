@@ -13,6 +13,7 @@ use Rattle.xs_forest_laws.specs.declared.span.What.{What}
 use Rattle.xs_forest_laws.specs.declared.span.What.TheVariants.{Whole, Front}
 use Rattle.xs_forest_laws.specs.Forest.{Forest, key_of, IsRow, Unfolding, bare, pick, Unfolds, last_part, read, FrontAt, ItemRow, WholeAlt, FrontAlt, IsAlt, IsRight}
 use Rattle.xs_forest_laws.proofs.Read.{read_front, read_whole, front_good, unfolding_fits}
+use Rattle.xs_class.proofs.Lists.{some_same}
 
 -- two lists of parts for the same items, each with more after it
 pub then_cancel : (g : Grammar) (is : List GItem) (ps qs rs ts : Parts) → FitsItems g is ps → FitsItems g is qs → parts_then ps rs ≡ parts_then qs ts → (ps ≡ qs) × (rs ≡ ts)
@@ -36,9 +37,6 @@ then_cancel g (Skip t ∷ is) (skip u ps) _ rs ts f h e = absurd h
 then_cancel g (Non m v ∷ is) (sub p us ps) _ rs ts f h e = absurd h
 then_cancel g [] done _ rs ts f h e = absurd h
 then_cancel g _ _ _ rs ts f h e = absurd f
-
-some_one : {X : Type 0} (o : Option X) (x y : X) → o ≡ Some x → o ≡ Some y → x ≡ y
-some_one o x y e h = cc
 
 alt_is : (a b : Alt) → a.rule ≡ b.rule → a.left ≡ b.left → a.right ≡ b.right → a ≡ b
 alt_is a b e h k = ap (λ z. record { rule = z; left = a.left; right = a.right }) e ∙ (ap (λ z. record { rule = b.rule; left = z; right = a.right }) h ∙ ap (λ z. record { rule = b.rule; left = b.left; right = z }) k)
@@ -105,7 +103,7 @@ module _ (g : Grammar) (w : List ℕ) (f : Forest) where
         let c = then_cancel g (take d (items g p)) (read g w f a.left l) (read g w f b.left s) (last_part item (slice_range w m j) a.right (read g w f a.right r)) (last_part item' (slice_range w m' j) b.right (read g w f b.right t)) sl.0 ss.0 e' in
         let ss' : Reads w i (parts_yield (read g w f a.left l)) m' = subst (λ z. Reads w i (parts_yield z) m') (sym c.0) ss.1 in
         let em : m ≡ m' = Reads-is w i (parts_yield (read g w f a.left l)) m sl.1 ∙ sym (Reads-is w i (parts_yield (read g w f a.left l)) m' ss') in
-        let ei : item ≡ item' = some_one _ item item' ha.item_is hb.item_is in
+        let ei : item ≡ item' = some_same _ item item' ha.item_is hb.item_is in
         let bl : FrontAt f p d i m b.left = rw (sym em) at hb.left_is in
         let br : ItemRow f item m j b.right = rw (sym em, sym ei) at hb.right_is in
         let el = front_one p d i m a.left b.left ha.left_is bl in

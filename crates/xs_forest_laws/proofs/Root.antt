@@ -13,9 +13,7 @@ use Rattle.xs_forest_laws.specs.Laws.{IsExact}
 use Rattle.xs_forest_laws.proofs.Read.{unfolding_fits}
 use Rattle.xs_forest_laws.proofs.All.{fitting_is_unfolded}
 use Rattle.xs_forest_laws.proofs.Once.{reading_is_once}
-
-slice_all : (w : List ℕ) → slice_range w 0 (length w) ≡ w
-slice_all w = let e : length w - 0 ≡ length w = omega arith in rw e (take-length w)
+use Rattle.xs_class.proofs.Lists.{slice_all}
 
 reads_all : (w : List ℕ) → Reads w 0 w (length w)
 reads_all w = Reads-same w 0 (slice_range w 0 (length w)) w (length w) (slice_all w) (Reads-from_slice w 0 (length w) (omega arith) (omega arith))

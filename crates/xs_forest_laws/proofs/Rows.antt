@@ -15,16 +15,11 @@ use Rattle.xs_forest_laws.specs.Adding.{more_of}
 use Rattle.xs_forest_laws.specs.Placed.{key_in, IsOrdered, HasKeys}
 use Rattle.xs_forest_laws.proofs.Read.{get_or_is}
 use Rattle.xs_forest_laws.proofs.Adding.{alt_child, one_longer, key_more, at_end}
+use Rattle.xs_class.proofs.Lists.{first_in, rest_in}
 
-child_earlier : (o : Option ℕ) (n : ℕ) → ((c : ℕ) → o ≡ Some c → c < n) → IsEarlier o n
+pub child_earlier : (o : Option ℕ) (n : ℕ) → ((c : ℕ) → o ≡ Some c → c < n) → IsEarlier o n
 child_earlier None n h = tt
 child_earlier (Some c) n h = h c refl
-
-first_in : {X : Type 0} (x : X) (xs : List X) → Contains (x ∷ xs) x
-first_in x xs = (0, omega arith, refl)
-
-rest_in : {X : Type 0} (x : X) (xs : List X) (y : X) → Contains xs y → Contains (x ∷ xs) y
-rest_in x xs y (n, lt, e) = (suc n, omega arith, e)
 
 all_earlier : (alts : List Alt) (n : ℕ) → ((a : Alt) (c : ℕ) → Contains alts a → (a.left ≡ Some c) ⊎ (a.right ≡ Some c) → c < n) → AreEarlier alts n
 all_earlier [] n h = tt

@@ -11,10 +11,8 @@ use Rattle.xs_gram.specs.Sound.{IsBuilt, IsNullableItem}
 use Rattle.xs_chart_laws.proofs.Words.{get_lt}
 use Rattle.xs_chart_laws.proofs.Spelling.{term_agrees, skip_agrees}
 use Rattle.xs_forest_laws.specs.Order.{is_nullable_by, AreNullable, IsTailFrom, IsNullableFrom, IsTail}
-
-not_empty : (v : List ℕ) (s : ℕ) → [] ≡ v ++ s ∷ [] → ⊥
-not_empty [] s e = cc
-not_empty (x ∷ v) s e = cc
+use Rattle.xs_class.proofs.Truth.{false_true}
+use Rattle.xs_class.proofs.Lists.{not_empty, some_length}
 
 -- an automaton goes by no empty word
 no_run : (a : Position) (u : List ℕ) (k : ℕ) → u ≡ [] → Runs a u k → ⊥
@@ -24,13 +22,6 @@ no_run a _ _ e (goes v j s run l c is) = not_empty v s (sym e ∙ is)
 accepts_empty : (a : Position) → Accepts a [] → a.nullable ≡ true
 accepts_empty a (inl e) = e.1
 accepts_empty a (inr (k, run, l)) = absurd (no_run a [] k refl run)
-
-some_length : (f : List ℕ) → 0 < length f → f ≡ [] → ⊥
-some_length [] lt e = absurd (omega arith)
-some_length (x ∷ f) lt e = cc
-
-false_true : false ≡ true → ⊥
-false_true e = cc
 
 module _ (g : Grammar) (built : IsBuilt g) (flag : ℕ → Bool) (flags : AreNullable g flag) where
   -- an item is nullable exactly where the test says it

@@ -6,13 +6,13 @@ use Rattle.xs_xml.specs.Tables.{is_white, is_name_char, is_quote}
 use Rattle.xs_xml.specs.Piece.{Attribute, Bit, plain, ref, is_name, is_gap, is_bit, are_bits, is_attribute, are_attributes, all_of, spelt_attribute}
 use Rattle.xs_xml.specs.Reads.{value}
 use Rattle.xs_xml.specs.Scan.{span, after, cut, ◌>>=◌, bit_if, as_ref, bit_at, bits_at, more, attr_if, as_attr, attr_quote, attr_right, attr_at, attrs_at}
-use Rattle.xs_xml.proofs.Reading.{both_true}
-use Rattle.xs_xml.proofs.Cutting.{some_inj}
 use Rattle.xs_xml.proofs.Steps.{run_all}
 use Rattle.xs_xml.proofs.Tags.{attr_long}
 use Rattle.xs_xml.proofs.Tagsound.{attr_sound}
 use Rattle.xs_form.specs.Values.{all_written}
 use Rattle.xs_form.specs.Attributes.{Held, held, kept_attribute, Head, is_empty, head_quote, head_right, head_at}
+use Rattle.xs_class.proofs.Truth.{both_true}
+use Rattle.xs_class.proofs.Lists.{some_inj}
 
 -- what is read as parts of a value are parts
 bit_kept : (q : ℕ) (t : Bool) (b : Bit) (rest : List ℕ) (r : Bit × List ℕ) → is_bit q b ≡ t → bit_if t b rest ≡ Some r → is_bit q r.0 ≡ true

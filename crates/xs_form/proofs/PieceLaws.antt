@@ -6,13 +6,13 @@ use Rattle.std.proofs.lemmas.Bool.Decides.{nat_tests}
 use Rattle.xs_xml.specs.Tables.{is_char, is_white, is_name_char}
 use Rattle.xs_xml.specs.Piece.{Piece, Attribute, character, line_end, start_tag, empty_tag, is_piece, is_name, all_of, starts, ends_not, same, lower, is_apart, are_attributes, distinct}
 use Rattle.xs_xml.specs.Scan.{after, span, cut, joined, ◌>>=◌, kept, char_at, end_at, in_cdata, in_comment, attrs_at, tag_end, tag_name, tag_at}
-use Rattle.xs_xml.proofs.Cutting.{some_inj}
 use Rattle.xs_xml.proofs.Sound.{cut_is}
 use Rattle.xs_xml.proofs.Steps.{run_all, cut_free}
 use Rattle.xs_form.specs.Attributes.{Held, held}
 use Rattle.xs_form.specs.Sorted.{held_distinct, held_in_order, keyed, sorted_entries}
 use Rattle.xs_form.specs.Seen.{Seen, found, ends, letter, aside, section, past_feed, instruction_body, tag_ends, empty_end, made}
 use Rattle.xs_form.proofs.SortedLaws.{held_is_distinct}
+use Rattle.xs_class.proofs.Lists.{some_inj}
 
 -- a line end
 pub return_is : (rest : List ℕ) → option_map found (char_at 13 rest) ≡ Some (letter 10, past_feed rest)

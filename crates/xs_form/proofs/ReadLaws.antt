@@ -7,8 +7,6 @@ use Rattle.xs_xml.specs.Piece.{Piece, is_piece}
 use Rattle.xs_xml.specs.Legal.{Spot, ahead, inside, beyond, is_first, passed, then_passed, is_that, no_section_end, IsLegal}
 use Rattle.xs_xml.specs.Reads.{symbols, all_symbols, Reads}
 use Rattle.xs_xml.specs.Scan.{piece_at}
-use Rattle.xs_xml.proofs.Reading.{and_true, or_false, not_true, both_true}
-use Rattle.xs_xml.proofs.Cutting.{some_inj}
 use Rattle.xs_xml.proofs.Tagsound.{read_is_spelt}
 use Rattle.xs_xml.proofs.Greatest.{IsStuck, all_long, piece_long, stuck_is_broken}
 use Rattle.xs_xml.proofs.Stuck.{stuck_unless, reads_whole}
@@ -20,6 +18,8 @@ use Rattle.xs_form.specs.Seen.{Seen, seen, found}
 use Rattle.xs_form.specs.State.{State, initial, moved, step, ended_word, is_named}
 use Rattle.xs_form.proofs.RuleLaws.{is_declaration, is_nil, first_more, run_after, run_of, section_more, run_more, nil_more, symbols_more}
 use Rattle.xs_form.proofs.StepLaws.{is_refused, next, step_is, piece_named}
+use Rattle.xs_class.proofs.Truth.{and_true, both_true, not_true, or_false}
+use Rattle.xs_class.proofs.Lists.{some_inj}
 
 -- a legal list was read up to rest, and the state is that after it
 pub record IsSoFar (names : List (List ℕ)) (doc rest : List ℕ) (st : State) : Type 0 where

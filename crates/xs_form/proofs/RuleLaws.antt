@@ -4,7 +4,8 @@ use Rattle.std.specs.declared.option.Option.{Option}
 use Rattle.xs_xml.specs.Piece.{Piece, declaration, character, line_end, reference, start_tag, empty_tag, end_tag, comment, instruction, cdata}
 use Rattle.xs_xml.specs.Legal.{Spot, no_declaration, is_first, passed, all_passed, is_that, no_section_end}
 use Rattle.xs_xml.specs.Reads.{symbols, all_symbols}
-use Rattle.xs_xml.proofs.Reading.{and_no}
+use Rattle.xs_class.proofs.Truth.{and_no}
+use Rattle.xs_xml.proofs.Greatest.{none_passed}
 
 -- the first piece alone may be a declaration
 abbrev pub is_declaration : Piece → Bool
@@ -110,11 +111,6 @@ run_more k (p ∷ ps) q = run_more (run_after k p) ps q
 pub nil_more : (ps : List Piece) (q : Piece) → is_nil (ps ++ q ∷ []) ≡ false
 nil_more [] q = refl
 nil_more (p ∷ ps) q = refl
-
--- the symbols of one more piece
-none_passed : (qs : List Piece) → all_passed None qs ≡ None
-none_passed [] = refl
-none_passed (q ∷ qs) = none_passed qs
 
 pub symbols_more : (names : List (List ℕ)) (o : Option Spot) (ps : List Piece) (q : Piece) (s : Spot) → all_passed o ps ≡ Some s → all_symbols names o (ps ++ q ∷ []) ≡ all_symbols names o ps ++ symbols names s q
 symbols_more names o [] q s is = ap (λ (x : Option Spot). all_symbols names x (q ∷ [])) is ∙ append-nil (symbols names s q)

@@ -7,11 +7,11 @@ use Rattle.xs_xml.specs.Tables.{is_white}
 use Rattle.xs_xml.specs.Piece.{Bit, plain, ref, spelt_bit}
 use Rattle.xs_xml.specs.Reads.{value}
 use Rattle.xs_xml.specs.Scan.{bit_at, bits_at}
-use Rattle.xs_xml.proofs.Cutting.{some_inj}
 use Rattle.xs_xml.proofs.Tags.{bit_long}
 use Rattle.xs_xml.proofs.Tagsound.{bit_is}
 use Rattle.xs_form.specs.declared.values.ValuePart.{ValuePart}
 use Rattle.xs_form.specs.Values.{part_of, kept_part, part_symbols, is_return, is_written, all_written}
+use Rattle.xs_class.proofs.Lists.{some_inj}
 
 -- what was read, and what is left, are the whole value
 pub record IsSoFar (q : ℕ) (text word : List ℕ) (cr written : Bool) (rest : List ℕ) : Type 0 where

@@ -11,6 +11,7 @@ use Rattle.xs_forest_laws.specs.Forest.{Forest}
 use Rattle.xs_grow.specs.Grouped.{Grouped, IsGroup, AreApart}
 use Rattle.xs_grow.specs.Making.{IsMade, AreMade, ChildrenAreEarlier, AreRowsOf}
 use Rattle.xs_grow.proofs.ListLemmas.{get_contains, get_push_cases, get_append_left, get_end}
+use Rattle.xs_forest_laws.proofs.Rows.{child_earlier}
 
 longer : {X : Type 0} (xs : List X) (x : X) → length (xs ++ x ∷ []) ≡ suc (length xs)
 longer [] x = refl
@@ -37,10 +38,6 @@ module _ (g : Grammar) (groups : Grouped SpanKey) (key : SpanKey) where
       let n = get_some numbers k (omega arith) in
       let b = h.each k n.0 n.1 in
       (n.0, n.1, subst (λ z. IsMade g groups key.what key.start key.end n.0 z) (same_Some b.0 a (sym b.1 ∙ at)) b.2)
-
-child_earlier : (o : Option ℕ) (n : ℕ) → ((c : ℕ) → o ≡ Some c → c < n) → IsEarlier o n
-child_earlier None n h = tt
-child_earlier (Some c) n h = h c refl
 
 all_earlier : (alts : List Alt) (n : ℕ) → ((k c : ℕ) (a : Alt) → slice_get alts k ≡ Some a → (a.left ≡ Some c) ⊎ (a.right ≡ Some c) → c < n) → AreEarlier alts n
 all_earlier [] n h = tt

@@ -4,7 +4,8 @@ use Rattle.std.specs.List.{list_all}
 use Rattle.xs_lex.specs.Classes.{is_white}
 use Rattle.xs_lex.specs.Between.{Blank, white, comment, spelt_blanks, ends_line, are_blanks, begins_blank, IsApart}
 use Rattle.xs_lex.specs.Scan.{blank_end}
-use Rattle.xs_lex.proofs.Truth.{and_true, both_true, or_false, neither, is_not, hash_no_white, line_end_white}
+use Rattle.xs_lex.proofs.Truth.{hash_no_white, line_end_white}
+use Rattle.xs_class.proofs.Truth.{and_true, both_true, or_false, neither, is_not}
 
 no_more : (rest : List ℕ) (k : ℕ) → begins_blank rest ≡ false → blank_end false k rest ≡ k
 no_more [] k ends = refl

@@ -3,7 +3,8 @@ use Rattle.std.proofs.Common.{◌≡◌, ℕ, suc, ◌+◌, ◌≤◌, List, [],
 use Rattle.std.specs.List.{list_all}
 use Rattle.xs_lex.specs.Classes.{is_plain_start, is_plain_char, is_plain}
 use Rattle.xs_lex.specs.Scan.{run_end}
-use Rattle.xs_lex.proofs.Truth.{and_true, both_true, plain_start_in}
+use Rattle.xs_lex.proofs.Truth.{plain_start_in}
+use Rattle.xs_class.proofs.Truth.{and_true, both_true}
 
 -- the run: it is of the class, and what follows it does not go on with the class
 pub record IsRun (f : ℕ → Bool) (text : List ℕ) (k n : ℕ) : Type 0 where

@@ -3,7 +3,8 @@ use Rattle.std.proofs.Common.{◌≡◌, ℕ, suc, ◌+◌, List, [], ◌∷◌,
 use Rattle.std.specs.List.{list_all}
 use Rattle.xs_lex.specs.Units.{PatternUnit, bare, guarded, is_pattern_unit, spelt_pattern}
 use Rattle.xs_lex.specs.Scan.{pattern_end}
-use Rattle.xs_lex.proofs.Truth.{and_true, both_true, or_false, not_true, some_inj}
+use Rattle.xs_class.proofs.Truth.{and_true, both_true, not_true, or_false}
+use Rattle.xs_class.proofs.Lists.{some_inj}
 
 pub spelt_front : (us : List PatternUnit) (rest : List ℕ) → spelt_pattern us rest ≡ spelt_pattern us [] ++ rest
 spelt_front [] rest = refl

@@ -8,7 +8,8 @@ use Rattle.xs_lex.specs.declared.quoted.Spot.{Spot}
 use Rattle.xs_lex.specs.declared.quoted.Spot.TheVariants.{Between, Escaped, Opened, Digits}
 use Rattle.xs_lex.specs.Units.{QuotedUnit, plain, escaped, coded, number, is_hex, is_scalar, is_escape, escape_char, is_quoted_unit, spelt_quoted_unit, spelt_quoted, meaning}
 use Rattle.xs_lex.specs.Scan.{spot_if, spot_after, closes, given, quoted_end, value_at}
-use Rattle.xs_lex.proofs.Truth.{and_true, both_true, or_false, not_true, some_inj, no_other}
+use Rattle.xs_class.proofs.Truth.{and_true, both_true, not_true, or_false, lt_true, le_is, le_true, lt_is, no_other}
+use Rattle.xs_class.proofs.Lists.{some_inj}
 
 -- the characters lead from one spot to another and give these characters
 pub Walk : Spot → List ℕ → Spot → List ℕ → Type 0
@@ -40,12 +41,6 @@ number_grows n (d ∷ ds) = let more = number_grows (n * 16 + digit_value d) ds 
 hex_no_brace : (d : ℕ) → is_hex d ≡ true → (d == 125) ≡ false
 hex_no_brace d is = no_other is_hex d 125 is refl
 
-lt_true : (a b : ℕ) → a < b → nat_lt a b ≡ true
-lt_true a b h = grind (arith, nat_tests)
-
-le_true : (a b : ℕ) → a ≤ b → nat_le a b ≡ true
-le_true a b h = grind (arith, nat_tests)
-
 digits_walk : (ds : List ℕ) (n v : ℕ) → list_all is_hex ds ≡ true → n + length ds ≤ 6 → number v ds < 0x110000 → Walk (Digits n v) ds (Digits (n + length ds) (number v ds)) []
 unfolding Walk
 digits_walk [] n v hex few low = (rw (add-zero n) refl, refl)
@@ -70,9 +65,6 @@ scalar_low n is = grind (arith, nat_tests)
 
 one_more : (n : ℕ) → nat_le 1 n ≡ true → 1 ≤ n
 one_more n is = grind (arith, nat_tests)
-
-le_is : (a b : ℕ) → nat_le a b ≡ true → a ≤ b
-le_is a b is = grind (arith, nat_tests)
 
 escape_no_u : (c : ℕ) → is_escape c ≡ true → (c == 117) ≡ false
 escape_no_u c is = no_other is_escape c 117 is refl
@@ -145,9 +137,6 @@ all_push f (y ∷ ys) x all here = let p = and_true (f y) (list_all f ys) all in
 number_push : (n : ℕ) (ds : List ℕ) (d : ℕ) → number n (ds ++ d ∷ []) ≡ number n ds * 16 + digit_value d
 number_push n [] d = refl
 number_push n (e ∷ ds) d = number_push (n * 16 + digit_value e) ds d
-
-lt_is : (a b : ℕ) → nat_lt a b ≡ true → a < b
-lt_is a b is = grind (arith, nat_tests)
 
 goes_between : (c : ℕ) (m : Spot) → (c == 34) ≡ false → spot_after Between c ≡ Some m → Goes m (c ∷ [])
 unfolding Goes Pending

@@ -13,9 +13,9 @@ use Rattle.xs_lex.specs.Spelling.{Spells}
 use Rattle.xs_lex.specs.Between.{IsApart}
 use Rattle.xs_lex.specs.Scan.{blank_end, token_at, front_at}
 use Rattle.xs_lex.specs.Reading.{IsTokenAt, NoToken, Lexeme, StandsAt, AreTokensFrom, AreTokens, IsSlice, size_of, line_ends, is_nothing, valid, after_mark, extent_of, lexeme_of}
-use Rattle.xs_lex.proofs.Truth.{and_true, both_true}
 use Rattle.xs_lex.proofs.BlankLaws.{after_blanks}
 use Rattle.xs_lex.proofs.TokenLaws.{longest_is}
+use Rattle.xs_class.proofs.Truth.{and_true, both_true}
 
 pub size-append : (u v : List ℕ) → size_of (u ++ v) ≡ size_of u + size_of v
 size-append u v = ap length (encodes-append u v) ∙ length-append (encode_utf8_all u) (encode_utf8_all v)

@@ -13,10 +13,12 @@ use Rattle.xs_lex.specs.Units.{QuotedUnit, is_quoted_unit, spelt_quoted, Pattern
 use Rattle.xs_lex.specs.Spelling.{begins_with, Spells}
 use Rattle.xs_lex.specs.Reading.{BeginsWith, IsTokenAt, NoToken}
 use Rattle.xs_lex.specs.Scan.{run_end, quoted_end, pattern_end, of_kind, slash_at, angle_at, local_at, name_at, sign_at, token_at}
-use Rattle.xs_lex.proofs.Truth.{white_ends, and_true, some_inj, no_other, plain_start_out, colon_out}
+use Rattle.xs_lex.proofs.Truth.{white_ends, plain_start_out, colon_out}
 use Rattle.xs_lex.proofs.QuotedLaws.{units_front, quoted_read, quoted_found}
 use Rattle.xs_lex.proofs.PatternLaws.{spelt_front, pattern_read, pattern_is}
 use Rattle.xs_lex.proofs.NameLaws.{run_plain, run_covers, run_stops, plain_chars}
+use Rattle.xs_class.proofs.Truth.{and_true, no_other}
+use Rattle.xs_class.proofs.Lists.{some_inj}
 
 -- the text begins with a token of this kind and number of characters
 abbrev pub Found : List ℕ → Kind × ℕ → Type 0

@@ -1,70 +1,15 @@
 -- Tests that come out true or false, and what the classes of characters say of single ones.
 use Rattle.xs_class.specs.Classes.{Has}
-use Rattle.xs_class.specs.Tables.{name_start_table, name_more_table}
+use Rattle.xs_class.specs.Tables.{name_start_table, name_more_table, in_ranges, is_name_start}
 use Rattle.std.specs.Prelude.{IsTrue, ◌↔◌}
-use Rattle.std.proofs.lemmas.Bool.Decides.{nat_tests}
-use Rattle.std.proofs.Common.{nat_le, arith, ◌≤◌, ◌⊎◌, inl, inr, List, [], ◌∷◌, ◌++◌, ◌≡◌, ℕ, Some, true, false, Bool, not, ◌&&◌, ◌||◌, ◌==◌, refl, sym, subst, ap, eqb-true}
-use Rattle.xs_lex.specs.Classes.{in_ranges, is_name_start, is_name_char, is_plain_start, is_plain_char, is_white}
-
-pub and_true : (a b : Bool) → (a && b) ≡ true → (a ≡ true) × (b ≡ true)
-and_true true b is = (refl, is)
-and_true false b is = absurd (cc)
-
-pub both_true : (a b : Bool) → a ≡ true → b ≡ true → (a && b) ≡ true
-both_true a b x y = rw (x, y) refl
-
-pub or_false : (a b : Bool) → (a || b) ≡ false → (a ≡ false) × (b ≡ false)
-or_false true b is = absurd (cc)
-or_false false b is = (refl, is)
-
-pub neither : (a b : Bool) → a ≡ false → b ≡ false → (a || b) ≡ false
-neither a b x y = rw (x, y) refl
-
-pub not_true : (a : Bool) → not a ≡ true → a ≡ false
-not_true true is = absurd (cc)
-not_true false is = refl
-
-pub is_not : (a : Bool) → a ≡ false → not a ≡ true
-is_not a is = rw is refl
-
-pub some_inj : {A : Type 0} (x y : A) → Some x ≡ Some y → x ≡ y
-some_inj x y h = cc
-
-le_is : (a b : ℕ) → nat_le a b ≡ true → a ≤ b
-le_is a b is = grind (arith, nat_tests)
-
-le_true : (a b : ℕ) → a ≤ b → nat_le a b ≡ true
-le_true a b h = grind (arith, nat_tests)
-
-or_right : (a b : Bool) → b ≡ true → (a || b) ≡ true
-or_right true b is = refl
-or_right false b is = is
-
--- a test that tells two characters apart
-pub no_other : (f : ℕ → Bool) (c d : ℕ) → f c ≡ true → f d ≡ false → (c == d) ≡ false
-no_other f c d is_so is_not_so = by (c == d) refl
-  where
-    by : (t : Bool) → (c == d) ≡ t → t ≡ false
-    by true e = let same : c ≡ d = eqb-true c d e in let g : f c ≡ f d = ap f same in absurd (cc)
-    by false e = refl
+use Rattle.std.proofs.Common.{nat_le, List, [], ◌∷◌, ◌++◌, ◌≡◌, ℕ, true, false, Bool, not, ◌&&◌, ◌||◌, ◌==◌, refl, sym, subst, eqb-true}
+use Rattle.xs_lex.specs.Classes.{is_name_char, is_plain_start, is_plain_char, is_white}
+use Rattle.xs_class.proofs.Truth.{and_true}
+use Rattle.xs_class.proofs.TableLaws.{in_is, is_in}
 
 pub plain_start_out : (is_plain_start 34 ≡ false) × (is_plain_start 47 ≡ false) × (is_plain_start 60 ≡ false) × (is_plain_start 58 ≡ false) × (is_plain_start 61 ≡ false) × (is_plain_start 91 ≡ false) × (is_plain_start 93 ≡ false) × (is_plain_start 62 ≡ false)
 unfolding is_plain_start is_name_start
 plain_start_out = (refl, refl, refl, refl, refl, refl, refl, refl)
-
--- a class's members, and the test of them
-pub in_is : (c : ℕ) (rs : List (ℕ × ℕ)) → in_ranges c rs ≡ true → Has rs c
-in_is c [] is = absurd (cc)
-in_is c (r ∷ rs) is = by (nat_le r.0 c && nat_le c r.1) refl is (in_is c rs)
-  where
-    by : (t : Bool) → (nat_le r.0 c && nat_le c r.1) ≡ t → (t || in_ranges c rs) ≡ true → (in_ranges c rs ≡ true → Has rs c) → ((r.0 ≤ c) × (c ≤ r.1)) ⊎ Has rs c
-    by true e h again = let p = and_true (nat_le r.0 c) (nat_le c r.1) e in inl (le_is r.0 c p.0, le_is c r.1 p.1)
-    by false e h again = inr (again h)
-
-pub is_in : (c : ℕ) (rs : List (ℕ × ℕ)) → Has rs c → in_ranges c rs ≡ true
-is_in c [] has = absurd has
-is_in c (r ∷ rs) (inl h) = rw (le_true r.0 c h.0, le_true c r.1 h.1) refl
-is_in c (r ∷ rs) (inr h) = or_right (nat_le r.0 c && nat_le c r.1) (in_ranges c rs) (is_in c rs h)
 
 in_front : (c : ℕ) (rs ss : List (ℕ × ℕ)) → in_ranges c rs ≡ true → in_ranges c (rs ++ ss) ≡ true
 in_front c [] ss is = absurd (cc)

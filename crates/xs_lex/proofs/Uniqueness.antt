@@ -5,9 +5,9 @@ use Rattle.xs_lex.specs.declared.kind.Kind.{Kind}
 use Rattle.xs_lex.specs.Between.{IsApart}
 use Rattle.xs_lex.specs.Scan.{blank_end}
 use Rattle.xs_lex.specs.Reading.{IsTokenAt, Lexeme, Extent, StandsAt, IsLast, AreTokensFrom}
-use Rattle.xs_lex.proofs.Truth.{some_inj}
 use Rattle.xs_lex.proofs.BlankLaws.{apart_count, blanks_front}
 use Rattle.xs_lex.proofs.TokenLaws.{longest_found}
+use Rattle.xs_class.proofs.Lists.{some_inj}
 
 apart_rest : (text rest : List ℕ) → IsApart text rest → rest ≡ drop (blank_end false 0 text) text
 apart_rest text rest a =

@@ -1,16 +1,7 @@
 -- The characters that names and the space between tokens are made of.
-use Rattle.std.specs.Prelude.{ℕ, Bool, false, List, [], ◌∷◌, ◌++◌, ◌==◌, ◌&&◌, ◌||◌, not, nat_le}
+use Rattle.std.specs.Prelude.{ℕ, Bool, false, List, [], ◌∷◌, ◌++◌, ◌==◌, ◌&&◌, ◌||◌, not}
 use Rattle.std.specs.List.{list_all}
-use Rattle.xs_class.specs.Tables.{name_start_table, name_more_table}
-
--- the character is in one of the ranges
-abbrev pub in_ranges : ℕ → List (ℕ × ℕ) → Bool
-in_ranges c [] = false
-in_ranges c (r ∷ rs) = (nat_le r.0 c && nat_le c r.1) || in_ranges c rs
-
--- the characters of XML's names
-unfoldable pub is_name_start : ℕ → Bool
-is_name_start c = in_ranges c name_start_table
+use Rattle.xs_class.specs.Tables.{name_start_table, name_more_table, in_ranges, is_name_start}
 
 unfoldable pub is_name_char : ℕ → Bool
 is_name_char c = in_ranges c (name_start_table ++ name_more_table)

@@ -23,6 +23,7 @@ use Rattle.xs_listing.specs.Writing.{AreWritten, IsSource, HasChild}
 use Rattle.xs_listing.specs.Numbered.{IsNumbered, IsSpeltBy, AreSpeltBy}
 use Rattle.xs_listing.proofs.Children.{IsInside, children_inside, left_earlier}
 use Rattle.xs_listing.proofs.Walking.{some_unfolding, order_push, flat_more, places_below}
+use Rattle.xs_class.proofs.Lists.{get_push}
 
 module _ (s : Source) (is : IsSource s) (root : ℕ) (row : IsRoot s.g.now s.doc.now s.forest.now root) where
   there : root < length s.forest.now
@@ -76,12 +77,6 @@ module _ (s : Source) (is : IsSource s) (root : ℕ) (row : IsRoot s.g.now s.doc
 
         written : AreWritten s.doc.now (read s.g.now s.doc.now s.forest.now c.alt.left l.0) parts places
         written = wr l.0 l.1
-
-get_push : {X : Type 0} (xs : List X) (y x : X) (k : ℕ) → slice_get (xs ++ y ∷ []) k ≡ Some x → (slice_get xs k ≡ Some x) ⊎ ((k ≡ length xs) × (y ≡ x))
-get_push [] y x zero e = inr (refl, cc)
-get_push [] y x (suc k) e = cc
-get_push (z ∷ xs) y x zero e = inl e
-get_push (z ∷ xs) y x (suc k) e = elim (get_push xs y x k e) [ inl old ↦ inl old | inr new ↦ inr (ap suc new.0, new.1) ]
 
 spelt_push : (w : List ℕ) (ss : List (List SpeltPart)) (ds : List Derivation) (t : List SpeltPart) (d : Derivation) → AreSpeltOf w ss ds → IsSpeltOf w t d → AreSpeltOf w (ss ++ t ∷ []) (ds ++ d ∷ [])
 spelt_push w [] [] t d h k = (k, tt)

@@ -31,6 +31,7 @@ use Rattle.xs_listing.specs.declared.write.Task.TheVariants.{Visit, Word, Close}
 use Rattle.xs_listing.specs.Spelt.{flat_of, IsInOrder, AreInOrder}
 use Rattle.xs_listing.specs.Writing.{child_task, item_task, last_task, Added, IsWordWritten, IsDone, AreWritten, IsSource, HasChild, CanDo}
 use Rattle.xs_listing.proofs.Children.{IsInside, children_inside, spelt_inside}
+use Rattle.xs_class.proofs.Lists.{get_push}
 
 -- the next task is the last of the list
 pub rev_push : (ts : List Task) (t : Task) → reverse (ts ++ t ∷ []) ≡ t ∷ reverse ts
@@ -110,12 +111,6 @@ item_rule g p d lt = by_rules g.rules p lt
 last_at : {X : Type 0} (xs : List X) (y : X) → slice_get (xs ++ y ∷ []) (length xs) ≡ Some y
 last_at [] y = refl
 last_at (x ∷ xs) y = last_at xs y
-
-get_push : {X : Type 0} (xs : List X) (y x : X) (k : ℕ) → slice_get (xs ++ y ∷ []) k ≡ Some x → (slice_get xs k ≡ Some x) ⊎ ((k ≡ length xs) × (y ≡ x))
-get_push [] y x zero e = inr (refl, cc)
-get_push [] y x (suc k) e = cc
-get_push (z ∷ xs) y x zero e = inl e
-get_push (z ∷ xs) y x (suc k) e = elim (get_push xs y x k e) [ inl old ↦ inl old | inr new ↦ inr (ap suc new.0, new.1) ]
 
 -- one more part, in order
 pub order_push : (w : List ℕ) (parts : List SpeltPart) (part : SpeltPart) → AreInOrder w parts → IsInOrder (length w) (length parts) part → AreInOrder w (parts ++ part ∷ [])

@@ -14,6 +14,7 @@ use Rattle.xs_gram.specs.Derivations.{Parts, done, fixed, leaf, skip, sub, Deriv
 use Rattle.xs_order.specs.declared.leaves.Leaves.{Leaves}
 use Rattle.xs_order.specs.Leaves.{is_good, all_good}
 use Rattle.xs_order.specs.Rules.{nons_of, clause_at, AreClauses, AreMadeFlags}
+use Rattle.xs_class.proofs.Lists.{first_in}
 
 -- the item, if it is no nonterminal, has a word of which W holds
 abbrev pub HasWord : Grammar → (List ℕ → Type 0) → GItem → Type 0
@@ -45,9 +46,6 @@ Agree g W l is = (item : GItem) → Contains is item → IsTrue (is_good l item)
 in_rule : (g : Grammar) (W : List ℕ → Type 0) (l : Leaves) (p : ℕ) → AreGood g W l → Agree g W l (items g p)
 in_rule g W l p good item (k, lt, e) = good p k item (slice_get_read (items g p) (length (items g p)) k item refl lt (sym e))
 
-head_in : {X : Type 0} (x : X) (xs : List X) → Contains (x ∷ xs) x
-head_in x xs = (0, omega arith, refl)
-
 tail_in : {X : Type 0} (x : X) (xs : List X) (y : X) → Contains xs y → Contains (x ∷ xs) y
 tail_in x xs y (k, l, e) = (suc k, omega arith, e)
 
@@ -60,21 +58,21 @@ parts_of g W l [] agree good derived = (done, tt, tt)
 parts_of g W l (Fixed f ∷ is) agree good derived =
     let both = and_parts (is_good l (Fixed f)) (all_good l is) good in
     let rest = parts_of g W l is (tail_agrees g W l (Fixed f) is agree) both.1 derived in
-    (fixed f rest.0, (refl, rest.1), ((agree (Fixed f) (head_in (Fixed f) is)).0 both.0, rest.2))
+    (fixed f rest.0, (refl, rest.1), ((agree (Fixed f) (first_in (Fixed f) is)).0 both.0, rest.2))
 parts_of g W l (Term t s ∷ is) agree good derived =
     let both = and_parts (is_good l (Term t s)) (all_good l is) good in
     let rest = parts_of g W l is (tail_agrees g W l (Term t s) is agree) both.1 derived in
-    let word = (agree (Term t s) (head_in (Term t s) is)).0 both.0 in
+    let word = (agree (Term t s) (first_in (Term t s) is)).0 both.0 in
     (leaf word.0 rest.0, (word.1, rest.1), (word.2, rest.2))
 parts_of g W l (Skip k ∷ is) agree good derived =
     let both = and_parts (is_good l (Skip k)) (all_good l is) good in
     let rest = parts_of g W l is (tail_agrees g W l (Skip k) is agree) both.1 derived in
-    let word = (agree (Skip k) (head_in (Skip k) is)).0 both.0 in
+    let word = (agree (Skip k) (first_in (Skip k) is)).0 both.0 in
     (skip word.0 rest.0, (word.1, rest.1), (word.2, rest.2))
 parts_of g W l (Non n s ∷ is) agree good derived =
     let both = and_parts (is_good l (Non n s)) (all_good l is) good in
     let rest = parts_of g W l is (tail_agrees g W l (Non n s) is agree) both.1 (λ m h. derived m (tail_in n (nons_of is) m h)) in
-    let inner = derived n (head_in n (nons_of is)) in
+    let inner = derived n (first_in n (nons_of is)) in
     (sub inner.0.rule inner.0.parts rest.0, (inner.1.0, inner.1.1, rest.1), (inner.2, rest.2))
 
 -- what is made is derived
@@ -93,13 +91,13 @@ read_parts : (g : Grammar) (W : List ℕ → Type 0) (l : Leaves) (clauses : Lis
 read_parts g W l clauses good are [] done agree fit leaves = (refl, λ m h. absurd (omega (arith, h.1)))
 read_parts g W l clauses good are (Fixed f ∷ is) (fixed u ps) agree fit leaves =
     let rest = read_parts g W l clauses good are is ps (tail_agrees g W l (Fixed f) is agree) fit.1 leaves.1 in
-    (and_from _ _ ((agree (Fixed f) (head_in (Fixed f) is)).1 (subst W fit.0 leaves.0)) rest.0, rest.1)
+    (and_from _ _ ((agree (Fixed f) (first_in (Fixed f) is)).1 (subst W fit.0 leaves.0)) rest.0, rest.1)
 read_parts g W l clauses good are (Term t s ∷ is) (leaf u ps) agree fit leaves =
     let rest = read_parts g W l clauses good are is ps (tail_agrees g W l (Term t s) is agree) fit.1 leaves.1 in
-    (and_from _ _ ((agree (Term t s) (head_in (Term t s) is)).1 (u, fit.0, leaves.0)) rest.0, rest.1)
+    (and_from _ _ ((agree (Term t s) (first_in (Term t s) is)).1 (u, fit.0, leaves.0)) rest.0, rest.1)
 read_parts g W l clauses good are (Skip k ∷ is) (skip u ps) agree fit leaves =
     let rest = read_parts g W l clauses good are is ps (tail_agrees g W l (Skip k) is agree) fit.1 leaves.1 in
-    (and_from _ _ ((agree (Skip k) (head_in (Skip k) is)).1 (u, fit.0, leaves.0)) rest.0, rest.1)
+    (and_from _ _ ((agree (Skip k) (first_in (Skip k) is)).1 (u, fit.0, leaves.0)) rest.0, rest.1)
 read_parts g W l clauses good are (Non n s ∷ is) (sub q qs ps) agree fit leaves =
     let rest = read_parts g W l clauses good are is ps (tail_agrees g W l (Non n s) is agree) fit.2 leaves.1 in
     let inner = read_parts g W l clauses good are (items g q) qs (in_rule g W l q good) fit.1 leaves.0 in

@@ -15,14 +15,7 @@ use Rattle.xs_order.specs.Rules.{AreMadeFlags}
 use Rattle.xs_order.specs.Wanted.{IsWanted, AreWith}
 use Rattle.xs_order.proofs.Deriving.{AllLeaves, flags_are_exact}
 use Rattle.xs_order.proofs.Good.{are_good}
-
-front_empty : (u v : List ℕ) → u ++ v ≡ [] → u ≡ []
-front_empty [] v e = refl
-front_empty (x ∷ u) v e = cc
-
-rest_empty : (u v : List ℕ) → u ++ v ≡ [] → v ≡ []
-rest_empty [] v e = e
-rest_empty (x ∷ u) v e = cc
+use Rattle.xs_class.proofs.Lists.{not_empty, front_empty, rest_empty}
 
 both_empty : (u v : List ℕ) → u ≡ [] → v ≡ [] → u ++ v ≡ []
 both_empty u v e f = rw (e, f) refl
@@ -40,10 +33,6 @@ leaves_empty (fixed u ps) e = (front_empty u (parts_yield ps) e, leaves_empty ps
 leaves_empty (leaf u ps) e = (front_empty u (parts_yield ps) e, leaves_empty ps (rest_empty u (parts_yield ps) e))
 leaves_empty (skip u ps) e = (front_empty u (parts_yield ps) e, leaves_empty ps (rest_empty u (parts_yield ps) e))
 leaves_empty (sub q qs ps) e = (leaves_empty qs (front_empty (parts_yield qs) (parts_yield ps) e), leaves_empty ps (rest_empty (parts_yield qs) (parts_yield ps) e))
-
-not_empty : (v : List ℕ) (s : ℕ) → [] ≡ v ++ s ∷ [] → ⊥
-not_empty [] s e = cc
-not_empty (x ∷ v) s e = cc
 
 no_run : (a : Position) (u : List ℕ) (k : ℕ) → u ≡ [] → Runs a u k → ⊥
 no_run a _ _ e (begins s f c is) = not_empty [] s (sym e ∙ is)

@@ -14,6 +14,7 @@ use Rattle.xs_order.specs.declared.wanted.Wanted.{Wanted}
 use Rattle.xs_order.specs.declared.wanted.Wanted.TheVariants.{EmptyWord, AnyWord}
 use Rattle.xs_order.specs.Wanted.{IsWanted, AreWith, is_any}
 use Rattle.xs_order.proofs.Deriving.{AreGood}
+use Rattle.xs_class.proofs.Lists.{some_length}
 
 -- an automaton of a regex accepts a wanted word exactly where the regex matches one
 pub matches_wanted : {regex : Regex} {a : Position} (wanted : Wanted) (answer : Bool) → IsAutomaton regex a → (IsTrue answer ↔ ((w : List ℕ) × Accepts a w × IsWanted wanted w)) → IsTrue answer ↔ ((w : List ℕ) × Matches regex w × IsWanted wanted w)
@@ -21,10 +22,6 @@ matches_wanted wanted answer automaton known = (
   λ s. let h = known.0 s in (h.0, (automaton.accepts h.0).1 h.1, h.2),
   λ h. known.1 (h.0, (automaton.accepts h.0).0 h.1, h.2),
 )
-
-some_length : (f : List ℕ) → 0 < length f → f ≡ [] → ⊥
-some_length [] lt e = absurd (omega arith)
-some_length (x ∷ f) lt e = cc
 
 fixed_is_good : (wanted : Wanted) (f : List ℕ) (fixed : Bool) → 0 < length f → fixed ≡ is_any wanted → IsTrue fixed ↔ IsWanted wanted f
 fixed_is_good EmptyWord f fixed some is = (λ e. absurd (both_ways fixed is e), λ e. absurd (some_length f some e))

@@ -15,6 +15,7 @@ use Rattle.xs_order.specs.Rules.{nons_of}
 use Rattle.xs_order.proofs.Clauses.{non_there}
 use Rattle.xs_order.proofs.Empty.{nullable_matches}
 use Rattle.xs_order.proofs.Parted.{non_stands}
+use Rattle.xs_class.proofs.Lists.{some_length}
 
 -- all items are nullable
 pub lead_all : (g : Grammar) (flags : List Bool) (is : List GItem) (first : ℕ) (targets : List ℕ) → IsFirstFull g flags is 0 first → length is ≤ first → targets ≡ nons_of is → AreLeading g flags is targets
@@ -64,10 +65,6 @@ lead_one g flags is first second item targets full l other end at e m = (λ h. t
       | inl same ↦ rw e (non_stands (item ∷ []) zero m leading.slot (sym at ∙ ap (λ (k : ℕ). slice_get is k) same ∙ leading.item))
       | inr ne ↦ absurd (both_ways (is_nullable g flags item) (full.stopped item at) (leading.others first item ne at))
     ]
-
-some_length : (f : List ℕ) → 0 < length f → f ≡ [] → ⊥
-some_length [] lt e = absurd (omega arith)
-some_length (x ∷ f) lt e = cc
 
 -- the test of an item of a rule is exact
 nullable_item : (g : Grammar) (flags : List Bool) → IsBuilt g → AreNullable g flags → (p k : ℕ) (item : GItem) → ItemAt g p k item → IsTrue (is_nullable g flags item) ↔ IsNullableItem g item

@@ -13,13 +13,11 @@ use Rattle.xs_clauses.proofs.Complete.{head_is_made, made_least}
 use Rattle.xs_regex.specs.declared.position.Position.{Position}
 use Rattle.xs_regex.specs.Automaton.{Leads, Runs, begins, goes, IsWellFormed}
 use Rattle.xs_order.specs.Runs.{HasSymbol, IsReached, GoesTo, premises_from, step_to, AreSteps, AreAdded}
+use Rattle.xs_class.proofs.Lists.{one_contains}
 
-one_contains : (x y : ℕ) → Contains (x ∷ []) y → x ≡ y
-one_contains x y (zero, l, e) = e
-one_contains x y (suc k, l, e) = absurd (omega arith)
-
-contains_one : (x : ℕ) → Contains (x ∷ []) x
-contains_one x = (0, omega arith, refl)
+only_one : (x y : ℕ) → Contains (x ∷ []) y → x ≡ y
+only_one x y (zero, l, e) = e
+only_one x y (suc k, l, e) = absurd (omega arith)
 
 pub added_none : (a : Position) (from : Option ℕ) (clauses : List Clause) → AreAdded a from [] clauses clauses
 added_none a from clauses = record {
@@ -32,17 +30,17 @@ added_none a from clauses = record {
 pub added_same : (a : Position) (from : Option ℕ) (target : ℕ) (clauses : List Clause) → (HasSymbol a target → ⊥) → AreAdded a from (target ∷ []) clauses clauses
 added_same a from target clauses no_symbol = record {
   kept = λ c h. h;
-  there = λ k h symbol. absurd (no_symbol (subst (HasSymbol a) (sym (one_contains target k h)) symbol));
+  there = λ k h symbol. absurd (no_symbol (subst (HasSymbol a) (sym (only_one target k h)) symbol));
   only = λ c h. inl h;
 }
 
 pub added_one : (a : Position) (from : Option ℕ) (target : ℕ) (clauses : List Clause) (c : Clause) → HasSymbol a target → c ≡ step_to from target → AreAdded a from (target ∷ []) clauses (clauses ++ c ∷ [])
 added_one a from target clauses c symbol is = record {
   kept = λ d h. Contains-append_left clauses (c ∷ []) d h;
-  there = λ k h _. rw (← one_contains target k h, ← is) (Contains-push clauses c);
+  there = λ k h _. rw (← only_one target k h, ← is) (Contains-push clauses c);
   only = λ d h. elim (Contains-push_cases clauses c d h) [
     | inl before ↦ inl before
-    | inr e ↦ inr (record { to = target; among = contains_one target; symbol = symbol; is = sym e ∙ is })
+    | inr e ↦ inr (record { to = target; among = one_contains target; symbol = symbol; is = sym e ∙ is })
   ];
 }
 
@@ -51,7 +49,7 @@ added_more a from targets i target old clauses new l is known one = record {
   kept = λ c h. one.kept c (known.kept c h);
   there = λ k h symbol. elim (Contains-push_cases (take i targets) target k (rw front at h)) [
     | inl before ↦ one.kept (step_to from k) (known.there k before symbol)
-    | inr e ↦ one.there k (rw e (contains_one k)) symbol
+    | inr e ↦ one.there k (rw e (one_contains k)) symbol
   ];
   only = λ c h. elim (one.only c h) [
     | inl before ↦ elim (known.only c before) [
@@ -120,7 +118,7 @@ made_is_reached a clauses steps = made_least clauses (IsReached a) closed
     led : (from : Option ℕ) (to : ℕ) → GoesTo a from to → HasSymbol a to → ((m : ℕ) → Contains (premises_from from) m → IsReached a m) → IsReached a to
     led None to first symbol each = (symbol.0 ∷ [], begins symbol.0 first symbol.1 refl)
     led (Some j) to leads symbol each =
-        let before = each j (contains_one j) in
+        let before = each j (one_contains j) in
         (before.0 ++ symbol.0 ∷ [], goes before.0 j symbol.0 before.1 leads symbol.1 refl)
 
     closed : (c : Clause) → Contains clauses c → ((m : ℕ) → Contains c.premises m → IsReached a m) → IsReached a c.head

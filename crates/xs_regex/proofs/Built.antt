@@ -9,12 +9,13 @@ use Rattle.xs_regex.specs.Automaton.{HasAt, Leads, Runs, begins, goes, Accepts, 
 use Rattle.xs_regex.specs.Matches.{joined, Each, AtMost, Repeats}
 use Rattle.xs_regex.specs.Parts.{bare, of_class, optional, IsThen, IsEither, IsRound, IsTrim, IsAutomaton}
 use Rattle.xs_regex.specs.Size.{times}
-use Rattle.xs_regex.proofs.Rows.{contains_nil, contains_one, one_contains}
+use Rattle.xs_regex.proofs.Rows.{contains_nil, contains_one}
 use Rattle.xs_regex.proofs.Runs.{run_within, members_left, members_right}
 use Rattle.xs_regex.proofs.Sequence.{then_sound, then_complete, then_formed, then_trim}
 use Rattle.xs_regex.proofs.Choice.{either_sound, either_complete, either_formed, either_trim}
 use Rattle.xs_regex.proofs.Repetition.{round_sound, round_complete, round_formed, round_trim, optional_sound, optional_complete, optional_formed, optional_trim, each_weaker}
 use Rattle.xs_regex.proofs.Words.{one_more, fewer, first_word, none_or_first}
+use Rattle.xs_class.proofs.Lists.{one_contains}
 
 -- the same words, classes and condition, stated otherwise
 pub restated : {V W : List ℕ → Type 0} {c d : List (List (ℕ × ℕ))} {S T : Type 0} {p : Position} → ((w : List ℕ) → V w → W w) → ((w : List ℕ) → W w → V w) → c ≡ d → (T → S) → IsAutomaton V c S p → IsAutomaton W d T p

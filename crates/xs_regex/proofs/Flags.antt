@@ -8,8 +8,9 @@ use Rattle.std.specs.Bool.{IsTrue}
 use Rattle.xs_regex.specs.declared.position.Position.{Position}
 use Rattle.xs_regex.specs.Automaton.{HasAt, Runs, begins, goes, Accepts}
 use Rattle.xs_regex.specs.Marked.{Marked, MayCome, AreEntered, AreNext, IsReached}
-use Rattle.xs_regex.proofs.Rows.{contains_one, one_contains}
+use Rattle.xs_regex.proofs.Rows.{contains_one}
 use Rattle.xs_regex.proofs.Runs.{run_not_empty}
+use Rattle.xs_class.proofs.Lists.{one_contains}
 
 -- one flag more
 marked_now : (flags : List Bool) (x k : ℕ) → x < length flags → Marked (set flags x true) k → Marked flags k ⊎ (k ≡ x)

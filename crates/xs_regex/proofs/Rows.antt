@@ -51,9 +51,6 @@ contains_nil k c = among [] k c
 pub contains_one : (x k : ℕ) → Contains (x ∷ []) k → k ≡ x
 contains_one x k c = elim (among (x ∷ []) k c) [ inl e ↦ sym e | inr a ↦ absurd a ]
 
-pub one_contains : (x : ℕ) → Contains (x ∷ []) x
-one_contains x = (0, omega arith, refl)
-
 -- shifted numbers
 pub shift_contains : (n : ℕ) (ks : List ℕ) (k : ℕ) → Contains ks k → Contains (shift n ks) (n + k)
 shift_contains n ks k c = contained _ _ (moved ks k (among ks k c))

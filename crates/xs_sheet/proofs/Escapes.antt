@@ -9,9 +9,9 @@ use lib.Utf8.{scalar, low_scalar}
 use Rattle.xs_lex.specs.Reading.{line_ends}
 use Rattle.xs_lex.specs.Units.{QuotedUnit, plain, coded, number, is_hex, is_scalar, is_quoted_unit, spelt_quoted_unit, spelt_quoted, meaning}
 use Rattle.xs_lex.specs.Spelling.{IsQuoted}
-use Rattle.xs_lex.proofs.Truth.{and_true, both_true}
 use Rattle.xs_sheet.specs.Layout.{hex_digits, escape_sign, is_control, unit_of, quoted}
 use Rattle.xs_sheet.proofs.Strings.{control_low}
+use Rattle.xs_class.proofs.Truth.{and_true, both_true}
 
 lt_true : (a b : ℕ) → a < b → nat_lt a b ≡ true
 lt_true a b h = grind (arith, nat_tests)

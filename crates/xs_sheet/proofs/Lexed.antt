@@ -6,18 +6,20 @@ use Rattle.std.specs.Str.{all_scalars}
 use Rattle.std.proofs.lemmas.Str.{encodes-append, encode_ascii}
 use Rattle.xs_lex.specs.declared.kind.Kind.{Kind}
 use Rattle.xs_lex.specs.declared.kind.Kind.TheVariants.{Plain, Qual, Quoted, Pattern, Colon, Equals, SquareIn, SquareOut, Angle, AngleSlash, AngleEnd, SlashEnd, End, Bad}
-use Rattle.xs_lex.specs.Classes.{is_white, is_name_start, is_plain_start, is_plain_char, is_plain}
+use Rattle.xs_lex.specs.Classes.{is_white, is_plain_start, is_plain_char, is_plain}
 use Rattle.xs_lex.specs.Between.{IsApart, white, begins_blank}
 use Rattle.xs_lex.specs.Units.{PatternUnit, bare, guarded, is_pattern_unit, spelt_pattern}
 use Rattle.xs_lex.specs.Spelling.{IsQual, IsPattern, Spells}
 use Rattle.xs_lex.specs.Scan.{token_at}
 use Rattle.xs_lex.specs.Reading.{NoToken, Lexeme, Extent, AreTokensFrom, size_of, line_ends}
-use Rattle.xs_lex.proofs.Truth.{and_true, both_true, not_true, no_other, white_ends, plain_start_in, line_end_white}
+use Rattle.xs_lex.proofs.Truth.{white_ends, plain_start_in, line_end_white}
 use Rattle.xs_lex.proofs.TokenLaws.{nothing_is, separated}
 use Rattle.xs_regex.specs.declared.regex.Regex.{Regex}
 use Rattle.xs_sheet.specs.Regular.{IsRegex}
 use Rattle.xs_sheet.specs.Layout.{Written, as_is, in_quotes, in_slashes, sign, spelling, spaced, lines_text}
 use Rattle.xs_sheet.proofs.Escapes.{line_ends-append, scalars-append, quoted_is, quoted_one_line, quoted_scalars}
+use Rattle.xs_class.proofs.Truth.{and_true, both_true, not_true, no_other}
+use Rattle.xs_class.specs.Tables.{is_name_start}
 
 abbrev pub kind_if : Bool → Kind
 kind_if true = Plain

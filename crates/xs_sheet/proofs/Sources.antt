@@ -11,13 +11,13 @@ use Rattle.xs_lex.specs.Between.{IsApart}
 use Rattle.xs_lex.specs.Units.{QuotedUnit, plain, escaped, coded, number, is_hex, is_escape, escape_char, is_quoted_unit, spelt_quoted, meaning}
 use Rattle.xs_lex.specs.Spelling.{IsQual, IsQuoted, IsPattern, Spells}
 use Rattle.xs_lex.specs.Reading.{IsTokenAt, Lexeme, Extent, IsLast, AreTokensFrom, is_nothing}
-use Rattle.xs_lex.proofs.Truth.{and_true, both_true}
 use Rattle.xs_lex.proofs.BlankLaws.{blanks_front}
 use Rattle.xs_regex.specs.declared.regex.Regex.{Regex}
 use Rattle.xs_sheet.specs.declared.piece.Piece.{Piece}
 use Rattle.xs_sheet.specs.Regular.{IsRegex}
 use Rattle.xs_sheet.specs.Pieces.{IsTextOf, IsPiece, ArePieces}
 use Rattle.xs_sheet.proofs.Lexed.{slashed}
+use Rattle.xs_class.proofs.Truth.{and_true, both_true}
 
 pub scalars_parts : (u v : List ℕ) → all_scalars (u ++ v) ≡ true → (all_scalars u ≡ true) × (all_scalars v ≡ true)
 scalars_parts [] v is = (refl, is)

@@ -49,9 +49,6 @@ items_end g at is i count whole le small so_far =
     let none : length (spelling g (drop i is) at) ≡ 0 = ap (λ l. length (spelling g l at)) (drop_all i is le) in
     omega arith
 
-pub capped_small : (n next : ℕ) → next ≡ capped n → capped next ≡ next
-capped_small n next is = omega arith
-
 -- a leaf prints its word
 pub leaf_counted : (g : Grammar) (trees : List Common) (o : Option TreePart) (found : TreePart) (w : List ℕ) → Some w ≡ word_of o → o ≡ Some found → print g (tree_of trees found) ≡ w
 leaf_counted g trees o (Leaf u) w is found =

@@ -1,4 +1,4 @@
 pub mod Trees
-mod Counting
+pub mod Counting
 mod Shapes
 mod Numbering

@@ -1,5 +1,5 @@
 -- What the test of a hashed table says of its shapes as parts.
-use Rattle.std.proofs.Common.{◌≡◌, inl, inr, ℕ, zero, suc, ◌<◌, Bool, true, false, ◌&&◌, eqb, if◌then◌else◌, List, [], ◌∷◌, ◌++◌, map, get_or, slice_get, Some, refl, sym, ◌∙◌, ap, true≢false, arith}
+use Rattle.std.proofs.Common.{◌≡◌, inl, inr, ℕ, zero, suc, ◌<◌, Bool, true, false, eqb, if◌then◌else◌, List, [], ◌∷◌, ◌++◌, map, get_or, slice_get, Some, refl, sym, ◌∙◌, ap, true≢false, arith}
 use Rattle.std.specs.Bool.{Decides}
 use Rattle.std.specs.Cmp.Lexicographic.{pointwise}
 use Rattle.std.specs.List.{IsDistinct, list_any}
@@ -16,6 +16,7 @@ use Rattle.xs_tree.specs.declared.table.Shape.TheVariants.{Word, Made}
 use Rattle.xs_tree.specs.contracts.table.ShapePartialEq.TheImpl as block
 use Rattle.xs_class.specs.contracts.sym.SymPartialEq.TheImpl as symbol
 use Rattle.xs_tree.specs.Tables.{AreDifferent, IsGrown, part_of}
+use Rattle.xs_class.proofs.Truth.{and_true, both_true}
 
 abbrev pub eq : Shape → Shape → Bool
 eq = block.ghosts.eq
@@ -44,20 +45,13 @@ node_rule p q ks ls h = cc
 node_kids : (p q : ℕ) (ks ls : List ℕ) → Node p ks ≡ Node q ls → ks ≡ ls
 node_kids p q ks ls h = cc
 
-and_parts : (a b : Bool) → (a && b) ≡ true → (a ≡ true) × (b ≡ true)
-and_parts true b h = (refl, h)
-and_parts false b h = absurd (true≢false (sym h))
-
-and_both : (a b : Bool) → a ≡ true → b ≡ true → (a && b) ≡ true
-and_both a b is js = rw (is, js) refl
-
 -- the test passes exactly where the parts are equal
 pub same_shape : (x y : Shape) → eq x y ≡ true → part_of x ≡ part_of y
 same_shape (Word v) (Word w) h = ap Leaf ((words_decide v.items w.items).0 h)
 same_shape (Word v) (Made p ks) h = absurd (true≢false (sym h))
 same_shape (Made p ks) (Word w) h = absurd (true≢false (sym h))
 same_shape (Made p ks) (Made q ls) h =
-    let both = and_parts (eqb p q) (pointwise eqb ks.items ls.items) h in
+    let both = and_true (eqb p q) (pointwise eqb ks.items ls.items) h in
     ap (λ r. Node r ks.items) ((Decides-eqb p q).0 both.0) ∙ ap (Node q) ((places_decide ks.items ls.items).0 both.1)
 
 pub shape_same : (x y : Shape) → part_of x ≡ part_of y → eq x y ≡ true
@@ -65,7 +59,7 @@ shape_same (Word v) (Word w) h = (words_decide v.items w.items).1 (leaf_same v.i
 shape_same (Word v) (Made p ks) h = absurd (leaf_node v.items ks.items p h)
 shape_same (Made p ks) (Word w) h = absurd (leaf_node w.items ks.items p (sym h))
 shape_same (Made p ks) (Made q ls) h =
-    and_both (eqb p q) (pointwise eqb ks.items ls.items) ((Decides-eqb p q).1 (node_rule p q ks.items ls.items h)) ((places_decide ks.items ls.items).1 (node_kids p q ks.items ls.items h))
+    both_true (eqb p q) (pointwise eqb ks.items ls.items) ((Decides-eqb p q).1 (node_rule p q ks.items ls.items h)) ((places_decide ks.items ls.items).1 (node_kids p q ks.items ls.items h))
 
 -- what is inserted stands last, or was there
 pub grown_shapes : (old new : List Shape) (shape : Shape) → new ≡ (if list_any (eq shape) old then old else old ++ shape ∷ []) → IsGrown (map part_of old) (part_of shape) (map part_of new)

@@ -1,5 +1,5 @@
 -- The trees of a list of parts, one for each part, and how they grow with it.
-use Rattle.std.proofs.Common.{◌≡◌, ◌⊎◌, inl, inr, ℕ, zero, suc, ◌+◌, ◌<◌, List, [], ◌∷◌, ◌++◌, length, All, get_or, slice_get, Some, refl, sym, ◌∙◌, ap, subst, length-append, add-one, take, arith}
+use Rattle.std.proofs.Common.{◌≡◌, inl, inr, ℕ, zero, suc, ◌+◌, ◌<◌, List, [], ◌∷◌, ◌++◌, length, All, get_or, slice_get, Some, refl, sym, ◌∙◌, ap, subst, length-append, add-one, take, arith}
 use Rattle.std.proofs.lemmas.List.{get_or_append_left}
 use Rattle.std.proofs.lemmas.List.Elements.{All-head, All-tail}
 use Rattle.std.proofs.lemmas.Option.{none-some, same_Some, slice_get_read}
@@ -8,6 +8,7 @@ use Rattle.xs_tree.specs.declared.part.TreePart.{TreePart}
 use Rattle.xs_tree.specs.declared.part.TreePart.TheVariants.{Leaf, Node}
 use Rattle.xs_gram.specs.Common.{Common, word, made, kid}
 use Rattle.xs_tree.specs.Flat.{IsAfter, AreRising, kids_at, tree_at, tree_of, trees_after, trees_of}
+use Rattle.xs_class.proofs.Lists.{get_push}
 
 -- a part more is a tree more
 pub trees_after_push : (trees : List Common) (parts : List TreePart) (part : TreePart) → trees_after trees (parts ++ part ∷ []) ≡ trees_after trees parts ++ tree_of (trees_after trees parts) part ∷ []
@@ -17,17 +18,10 @@ trees_after_push trees (p ∷ parts) part = trees_after_push (trees ++ tree_of t
 pub trees_push : (parts : List TreePart) (part : TreePart) → trees_of (parts ++ part ∷ []) ≡ trees_of parts ++ tree_of (trees_of parts) part ∷ []
 trees_push parts part = trees_after_push [] parts part
 
-slice_get_push : {X : Type 0} (xs : List X) (y x : X) (at : ℕ) → slice_get (xs ++ y ∷ []) at ≡ Some x → (slice_get xs at ≡ Some x) ⊎ ((at ≡ length xs) × (y ≡ x))
-slice_get_push [] y x zero is = inr (refl, same_Some y x is)
-slice_get_push [] y x (suc at) is = absurd (none-some x is)
-slice_get_push (z ∷ xs) y x zero is = inl is
-slice_get_push (z ∷ xs) y x (suc at) is =
-    elim (slice_get_push xs y x at is) [ inl before ↦ inl before | inr last ↦ inr (ap suc last.0, last.1) ]
-
 -- a last part that stands after its children keeps the order
 pub rising_push : (parts : List TreePart) (part : TreePart) → AreRising parts → IsAfter part (length parts) → AreRising (parts ++ part ∷ [])
 rising_push parts part rising after i other is =
-    elim (slice_get_push parts part other i is) [
+    elim (get_push parts part other i is) [
       | inl before ↦ rising i other before
       | inr last ↦ subst (λ n. IsAfter other n) (sym last.0) (subst (λ p. IsAfter p (length parts)) last.1 after)
     ]

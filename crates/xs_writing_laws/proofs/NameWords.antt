@@ -10,13 +10,13 @@ use Rattle.xs_lex.specs.Classes as L
 use Rattle.xs_lex.specs.Classes.{is_plain}
 use Rattle.xs_lex.specs.Spelling.{IsQual, Spells}
 use Rattle.xs_lex.specs.Reading.{Lexeme, Extent, AreTokens, AreTokensFrom}
-use Rattle.xs_lex.proofs.Truth.{in_is}
 use Rattle.xs_gram.specs.Building.{EachOf}
 use Rattle.xs_sheet.specs.declared.piece.Piece.{Piece}
 use Rattle.xs_sheet.specs.Pieces.{IsPiece, IsTextOf, ArePieces}
 use Rattle.xs_xml.specs.Tables as P
 use Rattle.xs_xml.specs.Piece.{is_name, all_of}
 use Rattle.xs_writing_laws.proofs.Characters.{and_true, both_true, or_left, or_right, has_tested}
+use Rattle.xs_class.proofs.TableLaws.{in_is}
 
 start_has : (c : ℕ) → L.is_plain_start c ≡ true → Has name_start_table c
 unfolding L.is_plain_start L.is_name_start

@@ -1,11 +1,13 @@
 -- There is one way to cut a document into pieces, so the pieces read one after the other are the most there are.
-use Rattle.std.proofs.Common.{◌≡◌, ◌⊎◌, inl, inr, ⊎_elim, ℕ, ◌≤◌, List, [], ◌∷◌, ◌++◌, length, length-append, append-nil, Some, true, refl, sym, ◌∙◌, ap, subst, arith}
+use Rattle.std.proofs.Common.{◌≡◌, ◌⊎◌, inl, inr, ⊎_elim, ℕ, List, [], ◌∷◌, ◌++◌, append-nil, Some, true, refl, sym, ◌∙◌, ap, subst}
 use Rattle.xs_xml.specs.Piece.{Piece, declaration, character, line_end, reference, start_tag, empty_tag, end_tag, comment, instruction, cdata, spelt, is_piece}
 use Rattle.xs_xml.specs.Legal.{spelt_all, are_pieces, Spot, ahead, beyond, is_alone, are_alone, IsLegal}
 use Rattle.xs_xml.specs.Reads.{Reads, all_symbols}
 use Rattle.xs_xml.specs.Scan.{piece_at}
-use Rattle.xs_xml.proofs.Reading.{and_true, char_read_end, char_read_more, line_end_read, reference_read, end_read, comment_read, instruction_read, cdata_read}
+use Rattle.xs_xml.proofs.Reading.{char_read_end, char_read_more, line_end_read, reference_read, end_read, comment_read, instruction_read, cdata_read}
 use Rattle.xs_xml.proofs.Tags.{start_read, empty_read, declaration_read}
+use Rattle.xs_class.proofs.Truth.{and_true}
+use Rattle.xs_class.proofs.Lists.{some_inj}
 
 pub spelt_is_read : (p : Piece) (rest : List ℕ) → is_piece p ≡ true → is_alone p rest ≡ true → piece_at (spelt p rest) ≡ Some (p, rest)
 spelt_is_read (declaration bs gap) rest is alone = declaration_read bs gap rest is
@@ -19,9 +21,6 @@ spelt_is_read (end_tag n gap) rest is alone = end_read n gap rest is
 spelt_is_read (comment body) rest is alone = comment_read body rest is
 spelt_is_read (instruction n body) rest is alone = instruction_read n body rest is
 spelt_is_read (cdata body) rest is alone = cdata_read body rest is
-
-pub some_inj : {A : Type 0} (x y : A) → Some x ≡ Some y → x ≡ y
-some_inj x y h = cc
 
 pair_parts : (x y : Piece × List ℕ) → x ≡ y → (x.0 ≡ y.0) × (x.1 ≡ y.1)
 pair_parts x y e = (ap (λ (z : Piece × List ℕ). z.0) e, ap (λ (z : Piece × List ℕ). z.1) e)
@@ -55,10 +54,6 @@ one_cut (p ∷ ps) (q ∷ qs) u v is_p is_q alone_p alone_q same =
     let d = and_true (is_alone q (spelt_all qs v)) (are_alone qs v) alone_q in
     let e = one_piece p q (spelt_all ps u) (spelt_all qs v) a.0 b.0 c.0 d.0 same in
     ⊎_elim (λ on. inl (one_more p q ps qs u v e.0 on)) (λ on. inr (one_more q p qs ps v u (sym e.0) on)) (one_cut ps qs u v a.1 b.1 c.1 d.1 e.1)
-
--- a piece is at least one character
-pub after_long : (xs ys : List ℕ) → length ys ≤ length (xs ++ ys)
-after_long xs ys = omega (arith, length-append xs ys)
 
 none_is_read : (found : Piece × List ℕ) → piece_at [] ≡ Some found → ⊥
 unfolding piece_at

@@ -4,9 +4,10 @@ use Rattle.std.specs.declared.option.Option.{Option}
 use Rattle.xs_xml.specs.Piece.{Piece, Attribute, declaration, character, line_end, reference, start_tag, empty_tag, end_tag, comment, instruction, cdata, spelt, spelt_attributes, is_piece}
 use Rattle.xs_xml.specs.Legal.{spelt_all, are_pieces, no_declaration, is_first, Spot, ahead, then_passed, all_passed, is_that, no_section_end, is_alone, are_alone, IsLegal}
 use Rattle.xs_xml.specs.Reads.{IsBrokenAt}
-use Rattle.xs_xml.proofs.Reading.{and_true, both_true}
 use Rattle.xs_xml.proofs.Tags.{attr_long}
-use Rattle.xs_xml.proofs.Cutting.{after_long, one_cut}
+use Rattle.xs_xml.proofs.Cutting.{one_cut}
+use Rattle.xs_class.proofs.Truth.{and_true, both_true}
+use Rattle.xs_class.proofs.Lists.{after_long}
 
 attrs_long : (bs : List Attribute) (rest : List ℕ) → length rest ≤ length (spelt_attributes bs rest)
 attrs_long [] rest = omega arith
@@ -54,7 +55,7 @@ first_front : (ps qs : List Piece) → is_first (ps ++ qs) ≡ true → is_first
 first_front [] qs is = refl
 first_front (p ∷ ps) qs is = declaration_front ps qs is
 
-none_passed : (qs : List Piece) → all_passed None qs ≡ None
+pub none_passed : (qs : List Piece) → all_passed None qs ≡ None
 none_passed [] = refl
 none_passed (q ∷ qs) = none_passed qs
 

@@ -3,8 +3,8 @@ use Rattle.std.proofs.Common.{◌≡◌, ℕ, List, [], ◌∷◌, ◌++◌, Som
 use Rattle.std.specs.declared.option.Option.{Option}
 use Rattle.xs_xml.specs.Piece.{Piece, spelt, is_piece}
 use Rattle.xs_xml.specs.Legal.{spelt_all, are_pieces, is_first, no_section_end, Spot, ahead, passed, then_passed, all_passed, is_alone, are_alone, IsLegal, BeginsWith}
-use Rattle.xs_xml.proofs.Reading.{and_true, both_true}
 use Rattle.xs_xml.proofs.Greatest.{spelt_append}
+use Rattle.xs_class.proofs.Truth.{and_true, both_true}
 
 pub pieces_append : (ps qs : List Piece) → are_pieces ps ≡ true → are_pieces qs ≡ true → are_pieces (ps ++ qs) ≡ true
 pieces_append [] qs p q = q

@@ -1,34 +1,12 @@
 -- What is spelt is read, and what is read is spelt.
 use Rattle.std.proofs.Common.{◌≡◌, ◌⊎◌, inl, inr, ℕ, map, List, [], ◌∷◌, ◌++◌, Some, None, true, false, Bool, not, ◌&&◌, ◌||◌, if◌then◌else◌, ◌==◌, codes, refl, ap, subst, arith, eqb-true, is_some}
 use Rattle.std.proofs.lemmas.Bool.Decides.{nat_tests}
-use Rattle.xs_xml.specs.Tables.{is_char, is_name_start, is_name_char, is_white, is_digit, is_hex}
+use Rattle.xs_xml.specs.Tables.{is_char, is_name_char, is_white, is_digit, is_hex}
 use Rattle.xs_xml.specs.Piece.{lower, when, number, numbered, named, character, line_end, reference, end_tag, comment, instruction, cdata, spelt, is_piece, is_name, all_of, starts, holds, same, ends_not, ref_char, is_apart}
 use Rattle.xs_xml.specs.Legal.{is_alone}
 use Rattle.xs_xml.specs.Scan.{span, cut, piece_at}
-
--- tests
-pub and_true : (a b : Bool) → (a && b) ≡ true → (a ≡ true) × (b ≡ true)
-and_true true b is = (refl, is)
-and_true false b is = absurd (cc)
-
-pub or_false : (a b : Bool) → (a || b) ≡ false → (a ≡ false) × (b ≡ false)
-or_false true b is = absurd (cc)
-or_false false b is = (refl, is)
-
-pub not_true : (a : Bool) → not a ≡ true → a ≡ false
-not_true true is = absurd (cc)
-not_true false is = refl
-
-pub and_no : (a : Bool) → (a && false) ≡ false
-and_no true = refl
-and_no false = refl
-
-pub no_other : (f : ℕ → Bool) (c d : ℕ) → f c ≡ true → f d ≡ false → (c == d) ≡ false
-no_other f c d is_so is_not = by (c == d) refl
-  where
-    by : (t : Bool) → (c == d) ≡ t → t ≡ false
-    by true e = let same : c ≡ d = eqb-true c d e in let g : f c ≡ f d = ap f same in absurd (cc)
-    by false e = refl
+use Rattle.xs_class.proofs.Truth.{and_true, both_true, not_true, and_no, or_false}
+use Rattle.xs_class.specs.Tables.{is_name_start}
 
 -- spans
 abbrev pub stops : (ℕ → Bool) → List ℕ → Bool
@@ -84,7 +62,7 @@ pub cut_semicolon : (body rest : List ℕ) → all_of (λ c. not (59 == c)) body
 cut_semicolon [] rest none = refl
 cut_semicolon (b ∷ bs) rest none = let p = and_true (not (59 == b)) (all_of (λ c. not (59 == c)) bs) none in cut_next (codes ";") b bs (bs ++ 59 ∷ rest) rest (rw (not_true (59 == b) p.0) refl) (cut_semicolon bs rest p.1)
 
-same_next : (p c : ℕ) (ps cs : List ℕ) → (p == c) ≡ true → ps ≡ cs → (p ∷ ps) ≡ c ∷ cs
+pub same_next : (p c : ℕ) (ps cs : List ℕ) → (p == c) ≡ true → ps ≡ cs → (p ∷ ps) ≡ c ∷ cs
 same_next p c ps cs here tail = let e : p ≡ c = eqb-true p c here in cc
 
 pub same_is : (xs ys : List ℕ) → same xs ys ≡ true → xs ≡ ys
@@ -99,9 +77,6 @@ is_not_semicolon f c out is_so = by (59 == c) refl
     by : (t : Bool) → (59 == c) ≡ t → not t ≡ true
     by true e = let q : 59 ≡ c = eqb-true 59 c e in let g : f 59 ≡ f c = ap f q in absurd (cc)
     by false e = refl
-
-pub both_true : (a b : Bool) → a ≡ true → b ≡ true → (a && b) ≡ true
-both_true a b x y = rw (x, y) refl
 
 plain_all : (f : ℕ → Bool) (cs : List ℕ) → f 59 ≡ false → all_of f cs ≡ true → all_of (λ c. not (59 == c)) cs ≡ true
 plain_all f [] out all = refl

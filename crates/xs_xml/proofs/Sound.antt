@@ -6,8 +6,8 @@ use Rattle.xs_xml.specs.Tables.{is_name_char, is_white}
 use Rattle.xs_xml.specs.Piece.{Piece, character, line_end, reference, end_tag, comment, cdata, spelt, is_piece, starts}
 use Rattle.xs_xml.specs.Legal.{is_alone}
 use Rattle.xs_xml.specs.Scan.{span, after, joined, cut, Found, ◌>>=◌, kept, kept_if, char_at, as_reference, reference_at, as_end, end_at, as_cdata, in_cdata, as_comment, comment_end, in_comment}
-use Rattle.xs_xml.proofs.Reading.{and_true}
-use Rattle.xs_xml.proofs.Cutting.{some_inj}
+use Rattle.xs_class.proofs.Truth.{and_true}
+use Rattle.xs_class.proofs.Lists.{some_inj}
 
 pub record IsRead (d : List ℕ) (r : Piece × List ℕ) : Type 0 where
   pub spells : d ≡ spelt r.0 r.1

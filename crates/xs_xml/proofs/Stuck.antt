@@ -3,7 +3,6 @@ use Rattle.std.proofs.Common.{◌≡◌, ℕ, List, [], ◌∷◌, ◌++◌, Som
 use Rattle.xs_xml.specs.Piece.{Piece, spelt, is_piece}
 use Rattle.xs_xml.specs.Legal.{spelt_all, are_pieces, Spot, is_alone, are_alone, IsLegal}
 use Rattle.xs_xml.specs.Scan.{piece_at}
-use Rattle.xs_xml.proofs.Reading.{and_true}
 use Rattle.xs_xml.specs.Legal.{all_passed, ahead, beyond}
 use Rattle.xs_xml.specs.Reads.{Reads}
 use Rattle.std.proofs.Common.{◌≤◌, length, arith}
@@ -11,6 +10,7 @@ use Rattle.xs_xml.proofs.Cutting.{one_list}
 use Rattle.xs_xml.proofs.Greatest.{rest_least}
 use Rattle.xs_xml.proofs.Cutting.{one_piece, spelt_is_read, are_pieces_back, are_alone_back}
 use Rattle.xs_xml.proofs.Greatest.{IsStuck, spelt_append, alone_front}
+use Rattle.xs_class.proofs.Truth.{and_true}
 
 same_rest : (ps : List Piece) (u v : List ℕ) → are_pieces ps ≡ true → are_alone ps u ≡ true → are_alone ps v ≡ true → spelt_all ps u ≡ spelt_all ps v → u ≡ v
 same_rest [] u v is a b e = e

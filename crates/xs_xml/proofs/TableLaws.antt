@@ -1,31 +1,15 @@
 -- A test on a table says what the table has.
-use Rattle.std.proofs.Common.{◌≡◌, ◌⊎◌, inl, inr, ℕ, ◌≤◌, List, [], ◌∷◌, ◌++◌, Bool, true, false, ◌&&◌, ◌||◌, nat_le, refl, ◌∙◌, ap, arith}
+use Rattle.std.proofs.Common.{◌≡◌, ℕ, ◌≤◌, List, [], ◌∷◌, ◌++◌, Bool, true, false, ◌&&◌, ◌||◌, nat_le, refl, ◌∙◌, ap, arith}
 use Rattle.std.specs.Prelude.{◌↔◌, IsTrue}
 use Rattle.std.specs.Bool.{one_answer}
 use Rattle.std.proofs.lemmas.Bool.Decides.{nat_tests}
 use Rattle.xs_class.specs.Classes.{Has}
-use Rattle.xs_class.specs.Tables.{char_table, name_start_table, name_more_table, IsChar, IsNameStart, IsNameChar}
-use Rattle.xs_xml.specs.Tables.{in_ranges, is_char, is_name_start, is_name_char}
+use Rattle.xs_class.specs.Tables.{char_table, name_start_table, name_more_table, IsChar, IsNameStart, IsNameChar, in_ranges, is_name_start}
+use Rattle.xs_xml.specs.Tables.{is_char, is_name_char}
+use Rattle.xs_class.proofs.TableLaws.{in_is, is_in}
 
 between : (a b c : ℕ) → (nat_le a c && nat_le c b) ≡ true → (a ≤ c) × (c ≤ b)
 between a b c is = (grind (arith, nat_tests, is), grind (arith, nat_tests, is))
-
-in_range : (c : ℕ) (rs : List (ℕ × ℕ)) → in_ranges c rs ≡ true → Has rs c
-in_range c [] is = absurd (cc)
-in_range c (r ∷ rs) is = by (nat_le r.0 c && nat_le c r.1) refl (λ h. in_range c rs h) is
-  where
-    by : (t : Bool) → (nat_le r.0 c && nat_le c r.1) ≡ t → (in_ranges c rs ≡ true → Has rs c) → (t || in_ranges c rs) ≡ true → ((r.0 ≤ c) × (c ≤ r.1)) ⊎ Has rs c
-    by true e again h = inl (between r.0 r.1 c e)
-    by false e again h = inr (again h)
-
-has_range : (c : ℕ) (rs : List (ℕ × ℕ)) → Has rs c → in_ranges c rs ≡ true
-has_range c [] is = absurd is
-has_range c (r ∷ rs) (inl p) = let e : (nat_le r.0 c && nat_le c r.1) ≡ true = grind (arith, nat_tests, p.0, p.1) in rw e refl
-has_range c (r ∷ rs) (inr h) = rw (has_range c rs h) (or_yes (nat_le r.0 c && nat_le c r.1))
-  where
-    or_yes : (x : Bool) → (x || true) ≡ true
-    or_yes true = refl
-    or_yes false = refl
 
 ranges_append : (c : ℕ) (rs ss : List (ℕ × ℕ)) → in_ranges c (rs ++ ss) ≡ (in_ranges c rs || in_ranges c ss)
 ranges_append c [] ss = refl
@@ -36,7 +20,7 @@ ranges_append c (r ∷ rs) ss = ap (λ (x : Bool). (nat_le r.0 c && nat_le c r.1
     or_assoc false y z = refl
 
 same_answer : (t : Bool) (c : ℕ) (rs : List (ℕ × ℕ)) → IsTrue t ↔ Has rs c → t ≡ in_ranges c rs
-same_answer t c rs is = one_answer t (in_ranges c rs) (is.0, is.1) (in_range c rs, has_range c rs)
+same_answer t c rs is = one_answer t (in_ranges c rs) (is.0, is.1) (in_is c rs, is_in c rs)
 
 -- the tests of the tables, where an answer says what the table has
 pub char_is : (t : Bool) (c : ℕ) → IsTrue t ↔ IsChar c → t ≡ is_char c

@@ -1,18 +1,10 @@
 -- The classes of characters of XML 1.0, fifth edition, as tests on the tables of their ranges, whose ends belong to them.
-use Rattle.std.specs.Prelude.{ℕ, List, [], ◌∷◌, ◌==◌, ◌&&◌, ◌||◌, nat_le, Bool, false}
-use Rattle.xs_class.specs.Tables.{char_table, name_start_table, name_more_table}
-
-abbrev pub in_ranges : ℕ → List (ℕ × ℕ) → Bool
-in_ranges c [] = false
-in_ranges c (r ∷ rs) = (nat_le r.0 c && nat_le c r.1) || in_ranges c rs
+use Rattle.std.specs.Prelude.{ℕ, [], ◌∷◌, ◌==◌, ◌||◌, Bool}
+use Rattle.xs_class.specs.Tables.{char_table, name_more_table, in_ranges, is_name_start}
 
 -- Char (section 2.2)
 unfoldable pub is_char : ℕ → Bool
 is_char c = in_ranges c char_table
-
--- NameStartChar (section 2.3)
-unfoldable pub is_name_start : ℕ → Bool
-is_name_start c = in_ranges c name_start_table
 
 -- NameChar (section 2.3)
 unfoldable pub is_name_char : ℕ → Bool

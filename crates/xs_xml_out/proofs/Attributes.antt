@@ -11,10 +11,10 @@ use Rattle.xs_xml_out.specs.declared.mode.Mode.TheVariants.{Tag, Value}
 use Rattle.xs_xml_out.specs.Balanced.{Attribute, attributes_word, AreAttributes, IsAscending}
 use Rattle.xs_xml_out.specs.Written.{name_at, written}
 use Rattle.xs_xml_out.specs.Laws.{AreNames}
-use Rattle.xs_xml_out.proofs.Tests.{both_true}
 use Rattle.xs_xml_out.proofs.SymbolKinds.{symbol_kind-attribute_mark}
 use Rattle.xs_xml_out.proofs.Places.{name_before, names_apart, place_of-name_at}
 use Rattle.xs_xml_out.proofs.Values.{bits, are_bits-bits, value-bits, written-value}
+use Rattle.xs_class.proofs.Truth.{both_true}
 
 -- one space before the name, and double quotes
 abbrev pub tag_attribute : List ℕ → List ℕ → TagAttribute

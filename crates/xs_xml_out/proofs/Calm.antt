@@ -1,13 +1,9 @@
 -- Calm pieces that nest are a legal list.
 use Rattle.std.proofs.Common.{◌≡◌, ℕ, List, [], ◌∷◌, ◌++◌, Some, true, false, Bool, not, ◌&&◌, ◌==◌, refl}
-use Rattle.xs_xml.specs.Piece.{Piece, declaration, character, line_end, reference, start_tag, empty_tag, end_tag, comment, instruction, cdata, is_piece}
+use Rattle.xs_xml.specs.Piece.{Piece, declaration, character, line_end, reference, start_tag, empty_tag, end_tag, comment, instruction, cdata}
 use Rattle.xs_xml.specs.Legal.{spelt_all, are_pieces, no_declaration, is_first, Spot, ahead, all_passed, is_that, no_section_end, is_alone, are_alone, IsLegal}
-use Rattle.xs_xml_out.proofs.Tests.{and_true, both_true, not_true, and_no}
 use Rattle.xs_xml_out.proofs.Content.{is_calm, are_calm}
-
-pub are_pieces-append : (ps qs : List Piece) → are_pieces ps ≡ true → are_pieces qs ≡ true → are_pieces (ps ++ qs) ≡ true
-are_pieces-append [] qs p q = q
-are_pieces-append (x ∷ ps) qs p q = let a = and_true (is_piece x) (are_pieces ps) p in both_true (is_piece x) (are_pieces (ps ++ qs)) a.0 (are_pieces-append ps qs a.1 q)
+use Rattle.xs_class.proofs.Truth.{and_true, both_true, not_true, and_no}
 
 pub are_calm-append : (ps qs : List Piece) → are_calm ps ≡ true → are_calm qs ≡ true → are_calm (ps ++ qs) ≡ true
 are_calm-append [] qs p q = q

@@ -8,8 +8,8 @@ use Rattle.xs_xml.specs.Reads.{symbols, all_symbols}
 use Rattle.xs_xml_out.specs.declared.kind.SymbolKind.TheVariants.{Char}
 use Rattle.xs_xml_out.specs.declared.mode.Mode.TheVariants.{Content}
 use Rattle.xs_xml_out.specs.Written.{symbol_kind, content_char, written}
-use Rattle.xs_xml_out.proofs.Tests.{both_true}
 use Rattle.xs_xml_out.proofs.SymbolKinds.{symbol_kind-char}
+use Rattle.xs_class.proofs.Truth.{both_true}
 
 -- no declaration, and neither > nor CR as it is
 abbrev pub is_calm : Piece → Bool

@@ -4,26 +4,20 @@ use Rattle.std.proofs.lemmas.Bool.Decides.{nat_tests}
 use Rattle.xs_class.specs.Marks.{attr_end, opening_mark, attribute_mark, closing_mark}
 use Rattle.xs_class.specs.Ordered.{IsOrdered}
 use Rattle.xs_xml.specs.Piece.{Piece, start_tag, empty_tag, end_tag, spelt, spelt_attributes, is_piece, same, is_tag}
-use Rattle.xs_xml.specs.Legal.{closed, spelt_all, are_pieces, Spot, inside, passed, then_passed, all_passed}
+use Rattle.xs_xml.specs.Legal.{closed, spelt_all, are_pieces, Spot, inside, passed, all_passed}
 use Rattle.xs_xml.specs.Reads.{symbols, all_symbols, opening, closing}
 use Rattle.xs_xml_out.specs.declared.mode.Mode.TheVariants.{Content, Tag}
 use Rattle.xs_xml_out.specs.Balanced.{Attribute, attributes_word, element_word, AreAttributes, IsAscending, IsContent, nothing, text, element}
 use Rattle.xs_xml_out.specs.Written.{name_at, written}
 use Rattle.xs_xml_out.specs.Laws.{AreNames}
-use Rattle.xs_xml_out.proofs.Tests.{both_true}
 use Rattle.xs_xml_out.proofs.SymbolKinds.{symbol_kind-char, symbol_kind-opening_mark, symbol_kind-closing_mark}
 use Rattle.xs_xml_out.proofs.Places.{place_of-name_at}
 use Rattle.xs_xml_out.proofs.Attributes.{tag_attributes, name_at-is_name, written-attributes, attributes_fit, attributes_distinct, attributes_in_order, attributes_give}
 use Rattle.xs_xml_out.proofs.Content.{IsSpelt, spelt_nothing, spelt_text}
-use Rattle.xs_xml_out.proofs.Calm.{are_pieces-append, are_calm-append}
-
-spelt_all-append : (ps qs : List Piece) (rest : List ℕ) → spelt_all (ps ++ qs) rest ≡ spelt_all ps (spelt_all qs rest)
-spelt_all-append [] qs rest = refl
-spelt_all-append (p ∷ ps) qs rest = ap (λ (x : List ℕ). spelt p x) (spelt_all-append ps qs rest)
-
-pub all_passed-append : (s : Option Spot) (ps qs : List Piece) → all_passed s (ps ++ qs) ≡ all_passed (all_passed s ps) qs
-all_passed-append s [] qs = refl
-all_passed-append s (p ∷ ps) qs = all_passed-append (then_passed s p) ps qs
+use Rattle.xs_xml_out.proofs.Calm.{are_calm-append}
+use Rattle.xs_class.proofs.Truth.{both_true}
+use Rattle.xs_xml.proofs.More.{pieces_append, passed_append}
+use Rattle.xs_xml.proofs.Greatest.{spelt_append}
 
 same_itself : (n : List ℕ) → same n n ≡ true
 same_itself [] = refl
@@ -103,7 +97,7 @@ module _ (names : List (List ℕ)) (ordered : IsOrdered names) (are_names : AreN
       ap (λ (z : List ℕ). written names Content z) (element_word-append k as_ w v x)
       ∙ tag_written (w ++ closing_mark k ∷ (v ++ x))
       ∙ ap (λ (z : List ℕ). 60 ∷ (name_at names k ++ spelt_attributes (tag_attributes names as_) z)) (ends (closing_mark k ∷ (v ++ x)) ∙ ap (λ (z : List ℕ). 62 ∷ z) (inner (closing_mark k ∷ (v ++ x)) ∙ ap (λ (z : List ℕ). spelt_all ps z) (close_full (v ++ x) ∙ ap (λ (z : List ℕ). 60 ∷ 47 ∷ (name_at names k ++ 62 ∷ z)) again)))
-      ∙ ap (λ (z : List ℕ). spelt (start_tag (name_at names k) (tag_attributes names as_) []) z) (sym (spelt_all-append ps (end_tag (name_at names k) [] ∷ qs) rest))
+      ∙ ap (λ (z : List ℕ). spelt (start_tag (name_at names k) (tag_attributes names as_) []) z) (sym (spelt_append ps (end_tag (name_at names k) [] ∷ qs) rest))
 
   pub full_all : (w v : List ℕ) (ps qs : List Piece) (s t r : Spot) (y : List ℕ) → passed s (start_tag (name_at names k) (tag_attributes names as_) []) ≡ Some t → passed t (end_tag (name_at names k) []) ≡ Some r → ((more : List Piece) → all_symbols names (Some t) (ps ++ more) ≡ w ++ all_symbols names (Some t) more) → all_symbols names (Some r) qs ≡ v ++ y → all_symbols names (Some s) (start_tag (name_at names k) (tag_attributes names as_) [] ∷ (ps ++ end_tag (name_at names k) [] ∷ qs)) ≡ element_word k as_ w v ++ y
   full_all w v ps qs s t r y go go_on inner again =
@@ -113,10 +107,10 @@ module _ (names : List (List ℕ)) (ordered : IsOrdered names) (are_names : AreN
       ∙ sym (element_word-append k as_ w v y)
 
   pub full_passes : (ps qs : List Piece) (ms : List (List ℕ)) (t : Option Spot) → all_passed (Some (inside (name_at names k) ms)) ps ≡ Some (inside (name_at names k) ms) → all_passed (Some (closed ms)) qs ≡ t → all_passed (Some (inside (name_at names k) ms)) (ps ++ end_tag (name_at names k) [] ∷ qs) ≡ t
-  full_passes ps qs ms t inner on = all_passed-append (Some (inside (name_at names k) ms)) ps (end_tag (name_at names k) [] ∷ qs) ∙ ap (λ (z : Option Spot). all_passed z (end_tag (name_at names k) [] ∷ qs)) inner ∙ ap (λ (z : Option Spot). all_passed z qs) (end_passes ms) ∙ on
+  full_passes ps qs ms t inner on = passed_append (Some (inside (name_at names k) ms)) ps (end_tag (name_at names k) [] ∷ qs) ∙ ap (λ (z : Option Spot). all_passed z (end_tag (name_at names k) [] ∷ qs)) inner ∙ ap (λ (z : Option Spot). all_passed z qs) (end_passes ms) ∙ on
 
   pub full_each : (ps qs : List Piece) → are_pieces ps ≡ true → are_pieces qs ≡ true → are_pieces (start_tag (name_at names k) (tag_attributes names as_) [] ∷ (ps ++ end_tag (name_at names k) [] ∷ qs)) ≡ true
-  full_each ps qs inner on = both_true (is_tag (name_at names k) (tag_attributes names as_) []) (are_pieces (ps ++ end_tag (name_at names k) [] ∷ qs)) tag_fits (are_pieces-append ps (end_tag (name_at names k) [] ∷ qs) inner (both_true (is_piece (end_tag (name_at names k) [])) (are_pieces qs) end_fits on))
+  full_each ps qs inner on = both_true (is_tag (name_at names k) (tag_attributes names as_) []) (are_pieces (ps ++ end_tag (name_at names k) [] ∷ qs)) tag_fits (pieces_append ps (end_tag (name_at names k) [] ∷ qs) inner (both_true (is_piece (end_tag (name_at names k) [])) (are_pieces qs) end_fits on))
 
   spelt_full : (w v : List ℕ) → IsSpelt names w → IsSpelt names v → EndsTag names w → IsSpelt names (element_word k as_ w v)
   spelt_full w v i d ends = record {

@@ -7,8 +7,8 @@ use Rattle.xs_xml_out.specs.declared.mode.Mode.{Mode}
 use Rattle.xs_xml_out.specs.declared.mode.Mode.TheVariants.{Content, Tag, Value}
 use Rattle.xs_xml_out.specs.Balanced.{Attribute, attributes_word, element_word, AreAttributes}
 use Rattle.xs_xml_out.specs.Written.{symbol_kind, put, next, written, xml_chars}
-use Rattle.xs_xml_out.proofs.Tests.{and_true}
 use Rattle.xs_xml_out.proofs.SymbolKinds.{symbol_kind-char, symbol_kind-attr_end, symbol_kind-opening_mark, symbol_kind-attribute_mark, symbol_kind-closing_mark}
+use Rattle.xs_class.proofs.Truth.{and_true}
 
 abbrev mode_after : Mode → List ℕ → Mode
 mode_after mode [] = mode

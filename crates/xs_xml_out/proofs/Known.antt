@@ -6,8 +6,8 @@ use Rattle.xs_xml.specs.Tables.{is_char}
 use Rattle.xs_xml.specs.Piece.{all_of}
 use Rattle.xs_xml_out.specs.Balanced.{Attribute, attributes_word, element_word, AreAttributes, IsContent, nothing, text, element, IsBalanced}
 use Rattle.xs_xml_out.specs.Spelling.{IsKnownSymbol, AreKnown}
-use Rattle.xs_xml_out.proofs.Tests.{and_true}
 use Rattle.xs_xml_out.proofs.SymbolKinds.{char_scalar, symbol_kind-char, symbol_kind-attr_end, symbol_kind-opening_mark, symbol_kind-attribute_mark, symbol_kind-closing_mark}
+use Rattle.xs_class.proofs.Truth.{and_true}
 
 module _ (names : List (List ℕ)) where
   char_known : (c : ℕ) → is_char c ≡ true → IsKnownSymbol names c

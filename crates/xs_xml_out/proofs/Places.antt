@@ -1,15 +1,13 @@
 -- Where a name stands among ordered names.
-use Rattle.std.proofs.Common.{◌≡◌, ℕ, suc, zero, ◌<◌, List, [], ◌∷◌, length, get_or, Some, Bool, true, false, cond, ◌==◌, encode_utf8_all, refl, ap, subst, arith, eqb-true}
+use Rattle.std.proofs.Common.{◌≡◌, ℕ, suc, zero, ◌<◌, List, [], ◌∷◌, length, get_or, Some, Bool, true, false, cond, refl, ap, subst, arith}
 use Rattle.std.specs.Prelude.{bytes_eq}
 use Rattle.std.specs.Option.{option_map}
-use Rattle.std.specs.Ordering.{nat_cmp}
-use Rattle.std.specs.Cmp.Lexicographic.{slice_cmp, bytes_decides}
-use Rattle.std.specs.declared.cmp.Ordering.TheVariants.{Equal}
-use Rattle.std.proofs.lemmas.Cmp.{tied_itself, nat_list_cmp_total}
+use Rattle.std.specs.Cmp.Lexicographic.{bytes_decides}
 use Rattle.xs_class.specs.Ordered.{IsBefore, IsOrdered, place_of}
 use Rattle.xs_xml.specs.Piece.{same}
 use Rattle.xs_xml_out.specs.Written.{name_at}
-use Rattle.xs_xml_out.proofs.Tests.{and_true}
+use Rattle.xs_xml.proofs.Reading.{same_is}
+use Rattle.xs_class.proofs.Places.{IsBefore_not_itself}
 
 -- a place at which the name stands, and before which it does not, is the one found
 found : (ns : List (List ℕ)) (name : List ℕ) (k : ℕ) → k < length ns → get_or ns k [] ≡ name → ((j : ℕ) → j < k → get_or ns j [] ≡ name → ⊥) → place_of ns name ≡ Some k
@@ -23,25 +21,12 @@ found (n ∷ ns) name (suc k) below is first =
     by_test true t rest = absurd (first 0 (omega arith) ((bytes_decides n name).0 t))
     by_test false t rest = ap (option_map suc) rest
 
-not_before_itself : (n : List ℕ) → IsBefore n n → ⊥
-not_before_itself n h =
-    let tied : slice_cmp nat_cmp (encode_utf8_all n) (encode_utf8_all n) ≡ Equal = tied_itself nat_list_cmp_total (encode_utf8_all n) in cc
-
-same_next : (p c : ℕ) (ps cs : List ℕ) → (p == c) ≡ true → ps ≡ cs → (p ∷ ps) ≡ c ∷ cs
-same_next p c ps cs here tail = let e : p ≡ c = eqb-true p c here in cc
-
-same_is : (xs ys : List ℕ) → same xs ys ≡ true → xs ≡ ys
-same_is [] [] is = refl
-same_is [] (y ∷ ys) is = absurd (cc)
-same_is (x ∷ xs) [] is = absurd (cc)
-same_is (x ∷ xs) (y ∷ ys) is = let both = and_true (x == y) (same xs ys) is in same_next x y xs ys both.0 (same_is xs ys both.1)
-
 -- names in order differ
 not_same : (m n : List ℕ) → IsBefore m n → same m n ≡ false
 not_same m n before = by (same m n) refl
   where
     by : (t : Bool) → same m n ≡ t → t ≡ false
-    by true e = absurd (not_before_itself n (subst (λ x. IsBefore x n) (same_is m n e) before))
+    by true e = absurd (IsBefore_not_itself n (subst (λ x. IsBefore x n) (same_is m n e) before))
     by false e = refl
 
 module _ (names : List (List ℕ)) (ordered : IsOrdered names) where
@@ -52,4 +37,4 @@ module _ (names : List (List ℕ)) (ordered : IsOrdered names) where
   names_apart k l lower below = not_same (name_at names k) (name_at names l) (name_before k l lower below)
 
   pub place_of-name_at : (k : ℕ) → k < length names → place_of names (name_at names k) ≡ Some k
-  place_of-name_at k below = found names (name_at names k) k below refl (λ j lower at. not_before_itself (name_at names k) (subst (λ x. IsBefore x (name_at names k)) at (name_before j k lower below)))
+  place_of-name_at k below = found names (name_at names k) k below refl (λ j lower at. IsBefore_not_itself (name_at names k) (subst (λ x. IsBefore x (name_at names k)) at (name_before j k lower below)))

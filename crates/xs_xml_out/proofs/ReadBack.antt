@@ -8,12 +8,12 @@ use Rattle.xs_xml.specs.Reads.{Reads}
 use Rattle.xs_xml_out.specs.Balanced.{Attribute, element_word, AreAttributes, IsAscending}
 use Rattle.xs_xml_out.specs.Written.{name_at, xml_chars}
 use Rattle.xs_xml_out.specs.Laws.{AreNames, IsReadBack}
-use Rattle.xs_xml_out.proofs.Tests.{both_true}
 use Rattle.xs_xml_out.proofs.Attributes.{tag_attributes}
 use Rattle.xs_xml_out.proofs.Content.{IsSpelt}
 use Rattle.xs_xml_out.proofs.Calm.{are_calm-append, calm_legal}
 use Rattle.xs_xml_out.proofs.Ends.{written-line_feed, xml_chars-element_word}
 use Rattle.xs_xml_out.proofs.Elements.{EndsTag, content_ends, tag_fits, end_passes, empty_spells, empty_all, full_spells, full_all, full_passes, full_each, spelt_content}
+use Rattle.xs_class.proofs.Truth.{both_true}
 
 line_feed_fits : are_pieces (character 10 ∷ []) ≡ true
 unfolding is_char

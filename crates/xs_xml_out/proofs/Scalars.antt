@@ -6,7 +6,7 @@ use Rattle.std.proofs.lemmas.Bool.Decides.{nat_tests}
 use Rattle.std.proofs.lemmas.Str.{chars-encodes}
 use Rattle.std.proofs.lemmas.List.Elements.{All-head, All-tail, All-get_or}
 use Rattle.xs_class.specs.Marks.{opening_mark, closing_mark}
-use Rattle.xs_xml.specs.Tables.{is_name_start, is_name_char}
+use Rattle.xs_xml.specs.Tables.{is_name_char}
 use Rattle.xs_xml.specs.Piece.{is_name, all_of}
 use Rattle.xs_xml_out.specs.declared.kind.SymbolKind.{SymbolKind}
 use Rattle.xs_xml_out.specs.declared.kind.SymbolKind.TheVariants.{Char, ValueEnd, Strange, Opening, Attribute, Closing}
@@ -16,9 +16,10 @@ use Rattle.xs_xml_out.specs.Balanced.{attributes_word, IsBalanced}
 use Rattle.xs_xml_out.specs.Written.{symbol_kind, name_at, content_char, value_char, put, next, written, xml_chars}
 use Rattle.xs_xml_out.specs.Spelling.{IsKnown, IsKnownSymbol, AreKnown}
 use Rattle.xs_xml_out.specs.Laws.{AreNames, IsDecoded, BeginsWithTag}
-use Rattle.xs_xml_out.proofs.Tests.{and_true, both_true}
 use Rattle.xs_xml_out.proofs.Known.{balanced_known}
 use Rattle.xs_xml_out.proofs.SymbolKinds.{symbol_kind-opening_mark}
+use Rattle.xs_class.proofs.Truth.{and_true, both_true}
+use Rattle.xs_class.specs.Tables.{is_name_start}
 
 scalars-append : (xs ys : List ℕ) → scalars xs ≡ true → scalars ys ≡ true → scalars (xs ++ ys) ≡ true
 scalars-append [] ys p q = q

@@ -8,8 +8,9 @@ use Rattle.xs_xml.specs.Reads.{value}
 use Rattle.xs_xml_out.specs.declared.kind.SymbolKind.TheVariants.{Char}
 use Rattle.xs_xml_out.specs.declared.mode.Mode.TheVariants.{Tag, Value}
 use Rattle.xs_xml_out.specs.Written.{symbol_kind, value_char, written}
-use Rattle.xs_xml_out.proofs.Tests.{and_true, both_true}
 use Rattle.xs_xml_out.proofs.SymbolKinds.{symbol_kind-char, symbol_kind-attr_end}
+use Rattle.xs_class.proofs.Truth.{and_true, both_true}
+use Rattle.xs_xml.proofs.Reading.{white_cases}
 
 -- how a character of a value is written
 abbrev pub value_bit : ℕ → Bit
@@ -48,10 +49,6 @@ gt_valued = record { spells = λ rest. refl; is = refl; gives = λ bs. refl }
 carriage_return_valued : IsValued 13 (ref (codes "#xD")) (codes "&#xD;")
 unfolding ref_char is_hex is_char
 carriage_return_valued = record { spells = λ rest. refl; is = refl; gives = λ bs. refl }
-
-white_cases : (c : ℕ) → is_white c ≡ true → ((c ≡ 9) ⊎ (c ≡ 10)) ⊎ ((c ≡ 13) ⊎ (c ≡ 32))
-unfolding is_white
-white_cases c is = grind (arith, nat_tests, is)
 
 -- white space that is written as it is, is a space
 space_or_other : (c : ℕ) → (c == 9) ≡ false → (c == 10) ≡ false → (c == 13) ≡ false → (if is_white c then 32 else c) ≡ c
