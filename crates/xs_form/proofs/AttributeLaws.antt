@@ -10,7 +10,7 @@ use Rattle.xs_xml.proofs.Reading.{both_true}
 use Rattle.xs_xml.proofs.Cutting.{some_inj}
 use Rattle.xs_xml.proofs.Steps.{run_all}
 use Rattle.xs_xml.proofs.Tags.{attr_long}
-use Rattle.xs_xml.proofs.Tagsound.{attr_sound}
+use Rattle.xs_xml.proofs.TagSoundness.{attr_sound}
 use Rattle.xs_form.specs.Values.{all_written}
 use Rattle.xs_form.specs.Attributes.{Held, held, kept_attribute, Head, is_empty, head_quote, head_right, head_at}
 

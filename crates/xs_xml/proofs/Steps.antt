@@ -4,7 +4,7 @@ use Rattle.std.specs.declared.option.Option.{Option}
 use Rattle.xs_xml.specs.Piece.{starts, holds, all_of}
 use Rattle.xs_xml.proofs.Reading.{and_true, both_true}
 use Rattle.xs_xml.proofs.Cutting.{some_inj}
-use Rattle.xs_xml.proofs.Sound.{cut_is}
+use Rattle.xs_xml.proofs.PieceSoundness.{cut_is}
 use Rattle.xs_xml.specs.Scan.{after, span, joined, cut, fronted}
 
 pub after_none : (ps rest : List ℕ) → 0 < length ps → length rest < 1 → after ps rest ≡ None

@@ -6,7 +6,7 @@ use Rattle.xs_xml.specs.Piece.{Attribute, Bit, plain, ref, declaration, start_ta
 use Rattle.xs_xml.specs.Scan.{span, after, cut, ◌>>=◌, kept, char_at, reference_at, end_at, in_cdata, in_comment, bang_at, as_instruction, instruction_name, instruction_at, markup_at, piece_at, bit_if, as_ref, bit_at, more, bits_at, attr_if, as_attr, attr_quote, attr_right, attr_at, attrs_at, tag_end, tag_at, declaration_attrs}
 use Rattle.xs_xml.proofs.Reading.{same_is}
 use Rattle.xs_xml.proofs.Cutting.{some_inj}
-use Rattle.xs_xml.proofs.Sound.{Sound, sound_none, sound_if, sound_bind, sound_kept, span_is, after_is, cut_is, reference_sound, end_sound, cdata_sound, comment_sound, char_sound}
+use Rattle.xs_xml.proofs.PieceSoundness.{Sound, sound_none, sound_if, sound_bind, sound_kept, span_is, after_is, cut_is, reference_sound, end_sound, cdata_sound, comment_sound, char_sound}
 
 -- bits
 bit_kept : (cs : List ℕ) (t : Bool) (b : Bit) (rest : List ℕ) (r : Bit × List ℕ) → cs ≡ spelt_bit b rest → bit_if t b rest ≡ Some r → cs ≡ spelt_bit r.0 r.1
