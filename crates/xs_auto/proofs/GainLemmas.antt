@@ -9,7 +9,7 @@ use Rattle.std.proofs.lemmas.List.Elements.{Contains-append_left, Contains-push,
 use Rattle.std.proofs.lemmas.Nat.{div-mul-add}
 use Rattle.xs_class.specs.Classes.{Has}
 use Rattle.xs_auto.specs.declared.edge.Edge.{Edge}
-use Rattle.xs_auto.specs.declared.step.Step.{Step}
+use Rattle.xs_auto.specs.declared.reached_pair.ReachedPair.{ReachedPair}
 use Rattle.xs_auto.specs.declared.layer.Layer.{Layer}
 use Rattle.xs_auto.specs.Marks.{Marks, IsMarked}
 use Rattle.xs_auto.specs.Searches.{step, IsFound, Among, Meets, Gains, KeepsArea, Extends, Fits}
@@ -34,10 +34,10 @@ pub at_only : {X : Type 0} (x : X) (k : ℕ) (y : X) → slice_get (x ∷ []) k 
 at_only x zero y e = (refl, cc)
 at_only x (suc k) y e = cc
 
-pub found_more : {xs : List Step} {a b : ℕ} (ys : List Step) → IsFound xs a b → IsFound (xs ++ ys) a b
+pub found_more : {xs : List ReachedPair} {a b : ℕ} (ys : List ReachedPair) → IsFound xs a b → IsFound (xs ++ ys) a b
 found_more {xs} {a} {b} ys f = record { place = f.place; from = f.from; at = at_left xs ys f.place (step a b f.from) f.at }
 
-pub gains_then : (R S : Step → Type 0) {xs ys zs : List Step} → Gains R xs ys → Gains S ys zs → Gains (λ s. R s ⊎ S s) xs zs
+pub gains_then : (R S : ReachedPair → Type 0) {xs ys zs : List ReachedPair} → Gains R xs ys → Gains S ys zs → Gains (λ s. R s ⊎ S s) xs zs
 gains_then R S {xs} {ys} {zs} g h = record {
   added = g.added ++ h.added;
   is = h.is ∙ ap (λ us. us ++ h.added) g.is ∙ append_assoc xs g.added h.added;
@@ -45,7 +45,7 @@ gains_then R S {xs} {ys} {zs} g h = record {
   there = λ s r. elim r [ inl a ↦ rw h.is (found_more h.added (g.there s a)) | inr b ↦ h.there s b ];
 }
 
-pub gains_as : (R S : Step → Type 0) {xs ys : List Step} → ((s : Step) → R s → S s) → ((s : Step) → S s → R s) → Gains R xs ys → Gains S xs ys
+pub gains_as : (R S : ReachedPair → Type 0) {xs ys : List ReachedPair} → ((s : ReachedPair) → R s → S s) → ((s : ReachedPair) → S s → R s) → Gains R xs ys → Gains S xs ys
 gains_as R S to back g = record {
   added = g.added;
   is = g.is;
@@ -53,7 +53,7 @@ gains_as R S to back g = record {
   there = λ s r. g.there s (back s r);
 }
 
-pub gains_none : (R : Step → Type 0) (xs : List Step) → ((s : Step) → R s → ⊥) → Gains R xs xs
+pub gains_none : (R : ReachedPair → Type 0) (xs : List ReachedPair) → ((s : ReachedPair) → R s → ⊥) → Gains R xs xs
 gains_none R xs none = record {
   added = [];
   is = sym (append-nil xs);
@@ -62,7 +62,7 @@ gains_none R xs none = record {
 }
 
 -- one step that is added, or whose pair was found before
-pub gains_one : (xs ys : List Step) (t : Step) → ys ≡ xs ++ t ∷ [] → Gains (λ s. s ≡ t) xs ys
+pub gains_one : (xs ys : List ReachedPair) (t : ReachedPair) → ys ≡ xs ++ t ∷ [] → Gains (λ s. s ≡ t) xs ys
 gains_one xs ys t e = record {
   added = t ∷ [];
   is = e;
@@ -70,7 +70,7 @@ gains_one xs ys t e = record {
   there = λ s f. rw f (record { place = length xs; from = t.from; at = rw e (at_last xs t) });
 }
 
-pub gains_known : (xs : List Step) (t : Step) → IsFound xs t.first t.second → Gains (λ s. s ≡ t) xs xs
+pub gains_known : (xs : List ReachedPair) (t : ReachedPair) → IsFound xs t.first t.second → Gains (λ s. s ≡ t) xs xs
 gains_known xs t found = record {
   added = [];
   is = sym (append-nil xs);
@@ -79,18 +79,18 @@ gains_known xs t found = record {
 }
 
 -- a loop's turn at one more element
-pub gains_more : {X : Type 0} (Q : X → Step → Type 0) {us vs ws : List Step} (xs : List X) (i : ℕ) (d : X) → i < length xs → Gains (Among (take i xs) Q) us vs → Gains (Q (get_or xs i d)) vs ws → Gains (Among (take (i + 1) xs) Q) us ws
+pub gains_more : {X : Type 0} (Q : X → ReachedPair → Type 0) {us vs ws : List ReachedPair} (xs : List X) (i : ℕ) (d : X) → i < length xs → Gains (Among (take i xs) Q) us vs → Gains (Q (get_or xs i d)) vs ws → Gains (Among (take (i + 1) xs) Q) us ws
 gains_more {X} Q {us} {vs} {ws} xs i d l g h =
     gains_as (λ s. Among (take i xs) Q s ⊎ Q (get_or xs i d) s) (Among (take (i + 1) xs) Q) to back (gains_then (Among (take i xs) Q) (Q (get_or xs i d)) g h)
   where
     more : take (i + 1) xs ≡ take i xs ++ get_or xs i d ∷ []
     more = take_more xs i d l
 
-    to : (s : Step) → Among (take i xs) Q s ⊎ Q (get_or xs i d) s → Among (take (i + 1) xs) Q s
+    to : (s : ReachedPair) → Among (take i xs) Q s ⊎ Q (get_or xs i d) s → Among (take (i + 1) xs) Q s
     to s (inl a) = record { item = a.item; has = rw more (Contains-append_left (take i xs) (get_or xs i d ∷ []) a.item a.has); gives = a.gives }
     to s (inr q) = record { item = get_or xs i d; has = rw more (Contains-push (take i xs) (get_or xs i d)); gives = q }
 
-    back : (s : Step) → Among (take (i + 1) xs) Q s → Among (take i xs) Q s ⊎ Q (get_or xs i d) s
+    back : (s : ReachedPair) → Among (take (i + 1) xs) Q s → Among (take i xs) Q s ⊎ Q (get_or xs i d) s
     back s a = elim (Contains-push_cases (take i xs) (get_or xs i d) a.item (rw more at a.has)) [
       | inl c ↦ inl (record { item = a.item; has = c; gives = a.gives })
       | inr e ↦ inr (rw e a.gives)
@@ -102,25 +102,25 @@ area_same l = record { map = refl; height = refl; width = refl }
 pub area_then : {l m n : Layer} → KeepsArea l m → KeepsArea m n → KeepsArea l n
 area_then a b = record { map = b.map ∙ a.map; height = b.height ∙ a.height; width = b.width ∙ a.width }
 
-pub extends_none : {X : Type 0} (Q : X → Step → Type 0) (l : Layer) → Extends (Among [] Q) l l
+pub extends_none : {X : Type 0} (Q : X → ReachedPair → Type 0) (l : Layer) → Extends (Among [] Q) l l
 extends_none Q l = record { area = area_same l; seeds = refl; gains = gains_none (Among [] Q) l.steps.items (λ s a. absurd (omega (arith, a.has.1))) }
 
-pub extends_more : {X : Type 0} (Q : X → Step → Type 0) {l m n : Layer} (xs : List X) (i : ℕ) (d : X) → i < length xs → Extends (Among (take i xs) Q) l m → Extends (Q (get_or xs i d)) m n → Extends (Among (take (i + 1) xs) Q) l n
+pub extends_more : {X : Type 0} (Q : X → ReachedPair → Type 0) {l m n : Layer} (xs : List X) (i : ℕ) (d : X) → i < length xs → Extends (Among (take i xs) Q) l m → Extends (Q (get_or xs i d)) m n → Extends (Among (take (i + 1) xs) Q) l n
 extends_more Q xs i d l g h = record { area = area_then g.area h.area; seeds = h.seeds ∙ g.seeds; gains = gains_more Q xs i d l g.gains h.gains }
 
-pub extends_read : {X : Type 0} (Q : X → Step → Type 0) {l m n : Layer} (xs : List X) (i : ℕ) (x : X) → i < length xs → x ≡ get_or xs i x → Extends (Among (take i xs) Q) l m → Extends (Q x) m n → Extends (Among (take (i + 1) xs) Q) l n
+pub extends_read : {X : Type 0} (Q : X → ReachedPair → Type 0) {l m n : Layer} (xs : List X) (i : ℕ) (x : X) → i < length xs → x ≡ get_or xs i x → Extends (Among (take i xs) Q) l m → Extends (Q x) m n → Extends (Among (take (i + 1) xs) Q) l n
 extends_read Q {l} {m} {n} xs i x h e g k = extends_more Q xs i x h g (subst (λ y. Extends (Q y) m n) e k)
 
-pub extends_all : {X : Type 0} (Q : X → Step → Type 0) {l m : Layer} (xs : List X) (i : ℕ) → length xs ≤ i → Extends (Among (take i xs) Q) l m → Extends (Among xs Q) l m
+pub extends_all : {X : Type 0} (Q : X → ReachedPair → Type 0) {l m : Layer} (xs : List X) (i : ℕ) → length xs ≤ i → Extends (Among (take i xs) Q) l m → Extends (Among xs Q) l m
 extends_all Q xs i h g = rw (take_all i xs h) at g
 
-pub extends_nothing : (R : Step → Type 0) (l : Layer) → ((s : Step) → R s → ⊥) → Extends R l l
+pub extends_nothing : (R : ReachedPair → Type 0) (l : Layer) → ((s : ReachedPair) → R s → ⊥) → Extends R l l
 extends_nothing R l none = record { area = area_same l; seeds = refl; gains = gains_none R l.steps.items none }
 
-pub extends_then : (R S : Step → Type 0) {l m n : Layer} → Extends R l m → Extends S m n → Extends (λ s. R s ⊎ S s) l n
+pub extends_then : (R S : ReachedPair → Type 0) {l m n : Layer} → Extends R l m → Extends S m n → Extends (λ s. R s ⊎ S s) l n
 extends_then R S g h = record { area = area_then g.area h.area; seeds = h.seeds ∙ g.seeds; gains = gains_then R S g.gains h.gains }
 
-pub extends_as : (R S : Step → Type 0) {l m : Layer} → ((s : Step) → R s → S s) → ((s : Step) → S s → R s) → Extends R l m → Extends S l m
+pub extends_as : (R S : ReachedPair → Type 0) {l m : Layer} → ((s : ReachedPair) → R s → S s) → ((s : ReachedPair) → S s → R s) → Extends R l m → Extends S l m
 extends_as R S to back g = record { area = g.area; seeds = g.seeds; gains = gains_as R S to back g.gains }
 
 -- one cell for each pair
@@ -130,7 +130,7 @@ one_cell w a b c d h k e =
     (same, omega (arith, ap (λ x. x * w) same))
 
 -- a new pair is marked and added
-pub fits_new : (l m : Layer) (p q : Marks) (s : Step) (cell : ℕ) → Fits l p → s.first < l.height → s.second < l.width → cell ≡ s.first * l.width + s.second → IsMarked p q l.map cell → KeepsArea l m → m.steps.items ≡ l.steps.items ++ s ∷ [] → Fits m q
+pub fits_new : (l m : Layer) (p q : Marks) (s : ReachedPair) (cell : ℕ) → Fits l p → s.first < l.height → s.second < l.width → cell ≡ s.first * l.width + s.second → IsMarked p q l.map cell → KeepsArea l m → m.steps.items ≡ l.steps.items ++ s ∷ [] → Fits m q
 fits_new l m p q s cell f a b c marked area is = record {
   map = rw area.map f.map;
   room = rw (area.height, area.width, marked.cells) f.room;

@@ -3,7 +3,7 @@ use Rattle.std.proofs.Common.{◌≡◌, ℕ, List, [], ◌∷◌, ◌++◌, ref
 use Rattle.std.specs.List.{Contains}
 use Rattle.xs_class.specs.Classes.{Has}
 use Rattle.xs_auto.specs.declared.edge.Edge.{Edge}
-use Rattle.xs_auto.specs.declared.step.Step.{Step}
+use Rattle.xs_auto.specs.declared.reached_pair.ReachedPair.{ReachedPair}
 use Rattle.xs_auto.specs.declared.layer.Layer.{Layer}
 use Rattle.xs_auto.specs.declared.trace.Trace.{Trace}
 use Rattle.xs_auto.specs.Nets.{Graph, edges_of, final_at, Walks, rests, passes, reads}
@@ -57,7 +57,7 @@ met Z c (reads e h k t) p z =
     met Z c t q.walks (c _ _ _ _ q.holds (inr (_, record { first = e; second = q.edge; of_first = h; of_second = q.has; takes_first = k; takes_second = q.takes; to_first = refl; to_second = refl })))
 
 -- a found pair of final states
-pub found_end : (m n : Graph) (steps : List Step) (a b : ℕ) → IsFound steps a b → final_at m a ≡ true → final_at n b ≡ true → ((k : ℕ) → EndsBoth m n steps k → ⊥) → ⊥
+pub found_end : (m n : Graph) (steps : List ReachedPair) (a b : ℕ) → IsFound steps a b → final_at m a ≡ true → final_at n b ≡ true → ((k : ℕ) → EndsBoth m n steps k → ⊥) → ⊥
 found_end m n steps a b f p q none = none f.place (record { end = step a b f.from; at = f.at; first = p; second = q })
 
 -- where no pair of two final states is found, no word is shared

@@ -4,7 +4,7 @@ use Rattle.std.specs.declared.option.Option.{Option}
 use Rattle.std.specs.declared.option.Option.TheVariants.{Some, None}
 use Rattle.std.specs.Option.{IfSome, IfNone, IsSome}
 use Rattle.std.proofs.lemmas.Option.{slice_get_within}
-use Rattle.xs_auto.specs.declared.step.Step.{Step}
+use Rattle.xs_auto.specs.declared.reached_pair.ReachedPair.{ReachedPair}
 use Rattle.xs_auto.specs.declared.layer.Layer.{Layer}
 use Rattle.xs_auto.specs.declared.trace.Trace.{Trace}
 use Rattle.xs_auto.specs.declared.overlap.Reached.{Reached}
@@ -24,10 +24,10 @@ first_symbol Y Z drift into closed (reads e h k t) w y =
     forked Z closed t g.walks (into _ _ _ _ g.holds (_, record { first = e; second = g.edge; of_first = h; of_second = g.has; takes_first = k; takes_second = g.takes; to_first = refl; to_second = refl }))
 
 -- a found pair whose first state is final leads to its second one beside the start
-on_end : (net : Graph) (start : ℕ) (steps next : List Step) (p q : ℕ) → ((s : Step) → EndsFirst net start steps s → IsFound next s.first s.second) → IsFound steps p q → final_at net p ≡ true → IsFound next q start
+on_end : (net : Graph) (start : ℕ) (steps next : List ReachedPair) (p q : ℕ) → ((s : ReachedPair) → EndsFirst net start steps s → IsFound next s.first s.second) → IsFound steps p q → final_at net p ≡ true → IsFound next q start
 on_end net start steps next p q there f e = there (step q start f.place) (record { end = step p q f.from; at = f.at; final = e; first = refl; second = refl })
 
-on_cross : (a b : Graph) (steps next : List Step) → ((s : Step) → CrossesFrom a b steps s → IsFound next s.first s.second) → (p q c d : ℕ) → IsFound steps p q → Crosses a b p q c d → IsFound next c d
+on_cross : (a b : Graph) (steps next : List ReachedPair) → ((s : ReachedPair) → CrossesFrom a b steps s → IsFound next s.first s.second) → (p q c d : ℕ) → IsFound steps p q → Crosses a b p q c d → IsFound next c d
 on_cross a b steps next there p q c d f x = there (step c d f.place) (record { before = step p q f.from; at = f.at; crosses = x })
 
 -- where no pair of two final rest states is found, there is no overlap
@@ -48,7 +48,7 @@ no_overlap a b r h none x (s ∷ u) y o =
     found_end b b r.rests.steps.items whole.last rest.last end whole.final rest.final none
 
 -- the words that were read back along the four phases overlap
-pub overlap : (a b : Graph) (r : Reached) (place symbol : ℕ) (front middle rest : Trace) (end crossing turn : Step) → AreReached a b r → EndsBoth b b r.rests.steps.items place → IsTrace b b r.rests place rest → IsAt r.rests.steps.items rest.seed end → IsTrace a b r.middles end.from middle → IsAt r.middles.steps.items middle.seed crossing → IsAt r.turns.steps.items crossing.from turn → ReadsBoth a b turn.first turn.second symbol crossing.first crossing.second → IsTrace a a r.fronts turn.from front → AreOverlap a b front.word (symbol ∷ middle.word) rest.word
+pub overlap : (a b : Graph) (r : Reached) (place symbol : ℕ) (front middle rest : Trace) (end crossing turn : ReachedPair) → AreReached a b r → EndsBoth b b r.rests.steps.items place → IsTrace b b r.rests place rest → IsAt r.rests.steps.items rest.seed end → IsTrace a b r.middles end.from middle → IsAt r.middles.steps.items middle.seed crossing → IsAt r.turns.steps.items crossing.from turn → ReadsBoth a b turn.first turn.second symbol crossing.first crossing.second → IsTrace a a r.fronts turn.from front → AreOverlap a b front.word (symbol ∷ middle.word) rest.word
 overlap a b r place symbol front middle rest end crossing turn h ends t at u cross behind sides v =
     let x = v.traced in
     let m = u.traced in
@@ -81,11 +81,11 @@ overlap a b r place symbol front middle rest end crossing turn h ends t at u cro
     }
 
 -- the step at a trace's seed
-pub at_seed : (m n : Graph) (l : Layer) (place : ℕ) (t : Trace) (s : Step) → IsTrace m n l place t → s ≡ get_or l.steps.items t.seed s → IsAt l.steps.items t.seed s
+pub at_seed : (m n : Graph) (l : Layer) (place : ℕ) (t : Trace) (s : ReachedPair) → IsTrace m n l place t → s ≡ get_or l.steps.items t.seed s → IsAt l.steps.items t.seed s
 at_seed m n l place t s h e = read_at l.steps.items t.seed s (slice_get_within l.steps.items t.seed h.traced.first h.traced.begins) e
 
 -- the step before a crossing
-pub crossed_at : (a b : Graph) (turns : List Step) (crossing turn : Step) → CrossesFrom a b turns crossing → turn ≡ get_or turns crossing.from turn → (IsAt turns crossing.from turn) × Crosses a b turn.first turn.second crossing.first crossing.second
+pub crossed_at : (a b : Graph) (turns : List ReachedPair) (crossing turn : ReachedPair) → CrossesFrom a b turns crossing → turn ≡ get_or turns crossing.from turn → (IsAt turns crossing.from turn) × Crosses a b turn.first turn.second crossing.first crossing.second
 crossed_at a b turns crossing turn c e =
     let at = read_at turns crossing.from turn (slice_get_within turns crossing.from c.before c.at) e in
     let same : c.before ≡ turn = some_same c.at at in

@@ -2,7 +2,7 @@
 use Rattle.std.proofs.Common.{◌≡◌, ℕ, zero, suc, ◌+◌, ◌<◌, List, [], ◌∷◌, ◌++◌, length, get_or, refl, sym, ap, subst, ◌∙◌, inl, inr, arith, slice_get, true}
 use Rattle.std.specs.declared.option.Option.TheVariants.{Some}
 use Rattle.std.proofs.lemmas.Bool.{cases_eq}
-use Rattle.xs_auto.specs.declared.step.Step.{Step}
+use Rattle.xs_auto.specs.declared.reached_pair.ReachedPair.{ReachedPair}
 use Rattle.xs_auto.specs.declared.layer.Layer.{Layer}
 use Rattle.xs_auto.specs.Marks.{Marks}
 use Rattle.xs_auto.specs.Nets.{Graph, final_at, Walks}
@@ -16,11 +16,11 @@ pub in_area : (m n : Graph) (l k : Layer) (p : Marks) → IsFor m n l → KeepsA
 in_area m n l k p nets area f i s e = let r = f.in_range i s e in (rw (← nets.height, ← area.height) r.0, rw (← nets.width, ← area.width) r.1)
 
 -- the steps of a layer that was empty are those that R means
-gained : (R : Step → Type 0) (xs ys : List Step) → xs ≡ [] → Gains R xs ys → (k : ℕ) (s : Step) → IsAt ys k s → R s
+gained : (R : ReachedPair → Type 0) (xs ys : List ReachedPair) → xs ≡ [] → Gains R xs ys → (k : ℕ) (s : ReachedPair) → IsAt ys k s → R s
 gained R xs ys none g k s e = g.each k s (rw (g.is ∙ ap (λ us. us ++ g.added) none) at e)
 
 -- a layer that was empty, was seeded by R, and was closed then
-pub closed_seeds : (m n : Graph) (R : Step → Type 0) (k l o : Layer) (p : Marks) → IsFor m n k → k.steps.items ≡ [] → Extends R k l → Fits o p → Closes m n l o → IsSeeded m n R o
+pub closed_seeds : (m n : Graph) (R : ReachedPair → Type 0) (k l o : Layer) (p : Marks) → IsFor m n k → k.steps.items ≡ [] → Extends R k l → Fits o p → Closes m n l o → IsSeeded m n R o
 closed_seeds m n R k l o p nets none g f c = record {
   range = in_area m n k o p nets (area_then g.area c.area) f;
   seeded = λ i s low e. elim (at_cases l.steps.items c.longer.added i s (rw c.longer.is at e)) [
@@ -36,14 +36,14 @@ closed_seeds m n R k l o p nets none g f c = record {
 pub root_seed : (m n : Graph) (a b : ℕ) {k l : Layer} → m.start ≡ Some a → n.start ≡ Some b → Extends (λ s. s ≡ step a b 0) k l → Extends (IsRoot m n) k l
 root_seed m n a b e f g = extends_as (λ s. s ≡ step a b 0) (IsRoot m n) to back g
   where
-    to : (s : Step) → s ≡ step a b 0 → IsRoot m n s
+    to : (s : ReachedPair) → s ≡ step a b 0 → IsRoot m n s
     to s h = rw h (record { first = e; second = f; from = refl })
 
-    back : (s : Step) → IsRoot m n s → s ≡ step a b 0
+    back : (s : ReachedPair) → IsRoot m n s → s ≡ step a b 0
     back s r = same_step s a b 0 (some_same r.first e) (some_same r.second f) r.from
 
 -- a layer that was empty, was seeded by final front states, and was closed under empty moves then
-pub closed_turns : (a b : Graph) (start : ℕ) (fronts : List Step) (k l o : Layer) (p : Marks) → IsFor a b k → k.steps.items ≡ [] → Extends (EndsFirst a start fronts) k l → Fits o p → ClosesDrifts a b l o → IsTurns a b start fronts o
+pub closed_turns : (a b : Graph) (start : ℕ) (fronts : List ReachedPair) (k l o : Layer) (p : Marks) → IsFor a b k → k.steps.items ≡ [] → Extends (EndsFirst a start fronts) k l → Fits o p → ClosesDrifts a b l o → IsTurns a b start fronts o
 closed_turns a b start fronts k l o p nets none g f c = record {
   range = in_area a b k o p nets (area_then g.area c.area) f;
   turned = λ i s e.
@@ -63,7 +63,7 @@ got_at (x ∷ xs) zero d l = refl
 got_at (x ∷ xs) (suc i) d l = got_at xs i d (omega arith)
 
 -- one more pair is not of two final states
-pub no_end_more : (m n : Graph) (steps : List Step) (place : ℕ) (d : Step) → place < length steps → (final_at m (get_or steps place d).first ≡ true → final_at n (get_or steps place d).second ≡ true → ⊥) → ((k : ℕ) → k < place → EndsBoth m n steps k → ⊥) → (k : ℕ) → k < place + 1 → EndsBoth m n steps k → ⊥
+pub no_end_more : (m n : Graph) (steps : List ReachedPair) (place : ℕ) (d : ReachedPair) → place < length steps → (final_at m (get_or steps place d).first ≡ true → final_at n (get_or steps place d).second ≡ true → ⊥) → ((k : ℕ) → k < place → EndsBoth m n steps k → ⊥) → (k : ℕ) → k < place + 1 → EndsBoth m n steps k → ⊥
 no_end_more m n steps place d l here before k low e = elim (cases_eq k place) [
   | inl same ↦
       let one : e.end ≡ get_or steps place d = some_same (rw same at e.at) (got_at steps place d l) in
@@ -72,5 +72,5 @@ no_end_more m n steps place d l here before k low e = elim (cases_eq k place) [
 ]
 
 -- some step stands at each place of the list
-pub there_at : (steps : List Step) (i : ℕ) → i < length steps → (s : Step) × IsAt steps i s
+pub there_at : (steps : List ReachedPair) (i : ℕ) → i < length steps → (s : ReachedPair) × IsAt steps i s
 there_at steps i l = (get_or steps i (step 0 0 0), got_at steps i (step 0 0 0) l)

@@ -9,7 +9,7 @@ use Rattle.std.proofs.lemmas.List.{take_more, reverse-append}
 use Rattle.std.proofs.lemmas.List.Elements.{Contains-push_cases}
 use Rattle.xs_class.specs.Classes.{Has}
 use Rattle.xs_auto.specs.declared.edge.Edge.{Edge}
-use Rattle.xs_auto.specs.declared.step.Step.{Step}
+use Rattle.xs_auto.specs.declared.reached_pair.ReachedPair.{ReachedPair}
 use Rattle.xs_auto.specs.Nets.{Graph, edges_of, Walks, rests, passes, reads}
 use Rattle.xs_auto.specs.Searches.{IsAt, ReadsBoth, Crosses, ReadsWith, IsLink}
 use Rattle.xs_auto.specs.Traces.{IsTraced}
@@ -52,13 +52,13 @@ pub reads_found : (m n : Graph) (a b c d i x : ℕ) (es fs : List Edge) (e : Edg
 reads_found m n a b c d i x es fs e p q l is to r = record { first = e; second = r.other; of_first = rw (← p) (i, l, sym is); of_second = rw (← q) r.has; takes_first = r.takes; takes_second = r.takes_too; to_first = to; to_second = r.leads }
 
 -- the word so far, gone on from one step earlier: by a symbol, or by an empty move
-pub traced_none : (m n : Graph) (steps : List Step) (at : ℕ) (s : Step) → IsAt steps at s → IsTraced m n steps at at []
+pub traced_none : (m n : Graph) (steps : List ReachedPair) (at : ℕ) (s : ReachedPair) → IsAt steps at s → IsTraced m n steps at at []
 traced_none m n steps at s e = record { first = s; last = s; begins = e; ends = e; walks_first = rests; walks_second = rests }
 
 pub some_is : {X : Type 0} {a b : X} {o : Option X} → o ≡ Some a → o ≡ Some b → a ≡ b
 some_is e f = cc
 
-pub traced_symbol : {m n : Graph} {steps : List Step} {at place from x : ℕ} {w : List ℕ} (s p : Step) → IsAt steps at s → IsAt steps from p → ReadsBoth m n p.first p.second x s.first s.second → IsTraced m n steps at place w → IsTraced m n steps from place (x ∷ w)
+pub traced_symbol : {m n : Graph} {steps : List ReachedPair} {at place from x : ℕ} {w : List ℕ} (s p : ReachedPair) → IsAt steps at s → IsAt steps from p → ReadsBoth m n p.first p.second x s.first s.second → IsTraced m n steps at place w → IsTraced m n steps from place (x ∷ w)
 traced_symbol {m} {n} {steps} {at} {place} {from} {x} {w} s p here up r t =
     let same : t.first ≡ s = some_is t.begins here in
     let one : Walks m s.first w t.last.first = rw same at t.walks_first in
@@ -72,7 +72,7 @@ traced_symbol {m} {n} {steps} {at} {place} {from} {x} {w} s p here up r t =
       walks_second = reads r.second r.of_second r.takes_second (rw r.to_second two);
     }
 
-pub traced_move : {m n : Graph} {steps : List Step} {at place from : ℕ} {w : List ℕ} (s p : Step) → IsAt steps at s → IsAt steps from p → IsLink m n steps at s → s.from ≡ from → (Crosses m n p.first p.second s.first s.second → ⊥) → IsTraced m n steps at place w → IsTraced m n steps from place w
+pub traced_move : {m n : Graph} {steps : List ReachedPair} {at place from : ℕ} {w : List ℕ} (s p : ReachedPair) → IsAt steps at s → IsAt steps from p → IsLink m n steps at s → s.from ≡ from → (Crosses m n p.first p.second s.first s.second → ⊥) → IsTraced m n steps at place w → IsTraced m n steps from place w
 traced_move {m} {n} {steps} {at} {place} {from} {w} s p here up link is none t =
     let same : t.first ≡ s = some_is t.begins here in
     let one : Walks m s.first w t.last.first = rw same at t.walks_first in
@@ -86,7 +86,7 @@ traced_move {m} {n} {steps} {at} {place} {from} {w} s p here up link is none t =
       | inr c ↦ absurd (none c)
     ]
 
--- a symbol is pushed behind the symbols that are read in reverse
+-- a symbol is pushed after the symbols that are read in reverse
 pub reverse_push : (xs : List ℕ) (x : ℕ) → reverse (xs ++ x ∷ []) ≡ x ∷ reverse xs
 reverse_push xs x = reverse-append xs (x ∷ [])
 

@@ -1,7 +1,7 @@
 -- The maps of cells that searches over pairs of states mark.
 use Rattle.std.specs.Prelude.{◌≡◌, ◌≢◌, ℕ, ◌<◌, Bool, true, false, List, [], length, get_or}
 
--- so many cells in each map, and for each map which of them are marked
+-- the number of cells in each map, and for each map which of them are marked
 pub record Marks : Type 0 where
   pub cells : ℕ
   pub maps : List (List Bool)
@@ -27,7 +27,7 @@ pub record IsMarked (old new : Marks) (m cell : ℕ) : Type 0 where
   pub there : (c : ℕ) → c ≢ cell → marked_at new m c ≡ marked_at old m c
   pub others : (i c : ℕ) → i ≢ m → marked_at new i c ≡ marked_at old i c
 
--- three maps of so many cells
+-- three maps of that many cells
 pub record HasMaps (cells : ℕ) (maps : List (List Bool)) : Type 0 where
   pub three : length maps ≡ 3
   pub each : (m : ℕ) → m < 3 → length (get_or maps m []) ≡ cells

@@ -35,7 +35,8 @@ edges_of n a = (get_or n.nodes a bare).edges
 abbrev pub moves_of : Graph → ℕ → List ℕ
 moves_of n a = (get_or n.nodes a bare).moves
 
--- a path from a state to another reads a word: by edges whose class has the symbol, and by empty moves
+-- a path from a state to another reads a word: by edges whose class has the symbol, and by empty
+-- moves
 pub data Walks (n : Graph) : ℕ → List ℕ → ℕ → Type 0 where
   rests : {a : ℕ} → Walks n a [] a
   passes : {a b c : ℕ} {w : List ℕ} → Contains (moves_of n a) b → Walks n b w c → Walks n a w c
@@ -62,7 +63,7 @@ pub record KeepsStates (old new : Graph) : Type 0 where
   pub start : new.start ≡ old.start
   pub finals : (i : ℕ) → final_at new i ≡ final_at old i
 
--- one bare state more, behind all others
+-- one bare state more, after all others
 pub record AddsState (old new : Graph) : Type 0 where
   pub states : states new ≡ suc (states old)
   pub start : new.start ≡ old.start
@@ -70,14 +71,14 @@ pub record AddsState (old new : Graph) : Type 0 where
   pub edges : (i : ℕ) → edges_of new i ≡ edges_of old i
   pub moves : (i : ℕ) → moves_of new i ≡ moves_of old i
 
--- one edge more from state a, behind its others
+-- one edge more from state a, after its others
 pub record AddsEdge (old new : Graph) (a : ℕ) (e : Edge) : Type 0 where
   pub keeps : KeepsStates old new
   pub edges : edges_of new a ≡ edges_of old a ++ e ∷ []
   pub others : (i : ℕ) → i ≢ a → edges_of new i ≡ edges_of old i
   pub moves : (i : ℕ) → moves_of new i ≡ moves_of old i
 
--- one empty move more from state a to b, behind its others
+-- one empty move more from state a to b, after its others
 pub record AddsMove (old new : Graph) (a b : ℕ) : Type 0 where
   pub keeps : KeepsStates old new
   pub edges : (i : ℕ) → edges_of new i ≡ edges_of old i

@@ -3,7 +3,7 @@ ghost use Rattle.std.specs.List.{All};
 ghost use Rattle.xs_auto.specs.Searches.{step as step_of, Fits, Extends, Among, Meets, IsFor};
 
 use crate::common::first_common;
-use crate::step::Step;
+use crate::reached_pair::ReachedPair;
 use crate::{Edge, Net, Pairs};
 use std::alloc::Global;
 use xs_class::Memory;
@@ -15,7 +15,7 @@ use xs_class::Memory;
 /// another layer, or from none.
 #[derive(Debug, Drop)]
 pub struct Layer {
-    pub steps: Vec<Step>,
+    pub steps: Vec<ReachedPair>,
     pub seeds: usize,
     pub map: u32,
     pub height: u32,
@@ -39,7 +39,7 @@ impl Layer {
     }
 
     /// Adds a step, unless its pair is marked already.
-    pub fn visit(&mut self, pairs: &mut Pairs, step: Step) -> Result<(), Memory>
+    pub fn visit(&mut self, pairs: &mut Pairs, step: ReachedPair) -> Result<(), Memory>
         requires fits { Fits self.old pairs.old }
         requires first { step.first < self.old.height }
         requires second { step.second < self.old.width }
@@ -72,7 +72,7 @@ impl Layer {
         'firsts: for first in firsts {
             self.visit(
                 pairs,
-                Step {
+                ReachedPair {
                     first: *first,
                     second,
                     from,
@@ -100,7 +100,7 @@ impl Layer {
         'seconds: for second in seconds {
             self.visit(
                 pairs,
-                Step {
+                ReachedPair {
                     first,
                     second: *second,
                     from,
@@ -127,7 +127,7 @@ impl Layer {
     {
         'others: for other in others {
             if first_common(&edge.class, &other.class).is_some() {
-                let step = Step {
+                let step = ReachedPair {
                     first: edge.to,
                     second: other.to,
                     from,

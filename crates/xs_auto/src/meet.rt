@@ -5,7 +5,7 @@ ghost use Rattle.xs_auto.specs.Shared.{IsShared};
 ghost use Rattle.xs_auto.specs.Traces.{IsSeeded, IsRoot};
 
 use crate::layer::Layer;
-use crate::step::Step;
+use crate::reached_pair::ReachedPair;
 use crate::trace::read_trace;
 use crate::{Net, Pairs};
 use std::alloc::Global;
@@ -43,7 +43,7 @@ pub fn reach(alloc: Global, first: &Net, second: &Net, pairs: &mut Pairs) -> Res
 {
     pairs.clear(0);
     let mut layer = Layer::new(alloc, 0, first, second);
-    let root = Step {
+    let root = ReachedPair {
         first: first.start().unwrap(),
         second: second.start().unwrap(),
         from: 0,
@@ -54,7 +54,7 @@ pub fn reach(alloc: Global, first: &Net, second: &Net, pairs: &mut Pairs) -> Res
 }
 
 /// The place of the first pair of two final states, if there is one.
-pub fn final_pair(first: &Net, second: &Net, steps: &[Step]) -> Option<usize>
+pub fn final_pair(first: &Net, second: &Net, steps: &[ReachedPair]) -> Option<usize>
     requires { InNets first.now second.now steps.now }
     ensures some { IfSome result (EndsBoth first.now second.now steps.now) }
     ensures none { IfNone result ((k : ℕ) → EndsBoth first.now second.now steps.now k → ⊥) }

@@ -6,7 +6,7 @@ ghost use Rattle.xs_auto.specs.Traces.{IsSeeded, IsTurns, AreReached};
 
 use crate::layer::Layer;
 use crate::meet::{final_pair, reach};
-use crate::step::Step;
+use crate::reached_pair::ReachedPair;
 use crate::trace::{read_trace, symbol_between};
 use crate::{Net, Pairs};
 use std::alloc::Global;
@@ -22,7 +22,7 @@ pub struct Overlap {
 }
 
 /// The pairs that are reached: of two front states by x; of a front and a rest state before a, and
-/// behind a symbol of a; of two rest states by y.
+/// after a symbol of a; of two rest states by y.
 #[derive(Debug, Drop)]
 pub struct Reached {
     pub fronts: Layer,
@@ -91,7 +91,7 @@ fn reach_turns(
     a: &Net,
     b: &Net,
     start: u32,
-    fronts: &[Step],
+    fronts: &[ReachedPair],
     pairs: &mut Pairs,
 ) -> Result<Layer, Memory>
     requires start { b.now.start ≡ Some start }
@@ -113,7 +113,7 @@ fn reach_middles(
     alloc: Global,
     a: &Net,
     b: &Net,
-    turns: &[Step],
+    turns: &[ReachedPair],
     pairs: &mut Pairs,
 ) -> Result<Layer, Memory>
     requires range { InNets a.now b.now turns.now }
@@ -135,7 +135,7 @@ fn reach_rests(
     a: &Net,
     b: &Net,
     start: u32,
-    middles: &[Step],
+    middles: &[ReachedPair],
     pairs: &mut Pairs,
 ) -> Result<Layer, Memory>
     requires start { b.now.start ≡ Some start }

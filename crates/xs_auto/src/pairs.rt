@@ -24,7 +24,7 @@ impl Model for Pairs {
 }
 
 impl Pairs {
-    /// Three maps of so many cells each, none of them marked.
+    /// Three maps of that many cells each, none of them marked.
     pub fn with_room(alloc: Global, cells: u64) -> Result<Pairs, Memory>
         ensures cells { IfOk result (λ p. p.cells ≡ cells) }
         ensures blank { IfOk result HasNoMark }

@@ -3,7 +3,7 @@ ghost use Rattle.xs_auto.specs.Nets.{states};
 ghost use Rattle.xs_auto.specs.Searches.{Fits, Extends, IsFor, InNets, InStates, EndsFirst, CrossesFrom};
 
 use crate::layer::Layer;
-use crate::step::Step;
+use crate::reached_pair::ReachedPair;
 use crate::{Net, Pairs};
 use xs_class::Memory;
 
@@ -13,7 +13,7 @@ impl Layer {
     pub fn seed_ends(
         &mut self,
         pairs: &mut Pairs,
-        steps: &[Step],
+        steps: &[ReachedPair],
         net: &Net,
         start: u32,
     ) -> Result<(), Memory>
@@ -27,7 +27,7 @@ impl Layer {
         'places: for place in 0..steps.len() {
             let end = steps[place];
             if net.is_final(end.first) {
-                let seed = Step {
+                let seed = ReachedPair {
                     first: end.second,
                     second: start,
                     from: place,
@@ -42,7 +42,7 @@ impl Layer {
     pub fn seed_crossings(
         &mut self,
         pairs: &mut Pairs,
-        steps: &[Step],
+        steps: &[ReachedPair],
         first: &Net,
         second: &Net,
     ) -> Result<(), Memory>

@@ -3,7 +3,7 @@ ghost use Rattle.xs_auto.specs.Nets.{states};
 ghost use Rattle.xs_auto.specs.Searches.{Fits, Extends, IsFor, DriftsFrom, LeadsFrom, Closes, ClosesDrifts};
 
 use crate::layer::Layer;
-use crate::step::Step;
+use crate::reached_pair::ReachedPair;
 use crate::{Net, Pairs};
 use xs_class::Memory;
 
@@ -14,7 +14,7 @@ impl Layer {
         pairs: &mut Pairs,
         first: &Net,
         second: &Net,
-        at: Step,
+        at: ReachedPair,
         from: usize,
     ) -> Result<(), Memory>
         requires nets { IsFor first.now second.now self.old }
@@ -36,7 +36,7 @@ impl Layer {
         pairs: &mut Pairs,
         first: &Net,
         second: &Net,
-        at: Step,
+        at: ReachedPair,
         from: usize,
     ) -> Result<(), Memory>
         requires nets { IsFor first.now second.now self.old }

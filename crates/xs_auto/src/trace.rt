@@ -5,7 +5,7 @@ ghost use Rattle.xs_auto.specs.Traces.{IsTrace};
 
 use crate::common::first_common;
 use crate::layer::Layer;
-use crate::step::Step;
+use crate::reached_pair::ReachedPair;
 use crate::{Edge, Net};
 use std::alloc::Global;
 use xs_class::{Memory, Sym, Word};
@@ -47,7 +47,7 @@ pub fn read_trace(
 }
 
 /// A symbol by which edges of both nets lead from one pair to another, if any do.
-pub fn symbol_between(first: &Net, second: &Net, from: Step, to: Step) -> Option<Sym>
+pub fn symbol_between(first: &Net, second: &Net, from: ReachedPair, to: ReachedPair) -> Option<Sym>
     requires first { from.first < states first.now }
     requires second { from.second < states second.now }
     ensures some { IfSome result (λ x. ReadsBoth first.now second.now from.first from.second x to.first to.second) }
@@ -66,7 +66,8 @@ pub fn symbol_between(first: &Net, second: &Net, from: Step, to: Step) -> Option
     None
 }
 
-/// A symbol that an edge reads and another edge, which leads to a state, reads too, if there is one.
+/// A symbol that an edge reads and another edge, which leads to a state, reads too, if there is
+/// one.
 fn symbol_with(edge: &Edge, others: &[Edge], to: u32) -> Option<Sym>
     ensures some { IfSome result (ReadsWith edge.now others.now to) }
     ensures none { IfNone result ((x : ℕ) → ReadsWith edge.now others.now to x → ⊥) }

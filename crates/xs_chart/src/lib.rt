@@ -1,4 +1,4 @@
-//! The sets of a chart, which a recogniser fills one after another.
+//! Earley sets and their items, with waiting lists: the chart that a recogniser fills set by set.
 //!
 //! A set is a list of different items in the order in which they were added, and beside it stands,
 //! for each nonterminal that is awaited there, the list of the items' numbers that wait for it.

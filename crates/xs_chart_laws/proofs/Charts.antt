@@ -50,7 +50,7 @@ closed_is_chart g w sets built counted all different closed = record {
 pub chart_language : (g : Grammar) (w : List ℕ) (sets : List (List Item)) → IsChartOf g w sets → InLang g w ↔ IsWhole g w (HasPlace g sets)
 chart_language g w sets chart = language_is_whole g w (HasPlace g sets) (chart_has_all g w sets chart) (chart_all_stand g w sets chart)
 
--- a chart tells which fronts of the document begin a word of the language
+-- a chart shows which fronts of the document begin a word of the language
 pub chart_front : (g : Grammar) (w : List ℕ) (sets : List (List Item)) → IsSound g → IsChartOf g w sets → (k : ℕ) → k ≤ length w → IsFront g (take k w) ↔ IsReached g w (HasPlace g sets) k
 chart_front g w sets sound chart k le =
     let standing = front_is_reached g w (λ j c i. Stands g w c i j) sound (standing_is_closed g w sound.built) (λ c i j st. st) k le in (

@@ -16,7 +16,7 @@ use Rattle.xs_gram.specs.Sound.{IsSound}
 use Rattle.xs_gram.specs.Chart.{IsAutomatonOf}
 use Rattle.xs_chart_laws.proofs.Spelling.{term_agrees, skip_agrees}
 
--- a word, so many times over
+-- a word, that many times over
 repeated : (P : List ℕ → Type 0) (u : List ℕ) → P u → (n : ℕ) → (us : List (List ℕ)) × Each P us × (length us ≡ n)
 repeated P u p zero = ([], tt, refl)
 repeated P u p (suc n) = let r = repeated P u p n in (u ∷ r.0, (p, r.1), ap (λ k. suc k) r.2)

@@ -11,7 +11,7 @@ use Rattle.xs_gram.specs.Grammar.{Grammar, term_of, skip_of, items, ItemAt}
 use Rattle.xs_gram.specs.Derivations.{Parts, done, fixed, leaf, skip, sub, Derivation, FitsItems, Fits, parts_yield, yield}
 use Rattle.xs_gram.specs.Languages.{IsFront}
 use Rattle.xs_gram.specs.Sound.{IsBuilt, IsSound}
-use Rattle.xs_gram.specs.Chart.{Spells, IsAutomatonOf, IsCalled, begins, calls, Behind, Stands}
+use Rattle.xs_gram.specs.Chart.{Spells, IsAutomatonOf, IsCalled, begins, calls, SpeltBefore, Stands}
 use Rattle.xs_gram.specs.Places.{at_dot, at_inside}
 use Rattle.xs_chart_laws.specs.Reading.{Reads}
 use Rattle.xs_chart_laws.specs.Closed.{IsClosed, AllStand, HasAllThatStand, IsReached}
@@ -150,9 +150,9 @@ module _ (g : Grammar) (w : List ℕ) (sound : IsSound g) where
         rw (then-yield sp.1 rest.0, sp.3),
       )
 
-  end_behind : (p n : ℕ) (o : Option ℕ) (u : List ℕ) → Behind g (record { rule = p; dot = n; inside = o }) u → (ps : Parts) × (v : List ℕ) × FitsItems g (items g p) ps × (parts_yield ps ≡ u ++ v)
-  end_behind p n None u b = end_dot p n u b
-  end_behind p n (Some k) u b =
+  end_spelt : (p n : ℕ) (o : Option ℕ) (u : List ℕ) → SpeltBefore g (record { rule = p; dot = n; inside = o }) u → (ps : Parts) × (v : List ℕ) × FitsItems g (items g p) ps × (parts_yield ps ≡ u ++ v)
+  end_spelt p n None u b = end_dot p n u b
+  end_spelt p n (Some k) u b =
       let t = ended g sound p n b.0 b.1 b.3 k b.4 b.5 b.8 in
       let rs = lex_part g sound.built p n b.0 b.1 (b.3 ++ t.0) b.4 b.5 t.1 in
       let e = end_dot p (suc n) (b.2 ++ parts_yield rs.0) (Spells-more g p n b.2 b.0 rs.0 b.7 b.4 rs.1) in
@@ -171,7 +171,7 @@ module _ (g : Grammar) (w : List ℕ) (sound : IsSound g) where
 
   stands_front : (p n : ℕ) (o : Option ℕ) (i j : ℕ) → Stands g w (record { rule = p; dot = n; inside = o }) i j → IsFront g (take j w)
   stands_front p n o i j st =
-      let t = end_behind p n o (slice_range w i j) st.5 in
+      let t = end_spelt p n o (slice_range w i j) st.5 in
       let r = climb st.0 i st.2 (record { rule = p; parts = t.0 }) (st.1, t.2) in
       (t.1 ++ r.0, (r.1.0, (r.1.1.0, front_word (take j w) (take i w) (slice_range w i j) t.1 (parts_yield t.0) r.0 (yield r.1.0) (take-slice i j st.3 st.4) t.3 r.1.1.1)))
 

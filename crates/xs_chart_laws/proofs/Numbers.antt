@@ -26,7 +26,7 @@ automaton_positions g (Skip t) a k lex lt = rw lex at lt
 automaton_positions g (Fixed f) a k lex lt = absurd lex
 automaton_positions g (Non n s) a k lex lt = absurd lex
 
--- the place at the front of a rule, behind an item, and inside an item
+-- the place at the front of a rule, after an item, and inside an item
 pub first_place : (g : Grammar) (p : ℕ) → p < length g.rules → IsPlace g (at_dot p 0)
 first_place g p lt = record { rule = lt; dot = omega arith; inside = λ k e. absurd (none_is k e) }
 

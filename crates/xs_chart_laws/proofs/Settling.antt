@@ -1,5 +1,5 @@
 -- Items that are settled: by the kind of their place, while sets grow, and in the end as a chart.
-use Rattle.std.proofs.Common.{◌≡◌, ℕ, suc, ◌+◌, ◌<◌, List, length, refl, sym, subst, arith, inl, inr, Some, None}
+use Rattle.std.proofs.Common.{◌≡◌, ℕ, suc, ◌+◌, ◌<◌, List, length, refl, sym, subst, arith, ◌⊎◌, inl, inr, Some, None}
 use Rattle.std.specs.declared.option.Option.{Option}
 use Rattle.std.specs.Prelude.{slice_get, Contains, IsTrue}
 use Rattle.xs_chart.specs.declared.item.Item.{Item}
@@ -64,6 +64,10 @@ automaton_not_non g c a non h before = no_automaton_non g h.0 a non before.1 (on
 automaton_not_fixed : (g : Grammar) (c : Place) (a : Position) (f : List ℕ) → HasAutomaton g c a → ItemAt g c.rule c.dot (Fixed f) → ⊥
 automaton_not_fixed g c a f h at = no_automaton_fixed g h.0 a f (one_of_place g c h.0 (Fixed f) h.1 at) h.2
 
+-- the automaton may end at the place: before it where it is nullable, or at a last position
+abbrev MayEnd : Place → Position → Type 0
+MayEnd c a = ((c.inside ≡ None) × IsTrue a.nullable) ⊎ ((k : ℕ) × (c.inside ≡ Some k) × Contains a.last k)
+
 module _ (g : Grammar) (w : List ℕ) (has : ℕ → Place → ℕ → Type 0) (j : ℕ) (c : Place) (i : ℕ) where
   -- before a fixed word
   pub settled_fixed : (f : List ℕ) → c.inside ≡ None → ItemAt g c.rule c.dot (Fixed f) → (Reads w j f (j + length f) → has (j + length f) (next_of c) i) → IsSettled g w has j c i
@@ -110,9 +114,9 @@ module _ (g : Grammar) (w : List ℕ) (has : ℕ → Place → ℕ → Type 0) (
       arrived k d (inl (next, x, e, a, h, m, by, is)) = absurd (automaton_not_non g c a non h (none, slot, at))
       arrived k d (inr (u, free, there, r, is)) = absurd (fixed_is_non u non slot (one_of_place g c (Fixed u) (Non non slot) there at))
 
-  -- before a terminal or an ignorable
-  pub settled_lex : (a : Position) → c.inside ≡ None → HasAutomaton g c a → (IsTrue a.nullable → has j (next_of c) i) → ((x k : ℕ) → slice_get w j ≡ Some x → Contains a.first k → HasAt a k x → has (suc j) (at_inside c.rule c.dot k) i) → IsSettled g w has j c i
-  settled_lex a none lex pass enter = record {
+  -- before or inside a terminal or an ignorable
+  settled_automaton : (a : Position) → HasAutomaton g c a → (MayEnd c a → has j (next_of c) i) → ((x m : ℕ) → slice_get w j ≡ Some x → GoesBy a c.inside x m → has (suc j) (at_inside c.rule c.dot m) i) → IsSettled g w has j c i
+  settled_automaton a lex pass go = record {
     passed = passed;
     called = λ m q before rule. absurd (automaton_not_non g c a m lex before);
     completed = λ m d o end lt h before. absurd (not_at_end g c lex.0 m lex.1 end);
@@ -121,42 +125,37 @@ module _ (g : Grammar) (w : List ℕ) (has : ℕ → Place → ℕ → Type 0) (
     where
       passed : IsPassed g c → has j (next_of c) i
       passed (inl h) = absurd (automaton_not_non g c a h.0 lex h.1)
-      passed (inr (b, h, inl e)) = pass (subst (λ (p : Position). IsTrue p.nullable) (automaton_once g c b a h lex) e.1)
-      passed (inr (b, h, inr e)) = absurd (none_is_some c.inside e.0 none e.1)
-
-      goes : (b : Position) (o : Option ℕ) (x m : ℕ) → b ≡ a → o ≡ None → GoesBy b o x m → Contains a.first m × HasAt a m x
-      goes b None x m same e by = subst (λ (p : Position). Contains p.first m × HasAt p m x) same by
-      goes b (Some k) x m same e by = absurd (none_is_some (Some k) k e refl)
+      passed (inr (b, h, ends)) = pass (subst (λ (p : Position). MayEnd c p) (automaton_once g c b a h lex) ends)
 
       arrived : (k : ℕ) (d : Place) → Arrives g w j c k d → has k d i
       arrived k d (inl (next, x, e, b, h, m, by, is)) =
-          let f = goes b c.inside x m (automaton_once g c b a h lex) none by in
-          subst (λ y. has k y i) (sym is) (subst (λ l. has l (at_inside c.rule c.dot m) i) (sym next) (enter x m e f.0 f.1))
+          let by' : GoesBy a c.inside x m = subst (λ (p : Position). GoesBy p c.inside x m) (automaton_once g c b a h lex) by in
+          subst (λ y. has k y i) (sym is) (subst (λ l. has l (at_inside c.rule c.dot m) i) (sym next) (go x m e by'))
       arrived k d (inr (u, free, there, r, is)) = absurd (automaton_not_fixed g c a u lex there)
+
+  -- before a terminal or an ignorable
+  pub settled_lex : (a : Position) → c.inside ≡ None → HasAutomaton g c a → (IsTrue a.nullable → has j (next_of c) i) → ((x k : ℕ) → slice_get w j ≡ Some x → Contains a.first k → HasAt a k x → has (suc j) (at_inside c.rule c.dot k) i) → IsSettled g w has j c i
+  settled_lex a none lex pass enter = settled_automaton a lex ended (λ x m e by. let f = goes c.inside x m none by in enter x m e f.0 f.1)
+    where
+      ended : MayEnd c a → has j (next_of c) i
+      ended (inl e) = pass e.1
+      ended (inr e) = absurd (none_is_some c.inside e.0 none e.1)
+
+      goes : (o : Option ℕ) (x m : ℕ) → o ≡ None → GoesBy a o x m → Contains a.first m × HasAt a m x
+      goes None x m e by = by
+      goes (Some k) x m e by = absurd (none_is_some (Some k) k e refl)
 
   -- inside a terminal or an ignorable
   pub settled_inside : (a : Position) (p : ℕ) → c.inside ≡ Some p → HasAutomaton g c a → (Contains a.last p → has j (next_of c) i) → ((x k : ℕ) → slice_get w j ≡ Some x → Leads a p k → HasAt a k x → has (suc j) (at_inside c.rule c.dot k) i) → IsSettled g w has j c i
-  settled_inside a p some lex pass step = record {
-    passed = passed;
-    called = λ m q before rule. absurd (automaton_not_non g c a m lex before);
-    completed = λ m d o end lt h before. absurd (not_at_end g c lex.0 m lex.1 end);
-    arrived = arrived;
-  }
+  settled_inside a p some lex pass step = settled_automaton a lex ended (λ x m e by. let f = goes c.inside x m some by in step x m e f.0 f.1)
     where
-      passed : IsPassed g c → has j (next_of c) i
-      passed (inl h) = absurd (automaton_not_non g c a h.0 lex h.1)
-      passed (inr (b, h, inl e)) = absurd (none_is_some c.inside p e.0 some)
-      passed (inr (b, h, inr e)) = pass (subst (λ (q : Position). Contains q.last p) (automaton_once g c b a h lex) (subst (λ k. Contains b.last k) (same_some c.inside e.0 p e.1 some) e.2))
+      ended : MayEnd c a → has j (next_of c) i
+      ended (inl e) = absurd (none_is_some c.inside p e.0 some)
+      ended (inr e) = pass (subst (λ k. Contains a.last k) (same_some c.inside e.0 p e.1 some) e.2)
 
-      goes : (b : Position) (o : Option ℕ) (x m : ℕ) → b ≡ a → o ≡ Some p → GoesBy b o x m → Leads a p m × HasAt a m x
-      goes b None x m same e by = absurd (none_is_some None p refl e)
-      goes b (Some k) x m same e by = subst (λ (q : Position). Leads q p m × HasAt q m x) same (subst (λ n. Leads b n m × HasAt b m x) (same_some (Some k) k p refl e) by)
-
-      arrived : (k : ℕ) (d : Place) → Arrives g w j c k d → has k d i
-      arrived k d (inl (next, x, e, b, h, m, by, is)) =
-          let f = goes b c.inside x m (automaton_once g c b a h lex) some by in
-          subst (λ y. has k y i) (sym is) (subst (λ l. has l (at_inside c.rule c.dot m) i) (sym next) (step x m e f.0 f.1))
-      arrived k d (inr (u, free, there, r, is)) = absurd (none_is_some c.inside p free some)
+      goes : (o : Option ℕ) (x m : ℕ) → o ≡ Some p → GoesBy a o x m → Leads a p m × HasAt a m x
+      goes None x m e by = absurd (none_is_some None p refl e)
+      goes (Some k) x m e by = subst (λ n. Leads a n m × HasAt a m x) (same_some (Some k) k p refl e) by
 
   -- at the end of a rule
   pub settled_end : c.inside ≡ None → c.dot ≡ length (items g c.rule) → ((non : ℕ) (d : Place) (o : ℕ) → IsRuleOf g non c.rule → i < j → has i d o → IsBefore g d non → has j (next_of d) o) → IsSettled g w has j c i

@@ -9,7 +9,7 @@ use Rattle.xs_gram.specs.declared.places.Place.{Place}
 use Rattle.xs_gram.specs.Grammar.{Grammar, items, IsRuleOf, ItemAt}
 use Rattle.xs_gram.specs.Derivations.{Parts, done, fixed, sub, FitsItems, parts_yield}
 use Rattle.xs_gram.specs.Sound.{IsBuilt, IsNullable}
-use Rattle.xs_gram.specs.Chart.{IsAutomatonOf, IsCalled, begins, calls, Behind, Stands}
+use Rattle.xs_gram.specs.Chart.{IsAutomatonOf, IsCalled, begins, calls, SpeltBefore, Stands}
 use Rattle.xs_gram.specs.Places.{at_dot, at_inside}
 use Rattle.xs_chart_laws.specs.Reading.{Reads}
 use Rattle.xs_chart_laws.specs.Closed.{IsClosed}
@@ -22,7 +22,7 @@ called_within g w _ _ begins = omega arith
 called_within g w _ _ (calls n h q e m s j c rule at le lw sp) = lw
 
 -- to stand, with what was read as a word of its own
-pub stood : (g : Grammar) (w : List ℕ) (c : Place) (n i j : ℕ) (u : List ℕ) → IsRuleOf g n c.rule → IsCalled g w n i → Reads w i u j → Behind g c u → Stands g w c i j
+pub stood : (g : Grammar) (w : List ℕ) (c : Place) (n i j : ℕ) (u : List ℕ) → IsRuleOf g n c.rule → IsCalled g w n i → Reads w i u j → SpeltBefore g c u → Stands g w c i j
 stood g w c n i j u rule called r b =
     let e = Reads-is w i u j r in
     (n, rule, called, omega arith, Reads-within w i u j (called_within g w n i called) r, rw (Reads-slice w i u j r) b)

@@ -1,5 +1,5 @@
--- When sets of items are closed, and how far a document is read by them. Throughout `has j c i` says
--- that set j has the item of place c and origin i.
+-- When sets of items are closed, and how far a document is read by them. Throughout `has j c i`
+-- says that set j has the item of place c and origin i.
 use Rattle.std.specs.Prelude.{◌≡◌, ◌⊎◌, ℕ, suc, ◌<◌, ◌≤◌, List, ◌++◌, length, slice_get, None, Some, Contains, IsTrue}
 use Rattle.xs_regex.specs.declared.position.Position.{Position}
 use Rattle.xs_regex.specs.Automaton.{HasAt, Leads}
@@ -12,11 +12,12 @@ use Rattle.xs_gram.specs.Chart.{IsAutomatonOf, Stands}
 use Rattle.xs_gram.specs.Places.{at_dot, at_inside}
 use Rattle.xs_chart_laws.specs.Reading.{Reads}
 
--- Whatever an item of the sets leads to is in them: rules of the start at their beginning (starts), rules
--- of a nonterminal before which an item stands (predicts), what is behind a terminal or an ignorable that
--- can be empty (passes), the positions of its automaton that the next symbol enters (enters) and goes on
--- to (steps), what is behind it at a last position (ends), what is behind a fixed word that is read
--- (reads), and what is behind a nonterminal of which a whole rule was read (completes).
+-- Whatever an item of the sets leads to is in them: rules of the start at their beginning (starts),
+-- rules of a nonterminal before which an item stands (predicts), what is after a terminal or an
+-- ignorable that can be empty (passes), the positions of its automaton that the next symbol enters
+-- (enters) and goes on to (steps), what is after it at a last position (ends), what is after a
+-- fixed word that is read (reads), and what is after a nonterminal of which a whole rule was read
+-- (completes).
 pub record IsClosed (g : Grammar) (w : List ℕ) (has : ℕ → Place → ℕ → Type 0) : Type 0 where
   pub starts : (p : ℕ) → IsRuleOf g g.start p → has 0 (at_dot p 0) 0
   pub predicts : (p n i j m s q : ℕ) → has j (at_dot p n) i → ItemAt g p n (Non m s) → IsRuleOf g m q → has j (at_dot q 0) j
@@ -27,8 +28,8 @@ pub record IsClosed (g : Grammar) (w : List ℕ) (has : ℕ → Place → ℕ �
   pub reads : (p n i j k : ℕ) (f : List ℕ) → has j (at_dot p n) i → ItemAt g p n (Fixed f) → Reads w j f k → has k (at_dot p (suc n)) i
   pub completes : (p n i j k m s q : ℕ) → has j (at_dot p n) i → ItemAt g p n (Non m s) → IsRuleOf g m q → has k (at_dot q (length (items g q))) j → has k (at_dot p (suc n)) i
 
--- The same by what a recogniser does: a completion looks at earlier sets only, and a nonterminal that
--- derives the empty word is passed over.
+-- The same by what a recogniser does: a completion looks at earlier sets only, and a nonterminal
+-- that derives the empty word is passed over.
 pub record IsClosedBy (g : Grammar) (w : List ℕ) (has : ℕ → Place → ℕ → Type 0) : Type 0 where
   pub starts : (p : ℕ) → IsRuleOf g g.start p → has 0 (at_dot p 0) 0
   pub predicts : (p n i j m s q : ℕ) → has j (at_dot p n) i → ItemAt g p n (Non m s) → IsRuleOf g m q → has j (at_dot q 0) j
@@ -52,8 +53,8 @@ HasAllThatStand g w has = (c : Place) (i j : ℕ) → Stands g w c i j → has j
 abbrev pub IsWhole : Grammar → List ℕ → (ℕ → Place → ℕ → Type 0) → Type 0
 IsWhole g w has = (p : ℕ) × IsRuleOf g g.start p × has (length w) (at_dot p (length (items g p))) 0
 
--- From an item of this place in set j the document is read up to place k: no further than j, or by a
--- front of the fixed word that the item stands before.
+-- From an item of this place in set j the document is read up to place k: no further than j, or by
+-- a front of the fixed word that the item stands before.
 abbrev pub ReadsTo : Grammar → List ℕ → ℕ → Place → ℕ → Type 0
 ReadsTo g w j c k = (k ≡ j) ⊎ ((u : List ℕ) × (rest : List ℕ) × (c.inside ≡ None) × ItemAt g c.rule c.dot (Fixed (u ++ rest)) × Reads w j u k)
 

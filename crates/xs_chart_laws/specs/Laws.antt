@@ -22,8 +22,8 @@ StandingIsClosed = (g : Grammar) (w : List ℕ) → IsBuilt g → IsClosed g w (
 abbrev pub RecogniserCloses : Type 0
 RecogniserCloses = (g : Grammar) (w : List ℕ) (sets : List (List Item)) → AllStand g w (HasPlace g sets) → IsClosedBy g w (HasPlace g sets) → IsClosed g w (HasPlace g sets)
 
--- sets that are closed and of which all stands, one set more than the document has symbols and none with
--- an item twice, are its chart
+-- sets that are closed and of which all stands, one set more than the document has symbols and none
+-- with an item twice, are its chart
 abbrev pub ClosedIsChart : Type 0
 ClosedIsChart = (g : Grammar) (w : List ℕ) (sets : List (List Item)) → IsBuilt g → length sets ≡ suc (length w) → AllItemsStand g w sets → ((j : ℕ) → AreDifferent (set_at sets j)) → IsClosed g w (HasPlace g sets) → IsChartOf g w sets
 

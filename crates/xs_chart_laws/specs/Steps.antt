@@ -1,5 +1,5 @@
--- What an item leads to, by its place. As in Closed, `has j c i` says that set j has the item of place c
--- and origin i.
+-- What an item leads to, by its place. As in Closed, `has j c i` says that set j has the item of
+-- place c and origin i.
 use Rattle.std.specs.Prelude.{◌≡◌, ◌⊎◌, ℕ, suc, ◌<◌, List, length, slice_get, None, Some, Contains, IsTrue}
 use Rattle.std.specs.declared.option.Option.{Option}
 use Rattle.xs_regex.specs.declared.position.Position.{Position}
@@ -13,7 +13,7 @@ use Rattle.xs_gram.specs.Chart.{IsAutomatonOf}
 use Rattle.xs_gram.specs.Places.{at_dot, at_inside}
 use Rattle.xs_chart_laws.specs.Reading.{Reads}
 
--- the place behind the item
+-- the place after the item
 abbrev pub next_of : Place → Place
 next_of c = at_dot c.rule (suc c.dot)
 
@@ -40,8 +40,8 @@ abbrev pub GoesBy : Position → Option ℕ → ℕ → ℕ → Type 0
 GoesBy a None x k = Contains a.first k × HasAt a k x
 GoesBy a (Some h) x k = Leads a h k × HasAt a k x
 
--- from the place in set j the document is read to place d in set k: by one symbol inside a terminal or an
--- ignorable, or by a fixed word
+-- from the place in set j the document is read to place d in set k: by one symbol inside a terminal
+-- or an ignorable, or by a fixed word
 abbrev pub Arrives : Grammar → List ℕ → ℕ → Place → ℕ → Place → Type 0
 Arrives g w j c k d =
     ((k ≡ suc j) × (x : ℕ) × (slice_get w j ≡ Some x) × (a : Position) × HasAutomaton g c a × (m : ℕ) × GoesBy a c.inside x m × (d ≡ at_inside c.rule c.dot m)) ⊎

@@ -61,7 +61,7 @@ cut {rest = i ∷ is} {u = u} {v = v} {x = x} {y = y} lf lu lx lv ly none e =
 cancel_same : {a b v y : List ℕ} → a ≡ b → a ++ v ≡ b ++ y → v ≡ y
 cancel_same {a} {b} {v} {y} e h = append_cancel_left b v y (subst (λ (w : List ℕ). w ++ v ≡ b ++ y) e h)
 
--- the words of items are fixed by what they spell, behind a front whose word is known
+-- the words of items are fixed by what they spell, after a front whose word is known
 same_words : {g : Grammar} {is : List GItem} {ws vs : List (List ℕ)} → Words g is ws → Words g is vs → concat ws ≡ concat vs → (before : List GItem) (u : List ℕ) → IsLoose g before u → IsClear g (before ++ is) → ws ≡ vs
 same_words no_words no_words e before u lu clear = refl
 same_words {g} (word_then {i = i} {is = js} {w = a} {ws = ws} h t) (word_then {w = b} {ws = vs} k q) e before u lu clear =
@@ -105,7 +105,8 @@ module _ (g : Grammar) (decided : IsDecided g) (apart : HasNoVertical g) (none :
       let cut_rest : Overlaps g front (drop (length front) (items g p)) x a y = subst (λ (js : List GItem). Overlaps g front js x a y) d o in
       none p (length front) x a y record { rule = lt; low = lf; high = high; overlap = subst (λ (is : List GItem). Overlaps g is (drop (length front) (items g p)) x a y) t cut_rest }
 
-  -- two derivations of n that spell one word are of one rule and have the same parts, where parts with the same words are the same
+  -- two derivations of n that spell one word are of one rule and have the same parts, where parts with the same words
+  -- are the same
   same_node : (n q : ℕ) (qs : Parts) (p : ℕ) (rs : Parts) → IsRuleOf g n q → IsRuleOf g n p → FitsItems g (items g q) qs → FitsItems g (items g p) rs → parts_yield qs ≡ parts_yield rs
       → ((ts : Parts) → FitsItems g (items g q) ts → part_words qs ≡ part_words ts → qs ≡ ts) → (q ≡ p) × (qs ≡ rs)
   same_node n q qs p rs of of' fit fit' e inner =

@@ -1,5 +1,5 @@
--- What the check accepts, and what it answers first where it refuses: a rule that is too heavy, or a
--- suspect of ambiguity. Text stands before XML.
+-- What the check accepts, and what it answers first where it refuses: a rule that is too heavy, or
+-- a suspect of ambiguity. Text stands before XML.
 use Rattle.std.specs.Prelude.{◌≡◌, ℕ, ◌<◌, ◌≤◌, List, length, ◌⊎◌}
 use Rattle.xs_class.specs.declared.side.Side.{Side}
 use Rattle.xs_class.specs.declared.side.Side.TheVariants.{Text, Xml}
@@ -71,7 +71,8 @@ pub data Suspect : Type 0 where
   vertical : Side → ℕ → ℕ → List ℕ → Suspect
   horizontal : Side → ℕ → ℕ → List ℕ → List ℕ → List ℕ → Suspect
 
--- its side and numbers are those of the first suspect: text vertical, text horizontal, XML vertical, XML horizontal
+-- its side and numbers are those of the first suspect: text vertical, text horizontal, XML
+-- vertical, XML horizontal
 abbrev pub IsFirstSuspect : Grammar → Grammar → Suspect → Type 0
 IsFirstSuspect text xml (vertical Text p q w) = IsFirstVertical text p q
 IsFirstSuspect text xml (horizontal Text p c x a y) = HasNoVertical text × IsFirstHorizontal text p c

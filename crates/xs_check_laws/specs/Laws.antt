@@ -1,5 +1,5 @@
--- The laws: what derivations spell is loose, without suspects each word has one derivation, and each
--- part and rule has one weight.
+-- The laws: what derivations spell is loose, without suspects each word has one derivation, and
+-- each part and rule has one weight.
 use Rattle.std.specs.Prelude.{◌≡◌, ℕ, ◌<◌, List}
 use Rattle.std.specs.List.{concat, slice_range}
 use Rattle.xs_gram.specs.declared.parts.GItem.{GItem}
@@ -25,7 +25,8 @@ DecidedInRange = (g : Grammar) → IsInRange g → ((m n : ℕ) → m < g.nons �
 abbrev pub WordsAreTheYield : Type 0
 WordsAreTheYield = (ps : Parts) → concat (part_words ps) ≡ parts_yield ps
 
--- the words of each stretch of a derivation's parts, joined, are loose for that stretch of its rule's items
+-- the words of each stretch of a derivation's parts, joined, are loose for that stretch of its
+-- rule's items
 abbrev pub YieldsAreLoose : Type 0
 YieldsAreLoose =
     (g : Grammar) → IsDecided g → (non : ℕ) (d : Derivation) → Fits g non d → (start end : ℕ)

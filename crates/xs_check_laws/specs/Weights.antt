@@ -10,15 +10,15 @@ use Rattle.xs_gram.specs.Loose.{AreOne, IsMember}
 abbrev pub capped : ℕ → ℕ
 capped n = min n 1000000
 
--- of the first so many nonterminals so many are members of the component of c
+-- of the nonterminals below the bound that many are members of the component of c
 pub data Members (g : Grammar) (c : ℕ) : ℕ → ℕ → Type 0 where
   no_member : Members g c zero zero
   member_next : {n k : ℕ} → AreOne g c n → Members g c n k → Members g c (suc n) (suc k)
   other_next : {n k : ℕ} → (AreOne g c n → ⊥) → Members g c n k → Members g c (suc n) k
 
--- A fixed word weighs its length, a terminal or an ignorable 1 more than its regex's size, a nonterminal
--- what its component does: 2 for each member, and for each rule of a member 1 and its items, where an
--- item that is a member counts 1 and any other its weight.
+-- A fixed word weighs its length, a terminal or an ignorable 1 more than its regex's size, a
+-- nonterminal what its component does: 2 for each member, and for each rule of a member 1 and its
+-- items, where an item that is a member counts 1 and any other its weight.
 mutual
   pub data ItemWeighs (g : Grammar) : GItem → ℕ → Type 0 where
     fixed_weighs : {f : List ℕ} {w : ℕ} → w ≡ length f → ItemWeighs g (Fixed f) w
@@ -29,7 +29,7 @@ mutual
   pub data ComponentWeighs (g : Grammar) : ℕ → ℕ → Type 0 where
     component_weighs : {c members rules w : ℕ} → Members g c g.nons members → RulesWeigh g c (length g.rules) rules → w ≡ capped (2 * members + rules) → ComponentWeighs g c w
 
-  -- those of the first so many rules that are of members of the component of c
+  -- those of the rules below the bound that are of members of the component of c
   pub data RulesWeigh (g : Grammar) : ℕ → ℕ → ℕ → Type 0 where
     no_rule_yet : {c : ℕ} → RulesWeigh g c zero zero
     rule_of_member : {c p body before w : ℕ} → AreOne g c (rule_of g p).non → BodyWeighs g c (items g p) body → RulesWeigh g c p before → w ≡ capped (before + suc body) → RulesWeigh g c (suc p) w

@@ -1,10 +1,14 @@
-//! What the check of ambiguity accepts, and the laws on which it stands, over grammars alone.
+//! Laws of the check of ambiguity, by a regular over-approximation of each nonterminal: without
+//! vertical and horizontal ambiguity of it, a grammar is unambiguous.
 //!
-//! specs/ has the weights of parts and rules, acceptance, and which answer comes first where a sheet
-//! is refused. The laws: what any derivation spells is loose, stretch by stretch; where no word is
-//! loose for two rules of one nonterminal, and none can be cut at two places of a rule, each word has
-//! at most one derivation; and a part has one weight. They ask only that it is decided of each two
-//! nonterminals whether they are of one component.
+//! The criterion is that of Brabrand, Giegerich and Møller, Analyzing ambiguity of context-free
+//! grammars, 2007; the over-approximation, whose words are called loose, is as by Mohri and
+//! Nederhof, Regular approximation of context-free grammars through transformation, 2001. specs/ has
+//! the weights of parts and rules, acceptance, and which answer comes first where a sheet is
+//! refused. The laws: what any derivation spells is loose, stretch by stretch; where no word is
+//! loose for two rules of one nonterminal, and none can be cut at two places of a rule, each word
+//! has at most one derivation; and a part has one weight. They ask only that it is decided of each
+//! two nonterminals whether they are of one component.
 #![tactic(auto)]
 
 mod laws;

@@ -17,19 +17,19 @@ noted_none place uses = record {
 
 -- the place is added to the row of one more premise
 pub noted_more : (premises : List ℕ) (place : ℕ) (uses old new : List (List ℕ)) (i number : ℕ) (row : List ℕ) → i < length premises → number ≡ get_or premises i 0 → number < length old → row ≡ get_or old number [] → new ≡ set old number (row ++ place ∷ []) → IsNoted (take i premises) place uses old → IsNoted (take (i + 1) premises) place uses new
-noted_more premises place uses old new i number row l is low e f told = record {
-  rows = ap length f ∙ length-set old number (row ++ place ∷ []) ∙ told.rows;
-  kept = λ n k h. kept n k (told.kept n k h);
+noted_more premises place uses old new i number row l is low e f known = record {
+  rows = ap length f ∙ length-set old number (row ++ place ∷ []) ∙ known.rows;
+  kept = λ n k h. kept n k (known.kept n k h);
   noted = λ n h. elim (Contains-push_cases (take i premises) number n (rw front at h)) [
-    | inl before ↦ kept n place (told.noted n before)
+    | inl before ↦ kept n place (known.noted n before)
     | inr here ↦ rw (← here, same) (Contains-push row place)
   ];
   only = λ n k h. elim (cases_eq n number) [
     | inl here ↦ elim (Contains-push_cases row place k (rw (here, same) at h)) [
-      | inl before ↦ told.only n k (rw (here, ← e) before)
+      | inl before ↦ known.only n k (rw (here, ← e) before)
       | inr p ↦ inr (sym p)
     ]
-    | inr other ↦ told.only n k (rw (others n other) at h)
+    | inr other ↦ known.only n k (rw (others n other) at h)
   ];
 }
   where
@@ -56,15 +56,15 @@ uses_none clauses count uses blank = record {
 
 -- the next clause was noted
 pub uses_more : (clauses : List Clause) (uses new : List (List ℕ)) (k : ℕ) (premises : List ℕ) → k < length clauses → premises ≡ (clause_of clauses k).premises → IsNoted premises k uses new → AreUsesTo clauses k uses → AreUsesTo clauses (k + 1) new
-uses_more clauses uses new k premises l e noted told = record {
+uses_more clauses uses new k premises l e noted known = record {
   noted = λ j n h has. elim (cases_lt j k) [
-    | inl before ↦ noted.kept n j (told.noted j n before has)
+    | inl before ↦ noted.kept n j (known.noted j n before has)
     | inr after ↦
         let here : j ≡ k = omega arith in
         rw here (noted.noted n (rw e (rw here at has)))
   ];
   places = λ n j h. elim (noted.only n j h) [
-    | inl before ↦ told.places n j before
+    | inl before ↦ known.places n j before
     | inr here ↦ rw here l
   ];
 }

@@ -16,7 +16,7 @@ no_clause = record { head = 0; premises = [] }
 abbrev pub clause_of : List Clause → ℕ → Clause
 clause_of clauses k = slice_index_or clauses k no_clause
 
--- so many rows, all empty
+-- that many rows, all empty
 pub record AreBlank (count : ℕ) (uses : List (List ℕ)) : Type 0 where
   pub rows : length uses ≡ count
   pub blank : (n : ℕ) → slice_index_or uses n [] ≡ []
@@ -28,7 +28,8 @@ pub record IsNoted (premises : List ℕ) (place : ℕ) (uses new : List (List �
   pub noted : (n : ℕ) → Contains premises n → Contains (slice_index_or new n []) place
   pub only : (n k : ℕ) → Contains (slice_index_or new n []) k → Contains (slice_index_or uses n []) k ⊎ (k ≡ place)
 
--- each row has the places of the clauses before place `end` that have the number as a premise, and only places of clauses
+-- each row has the places of the clauses before place `end` that have the number as a premise, and
+-- only places of clauses
 pub record AreUsesTo (clauses : List Clause) (end : ℕ) (uses : List (List ℕ)) : Type 0 where
   pub noted : (k n : ℕ) → k < end → Contains (clause_of clauses k).premises n → Contains (slice_index_or uses n []) k
   pub places : (n k : ℕ) → Contains (slice_index_or uses n []) k → k < length clauses
@@ -38,15 +39,16 @@ pub record AreUses (count : ℕ) (clauses : List Clause) (uses : List (List ℕ)
   pub rows : length uses ≡ count
   pub all : AreUsesTo clauses (length clauses) uses
 
--- the place is the first from `from` on at which stands a number whose flag is not set, or the list's end
+-- the place is the first from `from` on at which stands a number whose flag is not set, or the
+-- list's end
 pub record IsFirstUnset (premises : List ℕ) (from : ℕ) (flags : List Bool) (place : ℕ) : Type 0 where
   pub low : from ≤ place
   pub high : place ≤ length premises
   pub passed : (i : ℕ) → from ≤ i → i < place → IsSet flags (slice_index_or premises i 0)
   pub stopped : place < length premises → IsSet flags (slice_index_or premises place 0) → ⊥
 
--- The flags that are set are of numbers that are made and were found, and no other number was found.
--- Each clause has a dot, and the flags of the premises before it are set.
+-- The flags that are set are of numbers that are made and were found, and no other number was
+-- found. Each clause has a dot, and the flags of the premises before it are set.
 pub record Fits (clauses : List Clause) (flags : List Bool) (found dots : List ℕ) : Type 0 where
   pub made : (n : ℕ) → IsSet flags n → IsMade clauses n
   pub known : (n : ℕ) → IsSet flags n → Contains found n

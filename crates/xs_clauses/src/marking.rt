@@ -7,7 +7,8 @@ use crate::{Clause, Flags};
 use std::alloc::Global;
 use xs_class::Memory;
 
-/// What the clauses make: a flag for each number below `count`, set exactly where the number is made.
+/// What the clauses make: a flag for each number below `count`, set exactly where the number is
+/// made.
 ///
 /// Takes time and memory linear in `count` and in the premises of all clauses.
 pub fn made(alloc: Global, count: u32, clauses: &[Clause]) -> Result<Flags, Memory>

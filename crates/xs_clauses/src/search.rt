@@ -59,7 +59,8 @@ impl Search {
         Ok(())
     }
 
-    /// Goes through the found numbers, and moves the dots of the clauses that have them as premises.
+    /// Goes through the found numbers, and moves the dots of the clauses that have them as
+    /// premises.
     fn close(&mut self, clauses: &[Clause], uses: &[Listed<usize>]) -> Result<(), Memory>
         requires below { AreBelow (length self.old.flags.items) clauses.now }
         requires fits { IsFit clauses.now self.old }

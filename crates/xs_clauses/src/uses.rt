@@ -19,7 +19,7 @@ pub fn uses_of(alloc: Global, count: u32, clauses: &[Clause]) -> Result<Vec<List
     Ok(uses)
 }
 
-/// So many empty rows.
+/// That many empty rows.
 fn blank(alloc: Global, count: u32) -> Result<Vec<Listed<usize>>, Memory>
     ensures { IfOk result (λ uses. AreBlank count uses.items) }
 {

@@ -1,4 +1,4 @@
--- The items that wait for a nonterminal in an earlier set, and what is behind them.
+-- The items that wait for a nonterminal in an earlier set, and what is after them.
 use Rattle.std.proofs.Common.{◌≡◌, ◌≢◌, ℕ, ◌<◌, List, [], length, Some, refl, sym, ◌∙◌, ap, subst, arith}
 use Rattle.std.specs.declared.option.Option.{Option}
 use Rattle.std.specs.Prelude.{Contains, slice_get, slice_index_or}
@@ -53,13 +53,13 @@ pub before_at : (g : Grammar) (state non : ℕ) (place : Place) → IsNumberBefo
 before_at g state non place h num = subst (λ d. IsBefore g d non) (one_place g state h.0 place h.1 num) h.2
 
 -- one waiting item more
-pub follows_one : (g : Grammar) (at : ℕ) (items : List Item) (k : ℕ) (item : Item) (place behind : Place) (a b : List (List Item)) → slice_get items k ≡ Some item → IsNumber g item.state place → behind ≡ next_of place → Adds g at (Is behind item.origin) a b → Adds g at (Follows g items k) a b
-follows_one g at items k item place behind a b e num is adds = adds_same g at (Is behind item.origin) (Follows g items k) a b to from adds
+pub follows_one : (g : Grammar) (at : ℕ) (items : List Item) (k : ℕ) (item : Item) (place after : Place) (a b : List (List Item)) → slice_get items k ≡ Some item → IsNumber g item.state place → after ≡ next_of place → Adds g at (Is after item.origin) a b → Adds g at (Follows g items k) a b
+follows_one g at items k item place after a b e num is adds = adds_same g at (Is after item.origin) (Follows g items k) a b to from adds
   where
-    to : (c : Place) (i : ℕ) → Is behind item.origin c i → Follows g items k c i
+    to : (c : Place) (i : ℕ) → Is after item.origin c i → Follows g items k c i
     to c i q = (item, e, place, num, (q.0 ∙ is, q.1))
 
-    from : (c : Place) (i : ℕ) → Follows g items k c i → Is behind item.origin c i
+    from : (c : Place) (i : ℕ) → Follows g items k c i → Is after item.origin c i
     from c i (x, f, d, n, q) =
         let one = same_at (slice_get items k) x item f e in
         let there = one_place g item.state d place (subst (λ (y : Item). IsNumber g y.state d) one n) num in

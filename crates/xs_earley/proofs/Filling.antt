@@ -111,7 +111,7 @@ module _ (g : Grammar) (w : List ℕ) where
           let here = first.there (at_dot p 0) 0 (e, p, rule, (refl, refl)) in
           has_place_more g begun.sets new.sets 0 (at_dot p 0) 0 (puts_kept at (Contains (set_at due at)) begun.sets new.sets puts 0) (subst (λ j. HasPlace g begun.sets j (at_dot p 0) 0) e here)
 
-  -- what is settled stays so where an empty set is put behind
+  -- what is settled stays so where an empty set is put after
   settled_pushed : (sets due : List (List Item)) (j k : ℕ) → IsSettledAt g w sets due j k → IsSettledAt g w (sets ++ [] ∷ []) due j k
   settled_pushed sets due j k h item c e num =
       settled_kept g w (Has g sets due) j c item.origin (Has g (sets ++ [] ∷ []) due) more (λ i d o lt. back i d o) (h item c (subst (λ (l : List Item). slice_get l k ≡ Some item) (set_pushed sets j) e) num)

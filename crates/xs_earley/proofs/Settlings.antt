@@ -18,7 +18,7 @@ use Rattle.xs_chart_laws.proofs.Words.{get_lt}
 use Rattle.xs_chart_laws.proofs.Charts.{chart_stands}
 use Rattle.xs_chart_laws.proofs.Steps.{passed_stands, called_stands, completed_stands, arrived_stands}
 use Rattle.xs_chart_laws.proofs.Settling.{has_place_more, settled_fixed, settled_non, settled_lex, settled_inside, settled_end}
-use Rattle.xs_earley.specs.Adding.{IsOf, Adds, Passes, Begins, GoesOn, Ends, Calls, ReadsWord}
+use Rattle.xs_earley.specs.Adding.{IsOf, Adds, Passes, Begins, GoesOn, Ends, Predicts, ReadsWord}
 use Rattle.xs_earley.specs.Growing.{Grown, Has, IsSettledAt}
 use Rattle.xs_earley.proofs.Additions.{adds_then, at_contains}
 use Rattle.xs_earley.proofs.Completing.{same_at}
@@ -29,16 +29,16 @@ pub of_stands : (g : Grammar) (w : List ℕ) (at : ℕ) (P : Place → ℕ → T
 of_stands g w at P stand item h = (h.0, h.1, stand h.0 item.origin h.2)
 
 -- a nonterminal is passed over, and its rules are begun
-pub calls_adds : (g : Grammar) (at non : ℕ) (place : Place) (o : ℕ) (null : Bool) (rules : List ℕ) (a b c : List (List Item)) → IsTrue null ↔ IsNullable g non → ((q : ℕ) → Contains rules q ↔ IsRuleOf g non q) → Adds g at (Passes null place o) a b → Adds g at (Begins rules at) b c → Adds g at (Calls g at non place o) a c
-calls_adds g at non place o null rules a b c nulls all first next = adds_then g at (Passes null place o) (Begins rules at) (Calls g at non place o) a b c passed begun split first next
+pub predicts_adds : (g : Grammar) (at non : ℕ) (place : Place) (o : ℕ) (null : Bool) (rules : List ℕ) (a b c : List (List Item)) → IsTrue null ↔ IsNullable g non → ((q : ℕ) → Contains rules q ↔ IsRuleOf g non q) → Adds g at (Passes null place o) a b → Adds g at (Begins rules at) b c → Adds g at (Predicts g at non place o) a c
+predicts_adds g at non place o null rules a b c nulls all first next = adds_then g at (Passes null place o) (Begins rules at) (Predicts g at non place o) a b c passed begun split first next
   where
-    passed : (d : Place) (i : ℕ) → Passes null place o d i → Calls g at non place o d i
+    passed : (d : Place) (i : ℕ) → Passes null place o d i → Predicts g at non place o d i
     passed d i h = inl (nulls.0 h.0, h.1)
 
-    begun : (d : Place) (i : ℕ) → Begins rules at d i → Calls g at non place o d i
+    begun : (d : Place) (i : ℕ) → Begins rules at d i → Predicts g at non place o d i
     begun d i (q, h, is) = inr (q, (all q).0 h, is)
 
-    split : (d : Place) (i : ℕ) → Calls g at non place o d i → Passes null place o d i ⊎ Begins rules at d i
+    split : (d : Place) (i : ℕ) → Predicts g at non place o d i → Passes null place o d i ⊎ Begins rules at d i
     split d i (inl (is_null, is)) = inl (nulls.1 is_null, is)
     split d i (inr (q, rule, is)) = inr (q, (all q).1 rule, is)
 
@@ -101,15 +101,15 @@ module _ (g : Grammar) (w : List ℕ) (built : IsBuilt g) (at : ℕ) (place : Pl
       complete non d i rule lt h before = inl (adds.there (next_of d) i (lt, (d, was d i lt h, subst (λ n. IsBefore g d n) (sym rule.1) before, refl)))
 
   -- before a nonterminal
-  pub calls_grown : (sets sets' due : List (List Item)) (non slot : ℕ) → place.inside ≡ None → ItemAt g place.rule place.dot (Non non slot) → Adds g at (Calls g at non place o) sets sets' → Grown g w at sets due sets' due
-  calls_grown sets sets' due non slot none there adds = grown_puts g w at (IsOf g (Calls g at non place o)) sets sets' due (of_stands g w at (Calls g at non place o) stand) adds.puts
+  pub predicts_grown : (sets sets' due : List (List Item)) (non slot : ℕ) → place.inside ≡ None → ItemAt g place.rule place.dot (Non non slot) → Adds g at (Predicts g at non place o) sets sets' → Grown g w at sets due sets' due
+  predicts_grown sets sets' due non slot none there adds = grown_puts g w at (IsOf g (Predicts g at non place o)) sets sets' due (of_stands g w at (Predicts g at non place o) stand) adds.puts
     where
-      stand : (c : Place) (i : ℕ) → Calls g at non place o c i → Stands g w c i at
+      stand : (c : Place) (i : ℕ) → Predicts g at non place o c i → Stands g w c i at
       stand c i (inl (null, is)) = subst (λ e. Stands g w e i at) (sym is.0) (subst (λ k. Stands g w (next_of place) k at) (sym is.1) (passed_stands g w built place o at st (inl (non, (none, slot, there), null))))
       stand c i (inr (q, rule, is)) = subst (λ e. Stands g w e i at) (sym is.0) (subst (λ k. Stands g w (at_dot q 0) k at) (sym is.1) (called_stands g w built place o at non q st (none, slot, there) rule))
 
-  pub calls_settled : (sets sets' due : List (List Item)) (non slot : ℕ) → place.inside ≡ None → ItemAt g place.rule place.dot (Non non slot) → Adds g at (Calls g at non place o) sets sets' → IsSettled g w (Has g sets' due) at place o
-  calls_settled sets sets' due non slot none there adds =
+  pub predicts_settled : (sets sets' due : List (List Item)) (non slot : ℕ) → place.inside ≡ None → ItemAt g place.rule place.dot (Non non slot) → Adds g at (Predicts g at non place o) sets sets' → IsSettled g w (Has g sets' due) at place o
+  predicts_settled sets sets' due non slot none there adds =
       settled_non g w (Has g sets' due) at place o non slot none there
       (λ null. inl (adds.there (next_of place) o (inl (null, (refl, refl)))))
       (λ q rule. inl (adds.there (at_dot q 0) at (inr (q, rule, (refl, refl)))))

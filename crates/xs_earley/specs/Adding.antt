@@ -36,7 +36,7 @@ Is d o c i = (c ≡ d) × (i ≡ o)
 abbrev pub Begins : List ℕ → ℕ → Place → ℕ → Type 0
 Begins rules o c i = (q : ℕ) × Contains rules q × Is (at_dot q 0) o c i
 
--- where the condition holds, what is behind the item at the place
+-- where the condition holds, what is after the item at the place
 abbrev pub Passes : Bool → Place → ℕ → Place → ℕ → Type 0
 Passes condition d o c i = IsTrue condition × Is (next_of d) o c i
 
@@ -52,11 +52,11 @@ Enters a positions x d o c i = (k : ℕ) × Contains positions k × EntersAt a x
 abbrev pub GoesOn : List ℕ → ℕ → Position → List ℕ → Place → ℕ → Place → ℕ → Type 0
 GoesOn w j a positions d o c i = (x : ℕ) × (slice_get w j ≡ Some x) × Enters a positions x d o c i
 
--- what is behind the nonterminal, for an item of set `from` that stands before it
+-- what is after the nonterminal, for an item of set `from` that stands before it
 abbrev pub Completes : Grammar → List (List Item) → ℕ → ℕ → Place → ℕ → Type 0
 Completes g sets from non c i = (d : Place) × HasPlace g sets from d i × IsBefore g d non × (c ≡ next_of d)
 
--- what is behind the next item of the place of item n of the list
+-- what is after the next item of the place of item n of the list
 abbrev pub Follows : Grammar → List Item → ℕ → Place → ℕ → Type 0
 Follows g items n c i = (item : Item) × (slice_get items n ≡ Some item) × (d : Place) × IsNumber g item.state d × Is (next_of d) item.origin c i
 
@@ -64,11 +64,11 @@ Follows g items n c i = (item : Item) × (slice_get items n ≡ Some item) × (d
 abbrev pub Ends : Grammar → List (List Item) → ℕ → ℕ → ℕ → Place → ℕ → Type 0
 Ends g sets from at rule c i = (from < at) × Completes g sets from (rule_of g rule).non c i
 
--- what is behind the nonterminal at the place where it derives the empty word, and each rule of it at its beginning
-abbrev pub Calls : Grammar → ℕ → ℕ → Place → ℕ → Place → ℕ → Type 0
-Calls g at non d o c i = (IsNullable g non × Is (next_of d) o c i) ⊎ ((q : ℕ) × IsRuleOf g non q × Is (at_dot q 0) at c i)
+-- what is after the nonterminal at the place where it derives the empty word, and each rule of it at its beginning
+abbrev pub Predicts : Grammar → ℕ → ℕ → Place → ℕ → Place → ℕ → Type 0
+Predicts g at non d o c i = (IsNullable g non × Is (next_of d) o c i) ⊎ ((q : ℕ) × IsRuleOf g non q × Is (at_dot q 0) at c i)
 
--- what is behind the fixed word at the place, where the document has the word from place j on
+-- what is after the fixed word at the place, where the document has the word from place j on
 abbrev pub ReadsWord : List ℕ → ℕ → List ℕ → Place → ℕ → Place → ℕ → Type 0
 ReadsWord w j f d o c i = Reads w j f (j + length f) × Is (next_of d) o c i
 

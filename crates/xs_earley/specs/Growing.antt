@@ -50,7 +50,7 @@ pub record IsOpen (g : Grammar) (w : List ℕ) (at : ℕ) (chart : Charted) (due
   pub waiting : (j non : ℕ) → j < at → IsExact g chart j non
   pub arrived : (k : ℕ) (item : Item) → k ≤ at → Contains (set_at due k) item → Contains (set_at chart.sets k) item
 
--- So many sets of the chart are filled: their items stand and all that they lead to is there or due, what
+-- That many sets of the chart are filled: their items stand and all that they lead to is there or due, what
 -- was due in them is in them, the waiting lists are exact, and what is due stands in its set.
 pub record IsFilled (g : Grammar) (w : List ℕ) (at : ℕ) (chart : Charted) (due : List (List Item)) : Type 0 where
   pub counted : length chart.sets ≡ at

@@ -4,7 +4,7 @@ ghost use Rattle.xs_gram.specs.Grammar.{ItemAt};
 ghost use Rattle.xs_gram.specs.Places.{IsPlace};
 ghost use Rattle.xs_earley.specs.Adding.{Adds, Is, Passes};
 
-use crate::places::behind;
+use crate::places::after;
 use xs_chart::{Chart, Item};
 use xs_class::{Listed, Memory};
 use xs_gram::{Gram, Place};
@@ -24,7 +24,7 @@ pub fn put(chart: &mut Chart, g: &Gram, at: u32, place: Place, origin: u32) -> R
     Ok(())
 }
 
-/// Where the condition holds, adds the item behind the place's to the last set.
+/// Where the condition holds, adds the item after the place's to the last set.
 pub fn pass(
     chart: &mut Chart,
     g: &Gram,
@@ -40,7 +40,7 @@ pub fn pass(
     ensures waits { IfOk result (λ _. chart.new.waits ≡ chart.old.waits) }
 {
     if condition {
-        put(chart, g, at, behind(g, place), origin)
+        put(chart, g, at, after(g, place), origin)
     } else {
         Ok(())
     }

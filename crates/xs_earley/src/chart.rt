@@ -4,13 +4,13 @@ ghost use Rattle.xs_chart.specs.Charted.{items_of};
 ghost use Rattle.xs_gram.specs.Sound.{IsBuilt};
 ghost use Rattle.xs_chart_laws.specs.Charts.{IsChartOf, HasWaiters};
 ghost use Rattle.xs_earley.specs.Adding.{Puts, Adds, Starts};
-ghost use Rattle.xs_earley.specs.Asked.{AreCalls};
+ghost use Rattle.xs_earley.specs.Asked.{AreCallFacts};
 ghost use Rattle.xs_earley.specs.Growing.{IsFilled};
 ghost use Rattle.xs_earley.specs.Opening.{IsOpened};
 
 use crate::adding::Items;
-use crate::calls::Calls;
 use crate::close::close;
+use crate::facts::CallFacts;
 use crate::lists::empty_lists;
 use crate::steps::predict;
 use std::alloc::Global;
@@ -32,15 +32,15 @@ fn put_all(chart: &mut Chart, at: u32, items: &[Item]) -> Result<(), Memory>
 }
 
 /// In the first set, adds the beginnings of the rules of the start.
-fn begin(chart: &mut Chart, g: &Gram, calls: &Calls, at: u32) -> Result<(), Memory>
+fn begin(chart: &mut Chart, g: &Gram, facts: &CallFacts, at: u32) -> Result<(), Memory>
     requires built { IsBuilt g.now }
-    requires calls { AreCalls g.now calls.now }
+    requires facts { AreCallFacts g.now facts.now }
     requires last { length chart.old.sets ≡ suc at }
     ensures adds { IfOk result (λ _. Adds g.now at (Starts g.now at) chart.old.sets chart.new.sets) }
     ensures waits { IfOk result (λ _. chart.new.waits ≡ chart.old.waits) }
 {
     if at == 0 {
-        predict(chart, g, at, calls.rules(g, g.start()))
+        predict(chart, g, at, facts.rules(g, g.start()))
     } else {
         Ok(())
     }
@@ -52,18 +52,18 @@ fn open_next(
     due: &[Items],
     g: &Gram,
     doc: &Word,
-    calls: &Calls,
+    facts: &CallFacts,
     at: u32,
 ) -> Result<(), Memory>
     requires built { IsBuilt g.now }
-    requires calls { AreCalls g.now calls.now }
+    requires facts { AreCallFacts g.now facts.now }
     requires filled { IsFilled g.now doc.now at chart.old due.now }
     requires within { at ≤ length doc.now }
     requires few { length doc.now < 4294967295 }
     ensures { IfOk result (λ _. IsOpened g.now doc.now at chart.old due.now chart.new) }
 {
     chart.push_set()?;
-    begin(chart, g, calls, at)?;
+    begin(chart, g, facts, at)?;
     put_all(chart, at, due[at as usize].as_slice())?;
     Ok(())
 }
@@ -74,25 +74,25 @@ fn fill_next(
     due: &mut [Items],
     g: &Gram,
     doc: &Word,
-    calls: &Calls,
+    facts: &CallFacts,
     at: u32,
 ) -> Result<(), Memory>
     requires built { IsBuilt g.now }
-    requires calls { AreCalls g.now calls.now }
+    requires facts { AreCallFacts g.now facts.now }
     requires filled { IsFilled g.now doc.now at chart.old due.old }
     requires within { at ≤ length doc.now }
     requires few { length doc.now < 4294967295 }
     ensures { IfOk result (λ _. IsFilled g.now doc.now (suc at) chart.new due.new) }
 {
-    open_next(chart, due, g, doc, calls, at)?;
-    close(chart, due, g, doc, calls, at)?;
+    open_next(chart, due, g, doc, facts, at)?;
+    close(chart, due, g, doc, facts, at)?;
     Ok(())
 }
 
 /// The chart of a document, in time linear in what its items lead to.
-pub fn chart_of(alloc: Global, g: &Gram, doc: &Word, calls: &Calls) -> Result<Chart, Memory>
+pub fn chart_of(alloc: Global, g: &Gram, doc: &Word, facts: &CallFacts) -> Result<Chart, Memory>
     requires built { IsBuilt g.now }
-    requires calls { AreCalls g.now calls.now }
+    requires facts { AreCallFacts g.now facts.now }
     requires few { length doc.now < 4294967295 }
     ensures chart { IfOk result (λ chart. IsChartOf g.now doc.now chart.sets) }
     ensures waiters { IfOk result (λ chart. HasWaiters g.now chart) }
@@ -101,7 +101,7 @@ pub fn chart_of(alloc: Global, g: &Gram, doc: &Word, calls: &Calls) -> Result<Ch
     let mut due: Vec<Items> = empty_lists(alloc, doc.len() + 1)?;
     'sets: while (chart.sets() as usize) <= doc.len() {
         let at = chart.sets();
-        fill_next(&mut chart, &mut due, g, doc, calls, at)?;
+        fill_next(&mut chart, &mut due, g, doc, facts, at)?;
     }
     Ok(chart)
 }

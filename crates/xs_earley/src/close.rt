@@ -1,30 +1,30 @@
 ghost use Rattle.std.specs.Prelude.{◌≡◌, ◌≢◌, ◌<◌, ℕ, length, IfOk};
 ghost use Rattle.xs_chart.specs.Charted.{items_of, waiting_of};
 ghost use Rattle.xs_gram.specs.Sound.{IsBuilt};
-ghost use Rattle.xs_earley.specs.Asked.{AreCalls};
+ghost use Rattle.xs_earley.specs.Asked.{AreCallFacts};
 ghost use Rattle.xs_earley.specs.Growing.{Grown, IsSettledAt, IsOpen};
 ghost use Rattle.xs_earley.specs.Waiting.{WaitsBelow};
 
 use crate::adding::Items;
-use crate::calls::Calls;
+use crate::facts::CallFacts;
 use crate::settle::settle;
 use crate::waiting::enlist;
 use xs_chart::Chart;
 use xs_class::{Memory, Word};
 use xs_gram::Gram;
 
-/// Adds to the last set all that its items lead to there, notes what they lead to in later sets, and
-/// puts them in their waiting lists.
+/// Adds to the last set all that its items lead to there, notes what they lead to in later sets,
+/// and puts them in their waiting lists.
 pub fn close(
     chart: &mut Chart,
     due: &mut [Items],
     g: &Gram,
     doc: &Word,
-    calls: &Calls,
+    facts: &CallFacts,
     at: u32,
 ) -> Result<(), Memory>
     requires built { IsBuilt g.now }
-    requires calls { AreCalls g.now calls.now }
+    requires facts { AreCallFacts g.now facts.now }
     requires open { IsOpen g.now doc.now at chart.old due.old }
     requires waits { WaitsBelow g.now chart.old at 0 }
     ensures grown { IfOk result (λ _. Grown g.now doc.now at chart.old.sets due.old chart.new.sets due.new) }
@@ -35,7 +35,7 @@ pub fn close(
     let mut k = 0;
     'items: while k < chart.len(at) {
         enlist(chart, g, at, k)?;
-        settle(chart, due, g, doc, calls, at, k)?;
+        settle(chart, due, g, doc, facts, at, k)?;
         k += 1;
     }
     Ok(())

@@ -3,7 +3,7 @@ ghost use Rattle.std.specs.Prelude.{◌≡◌, ℕ, [], length, slice_index_or, 
 use std::alloc::Global;
 use xs_class::{Listed, Memory};
 
-/// So many empty lists, which take no memory of their own.
+/// That many empty lists, which take no memory of their own.
 pub fn empty_lists<T: Drop>(alloc: Global, count: usize) -> Result<Vec<Listed<T>>, Memory>
     ensures counted { IfOk result (λ lists. length lists.items ≡ count) }
     ensures empty { IfOk result (λ lists. (k : ℕ) → slice_index_or lists.items k [] ≡ []) }

@@ -14,8 +14,8 @@ pub fn item_at(g: &Gram, place: Place) -> Option<&GItem>
     g.items(place.rule).get(place.dot as usize)
 }
 
-/// The place behind the item at the place.
-pub fn behind(g: &Gram, place: Place) -> Place
+/// The place after the item at the place.
+pub fn after(g: &Gram, place: Place) -> Place
     requires place { IsPlace g.now place }
     requires item { (item : GItem) × ItemAt g.now place.rule place.dot item }
     ensures is { result ≡ next_of place }

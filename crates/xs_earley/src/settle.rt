@@ -8,13 +8,13 @@ ghost use Rattle.xs_gram.specs.Chart.{Stands};
 ghost use Rattle.xs_gram.specs.Places.{IsPlace};
 ghost use Rattle.xs_gram.specs.Sound.{IsBuilt};
 ghost use Rattle.xs_chart_laws.specs.Steps.{HasAutomaton, IsSettled};
-ghost use Rattle.xs_earley.specs.Adding.{Adds, Ends, Calls as CallsOn, ReadsWord};
-ghost use Rattle.xs_earley.specs.Asked.{AreCalls};
+ghost use Rattle.xs_earley.specs.Adding.{Adds, Ends, Predicts, ReadsWord};
+ghost use Rattle.xs_earley.specs.Asked.{AreCallFacts};
 ghost use Rattle.xs_earley.specs.Growing.{Has, Grown, IsSettledAt, IsExact, IsOpen};
 
 use crate::adding::{Items, note, pass};
-use crate::calls::Calls;
-use crate::places::{behind, item_at};
+use crate::facts::CallFacts;
+use crate::places::{after, item_at};
 use crate::steps::{complete, following, go_on, is_last, predict};
 use crate::words::has_word;
 use xs_chart::Chart;
@@ -41,26 +41,27 @@ fn end_rule(chart: &mut Chart, g: &Gram, at: u32, rule: u32, origin: u32) -> Res
 fn call(
     chart: &mut Chart,
     g: &Gram,
-    calls: &Calls,
+    facts: &CallFacts,
     at: u32,
     non: u32,
     place: Place,
     origin: u32,
 ) -> Result<(), Memory>
-    requires calls { AreCalls g.now calls.now }
+    requires facts { AreCallFacts g.now facts.now }
     requires non { non < g.now.nons }
     requires place { IsPlace g.now place }
     requires item { (item : GItem) × ItemAt g.now place.rule place.dot item }
     requires last { length chart.old.sets ≡ suc at }
-    ensures adds { IfOk result (λ _. Adds g.now at (CallsOn g.now at non place origin) chart.old.sets chart.new.sets) }
+    ensures adds { IfOk result (λ _. Adds g.now at (Predicts g.now at non place origin) chart.old.sets chart.new.sets) }
     ensures waits { IfOk result (λ _. chart.new.waits ≡ chart.old.waits) }
 {
-    pass(chart, g, at, calls.is_nullable(g, non), place, origin)?;
-    predict(chart, g, at, calls.rules(g, non))?;
+    pass(chart, g, at, facts.is_nullable(g, non), place, origin)?;
+    predict(chart, g, at, facts.rules(g, non))?;
     Ok(())
 }
 
-/// Before a fixed word that the document has there, notes what is behind it for the set where it ends.
+/// Before a fixed word that the document has there, notes what is after it for the set where it
+/// ends.
 fn read_word(
     due: &mut [Items],
     g: &Gram,
@@ -78,14 +79,14 @@ fn read_word(
     ensures { IfOk result (λ _. Adds g.now (at + length word.now) (ReadsWord doc.now at word.now place origin) due.old due.new) }
 {
     if has_word(doc, at as usize, word) {
-        note(due, g, at as usize + word.len(), behind(g, place), origin)
+        note(due, g, at as usize + word.len(), after(g, place), origin)
     } else {
         Ok(())
     }
 }
 
-/// Before or inside a terminal or an ignorable, passes over it or ends it where it can, and goes on in it
-/// by the next symbol.
+/// Before or inside a terminal or an ignorable, passes over it or ends it where it can, and goes on
+/// in it by the next symbol.
 fn settle_lex(
     chart: &mut Chart,
     due: &mut [Items],
@@ -128,13 +129,13 @@ fn settle_place(
     due: &mut [Items],
     g: &Gram,
     doc: &Word,
-    calls: &Calls,
+    facts: &CallFacts,
     at: u32,
     place: Place,
     origin: u32,
 ) -> Result<(), Memory>
     requires built { IsBuilt g.now }
-    requires calls { AreCalls g.now calls.now }
+    requires facts { AreCallFacts g.now facts.now }
     requires open { IsOpen g.now doc.now at chart.old due.old }
     requires stands { Stands g.now doc.now place origin at }
     ensures grown { IfOk result (λ _. Grown g.now doc.now at chart.old.sets due.old chart.new.sets due.new) }
@@ -159,7 +160,7 @@ fn settle_place(
             Ok(())
         }
         Some(GItem::Non { non, .. }) => {
-            call(chart, g, calls, at, *non, place, origin)?;
+            call(chart, g, facts, at, *non, place, origin)?;
             Ok(())
         }
     }
@@ -171,12 +172,12 @@ pub fn settle(
     due: &mut [Items],
     g: &Gram,
     doc: &Word,
-    calls: &Calls,
+    facts: &CallFacts,
     at: u32,
     k: u64,
 ) -> Result<(), Memory>
     requires built { IsBuilt g.now }
-    requires calls { AreCalls g.now calls.now }
+    requires facts { AreCallFacts g.now facts.now }
     requires open { IsOpen g.now doc.now at chart.old due.old }
     requires item { k < length (items_of chart.old at) }
     ensures grown { IfOk result (λ _. Grown g.now doc.now at chart.old.sets due.old chart.new.sets due.new) }
@@ -185,6 +186,6 @@ pub fn settle(
 {
     let item = chart.item(at, k);
     let place = g.place(item.state);
-    settle_place(chart, due, g, doc, calls, at, place, item.origin)?;
+    settle_place(chart, due, g, doc, facts, at, place, item.origin)?;
     Ok(())
 }

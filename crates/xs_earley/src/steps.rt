@@ -6,7 +6,7 @@ ghost use Rattle.xs_earley.specs.Adding.{Adds, Begins, Enters, GoesOn, Completes
 ghost use Rattle.xs_earley.specs.Growing.{IsExact};
 
 use crate::adding::{Items, note, put};
-use crate::places::behind;
+use crate::places::after;
 use xs_chart::Chart;
 use xs_class::{Memory, Sym, Word};
 use xs_gram::{Gram, Place};
@@ -30,7 +30,8 @@ pub fn predict(chart: &mut Chart, g: &Gram, at: u32, rules: &[u32]) -> Result<()
     Ok(())
 }
 
-/// Adds to the last set what is behind the nonterminal for each item that waits for it in an earlier set.
+/// Adds to the last set what is after the nonterminal for each item that waits for it in an earlier
+/// set.
 pub fn complete(chart: &mut Chart, g: &Gram, at: u32, from: u32, non: u32) -> Result<(), Memory>
     requires last { length chart.old.sets ≡ suc at }
     requires from { from < at }
@@ -41,7 +42,7 @@ pub fn complete(chart: &mut Chart, g: &Gram, at: u32, from: u32, non: u32) -> Re
     'waiters: for n in 0..chart.waiting(from, non) {
         let item = chart.item(from, chart.waiter(from, non, n));
         let place = g.place(item.state);
-        put(chart, g, at, behind(g, place), item.origin)?;
+        put(chart, g, at, after(g, place), item.origin)?;
     }
     Ok(())
 }
@@ -69,7 +70,8 @@ pub fn following(automaton: &Position, position: u32) -> &[u32]
     automaton.follow.at(position as usize).as_slice()
 }
 
-/// Notes for a set those of the positions, inside the item at the place, whose class has the symbol.
+/// Notes for a set those of the positions, inside the item at the place, whose class has the
+/// symbol.
 fn enter(
     due: &mut [Items],
     g: &Gram,

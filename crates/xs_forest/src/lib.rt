@@ -1,4 +1,4 @@
-//! The container of a packed forest.
+//! The container of a shared packed parse forest: rows, each with its packed nodes (`Alt`).
 //!
 //! A row has a label and its alternatives, which name earlier rows as children. Rows are numbered
 //! from 0 in the order in which they were added, and no two have one label. The alternatives lie

@@ -87,13 +87,13 @@ module _ (g : Grammar) (w : List ℕ) where
       | inr e ↦ rw (other_level p d i j e) (inl lt)
     ]
 
-    none_behind : (q : ℕ) → IsNullableFrom g q (length (items g q))
-    none_behind q k item le at = let lt = get_lt (items g q) k item at in absurd (omega arith)
+    none_after : (q : ℕ) → IsNullableFrom g q (length (items g q))
+    none_after q k item le at = let lt = get_lt (items g q) k item at in absurd (omega arith)
 
     -- the last front of a rule comes before the whole
     pub whole_below : (n q i j : ℕ) → IsRuleOf g n q → IsLess (level g rank tail (Front q (length (items g q))) i j) (level g rank tail (Whole n) i j)
     whole_below n q i j rule =
-        let e : tail q (length (items g q)) ≡ true = (is_tail q (length (items g q)) rule.0 (omega arith)).1 (none_behind q) in
+        let e : tail q (length (items g q)) ≡ true = (is_tail q (length (items g q)) rule.0 (omega arith)).1 (none_after q) in
         let er : rank (rule_of g q).non ≡ rank n = ap rank rule.1 in
         rw (tail_level q (length (items g q)) i j e) (inr (refl, inr (refl, inr (er, inl (omega arith)))))
 
@@ -138,7 +138,7 @@ module _ (g : Grammar) (w : List ℕ) where
             same_front e
       ]
 
-    -- the nonterminal leads to its item where the items before spell the empty word and those behind are nullable
+    -- the nonterminal leads to its item where the items before spell the empty word and those after are nullable
     leads : (n p d i m v k : ℕ) → IsRuleOf g n p → ItemAt g p d (Non k v) → i ≡ m → IsSpelt g w (take d (items g p)) i m → IsNullableFrom g p (suc d) → LeadsTo g n k
     leads n p d i m v k of at e before rest = record { rule = p; dot = d; slot = v; of = of; item = at; others = others }
       where

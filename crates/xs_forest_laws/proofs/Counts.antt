@@ -29,7 +29,7 @@ first_in x xs = (0, omega arith, refl)
 rest_in : {X : Type 0} (x : X) (xs : List X) (y : X) → Contains xs y → Contains (x ∷ xs) y
 rest_in x xs y (n, lt, e) = (suc n, omega arith, e)
 
--- more counts behind those of the children change nothing
+-- more counts after those of the children change nothing
 pub alts_more : (cap : ℕ) (cs more : List ℕ) (alts : List Alt) → ((a : Alt) (c : ℕ) → Contains alts a → (a.left ≡ Some c) ⊎ (a.right ≡ Some c) → c < length cs) → alts_count cap (cs ++ more) alts ≡ alts_count cap cs alts
 alts_more cap cs more [] h = refl
 alts_more cap cs more (a ∷ alts) h =

@@ -56,7 +56,7 @@ module _ (g : Grammar) (w : List ℕ) where
         let sp = whole_spelt q m j (chart.sound (at_dot q (length (items g q))) m j h) in
         (sub q sp.0 done, ((rule, sp.1.0, tt), read_of m (parts_yield sp.0) j sp.1.1))
 
-    -- an item that spells a stretch behind what stands is over it
+    -- an item that spells a stretch after what stands is over it
     pub spelt_over : (p d i m j : ℕ) (item : GItem) → Stands g w (at_dot p d) i m → ItemAt g p d item → IsSpelt g w (item ∷ []) m j → ItemOver g w has item m j
     spelt_over p d i m j (Fixed v) st at (fixed u done, (f, r)) = Reads-same w m u v j f.0 (read_to m u j r)
     spelt_over p d i m j (Term t s) st at (leaf u done, (f, r)) =

@@ -14,7 +14,7 @@ use Rattle.xs_forest_laws.specs.declared.span.What.TheVariants.{Whole, Front}
 use Rattle.xs_forest_laws.specs.Forest.{Forest, key_of, IsRow, Unfolding, bare, pick, Unfolds, last_part, read, FrontAt, ItemRow, WholeAlt, FrontAlt, IsAlt, IsRight}
 use Rattle.xs_forest_laws.proofs.Read.{read_front, read_whole, front_good, unfolding_fits}
 
--- two lists of parts for the same items, each with more behind it
+-- two lists of parts for the same items, each with more after it
 pub then_cancel : (g : Grammar) (is : List GItem) (ps qs rs ts : Parts) → FitsItems g is ps → FitsItems g is qs → parts_then ps rs ≡ parts_then qs ts → (ps ≡ qs) × (rs ≡ ts)
 then_cancel g [] done done rs ts f h e = (refl, e)
 then_cancel g (Fixed v ∷ is) (fixed u ps) (fixed x qs) rs ts f h e =

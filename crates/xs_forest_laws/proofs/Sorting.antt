@@ -33,7 +33,7 @@ sorted_rises lt order xs d sorted s t le below =
         let step = subst (λ z. lt (slice_index_or xs z d) (slice_index_or xs (s + k) d) ≡ false) e (sorted (s + k) d (omega arith) (omega arith)) in
         order.chain (slice_index_or xs (s + suc k) d) (slice_index_or xs (s + k) d) (slice_index_or xs s d) step (from k (omega arith))
 
--- labels that are sorted by a test which tells what is less in the order
+-- labels that are sorted by a test that says what is less in the order
 pub labels_rise : (place : SpanKey → List ℕ) (lt : SpanKey → SpanKey → Bool) → IsStrictWeakOrder lt → ((x y : SpanKey) → IsLess (place x) (place y) → lt x y ≡ true) → (ks : List SpanKey) → IsSortedBy lt ks → (s t : ℕ) → s ≤ t → t < length ks → IsLess (place (key_in ks t)) (place (key_in ks s)) → ⊥
 labels_rise place lt order tells ks sorted s t le below less =
     false_true (lt (key_in ks t) (key_in ks s)) (sorted_rises lt order ks no_row.0 sorted s t le below) (tells (key_in ks t) (key_in ks s) less)

@@ -44,9 +44,9 @@ module _ (g : Grammar) (built : IsBuilt g) (flag : ℕ → Bool) (flags : AreNul
       ((λ e. agrees.1 (inl (refl, e))), (λ m. accepts_empty (skip_of g k).automaton (agrees.0 m)))
   nullable_item p n (Non m s) at = flags m (built.range.nons p n m s at)
 
--- behind the last item there is none
-pub none_behind : (g : Grammar) (p : ℕ) → IsNullableFrom g p (length (items g p))
-none_behind g p k item le at = let lt = get_lt (items g p) k item at in absurd (omega arith)
+-- after the last item there is none
+pub none_after : (g : Grammar) (p : ℕ) → IsNullableFrom g p (length (items g p))
+none_after g p k item le at = let lt = get_lt (items g p) k item at in absurd (omega arith)
 
 some_same : {X : Type 0} (x y : X) → Some x ≡ Some y → x ≡ y
 some_same x y e = cc
@@ -62,10 +62,10 @@ nullable_more g p d item at nullable rest k other le there = elim (cases_lt d k)
 
 -- the test by the first places from which all items are nullable
 pub tails : (g : Grammar) (from : ℕ → ℕ) → ((p : ℕ) → p < length g.rules → IsTailFrom g p (from p)) → IsTail g (λ p d. leb (from p) d)
-tails g from each p d lt le = ((λ e. behind (leb-true (from p) d e)), (λ h. le-leb (from p) d (ahead h)))
+tails g from each p d lt le = ((λ e. after (leb-true (from p) d e)), (λ h. le-leb (from p) d (ahead h)))
   where
-    behind : from p ≤ d → IsNullableFrom g p d
-    behind over k item at = (each p lt).behind k item (omega arith)
+    after : from p ≤ d → IsNullableFrom g p d
+    after over k item at = (each p lt).after k item (omega arith)
 
     ahead : IsNullableFrom g p d → from p ≤ d
     ahead h = elim (cases_lt d (from p)) [

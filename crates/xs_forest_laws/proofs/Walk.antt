@@ -41,7 +41,7 @@ get_more (z ∷ xs) ys zero x e = e
 get_more (z ∷ xs) ys (suc n) x e = get_more xs ys n x e
 
 module _ (w : List ℕ) where
-  -- more flat parts behind
+  -- more flat parts after
   pub are_more : (out more : List Flat) (ps : Parts) (vs : List ℕ) → AreAt w out ps vs → AreAt w (out ++ more) ps vs
   are_more out more done vs h = h
   are_more out more (fixed u ps) vs h = are_more out more ps vs h

@@ -1,4 +1,4 @@
--- A list of different derivations of a document, as many as there are and no more than so many.
+-- A list of different derivations of a document, as many as there are and no more than a given number.
 use Rattle.std.specs.Prelude.{◌≡◌, ℕ, suc, ◌≤◌, List, length, min, Bool, true, false, ltb, Some, slice_get}
 use Rattle.xs_gram.specs.Grammar.{Grammar}
 use Rattle.xs_gram.specs.Derivations.{done, sub, Derivation}

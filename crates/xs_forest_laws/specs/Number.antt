@@ -35,7 +35,7 @@ At f cap cs None k (pick a l t) = ⊥
 At f cap cs (Some r) k bare = ⊥
 At f cap cs (Some r) k (pick a l t) = (r < length f) × (n : ℕ) × (x : ℕ) × (y : ℕ) × (slice_get (alts_of f r) n ≡ Some a) × (y < count_of cs a.right) × (x * count_of cs a.right + y < alt_count cap cs a) × (k ≡ alts_sum cap cs (take n (alts_of f r)) + (x * count_of cs a.right + y)) × At f cap cs a.left x l × At f cap cs a.right y t
 
--- the counts are those of so many first rows
+-- the counts are those of that many first rows
 abbrev pub AreCounts : Forest → ℕ → List ℕ → Type 0
 AreCounts f cap cs = (length cs ≤ length f) × ((r : ℕ) → r < length cs → slice_index_or cs r zero ≡ alts_count cap cs (alts_of f r))
 

@@ -30,7 +30,7 @@ AreNullable g flag = (n : ℕ) → n < g.nons → (flag n ≡ true) ↔ IsNullab
 -- k is the first place of rule p from which all items are nullable
 pub record IsTailFrom (g : Grammar) (p k : ℕ) : Type 0 where
   pub within : k ≤ length (items g p)
-  pub behind : IsNullableFrom g p k
+  pub after : IsNullableFrom g p k
   pub first : (m : ℕ) → suc m ≡ k → IsNullableFrom g p m → ⊥
 
 -- the test says of each place of each rule whether the items from there on are all nullable
@@ -38,7 +38,7 @@ abbrev pub IsTail : Grammar → (ℕ → ℕ → Bool) → Type 0
 IsTail g tail = (p d : ℕ) → p < length g.rules → d ≤ length (items g p) → (tail p d ≡ true) ↔ IsNullableFrom g p d
 
 -- The place of a label in the order: by the length of its stretch; then the nonterminals, and the fronts
--- whose rule has only nullable items behind them, by rank, a nonterminal's fronts before it; then the other
+-- whose rule has only nullable items after them, by rank, a nonterminal's fronts before it; then the other
 -- fronts; fronts by their number of items.
 abbrev pub level : Grammar → (ℕ → ℕ) → (ℕ → ℕ → Bool) → What → ℕ → ℕ → List ℕ
 level g rank tail (Whole n) i j = (j - i) ∷ 0 ∷ rank n ∷ 1 ∷ 0 ∷ []

@@ -5,7 +5,8 @@ pub fn unfolding_fits()
     ensures { UnfoldingFits }
 {}
 
-/// All parts for the items of a row's label that spell its stretch are read from an unfolding of it.
+/// All parts for the items of a row's label that spell its stretch are read from an unfolding of
+/// it.
 pub fn fitting_is_unfolded()
     ensures { FittingIsUnfolded }
 {}
@@ -40,8 +41,8 @@ pub fn children_come_first()
     ensures { ChildrenComeFirst }
 {}
 
-/// A grown forest with a row for each label of the chart has a root whose unfoldings are exactly the
-/// derivations of the document.
+/// A grown forest with a row for each label of the chart has a root whose unfoldings are exactly
+/// the derivations of the document.
 pub fn grown_is_exact()
     ensures { GrownIsExact }
 {}

@@ -22,16 +22,16 @@ by_keys P [] every = tt
 by_keys P (e ∷ es) every = (every.0, by_keys P es every.1)
 
 -- another entry in front changes nothing at other numbers
-found_behind : {A : Type 0} (h : ℕ × A) (es xs : List (ℕ × A)) → AllOf (λ e. lookup e.0 es ≡ Some e.1) xs → AllOf (λ e. e.0 ≢ h.0) xs → AllOf (λ e. lookup e.0 (h ∷ es) ≡ Some e.1) xs
-found_behind h es [] all other = tt
-found_behind {A = A} h es (x ∷ xs) all other = (here x.0 x.1 all.0 other.0, found_behind h es xs all.1 other.1)
+found_after : {A : Type 0} (h : ℕ × A) (es xs : List (ℕ × A)) → AllOf (λ e. lookup e.0 es ≡ Some e.1) xs → AllOf (λ e. e.0 ≢ h.0) xs → AllOf (λ e. lookup e.0 (h ∷ es) ≡ Some e.1) xs
+found_after h es [] all other = tt
+found_after {A = A} h es (x ∷ xs) all other = (here x.0 x.1 all.0 other.0, found_after h es xs all.1 other.1)
   where
     here : (k : ℕ) (t : A) → lookup k es ≡ Some t → k ≢ h.0 → lookup k (h ∷ es) ≡ Some t
     here k t is ne = grind (arith, nat_tests)
 
 pub each_found : {A : Type 0} (es : List (ℕ × A)) → IsDistinct (keys es) → AllOf (λ e. lookup e.0 es ≡ Some e.1) es
 each_found [] distinct = tt
-each_found {A = A} (e ∷ es) distinct = (own e.0 e.1, found_behind e es es (each_found es distinct.1) (by_keys (λ m. m ≢ e.0) es distinct.0))
+each_found {A = A} (e ∷ es) distinct = (own e.0 e.1, found_after e es es (each_found es distinct.1) (by_keys (λ m. m ≢ e.0) es distinct.0))
   where
     own : (k : ℕ) (t : A) → lookup k ((k, t) ∷ es) ≡ Some t
     own k t = grind (arith, nat_tests)

@@ -7,13 +7,13 @@ use Rattle.xs_gram.specs.declared.places.Place.{Place}
 use Rattle.xs_gram.specs.Grammar.{Grammar, no_rule, items}
 use Rattle.xs_gram.specs.Places.{at_dot, at_inside, positions_of, insides, rule_places, places_from, all_places, IsPlace}
 
--- where item d begins, behind the beginning of its rule
+-- where item d begins, counted from the beginning of its rule
 abbrev pub offset : Grammar → List GItem → ℕ → ℕ
 offset g is zero = 0
 offset g [] (suc d) = 0
 offset g (i ∷ is) (suc d) = suc (positions_of g i + offset g is d)
 
--- how far behind its item's beginning a place is
+-- how far after its item's beginning a place is
 abbrev pub inner : Option ℕ → ℕ
 inner None = 0
 inner (Some k) = suc k
@@ -31,11 +31,11 @@ some_is x y e = cc
 get_split : {A : Type 0} (xs ys : List A) (k : ℕ) (c : A) → slice_get (xs ++ ys) k ≡ Some c → ((k < length xs) × (slice_get xs k ≡ Some c)) ⊎ ((m : ℕ) × (k ≡ length xs + m) × (slice_get ys m ≡ Some c))
 get_split [] ys k c is = inr (k, omega arith, is)
 get_split (x ∷ xs) ys zero c is = inl (omega arith, is)
-get_split (x ∷ xs) ys (suc k) c is = behind (get_split xs ys k c is)
+get_split (x ∷ xs) ys (suc k) c is = next (get_split xs ys k c is)
   where
-    behind : ((k < length xs) × (slice_get xs k ≡ Some c)) ⊎ ((m : ℕ) × (k ≡ length xs + m) × (slice_get ys m ≡ Some c)) → ((suc k < length (x ∷ xs)) × (slice_get (x ∷ xs) (suc k) ≡ Some c)) ⊎ ((m : ℕ) × (suc k ≡ length (x ∷ xs) + m) × (slice_get ys m ≡ Some c))
-    behind (inl (lt, there)) = inl (omega arith, there)
-    behind (inr (m, e, there)) = inr (m, omega (arith, e), there)
+    next : ((k < length xs) × (slice_get xs k ≡ Some c)) ⊎ ((m : ℕ) × (k ≡ length xs + m) × (slice_get ys m ≡ Some c)) → ((suc k < length (x ∷ xs)) × (slice_get (x ∷ xs) (suc k) ≡ Some c)) ⊎ ((m : ℕ) × (suc k ≡ length (x ∷ xs) + m) × (slice_get ys m ≡ Some c))
+    next (inl (lt, there)) = inl (omega arith, there)
+    next (inr (m, e, there)) = inr (m, omega (arith, e), there)
 
 get_left : {A : Type 0} (xs ys : List A) (k : ℕ) (c : A) → slice_get xs k ≡ Some c → slice_get (xs ++ ys) k ≡ Some c
 get_left [] ys k c is = absurd (none k is)
@@ -221,7 +221,7 @@ rule_get g p (r ∷ rs) (suc q) j c lt is =
     let there : slice_get (places_from g (p + 1) rs) (base g (p + 1) rs q + j) ≡ Some c = rule_get g (p + 1) rs q j c (omega arith) (subst (λ m. slice_get (rule_places g m 0 (slice_index_or rs q no_rule).items) j ≡ Some c) (omega arith) is) in
     get_right (rule_places g p 0 r.items) (places_from g (p + 1) rs) (base g (p + 1) rs q + j) (base g p (r ∷ rs) (suc q) + j) c (omega arith) there
 
--- the place before item n of rule p, and the positions behind it
+-- the place before item n of rule p, and the positions after it
 pub dot_there : (g : Grammar) (p n : ℕ) → p < length g.rules → n ≤ length (items g p) → slice_get (all_places g) (base g 0 g.rules p + offset g (items g p) n) ≡ Some (at_dot p n)
 dot_there g p n lt le = rule_get g 0 g.rules p (offset g (items g p) n) (at_dot p n) lt (same (0 + p) p (0 + n) n (omega arith) (omega arith) (dot_get g (0 + p) 0 (items g p) n le))
   where
@@ -251,7 +251,7 @@ as_inside c k e = ap (λ (o : Option ℕ). same o) (sym e)
     same : Option ℕ → Place
     same o = record { rule = c.rule; dot = c.dot; inside = o }
 
--- the number of a place inside an item, behind that of the place before the item
+-- the number of a place inside an item, after that of the place before the item
 pub number_inside : (g : Grammar) (c : Place) (k start : ℕ) → IsPlace g c → c.inside ≡ Some k → slice_get (all_places g) start ≡ Some (at_dot c.rule c.dot) → slice_get (all_places g) (start + 1 + k) ≡ Some c
 number_inside g c k start place is is_start =
     let there = place.inside k is in

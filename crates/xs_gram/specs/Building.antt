@@ -20,8 +20,8 @@ abbrev pub EachOf : {A : Type 0} → (A → Type 0) → List A → Type 0
 EachOf P [] = Unit {0}
 EachOf P (x ∷ xs) = P x × EachOf P xs
 
--- what the item names is there, by the numbers of nonterminals, terminals and ignorables, and a fixed
--- word is not empty
+-- what the item names is there, by the numbers of nonterminals, terminals and ignorables, and a
+-- fixed word is not empty
 abbrev pub NamesThere : ℕ → ℕ → ℕ → GItem → Type 0
 NamesThere nons terms skips (Fixed f) = 0 < length f
 NamesThere nons terms skips (Term t s) = t < terms
@@ -47,8 +47,8 @@ abbrev pub symbols_count : List RulePart → ℕ
 symbols_count [] = 0
 symbols_count (r ∷ rs) = fixed_symbols r.items + symbols_count rs
 
--- the rule's nonterminal and what its items name are there, no fixed word is empty, and its slots are
--- the numbers from 0 on, each once
+-- the rule's nonterminal and what its items name are there, no fixed word is empty, and its slots
+-- are the numbers from 0 on, each once
 pub record IsRuleAmong (nons terms skips : ℕ) (r : RulePart) : Type 0 where
   pub non : r.non < nons
   pub items : EachOf (NamesThere nons terms skips) r.items
@@ -100,12 +100,12 @@ pub record AreIgnorables (parts : List SkipPart) (skips : List Ignorable) : Type
   pub all : map skip_part skips ≡ parts
   pub automata : EachOf SkipHasAutomaton skips
 
--- the row has where each of so many places before items of a rule stands
+-- the row has where each of that many places before items of a rule stands
 pub record AreRowStarts (places : List Place) (p count : ℕ) (row : List ℕ) : Type 0 where
   pub long : length row ≡ count
   pub found : (n : ℕ) → n < count → slice_get places (slice_index_or row n 0) ≡ Some (at_dot p n)
 
--- so many rows have where the places before the items of their rules stand
+-- that many rows have where the places before the items of their rules stand
 pub record AreStarts (g : Grammar) (places : List Place) (count : ℕ) (starts : List (List ℕ)) : Type 0 where
   pub rows : length starts ≡ count
   pub found : (p : ℕ) → p < count → AreRowStarts places p (suc (length (items g p))) (slice_index_or starts p [])

@@ -19,20 +19,20 @@ IsAutomatonOf g (Skip k) a = a ≡ (skip_of g k).automaton
 IsAutomatonOf g (Fixed f) a = ⊥
 IsAutomatonOf g (Non n s) a = ⊥
 
--- The nonterminal is called at the place: the start at 0, and each nonterminal that an item of a rule
--- of a called one is, where the items before it spell the document from the call up to there.
+-- The nonterminal is called at the place: the start at 0, and each nonterminal that an item of a
+-- rule of a called one is, where the items before it spell the document from the call up to there.
 pub data IsCalled (g : Grammar) (w : List ℕ) : ℕ → ℕ → Type 0 where
   begins : IsCalled g w g.start 0
   calls : (n h q e m s j : ℕ) → IsCalled g w n h → IsRuleOf g n q → ItemAt g q e (Non m s) → h ≤ j → j ≤ length w → Spells g q e (slice_range w h j) → IsCalled g w m j
 
--- What lies behind a place spells the word: the items before its dot, and inside a terminal or an
+-- What stands before a place spells the word: the items before its dot, and inside a terminal or an
 -- ignorable also the run of its automaton up to the position.
-abbrev pub Behind : Grammar → Place → List ℕ → Type 0
-Behind g c u = elim c.inside [
+abbrev pub SpeltBefore : Grammar → Place → List ℕ → Type 0
+SpeltBefore g c u = elim c.inside [
   | None ↦ Spells g c.rule c.dot u
   | Some k ↦ (item : GItem) × (a : Position) × (before : List ℕ) × (v : List ℕ) × ItemAt g c.rule c.dot item × IsAutomatonOf g item a × (u ≡ before ++ v) × Spells g c.rule c.dot before × Runs a v k
 ]
 
 -- the item of this place and origin i stands in set j
 abbrev pub Stands : Grammar → List ℕ → Place → ℕ → ℕ → Type 0
-Stands g w c i j = (n : ℕ) × IsRuleOf g n c.rule × IsCalled g w n i × (i ≤ j) × (j ≤ length w) × Behind g c (slice_range w i j)
+Stands g w c i j = (n : ℕ) × IsRuleOf g n c.rule × IsCalled g w n i × (i ≤ j) × (j ≤ length w) × SpeltBefore g c (slice_range w i j)

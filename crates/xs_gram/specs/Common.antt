@@ -6,7 +6,8 @@ use Rattle.xs_gram.specs.declared.parts.GItem.TheVariants.{Fixed, Term, Non, Ski
 use Rattle.xs_gram.specs.Grammar.{Grammar, items, IsRuleOf, IsTermWord, normal_word}
 use Rattle.xs_gram.specs.Derivations.{Parts, fixed, leaf, skip, sub, Derivation}
 
--- A common tree is a word, or a production and a child for each of its slots, in the order of the slots.
+-- A common tree is a word, or a production and a child for each of its slots, in the order of the
+-- slots.
 mutual
   pub data Common : Type 0 where
     word : List ℕ → Common
@@ -26,7 +27,7 @@ abbrev pub child_of : Option Common → Common
 child_of None = word []
 child_of (Some t) = t
 
--- the children at so many slots from one on
+-- the children at that many slots from one on
 abbrev pub in_order : ℕ → ℕ → List (ℕ × Common) → Kids
 in_order zero slot es = no_kid
 in_order (suc count) slot es = kid (child_of (lookup slot es)) (in_order count (slot + 1) es)

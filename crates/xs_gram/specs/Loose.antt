@@ -35,14 +35,15 @@ IsMember g c (Term t s) = ⊥
 IsMember g c (Non m s) = AreOne g c m
 IsMember g c (Skip k) = ⊥
 
--- the places of a component: the entry and the exit of each member, and so many items into a rule
+-- the places of a component: the entry and the exit of each member, and a number of items into a
+-- rule
 pub data Spot : Type 0 where
   entry : ℕ → Spot
   exit : ℕ → Spot
   at : ℕ → ℕ → Spot
 
--- A loose word of an item, of a list of items, a step in the component of c and a walk of steps, each
--- with its word. An item that is no member is of a lower component.
+-- A loose word of an item, of a list of items, a step in the component of c and a walk of steps,
+-- each with its word. An item that is no member is of a lower component.
 mutual
   pub data LooseItem (g : Grammar) : GItem → List ℕ → Type 0 where
     loose_fixed : {f : List ℕ} → LooseItem g (Fixed f) f

@@ -21,7 +21,7 @@ positions_of g (Term t s) = length (term_of g t).automaton.classes
 positions_of g (Non n s) = 0
 positions_of g (Skip k) = length (skip_of g k).automaton.classes
 
--- so many positions of an item, from one on
+-- that many positions of an item, from one on
 abbrev pub insides : ℕ → ℕ → ℕ → ℕ → List Place
 insides p n k zero = []
 insides p n k (suc count) = at_inside p n k ∷ insides p n (k + 1) count
@@ -49,8 +49,8 @@ pub record IsPlace (g : Grammar) (c : Place) : Type 0 where
 abbrev pub start_at : List (List ℕ) → ℕ → ℕ → ℕ
 start_at starts p n = slice_index_or (slice_index_or starts p []) n 0
 
--- What a grammar keeps beside its parts: that numbers are in range, the list of its places, and where
--- in it those of each item begin.
+-- What a grammar keeps beside its parts: that numbers are in range, the list of its places, and
+-- where in it those of each item begin.
 pub record IsKept (g : Grammar) (places : List Place) (starts : List (List ℕ)) : Type 0 where
   pub range : IsInRange g
   pub small : IsSmall g

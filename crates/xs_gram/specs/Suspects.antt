@@ -1,4 +1,5 @@
--- Suspects of ambiguity: a word that is loose for two rules, and a word that can be cut at two places.
+-- Suspects of ambiguity: a word that is loose for two rules, and a word that can be cut at two
+-- places.
 use Rattle.std.specs.Prelude.{ℕ, ◌<◌, List, ◌++◌, length, take, drop}
 use Rattle.xs_gram.specs.declared.parts.GItem.{GItem}
 use Rattle.xs_gram.specs.Grammar.{Grammar, items, IsRuleOf}

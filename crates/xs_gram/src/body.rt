@@ -50,7 +50,7 @@ impl Body {
         })
     }
 
-    // How many positions an item has.
+    /// How many positions an item has.
     fn positions(&self, item: &GItem) -> usize
         requires { NamesAreThere self.now item.now }
         ensures { result ≡ positions_of self.now item.now }
@@ -62,7 +62,7 @@ impl Body {
         }
     }
 
-    // Appends the place before an item, and those inside it.
+    /// Appends the place before an item, and those inside it.
     fn push_item(
         &self,
         rule: u32,
@@ -82,7 +82,8 @@ impl Body {
         push_insides(places, rule, dot, self.positions(item))
     }
 
-    // Appends the places of a rule, and gives where those of each item, and of the rule's end, begin.
+    /// Appends the places of a rule, and gives where those of each item, and of the rule's end,
+    /// begin.
     fn push_rule(
         &self,
         alloc: Global,
@@ -126,7 +127,7 @@ impl Body {
     }
 }
 
-// Appends the places inside an item.
+/// Appends the places inside an item.
 fn push_insides(places: &mut Vec<Place>, rule: u32, dot: u32, count: usize) -> Result<(), Memory>
     requires { count < 2 ^ 32 }
     ensures { IfOk result (λ _. places.new.items ≡ places.old.items ++ insides rule dot 0 count) }

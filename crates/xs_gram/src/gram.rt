@@ -148,6 +148,7 @@ impl Gram {
         self.places.len() as u32
     }
 
+    /// The place of this number, as the list has it.
     fn listed(&self, k: u32) -> Place
         requires { k < length (all_places self.now) }
         ensures { slice_get (all_places self.now) k ≡ Some result }
@@ -164,7 +165,7 @@ impl Gram {
         self.listed(k)
     }
 
-    // The number of the place before an item, or at a rule's end.
+    /// The number of the place before an item, or at a rule's end.
     fn start_of(&self, rule: u32, dot: u32) -> u32
         requires rule { rule < length self.now.rules }
         requires dot { dot ≤ length (items self.now rule) }

@@ -10,8 +10,8 @@ pub enum Suspect {
         rule2: u32,
         word: Word,
     },
-    /// A cut of a rule: `x` and `x a` are loose for the items before it, `y` and `a y` for the rest, and
-    /// `a` is not empty. The cut is the number of items before it.
+    /// A cut of a rule: `x` and `x a` are loose for the items before it, `y` and `a y` for the
+    /// rest, and `a` is not empty. The cut is the number of items before it.
     Horizontal {
         side: Side,
         rule: u32,

@@ -37,7 +37,7 @@ acyclic_falls graph numbers sound h none a b e =
       | inr l ↦ absurd (none a (cyclic_by graph numbers a b sound h e (omega arith)))
     ]
 
--- no node below so many lies on a cycle, and there are no more nodes
+-- no node below the number lies on a cycle, and there are no more nodes
 pub none_cyclic : (graph : List (List ℕ)) (n : ℕ) → length graph ≤ n → ((a : ℕ) → a < n → IsCyclic graph a → ⊥) → (a : ℕ) → IsCyclic graph a → ⊥
 none_cyclic graph n l none a c =
     let within = edge_within graph a c.next c.edge in

@@ -1,5 +1,5 @@
 pub mod Reaching
-pub mod Marking
+pub mod Visits
 pub mod Framing
 pub mod Opening
 pub mod Merging

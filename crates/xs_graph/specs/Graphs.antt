@@ -23,8 +23,8 @@ pub data Reaches (graph : List (List ℕ)) : ℕ → ℕ → Type 0 where
 abbrev pub AreOne : List (List ℕ) → ℕ → ℕ → Type 0
 AreOne graph a b = Reaches graph a b × Reaches graph b a
 
--- Each node has its component's number: two have the same number exactly where each reaches the other,
--- and no edge leads to a node of a greater number.
+-- Each node has its component's number: two have the same number exactly where each reaches the
+-- other, and no edge leads to a node of a greater number.
 pub record AreComponents (graph : List (List ℕ)) (numbers : List ℕ) : Type 0 where
   pub counted : length numbers ≡ length graph
   pub one : (a b : ℕ) → a < length graph → b < length graph → (slice_index numbers a ≡ slice_index numbers b) ↔ AreOne graph a b

@@ -2,8 +2,8 @@ ghost use Rattle.std.specs.Prelude.{◌≡◌, ◌<◌, ◌^◌, [], length, IfO
 ghost use Rattle.xs_graph.specs.Graphs.{IsGraph, AreComponents};
 ghost use Rattle.xs_graph.specs.States.{state_of, IsState, AreAllSeen};
 
-use crate::mark::numbers_of;
 use crate::search::Search;
+use crate::visit::numbers_of;
 use crate::{Graph, Numbers};
 use std::alloc::Global;
 use xs_class::Memory;
@@ -20,7 +20,7 @@ pub fn components(alloc: Global, graph: &Graph) -> Result<Numbers, Memory>
     ensures { IfOk result (AreComponents graph.now) }
 {
     let search = search_all(alloc, graph)?;
-    let numbers = numbers_of(alloc, &search.marks)?;
+    let numbers = numbers_of(alloc, &search.visits)?;
     Ok(numbers)
 }
 
@@ -30,7 +30,7 @@ fn search_all(alloc: Global, graph: &Graph) -> Result<Search, Memory>
     requires few { length graph.now < 2 ^ 32 }
     ensures state { IfOk result (λ s. IsState graph.now (state_of s)) }
     ensures idle { IfOk result (λ s. s.path.items ≡ []) }
-    ensures seen { IfOk result (λ s. AreAllSeen graph.now s.marks.items) }
+    ensures seen { IfOk result (λ s. AreAllSeen graph.now s.visits.items) }
 {
     let mut search = Search::new(alloc, graph)?;
     'nodes: for node in 0..graph.len() as u32 {

@@ -1,11 +1,11 @@
 ghost use Rattle.std.specs.Prelude.{◌≡◌, ◌≢◌, ◌+◌, ◌<◌, ◌≤◌, ◌^◌, [], length, IfOk, IfSome, IfNone, OnOk};
 ghost use Rattle.std.specs.List.{All};
 ghost use Rattle.xs_graph.specs.Graphs.{IsGraph};
-ghost use Rattle.xs_graph.specs.States.{state_of, mark_of, with_frame, opened, merged, closed_from, followed, IsState, IsStep, KeepsSeen};
+ghost use Rattle.xs_graph.specs.States.{state_of, visit_of, with_frame, opened, merged, closed_from, followed, IsState, IsStep, KeepsSeen};
 
 use crate::Graph;
 use crate::frame::Frame;
-use crate::mark::{Mark, close_all};
+use crate::visit::{Visit, close_all};
 use std::alloc::Global;
 use xs_class::Memory;
 
@@ -13,8 +13,9 @@ use xs_class::Memory;
 #[derive(Drop)]
 pub struct Search {
     /// What is known of each node.
-    pub marks: Vec<Mark>,
-    /// The nodes that were reached and have no component yet, in the order in which they were reached.
+    pub visits: Vec<Visit>,
+    /// The nodes that were reached and have no component yet, in the order in which they were
+    /// reached.
     pub waiting: Vec<u32>,
     /// The nodes whose edges are being walked, each reached from the one before it.
     pub path: Vec<Frame>,
@@ -28,9 +29,9 @@ impl Search {
         ensures state { IfOk result (λ s. IsState graph.now (state_of s)) }
         ensures idle { IfOk result (λ s. s.path.items ≡ []) }
     {
-        let marks = vec![in alloc; Mark::Unseen; graph.len()]?;
+        let visits = vec![in alloc; Visit::Unseen; graph.len()]?;
         Ok(Search {
-            marks,
+            visits,
             waiting: Vec::new(alloc),
             path: Vec::new(alloc),
             count: 0,
@@ -56,11 +57,11 @@ impl Search {
 
     /// Lets a node wait, and puts a frame for it inside all others.
     fn open(&mut self, node: u32) -> Result<(), Memory>
-        requires { node < length self.old.marks.items }
+        requires { node < length self.old.visits.items }
         ensures { OnOk result (state_of self.new ≡ opened node (state_of self.old)) }
     {
         let place = self.waiting.len();
-        self.marks[node as usize] = Mark::Open(place);
+        self.visits[node as usize] = Visit::Open(place);
         self.waiting.push(node)?;
         self.put_frame(Frame {
             node,
@@ -73,21 +74,21 @@ impl Search {
 
     /// Goes on along an edge of a frame that was taken out and has passed the edge.
     fn follow(&mut self, frame: Frame, target: u32) -> Result<(), Memory>
-        requires { target < length self.old.marks.items }
+        requires { target < length self.old.visits.items }
         ensures { OnOk result (state_of self.new ≡ followed frame target (state_of self.old)) }
     {
-        match self.marks[target as usize] {
-            Mark::Unseen => {
+        match self.visits[target as usize] {
+            Visit::Unseen => {
                 self.put_frame(frame)?;
                 self.open(target)?;
             }
-            Mark::Open(place) => {
+            Visit::Open(place) => {
                 self.put_frame(Frame {
                     least: frame.least.min(place),
                     ..frame
                 })?;
             }
-            Mark::Closed(_) => {
+            Visit::Closed(_) => {
                 self.put_frame(frame)?;
             }
         }
@@ -108,11 +109,11 @@ impl Search {
     /// Makes a component of the nodes that wait from a place on.
     fn close(&mut self, place: usize)
         requires place { place ≤ length self.old.waiting.items }
-        requires nodes { All (λ a. a < length self.old.marks.items) self.old.waiting.items }
+        requires nodes { All (λ a. a < length self.old.visits.items) self.old.waiting.items }
         requires room { self.old.count + 1 < 2 ^ 32 }
         ensures { state_of self.new ≡ closed_from place (state_of self.old) }
     {
-        close_all(&mut self.marks, &self.waiting[place..], self.count);
+        close_all(&mut self.visits, &self.waiting[place..], self.count);
         self.waiting.truncate(place);
         self.count += 1;
     }
@@ -150,7 +151,7 @@ impl Search {
         requires state { IsState graph.now (state_of self.old) }
         ensures state { OnOk result (IsState graph.now (state_of self.new)) }
         ensures idle { OnOk result (self.new.path.items ≡ []) }
-        ensures seen { OnOk result (KeepsSeen self.old.marks.items self.new.marks.items) }
+        ensures seen { OnOk result (KeepsSeen self.old.visits.items self.new.visits.items) }
     {
         'frames: while let Some(frame) = self.take_frame() {
             self.step(graph, frame)?;
@@ -167,17 +168,17 @@ impl Search {
         requires idle { self.old.path.items ≡ [] }
         ensures state { OnOk result (IsState graph.now (state_of self.new)) }
         ensures idle { OnOk result (self.new.path.items ≡ []) }
-        ensures here { OnOk result (mark_of self.new.marks.items node ≢ Mark.Unseen) }
-        ensures seen { OnOk result (KeepsSeen self.old.marks.items self.new.marks.items) }
+        ensures here { OnOk result (visit_of self.new.visits.items node ≢ Visit.Unseen) }
+        ensures seen { OnOk result (KeepsSeen self.old.visits.items self.new.visits.items) }
     {
-        match self.marks[node as usize] {
-            Mark::Unseen => {
+        match self.visits[node as usize] {
+            Visit::Unseen => {
                 self.open(node)?;
                 self.run(graph)?;
                 Ok(())
             }
-            Mark::Open(_) => Ok(()),
-            Mark::Closed(_) => Ok(()),
+            Visit::Open(_) => Ok(()),
+            Visit::Closed(_) => Ok(()),
         }
     }
 }

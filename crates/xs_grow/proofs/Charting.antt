@@ -1,4 +1,4 @@
--- The marks that are gathered of a chart's items are the chart's marks.
+-- The candidates that are gathered of a chart's items are the chart's candidates.
 use Rattle.std.proofs.Common.{◌≡◌, ℕ, suc, ◌<◌, List, ◌++◌, length, slice_get, Some, refl, sym, ap, ◌∙◌, subst, arith, inl, inr}
 use Rattle.std.specs.Prelude.{Contains}
 use Rattle.std.proofs.lemmas.Option.{slice_get_within}
@@ -22,7 +22,7 @@ use Rattle.xs_forest_laws.specs.Grown.{IsFinished, ItemOver, IsLabelBy}
 use Rattle.xs_grow.specs.declared.call.Call.{Call}
 use Rattle.xs_grow.specs.Lists.{HasAllOf}
 use Rattle.xs_grow.specs.Grouped.{Grouped, IsGroup, HasGroups}
-use Rattle.xs_grow.specs.Marks.{Mark, call_at, WholeMark, FrontMark, IsMark, WholeAt, EndsAt, FrontFrom, InSets, CallIn, AreCallsOf, EndOnce, HasPlaces}
+use Rattle.xs_grow.specs.Candidates.{Candidate, call_at, WholeCandidate, FrontCandidate, IsCandidate, WholeAt, EndsAt, FrontFrom, InSets, CallIn, AreCallsOf, EndOnce, HasPlaces}
 use Rattle.xs_grow.proofs.ListLemmas.{get_contains, contains_get, all_same, all_append}
 use Rattle.xs_grow.proofs.Growing.{mark_facts}
 
@@ -50,10 +50,10 @@ module _ (g : Grammar) (w : List ℕ) (sets : List (List Item)) (chart : IsChart
   set_within j c i h = let st = chart_all_stand g w sets chart c i j h in let n = chart.counted in omega (arith, st.4)
 
   -- the items at the end of their rule
-  pub wholes_marked : (marks : List Mark) → HasAllOf (InSets (WholeAt g) sets (length sets)) marks → HasAllOf (WholeMark g has) marks
-  wholes_marked marks all = all_same (InSets (WholeAt g) sets (length sets)) (WholeMark g has) marks to from all
+  pub wholes_marked : (candidates : List Candidate) → HasAllOf (InSets (WholeAt g) sets (length sets)) candidates → HasAllOf (WholeCandidate g has) candidates
+  wholes_marked candidates all = all_same (InSets (WholeAt g) sets (length sets)) (WholeCandidate g has) candidates to from all
     where
-      to : (c : Mark) → InSets (WholeAt g) sets (length sets) c → WholeMark g has c
+      to : (c : Candidate) → InSets (WholeAt g) sets (length sets) c → WholeCandidate g has c
       to c (j, lt, (k, below, it, at, p)) =
           let end : at_dot p.place.rule (length (items g p.place.rule)) ≡ p.place = ap (λ n. at_dot p.place.rule n) (sym p.whole) ∙ as_dot p.place p.plain in
           record {
@@ -66,7 +66,7 @@ module _ (g : Grammar) (w : List ℕ) (sets : List (List Item)) (chart : IsChart
             ended = subst (λ (z : Place). has j z it.origin) (sym end) (item_has j k it p.place at p.numbered);
           }
 
-      from : (c : Mark) → WholeMark g has c → InSets (WholeAt g) sets (length sets) c
+      from : (c : Candidate) → WholeCandidate g has c → InSets (WholeAt g) sets (length sets) c
       from c h =
           let lt = set_within h.end (at_dot h.rule (length (items g h.rule))) h.start h.ended in
           let it : Item = record { state = h.ended.0; origin = h.start } in
@@ -88,7 +88,7 @@ module _ (g : Grammar) (w : List ℕ) (sets : List (List Item)) (chart : IsChart
             ),
           )
 
-  module _ (wholes : List Mark) (all : HasAllOf (WholeMark g has) wholes) (groups : Grouped SpanKey) (grouped : HasGroups wholes groups) (calls : Grouped Call) (called : AreCallsOf groups calls) where
+  module _ (wholes : List Candidate) (all : HasAllOf (WholeCandidate g has) wholes) (groups : Grouped SpanKey) (grouped : HasGroups wholes groups) (calls : Grouped Call) (called : AreCallsOf groups calls) where
     pub ends_once : EndOnce calls
     ends_once r call ends is = called.2.once called.1.once r call ends is
 
@@ -98,8 +98,8 @@ module _ (g : Grammar) (w : List ℕ) (sets : List (List Item)) (chart : IsChart
     group_finished : (r n i j : ℕ) (rules : List ℕ) → IsGroup groups r (key_at (Whole n) i j) rules → IsFinished g has n i j
     group_finished r n i j rules is =
         let q = grouped.filled r (key_at (Whole n) i j) rules is in
-        let mark = all.sound (key_at (Whole n) i j, q.0) (grouped.sound r (key_at (Whole n) i j) rules q.0 is q.1) in
-        let facts = mark_facts g w has (key_at (Whole n) i j, q.0) (inl mark) in
+        let candidate = all.sound (key_at (Whole n) i j, q.0) (grouped.sound r (key_at (Whole n) i j) rules q.0 is q.1) in
+        let facts = mark_facts g w has (key_at (Whole n) i j, q.0) (inl candidate) in
         (q.0, facts.0, facts.1)
 
     ends_finished : (n m j : ℕ) → (r : ℕ) × (ends : List ℕ) × IsGroup calls r (call_at n m) ends × Contains ends j → IsFinished g has n m j
@@ -110,8 +110,8 @@ module _ (g : Grammar) (w : List ℕ) (sets : List (List Item)) (chart : IsChart
 
     finished_ends : (n m j : ℕ) → IsFinished g has n m j → (r : ℕ) × (ends : List ℕ) × IsGroup calls r (call_at n m) ends × Contains ends j
     finished_ends n m j (q, of, ended) =
-        let mark : WholeMark g has (key_at (Whole n) m j, q) = record { non = n; rule = q; start = m; end = j; is = refl; of = of; ended = ended } in
-        let o = grouped.complete (key_at (Whole n) m j) q (all.complete (key_at (Whole n) m j, q) mark) in
+        let candidate : WholeCandidate g has (key_at (Whole n) m j, q) = record { non = n; rule = q; start = m; end = j; is = refl; of = of; ended = ended } in
+        let o = grouped.complete (key_at (Whole n) m j) q (all.complete (key_at (Whole n) m j, q) candidate) in
         let c : CallIn groups (length groups) (call_at n m, j) = (o.0, slice_get_within groups o.0 (key_at (Whole n) m j, o.1) o.2, n, m, j, o.1, o.2, refl) in
         called.2.complete (call_at n m) j (called.1.complete (call_at n m, j) c)
 
@@ -129,10 +129,10 @@ module _ (g : Grammar) (w : List ℕ) (sets : List (List Item)) (chart : IsChart
     over_ends (Non n s) m j h = finished_ends n m j h
 
     -- the items before an item of their rule
-    pub fronts_marked : (marks : List Mark) → HasAllOf (InSets (FrontFrom g w calls) sets (length sets)) marks → HasAllOf (FrontMark g w has) marks
-    fronts_marked marks fronts = all_same (InSets (FrontFrom g w calls) sets (length sets)) (FrontMark g w has) marks to from fronts
+    pub fronts_marked : (candidates : List Candidate) → HasAllOf (InSets (FrontFrom g w calls) sets (length sets)) candidates → HasAllOf (FrontCandidate g w has) candidates
+    fronts_marked candidates fronts = all_same (InSets (FrontFrom g w calls) sets (length sets)) (FrontCandidate g w has) candidates to from fronts
       where
-        to : (c : Mark) → InSets (FrontFrom g w calls) sets (length sets) c → FrontMark g w has c
+        to : (c : Candidate) → InSets (FrontFrom g w calls) sets (length sets) c → FrontCandidate g w has c
         to c (j, lt, (k, below, it, at, p)) = record {
           rule = p.place.rule;
           dot = p.place.dot;
@@ -146,7 +146,7 @@ module _ (g : Grammar) (w : List ℕ) (sets : List (List Item)) (chart : IsChart
           last = ends_over p.item j p.end p.last;
         }
 
-        from : (c : Mark) → FrontMark g w has c → InSets (FrontFrom g w calls) sets (length sets) c
+        from : (c : Candidate) → FrontCandidate g w has c → InSets (FrontFrom g w calls) sets (length sets) c
         from c h =
             let lt = set_within h.split (at_dot h.rule h.dot) h.start h.before in
             let it : Item = record { state = h.before.0; origin = h.start } in
@@ -171,14 +171,14 @@ module _ (g : Grammar) (w : List ℕ) (sets : List (List Item)) (chart : IsChart
               ),
             )
 
-    apart : (c : Mark) → WholeMark g has c → FrontMark g w has c → ⊥
-    apart c a b = none_same a.non b.rule (suc b.dot) (ap (λ (z : Mark). z.0.what) (sym a.is ∙ b.is))
+    apart : (c : Candidate) → WholeCandidate g has c → FrontCandidate g w has c → ⊥
+    apart c a b = none_same a.non b.rule (suc b.dot) (ap (λ (z : Candidate). z.0.what) (sym a.is ∙ b.is))
       where
         none_same : (n p d : ℕ) → Whole n ≡ Front p d → ⊥
         none_same n p d e = cc
 
-    pub all_marked : (fronts : List Mark) → HasAllOf (InSets (FrontFrom g w calls) sets (length sets)) fronts → HasAllOf (IsMark g w has) (wholes ++ fronts)
-    all_marked fronts h = all_append (WholeMark g has) (FrontMark g w has) (IsMark g w has) wholes fronts all (fronts_marked fronts h) apart (λ c a. inl a) (λ c b. inr b) (λ c m. m)
+    pub all_marked : (fronts : List Candidate) → HasAllOf (InSets (FrontFrom g w calls) sets (length sets)) fronts → HasAllOf (IsCandidate g w has) (wholes ++ fronts)
+    all_marked fronts h = all_append (WholeCandidate g has) (FrontCandidate g w has) (IsCandidate g w has) wholes fronts all (fronts_marked fronts h) apart (λ c a. inl a) (λ c b. inr b) (λ c m. m)
 
   -- a document of the language has the label of its start
   pub start_label : InLang g w → ((c : Place) (i j : ℕ) → Stands g w c i j → has j c i) → IsLabelBy g has (Whole g.start) 0 (length w)

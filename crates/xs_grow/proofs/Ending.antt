@@ -11,7 +11,7 @@ use Rattle.xs_chart_laws.proofs.Spelling.{term_agrees, skip_agrees}
 use Rattle.xs_grow.specs.declared.call.Call.{Call}
 use Rattle.xs_grow.specs.Lists.{HasAllOf}
 use Rattle.xs_grow.specs.Grouped.{Grouped, IsGroup, HasNone, AreApart}
-use Rattle.xs_grow.specs.Marks.{call_at, EndsAt, EndOnce}
+use Rattle.xs_grow.specs.Candidates.{call_at, EndsAt, EndOnce}
 use Rattle.xs_grow.specs.Running.{AcceptsTo}
 use Rattle.xs_grow.proofs.ListLemmas.{all_none, all_one, all_same}
 use Rattle.xs_grow.proofs.Grouping.{one_group_of}

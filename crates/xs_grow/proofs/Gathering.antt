@@ -1,4 +1,4 @@
--- The marks of one item more, of one set more, and of one group more.
+-- The candidates of one item more, of one set more, and of one group more.
 use Rattle.std.proofs.Common.{◌≡◌, ◌⊎◌, ℕ, zero, suc, List, [], ◌∷◌, ◌++◌, length, slice_get, map, None, Some, refl, sym, ap, ◌∙◌, subst, arith, inl, inr, append-nil}
 use Rattle.std.specs.Prelude.{Contains}
 use Rattle.std.proofs.lemmas.Bool.{cases_eq}
@@ -20,53 +20,53 @@ use Rattle.xs_forest_laws.specs.Forest.{key_at}
 use Rattle.xs_grow.specs.declared.call.Call.{Call}
 use Rattle.xs_grow.specs.Lists.{AreOnce, HasAllOf, Appends}
 use Rattle.xs_grow.specs.Grouped.{Grouped, IsGroup, AreApart}
-use Rattle.xs_grow.specs.Marks.{Mark, call_at, WholeAt, EndsAt, FrontFrom, InSet, InSets, CallIn, called}
+use Rattle.xs_grow.specs.Candidates.{Candidate, call_at, WholeAt, EndsAt, FrontFrom, InSet, InSets, CallIn, called}
 use Rattle.xs_grow.proofs.ListLemmas.{get_contains, contains_get, all_none, all_push, all_same, appends_none, appends_one, appends_more}
 
-module _ (P : ℕ → Item → Mark → Type 0) (sets : List (List Item)) where
-  pub set_none : (j : ℕ) (marks : List Mark) → Appends (InSet P sets j 0) marks marks
-  set_none j marks = appends_none (InSet P sets j 0) marks (λ c h. absurd (omega (arith, h.1)))
+module _ (P : ℕ → Item → Candidate → Type 0) (sets : List (List Item)) where
+  pub set_none : (j : ℕ) (candidates : List Candidate) → Appends (InSet P sets j 0) candidates candidates
+  set_none j candidates = appends_none (InSet P sets j 0) candidates (λ c h. absurd (omega (arith, h.1)))
 
-  pub sets_none : (marks : List Mark) → Appends (InSets P sets 0) marks marks
-  sets_none marks = appends_none (InSets P sets 0) marks (λ c h. absurd (omega (arith, h.1)))
+  pub sets_none : (candidates : List Candidate) → Appends (InSets P sets 0) candidates candidates
+  sets_none candidates = appends_none (InSets P sets 0) candidates (λ c h. absurd (omega (arith, h.1)))
 
   -- one item more
-  pub set_more : (j t : ℕ) (it : Item) (a b c : List Mark) → slice_get (set_at sets j) t ≡ Some it → AreDifferent (set_at sets j) → ((one two : Item) (m : Mark) → P j one m → P j two m → one ≡ two) → Appends (InSet P sets j t) a b → Appends (P j it) b c → Appends (InSet P sets j (suc t)) a c
+  pub set_more : (j t : ℕ) (it : Item) (a b c : List Candidate) → slice_get (set_at sets j) t ≡ Some it → AreDifferent (set_at sets j) → ((one two : Item) (m : Candidate) → P j one m → P j two m → one ≡ two) → Appends (InSet P sets j t) a b → Appends (P j it) b c → Appends (InSet P sets j (suc t)) a c
   set_more j t it a b c here different only before now = appends_more (InSet P sets j t) (P j it) (InSet P sets j (suc t)) a b c before now apart left right split
     where
-      apart : (m : Mark) → InSet P sets j t m → P j it m → ⊥
+      apart : (m : Candidate) → InSet P sets j t m → P j it m → ⊥
       apart m (k, lt, one, at, p) q =
           let e : k ≡ t = different k t it (at ∙ ap (λ (z : Item). Some z) (only one it m p q)) here in
           absurd (omega (arith, lt))
 
-      left : (m : Mark) → InSet P sets j t m → InSet P sets j (suc t) m
+      left : (m : Candidate) → InSet P sets j t m → InSet P sets j (suc t) m
       left m (k, lt, one, at, p) = (k, omega (arith, lt), one, at, p)
 
-      right : (m : Mark) → P j it m → InSet P sets j (suc t) m
+      right : (m : Candidate) → P j it m → InSet P sets j (suc t) m
       right m q = (t, omega arith, it, here, q)
 
-      split : (m : Mark) → InSet P sets j (suc t) m → InSet P sets j t m ⊎ P j it m
+      split : (m : Candidate) → InSet P sets j (suc t) m → InSet P sets j t m ⊎ P j it m
       split m (k, lt, one, at, p) = elim (cases_eq k t) [
         | inl e ↦ let same = same_Some one it (sym at ∙ (ap (λ z. slice_get (set_at sets j) z) e ∙ here)) in inr (subst (λ z. P j z m) same p)
         | inr ne ↦ let le = lt in inl (k, omega arith, one, at, p)
       ]
 
   -- one set more
-  pub sets_more : (n : ℕ) (a b c : List Mark) → ((i j : ℕ) (one two : Item) (m : Mark) → P i one m → P j two m → i ≡ j) → Appends (InSets P sets n) a b → Appends (InSet P sets n (length (set_at sets n))) b c → Appends (InSets P sets (suc n)) a c
+  pub sets_more : (n : ℕ) (a b c : List Candidate) → ((i j : ℕ) (one two : Item) (m : Candidate) → P i one m → P j two m → i ≡ j) → Appends (InSets P sets n) a b → Appends (InSet P sets n (length (set_at sets n))) b c → Appends (InSets P sets (suc n)) a c
   sets_more n a b c only before now = appends_more (InSets P sets n) (InSet P sets n (length (set_at sets n))) (InSets P sets (suc n)) a b c before now apart left right split
     where
-      apart : (m : Mark) → InSets P sets n m → InSet P sets n (length (set_at sets n)) m → ⊥
+      apart : (m : Candidate) → InSets P sets n m → InSet P sets n (length (set_at sets n)) m → ⊥
       apart m (j, lt, (k, below, one, at, p)) (l, in', two, there, q) =
           let e : j ≡ n = only j n one two m p q in
           absurd (omega (arith, lt))
 
-      left : (m : Mark) → InSets P sets n m → InSets P sets (suc n) m
+      left : (m : Candidate) → InSets P sets n m → InSets P sets (suc n) m
       left m (j, lt, (k, below, one, at, p)) = (j, omega (arith, lt), (k, below, one, at, p))
 
-      right : (m : Mark) → InSet P sets n (length (set_at sets n)) m → InSets P sets (suc n) m
+      right : (m : Candidate) → InSet P sets n (length (set_at sets n)) m → InSets P sets (suc n) m
       right m (k, below, one, at, p) = (n, omega arith, (k, below, one, at, p))
 
-      split : (m : Mark) → InSets P sets (suc n) m → InSets P sets n m ⊎ InSet P sets n (length (set_at sets n)) m
+      split : (m : Candidate) → InSets P sets (suc n) m → InSets P sets n m ⊎ InSet P sets n (length (set_at sets n)) m
       split m (j, lt, (k, below, one, at, p)) = elim (cases_eq j n) [
         | inl e ↦ inr (subst (λ z. InSet P sets z (length (set_at sets z)) m) e (k, below, one, at, p))
         | inr ne ↦ let le = lt in inl (j, omega arith, (k, below, one, at, p))
@@ -78,8 +78,8 @@ same_item one two e f = go one.state two.state one.origin two.origin e f
     go : (a b c d : ℕ) → a ≡ b → c ≡ d → ◌≡◌ {A = Item} (record { state = a; origin = c }) (record { state = b; origin = d })
     go a b c d e f = ap (λ (s : ℕ). record { state = s; origin = c }) e ∙ ap (λ (o : ℕ). record { state = b; origin = o }) f
 
-pub same_start : (x y : What) (i j k l m n : ℕ) → ◌≡◌ {A = Mark} (key_at x i j, m) (key_at y k l, n) → (x ≡ y) × (i ≡ k) × (j ≡ l) × (m ≡ n)
-same_start x y i j k l m n e = (ap (λ (z : Mark). z.0.what) e, ap (λ (z : Mark). z.0.start) e, ap (λ (z : Mark). z.0.end) e, ap (λ (z : Mark). z.1) e)
+pub same_start : (x y : What) (i j k l m n : ℕ) → ◌≡◌ {A = Candidate} (key_at x i j, m) (key_at y k l, n) → (x ≡ y) × (i ≡ k) × (j ≡ l) × (m ≡ n)
+same_start x y i j k l m n e = (ap (λ (z : Candidate). z.0.what) e, ap (λ (z : Candidate). z.0.start) e, ap (λ (z : Candidate). z.0.end) e, ap (λ (z : Candidate). z.1) e)
 
 pub same_rule : (p q d e : ℕ) → Front p (suc d) ≡ Front q (suc e) → p ≡ q
 same_rule p q d e h = cc
@@ -93,51 +93,51 @@ one_number g c d k l p q m n is_c is_d plain_c plain_d e f =
     place_once g d k l (subst (λ z. IsNumber g k z) same is_c) is_d
 
 module _ (g : Grammar) where
-  pub whole_item : (j : ℕ) (one two : Item) (m : Mark) → WholeAt g j one m → WholeAt g j two m → one ≡ two
+  pub whole_item : (j : ℕ) (one two : Item) (m : Candidate) → WholeAt g j one m → WholeAt g j two m → one ≡ two
   whole_item j one two m a b =
       let s = same_start (Whole (rule_of g a.place.rule).non) (Whole (rule_of g b.place.rule).non) one.origin j two.origin j a.place.rule b.place.rule (sym a.is ∙ b.is) in
       let dots : a.place.dot ≡ b.place.dot = a.whole ∙ (ap (λ r. length (items g r)) s.3 ∙ sym b.whole) in
       same_item one two (one_number g a.place b.place one.state two.state 0 0 0 0 a.numbered b.numbered a.plain b.plain s.3 dots) s.1
 
-  pub whole_set : (i j : ℕ) (one two : Item) (m : Mark) → WholeAt g i one m → WholeAt g j two m → i ≡ j
+  pub whole_set : (i j : ℕ) (one two : Item) (m : Candidate) → WholeAt g i one m → WholeAt g j two m → i ≡ j
   whole_set i j one two m a b = (same_start (Whole (rule_of g a.place.rule).non) (Whole (rule_of g b.place.rule).non) one.origin i two.origin j a.place.rule b.place.rule (sym a.is ∙ b.is)).2
 
-  -- the mark of an item at the end of its rule, and of one that stands elsewhere
-  pub whole_one : (j : ℕ) (it : Item) (place : Place) (a b : List Mark) → IsNumber g it.state place → ((place.inside ≡ None) × (place.dot ≡ length (items g place.rule))) × (b ≡ a ++ (key_at (Whole (rule_of g place.rule).non) it.origin j, place.rule) ∷ []) ⊎ (((place.inside ≡ None) × (place.dot ≡ length (items g place.rule)) → ⊥) × (b ≡ a)) → Appends (WholeAt g j it) a b
+  -- the candidate of an item at the end of its rule, and of one that stands elsewhere
+  pub whole_one : (j : ℕ) (it : Item) (place : Place) (a b : List Candidate) → IsNumber g it.state place → ((place.inside ≡ None) × (place.dot ≡ length (items g place.rule))) × (b ≡ a ++ (key_at (Whole (rule_of g place.rule).non) it.origin j, place.rule) ∷ []) ⊎ (((place.inside ≡ None) × (place.dot ≡ length (items g place.rule)) → ⊥) × (b ≡ a)) → Appends (WholeAt g j it) a b
   whole_one j it place a b number (inl (end, e)) =
       appends_one (WholeAt g j it) a b (key_at (Whole (rule_of g place.rule).non) it.origin j, place.rule) e (record { place = place; numbered = number; plain = end.0; whole = end.1; is = refl }) (λ m h. sym (h.is ∙ ap (λ (c : Place). (key_at (Whole (rule_of g c.rule).non) it.origin j, c.rule)) (one_place g it.state h.place place h.numbered number)))
   whole_one j it place a b number (inr (none, e)) =
       subst (λ z. Appends (WholeAt g j it) a z) (sym e) (appends_none (WholeAt g j it) a (λ m h. none (subst (λ (c : Place). (c.inside ≡ None) × (c.dot ≡ length (items g c.rule))) (one_place g it.state h.place place h.numbered number) (h.plain, h.whole))))
 
   module _ (w : List ℕ) (calls : Grouped Call) where
-    pub front_item : (j : ℕ) (one two : Item) (m : Mark) → FrontFrom g w calls j one m → FrontFrom g w calls j two m → one ≡ two
+    pub front_item : (j : ℕ) (one two : Item) (m : Candidate) → FrontFrom g w calls j one m → FrontFrom g w calls j two m → one ≡ two
     front_item j one two m a b =
         let s = same_start (Front a.place.rule (suc a.place.dot)) (Front b.place.rule (suc b.place.dot)) one.origin a.end two.origin b.end j j (sym a.is ∙ b.is) in
         same_item one two (one_number g a.place b.place one.state two.state 0 0 0 0 a.numbered b.numbered a.plain b.plain (same_rule a.place.rule b.place.rule a.place.dot b.place.dot s.0) (same_dot a.place.rule b.place.rule a.place.dot b.place.dot s.0)) s.1
 
-    pub front_set : (i j : ℕ) (one two : Item) (m : Mark) → FrontFrom g w calls i one m → FrontFrom g w calls j two m → i ≡ j
+    pub front_set : (i j : ℕ) (one two : Item) (m : Candidate) → FrontFrom g w calls i one m → FrontFrom g w calls j two m → i ≡ j
     front_set i j one two m a b = (same_start (Front a.place.rule (suc a.place.dot)) (Front b.place.rule (suc b.place.dot)) one.origin a.end two.origin b.end i j (sym a.is ∙ b.is)).3
 
-    -- an item that stands inside an item, or at the end of its rule, has no such marks
-    pub front_inside : (j : ℕ) (it : Item) (place : Place) (k : ℕ) (a : List Mark) → IsNumber g it.state place → place.inside ≡ Some k → Appends (FrontFrom g w calls j it) a a
+    -- an item that stands inside an item, or at the end of its rule, has no such candidates
+    pub front_inside : (j : ℕ) (it : Item) (place : Place) (k : ℕ) (a : List Candidate) → IsNumber g it.state place → place.inside ≡ Some k → Appends (FrontFrom g w calls j it) a a
     front_inside j it place k a number inside = appends_none (FrontFrom g w calls j it) a (λ m h. none-some k (sym h.plain ∙ (ap (λ (c : Place). c.inside) (one_place g it.state h.place place h.numbered number) ∙ inside)))
 
-    pub front_end : (j : ℕ) (it : Item) (place : Place) (a : List Mark) → IsNumber g it.state place → place.dot ≡ length (items g place.rule) → Appends (FrontFrom g w calls j it) a a
+    pub front_end : (j : ℕ) (it : Item) (place : Place) (a : List Candidate) → IsNumber g it.state place → place.dot ≡ length (items g place.rule) → Appends (FrontFrom g w calls j it) a a
     front_end j it place a number end = appends_none (FrontFrom g w calls j it) a (λ m h.
         let at : ItemAt g place.rule place.dot h.item = subst (λ (c : Place). ItemAt g c.rule c.dot h.item) (one_place g it.state h.place place h.numbered number) h.at in
         let lt = get_lt (items g place.rule) place.dot h.item at in
         absurd (omega arith))
 
-    abbrev mark_of : (j : ℕ) (it : Item) (place : Place) (end : ℕ) → Mark
+    abbrev mark_of : (j : ℕ) (it : Item) (place : Place) (end : ℕ) → Candidate
     mark_of j it place end = (key_at (Front place.rule (suc place.dot)) it.origin end, j)
 
     same_end : (j : ℕ) (it : Item) (place : Place) (e f : ℕ) → mark_of j it place e ≡ mark_of j it place f → e ≡ f
-    same_end j it place e f h = ap (λ (z : Mark). z.0.end) h
+    same_end j it place e f h = ap (λ (z : Candidate). z.0.end) h
 
     mapped_all : (j : ℕ) (it : Item) (place : Place) (item : GItem) (ends : List ℕ) → IsNumber g it.state place → place.inside ≡ None → ItemAt g place.rule place.dot item → HasAllOf (EndsAt g w calls item j) ends → HasAllOf (FrontFrom g w calls j it) (map (mark_of j it place) ends)
     mapped_all j it place item ends number plain at all = record { sound = sound; complete = complete; once = once }
       where
-        got : (xs : List ℕ) (k : ℕ) (m : Mark) → slice_get (map (mark_of j it place) xs) k ≡ Some m → (e : ℕ) × (slice_get xs k ≡ Some e) × (mark_of j it place e ≡ m)
+        got : (xs : List ℕ) (k : ℕ) (m : Candidate) → slice_get (map (mark_of j it place) xs) k ≡ Some m → (e : ℕ) × (slice_get xs k ≡ Some e) × (mark_of j it place e ≡ m)
         got [] k m h = absurd (none-some m h)
         got (x ∷ xs) zero m h = (x, refl, same_Some (mark_of j it place x) m h)
         got (x ∷ xs) (suc k) m h = got xs k m h
@@ -147,13 +147,13 @@ module _ (g : Grammar) where
         put (x ∷ xs) zero e h = ap (λ (z : ℕ). Some (mark_of j it place z)) (same_Some x e h)
         put (x ∷ xs) (suc k) e h = put xs k e h
 
-        sound : (m : Mark) → Contains (map (mark_of j it place) ends) m → FrontFrom g w calls j it m
+        sound : (m : Candidate) → Contains (map (mark_of j it place) ends) m → FrontFrom g w calls j it m
         sound m c =
             let at' = contains_get (map (mark_of j it place) ends) m c in
             let e = got ends at'.0 m at'.1 in
             record { place = place; numbered = number; plain = plain; item = item; at = at; end = e.0; last = all.sound e.0 (get_contains ends at'.0 e.0 e.1); is = sym e.2 }
 
-        complete : (m : Mark) → FrontFrom g w calls j it m → Contains (map (mark_of j it place) ends) m
+        complete : (m : Candidate) → FrontFrom g w calls j it m → Contains (map (mark_of j it place) ends) m
         complete m h =
             let same = one_place g it.state h.place place h.numbered number in
             let at' : ItemAt g place.rule place.dot h.item = subst (λ (c : Place). ItemAt g c.rule c.dot h.item) same h.at in
@@ -169,7 +169,7 @@ module _ (g : Grammar) where
             let same : f.0 ≡ e.0 = same_end j it place f.0 e.0 (f.2 ∙ sym e.2) in
             all.once k l e.0 e.1 (subst (λ z. slice_get ends l ≡ Some z) same f.1)
 
-    pub front_ends : (j : ℕ) (it : Item) (place : Place) (item : GItem) (ends : List ℕ) (a b : List Mark) (dot : ℕ) → IsNumber g it.state place → place.inside ≡ None → ItemAt g place.rule place.dot item → HasAllOf (EndsAt g w calls item j) ends → dot ≡ suc place.dot → b ≡ a ++ map (λ end. (key_at (Front place.rule dot) it.origin end, j)) ends → Appends (FrontFrom g w calls j it) a b
+    pub front_ends : (j : ℕ) (it : Item) (place : Place) (item : GItem) (ends : List ℕ) (a b : List Candidate) (dot : ℕ) → IsNumber g it.state place → place.inside ≡ None → ItemAt g place.rule place.dot item → HasAllOf (EndsAt g w calls item j) ends → dot ≡ suc place.dot → b ≡ a ++ map (λ end. (key_at (Front place.rule dot) it.origin end, j)) ends → Appends (FrontFrom g w calls j it) a b
     front_ends j it place item ends a b dot number plain at all e is =
         record { added = map (mark_of j it place) ends; is = is ∙ ap (λ d. a ++ map (λ end. (key_at (Front place.rule d) it.origin end, j)) ends) e; all = mapped_all j it place item ends number plain at all }
 

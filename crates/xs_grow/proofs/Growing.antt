@@ -1,4 +1,4 @@
--- The rows that are made of the marks of a chart are a grown forest.
+-- The rows that are made of the candidates of a chart are a grown forest.
 use Rattle.std.proofs.Common.{◌≡◌, ◌⊎◌, ℕ, zero, suc, ◌<◌, ◌≤◌, false, List, [], ◌∷◌, length, slice_get, Option, None, Some, refl, sym, ap, ◌∙◌, subst, arith, inl, inr, true≢false}
 use Rattle.std.specs.Prelude.{Contains, IsPermutation, IsSortedByKey, slice_range, slice_index_or}
 use Rattle.std.specs.Cmp.Lexicographic.{slice_cmp}
@@ -34,14 +34,14 @@ use Rattle.xs_forest_laws.proofs.Below.{whole_below, front_below, last_below}
 use Rattle.xs_grow.specs.Lists.{HasAllOf}
 use Rattle.xs_grow.specs.Grouped.{Grouped, IsGroup, AreApart, HasGroups}
 use Rattle.xs_grow.specs.Levels.{rank_by, tail_by, level_by}
-use Rattle.xs_grow.specs.Marks.{Mark, IsMark}
+use Rattle.xs_grow.specs.Candidates.{Candidate, IsCandidate}
 use Rattle.xs_grow.specs.Making.{FindsFront, FindsItem, IsMade, CanBeMade, AreMade, AllCanBeMade, ChildrenAreEarlier, AreRowsOf}
 use Rattle.xs_grow.proofs.ListLemmas.{get_contains, contains_get}
 use Rattle.xs_grow.proofs.Rowing.{made_of}
 
--- groups that change places are of the same marks
-pub permuted_groups : {L : Type 0} (marks : List (L × ℕ)) (old new : Grouped L) → IsPermutation old new → AreApart new → HasGroups marks old → HasGroups marks new
-permuted_groups {L} marks old new perm apart h = record {
+-- groups that change places are of the same candidates
+pub permuted_groups : {L : Type 0} (candidates : List (L × ℕ)) (old new : Grouped L) → IsPermutation old new → AreApart new → HasGroups candidates old → HasGroups candidates new
+permuted_groups {L} candidates old new perm apart h = record {
   sound = λ r l ns n is c. let o = back r l ns is in h.sound o.0 l ns n o.1 c;
   complete = λ l n c. let o = h.complete l n c in let f = forth o.0 l o.1 o.2 in (f.0, o.1, f.1, o.3);
   filled = λ r l ns is. let o = back r l ns is in h.filled o.0 l ns o.1;
@@ -96,29 +96,29 @@ front_once f p (suc d) i m l o (r, e, row) (s, e', row') =
     ap (λ (z : SpanKey). z.end) (sym row.1 ∙ (ap (λ z. key_of f z) same ∙ row'.1))
 
 module _ (g : Grammar) (w : List ℕ) (has : ℕ → Place → ℕ → Type 0) where
-  -- what a mark says
+  -- what a candidate says
   abbrev pub Facts : What → ℕ → ℕ → ℕ → Type 0
   Facts (Whole n) i j q = IsRuleOf g n q × has j (at_dot q (length (items g q))) i
   Facts (Front p zero) i j m = ⊥
   Facts (Front p (suc d)) i j m = (item : GItem) × ItemAt g p d item × has m (at_dot p d) i × ItemOver g w has item m j
 
-  pub mark_facts : (c : Mark) → IsMark g w has c → Facts c.0.what c.0.start c.0.end c.1
-  mark_facts c (inl h) = subst (λ (z : Mark). Facts z.0.what z.0.start z.0.end z.1) (sym h.is) (h.of, h.ended)
-  mark_facts c (inr h) = subst (λ (z : Mark). Facts z.0.what z.0.start z.0.end z.1) (sym h.is) (h.item, h.at, h.before, h.last)
+  pub mark_facts : (c : Candidate) → IsCandidate g w has c → Facts c.0.what c.0.start c.0.end c.1
+  mark_facts c (inl h) = subst (λ (z : Candidate). Facts z.0.what z.0.start z.0.end z.1) (sym h.is) (h.of, h.ended)
+  mark_facts c (inr h) = subst (λ (z : Candidate). Facts z.0.what z.0.start z.0.end z.1) (sym h.is) (h.item, h.at, h.before, h.last)
 
-  pub facts_mark : (x : What) (i j n : ℕ) → Facts x i j n → IsMark g w has (key_at x i j, n)
+  pub facts_mark : (x : What) (i j n : ℕ) → Facts x i j n → IsCandidate g w has (key_at x i j, n)
   facts_mark (Whole m) i j n h = inl (record { non = m; rule = n; start = i; end = j; is = refl; of = h.0; ended = h.1 })
   facts_mark (Front p zero) i j n h = absurd h
   facts_mark (Front p (suc d)) i j n (item, at, before, last) = inr (record { rule = p; dot = d; start = i; end = j; split = n; item = item; is = refl; at = at; before = before; last = last })
 
   module _ (built : IsBuilt g) (exact : IsExactChart g w has) where
-    -- behind an item that is over a stretch stands the next place
+    -- after an item that is over a stretch stands the next place
     front_next : (p d i m j : ℕ) (item : GItem) → ItemAt g p d item → has m (at_dot p d) i → ItemOver g w has item m j → has j (at_dot p (suc d)) i
     front_next p d i m j item at before over =
         let sp = over_spelt g w has exact item m j over in
         exact.complete (at_dot p (suc d)) i j (more g w built p d i m j item sp.0 (exact.sound (at_dot p d) i m before) at sp.1.0 sp.1.1)
 
-    -- what stands behind an item stands before it, and the item is over the stretch between
+    -- what stands after an item stands before it, and the item is over the stretch between
     front_split : (p d i j : ℕ) → has j (at_dot p (suc d)) i → (m : ℕ) × Facts (Front p (suc d)) i j m
     front_split p d i j h =
         let st = exact.sound (at_dot p (suc d)) i j h in
@@ -147,7 +147,7 @@ module _ (g : Grammar) (w : List ℕ) (has : ℕ → Place → ℕ → Type 0) w
     label_facts (Front p zero) i j h = let lt = h.0 in absurd (omega arith)
     label_facts (Front p (suc d)) i j h = front_split p d i j h.1
 
-    module _ (marks : List Mark) (all : HasAllOf (IsMark g w has) marks) (groups : Grouped SpanKey) (grouped : HasGroups marks groups) where
+    module _ (candidates : List Candidate) (all : HasAllOf (IsCandidate g w has) candidates) (groups : Grouped SpanKey) (grouped : HasGroups candidates groups) where
       group_facts : (r : ℕ) (key : SpanKey) (ns : List ℕ) (n : ℕ) → IsGroup groups r key ns → Contains ns n → Facts key.what key.start key.end n
       group_facts r key ns n is c = mark_facts (key, n) (all.sound (key, n) (grouped.sound r key ns n is c))
 
@@ -189,15 +189,15 @@ module _ (g : Grammar) (w : List ℕ) (has : ℕ → Place → ℕ → Type 0) w
 
         module _ (f : Forest) (rows : AreRowsOf g groups (length groups) f) where
           -- the group of a row, with its alternatives
-          record IsBehind (r : ℕ) (x : What) (i j : ℕ) : Type 0 where
+          record IsRowOver (r : ℕ) (x : What) (i j : ℕ) : Type 0 where
             numbers : List ℕ
             alts : List Alt
             group : IsGroup groups r (key_at x i j) numbers
             alts_are : alts_of f r ≡ alts
             made : AreMade g groups (key_at x i j) numbers alts
 
-          behind : (r : ℕ) (x : What) (i j : ℕ) → IsRow f r x i j → IsBehind r x i j
-          behind r x i j row =
+          after : (r : ℕ) (x : What) (i j : ℕ) → IsRow f r x i j → IsRowOver r x i j
+          after r x i j row =
               let l = rows.long in
               let below : r < length groups = omega (arith, row.0) in
               let e = get_some groups r below in
@@ -253,34 +253,34 @@ module _ (g : Grammar) (w : List ℕ) (has : ℕ → Place → ℕ → Type 0) w
 
           one_row : (r s : ℕ) → r < length f → s < length f → key_of f r ≡ key_of f s → r ≡ s
           one_row r s a b e =
-              let x = behind r (key_of f r).what (key_of f r).start (key_of f r).end (a, refl) in
-              let y = behind s (key_of f s).what (key_of f s).start (key_of f s).end (b, refl) in
+              let x = after r (key_of f r).what (key_of f r).start (key_of f r).end (a, refl) in
+              let y = after s (key_of f s).what (key_of f s).start (key_of f s).end (b, refl) in
               grouped.apart r s (key_of f s) x.numbers y.numbers (subst (λ (z : SpanKey). IsGroup groups r z x.numbers) e x.group) y.group
 
           below : (r c : ℕ) (a : Alt) → r < length f → Contains (alts_of f r) a → (a.left ≡ Some c) ⊎ (a.right ≡ Some c) → c < r
           below r c a lt contained child =
-              let x = behind r (key_of f r).what (key_of f r).start (key_of f r).end (lt, refl) in
+              let x = after r (key_of f r).what (key_of f r).start (key_of f r).end (lt, refl) in
               let at = contains_get x.alts a (subst (λ z. Contains z a) x.alts_are contained) in
               let n = made_of g groups (key_of f r) x.numbers x.alts at.0 a x.made at.1 in
               children_earlier r c (key_of f r) x.numbers n.0 a x.group (get_contains x.numbers at.0 n.0 n.1) n.2 child
 
           labels : (r : ℕ) (x : What) (i j : ℕ) → IsRow f r x i j → IsLabelBy g has x i j
           labels r x i j row =
-              let b = behind r x i j row in
+              let b = after r x i j row in
               let n = grouped.filled r (key_at x i j) b.numbers b.group in
               facts_label x i j n.0 (group_facts r (key_at x i j) b.numbers n.0 b.group n.1)
 
           sound : (r : ℕ) (x : What) (i j : ℕ) (a : Alt) → IsRow f r x i j → Contains (alts_of f r) a → IsAltBy g w has f x i j a
           sound r x i j a row contained =
-              let b = behind r x i j row in
+              let b = after r x i j row in
               let at = contains_get b.alts a (subst (λ z. Contains z a) b.alts_are contained) in
               let n = made_of g groups (key_at x i j) b.numbers b.alts at.0 a b.made at.1 in
               alt_by x i j n.0 a (group_facts r (key_at x i j) b.numbers n.0 b.group (get_contains b.numbers at.0 n.0 n.1)) n.2
 
-          -- the alternative of a mark of the row's label
+          -- the alternative of a candidate of the row's label
           made_there : (r : ℕ) (x : What) (i j n : ℕ) → IsRow f r x i j → Facts x i j n → (a : Alt) × Contains (alts_of f r) a × IsMade g groups x i j n a
           made_there r x i j n row h =
-              let b = behind r x i j row in
+              let b = after r x i j row in
               let o = facts_group x i j n h in
               let same : o.0 ≡ r = grouped.apart o.0 r (key_at x i j) o.1 b.numbers o.2 b.group in
               let numbers : o.1 ≡ b.numbers = ap (λ (z : SpanKey × List ℕ). z.1) (same_Some (key_at x i j, o.1) (key_at x i j, b.numbers) (sym (subst (λ z. IsGroup groups z (key_at x i j) o.1) same o.2) ∙ b.group)) in
@@ -301,7 +301,7 @@ module _ (g : Grammar) (w : List ℕ) (has : ℕ → Place → ℕ → Type 0) w
           once : (r k l : ℕ) (a : Alt) → r < length f → slice_get (alts_of f r) k ≡ Some a → slice_get (alts_of f r) l ≡ Some a → k ≡ l
           once r k l a lt at_k at_l =
               let key = key_of f r in
-              let x = behind r key.what key.start key.end (lt, refl) in
+              let x = after r key.what key.start key.end (lt, refl) in
               let n = made_of g groups key x.numbers x.alts k a x.made (subst (λ z. slice_get z k ≡ Some a) x.alts_are at_k) in
               let m = made_of g groups key x.numbers x.alts l a x.made (subst (λ z. slice_get z l ≡ Some a) x.alts_are at_l) in
               let same = made_once key.what key.start key.end n.0 m.0 a (group_facts r key x.numbers n.0 x.group (get_contains x.numbers k n.0 n.1)) (group_facts r key x.numbers m.0 x.group (get_contains x.numbers l m.0 m.1)) n.2 m.2 in

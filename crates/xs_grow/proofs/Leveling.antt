@@ -11,24 +11,24 @@ use Rattle.xs_forest_laws.specs.Order.{IsTailFrom}
 -- all items from `from` up to k are nullable, and the one before is not
 pub record IsTailTo (g : Grammar) (p from k : ℕ) : Type 0 where
   pub within : from ≤ k
-  pub behind : (m : ℕ) (item : GItem) → from ≤ m → m < k → ItemAt g p m item → IsNullableItem g item
+  pub after : (m : ℕ) (item : GItem) → from ≤ m → m < k → ItemAt g p m item → IsNullableItem g item
   pub first : (m : ℕ) → suc m ≡ from → (item : GItem) × ItemAt g p m item × (IsNullableItem g item → ⊥)
 
 pub no_tail : (g : Grammar) (p : ℕ) → IsTailTo g p 0 0
-no_tail g p = record { within = omega arith; behind = λ m item a b at. absurd (omega arith); first = λ m e. absurd (omega arith) }
+no_tail g p = record { within = omega arith; after = λ m item a b at. absurd (omega arith); first = λ m e. absurd (omega arith) }
 
 pub tail_more : (g : Grammar) (p from from' k next : ℕ) (item : GItem) (b : Bool) → ((b ≡ true) ↔ IsNullableItem g item) → ItemAt g p k item → next ≡ suc k → ((b ≡ false) × (from' ≡ suc k)) ⊎ ((b ≡ true) × (from' ≡ from)) → IsTailTo g p from k → IsTailTo g p from' next
 tail_more g p from from' k next item b says at e (inl (f, is)) h = record {
   within = omega arith;
-  behind = λ m other a lt there. absurd (omega arith);
+  after = λ m other a lt there. absurd (omega arith);
   first = λ m same.
       let e' : k ≡ m = omega arith in
       (item, subst (λ z. ItemAt g p z item) e' at, λ nullable. true≢false (sym (says.1 nullable) ∙ f));
 }
 tail_more g p from from' k next item b says at e (inr (t, is)) h = record {
   within = let le = h.within in omega arith;
-  behind = λ m other a lt there. elim (cases_lt m k) [
-    | inl less ↦ h.behind m other (omega arith) less there
+  after = λ m other a lt there. elim (cases_lt m k) [
+    | inl less ↦ h.after m other (omega arith) less there
     | inr ge ↦
         let same : m ≡ k = omega arith in
         subst (λ z. IsNullableItem g z) (same_Some item other (sym at ∙ subst (λ z. slice_get (items g p) z ≡ Some other) same there)) (says.0 t)
@@ -39,7 +39,7 @@ tail_more g p from from' k next item b says at e (inr (t, is)) h = record {
 pub tail_whole : (g : Grammar) (p from k : ℕ) → k ≡ length (items g p) → IsTailTo g p from k → IsTailFrom g p from
 tail_whole g p from k e h = record {
   within = let le = h.within in omega arith;
-  behind = λ m item le at. let lt = get_lt (items g p) m item at in h.behind m item le (omega arith) at;
+  after = λ m item le at. let lt = get_lt (items g p) m item at in h.after m item le (omega arith) at;
   first = λ m same all. let f = h.first m same in f.2 (all m f.0 (omega arith) f.1);
 }
 

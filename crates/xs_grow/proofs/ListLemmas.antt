@@ -132,6 +132,6 @@ module _ {X : Type 0} where
   pub appends_same : (P Q : X → Type 0) (a b : List X) → ((x : X) → P x → Q x) → ((x : X) → Q x → P x) → Appends P a b → Appends Q a b
   appends_same P Q a b to from h = record { added = h.added; is = h.is; all = all_same P Q h.added to from h.all }
 
-  -- behind nothing stands all
+  -- after nothing stands all
   pub appends_all : (P : X → Type 0) (xs : List X) → Appends P [] xs → HasAllOf P xs
   appends_all P xs h = subst (λ z. HasAllOf P z) (sym h.is) h.all

@@ -1,6 +1,6 @@
 pub mod Lists
 pub mod Grouped
 pub mod Running
-pub mod Marks
+pub mod Candidates
 pub mod Levels
 pub mod Making

@@ -11,7 +11,7 @@ pub record HasAllOf {X : Type 0} (P : X → Type 0) (xs : List X) : Type 0 where
   pub complete : (x : X) → P x → Contains xs x
   pub once : AreOnce xs
 
--- the new list is the old one, and behind it exactly what the fact holds of, each once
+-- the new list is the old one, and after it exactly what the fact holds of, each once
 pub record Appends {X : Type 0} (P : X → Type 0) (old new : List X) : Type 0 where
   pub added : List X
   pub is : new ≡ old ++ added

@@ -1,4 +1,4 @@
--- The rows of a forest from groups of marks: one for each group, with an alternative for each number.
+-- The rows of a forest from groups of candidates: one for each group, with an alternative for each number.
 use Rattle.std.specs.Prelude.{◌≡◌, ◌⊎◌, ℕ, zero, suc, ◌<◌, List, length, None, Some, slice_get, Contains, MatchOption}
 use Rattle.std.specs.declared.option.Option.{Option}
 use Rattle.xs_gram.specs.declared.parts.GItem.{GItem}

@@ -1,5 +1,5 @@
 ghost use Rattle.std.specs.Prelude.{◌++◌, ◌≡◌, IfOk, OnOk};
-ghost use Rattle.xs_grow.specs.Marks.{AreCallsOf, called};
+ghost use Rattle.xs_grow.specs.Candidates.{AreCallsOf, called};
 
 use crate::call::Call;
 use crate::groups::Groups;
@@ -8,8 +8,8 @@ use xs_class::Memory;
 use xs_forest_laws::{SpanKey, What};
 
 /// Adds the call of a nonterminal's stretch, with the stretch's end.
-fn push_call(key: SpanKey, marks: &mut Vec<(Call, u32)>) -> Result<(), Memory>
-    ensures { OnOk result (marks.new.items ≡ marks.old.items ++ called key) }
+fn push_call(key: SpanKey, candidates: &mut Vec<(Call, u32)>) -> Result<(), Memory>
+    ensures { OnOk result (candidates.new.items ≡ candidates.old.items ++ called key) }
 {
     match key.what {
         What::Whole(non) => {
@@ -17,7 +17,7 @@ fn push_call(key: SpanKey, marks: &mut Vec<(Call, u32)>) -> Result<(), Memory>
                 non,
                 start: key.start,
             };
-            marks.push((call, key.end))?;
+            candidates.push((call, key.end))?;
             Ok(())
         }
         What::Front { .. } => Ok(()),
@@ -28,10 +28,10 @@ fn push_call(key: SpanKey, marks: &mut Vec<(Call, u32)>) -> Result<(), Memory>
 pub(crate) fn calls_of(alloc: Global, wholes: &Groups<SpanKey>) -> Result<Groups<Call>, Memory>
     ensures { IfOk result (AreCallsOf wholes.now) }
 {
-    let mut marks = Vec::new(alloc);
+    let mut candidates = Vec::new(alloc);
     'groups: for r in 0..wholes.len() {
-        push_call(wholes.group(r).0, &mut marks)?;
+        push_call(wholes.group(r).0, &mut candidates)?;
     }
-    let calls = Groups::of(alloc, &marks)?;
+    let calls = Groups::of(alloc, &candidates)?;
     Ok(calls)
 }

@@ -3,7 +3,7 @@ ghost use Rattle.xs_gram.specs.Sound.{IsBuilt};
 ghost use Rattle.xs_gram.specs.Grammar.{ItemAt};
 ghost use Rattle.xs_chart_laws.specs.Reading.{Reads};
 ghost use Rattle.xs_grow.specs.Lists.{HasAllOf};
-ghost use Rattle.xs_grow.specs.Marks.{EndsAt, EndOnce};
+ghost use Rattle.xs_grow.specs.Candidates.{EndsAt, EndOnce};
 
 use crate::call::Call;
 use crate::groups::Groups;

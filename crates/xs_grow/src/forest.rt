@@ -7,7 +7,7 @@ ghost use Rattle.xs_forest_laws.specs.Order.{IsRanked, AreNullable};
 ghost use Rattle.xs_forest_laws.specs.Laws.{IsForestOf, IsExact};
 ghost use Rattle.xs_grow.specs.Lists.{HasAllOf};
 ghost use Rattle.xs_grow.specs.Levels.{flag_by, rank_by};
-ghost use Rattle.xs_grow.specs.Marks.{IsMark};
+ghost use Rattle.xs_grow.specs.Candidates.{IsCandidate};
 
 use crate::calls::calls_of;
 use crate::gather::{fronts, wholes};
@@ -18,12 +18,12 @@ use bumpalo::Bump;
 use std::alloc::Global;
 use xs_chart::Chart;
 use xs_class::{Memory, Word};
+use xs_forest_laws::{Grown, SpanKey, What};
 use xs_gram::Gram;
 use xs_order::{OrderFault, Ranks, nullable, unit_order};
-use xs_forest_laws::{Grown, SpanKey, What};
 
-/// The marks of a document's chart: each label of its forest, with each number that stands for an
-/// alternative of it, once.
+/// The candidates of a document's chart: each label of its forest, with each number that stands for
+/// an alternative of it, once.
 fn marks_of(
     alloc: Global,
     g: &Gram,
@@ -33,14 +33,14 @@ fn marks_of(
     requires built { IsBuilt g.now }
     requires chart { IsChartOf g.now doc.now chart.now.sets }
     requires short { length doc.now < 4294967295 }
-    ensures { IfOk result (λ marks. HasAllOf (IsMark g.now doc.now (HasPlace g.now chart.now.sets)) marks.items) }
+    ensures { IfOk result (λ candidates. HasAllOf (IsCandidate g.now doc.now (HasPlace g.now chart.now.sets)) candidates.items) }
 {
-    let mut marks = Vec::new(alloc);
-    wholes(g, chart, &mut marks)?;
-    let groups = Groups::of(alloc, &marks)?;
+    let mut candidates = Vec::new(alloc);
+    wholes(g, chart, &mut candidates)?;
+    let groups = Groups::of(alloc, &candidates)?;
     let calls = calls_of(alloc, &groups)?;
-    fronts(alloc, g, chart, doc, &calls, &mut marks)?;
-    Ok(marks)
+    fronts(alloc, g, chart, doc, &calls, &mut candidates)?;
+    Ok(candidates)
 }
 
 /// The forest of a document from its chart, by ranks of the nonterminals and flags that say which
@@ -63,9 +63,9 @@ fn grow_by<'b>(
     ensures forest { IfOk result (λ grown. IsForestOf g.now doc.now grown.forest grown.root) }
     ensures exact { IfOk result (λ grown. IsExact g.now doc.now grown.forest grown.root) }
 {
-    let marks = marks_of(alloc, g, chart, doc)?;
+    let candidates = marks_of(alloc, g, chart, doc)?;
     let tails = tails(alloc, g, flags)?;
-    let mut groups = Groups::of(alloc, &marks)?;
+    let mut groups = Groups::of(alloc, &candidates)?;
     sort(&mut groups, g, ranks, &tails)?;
     let forest = rows(alloc, bump, g, &groups)?;
     let key = SpanKey {
@@ -94,7 +94,7 @@ fn ranks_of(alloc: Global, g: &Gram) -> Result<Ranks, Memory>
 ///
 /// There is one row for each nonterminal over a stretch of the document over which a rule of it is
 /// finished, with an alternative for each such rule, and one for some first items of a rule over a
-/// stretch, with an alternative for each place where the last of them may begin. Rows stand behind
+/// stretch, with an alternative for each place where the last of them may begin. Rows stand after
 /// those of their children, and places are counted from 0. The sets of the chart may have their
 /// items in any order. A document without ambiguity takes time linear in the chart, by the steps of
 /// automata and the sorting of the labels; otherwise the alternatives count too.

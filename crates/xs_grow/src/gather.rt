@@ -5,7 +5,7 @@ ghost use Rattle.xs_gram.specs.Places.{all_places, IsPlace};
 ghost use Rattle.xs_chart_laws.specs.Charts.{set_at};
 ghost use Rattle.xs_forest_laws.specs.Forest.{key_at};
 ghost use Rattle.xs_grow.specs.Lists.{Appends};
-ghost use Rattle.xs_grow.specs.Marks.{WholeAt, FrontFrom, InSet, InSets, EndOnce, HasPlaces};
+ghost use Rattle.xs_grow.specs.Candidates.{WholeAt, FrontFrom, InSet, InSets, EndOnce, HasPlaces};
 
 use crate::call::Call;
 use crate::ends::ends_of;
@@ -13,8 +13,8 @@ use crate::groups::Groups;
 use std::alloc::Global;
 use xs_chart::{Chart, Item};
 use xs_class::{Memory, Word};
-use xs_gram::{Gram, Place};
 use xs_forest_laws::{SpanKey, What};
+use xs_gram::{Gram, Place};
 
 /// Whether the place stands at the end of its rule.
 fn is_end(g: &Gram, place: Place) -> bool
@@ -24,10 +24,15 @@ fn is_end(g: &Gram, place: Place) -> bool
     place.inside.is_none() && place.dot as usize == g.items(place.rule).len()
 }
 
-/// Adds the mark of an item that stands at the end of its rule.
-fn whole_at(g: &Gram, set: u32, item: Item, marks: &mut Vec<(SpanKey, u32)>) -> Result<(), Memory>
+/// Adds the candidate of an item that stands at the end of its rule.
+fn whole_at(
+    g: &Gram,
+    set: u32,
+    item: Item,
+    candidates: &mut Vec<(SpanKey, u32)>,
+) -> Result<(), Memory>
     requires { item.state < length (all_places g.now) }
-    ensures { OnOk result (Appends (WholeAt g.now set item) marks.old.items marks.new.items) }
+    ensures { OnOk result (Appends (WholeAt g.now set item) candidates.old.items candidates.new.items) }
 {
     let place = g.place(item.state);
     if is_end(g, place) {
@@ -36,49 +41,53 @@ fn whole_at(g: &Gram, set: u32, item: Item, marks: &mut Vec<(SpanKey, u32)>) -> 
             start: item.origin,
             end: set,
         };
-        marks.push((key, place.rule))?;
+        candidates.push((key, place.rule))?;
     }
     Ok(())
 }
 
-/// Adds the marks of the rules that are finished in the set.
+/// Adds the candidates of the rules that are finished in the set.
 fn wholes_in(
     g: &Gram,
     chart: &Chart,
     set: u32,
-    marks: &mut Vec<(SpanKey, u32)>,
+    candidates: &mut Vec<(SpanKey, u32)>,
 ) -> Result<(), Memory>
     requires set { set < length chart.now.sets }
     requires places { HasPlaces g.now chart.now.sets }
-    ensures { OnOk result (Appends (InSet (WholeAt g.now) chart.now.sets set (length (set_at chart.now.sets set))) marks.old.items marks.new.items) }
+    ensures { OnOk result (Appends (InSet (WholeAt g.now) chart.now.sets set (length (set_at chart.now.sets set))) candidates.old.items candidates.new.items) }
 {
     'items: for k in 0..chart.len(set) {
-        whole_at(g, set, chart.item(set, k), marks)?;
+        whole_at(g, set, chart.item(set, k), candidates)?;
     }
     Ok(())
 }
 
-/// Adds the marks of the rules that are finished: a label for each stretch of a nonterminal, with
-/// the rule.
-pub(crate) fn wholes(g: &Gram, chart: &Chart, marks: &mut Vec<(SpanKey, u32)>) -> Result<(), Memory>
+/// Adds the candidates of the rules that are finished: a label for each stretch of a nonterminal,
+/// with the rule.
+pub(crate) fn wholes(
+    g: &Gram,
+    chart: &Chart,
+    candidates: &mut Vec<(SpanKey, u32)>,
+) -> Result<(), Memory>
     requires places { HasPlaces g.now chart.now.sets }
-    ensures { OnOk result (Appends (InSets (WholeAt g.now) chart.now.sets (length chart.now.sets)) marks.old.items marks.new.items) }
+    ensures { OnOk result (Appends (InSets (WholeAt g.now) chart.now.sets (length chart.now.sets)) candidates.old.items candidates.new.items) }
 {
     'sets: for set in 0..chart.sets() {
-        wholes_in(g, chart, set, marks)?;
+        wholes_in(g, chart, set, candidates)?;
     }
     Ok(())
 }
 
-/// Adds a mark of the place for each of the ends.
+/// Adds a candidate of the place for each of the ends.
 fn push_ends(
     what: What,
     start: u32,
     place: u32,
     ends: &[u32],
-    marks: &mut Vec<(SpanKey, u32)>,
+    candidates: &mut Vec<(SpanKey, u32)>,
 ) -> Result<(), Memory>
-    ensures { OnOk result (marks.new.items ≡ marks.old.items ++ map (λ end. (key_at what start end, place)) ends.now) }
+    ensures { OnOk result (candidates.new.items ≡ candidates.old.items ++ map (λ end. (key_at what start end, place)) ends.now) }
 {
     'ends: for end in ends {
         let key = SpanKey {
@@ -86,12 +95,12 @@ fn push_ends(
             start,
             end: *end,
         };
-        marks.push((key, place))?;
+        candidates.push((key, place))?;
     }
     Ok(())
 }
 
-/// Adds the marks of an item that stands before an item of its rule: one for each place where
+/// Adds the candidates of an item that stands before an item of its rule: one for each place where
 /// that may end.
 fn fronts_at(
     alloc: Global,
@@ -100,14 +109,14 @@ fn fronts_at(
     calls: &Groups<Call>,
     set: u32,
     item: Item,
-    marks: &mut Vec<(SpanKey, u32)>,
+    candidates: &mut Vec<(SpanKey, u32)>,
 ) -> Result<(), Memory>
     requires built { IsBuilt g.now }
     requires once { EndOnce calls.now }
     requires short { length doc.now < 4294967295 }
     requires within { set ≤ length doc.now }
     requires place { item.state < length (all_places g.now) }
-    ensures { OnOk result (Appends (FrontFrom g.now doc.now calls.now set item) marks.old.items marks.new.items) }
+    ensures { OnOk result (Appends (FrontFrom g.now doc.now calls.now set item) candidates.old.items candidates.new.items) }
 {
     let place = g.place(item.state);
     let items = g.items(place.rule);
@@ -122,13 +131,13 @@ fn fronts_at(
                 rule: place.rule,
                 dot: place.dot + 1,
             };
-            push_ends(what, item.origin, set, &ends, marks)?;
+            push_ends(what, item.origin, set, &ends, candidates)?;
             Ok(())
         }
     }
 }
 
-/// Adds the marks of the items of the set that stand before an item of their rule.
+/// Adds the candidates of the items of the set that stand before an item of their rule.
 fn fronts_in(
     alloc: Global,
     g: &Gram,
@@ -136,7 +145,7 @@ fn fronts_in(
     doc: &Word,
     calls: &Groups<Call>,
     set: u32,
-    marks: &mut Vec<(SpanKey, u32)>,
+    candidates: &mut Vec<(SpanKey, u32)>,
 ) -> Result<(), Memory>
     requires built { IsBuilt g.now }
     requires once { EndOnce calls.now }
@@ -144,33 +153,33 @@ fn fronts_in(
     requires within { set ≤ length doc.now }
     requires set { set < length chart.now.sets }
     requires places { HasPlaces g.now chart.now.sets }
-    ensures { OnOk result (Appends (InSet (FrontFrom g.now doc.now calls.now) chart.now.sets set (length (set_at chart.now.sets set))) marks.old.items marks.new.items) }
+    ensures { OnOk result (Appends (InSet (FrontFrom g.now doc.now calls.now) chart.now.sets set (length (set_at chart.now.sets set))) candidates.old.items candidates.new.items) }
 {
     'items: for k in 0..chart.len(set) {
-        fronts_at(alloc, g, doc, calls, set, chart.item(set, k), marks)?;
+        fronts_at(alloc, g, doc, calls, set, chart.item(set, k), candidates)?;
     }
     Ok(())
 }
 
-/// Adds the marks of first items: a label for each stretch of them, with a place where the last of
-/// them may begin.
+/// Adds the candidates of first items: a label for each stretch of them, with a place where the
+/// last of them may begin.
 pub(crate) fn fronts(
     alloc: Global,
     g: &Gram,
     chart: &Chart,
     doc: &Word,
     calls: &Groups<Call>,
-    marks: &mut Vec<(SpanKey, u32)>,
+    candidates: &mut Vec<(SpanKey, u32)>,
 ) -> Result<(), Memory>
     requires built { IsBuilt g.now }
     requires once { EndOnce calls.now }
     requires short { length doc.now < 4294967295 }
     requires counted { length chart.now.sets ≤ length doc.now + 1 }
     requires places { HasPlaces g.now chart.now.sets }
-    ensures { OnOk result (Appends (InSets (FrontFrom g.now doc.now calls.now) chart.now.sets (length chart.now.sets)) marks.old.items marks.new.items) }
+    ensures { OnOk result (Appends (InSets (FrontFrom g.now doc.now calls.now) chart.now.sets (length chart.now.sets)) candidates.old.items candidates.new.items) }
 {
     'sets: for set in 0..chart.sets() {
-        fronts_in(alloc, g, chart, doc, calls, set, marks)?;
+        fronts_in(alloc, g, chart, doc, calls, set, candidates)?;
     }
     Ok(())
 }

@@ -6,8 +6,8 @@ ghost use Rattle.xs_grow.specs.Levels.{flag_by, level_by};
 
 use std::alloc::Global;
 use xs_class::Memory;
-use xs_gram::{GItem, Gram};
 use xs_forest_laws::{SpanKey, What};
+use xs_gram::{GItem, Gram};
 
 /// Whether the item can stand for the empty word, by the flags of the nonterminals.
 fn is_nullable(g: &Gram, flags: &[bool], item: &GItem) -> bool

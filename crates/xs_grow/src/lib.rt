@@ -1,14 +1,15 @@
-//! The forest of a document, grown from the document's chart.
+//! Growing the shared packed parse forest of a document from its chart, and what is read from it.
 //!
-//! Growing goes in four steps. First the chart's marks are gathered (`gather`): a label for each
-//! stretch of a nonterminal with a rule that is finished there, and a label for each stretch of
-//! first items of a rule with a place where the last of them may begin. For that each item of the
-//! chart is read once and looked forwards: an automaton runs on from it (`runs`), a fixed word is
-//! compared, and where a nonterminal ends is looked up by its call (`calls`). Then the marks are
-//! grouped by their labels (`groups`), and the labels sorted so that children come first
-//! (`levels`). Last each group becomes a row, and each of its marks an alternative (`rows`).
+//! Growing goes in four steps. First the chart's candidates are gathered (`gather`): a label for
+//! each stretch of a nonterminal with a rule that is finished there, and a label for each stretch
+//! of first items of a rule with a place where the last of them may begin. For that each item of
+//! the chart is read once and looked forwards: an automaton runs on from it (`runs`), a fixed word
+//! is compared, and where a nonterminal ends is looked up by its call (`calls`). Then the
+//! candidates are grouped by their labels (`groups`), and the labels sorted so that children come
+//! first (`levels`). Last each group becomes a row, and each of its candidates an alternative
+//! (`rows`).
 //!
-//! Each mark becomes one alternative, so without ambiguity a forest takes time linear in the
+//! Each candidate becomes one alternative, so without ambiguity a forest takes time linear in the
 //! chart, by what the steps of automata and the sorting of labels take.
 #![tactic(auto)]
 
@@ -23,3 +24,6 @@ mod rows;
 mod runs;
 
 pub use forest::grow;
+// A forest is read by the names that stand here too.
+pub use xs_forest_laws::{Grown, SpanKey, What};
+pub use xs_listing::{Kids, Listing, Spelt, SpeltPart, Spelts, list_trees, one_tree};

@@ -8,8 +8,8 @@ use bumpalo::Bump;
 use std::alloc::Global;
 use xs_class::Memory;
 use xs_forest::{AddFault, Alt, Forest};
-use xs_gram::{GItem, Gram};
 use xs_forest_laws::{SpanKey, What};
+use xs_gram::{GItem, Gram};
 
 /// The group of the first `dot` items of a rule over a stretch.
 fn front_row(groups: &Groups<SpanKey>, rule: u32, dot: u32, start: u32, end: u32) -> Option<u64>

@@ -1,4 +1,4 @@
-//! Horizontal suspects: a cut of a rule at which the loose words of its front and its rest overlap.
+//! Horizontal ambiguity: a cut of a rule at which the loose words of its front and its rest overlap.
 //!
 //! Rules are gone through in order, and the cuts of each in order, so that the suspect that is found
 //! is the first. Where no rule weighs more than 8,192, either a suspect is found or there is none.

@@ -15,8 +15,8 @@ use xs_gram::{Comps, Gram};
 use xs_light::{CheckFault, Maps, light, light_net};
 use xs_loose::Part;
 
-/// A cut of a rule, with words x, a and y, a not empty: x and xa are loose for the items before it, y
-/// and ay for those from it on. The cut is the number of items before it.
+/// A cut of a rule, with words x, a and y, a not empty: x and xa are loose for the items before it,
+/// y and ay for those from it on. The cut is the number of items before it.
 #[derive(Debug, Drop)]
 pub struct Horiz {
     pub rule: u32,
@@ -26,12 +26,12 @@ pub struct Horiz {
     pub y: Word,
 }
 
-/// The first horizontal suspect of a grammar, by the rule and then the cut, with any words that show
-/// it, or none where there is none.
+/// The first horizontal suspect of a grammar, by the rule and then the cut, with any words that
+/// show it, or none where there is none.
 ///
-/// Fails with `Heavy` exactly where a rule weighs more than 8,192, with the weight of the first such
-/// rule. Builds two nets for each cut of a rule, and takes time linear in the pairs of their states,
-/// times the edges of each state.
+/// Fails with `Heavy` exactly where a rule weighs more than 8,192, with the weight of the first
+/// such rule. Builds two nets for each cut of a rule, and takes time linear in the pairs of their
+/// states, times the edges of each state.
 pub fn horizontal(alloc: Global, g: &Gram, comps: &Comps) -> Result<Option<Horiz>, CheckFault>
     requires built { IsBuilt g.now }
     requires comps { AreComponents g.now comps.now }
@@ -99,12 +99,12 @@ fn overlap_at(
         start: 0,
         end: cut,
     };
-    let behind = Part {
+    let after = Part {
         rule,
         start: cut,
         end: g.items(rule).len() as u32,
     };
     let front = light_net(alloc, g, comps, &before)?;
-    let rest = light_net(alloc, g, comps, &behind)?;
+    let rest = light_net(alloc, g, comps, &after)?;
     maps.overlap_word(&front, &rest)
 }

@@ -1,7 +1,7 @@
 //! Grammars whose rules are light, and what searches for suspects in them share.
 //!
-//! A pass over the rules finds the first that weighs too much. Where there is none, each part of a rule
-//! has a net, and a search over two nets is lent maps that grow where the nets need more room.
+//! A pass over the rules finds the first that weighs too much. Where there is none, each part of a
+//! rule has a net, and a search over two nets is lent maps that grow where the nets need more room.
 #![tactic(auto)]
 
 mod fault;

@@ -8,7 +8,8 @@ use xs_class::{Memory, Word};
 
 /// Maps for searches over pairs of states, which contracts see as the number of cells of each.
 ///
-/// A search that needs more cells is given larger maps; one that needs fewer uses those that are there.
+/// A search that needs more cells is given larger maps; one that needs fewer uses those that are
+/// there.
 #[derive(Debug, Drop)]
 pub struct Maps {
     pairs: Pairs,
@@ -39,7 +40,7 @@ impl Maps {
         })
     }
 
-    /// Makes sure that there are so many cells.
+    /// Makes sure that there are that many cells.
     fn make_room(&mut self, cells: u64) -> Result<(), Memory>
         ensures { OnOk result (cells ≤ self.new) }
     {

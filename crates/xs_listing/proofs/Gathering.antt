@@ -23,9 +23,9 @@ use Rattle.xs_forest_laws.proofs.Read.{end_is, read_front}
 use Rattle.xs_forest_laws.proofs.All.{then_done, then_assoc}
 use Rattle.xs_forest_laws.proofs.Number.{contains_of}
 use Rattle.xs_forest_laws.proofs.Once.{pick_is}
-use Rattle.xs_listing.specs.declared.rows.Step.{Step}
+use Rattle.xs_listing.specs.declared.rows.FirstAlternative.{FirstAlternative}
 use Rattle.xs_listing.specs.Marks.{IsFirstAlt}
-use Rattle.xs_listing.specs.Making.{IsStep, IsTreeOf, IsMade, IsMadeChild, IsPrepared, CanGather, Extends, Fills, CanPlace, IsPlaced}
+use Rattle.xs_listing.specs.Making.{IsFirstAlternative, IsTreeOf, IsMade, IsMadeChild, IsPrepared, CanGather, Extends, Fills, CanPlace, IsPlaced}
 use Rattle.xs_listing.proofs.Children.{spelt_inside}
 use Rattle.xs_listing.proofs.Filling.{extends_none, extends_longer, tree_extends, fills_more, fills_none, fills_put, last_tree}
 
@@ -112,7 +112,7 @@ slot_of_non P (Skip k ∷ is) (suc d) t s e h = slot_of_non P is d t s e h
 slot_of_non P (Non n r ∷ is) (suc d) t s e h = slot_of_non P is d t s e h.1
 slot_of_non P (Term u r ∷ is) (suc d) t s e h = slot_of_non P is d t s e h.1
 
-pub length_placed : (w numbers : List ℕ) (item : GItem) (step : Step) (parts parts' : List TreePart) (kids kids' : List ℕ) → IsPlaced w numbers item step parts kids parts' kids' → length kids' ≡ length kids
+pub length_placed : (w numbers : List ℕ) (item : GItem) (step : FirstAlternative) (parts parts' : List TreePart) (kids kids' : List ℕ) → IsPlaced w numbers item step parts kids parts' kids' → length kids' ≡ length kids
 length_placed w numbers (Fixed v) step parts parts' kids kids' h = ap length h.1
 length_placed w numbers (Skip k) step parts parts' kids kids' h = ap length h.1
 length_placed w numbers (Term t s) step parts parts' kids kids' h = ap length h.1 ∙ length-set kids s (length parts)
@@ -149,7 +149,7 @@ module _ (g : Grammar) (w : List ℕ) (f : Forest) (right : IsRight g w f) (q : 
       subst (λ x. Fills parts kids (named g (items g q) x)) (sym is) so.filled
 
   -- an item is placed: its entry is filled
-  new_filled : (item : GItem) (is : List GItem) (tail : Parts) (m j : ℕ) (o : Option ℕ) (t : Unfolding) (step : Step) (parts parts' : List TreePart) (kids kids' : List ℕ) → ItemRow f item m j o → IsMadeChild g w f parts numbers o → IsFirst f o t → step.right ≡ o → step.start ≡ m → step.end ≡ j → CanPlace w numbers (length kids) item step → IsPlaced w numbers item step parts kids parts' kids' → Fills parts kids (named g is tail) → Extends parts parts' × Fills parts' kids' (named g (item ∷ is) (parts_then (last_part item (slice_range w m j) o (read g w f o t)) tail))
+  new_filled : (item : GItem) (is : List GItem) (tail : Parts) (m j : ℕ) (o : Option ℕ) (t : Unfolding) (step : FirstAlternative) (parts parts' : List TreePart) (kids kids' : List ℕ) → ItemRow f item m j o → IsMadeChild g w f parts numbers o → IsFirst f o t → step.right ≡ o → step.start ≡ m → step.end ≡ j → CanPlace w numbers (length kids) item step → IsPlaced w numbers item step parts kids parts' kids' → Fills parts kids (named g is tail) → Extends parts parts' × Fills parts' kids' (named g (item ∷ is) (parts_then (last_part item (slice_range w m j) o (read g w f o t)) tail))
   new_filled (Fixed v) is tail m j (Some c) t step parts parts' kids kids' row made first re se ee can placed fills = cc
   new_filled (Skip k) is tail m j (Some c) t step parts parts' kids kids' row made first re se ee can placed fills = cc
   new_filled (Term n s) is tail m j (Some c) t step parts parts' kids kids' row made first re se ee can placed fills = cc
@@ -197,7 +197,7 @@ module _ (g : Grammar) (w : List ℕ) (f : Forest) (right : IsRight g w f) (q : 
       )
 
   -- one item more
-  pub step_on : (d row : ℕ) (front : Option ℕ) (item : GItem) (step : Step) (parts parts' : List TreePart) (kids kids' : List ℕ) → Gathers g w f q left numbers (suc d) front parts kids → front ≡ Some row → IsStep f row step → ItemAt g q d item → CanPlace w numbers (length kids) item step → IsPlaced w numbers item step parts kids parts' kids' → Extends parts parts' × Gathers g w f q left numbers d step.left parts' kids'
+  pub step_on : (d row : ℕ) (front : Option ℕ) (item : GItem) (step : FirstAlternative) (parts parts' : List TreePart) (kids kids' : List ℕ) → Gathers g w f q left numbers (suc d) front parts kids → front ≡ Some row → IsFirstAlternative f row step → ItemAt g q d item → CanPlace w numbers (length kids) item step → IsPlaced w numbers item step parts kids parts' kids' → Extends parts parts' × Gathers g w f q left numbers d step.left parts' kids'
   step_on d row front item step parts parts' kids kids' so at st item_at can placed = (filled.0, gathers)
     where
       same_row : so.front_is.0 ≡ row
@@ -265,7 +265,7 @@ module _ (g : Grammar) (w : List ℕ) (f : Forest) (right : IsRight g w f) (q : 
       }
 
   -- the next item can be placed
-  can_place_item : (d m j : ℕ) (o : Option ℕ) (item : GItem) (step : Step) (count : ℕ) (parts : List TreePart) → ItemAt g q d item → Every (λ s. s < count) (slots (items g q)) → m ≤ length w → IsSpelt g w (item ∷ []) m j → ItemRow f item m j o → IsMadeChild g w f parts numbers o → step.right ≡ o → step.start ≡ m → step.end ≡ j → CanPlace w numbers count item step
+  can_place_item : (d m j : ℕ) (o : Option ℕ) (item : GItem) (step : FirstAlternative) (count : ℕ) (parts : List TreePart) → ItemAt g q d item → Every (λ s. s < count) (slots (items g q)) → m ≤ length w → IsSpelt g w (item ∷ []) m j → ItemRow f item m j o → IsMadeChild g w f parts numbers o → step.right ≡ o → step.start ≡ m → step.end ≡ j → CanPlace w numbers count item step
   can_place_item d m j o (Fixed v) step count parts at slots le sp row made re se ee = tt
   can_place_item d m j o (Skip k) step count parts at slots le sp row made re se ee = tt
   can_place_item d m j o (Term t s) step count parts at slots le sp row made re se ee =
@@ -279,7 +279,7 @@ module _ (g : Grammar) (w : List ℕ) (f : Forest) (right : IsRight g w f) (q : 
   can_place_item d m j (Some c) (Non n s) step count parts at slots le sp row made re se ee =
       (slot_of_non (λ x. x < count) (items g q) d n s at slots, c, re, made.0)
 
-  pub can_place : (d row : ℕ) (front : Option ℕ) (item : GItem) (step : Step) (parts : List TreePart) (kids : List ℕ) → IsNumbered (slots (items g q)) → length kids ≡ length (slots (items g q)) → Gathers g w f q left numbers (suc d) front parts kids → front ≡ Some row → IsStep f row step → ItemAt g q d item → CanPlace w numbers (length kids) item step
+  pub can_place : (d row : ℕ) (front : Option ℕ) (item : GItem) (step : FirstAlternative) (parts : List TreePart) (kids : List ℕ) → IsNumbered (slots (items g q)) → length kids ≡ length (slots (items g q)) → Gathers g w f q left numbers (suc d) front parts kids → front ≡ Some row → IsFirstAlternative f row step → ItemAt g q d item → CanPlace w numbers (length kids) item step
   can_place d row front item step parts kids numbered long so at st item_at =
       let same_row : so.front_is.0 ≡ row = let e = so.front_is.1 in cc in
       let is_row : IsRow f row (Front q (suc d)) so.start so.stop = subst (λ r. IsRow f r (Front q (suc d)) so.start so.stop) same_row so.front_is.2 in

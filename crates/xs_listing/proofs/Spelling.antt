@@ -1,4 +1,4 @@
--- The derivation of a number, and the first so many, written flat.
+-- The derivation of a number, and that many first ones, written flat.
 use Rattle.std.proofs.Common.{◌≡◌, ◌⊎◌, inl, inr, ℕ, zero, suc, ◌+◌, ◌<◌, List, [], ◌∷◌, ◌++◌, length, min, ltb, Option, Some, None, refl, sym, ◌∙◌, ap, arith, subst, length-append}
 use Rattle.std.specs.Prelude.{slice_get}
 use Rattle.xs_gram.specs.Derivations.{done, sub, Derivation}
@@ -57,7 +57,7 @@ module _ (s : Source) (is : IsSource s) (root : ℕ) (row : IsRoot s.g.now s.doc
         let zero_is : c.right ≡ 0 = omega arith in
         subst (λ o. At s.forest.now s.cap s.counts.now o c.right bare) (sym none) zero_is
 
-    -- the root's node is written behind the parts of its left child
+    -- the root's node is written after the parts of its left child
     pub spelt_by : (parts : List SpeltPart) (places : List ℕ) → ((u : Unfolding) → At s.forest.now s.cap s.counts.now c.alt.left c.left u → AreWritten s.doc.now (read s.g.now s.doc.now s.forest.now c.alt.left u) parts places) → IsSpeltBy s root k (parts ++ Node c.alt.rule places ∷ [])
     spelt_by parts places wr = record {
       derivation = record { rule = c.alt.rule; parts = read s.g.now s.doc.now s.forest.now c.alt.left l.0 };

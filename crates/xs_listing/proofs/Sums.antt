@@ -15,7 +15,7 @@ sum_more cap cs alts i d h = rw add-one (suc_more cap cs alts i d h)
 
 -- an alternative that a number does not lie in is passed
 pub next : (cap : ℕ) (cs : List ℕ) (alts : List Alt) (i rest number n : ℕ) (d : Alt) (count : ℕ) → i < length alts → rest < alts_sum cap cs (drop i alts) → AreEarlier (drop i alts) n → number ≡ alts_sum cap cs (take i alts) + rest → count ≡ alt_count cap cs (get_or alts i d) → count ≤ rest → (rest - count < alts_sum cap cs (drop (i + 1) alts)) × AreEarlier (drop (i + 1) alts) n × (number ≡ alts_sum cap cs (take (i + 1) alts) + (rest - count))
-next cap cs alts i rest number n d count lt ahead earlier behind is le =
+next cap cs alts i rest number n d count lt ahead earlier after is le =
     let more = sum_more cap cs alts i d lt in
     let e : drop i alts ≡ get_or alts i d ∷ drop (i + 1) alts = rw add-one (drop-cons alts i d lt) in
     let ahead' : rest < alt_count cap cs (get_or alts i d) + alts_sum cap cs (drop (i + 1) alts) = rw e at ahead in
@@ -34,7 +34,7 @@ whole_again rest d lt = omega arith
 
 -- the alternative in which a number lies, and its children's numbers
 pub chosen_here : (cap : ℕ) (cs : List ℕ) (alts : List Alt) (i rest number : ℕ) (d : Alt) (count width : ℕ) → i < length alts → number ≡ alts_sum cap cs (take i alts) + rest → count ≡ alt_count cap cs (get_or alts i d) → width ≡ count_of cs (get_or alts i d).right → rest < count → IsChosen cap cs alts number i (rest / width) (rest % width) (get_or alts i d)
-chosen_here cap cs alts i rest number d count width lt behind is wide less =
+chosen_here cap cs alts i rest number d count width lt after is wide less =
     let a = get_or alts i d in
     let some : 0 < width = rw wide (some_width cap (count_of cs (get_or alts i d).left) (count_of cs (get_or alts i d).right) rest (omega arith)) in
     let again = whole_again rest width some in

@@ -13,11 +13,11 @@ use Rattle.xs_tree.specs.Flat.{tree_at, trees_of}
 use Rattle.xs_forest_laws.specs.declared.span.What.TheVariants.{Whole}
 use Rattle.xs_forest_laws.specs.Forest.{Forest, key_of, Unfolding, bare, pick, read, end_of, FrontAt}
 use Rattle.xs_forest_laws.specs.First.{IsFirst}
-use Rattle.xs_listing.specs.declared.rows.Step.{Step}
+use Rattle.xs_listing.specs.declared.rows.FirstAlternative.{FirstAlternative}
 use Rattle.xs_listing.specs.Marks.{IsFirstAlt, IsMarked}
 
 -- the step is the row's first alternative, with the stretch of the row's last item
-pub record IsStep (f : Forest) (r : ℕ) (step : Step) : Type 0 where
+pub record IsFirstAlternative (f : Forest) (r : ℕ) (step : FirstAlternative) : Type 0 where
   pub alt : Alt
   pub first : IsFirstAlt f r alt
   pub left_is : step.left ≡ alt.left
@@ -82,7 +82,7 @@ abbrev pub Fills : List TreePart → List ℕ → List (ℕ × Common) → Type 
 Fills parts kids es = (s : ℕ) (t : Common) → lookup s es ≡ Some t → (s < length kids) × (slice_index kids s < length parts) × (tree_at (trees_of parts) (slice_index kids s) ≡ t)
 
 -- the slot of an item is there, and so is the stretch of a terminal's word and the number of a nonterminal's row
-abbrev pub CanPlace : List ℕ → List ℕ → ℕ → GItem → Step → Type 0
+abbrev pub CanPlace : List ℕ → List ℕ → ℕ → GItem → FirstAlternative → Type 0
 CanPlace w numbers count (Fixed v) step = Unit {0}
 CanPlace w numbers count (Skip k) step = Unit {0}
 CanPlace w numbers count (Term t s) step = (s < count) × (step.start ≤ step.end) × (step.end ≤ length w)
@@ -90,7 +90,7 @@ CanPlace w numbers count (Non n s) step = (s < count) × (c : ℕ) × (step.righ
 
 -- the parts and the kids after an item is placed: a leaf for a terminal's word, and the part of its row for a
 -- nonterminal, at the item's slot
-abbrev pub IsPlaced : List ℕ → List ℕ → GItem → Step → List TreePart → List ℕ → List TreePart → List ℕ → Type 0
+abbrev pub IsPlaced : List ℕ → List ℕ → GItem → FirstAlternative → List TreePart → List ℕ → List TreePart → List ℕ → Type 0
 IsPlaced w numbers (Fixed v) step parts kids parts' kids' = (parts' ≡ parts) × (kids' ≡ kids)
 IsPlaced w numbers (Skip k) step parts kids parts' kids' = (parts' ≡ parts) × (kids' ≡ kids)
 IsPlaced w numbers (Term t s) step parts kids parts' kids' = (parts' ≡ parts ++ Leaf (slice_range w step.start step.end) ∷ []) × (kids' ≡ slice_set kids s (length parts))

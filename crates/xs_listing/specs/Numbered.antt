@@ -17,7 +17,7 @@ pub record IsSpeltBy (s : Source) (root number : ℕ) (spelt : List SpeltPart) :
   pub numbered : IsNumbered s root number derivation
   pub spelt_is : IsSpeltOf s.doc.now spelt derivation
 
--- the lists are so many first derivations written flat
+-- the lists are that many first derivations written flat
 pub record AreSpeltBy (s : Source) (root count : ℕ) (trees : List (List SpeltPart)) : Type 0 where
   pub derivations : List Derivation
   pub long : length derivations ≡ count

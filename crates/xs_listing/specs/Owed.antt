@@ -8,7 +8,7 @@ use Rattle.xs_listing.specs.declared.write.Task.{Task}
 use Rattle.xs_listing.specs.declared.write.Task.TheVariants.{Visit, Word, Close}
 use Rattle.xs_listing.specs.Sizes.{spelt_count, word_count}
 
--- the task is still to write so many parts
+-- the task is still to write that many parts
 abbrev pub Owes : Source → Task → ℕ → Type 0
 Owes s (Visit r k) n = (u : Unfolding) × At s.forest.now s.cap s.counts.now (Some r) k u × (n ≡ spelt_count (read s.g.now s.doc.now s.forest.now (Some r) u))
 Owes s (Word p d i j) n = n ≡ word_count (item_of s.g.now p d)
@@ -19,6 +19,6 @@ abbrev pub AllOwe : Source → List Task → ℕ → Type 0
 AllOwe s [] n = n ≡ 0
 AllOwe s (t ∷ ts) n = (a : ℕ) × (b : ℕ) × Owes s t a × AllOwe s ts b × (n ≡ a + b)
 
--- Where so many parts of a task are counted, the tasks that it leaves owe the others, as far as 2^64 less 1.
+-- Where that many parts of a task are counted, the tasks that it leaves owe the others, as far as 2^64 less 1.
 abbrev pub IsCountedOff : Source → Task → List Task → List Task → ℕ → Type 0
 IsCountedOff s task old new count = (owed rest : ℕ) → Owes s task owed → AllOwe s old rest → (left : ℕ) × AllOwe s new left × (capped (count + left) ≡ capped (owed + rest))

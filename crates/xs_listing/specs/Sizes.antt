@@ -33,12 +33,12 @@ abbrev pub item_count : GItem → List ℕ → Option ℕ → ℕ
 item_count item sizes None = word_count item
 item_count item sizes (Some r) = size_at sizes (Some r)
 
--- how many parts an alternative has behind those of its left child
+-- how many parts an alternative has after those of its left child
 abbrev pub last_count : Grammar → List ℕ → What → Alt → ℕ
 last_count g sizes (Whole n) a = 1
 last_count g sizes (Front p d) a = item_count (item_of g p (d - 1)) sizes a.right
 
--- the row's unfolding by first alternatives has so many parts, as far as 2^64 less 1
+-- the row's unfolding by first alternatives has that many parts, as far as 2^64 less 1
 abbrev pub IsSize : Grammar → List ℕ → Forest → ℕ → ℕ → Type 0
 IsSize g w f r n = (u : Unfolding) → IsFirst f (Some r) u → n ≡ capped (spelt_count (read g w f (Some r) u))
 

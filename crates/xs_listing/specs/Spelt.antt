@@ -14,7 +14,7 @@ flat_of (Node p kids) = node p kids
 flat_of (Leaf i j) = leaf_at i j
 flat_of (Skip i j) = skip_at i j
 
--- as part k of a list over a document of so many symbols, a node stands after its kids, and a stretch lies
+-- as part k of a list over a document of that many symbols, a node stands after its kids, and a stretch lies
 -- within the document
 abbrev pub IsInOrder : ℕ → ℕ → SpeltPart → Type 0
 IsInOrder symbols k (Node p kids) = All (λ v. v < k) kids
@@ -39,7 +39,7 @@ AreSpeltOf w [] [] = Unit {0}
 AreSpeltOf w (s ∷ ss) (d ∷ ds) = IsSpeltOf w s d × AreSpeltOf w ss ds
 AreSpeltOf w _ _ = ⊥
 
--- The listing has different derivations of the document, as many as there are and no more than so many, and
+-- The listing has different derivations of the document, as many as there are and no more than a given number, and
 -- says exactly where there are more.
 pub record IsListingOf (g : Grammar) (w : List ℕ) (max : ℕ) (l : Listing) : Type 0 where
   pub derivations : List Derivation

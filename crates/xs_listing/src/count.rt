@@ -21,7 +21,7 @@ pub(crate) fn child_count(counts: &[u64], child: Option<u64>) -> u64
     }
 }
 
-// How many unfoldings an alternative has, and no more than the cap.
+/// How many unfoldings an alternative has, and no more than the cap.
 fn one_count(counts: &[u64], alt: Alt, cap: u64) -> u64
     requires left { IsEarlier alt.left (length counts.now) }
     requires right { IsEarlier alt.right (length counts.now) }
@@ -32,7 +32,7 @@ fn one_count(counts: &[u64], alt: Alt, cap: u64) -> u64
     left.saturating_mul(right).min(cap)
 }
 
-// How many unfoldings the alternatives have, and no more than the cap.
+/// How many unfoldings the alternatives have, and no more than the cap.
 fn all_count(counts: &[u64], alts: &[Alt], cap: u64) -> u64
     requires { AreEarlier alts.now (length counts.now) }
     ensures { result ≡ alts_count cap counts.now alts.now }

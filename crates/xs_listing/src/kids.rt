@@ -7,15 +7,15 @@ ghost use Rattle.xs_forest_laws.specs.Forest.{IsRight, Unfolding, read};
 ghost use Rattle.xs_forest_laws.specs.First.{IsFirst};
 ghost use Rattle.xs_listing.specs.Making.{CanPlace, IsPlaced, CanGather, Extends, Fills};
 
-use crate::rows::{Step, first_step};
+use crate::rows::{FirstAlternative, first_step};
 use std::alloc::Global;
 use xs_class::{Memory, Word};
 use xs_forest::{Alt, Forest};
+use xs_forest_laws::SpanKey;
 use xs_gram::{GItem, Gram};
 use xs_tree::Builder;
-use xs_forest_laws::SpanKey;
 
-// The number of slots of the items.
+/// The number of slots of the items.
 fn slot_count(items: &[GItem]) -> usize
     ensures { result ≡ length (slots items.now) }
 {
@@ -29,8 +29,13 @@ fn slot_count(items: &[GItem]) -> usize
     count
 }
 
-// A new leaf with the word of a stretch of the document.
-fn add_leaf(alloc: Global, doc: &Word, step: &Step, builder: &mut Builder) -> Result<u64, Memory>
+/// A new leaf with the word of a stretch of the document.
+fn add_leaf(
+    alloc: Global,
+    doc: &Word,
+    step: &FirstAlternative,
+    builder: &mut Builder,
+) -> Result<u64, Memory>
     requires start { step.now.start ≤ step.now.end }
     requires end { step.now.end ≤ length doc.now }
     ensures number { IfOk result (λ number. number ≡ length builder.old) }
@@ -42,13 +47,13 @@ fn add_leaf(alloc: Global, doc: &Word, step: &Step, builder: &mut Builder) -> Re
     Ok(number)
 }
 
-// Puts an item among the kids.
+/// Puts an item among the kids.
 fn place(
     alloc: Global,
     doc: &Word,
     numbers: &[u64],
     item: &GItem,
-    step: &Step,
+    step: &FirstAlternative,
     builder: &mut Builder,
     kids: &mut [u64],
 ) -> Result<(), Memory>

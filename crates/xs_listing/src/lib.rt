@@ -1,8 +1,8 @@
 //! The derivations of a document, out of its shared forest.
 //!
-//! `one_tree` gives the common tree of one derivation; rows that it has several times are one part of
-//! the flat tree. `list_trees` numbers the derivations, by counts of unfoldings that stop at a cap,
-//! and writes each out from its number, as a list of parts in which kids come first.
+//! `one_tree` gives the common tree of one derivation; rows that it has several times are one part
+//! of the flat tree. `list_trees` numbers the derivations, by counts of unfoldings that stop at a
+//! cap, and writes each out from its number, as a list of parts in which kids come first.
 #![tactic(auto)]
 
 mod count;

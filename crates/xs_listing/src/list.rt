@@ -12,10 +12,10 @@ use crate::write::{Source, Written, write_front};
 use crate::{Listing, Spelt, SpeltPart, Spelts};
 use std::alloc::Global;
 use xs_class::{Listed, Memory, Word};
-use xs_gram::Gram;
 use xs_forest_laws::Grown;
+use xs_gram::Gram;
 
-// The derivation of a number.
+/// The derivation of a number.
 fn spell(alloc: Global, source: &Source<'_, '_>, root: u64, number: u64) -> Result<Spelt, Memory>
     requires source { IsSource source.now }
     requires root { IsRoot source.now.g.now source.now.doc.now source.now.forest.now root }
@@ -34,7 +34,7 @@ fn spell(alloc: Global, source: &Source<'_, '_>, root: u64, number: u64) -> Resu
     Ok(Listed::from_vec(parts))
 }
 
-// So many first derivations.
+/// That many first derivations.
 fn spell_all(
     alloc: Global,
     source: &Source<'_, '_>,

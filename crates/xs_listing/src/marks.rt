@@ -10,7 +10,7 @@ use xs_class::Memory;
 use xs_forest::Forest;
 use xs_forest_laws::SpanKey;
 
-// Marks a child.
+/// Marks a child.
 fn mark(child: Option<u64>, marks: &mut [bool])
     requires { IsEarlier child (length marks.old) }
     ensures { marks.new ≡ with_mark child marks.old }
@@ -21,7 +21,7 @@ fn mark(child: Option<u64>, marks: &mut [bool])
     }
 }
 
-// Marks the children of a marked row's first alternative.
+/// Marks the children of a marked row's first alternative.
 fn mark_children(forest: &Forest<'_, SpanKey>, row: u64, marks: &mut [bool])
     requires there { row < length forest.now }
     requires marks { row < length marks.old }

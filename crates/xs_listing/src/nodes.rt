@@ -9,11 +9,11 @@ use crate::rows::{first_alt, label_at};
 use std::alloc::Global;
 use xs_class::{Memory, Word};
 use xs_forest::Forest;
+use xs_forest_laws::{SpanKey, What};
 use xs_gram::Gram;
 use xs_tree::Builder;
-use xs_forest_laws::{SpanKey, What};
 
-// A new node for a row of a nonterminal.
+/// A new node for a row of a nonterminal.
 fn add_node(
     alloc: Global,
     g: &Gram,
@@ -36,7 +36,8 @@ fn add_node(
     Ok(number)
 }
 
-// The part of the next row, a new node where the row is marked and one of a nonterminal, and else 0.
+/// The part of the next row, a new node where the row is marked and one of a nonterminal, and else
+/// 0.
 fn number_row(
     alloc: Global,
     g: &Gram,
@@ -68,8 +69,8 @@ fn number_row(
     }
 }
 
-/// For each marked row of a nonterminal a part with the tree of its unfolding by first alternatives,
-/// in time linear in the marked rows and the words of their terminals.
+/// For each marked row of a nonterminal a part with the tree of its unfolding by first
+/// alternatives, in time linear in the marked rows and the words of their terminals.
 pub(crate) fn number_rows(
     alloc: Global,
     g: &Gram,

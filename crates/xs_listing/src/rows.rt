@@ -2,7 +2,7 @@ ghost use Rattle.std.specs.Prelude.{◌≡◌, ◌<◌, length};
 ghost use Rattle.xs_forest.specs.Rows.{IsEarlier, AreBelow};
 ghost use Rattle.xs_forest_laws.specs.Forest.{key_of, alts_of, end_of};
 ghost use Rattle.xs_listing.specs.Marks.{IsFirstAlt};
-ghost use Rattle.xs_listing.specs.Making.{IsStep};
+ghost use Rattle.xs_listing.specs.Making.{IsFirstAlternative};
 
 use xs_forest::{Alt, Forest};
 use xs_forest_laws::SpanKey;
@@ -34,9 +34,10 @@ pub(crate) fn end_of(forest: &Forest<'_, SpanKey>, start: u32, left: Option<u64>
     }
 }
 
-/// How the first alternative of a row goes on: its children, and the stretch of the row's last item.
+/// How the first alternative of a row goes on: its children, and the stretch of the row's last
+/// item.
 #[derive(Clone, Copy)]
-pub(crate) struct Step {
+pub(crate) struct FirstAlternative {
     pub left: Option<u64>,
     pub right: Option<u64>,
     pub start: u32,
@@ -53,16 +54,16 @@ pub(crate) fn first_alt(forest: &Forest<'_, SpanKey>, row: u64) -> Alt
 }
 
 /// The step of a row.
-pub(crate) fn first_step(forest: &Forest<'_, SpanKey>, row: u64) -> Step
+pub(crate) fn first_step(forest: &Forest<'_, SpanKey>, row: u64) -> FirstAlternative
     requires there { row < length forest.now }
     requires some { 0 < length (alts_of forest.now row) }
     requires below { AreBelow forest.now }
-    ensures { IsStep forest.now row result }
+    ensures { IsFirstAlternative forest.now row result }
 {
     let label = label_at(forest, row);
     let alt = first_alt(forest, row);
     let start = end_of(forest, label.start, alt.left);
-    Step {
+    FirstAlternative {
         left: alt.left,
         right: alt.right,
         start,

@@ -14,10 +14,10 @@ use crate::write::{Source, Task, push_child, visit};
 use std::alloc::Global;
 use xs_class::{Memory, Word};
 use xs_forest::{Alt, Forest};
-use xs_gram::{GItem, Gram};
 use xs_forest_laws::{SpanKey, What};
+use xs_gram::{GItem, Gram};
 
-// How many parts an item's word is.
+/// How many parts an item's word is.
 fn word_size(item: &GItem) -> u64
     ensures { result ≡ word_count item.now }
 {
@@ -27,7 +27,7 @@ fn word_size(item: &GItem) -> u64
     }
 }
 
-// How many parts a child's unfolding by first alternatives has.
+/// How many parts a child's unfolding by first alternatives has.
 fn child_size(sizes: &[u64], child: Option<u64>) -> u64
     requires { IsEarlier child (length sizes.now) }
     ensures { result ≡ size_at sizes.now child }
@@ -38,7 +38,7 @@ fn child_size(sizes: &[u64], child: Option<u64>) -> u64
     }
 }
 
-// How many parts come behind those of the left child.
+/// How many parts come after those of the left child.
 fn last_size(g: &Gram, sizes: &[u64], what: What, alt: Alt) -> u64
     requires right { IsEarlier alt.right (length sizes.now) }
     requires dotted { (p d : ℕ) → what ≡ Front p d → (0 < d) × (d ≤ length (items g.now p)) }
@@ -53,7 +53,8 @@ fn last_size(g: &Gram, sizes: &[u64], what: What, alt: Alt) -> u64
     }
 }
 
-// How many parts the unfolding of a row by first alternatives has, by the sizes of the rows before it.
+/// How many parts the unfolding of a row by first alternatives has, by the sizes of the rows before
+/// it.
 fn row_size(g: &Gram, doc: &Word, forest: &Forest<'_, SpanKey>, sizes: &[u64], row: u64) -> u64
     requires right { IsRight g.now doc.now forest.now }
     requires there { row < length forest.now }
@@ -92,7 +93,7 @@ pub(crate) fn first_sizes(
     Ok(sizes)
 }
 
-// How many parts a task writes at once; what it leaves to be counted goes to the tasks.
+/// How many parts a task writes at once; what it leaves to be counted goes to the tasks.
 fn count_task(source: &Source<'_, '_>, task: Task, tasks: &mut Vec<Task>) -> Result<u64, Memory>
     requires source { IsSource source.now }
     requires can { CanDo source.now task 0 }

@@ -4,7 +4,7 @@ use xs_class::Listed;
 pub type Kids = Listed<u64>;
 
 /// A part of a derivation that is written flat; stretches of the document are given by their first
-/// place and the place behind them, counted from 0.
+/// place and the place after them, counted from 0.
 #[derive(Debug, Drop)]
 pub enum SpeltPart {
     /// A production with the places of its kids, one for each item that is no fixed word, in the

@@ -8,9 +8,9 @@ use crate::marks::mark_rows;
 use crate::nodes::number_rows;
 use std::alloc::Global;
 use xs_class::{Memory, Word};
+use xs_forest_laws::Grown;
 use xs_gram::Gram;
 use xs_tree::{Builder, Tree};
-use xs_forest_laws::Grown;
 
 /// The common tree of one of the document's derivations, that by the first alternative of each row.
 ///

@@ -13,11 +13,11 @@ use crate::sizes::size_of;
 use std::alloc::Global;
 use xs_class::{Listed, Memory, Word};
 use xs_forest::Forest;
-use xs_gram::{GItem, Gram};
 use xs_forest_laws::{SpanKey, What};
+use xs_gram::{GItem, Gram};
 
-/// The forest of a document, with the number of unfoldings of each row up to a cap, and the number of
-/// parts of the row's unfolding by first alternatives.
+/// The forest of a document, with the number of unfoldings of each row up to a cap, and the number
+/// of parts of the row's unfolding by first alternatives.
 #[derive(Drop)]
 pub(crate) struct Source<'s, 'b> {
     pub g: &'s Gram,
@@ -57,7 +57,7 @@ pub(crate) struct Written {
     pub places: Vec<u64>,
 }
 
-// A new last part, which is no kid yet.
+/// A new last part, which is no kid yet.
 fn add(written: &mut Written, part: SpeltPart) -> Result<(), Memory>
     ensures { OnOk result (Added written.old.parts.items written.old.places.items part written.new.parts.items written.new.places.items) }
 {
@@ -67,7 +67,7 @@ fn add(written: &mut Written, part: SpeltPart) -> Result<(), Memory>
     Ok(())
 }
 
-// Writes the word of an item.
+/// Writes the word of an item.
 fn write_word(item: &GItem, start: u32, end: u32, written: &mut Written) -> Result<(), Memory>
     ensures { OnOk result (IsWordWritten item.now start end written.old.parts.items written.old.places.items written.new.parts.items written.new.places.items) }
 {
@@ -78,7 +78,7 @@ fn write_word(item: &GItem, start: u32, end: u32, written: &mut Written) -> Resu
     }
 }
 
-// Writes a node of a rule whose kids are all places from one on.
+/// Writes a node of a rule whose kids are all places from one on.
 fn write_node(rule: u32, from: u64, written: &mut Written) -> Result<(), Memory>
     requires { from ≤ length written.old.places.items }
     ensures { OnOk result (Added written.old.parts.items (take from written.old.places.items) (Node rule (drop from written.old.places.items)) written.new.parts.items written.new.places.items) }
@@ -111,7 +111,7 @@ pub(crate) fn push_child(
     }
 }
 
-// What is to be written after the left child.
+/// What is to be written after the left child.
 fn task_after(forest: &Forest<'_, SpanKey>, label: SpanKey, chosen: Chosen, from: u64) -> Task
     requires left { IsEarlier chosen.alt.left (length forest.now) }
     requires dotted { (p d : ℕ) → label.what ≡ Front p d → 0 < d }
@@ -157,7 +157,7 @@ pub(crate) fn visit(
     Ok(())
 }
 
-// One task is done.
+/// One task is done.
 fn perform(
     source: &Source<'_, '_>,
     task: Task,

@@ -19,7 +19,7 @@ use Rattle.xs_loose.specs.Arcs.{Arc, Adds, Grows, NetGrows, DraftGrows, NoArc, I
 use Rattle.xs_loose.specs.Laying.{state_before, WordArc, AutomatonArc, ComponentArc, HasTables, HasSpots, IsDraft, IsLaid, Places}
 use Rattle.xs_loose.proofs.Growing.{with_links, bare_grows}
 use Rattle.xs_loose.proofs.Blocks.{block_laid}
-use Rattle.xs_loose.proofs.WordBlock.{Behind, word_block, word_whole}
+use Rattle.xs_loose.proofs.WordBlock.{AfterSymbol, word_block, word_whole}
 use Rattle.xs_loose.proofs.AutomatonBlock.{AtPosition, automaton_block, automaton_whole, leads_at}
 use Rattle.xs_loose.proofs.ComponentBlock.{AtSpot, spot_high, component_block, component_in, component_whole}
 
@@ -58,7 +58,7 @@ has_spots g comps component members rules m old mid range are nons own of few pl
 module _ (g : Grammar) (l : Link) (old new : Draft) (draft : IsDraft g old) (link : IsLink g (states old.net) l) where
   pub word_laid : (f : List ℕ) → ItemAt g l.rule l.dot (Fixed f) → new.links.items ≡ old.links.items → new.entries.items ≡ old.entries.items → new.bases.items ≡ old.bases.items → NetGrows (WordArc f l.from (states old.net) l.to) (length f) old.net new.net → IsLaid g l old new
   word_laid f there links entries bases grows =
-      block_laid g (Fixed f) l there old new (WordArc f l.from (states old.net) l.to) (length f) (λ (w : List ℕ). w ≡ f) (Behind f (states old.net)) draft link (tables_kept g old new entries bases draft.tables) all (λ m h. inl (rw links at h))
+      block_laid g (Fixed f) l there old new (WordArc f l.from (states old.net) l.to) (length f) (λ (w : List ℕ). w ≡ f) (AfterSymbol f (states old.net)) draft link (tables_kept g old new entries bases draft.tables) all (λ m h. inl (rw links at h))
       (word_block f (states old.net) l.from l.to link.from link.to)
       (word_whole f (states old.net) l.from l.to (Arc g new.net new.links.items) all.arcs.there)
       inside (fixed_to g f) (fixed_back g f)

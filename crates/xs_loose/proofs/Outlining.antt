@@ -14,7 +14,7 @@ use Rattle.xs_loose.specs.Parts.{IsPart, part_items}
 use Rattle.xs_loose.proofs.Growing.{same_arcs, with_links}
 use Rattle.xs_loose.proofs.Outlines.{link_over, IsOver, part_count, outline_words}
 
--- links over the first so many items of a part
+-- links over the first items of a part, up to a number
 pub record IsOutline (g : Grammar) (part : Part) (last : ℕ) (d : Draft) : Type 0 where
   pub few : states d.net < 2 ^ 32
   pub finals : (i : ℕ) → final_at d.net i ≡ false

@@ -39,8 +39,8 @@ pub record Adds (P T U : ℕ → List ℕ → ℕ → Type 0) : Type 0 where
   pub there : (a : ℕ) (w : List ℕ) (b : ℕ) → P a w b → U a w b
   pub only : (a : ℕ) (w : List ℕ) (b : ℕ) → U a w b → T a w b ⊎ P a w b
 
--- so many states more and the arcs of P; the start and what is final are the same, and states still
--- have numbers
+-- that many states more and the arcs of P; the start and what is final are the same, and states
+-- still have numbers
 pub record Grows (P T U : ℕ → List ℕ → ℕ → Type 0) (count : ℕ) (old new : Graph) : Type 0 where
   pub few : states old < 2 ^ 32 → states new < 2 ^ 32
   pub states : states new ≡ states old + count

@@ -13,7 +13,7 @@ use Rattle.xs_loose.specs.Groups.{IsNonOf, IsRuleIn}
 use Rattle.xs_loose.specs.Arcs.{Arc, Path, GrowsBare, IsLink, IsLinkArc, IsMove, IsSymbol, Below, Either}
 use Rattle.xs_loose.specs.declared.link.Link.{Link}
 
--- the state before symbol k of a word that begins at s, where the state behind symbol k is base + k
+-- the state before symbol k of a word that begins at s, where the state after symbol k is base + k
 abbrev pub state_before : ℕ → ℕ → ℕ → ℕ
 state_before s base zero = s
 state_before s base (suc k) = base + k
@@ -58,8 +58,8 @@ AutomatonArc p s base t = Either (Either (Either (IsInto p base s p.first) (Belo
 abbrev pub state_at : List ℕ → ℕ → ℕ → ℕ
 state_at bases p k = slice_index_or bases p 0 + k
 
--- An arc at item k of rule p in the component of c: past an item that is no member by a loose word of
--- it, or to a member's entry and from its exit, which is the state behind.
+-- An arc at item k of rule p in the component of c: past an item that is no member by a loose word
+-- of it, or to a member's entry and from its exit, which is the state after it.
 pub data ItemArc (g : Grammar) (entries bases : List ℕ) (c p k a : ℕ) (w : List ℕ) (b : ℕ) : Type 0 where
   past : (i : GItem) → ItemAt g p k i → (IsMember g c i → ⊥) → LooseItem g i w → a ≡ state_at bases p k → b ≡ state_at bases p (k + 1) → ItemArc g entries bases c p k a w b
   call : (n s : ℕ) → ItemAt g p k (Non n s) → AreOne g c n → IsMove (state_at bases p k) (slice_index_or entries n 0) a w b → ItemArc g entries bases c p k a w b
@@ -82,8 +82,8 @@ pub record IsListed (bound : ℕ) (ids : List ℕ) : Type 0 where
   pub within : (j : ℕ) → j < length ids → slice_index_or ids j 0 < bound
   pub rising : (j k : ℕ) → j < k → k < length ids → slice_index_or ids j 0 < slice_index_or ids k 0
 
--- The states of the first so many of these are behind one another, as many for each as its size, from
--- low on and below high.
+-- The states of the first of these, up to a number, follow one another, as many for each as its
+-- size, from low on and below high.
 pub record ArePlaced (size : ℕ → ℕ) (ids : List ℕ) (end low high : ℕ) (table : List ℕ) : Type 0 where
   pub within : (j : ℕ) → j < end → (low ≤ slice_index_or table (slice_index_or ids j 0) 0) × (slice_index_or table (slice_index_or ids j 0) 0 + size (slice_index_or ids j 0) ≤ high)
   pub apart : (j k : ℕ) → j < k → k < end → slice_index_or table (slice_index_or ids j 0) 0 + size (slice_index_or ids j 0) ≤ slice_index_or table (slice_index_or ids k 0) 0
@@ -121,7 +121,8 @@ pub record HasSpots (g : Grammar) (comps : List ℕ) (component : ℕ) (d : Draf
   pub entries : (n : ℕ) → IsNonOf g comps component n → slice_index_or d.entries.items n 0 + 1 < states d.net
   pub bases : (p : ℕ) → IsRuleIn g comps component p → state_at d.bases.items p (length (items g p)) < states d.net
 
--- each arc of the draft is from one of its states to another, its links are right, and its tables there
+-- each arc of the draft is from one of its states to another, its links are right, and its tables
+-- there
 pub record IsDraft (g : Grammar) (d : Draft) : Type 0 where
   pub arcs : (a : ℕ) (w : List ℕ) (b : ℕ) → Arc g d.net d.links.items a w b → (a < states d.net) × (b < states d.net)
   pub links : (l : Link) → Contains d.links.items l → IsLink g (states d.net) l
@@ -137,7 +138,8 @@ pub record IsLaid (g : Grammar) (l : Link) (old new : Draft) : Type 0 where
   pub finals : (i : ℕ) → final_at new.net i ≡ final_at old.net i
   pub paths : (a : ℕ) (w : List ℕ) (b : ℕ) → a < states old.net → b < states old.net → Path (Arc g new.net new.links.items) a w b ↔ Path (Either (Arc g old.net old.links.items) (IsLinkArc g l)) a w b
 
--- a draft whose paths from its start to its only final state read exactly the loose words of the items
+-- a draft whose paths from its start to its only final state read exactly the loose words of the
+-- items
 pub record IsDraftOf (g : Grammar) (is : List GItem) (d : Draft) : Type 0 where
   pub draft : IsDraft g d
   pub last : ℕ

@@ -12,8 +12,9 @@ use xs_class::Memory;
 use xs_gram::Gram;
 
 /// A net that is being made, with the items that are still to be laid in it, and two tables for the
-/// component that is laid: the states of its members' entries, each before the state of the exit, and
-/// the first states of its rules. What they have for other nonterminals and rules means nothing.
+/// component that is laid: the states of its members' entries, each before the state of the exit,
+/// and the first states of its rules. What they have for other nonterminals and rules means
+/// nothing.
 #[derive(Debug, Drop)]
 pub struct Draft {
     pub net: Net,

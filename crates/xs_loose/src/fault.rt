@@ -1,25 +1,12 @@
-use std::error::Error;
-use std::fmt;
 use xs_class::Memory;
 
 /// Why a part has no net.
 #[derive(Clone, Copy, Debug, PartialEq, Eq)]
 pub enum LooseFault {
-    /// The part weighs so much, which is more than 8,192.
+    /// The part weighs more than 8,192; this is its weight.
     Heavy { weight: u64 },
     Memory,
 }
-
-impl fmt::Display for LooseFault {
-    fn fmt<W: fmt::Write>(&self, f: &mut fmt::Formatter<W>) -> fmt::Result {
-        match self {
-            LooseFault::Heavy { weight } => write!(f, "a part weighs {weight}"),
-            LooseFault::Memory => write!(f, "out of memory"),
-        }
-    }
-}
-
-impl Error for LooseFault {}
 
 impl From<Memory> for LooseFault {
     ghost use Rattle.std.specs.Prelude.{◌≡◌};

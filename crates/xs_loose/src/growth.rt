@@ -18,7 +18,7 @@ pub fn state(net: &mut Net) -> Result<u32, Memory>
     Ok(number)
 }
 
-/// Adds so many states.
+/// Adds that many states.
 pub fn states(net: &mut Net, count: usize) -> Result<(), Memory>
     ensures { OnOk result (NetGrows NoArc count net.old net.new) }
 {

@@ -29,8 +29,8 @@ const HEAVIEST: u64 = 8192;
 
 /// A net with a start that accepts exactly the loose words of a part.
 ///
-/// It has a state before and after each item of the part and of the components' copies, and those of
-/// fixed words and automata: at most two for each unit of the part's weight, and one more.
+/// It has a state before and after each item of the part and of the components' copies, and those
+/// of fixed words and automata: at most two for each unit of the part's weight, and one more.
 pub fn net_of(alloc: Global, g: &Gram, comps: &Comps, part: &Part) -> Result<Net, LooseFault>
     requires built { IsBuilt g.now }
     requires comps { AreComponents g.now comps.now }

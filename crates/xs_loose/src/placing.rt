@@ -23,8 +23,8 @@ impl Draft {
     }
 }
 
-/// Adds the states of the members of a component, an entry and behind it an exit for each, and writes
-/// the entries into a table.
+/// Adds the states of the members of a component, an entry and after it an exit for each, and
+/// writes the entries into a table.
 fn place_members(net: &mut Net, entries: &mut [u32], members: &[u32]) -> Result<(), Memory>
     requires { IsListed (length entries.old) members.now }
     ensures placed { OnOk result (ArePlaced member_size members.now (length members.now) (states net.old) (states net.new) entries.new) }

@@ -8,7 +8,7 @@ use std::alloc::Global;
 use xs_auto::Net;
 use xs_class::{Memory, Sym};
 
-/// Lays a fixed word between two states: a state behind each symbol.
+/// Lays a fixed word between two states: a state after each symbol.
 pub fn lay_word(
     net: &mut Net,
     alloc: Global,

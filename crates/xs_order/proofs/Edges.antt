@@ -13,13 +13,13 @@ nothing_in xs m e h = let none = rw e at h in omega (arith, none.1)
 
 -- a list for one more rule
 pub lists_more : (R : ℕ → List ℕ → Type 0) (k : ℕ) (lists : List (List ℕ)) (list : List ℕ) → R k list → AreByRule R k lists → AreByRule R (k + 1) (lists ++ list ∷ [])
-lists_more R k lists list here told = record {
-  counted = omega (arith, length_push lists list, told.counted);
+lists_more R k lists list here known = record {
+  counted = omega (arith, length_push lists list, known.counted);
   each = λ p l. elim (cases_lt p k) [
-    | inl before ↦ rw (get_or_append_left lists (list ∷ []) [] p (omega (arith, told.counted))) (told.each p before)
+    | inl before ↦ rw (get_or_append_left lists (list ∷ []) [] p (omega (arith, known.counted))) (known.each p before)
     | inr after ↦
         let same : p ≡ k = omega arith in
-        rw (same, get_or_push lists list [] k told.counted) here
+        rw (same, get_or_push lists list [] k known.counted) here
   ];
 }
 
@@ -35,10 +35,10 @@ graph_none g targets rows blank = record {
 
 -- the targets of one more rule are added to its nonterminal's row
 pub graph_more : (g : Grammar) (targets rows new : List (List ℕ)) (k non : ℕ) (row list : List ℕ) → non ≡ (rule_of g k).non → non < length rows → row ≡ get_or rows non [] → list ≡ get_or targets k [] → new ≡ set rows non (row ++ list) → IsGraphTo g targets k rows → IsGraphTo g targets (k + 1) new
-graph_more g targets rows new k non row list is low r t e told = record {
-  counted = ap length e ∙ length-set rows non (row ++ list) ∙ told.counted;
+graph_more g targets rows new k non row list is low r t e known = record {
+  counted = ap length e ∙ length-set rows non (row ++ list) ∙ known.counted;
   there = λ n m edge. elim (cases_lt edge.rule k) [
-    | inl before ↦ kept n m (told.there n m (record { rule = edge.rule; before = before; non = edge.non; target = edge.target }))
+    | inl before ↦ kept n m (known.there n m (record { rule = edge.rule; before = before; non = edge.non; target = edge.target }))
     | inr after ↦
         let here : edge.rule ≡ k = omega (arith, edge.before) in
         let node : n ≡ non = sym edge.non ∙ ap (λ (p : ℕ). (rule_of g p).non) here ∙ sym is in
@@ -46,10 +46,10 @@ graph_more g targets rows new k non row list is low r t e told = record {
   ];
   only = λ n m h. elim (cases_eq n non) [
     | inl node ↦ elim (Contains-append_cases row list m (rw (node, same) at h)) [
-      | inl before ↦ longer n m (told.only n m (rw (node, ← r) before))
+      | inl before ↦ longer n m (known.only n m (rw (node, ← r) before))
       | inr now ↦ record { rule = k; before = omega arith; non = sym is ∙ sym node; target = rw (← t) now }
     ]
-    | inr other ↦ longer n m (told.only n m (rw (others n other) at h))
+    | inr other ↦ longer n m (known.only n m (rw (others n other) at h))
   ];
 }
   where
@@ -70,6 +70,6 @@ graph_more g targets rows new k non row list is low r t e told = record {
 
 -- where each target is a nonterminal, the rows are a graph
 pub is_graph : (g : Grammar) (targets graph : List (List ℕ)) → ((p m : ℕ) → p < length g.rules → Contains (get_or targets p []) m → m < g.nons) → IsGraphTo g targets (length g.rules) graph → IsGraph graph
-is_graph g targets graph low told a k d l =
-    let edge = told.only a (get_or (targets_of graph a) k d) (Contains-get_or (targets_of graph a) k d l) in
-    omega (arith, low edge.rule (get_or (targets_of graph a) k d) edge.before edge.target, told.counted)
+is_graph g targets graph low known a k d l =
+    let edge = known.only a (get_or (targets_of graph a) k d) (Contains-get_or (targets_of graph a) k d l) in
+    omega (arith, low edge.rule (get_or (targets_of graph a) k d) edge.before edge.target, known.counted)

@@ -9,12 +9,12 @@ pub flags_none : (P : ℕ → Type 0) → AreFlags P 0 []
 flags_none P = record { counted = omega arith; exact = λ n l. absurd (omega arith) }
 
 pub flags_more : (P : ℕ → Type 0) (k : ℕ) (flags : List Bool) (b : Bool) → IsTrue b ↔ P k → AreFlags P k flags → AreFlags P (k + 1) (flags ++ b ∷ [])
-flags_more P k flags b exact told = record {
-  counted = omega (arith, length_push flags b, told.counted);
+flags_more P k flags b exact known = record {
+  counted = omega (arith, length_push flags b, known.counted);
   exact = λ n l. elim (cases_lt n k) [
-    | inl before ↦ rw (get_or_append_left flags (b ∷ []) false n (omega (arith, told.counted))) (told.exact n before)
+    | inl before ↦ rw (get_or_append_left flags (b ∷ []) false n (omega (arith, known.counted))) (known.exact n before)
     | inr after ↦
         let here : n ≡ k = omega arith in
-        rw (here, get_or_push flags b false k told.counted) exact
+        rw (here, get_or_push flags b false k known.counted) exact
   ];
 }

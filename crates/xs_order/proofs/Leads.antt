@@ -13,7 +13,7 @@ use Rattle.xs_order.specs.Graphs.{AreByRule, IsGraphTo, is_nullable, IsFirstFull
 use Rattle.xs_order.specs.Order.{AreNullable, AreRanks, IsFirstLoop}
 use Rattle.xs_order.specs.Rules.{nons_of}
 use Rattle.xs_order.proofs.Clauses.{non_there}
-use Rattle.xs_order.proofs.Empty.{nullable_term, nullable_skip}
+use Rattle.xs_order.proofs.Empty.{nullable_matches}
 use Rattle.xs_order.proofs.Parted.{non_stands}
 
 -- all items are nullable
@@ -72,23 +72,23 @@ some_length (x ∷ f) lt e = cc
 -- the test of an item of a rule is exact
 nullable_item : (g : Grammar) (flags : List Bool) → IsBuilt g → AreNullable g flags → (p k : ℕ) (item : GItem) → ItemAt g p k item → IsTrue (is_nullable g flags item) ↔ IsNullableItem g item
 nullable_item g flags built nulls p k (Fixed f) at = (λ e. absurd (false≢true e), λ e. absurd (some_length f (built.range.words p k f at) e))
-nullable_item g flags built nulls p k (Term t s) at = nullable_term g t built (built.range.terms p k t s at)
+nullable_item g flags built nulls p k (Term t s) at = nullable_matches (built.automata.terms t (built.range.terms p k t s at))
 nullable_item g flags built nulls p k (Non m s) at = nulls.exact m (built.range.nons p k m s at)
-nullable_item g flags built nulls p k (Skip j) at = nullable_skip g j built (built.range.skips p k j at)
+nullable_item g flags built nulls p k (Skip j) at = nullable_matches (built.automata.skips j (built.range.skips p k j at))
 
 abbrev AreAllLeading : Grammar → List Bool → List (List ℕ) → Type 0
 AreAllLeading g flags targets = AreByRule (λ p list. AreLeading g flags (items g p) list) (length g.rules) targets
 
 pub leads_are_edges : (g : Grammar) (flags : List Bool) (targets graph : List (List ℕ)) → IsBuilt g → AreNullable g flags → AreAllLeading g flags targets → IsGraphTo g targets (length g.rules) graph → (n m : ℕ) → LeadsTo g n m ↔ HasEdge graph n m
-leads_are_edges g flags targets graph built nulls lists told n m = (
-  λ l. told.there n m (record {
+leads_are_edges g flags targets graph built nulls lists known n m = (
+  λ l. known.there n m (record {
     rule = l.rule;
     before = l.of.0;
     non = l.of.1;
     target = (lists.each l.rule l.of.0 m).1 (record { dot = l.dot; slot = l.slot; item = l.item; others = λ k other ne at. (nullable_item g flags built nulls l.rule k other at).1 (l.others k other ne at) });
   }),
   λ h.
-      let edge = told.only n m h in
+      let edge = known.only n m h in
       let l = (lists.each edge.rule edge.before m).0 edge.target in
       record { rule = edge.rule; dot = l.dot; slot = l.slot; of = (edge.before, edge.non); item = l.item; others = λ k other ne at. (nullable_item g flags built nulls edge.rule k other at).0 (l.others k other ne at) },
 )

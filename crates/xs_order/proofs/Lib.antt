@@ -1,5 +1,6 @@
 pub mod Flags
 pub mod Deriving
+pub mod Good
 pub mod Empty
 pub mod Clauses
 pub mod Steps

@@ -33,10 +33,10 @@ abbrev AreNons : Grammar → List (List ℕ) → Type 0
 AreNons g targets = AreByRule (λ p list. list ≡ nons_of (items g p)) (length g.rules) targets
 
 pub uses_are_edges : (g : Grammar) (targets graph : List (List ℕ)) → AreNons g targets → IsGraphTo g targets (length g.rules) graph → (m n : ℕ) → Uses g m n ↔ HasEdge graph m n
-uses_are_edges g targets graph nons told m n = (
-  λ u. told.there m n (record { rule = u.rule; before = u.of.0; non = u.of.1; target = rw (nons.each u.rule u.of.0) (non_stands (items g u.rule) u.dot n u.slot u.item) }),
+uses_are_edges g targets graph nons known m n = (
+  λ u. known.there m n (record { rule = u.rule; before = u.of.0; non = u.of.1; target = rw (nons.each u.rule u.of.0) (non_stands (items g u.rule) u.dot n u.slot u.item) }),
   λ h.
-      let edge = told.only m n h in
+      let edge = known.only m n h in
       let at = non_there (items g edge.rule) n (rw (nons.each edge.rule edge.before) at edge.target) in
       record { rule = edge.rule; dot = at.0; slot = at.1; of = (edge.before, edge.non); item = at.2 },
 )
@@ -61,7 +61,7 @@ module _ (g : Grammar) (graph : List (List ℕ)) (edges : (m n : ℕ) → Uses g
   are_components comps counted parts = record {
     counted = parts.counted ∙ counted;
     one = λ m n l k.
-        let told = parts.one m n (omega (arith, counted)) (omega (arith, counted)) in
-        (λ e. let both = told.0 e in (reaches_by_uses m n both.0, reaches_by_uses n m both.1), λ both. told.1 (reaches_by_edges m n both.0, reaches_by_edges n m both.1));
+        let known = parts.one m n (omega (arith, counted)) (omega (arith, counted)) in
+        (λ e. let both = known.0 e in (reaches_by_uses m n both.0, reaches_by_uses n m both.1), λ both. known.1 (reaches_by_edges m n both.0, reaches_by_edges n m both.1));
     falls = λ m n l step. parts.falls m n ((edges m n).0 step);
   }

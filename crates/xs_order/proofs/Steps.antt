@@ -47,14 +47,14 @@ added_one a from target clauses c symbol is = record {
 }
 
 pub added_more : (a : Position) (from : Option ℕ) (targets : List ℕ) (i target : ℕ) (old clauses new : List Clause) → i < length targets → target ≡ get_or targets i 0 → AreAdded a from (take i targets) old clauses → AreAdded a from (target ∷ []) clauses new → AreAdded a from (take (i + 1) targets) old new
-added_more a from targets i target old clauses new l is told one = record {
-  kept = λ c h. one.kept c (told.kept c h);
+added_more a from targets i target old clauses new l is known one = record {
+  kept = λ c h. one.kept c (known.kept c h);
   there = λ k h symbol. elim (Contains-push_cases (take i targets) target k (rw front at h)) [
-    | inl before ↦ one.kept (step_to from k) (told.there k before symbol)
+    | inl before ↦ one.kept (step_to from k) (known.there k before symbol)
     | inr e ↦ one.there k (rw e (contains_one k)) symbol
   ];
   only = λ c h. elim (one.only c h) [
-    | inl before ↦ elim (told.only c before) [
+    | inl before ↦ elim (known.only c before) [
       | inl older ↦ inl older
       | inr s ↦ inr (record { to = s.to; among = rw front (Contains-append_left (take i targets) (target ∷ []) s.to s.among); symbol = s.symbol; is = s.is })
     ]
@@ -78,16 +78,16 @@ steps_none a clauses added = record {
 
 -- the steps from one more position
 pub steps_more : (a : Position) (k : ℕ) (row : List ℕ) (clauses new : List Clause) → slice_get a.follow k ≡ Some row → AreAdded a (Some k) row clauses new → AreSteps a k clauses → AreSteps a (k + 1) new
-steps_more a k row clauses new at added told = record {
-  starts = λ i h symbol. added.kept (step_to None i) (told.starts i h symbol);
+steps_more a k row clauses new at added known = record {
+  starts = λ i h symbol. added.kept (step_to None i) (known.starts i h symbol);
   steps = λ j i l leads symbol. elim (cases_lt j k) [
-    | inl before ↦ added.kept (step_to (Some j) i) (told.steps j i before leads symbol)
+    | inl before ↦ added.kept (step_to (Some j) i) (known.steps j i before leads symbol)
     | inr after ↦
         let here : j ≡ k = omega arith in
         rw here (added.there i (rw (here, at) at leads) symbol)
   ];
   only = λ c h. elim (added.only c h) [
-    | inl before ↦ told.only c before
+    | inl before ↦ known.only c before
     | inr s ↦ record { from = Some k; to = s.to; goes = rw at s.among; symbol = s.symbol; is = s.is }
   ];
 }

@@ -6,7 +6,7 @@ use Rattle.xs_gram.specs.declared.parts.GItem.{GItem}
 use Rattle.xs_gram.specs.declared.parts.GItem.TheVariants.{Fixed, Term, Non, Skip}
 use Rattle.xs_gram.specs.Grammar.{Grammar, rule_of, term_of, skip_of}
 
--- a list for each of so many rules, of which R holds
+-- a list for each of that many rules, of which R holds
 pub record AreByRule (R : ℕ → List ℕ → Type 0) (count : ℕ) (lists : List (List ℕ)) : Type 0 where
   pub counted : length lists ≡ count
   pub each : (p : ℕ) → p < count → R p (slice_index_or lists p [])
@@ -18,7 +18,8 @@ pub record IsEdgeOf (g : Grammar) (targets : List (List ℕ)) (end n m : ℕ) : 
   pub non : (rule_of g rule).non ≡ n
   pub target : Contains (slice_index_or targets rule []) m
 
--- an edge leads from the nonterminal of each rule before rule `end` to each of the rule's targets, and there are no others
+-- an edge leads from the nonterminal of each rule before rule `end` to each of the rule's targets,
+-- and there are no others
 pub record IsGraphTo (g : Grammar) (targets : List (List ℕ)) (end : ℕ) (graph : List (List ℕ)) : Type 0 where
   pub counted : length graph ≡ g.nons
   pub there : (n m : ℕ) → IsEdgeOf g targets end n m → HasEdge graph n m

@@ -3,3 +3,4 @@ pub mod Leaves
 pub mod Order
 pub mod Rules
 pub mod Runs
+pub mod Wanted

@@ -14,7 +14,7 @@ HasSymbol a k = (s : ℕ) × HasAt a k s
 abbrev pub IsReached : Position → ℕ → Type 0
 IsReached a k = (w : List ℕ) × Runs a w k
 
--- position k may come first, or behind another one
+-- position k may come first, or after another one
 abbrev pub GoesTo : Position → Option ℕ → ℕ → Type 0
 GoesTo a None k = Contains a.first k
 GoesTo a (Some j) k = Leads a j k

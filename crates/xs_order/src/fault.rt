@@ -1,5 +1,3 @@
-use std::error::Error;
-use std::fmt;
 use xs_class::Memory;
 
 /// Why nonterminals have no order.
@@ -9,17 +7,6 @@ pub enum OrderFault {
     Loop { non: u32 },
     Memory,
 }
-
-impl fmt::Display for OrderFault {
-    fn fmt<W: fmt::Write>(&self, f: &mut fmt::Formatter<W>) -> fmt::Result {
-        match self {
-            OrderFault::Loop { non } => write!(f, "nonterminal {non} derives itself alone"),
-            OrderFault::Memory => write!(f, "out of memory"),
-        }
-    }
-}
-
-impl Error for OrderFault {}
 
 impl From<Memory> for OrderFault {
     ghost use Rattle.std.specs.Prelude.{◌≡◌};

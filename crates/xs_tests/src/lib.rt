@@ -1,5 +1,4 @@
-//! Tests of the layers, one module for each crate, where that of `xs_top` is `run`, and one for the words of
-//! all faults.
+//! Tests of the layers, one module for each crate, where that of `xs_top` is `run`.
 //!
 //! They stand apart from the crates that they try, so that each of those is proved once: a crate
 //! with tests is proved a second time with them.
@@ -17,8 +16,6 @@ mod class;
 mod clauses;
 #[cfg(test)]
 mod earley;
-#[cfg(test)]
-mod faults;
 #[cfg(test)]
 mod forest;
 #[cfg(test)]

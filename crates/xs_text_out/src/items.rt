@@ -3,8 +3,8 @@ ghost use Rattle.xs_text_out.specs.Printed.{AreThere, rule_items};
 
 use xs_gram::{GItem, Gram};
 
-/// The items of a production's rule: none where there is no production, as at a leaf, and none where
-/// the grammar has no such rule, as may be at a part that its root does not reach.
+/// The items of a production's rule: none where there is no production, as at a leaf, and none
+/// where the grammar has no such rule, as may be at a part that its root does not reach.
 pub fn items_of(g: &Gram, production: Option<u32>) -> &[GItem]
     ensures items { result.now ≡ rule_items g.now production }
     ensures there { AreThere g.now result.now }

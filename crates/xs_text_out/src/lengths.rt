@@ -13,7 +13,7 @@ use xs_class::Memory;
 use xs_gram::{GItem, Gram};
 use xs_tree::Tree;
 
-// The length of what stands at a slot.
+/// The length of what stands at a slot.
 fn slot_length(kids: &[u64], slot: u32, lengths: &[u64]) -> u64
     requires { All (λ kid. kid < length lengths.now) kids.now }
     ensures { (g : Grammar) (trees : List Common) → AreLengths g trees lengths.now → result ≡ capped (length (slot_word g trees kids.now slot)) }
@@ -24,7 +24,7 @@ fn slot_length(kids: &[u64], slot: u32, lengths: &[u64]) -> u64
     }
 }
 
-// The length of what an item prints.
+/// The length of what an item prints.
 fn item_length(g: &Gram, item: &GItem, kids: &[u64], lengths: &[u64]) -> u64
     requires there { NamesAreThere g.now item.now }
     requires kids { All (λ kid. kid < length lengths.now) kids.now }
@@ -38,7 +38,7 @@ fn item_length(g: &Gram, item: &GItem, kids: &[u64], lengths: &[u64]) -> u64
     }
 }
 
-// The length of what the items print.
+/// The length of what the items print.
 fn items_length(g: &Gram, items: &[GItem], kids: &[u64], lengths: &[u64]) -> u64
     requires there { AreThere g.now items.now }
     requires kids { All (λ kid. kid < length lengths.now) kids.now }
@@ -51,7 +51,7 @@ fn items_length(g: &Gram, items: &[GItem], kids: &[u64], lengths: &[u64]) -> u64
     length
 }
 
-// The length of what a part prints, where those of the parts before it are given.
+/// The length of what a part prints, where those of the parts before it are given.
 fn part_length(g: &Gram, t: &Tree, part: u64, lengths: &[u64]) -> u64
     requires part { part < length t.now.parts }
     requires before { length lengths.now ≡ part }
@@ -63,8 +63,8 @@ fn part_length(g: &Gram, t: &Tree, part: u64, lengths: &[u64]) -> u64
     }
 }
 
-/// The lengths of what the parts print, each as far as 64 bits can count, in time linear in the parts
-/// and, of a part that is a node, in the items of its rule.
+/// The lengths of what the parts print, each as far as 64 bits can count, in time linear in the
+/// parts and, of a part that is a node, in the items of its rule.
 pub fn lengths_of(alloc: Global, g: &Gram, t: &Tree) -> Result<Vec<u64>, Memory>
     ensures { IfOk result (λ lengths. AreLengths g.now (trees_of t.now.parts) lengths.items) }
 {

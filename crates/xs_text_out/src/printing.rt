@@ -9,8 +9,8 @@ use xs_class::{Memory, Word};
 use xs_gram::Gram;
 use xs_tree::Tree;
 
-/// The word of the common tree on this grammar's side, each ignorable in its normal spelling; a part
-/// that is shared is printed each time.
+/// The word of the common tree on this grammar's side, each ignorable in its normal spelling; a
+/// part that is shared is printed each time.
 ///
 /// The parts' lengths are counted, and then all room is reserved at once: where the word is longer
 /// than any list can be, that is refused, and nothing is written. In time linear in the flat tree

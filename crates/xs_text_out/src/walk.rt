@@ -18,7 +18,7 @@ pub struct Task {
     pub dot: usize,
 }
 
-// Appends symbols, for which there is room.
+/// Appends symbols, for which there is room.
 fn append(symbols: &mut Vec<Sym>, piece: &[Sym])
     requires { vec_len symbols.old + length piece.now ≤ vec_capacity symbols.old }
     ensures items { symbols.new.items ≡ symbols.old.items ++ piece.now }
@@ -29,7 +29,7 @@ fn append(symbols: &mut Vec<Sym>, piece: &[Sym])
     };
 }
 
-// Begins a part: the word of a leaf is written, and all items of a node are still to be printed.
+/// Begins a part: the word of a leaf is written, and all items of a node are still to be printed.
 fn begin(t: &Tree, part: u64, tasks: &mut Vec<Task>, symbols: &mut Vec<Sym>)
     requires flat { IsFlat t.now }
     requires part { part < length t.now.parts }
@@ -46,7 +46,7 @@ fn begin(t: &Tree, part: u64, tasks: &mut Vec<Task>, symbols: &mut Vec<Sym>)
     }
 }
 
-// The child at a slot of a node, where there is one that prints something.
+/// The child at a slot of a node, where there is one that prints something.
 fn printing_kid(t: &Tree, part: u64, slot: u32, lengths: &[u64]) -> Option<u64>
     requires part { part < length t.now.parts }
     requires lengths { length lengths.now ≡ length t.now.parts }
@@ -65,7 +65,7 @@ fn printing_kid(t: &Tree, part: u64, slot: u32, lengths: &[u64]) -> Option<u64>
     }
 }
 
-// Prints an item of a node. A child that is a node itself begins.
+/// Prints an item of a node. A child that is a node itself begins.
 fn print_item(
     g: &Gram,
     t: &Tree,
@@ -97,7 +97,7 @@ fn print_item(
     }
 }
 
-// Prints the next item of a node, or leaves the node where no item is left.
+/// Prints the next item of a node, or leaves the node where no item is left.
 fn perform(
     g: &Gram,
     t: &Tree,

@@ -58,7 +58,7 @@ trees_step parts i part lt is =
     let one : take (i + 1) parts ≡ take i parts ++ part ∷ [] = ap (λ n. take n parts) (add-one i) ∙ take-suc parts i part lt ∙ ap (λ p. take i parts ++ p ∷ []) (sym is) in
     ap trees_of one ∙ trees_push (take i parts) part
 
--- the children of part i stand below the length of a list that has so many
+-- the children of part i stand below the length of a list that has that many
 pub part_ready : (parts : List TreePart) (numbers : List ℕ) (i : ℕ) (part : TreePart) → AreRising parts → i < length parts → part ≡ get_or parts i part → length numbers ≡ i → IsAfter part (length numbers)
 part_ready parts numbers i part rising lt is long =
     subst (λ n. IsAfter part n) (sym long) (rising i part (slice_get_read parts (length parts) i part refl lt is))

@@ -37,7 +37,7 @@ impl Builder {
         })
     }
 
-    // A new last part, whose number is the answer.
+    /// A new last part, whose number is the answer.
     fn add(&mut self, part: TreePart) -> Result<u64, Memory>
         requires { IsAfter part (length self.old) }
         ensures number { IfOk result (λ number. number ≡ length self.old) }
@@ -61,8 +61,8 @@ impl Builder {
         self.add(TreePart::Leaf(word))
     }
 
-    /// A new node with these children in the order of the slots, in time linear in their number; the
-    /// answer is its number.
+    /// A new node with these children in the order of the slots, in time linear in their number;
+    /// the answer is its number.
     pub fn node(&mut self, production: u32, kids: &[u64]) -> Result<u64, Memory>
         requires { All (λ kid. kid < length self.old) kids.now }
         ensures number { IfOk result (λ number. number ≡ length self.old) }

@@ -8,7 +8,7 @@ use indexmap::IndexSet;
 use std::alloc::Global;
 use xs_class::Memory;
 
-// The numbers of the parts' trees in the table, which takes up those that it has not.
+/// The numbers of the parts' trees in the table, which takes up those that it has not.
 fn numbers_of(
     alloc: Global,
     shapes: &mut IndexSet<Shape>,

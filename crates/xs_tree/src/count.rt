@@ -8,7 +8,7 @@ use crate::{Tree, TreePart};
 use std::alloc::Global;
 use xs_class::Memory;
 
-// One more than the sum of the children's counts.
+/// One more than the sum of the children's counts.
 fn node_count(kids: &[u64], counts: &[u64]) -> u64
     requires { All (λ kid. kid < length counts.now) kids.now }
     ensures { result ≡ capped (1 + picked_sum counts.now kids.now) }
@@ -30,8 +30,8 @@ fn part_count(part: &TreePart, counts: &[u64]) -> u64
     }
 }
 
-/// The number of nodes and leaves of the common tree, a part that is shared counted each time; above
-/// 2^64 less 1 that number. In time linear in the flat tree.
+/// The number of nodes and leaves of the common tree, a part that is shared counted each time;
+/// above 2^64 less 1 that number. In time linear in the flat tree.
 pub fn parts_of(alloc: Global, tree: &Tree) -> Result<u64, Memory>
     ensures { IfOk result (λ count. count ≡ capped_count (common_of tree.now)) }
 {

@@ -1,8 +1,8 @@
 //! Common trees kept flat: a list of parts, the children of each before it.
 //!
-//! A part is a leaf with a word, or a node with a production and a child for each slot. Parts can be
-//! shared, so a flat tree may mean a common tree that no memory holds; all that is asked of one here
-//! takes time linear in the parts and their words, and no recursion.
+//! A part is a leaf with a word, or a node with a production and a child for each slot. Parts can
+//! be shared, so a flat tree may mean a common tree that no memory holds; all that is asked of one
+//! here takes time linear in the parts and their words, and no recursion.
 #![tactic(auto)]
 
 mod builder;

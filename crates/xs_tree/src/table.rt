@@ -7,7 +7,7 @@ use indexmap::IndexSet;
 use std::alloc::Global;
 use xs_class::{Memory, Sym};
 
-/// What tells a part from others where equal children have equal numbers.
+/// What distinguishes a part from others where equal children have equal numbers.
 #[derive(PartialEq, Eq, Hash, Drop)]
 pub enum Shape {
     Word(Vec<Sym>),
@@ -22,7 +22,7 @@ pub fn number_at(numbers: &[u64], place: u64) -> u64
     numbers[place as usize]
 }
 
-// The numbers at these places.
+/// The numbers at these places.
 fn numbers_at(alloc: Global, numbers: &[u64], places: &[u64]) -> Result<Vec<u64>, Memory>
     requires { All (λ place. place < length numbers.now) places.now }
     ensures { IfOk result (λ list. list.items ≡ picked numbers.now places.now) }

@@ -22,7 +22,7 @@ pub record IsTurned (p : Pair) (side : Side) (w : List ℕ) (forest : Forest) (r
   pub has : HasTree (grammar_of p side) w tree
   pub printed : word ≡ print (grammar_of p (other side)) tree
 
--- the document has no derivation, and so many of its leading symbols are viable
+-- the document has no derivation, and that many of its leading symbols are viable
 pub record IsForeign (p : Pair) (side : Side) (w : List ℕ) (viable : ℕ) : Type 0 where
   pub foreign : InLang (grammar_of p side) w → ⊥
   pub longest : IsViable (grammar_of p side) w viable

@@ -8,12 +8,12 @@ use bumpalo::Bump;
 use std::alloc::Global;
 use xs_class::Word;
 use xs_earley::recognise;
+use xs_forest_laws::Grown;
 use xs_gram::Gram;
 use xs_grow::grow;
 use xs_listing::one_tree;
 use xs_text_out::print_syms;
 use xs_tree::Tree;
-use xs_forest_laws::Grown;
 
 /// A document that is turned: its forest, the common tree of one of its derivations, and that tree
 /// printed on the other side.

@@ -4,8 +4,8 @@ use xs_earley::SeeFault;
 /// Why a document is not turned.
 #[derive(Clone, Copy, Debug, PartialEq, Eq)]
 pub enum TurnFault {
-    /// The document has no derivation; so many of its leading symbols begin some document that has
-    /// one.
+    /// The document has no derivation; that many of its leading symbols begin some document that
+    /// has one.
     Foreign { viable: u64 },
     /// Memory ran out.
     Memory,

@@ -12,7 +12,7 @@ use std::alloc::Global;
 use xs_class::{Side, Word};
 use xs_pair::Two;
 
-// The other side.
+/// The other side.
 fn other_side(side: Side) -> Side
     ensures { result ≡ other side }
 {

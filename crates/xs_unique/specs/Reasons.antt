@@ -32,7 +32,8 @@ IsUnclear side g (F.Heavy weight) = ⊥
 IsUnclear side g (F.Suspect found) = IsFirstOn side g found
 IsUnclear side g F.Memory = Unit {0}
 
--- where the fault speaks of a weight, it is that of the first heavy rule; where it has a suspect, no rule is heavy and it is the first
+-- where the fault speaks of a weight, it is that of the first heavy rule; where it has a suspect,
+-- no rule is heavy and it is the first
 abbrev pub IsReason : Grammar → Grammar → AcceptFault → Type 0
 IsReason text xml (F.Heavy weight) = IsFirstHeavy text xml weight
 IsReason text xml (F.Suspect found) = IsLight text × IsLight xml × Shows text xml (shown found)

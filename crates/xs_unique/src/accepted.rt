@@ -5,8 +5,8 @@ ghost use Rattle.xs_check_laws.specs.Acceptance.{IsAccepted};
 use std::marker::Model;
 use xs_pair::Two;
 
-/// Two grammars that are accepted: no rule of either is heavy, neither has a suspect, and so each word
-/// of either has at most one derivation.
+/// Two grammars that are accepted: no rule of either is heavy, neither has a suspect, and so each
+/// word of either has at most one derivation.
 #[derive(Debug, Drop)]
 pub struct Accepted<'t> {
     pub(crate) two: &'t Two,

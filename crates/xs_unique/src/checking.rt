@@ -14,11 +14,12 @@ use xs_light::light;
 use xs_order::components;
 use xs_pair::Two;
 
-/// Accepts the two grammars of a sheet where no rule weighs more than 8,192 and there is no suspect.
+/// Accepts the two grammars of a sheet where no rule weighs more than 8,192 and there is no
+/// suspect.
 ///
-/// Fails with `Heavy` exactly where a rule weighs more, with the weight of the first such rule, text
-/// rules before XML rules. Fails with `Suspect` exactly where no rule does and there is a suspect: the
-/// first, in the order text vertical, text horizontal, XML vertical, XML horizontal.
+/// Fails with `Heavy` exactly where a rule weighs more, with the weight of the first such rule,
+/// text rules before XML rules. Fails with `Suspect` exactly where no rule does and there is a
+/// suspect: the first, in the order text vertical, text horizontal, XML vertical, XML horizontal.
 pub fn accept<'t>(alloc: Global, two: &'t Two) -> Result<Accepted<'t>, AcceptFault>
     requires text { IsSound two.now.text }
     requires xml { IsSound two.now.xml }

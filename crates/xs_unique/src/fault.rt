@@ -5,7 +5,7 @@ use xs_light::CheckFault;
 /// Why two grammars are not accepted.
 #[derive(Debug, Drop)]
 pub enum AcceptFault {
-    /// A rule weighs more than 8,192: the first that does weighs so much.
+    /// A rule weighs more than 8,192: this is the weight of the first that does.
     Heavy { weight: u64 },
     /// No rule is heavy, and this is the first suspect.
     Suspect(Suspect),

@@ -9,7 +9,7 @@ use Rattle.xs_vert.specs.declared.search.Vert.{Vert}
 abbrev pub ArePartners : Grammar → ℕ → ℕ → Type 0
 ArePartners g p q = (w : List ℕ) × IsVertical g p q w
 
--- no rule behind p is its partner
+-- no rule after p is its partner
 abbrev pub HasNoPartner : Grammar → ℕ → Type 0
 HasNoPartner g p = (q : ℕ) → ArePartners g p q → ⊥
 

@@ -1,6 +1,6 @@
-//! Vertical suspects: two rules of one nonterminal with a word that is loose for both.
+//! Vertical ambiguity: two rules of one nonterminal with a word that is loose for both.
 //!
-//! Rules are compared in order, each with those behind it, so that the suspect that is found is the
+//! Rules are compared in order, each with those after it, so that the suspect that is found is the
 //! first. Where no rule weighs more than 8,192, either a suspect is found or there is none.
 #![tactic(auto)]
 

@@ -26,9 +26,9 @@ pub struct Vert {
 /// The first vertical suspect of a grammar, by the smaller rule and then the larger, with any word
 /// that shows it, or none where there is none.
 ///
-/// Fails with `Heavy` exactly where a rule weighs more than 8,192, with the weight of the first such
-/// rule. Builds a net for each two rules of one nonterminal, and takes time linear in the pairs of
-/// their states, times the edges of each state.
+/// Fails with `Heavy` exactly where a rule weighs more than 8,192, with the weight of the first
+/// such rule. Builds a net for each two rules of one nonterminal, and takes time linear in the
+/// pairs of their states, times the edges of each state.
 pub fn vertical(alloc: Global, g: &Gram, comps: &Comps) -> Result<Option<Vert>, CheckFault>
     requires built { IsBuilt g.now }
     requires comps { AreComponents g.now comps.now }
@@ -48,7 +48,7 @@ pub fn vertical(alloc: Global, g: &Gram, comps: &Comps) -> Result<Option<Vert>, 
     Ok(None)
 }
 
-/// The first rule behind this one that shares a loose word with it, where there is one.
+/// The first rule after this one that shares a loose word with it, where there is one.
 fn first_partner(
     alloc: Global,
     g: &Gram,
@@ -73,8 +73,8 @@ fn first_partner(
     Ok(None)
 }
 
-/// A word that is loose for a rule, whose net is at hand, and for another one, where both are of one
-/// nonterminal.
+/// A word that is loose for a rule, whose net is at hand, and for another one, where both are of
+/// one nonterminal.
 fn shared_word(
     alloc: Global,
     g: &Gram,

@@ -21,11 +21,11 @@ returns-then-has_word c =
     let g = c.args.g.now in
     let f = c.args.word.now in
     let end = c.args.at + length f in
-    let one = Is c.behind.result c.args.origin in
+    let one = Is c.after.result c.args.origin in
     let all = ReadsWord c.args.doc.now c.args.at f c.args.place c.args.origin in
     let old = c.args.due.now in
     let new = c.note.new.due in
-    let is = c.behind.ensures.is in
+    let is = c.after.ensures.is in
     let r = c.has_word.ensures.0 c.if-has_word.true in
     let there = subst (λ k. IfOk c.note.result (λ _. Adds g (c.args.at + k) one old new)) c.len.ensures c.note.ensures in
     IfOk-weaker c.note.result (λ _. Adds g end one old new) (λ _. Adds g end all old new)

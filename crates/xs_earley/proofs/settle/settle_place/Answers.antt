@@ -4,7 +4,7 @@ use Rattle.xs_regex.specs.Automaton.{IsWellFormed}
 use Rattle.xs_gram.specs.declared.parts.GItem.TheVariants.{Fixed, Term, Non, Skip}
 use Rattle.xs_gram.specs.Grammar.{ItemAt}
 use Rattle.xs_chart_laws.proofs.Numbers.{stands_at_place}
-use Rattle.xs_earley.proofs.Settlings.{outside_end, outside_item, ends_grown, ends_settled, calls_grown, calls_settled, word_grown, word_settled}
+use Rattle.xs_earley.proofs.Settlings.{outside_end, outside_item, ends_grown, ends_settled, predicts_grown, predicts_settled, word_grown, word_settled}
 use Rattle.xs_earley.proofs.settle.settle_place.Goals as goal
 
 pub item_at-requires : goal.item_at-requires
@@ -66,7 +66,7 @@ returns-in_ok-call-in-Some-Non-clause-grown c =
     let slot = c.in-Some-Non.field-0-1 in
     let place = stands_at_place g c.args.doc.now c.args.place c.args.origin c.args.at c.requires.stands in
     let here : ItemAt g c.args.place.rule c.args.place.dot (Non m slot) = subst (λ x. ItemAt g c.args.place.rule c.args.place.dot x) c.in-Some-Non.field-0-is c.in-Some-Non.ensures in
-    calls_grown g c.args.doc.now c.requires.built c.args.at c.args.place c.args.origin c.requires.stands c.args.chart.now.sets c.call.new.chart.sets c.args.due.now m slot (outside_item g c.args.place (Non m slot) place here refl) here c.in_ok-call-in-Some-Non.ensures.adds
+    predicts_grown g c.args.doc.now c.requires.built c.args.at c.args.place c.args.origin c.requires.stands c.args.chart.now.sets c.call.new.chart.sets c.args.due.now m slot (outside_item g c.args.place (Non m slot) place here refl) here c.in_ok-call-in-Some-Non.ensures.adds
 
 pub returns-in_ok-call-in-Some-Non-clause-settled : goal.returns-in_ok-call-in-Some-Non-clause-settled
 returns-in_ok-call-in-Some-Non-clause-settled c =
@@ -75,4 +75,4 @@ returns-in_ok-call-in-Some-Non-clause-settled c =
     let slot = c.in-Some-Non.field-0-1 in
     let place = stands_at_place g c.args.doc.now c.args.place c.args.origin c.args.at c.requires.stands in
     let here : ItemAt g c.args.place.rule c.args.place.dot (Non m slot) = subst (λ x. ItemAt g c.args.place.rule c.args.place.dot x) c.in-Some-Non.field-0-is c.in-Some-Non.ensures in
-    calls_settled g c.args.doc.now c.requires.built c.args.at c.args.place c.args.origin c.requires.stands c.args.chart.now.sets c.call.new.chart.sets c.args.due.now m slot (outside_item g c.args.place (Non m slot) place here refl) here c.in_ok-call-in-Some-Non.ensures.adds
+    predicts_settled g c.args.doc.now c.requires.built c.args.at c.args.place c.args.origin c.requires.stands c.args.chart.now.sets c.call.new.chart.sets c.args.due.now m slot (outside_item g c.args.place (Non m slot) place here refl) here c.in_ok-call-in-Some-Non.ensures.adds

@@ -27,8 +27,8 @@ place-place-requires c =
     let before : IsNumberBefore g item.state c.args.non = waiter_before g old c.waiters.chart c.args.at c.args.from c.args.non P c.requires.from c.requires.waiting c.waiters.invariant.adds c.waiters.invariant.waits c.waiters.n c.waiter.result item c.waiter.ensures c.item-item.ensures in
     get_lt (all_places g) item.state before.0 before.1
 
-pub behind-requires-clause-item : goal.behind-requires-clause-item
-behind-requires-clause-item c =
+pub after-requires-clause-item : goal.after-requires-clause-item
+after-requires-clause-item c =
     let old = c.args.chart.now in
     let g = c.args.g.now in
     let P = Among (Follows g (items_of old c.args.from)) (take c.waiters.n (waiting_of old c.args.from c.args.non)) in
@@ -53,7 +53,7 @@ waiters-preserved c =
     let same = c.waiters.invariant.waits in
     let entry : slice_get list n ≡ Some k = subst (λ (l : List ℕ). slice_get l n ≡ Some k) (waiting_now g old now c.args.at from non P c.requires.from c.requires.waiting c.waiters.invariant.adds same) c.waiter.ensures in
     let was = waiter_was g old now c.args.at from non P c.requires.from c.requires.waiting c.waiters.invariant.adds same k item c.item-item.ensures in
-    let next = follows_one g c.args.at (items_of old from) k item c.place-place.result c.behind.result now.sets c.put.new.chart.sets was c.place-place.ensures.listed c.behind.ensures.is c.in_ok-put.ensures.adds in
+    let next = follows_one g c.args.at (items_of old from) k item c.place-place.result c.after.result now.sets c.put.new.chart.sets was c.place-place.ensures.listed c.after.ensures.is c.in_ok-put.ensures.adds in
     record {
       adds = among_more g c.args.at R list n k old.sets now.sets c.put.new.chart.sets (get_lt list n k entry) (sym (get_or_from_slice_get list n k 0 entry)) c.waiters.invariant.adds next;
       waits = c.in_ok-put.ensures.waits ∙ same;

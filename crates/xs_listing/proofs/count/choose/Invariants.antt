@@ -7,5 +7,5 @@ abbrev pub invariant-alts : goal.invariant-alts
 invariant-alts l = record {
   ahead : l.rest < alts_sum l.cap l.counts (drop l.alt-index l.alts);
   earlier : AreEarlier (drop l.alt-index l.alts) (length l.counts);
-  behind : l.fn.number ≡ alts_sum l.cap l.counts (take l.alt-index l.alts) + l.rest;
+  after : l.fn.number ≡ alts_sum l.cap l.counts (take l.alt-index l.alts) + l.rest;
 }

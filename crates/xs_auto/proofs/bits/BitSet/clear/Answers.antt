@@ -6,9 +6,9 @@ use Rattle.xs_auto.proofs.bits.BitSet.clear.Goals as goal
 pub returns : goal.returns
 returns c =
     let words = c.places.self-inside.words.items in
-    let told = c.places.invariant in
+    let known = c.places.invariant in
     let zeros : (k : ℕ) → get_or words k 0 ≡ 0 = λ k. elim (cases_lt k c.places.place) [
-      | inl l ↦ told.zeros k l
-      | inr l ↦ told.holds.unused k (omega (arith, told.used, c.places-test.false))
+      | inl l ↦ known.zeros k l
+      | inr l ↦ known.holds.unused k (omega (arith, known.used, c.places-test.false))
     ] in
-    blank_bits c.places.self-inside.bound words zeros ∙ ap (λ n. replicate n false) (told.bound ∙ sym (length_bits c.self.inside.bound c.self.inside.words.items) ∙ ap length c.self.view_is)
+    blank_bits c.places.self-inside.bound words zeros ∙ ap (λ n. replicate n false) (known.bound ∙ sym (length_bits c.self.inside.bound c.self.inside.words.items) ∙ ap length c.self.view_is)

@@ -20,13 +20,13 @@ places-init c =
 
 pub returns-then-place-len-clause-ok : goal.returns-then-place-len-clause-ok
 returns-then-place-len-clause-ok c =
-    let told = c.places.invariant in
+    let so_far = c.places.invariant in
     record {
-      area = record { map = told.area.map; height = told.area.height; width = told.area.width };
-      longer = told.longer;
-      seeds = omega (arith, told.seeds, c.len-self.ensures, c.args.self.now.steps.ok);
-      chained = told.chained;
-      closed = closed_all (Leads c.args.first.now c.args.second.now) (omega (arith, c.if-place-len.true, c.len.ensures, c.places.self.steps.ok)) told.closed;
+      area = record { map = so_far.area.map; height = so_far.area.height; width = so_far.area.width };
+      longer = so_far.longer;
+      seeds = omega (arith, so_far.seeds, c.len-self.ensures, c.args.self.now.steps.ok);
+      chained = so_far.chained;
+      closed = closed_all (Leads c.args.first.now c.args.second.now) (omega (arith, c.if-place-len.true, c.len.ensures, c.places.self.steps.ok)) so_far.closed;
     }
 
 pub expand-requires-clause-first : goal.expand-requires-clause-first
@@ -41,19 +41,19 @@ expand-requires-clause-second c =
 
 pub places-preserved : goal.places-preserved
 places-preserved c =
-    let told = c.places.invariant in
+    let so_far = c.places.invariant in
     let s = c.index-at.result.now in
     let here = read_at c.places.self.steps.items c.places.place s (omega (arith, c.if-place-len.false, c.len.ensures, c.places.self.steps.ok)) c.index-at.ensures in
     let ok = c.in_ok-expand.ensures.ok in
     let more = longer_gains (LeadsFrom c.args.first.now c.args.second.now s.first s.second c.places.place) ok.gains in
     let long = longer_length more in
     record {
-      cells = c.expand.ensures.cells ∙ told.cells;
+      cells = c.expand.ensures.cells ∙ so_far.cells;
       fits = c.in_ok-expand.ensures.fits;
-      area = area_then told.area ok.area;
-      seeds = ok.seeds ∙ told.seeds;
+      area = area_then so_far.area ok.area;
+      seeds = ok.seeds ∙ so_far.seeds;
       within = omega (arith, c.if-place-len.false, c.len.ensures, c.places.self.steps.ok);
-      longer = longer_then told.longer more;
-      chained = chained_more s here told.chained ok.gains;
-      closed = closed_more (Leads c.args.first.now c.args.second.now) s here told.closed more (λ x y l. ok.gains.there (step x y c.places.place) (record { origin = refl; leads = l }));
+      longer = longer_then so_far.longer more;
+      chained = chained_more s here so_far.chained ok.gains;
+      closed = closed_more (Leads c.args.first.now c.args.second.now) s here so_far.closed more (λ x y l. ok.gains.there (step x y c.places.place) (record { origin = refl; leads = l }));
     }

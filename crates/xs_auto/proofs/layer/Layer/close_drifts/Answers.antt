@@ -17,12 +17,12 @@ places-init c = record {
 
 pub returns-then-place-len-clause-ok : goal.returns-then-place-len-clause-ok
 returns-then-place-len-clause-ok c =
-    let told = c.places.invariant in
+    let known = c.places.invariant in
     record {
-      area = told.area;
-      longer = told.longer;
-      drifted = told.drifted;
-      closed = closed_all (Drifts c.args.first.now c.args.second.now) (omega (arith, c.if-place-len.true, c.len.ensures, c.places.self.steps.ok)) told.closed;
+      area = known.area;
+      longer = known.longer;
+      drifted = known.drifted;
+      closed = closed_all (Drifts c.args.first.now c.args.second.now) (omega (arith, c.if-place-len.true, c.len.ensures, c.places.self.steps.ok)) known.closed;
     }
 
 pub drift-requires-clause-first : goal.drift-requires-clause-first
@@ -37,18 +37,18 @@ drift-requires-clause-second c =
 
 pub places-preserved : goal.places-preserved
 places-preserved c =
-    let told = c.places.invariant in
+    let known = c.places.invariant in
     let s = c.index-at.result.now in
     let here = read_at c.places.self.steps.items c.places.place s (omega (arith, c.if-place-len.false, c.len.ensures, c.places.self.steps.ok)) c.index-at.ensures in
     let ok = c.in_ok-drift.ensures.ok in
     let more = longer_gains (DriftsFrom c.args.first.now c.args.second.now s.first s.second s.from) ok.gains in
     let long = longer_length more in
     record {
-      cells = c.drift.ensures.cells ∙ told.cells;
+      cells = c.drift.ensures.cells ∙ known.cells;
       fits = c.in_ok-drift.ensures.fits;
-      area = area_then told.area ok.area;
+      area = area_then known.area ok.area;
       within = omega (arith, c.if-place-len.false, c.len.ensures, c.places.self.steps.ok);
-      longer = longer_then told.longer more;
-      drifted = drifted_more c.places.place s here told.drifted ok.gains;
-      closed = closed_more (Drifts c.args.first.now c.args.second.now) s here told.closed more (λ x y l. ok.gains.there (step x y s.from) (record { origin = refl; drifts = l }));
+      longer = longer_then known.longer more;
+      drifted = drifted_more c.places.place s here known.drifted ok.gains;
+      closed = closed_more (Drifts c.args.first.now c.args.second.now) s here known.closed more (λ x y l. ok.gains.there (step x y s.from) (record { origin = refl; drifts = l }));
     }

@@ -1,5 +1,5 @@
 use Rattle.std.proofs.Common.{◌≡◌, ◌≤◌, ℕ, length}
-use Rattle.xs_auto.specs.declared.step.Step.{Step}
+use Rattle.xs_auto.specs.declared.reached_pair.ReachedPair.{ReachedPair}
 use Rattle.xs_auto.specs.Searches.{Fits, KeepsArea, IsAt, IsLonger, IsDrifted, IsClosedBelow, Drifts}
 use Rattle.xs_auto.proofs.layer.Layer.close_drifts.Given as goal
 
@@ -10,6 +10,6 @@ invariant-places l = record {
   area : KeepsArea l.initial.self l.self;
   within : l.place ≤ length l.self.steps.items;
   longer : IsLonger l.initial.self.steps.items l.self.steps.items;
-  drifted : (k : ℕ) (s : Step) → IsAt l.self.steps.items k s → IsDrifted l.first l.second l.initial.self.steps.items s;
+  drifted : (k : ℕ) (s : ReachedPair) → IsAt l.self.steps.items k s → IsDrifted l.first l.second l.initial.self.steps.items s;
   closed : IsClosedBelow (Drifts l.first l.second) l.place l.self.steps.items;
 }

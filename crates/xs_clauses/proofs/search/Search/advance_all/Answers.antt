@@ -11,16 +11,16 @@ places-preserved c =
     let old = c.places.self in
     let new = c.advance.new.self in
     let clauses = c.args.clauses.now in
-    let told = c.places.invariant in
+    let known = c.places.invariant in
     let step = c.in_ok-advance.ensures in
     let place = get_or c.args.places.now c.places.place-index 0 in
     let more : take (c.places.place-index + 1) c.args.places.now ≡ take c.places.place-index c.args.places.now ++ place ∷ [] = take_more c.args.places.now c.places.place-index 0 c.places-test.true in
     record {
       fits = step.fits;
-      grows = grows_then start old new told.grows step.grows;
+      grows = grows_then start old new known.grows step.grows;
       settled = λ k h. elim (Contains-push_cases (take c.places.place-index c.args.places.now) place k (rw more at h)) [
-        | inl before ↦ settled_on clauses old.flags.items new.flags.items start.found.items start.found.items k step.grows.kept (λ n i. i) (told.settled k before)
-        | inr here ↦ subst (λ (j : ℕ). IsSettled clauses new.flags.items start.found.items j) here (settled_on clauses new.flags.items new.flags.items old.found.items start.found.items place (λ n i. i) (found_on start old told.grows) step.settled)
+        | inl before ↦ settled_on clauses old.flags.items new.flags.items start.found.items start.found.items k step.grows.kept (λ n i. i) (known.settled k before)
+        | inr here ↦ subst (λ (j : ℕ). IsSettled clauses new.flags.items start.found.items j) here (settled_on clauses new.flags.items new.flags.items old.found.items start.found.items place (λ n i. i) (found_on start old known.grows) step.settled)
       ];
     }
 

@@ -27,17 +27,17 @@ pub places-preserved : goal.places-preserved
 places-preserved c =
     let old = c.places.self in
     let new = c.advance_all.new.self in
-    let told = c.places.invariant in
+    let known = c.places.invariant in
     let turn = c.in_ok-advance_all.ensures in
     let number = c.index-number.result.now in
     let l : c.places.place < length old.found.items = omega (arith, c.if-place-len.false, c.len.ensures, old.found.ok) in
     let is : number ≡ get_or old.found.items c.places.place number = c.index-number.ensures in
-    let low = found_low c.args.clauses.now old.flags.items old.found.items old.dots.items c.places.place number l is told.fits in
-    let there : number < length c.args.uses.now = omega (arith, low, told.count, c.requires.uses.rows) in
+    let low = found_low c.args.clauses.now old.flags.items old.found.items old.dots.items c.places.place number l is known.fits in
+    let there : number < length c.args.uses.now = omega (arith, low, known.count, c.requires.uses.rows) in
     let row = get_or_read c.args.uses.now number c.index-uses-number.result there c.index-uses-number.is [] in
     record {
       fits = turn.fits;
-      count = turn.grows.count ∙ told.count;
+      count = turn.grows.count ∙ known.count;
       within = omega (arith, l, ap length turn.grows.longer, length-append old.found.items turn.grows.added);
-      settled = λ k h. settled_turn c.args.clauses.now old.flags.items new.flags.items old.found.items new.found.items turn.grows.added c.as_slice.result.now c.places.place number k turn.grows.longer l is turn.grows.kept (λ has. rw (c.as_slice.ensures ∙ row) (c.requires.uses.all.noted k number h has)) (turn.settled k) (told.settled k h);
+      settled = λ k h. settled_turn c.args.clauses.now old.flags.items new.flags.items old.found.items new.found.items turn.grows.added c.as_slice.result.now c.places.place number k turn.grows.longer l is turn.grows.kept (λ has. rw (c.as_slice.ensures ∙ row) (c.requires.uses.all.noted k number h has)) (turn.settled k) (known.settled k h);
     }

@@ -4,7 +4,7 @@ use Rattle.xs_graph.proofs.search.Search.run.Given as goal
 abbrev pub invariant-frames : goal.invariant-frames
 invariant-frames l = record {
   state : IsState l.graph (state_of l.self);
-  seen : KeepsSeen l.initial.self.marks.items l.self.marks.items;
+  seen : KeepsSeen l.initial.self.visits.items l.self.visits.items;
 }
 
 abbrev pub decreases-frames : goal.decreases-frames

@@ -1,0 +1,109 @@
+-- What a chart says of labels, candidate by candidate: of a nonterminal the rules that are finished over its stretch,
+-- of first items the places where the last one begins. Throughout `has j c i` says that set j of the chart
+-- has the item of place c and origin i.
+use Rattle.std.specs.Prelude.{◌≡◌, ◌⊎◌, ℕ, suc, ◌<◌, ◌≤◌, List, [], ◌∷◌, length, None, Some, slice_get, slice_range, Contains}
+use Rattle.xs_chart.specs.declared.item.Item.{Item}
+use Rattle.xs_chart.specs.Filled.{AreDifferent}
+use Rattle.xs_gram.specs.declared.parts.GItem.{GItem}
+use Rattle.xs_gram.specs.declared.parts.GItem.TheVariants.{Fixed, Term, Non, Skip}
+use Rattle.xs_gram.specs.declared.places.Place.{Place}
+use Rattle.xs_gram.specs.Grammar.{Grammar, rule_of, items, IsRuleOf, ItemAt, IsTermWord, IsSkipWord}
+use Rattle.xs_gram.specs.Places.{at_dot, all_places}
+use Rattle.xs_chart_laws.specs.Reading.{Reads}
+use Rattle.xs_chart_laws.specs.Charts.{IsNumber, set_at}
+use Rattle.xs_forest_laws.specs.declared.span.SpanKey.{SpanKey}
+use Rattle.xs_forest_laws.specs.declared.span.What.TheVariants.{Whole, Front}
+use Rattle.xs_forest_laws.specs.Forest.{key_at}
+use Rattle.xs_forest_laws.specs.Grown.{ItemOver}
+use Rattle.xs_grow.specs.declared.call.Call.{Call}
+use Rattle.xs_grow.specs.Lists.{AreOnce, HasAllOf}
+use Rattle.xs_grow.specs.Grouped.{Grouped, IsGroup, HasGroups}
+
+-- a label, and a number that belongs to it
+abbrev pub Candidate : Type 0
+Candidate = SpanKey × ℕ
+
+abbrev pub call_at : ℕ → ℕ → Call
+call_at n i = record { non = n; start = i }
+
+-- a nonterminal over a stretch, and a rule of it that is finished there
+pub record WholeCandidate (g : Grammar) (has : ℕ → Place → ℕ → Type 0) (c : Candidate) : Type 0 where
+  pub non : ℕ
+  pub rule : ℕ
+  pub start : ℕ
+  pub end : ℕ
+  pub is : c ≡ (key_at (Whole non) start end, rule)
+  pub of : IsRuleOf g non rule
+  pub ended : has end (at_dot rule (length (items g rule))) start
+
+-- first items of a rule over a stretch, and a place where the last of them may begin
+pub record FrontCandidate (g : Grammar) (w : List ℕ) (has : ℕ → Place → ℕ → Type 0) (c : Candidate) : Type 0 where
+  pub rule : ℕ
+  pub dot : ℕ
+  pub start : ℕ
+  pub end : ℕ
+  pub split : ℕ
+  pub item : GItem
+  pub is : c ≡ (key_at (Front rule (suc dot)) start end, split)
+  pub at : ItemAt g rule dot item
+  pub before : has split (at_dot rule dot) start
+  pub last : ItemOver g w has item split end
+
+-- one of the two
+abbrev pub IsCandidate : Grammar → List ℕ → (ℕ → Place → ℕ → Type 0) → Candidate → Type 0
+IsCandidate g w has c = WholeCandidate g has c ⊎ FrontCandidate g w has c
+
+-- the candidate of an item of set j that stands at the end of a rule
+pub record WholeAt (g : Grammar) (j : ℕ) (it : Item) (c : Candidate) : Type 0 where
+  pub place : Place
+  pub numbered : IsNumber g it.state place
+  pub plain : place.inside ≡ None
+  pub whole : place.dot ≡ length (items g place.rule)
+  pub is : c ≡ (key_at (Whole (rule_of g place.rule).non) it.origin j, place.rule)
+
+-- where the item, begun at place m, ends: a nonterminal at one of the places that its call has
+abbrev pub EndsAt : Grammar → List ℕ → Grouped Call → GItem → ℕ → ℕ → Type 0
+EndsAt g w calls (Fixed v) m j = Reads w m v j
+EndsAt g w calls (Term t s) m j = (m ≤ j) × (j ≤ length w) × IsTermWord g t (slice_range w m j)
+EndsAt g w calls (Skip k) m j = (m ≤ j) × (j ≤ length w) × IsSkipWord g k (slice_range w m j)
+EndsAt g w calls (Non n s) m j = (r : ℕ) × (ends : List ℕ) × IsGroup calls r (call_at n m) ends × Contains ends j
+
+-- a candidate of an item of set j that stands before an item of a rule
+pub record FrontFrom (g : Grammar) (w : List ℕ) (calls : Grouped Call) (j : ℕ) (it : Item) (c : Candidate) : Type 0 where
+  pub place : Place
+  pub numbered : IsNumber g it.state place
+  pub plain : place.inside ≡ None
+  pub item : GItem
+  pub at : ItemAt g place.rule place.dot item
+  pub end : ℕ
+  pub last : EndsAt g w calls item j end
+  pub is : c ≡ (key_at (Front place.rule (suc place.dot)) it.origin end, j)
+
+-- it is a candidate of one of the first t items of set j
+abbrev pub InSet : (ℕ → Item → Candidate → Type 0) → List (List Item) → ℕ → ℕ → Candidate → Type 0
+InSet P sets j t c = (k : ℕ) × (k < t) × (it : Item) × (slice_get (set_at sets j) k ≡ Some it) × P j it c
+
+-- it is a candidate of an item of one of the first n sets
+abbrev pub InSets : (ℕ → Item → Candidate → Type 0) → List (List Item) → ℕ → Candidate → Type 0
+InSets P sets n c = (j : ℕ) × (j < n) × InSet P sets j (length (set_at sets j)) c
+
+-- a call of a nonterminal, and a place where it ends, by one of the first t groups
+abbrev pub CallIn : Grouped SpanKey → ℕ → Call × ℕ → Type 0
+CallIn groups t c = (r : ℕ) × (r < t) × (n : ℕ) × (i : ℕ) × (j : ℕ) × (rules : List ℕ) × IsGroup groups r (key_at (Whole n) i j) rules × (c ≡ (call_at n i, j))
+
+-- the calls have the places where they end, by all of the groups
+abbrev pub AreCallsOf : Grouped SpanKey → Grouped Call → Type 0
+AreCallsOf groups calls = (candidates : List (Call × ℕ)) × HasAllOf (CallIn groups (length groups)) candidates × HasGroups candidates calls
+
+-- no call ends twice at one place
+abbrev pub EndOnce : Grouped Call → Type 0
+EndOnce calls = (r : ℕ) (call : Call) (ends : List ℕ) → IsGroup calls r call ends → AreOnce ends
+
+-- the items' numbers are those of places, and no set has an item twice
+pub record HasPlaces (g : Grammar) (sets : List (List Item)) : Type 0 where
+  pub placed : (j : ℕ) (it : Item) → Contains (set_at sets j) it → it.state < length (all_places g)
+  pub different : (j : ℕ) → AreDifferent (set_at sets j)
+
+-- the call that a label gives, with the place where it ends
+abbrev pub called : SpanKey → List (Call × ℕ)
+called k = elim k.what [ Whole n ↦ (call_at n k.start, k.end) ∷ [] | Front p d ↦ [] ]

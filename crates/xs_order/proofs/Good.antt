@@ -1,0 +1,37 @@
+-- Leaves that have a wanted word are good.
+use Rattle.std.proofs.Common.{◌≡◌, ◌↔◌, ℕ, ◌<◌, Bool, List, [], ◌∷◌, length, refl, arith}
+use Rattle.std.specs.Bool.{IsTrue}
+use Rattle.std.proofs.lemmas.Bool.{both_ways}
+use Rattle.xs_regex.specs.declared.regex.Regex.{Regex}
+use Rattle.xs_regex.specs.declared.position.Position.{Position}
+use Rattle.xs_regex.specs.Automaton.{Accepts}
+use Rattle.xs_regex.specs.Matches.{Matches}
+use Rattle.xs_gram.specs.declared.parts.GItem.TheVariants.{Fixed, Term, Non, Skip}
+use Rattle.xs_gram.specs.Grammar.{Grammar}
+use Rattle.xs_gram.specs.Sound.{IsAutomaton, IsBuilt}
+use Rattle.xs_order.specs.declared.leaves.Leaves.{Leaves}
+use Rattle.xs_order.specs.declared.wanted.Wanted.{Wanted}
+use Rattle.xs_order.specs.declared.wanted.Wanted.TheVariants.{EmptyWord, AnyWord}
+use Rattle.xs_order.specs.Wanted.{IsWanted, AreWith, is_any}
+use Rattle.xs_order.proofs.Deriving.{AreGood}
+
+-- an automaton of a regex accepts a wanted word exactly where the regex matches one
+pub matches_wanted : {regex : Regex} {a : Position} (wanted : Wanted) (answer : Bool) → IsAutomaton regex a → (IsTrue answer ↔ ((w : List ℕ) × Accepts a w × IsWanted wanted w)) → IsTrue answer ↔ ((w : List ℕ) × Matches regex w × IsWanted wanted w)
+matches_wanted wanted answer automaton known = (
+  λ s. let h = known.0 s in (h.0, (automaton.accepts h.0).1 h.1, h.2),
+  λ h. known.1 (h.0, (automaton.accepts h.0).0 h.1, h.2),
+)
+
+some_length : (f : List ℕ) → 0 < length f → f ≡ [] → ⊥
+some_length [] lt e = absurd (omega arith)
+some_length (x ∷ f) lt e = cc
+
+fixed_is_good : (wanted : Wanted) (f : List ℕ) (fixed : Bool) → 0 < length f → fixed ≡ is_any wanted → IsTrue fixed ↔ IsWanted wanted f
+fixed_is_good EmptyWord f fixed some is = (λ e. absurd (both_ways fixed is e), λ e. absurd (some_length f some e))
+fixed_is_good AnyWord f fixed some is = (λ e. tt, λ e. is)
+
+pub are_good : (g : Grammar) (wanted : Wanted) (l : Leaves) → IsBuilt g → AreWith g wanted l → AreGood g (IsWanted wanted) l
+are_good g wanted l built leaves p n (Fixed f) at = fixed_is_good wanted f l.fixed (built.range.words p n f at) leaves.fixed
+are_good g wanted l built leaves p n (Term t s) at = leaves.terms.exact t (built.range.terms p n t s at)
+are_good g wanted l built leaves p n (Non m s) at = (λ e. tt, λ e. refl)
+are_good g wanted l built leaves p n (Skip k) at = leaves.skips.exact k (built.range.skips p n k at)

@@ -1,0 +1,34 @@
+ghost use Rattle.std.specs.Prelude.{IfOk};
+ghost use Rattle.xs_gram.specs.Sound.{IsBuilt};
+ghost use Rattle.xs_order.specs.Order.{AreNullable, AreProductive};
+
+use crate::rules::made_nons;
+use crate::wanted::{Wanted, leaves_with};
+use std::alloc::Global;
+use xs_class::Memory;
+use xs_clauses::Flags;
+use xs_gram::Gram;
+
+/// Which nonterminals derive the empty word: a flag for each, by its number.
+///
+/// Takes time and memory linear in the items of the rules.
+pub fn nullable(alloc: Global, g: &Gram) -> Result<Flags, Memory>
+    requires { IsBuilt g.now }
+    ensures { IfOk result (AreNullable g.now) }
+{
+    let leaves = leaves_with(alloc, g, Wanted::EmptyWord)?;
+    let flags = made_nons(alloc, g, &leaves)?;
+    Ok(flags)
+}
+
+/// Which nonterminals derive a word: a flag for each, by its number.
+///
+/// Takes time and memory linear in the items of the rules and in the steps of the automata.
+pub fn productive(alloc: Global, g: &Gram) -> Result<Flags, Memory>
+    requires { IsBuilt g.now }
+    ensures { IfOk result (AreProductive g.now) }
+{
+    let leaves = leaves_with(alloc, g, Wanted::AnyWord)?;
+    let flags = made_nons(alloc, g, &leaves)?;
+    Ok(flags)
+}
