@@ -6,7 +6,7 @@ use Rattle.xs_sheet.specs.declared.piece.Piece.{Piece}
 use Rattle.xs_sheet.specs.declared.item.Item.TheVariants.{Fixed, Named, Skip}
 use Rattle.xs_sheet.specs.Outline.{nothing, element, ignorable, Outline}
 use Rattle.xs_sheet.specs.Pieces.{same}
-use Rattle.xs_sheet.specs.Machine.{is_kind, is_word, is_unit_name, is_name, is_regular, Head, with_unit, Opened, Inside, Place, left_side, inside, value, put, State, begin, versioned, started, units, named, equals, regular, normal, colon, at, square, square_name, square_slot, angle, attrs, attr_equals, closing, closed, Step, go, finish, refuse, go_if, outline_at, between, behind_pattern, closes, leaves, leave, with_attr, with_production, step, done, unfinished, follow, run}
+use Rattle.xs_sheet.specs.Machine.{is_kind, is_word, is_unit_name, is_name, is_regular, Head, with_unit, Opened, Inside, Site, left_side, inside, value, put, State, begin, versioned, started, units, named, equals, regular, normal, colon, at, square, square_name, square_slot, angle, attrs, attr_equals, closing, closed, Transition, go, finish, refuse, go_if, outline_at, between, after_pattern, closes, leaves, leave, with_attr, with_production, step, done, unfinished, follow, run}
 use Rattle.xs_sheet.proofs.Pieced.{IsEnding}
 use Rattle.xs_sheet.proofs.Whole.{done_inj, go_if_no, if_no, in_tag_no, closes_no}
 
@@ -90,7 +90,7 @@ leaves_ends : (c : Inside) (os : List Opened) (p : Piece) (o : Outline) → leav
 leaves_ends c [] p o e = between_ends (with_production c.draft c.so_far) p o e
 leaves_ends c (x ∷ os) p o e = absurd (cc)
 
-leave_ends : (pl : Place) (p : Piece) (o : Outline) → leave pl p ≡ finish o → is_kind p.kind End ≡ true
+leave_ends : (pl : Site) (p : Piece) (o : Outline) → leave pl p ≡ finish o → is_kind p.kind End ≡ true
 leave_ends (left_side h name line is) p o g = absurd (go_if_no (is_kind p.kind Equals) (at (inside (record { draft = record { head = h; name = name; line = line; left = is }; opens = []; so_far = nothing }))) o g)
 leave_ends (inside c) p o g = by (is_kind p.kind Angle) (is_kind p.kind AngleSlash) g
   where
@@ -108,7 +108,7 @@ finish_ends (started line) p o g = absurd (go_if_no (is_unit_name p) (units (rec
 finish_ends (units h) p o g = between_ends h p o g
 finish_ends (named h t line) p o g = absurd (go_if_no (is_unit_name p) (equals h t line p.text) o g)
 finish_ends (equals h t line name) p o g = absurd (go_if_no (is_kind p.kind Equals) (regular h t line name) o g)
-finish_ends (regular h t line name) p o g = absurd (go_if_no (is_regular p) (behind_pattern h t line name p) o g)
+finish_ends (regular h t line name) p o g = absurd (go_if_no (is_regular p) (after_pattern h t line name p) o g)
 finish_ends (normal h line name pattern) p o g = absurd (go_if_no (is_kind p.kind Quoted) (units (with_unit h (ignorable name pattern p.text line))) o g)
 finish_ends (colon h name line) p o g = absurd (go_if_no (is_kind p.kind Colon) (at (left_side h name line [])) o g)
 finish_ends (at pl) p o g = by (is_kind p.kind Quoted) (is_kind p.kind SquareIn) g
@@ -135,13 +135,13 @@ unfolding IsEnding
 never_unfinished [] s end is = end
 never_unfinished (p ∷ []) s end is = by (step s p) refl is
   where
-    by : (r : Step) → step s p ≡ r → follow r p (λ u. run u []) [] ≡ unfinished → ⊥
+    by : (r : Transition) → step s p ≡ r → follow r p (λ u. run u []) [] ≡ unfinished → ⊥
     by (go t) e f = last_stops s p t end e
     by (finish o) e f = cc
     by refuse e f = cc
 never_unfinished (p ∷ q ∷ qs) s end is = by (step s p) is (λ t e. never_unfinished (q ∷ qs) t end.1 e)
   where
-    by : (r : Step) → follow r p (λ u. run u (q ∷ qs)) (q ∷ qs) ≡ unfinished → ((t : State) → run t (q ∷ qs) ≡ unfinished → ⊥) → ⊥
+    by : (r : Transition) → follow r p (λ u. run u (q ∷ qs)) (q ∷ qs) ≡ unfinished → ((t : State) → run t (q ∷ qs) ≡ unfinished → ⊥) → ⊥
     by (go t) f again = again t f
     by (finish o) f again = cc
     by refuse f again = cc
@@ -151,13 +151,13 @@ unfolding IsEnding
 done_last [] s o rest end is = absurd end
 done_last (p ∷ []) s o rest end is = by (step s p) is
   where
-    by : (r : Step) → follow r p (λ u. run u []) [] ≡ done o rest → rest ≡ []
+    by : (r : Transition) → follow r p (λ u. run u []) [] ≡ done o rest → rest ≡ []
     by (go t) f = absurd (cc)
     by (finish q) f = sym (done_inj q o [] rest f).1
     by refuse f = absurd (cc)
 done_last (p ∷ q ∷ qs) s o rest end is = by (step s p) refl is (λ t e. done_last (q ∷ qs) t o rest end.1 e)
   where
-    by : (r : Step) → step s p ≡ r → follow r p (λ u. run u (q ∷ qs)) (q ∷ qs) ≡ done o rest → ((t : State) → run t (q ∷ qs) ≡ done o rest → rest ≡ []) → rest ≡ []
+    by : (r : Transition) → step s p ≡ r → follow r p (λ u. run u (q ∷ qs)) (q ∷ qs) ≡ done o rest → ((t : State) → run t (q ∷ qs) ≡ done o rest → rest ≡ []) → rest ≡ []
     by (go t) e f again = again t f
     by (finish x) e f again = absurd (not_both (is_kind p.kind End) (finish_ends s p x e) end.0)
     by refuse e f again = absurd (cc)

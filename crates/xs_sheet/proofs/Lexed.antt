@@ -217,7 +217,7 @@ word_scalars (sign Pattern) g = absurd g
 word_scalars (sign End) g = absurd g
 word_scalars (sign Bad) g = absurd g
 
--- the places of words behind one another, each behind one character, from a place on a line
+-- the places of words one after another, each after one character, from a place on a line
 abbrev pub lexeme : Written → ℕ → ℕ → Lexeme
 lexeme w at line = record { kind = kind_of w; word = spelling w; start = at; line = line }
 
@@ -225,7 +225,7 @@ abbrev pub lexemes : ℕ → ℕ → List Written → List Lexeme
 lexemes at line [] = []
 lexemes at line (w ∷ ws) = lexeme w (at + 1) line ∷ lexemes (at + 1 + size_of (spelling w)) line ws
 
--- the tokens of lines behind the end of one
+-- the tokens of lines after the end of one
 abbrev pub lines_lexemes : ℕ → ℕ → List (List Written) → List Lexeme
 lines_lexemes at line [] = record { kind = End; word = []; start = at + 1; line = line + 1 } ∷ []
 lines_lexemes at line (l ∷ ls) = lexemes at (line + 1) l ++ lines_lexemes (at + size_of (spaced l)) (line + 1) ls
@@ -272,7 +272,7 @@ size-append u v = ap length (encodes-append u v) ∙ length-append (encode_utf8_
 size_cons : (c : ℕ) (rest : List ℕ) → c < 128 → size_of (c ∷ rest) ≡ 1 + size_of rest
 size_cons c rest low = ap (λ (z : List ℕ). length (z ++ encode_utf8_all rest)) (encode_ascii c low) ∙ omega arith
 
--- behind one character of white space, and behind a word
+-- after one character of white space, and after a word
 left_sep : (x : Extent) (at line c : ℕ) (rest : List ℕ) → c < 128 → Left x at line (c ∷ rest) → Left x (at + 1) (if c == 10 then line + 1 else line) rest
 left_sep x at line c rest low left = record { size = size; lines = by (c == 10) left.lines }
   where
@@ -295,21 +295,21 @@ starts_white : (ws : List Written) (more : List ℕ) → StartsWhite (spaced ws 
 starts_white [] more = line_end_white
 starts_white (w ∷ ws) more = space_white
 
--- a word behind white space, and what follows it
+-- a word after white space, and what follows it
 spaced_token : (x : Extent) (c : ℕ) (w : Written) (after : List ℕ) (at line : ℕ) (ts : List Lexeme) → is_white c ≡ true → IsGood w → StartsWhite after → Left x at line (c ∷ (spelling w ++ after)) → AreTokensFrom x after ts → AreTokensFrom x (c ∷ (spelling w ++ after)) (lexeme w (at + 1) (if c == 10 then line + 1 else line) ∷ ts)
 spaced_token x c w after at line ts sep good starts left are =
     one_token x (c ∷ (spelling w ++ after)) after w (at + 1) (if c == 10 then line + 1 else line) ts good starts (apart_white c (spelling w ++ after) sep (begins w after good)) (left_sep x at line c (spelling w ++ after) (white_low c sep) left) are
 
--- the words of a line behind its first
+-- the words of a line after its first
 words_lexed : (x : Extent) (ws : List Written) (more : List ℕ) (at line : ℕ) (ts : List Lexeme) → AreGood ws → Left x at line (spaced ws ++ 10 ∷ more) → (Left x (at + size_of (spaced ws)) line (10 ∷ more) → AreTokensFrom x (10 ∷ more) ts) → AreTokensFrom x (spaced ws ++ 10 ∷ more) (lexemes at line ws ++ ts)
 words_lexed x [] more at line ts good left are = are (subst (λ (n : ℕ). Left x n line (10 ∷ more)) (omega arith) left)
 words_lexed x (w ∷ ws) more at line ts good left are =
     let after = spaced ws ++ 10 ∷ more in
     let grouped : (spelling w ++ spaced ws) ++ 10 ∷ more ≡ spelling w ++ after = append_assoc (spelling w) (spaced ws) (10 ∷ more) in
     let here : Left x at line (32 ∷ (spelling w ++ after)) = subst (λ (z : List ℕ). Left x at line (32 ∷ z)) grouped left in
-    let behind : Left x (at + 1 + size_of (spelling w)) line after = left_word x (at + 1) line (spelling w) after (one_line w good.0) (left_sep x at line 32 (spelling w ++ after) (omega arith) here) in
+    let next : Left x (at + 1 + size_of (spelling w)) line after = left_word x (at + 1) line (spelling w) after (one_line w good.0) (left_sep x at line 32 (spelling w ++ after) (omega arith) here) in
     let width : at + 1 + size_of (spelling w) + size_of (spaced ws) ≡ at + size_of (spaced (w ∷ ws)) = let a = size_cons 32 (spelling w ++ spaced ws) (omega arith) in let b = size-append (spelling w) (spaced ws) in omega arith in
-    let rest = words_lexed x ws more (at + 1 + size_of (spelling w)) line ts good.1 behind (λ l. are (subst (λ (n : ℕ). Left x n line (10 ∷ more)) width l)) in
+    let rest = words_lexed x ws more (at + 1 + size_of (spelling w)) line ts good.1 next (λ l. are (subst (λ (n : ℕ). Left x n line (10 ∷ more)) width l)) in
     subst (λ (z : List ℕ). AreTokensFrom x (32 ∷ z) (lexemes at line (w ∷ ws) ++ ts)) (sym grouped) (spaced_token x 32 w after at line (lexemes (at + 1 + size_of (spelling w)) line ws ++ ts) space_white good.0 (starts_white ws more) here rest)
 
 abbrev pub AreLines : List (List Written) → Type 0
@@ -330,10 +330,10 @@ lines_lexed x ((w ∷ ws) ∷ ls) at line whole good left =
     let after = spaced ws ++ 10 ∷ lines_text ls in
     let grouped : (spelling w ++ (spaced ws ++ 10 ∷ [])) ++ lines_text ls ≡ spelling w ++ after = append_assoc (spelling w) (spaced ws ++ 10 ∷ []) (lines_text ls) ∙ ap (λ (z : List ℕ). spelling w ++ z) (append_assoc (spaced ws) (10 ∷ []) (lines_text ls)) in
     let here : Left x at line (10 ∷ (spelling w ++ after)) = subst (λ (z : List ℕ). Left x at line (10 ∷ z)) grouped left in
-    let behind : Left x (at + 1 + size_of (spelling w)) (line + 1) after = left_word x (at + 1) (line + 1) (spelling w) after (one_line w good.0.0) (left_sep x at line 10 (spelling w ++ after) (omega arith) here) in
+    let next : Left x (at + 1 + size_of (spelling w)) (line + 1) after = left_word x (at + 1) (line + 1) (spelling w) after (one_line w good.0.0) (left_sep x at line 10 (spelling w ++ after) (omega arith) here) in
     let width : at + 1 + size_of (spelling w) + size_of (spaced ws) ≡ at + size_of (spaced (w ∷ ws)) = let a = size_cons 32 (spelling w ++ spaced ws) (omega arith) in let b = size-append (spelling w) (spaced ws) in omega arith in
     let ts = lines_lexemes (at + size_of (spaced (w ∷ ws))) (line + 1) ls in
-    let rest = words_lexed x ws (lines_text ls) (at + 1 + size_of (spelling w)) (line + 1) ts good.0.1 behind (λ l. lines_lexed x ls (at + size_of (spaced (w ∷ ws))) (line + 1) whole good.1 (subst (λ (n : ℕ). Left x n (line + 1) (10 ∷ lines_text ls)) width l)) in
+    let rest = words_lexed x ws (lines_text ls) (at + 1 + size_of (spelling w)) (line + 1) ts good.0.1 next (λ l. lines_lexed x ls (at + size_of (spaced (w ∷ ws))) (line + 1) whole good.1 (subst (λ (n : ℕ). Left x n (line + 1) (10 ∷ lines_text ls)) width l)) in
     subst (λ (z : List ℕ). AreTokensFrom x (10 ∷ z) (lines_lexemes at line ((w ∷ ws) ∷ ls))) (sym grouped) (spaced_token x 10 w after at line (lexemes (at + 1 + size_of (spelling w)) (line + 1) ws ++ ts) line_end_white good.0.0 (starts_white ws (lines_text ls)) here rest)
 
 -- a text whose first line is one word
@@ -350,8 +350,8 @@ text_lexed w ls good lines =
     let after = 10 ∷ lines_text ls in
     let grouped : text ≡ spelling w ++ after = append_assoc (spelling w) (10 ∷ []) (lines_text ls) in
     let here : Left x 0 1 (spelling w ++ after) = record { size = omega (arith, ap size_of (sym grouped)); lines = ap (λ (z : List ℕ). 1 + line_ends z) (sym grouped) } in
-    let behind : Left x (size_of (spelling w)) 1 after = subst (λ (n : ℕ). Left x n 1 after) (omega arith) (left_word x 0 1 (spelling w) after (one_line w good) here) in
-    subst (λ (z : List ℕ). AreTokensFrom x z (text_lexemes w ls)) (sym grouped) (one_token x (spelling w ++ after) after w 0 1 (lines_lexemes (size_of (spelling w)) 1 ls) good line_end_white (apart_none (spelling w ++ after) (begins w after good)) here (lines_lexed x ls (size_of (spelling w)) 1 refl lines behind))
+    let next : Left x (size_of (spelling w)) 1 after = subst (λ (n : ℕ). Left x n 1 after) (omega arith) (left_word x 0 1 (spelling w) after (one_line w good) here) in
+    subst (λ (z : List ℕ). AreTokensFrom x z (text_lexemes w ls)) (sym grouped) (one_token x (spelling w ++ after) after w 0 1 (lines_lexemes (size_of (spelling w)) 1 ls) good line_end_white (apart_none (spelling w ++ after) (begins w after good)) here (lines_lexed x ls (size_of (spelling w)) 1 refl lines next))
 
 -- its characters are characters
 spaced_scalars : (ws : List Written) → AreGood ws → all_scalars (spaced ws) ≡ true
