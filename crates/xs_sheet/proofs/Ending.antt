@@ -13,67 +13,51 @@ use Rattle.xs_sheet.proofs.Whole.{done_inj, go_if_no, if_no, in_tag_no, closes_n
 abbrev as_kind : Piece → Kind → Piece
 as_kind p k = record { kind = k; text = p.text; regular = p.regular; start = p.start; line = p.line }
 
-opens_stop : (c : Inside) (os : List Opened) (p : Piece) (t : State) → leaves c os (as_kind p End) ≡ go t → ⊥
-unfolding is_kind
-opens_stop c [] p t e = cc
-opens_stop c (o ∷ os) p t e = cc
+-- the kind of a last piece: that of the end, or that of a bad token
+abbrev last_kind : Bool → Kind
+last_kind true = End
+last_kind false = Bad
 
-opens_stop_bad : (c : Inside) (os : List Opened) (p : Piece) (t : State) → leaves c os (as_kind p Bad) ≡ go t → ⊥
+opens_stop : (c : Inside) (os : List Opened) (p : Piece) (b : Bool) (t : State) → leaves c os (as_kind p (last_kind b)) ≡ go t → ⊥
 unfolding is_kind
-opens_stop_bad c [] p t e = cc
-opens_stop_bad c (o ∷ os) p t e = cc
+opens_stop c [] p true t e = cc
+opens_stop c [] p false t e = cc
+opens_stop c (o ∷ os) p b t e = cc
 
-end_stops : (s : State) (p : Piece) (t : State) → step s (as_kind p End) ≡ go t → ⊥
-unfolding is_kind
-end_stops begin p t e = cc
-end_stops versioned p t e = cc
-end_stops (started line) p t e = cc
-end_stops (units h) p t e = cc
-end_stops (named h k line) p t e = cc
-end_stops (equals h k line name) p t e = cc
-end_stops (regular h k line name) p t e = cc
-end_stops (normal h line name pattern) p t e = cc
-end_stops (colon h name line) p t e = cc
-end_stops (at (left_side h name line is)) p t e = cc
-end_stops (at (inside c)) p t e = opens_stop c c.opens p t e
-end_stops (at (value c tag as_ name [])) p t e = cc
-end_stops (at (value c tag as_ name (i ∷ is))) p t e = cc
-end_stops (square pl) p t e = cc
-end_stops (square_name pl name) p t e = cc
-end_stops (square_slot pl name slot) p t e = cc
-end_stops (angle c) p t e = cc
-end_stops (attrs c tag as_) p t e = cc
-end_stops (attr_equals c tag as_ name) p t e = cc
-end_stops (closing d o os inner) p t e = cc
-end_stops (closed d o os inner) p t e = cc
+abbrev Stops : State → Piece → State → Bool → Type 0
+Stops s p t b = step s (as_kind p (last_kind b)) ≡ go t → ⊥
 
-bad_stops : (s : State) (p : Piece) (t : State) → step s (as_kind p Bad) ≡ go t → ⊥
+both : (Q : Bool → Type 0) → Q true → Q false → (b : Bool) → Q b
+both Q one other true = one
+both Q one other false = other
+
+stops : (s : State) (p : Piece) (t : State) (b : Bool) → Stops s p t b
 unfolding is_kind
-bad_stops begin p t e = cc
-bad_stops versioned p t e = cc
-bad_stops (started line) p t e = cc
-bad_stops (units h) p t e = cc
-bad_stops (named h k line) p t e = cc
-bad_stops (equals h k line name) p t e = cc
-bad_stops (regular h k line name) p t e = cc
-bad_stops (normal h line name pattern) p t e = cc
-bad_stops (colon h name line) p t e = cc
-bad_stops (at (left_side h name line is)) p t e = cc
-bad_stops (at (inside c)) p t e = opens_stop_bad c c.opens p t e
-bad_stops (at (value c tag as_ name [])) p t e = cc
-bad_stops (at (value c tag as_ name (i ∷ is))) p t e = cc
-bad_stops (square pl) p t e = cc
-bad_stops (square_name pl name) p t e = cc
-bad_stops (square_slot pl name slot) p t e = cc
-bad_stops (angle c) p t e = cc
-bad_stops (attrs c tag as_) p t e = cc
-bad_stops (attr_equals c tag as_ name) p t e = cc
-bad_stops (closing d o os inner) p t e = cc
-bad_stops (closed d o os inner) p t e = cc
+stops begin p t b = both (Stops begin p t) (λ e. cc) (λ e. cc) b
+stops versioned p t b = both (Stops versioned p t) (λ e. cc) (λ e. cc) b
+stops (started line) p t b = both (Stops (started line) p t) (λ e. cc) (λ e. cc) b
+stops (units h) p t b = both (Stops (units h) p t) (λ e. cc) (λ e. cc) b
+stops (named h k line) p t b = both (Stops (named h k line) p t) (λ e. cc) (λ e. cc) b
+stops (equals h k line name) p t b = both (Stops (equals h k line name) p t) (λ e. cc) (λ e. cc) b
+stops (regular h k line name) p t b = both (Stops (regular h k line name) p t) (λ e. cc) (λ e. cc) b
+stops (normal h line name pattern) p t b = both (Stops (normal h line name pattern) p t) (λ e. cc) (λ e. cc) b
+stops (colon h name line) p t b = both (Stops (colon h name line) p t) (λ e. cc) (λ e. cc) b
+stops (at (left_side h name line is)) p t b = both (Stops (at (left_side h name line is)) p t) (λ e. cc) (λ e. cc) b
+stops (at (inside c)) p t b = both (Stops (at (inside c)) p t) (λ e. opens_stop c c.opens p true t e) (λ e. opens_stop c c.opens p false t e) b
+stops (at (value c tag as_ name [])) p t b = both (Stops (at (value c tag as_ name [])) p t) (λ e. cc) (λ e. cc) b
+stops (at (value c tag as_ name (i ∷ is))) p t b = both (Stops (at (value c tag as_ name (i ∷ is))) p t) (λ e. cc) (λ e. cc) b
+stops (square pl) p t b = both (Stops (square pl) p t) (λ e. cc) (λ e. cc) b
+stops (square_name pl name) p t b = both (Stops (square_name pl name) p t) (λ e. cc) (λ e. cc) b
+stops (square_slot pl name slot) p t b = both (Stops (square_slot pl name slot) p t) (λ e. cc) (λ e. cc) b
+stops (angle c) p t b = both (Stops (angle c) p t) (λ e. cc) (λ e. cc) b
+stops (attrs c tag as_) p t b = both (Stops (attrs c tag as_) p t) (λ e. cc) (λ e. cc) b
+stops (attr_equals c tag as_ name) p t b = both (Stops (attr_equals c tag as_ name) p t) (λ e. cc) (λ e. cc) b
+stops (closing d o os inner) p t b = both (Stops (closing d o os inner) p t) (λ e. cc) (λ e. cc) b
+stops (closed d o os inner) p t b = both (Stops (closed d o os inner) p t) (λ e. cc) (λ e. cc) b
 
 last_stops : (s : State) (p : Piece) (t : State) → (p.kind ≡ End) ⊎ (p.kind ≡ Bad) → step s p ≡ go t → ⊥
-last_stops s p t (inl k) e = end_stops s p t (subst (λ (z : Kind). step s (as_kind p z) ≡ go t) k e)
-last_stops s p t (inr k) e = bad_stops s p t (subst (λ (z : Kind). step s (as_kind p z) ≡ go t) k e)
+last_stops s p t (inl k) e = stops s p t true (subst (λ (z : Kind). step s (as_kind p z) ≡ go t) k e)
+last_stops s p t (inr k) e = stops s p t false (subst (λ (z : Kind). step s (as_kind p z) ≡ go t) k e)
 
 -- only the end of a file finishes
 between_ends : (h : Head) (p : Piece) (o : Outline) → between h p ≡ finish o → is_kind p.kind End ≡ true

@@ -16,7 +16,7 @@ use Rattle.xs_lex.proofs.Truth.{and_true, both_true, not_true, no_other, white_e
 use Rattle.xs_lex.proofs.TokenLaws.{nothing_is, separated}
 use Rattle.xs_regex.specs.declared.regex.Regex.{Regex}
 use Rattle.xs_sheet.specs.Regular.{IsRegex}
-use Rattle.xs_sheet.specs.Layout.{Written, as_is, in_quotes, in_slashes, sign, spelling, spaced, lines_text}
+use Rattle.xs_sheet.specs.Layout.{sign_spelling, Written, as_is, in_quotes, in_slashes, sign, spelling, spaced, lines_text}
 use Rattle.xs_sheet.proofs.Escapes.{line_ends-append, scalars-append, quoted_is, quoted_one_line, quoted_scalars}
 
 abbrev pub kind_if : Bool → Kind
@@ -70,6 +70,23 @@ pub good-append : (a b : List Written) → AreGood a → AreGood b → AreGood (
 good-append [] b x y = y
 good-append (w ∷ ws) b x y = (x.0, good-append ws b x.1 y)
 
+-- what holds of each sign holds of a kind that is one
+by_sign_kind : (Q : Kind → Type 0) → Q Colon → Q Equals → Q SquareIn → Q SquareOut → Q Angle → Q AngleSlash → Q AngleEnd → Q SlashEnd → (k : Kind) → IsSign k → Q k
+by_sign_kind Q c e si so a as_ ae se Colon g = c
+by_sign_kind Q c e si so a as_ ae se Equals g = e
+by_sign_kind Q c e si so a as_ ae se SquareIn g = si
+by_sign_kind Q c e si so a as_ ae se SquareOut g = so
+by_sign_kind Q c e si so a as_ ae se Angle g = a
+by_sign_kind Q c e si so a as_ ae se AngleSlash g = as_
+by_sign_kind Q c e si so a as_ ae se AngleEnd g = ae
+by_sign_kind Q c e si so a as_ ae se SlashEnd g = se
+by_sign_kind Q c e si so a as_ ae se Plain g = absurd g
+by_sign_kind Q c e si so a as_ ae se Qual g = absurd g
+by_sign_kind Q c e si so a as_ ae se Quoted g = absurd g
+by_sign_kind Q c e si so a as_ ae se Pattern g = absurd g
+by_sign_kind Q c e si so a as_ ae se End g = absurd g
+by_sign_kind Q c e si so a as_ ae se Bad g = absurd g
+
 -- its kind spells it
 name_spelt : (t : Bool) (w : List ℕ) → is_plain w ≡ t → (is_plain w ≡ true) ⊎ IsQual w → Spells (kind_if t) w
 name_spelt true w e g = e
@@ -80,20 +97,7 @@ pub spells : (w : Written) → IsGood w → Spells (kind_of w) (spelling w)
 spells (as_is w) g = name_spelt (is_plain w) w refl g.0
 spells (in_quotes text) g = (text, quoted_is text)
 spells (in_slashes inner) g = (inner, g.0)
-spells (sign Colon) g = refl
-spells (sign Equals) g = refl
-spells (sign SquareIn) g = refl
-spells (sign SquareOut) g = refl
-spells (sign Angle) g = refl
-spells (sign AngleSlash) g = refl
-spells (sign AngleEnd) g = refl
-spells (sign SlashEnd) g = refl
-spells (sign Plain) g = absurd g
-spells (sign Qual) g = absurd g
-spells (sign Quoted) g = absurd g
-spells (sign Pattern) g = absurd g
-spells (sign End) g = absurd g
-spells (sign Bad) g = absurd g
+spells (sign k) g = by_sign_kind (λ k. Spells k (sign_spelling k)) refl refl refl refl refl refl refl refl k g
 
 -- it begins with no space and no comment
 hash_out : is_plain_start 35 ≡ false
@@ -123,20 +127,7 @@ begins (as_is w) rest g = by g.0
     by (inr q) = qual_begins w rest q.prefix q.local q.is q.plain_prefix
 begins (in_quotes text) rest g = refl
 begins (in_slashes inner) rest g = refl
-begins (sign Colon) rest g = refl
-begins (sign Equals) rest g = refl
-begins (sign SquareIn) rest g = refl
-begins (sign SquareOut) rest g = refl
-begins (sign Angle) rest g = refl
-begins (sign AngleSlash) rest g = refl
-begins (sign AngleEnd) rest g = refl
-begins (sign SlashEnd) rest g = refl
-begins (sign Plain) rest g = absurd g
-begins (sign Qual) rest g = absurd g
-begins (sign Quoted) rest g = absurd g
-begins (sign Pattern) rest g = absurd g
-begins (sign End) rest g = absurd g
-begins (sign Bad) rest g = absurd g
+begins (sign k) rest g = by_sign_kind (λ k. begins_blank (sign_spelling k ++ rest) ≡ false) refl refl refl refl refl refl refl refl k g
 
 -- it has no LF
 end_out : is_plain_char 10 ≡ false
@@ -182,40 +173,14 @@ one_line (as_is w) g = by g.0
     by (inr q) = qual_one_line w q.prefix q.local q.is q.plain_prefix q.plain_local
 one_line (in_quotes text) g = quoted_one_line text
 one_line (in_slashes inner) g = pattern_one_line (slashed inner) inner g.0
-one_line (sign Colon) g = refl
-one_line (sign Equals) g = refl
-one_line (sign SquareIn) g = refl
-one_line (sign SquareOut) g = refl
-one_line (sign Angle) g = refl
-one_line (sign AngleSlash) g = refl
-one_line (sign AngleEnd) g = refl
-one_line (sign SlashEnd) g = refl
-one_line (sign Plain) g = absurd g
-one_line (sign Qual) g = absurd g
-one_line (sign Quoted) g = absurd g
-one_line (sign Pattern) g = absurd g
-one_line (sign End) g = absurd g
-one_line (sign Bad) g = absurd g
+one_line (sign k) g = by_sign_kind (λ k. line_ends (sign_spelling k) ≡ 0) refl refl refl refl refl refl refl refl k g
 
 -- its characters are characters
 pub word_scalars : (w : Written) → IsGood w → all_scalars (spelling w) ≡ true
 word_scalars (as_is w) g = g.1
 word_scalars (in_quotes text) g = quoted_scalars text g
 word_scalars (in_slashes inner) g = scalars-append inner (47 ∷ []) g.2 refl
-word_scalars (sign Colon) g = refl
-word_scalars (sign Equals) g = refl
-word_scalars (sign SquareIn) g = refl
-word_scalars (sign SquareOut) g = refl
-word_scalars (sign Angle) g = refl
-word_scalars (sign AngleSlash) g = refl
-word_scalars (sign AngleEnd) g = refl
-word_scalars (sign SlashEnd) g = refl
-word_scalars (sign Plain) g = absurd g
-word_scalars (sign Qual) g = absurd g
-word_scalars (sign Quoted) g = absurd g
-word_scalars (sign Pattern) g = absurd g
-word_scalars (sign End) g = absurd g
-word_scalars (sign Bad) g = absurd g
+word_scalars (sign k) g = by_sign_kind (λ k. all_scalars (sign_spelling k) ≡ true) refl refl refl refl refl refl refl refl k g
 
 -- the places of words one after another, each after one character, from a place on a line
 abbrev pub lexeme : Written → ℕ → ℕ → Lexeme
