@@ -11,7 +11,7 @@ use Rattle.xs_gram.specs.Loose.{IsLoose}
 use Rattle.xs_loose.specs.Arcs.{NetArc, by_move, by_edge, Arc, of_net, of_link, Path, IsLink, IsLinkArc, Adds, NetGrows, DraftGrows, NoArc, Below}
 use Rattle.xs_loose.specs.Laying.{HasTables, IsDraftOf}
 use Rattle.xs_loose.specs.Parts.{IsPart, part_items}
-use Rattle.xs_loose.proofs.Growing.{same_arcs, with_links}
+use Rattle.xs_loose.proofs.NetGrowth.{same_arcs, with_links}
 use Rattle.xs_loose.proofs.Outlines.{link_over, IsOver, part_count, outline_words}
 
 -- links over the first items of a part, up to a number
