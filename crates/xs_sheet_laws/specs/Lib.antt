@@ -1,0 +1,3 @@
+pub mod Regexes
+pub mod Grammars
+pub mod Meanings
