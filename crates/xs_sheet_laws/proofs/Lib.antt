@@ -4,3 +4,8 @@ pub mod LooseKept
 pub mod Weighed
 pub mod Checked
 pub mod Alike
+pub mod Contents
+pub mod Twins
+pub mod Sheets
+pub mod Pairs
+pub mod Failing

@@ -10,6 +10,23 @@
 #![tactic(auto)]
 
 ghost use Rattle.xs_sheet_laws.specs.Meanings.{AlikeMeanTheSame, AlikeAreCheckedAlike};
+ghost use Rattle.xs_sheet_laws.specs.Laws.{OneSheet, AlikeSheetsMeanTheSame, OnePair};
+
+/// Two sheets of the same bytes are alike.
+pub fn one_sheet()
+    ensures { OneSheet }
+{}
+
+/// Sheets that are alike are well formed alike, or fail the same rule first, and have the same pairs
+/// of grammars.
+pub fn alike_sheets_mean_the_same()
+    ensures { AlikeSheetsMeanTheSame }
+{}
+
+/// Two pairs of grammars of one sheet are alike.
+pub fn one_pair()
+    ensures { OnePair }
+{}
 
 /// Grammars that are alike have the same derivations, trees, words and suspects.
 pub fn alike_mean_the_same()
