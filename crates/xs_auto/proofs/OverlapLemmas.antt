@@ -80,16 +80,20 @@ overlap a b r place symbol front middle rest end crossing turn h ends t at u cro
       long_rest = record { first = h.start; last = ends.end.first; starts = h.starts; walks = walks_on a_rest y_long; final = ends.first };
     }
 
--- the step at a trace's seed
+-- the pair at a trace's seed
 pub at_seed : (m n : Graph) (l : Layer) (place : ℕ) (t : Trace) (s : ReachedPair) → IsTrace m n l place t → s ≡ get_or l.steps.items t.seed s → IsAt l.steps.items t.seed s
 at_seed m n l place t s h e = read_at l.steps.items t.seed s (slice_get_within l.steps.items t.seed h.traced.first h.traced.begins) e
 
--- the step before a crossing
-pub crossed_at : (a b : Graph) (turns : List ReachedPair) (crossing turn : ReachedPair) → CrossesFrom a b turns crossing → turn ≡ get_or turns crossing.from turn → (IsAt turns crossing.from turn) × Crosses a b turn.first turn.second crossing.first crossing.second
+-- the pair before a crossing
+crossed_at : (a b : Graph) (turns : List ReachedPair) (crossing turn : ReachedPair) → CrossesFrom a b turns crossing → turn ≡ get_or turns crossing.from turn → (IsAt turns crossing.from turn) × Crosses a b turn.first turn.second crossing.first crossing.second
 crossed_at a b turns crossing turn c e =
     let at = read_at turns crossing.from turn (slice_get_within turns crossing.from c.before c.at) e in
     let same : c.before ≡ turn = some_same c.at at in
     (at, rw same at c.crosses)
+
+-- the same at the seed of a trace through the middles
+pub crossed_from : (a b : Graph) (r : Reached) (place : ℕ) (t : Trace) (crossing turn : ReachedPair) → AreReached a b r → IsTrace a b r.middles place t → crossing ≡ get_or r.middles.steps.items t.seed crossing → turn ≡ get_or r.turns.steps.items crossing.from turn → (IsAt r.turns.steps.items crossing.from turn) × Crosses a b turn.first turn.second crossing.first crossing.second
+crossed_from a b r place t crossing turn reached trace is was = crossed_at a b r.turns.steps.items crossing turn (reached.middles.seeded t.seed crossing trace.seed (at_seed a b r.middles place t crossing trace is)) was
 
 pub some_unless : {X : Type 0} {P : Type 0} (o : Option X) → IfNone o (P → ⊥) → P → IsSome o
 some_unless None h p = absurd (h p)

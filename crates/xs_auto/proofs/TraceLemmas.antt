@@ -1,5 +1,5 @@
 -- Words that are read back along the links of steps.
-use Rattle.std.proofs.Common.{◌≡◌, ℕ, ◌+◌, ◌<◌, List, [], ◌∷◌, ◌++◌, length, get_or, take, sym, ◌∙◌, inl, inr, arith, reverse, false}
+use Rattle.std.proofs.Common.{◌≡◌, ℕ, ◌+◌, ◌<◌, ◌≤◌, List, [], ◌∷◌, ◌++◌, length, get_or, take, sym, ◌∙◌, inl, inr, arith, reverse, false}
 use Rattle.std.specs.declared.option.Option.{Option}
 use Rattle.std.specs.declared.option.Option.TheVariants.{Some, None}
 use Rattle.std.specs.Option.{is_some, IfSome, IfNone}
@@ -11,8 +11,9 @@ use Rattle.xs_class.specs.Classes.{Has}
 use Rattle.xs_auto.specs.declared.edge.Edge.{Edge}
 use Rattle.xs_auto.specs.declared.reached_pair.ReachedPair.{ReachedPair}
 use Rattle.xs_auto.specs.Nets.{Graph, edges_of, Walks, rests, passes, reads}
-use Rattle.xs_auto.specs.Searches.{IsAt, ReadsBoth, Crosses, ReadsWith, IsLink}
+use Rattle.xs_auto.specs.Searches.{IsAt, ReadsBoth, Crosses, ReadsWith, IsLink, IsChained}
 use Rattle.xs_auto.specs.Traces.{IsTraced}
+use Rattle.xs_auto.proofs.SpreadLemmas.{read_at}
 
 -- of no edges none reads, of one more only that one may
 pub with_none : (e : Edge) (to x : ℕ) → ReadsWith e [] to x → ⊥
@@ -85,6 +86,20 @@ traced_move {m} {n} {steps} {at} {place} {from} {w} s p here up link is none t =
       ]
       | inr c ↦ absurd (none c)
     ]
+
+-- the pair at a place, the one that it was reached from, and where both are
+pub record IsStepped (m n : Graph) (steps : List ReachedPair) (at : ℕ) (s p : ReachedPair) : Type 0 where
+  pub here : IsAt steps at s
+  pub link : IsLink m n steps at s
+  pub within : s.from < length steps
+  pub up : IsAt steps s.from p
+
+pub stepped : {m n : Graph} {seeds at : ℕ} {steps : List ReachedPair} (s p : ReachedPair) → IsChained m n seeds steps → seeds ≤ at → at < length steps → s ≡ get_or steps at s → p ≡ get_or steps s.from p → IsStepped m n steps at s p
+stepped {at = at} {steps = steps} s p chained from l e f =
+    let here = read_at steps at s l e in
+    let link = chained at s from here in
+    let within : s.from < length steps = omega (arith, link.earlier) in
+    record { here = here; link = link; within = within; up = read_at steps s.from p within f }
 
 -- a symbol is pushed after the symbols that are read in reverse
 pub reverse_push : (xs : List ℕ) (x : ℕ) → reverse (xs ++ x ∷ []) ≡ x ∷ reverse xs

@@ -16,9 +16,9 @@ mod meet;
 mod net;
 mod overlap;
 mod pairs;
+mod reached_pair;
 mod seeds;
 mod spread;
-mod reached_pair;
 mod trace;
 
 pub use edge::Edge;

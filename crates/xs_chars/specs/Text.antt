@@ -4,6 +4,10 @@ use Rattle.std.specs.Str.{chars, IsUtf8, all_scalars}
 use Rattle.xs_chars.specs.declared.form.Form.{Form}
 use Rattle.xs_chars.specs.Forms.{in_form}
 
+-- no text is read that has that many symbols, so that each place in one has a number of 32 bits
+abbrev pub symbol_limit : ℕ
+symbol_limit = 4294967295
+
 -- each symbol is a character: a Unicode scalar value
 abbrev pub AreCharacters : List ℕ → Type 0
 AreCharacters w = all_scalars w ≡ true

@@ -1,7 +1,7 @@
 ghost use Rattle.std.specs.Prelude.{◌≡◌, ◌<◌, length, IfOk, string_bytes, encode_utf8_all};
 ghost use Rattle.std.specs.Str.{chars};
 ghost use Rattle.xs_chars.specs.Forms.{in_form};
-ghost use Rattle.xs_chars.specs.Text.{AreCharacters};
+ghost use Rattle.xs_chars.specs.Text.{symbol_limit, AreCharacters};
 
 use crate::strings::{string_of, word_of};
 use std::alloc::Global;
@@ -35,7 +35,7 @@ pub fn formed(alloc: Global, symbols: &[Sym], form: Form) -> Result<Word, Memory
     requires { AreCharacters symbols.now }
     ensures form { IfOk result (λ w. w ≡ in_form form symbols.now) }
     ensures characters { IfOk result AreCharacters }
-    ensures short { IfOk result (λ w. length w < 4294967295) }
+    ensures short { IfOk result (λ w. length w < symbol_limit) }
 {
     let text = string_of(alloc, symbols)?;
     let changed = text_in_form(alloc, text, form)?;
@@ -52,7 +52,7 @@ pub fn in_form(alloc: Global, word: &Word, form: Form) -> Result<Word, Memory>
     requires { AreCharacters word.now }
     ensures form { IfOk result (λ w. w ≡ in_form form word.now) }
     ensures characters { IfOk result AreCharacters }
-    ensures short { IfOk result (λ w. length w < 4294967295) }
+    ensures short { IfOk result (λ w. length w < symbol_limit) }
 {
     formed(alloc, word.as_slice(), form)
 }

@@ -1,15 +1,14 @@
 ghost use Rattle.std.specs.Prelude.{◌≡◌, ◌<◌, length, IfOk, IfErr};
 ghost use Rattle.std.specs.Str.{chars, IsUtf8};
-ghost use Rattle.xs_chars.specs.Text.{text_of, without_mark, AreCharacters};
+ghost use Rattle.xs_chars.specs.Text.{symbol_limit, text_of, without_mark, AreCharacters};
 ghost use Rattle.xs_chars.specs.Laws.{IsFault};
 
 use crate::form::{Form, formed};
 use crate::strings::word_of;
+use crate::writing::BYTE_ORDER_MARK;
 use std::alloc::Global;
 use std::str;
 use xs_class::{Memory, Sym, Word};
-
-const BYTE_ORDER_MARK: u32 = 0xFEFF;
 
 /// Why bytes are not decoded.
 #[derive(Clone, Copy, Debug, PartialEq, Eq)]
@@ -53,7 +52,7 @@ fn after_mark(symbols: &[Sym]) -> &[Sym]
         return symbols;
     }
     let first: &Sym = &symbols[0];
-    if first.number() == BYTE_ORDER_MARK {
+    if first.number() == BYTE_ORDER_MARK as u32 {
         return &symbols[1..];
     }
     symbols
@@ -65,7 +64,7 @@ pub fn read_text(alloc: Global, bytes: &[u8], form: Form) -> Result<Word, Decode
     ensures ok { IfOk result (λ w. IsUtf8 bytes.now × (w ≡ text_of bytes.now form)) }
     ensures fault { IfErr result (IsFault bytes.now) }
     ensures characters { IfOk result AreCharacters }
-    ensures short { IfOk result (λ w. length w < 4294967295) }
+    ensures short { IfOk result (λ w. length w < symbol_limit) }
 {
     let word = decode(alloc, bytes)?;
     Ok(formed(alloc, after_mark(word.as_slice()), form)?)

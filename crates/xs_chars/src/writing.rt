@@ -5,7 +5,8 @@ use crate::strings::{push_all, string_of};
 use std::alloc::Global;
 use xs_class::{Bytes, Memory, Sym, Word};
 
-const BYTE_ORDER_MARK: char = '\u{FEFF}';
+/// The mark U+FEFF, which may stand at the very front of a text.
+pub const BYTE_ORDER_MARK: char = '\u{FEFF}';
 
 /// The UTF-8 of a word of characters, in time linear in it.
 pub fn encode(alloc: Global, word: &Word) -> Result<Bytes, Memory>

@@ -8,7 +8,7 @@ use Rattle.xs_xml.specs.Reads.{value}
 use Rattle.xs_xml.specs.Scan.{span, after, cut, ◌>>=◌, bit_if, as_ref, bit_at, bits_at, more, attr_if, as_attr, attr_quote, attr_right, attr_at, attrs_at}
 use Rattle.xs_xml.proofs.Steps.{run_all}
 use Rattle.xs_xml.proofs.Tags.{attr_long}
-use Rattle.xs_xml.proofs.Tagsound.{attr_sound}
+use Rattle.xs_xml.proofs.TagSoundness.{attr_sound}
 use Rattle.xs_form.specs.Values.{all_written}
 use Rattle.xs_form.specs.Attributes.{Held, held, kept_attribute, Head, is_empty, head_quote, head_right, head_at}
 use Rattle.xs_class.proofs.Truth.{both_true}

@@ -36,3 +36,7 @@ name_scalars (c ∷ cs) all = let p = and_true (is_name_char c) (all_of is_name_
 -- a Name is read back from its UTF-8
 pub name_back : (n : List ℕ) → is_name n ≡ true → chars (encode_utf8_all n) ≡ n
 name_back n is = chars-encodes n (name_scalars n (name_chars n is))
+
+-- so a mark of a name by its UTF-8 is the mark of the name
+pub mark_back : (mark : List ℕ → ℕ) (m : ℕ) (text spelled n : List ℕ) → m ≡ mark (chars text) → text ≡ spelled → spelled ≡ encode_utf8_all n → is_name n ≡ true → m ≡ mark n
+mark_back mark m text spelled n by_text same_text is_spelled is = by_text ∙ ap (λ (x : List ℕ). mark (chars x)) (same_text ∙ is_spelled) ∙ ap mark (name_back n is)

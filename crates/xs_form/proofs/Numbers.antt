@@ -4,6 +4,9 @@ use Rattle.std.proofs.Math.Nat.{mul-le-mul_left}
 use Rattle.std.proofs.lemmas.Bool.Decides.{nat_tests}
 use Rattle.xs_xml.specs.Tables.{is_char, is_hex, is_digit}
 use Rattle.xs_xml.specs.Piece.{number, hex_value, when, all_of}
+use Rattle.xs_form.specs.declared.references.Base.{Base}
+use Rattle.xs_form.specs.declared.references.Base.TheVariants.{Decimal, Hexadecimal}
+use Rattle.xs_form.specs.Digits.{is_digit_of}
 
 pub hex_low : (c : ℕ) → is_hex c ≡ true → 48 ≤ c
 unfolding is_hex
@@ -17,9 +20,13 @@ pub hex_high : (c : ℕ) → is_hex c ≡ true → 70 < c → (97 ≤ c) × (c �
 unfolding is_hex
 hex_high c is above = (grind (arith, nat_tests, is), grind (arith, nat_tests, is))
 
-pub digit_hex : (c : ℕ) → is_digit c ≡ true → is_hex c ≡ true
+digit_hex : (c : ℕ) → is_digit c ≡ true → is_hex c ≡ true
 unfolding is_hex is_digit
 digit_hex c is = grind (arith, nat_tests, is)
+
+pub digit_of_hex : (base : Base) (c : ℕ) → is_digit_of base c ≡ true → is_hex c ≡ true
+digit_of_hex Decimal c is = digit_hex c is
+digit_of_hex Hexadecimal c is = is
 
 grown : (b h x : ℕ) → 1 ≤ b → 1114112 ≤ x → min (x * b + h) 1114112 ≡ min (1114112 * b + h) 1114112
 grown b h x one large =

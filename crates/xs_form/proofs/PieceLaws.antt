@@ -6,13 +6,13 @@ use Rattle.std.proofs.lemmas.Bool.Decides.{nat_tests}
 use Rattle.xs_xml.specs.Tables.{is_char, is_white, is_name_char}
 use Rattle.xs_xml.specs.Piece.{Piece, Attribute, character, line_end, start_tag, empty_tag, is_piece, is_name, all_of, starts, ends_not, same, lower, is_apart, are_attributes, distinct}
 use Rattle.xs_xml.specs.Scan.{after, span, cut, joined, ◌>>=◌, kept, char_at, end_at, in_cdata, in_comment, attrs_at, tag_end, tag_name, tag_at}
-use Rattle.xs_xml.proofs.Sound.{cut_is}
+use Rattle.xs_class.proofs.Lists.{some_inj}
+use Rattle.xs_xml.proofs.PieceSoundness.{cut_is}
 use Rattle.xs_xml.proofs.Steps.{run_all, cut_free}
 use Rattle.xs_form.specs.Attributes.{Held, held}
 use Rattle.xs_form.specs.Sorted.{held_distinct, held_in_order, keyed, sorted_entries}
 use Rattle.xs_form.specs.Seen.{Seen, found, ends, letter, aside, section, past_feed, instruction_body, tag_ends, empty_end, made}
 use Rattle.xs_form.proofs.SortedLaws.{held_is_distinct}
-use Rattle.xs_class.proofs.Lists.{some_inj}
 
 -- a line end
 pub return_is : (rest : List ℕ) → option_map found (char_at 13 rest) ≡ Some (letter 10, past_feed rest)
@@ -103,6 +103,10 @@ tag_is text n more list rest gap last o e e1 e2 e3 are e4 is e5 e6 =
     ∙ ap (tag_made n (map held a.0)) e5
     ∙ rw (held_is_distinct a.0) (sym there)
     ∙ ap (option_map found) (sym here)
+
+-- a tag by whether its end is that of an empty tag
+pub tag_ended : (text n more : List ℕ) (list : List Held) (rest gap last left : List ℕ) (o : Option (List (List ℕ × List ℕ))) (b t : Bool) → (n, more) ≡ span is_name_char text → list ≡ map held (attrs_at (length more) more).0 → rest ≡ (attrs_at (length more) more).1 → are_attributes (attrs_at (length more) more).0 ≡ true → (gap, last) ≡ span is_white rest → is_name n ≡ true → Some (b, left) ≡ tag_ends last → o ≡ sorted_entries list → b ≡ t → made_of n o (Some (t, left)) ≡ option_map found (tag_at text)
+tag_ended text n more list rest gap last left o b t e1 e2 e3 are e4 is e5 e6 e = subst (λ (x : Bool). made_of n o (Some (x, left)) ≡ option_map found (tag_at text)) e (tag_is text n more list rest gap last o (Some (b, left)) e1 e2 e3 are e4 is e5 e6)
 
 -- an instruction
 pub instruction_found : (n text body rest : List ℕ) → Some (body, rest) ≡ cut (codes "?>") text → is_name n ≡ true → same (map lower n) (codes "xml") ≡ false → is_apart body ≡ true → all_of is_char body ≡ true → Some (aside, rest) ≡ option_map found (instruction_body n text)

@@ -2,24 +2,26 @@
 use Rattle.std.proofs.Common.{◌≡◌, ℕ, ◌≤◌, ◌<◌, List, [], ◌∷◌, ◌++◌, length, Bool, true, false, not, ◌==◌, ◌&&◌, ◌||◌, if◌then◌else◌, Some, None, refl, sym, ◌∙◌, ap, subst, arith}
 use Rattle.std.specs.declared.option.Option.{Option}
 use Rattle.std.specs.Option.{option_map}
+use Rattle.std.specs.Borrow.{Bor}
 use Rattle.std.proofs.lemmas.Bool.Decides.{nat_tests}
 use Rattle.xs_xml.specs.Piece.{Piece, is_piece}
 use Rattle.xs_xml.specs.Legal.{Spot, ahead, inside, beyond, is_first, passed, then_passed, is_that, no_section_end, IsLegal}
 use Rattle.xs_xml.specs.Reads.{symbols, all_symbols, Reads}
 use Rattle.xs_xml.specs.Scan.{piece_at}
-use Rattle.xs_xml.proofs.Tagsound.{read_is_spelt}
+use Rattle.xs_class.proofs.Truth.{and_true, or_false, not_true, both_true}
+use Rattle.xs_class.proofs.Lists.{some_inj}
+use Rattle.xs_xml.proofs.TagSoundness.{read_is_spelt}
 use Rattle.xs_xml.proofs.Greatest.{IsStuck, all_long, piece_long, stuck_is_broken}
 use Rattle.xs_xml.proofs.Stuck.{stuck_unless, reads_whole}
 use Rattle.xs_xml.proofs.More.{legal_more, passed_append}
 use Rattle.xs_form.specs.declared.document.XmlFault.{XmlFault}
 use Rattle.xs_form.specs.declared.document.XmlFault.TheVariants.{NotXml, Memory}
 use Rattle.xs_form.specs.Fault.{IsFault, IsAt}
-use Rattle.xs_form.specs.Seen.{Seen, seen, found}
+use Rattle.xs_form.specs.declared.pieces.Event.{Event}
+use Rattle.xs_form.specs.Seen.{Seen, seen, found, shown_event, shown_found}
 use Rattle.xs_form.specs.State.{State, initial, moved, step, ended_word, is_named}
 use Rattle.xs_form.proofs.RuleLaws.{is_declaration, is_nil, first_more, run_after, run_of, section_more, run_more, nil_more, symbols_more}
 use Rattle.xs_form.proofs.StepLaws.{is_refused, next, step_is, piece_named}
-use Rattle.xs_class.proofs.Truth.{and_true, both_true, not_true, or_false}
-use Rattle.xs_class.proofs.Lists.{some_inj}
 
 -- a legal list was read up to rest, and the state is that after it
 pub record IsSoFar (names : List (List ℕ)) (doc rest : List ℕ) (st : State) : Type 0 where
@@ -61,6 +63,10 @@ piece_of rest more s is = by (piece_at rest) refl is
           is = (read_is_spelt rest r at).is;
           kept = e.0;
         }
+
+-- what the code has found, as a thing that is kept
+pub event_is : (o : Option (Event × Bor (List ℕ))) (event : Event) (more : Bor (List ℕ)) (rest : List ℕ) → o ≡ Some (event, more) → option_map shown_found o ≡ option_map found (piece_at rest) → Some (shown_event event, more.now) ≡ option_map found (piece_at rest)
+event_is o event more rest is kept = ap (option_map shown_found) (sym is) ∙ kept
 
 pub event_named : (rest more : List ℕ) (s : Seen) → Some (s, more) ≡ option_map found (piece_at rest) → is_named s ≡ true
 event_named rest more s is = let p = piece_of rest more s is in ap is_named p.kept ∙ piece_named p.piece p.is
@@ -146,6 +152,9 @@ piece_refused names doc rest more st s so is refused = stuck_unless doc so.piece
         none_moved t (symbols names st.spot q) (run_after st.run q) (n ∙ rw (l.1, l.0) refl)
 
 -- what is said where nothing goes on the list
+pub at_doc : (whole doc rest : List ℕ) (e : XmlFault) → whole ≡ doc → IsAt e (length whole) (length rest) → IsAt e (length doc) (length rest)
+at_doc whole doc rest e same at = subst (λ (x : List ℕ). IsAt e (length x) (length rest)) same at
+
 pub broken_of : (names : List (List ℕ)) (doc rest : List ℕ) (st : State) (e : XmlFault) (so : IsSoFar names doc rest st) → IsStuck doc so.pieces → (rest ≡ [] → st.spot ≡ beyond → ⊥) → IsAt e (length doc) (length rest) → IsFault names doc e
 broken_of names doc rest st (NotXml at) so stuck unread is = (
   λ w r. let whole = reads_whole names doc w so.pieces rest st.spot so.legal stuck r in unread whole.0 whole.1,

@@ -1,18 +1,18 @@
 -- The settings of a declaration, by what the reader keeps of them.
-use Rattle.std.proofs.Common.{◌≡◌, ◌⊎◌, inl, inr, ℕ, List, [], ◌∷◌, map, codes, length, Bool, true, false, not, ◌==◌, ◌&&◌, ◌||◌, if◌then◌else◌, Some, None, refl, sym, ◌∙◌, ap, subst, eqb-true}
+use Rattle.std.proofs.Common.{◌≡◌, ◌⊎◌, inl, inr, ℕ, List, [], ◌∷◌, map, codes, length, Bool, true, false, not, ◌==◌, ◌&&◌, ◌||◌, if◌then◌else◌, Some, None, refl, sym, ◌∙◌, ap, subst, arith}
 use Rattle.std.specs.declared.option.Option.{Option}
 use Rattle.std.specs.Option.{option_map}
+use Rattle.std.proofs.lemmas.Bool.Decides.{nat_tests}
 use Rattle.xs_xml.specs.Tables.{is_white}
 use Rattle.xs_xml.specs.Piece.{Attribute, Bit, plain, ref, declaration, is_piece, same, lower, all_of, is_text, lower_bits, is_version, is_encoding, is_standalone, are_settings, are_attributes}
 use Rattle.xs_xml.specs.Reads.{value}
 use Rattle.xs_xml.specs.Scan.{after, span, ◌>>=◌, kept, attrs_at, declaration_end, declaration_attrs}
 use Rattle.xs_xml.proofs.Reading.{white_cases}
+use Rattle.xs_class.proofs.Truth.{and_true, and_no, not_true, no_other}
 use Rattle.xs_xml.proofs.Steps.{run_all}
 use Rattle.xs_form.specs.Values.{all_written}
 use Rattle.xs_form.specs.Attributes.{Held, held}
 use Rattle.xs_form.specs.Seen.{Seen, found, declared, held_version, held_encoding, held_standalone, held_settings}
-use Rattle.xs_class.proofs.Truth.{and_true, not_true, and_no}
-use Rattle.xs_form.proofs.StepLaws.{swap}
 
 -- a text without white space
 abbrev pub is_plain : List ℕ → Bool
@@ -23,12 +23,11 @@ white_numbers : (is_white 32 ≡ true) × (is_white 13 ≡ true)
 unfolding is_white
 white_numbers = (refl, refl)
 
+pub swap : (x y : ℕ) → (x == y) ≡ (y == x)
+swap x y = grind (arith, nat_tests)
+
 other : (x y : ℕ) → is_white x ≡ false → is_white y ≡ true → (x == y) ≡ false
-other x y p q = by (x == y) refl
-  where
-    by : (t : Bool) → (x == y) ≡ t → t ≡ false
-    by true e = let s : x ≡ y = eqb-true x y e in let w : is_white x ≡ is_white y = ap is_white s in absurd (cc)
-    by false e = refl
+other x y p q = swap x y ∙ no_other is_white y x q p
 
 and_swap : (x y z : Bool) → (x && (y && z)) ≡ (y && (x && z))
 and_swap true y z = refl

@@ -1,18 +1,18 @@
 -- A step over a piece, and the rules.
-use Rattle.std.proofs.Common.{◌≡◌, ℕ, List, map, Bool, true, false, not, ◌==◌, ◌&&◌, ◌||◌, if◌then◌else◌, None, refl, sym, ◌∙◌, ap, arith, eqb-true}
+use Rattle.std.proofs.Common.{◌≡◌, ℕ, List, map, Bool, true, false, not, ◌==◌, ◌&&◌, ◌||◌, if◌then◌else◌, None, refl, sym, ◌∙◌, ap, eqb-true}
 use Rattle.std.specs.declared.option.Option.{Option}
-use Rattle.std.proofs.lemmas.Bool.Decides.{nat_tests}
 use Rattle.xs_xml.specs.Tables.{is_white}
 use Rattle.xs_xml.specs.Piece.{Piece, Attribute, declaration, character, line_end, reference, start_tag, empty_tag, end_tag, comment, instruction, cdata, is_piece, is_name, are_attributes, distinct, all_of}
 use Rattle.xs_xml.specs.Legal.{Spot, ahead, inside, beyond, passed, is_that}
 use Rattle.xs_xml.specs.Reads.{symbols, in_order, attribute_symbols}
+use Rattle.xs_class.proofs.Truth.{and_true}
 use Rattle.xs_form.specs.Attributes.{held}
 use Rattle.xs_form.specs.Sorted.{keyed, held_in_order, entry_symbols}
 use Rattle.xs_form.specs.Seen.{seen, letter}
 use Rattle.xs_form.specs.State.{State, moved, step, is_named}
 use Rattle.xs_form.proofs.SortedLaws.{sorted_give}
+use Rattle.xs_form.proofs.SettingLaws.{swap}
 use Rattle.xs_form.proofs.RuleLaws.{is_declaration, run_after}
-use Rattle.xs_class.proofs.Truth.{and_true}
 
 -- the piece may not stand here, for the rules on declarations and on ]]>
 abbrev pub is_refused : State → Piece → Bool
@@ -34,9 +34,6 @@ declared_step names st as_ gap (inside m ms) true is e = rw (is, e) refl
 declared_step names st as_ gap (inside m ms) false is e = rw (is, e) refl
 declared_step names st as_ gap beyond true is e = rw (is, e) refl
 declared_step names st as_ gap beyond false is e = rw (is, e) refl
-
-pub swap : (x y : ℕ) → (x == y) ≡ (y == x)
-swap x y = grind (arith, nat_tests)
 
 letter_step : (names : List (List ℕ)) (st : State) (c : ℕ) (s : Spot) → (c == 13) ≡ false → st.spot ≡ s → step names st (letter c) ≡ next names st (character c)
 letter_step names st c ahead other is = rw (is, swap c 62, swap c 93) refl

@@ -8,7 +8,7 @@ use Rattle.xs_xml.specs.Piece.{Bit, plain, ref, spelt_bit}
 use Rattle.xs_xml.specs.Reads.{value}
 use Rattle.xs_xml.specs.Scan.{bit_at, bits_at}
 use Rattle.xs_xml.proofs.Tags.{bit_long}
-use Rattle.xs_xml.proofs.Tagsound.{bit_is}
+use Rattle.xs_xml.proofs.TagSoundness.{bit_is}
 use Rattle.xs_form.specs.declared.values.ValuePart.{ValuePart}
 use Rattle.xs_form.specs.Values.{part_of, kept_part, part_symbols, is_return, is_written, all_written}
 use Rattle.xs_class.proofs.Lists.{some_inj}

@@ -1,4 +1,5 @@
 pub mod Attributes
+pub mod Digits
 pub mod Fault
 pub mod Seen
 pub mod Sorted

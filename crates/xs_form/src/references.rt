@@ -1,6 +1,7 @@
 ghost use Rattle.std.specs.Prelude.{◌≡◌, ◌<◌, ◌≤◌, ◌+◌, ◌*◌, ◌&&◌, min, true, []};
-ghost use Rattle.xs_xml.specs.Tables.{is_char, is_digit, is_hex};
+ghost use Rattle.xs_xml.specs.Tables.{is_char, is_hex};
 ghost use Rattle.xs_xml.specs.Piece.{hex_value, number, when, numbered, ref_char, all_of};
+ghost use Rattle.xs_form.specs.Digits.{radix_of, is_digit_of};
 ghost use Rattle.xs_form.specs.Seen.{named_reference};
 
 use crate::runs::{allowed, digit, hexadecimal, is, spells};
@@ -8,6 +9,37 @@ use xs_class::Sym;
 
 /// Above every Char, and not one.
 const TOO_LARGE: u32 = 0x110000;
+
+/// The base in which a number is written.
+#[derive(Clone, Copy)]
+enum Base {
+    Decimal,
+    Hexadecimal,
+}
+
+impl Base {
+    /// The number of different digits.
+    fn radix(self) -> u32
+        ensures radix { result ≡ radix_of self }
+        ensures least { 1 ≤ result }
+        ensures most { result ≤ 16 }
+    {
+        match self {
+            Base::Decimal => 10,
+            Base::Hexadecimal => 16,
+        }
+    }
+
+    /// Whether the symbol is a digit.
+    fn has(self, symbol: Sym) -> bool
+        ensures { result ≡ is_digit_of self symbol }
+    {
+        match self {
+            Base::Decimal => digit(symbol),
+            Base::Hexadecimal => hexadecimal(symbol),
+        }
+    }
+}
 
 /// The value of a digit.
 fn value_of(symbol: Sym) -> u32
@@ -42,30 +74,17 @@ fn char_of(number: u32) -> Option<u32>
     if allowed(number) { Some(number) } else { None }
 }
 
-/// The number of the hexadecimal digits, where it is a Char.
-fn hexadecimal_char(digits: &[Sym]) -> Option<u32>
-    ensures { result ≡ when (all_of is_hex digits.now && is_char (number 16 0 digits.now)) (number 16 0 digits.now) }
+/// The number of the digits, where it is a Char.
+fn digits_char(base: Base, digits: &[Sym]) -> Option<u32>
+    ensures { result ≡ when (all_of (is_digit_of base) digits.now && is_char (number (radix_of base) 0 digits.now)) (number (radix_of base) 0 digits.now) }
 {
+    let radix = base.radix();
     let mut number = 0;
     'digits: for symbol in digits {
-        if !hexadecimal(*symbol) {
+        if !base.has(*symbol) {
             return None;
         }
-        number = appended(number, 16, value_of(*symbol));
-    }
-    char_of(number)
-}
-
-/// The number of the decimal digits, where it is a Char.
-fn decimal_char(digits: &[Sym]) -> Option<u32>
-    ensures { result ≡ when (all_of is_digit digits.now && is_char (number 10 0 digits.now)) (number 10 0 digits.now) }
-{
-    let mut number = 0;
-    'digits: for symbol in digits {
-        if !digit(*symbol) {
-            return None;
-        }
-        number = appended(number, 10, value_of(*symbol));
+        number = appended(number, radix, value_of(*symbol));
     }
     char_of(number)
 }
@@ -78,9 +97,9 @@ fn numbered_char(text: &[Sym]) -> Option<u32>
         [] => None,
         [first, digits @ ..] => {
             if is(*first, b'x') {
-                hexadecimal_char(digits)
+                digits_char(Base::Hexadecimal, digits)
             } else {
-                decimal_char(text)
+                digits_char(Base::Decimal, text)
             }
         }
     }

@@ -36,4 +36,4 @@ dotted (c ∷ cs) = c ∷ 803 ∷ dotted cs
 
 -- the word of a number with its dots
 abbrev pub dotted_at : ℕ → List ℕ
-dotted_at n = if n == 0 then dotted kai else (if n == 1 then dotted tou else (if n == 2 then dotted theou else (if n == 3 then dotted etous else (if n == 4 then dotted menos else (if n == 5 then dotted dia else (if n == 6 then dotted ton else dotted autou))))))
+dotted_at n = dotted (word_at n)

@@ -6,7 +6,7 @@ use Rattle.xs_check_laws.specs.Weights.{capped, PartWeighs, no_part, part_then}
 use Rattle.xs_check_laws.specs.Acceptance.{IsLightRule, IsLight, IsHeaviness}
 use Rattle.xs_check_laws.proofs.Weights.{part_within, part_weighs_once_lem, rule_weighs_once_lem}
 
--- the items weigh at most so much
+-- the items weigh at most this
 abbrev WeighAtMost : Grammar → List GItem → ℕ → Type 0
 WeighAtMost g is most = (w : ℕ) × PartWeighs g is w × (w ≤ most)
 

@@ -9,7 +9,7 @@ use Rattle.xs_loose.specs.declared.link.Link.{Link}
 use Rattle.xs_loose.specs.declared.draft.Draft.{Draft}
 use Rattle.xs_loose.specs.Arcs.{Path, Arc, IsLink, IsLinkArc, Adds, Grows, NetGrows, DraftGrows, Either}
 use Rattle.xs_loose.specs.Laying.{HasTables, IsDraft, IsLaid}
-use Rattle.xs_loose.proofs.Growing.{with_links}
+use Rattle.xs_loose.proofs.NetGrowth.{with_links}
 use Rattle.xs_loose.proofs.Paths.{IsBlock, Through, path_map, block_is_through, through_is_block}
 
 -- a net that grows with the links as they were

@@ -15,7 +15,7 @@ use Rattle.xs_loose.specs.Groups.{IsNonOf}
 use Rattle.xs_loose.specs.Weighing.{IsOneOf}
 use Rattle.xs_loose.specs.Arcs.{Arc, IsLink, IsLinkArc, DraftGrows, IsMove, Below, Either}
 use Rattle.xs_loose.specs.Laying.{state_at, ItemArc, past, call, return, RuleArc, HasSpots}
-use Rattle.xs_loose.proofs.Growing.{grows_as, grows_then, below_none, below_more, link_more}
+use Rattle.xs_loose.proofs.NetGrowth.{grows_as, grows_then, below_none, below_more, link_more}
 use Rattle.xs_loose.proofs.Items.{one_there, no_member}
 
 pub some_same : {X : Type 0} {x y : X} → Some x ≡ Some y → x ≡ y

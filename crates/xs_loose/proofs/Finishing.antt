@@ -11,7 +11,7 @@ use Rattle.xs_loose.specs.declared.draft.Draft.{Draft}
 use Rattle.xs_loose.specs.Accepting.{AcceptsLoose}
 use Rattle.xs_loose.specs.Arcs.{by_move, by_edge, Arc, of_net, of_link, Path, stays, goes, IsLink, IsLinkArc, Either}
 use Rattle.xs_loose.specs.Laying.{IsDraft, IsLaid, IsDraftOf, HasTables}
-use Rattle.xs_loose.proofs.Growing.{link_more}
+use Rattle.xs_loose.proofs.NetGrowth.{link_more}
 use Rattle.xs_loose.proofs.Paths.{path_map}
 
 walk_path : (g : Grammar) {n : Graph} {a b : ℕ} {w : List ℕ} → Walks n a w b → Path (Arc g n []) a w b

@@ -17,7 +17,7 @@ use Rattle.xs_loose.specs.Groups.{IsGroup, IsNonOf, IsRuleIn, AreGrouped}
 use Rattle.xs_loose.proofs.Items.{read_at}
 use Rattle.xs_loose.specs.Arcs.{Arc, Adds, Grows, NetGrows, DraftGrows, NoArc, IsLink}
 use Rattle.xs_loose.specs.Laying.{state_before, WordArc, AutomatonArc, ComponentArc, HasTables, HasSpots, IsDraft, IsLaid, Places}
-use Rattle.xs_loose.proofs.Growing.{with_links, bare_grows}
+use Rattle.xs_loose.proofs.NetGrowth.{with_links, bare_grows}
 use Rattle.xs_loose.proofs.Blocks.{block_laid}
 use Rattle.xs_loose.proofs.WordBlock.{AfterSymbol, word_block, word_whole}
 use Rattle.xs_loose.proofs.AutomatonBlock.{AtPosition, automaton_block, automaton_whole, leads_at}

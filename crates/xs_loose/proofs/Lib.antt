@@ -3,7 +3,7 @@ pub mod Items
 pub mod Bounds
 pub mod Summing
 pub mod Paths
-pub mod Growing
+pub mod NetGrowth
 pub mod WordGrowth
 pub mod WordBlock
 pub mod AutomatonBlock
@@ -12,6 +12,6 @@ pub mod Blocks
 pub mod ComponentGrowth
 pub mod Spotting
 pub mod Finishing
-pub mod Outlining
+pub mod OutlineGrowth
 pub mod LaidItems
 pub mod Outlines

@@ -6,7 +6,7 @@ use Rattle.xs_loose.specs.Arcs.{NetArc, NoArc, GrowsBare}
 use Rattle.xs_loose.specs.Groups.{IsGroup}
 use Rattle.xs_loose.specs.Laying.{ArePlaced, IsListed}
 use Rattle.std.proofs.lemmas.List.Elements.{Contains-get_or}
-use Rattle.xs_loose.proofs.Growing.{grows_none, grows_bare}
+use Rattle.xs_loose.proofs.NetGrowth.{grows_none, grows_bare}
 
 pub placed_none : (size : ℕ → ℕ) (ids : List ℕ) (low : ℕ) (table : List ℕ) → ArePlaced size ids 0 low low table
 placed_none size ids low table = record { within = λ j l. absurd (omega arith); apart = λ j k l h. absurd (omega arith) }

@@ -40,7 +40,7 @@ others {g} {c} {p} {w} h (suc r) le none = elim (cases_eq p (suc r)) [
   | inr ne ↦ rule_of_other (none r (omega arith) (omega arith)) (others h r (omega arith) (λ q l m. none q l (omega arith)))
 ]
 
--- whatever the bound after the first i rules of the component, the rules before it weigh so much
+-- whatever the bound after the first i rules of the component, the rules before it weigh that much
 abbrev pub AreSummed : Grammar → List ℕ → ℕ → ℕ → ℕ → Type 0
 AreSummed g rules i c sum = (r : ℕ) → r ≤ length g.rules → IsUpTo rules i r → RulesWeigh g c r sum
 

@@ -10,7 +10,7 @@ use Rattle.xs_regex.specs.Automaton.{HasAt, Leads}
 use Rattle.xs_auto.specs.Nets.{Graph, states}
 use Rattle.xs_loose.specs.Arcs.{NetArc, NetGrows, NoArc, IsMove, IsReading, IsSymbol, Below, Either}
 use Rattle.xs_loose.specs.Laying.{state_before, IsLetter, WordArc, IsInto, IsFollowing, IsLeaving, IsSkipping, AutomatonArc}
-use Rattle.xs_loose.proofs.Growing.{grows_as, grows_then, grows_none, bare_grows, below_more}
+use Rattle.xs_loose.proofs.NetGrowth.{grows_as, grows_then, grows_none, bare_grows, below_more}
 
 -- one more symbol of a word
 pub letter_more : (f : List ℕ) (s base i : ℕ) (l m n k : Graph) (last symbol next : ℕ) → states l ≡ base → last ≡ state_before s base i → symbol ≡ get_or f i 0 → next ≡ states m → NetGrows (Below i (IsLetter f s base)) i l m → NetGrows NoArc 1 m n → NetGrows (IsSymbol symbol last next) 0 n k → NetGrows (Below (i + 1) (IsLetter f s base)) (i + 1) l k

@@ -83,7 +83,7 @@ fn grouped(alloc: Global, keys: &[u32], end: u32, count: usize) -> Result<Vec<Nu
     Ok(groups)
 }
 
-/// So many empty groups.
+/// That many empty groups.
 fn no_groups(alloc: Global, count: usize) -> Result<Vec<Numbers>, Memory>
     ensures counted { IfOk result (λ groups. length groups.items ≡ count) }
     ensures blank { IfOk result (λ groups. (key : ℕ) → slice_index_or groups.items key [] ≡ []) }

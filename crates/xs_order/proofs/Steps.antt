@@ -56,7 +56,7 @@ added_more a from targets i target old clauses new l is known one = record {
       | inl older ↦ inl older
       | inr s ↦ inr (record { to = s.to; among = rw front (Contains-append_left (take i targets) (target ∷ []) s.to s.among); symbol = s.symbol; is = s.is })
     ]
-    | inr s ↦ inr (record { to = s.to; among = rw (front, ← one_contains target s.to s.among) (Contains-push (take i targets) target); symbol = s.symbol; is = s.is })
+    | inr s ↦ inr (record { to = s.to; among = rw (front, ← only_one target s.to s.among) (Contains-push (take i targets) target); symbol = s.symbol; is = s.is })
   ];
 }
   where
@@ -108,7 +108,7 @@ steps_below a clauses formed steps i d l =
     below None to leads = record { head = formed.first_in to leads; premises = λ k e lt. absurd (omega arith) }
     below (Some j) to leads = record {
       head = formed.follow_in j to leads;
-      premises = λ k e lt. omega (arith, within_rows a j to leads, formed.rows, one_contains j (get_or (j ∷ []) k e) (Contains-get_or (j ∷ []) k e lt));
+      premises = λ k e lt. omega (arith, within_rows a j to leads, formed.rows, only_one j (get_or (j ∷ []) k e) (Contains-get_or (j ∷ []) k e lt));
     }
 
 -- what the steps make are the positions to which words lead
@@ -128,7 +128,7 @@ made_is_reached a clauses steps = made_least clauses (IsReached a) closed
 
 pub reached_is_made : (a : Position) (clauses : List Clause) → AreSteps a (length a.follow) clauses → (w : List ℕ) (k : ℕ) → Runs a w k → IsMade clauses k
 reached_is_made a clauses steps w k (begins s first at is) = head_is_made clauses (step_to None k) (steps.starts k first (s, at)) (λ m h. absurd (omega (arith, h.1)))
-reached_is_made a clauses steps w k (goes v j s run leads at is) = head_is_made clauses (step_to (Some j) k) (steps.steps j k (within_rows a j k leads) leads (s, at)) (λ m h. subst (λ (x : ℕ). IsMade clauses x) (one_contains j m h) (reached_is_made a clauses steps v j run))
+reached_is_made a clauses steps w k (goes v j s run leads at is) = head_is_made clauses (step_to (Some j) k) (steps.steps j k (within_rows a j k leads) leads (s, at)) (λ m h. subst (λ (x : ℕ). IsMade clauses x) (only_one j m h) (reached_is_made a clauses steps v j run))
 
 -- so the flags are exact
 pub flags_of_reached : (a : Position) (clauses : List Clause) (count : ℕ) (flags : List Bool) → AreSteps a (length a.follow) clauses → AreFlags (IsMade clauses) count flags → AreFlags (IsReached a) count flags

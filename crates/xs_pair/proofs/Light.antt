@@ -165,7 +165,7 @@ name_heavy p (inl is) = kind_heavy p Plain is
 name_heavy p (inr is) = kind_heavy p Qual is
 
 read_attr : (a : Attr) (ps rest : List Piece) → ReadsAttr a ps rest → attr_weight a + all_heavy rest ≤ all_heavy ps
-read_attr a ps rest r = let some = r.some in omega (arith, ap all_heavy r.is, name_heavy r.name r.name_is.kind, kind_heavy r.equals Equals r.equals_is, read_items a.value r.behind rest r.value)
+read_attr a ps rest r = let some = r.some in omega (arith, ap all_heavy r.is, name_heavy r.name r.name_is.kind, kind_heavy r.equals Equals r.equals_is, read_items a.value r.next rest r.value)
 
 read_attrs : (attrs : List Attr) (ps rest : List Piece) → ReadsAttrs attrs ps rest → attrs_weight attrs + all_heavy rest ≤ all_heavy ps
 read_attrs [] ps rest same = omega (arith, ap all_heavy same)
@@ -189,7 +189,7 @@ read_unit : (u : UnitOutline) (ps rest : List Piece) → ReadsUnit u ps rest →
 read_unit (terminal name pattern line) ps rest r = omega (arith, ap all_heavy r.is, kind_heavy r.word Plain r.word_is.plain)
 read_unit (ignorable name pattern normal line) ps rest r = omega (arith, ap all_heavy r.is, kind_heavy r.word Plain r.word_is.plain)
 read_unit (production name left right line) ps rest r =
-    omega (arith, ap all_heavy r.is, kind_heavy r.name_piece Plain r.name_is.plain, read_items left r.behind r.mid r.left_is, ap all_heavy r.equals_is.is, read_content 0 right r.inside rest r.right_is)
+    omega (arith, ap all_heavy r.is, kind_heavy r.name_piece Plain r.name_is.plain, read_items left r.next r.mid r.left_is, ap all_heavy r.equals_is.is, read_content 0 right r.inside rest r.right_is)
 
 read_units : (us : List UnitOutline) (ps rest : List Piece) → ReadsUnits us ps rest → units_weight us + all_heavy rest ≤ all_heavy ps
 read_units [] ps rest same = omega (arith, ap all_heavy same)
@@ -199,4 +199,4 @@ read_units (u ∷ us) ps rest (mid, first, more) = omega (arith, read_unit u ps 
 pub sheet_light : (bytes : List ℕ) (s : Sheet) → IsSheetOf bytes s → units_weight (map unit_outline s.units) + 3 ≤ length bytes
 sheet_light bytes s of =
     let r = of.reads in
-    omega (arith, pieces_light bytes of.tokens of.pieces of.tokens_are of.pieces_are, ap all_heavy r.is, kind_heavy r.word Plain r.word_is.plain, kind_heavy r.start_word Plain r.start_is.plain, kind_heavy r.name_piece Plain r.name_is.plain, read_units (map unit_outline s.units) r.behind r.mid r.units_are)
+    omega (arith, pieces_light bytes of.tokens of.pieces of.tokens_are of.pieces_are, ap all_heavy r.is, kind_heavy r.word Plain r.word_is.plain, kind_heavy r.start_word Plain r.start_is.plain, kind_heavy r.name_piece Plain r.name_is.plain, read_units (map unit_outline s.units) r.next r.mid r.units_are)

@@ -37,7 +37,7 @@ same_order a b e = sym (at_order a) ∙ ap rule_at e ∙ at_order b
 pub none_at_first : (Fails : IllRule → ℕ → Type 0) → NoneBefore Fails 0
 none_at_first Fails rule line lt fails = omega arith
 
--- a rule that fails nowhere, behind rules that fail nowhere
+-- a rule that fails nowhere, after rules that fail nowhere
 pub none_next : (Fails : IllRule → ℕ → Type 0) (r : IllRule) (place : ℕ) → place ≡ order r → NoneBefore Fails place → ((line : ℕ) → Fails r line → ⊥) → NoneBefore Fails (place + 1)
 none_next Fails r place is before here rule line lt fails = by_case (cases_lt (order rule) place)
   where

@@ -136,7 +136,7 @@ among_before list i name at other =
     by_case k (inl h) at = h
     by_case k (inr h) at = absurd (stands_nowhere (take i list) name k h at)
 
--- the same two facts for a name in so many at the front
+-- the same two facts for a name among that many at the front
 pub within_take : (list : List (List ℕ)) (i k : ℕ) (name : List ℕ) → place_of list name ≡ Some k → k < i → IsAmong (take i list) name
 within_take list i k name found lt = by_case (among_or_absent (take i list) name)
   where
@@ -217,7 +217,7 @@ distinct_more list i n here first before k name lt at = by_case (cases_lt k i)
 pub distinct_all : (list : List (List ℕ)) (i : ℕ) → length list ≤ i → ((k : ℕ) (name : List ℕ) → k < i → slice_get list k ≡ Some name → place_of list name ≡ Some k) → IsDistinct list
 distinct_all list i le all k name at = let lt = slice_get_within list k name at in all k name (omega arith) at
 
--- what was told of a list and a name that are the same
+-- what holds of a list and a name that are the same
 pub told : (list self : List (List ℕ)) (said : List ℕ) (n : List ℕ) (i : ℕ) → list ≡ self → chars said ≡ n → place_of self (chars said) ≡ Some i → place_of list n ≡ Some i
 told list self said n i whole read is = subst (λ l. place_of l n ≡ Some i) (sym whole) (subst (λ m. place_of self m ≡ Some i) read is)
 

@@ -1,4 +1,4 @@
--- At which lines a rule fails, and which failure is told.
+-- At which lines a rule fails, and which failure is reported.
 use Rattle.std.specs.Prelude.{◌≡◌, ◌⊎◌, ⊤, ℕ, ◌<◌, ◌≤◌, List, min, None, Some, slice_get}
 use Rattle.std.specs.declared.option.Option.{Option}
 use Rattle.xs_sheet.specs.declared.sheet.Sheet.{Sheet}
@@ -140,7 +140,8 @@ pub record IsOutlineOf (s : Sheet) (o : Outline) : Type 0 where
 abbrev pub tables_in : Outline → Tables
 tables_in o = record { units = o.units; terms = o.terms; skips = o.skips; start = o.start }
 
--- the unit's name is among so many names of units, for a production among so many of terminals and ignorables
+-- the unit's name is among the first `place` names of units, for a production among the first `lexical` of terminals
+-- and ignorables
 abbrev pub IsWithin : List (List ℕ) → List ℕ → ℕ → Type 0
 IsWithin names name count = (k : ℕ) × (place_of names name ≡ Some k) × (k < count)
 

@@ -61,7 +61,7 @@ impl Directory {
         }
     }
 
-    /// Whether the name stands among so many at the front of the list.
+    /// Whether the name stands among that many at the front of the list.
     pub fn is_within(&self, name: &str, count: usize) -> bool
         ensures { IsTrue result ↔ ((k : ℕ) × (place_of self.now (chars name.now) ≡ Some k) × (k < count)) }
     {
@@ -128,7 +128,8 @@ impl Directory {
     }
 }
 
-// The first place in the list of each of its names: from the last to the first, so that the first stays.
+/// The first place in the list of each of its names: from the last to the first, so that the first
+/// stays.
 fn first_places(alloc: Global, list: &[Text], names: &Names) -> Result<Vec<u32>, Memory>
     requires few { length list.now < 65536 }
     requires same { AreNamesOf list.now names.now }

@@ -4,7 +4,8 @@ use xs_class::Memory;
 /// Why a sheet has no two grammars.
 #[derive(Clone, Copy, Debug, PartialEq, Eq)]
 pub enum PairFault {
-    /// One of the first seven rules fails: the first that does, with the least line at which it does.
+    /// One of the first seven rules fails: the first that does, with the least line at which it
+    /// does.
     Ill(Ill),
     /// Memory ran out.
     Memory,

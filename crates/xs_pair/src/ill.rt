@@ -1,4 +1,4 @@
-/// The twelve rules of a well-formed sheet, in the order in which they are told.
+/// The twelve rules of a well-formed sheet, in the order in which they are reported.
 #[derive(Clone, Copy, Debug, PartialEq, Eq)]
 pub enum IllRule {
     /// A terminal or an ignorable has the name of an earlier unit, or a production that of an

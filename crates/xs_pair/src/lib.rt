@@ -1,8 +1,10 @@
-//! Two grammars of one sheet: the text side and the XML side, rule by rule.
+//! The dual grammars of a sheet, in the sense of Brabrand, Møller and Schwartzbach: `Two` has a
+//! grammar for the text side and one for the XML side, rule by rule.
 //!
-//! A sheet has two grammars where the first seven rules of a well-formed sheet hold. All twelve rules
-//! are named here. The definitions stand in specs/: Units (names and numbers), Marks and Listing (a
-//! side laid out flat), Rules and Verdict (what fails where), Grammars (the flat items of each rule).
+//! A sheet has dual grammars where the first seven rules of a well-formed sheet hold. All twelve
+//! rules are named here. The definitions stand in specs/: Units (names and numbers), Marks and
+//! Listing (a side laid out flat), Rules and Verdict (what fails where), Grammars (the flat items
+//! of each rule).
 #![tactic(auto)]
 
 mod directory;

@@ -29,7 +29,7 @@ pub struct Outline {
     pub start_line: u32,
 }
 
-// A directory of the names of a sort.
+/// A directory of the names of a sort.
 fn directory(alloc: Global, sort: Sort, units: &[Unit]) -> Result<Directory, Memory>
     requires { length units.now < 65536 }
     ensures { IfOk result (λ d. d ≡ U.names_of sort units.now) }
@@ -38,7 +38,7 @@ fn directory(alloc: Global, sort: Sort, units: &[Unit]) -> Result<Directory, Mem
     Directory::of(alloc, names)
 }
 
-// A directory of each name once.
+/// A directory of each name once.
 fn distinct(alloc: Global, list: &Directory) -> Result<Directory, Memory>
     ensures { IfOk result (λ d. d ≡ U.firsts list.now) }
 {
@@ -46,7 +46,7 @@ fn distinct(alloc: Global, list: &Directory) -> Result<Directory, Memory>
     Directory::of(alloc, names)
 }
 
-// The names of all units, of terminals and ignorables together, and of these apart.
+/// The names of all units, of terminals and ignorables together, and of these apart.
 #[derive(Drop)]
 struct UnitNames {
     units: Directory,
@@ -74,7 +74,7 @@ fn unit_names(alloc: Global, units: &[Unit]) -> Result<UnitNames, Memory>
     })
 }
 
-// The productions, their names, and the nonterminals.
+/// The productions, their names, and the nonterminals.
 #[derive(Drop)]
 struct Productions {
     rules: Vec<Rule>,

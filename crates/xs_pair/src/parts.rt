@@ -26,7 +26,7 @@ fn letters(alloc: Global, text: &str) -> Result<Vec<char>, AllocError>
     text.chars().collect(alloc)
 }
 
-// The word of a text's characters.
+/// The word of a text's characters.
 fn word_of(alloc: Global, text: &Text) -> Result<Word, Memory>
     ensures { IfOk result (λ w. w ≡ text.now) }
 {
@@ -38,7 +38,7 @@ fn word_of(alloc: Global, text: &Text) -> Result<Word, Memory>
     Ok(word)
 }
 
-// The number of a name that is in the directory.
+/// The number of a name that is in the directory.
 fn number(directory: &Directory, name: &Text) -> u32
     ensures { result ≡ number_of directory.now name.now }
 {
@@ -48,7 +48,7 @@ fn number(directory: &Directory, name: &Text) -> u32
     }
 }
 
-// The number of an element's or an attribute's name.
+/// The number of an element's or an attribute's name.
 fn mark_number(names: &Names, name: &Text) -> u32
     ensures number { result ≡ number_of names.now name.now }
     ensures few { result < 65536 }
@@ -69,7 +69,7 @@ fn push_symbol(alloc: Global, symbol: Sym, out: &mut Vec<GItem>) -> Result<(), M
     Ok(())
 }
 
-// The regex of a pattern that has one.
+/// The regex of a pattern that has one.
 fn regex_of(alloc: Global, pattern: &Text) -> Result<Regex, Memory>
     requires { (r : AnyRegex) × IsPatternOf pattern.now r }
     ensures of { IfOk result (IsPatternOf pattern.now) }
@@ -82,7 +82,7 @@ fn regex_of(alloc: Global, pattern: &Text) -> Result<Regex, Memory>
     }
 }
 
-// The regex of a terminal, read from its pattern.
+/// The regex of a terminal, read from its pattern.
 fn push_regex(alloc: Global, unit: &Unit, regexes: &mut Vec<Regex>) -> Result<(), Memory>
     requires { HasRegex unit.now }
     ensures { OnOk result (IsTermAdded unit.now regexes.old.items regexes.new.items) }
@@ -110,7 +110,7 @@ fn regexes(alloc: Global, units: &[Unit]) -> Result<Vec<Regex>, Memory>
     Ok(regexes)
 }
 
-// The regex of an ignorable, read from its pattern, and its normal spelling.
+/// The regex of an ignorable, read from its pattern, and its normal spelling.
 fn push_skip(alloc: Global, unit: &Unit, parts: &mut Vec<SkipPart>) -> Result<(), Memory>
     requires { HasRegex unit.now }
     ensures { OnOk result (IsSkipAdded unit.now parts.old.items parts.new.items) }
@@ -144,7 +144,7 @@ fn skip_parts(alloc: Global, units: &[Unit]) -> Result<Vec<SkipPart>, Memory>
 }
 
 impl Outline {
-    // What stands for a slot: a terminal, or else a nonterminal.
+    /// What stands for a slot: a terminal, or else a nonterminal.
     fn named_item(&self, name: &Text, slot: u32) -> GItem
         ensures { result ≡ named_item (place_of self.now.terms name.now) (number_of self.now.nons name.now) slot }
     {

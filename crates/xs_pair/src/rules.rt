@@ -15,7 +15,7 @@ use std::alloc::Global;
 use xs_class::{Memory, Text};
 use xs_sheet::{Item, Sheet, Unit};
 
-// The number of terminals and ignorables, with one more unit.
+/// The number of terminals and ignorables, with one more unit.
 fn with_unit(lexical: usize, unit: &Unit) -> usize
     requires { lexical < 2 ^ 63 }
     ensures count { result ≡ lexical + length (U.names_of S.Lexical (unit.now ∷ [])) }
@@ -28,7 +28,7 @@ fn with_unit(lexical: usize, unit: &Unit) -> usize
     }
 }
 
-// Whether an element has two attributes of one name.
+/// Whether an element has two attributes of one name.
 fn repeats_attribute(alloc: Global, mark: &Mark) -> Result<bool, Memory>
     requires { mark_weight mark.now < 65536 }
     ensures { IfOk result (λ b. IsTrue b ↔ RepeatsAttribute mark.now) }
@@ -46,7 +46,7 @@ fn repeats_attribute(alloc: Global, mark: &Mark) -> Result<bool, Memory>
 }
 
 impl Outline {
-    // Whether the item's name is the name of no unit.
+    /// Whether the item's name is the name of no unit.
     fn is_nameless(&self, item: &Item) -> bool
         ensures { IsTrue result ↔ IsNameless self.now.units item.now }
     {
@@ -68,7 +68,7 @@ impl Outline {
         }
     }
 
-    // Whether the item is of another kind than its form asks for.
+    /// Whether the item is of another kind than its form asks for.
     fn is_misnamed(&self, item: &Item) -> bool
         ensures { IsTrue result ↔ IsMisnamed self.now.skips item.now }
     {
@@ -100,7 +100,7 @@ impl Outline {
         }
     }
 
-    // Whether a rule that speaks of single marks fails at this one.
+    /// Whether a rule that speaks of single marks fails at this one.
     fn is_ill(&self, alloc: Global, rule: IllRule, mark: &Mark) -> Result<bool, Memory>
         requires { mark_weight mark.now < 65536 }
         ensures { IfOk result (λ b. IsTrue b ↔ IsIllMark rule (tables_in self.now) mark.now) }
@@ -139,7 +139,8 @@ impl Outline {
         Ok(on_left || on_right)
     }
 
-    // Whether an item is of another kind than its form, its place, or its slot on the other side asks for.
+    /// Whether an item is of another kind than its form, its place, or its slot on the other side
+    /// asks for.
     fn fails_kind(&self, alloc: Global, rule: &Rule) -> Result<bool, Memory>
         requires light { rule_weight rule.now < 65536 }
         requires once { FailsIn R.NameOnce (tables_in self.now) rule.now → ⊥ }
@@ -159,14 +160,14 @@ impl Outline {
         Ok(is_not_once(&left, &right))
     }
 
-    // Whether the XML side of a production of the start is no single element.
+    /// Whether the XML side of a production of the start is no single element.
     fn has_no_root(&self, rule: &Rule) -> bool
         ensures { IsTrue result ↔ FailsIn R.RootShape (tables_in self.now) rule.now }
     {
         rule.name.as_str() == self.start.as_str() && !rule.is_element
     }
 
-    // Whether a rule that speaks of productions fails in this one.
+    /// Whether a rule that speaks of productions fails in this one.
     fn fails_in(&self, alloc: Global, kind: IllRule, rule: &Rule) -> Result<bool, Memory>
         requires light { rule_weight rule.now < 65536 }
         requires once { kind ≡ R.Kind → FailsIn R.NameOnce (tables_in self.now) rule.now → ⊥ }
@@ -184,7 +185,7 @@ impl Outline {
         }
     }
 
-    // The least line of a production in which the rule fails.
+    /// The least line of a production in which the rule fails.
     fn least_among(&self, alloc: Global, kind: IllRule) -> Result<Option<u32>, Memory>
         requires light { AreLight self.now.rules.items }
         requires once { kind ≡ R.Kind → (line : ℕ) → FailsAmong (tables_in self.now) self.now.rules.items R.NameOnce line → ⊥ }
@@ -199,7 +200,8 @@ impl Outline {
         Ok(least)
     }
 
-    // Whether the unit's name is among so many names of units, or, for a production, of terminals and ignorables.
+    /// Whether the unit's name is among the first names of units, or, for a production, of
+    /// terminals and ignorables.
     fn is_taken(&self, place: usize, lexical: usize, unit: &Unit) -> bool
         ensures { IsTrue result ↔ IsTaken self.now place lexical unit.now }
     {
@@ -210,7 +212,7 @@ impl Outline {
         }
     }
 
-    // The least line of a unit that has a name twice.
+    /// The least line of a unit that has a name twice.
     fn least_twice(&self, units: &[Unit]) -> Option<u32>
         requires units { self.now.units ≡ U.names_of S.Any units.now }
         requires lexical { self.now.lexical ≡ U.names_of S.Lexical units.now }
@@ -237,7 +239,7 @@ impl Outline {
         }
     }
 
-    // The least line at which the rule fails.
+    /// The least line at which the rule fails.
     fn least(&self, alloc: Global, sheet: &Sheet, rule: IllRule) -> Result<Option<u32>, Memory>
         requires outline { IsOutlineOf sheet.now self.now }
         requires light { AreLight self.now.rules.items }
@@ -261,7 +263,7 @@ impl Outline {
         }
     }
 
-    // Goes on where the rule fails nowhere.
+    /// Goes on where the rule fails nowhere.
     fn pass(&self, alloc: Global, sheet: &Sheet, rule: IllRule) -> Result<(), PairFault>
         requires outline { IsOutlineOf sheet.now self.now }
         requires light { AreLight self.now.rules.items }

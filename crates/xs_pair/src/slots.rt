@@ -70,7 +70,8 @@ fn is_same(one: &Text, other: &Text) -> bool
     one.as_str() == other.as_str()
 }
 
-// Whether a slot has another name of a unit on the right side, where it stands once on the left side.
+/// Whether a slot has another name of a unit on the right side, where it stands once on the left
+/// side.
 fn names_differ(slots: &Directory, left: &[(Text, Text)], right: &[(Text, Text)]) -> bool
     requires slots { slots.now ≡ map (λ (s : List ℕ × List ℕ). s.0) left.now }
     requires distinct { IsDistinct slots.now }

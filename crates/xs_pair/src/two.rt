@@ -89,7 +89,7 @@ impl Two {
     }
 }
 
-// The lines of the productions.
+/// The lines of the productions.
 fn lines_of(alloc: Global, rules: &[Rule]) -> Result<Vec<u32>, Memory>
     ensures { IfOk result (λ v. v.items ≡ map (λ (r : AnyRule). r.line) rules.now) }
 {
@@ -100,7 +100,7 @@ fn lines_of(alloc: Global, rules: &[Rule]) -> Result<Vec<u32>, Memory>
     Ok(lines)
 }
 
-// The slots of a production, in the order of its text side.
+/// The slots of a production, in the order of its text side.
 fn slot_list(alloc: Global, rule: &Rule) -> Result<Listed<Text>, Memory>
     requires { rule_weight rule.now < 65536 }
     ensures { IfOk result (λ l. l ≡ slot_names rule.now.left) }
@@ -122,7 +122,7 @@ fn slot_lists(alloc: Global, rules: &[Rule]) -> Result<Vec<Listed<Text>>, Memory
     Ok(lists)
 }
 
-// The names of elements and attributes, in order.
+/// The names of elements and attributes, in order.
 fn names_of_marks(alloc: Global, sheet: &Sheet, rules: &[Rule]) -> Result<Names, Memory>
     requires rules { rules.now ≡ rules_of sheet.now.units }
     requires small { weight sheet.now.units < 65536 }
@@ -133,7 +133,7 @@ fn names_of_marks(alloc: Global, sheet: &Sheet, rules: &[Rule]) -> Result<Names,
     Ok(names)
 }
 
-// What the numbers of the two grammars stand for.
+/// What the numbers of the two grammars stand for.
 #[derive(Drop)]
 struct Legend {
     names: Names,
@@ -143,7 +143,7 @@ struct Legend {
 }
 
 impl Outline {
-    // The grammar of one side.
+    /// The grammar of one side.
     fn grammar(
         &self,
         alloc: Global,
@@ -208,7 +208,7 @@ impl Outline {
         })
     }
 
-    // The two grammars, where no rule fails.
+    /// The two grammars, where no rule fails.
     fn checked(&self, alloc: Global, sheet: &Sheet) -> Result<Two, PairFault>
         requires outline { IsOutlineOf sheet.now self.now }
         requires light { AreLight self.now.rules.items }
@@ -230,9 +230,9 @@ impl Outline {
 
 /// The two grammars of a sheet.
 ///
-/// `Ill` comes exactly where one of the first seven rules fails: the first that does, with the least
-/// line at which it does. The sheet is one that some bytes, at most 65,536 of them, spell. The time
-/// is n log n in the sheet, but for that of its regexes.
+/// `Ill` comes exactly where one of the first seven rules fails: the first that does, with the
+/// least line at which it does. The sheet is one that some bytes, at most 65,536 of them, spell.
+/// The time is n log n in the sheet, but for that of its regexes.
 pub fn both(alloc: Global, sheet: &Sheet) -> Result<Two, PairFault>
     requires { IsOfBytes sheet.now }
     ensures two { IfOk result (IsPairOf sheet.now) }

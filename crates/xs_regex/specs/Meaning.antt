@@ -7,6 +7,8 @@ use Rattle.xs_class.specs.Named.{set_named}
 use Rattle.xs_class.specs.Tables.{IsChar}
 use Rattle.xs_regex.specs.declared.regex.Regex.{Regex}
 use Rattle.xs_regex.specs.declared.regex.Regex.TheVariants.{Empty, Set, Then', Or', Star', Times'}
+use Rattle.xs_regex.specs.declared.forms.Join.{Join}
+use Rattle.xs_regex.specs.declared.forms.Join.TheVariants.{Turn, Choice}
 use Rattle.xs_regex.specs.Characters.{Item, span, named, Sort, some_of, none_of}
 use Rattle.xs_regex.specs.Pattern.{Tree, nothing, class, both, either, any, times, IsReading}
 
@@ -42,6 +44,11 @@ abbrev pub MeanEach : List Tree → List Regex → Type 0
 MeanEach [] [] = Unit {0}
 MeanEach (t ∷ ts) (r ∷ rs) = Means t r × MeanEach ts rs
 MeanEach ts rs = ⊥
+
+-- the tree of two that are joined
+abbrev pub tree_of : Join → Tree → Tree → Tree
+tree_of Turn = both
+tree_of Choice = either
 
 -- the trees and then the last, joined from the right
 abbrev pub leaning : (Tree → Tree → Tree) → List Tree → Tree → Tree

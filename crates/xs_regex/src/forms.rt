@@ -1,5 +1,5 @@
 ghost use Rattle.std.specs.Prelude.{List, IfOk};
-ghost use Rattle.xs_regex.specs.Meaning.{Means, MeanEach, leaning};
+ghost use Rattle.xs_regex.specs.Meaning.{Means, MeanEach, leaning, tree_of};
 ghost use Rattle.xs_regex.specs.Pattern as pattern;
 ghost use Rattle.xs_regex.specs.Pattern.{Tree};
 
@@ -7,44 +7,38 @@ use crate::Regex;
 use std::alloc::Global;
 use xs_class::Memory;
 
-/// One regex and then another.
-fn both(alloc: Global, a: Regex, b: Regex) -> Result<Regex, Memory>
-    ensures { IfOk result (λ r. (t u : Tree) → Means t a → Means u b → Means (pattern.both t u) r) }
+/// How regexes are joined: one after another, or as a choice.
+#[derive(Clone, Copy)]
+pub enum Join {
+    Turn,
+    Choice,
+}
+
+/// Two regexes, joined.
+fn joined(alloc: Global, join: Join, a: Regex, b: Regex) -> Result<Regex, Memory>
+    ensures { IfOk result (λ r. (t u : Tree) → Means t a → Means u b → Means (tree_of join t u) r) }
 {
     let first = Box::new(alloc, a)?;
     let second = Box::new(alloc, b)?;
-    Ok(Regex::Then(first, second))
-}
-
-/// One regex or another.
-fn either(alloc: Global, a: Regex, b: Regex) -> Result<Regex, Memory>
-    ensures { IfOk result (λ r. (t u : Tree) → Means t a → Means u b → Means (pattern.either t u) r) }
-{
-    let first = Box::new(alloc, a)?;
-    let second = Box::new(alloc, b)?;
-    Ok(Regex::Or(first, second))
-}
-
-/// The regexes one after another, and then the last.
-pub fn in_turn(alloc: Global, front: Vec<Regex>, last: Regex) -> Result<Regex, Memory>
-    ensures { IfOk result (λ r. (ts : List Tree) (t : Tree) → MeanEach ts front.items → Means t last → Means (leaning pattern.both ts t) r) }
-{
-    let mut left = front;
-    let mut whole = last;
-    'parts: while let Some(part) = left.pop() {
-        whole = both(alloc, part, whole)?;
+    match join {
+        Join::Turn => Ok(Regex::Then(first, second)),
+        Join::Choice => Ok(Regex::Or(first, second)),
     }
-    Ok(whole)
 }
 
-/// One of the regexes, or the last.
-pub fn of_either(alloc: Global, front: Vec<Regex>, last: Regex) -> Result<Regex, Memory>
-    ensures { IfOk result (λ r. (ts : List Tree) (t : Tree) → MeanEach ts front.items → Means t last → Means (leaning pattern.either ts t) r) }
+/// The regexes and the last, joined from the right.
+pub fn all_joined(
+    alloc: Global,
+    join: Join,
+    front: Vec<Regex>,
+    last: Regex,
+) -> Result<Regex, Memory>
+    ensures { IfOk result (λ r. (ts : List Tree) (t : Tree) → MeanEach ts front.items → Means t last → Means (leaning (tree_of join) ts t) r) }
 {
     let mut left = front;
     let mut whole = last;
     'parts: while let Some(part) = left.pop() {
-        whole = either(alloc, part, whole)?;
+        whole = joined(alloc, join, part, whole)?;
     }
     Ok(whole)
 }

@@ -8,7 +8,7 @@ ghost use Rattle.xs_regex.specs.Scan.{count_after, class_of, closed, regex_at, p
 ghost use Rattle.xs_regex.specs.Reported.{IsReported};
 
 use crate::characters::{counts, next};
-use crate::forms::{any, in_turn, of_either, times};
+use crate::forms::{Join, all_joined, any, times};
 use crate::sets::set;
 use crate::{Regex, RegexFault};
 use std::alloc::Global;
@@ -33,7 +33,7 @@ pub fn regex(
         match sequence(alloc, bound, depth, here) {
             Ok((part, left)) => {
                 let Some(rest) = after_bar(left) else {
-                    let whole = of_either(alloc, front, part)?;
+                    let whole = all_joined(alloc, Join::Choice, front, part)?;
                     return Ok((whole, left));
                 };
                 front.push(part)?;
@@ -97,7 +97,7 @@ fn pieces(
         match piece(alloc, bound, depth, here) {
             Ok((part, left)) => {
                 if ends(left) {
-                    let whole = in_turn(alloc, front, part)?;
+                    let whole = all_joined(alloc, Join::Turn, front, part)?;
                     return Ok((whole, left));
                 }
                 front.push(part)?;

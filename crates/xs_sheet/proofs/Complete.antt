@@ -10,17 +10,17 @@ use Rattle.xs_sheet.specs.declared.x_item.Attr.{Attr}
 use Rattle.xs_sheet.specs.Outline.{Content, nothing, item, element, UnitOutline, terminal, ignorable, production, Outline}
 use Rattle.xs_sheet.specs.Pieces.{same}
 use Rattle.xs_sheet.specs.Grammar.{IsWord, IsUnitName, IsName, IsString, IsRegular, ReadsItem, ReadsItems, ReadsAttrs, ReadsClosing, ReadsSign, ReadsContent, ReadsUnit, ReadsUnits, ReadsSheet}
-use Rattle.xs_sheet.specs.Machine.{is_kind, is_word, is_unit_name, is_name, Head, with_unit, Draft, Opened, Inside, Place, left_side, inside, value, put, puts, State, begin, versioned, started, units, named, equals, regular, normal, colon, at, square, square_name, square_slot, angle, attrs, attr_equals, closing, closed, Step, go, finish, go_if, outline_at, between, in_tag, with_attr, with_empty, with_open, with_production, step, done, follow, run}
+use Rattle.xs_sheet.specs.Machine.{is_kind, is_word, is_unit_name, is_name, Head, with_unit, Draft, Opened, Inside, Site, left_side, inside, value, put, puts, State, begin, versioned, started, units, named, equals, regular, normal, colon, at, square, square_name, square_slot, angle, attrs, attr_equals, closing, closed, Transition, go, finish, go_if, outline_at, between, in_tag, with_attr, with_empty, with_open, with_production, step, done, follow, run}
 use Rattle.xs_sheet.proofs.KindLaws.{kind_here, same_self, same_here}
 
 pub run_go : (s t : State) (p : Piece) (rest : List Piece) → step s p ≡ go t → run s (p ∷ rest) ≡ run t rest
-run_go s t p rest is = ap (λ (z : Step). follow z p (λ u. run u rest) rest) is
+run_go s t p rest is = ap (λ (z : Transition). follow z p (λ u. run u rest) rest) is
 
 with_kind : Piece → Kind → Piece
 with_kind p k = record { kind = k; text = p.text; regular = p.regular; start = p.start; line = p.line }
 
 -- a step at a piece of a known kind
-at_kind : (s : State) (p : Piece) (k : Kind) (r : Step) → p.kind ≡ k → step s (with_kind p k) ≡ r → step s p ≡ r
+at_kind : (s : State) (p : Piece) (k : Kind) (r : Transition) → p.kind ≡ k → step s (with_kind p k) ≡ r → step s p ≡ r
 unfolding with_kind
 at_kind s p k r is here = subst (λ (z : Kind). step s (with_kind p z) ≡ r) (sym is) here
 
@@ -49,37 +49,37 @@ word_is : (p : Piece) (word : List ℕ) → IsWord p word → is_word word p ≡
 word_is p word w = rw (kind_here p.kind Plain w.plain, w.word_is) (same_self word)
 
 -- items
-string_step : (pl : Place) (p : Piece) (text : List ℕ) → IsString p text → step (at pl) p ≡ go (at (put pl (Fixed text)))
+string_step : (pl : Site) (p : Piece) (text : List ℕ) → IsString p text → step (at pl) p ≡ go (at (put pl (Fixed text)))
 unfolding is_kind with_kind
 string_step pl p text s = text_of (at pl) (λ z. at (put pl (Fixed z))) p text (at_kind (at pl) p Quoted (go (at (put pl (Fixed p.text)))) s.kind refl) s.text_is
 
-square_step : (pl : Place) (p : Piece) → p.kind ≡ SquareIn → step (at pl) p ≡ go (square pl)
+square_step : (pl : Site) (p : Piece) → p.kind ≡ SquareIn → step (at pl) p ≡ go (square pl)
 unfolding is_kind with_kind
 square_step pl p is = at_kind (at pl) p SquareIn (go (square pl)) is refl
 
-square_name_step : (pl : Place) (p : Piece) (name : List ℕ) → IsUnitName p name → step (square pl) p ≡ go (square_name pl name)
+square_name_step : (pl : Site) (p : Piece) (name : List ℕ) → IsUnitName p name → step (square pl) p ≡ go (square_name pl name)
 square_name_step pl p name n = text_of (square pl) (λ z. square_name pl z) p name (go_yes (is_unit_name p) (square_name pl p.text) (unit_name_is p name n)) n.name_is
 
-skip_step : (pl : Place) (name : List ℕ) (p : Piece) → p.kind ≡ SquareOut → step (square_name pl name) p ≡ go (at (put pl (Skip name)))
+skip_step : (pl : Site) (name : List ℕ) (p : Piece) → p.kind ≡ SquareOut → step (square_name pl name) p ≡ go (at (put pl (Skip name)))
 unfolding is_kind with_kind
 skip_step pl name p is = at_kind (square_name pl name) p SquareOut (go (at (put pl (Skip name)))) is refl
 
-slot_step : (pl : Place) (name : List ℕ) (p : Piece) (slot : List ℕ) → IsUnitName p slot → step (square_name pl name) p ≡ go (square_slot pl name slot)
+slot_step : (pl : Site) (name : List ℕ) (p : Piece) (slot : List ℕ) → IsUnitName p slot → step (square_name pl name) p ≡ go (square_slot pl name slot)
 unfolding is_kind with_kind
 slot_step pl name p slot n = text_of (square_name pl name) (λ z. square_slot pl name z) p slot (at_kind (square_name pl name) p Plain (go (square_slot pl name p.text)) n.plain (rw n.free refl)) n.name_is
 
-named_step : (pl : Place) (name slot : List ℕ) (p : Piece) → p.kind ≡ SquareOut → step (square_slot pl name slot) p ≡ go (at (put pl (Named name slot)))
+named_step : (pl : Site) (name slot : List ℕ) (p : Piece) → p.kind ≡ SquareOut → step (square_slot pl name slot) p ≡ go (at (put pl (Named name slot)))
 unfolding is_kind with_kind
 named_step pl name slot p is = at_kind (square_slot pl name slot) p SquareOut (go (at (put pl (Named name slot)))) is refl
 
-pub item_complete : (i : Item) (ps rest : List Piece) (pl : Place) → ReadsItem i ps rest → run (at pl) ps ≡ run (at (put pl i)) rest
+pub item_complete : (i : Item) (ps rest : List Piece) (pl : Site) → ReadsItem i ps rest → run (at pl) ps ≡ run (at (put pl i)) rest
 item_complete (Fixed text) ps rest pl r = ap (λ (z : List Piece). run (at pl) z) r.1 ∙ run_go (at pl) (at (put pl (Fixed text))) r.0 rest (string_step pl r.0 text r.2)
 item_complete (Skip name) ps rest pl r =
     ap (λ (z : List Piece). run (at pl) z) r.3 ∙ run_go (at pl) (square pl) r.0 (r.1 ∷ r.2 ∷ rest) (square_step pl r.0 r.4) ∙ run_go (square pl) (square_name pl name) r.1 (r.2 ∷ rest) (square_name_step pl r.1 name r.5) ∙ run_go (square_name pl name) (at (put pl (Skip name))) r.2 rest (skip_step pl name r.2 r.6)
 item_complete (Named name slot) ps rest pl r =
     ap (λ (z : List Piece). run (at pl) z) r.4 ∙ run_go (at pl) (square pl) r.0 (r.1 ∷ r.2 ∷ r.3 ∷ rest) (square_step pl r.0 r.5) ∙ run_go (square pl) (square_name pl name) r.1 (r.2 ∷ r.3 ∷ rest) (square_name_step pl r.1 name r.6) ∙ run_go (square_name pl name) (square_slot pl name slot) r.2 (r.3 ∷ rest) (slot_step pl name r.2 slot r.7) ∙ run_go (square_slot pl name slot) (at (put pl (Named name slot))) r.3 rest (named_step pl name slot r.3 r.8)
 
-pub items_complete : (is : List Item) (ps rest : List Piece) (pl : Place) → ReadsItems is ps rest → run (at pl) ps ≡ run (at (puts pl is)) rest
+pub items_complete : (is : List Item) (ps rest : List Piece) (pl : Site) → ReadsItems is ps rest → run (at pl) ps ≡ run (at (puts pl is)) rest
 items_complete [] ps rest pl r = ap (λ (z : List Piece). run (at pl) z) r
 items_complete (i ∷ is) ps rest pl r = item_complete i ps r.0 pl r.1 ∙ items_complete is r.0 rest (put pl i) r.2
 
@@ -91,7 +91,7 @@ puts_value : (c : Inside) (tag : List ℕ) (as_ : List Attr) (name : List ℕ) (
 puts_value c tag as_ name xs [] = ap (λ (z : List Item). value c tag as_ name z) (sym (append-nil xs))
 puts_value c tag as_ name xs (i ∷ is) = puts_value c tag as_ name (xs ++ i ∷ []) is ∙ ap (λ (z : List Item). value c tag as_ name z) (append_assoc xs (i ∷ []) is)
 
--- a state inside a tag, behind some attributes
+-- a state inside a tag, after some attributes
 IsInTag : State → Inside → List ℕ → List Attr → Type 0
 IsInTag s c tag as_ = (p : Piece) → is_kind p.kind Quoted ≡ false → is_kind p.kind SquareIn ≡ false → step s p ≡ in_tag c tag as_ p
 
@@ -122,9 +122,9 @@ attrs_complete : (as_ : List Attr) (ps rest : List Piece) (s : State) (c : Insid
 attrs_complete [] ps rest s c tag before here r = (s, ap (λ (z : List Piece). run s z) r, subst (λ (z : List Attr). IsInTag s c tag z) (sym (append-nil before)) here)
 attrs_complete (a ∷ as_) ps rest s c tag before here r =
     let one = r.1 in
-    let named = ap (λ (z : List Piece). run s z) one.is ∙ run_go s (attr_equals c tag before a.name) one.name (one.equals ∷ one.behind) (attr_name_step s c tag before one.name a.name here one.name_is) in
-    let opened = run_go (attr_equals c tag before a.name) (at (value c tag before a.name [])) one.equals one.behind (equals_step c tag before a.name one.equals one.equals_is) in
-    let valued = items_complete a.value one.behind r.0 (value c tag before a.name []) one.value ∙ ap (λ (z : Place). run (at z) r.0) (puts_value c tag before a.name [] a.value) in
+    let named = ap (λ (z : List Piece). run s z) one.is ∙ run_go s (attr_equals c tag before a.name) one.name (one.equals ∷ one.next) (attr_name_step s c tag before one.name a.name here one.name_is) in
+    let opened = run_go (attr_equals c tag before a.name) (at (value c tag before a.name [])) one.equals one.next (equals_step c tag before a.name one.equals one.equals_is) in
+    let valued = items_complete a.value one.next r.0 (value c tag before a.name []) one.value ∙ ap (λ (z : Site). run (at z) r.0) (puts_value c tag before a.name [] a.value) in
     let more = attrs_complete as_ r.0 rest (at (value c tag before a.name a.value)) c tag (with_attr before a.name a.value) (value_in_tag c tag before a.name a.value one.some) r.2 in
     (more.0, named ∙ opened ∙ valued ∙ more.1, subst (λ (z : List Attr). IsInTag more.0 c tag z) (append_assoc before (a ∷ []) as_) more.2)
 
@@ -147,14 +147,14 @@ slash_end_step : (s : State) (c : Inside) (tag : List ℕ) (as_ : List Attr) (p 
 unfolding is_kind IsInTag
 slash_end_step s c tag as_ p here is = here p (ap (λ (z : Kind). is_kind z Quoted) is) (ap (λ (z : Kind). is_kind z SquareIn) is) ∙ in_tag_at (go (at (inside (with_empty c tag as_)))) refl
   where
-    in_tag_at : (r : Step) → in_tag c tag as_ (record { kind = SlashEnd; text = p.text; regular = p.regular; start = p.start; line = p.line }) ≡ r → in_tag c tag as_ p ≡ r
+    in_tag_at : (r : Transition) → in_tag c tag as_ (record { kind = SlashEnd; text = p.text; regular = p.regular; start = p.start; line = p.line }) ≡ r → in_tag c tag as_ p ≡ r
     in_tag_at r e = subst (λ (z : Kind). in_tag c tag as_ (record { kind = z; text = p.text; regular = p.regular; start = p.start; line = p.line }) ≡ r) (sym is) e
 
 angle_end_step : (s : State) (c : Inside) (tag : List ℕ) (as_ : List Attr) (p : Piece) → IsInTag s c tag as_ → p.kind ≡ AngleEnd → step s p ≡ go (at (inside (with_open c tag as_)))
 unfolding is_kind IsInTag
 angle_end_step s c tag as_ p here is = here p (ap (λ (z : Kind). is_kind z Quoted) is) (ap (λ (z : Kind). is_kind z SquareIn) is) ∙ in_tag_at (go (at (inside (with_open c tag as_)))) refl
   where
-    in_tag_at : (r : Step) → in_tag c tag as_ (record { kind = AngleEnd; text = p.text; regular = p.regular; start = p.start; line = p.line }) ≡ r → in_tag c tag as_ p ≡ r
+    in_tag_at : (r : Transition) → in_tag c tag as_ (record { kind = AngleEnd; text = p.text; regular = p.regular; start = p.start; line = p.line }) ≡ r → in_tag c tag as_ p ≡ r
     in_tag_at r e = subst (λ (z : Kind). in_tag c tag as_ (record { kind = z; text = p.text; regular = p.regular; start = p.start; line = p.line }) ≡ r) (sym is) e
 
 closing_step : (d : Draft) (o : Opened) (os : List Opened) (inner : Content) (p : Piece) → p.kind ≡ AngleSlash → step (at (inside (record { draft = d; opens = o ∷ os; so_far = inner }))) p ≡ go (closing d o os inner)
@@ -212,7 +212,7 @@ content_between d right = λ p e. by p e
     by p (inl e) = subst (λ (z : Kind). step (place_of d [] right) (with_kind p z) ≡ between (with_production d right) (with_kind p z)) (sym e) refl
     by p (inr e) = subst (λ (z : Kind). step (place_of d [] right) (with_kind p z) ≡ between (with_production d right) (with_kind p z)) (sym e) refl
 
-between_at : (h : Head) (p : Piece) (r : Step) → p.kind ≡ Plain → between h (with_kind p Plain) ≡ r → between h p ≡ r
+between_at : (h : Head) (p : Piece) (r : Transition) → p.kind ≡ Plain → between h (with_kind p Plain) ≡ r → between h p ≡ r
 unfolding with_kind
 between_at h p r is here = subst (λ (z : Kind). between h (with_kind p z) ≡ r) (sym is) here
 
@@ -275,7 +275,7 @@ unit_complete (production name left right line) ps rest s h here r =
     let d : Draft = record { head = h; name = name; line = line; left = left } in
     let first = here r.name_piece (inl r.name_is.plain) ∙ production_word h r.name_piece name r.name_is ∙ ap (λ (n : ℕ). go (colon h name n)) r.line_is in
     let sign = r.equals_is in
-    (place_of d [] right, ap (λ (z : List Piece). run s z) r.is ∙ run_go s (colon h name line) r.name_piece (r.colon ∷ r.behind) first ∙ run_go (colon h name line) (at (left_side h name line [])) r.colon r.behind (colon_step h name line r.colon r.colon_is) ∙ items_complete left r.behind r.mid (left_side h name line []) r.left_is ∙ ap (λ (z : Place). run (at z) r.mid) (puts_left h name line [] left) ∙ ap (λ (z : List Piece). run (at (left_side h name line left)) z) sign.is ∙ run_go (at (left_side h name line left)) (place_of d [] nothing) sign.sign r.inside (left_step h name line left sign.sign sign.kind_is) ∙ content_complete right 0 r.inside rest d [] refl r.right_is, content_between d right)
+    (place_of d [] right, ap (λ (z : List Piece). run s z) r.is ∙ run_go s (colon h name line) r.name_piece (r.colon ∷ r.next) first ∙ run_go (colon h name line) (at (left_side h name line [])) r.colon r.next (colon_step h name line r.colon r.colon_is) ∙ items_complete left r.next r.mid (left_side h name line []) r.left_is ∙ ap (λ (z : Site). run (at z) r.mid) (puts_left h name line [] left) ∙ ap (λ (z : List Piece). run (at (left_side h name line left)) z) sign.is ∙ run_go (at (left_side h name line left)) (place_of d [] nothing) sign.sign r.inside (left_step h name line left sign.sign sign.kind_is) ∙ content_complete right 0 r.inside rest d [] refl r.right_is, content_between d right)
 
 with_units : Head → List UnitOutline → Head
 with_units h us = record { start = h.start; start_line = h.start_line; units = h.units ++ us }
@@ -293,17 +293,17 @@ unfolding is_kind with_kind
 end_here h p is = subst (λ (z : Kind). between h (with_kind p z) ≡ finish (outline_at h)) (sym is) refl
 
 run_finish : (s : State) (o : Outline) (p : Piece) (rest : List Piece) → step s p ≡ finish o → run s (p ∷ rest) ≡ done o rest
-run_finish s o p rest is = ap (λ (z : Step). follow z p (λ u. run u rest) rest) is
+run_finish s o p rest is = ap (λ (z : Transition). follow z p (λ u. run u rest) rest) is
 
 -- a reading of the grammar is what the reader gives
 pub sheet_complete : (ps : List Piece) (o : Outline) → ReadsSheet ps o → run begin ps ≡ done o []
 unfolding IsBetween with_units
 sheet_complete ps o r =
     let h : Head = record { start = o.start; start_line = o.start_line; units = [] } in
-    let all = units_complete o.units r.behind r.mid (units h) h (units_between h) r.units_are in
+    let all = units_complete o.units r.next r.mid (units h) h (units_between h) r.units_are in
     let sign = r.end_is in
     let last = run_finish all.0 (outline_at (record { start = o.start; start_line = o.start_line; units = o.units })) sign.sign [] (all.2 sign.sign (inr sign.kind_is) ∙ end_here (record { start = o.start; start_line = o.start_line; units = o.units }) sign.sign sign.kind_is) in
     let version = go_yes (is_word (codes "xsugar-1") r.word) versioned (word_is r.word (codes "xsugar-1") r.word_is) in
     let start_word = go_yes (is_word (codes "start") r.start_word) (started r.start_word.line) (word_is r.start_word (codes "start") r.start_is) ∙ ap (λ (n : ℕ). go (started n)) r.line_is in
     let name = text_of (started o.start_line) (λ z. units (record { start = z; start_line = o.start_line; units = [] })) r.name_piece o.start (go_yes (is_unit_name r.name_piece) (units (record { start = r.name_piece.text; start_line = o.start_line; units = [] })) (unit_name_is r.name_piece o.start r.name_is)) r.name_is.name_is in
-    ap (λ (z : List Piece). run begin z) r.is ∙ run_go begin versioned r.word (r.start_word ∷ r.name_piece ∷ r.behind) version ∙ run_go versioned (started o.start_line) r.start_word (r.name_piece ∷ r.behind) start_word ∙ run_go (started o.start_line) (units h) r.name_piece r.behind name ∙ all.1 ∙ ap (λ (z : List Piece). run all.0 z) sign.is ∙ last ∙ ap (λ (n : ℕ). done (record { version = n; start = o.start; start_line = o.start_line; units = o.units }) []) (sym r.version_is)
+    ap (λ (z : List Piece). run begin z) r.is ∙ run_go begin versioned r.word (r.start_word ∷ r.name_piece ∷ r.next) version ∙ run_go versioned (started o.start_line) r.start_word (r.name_piece ∷ r.next) start_word ∙ run_go (started o.start_line) (units h) r.name_piece r.next name ∙ all.1 ∙ ap (λ (z : List Piece). run all.0 z) sign.is ∙ last ∙ ap (λ (n : ℕ). done (record { version = n; start = o.start; start_line = o.start_line; units = o.units }) []) (sym r.version_is)

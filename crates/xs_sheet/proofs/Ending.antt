@@ -6,74 +6,58 @@ use Rattle.xs_sheet.specs.declared.piece.Piece.{Piece}
 use Rattle.xs_sheet.specs.declared.item.Item.TheVariants.{Fixed, Named, Skip}
 use Rattle.xs_sheet.specs.Outline.{nothing, element, ignorable, Outline}
 use Rattle.xs_sheet.specs.Pieces.{same}
-use Rattle.xs_sheet.specs.Machine.{is_kind, is_word, is_unit_name, is_name, is_regular, Head, with_unit, Opened, Inside, Place, left_side, inside, value, put, State, begin, versioned, started, units, named, equals, regular, normal, colon, at, square, square_name, square_slot, angle, attrs, attr_equals, closing, closed, Step, go, finish, refuse, go_if, outline_at, between, behind_pattern, closes, leaves, leave, with_attr, with_production, step, done, unfinished, follow, run}
+use Rattle.xs_sheet.specs.Machine.{is_kind, is_word, is_unit_name, is_name, is_regular, Head, with_unit, Opened, Inside, Site, left_side, inside, value, put, State, begin, versioned, started, units, named, equals, regular, normal, colon, at, square, square_name, square_slot, angle, attrs, attr_equals, closing, closed, Transition, go, finish, refuse, go_if, outline_at, between, after_pattern, closes, leaves, leave, with_attr, with_production, step, done, unfinished, follow, run}
 use Rattle.xs_sheet.proofs.Pieced.{IsEnding}
 use Rattle.xs_sheet.proofs.Whole.{done_inj, go_if_no, if_no, in_tag_no, closes_no}
 
 abbrev as_kind : Piece → Kind → Piece
 as_kind p k = record { kind = k; text = p.text; regular = p.regular; start = p.start; line = p.line }
 
-opens_stop : (c : Inside) (os : List Opened) (p : Piece) (t : State) → leaves c os (as_kind p End) ≡ go t → ⊥
-unfolding is_kind
-opens_stop c [] p t e = cc
-opens_stop c (o ∷ os) p t e = cc
+-- the kind of a last piece: that of the end, or that of a bad token
+abbrev last_kind : Bool → Kind
+last_kind true = End
+last_kind false = Bad
 
-opens_stop_bad : (c : Inside) (os : List Opened) (p : Piece) (t : State) → leaves c os (as_kind p Bad) ≡ go t → ⊥
+opens_stop : (c : Inside) (os : List Opened) (p : Piece) (b : Bool) (t : State) → leaves c os (as_kind p (last_kind b)) ≡ go t → ⊥
 unfolding is_kind
-opens_stop_bad c [] p t e = cc
-opens_stop_bad c (o ∷ os) p t e = cc
+opens_stop c [] p true t e = cc
+opens_stop c [] p false t e = cc
+opens_stop c (o ∷ os) p b t e = cc
 
-end_stops : (s : State) (p : Piece) (t : State) → step s (as_kind p End) ≡ go t → ⊥
-unfolding is_kind
-end_stops begin p t e = cc
-end_stops versioned p t e = cc
-end_stops (started line) p t e = cc
-end_stops (units h) p t e = cc
-end_stops (named h k line) p t e = cc
-end_stops (equals h k line name) p t e = cc
-end_stops (regular h k line name) p t e = cc
-end_stops (normal h line name pattern) p t e = cc
-end_stops (colon h name line) p t e = cc
-end_stops (at (left_side h name line is)) p t e = cc
-end_stops (at (inside c)) p t e = opens_stop c c.opens p t e
-end_stops (at (value c tag as_ name [])) p t e = cc
-end_stops (at (value c tag as_ name (i ∷ is))) p t e = cc
-end_stops (square pl) p t e = cc
-end_stops (square_name pl name) p t e = cc
-end_stops (square_slot pl name slot) p t e = cc
-end_stops (angle c) p t e = cc
-end_stops (attrs c tag as_) p t e = cc
-end_stops (attr_equals c tag as_ name) p t e = cc
-end_stops (closing d o os inner) p t e = cc
-end_stops (closed d o os inner) p t e = cc
+abbrev Stops : State → Piece → State → Bool → Type 0
+Stops s p t b = step s (as_kind p (last_kind b)) ≡ go t → ⊥
 
-bad_stops : (s : State) (p : Piece) (t : State) → step s (as_kind p Bad) ≡ go t → ⊥
+both : (Q : Bool → Type 0) → Q true → Q false → (b : Bool) → Q b
+both Q one other true = one
+both Q one other false = other
+
+stops : (s : State) (p : Piece) (t : State) (b : Bool) → Stops s p t b
 unfolding is_kind
-bad_stops begin p t e = cc
-bad_stops versioned p t e = cc
-bad_stops (started line) p t e = cc
-bad_stops (units h) p t e = cc
-bad_stops (named h k line) p t e = cc
-bad_stops (equals h k line name) p t e = cc
-bad_stops (regular h k line name) p t e = cc
-bad_stops (normal h line name pattern) p t e = cc
-bad_stops (colon h name line) p t e = cc
-bad_stops (at (left_side h name line is)) p t e = cc
-bad_stops (at (inside c)) p t e = opens_stop_bad c c.opens p t e
-bad_stops (at (value c tag as_ name [])) p t e = cc
-bad_stops (at (value c tag as_ name (i ∷ is))) p t e = cc
-bad_stops (square pl) p t e = cc
-bad_stops (square_name pl name) p t e = cc
-bad_stops (square_slot pl name slot) p t e = cc
-bad_stops (angle c) p t e = cc
-bad_stops (attrs c tag as_) p t e = cc
-bad_stops (attr_equals c tag as_ name) p t e = cc
-bad_stops (closing d o os inner) p t e = cc
-bad_stops (closed d o os inner) p t e = cc
+stops begin p t b = both (Stops begin p t) (λ e. cc) (λ e. cc) b
+stops versioned p t b = both (Stops versioned p t) (λ e. cc) (λ e. cc) b
+stops (started line) p t b = both (Stops (started line) p t) (λ e. cc) (λ e. cc) b
+stops (units h) p t b = both (Stops (units h) p t) (λ e. cc) (λ e. cc) b
+stops (named h k line) p t b = both (Stops (named h k line) p t) (λ e. cc) (λ e. cc) b
+stops (equals h k line name) p t b = both (Stops (equals h k line name) p t) (λ e. cc) (λ e. cc) b
+stops (regular h k line name) p t b = both (Stops (regular h k line name) p t) (λ e. cc) (λ e. cc) b
+stops (normal h line name pattern) p t b = both (Stops (normal h line name pattern) p t) (λ e. cc) (λ e. cc) b
+stops (colon h name line) p t b = both (Stops (colon h name line) p t) (λ e. cc) (λ e. cc) b
+stops (at (left_side h name line is)) p t b = both (Stops (at (left_side h name line is)) p t) (λ e. cc) (λ e. cc) b
+stops (at (inside c)) p t b = both (Stops (at (inside c)) p t) (λ e. opens_stop c c.opens p true t e) (λ e. opens_stop c c.opens p false t e) b
+stops (at (value c tag as_ name [])) p t b = both (Stops (at (value c tag as_ name [])) p t) (λ e. cc) (λ e. cc) b
+stops (at (value c tag as_ name (i ∷ is))) p t b = both (Stops (at (value c tag as_ name (i ∷ is))) p t) (λ e. cc) (λ e. cc) b
+stops (square pl) p t b = both (Stops (square pl) p t) (λ e. cc) (λ e. cc) b
+stops (square_name pl name) p t b = both (Stops (square_name pl name) p t) (λ e. cc) (λ e. cc) b
+stops (square_slot pl name slot) p t b = both (Stops (square_slot pl name slot) p t) (λ e. cc) (λ e. cc) b
+stops (angle c) p t b = both (Stops (angle c) p t) (λ e. cc) (λ e. cc) b
+stops (attrs c tag as_) p t b = both (Stops (attrs c tag as_) p t) (λ e. cc) (λ e. cc) b
+stops (attr_equals c tag as_ name) p t b = both (Stops (attr_equals c tag as_ name) p t) (λ e. cc) (λ e. cc) b
+stops (closing d o os inner) p t b = both (Stops (closing d o os inner) p t) (λ e. cc) (λ e. cc) b
+stops (closed d o os inner) p t b = both (Stops (closed d o os inner) p t) (λ e. cc) (λ e. cc) b
 
 last_stops : (s : State) (p : Piece) (t : State) → (p.kind ≡ End) ⊎ (p.kind ≡ Bad) → step s p ≡ go t → ⊥
-last_stops s p t (inl k) e = end_stops s p t (subst (λ (z : Kind). step s (as_kind p z) ≡ go t) k e)
-last_stops s p t (inr k) e = bad_stops s p t (subst (λ (z : Kind). step s (as_kind p z) ≡ go t) k e)
+last_stops s p t (inl k) e = stops s p t true (subst (λ (z : Kind). step s (as_kind p z) ≡ go t) k e)
+last_stops s p t (inr k) e = stops s p t false (subst (λ (z : Kind). step s (as_kind p z) ≡ go t) k e)
 
 -- only the end of a file finishes
 between_ends : (h : Head) (p : Piece) (o : Outline) → between h p ≡ finish o → is_kind p.kind End ≡ true
@@ -90,7 +74,7 @@ leaves_ends : (c : Inside) (os : List Opened) (p : Piece) (o : Outline) → leav
 leaves_ends c [] p o e = between_ends (with_production c.draft c.so_far) p o e
 leaves_ends c (x ∷ os) p o e = absurd (cc)
 
-leave_ends : (pl : Place) (p : Piece) (o : Outline) → leave pl p ≡ finish o → is_kind p.kind End ≡ true
+leave_ends : (pl : Site) (p : Piece) (o : Outline) → leave pl p ≡ finish o → is_kind p.kind End ≡ true
 leave_ends (left_side h name line is) p o g = absurd (go_if_no (is_kind p.kind Equals) (at (inside (record { draft = record { head = h; name = name; line = line; left = is }; opens = []; so_far = nothing }))) o g)
 leave_ends (inside c) p o g = by (is_kind p.kind Angle) (is_kind p.kind AngleSlash) g
   where
@@ -108,7 +92,7 @@ finish_ends (started line) p o g = absurd (go_if_no (is_unit_name p) (units (rec
 finish_ends (units h) p o g = between_ends h p o g
 finish_ends (named h t line) p o g = absurd (go_if_no (is_unit_name p) (equals h t line p.text) o g)
 finish_ends (equals h t line name) p o g = absurd (go_if_no (is_kind p.kind Equals) (regular h t line name) o g)
-finish_ends (regular h t line name) p o g = absurd (go_if_no (is_regular p) (behind_pattern h t line name p) o g)
+finish_ends (regular h t line name) p o g = absurd (go_if_no (is_regular p) (after_pattern h t line name p) o g)
 finish_ends (normal h line name pattern) p o g = absurd (go_if_no (is_kind p.kind Quoted) (units (with_unit h (ignorable name pattern p.text line))) o g)
 finish_ends (colon h name line) p o g = absurd (go_if_no (is_kind p.kind Colon) (at (left_side h name line [])) o g)
 finish_ends (at pl) p o g = by (is_kind p.kind Quoted) (is_kind p.kind SquareIn) g
@@ -135,13 +119,13 @@ unfolding IsEnding
 never_unfinished [] s end is = end
 never_unfinished (p ∷ []) s end is = by (step s p) refl is
   where
-    by : (r : Step) → step s p ≡ r → follow r p (λ u. run u []) [] ≡ unfinished → ⊥
+    by : (r : Transition) → step s p ≡ r → follow r p (λ u. run u []) [] ≡ unfinished → ⊥
     by (go t) e f = last_stops s p t end e
     by (finish o) e f = cc
     by refuse e f = cc
 never_unfinished (p ∷ q ∷ qs) s end is = by (step s p) is (λ t e. never_unfinished (q ∷ qs) t end.1 e)
   where
-    by : (r : Step) → follow r p (λ u. run u (q ∷ qs)) (q ∷ qs) ≡ unfinished → ((t : State) → run t (q ∷ qs) ≡ unfinished → ⊥) → ⊥
+    by : (r : Transition) → follow r p (λ u. run u (q ∷ qs)) (q ∷ qs) ≡ unfinished → ((t : State) → run t (q ∷ qs) ≡ unfinished → ⊥) → ⊥
     by (go t) f again = again t f
     by (finish o) f again = cc
     by refuse f again = cc
@@ -151,13 +135,13 @@ unfolding IsEnding
 done_last [] s o rest end is = absurd end
 done_last (p ∷ []) s o rest end is = by (step s p) is
   where
-    by : (r : Step) → follow r p (λ u. run u []) [] ≡ done o rest → rest ≡ []
+    by : (r : Transition) → follow r p (λ u. run u []) [] ≡ done o rest → rest ≡ []
     by (go t) f = absurd (cc)
     by (finish q) f = sym (done_inj q o [] rest f).1
     by refuse f = absurd (cc)
 done_last (p ∷ q ∷ qs) s o rest end is = by (step s p) refl is (λ t e. done_last (q ∷ qs) t o rest end.1 e)
   where
-    by : (r : Step) → step s p ≡ r → follow r p (λ u. run u (q ∷ qs)) (q ∷ qs) ≡ done o rest → ((t : State) → run t (q ∷ qs) ≡ done o rest → rest ≡ []) → rest ≡ []
+    by : (r : Transition) → step s p ≡ r → follow r p (λ u. run u (q ∷ qs)) (q ∷ qs) ≡ done o rest → ((t : State) → run t (q ∷ qs) ≡ done o rest → rest ≡ []) → rest ≡ []
     by (go t) e f again = again t f
     by (finish x) e f again = absurd (not_both (is_kind p.kind End) (finish_ends s p x e) end.0)
     by refuse e f again = absurd (cc)

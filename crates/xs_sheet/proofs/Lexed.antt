@@ -16,7 +16,7 @@ use Rattle.xs_lex.proofs.Truth.{white_ends, plain_start_in, line_end_white}
 use Rattle.xs_lex.proofs.TokenLaws.{nothing_is, separated}
 use Rattle.xs_regex.specs.declared.regex.Regex.{Regex}
 use Rattle.xs_sheet.specs.Regular.{IsRegex}
-use Rattle.xs_sheet.specs.Layout.{Written, as_is, in_quotes, in_slashes, sign, spelling, spaced, lines_text}
+use Rattle.xs_sheet.specs.Layout.{sign_spelling, Written, as_is, in_quotes, in_slashes, sign, spelling, spaced, lines_text}
 use Rattle.xs_sheet.proofs.Escapes.{line_ends-append, scalars-append, quoted_is, quoted_one_line, quoted_scalars}
 use Rattle.xs_class.proofs.Truth.{and_true, both_true, not_true, no_other}
 use Rattle.xs_class.specs.Tables.{is_name_start}
@@ -72,6 +72,23 @@ pub good-append : (a b : List Written) → AreGood a → AreGood b → AreGood (
 good-append [] b x y = y
 good-append (w ∷ ws) b x y = (x.0, good-append ws b x.1 y)
 
+-- what holds of each sign holds of a kind that is one
+by_sign_kind : (Q : Kind → Type 0) → Q Colon → Q Equals → Q SquareIn → Q SquareOut → Q Angle → Q AngleSlash → Q AngleEnd → Q SlashEnd → (k : Kind) → IsSign k → Q k
+by_sign_kind Q c e si so a as_ ae se Colon g = c
+by_sign_kind Q c e si so a as_ ae se Equals g = e
+by_sign_kind Q c e si so a as_ ae se SquareIn g = si
+by_sign_kind Q c e si so a as_ ae se SquareOut g = so
+by_sign_kind Q c e si so a as_ ae se Angle g = a
+by_sign_kind Q c e si so a as_ ae se AngleSlash g = as_
+by_sign_kind Q c e si so a as_ ae se AngleEnd g = ae
+by_sign_kind Q c e si so a as_ ae se SlashEnd g = se
+by_sign_kind Q c e si so a as_ ae se Plain g = absurd g
+by_sign_kind Q c e si so a as_ ae se Qual g = absurd g
+by_sign_kind Q c e si so a as_ ae se Quoted g = absurd g
+by_sign_kind Q c e si so a as_ ae se Pattern g = absurd g
+by_sign_kind Q c e si so a as_ ae se End g = absurd g
+by_sign_kind Q c e si so a as_ ae se Bad g = absurd g
+
 -- its kind spells it
 name_spelt : (t : Bool) (w : List ℕ) → is_plain w ≡ t → (is_plain w ≡ true) ⊎ IsQual w → Spells (kind_if t) w
 name_spelt true w e g = e
@@ -82,20 +99,7 @@ pub spells : (w : Written) → IsGood w → Spells (kind_of w) (spelling w)
 spells (as_is w) g = name_spelt (is_plain w) w refl g.0
 spells (in_quotes text) g = (text, quoted_is text)
 spells (in_slashes inner) g = (inner, g.0)
-spells (sign Colon) g = refl
-spells (sign Equals) g = refl
-spells (sign SquareIn) g = refl
-spells (sign SquareOut) g = refl
-spells (sign Angle) g = refl
-spells (sign AngleSlash) g = refl
-spells (sign AngleEnd) g = refl
-spells (sign SlashEnd) g = refl
-spells (sign Plain) g = absurd g
-spells (sign Qual) g = absurd g
-spells (sign Quoted) g = absurd g
-spells (sign Pattern) g = absurd g
-spells (sign End) g = absurd g
-spells (sign Bad) g = absurd g
+spells (sign k) g = by_sign_kind (λ k. Spells k (sign_spelling k)) refl refl refl refl refl refl refl refl k g
 
 -- it begins with no space and no comment
 hash_out : is_plain_start 35 ≡ false
@@ -125,20 +129,7 @@ begins (as_is w) rest g = by g.0
     by (inr q) = qual_begins w rest q.prefix q.local q.is q.plain_prefix
 begins (in_quotes text) rest g = refl
 begins (in_slashes inner) rest g = refl
-begins (sign Colon) rest g = refl
-begins (sign Equals) rest g = refl
-begins (sign SquareIn) rest g = refl
-begins (sign SquareOut) rest g = refl
-begins (sign Angle) rest g = refl
-begins (sign AngleSlash) rest g = refl
-begins (sign AngleEnd) rest g = refl
-begins (sign SlashEnd) rest g = refl
-begins (sign Plain) rest g = absurd g
-begins (sign Qual) rest g = absurd g
-begins (sign Quoted) rest g = absurd g
-begins (sign Pattern) rest g = absurd g
-begins (sign End) rest g = absurd g
-begins (sign Bad) rest g = absurd g
+begins (sign k) rest g = by_sign_kind (λ k. begins_blank (sign_spelling k ++ rest) ≡ false) refl refl refl refl refl refl refl refl k g
 
 -- it has no LF
 end_out : is_plain_char 10 ≡ false
@@ -184,42 +175,16 @@ one_line (as_is w) g = by g.0
     by (inr q) = qual_one_line w q.prefix q.local q.is q.plain_prefix q.plain_local
 one_line (in_quotes text) g = quoted_one_line text
 one_line (in_slashes inner) g = pattern_one_line (slashed inner) inner g.0
-one_line (sign Colon) g = refl
-one_line (sign Equals) g = refl
-one_line (sign SquareIn) g = refl
-one_line (sign SquareOut) g = refl
-one_line (sign Angle) g = refl
-one_line (sign AngleSlash) g = refl
-one_line (sign AngleEnd) g = refl
-one_line (sign SlashEnd) g = refl
-one_line (sign Plain) g = absurd g
-one_line (sign Qual) g = absurd g
-one_line (sign Quoted) g = absurd g
-one_line (sign Pattern) g = absurd g
-one_line (sign End) g = absurd g
-one_line (sign Bad) g = absurd g
+one_line (sign k) g = by_sign_kind (λ k. line_ends (sign_spelling k) ≡ 0) refl refl refl refl refl refl refl refl k g
 
 -- its characters are characters
 pub word_scalars : (w : Written) → IsGood w → all_scalars (spelling w) ≡ true
 word_scalars (as_is w) g = g.1
 word_scalars (in_quotes text) g = quoted_scalars text g
 word_scalars (in_slashes inner) g = scalars-append inner (47 ∷ []) g.2 refl
-word_scalars (sign Colon) g = refl
-word_scalars (sign Equals) g = refl
-word_scalars (sign SquareIn) g = refl
-word_scalars (sign SquareOut) g = refl
-word_scalars (sign Angle) g = refl
-word_scalars (sign AngleSlash) g = refl
-word_scalars (sign AngleEnd) g = refl
-word_scalars (sign SlashEnd) g = refl
-word_scalars (sign Plain) g = absurd g
-word_scalars (sign Qual) g = absurd g
-word_scalars (sign Quoted) g = absurd g
-word_scalars (sign Pattern) g = absurd g
-word_scalars (sign End) g = absurd g
-word_scalars (sign Bad) g = absurd g
+word_scalars (sign k) g = by_sign_kind (λ k. all_scalars (sign_spelling k) ≡ true) refl refl refl refl refl refl refl refl k g
 
--- the places of words behind one another, each behind one character, from a place on a line
+-- the places of words one after another, each after one character, from a place on a line
 abbrev pub lexeme : Written → ℕ → ℕ → Lexeme
 lexeme w at line = record { kind = kind_of w; word = spelling w; start = at; line = line }
 
@@ -227,7 +192,7 @@ abbrev pub lexemes : ℕ → ℕ → List Written → List Lexeme
 lexemes at line [] = []
 lexemes at line (w ∷ ws) = lexeme w (at + 1) line ∷ lexemes (at + 1 + size_of (spelling w)) line ws
 
--- the tokens of lines behind the end of one
+-- the tokens of lines after the end of one
 abbrev pub lines_lexemes : ℕ → ℕ → List (List Written) → List Lexeme
 lines_lexemes at line [] = record { kind = End; word = []; start = at + 1; line = line + 1 } ∷ []
 lines_lexemes at line (l ∷ ls) = lexemes at (line + 1) l ++ lines_lexemes (at + size_of (spaced l)) (line + 1) ls
@@ -274,7 +239,7 @@ size-append u v = ap length (encodes-append u v) ∙ length-append (encode_utf8_
 size_cons : (c : ℕ) (rest : List ℕ) → c < 128 → size_of (c ∷ rest) ≡ 1 + size_of rest
 size_cons c rest low = ap (λ (z : List ℕ). length (z ++ encode_utf8_all rest)) (encode_ascii c low) ∙ omega arith
 
--- behind one character of white space, and behind a word
+-- after one character of white space, and after a word
 left_sep : (x : Extent) (at line c : ℕ) (rest : List ℕ) → c < 128 → Left x at line (c ∷ rest) → Left x (at + 1) (if c == 10 then line + 1 else line) rest
 left_sep x at line c rest low left = record { size = size; lines = by (c == 10) left.lines }
   where
@@ -297,21 +262,21 @@ starts_white : (ws : List Written) (more : List ℕ) → StartsWhite (spaced ws 
 starts_white [] more = line_end_white
 starts_white (w ∷ ws) more = space_white
 
--- a word behind white space, and what follows it
+-- a word after white space, and what follows it
 spaced_token : (x : Extent) (c : ℕ) (w : Written) (after : List ℕ) (at line : ℕ) (ts : List Lexeme) → is_white c ≡ true → IsGood w → StartsWhite after → Left x at line (c ∷ (spelling w ++ after)) → AreTokensFrom x after ts → AreTokensFrom x (c ∷ (spelling w ++ after)) (lexeme w (at + 1) (if c == 10 then line + 1 else line) ∷ ts)
 spaced_token x c w after at line ts sep good starts left are =
     one_token x (c ∷ (spelling w ++ after)) after w (at + 1) (if c == 10 then line + 1 else line) ts good starts (apart_white c (spelling w ++ after) sep (begins w after good)) (left_sep x at line c (spelling w ++ after) (white_low c sep) left) are
 
--- the words of a line behind its first
+-- the words of a line after its first
 words_lexed : (x : Extent) (ws : List Written) (more : List ℕ) (at line : ℕ) (ts : List Lexeme) → AreGood ws → Left x at line (spaced ws ++ 10 ∷ more) → (Left x (at + size_of (spaced ws)) line (10 ∷ more) → AreTokensFrom x (10 ∷ more) ts) → AreTokensFrom x (spaced ws ++ 10 ∷ more) (lexemes at line ws ++ ts)
 words_lexed x [] more at line ts good left are = are (subst (λ (n : ℕ). Left x n line (10 ∷ more)) (omega arith) left)
 words_lexed x (w ∷ ws) more at line ts good left are =
     let after = spaced ws ++ 10 ∷ more in
     let grouped : (spelling w ++ spaced ws) ++ 10 ∷ more ≡ spelling w ++ after = append_assoc (spelling w) (spaced ws) (10 ∷ more) in
     let here : Left x at line (32 ∷ (spelling w ++ after)) = subst (λ (z : List ℕ). Left x at line (32 ∷ z)) grouped left in
-    let behind : Left x (at + 1 + size_of (spelling w)) line after = left_word x (at + 1) line (spelling w) after (one_line w good.0) (left_sep x at line 32 (spelling w ++ after) (omega arith) here) in
+    let next : Left x (at + 1 + size_of (spelling w)) line after = left_word x (at + 1) line (spelling w) after (one_line w good.0) (left_sep x at line 32 (spelling w ++ after) (omega arith) here) in
     let width : at + 1 + size_of (spelling w) + size_of (spaced ws) ≡ at + size_of (spaced (w ∷ ws)) = let a = size_cons 32 (spelling w ++ spaced ws) (omega arith) in let b = size-append (spelling w) (spaced ws) in omega arith in
-    let rest = words_lexed x ws more (at + 1 + size_of (spelling w)) line ts good.1 behind (λ l. are (subst (λ (n : ℕ). Left x n line (10 ∷ more)) width l)) in
+    let rest = words_lexed x ws more (at + 1 + size_of (spelling w)) line ts good.1 next (λ l. are (subst (λ (n : ℕ). Left x n line (10 ∷ more)) width l)) in
     subst (λ (z : List ℕ). AreTokensFrom x (32 ∷ z) (lexemes at line (w ∷ ws) ++ ts)) (sym grouped) (spaced_token x 32 w after at line (lexemes (at + 1 + size_of (spelling w)) line ws ++ ts) space_white good.0 (starts_white ws more) here rest)
 
 abbrev pub AreLines : List (List Written) → Type 0
@@ -332,10 +297,10 @@ lines_lexed x ((w ∷ ws) ∷ ls) at line whole good left =
     let after = spaced ws ++ 10 ∷ lines_text ls in
     let grouped : (spelling w ++ (spaced ws ++ 10 ∷ [])) ++ lines_text ls ≡ spelling w ++ after = append_assoc (spelling w) (spaced ws ++ 10 ∷ []) (lines_text ls) ∙ ap (λ (z : List ℕ). spelling w ++ z) (append_assoc (spaced ws) (10 ∷ []) (lines_text ls)) in
     let here : Left x at line (10 ∷ (spelling w ++ after)) = subst (λ (z : List ℕ). Left x at line (10 ∷ z)) grouped left in
-    let behind : Left x (at + 1 + size_of (spelling w)) (line + 1) after = left_word x (at + 1) (line + 1) (spelling w) after (one_line w good.0.0) (left_sep x at line 10 (spelling w ++ after) (omega arith) here) in
+    let next : Left x (at + 1 + size_of (spelling w)) (line + 1) after = left_word x (at + 1) (line + 1) (spelling w) after (one_line w good.0.0) (left_sep x at line 10 (spelling w ++ after) (omega arith) here) in
     let width : at + 1 + size_of (spelling w) + size_of (spaced ws) ≡ at + size_of (spaced (w ∷ ws)) = let a = size_cons 32 (spelling w ++ spaced ws) (omega arith) in let b = size-append (spelling w) (spaced ws) in omega arith in
     let ts = lines_lexemes (at + size_of (spaced (w ∷ ws))) (line + 1) ls in
-    let rest = words_lexed x ws (lines_text ls) (at + 1 + size_of (spelling w)) (line + 1) ts good.0.1 behind (λ l. lines_lexed x ls (at + size_of (spaced (w ∷ ws))) (line + 1) whole good.1 (subst (λ (n : ℕ). Left x n (line + 1) (10 ∷ lines_text ls)) width l)) in
+    let rest = words_lexed x ws (lines_text ls) (at + 1 + size_of (spelling w)) (line + 1) ts good.0.1 next (λ l. lines_lexed x ls (at + size_of (spaced (w ∷ ws))) (line + 1) whole good.1 (subst (λ (n : ℕ). Left x n (line + 1) (10 ∷ lines_text ls)) width l)) in
     subst (λ (z : List ℕ). AreTokensFrom x (10 ∷ z) (lines_lexemes at line ((w ∷ ws) ∷ ls))) (sym grouped) (spaced_token x 10 w after at line (lexemes (at + 1 + size_of (spelling w)) (line + 1) ws ++ ts) line_end_white good.0.0 (starts_white ws (lines_text ls)) here rest)
 
 -- a text whose first line is one word
@@ -352,8 +317,8 @@ text_lexed w ls good lines =
     let after = 10 ∷ lines_text ls in
     let grouped : text ≡ spelling w ++ after = append_assoc (spelling w) (10 ∷ []) (lines_text ls) in
     let here : Left x 0 1 (spelling w ++ after) = record { size = omega (arith, ap size_of (sym grouped)); lines = ap (λ (z : List ℕ). 1 + line_ends z) (sym grouped) } in
-    let behind : Left x (size_of (spelling w)) 1 after = subst (λ (n : ℕ). Left x n 1 after) (omega arith) (left_word x 0 1 (spelling w) after (one_line w good) here) in
-    subst (λ (z : List ℕ). AreTokensFrom x z (text_lexemes w ls)) (sym grouped) (one_token x (spelling w ++ after) after w 0 1 (lines_lexemes (size_of (spelling w)) 1 ls) good line_end_white (apart_none (spelling w ++ after) (begins w after good)) here (lines_lexed x ls (size_of (spelling w)) 1 refl lines behind))
+    let next : Left x (size_of (spelling w)) 1 after = subst (λ (n : ℕ). Left x n 1 after) (omega arith) (left_word x 0 1 (spelling w) after (one_line w good) here) in
+    subst (λ (z : List ℕ). AreTokensFrom x z (text_lexemes w ls)) (sym grouped) (one_token x (spelling w ++ after) after w 0 1 (lines_lexemes (size_of (spelling w)) 1 ls) good line_end_white (apart_none (spelling w ++ after) (begins w after good)) here (lines_lexed x ls (size_of (spelling w)) 1 refl lines next))
 
 -- its characters are characters
 spaced_scalars : (ws : List Written) → AreGood ws → all_scalars (spaced ws) ≡ true

@@ -1,6 +1,6 @@
 pub mod KindLaws
 pub mod ContentLaws
-mod Complete
+pub mod Complete
 mod Sound
 mod Whole
 pub mod Pieced

@@ -130,10 +130,10 @@ last_spelt : (kind : Kind) (word : List ℕ) → (kind ≡ End) ⊎ (kind ≡ Ba
 last_spelt kind word (inl e) = subst (λ (z : Kind). IsSpelt z word) (sym e) tt
 last_spelt kind word (inr e) = subst (λ (z : Kind). IsSpelt z word) (sym e) tt
 
-abbrev Behind : Extent → List ℕ → Lexeme → List Lexeme → Type 0
-Behind x rest t ts = ((ts ≡ []) × IsLast x t rest) ⊎ ((after : List ℕ) × IsTokenAt rest t.kind t.word after × AreTokensFrom x after ts)
+abbrev After : Extent → List ℕ → Lexeme → List Lexeme → Type 0
+After x rest t ts = ((ts ≡ []) × IsLast x t rest) ⊎ ((after : List ℕ) × IsTokenAt rest t.kind t.word after × AreTokensFrom x after ts)
 
-first_spelt : (x : Extent) (rest : List ℕ) (t : Lexeme) (ts : List Lexeme) → Behind x rest t ts → IsSpelt t.kind t.word
+first_spelt : (x : Extent) (rest : List ℕ) (t : Lexeme) (ts : List Lexeme) → After x rest t ts → IsSpelt t.kind t.word
 first_spelt x rest t ts (inl e) = last_spelt t.kind t.word (last_kind (x.whole && is_nothing rest) t.kind e.1.kind)
 first_spelt x rest t ts (inr e) = spells_spelt t.kind t.word e.1.begins.spells
 
@@ -146,7 +146,7 @@ tokens_spelt bytes x text [] a k d low = absurd (omega arith)
 tokens_spelt bytes x text (t ∷ ts) a zero d low = first_spelt x a.0 (lexeme_of bytes t) (map (lexeme_of bytes) ts) a.3
 tokens_spelt bytes x text (t ∷ ts) a (suc k) d low = by a.3 (λ after more. tokens_spelt bytes x after ts more k d (omega arith))
   where
-    by : Behind x a.0 (lexeme_of bytes t) (map (lexeme_of bytes) ts) → ((after : List ℕ) → AreTokensFrom x after (map (lexeme_of bytes) ts) → IsSpelt (get_or ts k d).kind (lexeme_of bytes (get_or ts k d)).word) → IsSpelt (get_or ts k d).kind (lexeme_of bytes (get_or ts k d)).word
+    by : After x a.0 (lexeme_of bytes t) (map (lexeme_of bytes) ts) → ((after : List ℕ) → AreTokensFrom x after (map (lexeme_of bytes) ts) → IsSpelt (get_or ts k d).kind (lexeme_of bytes (get_or ts k d)).word) → IsSpelt (get_or ts k d).kind (lexeme_of bytes (get_or ts k d)).word
     by (inl e) again = absurd (none_low bytes ts k e.0 (omega arith))
     by (inr e) again = again e.0 e.2
 
@@ -180,12 +180,12 @@ tokens_end x text [] ps a p = absurd a
 tokens_end x text (l ∷ ls) [] a p = absurd p
 tokens_end x text (l ∷ ls) (q ∷ []) a p = by a.3
   where
-    by : Behind x a.0 l ls → (q.kind ≡ End) ⊎ (q.kind ≡ Bad)
+    by : After x a.0 l ls → (q.kind ≡ End) ⊎ (q.kind ≡ Bad)
     by (inl e) = last_moved q.kind l.kind p.0.kind (last_kind (x.whole && is_nothing a.0) l.kind e.1.kind)
     by (inr e) = absurd (some_left x e.0 ls e.2 p.1)
 tokens_end x text (l ∷ ls) (q ∷ r ∷ rs) a p = by a.3 (λ after more. tokens_end x after ls (r ∷ rs) more p.1)
   where
-    by : Behind x a.0 l ls → ((after : List ℕ) → AreTokensFrom x after ls → IsEnding (r ∷ rs)) → (is_kind q.kind End ≡ false) × IsEnding (r ∷ rs)
+    by : After x a.0 l ls → ((after : List ℕ) → AreTokensFrom x after ls → IsEnding (r ∷ rs)) → (is_kind q.kind End ≡ false) × IsEnding (r ∷ rs)
     by (inl e) again = absurd (none_left ls r rs e.0 p.1)
     by (inr e) again = (ap (λ (z : Kind). is_kind z End) p.0.kind ∙ no_end l.kind l.word e.1.begins.spells, again e.0 e.2)
 

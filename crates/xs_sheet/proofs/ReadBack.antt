@@ -60,7 +60,7 @@ lines_good : (us : List UnitOutline) → UnitsAgain us → AreLines (map unit_wo
 lines_good [] again = tt
 lines_good (u ∷ us) again = line_good u (map unit_words us) again.0.0 (lines_good us again.1)
 
--- the units, and the end behind them
+-- the units, and the end after them
 abbrev AreRead : List UnitOutline → List Piece → Type 0
 AreRead us ps = (mid : List Piece) × ReadsUnits us ps mid × ReadsSign End mid []
 
@@ -69,10 +69,10 @@ units_read [] again at line =
     let end : Piece = record { kind = End; text = []; regular = false; start = at + 1; line = line + 1 } in
     (end ∷ [], refl, record { sign = end; is = refl; kind_is = refl })
 units_read (u ∷ us) again at line =
-    let behind = lines_pieces (at + size_of (spaced (unit_words u))) (line + 1) (map unit_words us) in
-    let one = again.0.1 (line + 1) (pieces_at at (line + 1) (unit_words u) ++ behind) behind (followed (unit_words u) at (line + 1) behind) in
+    let next = lines_pieces (at + size_of (spaced (unit_words u))) (line + 1) (map unit_words us) in
+    let one = again.0.1 (line + 1) (pieces_at at (line + 1) (unit_words u) ++ next) next (followed (unit_words u) at (line + 1) next) in
     let all = units_read us again.1 (at + size_of (spaced (unit_words u))) (line + 1) in
-    (all.0, (behind, one, all.1), all.2)
+    (all.0, (next, one, all.1), all.2)
 
 regexes_in : (line : ℕ) (us : List Unit) → HaveRegexes us → HaveRegexes (in_lines line us)
 regexes_in line [] have = tt
@@ -112,7 +112,7 @@ written_is_read bytes s sheet =
     let g = subst (λ (z : List Piece). GoodPieces z) r.is good in
     let word : Written = as_is (codes "xsugar-1") in
     let us = map unit_outline s.units in
-    let again = units_again us r.behind r.mid r.units_are g.1.1.1 in
+    let again = units_again us r.next r.mid r.units_are g.1.1.1 in
     let word_good : IsGood word = name_good r.word (codes "xsugar-1") (inl r.word_is.plain) r.word_is.word_is g.0 in
     let start_good = name_good r.start_word (codes "start") (inl r.start_is.plain) r.start_is.word_is g.1.0 in
     let named = name_good r.name_piece s.start (inl r.name_is.plain) r.name_is.name_is g.1.1.0 in
@@ -132,7 +132,7 @@ written_is_read bytes s sheet =
         word = piece word 0 1;
         start_word = piece (as_is (codes "start")) (at + 1) 2;
         name_piece = piece (as_is s.start) (at + 1 + size_of (codes "start") + 1) 2;
-        behind = lines_pieces begun 2 (map unit_words us);
+        next = lines_pieces begun 2 (map unit_words us);
         is = refl;
         word_is = word_of 1 (piece word 0 1) (codes "xsugar-1") (piece_of word 0 1) (plain_good r.word (codes "xsugar-1") r.word_is.plain r.word_is.word_is g.0);
         version_is = r.version_is;

@@ -16,7 +16,7 @@ use Rattle.xs_sheet.specs.Regular.{IsRegex}
 use Rattle.xs_sheet.specs.Outline.{Content, nothing, item, element, UnitOutline, terminal, ignorable, production}
 use Rattle.xs_sheet.specs.Pieces.{is_reserved, IsTextOf, IsPiece, ArePieces}
 use Rattle.xs_sheet.specs.Grammar.{IsWord, IsUnitName, IsName, IsString, IsRegular, ReadsItem, ReadsItems, ReadsAttr, ReadsAttrs, ReadsClosing, ReadsSign, ReadsContent, ReadsUnit, ReadsUnits}
-use Rattle.xs_sheet.specs.Layout.{Written, as_is, in_quotes, in_slashes, sign, sign_spelling, spelling, spaced, item_words, items_words, attr_words, attrs_words, holds_nothing, behind_attrs, element_words, content_words, unit_words}
+use Rattle.xs_sheet.specs.Layout.{Written, as_is, in_quotes, in_slashes, sign, sign_spelling, spelling, spaced, item_words, items_words, attr_words, attrs_words, holds_nothing, after_attrs, element_words, content_words, unit_words}
 use Rattle.xs_sheet.proofs.Escapes.{quoted_is}
 use Rattle.xs_sheet.proofs.Lexed.{kind_if, kind_of, text_of, IsSign, slashed, IsGood, AreGood, good-append, lexeme, lexemes, lines_lexemes, AreLines}
 use Rattle.xs_sheet.proofs.Sources.{IsGoodPiece, GoodPieces}
@@ -209,14 +209,14 @@ items_again (i ∷ is) ps rest r good =
 
 attr_again : (a : Attr) (ps rest : List Piece) → ReadsAttr a ps rest → GoodPieces ps → IsAgain (λ line qs more. ReadsAttr a qs more) (attr_words a) rest
 attr_again a ps rest r good =
-    let g = cut ps (r.name ∷ r.equals ∷ r.behind) r.is good in
-    let value = items_again a.value r.behind rest r.value g.1.1 in
+    let g = cut ps (r.name ∷ r.equals ∷ r.next) r.is good in
+    let value = items_again a.value r.next rest r.value g.1.1 in
     record {
       left = value.left;
       words = (name_good r.name a.name r.name_is.kind r.name_is.name_is g.0, (tt, value.words));
       again = λ line qs more f.
           let e = f.4 in
-          record { name = f.0; equals = e.0; behind = e.1; is = on qs f.1 (e.0 ∷ e.1) f.0 f.2 e.2; name_is = name_of line f.0 a.name f.3; equals_is = e.3.kind_is; some = r.some; value = value.again line e.1 more e.4 };
+          record { name = f.0; equals = e.0; next = e.1; is = on qs f.1 (e.0 ∷ e.1) f.0 f.2 e.2; name_is = name_of line f.0 a.name f.3; equals_is = e.3.kind_is; some = r.some; value = value.again line e.1 more e.4 };
     }
 
 attrs_again : (as_ : List Attr) (ps rest : List Piece) → ReadsAttrs as_ ps rest → GoodPieces ps → IsAgain (λ line qs more. ReadsAttrs as_ qs more) (attrs_words as_) rest
@@ -233,22 +233,22 @@ attrs_again (a ∷ as_) ps rest r good =
     }
 
 -- elements
-abbrev Behind : ℕ → List ℕ → Content → List Piece → List Piece → Type 0
-Behind depth tag inner ps rest = ((inner ≡ nothing) × ReadsSign SlashEnd ps rest) ⊎ ((inside : List Piece) × ReadsSign AngleEnd ps inside × (closing : List Piece) × ReadsContent (depth + 1) inner inside closing × ReadsClosing tag closing rest)
+abbrev After : ℕ → List ℕ → Content → List Piece → List Piece → Type 0
+After depth tag inner ps rest = ((inner ≡ nothing) × ReadsSign SlashEnd ps rest) ⊎ ((inside : List Piece) × ReadsSign AngleEnd ps inside × (closing : List Piece) × ReadsContent (depth + 1) inner inside closing × ReadsClosing tag closing rest)
 
 is_nothing : (inner : Content) → holds_nothing inner ≡ true → inner ≡ nothing
 is_nothing nothing e = refl
 is_nothing (item before i) e = absurd (cc)
 is_nothing (element before tag as_ inner) e = absurd (cc)
 
-slash_again : (tag : List ℕ) (inner : Content) (words : List Written) (depth : ℕ) (rest : List Piece) → inner ≡ nothing → GoodPieces rest → IsAgain (λ line qs more. Behind depth tag inner qs more) (behind_attrs tag true words) rest
+slash_again : (tag : List ℕ) (inner : Content) (words : List Written) (depth : ℕ) (rest : List Piece) → inner ≡ nothing → GoodPieces rest → IsAgain (λ line qs more. After depth tag inner qs more) (after_attrs tag true words) rest
 slash_again tag inner words depth rest none good = record {
   left = good;
   words = (tt, tt);
   again = λ line qs more f. inl (none, record { sign = f.0; is = on qs f.1 more f.0 f.2 f.4; kind_is = f.3.kind_is });
 }
 
-tags_again : (tag : List ℕ) (inner : Content) (depth : ℕ) (closing rest : List Piece) → IsAgain (λ line qs more. ReadsContent (depth + 1) inner qs more) (content_words inner) closing → (named : IsGood (as_is tag)) → GoodPieces rest → IsAgain (λ line qs more. Behind depth tag inner qs more) (behind_attrs tag false (content_words inner)) rest
+tags_again : (tag : List ℕ) (inner : Content) (depth : ℕ) (closing rest : List Piece) → IsAgain (λ line qs more. ReadsContent (depth + 1) inner qs more) (content_words inner) closing → (named : IsGood (as_is tag)) → GoodPieces rest → IsAgain (λ line qs more. After depth tag inner qs more) (after_attrs tag false (content_words inner)) rest
 tags_again tag inner depth closing rest content named good = record {
   left = good;
   words = (tt, good-append (content_words inner) (sign AngleSlash ∷ as_is tag ∷ sign AngleEnd ∷ []) content.words (tt, (named, (tt, tt))));
@@ -278,23 +278,23 @@ content_again (element before tag as_ inner) depth ps rest r good =
     let g = cut r.0 (opening.angle ∷ opening.name ∷ r.3) opening.is front.left in
     let named = name_good opening.name tag opening.name_is.kind opening.name_is.name_is g.1.0 in
     let attrs = attrs_again as_ r.3 r.5 r.6 g.1.1 in
-    let behind = ends (λ inside closing c g. content_again inner (depth + 1) inside closing c g) (holds_nothing inner) refl r.7 named attrs.left in
-    let words = behind_attrs tag (holds_nothing inner) (content_words inner) in
+    let next = ends (λ inside closing c g. content_again inner (depth + 1) inside closing c g) (holds_nothing inner) refl r.7 named attrs.left in
+    let words = after_attrs tag (holds_nothing inner) (content_words inner) in
     record {
-      left = behind.left;
-      words = good-append (content_words before) (element_words tag as_ (holds_nothing inner) (content_words inner)) front.words (tt, (named, good-append (attrs_words as_) words attrs.words behind.words));
+      left = next.left;
+      words = good-append (content_words before) (element_words tag as_ (holds_nothing inner) (content_words inner)) front.words (tt, (named, good-append (attrs_words as_) words attrs.words next.words));
       again = λ line qs more f.
           let s = split line (content_words before) (element_words tag as_ (holds_nothing inner) (content_words inner)) qs more f in
           let a = s.2 in
           let b = a.4 in
           let t = split line (attrs_words as_) words b.1 more b.4 in
-          (s.0, front.again line qs s.0 s.1, r.2, b.1, record { angle = a.0; name = b.0; is = on s.0 a.1 (b.0 ∷ b.1) a.0 a.2 b.2; angle_is = a.3.kind_is; name_is = name_of line b.0 tag b.3 }, t.0, attrs.again line b.1 t.0 t.1, behind.again line t.0 more t.2);
+          (s.0, front.again line qs s.0 s.1, r.2, b.1, record { angle = a.0; name = b.0; is = on s.0 a.1 (b.0 ∷ b.1) a.0 a.2 b.2; angle_is = a.3.kind_is; name_is = name_of line b.0 tag b.3 }, t.0, attrs.again line b.1 t.0 t.1, next.again line t.0 more t.2);
     }
   where
     closed : (closing : List Piece) → ReadsClosing tag closing rest → GoodPieces closing → GoodPieces rest
     closed closing e g = (cut closing (e.angle ∷ e.name ∷ e.end ∷ rest) e.is g).1.1.1
 
-    ends : ((inside closing : List Piece) → ReadsContent (depth + 1) inner inside closing → GoodPieces inside → IsAgain (λ line qs more. ReadsContent (depth + 1) inner qs more) (content_words inner) closing) → (t : Bool) → holds_nothing inner ≡ t → Behind depth tag inner r.5 rest → IsGood (as_is tag) → GoodPieces r.5 → IsAgain (λ line qs more. Behind depth tag inner qs more) (behind_attrs tag t (content_words inner)) rest
+    ends : ((inside closing : List Piece) → ReadsContent (depth + 1) inner inside closing → GoodPieces inside → IsAgain (λ line qs more. ReadsContent (depth + 1) inner qs more) (content_words inner) closing) → (t : Bool) → holds_nothing inner ≡ t → After depth tag inner r.5 rest → IsGood (as_is tag) → GoodPieces r.5 → IsAgain (λ line qs more. After depth tag inner qs more) (after_attrs tag t (content_words inner)) rest
     ends within true e (inl s) named g = slash_again tag inner (content_words inner) depth rest s.0 (cut r.5 (s.1.sign ∷ rest) s.1.is g).1
     ends within true e (inr s) named g =
         let inside = (cut r.5 (s.1.sign ∷ s.0) s.1.is g).1 in
@@ -339,8 +339,8 @@ unit_again (ignorable name inner normal old) ps rest r good =
           record { word = f.0; name_piece = a.0; equals = b.0; pattern_piece = d.0; normal_piece = n.0; is = on qs f.1 (a.0 ∷ b.0 ∷ d.0 ∷ n.0 ∷ more) f.0 f.2 (on f.1 a.1 (b.0 ∷ d.0 ∷ n.0 ∷ more) a.0 a.2 (on a.1 b.1 (d.0 ∷ n.0 ∷ more) b.0 b.2 (on b.1 d.1 (n.0 ∷ more) d.0 d.2 (on d.1 n.1 more n.0 n.2 n.4)))); word_is = word_of line f.0 (codes "ignorable") f.3 plain; name_is = unit_name_of line r.name_piece a.0 name a.3 r.name_is g.1.0; equals_is = b.3.kind_is; pattern_is = regular_of line d.0 inner d.3; normal_is = string_of line n.0 normal n.3; line_is = f.3.line_is };
     }
 unit_again (production name left right old) ps rest r good =
-    let g = cut ps (r.name_piece ∷ r.colon ∷ r.behind) r.is good in
-    let lefts = items_again left r.behind r.mid r.left_is g.1.1 in
+    let g = cut ps (r.name_piece ∷ r.colon ∷ r.next) r.is good in
+    let lefts = items_again left r.next r.mid r.left_is g.1.1 in
     let e = r.equals_is in
     let rights = content_again right 0 r.inside rest r.right_is (cut r.mid (e.sign ∷ r.inside) e.is lefts.left).1 in
     record {
@@ -350,7 +350,7 @@ unit_again (production name left right old) ps rest r good =
           let a = f.4 in
           let s = split line (items_words left) (sign Equals ∷ content_words right) a.1 more a.4 in
           let q = s.2 in
-          record { name_piece = f.0; colon = a.0; behind = a.1; is = on qs f.1 (a.0 ∷ a.1) f.0 f.2 a.2; name_is = unit_name_of line r.name_piece f.0 name f.3 r.name_is g.0; colon_is = a.3.kind_is; mid = s.0; left_is = lefts.again line a.1 s.0 s.1; inside = q.1; equals_is = record { sign = q.0; is = q.2; kind_is = q.3.kind_is }; right_is = rights.again line q.1 more q.4; line_is = f.3.line_is };
+          record { name_piece = f.0; colon = a.0; next = a.1; is = on qs f.1 (a.0 ∷ a.1) f.0 f.2 a.2; name_is = unit_name_of line r.name_piece f.0 name f.3 r.name_is g.0; colon_is = a.3.kind_is; mid = s.0; left_is = lefts.again line a.1 s.0 s.1; inside = q.1; equals_is = record { sign = q.0; is = q.2; kind_is = q.3.kind_is }; right_is = rights.again line q.1 more q.4; line_is = f.3.line_is };
     }
 
 abbrev pub UnitsAgain : List UnitOutline → Type 0

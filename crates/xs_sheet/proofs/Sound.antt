@@ -9,7 +9,7 @@ use Rattle.xs_sheet.specs.declared.x_item.Attr.{Attr}
 use Rattle.xs_sheet.specs.Outline.{Content, nothing, element, UnitOutline, terminal, ignorable, production, Outline}
 use Rattle.xs_sheet.specs.Pieces.{same, is_reserved}
 use Rattle.xs_sheet.specs.Grammar.{IsWord, IsUnitName, IsName, IsRegular, ReadsItem, ReadsItems, ReadsAttr, ReadsAttrs, ReadsOpening, ReadsSign, ReadsContent, ReadsUnit, ReadsUnits}
-use Rattle.xs_sheet.specs.Machine.{is_kind, is_word, is_unit_name, is_name, is_regular, Head, with_unit, Draft, Opened, Inside, Place, left_side, inside, value, put, State, begin, versioned, started, units, named, equals, regular, normal, colon, at, square, square_name, square_slot, angle, attrs, attr_equals, closing, closed, go, finish, go_if, outline_at, between, behind_pattern, closes, leaves, leave, in_tag, with_attr, with_empty, with_open, with_production, step}
+use Rattle.xs_sheet.specs.Machine.{is_kind, is_word, is_unit_name, is_name, is_regular, Head, with_unit, Draft, Opened, Inside, Site, left_side, inside, value, put, State, begin, versioned, started, units, named, equals, regular, normal, colon, at, square, square_name, square_slot, angle, attrs, attr_equals, closing, closed, go, finish, go_if, outline_at, between, after_pattern, closes, leaves, leave, in_tag, with_attr, with_empty, with_open, with_production, step}
 use Rattle.xs_sheet.proofs.KindLaws.{kind_is, same_is}
 
 -- pieces read so far, up to the rest
@@ -17,25 +17,25 @@ pub record AtHead (whole : List Piece) (h : Head) (rest : List Piece) : Type 0 w
   pub word : Piece
   pub start_word : Piece
   pub name_piece : Piece
-  pub behind : List Piece
-  pub is : whole ≡ word ∷ start_word ∷ name_piece ∷ behind
+  pub next : List Piece
+  pub is : whole ≡ word ∷ start_word ∷ name_piece ∷ next
   pub word_is : IsWord word (codes "xsugar-1")
   pub start_is : IsWord start_word (codes "start")
   pub name_is : IsUnitName name_piece h.start
   pub line_is : start_word.line ≡ h.start_line
-  pub units_are : ReadsUnits h.units behind rest
+  pub units_are : ReadsUnits h.units next rest
 
 pub record AtLeft (whole : List Piece) (h : Head) (name : List ℕ) (line : ℕ) (is : List Item) (rest : List Piece) : Type 0 where
   pub before : List Piece
   pub head : AtHead whole h before
   pub name_piece : Piece
   pub colon_piece : Piece
-  pub behind : List Piece
-  pub split : before ≡ name_piece ∷ colon_piece ∷ behind
+  pub next : List Piece
+  pub split : before ≡ name_piece ∷ colon_piece ∷ next
   pub name_is : IsUnitName name_piece name
   pub colon_is : colon_piece.kind ≡ Colon
   pub line_is : name_piece.line ≡ line
-  pub items_are : ReadsItems is behind rest
+  pub items_are : ReadsItems is next rest
 
 pub record AtDraft (whole : List Piece) (d : Draft) (rest : List Piece) : Type 0 where
   pub mid : List Piece
@@ -55,10 +55,10 @@ AtAttrs whole c tag as_ rest = (a : List Piece) × (b : List Piece) × AtInside 
 unfoldable pub AtValue : List Piece → Inside → List ℕ → List Attr → List ℕ → List Item → List Piece → Type 0
 AtValue whole c tag as_ name is rest = (a : List Piece) × (n : Piece) × (e : Piece) × (b : List Piece) × AtAttrs whole c tag as_ a × (a ≡ n ∷ e ∷ b) × IsName n name × (e.kind ≡ Equals) × ReadsItems is b rest
 
-unfoldable pub AtPlace : List Piece → Place → List Piece → Type 0
-AtPlace whole (left_side h name line is) rest = AtLeft whole h name line is rest
-AtPlace whole (inside c) rest = AtInside whole c rest
-AtPlace whole (value c tag as_ name is) rest = AtValue whole c tag as_ name is rest
+unfoldable pub AtSite : List Piece → Site → List Piece → Type 0
+AtSite whole (left_side h name line is) rest = AtLeft whole h name line is rest
+AtSite whole (inside c) rest = AtInside whole c rest
+AtSite whole (value c tag as_ name is) rest = AtValue whole c tag as_ name is rest
 
 pub unit_word : Bool → List ℕ
 unit_word true = codes "terminal"
@@ -74,10 +74,10 @@ AtState whole (equals h t line name) rest = (w : Piece) × (n : Piece) × AtHead
 AtState whole (regular h t line name) rest = (w : Piece) × (n : Piece) × (e : Piece) × AtHead whole h (w ∷ n ∷ e ∷ rest) × IsWord w (unit_word t) × (w.line ≡ line) × IsUnitName n name × (e.kind ≡ Equals)
 AtState whole (normal h line name pattern) rest = (w : Piece) × (n : Piece) × (e : Piece) × (p : Piece) × AtHead whole h (w ∷ n ∷ e ∷ p ∷ rest) × IsWord w (codes "ignorable") × (w.line ≡ line) × IsUnitName n name × (e.kind ≡ Equals) × IsRegular p pattern
 AtState whole (colon h name line) rest = (n : Piece) × AtHead whole h (n ∷ rest) × IsUnitName n name × (n.line ≡ line)
-AtState whole (at pl) rest = AtPlace whole pl rest
-AtState whole (square pl) rest = (a : Piece) × AtPlace whole pl (a ∷ rest) × (a.kind ≡ SquareIn)
-AtState whole (square_name pl name) rest = (a : Piece) × (b : Piece) × AtPlace whole pl (a ∷ b ∷ rest) × (a.kind ≡ SquareIn) × IsUnitName b name
-AtState whole (square_slot pl name slot) rest = (a : Piece) × (b : Piece) × (c : Piece) × AtPlace whole pl (a ∷ b ∷ c ∷ rest) × (a.kind ≡ SquareIn) × IsUnitName b name × IsUnitName c slot
+AtState whole (at pl) rest = AtSite whole pl rest
+AtState whole (square pl) rest = (a : Piece) × AtSite whole pl (a ∷ rest) × (a.kind ≡ SquareIn)
+AtState whole (square_name pl name) rest = (a : Piece) × (b : Piece) × AtSite whole pl (a ∷ b ∷ rest) × (a.kind ≡ SquareIn) × IsUnitName b name
+AtState whole (square_slot pl name slot) rest = (a : Piece) × (b : Piece) × (c : Piece) × AtSite whole pl (a ∷ b ∷ c ∷ rest) × (a.kind ≡ SquareIn) × IsUnitName b name × IsUnitName c slot
 AtState whole (angle c) rest = (a : Piece) × AtInside whole c (a ∷ rest) × (a.kind ≡ Angle) × (length c.opens < 64)
 AtState whole (attrs c tag as_) rest = AtAttrs whole c tag as_ rest
 AtState whole (attr_equals c tag as_ name) rest = (n : Piece) × AtAttrs whole c tag as_ (n ∷ rest) × IsName n name
@@ -98,13 +98,13 @@ units_push [] u ps mid rest r one = (rest, subst (λ (z : List Piece). ReadsUnit
 units_push (v ∷ us) u ps mid rest r one = (r.0, r.1, units_push us u r.0 mid rest r.2 one)
 
 unit_more : (whole : List Piece) (h : Head) (u : UnitOutline) (mid rest : List Piece) → AtHead whole h mid → ReadsUnit u mid rest → AtHead whole (with_unit h u) rest
-unit_more whole h u mid rest a r = record { word = a.word; start_word = a.start_word; name_piece = a.name_piece; behind = a.behind; is = a.is; word_is = a.word_is; start_is = a.start_is; name_is = a.name_is; line_is = a.line_is; units_are = units_push h.units u a.behind mid rest a.units_are r }
+unit_more whole h u mid rest a r = record { word = a.word; start_word = a.start_word; name_piece = a.name_piece; next = a.next; is = a.is; word_is = a.word_is; start_is = a.start_is; name_is = a.name_is; line_is = a.line_is; units_are = units_push h.units u a.next mid rest a.units_are r }
 
-place_more : (whole : List Piece) (pl : Place) (i : Item) (mid rest : List Piece) → AtPlace whole pl mid → ReadsItem i mid rest → AtPlace whole (put pl i) rest
-unfolding AtPlace AtInside AtValue
-place_more whole (left_side h name line is) i mid rest a r = record { before = a.before; head = a.head; name_piece = a.name_piece; colon_piece = a.colon_piece; behind = a.behind; split = a.split; name_is = a.name_is; colon_is = a.colon_is; line_is = a.line_is; items_are = items_push is i a.behind mid rest a.items_are r }
-place_more whole (inside c) i mid rest a r = (a.0, a.1, (mid, a.2, r))
-place_more whole (value c tag as_ name is) i mid rest a r = (a.0, a.1, a.2, a.3, a.4, a.5, a.6, a.7, items_push is i a.3 mid rest a.8 r)
+site_more : (whole : List Piece) (pl : Site) (i : Item) (mid rest : List Piece) → AtSite whole pl mid → ReadsItem i mid rest → AtSite whole (put pl i) rest
+unfolding AtSite AtInside AtValue
+site_more whole (left_side h name line is) i mid rest a r = record { before = a.before; head = a.head; name_piece = a.name_piece; colon_piece = a.colon_piece; next = a.next; split = a.split; name_is = a.name_is; colon_is = a.colon_is; line_is = a.line_is; items_are = items_push is i a.next mid rest a.items_are r }
+site_more whole (inside c) i mid rest a r = (a.0, a.1, (mid, a.2, r))
+site_more whole (value c tag as_ name is) i mid rest a r = (a.0, a.1, a.2, a.3, a.4, a.5, a.6, a.7, items_push is i a.3 mid rest a.8 r)
 
 -- steps taken apart
 go_inj : (s u : State) → go s ≡ go u → s ≡ u
@@ -158,7 +158,7 @@ between_sound whole h p rest t a is = by (is_kind p.kind End) (is_word (codes "t
 
 -- inside a tag
 in_tag_sound : (whole : List Piece) (c : Inside) (tag : List ℕ) (as_ : List Attr) (p : Piece) (rest : List Piece) (t : State) → AtAttrs whole c tag as_ (p ∷ rest) → in_tag c tag as_ p ≡ go t → AtState whole t rest
-unfolding AtState AtPlace AtInside AtAttrs AtOpens
+unfolding AtState AtSite AtInside AtAttrs AtOpens
 in_tag_sound whole c tag as_ p rest t a is = by (is_name p) (is_kind p.kind SlashEnd) refl refl is
   where
     by : (b1 b2 : Bool) → is_name p ≡ b1 → is_kind p.kind SlashEnd ≡ b2 → (if b1 then go (attr_equals c tag as_ p.text) else (if b2 then go (at (inside (with_empty c tag as_))) else go_if (is_kind p.kind AngleEnd) (at (inside (with_open c tag as_))))) ≡ go t → AtState whole t rest
@@ -176,14 +176,14 @@ attr_of : (whole : List Piece) (c : Inside) (tag : List ℕ) (as_ : List Attr) (
 unfolding AtAttrs AtValue
 attr_of whole c tag as_ name is rest some a =
     let b = a.4 in
-    (b.0, b.1, b.2, b.3, b.4, attrs_push as_ (record { name = name; value = is }) b.1 a.0 rest b.5 (record { name = a.1; equals = a.2; behind = a.3; is = a.5; name_is = a.6; equals_is = a.7; some = some; value = a.8 }))
+    (b.0, b.1, b.2, b.3, b.4, attrs_push as_ (record { name = name; value = is }) b.1 a.0 rest b.5 (record { name = a.1; equals = a.2; next = a.3; is = a.5; name_is = a.6; equals_is = a.7; some = some; value = a.8 }))
 
 pub production_of : (whole : List Piece) (d : Draft) (right : Content) (rest : List Piece) → AtInside whole (record { draft = d; opens = []; so_far = right }) rest → AtHead whole (with_production d right) rest
 unfolding AtInside AtOpens
 production_of whole d right rest a =
     let draft = a.1 in
     let left = draft.left in
-    unit_more whole d.head (production d.name d.left right d.line) left.before rest left.head (record { name_piece = left.name_piece; colon = left.colon_piece; behind = left.behind; is = left.split; name_is = left.name_is; colon_is = left.colon_is; mid = draft.mid; left_is = left.items_are; inside = a.0; equals_is = draft.sign; right_is = a.2; line_is = left.line_is })
+    unit_more whole d.head (production d.name d.left right d.line) left.before rest left.head (record { name_piece = left.name_piece; colon = left.colon_piece; next = left.next; is = left.split; name_is = left.name_is; colon_is = left.colon_is; mid = draft.mid; left_is = left.items_are; inside = a.0; equals_is = draft.sign; right_is = a.2; line_is = left.line_is })
 
 closes_sound : (whole : List Piece) (c : Inside) (os : List Opened) (p : Piece) (rest : List Piece) (t : State) → c.opens ≡ os → AtInside whole c (p ∷ rest) → p.kind ≡ AngleSlash → closes c os ≡ go t → AtState whole t rest
 unfolding AtState
@@ -194,8 +194,8 @@ leaves_sound : (whole : List Piece) (c : Inside) (os : List Opened) (p : Piece) 
 leaves_sound whole c [] p rest t opens a g = between_sound whole (with_production c.draft c.so_far) p rest t (production_of whole c.draft c.so_far (p ∷ rest) (subst (λ (z : List Opened). AtInside whole (record { draft = c.draft; opens = z; so_far = c.so_far }) (p ∷ rest)) opens a)) g
 leaves_sound whole c (o ∷ os) p rest t opens a g = absurd (cc)
 
-leave_sound : (whole : List Piece) (pl : Place) (p : Piece) (rest : List Piece) (t : State) → AtPlace whole pl (p ∷ rest) → leave pl p ≡ go t → AtState whole t rest
-unfolding AtPlace AtState AtInside AtOpens
+leave_sound : (whole : List Piece) (pl : Site) (p : Piece) (rest : List Piece) (t : State) → AtSite whole pl (p ∷ rest) → leave pl p ≡ go t → AtState whole t rest
+unfolding AtSite AtState AtInside AtOpens
 leave_sound whole (left_side h name line is) p rest t a g =
     let q = if_go (is_kind p.kind Equals) (at (inside (record { draft = record { head = h; name = name; line = line; left = is }; opens = []; so_far = nothing }))) t g in
     moved whole (at (inside (record { draft = record { head = h; name = name; line = line; left = is }; opens = []; so_far = nothing }))) t rest q.1 (rest, record { mid = p ∷ rest; left = a; sign = record { sign = p; is = refl; kind_is = kind_is p.kind Equals q.0 } }, refl)
@@ -208,36 +208,36 @@ leave_sound whole (inside c) p rest t a g = by (is_kind p.kind Angle) (is_kind p
 leave_sound whole (value c tag as_ name []) p rest t a g = absurd (cc)
 leave_sound whole (value c tag as_ name (i ∷ is)) p rest t a g = in_tag_sound whole c tag (with_attr as_ name (i ∷ is)) p rest t (attr_of whole c tag as_ name (i ∷ is) (p ∷ rest) (omega arith) a) g
 
-at_sound : (whole : List Piece) (pl : Place) (p : Piece) (rest : List Piece) (t : State) → AtPlace whole pl (p ∷ rest) → step (at pl) p ≡ go t → AtState whole t rest
+at_sound : (whole : List Piece) (pl : Site) (p : Piece) (rest : List Piece) (t : State) → AtSite whole pl (p ∷ rest) → step (at pl) p ≡ go t → AtState whole t rest
 unfolding AtState
 at_sound whole pl p rest t a g = by (is_kind p.kind Quoted) (is_kind p.kind SquareIn) refl refl g
   where
     by : (b1 b2 : Bool) → is_kind p.kind Quoted ≡ b1 → is_kind p.kind SquareIn ≡ b2 → (if b1 then go (at (put pl (Fixed p.text))) else (if b2 then go (square pl) else leave pl p)) ≡ go t → AtState whole t rest
-    by true b2 e1 e2 h = moved whole (at (put pl (Fixed p.text))) t rest (go_inj (at (put pl (Fixed p.text))) t h) (place_more whole pl (Fixed p.text) (p ∷ rest) rest a (p, refl, record { kind = kind_is p.kind Quoted e1; text_is = refl }))
+    by true b2 e1 e2 h = moved whole (at (put pl (Fixed p.text))) t rest (go_inj (at (put pl (Fixed p.text))) t h) (site_more whole pl (Fixed p.text) (p ∷ rest) rest a (p, refl, record { kind = kind_is p.kind Quoted e1; text_is = refl }))
     by false true e1 e2 h = moved whole (square pl) t rest (go_inj (square pl) t h) (p, a, kind_is p.kind SquareIn e2)
     by false false e1 e2 h = leave_sound whole pl p rest t a h
 
-square_name_sound : (whole : List Piece) (pl : Place) (name : List ℕ) (p : Piece) (rest : List Piece) (t : State) → AtState whole (square_name pl name) (p ∷ rest) → step (square_name pl name) p ≡ go t → AtState whole t rest
+square_name_sound : (whole : List Piece) (pl : Site) (name : List ℕ) (p : Piece) (rest : List Piece) (t : State) → AtState whole (square_name pl name) (p ∷ rest) → step (square_name pl name) p ≡ go t → AtState whole t rest
 unfolding AtState
 square_name_sound whole pl name p rest t a g = by (is_kind p.kind SquareOut) refl g
   where
     by : (b : Bool) → is_kind p.kind SquareOut ≡ b → (if b then go (at (put pl (Skip name))) else go_if (is_unit_name p) (square_slot pl name p.text)) ≡ go t → AtState whole t rest
-    by true e h = moved whole (at (put pl (Skip name))) t rest (go_inj (at (put pl (Skip name))) t h) (place_more whole pl (Skip name) (a.0 ∷ a.1 ∷ p ∷ rest) rest a.2 (a.0, a.1, p, refl, a.3, a.4, kind_is p.kind SquareOut e))
+    by true e h = moved whole (at (put pl (Skip name))) t rest (go_inj (at (put pl (Skip name))) t h) (site_more whole pl (Skip name) (a.0 ∷ a.1 ∷ p ∷ rest) rest a.2 (a.0, a.1, p, refl, a.3, a.4, kind_is p.kind SquareOut e))
     by false e h = let q = if_go (is_unit_name p) (square_slot pl name p.text) t h in moved whole (square_slot pl name p.text) t rest q.1 (a.0, a.1, p, a.2, a.3, a.4, unit_name p q.0)
 
 regular_sound : (whole : List Piece) (h : Head) (k : Bool) (line : ℕ) (name : List ℕ) (p : Piece) (rest : List Piece) (t : State) → AtState whole (regular h k line name) (p ∷ rest) → step (regular h k line name) p ≡ go t → AtState whole t rest
 unfolding AtState unit_word
 regular_sound whole h k line name p rest t a g =
-    let q = if_go (is_regular p) (behind_pattern h k line name p) t g in
+    let q = if_go (is_regular p) (after_pattern h k line name p) t g in
     let b = and_true (is_kind p.kind Pattern) p.regular q.0 in
-    moved whole (behind_pattern h k line name p) t rest q.1 (by k a (record { kind = kind_is p.kind Pattern b.0; regular = b.1; pattern_is = refl }))
+    moved whole (after_pattern h k line name p) t rest q.1 (by k a (record { kind = kind_is p.kind Pattern b.0; regular = b.1; pattern_is = refl }))
   where
-    by : (k : Bool) → AtState whole (regular h k line name) (p ∷ rest) → IsRegular p p.text → AtState whole (behind_pattern h k line name p) rest
+    by : (k : Bool) → AtState whole (regular h k line name) (p ∷ rest) → IsRegular p p.text → AtState whole (after_pattern h k line name p) rest
     by true x r = unit_more whole h (terminal name p.text line) (x.0 ∷ x.1 ∷ x.2 ∷ p ∷ rest) rest x.3 (record { word = x.0; name_piece = x.1; equals = x.2; pattern_piece = p; is = refl; word_is = x.4; name_is = x.6; equals_is = x.7; pattern_is = r; line_is = x.5 })
     by false x r = (x.0, x.1, x.2, p, x.3, x.4, x.5, x.6, x.7, r)
 
 closed_sound : (whole : List Piece) (d : Draft) (o : Opened) (os : List Opened) (inner : Content) (p : Piece) (rest : List Piece) (t : State) → AtState whole (closed d o os inner) (p ∷ rest) → step (closed d o os inner) p ≡ go t → AtState whole t rest
-unfolding AtState AtPlace AtInside AtOpens
+unfolding AtState AtSite AtInside AtOpens
 closed_sound whole d o os inner p rest t a g =
     let next_ : State = at (inside (record { draft = d; opens = os; so_far = element o.outer o.tag o.attrs inner })) in
     let q = if_go (is_kind p.kind AngleEnd) next_ t g in
@@ -252,13 +252,13 @@ attrs_begin whole c p rest a n = (a.0 ∷ p ∷ rest, rest, a.1, a.3, record { a
 
 -- one step
 pub step_sound : (whole : List Piece) (s : State) (p : Piece) (rest : List Piece) (t : State) → AtState whole s (p ∷ rest) → step s p ≡ go t → AtState whole t rest
-unfolding AtState AtPlace AtValue unit_word
+unfolding AtState AtSite AtValue unit_word
 step_sound whole begin p rest t a g = let q = if_go (is_word (codes "xsugar-1") p) versioned t g in moved whole versioned t rest q.1 (p, a, word_of (codes "xsugar-1") p q.0)
 step_sound whole versioned p rest t a g = let q = if_go (is_word (codes "start") p) (started p.line) t g in moved whole (started p.line) t rest q.1 (a.0, p, a.1, a.2, word_of (codes "start") p q.0, refl)
 step_sound whole (started line) p rest t a g =
     let h : Head = record { start = p.text; start_line = line; units = [] } in
     let q = if_go (is_unit_name p) (units h) t g in
-    moved whole (units h) t rest q.1 (record { word = a.0; start_word = a.1; name_piece = p; behind = rest; is = a.2; word_is = a.3; start_is = a.4; name_is = unit_name p q.0; line_is = a.5; units_are = refl })
+    moved whole (units h) t rest q.1 (record { word = a.0; start_word = a.1; name_piece = p; next = rest; is = a.2; word_is = a.3; start_is = a.4; name_is = unit_name p q.0; line_is = a.5; units_are = refl })
 step_sound whole (units h) p rest t a g = between_sound whole h p rest t a g
 step_sound whole (named h k line) p rest t a g = let q = if_go (is_unit_name p) (equals h k line p.text) t g in moved whole (equals h k line p.text) t rest q.1 (a.0, p, a.1, a.2, a.3, unit_name p q.0)
 step_sound whole (equals h k line name) p rest t a g = let q = if_go (is_kind p.kind Equals) (regular h k line name) t g in moved whole (regular h k line name) t rest q.1 (a.0, a.1, p, a.2, a.3, a.4, a.5, kind_is p.kind Equals q.0)
@@ -269,13 +269,13 @@ step_sound whole (normal h line name pattern) p rest t a g =
     moved whole (units (with_unit h u)) t rest q.1 (unit_more whole h u (a.0 ∷ a.1 ∷ a.2 ∷ a.3 ∷ p ∷ rest) rest a.4 (record { word = a.0; name_piece = a.1; equals = a.2; pattern_piece = a.3; normal_piece = p; is = refl; word_is = a.5; name_is = a.7; equals_is = a.8; pattern_is = a.9; normal_is = record { kind = kind_is p.kind Quoted q.0; text_is = refl }; line_is = a.6 }))
 step_sound whole (colon h name line) p rest t a g =
     let q = if_go (is_kind p.kind Colon) (at (left_side h name line [])) t g in
-    moved whole (at (left_side h name line [])) t rest q.1 (record { before = a.0 ∷ p ∷ rest; head = a.1; name_piece = a.0; colon_piece = p; behind = rest; split = refl; name_is = a.2; colon_is = kind_is p.kind Colon q.0; line_is = a.3; items_are = refl })
+    moved whole (at (left_side h name line [])) t rest q.1 (record { before = a.0 ∷ p ∷ rest; head = a.1; name_piece = a.0; colon_piece = p; next = rest; split = refl; name_is = a.2; colon_is = kind_is p.kind Colon q.0; line_is = a.3; items_are = refl })
 step_sound whole (at pl) p rest t a g = at_sound whole pl p rest t a g
 step_sound whole (square pl) p rest t a g = let q = if_go (is_unit_name p) (square_name pl p.text) t g in moved whole (square_name pl p.text) t rest q.1 (a.0, p, a.1, a.2, unit_name p q.0)
 step_sound whole (square_name pl name) p rest t a g = square_name_sound whole pl name p rest t a g
 step_sound whole (square_slot pl name slot) p rest t a g =
     let q = if_go (is_kind p.kind SquareOut) (at (put pl (Named name slot))) t g in
-    moved whole (at (put pl (Named name slot))) t rest q.1 (place_more whole pl (Named name slot) (a.0 ∷ a.1 ∷ a.2 ∷ p ∷ rest) rest a.3 (a.0, a.1, a.2, p, refl, a.4, a.5, a.6, kind_is p.kind SquareOut q.0))
+    moved whole (at (put pl (Named name slot))) t rest q.1 (site_more whole pl (Named name slot) (a.0 ∷ a.1 ∷ a.2 ∷ p ∷ rest) rest a.3 (a.0, a.1, a.2, p, refl, a.4, a.5, a.6, kind_is p.kind SquareOut q.0))
 step_sound whole (angle c) p rest t a g = let q = if_go (is_name p) (attrs c p.text []) t g in moved whole (attrs c p.text []) t rest q.1 (attrs_begin whole c p rest a (name_of p q.0))
 step_sound whole (attrs c tag as_) p rest t a g = in_tag_sound whole c tag as_ p rest t a g
 step_sound whole (attr_equals c tag as_ name) p rest t a g =

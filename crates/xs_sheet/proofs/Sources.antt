@@ -116,26 +116,19 @@ piece_good t p is spelt s = record {
 }
 
 last_good : (t : Lexeme) (p : Piece) (b : Bool) → IsPiece t p → t.kind ≡ (if b then End else Bad) → t.word ≡ [] → IsGoodPiece p
-last_good t p true is k none = record { plain_is = λ e. absurd (no_end (sym (is.kind ∙ k) ∙ e)); qual_is = λ e. absurd (no_end_q (sym (is.kind ∙ k) ∙ e)); pattern_is = λ e. absurd (no_end_p (sym (is.kind ∙ k) ∙ e)); regex_is = λ e. let r = is.regular e in (r.1, r.2); scalars = text_scalars t.kind t.word p.text is.text (subst (λ (z : List ℕ). all_scalars z ≡ true) (sym none) refl) }
+last_good t p b is k none = record { plain_is = λ e. absurd (no_plain b (sym (is.kind ∙ k) ∙ e)); qual_is = λ e. absurd (no_qual b (sym (is.kind ∙ k) ∙ e)); pattern_is = λ e. absurd (no_pattern b (sym (is.kind ∙ k) ∙ e)); regex_is = λ e. let r = is.regular e in (r.1, r.2); scalars = text_scalars t.kind t.word p.text is.text (subst (λ (z : List ℕ). all_scalars z ≡ true) (sym none) refl) }
   where
-    no_end : End ≡ Plain → ⊥
-    no_end e = cc
+    no_plain : (b : Bool) → (if b then End else Bad) ≡ Plain → ⊥
+    no_plain true e = cc
+    no_plain false e = cc
 
-    no_end_q : End ≡ Qual → ⊥
-    no_end_q e = cc
+    no_qual : (b : Bool) → (if b then End else Bad) ≡ Qual → ⊥
+    no_qual true e = cc
+    no_qual false e = cc
 
-    no_end_p : End ≡ Pattern → ⊥
-    no_end_p e = cc
-last_good t p false is k none = record { plain_is = λ e. absurd (no_bad (sym (is.kind ∙ k) ∙ e)); qual_is = λ e. absurd (no_bad_q (sym (is.kind ∙ k) ∙ e)); pattern_is = λ e. absurd (no_bad_p (sym (is.kind ∙ k) ∙ e)); regex_is = λ e. let r = is.regular e in (r.1, r.2); scalars = text_scalars t.kind t.word p.text is.text (subst (λ (z : List ℕ). all_scalars z ≡ true) (sym none) refl) }
-  where
-    no_bad : Bad ≡ Plain → ⊥
-    no_bad e = cc
-
-    no_bad_q : Bad ≡ Qual → ⊥
-    no_bad_q e = cc
-
-    no_bad_p : Bad ≡ Pattern → ⊥
-    no_bad_p e = cc
+    no_pattern : (b : Bool) → (if b then End else Bad) ≡ Pattern → ⊥
+    no_pattern true e = cc
+    no_pattern false e = cc
 
 none_good : (ts : List Lexeme) (ps : List Piece) → ts ≡ [] → ArePieces ts ps → GoodPieces ps
 none_good [] [] none are = tt

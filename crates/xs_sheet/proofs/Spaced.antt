@@ -12,7 +12,7 @@ use Rattle.xs_sheet.specs.declared.unit.Unit.{Unit}
 use Rattle.xs_sheet.specs.declared.sheet.Sheet.{Sheet}
 use Rattle.xs_sheet.specs.Outline.{Content, nothing, laid, item_step, items_step, with_item, content_of, unit_outline, outline_of}
 use Rattle.xs_lex.specs.declared.kind.Kind.TheVariants.{Colon, Equals, Angle, AngleSlash, AngleEnd, SlashEnd}
-use Rattle.xs_sheet.specs.Layout.{Written, as_is, sign, spelling, holds_nothing, behind_attrs, element_words, item_words, items_words, attr_words, attrs_words, content_words, unit_words, spaced, line_text, lines_text, sheet_lines}
+use Rattle.xs_sheet.specs.Layout.{Written, as_is, sign, spelling, holds_nothing, after_attrs, element_words, item_words, items_words, attr_words, attrs_words, content_words, unit_words, spaced, line_text, lines_text, sheet_lines}
 use Rattle.xs_sheet.proofs.ContentLaws.{content_push, with_plain, with_element}
 
 pub spaced-append : (a b : List Written) → spaced (a ++ b) ≡ spaced a ++ spaced b
@@ -116,7 +116,7 @@ whole_element old page opened filled new x tag as_ shown content xs is same some
     let e = spaced (back tag) in
     let one = page_on old page opened f (32 ∷ 62 ∷ []) (f ++ 32 ∷ 62 ∷ []) (so_far ∙ ap (λ (z : List Attr). old ++ spaced (front tag z)) same) begun refl in
     let two = page_on old opened filled (f ++ 32 ∷ 62 ∷ []) i ((f ++ 32 ∷ 62 ∷ []) ++ i) one (inside ∙ ap (λ (z : List XItem). opened ++ spaced (content_words (content_of z))) all) refl in
-    page_on old filled new ((f ++ 32 ∷ 62 ∷ []) ++ i) e (spaced (content_words (with_item x nothing))) two ended (ap (λ (z : List Written). spaced z) words ∙ spaced-append (front tag as_) (behind_attrs tag false inner) ∙ ap (λ (z : List ℕ). f ++ z) (spaced-append (sign AngleEnd ∷ inner) (back tag)) ∙ regroup f i e)
+    page_on old filled new ((f ++ 32 ∷ 62 ∷ []) ++ i) e (spaced (content_words (with_item x nothing))) two ended (ap (λ (z : List Written). spaced z) words ∙ spaced-append (front tag as_) (after_attrs tag false inner) ∙ ap (λ (z : List ℕ). f ++ z) (spaced-append (sign AngleEnd ∷ inner) (back tag)) ∙ regroup f i e)
 
 pub plain_item : (old new : List ℕ) (x : XItem) (i : Item) → x ≡ Plain i → new ≡ old ++ spaced (item_words i) → new ≡ old ++ spaced (content_words (with_item x nothing))
 plain_item old new x i is here = here ∙ ap (λ (z : List Written). old ++ spaced z) (sym (ap (λ (z : XItem). content_words (with_item z nothing)) is ∙ ap (λ (z : Content). content_words z) (with_plain i nothing)))

@@ -9,10 +9,10 @@ use Rattle.xs_sheet.specs.declared.x_item.Attr.{Attr}
 use Rattle.xs_sheet.specs.Outline.{Content, nothing, element, terminal, ignorable, Outline}
 use Rattle.xs_sheet.specs.Pieces.{same}
 use Rattle.xs_sheet.specs.Grammar.{ReadsSheet, Begins}
-use Rattle.xs_sheet.specs.Machine.{is_kind, is_word, is_unit_name, is_name, is_regular, Head, with_unit, Draft, Opened, Inside, Place, left_side, inside, value, put, State, begin, versioned, started, units, named, equals, regular, normal, colon, at, square, square_name, square_slot, angle, attrs, attr_equals, closing, closed, Step, go, finish, refuse, go_if, outline_at, between, behind_pattern, closes, leaves, leave, in_tag, with_attr, with_empty, with_open, with_production, step, done, stuck, follow, run}
+use Rattle.xs_sheet.specs.Machine.{is_kind, is_word, is_unit_name, is_name, is_regular, Head, with_unit, Draft, Opened, Inside, Site, left_side, inside, value, put, State, begin, versioned, started, units, named, equals, regular, normal, colon, at, square, square_name, square_slot, angle, attrs, attr_equals, closing, closed, Transition, go, finish, refuse, go_if, outline_at, between, after_pattern, closes, leaves, leave, in_tag, with_attr, with_empty, with_open, with_production, step, done, stuck, follow, run}
 use Rattle.xs_sheet.proofs.KindLaws.{kind_is, same_self}
 use Rattle.xs_sheet.proofs.Complete.{run_go, sheet_complete}
-use Rattle.xs_sheet.proofs.Sound.{AtHead, AtState, AtPlace, step_sound, leaves_finish}
+use Rattle.xs_sheet.proofs.Sound.{AtHead, AtState, AtSite, step_sound, leaves_finish}
 
 abbrev piece : Kind → List ℕ → Piece
 piece k text = record { kind = k; text = text; regular = true; start = 0; line = 0 }
@@ -56,10 +56,10 @@ left_ends : (h : Head) (name : List ℕ) (line : ℕ) (is : List Item) → Ends 
 unfolding is_kind
 left_ends h name line is = then_ends (at (left_side h name line is)) (at (inside (record { draft = record { head = h; name = name; line = line; left = is }; opens = []; so_far = nothing }))) (piece Equals []) refl (content_ends (record { head = h; name = name; line = line; left = is }) [] nothing)
 
-place_ends : (pl : Place) → Ends (at pl)
-place_ends (left_side h name line is) = left_ends h name line is
-place_ends (inside c) = content_ends c.draft c.opens c.so_far
-place_ends (value c tag as_ name is) = value_ends c tag as_ name is
+site_ends : (pl : Site) → Ends (at pl)
+site_ends (left_side h name line is) = left_ends h name line is
+site_ends (inside c) = content_ends c.draft c.opens c.so_far
+site_ends (value c tag as_ name is) = value_ends c tag as_ name is
 
 normal_ends : (h : Head) (line : ℕ) (name pattern : List ℕ) → Ends (normal h line name pattern)
 unfolding is_kind
@@ -89,10 +89,10 @@ state_ends (equals h t line name) = then_ends (equals h t line name) (regular h 
 state_ends (regular h t line name) = regular_ends h t line name
 state_ends (normal h line name pattern) = normal_ends h line name pattern
 state_ends (colon h name line) = then_ends (colon h name line) (at (left_side h name line [])) (piece Colon []) refl (left_ends h name line [])
-state_ends (at pl) = place_ends pl
-state_ends (square pl) = then_ends (square pl) (square_name pl (codes "a")) (piece Plain (codes "a")) refl (then_ends (square_name pl (codes "a")) (at (put pl (Skip (codes "a")))) (piece SquareOut []) refl (place_ends (put pl (Skip (codes "a")))))
-state_ends (square_name pl name) = then_ends (square_name pl name) (at (put pl (Skip name))) (piece SquareOut []) refl (place_ends (put pl (Skip name)))
-state_ends (square_slot pl name slot) = then_ends (square_slot pl name slot) (at (put pl (Named name slot))) (piece SquareOut []) refl (place_ends (put pl (Named name slot)))
+state_ends (at pl) = site_ends pl
+state_ends (square pl) = then_ends (square pl) (square_name pl (codes "a")) (piece Plain (codes "a")) refl (then_ends (square_name pl (codes "a")) (at (put pl (Skip (codes "a")))) (piece SquareOut []) refl (site_ends (put pl (Skip (codes "a")))))
+state_ends (square_name pl name) = then_ends (square_name pl name) (at (put pl (Skip name))) (piece SquareOut []) refl (site_ends (put pl (Skip name)))
+state_ends (square_slot pl name slot) = then_ends (square_slot pl name slot) (at (put pl (Named name slot))) (piece SquareOut []) refl (site_ends (put pl (Named name slot)))
 state_ends (angle c) = then_ends (angle c) (attrs c (codes "a") []) (piece Plain (codes "a")) refl (in_tag_ends c (codes "a") [])
 state_ends (attrs c tag as_) = in_tag_ends c tag as_
 state_ends (attr_equals c tag as_ name) = then_ends (attr_equals c tag as_ name) (at (value c tag as_ name [])) (piece Equals []) refl (value_ends c tag as_ name [])
@@ -110,7 +110,7 @@ finish_inj : (o q : Outline) → finish o ≡ finish q → o ≡ q
 finish_inj o q e = cc
 
 sheet_at : (whole : List Piece) (h : Head) (p : Piece) → AtHead whole h (p ∷ []) → p.kind ≡ End → ReadsSheet whole (outline_at h)
-sheet_at whole h p a is = record { word = a.word; start_word = a.start_word; name_piece = a.name_piece; behind = a.behind; is = a.is; word_is = a.word_is; version_is = refl; start_is = a.start_is; name_is = a.name_is; line_is = a.line_is; mid = p ∷ []; units_are = a.units_are; end_is = record { sign = p; is = refl; kind_is = is } }
+sheet_at whole h p a is = record { word = a.word; start_word = a.start_word; name_piece = a.name_piece; next = a.next; is = a.is; word_is = a.word_is; version_is = refl; start_is = a.start_is; name_is = a.name_is; line_is = a.line_is; mid = p ∷ []; units_are = a.units_are; end_is = record { sign = p; is = refl; kind_is = is } }
 
 between_finish : (whole : List Piece) (h : Head) (p : Piece) (o : Outline) → AtHead whole h (p ∷ []) → between h p ≡ finish o → ReadsSheet whole o
 between_finish whole h p o a g = by (is_kind p.kind End) (is_word (codes "terminal") p) (is_word (codes "ignorable") p) (is_unit_name p) refl g
@@ -126,7 +126,7 @@ pub go_if_no : (t : Bool) (s : State) (o : Outline) → go_if t s ≡ finish o �
 go_if_no true s o e = cc
 go_if_no false s o e = cc
 
-pub if_no : (t : Bool) (s : State) (r : Step) (o : Outline) → (r ≡ finish o → ⊥) → (if t then go s else r) ≡ finish o → ⊥
+pub if_no : (t : Bool) (s : State) (r : Transition) (o : Outline) → (r ≡ finish o → ⊥) → (if t then go s else r) ≡ finish o → ⊥
 if_no true s r o no_r e = cc
 if_no false s r o no_r e = no_r e
 
@@ -137,8 +137,8 @@ pub closes_no : (c : Inside) (os : List Opened) (o : Outline) → closes c os �
 closes_no c [] o e = cc
 closes_no c (x ∷ os) o e = cc
 
-leave_finish : (whole : List Piece) (pl : Place) (p : Piece) (o : Outline) → AtState whole (at pl) (p ∷ []) → leave pl p ≡ finish o → ReadsSheet whole o
-unfolding AtState AtPlace
+leave_finish : (whole : List Piece) (pl : Site) (p : Piece) (o : Outline) → AtState whole (at pl) (p ∷ []) → leave pl p ≡ finish o → ReadsSheet whole o
+unfolding AtState AtSite
 leave_finish whole (left_side h name line is) p o a g = absurd (go_if_no (is_kind p.kind Equals) (at (inside (record { draft = record { head = h; name = name; line = line; left = is }; opens = []; so_far = nothing }))) o g)
 leave_finish whole (inside c) p o a g = by (is_kind p.kind Angle) (is_kind p.kind AngleSlash) g
   where
@@ -157,7 +157,7 @@ step_finish whole (started line) p o a g = absurd (go_if_no (is_unit_name p) (un
 step_finish whole (units h) p o a g = between_finish whole h p o a g
 step_finish whole (named h t line) p o a g = absurd (go_if_no (is_unit_name p) (equals h t line p.text) o g)
 step_finish whole (equals h t line name) p o a g = absurd (go_if_no (is_kind p.kind Equals) (regular h t line name) o g)
-step_finish whole (regular h t line name) p o a g = absurd (go_if_no (is_regular p) (behind_pattern h t line name p) o g)
+step_finish whole (regular h t line name) p o a g = absurd (go_if_no (is_regular p) (after_pattern h t line name p) o g)
 step_finish whole (normal h line name pattern) p o a g = absurd (go_if_no (is_kind p.kind Quoted) (units (with_unit h (ignorable name pattern p.text line))) o g)
 step_finish whole (colon h name line) p o a g = absurd (go_if_no (is_kind p.kind Colon) (at (left_side h name line [])) o g)
 step_finish whole (at pl) p o a g = by (is_kind p.kind Quoted) (is_kind p.kind SquareIn) g
@@ -179,7 +179,7 @@ run_sound : (whole : List Piece) (ps : List Piece) (s : State) (o : Outline) →
 run_sound whole [] s o a is = absurd (cc)
 run_sound whole (p ∷ ps) s o a is = by (step s p) refl is (λ t b c. run_sound whole ps t o b c)
   where
-    by : (r : Step) → step s p ≡ r → follow r p (λ u. run u ps) ps ≡ done o [] → ((t : State) → AtState whole t ps → run t ps ≡ done o [] → ReadsSheet whole o) → ReadsSheet whole o
+    by : (r : Transition) → step s p ≡ r → follow r p (λ u. run u ps) ps ≡ done o [] → ((t : State) → AtState whole t ps → run t ps ≡ done o [] → ReadsSheet whole o) → ReadsSheet whole o
     by (go t) e f again = again t (step_sound whole s p ps t a e) f
     by (finish q) e f again =
         let d = done_inj q o ps [] f in
@@ -207,7 +207,7 @@ refused_at : (ps : List Piece) (s : State) (p : Piece) → run s ps ≡ stuck p 
 refused_at [] s p is = absurd (cc)
 refused_at (q ∷ ps) s p is = by (step s q) refl is (λ t e. refused_at ps t p e)
   where
-    by : (r : Step) → step s q ≡ r → follow r q (λ u. run u ps) ps ≡ stuck p → ((t : State) → run t ps ≡ stuck p → Refused t ps p) → Refused s (q ∷ ps) p
+    by : (r : Transition) → step s q ≡ r → follow r q (λ u. run u ps) ps ≡ stuck p → ((t : State) → run t ps ≡ stuck p → Refused t ps p) → Refused s (q ∷ ps) p
     by (go t) e f again =
         let r = again t f in
         record { front = q ∷ r.front; after = r.after; there = r.there; split = ap (λ (z : List Piece). q ∷ z) r.split; leads = λ more. run_go s t q (r.front ++ more) e ∙ r.leads more; refuses = r.refuses }
@@ -236,5 +236,5 @@ sheet_broken ps p is =
       after = r.after;
       split = r.split;
       begins = (e.more, e.outline, sheet_sound (r.front ++ e.more) e.outline (r.leads e.more ∙ e.ends));
-      broken = λ b. done_stuck b.1 [] p (sym (sheet_complete ((r.front ++ p ∷ []) ++ b.0) b.1 b.2) ∙ ap (λ (z : List Piece). run begin z) (append_assoc r.front (p ∷ []) b.0) ∙ r.leads (p ∷ b.0) ∙ ap (λ (z : Step). follow z p (λ u. run u b.0) b.0) r.refuses);
+      broken = λ b. done_stuck b.1 [] p (sym (sheet_complete ((r.front ++ p ∷ []) ++ b.0) b.1 b.2) ∙ ap (λ (z : List Piece). run begin z) (append_assoc r.front (p ∷ []) b.0) ∙ r.leads (p ∷ b.0) ∙ ap (λ (z : Transition). follow z p (λ u. run u b.0) b.0) r.refuses);
     }

@@ -1,4 +1,4 @@
--- The grammar of a sheet: each form as a relation of what it gives, the pieces, and the pieces behind it.
+-- The grammar of a sheet: each form as a relation of what it gives, the pieces, and the pieces after it.
 use Rattle.std.specs.Prelude.{◌≡◌, ◌⊎◌, ⊤, ℕ, ◌+◌, ◌<◌, true, false, List, [], ◌∷◌, ◌++◌, length, codes}
 use Rattle.xs_lex.specs.declared.kind.Kind.{Kind}
 use Rattle.xs_lex.specs.declared.kind.Kind.TheVariants.{Plain, Qual, Quoted, Pattern, Colon, Equals, SquareIn, SquareOut, Angle, AngleSlash, AngleEnd, SlashEnd, End}
@@ -55,12 +55,12 @@ ReadsItems (i ∷ is) ps rest = (mid : List Piece) × ReadsItem i ps mid × Read
 pub record ReadsAttr (a : Attr) (ps rest : List Piece) : Type 0 where
   pub name : Piece
   pub equals : Piece
-  pub behind : List Piece
-  pub is : ps ≡ name ∷ equals ∷ behind
+  pub next : List Piece
+  pub is : ps ≡ name ∷ equals ∷ next
   pub name_is : IsName name a.name
   pub equals_is : equals.kind ≡ Equals
   pub some : 0 < length a.value
-  pub value : ReadsItems a.value behind rest
+  pub value : ReadsItems a.value next rest
 
 abbrev pub ReadsAttrs : List Attr → List Piece → List Piece → Type 0
 ReadsAttrs [] ps rest = ps ≡ rest
@@ -90,7 +90,7 @@ pub record ReadsSign (kind : Kind) (ps rest : List Piece) : Type 0 where
   pub is : ps ≡ sign ∷ rest
   pub kind_is : sign.kind ≡ kind
 
--- content inside so many elements, of which there are never more than 64 round an item
+-- content inside that many elements, of which there are never more than 64 round an item
 abbrev pub ReadsContent : ℕ → Content → List Piece → List Piece → Type 0
 ReadsContent depth nothing ps rest = ps ≡ rest
 ReadsContent depth (item before i) ps rest = (mid : List Piece) × ReadsContent depth before ps mid × ReadsItem i mid rest
@@ -126,12 +126,12 @@ pub record ReadsIgnorable (name pattern normal : List ℕ) (line : ℕ) (ps rest
 pub record ReadsProduction (name : List ℕ) (left : List Item) (right : Content) (line : ℕ) (ps rest : List Piece) : Type 0 where
   pub name_piece : Piece
   pub colon : Piece
-  pub behind : List Piece
-  pub is : ps ≡ name_piece ∷ colon ∷ behind
+  pub next : List Piece
+  pub is : ps ≡ name_piece ∷ colon ∷ next
   pub name_is : IsUnitName name_piece name
   pub colon_is : colon.kind ≡ Colon
   pub mid : List Piece
-  pub left_is : ReadsItems left behind mid
+  pub left_is : ReadsItems left next mid
   pub inside : List Piece
   pub equals_is : ReadsSign Equals mid inside
   pub right_is : ReadsContent 0 right inside rest
@@ -151,15 +151,15 @@ pub record ReadsSheet (ps : List Piece) (o : Outline) : Type 0 where
   pub word : Piece
   pub start_word : Piece
   pub name_piece : Piece
-  pub behind : List Piece
-  pub is : ps ≡ word ∷ start_word ∷ name_piece ∷ behind
+  pub next : List Piece
+  pub is : ps ≡ word ∷ start_word ∷ name_piece ∷ next
   pub word_is : IsWord word (codes "xsugar-1")
   pub version_is : o.version ≡ 1
   pub start_is : IsWord start_word (codes "start")
   pub name_is : IsUnitName name_piece o.start
   pub line_is : start_word.line ≡ o.start_line
   pub mid : List Piece
-  pub units_are : ReadsUnits o.units behind mid
+  pub units_are : ReadsUnits o.units next mid
   pub end_is : ReadsSign End mid []
 
 -- the regular expression is that of the pattern

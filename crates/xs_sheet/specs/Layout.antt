@@ -15,7 +15,7 @@ use Rattle.xs_sheet.specs.Outline.{Content, nothing, item, element, UnitOutline,
 unfoldable pub hex_digits : ℕ → List ℕ
 hex_digits n = if nat_lt n 16 then digit_char n ∷ [] else digit_char (n / 16) ∷ digit_char (n % 16) ∷ []
 
--- the sign behind a backslash that stands for a character: \" \\ \n \t \r
+-- the sign after a backslash that stands for a character: \" \\ \n \t \r
 unfoldable pub escape_sign : ℕ → Option ℕ
 escape_sign c = if c == 34 then Some 34 else (if c == 92 then Some 92 else (if c == 10 then Some 110 else (if c == 9 then Some 116 else (if c == 13 then Some 114 else None))))
 
@@ -35,7 +35,8 @@ unit_of c = by_sign (escape_sign c) c
 abbrev pub quoted : List ℕ → List ℕ
 quoted text = 34 ∷ spelt_quoted (map unit_of text) (34 ∷ [])
 
--- a token as it is written: a name or a word, a string by what it stands for, a pattern by what is between its slashes, a sign
+-- a token as it is written: a name or a word, a string by what it stands for, a pattern by what is between its slashes,
+-- a sign
 pub data Written : Type 0 where
   as_is : List ℕ → Written
   in_quotes : List ℕ → Written
@@ -88,13 +89,13 @@ holds_nothing (item before i) = false
 holds_nothing (element before tag attrs inner) = false
 
 -- what ends an element's first tag, and what follows it: />, or > and the content and </ TAG >
-abbrev pub behind_attrs : List ℕ → Bool → List Written → List Written
-behind_attrs tag true inner = sign SlashEnd ∷ []
-behind_attrs tag false inner = sign AngleEnd ∷ (inner ++ sign AngleSlash ∷ as_is tag ∷ sign AngleEnd ∷ [])
+abbrev pub after_attrs : List ℕ → Bool → List Written → List Written
+after_attrs tag true inner = sign SlashEnd ∷ []
+after_attrs tag false inner = sign AngleEnd ∷ (inner ++ sign AngleSlash ∷ as_is tag ∷ sign AngleEnd ∷ [])
 
 -- an element that holds nothing is one tag, and any other has both its tags
 abbrev pub element_words : List ℕ → List Attr → Bool → List Written → List Written
-element_words tag attrs empty inner = sign Angle ∷ as_is tag ∷ (attrs_words attrs ++ behind_attrs tag empty inner)
+element_words tag attrs empty inner = sign Angle ∷ as_is tag ∷ (attrs_words attrs ++ after_attrs tag empty inner)
 
 abbrev pub content_words : Content → List Written
 content_words nothing = []
@@ -106,7 +107,7 @@ unit_words (terminal name inner line) = as_is (codes "terminal") ∷ as_is name 
 unit_words (ignorable name inner normal line) = as_is (codes "ignorable") ∷ as_is name ∷ sign Equals ∷ in_slashes inner ∷ in_quotes normal ∷ []
 unit_words (production name left right line) = as_is name ∷ sign Colon ∷ (items_words left ++ sign Equals ∷ content_words right)
 
--- each word behind one space
+-- each word after one space
 abbrev pub spaced : List Written → List ℕ
 spaced [] = []
 spaced (w ∷ ws) = 32 ∷ (spelling w ++ spaced ws)

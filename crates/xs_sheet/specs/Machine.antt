@@ -72,17 +72,17 @@ abbrev pub with_content : Inside → Content → Inside
 with_content c content = record { draft = c.draft; opens = c.opens; so_far = content }
 
 -- where an item may stand: a text side, the content of an XML side, or an attribute's value
-pub data Place : Type 0 where
-  left_side : Head → List ℕ → ℕ → List Item → Place
-  inside : Inside → Place
-  value : Inside → List ℕ → List Attr → List ℕ → List Item → Place
+pub data Site : Type 0 where
+  left_side : Head → List ℕ → ℕ → List Item → Site
+  inside : Inside → Site
+  value : Inside → List ℕ → List Attr → List ℕ → List Item → Site
 
-abbrev pub put : Place → Item → Place
+abbrev pub put : Site → Item → Site
 put (left_side h name line is) i = left_side h name line (is ++ i ∷ [])
 put (inside c) i = inside (with_content c (item c.so_far i))
 put (value c tag as_ name is) i = value c tag as_ name (is ++ i ∷ [])
 
-abbrev pub puts : Place → List Item → Place
+abbrev pub puts : Site → List Item → Site
 puts pl [] = pl
 puts pl (i ∷ is) = puts (put pl i) is
 
@@ -96,22 +96,22 @@ pub data State : Type 0 where
   regular : Head → Bool → ℕ → List ℕ → State
   normal : Head → ℕ → List ℕ → List ℕ → State
   colon : Head → List ℕ → ℕ → State
-  at : Place → State
-  square : Place → State
-  square_name : Place → List ℕ → State
-  square_slot : Place → List ℕ → List ℕ → State
+  at : Site → State
+  square : Site → State
+  square_name : Site → List ℕ → State
+  square_slot : Site → List ℕ → List ℕ → State
   angle : Inside → State
   attrs : Inside → List ℕ → List Attr → State
   attr_equals : Inside → List ℕ → List Attr → List ℕ → State
   closing : Draft → Opened → List Opened → Content → State
   closed : Draft → Opened → List Opened → Content → State
 
-pub data Step : Type 0 where
-  go : State → Step
-  finish : Outline → Step
-  refuse : Step
+pub data Transition : Type 0 where
+  go : State → Transition
+  finish : Outline → Transition
+  refuse : Transition
 
-abbrev pub go_if : Bool → State → Step
+abbrev pub go_if : Bool → State → Transition
 go_if true s = go s
 go_if false s = refuse
 
@@ -119,24 +119,24 @@ abbrev pub outline_at : Head → Outline
 outline_at h = record { version = 1; start = h.start; start_line = h.start_line; units = h.units }
 
 -- between units
-abbrev pub between : Head → Piece → Step
+abbrev pub between : Head → Piece → Transition
 between h p = if is_kind p.kind End then finish (outline_at h) else (if is_word (codes "terminal") p then go (named h true p.line) else (if is_word (codes "ignorable") p then go (named h false p.line) else go_if (is_unit_name p) (colon h p.text p.line)))
 
 -- a terminal's or an ignorable's pattern
-abbrev pub behind_pattern : Head → Bool → ℕ → List ℕ → Piece → State
-behind_pattern h true line name p = units (with_unit h (terminal name p.text line))
-behind_pattern h false line name p = normal h line name p.text
+abbrev pub after_pattern : Head → Bool → ℕ → List ℕ → Piece → State
+after_pattern h true line name p = units (with_unit h (terminal name p.text line))
+after_pattern h false line name p = normal h line name p.text
 
 abbrev pub with_production : Draft → Content → Head
 with_production d right = with_unit d.head (production d.name d.left right d.line)
 
 -- </ closes the innermost element
-abbrev pub closes : Inside → List Opened → Step
+abbrev pub closes : Inside → List Opened → Transition
 closes c [] = refuse
 closes c (o ∷ os) = go (closing c.draft o os c.so_far)
 
 -- a production ends where no element is open
-abbrev pub leaves : Inside → List Opened → Piece → Step
+abbrev pub leaves : Inside → List Opened → Piece → Transition
 leaves c [] p = between (with_production c.draft c.so_far) p
 leaves c (o ∷ os) p = refuse
 
@@ -146,11 +146,11 @@ with_empty c tag as_ = with_content c (element c.so_far tag as_ nothing)
 abbrev pub with_open : Inside → List ℕ → List Attr → Inside
 with_open c tag as_ = record { draft = c.draft; opens = record { tag = tag; attrs = as_; outer = c.so_far } ∷ c.opens; so_far = nothing }
 
--- behind a tag's name and some attributes
-abbrev pub in_tag : Inside → List ℕ → List Attr → Piece → Step
+-- after a tag's name and some attributes
+abbrev pub in_tag : Inside → List ℕ → List Attr → Piece → Transition
 in_tag c tag as_ p = if is_name p then go (attr_equals c tag as_ p.text) else (if is_kind p.kind SlashEnd then go (at (inside (with_empty c tag as_))) else go_if (is_kind p.kind AngleEnd) (at (inside (with_open c tag as_))))
 
--- </ and the tag and > end an element, which stands behind what was before it
+-- </ and the tag and > end an element, which stands after what was before it
 abbrev pub ended : Draft → Opened → List Opened → Content → Inside
 ended d o os inner = record { draft = d; opens = os; so_far = element o.outer o.tag o.attrs inner }
 
@@ -158,20 +158,20 @@ abbrev pub with_attr : List Attr → List ℕ → List Item → List Attr
 with_attr as_ name is = as_ ++ record { name = name; value = is } ∷ []
 
 -- where a piece leads that begins no item
-abbrev pub leave : Place → Piece → Step
+abbrev pub leave : Site → Piece → Transition
 leave (left_side h name line is) p = go_if (is_kind p.kind Equals) (at (inside (record { draft = record { head = h; name = name; line = line; left = is }; opens = []; so_far = nothing })))
 leave (inside c) p = if is_kind p.kind Angle then go_if (nat_lt (length c.opens) 64) (angle c) else (if is_kind p.kind AngleSlash then closes c c.opens else leaves c c.opens p)
 leave (value c tag as_ name []) p = refuse
 leave (value c tag as_ name (i ∷ is)) p = in_tag c tag (with_attr as_ name (i ∷ is)) p
 
-abbrev pub step : State → Piece → Step
+abbrev pub step : State → Piece → Transition
 step begin p = go_if (is_word (codes "xsugar-1") p) versioned
 step versioned p = go_if (is_word (codes "start") p) (started p.line)
 step (started line) p = go_if (is_unit_name p) (units (record { start = p.text; start_line = line; units = [] }))
 step (units h) p = between h p
 step (named h t line) p = go_if (is_unit_name p) (equals h t line p.text)
 step (equals h t line name) p = go_if (is_kind p.kind Equals) (regular h t line name)
-step (regular h t line name) p = go_if (is_regular p) (behind_pattern h t line name p)
+step (regular h t line name) p = go_if (is_regular p) (after_pattern h t line name p)
 step (normal h line name pattern) p = go_if (is_kind p.kind Quoted) (units (with_unit h (ignorable name pattern p.text line)))
 step (colon h name line) p = go_if (is_kind p.kind Colon) (at (left_side h name line []))
 step (at pl) p = if is_kind p.kind Quoted then go (at (put pl (Fixed p.text))) else (if is_kind p.kind SquareIn then go (square pl) else leave pl p)
@@ -190,7 +190,7 @@ pub data Outcome : Type 0 where
   stuck : Piece → Outcome
   unfinished : Outcome
 
-abbrev pub follow : Step → Piece → (State → Outcome) → List Piece → Outcome
+abbrev pub follow : Transition → Piece → (State → Outcome) → List Piece → Outcome
 follow (go s) p more rest = more s
 follow (finish o) p more rest = done o rest
 follow refuse p more rest = stuck p

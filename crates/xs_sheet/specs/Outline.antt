@@ -16,7 +16,7 @@ pub data Content : Type 0 where
   item : Content → Item → Content
   element : Content → List ℕ → List Attr → Content → Content
 
--- items one after another, behind some content
+-- items one after another, after some content
 abbrev pub laid : Content → List (Content → Content) → Content
 laid before [] = before
 laid before (f ∷ fs) = laid (f before) fs
@@ -41,7 +41,8 @@ pub data UnitOutline : Type 0 where
   ignorable : List ℕ → List ℕ → List ℕ → ℕ → UnitOutline
   production : List ℕ → List Item → Content → ℕ → UnitOutline
 
--- a terminal has its name, pattern and line; an ignorable also its normal spelling; a production its name, sides and line
+-- a terminal has its name, pattern and line; an ignorable also its normal spelling; a production its name, sides and
+-- line
 abbrev pub unit_outline : Unit → UnitOutline
 unit_outline (Terminal name pattern regex line) = terminal name pattern line
 unit_outline (Ignorable name pattern regex normal line) = ignorable name pattern normal line

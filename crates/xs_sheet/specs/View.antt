@@ -4,8 +4,8 @@ use Rattle.xs_sheet.specs.declared.state.Head.{Head}
 use Rattle.xs_sheet.specs.declared.state.Draft.{Draft}
 use Rattle.xs_sheet.specs.declared.state.Opened.{Opened}
 use Rattle.xs_sheet.specs.declared.state.Inside.{Inside}
-use Rattle.xs_sheet.specs.declared.state.Place.{Place}
-use Rattle.xs_sheet.specs.declared.state.Place.TheVariants as P
+use Rattle.xs_sheet.specs.declared.state.Site.{Site}
+use Rattle.xs_sheet.specs.declared.state.Site.TheVariants as P
 use Rattle.xs_sheet.specs.declared.state.UnitState.{UnitState}
 use Rattle.xs_sheet.specs.declared.state.UnitState.TheVariants as U
 use Rattle.xs_sheet.specs.declared.state.ItemState.{ItemState}
@@ -14,8 +14,8 @@ use Rattle.xs_sheet.specs.declared.state.TagState.{TagState}
 use Rattle.xs_sheet.specs.declared.state.TagState.TheVariants as G
 use Rattle.xs_sheet.specs.declared.state.State.{State}
 use Rattle.xs_sheet.specs.declared.state.State.TheVariants as S
-use Rattle.xs_sheet.specs.declared.state.Step.{Step}
-use Rattle.xs_sheet.specs.declared.state.Step.TheVariants as T
+use Rattle.xs_sheet.specs.declared.state.Transition.{Transition}
+use Rattle.xs_sheet.specs.declared.state.Transition.TheVariants as T
 use Rattle.xs_sheet.specs.Regular.{IsRegex}
 use Rattle.xs_sheet.specs.Outline.{content_of, unit_outline, outline_of}
 use Rattle.xs_sheet.specs.Grammar.{HaveRegexes}
@@ -36,10 +36,10 @@ opens_view os = map opened_view (reverse os)
 abbrev pub inside_view : Inside → M.Inside
 inside_view c = record { draft = draft_view c.draft; opens = opens_view c.opens.items; so_far = content_of c.content.items }
 
-abbrev pub place_view : Place → M.Place
-place_view (P.LeftSide head name line items) = M.left_side (head_view head) name line items.items
-place_view (P.Content c) = M.inside (inside_view c)
-place_view (P.Value v) = M.value (inside_view v.tag.inside) v.tag.name v.tag.attrs.items v.name v.items.items
+abbrev pub site_view : Site → M.Site
+site_view (P.LeftSide head name line items) = M.left_side (head_view head) name line items.items
+site_view (P.Content c) = M.inside (inside_view c)
+site_view (P.Value v) = M.value (inside_view v.tag.inside) v.tag.name v.tag.attrs.items v.name v.items.items
 
 abbrev pub unit_view : UnitState → M.State
 unit_view U.Begin = M.begin
@@ -53,10 +53,10 @@ unit_view (U.Normal head line name pattern regex) = M.normal (head_view head) li
 unit_view (U.Colon head name line) = M.colon (head_view head) name line
 
 abbrev pub item_view : ItemState → M.State
-item_view (I.At place) = M.at (place_view place)
-item_view (I.Square place) = M.square (place_view place)
-item_view (I.SquareName place name) = M.square_name (place_view place) name
-item_view (I.SquareSlot place name slot) = M.square_slot (place_view place) name slot
+item_view (I.At site) = M.at (site_view site)
+item_view (I.Square site) = M.square (site_view site)
+item_view (I.SquareName site name) = M.square_name (site_view site) name
+item_view (I.SquareSlot site name slot) = M.square_slot (site_view site) name slot
 
 abbrev pub tag_view : TagState → M.State
 tag_view (G.Angle c) = M.angle (inside_view c)
@@ -70,16 +70,16 @@ state_view (S.Unit s) = unit_view s
 state_view (S.Item s) = item_view s
 state_view (S.Tag s) = tag_view s
 
-abbrev pub step_view : Step → M.Step
-step_view (T.Go s) = M.go (state_view s)
-step_view (T.Finish s) = M.finish (outline_of s)
-step_view T.Refuse = M.refuse
+abbrev pub transition_view : Transition → M.Transition
+transition_view (T.Go s) = M.go (state_view s)
+transition_view (T.Finish s) = M.finish (outline_of s)
+transition_view T.Refuse = M.refuse
 
 -- the regular expressions so far are those of their patterns
-abbrev pub PlaceHasRegexes : Place → Type 0
-PlaceHasRegexes (P.LeftSide head name line items) = HaveRegexes head.units.items
-PlaceHasRegexes (P.Content c) = HaveRegexes c.draft.head.units.items
-PlaceHasRegexes (P.Value v) = HaveRegexes v.tag.inside.draft.head.units.items
+abbrev pub SiteHasRegexes : Site → Type 0
+SiteHasRegexes (P.LeftSide head name line items) = HaveRegexes head.units.items
+SiteHasRegexes (P.Content c) = HaveRegexes c.draft.head.units.items
+SiteHasRegexes (P.Value v) = HaveRegexes v.tag.inside.draft.head.units.items
 
 abbrev pub UnitHasRegexes : UnitState → Type 0
 UnitHasRegexes U.Begin = ⊤
@@ -93,10 +93,10 @@ UnitHasRegexes (U.Normal head line name pattern regex) = HaveRegexes head.units.
 UnitHasRegexes (U.Colon head name line) = HaveRegexes head.units.items
 
 abbrev pub ItemHasRegexes : ItemState → Type 0
-ItemHasRegexes (I.At place) = PlaceHasRegexes place
-ItemHasRegexes (I.Square place) = PlaceHasRegexes place
-ItemHasRegexes (I.SquareName place name) = PlaceHasRegexes place
-ItemHasRegexes (I.SquareSlot place name slot) = PlaceHasRegexes place
+ItemHasRegexes (I.At site) = SiteHasRegexes site
+ItemHasRegexes (I.Square site) = SiteHasRegexes site
+ItemHasRegexes (I.SquareName site name) = SiteHasRegexes site
+ItemHasRegexes (I.SquareSlot site name slot) = SiteHasRegexes site
 
 abbrev pub TagHasRegexes : TagState → Type 0
 TagHasRegexes (G.Angle c) = HaveRegexes c.draft.head.units.items
@@ -110,7 +110,7 @@ StateHasRegexes (S.Unit s) = UnitHasRegexes s
 StateHasRegexes (S.Item s) = ItemHasRegexes s
 StateHasRegexes (S.Tag s) = TagHasRegexes s
 
-abbrev pub StepHasRegexes : Step → Type 0
-StepHasRegexes (T.Go s) = StateHasRegexes s
-StepHasRegexes (T.Finish s) = HaveRegexes s.units
-StepHasRegexes T.Refuse = ⊤
+abbrev pub TransitionHasRegexes : Transition → Type 0
+TransitionHasRegexes (T.Go s) = StateHasRegexes s
+TransitionHasRegexes (T.Finish s) = HaveRegexes s.units
+TransitionHasRegexes T.Refuse = ⊤

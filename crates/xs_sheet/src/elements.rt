@@ -4,23 +4,25 @@ ghost use Rattle.xs_sheet.specs.Machine as M;
 ghost use Rattle.xs_sheet.specs.Machine.{is_name};
 ghost use Rattle.xs_sheet.specs.Pieces.{same};
 ghost use Rattle.xs_sheet.specs.Outline.{content_of, element};
-ghost use Rattle.xs_sheet.specs.View.{draft_view, opened_view, opens_view, inside_view, head_view, tag_view, step_view, TagHasRegexes, StepHasRegexes};
+ghost use Rattle.xs_sheet.specs.View.{draft_view, opened_view, opens_view, inside_view, head_view, tag_view, transition_view, TagHasRegexes, TransitionHasRegexes};
 
 use crate::piece::{Piece, same_texts};
-use crate::places::push_content;
-use crate::state::{Head, Inside, ItemState, Opened, Place, State, Step, Tag, TagState, Value};
+use crate::sites::push_content;
+use crate::state::{
+    Head, Inside, ItemState, Opened, Site, State, Tag, TagState, Transition, Value,
+};
 use crate::units::{between, refuse, with_text, with_unit};
 use crate::{Attr, Attrs, Item, Items, Unit, XItem, XItems};
 use std::alloc::Global;
 use xs_class::{Memory, Text};
 use xs_lex::Kind;
 
-// The element is open, and its content begins.
+/// The element is open, and its content begins.
 #[tactic(auto, using(crate::proofs::ContentLaws::opens_push))]
-fn open_element(alloc: Global, tag: Tag) -> Result<Step, Memory>
+fn open_element(alloc: Global, tag: Tag) -> Result<Transition, Memory>
     requires { HaveRegexes tag.inside.draft.head.units.items }
-    ensures view { IfOk result (λ s. step_view s ≡ M.go (M.at (M.inside (M.with_open (inside_view tag.inside) tag.name tag.attrs.items)))) }
-    ensures regexes { IfOk result StepHasRegexes }
+    ensures view { IfOk result (λ s. transition_view s ≡ M.go (M.at (M.inside (M.with_open (inside_view tag.inside) tag.name tag.attrs.items)))) }
+    ensures regexes { IfOk result TransitionHasRegexes }
 {
     let Tag {
         inside,
@@ -37,19 +39,19 @@ fn open_element(alloc: Global, tag: Tag) -> Result<Step, Memory>
         attrs,
         outer: content,
     })?;
-    Ok(Step::Go(State::Item(ItemState::At(Place::Content(Inside {
+    Ok(Transition::Go(State::Item(ItemState::At(Site::Content(Inside {
         draft,
         opens,
         content: Vec::new(alloc),
     })))))
 }
 
-// The content goes on behind one more element, which has none.
+/// The content goes on after one more element, which has none.
 #[tactic(auto, using(crate::proofs::ContentLaws::with_element))]
-fn empty_element(alloc: Global, tag: Tag) -> Result<Step, Memory>
+fn empty_element(alloc: Global, tag: Tag) -> Result<Transition, Memory>
     requires { HaveRegexes tag.inside.draft.head.units.items }
-    ensures view { IfOk result (λ s. step_view s ≡ M.go (M.at (M.inside (M.with_empty (inside_view tag.inside) tag.name tag.attrs.items)))) }
-    ensures regexes { IfOk result StepHasRegexes }
+    ensures view { IfOk result (λ s. transition_view s ≡ M.go (M.at (M.inside (M.with_empty (inside_view tag.inside) tag.name tag.attrs.items)))) }
+    ensures regexes { IfOk result TransitionHasRegexes }
 {
     let item = XItem::Element {
         tag: tag.name,
@@ -57,24 +59,24 @@ fn empty_element(alloc: Global, tag: Tag) -> Result<Step, Memory>
         content: XItems::new(alloc),
     };
     let inside = push_content(tag.inside, item)?;
-    Ok(Step::Go(State::Item(ItemState::At(Place::Content(inside)))))
+    Ok(Transition::Go(State::Item(ItemState::At(Site::Content(inside)))))
 }
 
-// An attribute begins.
-fn begin_attr(alloc: Global, tag: Tag, piece: &Piece) -> Result<Step, Memory>
+/// An attribute begins.
+fn begin_attr(alloc: Global, tag: Tag, piece: &Piece) -> Result<Transition, Memory>
     requires { HaveRegexes tag.inside.draft.head.units.items }
-    ensures view { IfOk result (λ s. step_view s ≡ M.go (M.attr_equals (inside_view tag.inside) tag.name tag.attrs.items piece.now.text)) }
-    ensures regexes { IfOk result StepHasRegexes }
+    ensures view { IfOk result (λ s. transition_view s ≡ M.go (M.attr_equals (inside_view tag.inside) tag.name tag.attrs.items piece.now.text)) }
+    ensures regexes { IfOk result TransitionHasRegexes }
 {
     let (tag, name) = with_text(alloc, tag, piece)?;
-    Ok(Step::Go(State::Tag(TagState::AttrEquals(tag, name))))
+    Ok(Transition::Go(State::Tag(TagState::AttrEquals(tag, name))))
 }
 
-// Behind a tag's name and some attributes.
-fn in_tag(alloc: Global, tag: Tag, piece: &Piece) -> Result<Step, Memory>
+/// After a tag's name and some attributes.
+fn in_tag(alloc: Global, tag: Tag, piece: &Piece) -> Result<Transition, Memory>
     requires { HaveRegexes tag.inside.draft.head.units.items }
-    ensures view { IfOk result (λ s. step_view s ≡ M.in_tag (inside_view tag.inside) tag.name tag.attrs.items piece.now) }
-    ensures regexes { IfOk result StepHasRegexes }
+    ensures view { IfOk result (λ s. transition_view s ≡ M.in_tag (inside_view tag.inside) tag.name tag.attrs.items piece.now) }
+    ensures regexes { IfOk result TransitionHasRegexes }
 {
     if piece.is_name() {
         return begin_attr(alloc, tag, piece);
@@ -88,7 +90,7 @@ fn in_tag(alloc: Global, tag: Tag, piece: &Piece) -> Result<Step, Memory>
     Ok(refuse(tag))
 }
 
-// The tag with one more attribute.
+/// The tag with one more attribute.
 fn push_attr(mut tag: Tag, name: Text, items: Vec<Item>) -> Result<Tag, Memory>
     ensures inside { IfOk result (λ t. t.inside ≡ tag.inside) }
     ensures name { IfOk result (λ t. t.name ≡ tag.name) }
@@ -101,11 +103,11 @@ fn push_attr(mut tag: Tag, name: Text, items: Vec<Item>) -> Result<Tag, Memory>
     Ok(tag)
 }
 
-/// Behind an attribute's value.
-pub fn leave_value(alloc: Global, value: Value, piece: &Piece) -> Result<Step, Memory>
+/// After an attribute's value.
+pub fn leave_value(alloc: Global, value: Value, piece: &Piece) -> Result<Transition, Memory>
     requires { HaveRegexes value.tag.inside.draft.head.units.items }
-    ensures view { IfOk result (λ s. step_view s ≡ M.leave (M.value (inside_view value.tag.inside) value.tag.name value.tag.attrs.items value.name value.items.items) piece.now) }
-    ensures regexes { IfOk result StepHasRegexes }
+    ensures view { IfOk result (λ s. transition_view s ≡ M.leave (M.value (inside_view value.tag.inside) value.tag.name value.tag.attrs.items value.name value.items.items) piece.now) }
+    ensures regexes { IfOk result TransitionHasRegexes }
 {
     if value.items.is_empty() {
         return Ok(refuse(value));
@@ -114,20 +116,20 @@ pub fn leave_value(alloc: Global, value: Value, piece: &Piece) -> Result<Step, M
     in_tag(alloc, tag, piece)
 }
 
-// Behind `</`.
+/// After `</`.
 #[tactic(auto, using(crate::proofs::ContentLaws::opens_push))]
-fn close_element(mut inside: Inside) -> Step
+fn close_element(mut inside: Inside) -> Transition
     requires { HaveRegexes inside.draft.head.units.items }
-    ensures view { step_view result ≡ M.closes (inside_view inside) (inside_view inside).opens }
-    ensures regexes { StepHasRegexes result }
+    ensures view { transition_view result ≡ M.closes (inside_view inside) (inside_view inside).opens }
+    ensures regexes { TransitionHasRegexes result }
 {
     match inside.opens.pop() {
         None => refuse(inside),
-        Some(opened) => Step::Go(State::Tag(TagState::Closing(inside, opened))),
+        Some(opened) => Transition::Go(State::Tag(TagState::Closing(inside, opened))),
     }
 }
 
-// The production is whole.
+/// The production is whole.
 fn end_production(inside: Inside) -> Result<Head, Memory>
     requires { HaveRegexes inside.draft.head.units.items }
     ensures view { IfOk result (λ h. head_view h ≡ M.with_production (draft_view inside.draft) (content_of inside.content.items)) }
@@ -147,24 +149,24 @@ fn end_production(inside: Inside) -> Result<Head, Memory>
     with_unit(draft.head, unit)
 }
 
-// At `<` in content.
+/// At `<` in content.
 #[tactic(auto, using(crate::proofs::ContentLaws::opens_length))]
-fn begin_tag(inside: Inside) -> Step
+fn begin_tag(inside: Inside) -> Transition
     requires { HaveRegexes inside.draft.head.units.items }
-    ensures view { step_view result ≡ M.go_if (nat_lt (length (inside_view inside).opens) 64) (M.angle (inside_view inside)) }
-    ensures regexes { StepHasRegexes result }
+    ensures view { transition_view result ≡ M.go_if (nat_lt (length (inside_view inside).opens) 64) (M.angle (inside_view inside)) }
+    ensures regexes { TransitionHasRegexes result }
 {
     if inside.opens.len() < 64 {
-        return Step::Go(State::Tag(TagState::Angle(inside)));
+        return Transition::Go(State::Tag(TagState::Angle(inside)));
     }
     refuse(inside)
 }
 
-// At a piece that content does not go on with.
-fn leave_production(alloc: Global, inside: Inside, piece: &Piece) -> Result<Step, Memory>
+/// At a piece that content does not go on with.
+fn leave_production(alloc: Global, inside: Inside, piece: &Piece) -> Result<Transition, Memory>
     requires { HaveRegexes inside.draft.head.units.items }
-    ensures view { IfOk result (λ s. step_view s ≡ M.leaves (inside_view inside) (inside_view inside).opens piece.now) }
-    ensures regexes { IfOk result StepHasRegexes }
+    ensures view { IfOk result (λ s. transition_view s ≡ M.leaves (inside_view inside) (inside_view inside).opens piece.now) }
+    ensures regexes { IfOk result TransitionHasRegexes }
 {
     if inside.opens.is_empty() {
         let head = end_production(inside)?;
@@ -173,11 +175,11 @@ fn leave_production(alloc: Global, inside: Inside, piece: &Piece) -> Result<Step
     Ok(refuse(inside))
 }
 
-/// Behind an item of an XML side, at a piece that begins none.
-pub fn leave_content(alloc: Global, inside: Inside, piece: &Piece) -> Result<Step, Memory>
+/// After an item of an XML side, at a piece that begins none.
+pub fn leave_content(alloc: Global, inside: Inside, piece: &Piece) -> Result<Transition, Memory>
     requires { HaveRegexes inside.draft.head.units.items }
-    ensures view { IfOk result (λ s. step_view s ≡ M.leave (M.inside (inside_view inside)) piece.now) }
-    ensures regexes { IfOk result StepHasRegexes }
+    ensures view { IfOk result (λ s. transition_view s ≡ M.leave (M.inside (inside_view inside)) piece.now) }
+    ensures regexes { IfOk result TransitionHasRegexes }
 {
     if piece.is(Kind::Angle) {
         return Ok(begin_tag(inside));
@@ -188,59 +190,59 @@ pub fn leave_content(alloc: Global, inside: Inside, piece: &Piece) -> Result<Ste
     leave_production(alloc, inside, piece)
 }
 
-// Behind `<`.
-fn angle(alloc: Global, inside: Inside, piece: &Piece) -> Result<Step, Memory>
+/// After `<`.
+fn angle(alloc: Global, inside: Inside, piece: &Piece) -> Result<Transition, Memory>
     requires { HaveRegexes inside.draft.head.units.items }
-    ensures view { IfOk result (λ s. step_view s ≡ M.step (M.angle (inside_view inside)) piece.now) }
-    ensures regexes { IfOk result StepHasRegexes }
+    ensures view { IfOk result (λ s. transition_view s ≡ M.step (M.angle (inside_view inside)) piece.now) }
+    ensures regexes { IfOk result TransitionHasRegexes }
 {
     if !piece.is_name() {
         return Ok(refuse(inside));
     }
     let (inside, name) = with_text(alloc, inside, piece)?;
-    Ok(Step::Go(State::Tag(TagState::Attrs(Tag {
+    Ok(Transition::Go(State::Tag(TagState::Attrs(Tag {
         inside,
         name,
         attrs: Vec::new(alloc),
     }))))
 }
 
-// Behind an attribute's name.
-fn attr_equals(alloc: Global, tag: Tag, name: Text, piece: &Piece) -> Step
+/// After an attribute's name.
+fn attr_equals(alloc: Global, tag: Tag, name: Text, piece: &Piece) -> Transition
     requires { HaveRegexes tag.inside.draft.head.units.items }
-    ensures view { step_view result ≡ M.step (M.attr_equals (inside_view tag.inside) tag.name tag.attrs.items name) piece.now }
-    ensures regexes { StepHasRegexes result }
+    ensures view { transition_view result ≡ M.step (M.attr_equals (inside_view tag.inside) tag.name tag.attrs.items name) piece.now }
+    ensures regexes { TransitionHasRegexes result }
 {
     if !piece.is(Kind::Equals) {
         return refuse(tag);
     }
-    Step::Go(State::Item(ItemState::At(Place::Value(Value {
+    Transition::Go(State::Item(ItemState::At(Site::Value(Value {
         tag,
         name,
         items: Vec::new(alloc),
     }))))
 }
 
-// Whether the piece is the name of the tag.
+/// Whether the piece is the name of the tag.
 fn is_tag(piece: &Piece, tag: &Text) -> bool
     ensures { result ≡ is_name piece.now && same piece.now.text tag.now }
 {
     piece.is_name() && same_texts(&piece.text, tag)
 }
 
-// At the name of the tag that closes an element.
-fn closing(inside: Inside, opened: Opened, piece: &Piece) -> Step
+/// At the name of the tag that closes an element.
+fn closing(inside: Inside, opened: Opened, piece: &Piece) -> Transition
     requires { HaveRegexes inside.draft.head.units.items }
-    ensures view { step_view result ≡ M.step (M.closing (draft_view inside.draft) (opened_view opened) (opens_view inside.opens.items) (content_of inside.content.items)) piece.now }
-    ensures regexes { StepHasRegexes result }
+    ensures view { transition_view result ≡ M.step (M.closing (draft_view inside.draft) (opened_view opened) (opens_view inside.opens.items) (content_of inside.content.items)) piece.now }
+    ensures regexes { TransitionHasRegexes result }
 {
     if !is_tag(piece, &opened.tag) {
         return refuse(inside);
     }
-    Step::Go(State::Tag(TagState::Closed(inside, opened)))
+    Transition::Go(State::Tag(TagState::Closed(inside, opened)))
 }
 
-// The content with one more element.
+/// The content with one more element.
 #[tactic(auto, using(crate::proofs::ContentLaws::content_push, crate::proofs::ContentLaws::with_element))]
 fn push_element(
     mut outer: Vec<XItem>,
@@ -258,11 +260,11 @@ fn push_element(
     Ok(outer)
 }
 
-// The element is whole, and the content round it goes on.
-fn end_element(inside: Inside, opened: Opened) -> Result<Step, Memory>
+/// The element is whole, and the content round it goes on.
+fn end_element(inside: Inside, opened: Opened) -> Result<Transition, Memory>
     requires { HaveRegexes inside.draft.head.units.items }
-    ensures view { IfOk result (λ s. step_view s ≡ M.go (M.at (M.inside (M.ended (draft_view inside.draft) (opened_view opened) (opens_view inside.opens.items) (content_of inside.content.items))))) }
-    ensures regexes { IfOk result StepHasRegexes }
+    ensures view { IfOk result (λ s. transition_view s ≡ M.go (M.at (M.inside (M.ended (draft_view inside.draft) (opened_view opened) (opens_view inside.opens.items) (content_of inside.content.items))))) }
+    ensures regexes { IfOk result TransitionHasRegexes }
 {
     let Inside {
         draft,
@@ -271,18 +273,18 @@ fn end_element(inside: Inside, opened: Opened) -> Result<Step, Memory>
     } = inside;
     let Opened { tag, attrs, outer } = opened;
     let content = push_element(outer, tag, attrs, content)?;
-    Ok(Step::Go(State::Item(ItemState::At(Place::Content(Inside {
+    Ok(Transition::Go(State::Item(ItemState::At(Site::Content(Inside {
         draft,
         opens,
         content,
     })))))
 }
 
-// Behind that name.
-fn closed(inside: Inside, opened: Opened, piece: &Piece) -> Result<Step, Memory>
+/// After that name.
+fn closed(inside: Inside, opened: Opened, piece: &Piece) -> Result<Transition, Memory>
     requires { HaveRegexes inside.draft.head.units.items }
-    ensures view { IfOk result (λ s. step_view s ≡ M.step (M.closed (draft_view inside.draft) (opened_view opened) (opens_view inside.opens.items) (content_of inside.content.items)) piece.now) }
-    ensures regexes { IfOk result StepHasRegexes }
+    ensures view { IfOk result (λ s. transition_view s ≡ M.step (M.closed (draft_view inside.draft) (opened_view opened) (opens_view inside.opens.items) (content_of inside.content.items)) piece.now) }
+    ensures regexes { IfOk result TransitionHasRegexes }
 {
     if !piece.is(Kind::AngleEnd) {
         return Ok(refuse(inside));
@@ -291,10 +293,10 @@ fn closed(inside: Inside, opened: Opened, piece: &Piece) -> Result<Step, Memory>
 }
 
 /// Where one more piece leads inside a tag.
-pub fn step_tag(alloc: Global, state: TagState, piece: &Piece) -> Result<Step, Memory>
+pub fn step_tag(alloc: Global, state: TagState, piece: &Piece) -> Result<Transition, Memory>
     requires { TagHasRegexes state }
-    ensures view { IfOk result (λ s. step_view s ≡ M.step (tag_view state) piece.now) }
-    ensures regexes { IfOk result StepHasRegexes }
+    ensures view { IfOk result (λ s. transition_view s ≡ M.step (tag_view state) piece.now) }
+    ensures regexes { IfOk result TransitionHasRegexes }
 {
     match state {
         TagState::Angle(inside) => angle(alloc, inside, piece),

@@ -1,7 +1,10 @@
-//! Stylesheets as they are written: their parts, read from bytes and written back.
+//! Stylesheets as they are written: read from bytes by a state machine over tokens, which is exact
+//! for the grammar of sheets, and written back.
 //!
 //! A sheet has a version word, the name of its start, and units: terminals, ignorables and
-//! productions. Reading gives the sheet, or the place of the first token that no sheet has there.
+//! productions. Reading gives the sheet, or where the first token begins that no sheet has there.
+//! The definitions stand in specs/: Grammar (what a sheet is), Machine (the states and transitions
+//! of the reader), View (what the code's states stand for), Layout (how a sheet is written).
 #![tactic(auto)]
 
 mod elements;
@@ -9,11 +12,11 @@ mod item;
 mod page;
 mod piece;
 mod pieces;
-mod places;
 mod quoting;
 mod reader;
 mod regular;
 mod sheet;
+mod sites;
 mod state;
 mod unit;
 mod units;

@@ -27,7 +27,7 @@ pub fn same_texts(a: &Text, b: &Text) -> bool
     a.as_str() == b.as_str()
 }
 
-// Whether the text is this word of ASCII characters.
+/// Whether the text is this word of ASCII characters.
 fn is_this(text: &Text, word: &str) -> bool
     requires { list_all (λ b. nat_lt b 128) word.now ≡ true }
     ensures { result ≡ same text.now word.now }
@@ -35,7 +35,7 @@ fn is_this(text: &Text, word: &str) -> bool
     text.as_str() == word
 }
 
-// Whether the text is a word that names no unit.
+/// Whether the text is a word that names no unit.
 fn reserved(text: &Text) -> bool
     ensures { result ≡ is_reserved text.now }
 {

@@ -13,7 +13,7 @@ use std::str;
 use xs_class::{Memory, Text};
 use xs_lex::{Kind, Token, quoted_value};
 
-// The characters without the last one.
+/// The characters without the last one.
 fn without_last(alloc: Global, letters: &[char]) -> Result<Text, Memory>
     requires { 1 ≤ length letters.now }
     ensures { IfOk result (λ t. t ≡ take (length letters.now - 1) letters.now) }
@@ -26,7 +26,7 @@ fn without_last(alloc: Global, letters: &[char]) -> Result<Text, Memory>
     Ok(inner)
 }
 
-// What a pattern has between its slashes.
+/// What a pattern has between its slashes.
 fn between_slashes(alloc: Global, text: &str) -> Result<Text, Memory>
     requires { Spells Kind.Pattern (chars text.now) }
     ensures { IfOk result (λ t. IsPattern (chars text.now) t) }
@@ -35,7 +35,7 @@ fn between_slashes(alloc: Global, text: &str) -> Result<Text, Memory>
     without_last(alloc, &letters[1..])
 }
 
-// The text of a token of this kind.
+/// The text of a token of this kind.
 fn text_of(alloc: Global, kind: Kind, text: &str) -> Result<Text, Memory>
     requires { IsSpelt kind (chars text.now) }
     ensures { IfOk result (λ t. IsTextOf kind (chars text.now) t) }
@@ -58,7 +58,7 @@ fn text_of(alloc: Global, kind: Kind, text: &str) -> Result<Text, Memory>
     }
 }
 
-// Whether the text is that of a pattern that is a regular expression.
+/// Whether the text is that of a pattern that is a regular expression.
 fn is_regular(alloc: Global, kind: Kind, text: &Text) -> Result<bool, Memory>
     ensures yes { IfOk result (λ b. b ≡ true → (kind ≡ Kind.Pattern) × (r : Regex) × IsRegex text.now r) }
     ensures no { IfOk result (λ b. b ≡ false → kind ≡ Kind.Pattern → (r : Regex) → IsRegex text.now r → ⊥) }

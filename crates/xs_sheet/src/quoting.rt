@@ -6,7 +6,7 @@ ghost use Rattle.xs_sheet.specs.Layout.{hex_digits, escape_sign, is_control, uni
 use crate::page::Page;
 use xs_class::{Memory, Text};
 
-// The lower-case hexadecimal digit of a number.
+/// The lower-case hexadecimal digit of a number.
 fn digit(number: u32) -> char
     requires { number < 16 }
     ensures { result ≡ digit_char number }
@@ -14,7 +14,7 @@ fn digit(number: u32) -> char
     char::from_digit(number, 16).unwrap()
 }
 
-// Writes a number without leading zeros.
+/// Writes a number without leading zeros.
 #[tactic(auto, unfolding(crate::specs::Layout::hex_digits))]
 fn push_digits(page: &mut Page, number: u32) -> Result<(), Memory>
     requires { number < 256 }
@@ -27,7 +27,7 @@ fn push_digits(page: &mut Page, number: u32) -> Result<(), Memory>
     page.push(digit(number % 16))
 }
 
-// Writes a character by its number.
+/// Writes a character by its number.
 fn push_number(page: &mut Page, number: u32) -> Result<(), Memory>
     requires { number < 256 }
     ensures { OnOk result (page.new ≡ page.old ++ spelt_quoted_unit (coded (hex_digits number)) []) }
@@ -37,7 +37,7 @@ fn push_number(page: &mut Page, number: u32) -> Result<(), Memory>
     page.push('}')
 }
 
-// The sign that stands for the character behind a backslash, if one does.
+/// The sign that stands for the character after a backslash, if one does.
 #[tactic(auto, unfolding(crate::specs::Layout::escape_sign))]
 fn escape_sign(c: char) -> Option<char>
     ensures { result ≡ escape_sign c }
@@ -52,7 +52,7 @@ fn escape_sign(c: char) -> Option<char>
     }
 }
 
-// Whether a quoted string has the character by its number.
+/// Whether a quoted string has the character by its number.
 #[tactic(auto, unfolding(crate::specs::Layout::is_control))]
 fn is_control(c: char) -> bool
     ensures { result ≡ is_control c }
@@ -60,7 +60,7 @@ fn is_control(c: char) -> bool
     c < ' ' || c == '\u{7F}'
 }
 
-// Writes a character of a quoted string.
+/// Writes a character of a quoted string.
 fn push_character(page: &mut Page, c: char) -> Result<(), Memory>
     ensures { OnOk result (page.new ≡ page.old ++ spelt_quoted_unit (unit_of c) []) }
 {

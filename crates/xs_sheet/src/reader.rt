@@ -4,15 +4,15 @@ ghost use Rattle.xs_sheet.specs.Regular.{IsRegex};
 ghost use Rattle.xs_sheet.specs.Grammar.{IsSheetOf, HaveRegexes};
 ghost use Rattle.xs_sheet.specs.Outline.{outline_of};
 ghost use Rattle.xs_sheet.specs.Machine as M;
-ghost use Rattle.xs_sheet.specs.View.{state_view, step_view, StateHasRegexes, StepHasRegexes};
+ghost use Rattle.xs_sheet.specs.View.{state_view, transition_view, StateHasRegexes, TransitionHasRegexes};
 ghost use Rattle.xs_sheet.specs.Faults.{IsBad, IsStuck, IsDone};
 
 use crate::Sheet;
 use crate::elements::step_tag;
 use crate::piece::Piece;
 use crate::pieces::pieces;
-use crate::places::step_item;
-use crate::state::{State, Step, UnitState};
+use crate::sites::step_item;
+use crate::state::{State, Transition, UnitState};
 use crate::units::step_unit;
 use std::alloc::Global;
 use xs_class::Memory;
@@ -39,11 +39,11 @@ impl From<Memory> for SheetFault {
 }
 
 /// Where one more piece leads.
-pub fn step(alloc: Global, state: State, piece: &Piece) -> Result<Step, Memory>
+pub fn step(alloc: Global, state: State, piece: &Piece) -> Result<Transition, Memory>
     requires state { StateHasRegexes state }
     requires piece { piece.now.regular ≡ true → (r : Regex) × IsRegex piece.now.text r }
-    ensures view { IfOk result (λ s. step_view s ≡ M.step (state_view state) piece.now) }
-    ensures regexes { IfOk result StepHasRegexes }
+    ensures view { IfOk result (λ s. transition_view s ≡ M.step (state_view state) piece.now) }
+    ensures regexes { IfOk result TransitionHasRegexes }
 {
     match state {
         State::Unit(state) => step_unit(alloc, state, piece),
@@ -52,7 +52,7 @@ pub fn step(alloc: Global, state: State, piece: &Piece) -> Result<Step, Memory>
     }
 }
 
-// The sheet of the pieces, or the byte where the first one begins that is refused.
+/// The sheet of the pieces, or the byte where the first one begins that is refused.
 fn read_pieces(alloc: Global, pieces: &[Piece]) -> Result<Sheet, SheetFault>
     requires regular { All (λ p. p.regular ≡ true → (r : Regex) × IsRegex p.text r) pieces.now }
     requires whole { M.run M.begin pieces.now ≡ M.unfinished → ⊥ }
@@ -63,9 +63,9 @@ fn read_pieces(alloc: Global, pieces: &[Piece]) -> Result<Sheet, SheetFault>
     let mut state = State::Unit(UnitState::Begin);
     'pieces: for piece in pieces {
         match step(alloc, state, piece)? {
-            Step::Go(next) => state = next,
-            Step::Finish(sheet) => return Ok(sheet),
-            Step::Refuse => {
+            Transition::Go(next) => state = next,
+            Transition::Finish(sheet) => return Ok(sheet),
+            Transition::Refuse => {
                 return Err(SheetFault::SheetBad {
                     at: u64::from(piece.start),
                 });

@@ -61,7 +61,7 @@ pub struct Value {
 
 /// Where an item may stand.
 #[derive(Drop)]
-pub enum Place {
+pub enum Site {
     LeftSide {
         head: Head,
         name: Text,
@@ -77,19 +77,19 @@ pub enum Place {
 pub enum UnitState {
     /// At the front.
     Begin,
-    /// Behind the version word.
+    /// After the version word.
     Versioned,
-    /// Behind the word `start`.
+    /// After the word `start`.
     Started(u32),
     /// Between units.
     Units(Head),
-    /// Behind `terminal` or `ignorable`.
+    /// After `terminal` or `ignorable`.
     Named(Begun),
-    /// Behind the name.
+    /// After the name.
     Equals(Begun, Text),
-    /// Behind the `=`.
+    /// After the `=`.
     Regular(Begun, Text),
-    /// Behind an ignorable's pattern.
+    /// After an ignorable's pattern.
     Normal {
         head: Head,
         line: u32,
@@ -97,7 +97,7 @@ pub enum UnitState {
         pattern: Text,
         regex: Regex,
     },
-    /// Behind a production's name.
+    /// After a production's name.
     Colon {
         head: Head,
         name: Text,
@@ -109,27 +109,27 @@ pub enum UnitState {
 #[derive(Drop)]
 pub enum ItemState {
     /// Where an item may stand.
-    At(Place),
-    /// Behind `[`.
-    Square(Place),
-    /// Behind the name in brackets.
-    SquareName(Place, Text),
-    /// Behind the slot in brackets.
-    SquareSlot(Place, Text, Text),
+    At(Site),
+    /// After `[`.
+    Square(Site),
+    /// After the name in brackets.
+    SquareName(Site, Text),
+    /// After the slot in brackets.
+    SquareSlot(Site, Text, Text),
 }
 
 /// What the reader has come to inside a tag.
 #[derive(Drop)]
 pub enum TagState {
-    /// Behind `<`.
+    /// After `<`.
     Angle(Inside),
-    /// Behind a tag's name and attributes.
+    /// After a tag's name and attributes.
     Attrs(Tag),
-    /// Behind an attribute's name.
+    /// After an attribute's name.
     AttrEquals(Tag, Text),
-    /// Behind the `</` of an element whose content this is.
+    /// After the `</` of an element whose content this is.
     Closing(Inside, Opened),
-    /// Behind `</` and the tag.
+    /// After `</` and the tag.
     Closed(Inside, Opened),
 }
 
@@ -143,7 +143,7 @@ pub enum State {
 
 /// Where one more piece leads.
 #[derive(Drop)]
-pub enum Step {
+pub enum Transition {
     Go(State),
     Finish(Sheet),
     Refuse,

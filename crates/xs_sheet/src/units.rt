@@ -5,11 +5,11 @@ ghost use Rattle.xs_sheet.specs.Grammar.{HaveRegexes};
 ghost use Rattle.xs_sheet.specs.Outline.{unit_outline};
 ghost use Rattle.xs_sheet.specs.Grammar.{HasRegex};
 ghost use Rattle.xs_sheet.specs.Machine as M;
-ghost use Rattle.xs_sheet.specs.View.{head_view, unit_view, step_view, UnitHasRegexes, StepHasRegexes};
+ghost use Rattle.xs_sheet.specs.View.{head_view, unit_view, transition_view, UnitHasRegexes, TransitionHasRegexes};
 
 use crate::piece::Piece;
 use crate::regular::regex_of;
-use crate::state::{Begun, Head, ItemState, Place, State, Step, UnitState};
+use crate::state::{Begun, Head, ItemState, Site, State, Transition, UnitState};
 use crate::{Sheet, Unit, Units};
 use std::alloc::Global;
 use xs_class::{Memory, Text};
@@ -24,11 +24,11 @@ pub fn copy(alloc: Global, text: &Text) -> Result<Text, Memory>
 }
 
 /// The piece is refused, and what was read so far is given up.
-pub fn refuse<T: Drop>(_so_far: T) -> Step
-    ensures view { step_view result ≡ M.refuse }
-    ensures regexes { StepHasRegexes result }
+pub fn refuse<T: Drop>(_so_far: T) -> Transition
+    ensures view { transition_view result ≡ M.refuse }
+    ensures regexes { TransitionHasRegexes result }
 {
-    Step::Refuse
+    Transition::Refuse
 }
 
 /// What was read so far, and the piece's text.
@@ -51,51 +51,51 @@ pub fn with_unit(mut head: Head, unit: Unit) -> Result<Head, Memory>
     Ok(head)
 }
 
-// At the front.
-fn begin(piece: &Piece) -> Step
-    ensures view { step_view result ≡ M.step M.begin piece.now }
-    ensures regexes { StepHasRegexes result }
+/// At the front.
+fn begin(piece: &Piece) -> Transition
+    ensures view { transition_view result ≡ M.step M.begin piece.now }
+    ensures regexes { TransitionHasRegexes result }
 {
     if !piece.is_word("xsugar-1") {
-        return Step::Refuse;
+        return Transition::Refuse;
     }
-    Step::Go(State::Unit(UnitState::Versioned))
+    Transition::Go(State::Unit(UnitState::Versioned))
 }
 
-// Behind the version word.
-fn versioned(piece: &Piece) -> Step
-    ensures view { step_view result ≡ M.step M.versioned piece.now }
-    ensures regexes { StepHasRegexes result }
+/// After the version word.
+fn versioned(piece: &Piece) -> Transition
+    ensures view { transition_view result ≡ M.step M.versioned piece.now }
+    ensures regexes { TransitionHasRegexes result }
 {
     if !piece.is_word("start") {
-        return Step::Refuse;
+        return Transition::Refuse;
     }
-    Step::Go(State::Unit(UnitState::Started(piece.line)))
+    Transition::Go(State::Unit(UnitState::Started(piece.line)))
 }
 
-// Behind the word `start`.
-fn started(alloc: Global, line: u32, piece: &Piece) -> Result<Step, Memory>
-    ensures view { IfOk result (λ s. step_view s ≡ M.step (M.started line) piece.now) }
-    ensures regexes { IfOk result StepHasRegexes }
+/// After the word `start`.
+fn started(alloc: Global, line: u32, piece: &Piece) -> Result<Transition, Memory>
+    ensures view { IfOk result (λ s. transition_view s ≡ M.step (M.started line) piece.now) }
+    ensures regexes { IfOk result TransitionHasRegexes }
 {
     if !piece.is_unit_name() {
-        return Ok(Step::Refuse);
+        return Ok(Transition::Refuse);
     }
     let start = copy(alloc, &piece.text)?;
-    Ok(Step::Go(State::Unit(UnitState::Units(Head {
+    Ok(Transition::Go(State::Unit(UnitState::Units(Head {
         start,
         start_line: line,
         units: Vec::new(alloc),
     }))))
 }
 
-// The sheet ends.
-fn finish(head: Head) -> Step
+/// The sheet ends.
+fn finish(head: Head) -> Transition
     requires { HaveRegexes head.units.items }
-    ensures view { step_view result ≡ M.finish (M.outline_at (head_view head)) }
-    ensures regexes { StepHasRegexes result }
+    ensures view { transition_view result ≡ M.finish (M.outline_at (head_view head)) }
+    ensures regexes { TransitionHasRegexes result }
 {
-    Step::Finish(Sheet {
+    Transition::Finish(Sheet {
         version: 1,
         start: head.start,
         start_line: head.start_line,
@@ -103,14 +103,14 @@ fn finish(head: Head) -> Step
     })
 }
 
-// A production begins.
-fn begin_production(alloc: Global, head: Head, piece: &Piece) -> Result<Step, Memory>
+/// A production begins.
+fn begin_production(alloc: Global, head: Head, piece: &Piece) -> Result<Transition, Memory>
     requires { HaveRegexes head.units.items }
-    ensures view { IfOk result (λ s. step_view s ≡ M.go (M.colon (head_view head) piece.now.text piece.now.line)) }
-    ensures regexes { IfOk result StepHasRegexes }
+    ensures view { IfOk result (λ s. transition_view s ≡ M.go (M.colon (head_view head) piece.now.text piece.now.line)) }
+    ensures regexes { IfOk result TransitionHasRegexes }
 {
     let name = copy(alloc, &piece.text)?;
-    Ok(Step::Go(State::Unit(UnitState::Colon {
+    Ok(Transition::Go(State::Unit(UnitState::Colon {
         head,
         name,
         line: piece.line,
@@ -118,24 +118,24 @@ fn begin_production(alloc: Global, head: Head, piece: &Piece) -> Result<Step, Me
 }
 
 /// Between units.
-pub fn between(alloc: Global, head: Head, piece: &Piece) -> Result<Step, Memory>
+pub fn between(alloc: Global, head: Head, piece: &Piece) -> Result<Transition, Memory>
     requires { HaveRegexes head.units.items }
-    ensures view { IfOk result (λ s. step_view s ≡ M.between (head_view head) piece.now) }
-    ensures regexes { IfOk result StepHasRegexes }
+    ensures view { IfOk result (λ s. transition_view s ≡ M.between (head_view head) piece.now) }
+    ensures regexes { IfOk result TransitionHasRegexes }
 {
     if piece.is(Kind::End) {
         return Ok(finish(head));
     }
     let line = piece.line;
     if piece.is_word("terminal") {
-        return Ok(Step::Go(State::Unit(UnitState::Named(Begun {
+        return Ok(Transition::Go(State::Unit(UnitState::Named(Begun {
             head,
             terminal: true,
             line,
         }))));
     }
     if piece.is_word("ignorable") {
-        return Ok(Step::Go(State::Unit(UnitState::Named(Begun {
+        return Ok(Transition::Go(State::Unit(UnitState::Named(Begun {
             head,
             terminal: false,
             line,
@@ -144,46 +144,46 @@ pub fn between(alloc: Global, head: Head, piece: &Piece) -> Result<Step, Memory>
     if piece.is_unit_name() {
         return begin_production(alloc, head, piece);
     }
-    Ok(Step::Refuse)
+    Ok(Transition::Refuse)
 }
 
-// Behind `terminal` or `ignorable`.
-fn named(alloc: Global, begun: Begun, piece: &Piece) -> Result<Step, Memory>
+/// After `terminal` or `ignorable`.
+fn named(alloc: Global, begun: Begun, piece: &Piece) -> Result<Transition, Memory>
     requires { HaveRegexes begun.head.units.items }
-    ensures view { IfOk result (λ s. step_view s ≡ M.step (M.named (head_view begun.head) begun.terminal begun.line) piece.now) }
-    ensures regexes { IfOk result StepHasRegexes }
+    ensures view { IfOk result (λ s. transition_view s ≡ M.step (M.named (head_view begun.head) begun.terminal begun.line) piece.now) }
+    ensures regexes { IfOk result TransitionHasRegexes }
 {
     if !piece.is_unit_name() {
-        return Ok(Step::Refuse);
+        return Ok(Transition::Refuse);
     }
     let name = copy(alloc, &piece.text)?;
-    Ok(Step::Go(State::Unit(UnitState::Equals(begun, name))))
+    Ok(Transition::Go(State::Unit(UnitState::Equals(begun, name))))
 }
 
-// Behind the name of a terminal or an ignorable.
-fn equals(begun: Begun, name: Text, piece: &Piece) -> Step
+/// After the name of a terminal or an ignorable.
+fn equals(begun: Begun, name: Text, piece: &Piece) -> Transition
     requires { HaveRegexes begun.head.units.items }
-    ensures view { step_view result ≡ M.step (M.equals (head_view begun.head) begun.terminal begun.line name) piece.now }
-    ensures regexes { StepHasRegexes result }
+    ensures view { transition_view result ≡ M.step (M.equals (head_view begun.head) begun.terminal begun.line name) piece.now }
+    ensures regexes { TransitionHasRegexes result }
 {
     if !piece.is(Kind::Equals) {
-        return Step::Refuse;
+        return Transition::Refuse;
     }
-    Step::Go(State::Unit(UnitState::Regular(begun, name)))
+    Transition::Go(State::Unit(UnitState::Regular(begun, name)))
 }
 
-// Behind one more unit.
-fn behind_unit(head: Head, unit: Unit) -> Result<Step, Memory>
+/// After one more unit.
+fn after_unit(head: Head, unit: Unit) -> Result<Transition, Memory>
     requires head { HaveRegexes head.units.items }
     requires unit { HasRegex unit }
-    ensures view { IfOk result (λ s. step_view s ≡ M.go (M.units (M.with_unit (head_view head) (unit_outline unit)))) }
-    ensures regexes { IfOk result StepHasRegexes }
+    ensures view { IfOk result (λ s. transition_view s ≡ M.go (M.units (M.with_unit (head_view head) (unit_outline unit)))) }
+    ensures regexes { IfOk result TransitionHasRegexes }
 {
     let head = with_unit(head, unit)?;
-    Ok(Step::Go(State::Unit(UnitState::Units(head))))
+    Ok(Transition::Go(State::Unit(UnitState::Units(head))))
 }
 
-// The regular expression of a pattern that has one.
+/// The regular expression of a pattern that has one.
 fn regex_at(alloc: Global, piece: &Piece) -> Result<Regex, Memory>
     requires { (r : Regex) × IsRegex piece.now.text r }
     ensures { IfOk result (λ r. IsRegex piece.now.text r) }
@@ -194,18 +194,18 @@ fn regex_at(alloc: Global, piece: &Piece) -> Result<Regex, Memory>
     Ok(regex)
 }
 
-// Behind a terminal's or an ignorable's pattern.
-fn behind_pattern(
+/// After a terminal's or an ignorable's pattern.
+fn after_pattern(
     alloc: Global,
     begun: Begun,
     name: Text,
     regex: Regex,
     piece: &Piece,
-) -> Result<Step, Memory>
+) -> Result<Transition, Memory>
     requires head { HaveRegexes begun.head.units.items }
     requires regex { IsRegex piece.now.text regex }
-    ensures view { IfOk result (λ s. step_view s ≡ M.go (M.behind_pattern (head_view begun.head) begun.terminal begun.line name piece.now)) }
-    ensures regexes { IfOk result StepHasRegexes }
+    ensures view { IfOk result (λ s. transition_view s ≡ M.go (M.after_pattern (head_view begun.head) begun.terminal begun.line name piece.now)) }
+    ensures regexes { IfOk result TransitionHasRegexes }
 {
     let pattern = copy(alloc, &piece.text)?;
     let Begun {
@@ -214,7 +214,7 @@ fn behind_pattern(
         line,
     } = begun;
     if terminal {
-        return behind_unit(
+        return after_unit(
             head,
             Unit::Terminal {
                 name,
@@ -224,7 +224,7 @@ fn behind_pattern(
             },
         );
     }
-    Ok(Step::Go(State::Unit(UnitState::Normal {
+    Ok(Transition::Go(State::Unit(UnitState::Normal {
         head,
         line,
         name,
@@ -233,24 +233,24 @@ fn behind_pattern(
     })))
 }
 
-// At a terminal's or an ignorable's pattern.
-fn regular(alloc: Global, begun: Begun, name: Text, piece: &Piece) -> Result<Step, Memory>
+/// At a terminal's or an ignorable's pattern.
+fn regular(alloc: Global, begun: Begun, name: Text, piece: &Piece) -> Result<Transition, Memory>
     requires head { HaveRegexes begun.head.units.items }
     requires piece { piece.now.regular ≡ true → (r : Regex) × IsRegex piece.now.text r }
-    ensures view { IfOk result (λ s. step_view s ≡ M.step (M.regular (head_view begun.head) begun.terminal begun.line name) piece.now) }
-    ensures regexes { IfOk result StepHasRegexes }
+    ensures view { IfOk result (λ s. transition_view s ≡ M.step (M.regular (head_view begun.head) begun.terminal begun.line name) piece.now) }
+    ensures regexes { IfOk result TransitionHasRegexes }
 {
     if !piece.is(Kind::Pattern) {
-        return Ok(Step::Refuse);
+        return Ok(Transition::Refuse);
     }
     if !piece.regular {
-        return Ok(Step::Refuse);
+        return Ok(Transition::Refuse);
     }
     let regex = regex_at(alloc, piece)?;
-    behind_pattern(alloc, begun, name, regex, piece)
+    after_pattern(alloc, begun, name, regex, piece)
 }
 
-// At an ignorable's normal spelling.
+/// At an ignorable's normal spelling.
 fn normal(
     alloc: Global,
     head: Head,
@@ -259,14 +259,14 @@ fn normal(
     pattern: Text,
     regex: Regex,
     piece: &Piece,
-) -> Result<Step, Memory>
+) -> Result<Transition, Memory>
     requires head { HaveRegexes head.units.items }
     requires regex { IsRegex pattern regex }
-    ensures view { IfOk result (λ s. step_view s ≡ M.step (M.normal (head_view head) line name pattern) piece.now) }
-    ensures regexes { IfOk result StepHasRegexes }
+    ensures view { IfOk result (λ s. transition_view s ≡ M.step (M.normal (head_view head) line name pattern) piece.now) }
+    ensures regexes { IfOk result TransitionHasRegexes }
 {
     if !piece.is(Kind::Quoted) {
-        return Ok(Step::Refuse);
+        return Ok(Transition::Refuse);
     }
     let normal = copy(alloc, &piece.text)?;
     let unit = Unit::Ignorable {
@@ -276,19 +276,19 @@ fn normal(
         normal,
         line,
     };
-    behind_unit(head, unit)
+    after_unit(head, unit)
 }
 
-// Behind a production's name.
-fn colon(alloc: Global, head: Head, name: Text, line: u32, piece: &Piece) -> Step
+/// After a production's name.
+fn colon(alloc: Global, head: Head, name: Text, line: u32, piece: &Piece) -> Transition
     requires { HaveRegexes head.units.items }
-    ensures view { step_view result ≡ M.step (M.colon (head_view head) name line) piece.now }
-    ensures regexes { StepHasRegexes result }
+    ensures view { transition_view result ≡ M.step (M.colon (head_view head) name line) piece.now }
+    ensures regexes { TransitionHasRegexes result }
 {
     if !piece.is(Kind::Colon) {
-        return Step::Refuse;
+        return Transition::Refuse;
     }
-    Step::Go(State::Item(ItemState::At(Place::LeftSide {
+    Transition::Go(State::Item(ItemState::At(Site::LeftSide {
         head,
         name,
         line,
@@ -297,11 +297,11 @@ fn colon(alloc: Global, head: Head, name: Text, line: u32, piece: &Piece) -> Ste
 }
 
 /// Where one more piece leads outside the sides of a production.
-pub fn step_unit(alloc: Global, state: UnitState, piece: &Piece) -> Result<Step, Memory>
+pub fn step_unit(alloc: Global, state: UnitState, piece: &Piece) -> Result<Transition, Memory>
     requires state { UnitHasRegexes state }
     requires piece { piece.now.regular ≡ true → (r : Regex) × IsRegex piece.now.text r }
-    ensures view { IfOk result (λ s. step_view s ≡ M.step (unit_view state) piece.now) }
-    ensures regexes { IfOk result StepHasRegexes }
+    ensures view { IfOk result (λ s. transition_view s ≡ M.step (unit_view state) piece.now) }
+    ensures regexes { IfOk result TransitionHasRegexes }
 {
     match state {
         UnitState::Begin => Ok(begin(piece)),

@@ -11,7 +11,7 @@ use crate::{Attr, Item, Sheet, Unit, XItem};
 use std::alloc::Global;
 use xs_class::{Bytes, Memory, Text};
 
-// Writes a space and ASCII characters.
+/// Writes a space and ASCII characters.
 fn push_word(page: &mut Page, word: &str) -> Result<(), Memory>
     requires { list_all (λ b. nat_lt b 128) word.now ≡ true }
     ensures { OnOk result (page.new ≡ page.old ++ 32 ∷ word.now) }
@@ -20,7 +20,7 @@ fn push_word(page: &mut Page, word: &str) -> Result<(), Memory>
     page.push_ascii(word)
 }
 
-// Writes a space and a name.
+/// Writes a space and a name.
 fn push_name(page: &mut Page, name: &Text) -> Result<(), Memory>
     ensures { OnOk result (page.new ≡ page.old ++ 32 ∷ name.now) }
 {
@@ -28,7 +28,7 @@ fn push_name(page: &mut Page, name: &Text) -> Result<(), Memory>
     page.push_text(name)
 }
 
-// Writes a space and a quoted string.
+/// Writes a space and a quoted string.
 fn push_string(page: &mut Page, text: &Text) -> Result<(), Memory>
     ensures { OnOk result (page.new ≡ page.old ++ 32 ∷ quoted text.now) }
 {
@@ -81,7 +81,7 @@ fn push_attrs(page: &mut Page, attrs: &[Attr]) -> Result<(), Memory>
     Ok(())
 }
 
-// Writes an element's first tag but for its end.
+/// Writes an element's first tag but for its end.
 fn push_tag(page: &mut Page, tag: &Text, attrs: &[Attr]) -> Result<(), Memory>
     ensures { OnOk result (page.new ≡ page.old ++ spaced (sign Angle ∷ as_is tag.now ∷ attrs_words attrs.now)) }
 {
@@ -90,7 +90,7 @@ fn push_tag(page: &mut Page, tag: &Text, attrs: &[Attr]) -> Result<(), Memory>
     push_attrs(page, attrs)
 }
 
-// Writes the tag that closes an element.
+/// Writes the tag that closes an element.
 fn push_end_tag(page: &mut Page, tag: &Text) -> Result<(), Memory>
     ensures { OnOk result (page.new ≡ page.old ++ spaced (sign AngleSlash ∷ as_is tag.now ∷ sign AngleEnd ∷ [])) }
 {
@@ -99,7 +99,7 @@ fn push_end_tag(page: &mut Page, tag: &Text) -> Result<(), Memory>
     push_word(page, ">")
 }
 
-// Writes an item of an XML side; elements stand at most 64 deep in each other.
+/// Writes an item of an XML side; elements stand at most 64 deep in each other.
 fn push_x_item(page: &mut Page, item: &XItem) -> Result<(), Memory>
     ensures { OnOk result (page.new ≡ page.old ++ spaced (content_words (with_item item.now nothing))) }
 {
@@ -132,7 +132,7 @@ fn push_content(page: &mut Page, items: &[XItem]) -> Result<(), Memory>
     Ok(())
 }
 
-// Writes what a terminal and an ignorable have alike.
+/// Writes what a terminal and an ignorable have alike.
 fn push_regular(page: &mut Page, word: &str, name: &Text, pattern: &Text) -> Result<(), Memory>
     requires { list_all (λ b. nat_lt b 128) word.now ≡ true }
     ensures { OnOk result (page.new ≡ page.old ++ word.now ++ spaced (as_is name.now ∷ sign Equals ∷ in_slashes pattern.now ∷ [])) }
@@ -160,7 +160,7 @@ fn push_production(
     push_content(page, right)
 }
 
-// Writes a unit on a line of its own.
+/// Writes a unit on a line of its own.
 fn push_unit(page: &mut Page, unit: &Unit) -> Result<(), Memory>
     ensures { OnOk result (page.new ≡ page.old ++ line_text (unit_words (unit_outline unit.now))) }
 {
@@ -191,7 +191,7 @@ fn push_unit(page: &mut Page, unit: &Unit) -> Result<(), Memory>
     page.push('\n')
 }
 
-// Writes the version word and the start, on a line each.
+/// Writes the version word and the start, on a line each.
 fn push_head(page: &mut Page, start: &Text) -> Result<(), Memory>
     ensures { OnOk result (page.new ≡ page.old ++ codes "xsugar-1\nstart " ++ start.now ++ 10 ∷ []) }
 {

@@ -1,3 +1,4 @@
 pub mod Slots
 mod Walking
 mod Listed
+mod Counting

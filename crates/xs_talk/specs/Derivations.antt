@@ -24,8 +24,8 @@ node_text rule inner = codes "(" ++ decimal (suc rule) ++ inner ++ codes ")"
 abbrev pub slot_begin : Pair → ℕ → ℕ → List ℕ
 slot_begin p rule slot = codes " " ++ slot_text p rule slot ++ codes ":"
 
--- The parts of a production's items, each behind a space: a named part behind its slot's name, the word of an
--- ignorable behind a tilde, and nothing for a fixed word.
+-- The parts of a production's items, each after a space: a named part after its slot's name, the word of an
+-- ignorable after a tilde, and nothing for a fixed word.
 abbrev pub parts_text : Pair → ℕ → List GItem → Parts → List ℕ
 parts_text p rule (Fixed f ∷ is) (fixed u ps) = parts_text p rule is ps
 parts_text p rule (Term t s ∷ is) (leaf u ps) = slot_begin p rule s ++ quoted p.names u ++ parts_text p rule is ps
@@ -41,7 +41,7 @@ derivation_line p d = node_text d.rule (parts_text p d.rule (items p.text d.rule
 abbrev pub closing_line : ℕ → Bool → List ℕ
 closing_line count more = decimal count ++ (if more then codes " trees, more\n" else codes " trees, no more\n")
 
--- The listing of different derivations of a text, as many as there are and no more than so many: their lines in
+-- The listing of different derivations of a text, as many as there are but at most that many: their lines in
 -- ascending order of bytes, and the closing line.
 pub record IsListing (p : Pair) (w : List ℕ) (max : ℕ) (answer : List ℕ) : Type 0 where
   pub derivations : List Derivation

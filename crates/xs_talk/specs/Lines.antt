@@ -1,4 +1,4 @@
--- The line that tells an outcome, as bytes, with the line feed that ends it.
+-- The line that reports an outcome, as bytes, with the line feed that ends it.
 use Rattle.std.specs.Prelude.{ℕ, List, [], ◌++◌, codes, decimal, encode_utf8_all}
 use Rattle.xs_class.specs.declared.side.Side.{Side}
 use Rattle.xs_class.specs.declared.side.Side.TheVariants.{Text, Xml}
@@ -50,7 +50,7 @@ shared names line line2 word = numbered (codes ": lines ") line (codes " and ") 
 abbrev pub cut_at : ℕ → ℕ → List ℕ
 cut_at line cut = numbered (codes ": line ") line (codes ", cut ") ++ decimal cut ++ codes ": "
 
--- the words before the cut, in the middle and behind it
+-- the words before the cut, in the middle and after it
 abbrev pub cut_words : List (List ℕ) → List ℕ → List ℕ → List ℕ → List ℕ
 cut_words names x a y = quoted names x ++ codes " " ++ quoted names a ++ codes " " ++ quoted names y ++ codes "\n"
 

@@ -10,7 +10,7 @@ line_bytes line = line.bytes.items
 abbrev pub line_spare : Line → ℕ
 line_spare line = vec_capacity line.bytes - vec_len line.bytes
 
--- the line that tells how many bytes of the answer were written
+-- the line that reports how many bytes of the answer were written
 abbrev pub write_fault_line : ℕ → List ℕ
 write_fault_line written = codes "output: cannot be written after " ++ decimal written ++ codes " bytes\n"
 

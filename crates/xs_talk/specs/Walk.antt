@@ -57,7 +57,7 @@ abbrev pub HasKid : Pair → List ℕ → List SpeltPart → ℕ → GItem → L
 HasKid p w spelt rule item [] = ⊥
 HasKid p w spelt rule item (v ∷ vs) = IsNamed p rule item × CanWrite p w (slice_get spelt v)
 
--- the first kid is written behind its label, as far as it can be at once
+-- the first kid is written after its label, as far as it can be at once
 abbrev pub IsKidWritten : Pair → List ℕ → List SpeltPart → ℕ → GItem → List GItem → List ℕ → List Task → List ℕ → List Task → List ℕ → Type 0
 IsKidWritten p w spelt rule item is [] old out new out' = ⊥
 IsKidWritten p w spelt rule item is (v ∷ vs) old out new out' = (mid : List Task) × IsOpened rule is vs old mid × IsWritten p w (slice_get spelt v) mid (out ++ label p rule item) new out'

@@ -30,7 +30,7 @@ abbrev pub mark_of : ℕ → Option (List ℕ) → List ℕ
 mark_of kind None = nothing_named
 mark_of kind (Some name) = mark_begin kind ++ name ++ codes ">"
 
--- a mark by its number behind the two that are no name's
+-- a mark by its number after the two that are no name's
 abbrev pub mark : List (List ℕ) → ℕ → List ℕ
 mark names m = mark_of (m % 3) (option_map encode_utf8_all (slice_get names (m / 3)))
 

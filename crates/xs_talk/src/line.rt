@@ -22,7 +22,7 @@ impl Line {
     }
 }
 
-// Appends bytes for which there is room.
+/// Appends bytes for which there is room.
 fn push_within(bytes: &mut Vec<u8>, piece: &[u8])
     requires { vec_len bytes.old + length piece.now ≤ vec_capacity bytes.old }
     ensures items { bytes.new.items ≡ bytes.old.items ++ piece.now }
@@ -41,8 +41,8 @@ pub fn room(alloc: Global) -> Result<Line, Memory>
     Ok(Line { bytes })
 }
 
-/// The line that tells how many bytes of the answer were written, in the room that was made for it,
-/// without memory.
+/// The line that reports how many bytes of the answer were written, in the room that was made for
+/// it, without memory.
 pub fn fault_line(room: Line, written: u64) -> Line
     requires empty { line_bytes room ≡ [] }
     requires spare { longest_fault_line ≤ line_spare room }

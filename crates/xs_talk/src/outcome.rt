@@ -12,8 +12,8 @@ pub enum Report {
         line2: u32,
         word: Word,
     },
-    /// The production of `name` at this line can be cut in two ways behind `cut` items of this side:
-    /// `x` and `x a` are loose before the cut, `y` and `a y` behind it.
+    /// The production of `name` at this line can be cut in two ways after `cut` items of this side:
+    /// `x` and `x a` are loose before the cut, `y` and `a y` after it.
     Horizontal {
         side: Side,
         name: Text,
@@ -30,12 +30,12 @@ pub enum Report {
 pub enum Outcome {
     /// `out` took exactly the answer, and `notes` nothing.
     Done,
-    /// The document has no derivation; so many of its leading symbols begin some document that has one.
+    /// The document has no derivation; its first `viable` symbols begin some document that has one.
     Foreign { viable: u64 },
     /// The sheet's file has more than 65,536 bytes.
     SheetLong,
-    /// The bytes are no sheet: `at` is the place, in bytes from 0, of the first token that no sheet has
-    /// there.
+    /// The bytes are no sheet: `at` is the place, in bytes from 0, of the first token that no sheet
+    /// has there.
     SheetBad { at: u64 },
     /// The sheet is not well formed.
     SheetIll(Ill),
@@ -45,7 +45,7 @@ pub enum Outcome {
     Suspect(Report),
     /// The input is not UTF-8: `at` bytes are its longest prefix that is.
     NotUtf8 { at: u64 },
-    /// The input is no XML of the profile: it breaks behind `at` characters.
+    /// The input is no XML of the profile: it breaks after `at` characters.
     NotXml { at: u64 },
     /// The words are no command.
     Usage,
@@ -55,8 +55,8 @@ pub enum Outcome {
     ReadFault,
     /// `out` failed, after it took the first `written` bytes of the answer.
     WriteFault { written: u64 },
-    /// `notes` failed, after it took the first `written` bytes of the line of an outcome whose status
-    /// is `of`.
+    /// `notes` failed, after it took the first `written` bytes of the line of an outcome whose
+    /// status is `of`.
     NoteFault { of: u8, written: u64 },
     /// The input has more than 1,048,576 bytes.
     DocLong,

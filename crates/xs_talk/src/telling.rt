@@ -11,7 +11,7 @@ use xs_pair::{Ill, IllRule};
 const USAGE: &[u8] =
     b"usage: xsugar check S | to-xml S [F] | to-text S | round S text [F] | round S xml | trees S M | sheet | make SEED LINES\n";
 
-// Appends a number between two texts.
+/// Appends a number between two texts.
 fn push_numbered(out: &mut Bytes, before: &[u8], number: u64, after: &[u8]) -> Result<(), Memory>
     ensures { OnOk result (out.new ≡ out.old ++ numbered_as before.now number after.now) }
 {
@@ -66,7 +66,7 @@ fn side_word(side: Side) -> &'static [u8]
     }
 }
 
-// The beginning of a report: the side and the nonterminal.
+/// The beginning of a report: the side and the nonterminal.
 fn begun(alloc: Global, side: Side, name: &Text) -> Result<Bytes, Memory>
     ensures { IfOk result (λ line. line ≡ report_begin side name.now) }
 {
@@ -75,7 +75,7 @@ fn begun(alloc: Global, side: Side, name: &Text) -> Result<Bytes, Memory>
     Ok(line)
 }
 
-// Appends what two rules share.
+/// Appends what two rules share.
 fn push_shared(
     alloc: Global,
     out: &mut Bytes,
@@ -93,7 +93,7 @@ fn push_shared(
     Ok(())
 }
 
-// Appends where a rule can be cut in two ways.
+/// Appends where a rule can be cut in two ways.
 fn push_cut(out: &mut Bytes, line: u32, cut: u32) -> Result<(), Memory>
     ensures { OnOk result (out.new ≡ out.old ++ cut_at line cut) }
 {
@@ -102,7 +102,7 @@ fn push_cut(out: &mut Bytes, line: u32, cut: u32) -> Result<(), Memory>
     Ok(())
 }
 
-// Appends the words before a cut, in the middle and behind it.
+/// Appends the words before a cut, in the middle and after it.
 fn push_words(
     alloc: Global,
     out: &mut Bytes,
@@ -154,9 +154,9 @@ fn report_of(alloc: Global, report: &Report, names: &Names) -> Result<Bytes, Mem
     }
 }
 
-/// The line that tells an outcome, with the line feed that ends it; empty for Done and NoteFault.
-/// Words of the sheet's marks are shown by the sheet's names. Linear in the words of the outcome and
-/// the names that they mark.
+/// The line that reports an outcome, with the line feed that ends it; empty for Done and NoteFault.
+/// Words of the sheet's marks are shown by the sheet's names. Linear in the words of the outcome
+/// and the names that they mark.
 pub fn line_of(alloc: Global, outcome: &Outcome, names: &Names) -> Result<Bytes, Memory>
     ensures { IfOk result (λ line. line ≡ line_at names.now outcome.now) }
 {

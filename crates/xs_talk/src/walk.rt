@@ -20,7 +20,7 @@ pub struct Task<'t> {
     pub kids: &'t [u64],
 }
 
-// One more node is open.
+/// One more node is open.
 fn open<'t>(
     rule: u32,
     items: &'t [GItem],
@@ -33,7 +33,7 @@ fn open<'t>(
     Ok(())
 }
 
-// The name of a slot of a production, as bytes.
+/// The name of a slot of a production, as bytes.
 fn slot_bytes(two: &Two, rule: u32, slot: u32) -> &[u8]
     requires { HasSlot two.now rule slot }
     ensures { result.now ≡ slot_text two.now rule slot }
@@ -41,7 +41,7 @@ fn slot_bytes(two: &Two, rule: u32, slot: u32) -> &[u8]
     two.slot_name(rule, slot).as_bytes()
 }
 
-// Appends the name of a slot, with what stands around it.
+/// Appends the name of a slot, with what stands around it.
 fn push_slot(two: &Two, rule: u32, slot: u32, out: &mut Bytes) -> Result<(), Memory>
     requires { HasSlot two.now rule slot }
     ensures { OnOk result (out.new ≡ out.old ++ slot_begin two.now rule slot) }
@@ -50,7 +50,7 @@ fn push_slot(two: &Two, rule: u32, slot: u32, out: &mut Bytes) -> Result<(), Mem
     Ok(())
 }
 
-// Appends what stands before the part of an item.
+/// Appends what stands before the part of an item.
 fn push_label(two: &Two, rule: u32, item: &GItem, out: &mut Bytes) -> Result<(), Memory>
     requires { IsNamed two.now rule item.now }
     ensures { OnOk result (out.new ≡ out.old ++ label_of two.now rule item.now) }
@@ -65,7 +65,7 @@ fn push_label(two: &Two, rule: u32, item: &GItem, out: &mut Bytes) -> Result<(),
     }
 }
 
-// Appends how a node of a production begins.
+/// Appends how a node of a production begins.
 fn push_begin(rule: u32, out: &mut Bytes) -> Result<(), Memory>
     ensures { OnOk result (out.new ≡ out.old ++ (codes "(" ++ decimal (suc rule))) }
 {
@@ -75,7 +75,7 @@ fn push_begin(rule: u32, out: &mut Bytes) -> Result<(), Memory>
     Ok(())
 }
 
-// Appends the word of a stretch of the document.
+/// Appends the word of a stretch of the document.
 fn push_stretch(
     alloc: Global,
     two: &Two,
@@ -94,7 +94,7 @@ fn push_stretch(
     Ok(())
 }
 
-// Writes a part: of a node the beginning, and the node is open.
+/// Writes a part: of a node the beginning, and the node is open.
 fn push_part<'t>(
     alloc: Global,
     two: &'t Two,
@@ -118,7 +118,7 @@ fn push_part<'t>(
     }
 }
 
-// Writes the first kid of a node, which the item is of, behind its label.
+/// Writes the first kid of a node, which the item is of, after its label.
 fn push_kid<'t>(
     alloc: Global,
     two: &'t Two,
@@ -141,7 +141,7 @@ fn push_kid<'t>(
     push_part(alloc, two, doc, part, tasks, out)
 }
 
-// Writes the next item of a node, or closes the node where no item is left.
+/// Writes the next item of a node, or closes the node where no item is left.
 fn perform<'t>(
     alloc: Global,
     two: &'t Two,
@@ -170,9 +170,9 @@ fn perform<'t>(
 
 /// The line of a derivation that is written flat, with the line feed that ends it.
 ///
-/// A node is its production, counted from 1, and its parts in round brackets: a named part behind the
-/// name of its slot, an ignorable behind a tilde, words between quotes. In time linear in the line and
-/// in the items of the nodes.
+/// A node is its production, counted from 1, and its parts in round brackets: a named part after
+/// the name of its slot, an ignorable after a tilde, words between quotes. In time linear in the
+/// line and in the items of the nodes.
 pub fn tree_line(alloc: Global, two: &Two, tree: &Spelt, doc: &Word) -> Result<Bytes, Memory>
     requires names { HasSlotNames two.now }
     requires spelt { IsSpelt two.now doc.now tree.now }

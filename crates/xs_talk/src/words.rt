@@ -5,14 +5,14 @@ ghost use Rattle.xs_talk.specs.Words.{escaped, character, mark, mark_begin as ma
 use std::alloc::Global;
 use xs_class::{Bytes, Memory, Names, Sym, Word};
 
-// The first number that is no character, and the first mark of a name.
+/// The first number that is no character, and the first mark of a name.
 const ATTRIBUTE_END: u32 = 0x110000;
 
 const STRANGE: u32 = 0x110001;
 
 const FIRST_MARK: u32 = 0x110002;
 
-// Appends three pieces.
+/// Appends three pieces.
 pub fn push_three(out: &mut Bytes, first: &[u8], second: &[u8], third: &[u8]) -> Result<(), Memory>
     ensures { OnOk result (out.new ≡ out.old ++ first.now ++ second.now ++ third.now) }
 {
@@ -30,7 +30,7 @@ fn push_escaped(alloc: Global, out: &mut Bytes, number: u32) -> Result<(), Memor
     Ok(())
 }
 
-// Appends a character, or a surrogate.
+/// Appends a character, or a surrogate.
 fn push_character(alloc: Global, out: &mut Bytes, number: u32) -> Result<(), Memory>
     ensures { OnOk result (out.new ≡ out.old ++ character number) }
 {
@@ -69,7 +69,7 @@ fn name_at(names: &Names, k: u32) -> Option<&str>
     }
 }
 
-// Appends the mark with this number behind the two that are no name's.
+/// Appends the mark with this number after the two that are no name's.
 fn push_mark(out: &mut Bytes, names: &Names, number: u32) -> Result<(), Memory>
     ensures { OnOk result (out.new ≡ out.old ++ mark names.now number) }
 {
@@ -83,7 +83,7 @@ fn push_mark(out: &mut Bytes, names: &Names, number: u32) -> Result<(), Memory>
     Ok(())
 }
 
-// Appends what is shown of a symbol.
+/// Appends what is shown of a symbol.
 pub fn push_symbol(alloc: Global, out: &mut Bytes, names: &Names, symbol: Sym) -> Result<(), Memory>
     ensures { OnOk result (out.new ≡ out.old ++ symbol_of names.now symbol) }
 {
@@ -102,7 +102,7 @@ pub fn push_symbol(alloc: Global, out: &mut Bytes, names: &Names, symbol: Sym) -
     }
 }
 
-// Appends what is shown of a word.
+/// Appends what is shown of a word.
 fn push_symbols(alloc: Global, out: &mut Bytes, names: &Names, word: &[Sym]) -> Result<(), Memory>
     ensures { OnOk result (out.new ≡ out.old ++ shown names.now word.now) }
 {

@@ -84,7 +84,7 @@ ordered_same (x ∷ xs) (y ∷ ys) ox oy same =
     heads (inr later) (inl e) = sym e
     heads (inr later) (inr later') = absurd (both_before x y (before_rest x y xs ox later') (before_rest y x ys oy later))
 
-names_same : (list ms ns : List (List ℕ)) → AreNamesOf list ms → AreNamesOf list ns → ms ≡ ns
+pub names_same : (list ms ns : List (List ℕ)) → AreNamesOf list ms → AreNamesOf list ns → ms ≡ ns
 names_same list ms ns one two = ordered_same ms ns one.ordered two.ordered (λ n. (λ h. (two.same n).1 ((one.same n).0 h), λ h. (one.same n).1 ((two.same n).0 h)))
 
 -- ignorables of the same units have the same words

@@ -1,5 +1,5 @@
 -- Nonterminals are numbered in the order of their first productions, so the first at which a rule fails
--- tells the least line.
+-- gives the least line.
 use Rattle.std.proofs.Common.{◌≡◌, ◌⊎◌, ◌∙◌, ◌<◌, ◌≤◌, inl, inr, ap, sym, refl, subst, ℕ, suc, zero, List, [], ◌∷◌, ◌++◌, length, map, take, drop, get_or, Some, None, arith, slice_get}
 use Rattle.std.specs.Option.{option_map}
 use Rattle.std.specs.declared.option.Option.{Option}
@@ -32,7 +32,7 @@ front_get [] ys j x lt at = absurd (omega arith)
 front_get (z ∷ xs) ys zero x lt at = at
 front_get (z ∷ xs) ys (suc j) x lt at = front_get xs ys j x (omega arith) at
 
--- a name's first place, with more names behind
+-- a name's first place, with more names after
 place_front : (xs ys : List (List ℕ)) (x : List ℕ) (k : ℕ) → place_of xs x ≡ Some k → place_of (xs ++ ys) x ≡ Some k
 place_front xs ys x k is = first_is_found (xs ++ ys) x k (get_front xs ys k x (found_there xs x k is)) (λ j lt at. earlier j lt at)
   where
@@ -42,8 +42,8 @@ place_front xs ys x k is = first_is_found (xs ++ ys) x k (get_front xs ys k x (f
         let (i, le, found) = first_before xs x j (front_get xs ys j x (omega arith) at) in
         let same : i ≡ k = same_Some i k (sym found ∙ is) in omega arith
 
-place_behind : (xs ys : List (List ℕ)) (x : List ℕ) (k : ℕ) → IsAbsent xs x → place_of (xs ++ ys) x ≡ Some k → length xs ≤ k
-place_behind xs ys x k none is = by_case (cases_lt k (length xs))
+place_after : (xs ys : List (List ℕ)) (x : List ℕ) (k : ℕ) → IsAbsent xs x → place_of (xs ++ ys) x ≡ Some k → length xs ≤ k
+place_after xs ys x k none is = by_case (cases_lt k (length xs))
   where
     by_case : (k < length xs) ⊎ (length xs ≤ k) → length xs ≤ k
     by_case (inl low) = absurd (stands_nowhere xs x k none (front_get xs ys k x low (found_there (xs ++ ys) x k is)))
@@ -104,7 +104,7 @@ distinct_names ns (n ∷ list) distinct = distinct_names (with_name ns n) list (
 firsts_distinct : (list : List (List ℕ)) → IsDistinct (firsts list)
 firsts_distinct list = distinct_names [] list (λ k x at. absurd (none-some x at))
 
--- a name that stands among the first so many is numbered before one that does not
+-- a name that stands among the first that many is numbered before one that does not
 earlier_number : (list : List (List ℕ)) (j : ℕ) (x y : List ℕ) (a b : ℕ) → IsAbsent (take j list) x → IsAmong (take j list) y → place_of (firsts list) x ≡ Some a → place_of (firsts list) y ≡ Some b → b < a
 earlier_number list j x y a b none among at_x at_y =
     let front : List (List ℕ) = firsts (take j list) in
@@ -113,7 +113,7 @@ earlier_number list j x y a b none among at_x at_y =
     let (c, found) = firsts_have (take j list) y among in
     let low : c < length front = slice_get_within front c y (found_there front y c found) in
     let same : c ≡ b = same_Some c b (sym (place_front front more y c found) ∙ ap (λ (l : List (List ℕ)). place_of l y) (sym whole) ∙ at_y) in
-    let high : length front ≤ a = place_behind front more x a (absent_names [] (take j list) x refl none) (ap (λ (l : List (List ℕ)). place_of l x) (sym whole) ∙ at_x) in
+    let high : length front ≤ a = place_after front more x a (absent_names [] (take j list) x refl none) (ap (λ (l : List (List ℕ)). place_of l x) (sym whole) ∙ at_x) in
     omega arith
 
 -- the name of a rule, and the rules of a name

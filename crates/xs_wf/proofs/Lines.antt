@@ -52,20 +52,20 @@ ends_next c cs = by_test (c == 10)
     by_test true = omega arith
     by_test false = omega arith
 
-ends_behind : (front rest : List ℕ) → line_ends rest ≤ line_ends (front ++ rest)
-ends_behind [] rest = omega arith
-ends_behind (c ∷ front) rest = omega (arith, ends_next c (front ++ rest), ends_behind front rest)
+ends_after : (front rest : List ℕ) → line_ends rest ≤ line_ends (front ++ rest)
+ends_after [] rest = omega arith
+ends_after (c ∷ front) rest = omega (arith, ends_next c (front ++ rest), ends_after front rest)
 
 blanks_ends : (bs : List Blank) (rest : List ℕ) → line_ends rest ≤ line_ends (spelt_blanks bs rest)
 blanks_ends [] rest = omega arith
 blanks_ends (white c ∷ bs) rest = omega (arith, ends_next c (spelt_blanks bs rest), blanks_ends bs rest)
-blanks_ends (comment body ∷ bs) rest = omega (arith, ends_behind body (spelt_blanks bs rest), blanks_ends bs rest)
+blanks_ends (comment body ∷ bs) rest = omega (arith, ends_after body (spelt_blanks bs rest), blanks_ends bs rest)
 
 apart_ends : (text rest : List ℕ) → IsApart text rest → line_ends rest ≤ line_ends text
 apart_ends text rest a = omega (arith, ap line_ends a.is, blanks_ends a.blanks rest)
 
 token_ends : (rest after : List ℕ) (kind : Kind) (word : List ℕ) → IsTokenAt rest kind word after → line_ends after ≤ line_ends rest
-token_ends rest after kind word token = omega (arith, ap line_ends token.begins.is, ends_behind word after)
+token_ends rest after kind word token = omega (arith, ap line_ends token.begins.is, ends_after word after)
 
 mark_ends : (text : List ℕ) → line_ends (after_mark text) ≤ line_ends text
 mark_ends [] = omega arith
@@ -121,7 +121,7 @@ items_keeps [] ps rest same = cut [] ps rest same
 items_keeps (i ∷ is) ps rest (mid, first, more) = λ low rise. items_keeps is mid rest more low (item_keeps i ps mid first low rise)
 
 attr_keeps : (a : Attr) (ps rest : List Piece) → ReadsAttr a ps rest → Keeps ps rest
-attr_keeps a ps rest r = λ low rise. items_keeps a.value r.behind rest r.value low (cut (r.name ∷ r.equals ∷ []) ps r.behind r.is low rise)
+attr_keeps a ps rest r = λ low rise. items_keeps a.value r.next rest r.value low (cut (r.name ∷ r.equals ∷ []) ps r.next r.is low rise)
 
 attrs_keeps : (attrs : List Attr) (ps rest : List Piece) → ReadsAttrs attrs ps rest → Keeps ps rest
 attrs_keeps [] ps rest same = cut [] ps rest same
@@ -131,8 +131,8 @@ content_keeps : (depth : ℕ) (c : Content) (ps rest : List Piece) → ReadsCont
 content_keeps depth nothing ps rest same = cut [] ps rest same
 content_keeps depth (item before i) ps rest (mid, front, last) = λ low rise. item_keeps i mid rest last low (content_keeps depth before ps mid front low rise)
 content_keeps depth (element before tag attrs inner) ps rest (mid, front, deep, named, opening, ended, as_, close) =
-    let behind : Keeps ended rest = by_case close (λ d qs rs r. content_keeps d inner qs rs r) in
-    λ low rise. behind low (attrs_keeps attrs named ended as_ low (cut (opening.angle ∷ opening.name ∷ []) mid named opening.is low (content_keeps depth before ps mid front low rise)))
+    let next : Keeps ended rest = by_case close (λ d qs rs r. content_keeps d inner qs rs r) in
+    λ low rise. next low (attrs_keeps attrs named ended as_ low (cut (opening.angle ∷ opening.name ∷ []) mid named opening.is low (content_keeps depth before ps mid front low rise)))
   where
     by_case : ((inner ≡ nothing) × ReadsSign SlashEnd ended rest) ⊎ ((inside : List Piece) × ReadsSign AngleEnd ended inside × (closing : List Piece) × ReadsContent (depth + 1) inner inside closing × ReadsClosing tag closing rest) → ((d : ℕ) (qs rs : List Piece) → ReadsContent d inner qs rs → Keeps qs rs) → Keeps ended rest
     by_case (inl (none, sign)) inside = cut (sign.sign ∷ []) ended rest sign.is
@@ -140,9 +140,9 @@ content_keeps depth (element before tag attrs inner) ps rest (mid, front, deep, 
         λ low rise. cut (end.angle ∷ end.name ∷ end.end ∷ []) closing rest end.is low (inside (depth + 1) start closing within low (cut (sign.sign ∷ []) ended start sign.is low rise))
 
 -- the line of a unit is that of its first piece, and what is left rises from there
-from_first : (p : Piece) (ps behind rest : List Piece) (line low : ℕ) → ps ≡ p ∷ behind → p.line ≡ line → Keeps behind rest → RiseFrom low (piece_lines ps) → (low ≤ line) × RiseFrom line (piece_lines rest)
-from_first p ps behind rest line low is on keeps rise =
-    let both : RiseFrom low (piece_lines (p ∷ behind)) = subst (λ (l : List Piece). RiseFrom low (piece_lines l)) is rise in
+from_first : (p : Piece) (ps next rest : List Piece) (line low : ℕ) → ps ≡ p ∷ next → p.line ≡ line → Keeps next rest → RiseFrom low (piece_lines ps) → (low ≤ line) × RiseFrom line (piece_lines rest)
+from_first p ps next rest line low is on keeps rise =
+    let both : RiseFrom low (piece_lines (p ∷ next)) = subst (λ (l : List Piece). RiseFrom low (piece_lines l)) is rise in
     (omega (arith, both.0, on), subst (λ (n : ℕ). RiseFrom n (piece_lines rest)) on (keeps p.line both.1))
 
 unit_rises : (u : Unit) (ps rest : List Piece) (low : ℕ) → ReadsUnit (unit_outline u) ps rest → RiseFrom low (piece_lines ps) → (low ≤ unit_line u) × RiseFrom (unit_line u) (piece_lines rest)
@@ -153,8 +153,8 @@ unit_rises (Ignorable name pattern regex normal line) ps rest low r =
     let front : List Piece = r.name_piece ∷ r.equals ∷ r.pattern_piece ∷ r.normal_piece ∷ [] in
     from_first r.word ps (front ++ rest) rest line low r.is r.line_is (cut front (front ++ rest) rest refl)
 unit_rises (Production name left right line) ps rest low r =
-    from_first r.name_piece ps (r.colon ∷ r.behind) rest line low r.is r.line_is
-    (λ n rise. content_keeps 0 (content_of right.all.items) r.inside rest r.right_is n (cut (r.equals_is.sign ∷ []) r.mid r.inside r.equals_is.is n (items_keeps left r.behind r.mid r.left_is n (cut (r.colon ∷ []) (r.colon ∷ r.behind) r.behind refl n rise))))
+    from_first r.name_piece ps (r.colon ∷ r.next) rest line low r.is r.line_is
+    (λ n rise. content_keeps 0 (content_of right.all.items) r.inside rest r.right_is n (cut (r.equals_is.sign ∷ []) r.mid r.inside r.equals_is.is n (items_keeps left r.next r.mid r.left_is n (cut (r.colon ∷ []) (r.colon ∷ r.next) r.next refl n rise))))
 
 -- the lines of productions
 abbrev rule_lines : List Rule → List ℕ
@@ -174,7 +174,7 @@ rules_rise (u ∷ us) ps rest low (mid, first, more) rise =
 sheet_rises : (bytes : List ℕ) (s : Sheet) → IsSheetOf bytes s → RiseFrom 0 (rule_lines (rules_of s.units))
 sheet_rises bytes s of =
     let r = of.reads in
-    rules_rise s.units r.behind r.mid 0 r.units_are (cut (r.word ∷ r.start_word ∷ r.name_piece ∷ []) of.pieces r.behind r.is 0 (pieces_rise bytes of.tokens of.pieces of.tokens_are of.pieces_are))
+    rules_rise s.units r.next r.mid 0 r.units_are (cut (r.word ∷ r.start_word ∷ r.name_piece ∷ []) of.pieces r.next r.is 0 (pieces_rise bytes of.tokens of.pieces of.tokens_are of.pieces_are))
 
 -- no production of a sheet that bytes spell stands on a line before that of an earlier one
 pub rules_ordered : (s : Sheet) → IsOfBytes s → HaveOrderedLines (map (λ (r : Rule). r.line) (rules_of s.units))

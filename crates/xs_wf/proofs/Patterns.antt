@@ -39,7 +39,7 @@ same_members pattern r q a b m = means_members b.0 r q (subst (λ t. Means t r) 
 pub pattern_size : (pattern : List ℕ) (r : Regex) → IsPatternOf pattern r → size r ≤ 512
 pattern_size pattern r a = let e = means_size a.0 r a.2 in omega (arith, e, a.1.small)
 
--- a test of a pattern's regex tells of the pattern
+-- what a test of a pattern's regex says of the pattern
 pub empty_test : (b : Bool) (pattern : List ℕ) (r : Regex) → IsPatternOf pattern r → IsTrue b ↔ HasMembers r → IsTrue (not b) ↔ HasEmptyClass pattern
 empty_test true pattern r of test = no (λ (q, of_q, none). none (same_members pattern r q of of_q (test.0 refl)))
 empty_test false pattern r of test = yes (r, of, λ m. bad (test.1 m))

@@ -1,4 +1,4 @@
--- The first seven rules among all twelve, and the order in which rules are told.
+-- The first seven rules among all twelve, and the order in which rules are reported.
 use Rattle.std.proofs.Common.{◌≡◌, ◌<◌, sym, subst, ℕ, arith}
 use Rattle.xs_sheet.specs.declared.sheet.Sheet.{Sheet}
 use Rattle.xs_pair.specs.declared.ill.Ill.{Ill}

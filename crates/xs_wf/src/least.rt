@@ -11,7 +11,7 @@ use xs_class::Memory;
 use xs_pair::{IllRule, Rule, earlier, unit_line, with_line};
 use xs_sheet::Unit;
 
-// The lesser of two lines, where there are any.
+/// The lesser of two lines, where there are any.
 pub(crate) fn lesser(one: Option<u32>, other: Option<u32>) -> Option<u32>
     ensures { result ≡ lesser_of one other }
 {
@@ -21,7 +21,7 @@ pub(crate) fn lesser(one: Option<u32>, other: Option<u32>) -> Option<u32>
     }
 }
 
-// Whether a rule that speaks of single units fails at this one.
+/// Whether a rule that speaks of single units fails at this one.
 fn is_ill_unit(alloc: Global, rule: IllRule, unit: &Unit) -> Result<bool, Memory>
     requires { HasRegex unit.now }
     ensures ill { IfOk result (λ b. IsTrue b ↔ IsIllUnit rule unit.now) }
@@ -63,8 +63,8 @@ pub fn least_strange(alloc: Global, rules: &[Rule]) -> Result<Option<u32>, Memor
     Ok(least)
 }
 
-/// The least line of a unit in which a string or a normal spelling holds a character that XML does not
-/// have. The rules are the productions among the units.
+/// The least line of a unit in which a string or a normal spelling holds a character that XML does
+/// not have. The rules are the productions among the units.
 pub fn least_not_char(alloc: Global, units: &[Unit], rules: &[Rule]) -> Result<Option<u32>, Memory>
     requires { HaveRegexes units.now }
     ensures { IfOk result (IsFirstLine (λ line. IsLineWhere (λ k u. IsStrangeUnit u) U.unit_line units.now line ⊎ IsLineWhere (λ k r. IsStrangeRule r) (λ (r : AnyRule). r.line) rules.now line)) }

@@ -11,7 +11,7 @@ use xs_gram::Gram;
 use xs_order::{Flags, OrderFault, productive, unit_order};
 use xs_pair::Two;
 
-// Whether the nonterminal's flag is set on both sides.
+/// Whether the nonterminal's flag is set on both sides.
 fn is_set(text: &Flags, xml: &Flags, non: u32) -> bool
     requires text { non < length text.now }
     requires xml { non < length xml.now }
@@ -20,7 +20,7 @@ fn is_set(text: &Flags, xml: &Flags, non: u32) -> bool
     *text.at(non as usize) && *xml.at(non as usize)
 }
 
-// The first nonterminal whose flag is not set on both sides, where flags say which are productive.
+/// The first nonterminal whose flag is not set on both sides, where flags say which are productive.
 fn first_unset(two: &Two, text: &Flags, xml: &Flags) -> Option<u32>
     requires same { two.now.text.nons ≡ two.now.xml.nons }
     requires text { O.AreProductive two.now.text text.now }
@@ -37,7 +37,7 @@ fn first_unset(two: &Two, text: &Flags, xml: &Flags) -> Option<u32>
     None
 }
 
-// The first nonterminal that derives no word on one of the sides.
+/// The first nonterminal that derives no word on one of the sides.
 fn first_unproductive(alloc: Global, two: &Two) -> Result<Option<u32>, Memory>
     requires pair { IsPair two.now }
     requires text { IsBuilt two.now.text }
@@ -50,7 +50,7 @@ fn first_unproductive(alloc: Global, two: &Two) -> Result<Option<u32>, Memory>
     Ok(first_unset(two, &text, &xml))
 }
 
-// The first nonterminal of a grammar that derives itself alone.
+/// The first nonterminal of a grammar that derives itself alone.
 fn first_loop(alloc: Global, gram: &Gram) -> Result<Option<u32>, Memory>
     requires { IsBuilt gram.now }
     ensures { IfOk result (IsFirstNon (DerivesItself gram.now)) }
@@ -62,7 +62,7 @@ fn first_loop(alloc: Global, gram: &Gram) -> Result<Option<u32>, Memory>
     }
 }
 
-// The first nonterminal that derives itself alone on one of the sides.
+/// The first nonterminal that derives itself alone on one of the sides.
 fn first_looping(alloc: Global, two: &Two) -> Result<Option<u32>, Memory>
     requires text { IsBuilt two.now.text }
     requires xml { IsBuilt two.now.xml }
@@ -73,7 +73,7 @@ fn first_looping(alloc: Global, two: &Two) -> Result<Option<u32>, Memory>
     Ok(lesser(text, xml))
 }
 
-// The line of the nonterminal's first production, in time linear in the productions.
+/// The line of the nonterminal's first production, in time linear in the productions.
 fn first_line(two: &Two, non: u32) -> u32
     requires pair { IsPair two.now }
     requires there { non < two.now.text.nons }
@@ -88,7 +88,7 @@ fn first_line(two: &Two, non: u32) -> u32
     unreachable!()
 }
 
-// The same of a nonterminal that may be none.
+/// The same of a nonterminal that may be none.
 fn some_first_line(two: &Two, non: Option<u32>) -> Option<u32>
     requires pair { IsPair two.now }
     requires there { IfSome non (λ n. n < two.now.text.nons) }
@@ -100,7 +100,8 @@ fn some_first_line(two: &Two, non: Option<u32>) -> Option<u32>
     }
 }
 
-/// The least line of the first production of a nonterminal that derives no word on one of the sides.
+/// The least line of the first production of a nonterminal that derives no word on one of the
+/// sides.
 ///
 /// Takes time and memory linear in the items of the rules and in the steps of the automata.
 pub fn least_unproductive(alloc: Global, two: &Two) -> Result<Option<u32>, Memory>
@@ -115,7 +116,8 @@ pub fn least_unproductive(alloc: Global, two: &Two) -> Result<Option<u32>, Memor
     Ok(some_first_line(two, non))
 }
 
-/// The least line of the first production of a nonterminal that derives itself alone on either side.
+/// The least line of the first production of a nonterminal that derives itself alone on either
+/// side.
 ///
 /// Takes time and memory linear in the items of the rules.
 pub fn least_loop(alloc: Global, two: &Two) -> Result<Option<u32>, Memory>

@@ -20,8 +20,8 @@ fn has_member(class: &Class) -> bool
     }
 }
 
-// Whether each class in the regex has a member. It calls itself for what is nested, and goes along
-// the parts of a sequence or of a choice in a loop.
+/// Whether each class in the regex has a member. It calls itself for what is nested, and goes along
+/// the parts of a sequence or of a choice in a loop.
 fn has_members(regex: &Regex) -> bool
     ensures { IsTrue result ↔ HasMembers regex.now }
 {
@@ -30,11 +30,11 @@ fn has_members(regex: &Regex) -> bool
         match rest {
             Regex::Empty => return true,
             Regex::Set(class) => return has_member(class),
-            Regex::Then(first, behind) => {
+            Regex::Then(first, next) => {
                 if !has_members(first) {
                     return false;
                 }
-                rest = behind;
+                rest = next;
             }
             Regex::Or(one, other) => {
                 if !has_members(one) {
@@ -73,7 +73,7 @@ fn is_strange(letter: char) -> bool
     !is_char(letter as u32)
 }
 
-// Whether the text holds a character that XML does not have.
+/// Whether the text holds a character that XML does not have.
 fn has_strange(alloc: Global, text: &Text) -> Result<bool, Memory>
     ensures { IfOk result (λ b. IsTrue b ↔ HasStrange text.now) }
 {
@@ -138,7 +138,7 @@ pub fn is_strange_unit(alloc: Global, unit: &Unit) -> Result<bool, Memory>
     }
 }
 
-// The word of a text's characters.
+/// The word of a text's characters.
 fn word_of(alloc: Global, text: &Text) -> Result<Word, Memory>
     ensures { IfOk result (λ w. w ≡ text.now) }
 {

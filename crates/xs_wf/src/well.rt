@@ -48,7 +48,7 @@ impl From<PairFault> for WfFault {
     }
 }
 
-// The least line at which the rule on characters fails.
+/// The least line at which the rule on characters fails.
 fn least_character(alloc: Global, sheet: &Sheet) -> Result<Option<u32>, Memory>
     requires { HaveRegexes sheet.now.units }
     ensures { IfOk result (IsFirstLine (Fails sheet.now R.NotChar)) }
@@ -58,7 +58,7 @@ fn least_character(alloc: Global, sheet: &Sheet) -> Result<Option<u32>, Memory>
     least_not_char(alloc, units, &rules)
 }
 
-// The least line at which the rule fails.
+/// The least line at which the rule fails.
 fn least(alloc: Global, sheet: &Sheet, two: &Two, rule: IllRule) -> Result<Option<u32>, Memory>
     requires { AreGrammarsOf sheet.now two.now }
     ensures first { IfOk result (IsFirstLine (Fails sheet.now rule)) }
@@ -80,7 +80,7 @@ fn least(alloc: Global, sheet: &Sheet, two: &Two, rule: IllRule) -> Result<Optio
     }
 }
 
-// Goes on where the rule fails nowhere.
+/// Goes on where the rule fails nowhere.
 fn pass(alloc: Global, sheet: &Sheet, two: &Two, rule: IllRule) -> Result<(), WfFault>
     requires grammars { AreGrammarsOf sheet.now two.now }
     requires before { NoneBefore (Fails sheet.now) (order rule) }
@@ -95,7 +95,7 @@ fn pass(alloc: Global, sheet: &Sheet, two: &Two, rule: IllRule) -> Result<(), Wf
     }
 }
 
-// Refuses the first of the last five rules that fails, at the least line at which it does.
+/// Refuses the first of the last five rules that fails, at the least line at which it does.
 fn check(alloc: Global, sheet: &Sheet, two: &Two) -> Result<(), WfFault>
     requires { AreGrammarsOf sheet.now two.now }
     ensures well { OnOk result (IsWell sheet.now) }
@@ -112,9 +112,10 @@ fn check(alloc: Global, sheet: &Sheet, two: &Two) -> Result<(), WfFault>
 
 /// The two grammars of a well-formed sheet.
 ///
-/// `Ill` comes exactly where one of the twelve rules fails: the first that does, with the least line
-/// at which it does. The sheet is one that some bytes, at most 65,536 of them, spell. Takes time and
-/// memory linear in the sheet, but for the order of its names and the search of its regexes.
+/// `Ill` comes exactly where one of the twelve rules fails: the first that does, with the least
+/// line at which it does. The sheet is one that some bytes, at most 65,536 of them, spell. Takes
+/// time and memory linear in the sheet, but for the order of its names and the search of its
+/// regexes.
 pub fn well_formed(alloc: Global, sheet: &Sheet) -> Result<Two, WfFault>
     requires { IsOfBytes sheet.now }
     ensures pair { IfOk result (IsPairOf sheet.now) }

@@ -24,7 +24,7 @@ HasContent names (leaf u ps) = HasContent names ps
 HasContent names (skip u ps) = HasContent names ps
 HasContent names (sub q qs ps) = IsContent names (parts_yield qs) × HasContent names ps
 
--- parts for some items, and parts for the items behind them
+-- parts for some items, and parts for the items after them
 pub record Cut (g : Grammar) (names : List (List ℕ)) (is js : List GItem) (word : List ℕ) : Type 0 where
   pub front : Parts
   pub back : Parts
@@ -53,19 +53,19 @@ cut g names (Non n s ∷ is) js (sub q qs ps) fit inner =
     record { front = sub q qs c.front; back = c.back; fits_front = (fit.0, fit.1, c.fits_front); fits_back = c.fits_back; content_front = (inner.0, c.content_front); content_back = c.content_back; is_word = word_more (parts_yield qs) (parts_yield ps) (parts_yield c.front) (parts_yield c.back) c.is_word }
 cut g names is js ps fit inner = absurd fit
 
--- the parts behind the fixed word of one symbol
-pub record Behind (g : Grammar) (names : List (List ℕ)) (s : ℕ) (is : List GItem) (word : List ℕ) : Type 0 where
+-- the parts after the fixed word of one symbol
+pub record After (g : Grammar) (names : List (List ℕ)) (s : ℕ) (is : List GItem) (word : List ℕ) : Type 0 where
   pub rest : Parts
   pub fits : FitsItems g is rest
   pub content : HasContent names rest
   pub is_word : word ≡ s ∷ parts_yield rest
 
-pub behind : (g : Grammar) (names : List (List ℕ)) (s : ℕ) (is : List GItem) (ps : Parts) → FitsItems g (Fixed (s ∷ []) ∷ is) ps → HasContent names ps → Behind g names s is (parts_yield ps)
-behind g names s is ps fit inner =
+pub after : (g : Grammar) (names : List (List ℕ)) (s : ℕ) (is : List GItem) (ps : Parts) → FitsItems g (Fixed (s ∷ []) ∷ is) ps → HasContent names ps → After g names s is (parts_yield ps)
+after g names s is ps fit inner =
     let first = fixed_parts g (s ∷ []) is ps fit in
     record { rest = first.0; fits = first.2; content = subst (HasContent names) first.1 inner; is_word = ap parts_yield first.1 }
 
--- attributes, and what stands behind them
+-- attributes, and what stands after them
 pub attributes_more : (all : List XAttribute) (x y : List ℕ) → attributes_word all x ++ y ≡ attributes_word all (x ++ y)
 attributes_more [] x y = refl
 attributes_more (a ∷ all) x y = ap (λ w. attribute_mark a.name ∷ w) (append_assoc a.value (attr_end ∷ attributes_word all x) y ∙ ap (λ w. a.value ++ attr_end ∷ w) (attributes_more all x y))

@@ -28,7 +28,7 @@ use Rattle.xs_writing_laws.proofs.Texts.{text_item}
 use Rattle.xs_writing_laws.proofs.Nested as N
 use Rattle.xs_writing_laws.proofs.Nested.{IsNested, IsElement}
 use Rattle.xs_writing_laws.proofs.Ascending.{Rises, numbers, attr_number, AreAmong, among_below, sorted_rise}
-use Rattle.xs_writing_laws.proofs.Cuts.{HasContent, cut, behind, attributes_more, content_append, IsValueItem, value_word, content_word}
+use Rattle.xs_writing_laws.proofs.Cuts.{HasContent, cut, after, attributes_more, content_append, IsValueItem, value_word, content_word}
 
 -- a string of characters of XML, a terminal or an ignorable
 abbrev pub IsValue : List (List ℕ) → Item → Type 0
@@ -82,9 +82,9 @@ attrs_parts g n slots spelt (a ∷ attrs) ps good fit inner =
     let k : ℕ = number_of n.names a.name in
     let here : EachOf (IsGood n) (attr_marks a) = each_front (IsGood n) (attr_marks a) (attrs_marks attrs) good in
     let later : EachOf (IsGood n) (attrs_marks attrs) = each_back (IsGood n) (attr_marks a) (attrs_marks attrs) good in
-    let first = behind g n.names (attribute_mark k) (flat_marks n slots (map Value a.value) ++ Fixed (attr_end ∷ []) ∷ flat_marks n slots (attrs_marks attrs)) ps (subst (λ (is : List GItem). FitsItems g is ps) (flat_attr n slots a (attrs_marks attrs)) fit) inner in
+    let first = after g n.names (attribute_mark k) (flat_marks n slots (map Value a.value) ++ Fixed (attr_end ∷ []) ∷ flat_marks n slots (attrs_marks attrs)) ps (subst (λ (is : List GItem). FitsItems g is ps) (flat_attr n slots a (attrs_marks attrs)) fit) inner in
     let c = cut g n.names (flat_marks n slots (map Value a.value)) (Fixed (attr_end ∷ []) ∷ flat_marks n slots (attrs_marks attrs)) first.rest first.fits first.content in
-    let last = behind g n.names attr_end (flat_marks n slots (attrs_marks attrs)) c.back c.fits_back c.content_back in
+    let last = after g n.names attr_end (flat_marks n slots (attrs_marks attrs)) c.back c.fits_back c.content_back in
     let more = attrs_parts g n slots spelt attrs last.rest later last.fits last.content in
     let values : EachOf IsValueItem (flat_marks n slots (map Value a.value)) = value_items n slots a.value (each_front (IsGood n) (map Value a.value) (AttributeEnd ∷ []) here.1) in
     record {
@@ -106,7 +106,7 @@ attrs_among : (n : Numbering) (attrs : List Attr) → EachOf (IsGood n) (attrs_m
 attrs_among n [] good = tt
 attrs_among n (a ∷ attrs) good = (good.0, attrs_among n attrs (each_back (IsGood n) (attr_marks a) (attrs_marks attrs) good))
 
--- parts for an element: those for its content and those behind it
+-- parts for an element: those for its content and those after it
 record HasElement (g : Grammar) (n : Numbering) (slots : List (List ℕ)) (inner rest : List Mark) (word : List ℕ) : Type 0 where
   name : ℕ
   attributes : List XAttribute
@@ -139,14 +139,14 @@ element_parts g n slots spelt up tag attrs inner rest ps good fit content =
     let k : ℕ = number_of n.names tag in
     let sorted : List Attr = by_name attrs in
     let flat : List GItem = flat_marks n slots (attrs_marks sorted) in
-    let behind_inner : List GItem = Fixed (closing_mark k ∷ []) ∷ flat_marks n slots rest in
+    let after_inner : List GItem = Fixed (closing_mark k ∷ []) ∷ flat_marks n slots rest in
     let attrs_good : EachOf (IsGood n) (attrs_marks sorted) = each_front (IsGood n) (attrs_marks sorted) (inner ++ Closing tag ∷ rest) good.1 in
     let later : EachOf (IsGood n) (inner ++ Closing tag ∷ rest) = each_back (IsGood n) (attrs_marks sorted) (inner ++ Closing tag ∷ rest) good.1 in
-    let first = behind g n.names (opening_mark k) (flat ++ (flat_marks n slots inner ++ behind_inner)) ps (subst (λ (is : List GItem). FitsItems g is ps) (flat_element n slots tag attrs inner rest) fit) content in
-    let c = cut g n.names flat (flat_marks n slots inner ++ behind_inner) first.rest first.fits first.content in
+    let first = after g n.names (opening_mark k) (flat ++ (flat_marks n slots inner ++ after_inner)) ps (subst (λ (is : List GItem). FitsItems g is ps) (flat_element n slots tag attrs inner rest) fit) content in
+    let c = cut g n.names flat (flat_marks n slots inner ++ after_inner) first.rest first.fits first.content in
     let has = attrs_parts g n slots spelt sorted c.front attrs_good c.fits_front c.content_front in
-    let d = cut g n.names (flat_marks n slots inner) behind_inner c.back c.fits_back c.content_back in
-    let last = behind g n.names (closing_mark k) (flat_marks n slots rest) d.back d.fits_back d.content_back in
+    let d = cut g n.names (flat_marks n slots inner) after_inner c.back c.fits_back c.content_back in
+    let last = after g n.names (closing_mark k) (flat_marks n slots rest) d.back d.fits_back d.content_back in
     let rise : Rises 0 (numbers n.names sorted) = sorted_rise n.names up attrs (attrs_among n sorted attrs_good) good.0.1 in
     record {
       name = k;

@@ -33,18 +33,18 @@ Fine ps = EachOf IsNamePiece ps
 name_is : (p : Piece) (name : List ℕ) → IsNamePiece p → IsName p name → IsXmlName name
 name_is p name fine is = subst IsXmlName is.name_is (fine is.kind)
 
-behind_item : (i : Item) (ps rest : List Piece) → ReadsItem i ps rest → Fine ps → Fine rest
-behind_item (Fixed text) ps rest reads fine = (subst Fine reads.1 fine).1
-behind_item (Named name slot) ps rest reads fine = (subst Fine reads.4 fine).1.1.1.1
-behind_item (Skip name) ps rest reads fine = (subst Fine reads.3 fine).1.1.1
+after_item : (i : Item) (ps rest : List Piece) → ReadsItem i ps rest → Fine ps → Fine rest
+after_item (Fixed text) ps rest reads fine = (subst Fine reads.1 fine).1
+after_item (Named name slot) ps rest reads fine = (subst Fine reads.4 fine).1.1.1.1
+after_item (Skip name) ps rest reads fine = (subst Fine reads.3 fine).1.1.1
 
-behind_items : (is : List Item) (ps rest : List Piece) → ReadsItems is ps rest → Fine ps → Fine rest
-behind_items [] ps rest reads fine = subst Fine reads fine
-behind_items (i ∷ is) ps rest reads fine = behind_items is reads.0 rest reads.2 (behind_item i ps reads.0 reads.1 fine)
+after_items : (is : List Item) (ps rest : List Piece) → ReadsItems is ps rest → Fine ps → Fine rest
+after_items [] ps rest reads fine = subst Fine reads fine
+after_items (i ∷ is) ps rest reads fine = after_items is reads.0 rest reads.2 (after_item i ps reads.0 reads.1 fine)
 
 attr_read : (a : Attr) (ps rest : List Piece) → ReadsAttr a ps rest → Fine ps → IsNamed a × Fine rest
 attr_read a ps rest reads fine =
-    let here = subst Fine reads.is fine in (name_is reads.name a.name here.0 reads.name_is, behind_items a.value reads.behind rest reads.value here.1.1)
+    let here = subst Fine reads.is fine in (name_is reads.name a.name here.0 reads.name_is, after_items a.value reads.next rest reads.value here.1.1)
 
 attrs_read : (attrs : List Attr) (ps rest : List Piece) → ReadsAttrs attrs ps rest → Fine ps → EachOf IsNamed attrs × Fine rest
 attrs_read [] ps rest reads fine = (tt, subst Fine reads fine)
@@ -56,16 +56,16 @@ attrs_read (a ∷ attrs) ps rest reads fine =
 opening_read : (tag : List ℕ) (ps rest : List Piece) → ReadsOpening tag ps rest → Fine ps → IsXmlName tag × Fine rest
 opening_read tag ps rest reads fine = let here = subst Fine reads.is fine in (name_is reads.name tag here.1.0 reads.name_is, here.1.1)
 
-behind_sign : (kind : Kind) (ps rest : List Piece) → ReadsSign kind ps rest → Fine ps → Fine rest
-behind_sign kind ps rest reads fine = (subst Fine reads.is fine).1
+after_sign : (kind : Kind) (ps rest : List Piece) → ReadsSign kind ps rest → Fine ps → Fine rest
+after_sign kind ps rest reads fine = (subst Fine reads.is fine).1
 
-behind_closing : (tag : List ℕ) (ps rest : List Piece) → ReadsClosing tag ps rest → Fine ps → Fine rest
-behind_closing tag ps rest reads fine = (subst Fine reads.is fine).1.1.1
+after_closing : (tag : List ℕ) (ps rest : List Piece) → ReadsClosing tag ps rest → Fine ps → Fine rest
+after_closing tag ps rest reads fine = (subst Fine reads.is fine).1.1.1
 
 content_read : (depth : ℕ) (c : Content) (ps rest : List Piece) → ReadsContent depth c ps rest → Fine ps → HasNames c × Fine rest
 content_read depth nothing ps rest reads fine = (tt, subst Fine reads fine)
 content_read depth (item before i) ps rest reads fine =
-    let first = content_read depth before ps reads.0 reads.1 fine in (first.0, behind_item i reads.0 rest reads.2 first.1)
+    let first = content_read depth before ps reads.0 reads.1 fine in (first.0, after_item i reads.0 rest reads.2 first.1)
 content_read depth (element before tag attrs inner) ps rest reads fine =
     let first = content_read depth before ps reads.0 reads.1 fine in
     let opening = opening_read tag reads.0 reads.3 reads.4 first.1 in
@@ -74,9 +74,9 @@ content_read depth (element before tag attrs inner) ps rest reads fine =
     ((first.0, opening.0, all.0, inside.0), inside.1)
   where
     by : {ended : List Piece} → ((inner ≡ nothing) × ReadsSign SlashEnd ended rest) ⊎ ((inside : List Piece) × ReadsSign AngleEnd ended inside × (closing : List Piece) × ReadsContent (depth + 1) inner inside closing × ReadsClosing tag closing rest) → Fine ended → ((qs last : List Piece) → ReadsContent (depth + 1) inner qs last → Fine qs → HasNames inner × Fine last) → HasNames inner × Fine rest
-    by {ended = ended} (inl empty) f within = (subst HasNames (sym empty.0) tt, behind_sign SlashEnd ended rest empty.1 f)
+    by {ended = ended} (inl empty) f within = (subst HasNames (sym empty.0) tt, after_sign SlashEnd ended rest empty.1 f)
     by {ended = ended} (inr full) f within =
-        let x = within full.0 full.2 full.3 (behind_sign AngleEnd ended full.0 full.1 f) in (x.0, behind_closing tag full.2 rest full.4 x.1)
+        let x = within full.0 full.2 full.3 (after_sign AngleEnd ended full.0 full.1 f) in (x.0, after_closing tag full.2 rest full.4 x.1)
 
 -- the XML side of a production has Names
 abbrev pub UnitHasNames : UnitOutline → Type 0
@@ -89,7 +89,7 @@ unit_read (terminal name pattern line) ps rest reads fine = (tt, (subst Fine rea
 unit_read (ignorable name pattern normal line) ps rest reads fine = (tt, (subst Fine reads.is fine).1.1.1.1.1)
 unit_read (production name left right line) ps rest reads fine =
     let here = (subst Fine reads.is fine).1.1 in
-    content_read 0 right reads.inside rest reads.right_is (behind_sign Equals reads.mid reads.inside reads.equals_is (behind_items left reads.behind reads.mid reads.left_is here))
+    content_read 0 right reads.inside rest reads.right_is (after_sign Equals reads.mid reads.inside reads.equals_is (after_items left reads.next reads.mid reads.left_is here))
 
 units_read : (us : List UnitOutline) (ps rest : List Piece) → ReadsUnits us ps rest → Fine ps → EachOf UnitHasNames us
 units_read [] ps rest reads fine = tt
@@ -99,4 +99,4 @@ units_read (u ∷ us) ps rest reads fine = let first = unit_read u ps reads.0 re
 pub sheet_read : (bytes : List ℕ) (s : Sheet) → IsSheetOf bytes s → EachOf (λ (u : SheetUnit). UnitHasNames (unit_outline u)) s.units
 sheet_read bytes s is =
     let fine : Fine is.pieces = file_named bytes is.tokens is.pieces is.tokens_are is.pieces_are in
-    each_of_map UnitHasNames unit_outline s.units (units_read (map unit_outline s.units) is.reads.behind is.reads.mid is.reads.units_are (subst Fine is.reads.is fine).1.1.1)
+    each_of_map UnitHasNames unit_outline s.units (units_read (map unit_outline s.units) is.reads.next is.reads.mid is.reads.units_are (subst Fine is.reads.is fine).1.1.1)

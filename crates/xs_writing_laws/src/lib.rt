@@ -1,7 +1,9 @@
-//! Laws of the words of a sheet's two languages: texts consist of characters, and documents are
-//! balanced words over names of XML, so that both can be written.
+//! Laws of writing: each word of a sheet's two languages can be written, since texts consist of
+//! characters and documents are balanced words (Dyck words) over Names of XML.
 //!
-//! The statements stand in specs/. Each function here is a law, and does nothing when it runs.
+//! The lens law that what is written is read back as the same word rests on these: it speaks of
+//! characters and of balanced words. The statements stand in specs/. Each function here is a law,
+//! and does nothing when it runs.
 #![tactic(auto)]
 
 ghost use Rattle.xs_writing_laws.specs.Laws.{TextsAreCharacters, DocumentsAreBalanced, NamesAreNames, WordsCanBeWritten};

@@ -2,8 +2,8 @@ pub mod Reading
 pub mod Tags
 pub mod Cutting
 pub mod Greatest
-pub mod Sound
-pub mod Tagsound
+pub mod PieceSoundness
+pub mod TagSoundness
 pub mod Steps
 pub mod Stuck
 pub mod More

@@ -2,10 +2,10 @@
 use Rattle.std.proofs.Common.{◌≡◌, ℕ, suc, ◌<◌, ◌≤◌, ◌+◌, ◌-◌, List, [], ◌∷◌, ◌++◌, length, take, drop, get_or, take_all, take-suc, drop-cons, add-one, length-drop, drop_of_length-le, Some, None, true, false, Bool, ◌&&◌, if◌then◌else◌, ◌==◌, refl, sym, ◌∙◌, ap, subst, arith}
 use Rattle.std.specs.declared.option.Option.{Option}
 use Rattle.xs_xml.specs.Piece.{starts, holds, all_of}
-use Rattle.xs_xml.proofs.Sound.{cut_is}
-use Rattle.xs_xml.specs.Scan.{after, span, joined, cut, fronted}
 use Rattle.xs_class.proofs.Truth.{and_true, both_true}
 use Rattle.xs_class.proofs.Lists.{some_inj}
+use Rattle.xs_xml.proofs.PieceSoundness.{cut_is}
+use Rattle.xs_xml.specs.Scan.{after, span, joined, cut, fronted}
 
 pub after_none : (ps rest : List ℕ) → 0 < length ps → length rest < 1 → after ps rest ≡ None
 after_none [] rest some none = absurd (omega arith)

@@ -2,12 +2,11 @@
 use Rattle.std.proofs.Common.{◌≡◌, ◌⊎◌, inl, inr, ℕ, zero, suc, ◌≤◌, ◌<◌, List, [], ◌∷◌, ◌++◌, length, length-append, Some, None, true, false, Bool, not, ◌&&◌, ◌||◌, ◌==◌, codes, refl, sym, subst, arith}
 use Rattle.std.proofs.lemmas.Bool.Decides.{nat_tests}
 use Rattle.xs_xml.specs.Tables.{is_char, is_name_char, is_white, is_quote}
-use Rattle.xs_xml.specs.Piece.{declaration, start_tag, empty_tag, spelt, spelt_bit, spelt_bits, spelt_attribute, spelt_attributes, is_piece, is_name, is_gap, all_of, Bit, plain, ref, Attribute, is_bit, are_bits, is_attribute, are_attributes, are_settings, distinct}
-use Rattle.xs_xml.specs.Scan.{bit_at, bits_at, attr_at, attrs_at, piece_at}
-use Rattle.xs_xml.proofs.Reading.{stops, span_again, cut_semicolon, ref_plain, white_no_name, name_chars, gap_stops, start_in, name_9, white_out}
-use Rattle.xs_class.proofs.Truth.{and_true, not_true, or_false, no_other}
-use Rattle.xs_class.proofs.Lists.{after_long}
 use Rattle.xs_class.specs.Tables.{is_name_start}
+use Rattle.xs_xml.specs.Piece.{declaration, start_tag, empty_tag, spelt, spelt_bit, spelt_bits, spelt_attribute, spelt_attributes, is_piece, is_name, is_gap, all_of, Bit, plain, ref, Attribute, is_bit, are_bits, is_attribute, are_attributes, are_settings, distinct}
+use Rattle.xs_xml.specs.Scan.{span, bit_at, bits_at, attr_at, attrs_at, piece_at}
+use Rattle.xs_xml.proofs.Reading.{stops, span_again, cut_semicolon, ref_plain, white_no_name, name_chars, gap_stops, start_in, name_9, white_out}
+use Rattle.xs_class.proofs.Truth.{and_true, or_false, not_true, no_other}
 
 quote_cases : (q : ℕ) → is_quote q ≡ true → (q ≡ 34) ⊎ (q ≡ 39)
 unfolding is_quote
@@ -118,6 +117,9 @@ attrs_again (suc n) [] gap c rest few are white end = rw (attr_stop gap c rest w
 attrs_again zero (b ∷ bs) gap c rest few are white end = absurd (omega (arith, few))
 attrs_again (suc n) (b ∷ bs) gap c rest few are white end = let p = and_true (is_attribute b) (are_attributes bs) are in attrs_next n b bs (spelt_attribute b (spelt_attributes bs (gap ++ c ∷ rest))) (spelt_attributes bs (gap ++ c ∷ rest)) (gap ++ c ∷ rest) (attr_again b (spelt_attributes bs (gap ++ c ∷ rest)) p.0) (attrs_again n bs gap c rest (omega (arith, few)) p.1 white end)
 
+after_long : (xs ys : List ℕ) → length ys ≤ length (xs ++ ys)
+after_long xs ys = omega (arith, length-append xs ys)
+
 pub attr_long : (a : Attribute) (rest : List ℕ) → length rest < length (spelt_attribute a rest)
 attr_long a rest =
     let bits : List ℕ = spelt_bits a.value (a.quote ∷ rest) in
@@ -159,31 +161,39 @@ no_markup : (is_name_start 47 ≡ false) × (is_name_start 33 ≡ false) × (is_
 unfolding is_name_start
 no_markup = (refl, refl, refl)
 
-pub start_read : (n : List ℕ) (bs : List Attribute) (gap rest : List ℕ) → is_piece (start_tag n bs gap) ≡ true → piece_at (spelt (start_tag n bs gap) rest) ≡ Some (start_tag n bs gap, rest)
-unfolding piece_at
-start_read [] bs gap rest is = absurd (cc)
-start_read (c ∷ cs) bs gap rest is =
+-- the parts of a tag up to its end, where its name begins with c
+record IsTagRead (c : ℕ) (cs : List ℕ) (bs : List Attribute) (gap left : List ℕ) : Type 0 where
+  no_slash : (c == 47) ≡ false
+  no_bang : (c == 33) ≡ false
+  no_question : (c == 63) ≡ false
+  name : span is_name_char ((c ∷ cs) ++ spelt_attributes bs (gap ++ left)) ≡ (c ∷ cs, spelt_attributes bs (gap ++ left))
+  attributes : attrs_at (length (spelt_attributes bs (gap ++ left))) (spelt_attributes bs (gap ++ left)) ≡ (bs, gap ++ left)
+  white : span is_white (gap ++ left) ≡ (gap, left)
+
+tag_read : (c : ℕ) (cs : List ℕ) (bs : List Attribute) (gap : List ℕ) (e : ℕ) (rest : List ℕ) → IsEnd e → (is_name (c ∷ cs) && (are_attributes bs && (distinct bs && all_of is_white gap))) ≡ true → IsTagRead c cs bs gap (e ∷ rest)
+tag_read c cs bs gap e rest end is =
     let p1 = and_true (is_name (c ∷ cs)) (are_attributes bs && (distinct bs && all_of is_white gap)) is in
     let p2 = and_true (are_attributes bs) (distinct bs && all_of is_white gap) p1.1 in
     let p3 = and_true (distinct bs) (all_of is_white gap) p2.1 in
     let first = (and_true (is_name_start c) (all_of is_name_char cs) p1.0).0 in
-    let s1 = span_again is_name_char (c ∷ cs) (spelt_attributes bs (gap ++ 62 ∷ rest)) (name_chars (c ∷ cs) p1.0) (attrs_stop bs gap 62 rest p2.0 p3.1 end_62) in
-    let s2 = attrs_again (length (spelt_attributes bs (gap ++ 62 ∷ rest))) bs gap 62 rest (attrs_long bs (gap ++ 62 ∷ rest)) p2.0 p3.1 end_62 in
-    let s3 = span_again is_white gap (62 ∷ rest) p3.1 (rw white_out.0 refl) in
-    rw (no_other is_name_start c 47 first no_markup.0, no_other is_name_start c 33 first no_markup.1, no_other is_name_start c 63 first no_markup.2, s1, s2, s3, is) refl
+    record {
+      no_slash = no_other is_name_start c 47 first no_markup.0;
+      no_bang = no_other is_name_start c 33 first no_markup.1;
+      no_question = no_other is_name_start c 63 first no_markup.2;
+      name = span_again is_name_char (c ∷ cs) (spelt_attributes bs (gap ++ e ∷ rest)) (name_chars (c ∷ cs) p1.0) (attrs_stop bs gap e rest p2.0 p3.1 end);
+      attributes = attrs_again (length (spelt_attributes bs (gap ++ e ∷ rest))) bs gap e rest (attrs_long bs (gap ++ e ∷ rest)) p2.0 p3.1 end;
+      white = span_again is_white gap (e ∷ rest) p3.1 (rw end.no_white refl);
+    }
+
+pub start_read : (n : List ℕ) (bs : List Attribute) (gap rest : List ℕ) → is_piece (start_tag n bs gap) ≡ true → piece_at (spelt (start_tag n bs gap) rest) ≡ Some (start_tag n bs gap, rest)
+unfolding piece_at
+start_read [] bs gap rest is = absurd (cc)
+start_read (c ∷ cs) bs gap rest is = let t = tag_read c cs bs gap 62 rest end_62 is in rw (t.no_slash, t.no_bang, t.no_question, t.name, t.attributes, t.white, is) refl
 
 pub empty_read : (n : List ℕ) (bs : List Attribute) (gap rest : List ℕ) → is_piece (empty_tag n bs gap) ≡ true → piece_at (spelt (empty_tag n bs gap) rest) ≡ Some (empty_tag n bs gap, rest)
 unfolding piece_at
 empty_read [] bs gap rest is = absurd (cc)
-empty_read (c ∷ cs) bs gap rest is =
-    let p1 = and_true (is_name (c ∷ cs)) (are_attributes bs && (distinct bs && all_of is_white gap)) is in
-    let p2 = and_true (are_attributes bs) (distinct bs && all_of is_white gap) p1.1 in
-    let p3 = and_true (distinct bs) (all_of is_white gap) p2.1 in
-    let first = (and_true (is_name_start c) (all_of is_name_char cs) p1.0).0 in
-    let s1 = span_again is_name_char (c ∷ cs) (spelt_attributes bs (gap ++ 47 ∷ 62 ∷ rest)) (name_chars (c ∷ cs) p1.0) (attrs_stop bs gap 47 (62 ∷ rest) p2.0 p3.1 end_47) in
-    let s2 = attrs_again (length (spelt_attributes bs (gap ++ 47 ∷ 62 ∷ rest))) bs gap 47 (62 ∷ rest) (attrs_long bs (gap ++ 47 ∷ 62 ∷ rest)) p2.0 p3.1 end_47 in
-    let s3 = span_again is_white gap (47 ∷ 62 ∷ rest) p3.1 (rw white_out.1 refl) in
-    rw (no_other is_name_start c 47 first no_markup.0, no_other is_name_start c 33 first no_markup.1, no_other is_name_start c 63 first no_markup.2, s1, s2, s3, is) refl
+empty_read (c ∷ cs) bs gap rest is = let t = tag_read c cs bs gap 47 (62 ∷ rest) end_47 is in rw (t.no_slash, t.no_bang, t.no_question, t.name, t.attributes, t.white, is) refl
 
 xml_chars : all_of is_name_char (codes "xml") ≡ true
 unfolding is_name_char is_name_start

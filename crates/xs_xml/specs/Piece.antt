@@ -105,15 +105,22 @@ abbrev pub are_attributes : List Attribute → Bool
 are_attributes [] = true
 are_attributes (a ∷ as_) = is_attribute a && are_attributes as_
 
--- a name among the names of attributes
-abbrev pub among : List ℕ → List Attribute → Bool
-among n [] = false
-among n (a ∷ as_) = same n a.name || among n as_
+-- a name is one of these
+abbrev pub is_one_of : List ℕ → List (List ℕ) → Bool
+is_one_of n [] = false
+is_one_of n (m ∷ ms) = same n m || is_one_of n ms
 
 -- no name stands twice
+abbrev pub all_differ : List (List ℕ) → Bool
+all_differ [] = true
+all_differ (n ∷ ns) = not (is_one_of n ns) && all_differ ns
+
+-- the same of the names of attributes
+abbrev pub among : List ℕ → List Attribute → Bool
+among n as_ = is_one_of n (map (λ a. a.name) as_)
+
 abbrev pub distinct : List Attribute → Bool
-distinct [] = true
-distinct (a ∷ as_) = not (among a.name as_) && distinct as_
+distinct as_ = all_differ (map (λ a. a.name) as_)
 
 -- the last part of a declaration and of a tag is the white space before its end;
 -- an instruction's body is all between its name and its end; CR LF is the one character line_end

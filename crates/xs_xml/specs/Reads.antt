@@ -37,17 +37,27 @@ value cr [] = []
 value cr (plain c ∷ bs) = if c == 10 && cr then value false bs else ((if is_white c then 32 else c) ∷ value (c == 13) bs)
 value cr (ref body ∷ bs) = unwrap_or (ref_char body) 0 ∷ value false bs
 
+-- an element put to its place in a list in ascending order of keys, which are lists of bytes
+abbrev pub placed_by : {A : Type 0} → (A → List ℕ) → A → List A → List A
+placed_by key a [] = a ∷ []
+placed_by key a (b ∷ bs) = match_ordering (slice_cmp nat_cmp (key a) (key b)) (a ∷ b ∷ bs) (a ∷ b ∷ bs) (b ∷ placed_by key a bs)
+
+abbrev pub ordered_by : {A : Type 0} → (A → List ℕ) → List A → List A
+ordered_by key [] = []
+ordered_by key (a ∷ as_) = placed_by key a (ordered_by key as_)
+
 -- attributes in ascending order of the UTF-8 bytes of their names
 abbrev pub name_order : List ℕ → List ℕ → Ordering
 name_order m n = slice_cmp nat_cmp (encode_utf8_all m) (encode_utf8_all n)
 
+abbrev pub name_key : Attribute → List ℕ
+name_key a = encode_utf8_all a.name
+
 abbrev pub placed : Attribute → List Attribute → List Attribute
-placed a [] = a ∷ []
-placed a (b ∷ bs) = match_ordering (name_order a.name b.name) (a ∷ b ∷ bs) (a ∷ b ∷ bs) (b ∷ placed a bs)
+placed a as_ = placed_by name_key a as_
 
 abbrev pub in_order : List Attribute → List Attribute
-in_order [] = []
-in_order (a ∷ as_) = placed a (in_order as_)
+in_order as_ = ordered_by name_key as_
 
 -- each attribute gives its mark, its value and the mark that ends the value
 abbrev pub attribute_symbols : List (List ℕ) → List Attribute → List ℕ

@@ -1,16 +1,16 @@
 -- The values of attributes, as they are written.
-use Rattle.std.proofs.Common.{◌≡◌, ◌⊎◌, inl, inr, ℕ, List, [], ◌∷◌, ◌++◌, true, false, Bool, if◌then◌else◌, ◌==◌, codes, refl, sym, ◌∙◌, ap, subst, arith, eqb-true}
+use Rattle.std.proofs.Common.{◌≡◌, ◌⊎◌, inl, inr, ℕ, List, [], ◌∷◌, ◌++◌, true, false, Bool, if◌then◌else◌, ◌==◌, codes, refl, sym, ◌∙◌, ap, arith, eqb-true, Some, unwrap_or, append_assoc}
 use Rattle.std.proofs.lemmas.Bool.Decides.{nat_tests}
 use Rattle.xs_class.specs.Marks.{attr_end}
 use Rattle.xs_xml.specs.Tables.{is_char, is_white, is_hex}
 use Rattle.xs_xml.specs.Piece.{Bit, plain, ref, spelt_bit, spelt_bits, all_of, ref_char, is_bit, are_bits}
 use Rattle.xs_xml.specs.Reads.{value}
+use Rattle.xs_xml.proofs.Reading.{white_cases}
 use Rattle.xs_xml_out.specs.declared.kind.SymbolKind.TheVariants.{Char}
 use Rattle.xs_xml_out.specs.declared.mode.Mode.TheVariants.{Tag, Value}
 use Rattle.xs_xml_out.specs.Written.{symbol_kind, value_char, written}
-use Rattle.xs_xml_out.proofs.SymbolKinds.{symbol_kind-char, symbol_kind-attr_end}
 use Rattle.xs_class.proofs.Truth.{and_true, both_true}
-use Rattle.xs_xml.proofs.Reading.{white_cases}
+use Rattle.xs_xml_out.proofs.SymbolKinds.{symbol_kind-char, symbol_kind-attr_end}
 
 -- how a character of a value is written
 abbrev pub value_bit : ℕ → Bit
@@ -22,33 +22,24 @@ record IsValued (c : ℕ) (b : Bit) (w : List ℕ) : Type 0 where
   is : is_bit 34 b ≡ true
   gives : (bs : List Bit) → value false (b ∷ bs) ≡ c ∷ value false bs
 
-quote_valued : IsValued 34 (ref (codes "quot")) (codes "&quot;")
-unfolding ref_char
-quote_valued = record { spells = λ rest. refl; is = refl; gives = λ bs. refl }
+-- the characters that the references stand for
+record AreReferences : Type 0 where
+  quote : ref_char (codes "quot") ≡ Some 34
+  tab : ref_char (codes "#x9") ≡ Some 9
+  line_feed : ref_char (codes "#xA") ≡ Some 10
+  amp : ref_char (codes "amp") ≡ Some 38
+  lt : ref_char (codes "lt") ≡ Some 60
+  gt : ref_char (codes "gt") ≡ Some 62
+  carriage_return : ref_char (codes "#xD") ≡ Some 13
 
-tab_valued : IsValued 9 (ref (codes "#x9")) (codes "&#x9;")
+references : AreReferences
 unfolding ref_char is_hex is_char
-tab_valued = record { spells = λ rest. refl; is = refl; gives = λ bs. refl }
+references = record { quote = refl; tab = refl; line_feed = refl; amp = refl; lt = refl; gt = refl; carriage_return = refl }
 
-line_feed_valued : IsValued 10 (ref (codes "#xA")) (codes "&#xA;")
-unfolding ref_char is_hex is_char
-line_feed_valued = record { spells = λ rest. refl; is = refl; gives = λ bs. refl }
-
-amp_valued : IsValued 38 (ref (codes "amp")) (codes "&amp;")
-unfolding ref_char
-amp_valued = record { spells = λ rest. refl; is = refl; gives = λ bs. refl }
-
-lt_valued : IsValued 60 (ref (codes "lt")) (codes "&lt;")
-unfolding ref_char
-lt_valued = record { spells = λ rest. refl; is = refl; gives = λ bs. refl }
-
-gt_valued : IsValued 62 (ref (codes "gt")) (codes "&gt;")
-unfolding ref_char
-gt_valued = record { spells = λ rest. refl; is = refl; gives = λ bs. refl }
-
-carriage_return_valued : IsValued 13 (ref (codes "#xD")) (codes "&#xD;")
-unfolding ref_char is_hex is_char
-carriage_return_valued = record { spells = λ rest. refl; is = refl; gives = λ bs. refl }
+ref_valued : (c d : ℕ) (body : List ℕ) → (c == d) ≡ true → ref_char body ≡ Some d → IsValued c (ref body) (38 ∷ (body ++ 59 ∷ []))
+ref_valued c d body same is =
+    let value_is : unwrap_or (ref_char body) 0 ≡ c = rw is (sym (eqb-true c d same)) in
+    record { spells = λ rest. ap (λ (x : List ℕ). 38 ∷ x) (sym (append_assoc body (59 ∷ []) rest)); is = rw is refl; gives = λ bs. ap (λ (x : ℕ). x ∷ value false bs) value_is }
 
 -- white space that is written as it is, is a space
 space_or_other : (c : ℕ) → (c == 9) ≡ false → (c == 10) ≡ false → (c == 13) ≡ false → (if is_white c then 32 else c) ≡ c
@@ -71,13 +62,13 @@ valued : (c : ℕ) → is_char c ≡ true → IsValued c (value_bit c) (value_ch
 valued c is = by (c == 34) (c == 9) (c == 10) (c == 38) (c == 60) (c == 62) (c == 13) refl refl refl refl refl refl refl
   where
     by : (t1 t2 t3 t4 t5 t6 t7 : Bool) → (c == 34) ≡ t1 → (c == 9) ≡ t2 → (c == 10) ≡ t3 → (c == 38) ≡ t4 → (c == 60) ≡ t5 → (c == 62) ≡ t6 → (c == 13) ≡ t7 → IsValued c (if t1 then ref (codes "quot") else (if t2 then ref (codes "#x9") else (if t3 then ref (codes "#xA") else (if t4 then ref (codes "amp") else (if t5 then ref (codes "lt") else (if t6 then ref (codes "gt") else (if t7 then ref (codes "#xD") else plain c))))))) (if t1 then codes "&quot;" else (if t2 then codes "&#x9;" else (if t3 then codes "&#xA;" else (if t4 then codes "&amp;" else (if t5 then codes "&lt;" else (if t6 then codes "&gt;" else (if t7 then codes "&#xD;" else c ∷ [])))))))
-    by true t2 t3 t4 t5 t6 t7 e1 e2 e3 e4 e5 e6 e7 = subst (λ (x : ℕ). IsValued x (ref (codes "quot")) (codes "&quot;")) (sym (eqb-true c 34 e1)) quote_valued
-    by false true t3 t4 t5 t6 t7 e1 e2 e3 e4 e5 e6 e7 = subst (λ (x : ℕ). IsValued x (ref (codes "#x9")) (codes "&#x9;")) (sym (eqb-true c 9 e2)) tab_valued
-    by false false true t4 t5 t6 t7 e1 e2 e3 e4 e5 e6 e7 = subst (λ (x : ℕ). IsValued x (ref (codes "#xA")) (codes "&#xA;")) (sym (eqb-true c 10 e3)) line_feed_valued
-    by false false false true t5 t6 t7 e1 e2 e3 e4 e5 e6 e7 = subst (λ (x : ℕ). IsValued x (ref (codes "amp")) (codes "&amp;")) (sym (eqb-true c 38 e4)) amp_valued
-    by false false false false true t6 t7 e1 e2 e3 e4 e5 e6 e7 = subst (λ (x : ℕ). IsValued x (ref (codes "lt")) (codes "&lt;")) (sym (eqb-true c 60 e5)) lt_valued
-    by false false false false false true t7 e1 e2 e3 e4 e5 e6 e7 = subst (λ (x : ℕ). IsValued x (ref (codes "gt")) (codes "&gt;")) (sym (eqb-true c 62 e6)) gt_valued
-    by false false false false false false true e1 e2 e3 e4 e5 e6 e7 = subst (λ (x : ℕ). IsValued x (ref (codes "#xD")) (codes "&#xD;")) (sym (eqb-true c 13 e7)) carriage_return_valued
+    by true t2 t3 t4 t5 t6 t7 e1 e2 e3 e4 e5 e6 e7 = ref_valued c 34 (codes "quot") e1 references.quote
+    by false true t3 t4 t5 t6 t7 e1 e2 e3 e4 e5 e6 e7 = ref_valued c 9 (codes "#x9") e2 references.tab
+    by false false true t4 t5 t6 t7 e1 e2 e3 e4 e5 e6 e7 = ref_valued c 10 (codes "#xA") e3 references.line_feed
+    by false false false true t5 t6 t7 e1 e2 e3 e4 e5 e6 e7 = ref_valued c 38 (codes "amp") e4 references.amp
+    by false false false false true t6 t7 e1 e2 e3 e4 e5 e6 e7 = ref_valued c 60 (codes "lt") e5 references.lt
+    by false false false false false true t7 e1 e2 e3 e4 e5 e6 e7 = ref_valued c 62 (codes "gt") e6 references.gt
+    by false false false false false false true e1 e2 e3 e4 e5 e6 e7 = ref_valued c 13 (codes "#xD") e7 references.carriage_return
     by false false false false false false false e1 e2 e3 e4 e5 e6 e7 = plain_valued c is e1 e2 e3 e4 e5 e7
 
 abbrev pub bits : List ℕ → List Bit

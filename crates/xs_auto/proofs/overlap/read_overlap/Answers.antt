@@ -1,6 +1,6 @@
 use Rattle.std.proofs.Common.{◌≡◌, ◌∙◌, ◌++◌, ◌∷◌, [], ap, ap₂, arith}
 use Rattle.std.proofs.lemmas.Option.{slice_get_within}
-use Rattle.xs_auto.proofs.OverlapLemmas.{overlap, at_seed, crossed_at, some_unless, some_holds}
+use Rattle.xs_auto.proofs.OverlapLemmas.{overlap, at_seed, crossed_from, some_unless, some_holds}
 use Rattle.xs_auto.proofs.overlap.read_overlap.Goals as goal
 
 pub read_trace-requires-2-clause-place : goal.read_trace-requires-2-clause-place
@@ -33,54 +33,18 @@ index-turn-requires c =
     omega (arith, l, r.turns.steps.ok)
 
 pub symbol_between-requires-clause-first : goal.symbol_between-requires-clause-first
-symbol_between-requires-clause-first c =
-    let a = c.args.a.now in
-    let b = c.args.b.now in
-    let r = c.args.reached.now in
-    let u = c.in_ok-middle.ensures in
-    let crossing = c.index-crossing.result.now in
-    let at = at_seed a b r.middles _ c.in_ok-middle.middle crossing u c.index-crossing.ensures in
-    let x = c.requires.reached.middles.seeded c.in_ok-middle.middle.seed crossing u.seed at in
-    let behind = crossed_at a b r.turns.steps.items crossing c.index-turn.result.now x c.index-turn.ensures in
-    (c.requires.reached.turns.range crossing.from c.index-turn.result.now behind.0).0
+symbol_between-requires-clause-first c = (c.requires.reached.turns.range _ _ (crossed_from c.args.a.now c.args.b.now c.args.reached.now _ c.in_ok-middle.middle c.index-crossing.result.now c.index-turn.result.now c.requires.reached c.in_ok-middle.ensures c.index-crossing.ensures c.index-turn.ensures).0).0
 
 pub symbol_between-requires-clause-second : goal.symbol_between-requires-clause-second
-symbol_between-requires-clause-second c =
-    let a = c.args.a.now in
-    let b = c.args.b.now in
-    let r = c.args.reached.now in
-    let u = c.in_ok-middle.ensures in
-    let crossing = c.index-crossing.result.now in
-    let at = at_seed a b r.middles _ c.in_ok-middle.middle crossing u c.index-crossing.ensures in
-    let x = c.requires.reached.middles.seeded c.in_ok-middle.middle.seed crossing u.seed at in
-    let behind = crossed_at a b r.turns.steps.items crossing c.index-turn.result.now x c.index-turn.ensures in
-    (c.requires.reached.turns.range crossing.from c.index-turn.result.now behind.0).1
+symbol_between-requires-clause-second c = (c.requires.reached.turns.range _ _ (crossed_from c.args.a.now c.args.b.now c.args.reached.now _ c.in_ok-middle.middle c.index-crossing.result.now c.index-turn.result.now c.requires.reached c.in_ok-middle.ensures c.index-crossing.ensures c.index-turn.ensures).0).1
 
 pub unwrap-symbol-requires : goal.unwrap-symbol-requires
-unwrap-symbol-requires c =
-    let a = c.args.a.now in
-    let b = c.args.b.now in
-    let r = c.args.reached.now in
-    let u = c.in_ok-middle.ensures in
-    let crossing = c.index-crossing.result.now in
-    let at = at_seed a b r.middles _ c.in_ok-middle.middle crossing u c.index-crossing.ensures in
-    let x = c.requires.reached.middles.seeded c.in_ok-middle.middle.seed crossing u.seed at in
-    let behind = crossed_at a b r.turns.steps.items crossing c.index-turn.result.now x c.index-turn.ensures in
-    some_unless c.symbol_between.result c.symbol_between.ensures.none behind.1
+unwrap-symbol-requires c = some_unless c.symbol_between.result c.symbol_between.ensures.none (crossed_from c.args.a.now c.args.b.now c.args.reached.now _ c.in_ok-middle.middle c.index-crossing.result.now c.index-turn.result.now c.requires.reached c.in_ok-middle.ensures c.index-crossing.ensures c.index-turn.ensures).1
 
 pub read_trace-requires-3-clause-place : goal.read_trace-requires-3-clause-place
 read_trace-requires-3-clause-place c =
-    let a = c.args.a.now in
-    let b = c.args.b.now in
-    let r = c.args.reached.now in
-    let u = c.in_ok-middle.ensures in
-    let crossing = c.index-crossing.result.now in
-    let turn = c.index-turn.result.now in
-    let at = at_seed a b r.middles _ c.in_ok-middle.middle crossing u c.index-crossing.ensures in
-    let x = c.requires.reached.middles.seeded c.in_ok-middle.middle.seed crossing u.seed at in
-    let behind = crossed_at a b r.turns.steps.items crossing turn x c.index-turn.ensures in
-    let from = c.requires.reached.turns.turned crossing.from turn behind.0 in
-    slice_get_within r.fronts.steps.items turn.from from.front from.at
+    let from = c.requires.reached.turns.turned _ _ (crossed_from c.args.a.now c.args.b.now c.args.reached.now _ c.in_ok-middle.middle c.index-crossing.result.now c.index-turn.result.now c.requires.reached c.in_ok-middle.ensures c.index-crossing.ensures c.index-turn.ensures).0 in
+    slice_get_within c.args.reached.now.fronts.steps.items c.index-turn.result.now.from from.front from.at
 
 pub returns : goal.returns
 returns c =
@@ -96,8 +60,7 @@ returns c =
     let turn = c.index-turn.result.now in
     let ended = at_seed b b r.rests c.args.place rest end t c.index.ensures in
     let crosses = at_seed a b r.middles end.from middle crossing u c.index-crossing.ensures in
-    let x = c.requires.reached.middles.seeded middle.seed crossing u.seed crosses in
-    let behind = crossed_at a b r.turns.steps.items crossing turn x c.index-turn.ensures in
+    let turned = crossed_from c.args.a.now c.args.b.now c.args.reached.now _ c.in_ok-middle.middle c.index-crossing.result.now c.index-turn.result.now c.requires.reached c.in_ok-middle.ensures c.index-crossing.ensures c.index-turn.ensures in
     let sides = some_holds _ c.symbol_between.result c.unwrap-symbol.result c.unwrap-symbol.ensures c.symbol_between.ensures.some in
     let word : c.extend.new.self ≡ c.unwrap-symbol.result ∷ middle.word = c.in_ok-extend.ensures.ok ∙ ap₂ (λ p q. p ++ q) (c.in_ok-push.ensures.ok ∙ ap (λ w. w ++ c.unwrap-symbol.result ∷ []) c.new-word.ensures) c.as_slice.ensures in
-    rw word (overlap a b r c.args.place c.unwrap-symbol.result c.in_ok-front.front middle rest end crossing turn c.requires.reached c.requires.place t ended u crosses behind.0 sides c.in_ok-front.ensures)
+    rw word (overlap a b r c.args.place c.unwrap-symbol.result c.in_ok-front.front middle rest end crossing turn c.requires.reached c.requires.place t ended u crosses turned.0 sides c.in_ok-front.ensures)

@@ -1,6 +1,6 @@
-use Rattle.std.proofs.Common.{◌≡◌, ◌<◌, ◌∙◌, length, reverse, refl, ap, arith}
+use Rattle.std.proofs.Common.{◌≡◌, ◌∙◌, reverse, refl, ap, arith}
 use Rattle.xs_auto.proofs.SpreadLemmas.{read_at}
-use Rattle.xs_auto.proofs.TraceLemmas.{traced_none, traced_symbol, traced_move, reverse_push}
+use Rattle.xs_auto.proofs.TraceLemmas.{traced_none, traced_symbol, traced_move, reverse_push, stepped}
 use Rattle.xs_auto.proofs.PhaseLemmas.{there_at}
 use Rattle.xs_auto.proofs.trace.read_trace.Goals as goal
 
@@ -19,54 +19,24 @@ index-parent-requires c =
     omega (arith, link.earlier, c.links.invariant.within, steps.ok)
 
 pub symbol_between-requires-clause-first : goal.symbol_between-requires-clause-first
-symbol_between-requires-clause-first c =
-    let steps = c.args.layer.now.steps in
-    let s = c.index-step.result.now in
-    let here = read_at steps.items c.links.at s c.links.invariant.within c.index-step.ensures in
-    let link = c.requires.chained c.links.at s c.links-test.true here in
-    let up = read_at steps.items s.from c.index-parent.result.now (omega (arith, link.earlier, c.links.invariant.within)) c.index-parent.ensures in
-    (c.requires.range s.from c.index-parent.result.now up).0
+symbol_between-requires-clause-first c = (c.requires.range _ _ (stepped c.index-step.result.now c.index-parent.result.now c.requires.chained c.links-test.true c.links.invariant.within c.index-step.ensures c.index-parent.ensures).up).0
 
 pub symbol_between-requires-clause-second : goal.symbol_between-requires-clause-second
-symbol_between-requires-clause-second c =
-    let steps = c.args.layer.now.steps in
-    let s = c.index-step.result.now in
-    let here = read_at steps.items c.links.at s c.links.invariant.within c.index-step.ensures in
-    let link = c.requires.chained c.links.at s c.links-test.true here in
-    let up = read_at steps.items s.from c.index-parent.result.now (omega (arith, link.earlier, c.links.invariant.within)) c.index-parent.ensures in
-    (c.requires.range s.from c.index-parent.result.now up).1
+symbol_between-requires-clause-second c = (c.requires.range _ _ (stepped c.index-step.result.now c.index-parent.result.now c.requires.chained c.links-test.true c.links.invariant.within c.index-step.ensures c.index-parent.ensures).up).1
 
 pub links-smaller-in_ok-push-in-Some : goal.links-smaller-in_ok-push-in-Some
-links-smaller-in_ok-push-in-Some c =
-    let s = c.index-step.result.now in
-    let here = read_at c.args.layer.now.steps.items c.links.at s c.links.invariant.within c.index-step.ensures in
-    (c.requires.chained c.links.at s c.links-test.true here).earlier
+links-smaller-in_ok-push-in-Some c = (stepped c.index-step.result.now c.index-parent.result.now c.requires.chained c.links-test.true c.links.invariant.within c.index-step.ensures c.index-parent.ensures).link.earlier
 
 pub links-preserved-in_ok-push-in-Some : goal.links-preserved-in_ok-push-in-Some
 links-preserved-in_ok-push-in-Some c =
-    let steps = c.args.layer.now.steps.items in
-    let s = c.index-step.result.now in
-    let p = c.index-parent.result.now in
-    let here = read_at steps c.links.at s c.links.invariant.within c.index-step.ensures in
-    let link = c.requires.chained c.links.at s c.links-test.true here in
-    let within : s.from < length steps = omega (arith, link.earlier, c.links.invariant.within) in
-    let up = read_at steps s.from p within c.index-parent.ensures in
+    let on = stepped c.index-step.result.now c.index-parent.result.now c.requires.chained c.links-test.true c.links.invariant.within c.index-step.ensures c.index-parent.ensures in
     let word : reverse c.push.new.self.items ≡ _ = ap reverse c.in_ok-push-in-Some.ensures.items ∙ reverse_push c.links.symbols.items c.in-Some.symbol in
-    record { within = within; traced = rw word (traced_symbol s p here up c.in-Some.ensures.some c.links.invariant.traced) }
+    record { within = on.within; traced = rw word (traced_symbol _ _ on.here on.up c.in-Some.ensures.some c.links.invariant.traced) }
 
 pub links-smaller : goal.links-smaller
-links-smaller c =
-    let s = c.index-step.result.now in
-    let here = read_at c.args.layer.now.steps.items c.links.at s c.links.invariant.within c.index-step.ensures in
-    (c.requires.chained c.links.at s c.links-test.true here).earlier
+links-smaller c = (stepped c.index-step.result.now c.index-parent.result.now c.requires.chained c.links-test.true c.links.invariant.within c.index-step.ensures c.index-parent.ensures).link.earlier
 
 pub links-preserved : goal.links-preserved
 links-preserved c =
-    let steps = c.args.layer.now.steps.items in
-    let s = c.index-step.result.now in
-    let p = c.index-parent.result.now in
-    let here = read_at steps c.links.at s c.links.invariant.within c.index-step.ensures in
-    let link = c.requires.chained c.links.at s c.links-test.true here in
-    let within : s.from < length steps = omega (arith, link.earlier, c.links.invariant.within) in
-    let up = read_at steps s.from p within c.index-parent.ensures in
-    record { within = within; traced = traced_move s p here up link refl c.in-None.ensures.none c.links.invariant.traced }
+    let on = stepped c.index-step.result.now c.index-parent.result.now c.requires.chained c.links-test.true c.links.invariant.within c.index-step.ensures c.index-parent.ensures in
+    record { within = on.within; traced = traced_move _ _ on.here on.up on.link refl c.in-None.ensures.none c.links.invariant.traced }

@@ -2,11 +2,10 @@ use Rattle.std.proofs.Common.{◌≡◌, ◌≤◌, ℕ, List, [], length, Bool,
 use Rattle.std.specs.Option.{option_map}
 use Rattle.xs_xml.specs.Reads.{Reads}
 use Rattle.xs_xml.specs.Scan.{piece_at}
-use Rattle.xs_form.specs.Fault.{IsAt}
 use Rattle.xs_form.specs.Seen.{found, shown_event, shown_found}
 use Rattle.xs_form.specs.State.{state_of, step, taken}
 use Rattle.xs_form.proofs.LengthLaws.{reads_short}
-use Rattle.xs_form.proofs.ReadLaws.{IsSoFar, event_named, event_shorter, piece_more, no_piece, no_piece_left, piece_refused, broken_of, rest_shorter, all_read, empty_list, no_empty_list, finished_at, not_finished}
+use Rattle.xs_form.proofs.ReadLaws.{IsSoFar, event_is, at_doc, event_named, event_shorter, piece_more, no_piece, no_piece_left, piece_refused, broken_of, rest_shorter, all_read, empty_list, no_empty_list, finished_at, not_finished}
 use Rattle.xs_form.proofs.document.read_xml.Goals as goal
 
 pub broken-requires : goal.broken-requires
@@ -19,23 +18,12 @@ broken-requires-then-not-branch c =
 
 pub returns-in-None-clause-fault : goal.returns-in-None-clause-fault
 returns-in-None-clause-fault c =
-    let names = c.args.names.now in
-    let doc = c.args.doc.now in
-    let rest = c.pieces.rest.now in
-    let st = state_of c.pieces.reader in
-    let kept : option_map shown_found c.in_ok-event_at.field-0 ≡ option_map found (piece_at rest) = c.in_ok-event_at.ensures in
-    let filled : (length rest == 0) ≡ false = sym c.is_empty.ensures ∙ c.pieces-test.true in
-    let at : IsAt c.broken.result (length doc) (length rest) = subst (λ (x : List ℕ). IsAt c.broken.result (length x) (length rest)) c.as_slice-whole.ensures c.broken.ensures in
-    let none : None ≡ option_map found (piece_at rest) = ap (option_map shown_found) (sym c.in-None.is) ∙ kept in
-    broken_of names doc rest st c.broken.result c.pieces.invariant (no_piece names doc rest st c.pieces.invariant none) (λ e b. no_empty_list rest filled e) at
+    let filled : (length c.pieces.rest.now == 0) ≡ false = sym c.is_empty.ensures ∙ c.pieces-test.true in
+    let none : None ≡ option_map found (piece_at c.pieces.rest.now) = ap (option_map shown_found) (sym c.in-None.is) ∙ c.in_ok-event_at.ensures in
+    broken_of _ _ _ _ c.broken.result c.pieces.invariant (no_piece _ _ _ _ c.pieces.invariant none) (λ e b. no_empty_list _ filled e) (at_doc _ _ _ c.broken.result c.as_slice-whole.ensures c.broken.ensures)
 
 pub take-requires : goal.take-requires
-take-requires c =
-    let rest = c.pieces.rest.now in
-    let kept : option_map shown_found c.in_ok-event_at.field-0 ≡ option_map found (piece_at rest) = c.in_ok-event_at.ensures in
-    let s = shown_event c.in-Some.event in
-    let is : Some (s, c.in-Some.more.now) ≡ option_map found (piece_at rest) = ap (option_map shown_found) (sym c.in-Some.is) ∙ kept in
-    event_named rest c.in-Some.more.now s is
+take-requires c = event_named c.pieces.rest.now c.in-Some.more.now (shown_event c.in-Some.event) (event_is _ c.in-Some.event c.in-Some.more _ c.in-Some.is c.in_ok-event_at.ensures)
 
 pub returns-then-not-branch-clause-fault : goal.returns-then-not-branch-clause-fault
 returns-then-not-branch-clause-fault c =
@@ -43,22 +31,16 @@ returns-then-not-branch-clause-fault c =
     let doc = c.args.doc.now in
     let rest = c.pieces.rest.now in
     let st = state_of c.pieces.reader in
-    let kept : option_map shown_found c.in_ok-event_at.field-0 ≡ option_map found (piece_at rest) = c.in_ok-event_at.ensures in
     let s = shown_event c.in-Some.event in
-    let is : Some (s, c.in-Some.more.now) ≡ option_map found (piece_at rest) = ap (option_map shown_found) (sym c.in-Some.is) ∙ kept in
+    let is = event_is _ c.in-Some.event c.in-Some.more _ c.in-Some.is c.in_ok-event_at.ensures in
     let filled : (length rest == 0) ≡ false = sym c.is_empty.ensures ∙ c.pieces-test.true in
-    let at : IsAt c.broken-then-not-branch.result (length doc) (length rest) = subst (λ (x : List ℕ). IsAt c.broken-then-not-branch.result (length x) (length rest)) c.as_slice-whole.ensures c.broken-then-not-branch.ensures in
+    let at = at_doc _ doc rest c.broken-then-not-branch.result c.as_slice-whole.ensures c.broken-then-not-branch.ensures in
     let step_is : taken c.in_ok-take-in-Some.field-0 (state_of c.take.new.self) ≡ step names st s = c.in_ok-take-in-Some.ensures in
     let refused : None ≡ step names st s = ap (λ (b : Bool). taken b (state_of c.take.new.self)) (sym c.if-not-branch.true) ∙ step_is in
     broken_of names doc rest st c.broken-then-not-branch.result c.pieces.invariant (piece_refused names doc rest c.in-Some.more.now st s c.pieces.invariant is refused) (λ e b. no_empty_list rest filled e) at
 
 pub pieces-smaller : goal.pieces-smaller
-pieces-smaller c =
-    let rest = c.pieces.rest.now in
-    let kept : option_map shown_found c.in_ok-event_at.field-0 ≡ option_map found (piece_at rest) = c.in_ok-event_at.ensures in
-    let s = shown_event c.in-Some.event in
-    let is : Some (s, c.in-Some.more.now) ≡ option_map found (piece_at rest) = ap (option_map shown_found) (sym c.in-Some.is) ∙ kept in
-    event_shorter rest c.in-Some.more.now s is
+pieces-smaller c = event_shorter c.pieces.rest.now c.in-Some.more.now (shown_event c.in-Some.event) (event_is _ c.in-Some.event c.in-Some.more _ c.in-Some.is c.in_ok-event_at.ensures)
 
 pub pieces-preserved : goal.pieces-preserved
 pieces-preserved c =
@@ -66,9 +48,8 @@ pieces-preserved c =
     let doc = c.args.doc.now in
     let rest = c.pieces.rest.now in
     let st = state_of c.pieces.reader in
-    let kept : option_map shown_found c.in_ok-event_at.field-0 ≡ option_map found (piece_at rest) = c.in_ok-event_at.ensures in
     let s = shown_event c.in-Some.event in
-    let is : Some (s, c.in-Some.more.now) ≡ option_map found (piece_at rest) = ap (option_map shown_found) (sym c.in-Some.is) ∙ kept in
+    let is = event_is _ c.in-Some.event c.in-Some.more _ c.in-Some.is c.in_ok-event_at.ensures in
     let step_is : taken c.in_ok-take-in-Some.field-0 (state_of c.take.new.self) ≡ step names st s = c.in_ok-take-in-Some.ensures in
     let to : Some (state_of c.take.new.self) ≡ step names st s = ap (λ (b : Bool). taken b (state_of c.take.new.self)) (sym c.if-not-branch.false) ∙ step_is in
     piece_more names doc rest c.in-Some.more.now st (state_of c.take.new.self) s c.pieces.invariant is to
@@ -89,10 +70,6 @@ returns-in-Some-finish-clause-short c = reads_short c.args.names.now c.args.doc.
 
 pub returns-in-None-finish-clause-fault : goal.returns-in-None-finish-clause-fault
 returns-in-None-finish-clause-fault c =
-    let names = c.args.names.now in
-    let doc = c.args.doc.now in
-    let rest = c.pieces.rest.now in
+    let none : c.pieces.rest.now ≡ [] = empty_list c.pieces.rest.now (sym c.is_empty.ensures ∙ c.pieces-test.false) in
     let st = state_of c.pieces.reader in
-    let at : IsAt c.broken-in-None-finish.result (length doc) (length rest) = subst (λ (x : List ℕ). IsAt c.broken-in-None-finish.result (length x) (length rest)) c.as_slice-whole.ensures c.broken-in-None-finish.ensures in
-    let none : rest ≡ [] = empty_list rest (sym c.is_empty.ensures ∙ c.pieces-test.false) in
-    broken_of names doc rest st c.broken-in-None-finish.result c.pieces.invariant (no_piece names doc rest st c.pieces.invariant (no_piece_left rest none)) (λ e b. not_finished st.spot st.word c.in-None-finish.ensures b) at
+    broken_of _ _ _ _ c.broken-in-None-finish.result c.pieces.invariant (no_piece _ _ _ _ c.pieces.invariant (no_piece_left c.pieces.rest.now none)) (λ e b. not_finished st.spot st.word c.in-None-finish.ensures b) (at_doc _ _ _ c.broken-in-None-finish.result c.as_slice-whole.ensures c.broken-in-None-finish.ensures)

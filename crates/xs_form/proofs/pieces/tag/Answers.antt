@@ -1,11 +1,9 @@
-use Rattle.std.proofs.Common.{◌≡◌, Bool, map, Some, None, sym, ◌∙◌, ap, subst}
+use Rattle.std.proofs.Common.{true, false, map, Some, None, sym, ◌∙◌, ap}
 use Rattle.std.specs.Option.{option_map}
-use Rattle.xs_xml.specs.Scan.{tag_at}
 use Rattle.xs_form.specs.Attributes.{shown}
-use Rattle.xs_form.specs.Sorted.{shown_entries, sorted_entries}
-use Rattle.xs_form.specs.Seen.{found}
+use Rattle.xs_form.specs.Sorted.{shown_entries}
 use Rattle.xs_form.proofs.SortedLaws.{held_are_named}
-use Rattle.xs_form.proofs.PieceLaws.{made_of, tag_is}
+use Rattle.xs_form.proofs.PieceLaws.{tag_is, tag_ended}
 use Rattle.xs_form.proofs.pieces.tag.Goals as goal
 
 pub by_name-requires : goal.by_name-requires
@@ -14,20 +12,14 @@ by_name-requires c = rw c.in_ok-list.ensures.kept (held_are_named _ c.in_ok-list
 pub returns-then-end : goal.returns-then-end
 returns-then-end c =
     let list = map shown c.in_ok-list.list.items in
-    let o : option_map shown_entries c.in_ok-by_name.field-0 ≡ sorted_entries list = c.in_ok-by_name.ensures in
-    let named = sym c.is_name_text.ensures ∙ c.if-not-is_name_text.false in
-    subst (λ (b : Bool). made_of c.name_run.result.0.now (Some (shown_entries c.in-Some-2.attributes)) (Some (b, c.in-Some.end.rest.now)) ≡ option_map found (tag_at c.args.text.now)) c.if-end.true (tag_is c.args.text.now c.name_run.result.0.now c.name_run.result.1.now list c.in_ok-list.more.now c.white_run.result.0.now c.white_run.result.1.now (Some (shown_entries c.in-Some-2.attributes)) (Some (c.in-Some.end.empty, c.in-Some.end.rest.now)) c.name_run.ensures c.in_ok-list.ensures.kept c.in_ok-list.ensures.left c.in_ok-list.ensures.are c.white_run.ensures named c.in-Some.ensures (ap (option_map shown_entries) (sym c.in-Some-2.is) ∙ o))
+    tag_ended c.args.text.now c.name_run.result.0.now c.name_run.result.1.now list c.in_ok-list.more.now c.white_run.result.0.now c.white_run.result.1.now c.in-Some.end.rest.now (Some (shown_entries c.in-Some-2.attributes)) c.in-Some.end.empty true c.name_run.ensures c.in_ok-list.ensures.kept c.in_ok-list.ensures.left c.in_ok-list.ensures.are c.white_run.ensures (sym c.is_name_text.ensures ∙ c.if-not-is_name_text.false) c.in-Some.ensures (ap (option_map shown_entries) (sym c.in-Some-2.is) ∙ c.in_ok-by_name.ensures) c.if-end.true
 
 pub returns-else-end : goal.returns-else-end
 returns-else-end c =
     let list = map shown c.in_ok-list.list.items in
-    let o : option_map shown_entries c.in_ok-by_name.field-0 ≡ sorted_entries list = c.in_ok-by_name.ensures in
-    let named = sym c.is_name_text.ensures ∙ c.if-not-is_name_text.false in
-    subst (λ (b : Bool). made_of c.name_run.result.0.now (Some (shown_entries c.in-Some-2.attributes)) (Some (b, c.in-Some.end.rest.now)) ≡ option_map found (tag_at c.args.text.now)) c.if-end.false (tag_is c.args.text.now c.name_run.result.0.now c.name_run.result.1.now list c.in_ok-list.more.now c.white_run.result.0.now c.white_run.result.1.now (Some (shown_entries c.in-Some-2.attributes)) (Some (c.in-Some.end.empty, c.in-Some.end.rest.now)) c.name_run.ensures c.in_ok-list.ensures.kept c.in_ok-list.ensures.left c.in_ok-list.ensures.are c.white_run.ensures named c.in-Some.ensures (ap (option_map shown_entries) (sym c.in-Some-2.is) ∙ o))
+    tag_ended c.args.text.now c.name_run.result.0.now c.name_run.result.1.now list c.in_ok-list.more.now c.white_run.result.0.now c.white_run.result.1.now c.in-Some.end.rest.now (Some (shown_entries c.in-Some-2.attributes)) c.in-Some.end.empty false c.name_run.ensures c.in_ok-list.ensures.kept c.in_ok-list.ensures.left c.in_ok-list.ensures.are c.white_run.ensures (sym c.is_name_text.ensures ∙ c.if-not-is_name_text.false) c.in-Some.ensures (ap (option_map shown_entries) (sym c.in-Some-2.is) ∙ c.in_ok-by_name.ensures) c.if-end.false
 
 pub returns-in-None : goal.returns-in-None
 returns-in-None c =
     let list = map shown c.in_ok-list.list.items in
-    let o : option_map shown_entries c.in_ok-by_name.field-0 ≡ sorted_entries list = c.in_ok-by_name.ensures in
-    let named = sym c.is_name_text.ensures ∙ c.if-not-is_name_text.false in
-    tag_is c.args.text.now c.name_run.result.0.now c.name_run.result.1.now list c.in_ok-list.more.now c.white_run.result.0.now c.white_run.result.1.now None (Some (c.in-Some.end.empty, c.in-Some.end.rest.now)) c.name_run.ensures c.in_ok-list.ensures.kept c.in_ok-list.ensures.left c.in_ok-list.ensures.are c.white_run.ensures named c.in-Some.ensures (ap (option_map shown_entries) (sym c.in-None.is) ∙ o)
+    tag_is c.args.text.now c.name_run.result.0.now c.name_run.result.1.now list c.in_ok-list.more.now c.white_run.result.0.now c.white_run.result.1.now None (Some (c.in-Some.end.empty, c.in-Some.end.rest.now)) c.name_run.ensures c.in_ok-list.ensures.kept c.in_ok-list.ensures.left c.in_ok-list.ensures.are c.white_run.ensures (sym c.is_name_text.ensures ∙ c.if-not-is_name_text.false) c.in-Some.ensures (ap (option_map shown_entries) (sym c.in-None.is) ∙ c.in_ok-by_name.ensures)

@@ -1,7 +1,7 @@
 use Rattle.std.proofs.Common.{◌≡◌, ℕ, length, refl, subst, arith}
 use Rattle.xs_loose.specs.Arcs.{NetArc, NetGrows, Below}
 use Rattle.xs_loose.specs.Laying.{IsFollowing}
-use Rattle.xs_loose.proofs.Growing.{below_none, below_more}
+use Rattle.xs_loose.proofs.NetGrowth.{below_none, below_more}
 use Rattle.xs_loose.proofs.WordGrowth.{row_is, row_leads}
 use Rattle.xs_loose.proofs.automaton.read_follows.Goals as goal
 

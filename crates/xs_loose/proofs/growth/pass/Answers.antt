@@ -1,4 +1,4 @@
-use Rattle.xs_loose.proofs.Growing.{move_grows}
+use Rattle.xs_loose.proofs.NetGrowth.{move_grows}
 use Rattle.xs_loose.proofs.growth.pass.Goals as goal
 
 pub returns : goal.returns

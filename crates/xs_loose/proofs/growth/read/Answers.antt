@@ -1,4 +1,4 @@
-use Rattle.xs_loose.proofs.Growing.{edge_grows}
+use Rattle.xs_loose.proofs.NetGrowth.{edge_grows}
 use Rattle.xs_loose.proofs.growth.read.Goals as goal
 
 pub returns : goal.returns

@@ -1,6 +1,6 @@
 use Rattle.std.proofs.Common.{ℕ, [], ◌∷◌, subst}
 use Rattle.xs_class.specs.Classes.{HaveSame}
-use Rattle.xs_loose.proofs.Growing.{symbol_grows}
+use Rattle.xs_loose.proofs.NetGrowth.{symbol_grows}
 use Rattle.xs_loose.proofs.growth.read_symbol.Goals as goal
 
 pub returns : goal.returns

@@ -1,6 +1,6 @@
 use Rattle.std.proofs.Common.{◌<◌, ◌^◌, arith}
 use Rattle.xs_auto.specs.Nets.{states}
-use Rattle.xs_loose.proofs.Growing.{state_grows}
+use Rattle.xs_loose.proofs.NetGrowth.{state_grows}
 use Rattle.xs_loose.proofs.growth.state.Goals as goal
 
 pub returns-clause-grows : goal.returns-clause-grows

@@ -1,6 +1,6 @@
 use Rattle.std.proofs.Common.{◌≡◌, ℕ, refl, subst, arith}
 use Rattle.xs_loose.specs.Arcs.{NetArc, NetGrows, NoArc}
-use Rattle.xs_loose.proofs.Growing.{grows_none, grows_bare}
+use Rattle.xs_loose.proofs.NetGrowth.{grows_none, grows_bare}
 use Rattle.xs_loose.proofs.growth.states.Goals as goal
 
 pub states-init : goal.states-init

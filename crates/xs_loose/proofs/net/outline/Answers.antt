@@ -3,7 +3,7 @@ use Rattle.xs_auto.specs.Nets.{Graph, states}
 use Rattle.xs_loose.specs.declared.draft.Draft.{Draft}
 use Rattle.xs_loose.specs.declared.link.Link.{Link}
 use Rattle.xs_loose.proofs.Outlines.{link_over}
-use Rattle.xs_loose.proofs.Outlining.{IsOutline, outline_start, outline_more, outline_done, over_right, over_is}
+use Rattle.xs_loose.proofs.OutlineGrowth.{IsOutline, outline_start, outline_more, outline_done, over_right, over_is}
 use Rattle.xs_loose.proofs.net.outline.Goals as goal
 
 pub items-init : goal.items-init

@@ -1,5 +1,5 @@
 use Rattle.std.proofs.Common.{◌≡◌, ◌+◌}
-use Rattle.xs_loose.proofs.Outlining.{IsOutline}
+use Rattle.xs_loose.proofs.OutlineGrowth.{IsOutline}
 use Rattle.xs_loose.proofs.net.outline.Given as goal
 
 abbrev pub invariant-items : goal.invariant-items

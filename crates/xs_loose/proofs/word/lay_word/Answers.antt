@@ -3,7 +3,7 @@ use Rattle.std.proofs.lemmas.List.{get_or_read}
 use Rattle.xs_auto.specs.Nets.{states}
 use Rattle.xs_loose.specs.Arcs.{NetArc}
 use Rattle.xs_loose.specs.Laying.{IsLetter}
-use Rattle.xs_loose.proofs.Growing.{below_none}
+use Rattle.xs_loose.proofs.NetGrowth.{below_none}
 use Rattle.xs_loose.proofs.WordGrowth.{letter_more, next_before, word_end}
 use Rattle.xs_loose.proofs.word.lay_word.Goals as goal
 

@@ -1,0 +1,212 @@
+ghost use Rattle.std.specs.Prelude.{◌≡◌, [], ◌∷◌, ◌++◌, IfOk};
+ghost use Rattle.xs_sheet.specs.Grammar.{HaveRegexes};
+ghost use Rattle.xs_sheet.specs.Outline.{with_item};
+ghost use Rattle.xs_sheet.specs.Machine as M;
+ghost use Rattle.xs_sheet.specs.View.{head_view, inside_view, site_view, item_view, transition_view, SiteHasRegexes, ItemHasRegexes, TransitionHasRegexes};
+
+use crate::elements::{leave_content, leave_value};
+use crate::piece::Piece;
+use crate::state::{Draft, Head, Inside, ItemState, Site, State, Transition, Value};
+use crate::units::{refuse, with_text};
+use crate::{Item, XItem};
+use std::alloc::Global;
+use xs_class::{Memory, Text};
+use xs_lex::Kind;
+
+/// The content with one more item.
+#[tactic(auto, using(crate::proofs::ContentLaws::content_push))]
+pub fn push_content(mut inside: Inside, item: XItem) -> Result<Inside, Memory>
+    requires { HaveRegexes inside.draft.head.units.items }
+    ensures view { IfOk result (λ c. inside_view c ≡ M.with_content (inside_view inside) (with_item item (inside_view inside).so_far)) }
+    ensures regexes { IfOk result (λ c. HaveRegexes c.draft.head.units.items) }
+{
+    inside.content.push(item)?;
+    Ok(inside)
+}
+
+/// The text side with one more item.
+fn put_left(
+    head: Head,
+    name: Text,
+    line: u32,
+    mut items: Vec<Item>,
+    item: Item,
+) -> Result<Site, Memory>
+    requires { HaveRegexes head.units.items }
+    ensures view { IfOk result (λ p. site_view p ≡ M.left_side (head_view head) name line (items.items ++ item ∷ [])) }
+    ensures regexes { IfOk result SiteHasRegexes }
+{
+    items.push(item)?;
+    Ok(Site::LeftSide {
+        head,
+        name,
+        line,
+        items,
+    })
+}
+
+/// The content with one more item that is no element.
+#[tactic(auto, using(crate::proofs::ContentLaws::with_plain))]
+fn put_content(inside: Inside, item: Item) -> Result<Site, Memory>
+    requires { HaveRegexes inside.draft.head.units.items }
+    ensures view { IfOk result (λ p. site_view p ≡ M.put (M.inside (inside_view inside)) item) }
+    ensures regexes { IfOk result SiteHasRegexes }
+{
+    let inside = push_content(inside, XItem::Plain(item))?;
+    Ok(Site::Content(inside))
+}
+
+/// The attribute's value with one more item.
+fn put_value(mut value: Value, item: Item) -> Result<Site, Memory>
+    requires { HaveRegexes value.tag.inside.draft.head.units.items }
+    ensures view { IfOk result (λ p. site_view p ≡ M.value (inside_view value.tag.inside) value.tag.name value.tag.attrs.items value.name (value.items.items ++ item ∷ [])) }
+    ensures regexes { IfOk result SiteHasRegexes }
+{
+    value.items.push(item)?;
+    Ok(Site::Value(value))
+}
+
+/// The site with one more item.
+fn put(site: Site, item: Item) -> Result<Site, Memory>
+    requires { SiteHasRegexes site }
+    ensures view { IfOk result (λ p. site_view p ≡ M.put (site_view site) item) }
+    ensures regexes { IfOk result SiteHasRegexes }
+{
+    match site {
+        Site::LeftSide {
+            head,
+            name,
+            line,
+            items,
+        } => put_left(head, name, line, items, item),
+        Site::Content(inside) => put_content(inside, item),
+        Site::Value(value) => put_value(value, item),
+    }
+}
+
+/// After one more item.
+fn after_item(site: Site, item: Item) -> Result<Transition, Memory>
+    requires { SiteHasRegexes site }
+    ensures view { IfOk result (λ s. transition_view s ≡ M.go (M.at (M.put (site_view site) item))) }
+    ensures regexes { IfOk result TransitionHasRegexes }
+{
+    let site = put(site, item)?;
+    Ok(Transition::Go(State::Item(ItemState::At(site))))
+}
+
+/// After a text side.
+fn leave_left(
+    alloc: Global,
+    head: Head,
+    name: Text,
+    line: u32,
+    left: Vec<Item>,
+    piece: &Piece,
+) -> Transition
+    requires { HaveRegexes head.units.items }
+    ensures view { transition_view result ≡ M.leave (M.left_side (head_view head) name line left.items) piece.now }
+    ensures regexes { TransitionHasRegexes result }
+{
+    if !piece.is(Kind::Equals) {
+        return Transition::Refuse;
+    }
+    Transition::Go(State::Item(ItemState::At(Site::Content(Inside {
+        draft: Draft {
+            head,
+            name,
+            line,
+            left,
+        },
+        opens: Vec::new(alloc),
+        content: Vec::new(alloc),
+    }))))
+}
+
+/// Where a piece leads that begins no item.
+fn leave(alloc: Global, site: Site, piece: &Piece) -> Result<Transition, Memory>
+    requires { SiteHasRegexes site }
+    ensures view { IfOk result (λ s. transition_view s ≡ M.leave (site_view site) piece.now) }
+    ensures regexes { IfOk result TransitionHasRegexes }
+{
+    match site {
+        Site::LeftSide {
+            head,
+            name,
+            line,
+            items,
+        } => Ok(leave_left(alloc, head, name, line, items, piece)),
+        Site::Content(inside) => leave_content(alloc, inside, piece),
+        Site::Value(value) => leave_value(alloc, value, piece),
+    }
+}
+
+/// Where an item may stand.
+fn at_site(alloc: Global, site: Site, piece: &Piece) -> Result<Transition, Memory>
+    requires { SiteHasRegexes site }
+    ensures view { IfOk result (λ s. transition_view s ≡ M.step (M.at (site_view site)) piece.now) }
+    ensures regexes { IfOk result TransitionHasRegexes }
+{
+    if piece.is(Kind::Quoted) {
+        let (site, text) = with_text(alloc, site, piece)?;
+        return after_item(site, Item::Fixed(text));
+    }
+    if piece.is(Kind::SquareIn) {
+        return Ok(Transition::Go(State::Item(ItemState::Square(site))));
+    }
+    leave(alloc, site, piece)
+}
+
+/// After `[`.
+fn square(alloc: Global, site: Site, piece: &Piece) -> Result<Transition, Memory>
+    requires { SiteHasRegexes site }
+    ensures view { IfOk result (λ s. transition_view s ≡ M.step (M.square (site_view site)) piece.now) }
+    ensures regexes { IfOk result TransitionHasRegexes }
+{
+    if !piece.is_unit_name() {
+        return Ok(refuse(site));
+    }
+    let (site, name) = with_text(alloc, site, piece)?;
+    Ok(Transition::Go(State::Item(ItemState::SquareName(site, name))))
+}
+
+/// After the name in brackets.
+fn square_name(alloc: Global, site: Site, name: Text, piece: &Piece) -> Result<Transition, Memory>
+    requires { SiteHasRegexes site }
+    ensures view { IfOk result (λ s. transition_view s ≡ M.step (M.square_name (site_view site) name) piece.now) }
+    ensures regexes { IfOk result TransitionHasRegexes }
+{
+    if piece.is(Kind::SquareOut) {
+        return after_item(site, Item::Skip { name });
+    }
+    if !piece.is_unit_name() {
+        return Ok(refuse(site));
+    }
+    let (site, slot) = with_text(alloc, site, piece)?;
+    Ok(Transition::Go(State::Item(ItemState::SquareSlot(site, name, slot))))
+}
+
+/// After the slot in brackets.
+fn square_slot(site: Site, name: Text, slot: Text, piece: &Piece) -> Result<Transition, Memory>
+    requires { SiteHasRegexes site }
+    ensures view { IfOk result (λ s. transition_view s ≡ M.step (M.square_slot (site_view site) name slot) piece.now) }
+    ensures regexes { IfOk result TransitionHasRegexes }
+{
+    if !piece.is(Kind::SquareOut) {
+        return Ok(refuse(site));
+    }
+    after_item(site, Item::Named { name, slot })
+}
+
+/// Where one more piece leads at an item.
+pub fn step_item(alloc: Global, state: ItemState, piece: &Piece) -> Result<Transition, Memory>
+    requires { ItemHasRegexes state }
+    ensures view { IfOk result (λ s. transition_view s ≡ M.step (item_view state) piece.now) }
+    ensures regexes { IfOk result TransitionHasRegexes }
+{
+    match state {
+        ItemState::At(site) => at_site(alloc, site, piece),
+        ItemState::Square(site) => square(alloc, site, piece),
+        ItemState::SquareName(site, name) => square_name(alloc, site, name, piece),
+        ItemState::SquareSlot(site, name, slot) => square_slot(site, name, slot, piece),
+    }
+}

@@ -1,0 +1,11 @@
+pub mod Other
+pub mod Kept
+pub mod LooseKept
+pub mod Weighed
+pub mod Checked
+pub mod Alike
+pub mod Contents
+pub mod Twins
+pub mod Sheets
+pub mod Pairs
+pub mod Failing

@@ -1,0 +1,6 @@
+pub mod Regexes
+pub mod Grammars
+pub mod Meanings
+pub mod Sheets
+pub mod Pairs
+pub mod Laws

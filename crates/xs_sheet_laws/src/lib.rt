@@ -1,0 +1,39 @@
+//! Laws of sheets: bytes spell one sheet and one pair of grammars, up to what no definition sees.
+//!
+//! A regular expression is read of a pattern, and two readings may differ in how they hold it; they
+//! have one size and match the same words. Sheets, grammars and pairs of grammars are alike where
+//! they differ in that alone. The laws: bytes that spell two sheets spell sheets that are alike, two
+//! pairs of grammars of the same bytes are alike, and grammars that are alike have the same
+//! derivations, trees, prints, words, viable prefixes, weights and suspects, and are accepted alike.
+//!
+//! The statements stand in specs/. Each function here is a law, and does nothing when it runs.
+#![tactic(auto)]
+
+ghost use Rattle.xs_sheet_laws.specs.Meanings.{AlikeMeanTheSame, AlikeAreCheckedAlike};
+ghost use Rattle.xs_sheet_laws.specs.Laws.{OneSheet, AlikeSheetsMeanTheSame, OnePair};
+
+/// Two sheets of the same bytes are alike.
+pub fn one_sheet()
+    ensures { OneSheet }
+{}
+
+/// Sheets that are alike are well formed alike, or fail the same rule first, and have the same pairs
+/// of grammars.
+pub fn alike_sheets_mean_the_same()
+    ensures { AlikeSheetsMeanTheSame }
+{}
+
+/// Two pairs of grammars of one sheet are alike.
+pub fn one_pair()
+    ensures { OnePair }
+{}
+
+/// Grammars that are alike have the same derivations, trees, words and suspects.
+pub fn alike_mean_the_same()
+    ensures { AlikeMeanTheSame }
+{}
+
+/// Pairs of grammars that are alike are accepted alike, and refused alike.
+pub fn alike_are_checked_alike()
+    ensures { AlikeAreCheckedAlike }
+{}
