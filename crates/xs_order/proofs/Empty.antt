@@ -1,5 +1,5 @@
 -- Derivations of the empty word.
-use Rattle.std.proofs.Common.{◌≡◌, ◌↔◌, ℕ, Bool, List, [], ◌∷◌, ◌++◌, refl, sym, subst, ◌∙◌, inl, inr}
+use Rattle.std.proofs.Common.{◌≡◌, ◌↔◌, ℕ, Bool, List, [], ◌++◌, refl, sym, subst, ◌∙◌, inl, inr}
 use Rattle.std.specs.Bool.{IsTrue}
 use Rattle.xs_regex.specs.declared.regex.Regex.{Regex}
 use Rattle.xs_regex.specs.declared.position.Position.{Position}

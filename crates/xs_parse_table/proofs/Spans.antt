@@ -6,9 +6,6 @@ use Rattle.std.specs.Prelude.{slice_range}
 pub range_none : (w : List ℕ) (a : ℕ) → slice_range w a a ≡ []
 range_none w a = let e : a - a ≡ 0 = omega arith in rw e refl
 
-pub range_all : (w : List ℕ) → slice_range w 0 (length w) ≡ w
-range_all w = let e : length w - 0 ≡ length w = omega arith in rw e (take-length w)
-
 abbrev none : List ℕ
 none = []
 

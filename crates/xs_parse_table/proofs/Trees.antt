@@ -10,7 +10,8 @@ use Rattle.xs_parse_table.specs.declared.table.Node.{Node}
 use Rattle.xs_parse_table.specs.declared.table.ParseTable.{ParseTable}
 use Rattle.xs_parse_table.specs.Tables.{IsSpan, ArePartsAt, IsTreeOf}
 use Rattle.xs_parse_table.specs.Nodes.{ItemsEnd, IsNode}
-use Rattle.xs_parse_table.proofs.Spans.{range_none, range_all, range_join}
+use Rattle.xs_parse_table.proofs.Spans.{range_none, range_join}
+use Rattle.xs_class.proofs.Lists.{slice_all}
 
 -- parts that are in a table end no earlier than they begin, and spell what stands there
 pub parts_rise : (nodes : List Node) (parts doc : List ℕ) (k at end : ℕ) (ps : Parts) → ArePartsAt nodes parts doc k at end ps → at ≤ end
@@ -74,7 +75,7 @@ table_derives g doc table root node right last there rule from to =
     let found = node_has_parts g doc table.nodes.items table.parts.items (length table.nodes.items) right root (omega arith) node there in
     let spells : parts_yield found.0 ≡ doc =
     parts_spell table.nodes.items table.parts.items doc node.parts node.from node.to found.0 found.2
-    ∙ ap (λ a. slice_range doc a node.to) from ∙ ap (λ b. slice_range doc 0 b) to ∙ range_all doc in (
+    ∙ ap (λ a. slice_range doc a node.to) from ∙ ap (λ b. slice_range doc 0 b) to ∙ slice_all doc in (
       record { rule = node.production; parts = found.0 },
       record { root = root; last = last; tree = record { node = node; there = there; rule = refl; parts = found.2 } },
       ((rule, found.1), spells),

@@ -7,6 +7,7 @@ use Rattle.xs_xml.specs.Piece.{declaration, start_tag, empty_tag, spelt, spelt_b
 use Rattle.xs_xml.specs.Scan.{span, bit_at, bits_at, attr_at, attrs_at, piece_at}
 use Rattle.xs_xml.proofs.Reading.{stops, span_again, cut_semicolon, ref_plain, white_no_name, name_chars, gap_stops, start_in, name_9, white_out}
 use Rattle.xs_class.proofs.Truth.{and_true, or_false, not_true, no_other}
+use Rattle.xs_class.proofs.Lists.{after_long}
 
 quote_cases : (q : ℕ) → is_quote q ≡ true → (q ≡ 34) ⊎ (q ≡ 39)
 unfolding is_quote
@@ -116,9 +117,6 @@ attrs_again zero [] gap c rest few are white end = refl
 attrs_again (suc n) [] gap c rest few are white end = rw (attr_stop gap c rest white end) refl
 attrs_again zero (b ∷ bs) gap c rest few are white end = absurd (omega (arith, few))
 attrs_again (suc n) (b ∷ bs) gap c rest few are white end = let p = and_true (is_attribute b) (are_attributes bs) are in attrs_next n b bs (spelt_attribute b (spelt_attributes bs (gap ++ c ∷ rest))) (spelt_attributes bs (gap ++ c ∷ rest)) (gap ++ c ∷ rest) (attr_again b (spelt_attributes bs (gap ++ c ∷ rest)) p.0) (attrs_again n bs gap c rest (omega (arith, few)) p.1 white end)
-
-after_long : (xs ys : List ℕ) → length ys ≤ length (xs ++ ys)
-after_long xs ys = omega (arith, length-append xs ys)
 
 pub attr_long : (a : Attribute) (rest : List ℕ) → length rest < length (spelt_attribute a rest)
 attr_long a rest =
