@@ -16,7 +16,8 @@ use Rattle.xs_gram.specs.Places.{at_dot, at_inside}
 use Rattle.xs_chart_laws.specs.Reading.{Reads}
 use Rattle.xs_chart_laws.specs.Closed.{IsClosed, AllStand, HasAllThatStand, IsReached}
 use Rattle.xs_chart_laws.proofs.Words.{drop_get, Reads-split, Reads-is, Reads-within, Reads-slice, Reads-same, Reads-from_slice}
-use Rattle.xs_chart_laws.proofs.Spelling.{then-yield, then-fits, parts_then, Spells-more, term_agrees, skip_agrees, lex_part}
+use Rattle.xs_chart_laws.specs.Parts.{parts_then}
+use Rattle.xs_chart_laws.proofs.Spelling.{then-yield, then-fits, Spells-more, term_agrees, skip_agrees, lex_part}
 use Rattle.xs_gram.proofs.Numbers.{as_dot}
 use Rattle.xs_chart_laws.proofs.Standing.{starts}
 use Rattle.xs_chart_laws.proofs.Completeness.{over, over_lex, over_run, after_zero}

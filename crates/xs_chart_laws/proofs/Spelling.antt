@@ -9,15 +9,8 @@ use Rattle.xs_gram.specs.Grammar.{Grammar, term_of, skip_of, items, ItemAt}
 use Rattle.xs_gram.specs.Derivations.{Parts, done, fixed, leaf, skip, sub, FitsItems, parts_yield}
 use Rattle.xs_gram.specs.Sound.{IsBuilt, IsAutomaton}
 use Rattle.xs_gram.specs.Chart.{Spells, IsAutomatonOf}
+use Rattle.xs_chart_laws.specs.Parts.{parts_then}
 use Rattle.xs_chart_laws.proofs.Words.{get_take, get_lt}
-
--- the parts, and then more parts
-abbrev pub parts_then : Parts → Parts → Parts
-parts_then done rs = rs
-parts_then (fixed u ps) rs = fixed u (parts_then ps rs)
-parts_then (leaf u ps) rs = leaf u (parts_then ps rs)
-parts_then (skip u ps) rs = skip u (parts_then ps rs)
-parts_then (sub q qs ps) rs = sub q qs (parts_then ps rs)
 
 pub then-yield : (ps rs : Parts) → parts_yield (parts_then ps rs) ≡ parts_yield ps ++ parts_yield rs
 then-yield done rs = refl

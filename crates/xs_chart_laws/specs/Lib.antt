@@ -1,5 +1,6 @@
-pub mod Reading
-pub mod Closed
-pub mod Steps
 pub mod Charts
+pub mod Closed
 pub mod Laws
+pub mod Parts
+pub mod Reading
+pub mod Steps

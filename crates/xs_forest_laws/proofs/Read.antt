@@ -7,7 +7,8 @@ use Rattle.xs_gram.specs.declared.parts.GItem.TheVariants.{Fixed, Term, Non, Ski
 use Rattle.xs_gram.specs.Grammar.{Grammar, items, ItemAt}
 use Rattle.xs_gram.specs.Derivations.{Parts, done, fixed, leaf, skip, sub, FitsItems, parts_yield}
 use Rattle.xs_chart_laws.proofs.Words.{get_take, Reads-join, Reads-slice, Reads-same}
-use Rattle.xs_chart_laws.proofs.Spelling.{parts_then, then-yield, then-fits}
+use Rattle.xs_chart_laws.specs.Parts.{parts_then}
+use Rattle.xs_chart_laws.proofs.Spelling.{then-yield, then-fits}
 use Rattle.xs_forest.specs.declared.row.Alt.{Alt}
 use Rattle.xs_forest_laws.specs.declared.span.SpanKey.{SpanKey}
 use Rattle.xs_forest_laws.specs.declared.span.What.{What}

@@ -4,7 +4,7 @@ use Rattle.std.specs.Prelude.{slice_get, slice_range}
 use Rattle.xs_gram.specs.declared.parts.GItem.{GItem}
 use Rattle.xs_gram.specs.Grammar.{Grammar}
 use Rattle.xs_gram.specs.Derivations.{Parts, done, fixed, leaf, skip, sub}
-use Rattle.xs_chart_laws.proofs.Spelling.{parts_then}
+use Rattle.xs_chart_laws.specs.Parts.{parts_then}
 use Rattle.xs_forest.specs.declared.row.Alt.{Alt}
 use Rattle.xs_forest_laws.specs.declared.span.What.TheVariants.{Whole, Front}
 use Rattle.xs_forest_laws.specs.Forest.{Forest, IsRow, Unfolding, pick, word_part, last_part, read, FrontAlt}

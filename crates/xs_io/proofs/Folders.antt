@@ -131,7 +131,7 @@ module _ (name : List ℕ) (files : List File) (j : ℕ) (old new : File) (place
         | inr not_so ↦ ap q (lookup-set name other files j new place write_named ∙ rw not_so refl)
       ]
 
--- a file put behind the others, where none has its name
+-- a file put after the others, where none has its name
 module _ (name : List ℕ) (files : List File) (new : File) (none : lookup files name ≡ None) (named : encode_utf8_all new.name ≡ name) where
   pub push_at : lookup (files ++ new ∷ []) name ≡ Some new
   push_at = lookup-push name name files new none named ∙ rw (same_name name) refl

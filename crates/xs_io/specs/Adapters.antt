@@ -24,6 +24,6 @@ writer_faults s = s.faults
 abbrev pub dir_faults : {R File Dir : Type 0} → DirShelf R File Dir → ℕ
 dir_faults s = s.faults
 
--- nothing is told of the calls on one name
+-- the calls on one name are not counted
 abbrev pub dir_name_faults : {R File Dir : Type 0} → DirShelf R File Dir → List ℕ → ℕ
 dir_name_faults s name = 0

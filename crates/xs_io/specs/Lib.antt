@@ -1,5 +1,5 @@
 pub mod Adapters
-pub mod Calls
+pub mod CallLog
 pub mod Causes
 pub mod Folder
 pub mod Puts

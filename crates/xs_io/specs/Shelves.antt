@@ -2,7 +2,7 @@
 use Rattle.std.specs.Prelude.{ℕ, List}
 use Rattle.std.specs.declared.option.Option.{Option}
 use Rattle.xs_io.specs.Folder.{file_in, file_faults}
-use Rattle.xs_io.specs.declared.calls.Calls.{Calls}
+use Rattle.xs_io.specs.declared.call_log.CallLog.{CallLog}
 use Rattle.xs_io.specs.declared.shelves.MemShelf.{MemShelf}
 use Rattle.xs_io.specs.declared.shelves.SureShelf.{SureShelf}
 
@@ -15,7 +15,7 @@ abbrev pub mem_name_faults : MemShelf → List ℕ → ℕ
 mem_name_faults s = file_faults s.folder
 
 -- its calls so far, and those that fail
-abbrev pub mem_calls : MemShelf → Calls
+abbrev pub mem_calls : MemShelf → CallLog
 mem_calls s = s.calls
 
 -- the bytes of the file of this name

@@ -1,13 +1,13 @@
--- What a shelf tells of its files.
+-- What a shelf shows of its files.
 use Rattle.std.specs.Prelude.{◌≡◌, ◌≢◌, ℕ, ◌≤◌, ◌<◌, ◌-◌, List, [], ◌++◌, length, drop, min, ⊤, None, Some, IsSome}
 use Rattle.std.specs.declared.option.Option.{Option}
 use Rattle.xs_io.specs.Causes.{Rose}
 
--- a shelf's files by name, each with its bytes, where it tells them
+-- a shelf's files by name, each with its bytes, where it shows them
 abbrev pub Files : Type 0
 Files = Option (List ℕ → Option (List ℕ))
 
--- the shelf tells its files, and has one of this name
+-- the shelf shows its files, and has one of this name
 abbrev pub Has : Files → List ℕ → Type 0
 Has None name = ⊥
 Has (Some files) name = IsSome (files name)
@@ -17,12 +17,12 @@ abbrev pub StandAt : Option (List ℕ) → ℕ → List ℕ → Type 0
 StandAt None at piece = ⊥
 StandAt (Some bytes) at piece = (rest : List ℕ) × (drop at bytes ≡ piece ++ rest) × (piece ≡ [] → length bytes ≤ at)
 
--- so many bytes are all that stand in the file from that place on and fit
+-- that many bytes are all that stand in the file from that place on and fit
 abbrev pub IsFull : Option (List ℕ) → ℕ → ℕ → ℕ → Type 0
 IsFull None at room n = ⊥
 IsFull (Some bytes) at room n = n ≡ min room (length bytes - at)
 
--- these bytes stand in the file of this name from that place on, where the shelf tells it
+-- these bytes stand in the file of this name from that place on, where the shelf shows it
 abbrev pub StandIn : Files → List ℕ → ℕ → List ℕ → Type 0
 StandIn None name at piece = ⊤
 StandIn (Some files) name at piece = StandAt (files name) at piece

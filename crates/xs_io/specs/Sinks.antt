@@ -1,6 +1,6 @@
 -- What the sinks in memory hold.
 use Rattle.std.specs.Prelude.{ℕ, List}
-use Rattle.xs_io.specs.declared.calls.Calls.{Calls}
+use Rattle.xs_io.specs.declared.call_log.CallLog.{CallLog}
 use Rattle.xs_io.specs.declared.sinks.MemSink.{MemSink}
 use Rattle.xs_io.specs.declared.sinks.SureSink.{SureSink}
 
@@ -13,7 +13,7 @@ abbrev pub mem_step : MemSink → ℕ
 mem_step s = s.step
 
 -- its calls so far, and those that fail
-abbrev pub mem_calls : MemSink → Calls
+abbrev pub mem_calls : MemSink → CallLog
 mem_calls s = s.calls
 
 -- the bytes that were taken

@@ -1,6 +1,6 @@
 -- What the sources in memory hold.
 use Rattle.std.specs.Prelude.{ℕ, List, drop}
-use Rattle.xs_io.specs.declared.calls.Calls.{Calls}
+use Rattle.xs_io.specs.declared.call_log.CallLog.{CallLog}
 use Rattle.xs_io.specs.declared.sources.MemSource.{MemSource}
 use Rattle.xs_io.specs.declared.sources.SureSource.{SureSource}
 
@@ -13,7 +13,7 @@ abbrev pub mem_step : MemSource → ℕ
 mem_step s = s.step
 
 -- its calls so far, and those that fail
-abbrev pub mem_calls : MemSource → Calls
+abbrev pub mem_calls : MemSource → CallLog
 mem_calls s = s.calls
 
 -- the bytes that are left

@@ -1,7 +1,7 @@
 ghost use Rattle.std.specs.Prelude.{◌≡◌, ◌≤◌, ◌<◌, length, take, IfOk, OnOk, OnErr, IfSome, IfNone, MatchResult};
 ghost use Rattle.std.specs.Io.{ReadsAtMost, WritesAtMost};
 ghost use Rattle.std.specs.Io.KnownBytes.{Appends, Consumes, IsAtEnd, Keeps, ReadConsumes, WriteAppends};
-ghost use Rattle.xs_io.specs.Calls.{one_more};
+ghost use Rattle.xs_io.specs.CallLog.{one_more};
 ghost use Rattle.xs_io.specs.Causes.{HasCause};
 ghost use Rattle.xs_io.specs.Shown.{StandIn, NameFailed};
 
@@ -10,13 +10,13 @@ use std::io::{ErrorKind, Read, Seek, SeekFrom, Write};
 use std::rt::Files;
 use std::{fs, io};
 
-// How often one call is tried again where a signal interrupts it.
+/// How often one call is tried again where a signal interrupts it.
 const RETRIES: u32 = 1_000;
 
-// How many bytes one read moves at most.
+/// How many bytes one read moves at most.
 const PIECE: usize = 4_096;
 
-// One read, tried again while it is interrupted. `None` is a failure.
+/// One read, tried again while it is interrupted. `None` is a failure.
 fn read_again<R: Read>(reader: &mut R, buf: &mut [u8]) -> Option<usize>
     requires { 0 < length buf.old }
     ensures bound { IfSome result (λ n. n ≤ length buf.new) }
@@ -38,7 +38,7 @@ fn read_again<R: Read>(reader: &mut R, buf: &mut [u8]) -> Option<usize>
     None
 }
 
-// One read through a piece of its own: a reader that fails may leave anything in what it was given.
+/// One read through a piece of its own: a reader that fails may leave anything in what it was given.
 fn read_whole<R: Read>(reader: &mut R, buf: &mut [u8]) -> Option<usize>
     requires { 0 < length buf.old }
     ensures bound { IfSome result (λ n. n ≤ length buf.new) }
@@ -55,7 +55,7 @@ fn read_whole<R: Read>(reader: &mut R, buf: &mut [u8]) -> Option<usize>
     Some(count)
 }
 
-// One write, tried again while it is interrupted. `None` is a failure, as is a write of nothing.
+/// One write, tried again while it is interrupted. `None` is a failure, as is a write of nothing.
 fn write_again<W: Write>(writer: &mut W, piece: &[u8]) -> Option<usize>
     ensures some { IfSome result (λ n. 0 < n) }
     ensures bound { IfSome result (λ n. n ≤ length piece.now) }
@@ -79,7 +79,7 @@ fn write_again<W: Write>(writer: &mut W, piece: &[u8]) -> Option<usize>
 
 /// A source over a reader, such as the standard input.
 ///
-/// A call that is interrupted is tried again, at most 1,000 times, and then fails. It tells what
+/// A call that is interrupted is tried again, at most 1,000 times, and then fails. It shows what
 /// is left only where the reader does, as one over bytes in memory.
 #[derive(Drop)]
 pub struct FromReader<R: Read> {
@@ -132,7 +132,7 @@ impl<R: Read> Source for FromReader<R> {
 ///
 /// A call that is interrupted is tried again, at most 1,000 times, and then fails. So does a write
 /// that takes nothing. What the sink took is what the writer took: nothing is flushed, so give it
-/// a writer without a buffer, as the runtime's `stdout()` and `stderr()` are. It tells what it
+/// a writer without a buffer, as the runtime's `stdout()` and `stderr()` are. It shows what it
 /// took only where the writer does, as a vector.
 #[derive(Drop)]
 pub struct ToWriter<W: Write> {
@@ -181,7 +181,7 @@ impl<W: Write> Sink for ToWriter<W> {
     }
 }
 
-// A reader of the file of this name from this place on, which opens it at each read.
+/// A reader of the file of this name from this place on, which opens it at each read.
 #[derive(Drop)]
 struct FileFrom<'a, R: Files> {
     rt: &'a R,
@@ -200,7 +200,7 @@ impl<R: Files> Read for FileFrom<'_, R> {
 /// The files of a file system. A name is a path from the folder in which the program was started.
 ///
 /// Each call opens its file. A call that is interrupted is tried again, at most 1,000 times, and
-/// then fails. Nothing is told of the files.
+/// then fails. Its contracts say nothing of what the files hold.
 #[derive(Drop)]
 pub struct DirShelf<'r, R: Files> {
     rt: &'r R,

@@ -5,25 +5,14 @@ ghost use Rattle.std.specs.Io.KnownBytes.{ReadConsumes, WriteAppends};
 ghost use Rattle.xs_io.specs.Causes.{HasCause};
 ghost use Rattle.xs_io.specs.Shown.{Files, StandIn, NameFailed};
 
-use std::error::Error;
-use std::fmt;
-
 /// A call of a device failed. It took or gave nothing, left the caller's buffer as it was, and the
 /// device's count of faults rose: it is greater after the call than before, or stands at 2^64 - 1.
 #[derive(Clone, Copy, Debug, PartialEq, Eq)]
 pub struct Failed;
 
-impl fmt::Display for Failed {
-    fn fmt<W: fmt::Write>(&self, f: &mut fmt::Formatter<W>) -> fmt::Result {
-        f.write_str("the device failed")
-    }
-}
-
-impl Error for Failed {}
-
 /// What bytes are read from, in order.
 pub trait Source {
-    /// The bytes that are left, where the source tells them.
+    /// The bytes that are left, where the source shows them.
     ghost left: { Self → Option (List ℕ) };
 
     /// How often it has failed.
@@ -41,7 +30,7 @@ pub trait Source {
 
 /// What bytes are written to, in order.
 pub trait Sink {
-    /// The bytes that it took, where the sink tells them.
+    /// The bytes that it took, where the sink shows them.
     ghost taken: { Self → Option (List ℕ) };
 
     /// How often it has failed.
@@ -58,7 +47,7 @@ pub trait Sink {
 
 /// Files that are read by name, from any place on. A name counts by its UTF-8.
 pub trait Shelf {
-    /// Its files by name, where the shelf tells them.
+    /// Its files by name, where the shelf shows them.
     ghost files: { Self → Files };
 
     /// How often it has failed.
@@ -69,7 +58,7 @@ pub trait Shelf {
 
     /// Copies what stands in the file from the place `at` on to the front of the buffer, and
     /// answers how many bytes: 0 exactly at or past the file's end. A name that is not there is a
-    /// failure, of which no file's own count tells.
+    /// failure, which no file's own count records.
     fn read_at(&mut self, name: &str, at: u64, buf: &mut [u8]) -> Result<usize, Failed>
         requires { 0 < length buf.old }
         ensures bound { ReadsAtMost result buf.new }

@@ -1,7 +1,7 @@
 ghost use Rattle.std.specs.Prelude.{◌≡◌, ◌≢◌, ◌<◌, ◌≤◌, ◌↔◌, List, ℕ, None, length, take, OnOk, OnErr, IfSome, IfNone, IsNone, IsSome, encode_utf8_all};
 ghost use Rattle.std.specs.Option.{option_copied};
 ghost use Rattle.std.specs.List.{position_from};
-ghost use Rattle.xs_io.specs.Calls.{one_more};
+ghost use Rattle.xs_io.specs.CallLog.{one_more};
 ghost use Rattle.xs_io.specs.Folder.{is_named};
 ghost use Rattle.xs_io.specs.Puts.{Puts};
 ghost use Rattle.xs_io.specs.Shown.{StandAt, IsFull};
@@ -55,7 +55,7 @@ impl Folder {
         Ok(())
     }
 
-    // The bytes of the file of this name.
+    /// The bytes of the file of this name.
     fn bytes_of(&self, name: &str) -> Option<&Bytes>
         ensures { option_copied result ≡ file_in self.now name.now }
     {
@@ -101,7 +101,7 @@ impl Folder {
     }
 }
 
-// The place of the first file of this name.
+/// The place of the first file of this name.
 fn place_of(files: &[File], name: &str) -> Option<usize>
     ensures { result ≡ position_from (is_named name.now) 0 files.now }
 {

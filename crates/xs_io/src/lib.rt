@@ -3,13 +3,13 @@
 //! - `device`: the traits `Source`, `Sink` and `Shelf`. Each call moves some bytes or fails, and a
 //!   failure shows in a count that never falls.
 //! - `whole`: reading to the end, and writing all, over any device.
-//! - `sources`, `sinks`, `shelves`: devices in memory, which fail where they are told to, or only
+//! - `sources`, `sinks`, `shelves`: devices in memory, which fail where they are asked to, or only
 //!   where they must. Their contracts say exactly when a call fails.
 //! - `adapters`: devices over readers, writers and files of the real world.
 #![tactic(auto)]
 
 mod adapters;
-mod calls;
+mod call_log;
 mod device;
 mod folder;
 mod front;

@@ -1,10 +1,10 @@
 ghost use Rattle.std.specs.Prelude.{◌≡◌, ◌≢◌, ◌≤◌, ◌<◌, ◌↔◌, ◌⊎◌, List, ℕ, None, length, take, IfOk, IsErr, OnOk, OnErr, MatchResult, encode_utf8_all};
 ghost use Rattle.std.specs.Io.{ReadsAtMost};
-ghost use Rattle.xs_io.specs.Calls.{IsListed, Begins, one_more, fails_of, made_of, faults_of};
+ghost use Rattle.xs_io.specs.CallLog.{IsListed, Begins, one_more, fails_of, made_of, faults_of};
 ghost use Rattle.xs_io.specs.Puts.{Puts};
 ghost use Rattle.xs_io.specs.Shown.{StandIn, IsFull, NameFailed};
 
-use crate::calls::Calls;
+use crate::call_log::CallLog;
 use crate::folder::Folder;
 use crate::{Failed, Shelf};
 use std::alloc::Global;
@@ -15,7 +15,7 @@ use xs_class::{Bytes, Memory, Text};
 #[derive(Debug, Drop)]
 pub struct MemShelf {
     folder: Folder,
-    calls: Calls,
+    calls: CallLog,
 }
 
 impl MemShelf {
@@ -30,7 +30,7 @@ impl MemShelf {
     {
         MemShelf {
             folder: Folder::new(alloc),
-            calls: Calls::new(fails),
+            calls: CallLog::new(fails),
         }
     }
 

@@ -1,10 +1,10 @@
 ghost use Rattle.std.specs.Prelude.{◌≡◌, ◌≤◌, ◌<◌, ◌-◌, ◌↔◌, [], length, min, vec_capacity, vec_len, IfOk, IsErr, MatchResult};
 ghost use Rattle.std.specs.Io.{WritesAtMost};
 ghost use Rattle.std.specs.Io.KnownBytes.{WriteAppends};
-ghost use Rattle.xs_io.specs.Calls.{IsListed, Begins, one_more, fails_of, made_of, faults_of};
+ghost use Rattle.xs_io.specs.CallLog.{IsListed, Begins, one_more, fails_of, made_of, faults_of};
 ghost use Rattle.xs_io.specs.Causes.{HasCause};
 
-use crate::calls::Calls;
+use crate::call_log::CallLog;
 use crate::{Failed, Sink};
 use std::alloc::Global;
 use xs_class::{Bytes, Memory};
@@ -14,7 +14,7 @@ use xs_class::{Bytes, Memory};
 pub struct MemSink {
     bytes: Bytes,
     step: usize,
-    calls: Calls,
+    calls: CallLog,
     ghost moves: { 0 < step },
 }
 
@@ -34,7 +34,7 @@ impl MemSink {
         MemSink {
             bytes: Bytes::new(alloc),
             step,
-            calls: Calls::new(fails),
+            calls: CallLog::new(fails),
         }
     }
 
@@ -96,7 +96,7 @@ pub struct SureSink {
 impl SureSink {
     ghost use Rattle.xs_io.specs.Sinks.{sure_bytes, sure_room, sure_faults};
 
-    /// A sink of so much room.
+    /// A sink with room for that many bytes.
     pub fn with_room(alloc: Global, room: usize) -> Result<Self, Memory>
         ensures bytes { IfOk result (λ s. sure_bytes s ≡ []) }
         ensures room { IfOk result (λ s. sure_room s ≡ room) }

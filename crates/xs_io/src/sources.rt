@@ -1,10 +1,10 @@
 ghost use Rattle.std.specs.Prelude.{◌≡◌, ◌≤◌, ◌<◌, ◌↔◌, length, min, IfOk, OnErr, IsOk, IsErr, MatchResult};
 ghost use Rattle.std.specs.Io.{ReadsAtMost};
 ghost use Rattle.std.specs.Io.KnownBytes.{ReadConsumes};
-ghost use Rattle.xs_io.specs.Calls.{IsListed, Begins, one_more, fails_of, made_of, faults_of};
+ghost use Rattle.xs_io.specs.CallLog.{IsListed, Begins, one_more, fails_of, made_of, faults_of};
 ghost use Rattle.xs_io.specs.Causes.{HasCause};
 
-use crate::calls::Calls;
+use crate::call_log::CallLog;
 use crate::front::copy_front;
 use crate::{Failed, Source};
 use xs_class::Bytes;
@@ -15,7 +15,7 @@ pub struct MemSource {
     bytes: Bytes,
     at: usize,
     step: usize,
-    calls: Calls,
+    calls: CallLog,
     ghost in_bounds: { at ≤ length bytes },
     ghost moves: { 0 < step },
 }
@@ -37,7 +37,7 @@ impl MemSource {
             bytes,
             at: 0,
             step,
-            calls: Calls::new(fails),
+            calls: CallLog::new(fails),
         }
     }
 

@@ -6,8 +6,6 @@ ghost use Rattle.xs_io.specs.Shown.{IsFile, IsLongFile, NameFailed, Touches};
 
 use crate::{Failed, Shelf, Sink, Source};
 use std::alloc::Global;
-use std::error::Error;
-use std::fmt;
 use xs_class::{Bytes, Memory};
 
 /// Why reading stopped before the end.
@@ -20,18 +18,6 @@ pub enum ReadStop {
     /// Want of memory.
     Memory,
 }
-
-impl fmt::Display for ReadStop {
-    fn fmt<W: fmt::Write>(&self, f: &mut fmt::Formatter<W>) -> fmt::Result {
-        f.write_str(match self {
-            ReadStop::ReadFault => "cannot be read",
-            ReadStop::TooLong => "too long",
-            ReadStop::Memory => "out of memory",
-        })
-    }
-}
-
-impl Error for ReadStop {}
 
 impl From<Memory> for ReadStop {
     ghost use Rattle.std.specs.Prelude.{◌≡◌};
@@ -61,17 +47,10 @@ pub struct WriteFault {
     pub written: u64,
 }
 
-impl fmt::Display for WriteFault {
-    fn fmt<W: fmt::Write>(&self, f: &mut fmt::Formatter<W>) -> fmt::Result {
-        write!(f, "cannot be written after {} bytes", self.written)
-    }
-}
-
-impl Error for WriteFault {}
-
-// How many bytes a read asks for at most.
+/// How many bytes a read asks for at most.
 const PIECE: usize = 65_536;
 
+/// A buffer of that many bytes, all 0.
 fn buffer(alloc: Global, len: usize) -> Result<Vec<u8>, Memory>
     ensures { IfOk result (λ buf. vec_len buf ≡ len) }
 {
@@ -95,6 +74,7 @@ pub fn read_all<S: Source>(alloc: Global, src: &mut S, limit: usize) -> Result<B
     read_pieces(alloc, src, limit, &mut buf)
 }
 
+/// What `read_all` gives, read through this buffer.
 fn read_pieces<S: Source>(
     alloc: Global,
     src: &mut S,
@@ -150,6 +130,7 @@ pub fn read_file<H: Shelf>(
     read_file_pieces(alloc, shelf, name, limit, &mut buf)
 }
 
+/// What `read_file` gives, read through this buffer.
 fn read_file_pieces<H: Shelf>(
     alloc: Global,
     shelf: &mut H,

@@ -10,7 +10,7 @@ use Rattle.xs_gram.specs.Derivations.{Parts, done, sub, parts_yield}
 use Rattle.xs_gram.specs.Common.{word, named}
 use Rattle.xs_gram.specs.Laws.{Every, IsNumbered}
 use Rattle.xs_chart_laws.proofs.Words.{get_drop, Reads-is}
-use Rattle.xs_chart_laws.proofs.Spelling.{parts_then}
+use Rattle.xs_chart_laws.specs.Parts.{parts_then}
 use Rattle.xs_forest.specs.declared.row.Alt.{Alt}
 use Rattle.xs_tree.specs.declared.part.TreePart.{TreePart}
 use Rattle.xs_tree.specs.declared.part.TreePart.TheVariants.{Leaf}

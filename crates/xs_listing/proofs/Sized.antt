@@ -9,7 +9,7 @@ use Rattle.xs_gram.specs.declared.parts.GItem.TheVariants.{Fixed, Term, Non, Ski
 use Rattle.xs_gram.specs.Grammar.{Grammar}
 use Rattle.xs_gram.specs.Derivations.{Parts, done, fixed, leaf, skip, sub}
 use Rattle.xs_chart_laws.proofs.Words.{get_lt, get_some}
-use Rattle.xs_chart_laws.proofs.Spelling.{parts_then}
+use Rattle.xs_chart_laws.specs.Parts.{parts_then}
 use Rattle.xs_forest.specs.declared.row.Alt.{Alt}
 use Rattle.xs_forest.specs.Rows.{IsEarlier}
 use Rattle.xs_tree.specs.Counts.{capped}

@@ -10,7 +10,7 @@ use Rattle.xs_gram.specs.declared.parts.RulePart.{RulePart}
 use Rattle.xs_gram.specs.Grammar.{Grammar, no_rule, items, ItemAt}
 use Rattle.xs_gram.specs.Derivations.{Parts, done, fixed, leaf, skip, sub, parts_yield}
 use Rattle.xs_chart_laws.proofs.Words.{get_lt, Reads-is}
-use Rattle.xs_chart_laws.proofs.Spelling.{parts_then}
+use Rattle.xs_chart_laws.specs.Parts.{parts_then}
 use Rattle.xs_forest.specs.declared.row.Alt.{Alt}
 use Rattle.xs_forest_laws.specs.declared.span.What.{What}
 use Rattle.xs_forest_laws.specs.declared.span.What.TheVariants.{Whole, Front}

@@ -4,7 +4,7 @@ use Rattle.std.specs.Option.{option_map, option_map_or}
 use Rattle.std.specs.declared.option.Option.{Option}
 use Rattle.xs_io.specs.declared.folder.File.{File}
 use Rattle.xs_io.proofs.Folders.{IsPlace, found, found_within, place_none, write_at, write_away, write_was, write_keeps}
-use Rattle.xs_io.specs.Calls.{one_more}
+use Rattle.xs_io.specs.CallLog.{one_more}
 use Rattle.xs_io.specs.Folder.{is_named}
 use Rattle.xs_io.proofs.folder.Folder.raise.Goals as goal
 

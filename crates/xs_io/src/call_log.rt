@@ -4,14 +4,14 @@ use crate::Failed;
 
 /// The calls of a device in memory: how many there were, which are to fail, and how many failed.
 #[derive(Debug, Drop)]
-pub(crate) struct Calls {
+pub(crate) struct CallLog {
     fails: Vec<u64>,
     made: u64,
     faults: u64,
 }
 
-impl Calls {
-    ghost use Rattle.xs_io.specs.Calls.{IsListed, Begins, one_more, fails_of, made_of, faults_of};
+impl CallLog {
+    ghost use Rattle.xs_io.specs.CallLog.{IsListed, Begins, one_more, fails_of, made_of, faults_of};
 
     /// No call yet. The calls with these numbers, from 1, are to fail.
     pub(crate) fn new(fails: Vec<u64>) -> Self
@@ -19,7 +19,7 @@ impl Calls {
         ensures none { made_of result ≡ 0 }
         ensures faults { faults_of result ≡ 0 }
     {
-        Calls {
+        CallLog {
             fails,
             made: 0,
             faults: 0,
@@ -54,7 +54,7 @@ impl Calls {
     }
 }
 
-// The call after so many others is to fail. A call past the greatest number is never listed.
+/// Whether the call after that many others is to fail. A call past the greatest number is never listed.
 fn is_listed(fails: &[u64], made: u64) -> bool
     ensures { IsTrue result ↔ Contains fails.now (made + 1) }
 {
