@@ -50,7 +50,7 @@ lt_is a b is = grind (arith, nat_tests)
 pub lt_true : (a b : ℕ) → a < b → nat_lt a b ≡ true
 lt_true a b h = grind (arith, nat_tests)
 
--- a test that tells two numbers apart
+-- a test that distinguishes two numbers
 pub no_other : (f : ℕ → Bool) (c d : ℕ) → f c ≡ true → f d ≡ false → (c == d) ≡ false
 no_other f c d is_so is_not_so = by (c == d) refl
   where

@@ -1,9 +1,9 @@
 //! Symbols, sets of them, the names of a sheet, and the project's own lists.
 //!
-//! A symbol is a character or a mark of an XML name. A class is a set of symbols, and tells its
-//! members exactly. Names stand in the order of their bytes, and a name's place in it numbers its
-//! marks. Contracts see each list as a list, whatever lies behind it, and a `push` that finds no
-//! memory leaves it as it was.
+//! A symbol is a character or a mark of an XML name. A character class is a set of symbols,
+//! kept as disjoint sorted ranges, and its members are known exactly. Names stand in the order of
+//! their bytes, and a name's place in it numbers its marks. Contracts see each list as a list,
+//! however it is kept, and a `push` that finds no memory leaves it as it was.
 #![tactic(auto)]
 
 mod bytes;

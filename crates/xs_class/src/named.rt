@@ -4,8 +4,6 @@ ghost use Rattle.xs_class.specs.Named.{set_named, HasMembersOf};
 
 use crate::{Class, Memory};
 use std::alloc::{AllocError, Global};
-use std::error::Error;
-use std::fmt;
 use unicode::sets::{Set, by_name, normalize};
 
 /// Why a name gives no class.
@@ -15,17 +13,6 @@ pub enum NameFault {
     NoSuchClass,
     Memory,
 }
-
-impl fmt::Display for NameFault {
-    fn fmt<W: fmt::Write>(&self, f: &mut fmt::Formatter<W>) -> fmt::Result {
-        match self {
-            NameFault::NoSuchClass => write!(f, "no such class"),
-            NameFault::Memory => write!(f, "out of memory"),
-        }
-    }
-}
-
-impl Error for NameFault {}
 
 impl From<Memory> for NameFault {
     ghost use Rattle.std.specs.Prelude.{◌≡◌};
@@ -66,12 +53,14 @@ impl Class {
     }
 }
 
+/// The characters of the name.
 fn letters(alloc: Global, name: &str) -> Result<Vec<char>, AllocError>
     ensures { IfOk result (λ v. v.items ≡ chars name.now) }
 {
     name.chars().collect(alloc)
 }
 
+/// The class of the members of the set.
 fn class_of(alloc: Global, set: Set) -> Result<Class, NameFault>
     ensures found { IfOk result (λ c. HasMembersOf c set) }
     ensures memory { IfErr result (λ e. e ≡ NameFault.Memory) }
