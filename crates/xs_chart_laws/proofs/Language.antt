@@ -1,6 +1,5 @@
 -- The document is of the language exactly where a whole rule of the start is read over it.
-use Rattle.std.proofs.Common.{◌≡◌, ℕ, ◌-◌, List, length, sym, ◌∙◌, arith, ◌↔◌}
-use Rattle.std.proofs.Math.Seq.{take-length}
+use Rattle.std.proofs.Common.{ℕ, List, length, sym, ◌∙◌, arith, ◌↔◌}
 use Rattle.std.specs.Prelude.{slice_range}
 use Rattle.xs_gram.specs.declared.places.Place.{Place}
 use Rattle.xs_gram.specs.Grammar.{Grammar, items}
