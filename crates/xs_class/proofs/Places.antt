@@ -76,7 +76,7 @@ equal_bytes (x ∷ xs) (y ∷ ys) h =
     let first : x ≡ y = nat_equal x y both.0 in
     let rest : xs ≡ ys = equal_bytes xs ys both.1 in cc
 
-not_lower : (a b : Ordering) → a ≡ Less → b ≡ ordering_reverse a → is_lt b ≡ false
+pub not_lower : (a b : Ordering) → a ≡ Less → b ≡ ordering_reverse a → is_lt b ≡ false
 not_lower a b less back = ap is_lt (back ∙ ap ordering_reverse less)
 
 -- ordered names can be searched by a name's bytes

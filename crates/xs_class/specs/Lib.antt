@@ -3,3 +3,4 @@ pub mod Marks
 pub mod Named
 pub mod Ordered
 pub mod Tables
+pub mod Words

@@ -14,9 +14,7 @@ use Rattle.xs_forest_laws.proofs.Read.{unfolding_fits}
 use Rattle.xs_forest_laws.proofs.All.{fitting_is_unfolded}
 use Rattle.xs_forest_laws.proofs.Once.{reading_is_once}
 use Rattle.xs_class.proofs.Lists.{slice_all}
-
-reads_all : (w : List ℕ) → Reads w 0 w (length w)
-reads_all w = Reads-same w 0 (slice_range w 0 (length w)) w (length w) (slice_all w) (Reads-from_slice w 0 (length w) (omega arith) (omega arith))
+use Rattle.xs_chart_laws.proofs.Language.{Reads-all}
 
 -- parts for a whole word are one derivation
 pub tree_of : (g : Grammar) (w : List ℕ) (ps : Parts) → Spans g w (items_of g (Whole g.start)) 0 (length w) ps → (d : Derivation) × Derives g w d × (ps ≡ sub d.rule d.parts done)
@@ -28,7 +26,7 @@ tree_of g w _ s = absurd s.0
 
 pub parts_of : (g : Grammar) (w : List ℕ) (d : Derivation) → Derives g w d → Spans g w (items_of g (Whole g.start)) 0 (length w) (sub d.rule d.parts done)
 parts_of g w d (fits, e) =
-    ((fits.0, fits.1, tt), Reads-same w 0 w (parts_yield d.parts ++ []) (length w) (sym e ∙ sym (append-nil (parts_yield d.parts))) (reads_all w))
+    ((fits.0, fits.1, tt), Reads-same w 0 w (parts_yield d.parts ++ []) (length w) (sym e ∙ sym (append-nil (parts_yield d.parts))) (Reads-all w))
 
 pub exact : (g : Grammar) (w : List ℕ) (f : Forest) → IsRight g w f → (root : ℕ) → IsRow f root (Whole g.start) zero (length w) → IsExact g w f root
 exact g w f right root row = record {

@@ -13,11 +13,7 @@ use Rattle.xs_chart_laws.proofs.Spelling.{term_agrees, skip_agrees}
 use Rattle.xs_forest_laws.specs.Order.{is_nullable_by, AreNullable, IsTailFrom, IsNullableFrom, IsTail}
 use Rattle.xs_class.proofs.Truth.{false_true}
 use Rattle.xs_class.proofs.Lists.{not_empty, some_length}
-
--- an automaton goes by no empty word
-no_run : (a : Position) (u : List ℕ) (k : ℕ) → u ≡ [] → Runs a u k → ⊥
-no_run a _ _ e (run_begins s f c is) = not_empty [] s (sym e ∙ is)
-no_run a _ _ e (goes v j s run l c is) = not_empty v s (sym e ∙ is)
+use Rattle.xs_regex.proofs.Runs.{no_run}
 
 accepts_empty : (a : Position) → Accepts a [] → a.nullable ≡ true
 accepts_empty a (inl e) = e.1

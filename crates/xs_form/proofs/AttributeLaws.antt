@@ -10,9 +10,10 @@ use Rattle.xs_xml.proofs.Steps.{run_all}
 use Rattle.xs_xml.proofs.Tags.{attr_long}
 use Rattle.xs_xml.proofs.TagSoundness.{attr_sound}
 use Rattle.xs_form.specs.Values.{all_written}
-use Rattle.xs_form.specs.Attributes.{Held, held, kept_attribute, Head, is_empty, head_quote, head_right, head_at}
+use Rattle.xs_form.specs.Attributes.{Held, held, kept_attribute, Head, head_quote, head_right, head_at}
 use Rattle.xs_class.proofs.Truth.{both_true}
 use Rattle.xs_class.proofs.Lists.{some_inj}
+use Rattle.xs_class.specs.Words.{is_empty}
 
 -- what is read as parts of a value are parts
 bit_kept : (q : ℕ) (t : Bool) (b : Bit) (rest : List ℕ) (r : Bit × List ℕ) → is_bit q b ≡ t → bit_if t b rest ≡ Some r → is_bit q r.0 ≡ true

@@ -3,10 +3,11 @@ use Rattle.std.proofs.Common.{◌≡◌, ℕ, suc, ◌+◌, ◌*◌, ◌≤◌, 
 use Rattle.std.proofs.Math.Nat.{mul-le-mul_left}
 use Rattle.std.proofs.lemmas.Bool.Decides.{nat_tests}
 use Rattle.xs_xml.specs.Tables.{is_char, is_hex, is_digit}
-use Rattle.xs_xml.specs.Piece.{number, hex_value, when, all_of}
+use Rattle.xs_xml.specs.Piece.{number, when, all_of}
 use Rattle.xs_form.specs.declared.references.Base.{Base}
 use Rattle.xs_form.specs.declared.references.Base.TheVariants.{Decimal, Hexadecimal}
 use Rattle.xs_form.specs.Digits.{is_digit_of}
+use Rattle.xs_class.specs.Words.{hex_value}
 
 pub hex_low : (c : ℕ) → is_hex c ≡ true → 48 ≤ c
 unfolding is_hex

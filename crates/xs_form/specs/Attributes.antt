@@ -10,6 +10,7 @@ use Rattle.xs_xml.specs.Scan.{span, after, ◌>>=◌, attrs_at}
 use Rattle.xs_form.specs.Values.{all_written}
 use Rattle.xs_form.specs.declared.attributes.Attribute.{Attribute}
 use Rattle.xs_form.specs.declared.attributes.Head.{Head as CodeHead}
+use Rattle.xs_class.specs.Words.{is_empty}
 
 -- the name, the symbols of the value, and whether the value has no reference
 pub record Held : Type 0 where
@@ -35,10 +36,6 @@ Head = List ℕ × ℕ × List ℕ
 
 abbrev pub shown_head : CodeHead → Head
 shown_head h = (h.name.now, h.quote, h.rest.now)
-
-abbrev pub is_empty : List ℕ → Bool
-is_empty [] = true
-is_empty (c ∷ cs) = false
 
 abbrev pub head_quote : List ℕ → List ℕ → List ℕ × List ℕ → Option Head
 head_quote gap n (right, []) = None

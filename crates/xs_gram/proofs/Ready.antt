@@ -35,7 +35,7 @@ each_get P (y ∷ xs) zero x each is = subst P (some_is y x is) each.0
     some_is x y e = cc
 each_get P (y ∷ xs) (suc n) x each is = each_get P xs n x each.1 is
 
-each_map : {A B : Type 0} (f : A → B) (P : B → Type 0) (xs : List A) → EachOf P (map f xs) → EachOf (λ x. P (f x)) xs
+pub each_map : {A B : Type 0} (f : A → B) (P : B → Type 0) (xs : List A) → EachOf P (map f xs) → EachOf (λ x. P (f x)) xs
 each_map f P [] each = tt
 each_map f P (x ∷ xs) each = (each.0, each_map f P xs each.1)
 
@@ -43,7 +43,7 @@ each_both : {A : Type 0} (P Q R : A → Type 0) → ((x : A) → P x → Q x →
 each_both P Q R f [] p q = tt
 each_both P Q R f (x ∷ xs) p q = (f x p.0 q.0, each_both P Q R f xs p.1 q.1)
 
-each_weaker : {A : Type 0} (P Q : A → Type 0) → ((x : A) → P x → Q x) → (xs : List A) → EachOf P xs → EachOf Q xs
+pub each_weaker : {A : Type 0} (P Q : A → Type 0) → ((x : A) → P x → Q x) → (xs : List A) → EachOf P xs → EachOf Q xs
 each_weaker P Q f [] p = tt
 each_weaker P Q f (x ∷ xs) p = (f x p.0, each_weaker P Q f xs p.1)
 

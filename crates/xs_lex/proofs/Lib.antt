@@ -5,4 +5,4 @@ mod NameLaws
 pub mod BlankLaws
 pub mod TokenLaws
 pub mod Uniqueness
-mod Reached
+pub mod Reached

@@ -12,10 +12,11 @@ use Rattle.xs_lex.specs.declared.token.Token.{Token}
 use Rattle.xs_lex.specs.Spelling.{Spells}
 use Rattle.xs_lex.specs.Between.{IsApart}
 use Rattle.xs_lex.specs.Scan.{blank_end, token_at, front_at}
-use Rattle.xs_lex.specs.Reading.{IsTokenAt, NoToken, Lexeme, StandsAt, AreTokensFrom, AreTokens, IsSlice, size_of, line_ends, is_nothing, valid, after_mark, extent_of, lexeme_of}
+use Rattle.xs_lex.specs.Reading.{IsTokenAt, NoToken, Lexeme, StandsAt, AreTokensFrom, AreTokens, IsSlice, size_of, line_ends, valid, after_mark, extent_of, lexeme_of}
 use Rattle.xs_lex.proofs.BlankLaws.{after_blanks}
 use Rattle.xs_lex.proofs.TokenLaws.{longest_is}
 use Rattle.xs_class.proofs.Truth.{and_true, both_true}
+use Rattle.xs_class.specs.Words.{is_empty}
 
 pub size-append : (u v : List ℕ) → size_of (u ++ v) ≡ size_of u + size_of v
 size-append u v = ap length (encodes-append u v) ∙ length-append (encode_utf8_all u) (encode_utf8_all v)
@@ -164,7 +165,7 @@ reached_token bytes list at line rest gap text word after kind t r split apart c
     }
 
 -- the last token
-pub reached_last : (bytes : List ℕ) (list : List Token) (at line : ℕ) (rest gap text : List ℕ) (t : Token) → Reached bytes list at line rest → rest ≡ gap ++ text → IsApart rest text → NoToken text → IsToken bytes at line gap (if (utf8_valid_len bytes == length bytes) && is_nothing text then End else Bad) [] t → AreTokens bytes (map (lexeme_of bytes) (list ++ t ∷ [])) × All (IsSlice bytes) (list ++ t ∷ [])
+pub reached_last : (bytes : List ℕ) (list : List Token) (at line : ℕ) (rest gap text : List ℕ) (t : Token) → Reached bytes list at line rest → rest ≡ gap ++ text → IsApart rest text → NoToken text → IsToken bytes at line gap (if (utf8_valid_len bytes == length bytes) && is_empty text then End else Bad) [] t → AreTokens bytes (map (lexeme_of bytes) (list ++ t ∷ [])) × All (IsSlice bytes) (list ++ t ∷ [])
 reached_last bytes list at line rest gap text t r split apart none is =
     let bad : List ℕ = drop (utf8_valid_len bytes) bytes in
     let left_gap : drop (at + size_of gap) bytes ≡ encode_utf8_all text ++ bad = left_more bytes gap text bad at (r.left ∙ ap (λ (z : List ℕ). encode_utf8_all z ++ bad) split) in

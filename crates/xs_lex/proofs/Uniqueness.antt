@@ -49,7 +49,7 @@ one_token text k j v w r s a b =
       rest = sym (ap (λ (z : List ℕ). drop (length v) z) whole_a ∙ drop_at v r (length v) refl) ∙ ap (λ (z : List ℕ). drop (length v) z) whole_b ∙ drop_at w s (length v) (sym p.1);
     }
 
-abbrev After : Extent → List ℕ → Lexeme → List Lexeme → Type 0
+abbrev pub After : Extent → List ℕ → Lexeme → List Lexeme → Type 0
 After x rest t ts = ((ts ≡ []) × IsLast x t rest) ⊎ ((after : List ℕ) × IsTokenAt rest t.kind t.word after × AreTokensFrom x after ts)
 
 cons_same : (t u : Lexeme) (ts us : List Lexeme) → t ≡ u → ts ≡ us → (t ∷ ts) ≡ u ∷ us

@@ -7,6 +7,7 @@ use Rattle.xs_lex.specs.declared.kind.Kind.{Kind}
 use Rattle.xs_lex.specs.declared.kind.Kind.TheVariants.{End, Bad}
 use Rattle.xs_lex.specs.Spelling.{Spells}
 use Rattle.xs_lex.specs.Between.{IsApart}
+use Rattle.xs_class.specs.Words.{is_empty}
 
 -- the text is a token's word, then rest
 pub record BeginsWith (text : List ℕ) (kind : Kind) (word rest : List ℕ) : Type 0 where
@@ -43,10 +44,6 @@ abbrev pub line_ends : List ℕ → ℕ
 line_ends [] = 0
 line_ends (c ∷ cs) = if c == 10 then line_ends cs + 1 else line_ends cs
 
-abbrev pub is_nothing : List ℕ → Bool
-is_nothing [] = true
-is_nothing (c ∷ cs) = false
-
 -- the token stands where rest is what is left of the file
 pub record StandsAt (extent : Extent) (token : Lexeme) (rest : List ℕ) : Type 0 where
   pub start : token.start + size_of rest ≡ extent.size
@@ -55,7 +52,7 @@ pub record StandsAt (extent : Extent) (token : Lexeme) (rest : List ℕ) : Type 
 -- at the end of the file, or where no token, white space or comment can be read
 pub record IsLast (extent : Extent) (token : Lexeme) (rest : List ℕ) : Type 0 where
   pub none : NoToken rest
-  pub kind : token.kind ≡ (if extent.whole && is_nothing rest then End else Bad)
+  pub kind : token.kind ≡ (if extent.whole && is_empty rest then End else Bad)
   pub word : token.word ≡ []
 
 -- the tokens of what is left of a file, each after what may stand between tokens

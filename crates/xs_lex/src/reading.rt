@@ -2,9 +2,10 @@ ghost use Rattle.std.specs.Prelude.{◌≡◌, ◌≤◌, ◌==◌, ◌&&◌, �
 ghost use Rattle.std.specs.Str.{IsUtf8, chars};
 ghost use Rattle.std.specs.Str.Lossy.{utf8_valid_len};
 ghost use Rattle.xs_lex.specs.Between.{IsApart};
-ghost use Rattle.xs_lex.specs.Reading.{Lexeme, IsTokenAt, NoToken, AreTokens, IsSlice, is_nothing, lexeme_of, valid};
+ghost use Rattle.xs_lex.specs.Reading.{Lexeme, IsTokenAt, NoToken, AreTokens, IsSlice, lexeme_of, valid};
 ghost use Rattle.xs_lex.specs.Laws.{Separated};
 ghost use Rattle.xs_lex.specs.Scan.{front_at};
+ghost use Rattle.xs_class.specs.Words.{is_empty};
 
 use crate::blanks::blanks;
 use crate::location::Location;
@@ -81,7 +82,7 @@ fn split_token(text: &[char]) -> Option<Cut<'_>>
 
 /// The kind of the last token, where nothing more can be read.
 fn last_kind(whole: bool, text: &[char]) -> Kind
-    ensures { result ≡ (if whole && is_nothing text.now then Kind.End else Kind.Bad) }
+    ensures { result ≡ (if whole && is_empty text.now then Kind.End else Kind.Bad) }
 {
     if whole {
         if let [] = text {

@@ -16,6 +16,7 @@ use Rattle.xs_order.specs.Wanted.{IsWanted, AreWith}
 use Rattle.xs_order.proofs.Deriving.{AllLeaves, flags_are_exact}
 use Rattle.xs_order.proofs.Good.{are_good}
 use Rattle.xs_class.proofs.Lists.{not_empty, front_empty, rest_empty}
+use Rattle.xs_regex.proofs.Runs.{no_run}
 
 both_empty : (u v : List ℕ) → u ≡ [] → v ≡ [] → u ++ v ≡ []
 both_empty u v e f = rw (e, f) refl
@@ -33,10 +34,6 @@ leaves_empty (fixed u ps) e = (front_empty u (parts_yield ps) e, leaves_empty ps
 leaves_empty (leaf u ps) e = (front_empty u (parts_yield ps) e, leaves_empty ps (rest_empty u (parts_yield ps) e))
 leaves_empty (skip u ps) e = (front_empty u (parts_yield ps) e, leaves_empty ps (rest_empty u (parts_yield ps) e))
 leaves_empty (sub q qs ps) e = (leaves_empty qs (front_empty (parts_yield qs) (parts_yield ps) e), leaves_empty ps (rest_empty (parts_yield qs) (parts_yield ps) e))
-
-no_run : (a : Position) (u : List ℕ) (k : ℕ) → u ≡ [] → Runs a u k → ⊥
-no_run a _ _ e (begins s f c is) = not_empty [] s (sym e ∙ is)
-no_run a _ _ e (goes v j s run l c is) = not_empty v s (sym e ∙ is)
 
 -- an automaton accepts the empty word exactly where it is nullable
 pub accepts_empty : (a : Position) → IsTrue a.nullable ↔ Accepts a []

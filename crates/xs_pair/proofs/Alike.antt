@@ -30,7 +30,7 @@ past_end [] i d le = refl
 past_end (x ∷ xs) zero d le = absurd (omega arith)
 past_end (x ∷ xs) (suc i) d le = past_end xs i d (omega arith)
 
-at_map : {A B : Type 0} (f : A → B) (xs : List A) (p : ℕ) (d : B) → p < length xs → (x : A) × (slice_get xs p ≡ Some x) × (get_or (map f xs) p d ≡ f x)
+pub at_map : {A B : Type 0} (f : A → B) (xs : List A) (p : ℕ) (d : B) → p < length xs → (x : A) × (slice_get xs p ≡ Some x) × (get_or (map f xs) p d ≡ f x)
 at_map f [] p d lt = absurd (omega arith)
 at_map f (x ∷ xs) zero d lt = (x, refl, refl)
 at_map f (x ∷ xs) (suc p) d lt = at_map f xs p d (omega arith)
@@ -85,7 +85,7 @@ term_words (V.Terminal name pattern regex line ∷ us) (r ∷ rs) (q ∷ qs) one
 term_words (V.Ignorable name pattern regex normal line ∷ us) rs qs one two t d w m = term_words us rs qs one two t d w m
 term_words (V.Production name left right line ∷ us) rs qs one two t d w m = term_words us rs qs one two t d w m
 
-regex_at : (ts : List Terminal) (t : ℕ) → get_or (map (λ (x : Terminal). x.regex) ts) t no_terminal.regex ≡ (get_or ts t no_terminal).regex
+pub regex_at : (ts : List Terminal) (t : ℕ) → get_or (map (λ (x : Terminal). x.regex) ts) t no_terminal.regex ≡ (get_or ts t no_terminal).regex
 regex_at [] t = refl
 regex_at (x ∷ ts) zero = refl
 regex_at (x ∷ ts) (suc t) = regex_at ts t

@@ -6,7 +6,7 @@ use Rattle.std.proofs.lemmas.Str.{length-le-encodes, utf8_valid_len_le}
 use Rattle.xs_lex.specs.declared.kind.Kind.{Kind}
 use Rattle.xs_lex.specs.declared.kind.Kind.TheVariants.{Plain, Qual, Quoted, Pattern, Colon, Equals, SquareIn, SquareOut, Angle, AngleSlash, AngleEnd, SlashEnd, End, Bad}
 use Rattle.xs_lex.specs.Between.{Blank, white, comment, spelt_blanks, IsApart}
-use Rattle.xs_lex.specs.Reading.{Lexeme, Extent, AreTokensFrom, AreTokens, extent_of, is_nothing, IsLast, IsTokenAt}
+use Rattle.xs_lex.specs.Reading.{Lexeme, Extent, AreTokensFrom, AreTokens, extent_of, IsLast, IsTokenAt}
 use Rattle.xs_lex.specs.Spelling.{Spells, IsQuoted}
 use Rattle.xs_lex.specs.Units.{QuotedUnit, plain, escaped, coded, spelt_quoted, meaning}
 use Rattle.xs_lex.specs.Classes.{is_plain}
@@ -19,6 +19,7 @@ use Rattle.xs_sheet.specs.Outline.{Content, nothing, item, element, UnitOutline,
 use Rattle.xs_sheet.specs.Pieces.{IsPiece, ArePieces, IsTextOf}
 use Rattle.xs_sheet.specs.Grammar.{ReadsItem, ReadsItems, ReadsAttr, ReadsAttrs, ReadsSign, ReadsClosing, ReadsContent, ReadsUnit, ReadsUnits, IsSheetOf}
 use Rattle.xs_pair.specs.Weights.{item_weight}
+use Rattle.xs_class.specs.Words.{is_empty}
 
 -- what a token of this kind with this text weighs
 abbrev pub heavy_as : Kind → List ℕ → ℕ
@@ -90,7 +91,7 @@ apart_long text rest a = omega (arith, ap length a.is, blanks_long a.blanks rest
 
 -- the tokens of a text weigh no more than the text is long
 last_light : (x : Extent) (t : Lexeme) (p : Piece) (rest : List ℕ) → IsLast x t rest → IsPiece t p → heavy p ≡ 0
-last_light x t p rest last is = by_kind (or_end (x.whole && is_nothing rest) last.kind) is.kind
+last_light x t p rest last is = by_kind (or_end (x.whole && is_empty rest) last.kind) is.kind
   where
     or_end : (b : Bool) → t.kind ≡ (if b then End else Bad) → (t.kind ≡ End) ⊎ (t.kind ≡ Bad)
     or_end true e = inl e

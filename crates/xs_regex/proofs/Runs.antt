@@ -5,6 +5,7 @@ use Rattle.std.specs.List.{Contains}
 use Rattle.xs_class.specs.Classes.{Has}
 use Rattle.xs_regex.specs.declared.position.Position.{Position}
 use Rattle.xs_regex.specs.Automaton.{HasAt, Leads, Runs, begins, goes, GoesOn, stays, steps, ClassesHaveMembers}
+use Rattle.xs_class.proofs.Lists.{not_empty}
 use Rattle.xs_regex.proofs.Rows.{at_split, at_within}
 
 -- the steps of one automaton are those of another, at other positions
@@ -74,3 +75,8 @@ members_left p q r e m k l = let h = m k (omega (arith, both_lengths p q r e)) i
 
 pub members_right : (p q r : Position) → r.classes ≡ p.classes ++ q.classes → ClassesHaveMembers r → ClassesHaveMembers q
 members_right p q r e m k l = let h = m (length p.classes + k) (omega (arith, both_lengths p q r e)) in (h.0, has_right p q r e (length p.classes + k) k h.0 refl h.1)
+
+-- an automaton goes by no empty word
+pub no_run : (a : Position) (u : List ℕ) (k : ℕ) → u ≡ [] → Runs a u k → ⊥
+no_run a _ _ e (begins s f c is) = not_empty [] s (sym e ∙ is)
+no_run a _ _ e (goes v j s run l c is) = not_empty v s (sym e ∙ is)

@@ -3,6 +3,7 @@ use Rattle.std.specs.Prelude.{ℕ, zero, suc, ◌+◌, ◌-◌, ◌*◌, Bool, n
 use Rattle.std.specs.declared.option.Option.{Option}
 use Rattle.std.specs.Option.{is_some}
 use Rattle.xs_class.specs.Named.{set_named}
+use Rattle.xs_class.specs.Words.{hex_value}
 
 -- a range of characters, or the set that a name stands for
 pub data Item : Type 0 where
@@ -31,10 +32,6 @@ is_digit c = nat_le 48 c && nat_le c 57
 
 abbrev pub is_hex : ℕ → Bool
 is_hex c = is_digit c || (nat_le 65 c && nat_le c 70) || (nat_le 97 c && nat_le c 102)
-
--- the value of a hexadecimal digit
-abbrev pub hex_value : ℕ → ℕ
-hex_value c = if nat_le c 57 then c - 48 else (if nat_le c 70 then c - 55 else c - 87)
 
 -- a Unicode scalar value
 abbrev pub is_scalar : ℕ → Bool

@@ -12,11 +12,12 @@ use Rattle.xs_sheet.specs.Pieces.{same}
 use Rattle.xs_sheet.specs.Grammar.{IsWord, IsUnitName, IsName, IsString, IsRegular, ReadsItem, ReadsItems, ReadsAttrs, ReadsClosing, ReadsSign, ReadsContent, ReadsUnit, ReadsUnits, ReadsSheet}
 use Rattle.xs_sheet.specs.Machine.{is_kind, is_word, is_unit_name, is_name, Head, with_unit, Draft, Opened, Inside, Site, left_side, inside, value, put, puts, State, begin, versioned, started, units, named, equals, regular, normal, colon, at, square, square_name, square_slot, angle, attrs, attr_equals, closing, closed, Transition, go, finish, go_if, outline_at, between, in_tag, with_attr, with_empty, with_open, with_production, step, done, follow, run}
 use Rattle.xs_sheet.proofs.KindLaws.{kind_here, same_self, same_here}
+use Rattle.xs_class.proofs.Truth.{lt_true, or_false}
 
 pub run_go : (s t : State) (p : Piece) (rest : List Piece) → step s p ≡ go t → run s (p ∷ rest) ≡ run t rest
 run_go s t p rest is = ap (λ (z : Transition). follow z p (λ u. run u rest) rest) is
 
-with_kind : Piece → Kind → Piece
+pub with_kind : Piece → Kind → Piece
 with_kind p k = record { kind = k; text = p.text; regular = p.regular; start = p.start; line = p.line }
 
 -- a step at a piece of a known kind
@@ -128,10 +129,6 @@ attrs_complete (a ∷ as_) ps rest s c tag before here r =
     let more = attrs_complete as_ r.0 rest (at (value c tag before a.name a.value)) c tag (with_attr before a.name a.value) (value_in_tag c tag before a.name a.value one.some) r.2 in
     (more.0, named ∙ opened ∙ valued ∙ more.1, subst (λ (z : List Attr). IsInTag more.0 c tag z) (append_assoc before (a ∷ []) as_) more.2)
 
--- content
-lt_true : (a b : ℕ) → a < b → nat_lt a b ≡ true
-lt_true a b h = grind (arith, nat_tests)
-
 angle_step : (c : Inside) (p : Piece) → p.kind ≡ Angle → length c.opens < 64 → step (at (inside c)) p ≡ go (angle c)
 unfolding is_kind with_kind
 angle_step c p is low = at_kind (at (inside c)) p Angle (go (angle c)) is (rw (lt_true (length c.opens) 64 low) refl)
@@ -223,10 +220,6 @@ terminal_word h p w = between_at h p (go (named h true p.line)) w.plain (rw w.wo
 ignorable_word : (h : Head) (p : Piece) → IsWord p (codes "ignorable") → between h p ≡ go (named h false p.line)
 unfolding is_kind with_kind
 ignorable_word h p w = between_at h p (go (named h false p.line)) w.plain (rw w.word_is refl)
-
-or_false : (a b : Bool) → (a || b) ≡ false → (a ≡ false) × (b ≡ false)
-or_false true b is = absurd (cc)
-or_false false b is = (refl, is)
 
 production_word : (h : Head) (p : Piece) (name : List ℕ) → IsUnitName p name → between h p ≡ go (colon h name p.line)
 unfolding is_kind with_kind

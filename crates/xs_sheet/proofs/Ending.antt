@@ -9,23 +9,21 @@ use Rattle.xs_sheet.specs.Pieces.{same}
 use Rattle.xs_sheet.specs.Machine.{is_kind, is_word, is_unit_name, is_name, is_regular, Head, with_unit, Opened, Inside, Site, left_side, inside, value, put, State, begin, versioned, started, units, named, equals, regular, normal, colon, at, square, square_name, square_slot, angle, attrs, attr_equals, closing, closed, Transition, go, finish, refuse, go_if, outline_at, between, after_pattern, closes, leaves, leave, with_attr, with_production, step, done, unfinished, follow, run}
 use Rattle.xs_sheet.proofs.Pieced.{IsEnding}
 use Rattle.xs_sheet.proofs.Whole.{done_inj, go_if_no, if_no, in_tag_no, closes_no}
-
-abbrev as_kind : Piece → Kind → Piece
-as_kind p k = record { kind = k; text = p.text; regular = p.regular; start = p.start; line = p.line }
+use Rattle.xs_sheet.proofs.Complete.{with_kind}
 
 -- the kind of a last piece: that of the end, or that of a bad token
 abbrev last_kind : Bool → Kind
 last_kind true = End
 last_kind false = Bad
 
-opens_stop : (c : Inside) (os : List Opened) (p : Piece) (b : Bool) (t : State) → leaves c os (as_kind p (last_kind b)) ≡ go t → ⊥
+opens_stop : (c : Inside) (os : List Opened) (p : Piece) (b : Bool) (t : State) → leaves c os (with_kind p (last_kind b)) ≡ go t → ⊥
 unfolding is_kind
 opens_stop c [] p true t e = cc
 opens_stop c [] p false t e = cc
 opens_stop c (o ∷ os) p b t e = cc
 
 abbrev Stops : State → Piece → State → Bool → Type 0
-Stops s p t b = step s (as_kind p (last_kind b)) ≡ go t → ⊥
+Stops s p t b = step s (with_kind p (last_kind b)) ≡ go t → ⊥
 
 both : (Q : Bool → Type 0) → Q true → Q false → (b : Bool) → Q b
 both Q one other true = one
@@ -56,8 +54,8 @@ stops (closing d o os inner) p t b = both (Stops (closing d o os inner) p t) (λ
 stops (closed d o os inner) p t b = both (Stops (closed d o os inner) p t) (λ e. cc) (λ e. cc) b
 
 last_stops : (s : State) (p : Piece) (t : State) → (p.kind ≡ End) ⊎ (p.kind ≡ Bad) → step s p ≡ go t → ⊥
-last_stops s p t (inl k) e = stops s p t true (subst (λ (z : Kind). step s (as_kind p z) ≡ go t) k e)
-last_stops s p t (inr k) e = stops s p t false (subst (λ (z : Kind). step s (as_kind p z) ≡ go t) k e)
+last_stops s p t (inl k) e = stops s p t true (subst (λ (z : Kind). step s (with_kind p z) ≡ go t) k e)
+last_stops s p t (inr k) e = stops s p t false (subst (λ (z : Kind). step s (with_kind p z) ≡ go t) k e)
 
 -- only the end of a file finishes
 between_ends : (h : Head) (p : Piece) (o : Outline) → between h p ≡ finish o → is_kind p.kind End ≡ true

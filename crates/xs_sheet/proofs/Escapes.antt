@@ -11,10 +11,8 @@ use Rattle.xs_lex.specs.Units.{QuotedUnit, plain, coded, number, is_hex, is_scal
 use Rattle.xs_lex.specs.Spelling.{IsQuoted}
 use Rattle.xs_sheet.specs.Layout.{hex_digits, escape_sign, is_control, unit_of, quoted}
 use Rattle.xs_sheet.proofs.Strings.{control_low}
-use Rattle.xs_class.proofs.Truth.{and_true, both_true}
-
-lt_true : (a b : ℕ) → a < b → nat_lt a b ≡ true
-lt_true a b h = grind (arith, nat_tests)
+use Rattle.xs_class.proofs.Truth.{and_true, both_true, lt_true}
+use Rattle.xs_lex.proofs.Reached.{line_ends-append}
 
 -- the digits of a number
 record IsHex (n : ℕ) (ds : List ℕ) : Type 0 where
@@ -67,14 +65,6 @@ record StandsFor (c : ℕ) (u : QuotedUnit) : Type 0 where
   means : meaning u ≡ c
   one_line : (rest : List ℕ) → line_ends (spelt_quoted_unit u rest) ≡ line_ends rest
   scalars : scalar c ≡ true → (rest : List ℕ) → all_scalars rest ≡ true → all_scalars (spelt_quoted_unit u rest) ≡ true
-
-pub line_ends-append : (u v : List ℕ) → line_ends (u ++ v) ≡ line_ends u + line_ends v
-line_ends-append [] v = omega arith
-line_ends-append (c ∷ cs) v = ap (λ (n : ℕ). if c == 10 then n + 1 else n) (line_ends-append cs v) ∙ by (c == 10)
-  where
-    by : (t : Bool) → (if t then line_ends cs + line_ends v + 1 else line_ends cs + line_ends v) ≡ (if t then line_ends cs + 1 else line_ends cs) + line_ends v
-    by true = omega arith
-    by false = refl
 
 pub scalars-append : (u v : List ℕ) → all_scalars u ≡ true → all_scalars v ≡ true → all_scalars (u ++ v) ≡ true
 scalars-append [] v a b = b

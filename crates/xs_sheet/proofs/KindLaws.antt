@@ -10,6 +10,7 @@ use Rattle.xs_lex.specs.declared.kind.Kind.{Kind}
 use Rattle.xs_lex.specs.declared.kind.Kind.TheVariants.{Plain, Qual, Quoted, Pattern, Colon, Equals, SquareIn, SquareOut, Angle, AngleSlash, AngleEnd, SlashEnd, End, Bad}
 use Rattle.xs_sheet.specs.Machine.{kind_number, is_kind}
 use Rattle.xs_sheet.specs.Pieces.{same}
+use Rattle.xs_class.proofs.Truth.{and_true, lt_is}
 
 of_number : ℕ → Kind
 of_number zero = Plain
@@ -72,11 +73,6 @@ kind_here j k is = ap (λ (z : Kind). is_kind z k) is ∙ kind_self k
 pub kind_other : (j k l : Kind) → j ≡ k → is_kind k l ≡ false → is_kind j l ≡ false
 kind_other j k l is differs = ap (λ (z : Kind). is_kind z l) is ∙ differs
 
--- texts
-and_true : (a b : Bool) → (a && b) ≡ true → (a ≡ true) × (b ≡ true)
-and_true true b is = (refl, is)
-and_true false b is = absurd (cc)
-
 pub same_is : (xs ys : List ℕ) → same xs ys ≡ true → xs ≡ ys
 same_is [] [] is = refl
 same_is [] (y ∷ ys) is = absurd (cc)
@@ -122,9 +118,6 @@ tested false true text bytes a b p q e f g h =
 -- texts are the same where their bytes are
 pub text_test : (text bytes a b : List ℕ) → text ≡ encode_utf8_all a → bytes ≡ encode_utf8_all b → chars text ≡ a → chars bytes ≡ b → pointwise nat_eq text bytes ≡ same a b
 text_test text bytes a b e f g h = tested (pointwise nat_eq text bytes) (same a b) text bytes a b refl refl e f g h
-
-lt_is : (a b : ℕ) → nat_lt a b ≡ true → a < b
-lt_is a b is = grind (arith, nat_tests)
 
 all_ascii : (bs : List ℕ) → list_all (λ b. nat_lt b 128) bs ≡ true → IsAscii bs
 all_ascii [] is k = omega arith

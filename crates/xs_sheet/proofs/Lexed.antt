@@ -17,9 +17,10 @@ use Rattle.xs_lex.proofs.TokenLaws.{nothing_is, separated}
 use Rattle.xs_regex.specs.declared.regex.Regex.{Regex}
 use Rattle.xs_sheet.specs.Regular.{IsRegex}
 use Rattle.xs_sheet.specs.Layout.{sign_spelling, Written, as_is, in_quotes, in_slashes, sign, spelling, spaced, lines_text}
-use Rattle.xs_sheet.proofs.Escapes.{line_ends-append, scalars-append, quoted_is, quoted_one_line, quoted_scalars}
+use Rattle.xs_sheet.proofs.Escapes.{scalars-append, quoted_is, quoted_one_line, quoted_scalars}
 use Rattle.xs_class.proofs.Truth.{and_true, both_true, not_true, no_other}
 use Rattle.xs_class.specs.Tables.{is_name_start}
+use Rattle.xs_lex.proofs.Reached.{size-append, line_ends-append}
 
 abbrev pub kind_if : Bool → Kind
 kind_if true = Plain
@@ -232,9 +233,6 @@ white_low c is = by (c == 32) (c == 9) (c == 13) (c == 10) refl refl refl refl i
     by false false true t4 e1 e2 e3 e4 h = let e = eqb-true c 13 e3 in omega arith
     by false false false true e1 e2 e3 e4 h = let e = eqb-true c 10 e4 in omega arith
     by false false false false e1 e2 e3 e4 h = absurd (cc)
-
-size-append : (u v : List ℕ) → size_of (u ++ v) ≡ size_of u + size_of v
-size-append u v = ap length (encodes-append u v) ∙ length-append (encode_utf8_all u) (encode_utf8_all v)
 
 size_cons : (c : ℕ) (rest : List ℕ) → c < 128 → size_of (c ∷ rest) ≡ 1 + size_of rest
 size_cons c rest low = ap (λ (z : List ℕ). length (z ++ encode_utf8_all rest)) (encode_ascii c low) ∙ omega arith

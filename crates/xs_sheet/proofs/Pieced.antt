@@ -10,7 +10,7 @@ use Rattle.xs_lex.specs.declared.token.Token.{Token}
 use Rattle.xs_lex.specs.declared.quoted.Spot.TheVariants.{Between}
 use Rattle.xs_lex.specs.Spelling.{IsQuoted, IsPattern, Spells}
 use Rattle.xs_lex.specs.Scan.{value_at}
-use Rattle.xs_lex.specs.Reading.{Lexeme, Extent, IsLast, IsTokenAt, AreTokensFrom, is_nothing, lexeme_of}
+use Rattle.xs_lex.specs.Reading.{Lexeme, Extent, IsLast, IsTokenAt, AreTokensFrom, lexeme_of}
 use Rattle.xs_lex.proofs.QuotedLaws.{value_read}
 use Rattle.xs_regex.specs.declared.regex.Regex.{Regex}
 use Rattle.xs_sheet.specs.declared.piece.Piece.{Piece}
@@ -18,10 +18,8 @@ use Rattle.xs_sheet.specs.Regular.{IsRegex}
 use Rattle.xs_sheet.specs.Pieces.{IsTextOf, IsSpelt, IsPiece, ArePieces}
 use Rattle.xs_sheet.specs.Machine.{is_kind}
 use Rattle.xs_sheet.proofs.KindLaws.{kind_is}
-
-pub if_ok : {T E : Type 0} (r : Result T E) (P Q : T → Type 0) → ((x : T) → P x → Q x) → IfOk r P → IfOk r Q
-if_ok (Ok x) P Q f h = f x h
-if_ok (Err e) P Q f h = h
+use Rattle.xs_lex.proofs.Uniqueness.{After}
+use Rattle.xs_class.specs.Words.{is_empty}
 
 pub letter_some : (letters word : List ℕ) → letters ≡ word → Spells Pattern word → 1 ≤ length letters
 letter_some letters word same s = rw (same ∙ s.1.is) (omega arith)
@@ -130,11 +128,8 @@ last_spelt : (kind : Kind) (word : List ℕ) → (kind ≡ End) ⊎ (kind ≡ Ba
 last_spelt kind word (inl e) = subst (λ (z : Kind). IsSpelt z word) (sym e) tt
 last_spelt kind word (inr e) = subst (λ (z : Kind). IsSpelt z word) (sym e) tt
 
-abbrev After : Extent → List ℕ → Lexeme → List Lexeme → Type 0
-After x rest t ts = ((ts ≡ []) × IsLast x t rest) ⊎ ((after : List ℕ) × IsTokenAt rest t.kind t.word after × AreTokensFrom x after ts)
-
 first_spelt : (x : Extent) (rest : List ℕ) (t : Lexeme) (ts : List Lexeme) → After x rest t ts → IsSpelt t.kind t.word
-first_spelt x rest t ts (inl e) = last_spelt t.kind t.word (last_kind (x.whole && is_nothing rest) t.kind e.1.kind)
+first_spelt x rest t ts (inl e) = last_spelt t.kind t.word (last_kind (x.whole && is_empty rest) t.kind e.1.kind)
 first_spelt x rest t ts (inr e) = spells_spelt t.kind t.word e.1.begins.spells
 
 none_low : (bytes : List ℕ) (ts : List Token) (k : ℕ) → map (lexeme_of bytes) ts ≡ [] → k < length ts → ⊥
@@ -181,7 +176,7 @@ tokens_end x text (l ∷ ls) [] a p = absurd p
 tokens_end x text (l ∷ ls) (q ∷ []) a p = by a.3
   where
     by : After x a.0 l ls → (q.kind ≡ End) ⊎ (q.kind ≡ Bad)
-    by (inl e) = last_moved q.kind l.kind p.0.kind (last_kind (x.whole && is_nothing a.0) l.kind e.1.kind)
+    by (inl e) = last_moved q.kind l.kind p.0.kind (last_kind (x.whole && is_empty a.0) l.kind e.1.kind)
     by (inr e) = absurd (some_left x e.0 ls e.2 p.1)
 tokens_end x text (l ∷ ls) (q ∷ r ∷ rs) a p = by a.3 (λ after more. tokens_end x after ls (r ∷ rs) more p.1)
   where

@@ -20,6 +20,7 @@ use Rattle.xs_sheet.specs.Layout.{Written, as_is, in_quotes, in_slashes, sign, s
 use Rattle.xs_sheet.proofs.Escapes.{quoted_is}
 use Rattle.xs_sheet.proofs.Lexed.{kind_if, kind_of, text_of, IsSign, slashed, IsGood, AreGood, good-append, lexeme, lexemes, lines_lexemes, AreLines}
 use Rattle.xs_sheet.proofs.Sources.{IsGoodPiece, GoodPieces}
+use Rattle.xs_class.proofs.Truth.{false_true}
 
 -- the pieces of words
 abbrev pub is_slashed : Written → Bool
@@ -47,9 +48,6 @@ name_no_pattern : (t : Bool) → kind_if t ≡ Pattern → ⊥
 name_no_pattern true e = cc
 name_no_pattern false e = cc
 
-not_so : false ≡ true → ⊥
-not_so e = cc
-
 so_not : true ≡ false → ⊥
 so_not e = cc
 
@@ -74,17 +72,17 @@ sign_text k g = by k g
     by _ g = absurd g
 
 pub piece_is : (w : Written) (at line : ℕ) → IsGood w → IsPiece (lexeme w at line) (piece w at line)
-piece_is (as_is w) at line g = record { kind = refl; text = name_text (is_plain w) w; regular = λ e. absurd (not_so e); irregular = λ e k r is. name_no_pattern (is_plain w) k; start = refl; line = refl }
-piece_is (in_quotes text) at line g = record { kind = refl; text = quoted_is text; regular = λ e. absurd (not_so e); irregular = λ e k r is. no_quoted k; start = refl; line = refl }
+piece_is (as_is w) at line g = record { kind = refl; text = name_text (is_plain w) w; regular = λ e. absurd (false_true e); irregular = λ e k r is. name_no_pattern (is_plain w) k; start = refl; line = refl }
+piece_is (in_quotes text) at line g = record { kind = refl; text = quoted_is text; regular = λ e. absurd (false_true e); irregular = λ e k r is. no_quoted k; start = refl; line = refl }
 piece_is (in_slashes inner) at line g = record { kind = refl; text = g.0; regular = λ e. (refl, g.1.0, g.1.1); irregular = λ e k r is. so_not e; start = refl; line = refl }
-piece_is (sign kind) at line g = record { kind = refl; text = sign_text kind g; regular = λ e. absurd (not_so e); irregular = λ e k r is. subst (λ (z : Kind). IsSign z) k g; start = refl; line = refl }
+piece_is (sign kind) at line g = record { kind = refl; text = sign_text kind g; regular = λ e. absurd (false_true e); irregular = λ e k r is. subst (λ (z : Kind). IsSign z) k g; start = refl; line = refl }
 
 words_are_pieces : (ws : List Written) (at line : ℕ) (ts : List Lexeme) (ps : List Piece) → AreGood ws → ArePieces ts ps → ArePieces (lexemes at line ws ++ ts) (pieces_at at line ws ++ ps)
 words_are_pieces [] at line ts ps good are = are
 words_are_pieces (w ∷ ws) at line ts ps good are = (piece_is w (at + 1) line good.0, words_are_pieces ws (at + 1 + size_of (spelling w)) line ts ps good.1 are)
 
 pub lines_are_pieces : (ls : List (List Written)) (at line : ℕ) → AreLines ls → ArePieces (lines_lexemes at line ls) (lines_pieces at line ls)
-lines_are_pieces [] at line good = (record { kind = refl; text = refl; regular = λ e. absurd (not_so e); irregular = λ e k r is. no_end k; start = refl; line = refl }, tt)
+lines_are_pieces [] at line good = (record { kind = refl; text = refl; regular = λ e. absurd (false_true e); irregular = λ e k r is. no_end k; start = refl; line = refl }, tt)
 lines_are_pieces ([] ∷ ls) at line good = absurd good
 lines_are_pieces ((w ∷ ws) ∷ ls) at line good = words_are_pieces (w ∷ ws) at (line + 1) _ _ good.0 (lines_are_pieces ls (at + size_of (spaced (w ∷ ws))) (line + 1) good.1)
 

@@ -11,6 +11,7 @@ use Rattle.xs_sheet.specs.Pieces.{same, is_reserved}
 use Rattle.xs_sheet.specs.Grammar.{IsWord, IsUnitName, IsName, IsRegular, ReadsItem, ReadsItems, ReadsAttr, ReadsAttrs, ReadsOpening, ReadsSign, ReadsContent, ReadsUnit, ReadsUnits}
 use Rattle.xs_sheet.specs.Machine.{is_kind, is_word, is_unit_name, is_name, is_regular, Head, with_unit, Draft, Opened, Inside, Site, left_side, inside, value, put, State, begin, versioned, started, units, named, equals, regular, normal, colon, at, square, square_name, square_slot, angle, attrs, attr_equals, closing, closed, go, finish, go_if, outline_at, between, after_pattern, closes, leaves, leave, in_tag, with_attr, with_empty, with_open, with_production, step}
 use Rattle.xs_sheet.proofs.KindLaws.{kind_is, same_is}
+use Rattle.xs_class.proofs.Truth.{and_true, not_true}
 
 -- pieces read so far, up to the rest
 pub record AtHead (whole : List Piece) (h : Head) (rest : List Piece) : Type 0 where
@@ -113,14 +114,6 @@ go_inj s u e = cc
 if_go : (t : Bool) (s u : State) → go_if t s ≡ go u → (t ≡ true) × (s ≡ u)
 if_go true s u is = (refl, go_inj s u is)
 if_go false s u is = absurd (cc)
-
-and_true : (a b : Bool) → (a && b) ≡ true → (a ≡ true) × (b ≡ true)
-and_true true b is = (refl, is)
-and_true false b is = absurd (cc)
-
-not_true : (a : Bool) → not a ≡ true → a ≡ false
-not_true true is = absurd (cc)
-not_true false is = refl
 
 or_true : (a b : Bool) → (a || b) ≡ true → (a ≡ true) ⊎ (b ≡ true)
 or_true true b is = inl refl

@@ -10,7 +10,7 @@ use Rattle.xs_lex.specs.Classes.{is_plain}
 use Rattle.xs_lex.specs.Between.{IsApart}
 use Rattle.xs_lex.specs.Units.{QuotedUnit, plain, escaped, coded, number, is_hex, is_escape, escape_char, is_quoted_unit, spelt_quoted, meaning}
 use Rattle.xs_lex.specs.Spelling.{IsQual, IsQuoted, IsPattern, Spells}
-use Rattle.xs_lex.specs.Reading.{IsTokenAt, Lexeme, Extent, IsLast, AreTokensFrom, is_nothing}
+use Rattle.xs_lex.specs.Reading.{IsTokenAt, Lexeme, Extent, IsLast, AreTokensFrom}
 use Rattle.xs_lex.proofs.BlankLaws.{blanks_front}
 use Rattle.xs_regex.specs.declared.regex.Regex.{Regex}
 use Rattle.xs_sheet.specs.declared.piece.Piece.{Piece}
@@ -18,13 +18,8 @@ use Rattle.xs_sheet.specs.Regular.{IsRegex}
 use Rattle.xs_sheet.specs.Pieces.{IsTextOf, IsPiece, ArePieces}
 use Rattle.xs_sheet.proofs.Lexed.{slashed}
 use Rattle.xs_class.proofs.Truth.{and_true, both_true}
-
-pub scalars_parts : (u v : List ℕ) → all_scalars (u ++ v) ≡ true → (all_scalars u ≡ true) × (all_scalars v ≡ true)
-scalars_parts [] v is = (refl, is)
-scalars_parts (c ∷ cs) v is =
-    let p = and_true (scalar c) (all_scalars (cs ++ v)) is in
-    let q = scalars_parts cs v p.1 in
-    (both_true (scalar c) (all_scalars cs) p.0 q.0, q.1)
+use Rattle.xs_lex.proofs.Reached.{scalars_parts}
+use Rattle.xs_class.specs.Words.{is_empty}
 
 escape_scalar : (c : ℕ) → is_escape c ≡ true → scalar (escape_char c) ≡ true
 escape_scalar c is = by (c == 34) (c == 92) (c == 110) (c == 116) (c == 114) refl refl refl refl refl is
@@ -152,7 +147,7 @@ tokens_good x text (t ∷ ts) (p ∷ ps) s are pieces = by (λ after left more. 
     left = rest_scalars text rest are.1 s
 
     by : ((after : List ℕ) → all_scalars after ≡ true → AreTokensFrom x after ts → GoodPieces ps) → ((ts ≡ []) × IsLast x t rest) ⊎ ((after : List ℕ) × IsTokenAt rest t.kind t.word after × AreTokensFrom x after ts) → IsGoodPiece p × GoodPieces ps
-    by again (inl l) = (last_good t p (x.whole && is_nothing rest) pieces.0 l.1.kind l.1.word, none_good ts ps l.0 pieces.1)
+    by again (inl l) = (last_good t p (x.whole && is_empty rest) pieces.0 l.1.kind l.1.word, none_good ts ps l.0 pieces.1)
     by again (inr more) =
         let parts = scalars_parts t.word more.0 (subst (λ (z : List ℕ). all_scalars z ≡ true) more.1.begins.is left) in
         (piece_good t p pieces.0 more.1.begins.spells parts.0, again more.0 parts.1 more.2)

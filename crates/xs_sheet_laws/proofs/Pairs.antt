@@ -27,6 +27,7 @@ use Rattle.xs_sheet_laws.specs.Sheets.{AllAlike, AreAlike}
 use Rattle.xs_sheet_laws.specs.Laws.{OnePair}
 use Rattle.xs_sheet_laws.proofs.Twins.{names_same, rules_same}
 use Rattle.xs_sheet_laws.proofs.Sheets.{regexes_alike}
+use Rattle.xs_pair.proofs.Alike.{regex_at}
 
 -- what a pair of grammars takes of units
 pub record HaveSameParts (us vs : List Unit) : Type 0 where
@@ -150,11 +151,6 @@ skips_like (V.Ignorable name pattern regex normal line ∷ us) (i ∷ js) [] d o
 skips_like (V.Ignorable name pattern regex normal line ∷ us) (i ∷ js) (j ∷ ks) d one two =
     skip_more i j js ks d (regexes_alike pattern i.regex j.regex one.0 two.0) (one.1 ∙ sym two.1) (skips_like us js ks d one.2 two.2)
 skips_like (V.Production name left right line ∷ us) js ks d one two = skips_like us js ks d one two
-
-regex_at : (ts : List Terminal) (t : ℕ) → get_or (map (λ (x : Terminal). x.regex) ts) t no_terminal.regex ≡ (get_or ts t no_terminal).regex
-regex_at [] t = refl
-regex_at (x ∷ ts) zero = refl
-regex_at (x ∷ ts) (suc t) = regex_at ts t
 
 part_at : (ks : List Ignorable) (k : ℕ) → get_or (map skip_part ks) k (skip_part no_ignorable) ≡ skip_part (get_or ks k no_ignorable)
 part_at [] k = refl

@@ -15,8 +15,8 @@ use Rattle.xs_pair.specs.Rules.{SomeOf}
 use Rattle.xs_wf.specs.Rules.{IsWell}
 use Rattle.xs_wf.specs.Units.{IsStrange, HasStrange, IsStrangeItem, IsStrangeMark}
 use Rattle.xs_writing_laws.specs.Laws.{AreChars, HasChars, IsOfChars, HasCharStrings, IsWritable, CanBeWritten, WordsCanBeWritten}
-use Rattle.xs_writing_laws.proofs.Characters.{has_tested}
 use Rattle.xs_top.specs.Sheets.{IsPairOfBytes}
+use Rattle.xs_class.proofs.TableLaws.{is_in}
 
 -- what is not strange is a character, letter by letter
 char_of : (c : ℕ) → (IsStrange c → ⊥) → is_char c ≡ true
@@ -25,7 +25,7 @@ char_of c sure = by (is_char c) refl
   where
     by : (t : Bool) → is_char c ≡ t → is_char c ≡ true
     by true e = e
-    by false e = absurd (sure (λ has. let tested : is_char c ≡ true = has_tested c char_table has in cc))
+    by false e = absurd (sure (λ has. let tested : is_char c ≡ true = is_in c char_table has in cc))
 
 chars_of : (w : List ℕ) → (HasStrange w → ⊥) → AreChars w
 chars_of [] sure = refl

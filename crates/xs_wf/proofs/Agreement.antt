@@ -27,7 +27,7 @@ use Rattle.xs_gram.specs.Sound.{IsNullable, IsProductive, IsNullableItem, LeadsT
 use Rattle.xs_pair.specs.Grammars.{Pair, IsPairOf, IsGramOf, AreSkipsOf, numbering, rule_parts}
 use Rattle.xs_pair.specs.Listing.{rules_of}
 use Rattle.xs_pair.specs.Verdict.{IsFirstLine}
-use Rattle.xs_pair.proofs.Alike.{term_words}
+use Rattle.xs_pair.proofs.Alike.{term_words, regex_at}
 use Rattle.xs_wf.specs.Nonterminals.{IsUnproductive, IsLooping, IsFirstRule, IsFirstLineOf, FailsAmongNons}
 
 -- names in order are known by their members
@@ -99,11 +99,6 @@ skip_words (V.Ignorable name pattern regex normal line ∷ us) (i ∷ js) (j ∷
 skip_words (V.Ignorable name pattern regex normal line ∷ us) (i ∷ js) (j ∷ ks) one two (suc k) d w m = skip_words us js ks one.2 two.2 k d w m
 skip_words (V.Production name left right line ∷ us) js ks one two k d w m = skip_words us js ks one two k d w m
 
-term_at : (ts : List Terminal) (t : ℕ) → get_or (map (λ (x : Terminal). x.regex) ts) t no_terminal.regex ≡ (get_or ts t no_terminal).regex
-term_at [] t = refl
-term_at (x ∷ ts) zero = refl
-term_at (x ∷ ts) (suc t) = term_at ts t
-
 skip_at : (ks : List Ignorable) (k : ℕ) → (get_or (map skip_part ks) k (skip_part no_ignorable)).regex ≡ (get_or ks k no_ignorable).regex
 skip_at [] k = refl
 skip_at (x ∷ ks) zero = refl
@@ -118,7 +113,7 @@ record KeepsWords (g h : Grammar) : Type 0 where
 side_keeps : (s : Sheet) (ms ns : List (List ℕ)) (side : Side) (g h : Grammar) → ms ≡ ns → IsGramOf s ms side g → IsGramOf s ns side h → KeepsWords g h
 side_keeps s ms ns side g h same one two = record {
   rules = one.rules ∙ ap (λ names. rule_parts (numbering s.units names) side (rules_of s.units)) same ∙ sym two.rules;
-  terms = λ t w m. subst (λ r. Matches r w) (term_at h.terms t) (term_words s.units (map (λ (x : Terminal). x.regex) g.terms) (map (λ (x : Terminal). x.regex) h.terms) one.terms two.terms t no_terminal.regex w (subst (λ r. Matches r w) (sym (term_at g.terms t)) m));
+  terms = λ t w m. subst (λ r. Matches r w) (regex_at h.terms t) (term_words s.units (map (λ (x : Terminal). x.regex) g.terms) (map (λ (x : Terminal). x.regex) h.terms) one.terms two.terms t no_terminal.regex w (subst (λ r. Matches r w) (sym (regex_at g.terms t)) m));
   skips = λ k w m. subst (λ r. Matches r w) (skip_at h.skips k) (skip_words s.units (map skip_part g.skips) (map skip_part h.skips) one.skips two.skips k (skip_part no_ignorable) w (subst (λ r. Matches r w) (sym (skip_at g.skips k)) m));
 }
 

@@ -25,6 +25,7 @@ use Rattle.xs_pair.specs.Verdict.{IsFirstLine}
 use Rattle.xs_pair.proofs.Numbering.{number_is, among_at, firsts_have, rule_names, rule_is_named}
 use Rattle.xs_pair.proofs.Places.{found_there, first_before, stands_nowhere, among_or_absent, get_front, get_snoc, get_take, take_get, absent_snoc}
 use Rattle.xs_wf.specs.Nonterminals.{IsFirstRule, IsFirstLineOf, IsLineOfSome, IsFirstNon, IsPair, HaveOrderedLines}
+use Rattle.xs_pair.proofs.Alike.{at_map}
 
 -- an element among the first of two joined lists
 front_get : {A : Type 0} (xs ys : List A) (j : ℕ) (x : A) → j < length xs → slice_get (xs ++ ys) j ≡ Some x → slice_get xs j ≡ Some x
@@ -115,12 +116,6 @@ earlier_number list j x y a b none among at_x at_y =
     let same : c ≡ b = same_Some c b (sym (place_front front more y c found) ∙ ap (λ (l : List (List ℕ)). place_of l y) (sym whole) ∙ at_y) in
     let high : length front ≤ a = place_after front more x a (absent_names [] (take j list) x refl none) (ap (λ (l : List (List ℕ)). place_of l x) (sym whole) ∙ at_x) in
     omega arith
-
--- the name of a rule, and the rules of a name
-at_map : {A B : Type 0} (f : A → B) (xs : List A) (p : ℕ) (d : B) → p < length xs → (x : A) × (slice_get xs p ≡ Some x) × (get_or (map f xs) p d ≡ f x)
-at_map f [] p d lt = absurd (omega arith)
-at_map f (x ∷ xs) zero d lt = (x, refl, refl)
-at_map f (x ∷ xs) (suc p) d lt = at_map f xs p d (omega arith)
 
 head_at : (s : Sheet) (k : ℕ) (r : Rule) → slice_get (rules_of s.units) k ≡ Some r → slice_get (names_of S.Production s.units) k ≡ Some r.name
 head_at s k r at = ap (λ (l : List (List ℕ)). slice_get l k) (sym (rule_names s.units)) ∙ slice_get-map (λ (q : Rule). q.name) (rules_of s.units) k ∙ ap (option_map (λ (q : Rule). q.name)) at

@@ -24,16 +24,13 @@ use Rattle.xs_pair.specs.Verdict.{earlier}
 use Rattle.xs_pair.proofs.Places.{take_next}
 use Rattle.xs_wf.specs.Units.{AreFine}
 use Rattle.xs_wf.proofs.Patterns.{same_members}
+use Rattle.xs_gram.proofs.Ready.{each_map}
 
 -- P holds at each number, where it holds of what stands for one that is not there
 each_or : {A : Type 0} (P : A → Type 0) (xs : List A) (d : A) (n : ℕ) → EachOf P xs → P d → P (slice_index_or xs n d)
 each_or P [] d n each out = out
 each_or P (x ∷ xs) d zero each out = each.0
 each_or P (x ∷ xs) d (suc n) each out = each_or P xs d n each.1 out
-
-each_map : {A B : Type 0} (f : A → B) (P : B → Type 0) (xs : List A) → EachOf P (map f xs) → EachOf (λ x. P (f x)) xs
-each_map f P [] each = tt
-each_map f P (x ∷ xs) each = (each.0, each_map f P xs each.1)
 
 each_push : {A : Type 0} (P : A → Type 0) (xs : List A) (x : A) → EachOf P xs → P x → EachOf P (xs ++ x ∷ [])
 each_push P [] x each here = (here, tt)

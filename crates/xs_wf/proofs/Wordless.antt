@@ -6,6 +6,7 @@ use Rattle.xs_gram.specs.Sound.{IsProductive}
 use Rattle.xs_order.specs.Order as O
 use Rattle.xs_pair.specs.Grammars.{Pair}
 use Rattle.xs_wf.specs.Nonterminals.{IsUnproductive, IsWordless, AreProductive, IsFirstNon}
+use Rattle.xs_class.proofs.Truth.{false_true}
 
 -- the nonterminals below a number derive words on both sides
 abbrev pub AreProductiveBelow : Pair → ℕ → Type 0
@@ -14,12 +15,9 @@ AreProductiveBelow p end = (n : ℕ) → n < end → IsProductive p.text n × Is
 both_derive : (a b : Bool) (P Q : Type 0) → IsTrue a ↔ P → IsTrue b ↔ Q → (a && b) ≡ true → P × Q
 both_derive a b P Q one two set = let both = and_parts a b set in (one.0 both.0, two.0 both.1)
 
-never : false ≡ true → ⊥
-never e = cc
-
 one_not : (a b : Bool) (P Q : Type 0) → IsTrue a ↔ P → IsTrue b ↔ Q → (a && b) ≡ false → (P → ⊥) ⊎ (Q → ⊥)
-one_not false b P Q one two unset = inl (λ h. never (one.1 h))
-one_not true false P Q one two unset = inr (λ h. never (two.1 h))
+one_not false b P Q one two unset = inl (λ h. false_true (one.1 h))
+one_not true false P Q one two unset = inr (λ h. false_true (two.1 h))
 one_not true true P Q one two unset = cc
 
 pub set_more : (p : Pair) (text xml : List Bool) (n : ℕ) → p.text.nons ≡ p.xml.nons → O.AreProductive p.text text → O.AreProductive p.xml xml → n < p.text.nons → (get_or text n false && get_or xml n false) ≡ true → AreProductiveBelow p n → AreProductiveBelow p (n + 1)

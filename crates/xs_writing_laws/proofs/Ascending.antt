@@ -18,6 +18,7 @@ use Rattle.xs_pair.specs.Units.{number_of, or_zero}
 use Rattle.xs_pair.specs.Marks.{is_before, place_before, placed, by_name, attr_names}
 use Rattle.xs_pair.proofs.Places.{found_there}
 use Rattle.xs_writing_laws.proofs.Lists.{each_append, each_inserted, each_take, each_drop}
+use Rattle.xs_class.proofs.Places.{not_lower}
 
 -- a number put before the first one above it
 abbrev put : ℕ → List ℕ → List ℕ
@@ -85,9 +86,6 @@ pub same_number : (names : List (List ℕ)) (a b : List ℕ) → IsAmong names a
 same_number names a b at bt same =
     let one : at.0 ≡ bt.0 = sym (ap or_zero at.1) ∙ same ∙ ap or_zero bt.1 in
     same_Some a b (sym (found_there names a at.0 at.1) ∙ ap (λ k. slice_get names k) one ∙ found_there names b bt.0 bt.1)
-
-not_lower : (a b : Ordering) → a ≡ Less → b ≡ ordering_reverse a → is_lt b ≡ false
-not_lower a b less back = ap is_lt (back ∙ ap ordering_reverse less)
 
 earlier : (names : List (List ℕ)) → IsOrdered names → (a b : List ℕ) (j k : ℕ) → slice_get names j ≡ Some a → slice_get names k ≡ Some b → j < k → slice_cmp nat_cmp (encode_utf8_all a) (encode_utf8_all b) ≡ Less
 earlier names up a b j k at bt lt =

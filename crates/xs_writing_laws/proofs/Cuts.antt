@@ -12,9 +12,10 @@ use Rattle.xs_xml_out.specs.Balanced.{IsContent, nothing, text, element, attribu
 use Rattle.xs_xml_out.specs.Balanced.{Attribute as XAttribute}
 use Rattle.xs_class.specs.Marks.{attr_end, opening_mark, attribute_mark, closing_mark}
 use Rattle.xs_writing_laws.specs.Laws.{AreChars}
-use Rattle.xs_writing_laws.proofs.Characters.{and_true, chars_append}
+use Rattle.xs_writing_laws.proofs.Characters.{chars_append}
 use Rattle.xs_writing_laws.proofs.Spelling.{IsSpelt}
 use Rattle.xs_writing_laws.proofs.Texts.{IsTextItem}
+use Rattle.xs_class.proofs.Truth.{and_true}
 
 -- the word of each inner derivation is content
 abbrev pub HasContent : List (List ℕ) → Parts → Type 0

@@ -23,7 +23,7 @@ use Rattle.xs_pair.specs.Units.{names_of, nons_of, number_of}
 use Rattle.xs_pair.specs.Grammars.{Numbering, numbering, flat_marks, rule_part, Pair, IsPairOf}
 use Rattle.xs_pair.proofs.Places.{found_there, among_or_absent}
 use Rattle.xs_writing_laws.specs.Laws.{IsWritable, DocumentsAreBalanced}
-use Rattle.xs_writing_laws.proofs.Lists.{each_at, each_in, each_weaker}
+use Rattle.xs_writing_laws.proofs.Lists.{each_at, each_in}
 use Rattle.xs_writing_laws.proofs.Spelling.{IsSpelt, gram_spelt}
 use Rattle.xs_writing_laws.proofs.Nested as N
 use Rattle.xs_writing_laws.proofs.Nested.{IsNested, IsElement, all_nested, root_element}
@@ -32,6 +32,7 @@ use Rattle.xs_writing_laws.proofs.Cuts.{HasContent}
 use Rattle.xs_writing_laws.proofs.Elements.{IsGood, nested_content, element_balanced}
 use Rattle.xs_writing_laws.proofs.Heads.{heads_among, head_among}
 use Rattle.xs_writing_laws.proofs.Good.{good_rules, root_rules}
+use Rattle.xs_gram.proofs.Ready.{each_weaker}
 
 -- the XML side of a production is that of items of a sheet
 abbrev IsShaped : Rule → Type 0

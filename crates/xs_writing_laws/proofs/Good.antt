@@ -17,8 +17,9 @@ use Rattle.xs_pair.specs.Marks.{mark_name, mark_names}
 use Rattle.xs_pair.specs.Grammars.{Numbering, numbering}
 use Rattle.xs_pair.proofs.Places.{first_before, among_or_absent}
 use Rattle.xs_writing_laws.specs.Laws.{HasChars, IsOfChars, IsWritable}
-use Rattle.xs_writing_laws.proofs.Lists.{each_get, each_weaker, each_of_flat_map}
+use Rattle.xs_writing_laws.proofs.Lists.{each_get, each_of_flat_map}
 use Rattle.xs_writing_laws.proofs.Elements.{IsValue, IsGood}
+use Rattle.xs_gram.proofs.Ready.{each_weaker}
 
 -- what holds of no element does not hold of each
 pub none_of : {A : Type 0} (P : A → Type 0) (xs : List A) → (SomeOf P xs → ⊥) → EachOf (λ x. P x → ⊥) xs

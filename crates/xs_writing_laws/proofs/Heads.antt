@@ -13,7 +13,7 @@ use Rattle.xs_pair.specs.Rules.{IsAmong}
 use Rattle.xs_pair.specs.Units.{with_name, with_names, names_of, nons_of}
 use Rattle.xs_pair.specs.Listing.{rules_of}
 use Rattle.xs_pair.proofs.Places.{found_there, first_before, get_front, get_last}
-use Rattle.xs_writing_laws.proofs.Lists.{each_weaker}
+use Rattle.xs_gram.proofs.Ready.{each_weaker}
 
 stands_among : (names : List (List ℕ)) (name : List ℕ) (j : ℕ) → slice_get names j ≡ Some name → IsAmong names name
 stands_among names name j at = let found = first_before names name j at in (found.0, found.2)

@@ -28,10 +28,6 @@ pub each_flat_map : {A B : Type 0} (P : B → Type 0) (f : A → List B) (xs : L
 each_flat_map P f [] p = tt
 each_flat_map P f (x ∷ xs) p = each_append P (f x) (flat_map f xs) p.0 (each_flat_map P f xs p.1)
 
-pub each_weaker : {A : Type 0} (P Q : A → Type 0) → ((x : A) → P x → Q x) → (xs : List A) → EachOf P xs → EachOf Q xs
-each_weaker P Q f [] p = tt
-each_weaker P Q f (x ∷ xs) p = (f x p.0, each_weaker P Q f xs p.1)
-
 pub each_at : {A : Type 0} (P : A → Type 0) (xs : List A) (k : ℕ) (d : A) → P d → EachOf P xs → P (get_or xs k d)
 each_at P [] k d here p = here
 each_at P (x ∷ xs) zero d here p = p.0

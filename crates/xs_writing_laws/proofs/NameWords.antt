@@ -15,8 +15,8 @@ use Rattle.xs_sheet.specs.declared.piece.Piece.{Piece}
 use Rattle.xs_sheet.specs.Pieces.{IsPiece, IsTextOf, ArePieces}
 use Rattle.xs_xml.specs.Tables as P
 use Rattle.xs_xml.specs.Piece.{is_name, all_of}
-use Rattle.xs_writing_laws.proofs.Characters.{and_true, both_true, or_left, or_right, has_tested}
-use Rattle.xs_class.proofs.TableLaws.{in_is}
+use Rattle.xs_class.proofs.TableLaws.{in_is, is_in}
+use Rattle.xs_class.proofs.Truth.{and_true, both_true, or_left, or_right}
 
 start_has : (c : ℕ) → L.is_plain_start c ≡ true → Has name_start_table c
 unfolding L.is_plain_start L.is_name_start
@@ -28,12 +28,12 @@ plain_has c is = in_is c (name_start_table ++ name_more_table) (and_true (L.in_r
 
 start_tested : (c : ℕ) → Has name_start_table c → P.is_name_start c ≡ true
 unfolding P.is_name_start
-start_tested c has = has_tested c name_start_table has
+start_tested c has = is_in c name_start_table has
 
 char_tested : (c : ℕ) → Has name_start_table c ⊎ Has name_more_table c → P.is_name_char c ≡ true
 unfolding P.is_name_char
 char_tested c (inl has) = or_left (P.is_name_start c) (P.in_ranges c name_more_table) (start_tested c has)
-char_tested c (inr has) = or_right (P.is_name_start c) (P.in_ranges c name_more_table) (has_tested c name_more_table has)
+char_tested c (inr has) = or_right (P.is_name_start c) (P.in_ranges c name_more_table) (is_in c name_more_table has)
 
 start_is : (c : ℕ) → L.is_plain_start c ≡ true → P.is_name_start c ≡ true
 start_is c is = start_tested c (start_has c is)

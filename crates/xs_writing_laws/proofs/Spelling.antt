@@ -18,7 +18,8 @@ use Rattle.xs_xml.specs.Tables.{is_char}
 use Rattle.xs_pair.specs.Grammars.{AreTermsOf, AreSkipsOf, IsGramOf}
 use Rattle.xs_writing_laws.specs.Laws.{AreChars}
 use Rattle.xs_writing_laws.proofs.Lists.{each_of_map, each_at}
-use Rattle.xs_writing_laws.proofs.Characters.{both_true, chars_append, char_tested}
+use Rattle.xs_writing_laws.proofs.Characters.{chars_append, char_tested}
+use Rattle.xs_class.proofs.Truth.{both_true}
 
 all_words : (P : List ℕ → Type 0) → ((w : List ℕ) → P w → AreChars w) → (ws : List (List ℕ)) → Each P ws → AreChars (joined ws)
 all_words P f [] each = refl

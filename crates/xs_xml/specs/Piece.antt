@@ -4,6 +4,7 @@ use Rattle.std.specs.Prelude.{ℕ, ◌+◌, ◌-◌, ◌*◌, List, [], ◌∷�
 use Rattle.std.specs.declared.option.Option.{Option}
 use Rattle.xs_xml.specs.Tables.{is_char, is_name_char, is_white, is_digit, is_hex, is_quote}
 use Rattle.xs_class.specs.Tables.{is_name_start}
+use Rattle.xs_class.specs.Words.{hex_value}
 
 -- every character is of the class
 abbrev pub all_of : (ℕ → Bool) → List ℕ → Bool
@@ -46,10 +47,6 @@ is_name (c ∷ cs) = is_name_start c && all_of is_name_char cs
 abbrev pub is_gap : List ℕ → Bool
 is_gap [] = false
 is_gap (c ∷ cs) = is_white c && all_of is_white cs
-
--- the value of a digit, also a hexadecimal one
-abbrev pub hex_value : ℕ → ℕ
-hex_value c = if nat_le c 57 then c - 48 else (if nat_le c 70 then c - 55 else c - 87)
 
 -- the number of the digits after those that make so_far
 abbrev pub number : ℕ → ℕ → List ℕ → ℕ

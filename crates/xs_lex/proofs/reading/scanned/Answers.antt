@@ -5,9 +5,10 @@ use Rattle.xs_lex.specs.declared.kind.Kind.{Kind}
 use Rattle.xs_lex.specs.declared.kind.Kind.TheVariants.{End, Bad}
 use Rattle.xs_lex.specs.declared.token.Token.{Token}
 use Rattle.xs_lex.specs.Between.{IsApart}
-use Rattle.xs_lex.specs.Reading.{NoToken, AreTokens, IsSlice, size_of, line_ends, is_nothing, lexeme_of}
+use Rattle.xs_lex.specs.Reading.{NoToken, AreTokens, IsSlice, size_of, line_ends, lexeme_of}
 use Rattle.xs_lex.proofs.Reached.{Reached, IsToken, reached_at, reached_same, reached_token, reached_last, small_gap, small_word}
 use Rattle.xs_lex.proofs.reading.scanned.Goals as goal
+use Rattle.xs_class.specs.Words.{is_empty}
 
 pub tokens-init : goal.tokens-init
 tokens-init c = reached_at c.args.bytes.now c.args.letters.now c.front.result.1.now c.new-list.result.items c.front.result.0.at c.front.result.0.line c.requires.text c.requires.letters c.new-list.ensures.items c.front.ensures.rest c.front.ensures.line
@@ -25,10 +26,10 @@ pub past-end-requires-clause-lines : goal.past-end-requires-clause-lines
 past-end-requires-clause-lines c = rw c.past-start.ensures.line (small_word _ _ _ _ _ c.split_blanks.result.0.now c.split_blanks.result.1.now c.in-Some.next.word.now c.in-Some.next.rest.now c.requires.few c.requires.text c.tokens.invariant c.split_blanks.ensures.parts c.in-Some.ensures.found.begins.is).lines
 
 -- the last token, pushed
-last_pushed : (bytes : List ℕ) (list more : List Token) (at line : ℕ) (rest gap text : List ℕ) (whole : Bool) (kind : Kind) (a l : ℕ) → Reached bytes list at line rest → rest ≡ gap ++ text → IsApart rest text → NoToken text → whole ≡ (utf8_valid_len bytes == length bytes) → kind ≡ (if whole && is_nothing text then End else Bad) → a ≡ at + size_of gap → l ≡ line + line_ends gap → more ≡ list ++ (let t : Token = record { kind = kind; start = a; end = a; line = l } in t) ∷ [] → AreTokens bytes (map (lexeme_of bytes) more) × All (IsSlice bytes) more
+last_pushed : (bytes : List ℕ) (list more : List Token) (at line : ℕ) (rest gap text : List ℕ) (whole : Bool) (kind : Kind) (a l : ℕ) → Reached bytes list at line rest → rest ≡ gap ++ text → IsApart rest text → NoToken text → whole ≡ (utf8_valid_len bytes == length bytes) → kind ≡ (if whole && is_empty text then End else Bad) → a ≡ at + size_of gap → l ≡ line + line_ends gap → more ≡ list ++ (let t : Token = record { kind = kind; start = a; end = a; line = l } in t) ∷ [] → AreTokens bytes (map (lexeme_of bytes) more) × All (IsSlice bytes) more
 last_pushed bytes list more at line rest gap text whole kind a l r split apart none is kind_is a_is l_is pushed =
     let t : Token = record { kind = kind; start = a; end = a; line = l } in
-    let last : IsToken bytes at line gap (if (utf8_valid_len bytes == length bytes) && is_nothing text then End else Bad) [] t = record { kind_is = kind_is ∙ ap (λ (b : Bool). if b && is_nothing text then End else Bad) is; start_is = a_is; end_is = a_is ∙ sym (add-zero (at + size_of gap)); line_is = l_is } in
+    let last : IsToken bytes at line gap (if (utf8_valid_len bytes == length bytes) && is_empty text then End else Bad) [] t = record { kind_is = kind_is ∙ ap (λ (b : Bool). if b && is_empty text then End else Bad) is; start_is = a_is; end_is = a_is ∙ sym (add-zero (at + size_of gap)); line_is = l_is } in
     let both = reached_last bytes list at line rest gap text t r split apart none last in
     (subst (λ (z : List Token). AreTokens bytes (map (lexeme_of bytes) z)) (sym pushed) both.0, subst (λ (z : List Token). All (IsSlice bytes) z) (sym pushed) both.1)
 

@@ -2,14 +2,14 @@ use Rattle.std.proofs.Common.{◌∙◌, sym, ap, ℕ, ◌==◌}
 use Rattle.xs_sheet.specs.Machine as M
 use Rattle.xs_sheet.specs.View.{inside_view}
 use Rattle.xs_sheet.proofs.ContentLaws.{leaves_none, leaves_some}
-use Rattle.xs_sheet.proofs.Pieced.{if_ok}
 use Rattle.xs_sheet.proofs.elements.leave_production.Goals as goal
+use Rattle.xs_regex.proofs.Places.{ok_weaker}
 
 pub returns-then-is_empty-clause-view : goal.returns-then-is_empty-clause-view
 returns-then-is_empty-clause-view c =
     let none = ap (λ (n : ℕ). n == 0) (sym c.args.inside.opens.ok.0) ∙ sym c.is_empty.ensures ∙ c.if-is_empty.true in
     let same = ap (λ (h : M.Head). M.between h c.args.piece.now) c.in_ok-head.ensures.view ∙ sym (leaves_none (inside_view c.args.inside) c.args.inside.opens.items c.args.piece.now none) in
-    if_ok c.between.result _ _ (λ s is. is ∙ same) c.between.ensures.view
+    ok_weaker c.between.result _ _ (λ s is. is ∙ same) c.between.ensures.view
 
 pub returns-clause-view : goal.returns-clause-view
 returns-clause-view c =
