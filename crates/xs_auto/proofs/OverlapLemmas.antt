@@ -49,7 +49,7 @@ no_overlap a b r h none x (s ∷ u) y o =
 
 -- the words that were read back along the four phases overlap
 pub overlap : (a b : Graph) (r : Reached) (place symbol : ℕ) (front middle rest : Trace) (end crossing turn : ReachedPair) → AreReached a b r → EndsBoth b b r.rests.steps.items place → IsTrace b b r.rests place rest → IsAt r.rests.steps.items rest.seed end → IsTrace a b r.middles end.from middle → IsAt r.middles.steps.items middle.seed crossing → IsAt r.turns.steps.items crossing.from turn → ReadsBoth a b turn.first turn.second symbol crossing.first crossing.second → IsTrace a a r.fronts turn.from front → AreOverlap a b front.word (symbol ∷ middle.word) rest.word
-overlap a b r place symbol front middle rest end crossing turn h ends t at u cross behind sides v =
+overlap a b r place symbol front middle rest end crossing turn h ends t at u cross stood sides v =
     let x = v.traced in
     let m = u.traced in
     let y = t.traced in
@@ -61,7 +61,7 @@ overlap a b r place symbol front middle rest end crossing turn h ends t at u cro
     let turned : m.last ≡ seeded.end = some_same m.ends seeded.at in
     let crossed : m.first ≡ crossing = some_same m.begins cross in
     -- the turn, and the front's pair
-    let from = h.turns.turned crossing.from turn behind in
+    let from = h.turns.turned crossing.from turn stood in
     let fronted : x.last ≡ from.front = some_same x.ends from.at in
     let root = h.fronts.seeded front.seed x.first v.seed x.begins in
     let x_short : Walks a x.first.first front.word from.front.first = rw fronted at x.walks_first in

@@ -35,7 +35,7 @@ next_place g p n item lt at = record { rule = lt; dot = get_lt (items g p) n ite
 
 pub inside_place : (g : Grammar) (p n k : ℕ) (item : GItem) (a : Position) → p < length g.rules → ItemAt g p n item → IsAutomatonOf g item a → k < length a.classes → IsPlace g (at_inside p n k)
 inside_place g p n k item a lt at lex below =
-    let behind = get_lt (items g p) n item at in
+    let within = get_lt (items g p) n item at in
     record { rule = lt; dot = omega arith; inside = λ m e. (item, at, subst (λ x. suc x ≤ positions_of g item) (some_is k m e) (automaton_positions g item a k lex below)) }
 
 place_from : (g : Grammar) (w : List ℕ) (p n : ℕ) (o : Option ℕ) (i j : ℕ) → Stands g w (record { rule = p; dot = n; inside = o }) i j → IsPlace g (record { rule = p; dot = n; inside = o })
