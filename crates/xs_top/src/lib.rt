@@ -36,9 +36,9 @@ use xs_check_laws::weights_are_exact;
 use xs_class::Memory;
 use xs_io::{Shelf, Sink, Source};
 use xs_leiden::leiden_sheet;
-use xs_xml::one_word;
 pub use xs_talk::Outcome;
 use xs_talk::room;
+use xs_xml::one_word;
 
 /// The run of these words.
 ///
