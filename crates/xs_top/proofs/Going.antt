@@ -60,11 +60,11 @@ pub undone_told : (run : Run) (sheet : Named) (job : Job) (p : Pair) (stop : Sto
 undone_told run sheet job p stop o names r is spells stops same took theirs tells =
     told_as run o p.names r (undone sheet job p is spells (stop_is (IsUndone p run.input job) stop o stops same) took) (subst (λ (ns : List (List ℕ)). IfOk r (Tells run.notes ns o)) theirs tells)
 
--- an answer that was written, and told where out failed
+-- an answer that was written, and reported where out failed
 pub answered_told : (run : Run) (sheet : Named) (job : Job) (p : Pair) (answer bytes : List ℕ) (result : Outcome) → asked run.words ≡ Some (by sheet job) → SpellsPair run.shelf.files sheet p → IsAnswer p run.input job answer → bytes ≡ answer → IsWritten run.out run.notes bytes result → Told run result
 answered_told run sheet job p answer bytes result is spells has same (o, took, tells) = (o, [], answered sheet job p answer is spells has (subst (λ (b : List ℕ). Took run.out b o) same took), tells)
 
--- the shipped sheet that was written, and told where out failed
+-- the shipped sheet that was written, and reported where out failed
 pub shipped_told : (run : Run) (bytes : List ℕ) (result : Outcome) → asked run.words ≡ Some shipped → ReadNothing run.input → bytes ≡ leiden_core → IsWritten run.out run.notes bytes result → Told run result
 shipped_told run bytes result is read same (o, took, tells) = (o, [], shipped_written is read (subst (λ (b : List ℕ). Took run.out b o) same took), tells)
 

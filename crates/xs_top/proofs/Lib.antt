@@ -3,4 +3,3 @@ mod Writing
 mod Writable
 mod Going
 mod Completing
-mod Counting

@@ -13,13 +13,15 @@ use Rattle.xs_xml_out.specs.Laws.{IsReadBack as XmlIsReadBack, IsDecoded, Begins
 use Rattle.xs_form.specs.declared.document.XmlFault.{XmlFault}
 use Rattle.xs_form.specs.declared.document.XmlFault.TheVariants as F
 use Rattle.xs_form.specs.Fault.{IsFault}
-use Rattle.xs_top.specs.Documents.{IsDocument, IsNoXml, CanWrite}
+use Rattle.xs_top.specs.Documents.{IsDocument, IsNoDocument, CanWrite}
+use Rattle.xs_top.specs.Stops.{StopsBy, stop_of_xml}
 
--- characters that are read, and no XML
-pub no_xml : (names : List (List ℕ)) (bytes doc : List ℕ) (e : XmlFault) (at : ℕ) → IsDocument Text AsIs [] bytes doc → IsFault names doc e → e ≡ F.NotXml at → IsNoXml names bytes at
-no_xml names bytes doc e at read fault is =
-    let broken : IsFault names (text_of bytes AsIs) (F.NotXml at) = subst (λ (d : List ℕ). IsFault names d (F.NotXml at)) read.word (subst (λ f. IsFault names doc f) is fault) in
-    record { utf8 = read.utf8; none = broken.0; broken = broken.1 }
+-- characters that are read, and why they are no XML
+pub xml_stops : (names : List (List ℕ)) (bytes doc : List ℕ) (e : XmlFault) → IsDocument Text AsIs [] bytes doc → IsFault names doc e → StopsBy (IsNoDocument names Xml bytes) (stop_of_xml e)
+xml_stops names bytes doc (F.NotXml at) read fault =
+    let broken : IsFault names (text_of bytes AsIs) (F.NotXml at) = subst (λ (d : List ℕ). IsFault names d (F.NotXml at)) read.word fault in
+    (refl, record { utf8 = read.utf8; none = broken.0; broken = broken.1 })
+xml_stops names bytes doc F.Memory read fault = tt
 
 -- a text that is written
 pub text_reads : IsReadBack → (side : Side) (names : List (List ℕ)) (bytes word : List ℕ) → side ≡ Text → CanWrite names side word → bytes ≡ text_bytes word → IsDocument side AsIs names bytes word

@@ -14,7 +14,7 @@ use Rattle.xs_turn.specs.Turned.{IsForeign}
 use Rattle.xs_talk.specs.Derivations.{IsListing}
 use Rattle.xs_talk.specs.declared.outcome.Outcome.{Outcome}
 use Rattle.xs_talk.specs.declared.outcome.Outcome.TheVariants.{Foreign}
-use Rattle.xs_top.specs.Lines.{summary}
+use Rattle.xs_talk.specs.Counts.{summary}
 use Rattle.xs_top.specs.Documents.{IsDocument, IsNoDocument, document_bytes}
 
 -- the bytes are a tree printed on a side: they read as the print, whose tree it is
@@ -47,7 +47,7 @@ pub record IsListingOf (p : Pair) (max : ℕ) (bytes answer : List ℕ) : Type 0
   pub document : IsDocument Text AsIs p.names bytes word
   pub is : IsListing p word max answer
 
--- the document has no derivation, and so many of its leading symbols are viable
+-- the document has no derivation, and its first `viable` symbols are viable
 pub record IsForeignDocument (p : Pair) (side : Side) (form : Form) (bytes : List ℕ) (viable : ℕ) : Type 0 where
   pub word : List ℕ
   pub document : IsDocument side form p.names bytes word

@@ -1,4 +1,4 @@
--- The check that a sheet is not ambiguous: what it gives, and what is told where it fails.
+-- The check that a sheet is not ambiguous: what it gives, and what is reported where it fails.
 use Rattle.std.specs.Prelude.{◌≡◌, ◌<◌, ℕ, List, [], length, slice_index_or}
 use Rattle.xs_class.specs.declared.side.Side.{Side}
 use Rattle.xs_gram.specs.declared.suspect.Suspect.{Suspect as Found}

@@ -1,4 +1,4 @@
--- What the devices of a run told, before and after it, and how often they had failed.
+-- What is known of the devices of a run, before and after it, and how often they had failed.
 use Rattle.std.specs.Prelude.{◌≡◌, ℕ, List}
 use Rattle.std.specs.declared.option.Option.{Option}
 use Rattle.xs_io.specs.Shown.{Files}

@@ -3,7 +3,6 @@ pub mod Meaning
 pub mod Devices
 pub mod Stops
 pub mod Sheets
-pub mod Lines
 pub mod Checks
 pub mod Documents
 pub mod Answers

@@ -27,7 +27,7 @@ use Rattle.xs_top.specs.Asked.{Ask, shipped, by, asked}
 use Rattle.xs_top.specs.Devices.{Input, Output, Run, ReadNothing, TookNothing}
 use Rattle.xs_top.specs.Sheets.{AreBytesOf, IsFailed, IsLong, SpellsPair, IsUnpaired}
 use Rattle.xs_top.specs.Checks.{IsSure, IsUnsure}
-use Rattle.xs_top.specs.Lines.{accepted_line}
+use Rattle.xs_talk.specs.Counts.{accepted_line}
 use Rattle.xs_top.specs.Documents.{IsWordOf}
 use Rattle.xs_top.specs.Answers.{IsTurnedInto, IsMade, IsListingOf, IsUnread}
 
@@ -69,8 +69,9 @@ Took out answer Done = Appends out.taken_before out.taken_now answer
 Took out answer (WriteFault written) = Appends out.taken_before out.taken_now (take written answer) × (written < length answer) × Rose out.faults_before out.faults_now
 Took out answer other = ⊥
 
--- The outcome to which a run went, with the names by which it is told: the words are no command; or the shipped sheet
--- is written; or the sheet that is asked for spells no grammars; or the job is not done by them; or it is answered.
+-- The outcome to which a run went, with the names by which it is reported: the words are no command; or the shipped
+-- sheet is written; or the sheet that is asked for spells no grammars; or the job is not done by them; or it is
+-- answered.
 pub data Went (run : Run) : Outcome → List (List ℕ) → Type 0 where
   no_command : asked run.words ≡ None → ReadNothing run.input → TookNothing run.out → Went run Usage []
   shipped_written : {o : Outcome} → asked run.words ≡ Some shipped → ReadNothing run.input → Took run.out leiden_core o → Went run o []
@@ -96,7 +97,7 @@ status_of (WriteFault written) = 6
 status_of (NoteFault of written) = 6
 status_of DocLong = 7
 
--- notes failed at the line of an outcome, of which it took so many bytes
+-- notes failed at the line of an outcome, of which it took `written` bytes
 pub record FailsAtNotes (notes : Output) (names : List (List ℕ)) (o : Outcome) (of written : ℕ) : Type 0 where
   pub status : of ≡ status_of o
   pub taken : Appends notes.taken_before notes.taken_now (take written (line names o))
@@ -107,11 +108,11 @@ pub record FailsAtNotes (notes : Output) (names : List (List ℕ)) (o : Outcome)
 abbrev pub Tells : Output → List (List ℕ) → Outcome → Outcome → Type 0
 Tells notes names o answer = ((answer ≡ o) × Appends notes.taken_before notes.taken_now (line names o)) ⊎ ((of : ℕ) × (written : ℕ) × (answer ≡ NoteFault of written) × FailsAtNotes notes names o of written)
 
--- an answer was written to its end, or out failed, which was told
+-- an answer was written to its end, or out failed, which was reported
 abbrev pub IsWritten : Output → Output → List ℕ → Outcome → Type 0
 IsWritten out notes answer result = (o : Outcome) × Took out answer o × Tells notes [] o result
 
--- the run went to an outcome, which was told
+-- the run went to an outcome, which was reported
 abbrev pub Told : Run → Outcome → Type 0
 Told run answer = (o : Outcome) × (names : List (List ℕ)) × Went run o names × Tells run.notes names o answer
 
@@ -122,7 +123,7 @@ pub record IsOfLanguage (p : Pair) (side : Side) (form : Form) (bytes : List ℕ
   pub word_is : IsWordOf side form p.names bytes word
   pub language : InLang (grammar_of p side) word
 
--- the input is told, within its limit, and a document of the language of a side, and did not fail
+-- the input is known, within its limit, and a document of the language of a side, and did not fail
 pub record IsReadable (p : Pair) (i : Input) (side : Side) (form : Form) : Type 0 where
   pub document : List ℕ
   pub input : i.left_before ≡ Some document
@@ -137,7 +138,7 @@ IsDoable p i (Turn from to form) = IsAccepted p.text p.xml × IsReadable p i fro
 IsDoable p i (Trees max) = IsReadable p i Text AsIs
 IsDoable p i (Make seed lines) = IsAccepted p.text p.xml × IsOfLanguage p Text AsIs (made_text seed lines)
 
--- the sheet is told, did not fail, and is well formed, and nothing stands against the job
+-- the sheet is known, did not fail, and is well formed, and nothing stands against the job
 pub record IsClear (run : Run) (sheet : Named) (job : Job) : Type 0 where
   pub sheet_sure : IsFailed run.shelf sheet → ⊥
   pub sheet_short : IsLong run.shelf.files sheet → ⊥

@@ -12,12 +12,12 @@ use Rattle.xs_talk.specs.declared.outcome.Outcome.{Outcome}
 use Rattle.xs_talk.specs.declared.outcome.Outcome.TheVariants.{SheetFault, SheetLong, SheetBad, SheetIll}
 use Rattle.xs_top.specs.Devices.{Shelves}
 
--- the sheet's bytes, by what a shelf tells of its files; there are at most 65,536
+-- the sheet's bytes, by what is known of a shelf's files; there are at most 65,536
 abbrev pub AreBytesOf : Files → Named → List ℕ → Type 0
 AreBytesOf files leiden bytes = bytes ≡ leiden_core
 AreBytesOf files (file name) bytes = IsFile files name bytes 65536
 
--- the sheet is a file that failed: the count of the shelf rose, and that of the name where the file is told
+-- the sheet is a file that failed: the count of the shelf rose, and that of the name where the file is known
 abbrev pub IsFailed : Shelves → Named → Type 0
 IsFailed shelf leiden = ⊥
 IsFailed shelf (file name) = NameFailed shelf.files name shelf.faults_before shelf.faults_now (shelf.name_before name) (shelf.name_now name)

@@ -1,5 +1,16 @@
--- What is said where a run goes no further.
+-- Where a run goes no further: what is said, and the stop that each fault of a stage becomes.
+use Rattle.xs_chars.specs.declared.reading.DecodeFault.{DecodeFault}
+use Rattle.xs_chars.specs.declared.reading.DecodeFault.TheVariants as D
+use Rattle.xs_form.specs.declared.document.XmlFault.{XmlFault}
+use Rattle.xs_form.specs.declared.document.XmlFault.TheVariants as X
+use Rattle.xs_sheet.specs.declared.reader.SheetFault.{SheetFault}
+use Rattle.xs_sheet.specs.declared.reader.SheetFault.TheVariants as H
+use Rattle.xs_wf.specs.declared.well.WfFault.{WfFault}
+use Rattle.xs_wf.specs.declared.well.WfFault.TheVariants as W
+use Rattle.xs_turn.specs.declared.fault.TurnFault.{TurnFault}
+use Rattle.xs_turn.specs.declared.fault.TurnFault.TheVariants as T
 use Rattle.xs_talk.specs.declared.outcome.Outcome.{Outcome}
+use Rattle.xs_talk.specs.declared.outcome.Outcome.TheVariants as O
 use Rattle.xs_top.specs.declared.stop.Stop.{Stop}
 use Rattle.xs_top.specs.declared.stop.Stop.TheVariants.{Refused, Memory}
 
@@ -7,3 +18,23 @@ use Rattle.xs_top.specs.declared.stop.Stop.TheVariants.{Refused, Memory}
 abbrev pub StopsBy : (Outcome → Type 0) → Stop → Type 0
 StopsBy P (Refused outcome) = P outcome
 StopsBy P Memory = Unit {0}
+
+abbrev pub stop_of_sheet : SheetFault → Stop
+stop_of_sheet (H.SheetBad at) = Refused (O.SheetBad at)
+stop_of_sheet H.Memory = Memory
+
+abbrev pub stop_of_rule : WfFault → Stop
+stop_of_rule (W.Ill ill) = Refused (O.SheetIll ill)
+stop_of_rule W.Memory = Memory
+
+abbrev pub stop_of_text : DecodeFault → Stop
+stop_of_text (D.NotUtf8 at) = Refused (O.NotUtf8 at)
+stop_of_text D.Memory = Memory
+
+abbrev pub stop_of_xml : XmlFault → Stop
+stop_of_xml (X.NotXml at) = Refused (O.NotXml at)
+stop_of_xml X.Memory = Memory
+
+abbrev pub stop_of_turn : TurnFault → Stop
+stop_of_turn (T.Foreign viable) = Refused (O.Foreign viable)
+stop_of_turn T.Memory = Memory

@@ -11,7 +11,6 @@ ghost use Rattle.xs_top.specs.Stops.{StopsBy};
 
 use crate::asking::Job;
 use crate::checked::checked;
-use crate::lines::{accepted_line, summary};
 use crate::listed::listed;
 use crate::stop::Stop;
 use crate::turned::turned_into;
@@ -21,13 +20,13 @@ use xs_class::{Bytes, Side};
 use xs_io::{ReadStop, Source, read_all};
 use xs_leiden::make_text;
 use xs_pair::Two;
-use xs_talk::Outcome;
+use xs_talk::{Outcome, accepted_line, summary};
 use xs_tree::parts_of;
 
 /// How many bytes a document that is read may have.
 pub const DOCUMENT_LIMIT: usize = 1_048_576;
 
-// The bytes of the input.
+/// The bytes of the input.
 fn taken<S: Source>(alloc: Global, input: &mut S) -> Result<Bytes, Stop>
     ensures all { IfOk result (Takes (input_of S.left S.faults input.old input.new)) }
     ensures stop { IfErr result (StopsBy (IsUntaken (input_of S.left S.faults input.old input.new))) }
@@ -40,7 +39,7 @@ fn taken<S: Source>(alloc: Global, input: &mut S) -> Result<Bytes, Stop>
     }
 }
 
-// What is said of the sheet, once it is accepted.
+/// What is said of the sheet, once it is accepted.
 fn check<S: Source>(alloc: Global, two: &Two, input: &mut S) -> Result<Bytes, Stop>
     requires pair { IsPair two.now }
     requires sound { IsSoundPair two.now }
@@ -52,7 +51,7 @@ fn check<S: Source>(alloc: Global, two: &Two, input: &mut S) -> Result<Bytes, St
     Ok(line)
 }
 
-// The document on side `to` with the tree of the input, once the sheet is accepted.
+/// The document on side `to` with the tree of the input, once the sheet is accepted.
 fn turn<S: Source>(
     alloc: Global,
     two: &Two,
@@ -73,7 +72,7 @@ fn turn<S: Source>(
     Ok(turned.document)
 }
 
-// The listing of at most `max` derivations of the input.
+/// The listing of at most `max` derivations of the input.
 fn list<S: Source>(alloc: Global, two: &Two, max: u32, input: &mut S) -> Result<Bytes, Stop>
     requires pair { IsPair two.now }
     requires sound { IsSoundPair two.now }
@@ -84,7 +83,7 @@ fn list<S: Source>(alloc: Global, two: &Two, max: u32, input: &mut S) -> Result<
     listed(alloc, two, max, bytes.as_slice())
 }
 
-// The summary of a text that is made of a seed, once the sheet is accepted.
+/// The summary of a text that is made of a seed, once the sheet is accepted.
 fn make<S: Source>(
     alloc: Global,
     two: &Two,

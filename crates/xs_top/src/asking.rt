@@ -17,9 +17,9 @@ pub enum Job {
     /// A document of one side is read, a text in this form, and a document of the other or of the
     /// same side with the same tree is written.
     Turn { from: Side, to: Side, form: Form },
-    /// At most so many derivations of a text are listed.
+    /// At most `max` derivations of a text are listed.
     Trees { max: u32 },
-    /// A text of so many lines is made of a seed and turned to XML, and a summary of it is written.
+    /// A text of `lines` lines is made of a seed and turned to XML, and a summary of it is written.
     Make { seed: u32, lines: u32 },
 }
 

@@ -14,7 +14,7 @@ use xs_pair::Two;
 use xs_talk::{Outcome, Report};
 use xs_unique::{AcceptFault, accept};
 
-// The name of a production's nonterminal.
+/// The name of a production's nonterminal.
 fn name(alloc: Global, two: &Two, side: Side, rule: u32) -> Result<Text, Memory>
     requires pair { IsPair two.now }
     requires built { IsBuilt (grammar_of two.now side) }
@@ -25,7 +25,7 @@ fn name(alloc: Global, two: &Two, side: Side, rule: u32) -> Result<Text, Memory>
     Text::of(alloc, two.non_name(non))
 }
 
-// The line of a production.
+/// The line of a production.
 fn line(two: &Two, side: Side, rule: u32) -> u32
     requires pair { IsPair two.now }
     requires there { rule < length (grammar_of two.now side).rules }
@@ -34,7 +34,7 @@ fn line(two: &Two, side: Side, rule: u32) -> u32
     two.line(rule)
 }
 
-// What is told of a suspect.
+/// What is reported of a suspect.
 fn report(alloc: Global, two: &Two, suspect: Suspect) -> Result<Report, Memory>
     requires pair { IsPair two.now }
     requires sound { IsSoundPair two.now }
@@ -82,7 +82,8 @@ fn report(alloc: Global, two: &Two, suspect: Suspect) -> Result<Report, Memory>
     }
 }
 
-/// Makes sure that a sheet is accepted, so that each word of either side has at most one derivation.
+/// Makes sure that a sheet is accepted, so that each word of either side has at most one
+/// derivation.
 pub fn checked(alloc: Global, two: &Two) -> Result<(), Stop>
     requires pair { IsPair two.now }
     requires sound { IsSoundPair two.now }

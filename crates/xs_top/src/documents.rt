@@ -8,37 +8,30 @@ ghost use Rattle.xs_top.specs.Stops.{StopsBy};
 
 use crate::stop::Stop;
 use std::alloc::Global;
-use xs_chars::{DecodeFault, Form, read_text, text_is_read_back, write_text};
+use xs_chars::{Form, read_text, text_is_read_back, write_text};
 use xs_class::{Bytes, Memory, Names, Side, Word};
-use xs_form::{XmlFault, read_xml};
-use xs_talk::Outcome;
+use xs_form::read_xml;
 use xs_xml_out::{write_xml, xml_is_read_back};
 
-// The characters of the bytes in a form.
+/// The characters of the bytes in a form.
 fn characters_of(alloc: Global, form: Form, bytes: &[u8]) -> Result<Word, Stop>
     ensures text { IfOk result (λ w. IsDocument S.Text form [] bytes.now w) }
     ensures short { IfOk result (λ w. length w < 4294967295) }
     ensures stop { IfErr result (StopsBy (IsNoText bytes.now)) }
 {
-    match read_text(alloc, bytes, form) {
-        Ok(word) => Ok(word),
-        Err(DecodeFault::NotUtf8 { at }) => Err(Stop::Refused(Outcome::NotUtf8 { at })),
-        Err(DecodeFault::Memory) => Err(Stop::Memory),
-    }
+    let word = read_text(alloc, bytes, form)?;
+    Ok(word)
 }
 
-// The symbols of XML, as it is.
+/// The symbols of XML, as it is.
 fn symbols_of(alloc: Global, names: &Names, bytes: &[u8]) -> Result<Word, Stop>
     ensures xml { IfOk result (λ w. IsDocument S.Xml AsIs names.now bytes.now w) }
     ensures short { IfOk result (λ w. length w < 4294967295) }
     ensures stop { IfErr result (StopsBy (IsNoDocument names.now S.Xml bytes.now)) }
 {
     let characters = characters_of(alloc, Form::AsIs, bytes)?;
-    match read_xml(alloc, names, &characters) {
-        Ok(word) => Ok(word),
-        Err(XmlFault::NotXml { at }) => Err(Stop::Refused(Outcome::NotXml { at })),
-        Err(XmlFault::Memory) => Err(Stop::Memory),
-    }
+    let word = read_xml(alloc, names, &characters)?;
+    Ok(word)
 }
 
 /// The word of a document.
@@ -59,7 +52,7 @@ pub fn read_document(
     }
 }
 
-// Names are in order.
+/// Names are in order.
 fn ordered(names: &Names)
     ensures { IsOrdered names.now }
 {

@@ -1,8 +1,10 @@
 //! The top call: all that the program does, over the words and the devices that it is handed.
 //!
-//! `run` reads the sheet from the shelf and the document from the input, writes the answer to `out`,
-//! and tells every other outcome to `notes` in one line. Its contract says, outcome by outcome, when
-//! it comes, what was read and what was written.
+//! `run` reads the sheet from the shelf and the document from the input, writes the answer to
+//! `out`, and reports every other outcome to `notes` in one line. Its contract says, outcome by
+//! outcome, when it comes, what was read and what was written. Of a translation it says the lens
+//! laws: the answer is the document's tree printed, and is read back with that tree; and the tree
+//! printed on the document's own side is the document, with each ignorable in its normal spelling.
 #![tactic(auto)]
 
 ghost use Rattle.std.specs.Prelude.{◌≡◌, map, string_bytes, IfOk, OnErr};
@@ -13,7 +15,6 @@ mod answer;
 mod asking;
 mod checked;
 mod documents;
-mod lines;
 mod listed;
 mod notes;
 mod outcome;
@@ -44,7 +45,7 @@ use xs_xml::one_word;
 ///
 /// A document of one side of a sheet is read from `input` and written to `out` as a document of the
 /// other side, or of the same side, with the same tree; or the derivations of a text are listed; or
-/// the sheet is checked. The sheet is a file of the shelf, or the one that the program brings along,
+/// the sheet is checked. The sheet is a file of the shelf, or the one that the program includes,
 /// which can be written too, and of which a text can be made and turned. All memory is taken before
 /// the first write.
 pub fn run<S: Source, H: Shelf, K: Sink, N: Sink>(

@@ -14,8 +14,8 @@ use std::alloc::Global;
 use xs_chars::Form;
 use xs_class::{Bytes, Side};
 use xs_pair::Two;
-use xs_talk::{Outcome, listing};
-use xs_turn::{TurnFault, turn};
+use xs_talk::listing;
+use xs_turn::turn;
 
 /// The listing of at most `max` derivations of a text.
 pub fn listed(alloc: Global, two: &Two, max: u32, bytes: &[u8]) -> Result<Bytes, Stop>
@@ -24,17 +24,9 @@ pub fn listed(alloc: Global, two: &Two, max: u32, bytes: &[u8]) -> Result<Bytes,
     ensures answer { IfOk result (IsListingOf two.now max bytes.now) }
     ensures stop { IfErr result (StopsBy (IsUnread two.now S.Text F.AsIs bytes.now)) }
 {
-    let doc = match read_document(alloc, Side::Text, Form::AsIs, two.names(), bytes) {
-        Ok(doc) => doc,
-        Err(stop) => return Err(stop),
-    };
+    let doc = read_document(alloc, Side::Text, Form::AsIs, two.names(), bytes)?;
     let bump = Bump::new(alloc);
-    match turn(alloc, &bump, two, Side::Text, &doc) {
-        Ok(turned) => {
-            let answer = listing(alloc, two, &turned.grown, &doc, max)?;
-            Ok(answer)
-        }
-        Err(TurnFault::Foreign { viable }) => Err(Stop::Refused(Outcome::Foreign { viable })),
-        Err(TurnFault::Memory) => Err(Stop::Memory),
-    }
+    let turned = turn(alloc, &bump, two, Side::Text, &doc)?;
+    let answer = listing(alloc, two, &turned.grown, &doc, max)?;
+    Ok(answer)
 }

@@ -12,16 +12,16 @@ use xs_class::Bytes;
 use xs_io::{ReadStop, Shelf, read_file};
 use xs_leiden::leiden_sheet;
 use xs_pair::Two;
-use xs_sheet::{SheetFault, read_sheet};
+use xs_sheet::read_sheet;
 use xs_talk::Outcome;
-use xs_wf::{WfFault, well_formed};
+use xs_wf::well_formed;
 use xs_words::SheetName;
 use xs_writing_laws::words_can_be_written;
 
 /// How many bytes a sheet may have.
 pub const SHEET_LIMIT: usize = 65_536;
 
-// The bytes of a sheet.
+/// The bytes of a sheet.
 fn sheet_bytes<H: Shelf>(alloc: Global, shelf: &mut H, sheet: SheetName<'_>) -> Result<Bytes, Stop>
     ensures bytes { IfOk result (AreBytesOf (H.files shelf.old) (sheet_meant sheet.entry)) }
     ensures files { H.files shelf.new ≡ H.files shelf.old }
@@ -49,16 +49,9 @@ pub fn pair_of(alloc: Global, bytes: &[u8]) -> Result<Two, Stop>
     ensures sound { IfOk result IsSoundPair }
     ensures stop { IfErr result (StopsBy (IsBadBytes bytes.now)) }
 {
-    let sheet = match read_sheet(alloc, bytes) {
-        Ok(sheet) => sheet,
-        Err(SheetFault::SheetBad { at }) => return Err(Stop::Refused(Outcome::SheetBad { at })),
-        Err(SheetFault::Memory) => return Err(Stop::Memory),
-    };
-    match well_formed(alloc, &sheet) {
-        Ok(two) => Ok(two),
-        Err(WfFault::Ill(ill)) => Err(Stop::Refused(Outcome::SheetIll(ill))),
-        Err(WfFault::Memory) => Err(Stop::Memory),
-    }
+    let sheet = read_sheet(alloc, bytes)?;
+    let two = well_formed(alloc, &sheet)?;
+    Ok(two)
 }
 
 /// The two grammars of a sheet.

@@ -1,5 +1,10 @@
+use xs_chars::DecodeFault;
 use xs_class::Memory;
+use xs_form::XmlFault;
+use xs_sheet::SheetFault;
 use xs_talk::Outcome;
+use xs_turn::TurnFault;
+use xs_wf::WfFault;
 
 /// Why a run goes no further.
 #[derive(Drop)]
@@ -18,5 +23,75 @@ impl From<Memory> for Stop {
 
     fn from(_: Memory) -> Self {
         Stop::Memory
+    }
+}
+
+impl From<SheetFault> for Stop {
+    ghost use Rattle.std.specs.Prelude.{◌≡◌};
+    ghost use Rattle.xs_top.specs.Stops.{stop_of_sheet};
+
+    ghost from_gives = { λ fault e. e ≡ stop_of_sheet fault };
+
+    fn from(fault: SheetFault) -> Self {
+        match fault {
+            SheetFault::SheetBad { at } => Stop::Refused(Outcome::SheetBad { at }),
+            SheetFault::Memory => Stop::Memory,
+        }
+    }
+}
+
+impl From<WfFault> for Stop {
+    ghost use Rattle.std.specs.Prelude.{◌≡◌};
+    ghost use Rattle.xs_top.specs.Stops.{stop_of_rule};
+
+    ghost from_gives = { λ fault e. e ≡ stop_of_rule fault };
+
+    fn from(fault: WfFault) -> Self {
+        match fault {
+            WfFault::Ill(ill) => Stop::Refused(Outcome::SheetIll(ill)),
+            WfFault::Memory => Stop::Memory,
+        }
+    }
+}
+
+impl From<DecodeFault> for Stop {
+    ghost use Rattle.std.specs.Prelude.{◌≡◌};
+    ghost use Rattle.xs_top.specs.Stops.{stop_of_text};
+
+    ghost from_gives = { λ fault e. e ≡ stop_of_text fault };
+
+    fn from(fault: DecodeFault) -> Self {
+        match fault {
+            DecodeFault::NotUtf8 { at } => Stop::Refused(Outcome::NotUtf8 { at }),
+            DecodeFault::Memory => Stop::Memory,
+        }
+    }
+}
+
+impl From<XmlFault> for Stop {
+    ghost use Rattle.std.specs.Prelude.{◌≡◌};
+    ghost use Rattle.xs_top.specs.Stops.{stop_of_xml};
+
+    ghost from_gives = { λ fault e. e ≡ stop_of_xml fault };
+
+    fn from(fault: XmlFault) -> Self {
+        match fault {
+            XmlFault::NotXml { at } => Stop::Refused(Outcome::NotXml { at }),
+            XmlFault::Memory => Stop::Memory,
+        }
+    }
+}
+
+impl From<TurnFault> for Stop {
+    ghost use Rattle.std.specs.Prelude.{◌≡◌};
+    ghost use Rattle.xs_top.specs.Stops.{stop_of_turn};
+
+    ghost from_gives = { λ fault e. e ≡ stop_of_turn fault };
+
+    fn from(fault: TurnFault) -> Self {
+        match fault {
+            TurnFault::Foreign { viable } => Stop::Refused(Outcome::Foreign { viable }),
+            TurnFault::Memory => Stop::Memory,
+        }
     }
 }

@@ -16,12 +16,11 @@ use xs_chars::Form;
 use xs_class::{Bytes, Memory, Side, Word};
 use xs_gram::{printed_has_tree, prints_normal};
 use xs_pair::Two;
-use xs_talk::Outcome;
 use xs_text_out::print_syms;
 use xs_tree::Tree;
-use xs_turn::{TurnFault, Turned, turn};
+use xs_turn::{Turned, turn};
 
-// The tree printed on a side, where its print on the other side of `from` is at hand.
+/// The tree printed on a side, where its print on the other side of `from` is at hand.
 fn printed(
     alloc: Global,
     two: &Two,
@@ -40,7 +39,7 @@ fn printed(
     }
 }
 
-// The document of a tree's print.
+/// The document of a tree's print.
 fn written(alloc: Global, two: &Two, to: Side, tree: &Tree, word: &Word) -> Result<Bytes, Memory>
     requires sound { IsSoundPair two.now }
     requires writable { CanBeWritten two.now }
@@ -74,18 +73,10 @@ pub fn turned_into(
     ensures stop { IfErr result (StopsBy (IsUnread two.now from form bytes.now)) }
 {
     prints_normal();
-    let doc = match read_document(alloc, from, form, two.names(), bytes) {
-        Ok(doc) => doc,
-        Err(stop) => return Err(stop),
-    };
+    let doc = read_document(alloc, from, form, two.names(), bytes)?;
     let bump = Bump::new(alloc);
-    match turn(alloc, &bump, two, from, &doc) {
-        Ok(Turned { tree, word, .. }) => {
-            let word = printed(alloc, two, from, to, &tree, word)?;
-            let document = written(alloc, two, to, &tree, &word)?;
-            Ok(TurnedInto { document, tree })
-        }
-        Err(TurnFault::Foreign { viable }) => Err(Stop::Refused(Outcome::Foreign { viable })),
-        Err(TurnFault::Memory) => Err(Stop::Memory),
-    }
+    let Turned { tree, word, .. } = turn(alloc, &bump, two, from, &doc)?;
+    let word = printed(alloc, two, from, to, &tree, word)?;
+    let document = written(alloc, two, to, &tree, &word)?;
+    Ok(TurnedInto { document, tree })
 }

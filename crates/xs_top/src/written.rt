@@ -8,7 +8,7 @@ use xs_class::Names;
 use xs_io::{Sink, WriteFault, put_all};
 use xs_talk::{Line, Outcome, fault_line};
 
-/// Writes an answer, and tells a fault of `out` in the room that was made for its line.
+/// Writes an answer, and reports a fault of `out` in the room that was made for its line.
 pub fn written<K: Sink, N: Sink>(
     out: &mut K,
     notes: &mut N,
