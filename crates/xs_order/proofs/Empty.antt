@@ -1,10 +1,10 @@
 -- Derivations of the empty word.
-use Rattle.std.proofs.Common.{◌≡◌, ◌↔◌, ℕ, Bool, List, [], ◌++◌, refl, sym, subst, ◌∙◌, inl, inr}
+use Rattle.std.proofs.Common.{◌≡◌, ◌↔◌, ℕ, Bool, List, [], ◌++◌, refl, subst, inl, inr}
 use Rattle.std.specs.Bool.{IsTrue}
 use Rattle.xs_regex.specs.declared.regex.Regex.{Regex}
 use Rattle.xs_regex.specs.declared.position.Position.{Position}
 use Rattle.xs_regex.specs.Matches.{Matches}
-use Rattle.xs_regex.specs.Automaton.{Accepts, Runs, begins, goes}
+use Rattle.xs_regex.specs.Automaton.{Accepts}
 use Rattle.xs_gram.specs.Grammar.{Grammar}
 use Rattle.xs_gram.specs.Derivations.{Parts, done, fixed, leaf, skip, sub, parts_yield}
 use Rattle.xs_gram.specs.Sound.{IsAutomaton, IsBuilt}
@@ -15,7 +15,7 @@ use Rattle.xs_order.specs.Rules.{AreMadeFlags}
 use Rattle.xs_order.specs.Wanted.{IsWanted, AreWith}
 use Rattle.xs_order.proofs.Deriving.{AllLeaves, flags_are_exact}
 use Rattle.xs_order.proofs.Good.{are_good}
-use Rattle.xs_class.proofs.Lists.{not_empty, front_empty, rest_empty}
+use Rattle.xs_class.proofs.Lists.{front_empty, rest_empty}
 use Rattle.xs_regex.proofs.Runs.{no_run}
 
 both_empty : (u v : List ℕ) → u ≡ [] → v ≡ [] → u ++ v ≡ []

@@ -1,6 +1,5 @@
 -- What the grammar reads, the reader reads.
-use Rattle.std.proofs.Common.{◌≡◌, ◌⊎◌, inl, inr, ℕ, ◌+◌, ◌<◌, List, [], ◌∷◌, ◌++◌, length, append-nil, append_assoc, true, false, Bool, ◌&&◌, ◌||◌, nat_lt, codes, refl, sym, ap, ◌∙◌, subst, arith}
-use Rattle.std.proofs.lemmas.Bool.Decides.{nat_tests}
+use Rattle.std.proofs.Common.{◌≡◌, ◌⊎◌, inl, inr, ℕ, ◌+◌, ◌<◌, List, [], ◌∷◌, ◌++◌, length, append-nil, append_assoc, true, false, Bool, ◌&&◌, ◌||◌, codes, refl, sym, ap, ◌∙◌, subst, arith}
 use Rattle.xs_lex.specs.declared.kind.Kind.{Kind}
 use Rattle.xs_lex.specs.declared.kind.Kind.TheVariants.{Plain, Qual, Quoted, Pattern, Colon, Equals, SquareIn, SquareOut, Angle, AngleSlash, AngleEnd, SlashEnd, End}
 use Rattle.xs_sheet.specs.declared.piece.Piece.{Piece}
@@ -17,7 +16,7 @@ use Rattle.xs_class.proofs.Truth.{lt_true, or_false}
 pub run_go : (s t : State) (p : Piece) (rest : List Piece) → step s p ≡ go t → run s (p ∷ rest) ≡ run t rest
 run_go s t p rest is = ap (λ (z : Transition). follow z p (λ u. run u rest) rest) is
 
-pub with_kind : Piece → Kind → Piece
+unfoldable pub with_kind : Piece → Kind → Piece
 with_kind p k = record { kind = k; text = p.text; regular = p.regular; start = p.start; line = p.line }
 
 -- a step at a piece of a known kind

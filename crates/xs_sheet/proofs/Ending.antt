@@ -17,7 +17,7 @@ last_kind true = End
 last_kind false = Bad
 
 opens_stop : (c : Inside) (os : List Opened) (p : Piece) (b : Bool) (t : State) → leaves c os (with_kind p (last_kind b)) ≡ go t → ⊥
-unfolding is_kind
+unfolding is_kind with_kind
 opens_stop c [] p true t e = cc
 opens_stop c [] p false t e = cc
 opens_stop c (o ∷ os) p b t e = cc
@@ -30,7 +30,7 @@ both Q one other true = one
 both Q one other false = other
 
 stops : (s : State) (p : Piece) (t : State) (b : Bool) → Stops s p t b
-unfolding is_kind
+unfolding is_kind with_kind
 stops begin p t b = both (Stops begin p t) (λ e. cc) (λ e. cc) b
 stops versioned p t b = both (Stops versioned p t) (λ e. cc) (λ e. cc) b
 stops (started line) p t b = both (Stops (started line) p t) (λ e. cc) (λ e. cc) b
@@ -54,6 +54,7 @@ stops (closing d o os inner) p t b = both (Stops (closing d o os inner) p t) (λ
 stops (closed d o os inner) p t b = both (Stops (closed d o os inner) p t) (λ e. cc) (λ e. cc) b
 
 last_stops : (s : State) (p : Piece) (t : State) → (p.kind ≡ End) ⊎ (p.kind ≡ Bad) → step s p ≡ go t → ⊥
+unfolding with_kind
 last_stops s p t (inl k) e = stops s p t true (subst (λ (z : Kind). step s (with_kind p z) ≡ go t) k e)
 last_stops s p t (inr k) e = stops s p t false (subst (λ (z : Kind). step s (with_kind p z) ≡ go t) k e)
 

@@ -1,6 +1,6 @@
 -- Kinds of pieces differ by their numbers.
-use Rattle.std.proofs.Common.{◌≡◌, ℕ, zero, suc, Bool, true, false, List, [], ◌∷◌, ◌==◌, ◌&&◌, refl, sym, ap, ◌∙◌, eqb-true}
-use Rattle.std.proofs.Common.{arith, nat_eq, nat_lt, ◌<◌, encode_utf8_all}
+use Rattle.std.proofs.Common.{◌≡◌, ℕ, zero, suc, Bool, true, false, List, [], ◌∷◌, ◌==◌, refl, sym, ap, ◌∙◌, eqb-true}
+use Rattle.std.proofs.Common.{arith, nat_eq, nat_lt, encode_utf8_all}
 use Rattle.std.specs.Str.{chars, IsAscii}
 use Rattle.std.specs.List.{list_all}
 use Rattle.std.proofs.lemmas.Str.{chars-IsAscii}

@@ -1,7 +1,5 @@
 -- Tokens and their pieces.
-use Rattle.std.proofs.Common.{◌≡◌, ◌⊎◌, inl, inr, ℕ, zero, suc, ◌+◌, ◌-◌, ◌<◌, ◌≤◌, List, [], ◌∷◌, ◌++◌, map, length, take, drop, get_or, length-append, length-drop, true, false, Bool, ◌&&◌, if◌then◌else◌, Ok, Err, Some, refl, sym, ap, ◌∙◌, subst, arith}
-use Rattle.std.specs.declared.result.Result.{Result}
-use Rattle.std.specs.Result.{IfOk}
+use Rattle.std.proofs.Common.{◌≡◌, ◌⊎◌, inl, inr, ℕ, zero, suc, ◌+◌, ◌-◌, ◌<◌, ◌≤◌, List, [], ◌∷◌, ◌++◌, map, length, take, drop, get_or, length-append, length-drop, true, false, Bool, ◌&&◌, if◌then◌else◌, Some, refl, sym, ap, ◌∙◌, subst, arith}
 use Rattle.std.specs.List.{All}
 use Rattle.std.proofs.lemmas.List.{take_rest, take_at, same_from_push, map_more}
 use Rattle.xs_lex.specs.declared.kind.Kind.{Kind}
@@ -10,7 +8,7 @@ use Rattle.xs_lex.specs.declared.token.Token.{Token}
 use Rattle.xs_lex.specs.declared.quoted.Spot.TheVariants.{Between}
 use Rattle.xs_lex.specs.Spelling.{IsQuoted, IsPattern, Spells}
 use Rattle.xs_lex.specs.Scan.{value_at}
-use Rattle.xs_lex.specs.Reading.{Lexeme, Extent, IsLast, IsTokenAt, AreTokensFrom, lexeme_of}
+use Rattle.xs_lex.specs.Reading.{Lexeme, Extent, AreTokensFrom, lexeme_of}
 use Rattle.xs_lex.proofs.QuotedLaws.{value_read}
 use Rattle.xs_regex.specs.declared.regex.Regex.{Regex}
 use Rattle.xs_sheet.specs.declared.piece.Piece.{Piece}
