@@ -2,5 +2,11 @@ mod Reading
 mod Writing
 mod Writable
 mod Going
+mod Known
+mod Agreeing
 mod Completing
+mod Coming
+mod Back
+mod Exactly
+mod Verdicts
 mod Counting

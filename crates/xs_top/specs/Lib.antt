@@ -3,8 +3,11 @@ pub mod Meaning
 pub mod Devices
 pub mod Stops
 pub mod Sheets
+pub mod Known
 pub mod Lines
 pub mod Checks
 pub mod Documents
 pub mod Answers
 pub mod Ran
+pub mod Runs
+pub mod Laws

@@ -13,6 +13,7 @@ mod answer;
 mod asking;
 mod checked;
 mod documents;
+mod laws;
 mod lines;
 mod listed;
 mod notes;
@@ -29,6 +30,7 @@ use crate::sheets::pair_for;
 use crate::stop::Stop;
 use crate::written::written;
 pub use answer::DOCUMENT_LIMIT;
+pub use laws::{bytes_agree, check_decides, refuses_exactly, round_is_idempotent, translates_back};
 pub use outcome::status;
 pub use sheets::SHEET_LIMIT;
 use std::alloc::Global;
@@ -36,9 +38,9 @@ use xs_check_laws::weights_are_exact;
 use xs_class::Memory;
 use xs_io::{Shelf, Sink, Source};
 use xs_leiden::leiden_sheet;
-use xs_xml::one_word;
 pub use xs_talk::Outcome;
 use xs_talk::room;
+use xs_xml::one_word;
 
 /// The run of these words.
 ///
@@ -67,6 +69,7 @@ pub fn run<S: Source, H: Shelf, K: Sink, N: Sink>(
 {
     one_word();
     weights_are_exact();
+    bytes_agree();
     let room = room(alloc)?;
     let none = no_names(alloc)?;
     let (sheet, job) = match asked(words) {

@@ -8,7 +8,6 @@ ghost use Rattle.xs_top.specs.Stops.{StopsBy};
 
 use crate::stop::Stop;
 use std::alloc::Global;
-use xs_writing_laws::words_can_be_written;
 use xs_class::Bytes;
 use xs_io::{ReadStop, Shelf, read_file};
 use xs_leiden::leiden_sheet;
@@ -17,6 +16,7 @@ use xs_sheet::{SheetFault, read_sheet};
 use xs_talk::Outcome;
 use xs_wf::{WfFault, well_formed};
 use xs_words::SheetName;
+use xs_writing_laws::words_can_be_written;
 
 /// How many bytes a sheet may have.
 pub const SHEET_LIMIT: usize = 65_536;
