@@ -9,3 +9,4 @@ pub mod Twins
 pub mod Sheets
 pub mod Pairs
 pub mod Failing
+pub mod Meant

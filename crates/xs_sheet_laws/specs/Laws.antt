@@ -17,3 +17,11 @@ AlikeSheetsMeanTheSame = (s t : Sheet) → S.AreAlike s t → S.MeanTheSame s t
 -- two pairs of grammars of a sheet are alike
 abbrev pub OnePair : Type 0
 OnePair = (s : Sheet) (p q : Pair) → IsPairOf s p → IsPairOf s q → P.AreAlike p q
+
+-- two pairs of grammars of the same bytes are alike
+abbrev pub OnePairOfBytes : Type 0
+OnePairOfBytes = (bytes : List ℕ) (s t : Sheet) (p q : Pair) → IsSheetOf bytes s → IsSheetOf bytes t → IsPairOf s p → IsPairOf t q → P.AreAlike p q
+
+-- pairs of grammars that are alike mean the same
+abbrev pub AlikePairsMeanTheSame : Type 0
+AlikePairsMeanTheSame = (p q : Pair) → P.AreAlike p q → P.MeanTheSame p q

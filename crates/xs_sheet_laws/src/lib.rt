@@ -10,7 +10,7 @@
 #![tactic(auto)]
 
 ghost use Rattle.xs_sheet_laws.specs.Meanings.{AlikeMeanTheSame, AlikeAreCheckedAlike};
-ghost use Rattle.xs_sheet_laws.specs.Laws.{OneSheet, AlikeSheetsMeanTheSame, OnePair};
+ghost use Rattle.xs_sheet_laws.specs.Laws.{OneSheet, AlikeSheetsMeanTheSame, OnePair, OnePairOfBytes, AlikePairsMeanTheSame};
 
 /// Two sheets of the same bytes are alike.
 pub fn one_sheet()
@@ -23,9 +23,15 @@ pub fn alike_sheets_mean_the_same()
     ensures { AlikeSheetsMeanTheSame }
 {}
 
-/// Two pairs of grammars of one sheet are alike.
+/// Two pairs of grammars of one sheet are alike, and so are two of the same bytes.
 pub fn one_pair()
-    ensures { OnePair }
+    ensures sheet { OnePair }
+    ensures bytes { OnePairOfBytes }
+{}
+
+/// Pairs of grammars that are alike have the same names, and mean the same on either side.
+pub fn alike_pairs_mean_the_same()
+    ensures { AlikePairsMeanTheSame }
 {}
 
 /// Grammars that are alike have the same derivations, trees, words and suspects.

@@ -27,7 +27,12 @@ use Rattle.xs_leiden.specs.Sheet.{leiden_core}
 use Rattle.xs_leiden.specs.Made.{made_text}
 use Rattle.xs_words.specs.Command.{Sheet as Named}
 use Rattle.xs_top.specs.Devices.{Run, Input}
-use Rattle.xs_top.specs.Sheets.{IsUnpaired}
+use Rattle.xs_sheet.specs.Grammar.{IsSheetOf}
+use Rattle.xs_top.specs.Known.{HasBytes}
+use Rattle.xs_top.specs.Sheets.{IsFailed, IsPairOfBytes, IsUnpaired}
+use Rattle.xs_top.specs.Laws.{PairsAgree, SheetsAgree}
+use Rattle.xs_top.proofs.Known.{has_only, has_short, spelled_pair}
+use Rattle.xs_top.proofs.Agreeing.{doable_kept}
 use Rattle.xs_top.specs.Checks.{IsUnsure}
 use Rattle.xs_top.specs.Documents.{IsWordOf}
 use Rattle.xs_top.specs.Answers.{IsUnread}
@@ -39,7 +44,7 @@ same_ask a b e = cc
 not_none : (a : Ask) (o : Option Ask) → o ≡ None → o ≡ Some a → ⊥
 not_none a o e f = cc
 
-read_is : (old new : Option (List ℕ)) (text read : List ℕ) (limit : ℕ) → old ≡ Some text → Drains old new read limit → read ≡ text
+pub read_is : (old new : Option (List ℕ)) (text read : List ℕ) (limit : ℕ) → old ≡ Some text → Drains old new read limit → read ≡ text
 read_is None new text read limit is drains = cc
 read_is (Some xs) None text read limit is drains = absurd drains
 read_is (Some xs) (Some ys) text read limit is drains = let first = drains.0 in cc
@@ -47,7 +52,7 @@ read_is (Some xs) (Some ys) text read limit is drains = let first = drains.0 in 
 same_text : (xs ys : List ℕ) → Some xs ≡ Some ys → xs ≡ ys
 same_text xs ys e = cc
 
-not_long : (old new : Option (List ℕ)) (text : List ℕ) (limit : ℕ) → old ≡ Some text → length text ≤ limit → Exceeds old new limit → ⊥
+pub not_long : (old new : Option (List ℕ)) (text : List ℕ) (limit : ℕ) → old ≡ Some text → length text ≤ limit → Exceeds old new limit → ⊥
 not_long None new text limit is short exceeds = cc
 not_long (Some xs) None text limit is short exceeds = absurd exceeds
 not_long (Some xs) (Some ys) text limit is short exceeds =
@@ -56,30 +61,30 @@ not_long (Some xs) (Some ys) text limit is short exceeds =
     omega arith
 
 -- a document has one word
-one_word : OneReading → (side : Side) (form : Form) (names : List (List ℕ)) (bytes v w : List ℕ) → IsWordOf side form names bytes v → IsWordOf side form names bytes w → v ≡ w
+pub one_word : OneReading → (side : Side) (form : Form) (names : List (List ℕ)) (bytes v w : List ℕ) → IsWordOf side form names bytes v → IsWordOf side form names bytes w → v ≡ w
 one_word law Text form names bytes v w is_v is_w = is_v ∙ sym is_w
 one_word law Xml form names bytes v w is_v is_w = law names (text_of bytes AsIs) v w is_v is_w
 
 -- a rule that is light is not heavy
-not_heavy_rule : RuleWeighsOnce → (g : Grammar) (w : ℕ) → IsLight g → IsHeaviness g w → ⊥
+pub not_heavy_rule : RuleWeighsOnce → (g : Grammar) (w : ℕ) → IsLight g → IsHeaviness g w → ⊥
 not_heavy_rule law g w light (p, at) =
     let (v, weighs, few) = light p at.rule in
     let same : v ≡ w = law g p v w weighs at.weighs in
     omega (arith, few, same, at.heavy)
 
-not_heavy : RuleWeighsOnce → (p : Pair) (w : ℕ) → IsAccepted p.text p.xml → IsFirstHeavy p.text p.xml w → ⊥
+pub not_heavy : RuleWeighsOnce → (p : Pair) (w : ℕ) → IsAccepted p.text p.xml → IsFirstHeavy p.text p.xml w → ⊥
 not_heavy law p w accepted (inl heavy) = not_heavy_rule law p.text w accepted.light_text heavy
 not_heavy law p w accepted (inr heavy) = not_heavy_rule law p.xml w accepted.light_xml heavy.1
 
-not_shown : (text xml : Grammar) (found : Found) → IsAccepted text xml → IsSuspect text xml (shown found) → ⊥
+pub not_shown : (text xml : Grammar) (found : Found) → IsAccepted text xml → IsSuspect text xml (shown found) → ⊥
 not_shown text xml (Vertical Text rule rule2 word) accepted is = accepted.clear_text.0 rule rule2 word is
 not_shown text xml (Vertical Xml rule rule2 word) accepted is = accepted.clear_xml.0 rule rule2 word is
 not_shown text xml (Horizontal Text rule cut x a y) accepted is = accepted.clear_text.1 rule cut x a y is
 not_shown text xml (Horizontal Xml rule cut x a y) accepted is = accepted.clear_xml.1 rule cut x a y is
 
-module _ (law : OneReading) (weigh : RuleWeighsOnce) where
+module _ (law : OneReading) (weigh : RuleWeighsOnce) (agree : PairsAgree) (well : SheetsAgree) where
   -- an accepted sheet is not refused by its check
-  not_unsure : (p : Pair) (o : Outcome) → IsAccepted p.text p.xml → IsUnsure p o → ⊥
+  pub not_unsure : (p : Pair) (o : Outcome) → IsAccepted p.text p.xml → IsUnsure p o → ⊥
   not_unsure p (Heavy weight) accepted unsure = not_heavy weigh p weight accepted unsure
   not_unsure p (Suspect report) accepted unsure = not_shown p.text p.xml unsure.found accepted unsure.shows.1
   not_unsure p Done accepted unsure = absurd unsure
@@ -147,12 +152,16 @@ module _ (law : OneReading) (weigh : RuleWeighsOnce) where
   not_undone p i (Make seed lines) doable o (inl unchecked) = not_unsure p o doable.0 unchecked.1
   not_undone p i (Make seed lines) doable o (inr unread) = not_unread p Text AsIs (made_text seed lines) doable.1 o unread.2
 
-  module _ (run : Run) (sheet : Named) (job : Job) (clear : IsClear run sheet job) where
-    not_unpaired : (o : Outcome) → IsUnpaired run.shelf sheet o → ⊥
-    not_unpaired SheetFault (inl stopped) = clear.sheet_sure stopped
-    not_unpaired SheetLong (inl stopped) = clear.sheet_short stopped
-    not_unpaired (SheetBad at) (inr (bytes, are, bad)) = let (s, spelled) = clear.spelled bytes are in bad.none s spelled
-    not_unpaired (SheetIll ill) (inr (bytes, are, is)) = clear.well bytes is.sheet are is.spelled ill.rule ill.line is.is_ill.line.fails
+  -- bytes that are known and spell two grammars are no reason
+  module _ (run : Run) (sheet : Named) (known : List ℕ) (pair : Pair) (sure : IsFailed run.shelf sheet → ⊥) (has : HasBytes run.shelf.files sheet known) (spells : IsPairOfBytes known pair) where
+    pub not_unpaired : (o : Outcome) → IsUnpaired run.shelf sheet o → ⊥
+    not_unpaired SheetFault (inl stopped) = sure stopped
+    not_unpaired SheetLong (inl stopped) = has_short run.shelf.files sheet known has stopped
+    not_unpaired (SheetBad at) (inr (bytes, are, bad)) =
+        bad.none spells.sheet (subst (λ (b : List ℕ). IsSheetOf b spells.sheet) (sym (has_only run.shelf.files sheet known bytes has are)) spells.spelled)
+    not_unpaired (SheetIll ill) (inr (bytes, are, is)) =
+        let spelled : IsSheetOf known is.sheet = subst (λ (b : List ℕ). IsSheetOf b is.sheet) (has_only run.shelf.files sheet known bytes has are) is.spelled in
+        well known spells.sheet is.sheet spells.spelled spelled spells.well ill.rule ill.line is.is_ill.line.fails
     not_unpaired SheetFault (inr (bytes, are, bad)) = absurd bad
     not_unpaired SheetLong (inr (bytes, are, bad)) = absurd bad
     not_unpaired (SheetBad at) (inl stopped) = absurd stopped
@@ -204,17 +213,20 @@ module _ (law : OneReading) (weigh : RuleWeighsOnce) where
     went_done : (o : Outcome) (names : List (List ℕ)) → Went run o names → o ≡ Done
     went_done o names (no_command none read took) = absurd (not_none honest.ask (asked run.words) none honest.is)
     went_done o names (shipped_written is read took) = took_done leiden_core o took
-    went_done o names (unpaired sheet job is why read took) = absurd (not_unpaired run sheet job (its_clear sheet job is) o why)
-    went_done o names (undone sheet job p is spells why took) = absurd (not_undone p run.input job ((its_clear sheet job is).doable p spells) o why)
+    went_done o names (unpaired sheet job is why read took) = let clear = its_clear sheet job is in absurd (not_unpaired run sheet clear.bytes clear.pair clear.sheet_sure clear.has clear.spelled o why)
+    went_done o names (undone sheet job p is spells why took) =
+        let clear = its_clear sheet job is in
+        let same = agree clear.bytes clear.pair p clear.spelled (spelled_pair run.shelf.files sheet clear.bytes p clear.has spells) in
+        absurd (not_undone p run.input job (doable_kept clear.pair p same run.input job clear.doable) o why)
     went_done o names (answered sheet job p answer is spells has took) = took_done answer o took
 
     told_done : (o result : Outcome) (names : List (List ℕ)) → Went run o names → Tells run.notes names o result → result ≡ Done
     told_done o result names went (inl told) = told.0 ∙ went_done o names went
     told_done o result names went (inr (of, written, is, fails)) = absurd (honest.notes_sure fails.rose)
 
-pub complete : OneReading → RuleWeighsOnce → (run : Run) (result : Outcome) → Told run result → IsComplete run result
-complete law weigh run result (o, names, went, tells) honest = told_done law weigh run honest o result names went tells
+pub complete : OneReading → RuleWeighsOnce → PairsAgree → SheetsAgree → (run : Run) (result : Outcome) → Told run result → IsComplete run result
+complete law weigh agree well run result (o, names, went, tells) honest = told_done law weigh agree well run honest o result names went tells
 
-pub complete_if : OneReading → RuleWeighsOnce → (run : Run) (r : Result Outcome Refusal) → IfOk r (Told run) → IfOk r (IsComplete run)
-complete_if law weigh run (Ok result) told = complete law weigh run result told
-complete_if law weigh run (Err e) told = told
+pub complete_if : OneReading → RuleWeighsOnce → PairsAgree → SheetsAgree → (run : Run) (r : Result Outcome Refusal) → IfOk r (Told run) → IfOk r (IsComplete run)
+complete_if law weigh agree well run (Ok result) told = complete law weigh agree well run result told
+complete_if law weigh agree well run (Err e) told = told

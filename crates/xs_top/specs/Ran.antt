@@ -14,10 +14,7 @@ use Rattle.xs_check_laws.specs.Acceptance.{IsAccepted}
 use Rattle.xs_leiden.specs.Sheet.{leiden_core}
 use Rattle.xs_leiden.specs.Made.{made_text}
 use Rattle.xs_words.specs.Command.{Sheet as Named}
-use Rattle.xs_sheet.specs.declared.sheet.Sheet.{Sheet}
-use Rattle.xs_sheet.specs.Grammar.{IsSheetOf}
 use Rattle.xs_pair.specs.Grammars.{Pair, grammar_of}
-use Rattle.xs_wf.specs.Rules.{IsWell}
 use Rattle.xs_talk.specs.Lines.{line}
 use Rattle.xs_talk.specs.declared.outcome.Outcome.{Outcome}
 use Rattle.xs_talk.specs.declared.outcome.Outcome.TheVariants.{Done, Foreign, SheetLong, SheetBad, SheetIll, Heavy, Suspect, NotUtf8, NotXml, Usage, SheetFault, ReadFault, WriteFault, NoteFault, DocLong}
@@ -25,7 +22,8 @@ use Rattle.xs_top.specs.declared.asking.Job.{Job}
 use Rattle.xs_top.specs.declared.asking.Job.TheVariants.{Check, Turn, Trees, Make}
 use Rattle.xs_top.specs.Asked.{Ask, shipped, by, asked}
 use Rattle.xs_top.specs.Devices.{Input, Output, Run, ReadNothing, TookNothing}
-use Rattle.xs_top.specs.Sheets.{AreBytesOf, IsFailed, IsLong, SpellsPair, IsUnpaired}
+use Rattle.xs_top.specs.Known.{HasBytes}
+use Rattle.xs_top.specs.Sheets.{IsFailed, IsPairOfBytes, SpellsPair, IsUnpaired}
 use Rattle.xs_top.specs.Checks.{IsSure, IsUnsure}
 use Rattle.xs_talk.specs.Counts.{accepted_line}
 use Rattle.xs_top.specs.Documents.{IsWordOf}
@@ -138,13 +136,18 @@ IsDoable p i (Turn from to form) = IsAccepted p.text p.xml × IsReadable p i fro
 IsDoable p i (Trees max) = IsReadable p i Text AsIs
 IsDoable p i (Make seed lines) = IsAccepted p.text p.xml × IsOfLanguage p Text AsIs (made_text seed lines)
 
+<<<<<<< HEAD
 -- the sheet is known, did not fail, and is well formed, and nothing stands against the job
+=======
+-- The sheet did not fail, its bytes are known and spell two grammars, and nothing stands against the job by these.
+>>>>>>> ee247ca4dc823dd2842a6b5cb4fafdd79749a23f
 pub record IsClear (run : Run) (sheet : Named) (job : Job) : Type 0 where
   pub sheet_sure : IsFailed run.shelf sheet → ⊥
-  pub sheet_short : IsLong run.shelf.files sheet → ⊥
-  pub spelled : (bytes : List ℕ) → AreBytesOf run.shelf.files sheet bytes → (s : Sheet) × IsSheetOf bytes s
-  pub well : (bytes : List ℕ) (s : Sheet) → AreBytesOf run.shelf.files sheet bytes → IsSheetOf bytes s → IsWell s
-  pub doable : (p : Pair) → SpellsPair run.shelf.files sheet p → IsDoable p run.input job
+  pub bytes : List ℕ
+  pub has : HasBytes run.shelf.files sheet bytes
+  pub pair : Pair
+  pub spelled : IsPairOfBytes bytes pair
+  pub doable : IsDoable pair run.input job
 
 -- nothing stands against what is asked for; never against the shipped sheet
 abbrev pub IsFree : Run → Ask → Type 0

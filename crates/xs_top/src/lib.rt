@@ -15,6 +15,11 @@ mod answer;
 mod asking;
 mod checked;
 mod documents;
+<<<<<<< HEAD
+=======
+mod laws;
+mod lines;
+>>>>>>> ee247ca4dc823dd2842a6b5cb4fafdd79749a23f
 mod listed;
 mod notes;
 mod outcome;
@@ -30,6 +35,7 @@ use crate::sheets::pair_for;
 use crate::stop::Stop;
 use crate::written::written;
 pub use answer::DOCUMENT_LIMIT;
+pub use laws::{bytes_agree, check_decides, refuses_exactly, round_is_idempotent, translates_back};
 pub use outcome::status;
 pub use sheets::SHEET_LIMIT;
 use std::alloc::Global;
@@ -68,6 +74,7 @@ pub fn run<S: Source, H: Shelf, K: Sink, N: Sink>(
 {
     one_word();
     weights_are_exact();
+    bytes_agree();
     let room = room(alloc)?;
     let none = no_names(alloc)?;
     let (sheet, job) = match asked(words) {

@@ -27,7 +27,7 @@ returns-in-Err-Refused-clause-told g c =
     (record { left = refl; faults = refl }) (record { taken = refl; faults = refl }) c.in_ok-none.ensures told
 
 pub returns-in-Err-Refused-clause-complete : goal.returns-in-Err-Refused-clause-complete
-returns-in-Err-Refused-clause-complete g c = complete_if c.one_word.ensures c.weights_are_exact.ensures.rule _ c.tell-in-Err-Refused.result (returns-in-Err-Refused-clause-told g c)
+returns-in-Err-Refused-clause-complete g c = complete_if c.one_word.ensures c.weights_are_exact.ensures.rule c.bytes_agree.ensures.pairs c.bytes_agree.ensures.sheets _ c.tell-in-Err-Refused.result (returns-in-Err-Refused-clause-told g c)
 
 pub returns-in-Ok-answer_of-clause-told : goal.returns-in-Ok-answer_of-clause-told
 returns-in-Ok-answer_of-clause-told g c =
@@ -39,4 +39,4 @@ returns-in-Err-Refused-answer_of-clause-told g c =
     (record { taken = refl; faults = refl }) c.names.ensures c.tell-in-Err-Refused-answer_of.ensures.told
 
 pub returns-in-Err-Refused-answer_of-clause-complete : goal.returns-in-Err-Refused-answer_of-clause-complete
-returns-in-Err-Refused-answer_of-clause-complete g c = complete_if c.one_word.ensures c.weights_are_exact.ensures.rule _ c.tell-in-Err-Refused-answer_of.result (returns-in-Err-Refused-answer_of-clause-told g c)
+returns-in-Err-Refused-answer_of-clause-complete g c = complete_if c.one_word.ensures c.weights_are_exact.ensures.rule c.bytes_agree.ensures.pairs c.bytes_agree.ensures.sheets _ c.tell-in-Err-Refused-answer_of.result (returns-in-Err-Refused-answer_of-clause-told g c)

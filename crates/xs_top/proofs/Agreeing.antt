@@ -1,0 +1,55 @@
+-- What is known of one pair of grammars of a sheet is known of each.
+use Rattle.std.proofs.Common.{ℕ, List, sym, subst}
+use Rattle.xs_class.specs.declared.side.Side.{Side}
+use Rattle.xs_class.specs.declared.side.Side.TheVariants.{Text, Xml}
+use Rattle.xs_chars.specs.declared.form.Form.{Form}
+use Rattle.xs_chars.specs.declared.form.Form.TheVariants.{AsIs}
+use Rattle.xs_gram.specs.Languages.{IsUnique}
+use Rattle.xs_sheet_laws.specs.Meanings as M
+use Rattle.xs_sheet_laws.specs.Pairs as P
+use Rattle.xs_sheet_laws.specs.Laws.{OneSheet, AlikeSheetsMeanTheSame, OnePairOfBytes, AlikePairsMeanTheSame}
+use Rattle.xs_leiden.specs.Made.{made_text}
+use Rattle.xs_pair.specs.Grammars.{Pair, grammar_of}
+use Rattle.xs_top.specs.declared.asking.Job.{Job}
+use Rattle.xs_top.specs.declared.asking.Job.TheVariants.{Check, Turn, Trees, Make}
+use Rattle.xs_top.specs.Devices.{Input}
+use Rattle.xs_top.specs.Documents.{IsWordOf, IsDocument}
+use Rattle.xs_top.specs.Checks.{IsSure}
+use Rattle.xs_top.specs.Ran.{IsOfLanguage, IsReadable, IsDoable}
+use Rattle.xs_top.specs.Laws.{PairsAgree, SheetsAgree}
+
+pub pairs_agree_lem : OnePairOfBytes → AlikePairsMeanTheSame → PairsAgree
+pairs_agree_lem one mean bytes p q is_p is_q = mean p q (one bytes is_p.sheet is_q.sheet p q is_p.spelled is_q.spelled is_p.pair is_q.pair)
+
+pub sheets_agree_lem : OneSheet → AlikeSheetsMeanTheSame → SheetsAgree
+sheets_agree_lem one mean bytes s t is_s is_t well = (mean s t (one bytes s t is_s is_t)).well.0 well
+
+-- one side of two pairs
+pub on_side : (p q : Pair) → P.MeanTheSame p q → (side : Side) → M.MeanTheSame (grammar_of p side) (grammar_of q side)
+on_side p q same Text = same.text
+on_side p q same Xml = same.xml
+
+pub unique_on : (p : Pair) → IsSure p → (side : Side) → IsUnique (grammar_of p side)
+unique_on p sure Text = sure.text
+unique_on p sure Xml = sure.xml
+
+-- a document, and one of the language
+pub document_kept : (p q : Pair) → P.MeanTheSame p q → (side : Side) (form : Form) (bytes w : List ℕ) → IsDocument side form q.names bytes w → IsDocument side form p.names bytes w
+document_kept p q same side form bytes w is = subst (λ (ns : List (List ℕ)). IsDocument side form ns bytes w) (sym same.names) is
+
+language_kept : (p q : Pair) → P.MeanTheSame p q → (side : Side) (form : Form) (bytes : List ℕ) → IsOfLanguage p side form bytes → IsOfLanguage q side form bytes
+language_kept p q same side form bytes is = record {
+  utf8 = is.utf8;
+  word = is.word;
+  word_is = subst (λ (ns : List (List ℕ)). IsWordOf side form ns bytes is.word) same.names is.word_is;
+  language = ((on_side p q same side).words.in_lang is.word).0 is.language;
+}
+
+readable_kept : (p q : Pair) → P.MeanTheSame p q → (i : Input) (side : Side) (form : Form) → IsReadable p i side form → IsReadable q i side form
+readable_kept p q same i side form is = record { document = is.document; input = is.input; limit = is.limit; is = language_kept p q same side form is.document is.is; sure = is.sure }
+
+pub doable_kept : (p q : Pair) → P.MeanTheSame p q → (i : Input) (job : Job) → IsDoable p i job → IsDoable q i job
+doable_kept p q same i Check doable = same.checked.accepted.0 doable
+doable_kept p q same i (Turn from to form) doable = (same.checked.accepted.0 doable.0, readable_kept p q same i from form doable.1)
+doable_kept p q same i (Trees max) doable = readable_kept p q same i Text AsIs doable
+doable_kept p q same i (Make seed lines) doable = (same.checked.accepted.0 doable.0, language_kept p q same Text AsIs (made_text seed lines) doable.1)

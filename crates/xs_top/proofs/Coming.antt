@@ -1,0 +1,110 @@
+-- How an outcome came of a job by a sheet whose bytes are known.
+use Rattle.std.proofs.Common.{◌≡◌, ◌⊎◌, ◌∙◌, inl, inr, ℕ, List, ◌++◌, None, Some, sym, subst}
+use Rattle.std.proofs.lemmas.List.{append_cancel_left}
+use Rattle.std.specs.Io.KnownBytes.{Appends}
+use Rattle.std.specs.declared.option.Option.{Option}
+use Rattle.xs_io.specs.Causes.{Rose}
+use Rattle.xs_class.specs.declared.side.Side.{Side}
+use Rattle.xs_class.specs.declared.side.Side.TheVariants.{Text}
+use Rattle.xs_chars.specs.declared.form.Form.{Form}
+use Rattle.xs_chars.specs.declared.form.Form.TheVariants.{AsIs}
+use Rattle.xs_words.specs.Command.{Sheet as Named}
+use Rattle.xs_pair.specs.Grammars.{Pair}
+use Rattle.xs_talk.specs.declared.outcome.Outcome.{Outcome}
+use Rattle.xs_talk.specs.declared.outcome.Outcome.TheVariants.{Done, NoteFault}
+use Rattle.xs_top.specs.declared.asking.Job.{Job}
+use Rattle.xs_top.specs.declared.asking.Job.TheVariants.{Check, Turn, Trees, Make}
+use Rattle.xs_top.specs.Asked.{Ask, shipped, by}
+use Rattle.xs_top.specs.Devices.{Run, Input}
+use Rattle.xs_top.specs.Known.{HasBytes}
+use Rattle.xs_top.specs.Sheets.{IsPairOfBytes, IsUnpaired}
+use Rattle.xs_top.specs.Ran.{IsUnanswered, IsUndone, IsAnswer, Took, Went, no_command, shipped_written, unpaired, undone, answered, Told}
+use Rattle.xs_top.specs.Runs.{AsksFor}
+use Rattle.xs_top.proofs.Known.{spelled_pair}
+
+-- before the job, of the job, or with an answer to it
+pub data Came (run : Run) (sheet : List ℕ) (named : Named) (job : Job) (o : Outcome) : Type 0 where
+  before : IsUnpaired run.shelf named o → Came run sheet named job o
+  of_job : (p : Pair) → IsPairOfBytes sheet p → IsUndone p run.input job o → Came run sheet named job o
+  with_answer : (p : Pair) → IsPairOfBytes sheet p → (answer : List ℕ) → IsAnswer p run.input job answer → Took run.out answer o → Came run sheet named job o
+
+one_ask : (n m : Named) (j k : Job) → by n j ≡ by m k → (n ≡ m) × (j ≡ k)
+one_ask n m j k e = (cc, cc)
+
+some_ask : (a b : Ask) → Some a ≡ Some b → a ≡ b
+some_ask a b e = cc
+
+none_asked : (a : Ask) → Some a ≡ None → ⊥
+none_asked a e = cc
+
+not_shipped : (n : Named) (j : Job) → Some shipped ≡ Some (by n j) → ⊥
+not_shipped n j e = cc
+
+went_came : (run : Run) (sheet : List ℕ) (job : Job) (asks : AsksFor run job sheet) (o : Outcome) (names : List (List ℕ)) → Went run o names → Came run sheet asks.named job o
+went_came run sheet job asks o names (no_command none read took) = absurd (none_asked (by asks.named job) (sym asks.is ∙ none))
+went_came run sheet job asks o names (shipped_written is read took) = absurd (not_shipped asks.named job (sym is ∙ asks.is))
+went_came run sheet job asks o names (unpaired named' job' is why read took) =
+    let same = one_ask named' asks.named job' job (some_ask (by named' job') (by asks.named job) (sym is ∙ asks.is)) in
+    before (subst (λ (n : Named). IsUnpaired run.shelf n o) same.0 why)
+went_came run sheet job asks o names (undone named' job' p is spells why took) =
+    let same = one_ask named' asks.named job' job (some_ask (by named' job') (by asks.named job) (sym is ∙ asks.is)) in
+    let has : HasBytes run.shelf.files named' sheet = subst (λ (n : Named). HasBytes run.shelf.files n sheet) (sym same.0) asks.has in
+    of_job p (spelled_pair run.shelf.files named' sheet p has spells) (subst (λ (j : Job). IsUndone p run.input j o) same.1 why)
+went_came run sheet job asks o names (answered named' job' p answer is spells has_answer took) =
+    let same = one_ask named' asks.named job' job (some_ask (by named' job') (by asks.named job) (sym is ∙ asks.is)) in
+    let has : HasBytes run.shelf.files named' sheet = subst (λ (n : Named). HasBytes run.shelf.files n sheet) (sym same.0) asks.has in
+    with_answer p (spelled_pair run.shelf.files named' sheet p has spells) answer (subst (λ (j : Job). IsAnswer p run.input j answer) same.1 has_answer) took
+
+-- the outcome came so, or notes failed
+pub told_came : (run : Run) (sheet : List ℕ) (job : Job) (asks : AsksFor run job sheet) (o : Outcome) → Told run o → Came run sheet asks.named job o ⊎ ((of : ℕ) × (written : ℕ) × (o ≡ NoteFault of written) × Rose run.notes.faults_before run.notes.faults_now)
+told_came run sheet job asks o (other, names, went, inl (is, line)) = inl (subst (λ (x : Outcome). Came run sheet asks.named job x) (sym is) (went_came run sheet job asks other names went))
+told_came run sheet job asks o (other, names, went, inr (of, written, is, fails)) = inr (of, written, is, fails.rose)
+
+-- `Done` comes with an answer
+unanswered_not_done : (p : Pair) (i : Input) (side : Side) (form : Form) → IsUnanswered p i side form Done → ⊥
+unanswered_not_done p i side form (inl untaken) = untaken
+unanswered_not_done p i side form (inr (bytes, takes, unread)) = unread
+
+undone_not_done : (p : Pair) (i : Input) (job : Job) → IsUndone p i job Done → ⊥
+undone_not_done p i Check why = why.1
+undone_not_done p i (Turn from to form) (inl unchecked) = unchecked.1
+undone_not_done p i (Turn from to form) (inr (sure, why)) = unanswered_not_done p i from form why
+undone_not_done p i (Trees max) why = unanswered_not_done p i Text AsIs why
+undone_not_done p i (Make seed lines) (inl unchecked) = unchecked.1
+undone_not_done p i (Make seed lines) (inr (read, sure, unread)) = unread
+
+pub record IsAnswered (run : Run) (sheet : List ℕ) (job : Job) : Type 0 where
+  pub pair : Pair
+  pub is_pair : IsPairOfBytes sheet pair
+  pub answer : List ℕ
+  pub is_answer : IsAnswer pair run.input job answer
+  pub appends : Appends run.out.taken_before run.out.taken_now answer
+
+came_answered : (run : Run) (sheet : List ℕ) (named : Named) (job : Job) → Came run sheet named job Done → IsAnswered run sheet job
+came_answered run sheet named job (before (inl stopped)) = absurd stopped
+came_answered run sheet named job (before (inr (bytes, are, bad))) = absurd bad
+came_answered run sheet named job (of_job p is why) = absurd (undone_not_done p run.input job why)
+came_answered run sheet named job (with_answer p is answer has took) = record { pair = p; is_pair = is; answer = answer; is_answer = has; appends = took }
+
+not_note : (of written : ℕ) → Done ≡ NoteFault of written → ⊥
+not_note of written e = cc
+
+pub done_answered : (run : Run) (sheet : List ℕ) (job : Job) → AsksFor run job sheet → Told run Done → IsAnswered run sheet job
+done_answered run sheet job asks told = by_case (told_came run sheet job asks Done told)
+  where
+    by_case : Came run sheet asks.named job Done ⊎ ((of : ℕ) × (written : ℕ) × (Done ≡ NoteFault of written) × Rose run.notes.faults_before run.notes.faults_now) → IsAnswered run sheet job
+    by_case (inl came) = came_answered run sheet asks.named job came
+    by_case (inr (of, written, is, rose)) = absurd (not_note of written is)
+
+-- what was appended to known bytes is known
+same_known : (xs ys : List ℕ) → Some xs ≡ Some ys → xs ≡ ys
+same_known xs ys e = cc
+
+pub appended : (old new : Option (List ℕ)) (front a b : List ℕ) → old ≡ Some front → new ≡ Some (front ++ a) → Appends old new b → b ≡ a
+appended None new front a b is now appends = absurd (none_known front is)
+  where
+    none_known : (xs : List ℕ) → ◌≡◌ {A = Option (List ℕ)} None (Some xs) → ⊥
+    none_known xs e = cc
+appended (Some xs) None front a b is now appends = absurd appends
+appended (Some xs) (Some ys) front a b is now appends =
+    append_cancel_left front b a (sym (subst (λ (z : List ℕ). ys ≡ z ++ b) (same_known xs front is) appends) ∙ same_known ys (front ++ a) now)

@@ -1,0 +1,235 @@
+-- Two runs that check the same sheet tell the same of it.
+use Rattle.std.proofs.Common.{◌≡◌, ◌⊎◌, ◌∙◌, inl, inr, ℕ, List, None, Some, refl, sym, subst}
+use Rattle.xs_io.specs.Causes.{Rose}
+use Rattle.xs_class.specs.declared.side.Side.{Side}
+use Rattle.xs_class.specs.declared.side.Side.TheVariants.{Text}
+use Rattle.xs_chars.specs.declared.form.Form.{Form}
+use Rattle.xs_chars.specs.declared.form.Form.TheVariants.{AsIs}
+use Rattle.xs_xml.specs.Laws.{OneReading}
+use Rattle.xs_check_laws.specs.Acceptance.{IsAccepted, IsFirstHeavy}
+use Rattle.xs_check_laws.specs.Laws.{RuleWeighsOnce}
+use Rattle.xs_sheet.specs.declared.sheet.Sheet.{Sheet}
+use Rattle.xs_sheet.specs.Grammar.{IsSheetOf}
+use Rattle.xs_words.specs.Command.{Sheet as Named}
+use Rattle.xs_leiden.specs.Made.{made_text}
+use Rattle.xs_pair.specs.Grammars.{Pair}
+use Rattle.xs_wf.specs.Rules.{IsWell}
+use Rattle.xs_talk.specs.declared.outcome.Report.{Report}
+use Rattle.xs_talk.specs.declared.outcome.Outcome.{Outcome}
+use Rattle.xs_talk.specs.declared.outcome.Outcome.TheVariants.{Done, Foreign, SheetLong, SheetBad, SheetIll, Heavy, Suspect, NotUtf8, NotXml, SheetFault, ReadFault, WriteFault, NoteFault, DocLong}
+use Rattle.xs_top.specs.declared.asking.Job.{Job}
+use Rattle.xs_top.specs.declared.asking.Job.TheVariants.{Check, Turn, Trees, Make}
+use Rattle.xs_top.specs.Devices.{Run, Input}
+use Rattle.xs_top.specs.Known.{HasBytes}
+use Rattle.xs_top.specs.Sheets.{IsStopped, IsBadBytes, IsPairOfBytes, IsUnpaired}
+use Rattle.xs_top.specs.Checks.{IsReported, IsUnsure, IsSure}
+use Rattle.xs_top.specs.Answers.{IsUnread}
+use Rattle.xs_top.specs.Ran.{IsUntaken, IsUnanswered, IsUndone, IsAnswer, Took, Told}
+use Rattle.xs_top.specs.Runs.{AsksFor, Verdict, bad, ill, heavy, suspect, accepted}
+use Rattle.xs_top.specs.Laws.{PairsAgree, SheetsAgree, IsChecked, verdict, OneVerdict, RefusesSheet, CheckDecides}
+use Rattle.xs_top.proofs.Known.{has_only, has_short}
+use Rattle.xs_top.proofs.Completing.{not_heavy_rule, not_heavy, not_shown, not_unsure}
+use Rattle.xs_top.proofs.Coming.{Came, before, of_job, with_answer, told_came, done_answered}
+
+-- what a verdict means of the bytes
+abbrev Means : List ℕ → Verdict → Type 0
+Means bytes bad = (s : Sheet) → IsSheetOf bytes s → ⊥
+Means bytes ill = (s : Sheet) × IsSheetOf bytes s × (IsWell s → ⊥)
+Means bytes heavy = (p : Pair) × IsPairOfBytes bytes p × (weight : ℕ) × IsFirstHeavy p.text p.xml weight
+Means bytes suspect = (p : Pair) × IsPairOfBytes bytes p × (report : Report) × IsReported p report
+Means bytes accepted = (p : Pair) × IsPairOfBytes bytes p × IsAccepted p.text p.xml
+
+some_verdict : (v w : Verdict) → Some v ≡ Some w → v ≡ w
+some_verdict v w e = cc
+
+none_verdict : (v : Verdict) → None ≡ Some v → ⊥
+none_verdict v e = cc
+
+as_verdict : (bytes : List ℕ) (v w : Verdict) → Some v ≡ Some w → Means bytes v → Means bytes w
+as_verdict bytes v w e m = subst (Means bytes) (some_verdict v w e) m
+
+-- before the job
+stopped_means : (run : Run) (named : Named) (sheet : List ℕ) (o : Outcome) (v : Verdict) → IsStopped run.shelf named o → verdict o ≡ Some v → Means sheet v
+stopped_means run named sheet SheetFault v stopped is = absurd (none_verdict v is)
+stopped_means run named sheet SheetLong v stopped is = absurd (none_verdict v is)
+stopped_means run named sheet o v stopped is = absurd stopped
+
+bad_means : (sheet : List ℕ) (o : Outcome) (v : Verdict) → IsBadBytes sheet o → verdict o ≡ Some v → Means sheet v
+bad_means sheet (SheetBad at) v why is = as_verdict sheet bad v is why.none
+bad_means sheet (SheetIll which) v why is = as_verdict sheet ill v is (why.sheet, why.spelled, λ well. well which.rule which.line why.is_ill.line.fails)
+bad_means sheet o v why is = absurd why
+
+unpaired_means : (run : Run) (named : Named) (sheet : List ℕ) → HasBytes run.shelf.files named sheet → (o : Outcome) (v : Verdict) → IsUnpaired run.shelf named o → verdict o ≡ Some v → Means sheet v
+unpaired_means run named sheet has o v (inl stopped) is = stopped_means run named sheet o v stopped is
+unpaired_means run named sheet has o v (inr (bytes, are, why)) is = bad_means sheet o v (subst (λ (b : List ℕ). IsBadBytes b o) (has_only run.shelf.files named sheet bytes has are) why) is
+
+-- of the job
+unsure_means : (sheet : List ℕ) (p : Pair) → IsPairOfBytes sheet p → (o : Outcome) (v : Verdict) → IsUnsure p o → verdict o ≡ Some v → Means sheet v
+unsure_means sheet p is_p (Heavy weight) v why is = as_verdict sheet heavy v is (p, is_p, weight, why)
+unsure_means sheet p is_p (Suspect report) v why is = as_verdict sheet suspect v is (p, is_p, report, why)
+unsure_means sheet p is_p o v why is = absurd why
+
+untaken_accepted : (i : Input) (o : Outcome) → IsUntaken i o → verdict o ≡ Some accepted
+untaken_accepted i ReadFault why = refl
+untaken_accepted i DocLong why = refl
+untaken_accepted i o why = absurd why
+
+unread_accepted : (p : Pair) (side : Side) (form : Form) (bytes : List ℕ) (o : Outcome) → IsUnread p side form bytes o → verdict o ≡ Some accepted
+unread_accepted p side form bytes (Foreign viable) why = refl
+unread_accepted p side form bytes (NotUtf8 at) why = refl
+unread_accepted p side form bytes (NotXml at) why = refl
+unread_accepted p side form bytes o why = absurd why
+
+unanswered_accepted : (p : Pair) (i : Input) (side : Side) (form : Form) (o : Outcome) → IsUnanswered p i side form o → verdict o ≡ Some accepted
+unanswered_accepted p i side form o (inl untaken) = untaken_accepted i o untaken
+unanswered_accepted p i side form o (inr (bytes, takes, unread)) = unread_accepted p side form bytes o unread
+
+took_accepted : (run : Run) (answer : List ℕ) (o : Outcome) → Took run.out answer o → verdict o ≡ Some accepted
+took_accepted run answer Done took = refl
+took_accepted run answer (WriteFault written) took = refl
+took_accepted run answer o took = absurd took
+
+sure_means : (sheet : List ℕ) (p : Pair) → IsPairOfBytes sheet p → IsSure p → (o : Outcome) (v : Verdict) → verdict o ≡ Some accepted → verdict o ≡ Some v → Means sheet v
+sure_means sheet p is_p sure o v is_accepted is = as_verdict sheet accepted v (sym is_accepted ∙ is) (p, is_p, sure.accepted)
+
+undone_means : (sheet : List ℕ) (p : Pair) (i : Input) (job : Job) → IsChecked job → IsPairOfBytes sheet p → (o : Outcome) (v : Verdict) → IsUndone p i job o → verdict o ≡ Some v → Means sheet v
+undone_means sheet p i Check checked is_p o v why is = unsure_means sheet p is_p o v why.1 is
+undone_means sheet p i (Turn from to form) checked is_p o v (inl why) is = unsure_means sheet p is_p o v why.1 is
+undone_means sheet p i (Turn from to form) checked is_p o v (inr (sure, why)) is = sure_means sheet p is_p sure o v (unanswered_accepted p i from form o why) is
+undone_means sheet p i (Trees max) checked is_p o v why is = absurd checked
+undone_means sheet p i (Make seed lines) checked is_p o v (inl why) is = unsure_means sheet p is_p o v why.1 is
+undone_means sheet p i (Make seed lines) checked is_p o v (inr (read, sure, why)) is = sure_means sheet p is_p sure o v (unread_accepted p Text AsIs (made_text seed lines) o why) is
+
+answer_sure : (p : Pair) (i : Input) (job : Job) (answer : List ℕ) → IsChecked job → IsAnswer p i job answer → IsSure p
+answer_sure p i Check answer checked has = has.1
+answer_sure p i (Turn from to form) answer checked has = has.0
+answer_sure p i (Trees max) answer checked has = absurd checked
+answer_sure p i (Make seed lines) answer checked has = has.1
+
+came_means : (run : Run) (sheet : List ℕ) (named : Named) (job : Job) → HasBytes run.shelf.files named sheet → IsChecked job → (o : Outcome) (v : Verdict) → Came run sheet named job o → verdict o ≡ Some v → Means sheet v
+came_means run sheet named job has checked o v (before why) is = unpaired_means run named sheet has o v why is
+came_means run sheet named job has checked o v (of_job p is_p why) is = undone_means sheet p run.input job checked is_p o v why is
+came_means run sheet named job has checked o v (with_answer p is_p answer has_answer took) is = sure_means sheet p is_p (answer_sure p run.input job answer checked has_answer) o v (took_accepted run answer o took) is
+
+note_verdict : (of written : ℕ) (v : Verdict) (o : Outcome) → o ≡ NoteFault of written → verdict o ≡ Some v → ⊥
+note_verdict of written v o e is = none_verdict v (subst (λ (x : Outcome). verdict x ≡ Some v) e is)
+
+told_means : (run : Run) (sheet : List ℕ) (job : Job) → AsksFor run job sheet → IsChecked job → (o : Outcome) (v : Verdict) → Told run o → verdict o ≡ Some v → Means sheet v
+told_means run sheet job asks checked o v told is = by_case (told_came run sheet job asks o told)
+  where
+    by_case : Came run sheet asks.named job o ⊎ ((of : ℕ) × (written : ℕ) × (o ≡ NoteFault of written) × Rose run.notes.faults_before run.notes.faults_now) → Means sheet v
+    by_case (inl came) = came_means run sheet asks.named job asks.has checked o v came is
+    by_case (inr (of, written, note, rose)) = absurd (note_verdict of written v o note is)
+
+module _ (law : OneReading) (weigh : RuleWeighsOnce) (agree : PairsAgree) (well : SheetsAgree) where
+  -- no two verdicts hold of the same bytes
+  bad_not : (sheet : List ℕ) → Means sheet bad → (p : Pair) → IsPairOfBytes sheet p → ⊥
+  bad_not sheet none p is_p = none is_p.sheet is_p.spelled
+
+  ill_not : (sheet : List ℕ) → Means sheet ill → (p : Pair) → IsPairOfBytes sheet p → ⊥
+  ill_not sheet (s, spelled, is) p is_p = is (well sheet is_p.sheet s is_p.spelled spelled is_p.well)
+
+  heavy_not_suspect : (sheet : List ℕ) → Means sheet heavy → Means sheet suspect → ⊥
+  heavy_not_suspect sheet (p, is_p, weight, is_heavy) (q, is_q, report, is) = by_case (((agree sheet p q is_p is_q).checked.heavy weight).0 is_heavy)
+    where
+      by_case : IsFirstHeavy q.text q.xml weight → ⊥
+      by_case (inl one) = not_heavy_rule weigh q.text weight is.light_text one
+      by_case (inr two) = not_heavy_rule weigh q.xml weight is.light_xml two.1
+
+  heavy_not_accepted : (sheet : List ℕ) → Means sheet heavy → Means sheet accepted → ⊥
+  heavy_not_accepted sheet (p, is_p, weight, is_heavy) (q, is_q, is) = not_heavy weigh q weight is (((agree sheet p q is_p is_q).checked.heavy weight).0 is_heavy)
+
+  suspect_not_accepted : (sheet : List ℕ) → Means sheet suspect → Means sheet accepted → ⊥
+  suspect_not_accepted sheet (p, is_p, report, is_suspect) (q, is_q, is) = not_shown p.text p.xml is_suspect.found ((agree sheet q p is_q is_p).checked.accepted.0 is) is_suspect.shows.1
+
+  one_meaning : (sheet : List ℕ) (v w : Verdict) → Means sheet v → Means sheet w → v ≡ w
+  one_meaning sheet bad bad m n = refl
+  one_meaning sheet bad ill m n = absurd (m n.0 n.1)
+  one_meaning sheet bad heavy m n = absurd (bad_not sheet m n.0 n.1)
+  one_meaning sheet bad suspect m n = absurd (bad_not sheet m n.0 n.1)
+  one_meaning sheet bad accepted m n = absurd (bad_not sheet m n.0 n.1)
+  one_meaning sheet ill bad m n = absurd (n m.0 m.1)
+  one_meaning sheet ill ill m n = refl
+  one_meaning sheet ill heavy m n = absurd (ill_not sheet m n.0 n.1)
+  one_meaning sheet ill suspect m n = absurd (ill_not sheet m n.0 n.1)
+  one_meaning sheet ill accepted m n = absurd (ill_not sheet m n.0 n.1)
+  one_meaning sheet heavy bad m n = absurd (bad_not sheet n m.0 m.1)
+  one_meaning sheet heavy ill m n = absurd (ill_not sheet n m.0 m.1)
+  one_meaning sheet heavy heavy m n = refl
+  one_meaning sheet heavy suspect m n = absurd (heavy_not_suspect sheet m n)
+  one_meaning sheet heavy accepted m n = absurd (heavy_not_accepted sheet m n)
+  one_meaning sheet suspect bad m n = absurd (bad_not sheet n m.0 m.1)
+  one_meaning sheet suspect ill m n = absurd (ill_not sheet n m.0 m.1)
+  one_meaning sheet suspect heavy m n = absurd (heavy_not_suspect sheet n m)
+  one_meaning sheet suspect suspect m n = refl
+  one_meaning sheet suspect accepted m n = absurd (suspect_not_accepted sheet m n)
+  one_meaning sheet accepted bad m n = absurd (bad_not sheet n m.0 m.1)
+  one_meaning sheet accepted ill m n = absurd (ill_not sheet n m.0 m.1)
+  one_meaning sheet accepted heavy m n = absurd (heavy_not_accepted sheet n m)
+  one_meaning sheet accepted suspect m n = absurd (suspect_not_accepted sheet n m)
+  one_meaning sheet accepted accepted m n = refl
+
+  pub one_verdict_lem : OneVerdict
+  one_verdict_lem one two job other sheet asks also checked too o q told_o told_q v w is_v is_w =
+      one_meaning sheet v w (told_means one sheet job asks checked o v told_o is_v) (told_means two sheet other also too q w told_q is_w)
+
+  -- a run by a sheet that is accepted does not refuse it
+  unpaired_not : (run : Run) (named : Named) (sheet : List ℕ) → HasBytes run.shelf.files named sheet → (p : Pair) → IsPairOfBytes sheet p → (o : Outcome) → IsUnpaired run.shelf named o → RefusesSheet o → ⊥
+  unpaired_not run named sheet has p is_p SheetLong (inl stopped) refuses = has_short run.shelf.files named sheet has stopped
+  unpaired_not run named sheet has p is_p (SheetBad at) (inr (bytes, are, why)) refuses =
+      let moved = subst (λ (b : List ℕ). IsBadBytes b (SheetBad at)) (has_only run.shelf.files named sheet bytes has are) why in
+      bad_not sheet moved.none p is_p
+  unpaired_not run named sheet has p is_p (SheetIll which) (inr (bytes, are, why)) refuses =
+      let moved = subst (λ (b : List ℕ). IsBadBytes b (SheetIll which)) (has_only run.shelf.files named sheet bytes has are) why in
+      ill_not sheet (moved.sheet, moved.spelled, λ w. w which.rule which.line moved.is_ill.line.fails) p is_p
+  unpaired_not run named sheet has p is_p (SheetBad at) (inl stopped) refuses = stopped
+  unpaired_not run named sheet has p is_p (SheetIll which) (inl stopped) refuses = stopped
+  unpaired_not run named sheet has p is_p SheetLong (inr (bytes, are, why)) refuses = why
+  unpaired_not run named sheet has p is_p (Heavy weight) (inl stopped) refuses = stopped
+  unpaired_not run named sheet has p is_p (Heavy weight) (inr (bytes, are, why)) refuses = why
+  unpaired_not run named sheet has p is_p (Suspect report) (inl stopped) refuses = stopped
+  unpaired_not run named sheet has p is_p (Suspect report) (inr (bytes, are, why)) refuses = why
+  unpaired_not run named sheet has p is_p o why refuses = refuses
+
+  -- no outcome of a document refuses the sheet
+  accepted_not : (o : Outcome) → verdict o ≡ Some accepted → RefusesSheet o → ⊥
+  accepted_not (SheetBad at) is refuses = not_bad (some_verdict bad accepted is)
+    where
+      not_bad : bad ≡ accepted → ⊥
+      not_bad e = cc
+  accepted_not (SheetIll which) is refuses = not_ill (some_verdict ill accepted is)
+    where
+      not_ill : ill ≡ accepted → ⊥
+      not_ill e = cc
+  accepted_not (Heavy weight) is refuses = not_heavy_one (some_verdict heavy accepted is)
+    where
+      not_heavy_one : heavy ≡ accepted → ⊥
+      not_heavy_one e = cc
+  accepted_not (Suspect report) is refuses = not_suspect (some_verdict suspect accepted is)
+    where
+      not_suspect : suspect ≡ accepted → ⊥
+      not_suspect e = cc
+  accepted_not SheetLong is refuses = none_verdict accepted is
+  accepted_not o is refuses = refuses
+
+  undone_not : (p : Pair) (i : Input) (job : Job) → IsAccepted p.text p.xml → (o : Outcome) → IsUndone p i job o → RefusesSheet o → ⊥
+  undone_not p i Check is o why refuses = not_unsure law weigh agree well p o is why.1
+  undone_not p i (Turn from to form) is o (inl why) refuses = not_unsure law weigh agree well p o is why.1
+  undone_not p i (Turn from to form) is o (inr (sure, why)) refuses = accepted_not o (unanswered_accepted p i from form o why) refuses
+  undone_not p i (Trees max) is o why refuses = accepted_not o (unanswered_accepted p i Text AsIs o why) refuses
+  undone_not p i (Make seed lines) is o (inl why) refuses = not_unsure law weigh agree well p o is why.1
+  undone_not p i (Make seed lines) is o (inr (read, sure, why)) refuses = accepted_not o (unread_accepted p Text AsIs (made_text seed lines) o why) refuses
+
+  came_not : (run : Run) (sheet : List ℕ) (named : Named) (job : Job) → HasBytes run.shelf.files named sheet → Means sheet accepted → (o : Outcome) → Came run sheet named job o → RefusesSheet o → ⊥
+  came_not run sheet named job has (p, is_p, is) o (before why) refuses = unpaired_not run named sheet has p is_p o why refuses
+  came_not run sheet named job has (p, is_p, is) o (of_job q is_q why) refuses = undone_not q run.input job ((agree sheet p q is_p is_q).checked.accepted.0 is) o why refuses
+  came_not run sheet named job has (p, is_p, is) o (with_answer q is_q answer has_answer took) refuses = accepted_not o (took_accepted run answer o took) refuses
+
+  pub check_decides_lem : CheckDecides
+  check_decides_lem one two job sheet asks also is_done o told refuses = by_case (told_came two sheet job also o told)
+    where
+      by_case : Came two sheet also.named job o ⊎ ((of : ℕ) × (written : ℕ) × (o ≡ NoteFault of written) × Rose two.notes.faults_before two.notes.faults_now) → ⊥
+      by_case (inl came) =
+          let a = done_answered one sheet Check asks is_done in
+          came_not two sheet also.named job also.has (a.pair, a.is_pair, a.is_answer.1.accepted) o came refuses
+      by_case (inr (of, written, note, rose)) = subst (λ (x : Outcome). RefusesSheet x) note refuses

@@ -1,0 +1,8 @@
+use Rattle.xs_top.proofs.Verdicts.{one_verdict_lem, check_decides_lem}
+use Rattle.xs_top.proofs.laws.check_decides.Goals as goal
+
+pub returns-clause-one : goal.returns-clause-one
+returns-clause-one c = one_verdict_lem c.one_word.ensures c.weights_are_exact.ensures.rule c.bytes_agree.ensures.pairs c.bytes_agree.ensures.sheets
+
+pub returns-clause-decides : goal.returns-clause-decides
+returns-clause-decides c = check_decides_lem c.one_word.ensures c.weights_are_exact.ensures.rule c.bytes_agree.ensures.pairs c.bytes_agree.ensures.sheets

@@ -1,0 +1,145 @@
+-- The laws of a sheet, and of two runs or three by one sheet.
+use Rattle.std.specs.Prelude.{◌≡◌, ◌↔◌, ⊤, ℕ, List, None, Some}
+use Rattle.std.specs.declared.option.Option.{Option}
+use Rattle.std.specs.Io.KnownBytes.{Appends}
+use Rattle.xs_class.specs.declared.side.Side.{Side}
+use Rattle.xs_chars.specs.declared.form.Form.{Form}
+use Rattle.xs_chars.specs.declared.form.Form.TheVariants.{AsIs}
+use Rattle.xs_gram.specs.Languages.{InLang, IsViable}
+use Rattle.xs_check_laws.specs.Acceptance.{IsAccepted}
+use Rattle.xs_sheet.specs.declared.sheet.Sheet.{Sheet}
+use Rattle.xs_sheet.specs.Grammar.{IsSheetOf}
+use Rattle.xs_sheet_laws.specs.Pairs as P
+use Rattle.xs_pair.specs.Grammars.{Pair, grammar_of}
+use Rattle.xs_wf.specs.Rules.{IsWell}
+use Rattle.xs_talk.specs.declared.outcome.Outcome.{Outcome}
+use Rattle.xs_talk.specs.declared.outcome.Outcome.TheVariants.{Done, Foreign, SheetLong, SheetBad, SheetIll, Heavy, Suspect, NotUtf8, NotXml, Usage, SheetFault, ReadFault, WriteFault, NoteFault, DocLong}
+use Rattle.xs_top.specs.declared.asking.Job.{Job}
+use Rattle.xs_top.specs.declared.asking.Job.TheVariants.{Check, Turn, Trees, Make}
+use Rattle.xs_top.specs.Devices.{Run}
+use Rattle.xs_top.specs.Documents.{IsDocument}
+use Rattle.xs_top.specs.Sheets.{IsPairOfBytes}
+use Rattle.xs_top.specs.Ran.{Told, IsComplete}
+use Rattle.xs_top.specs.Runs.{AsksFor, Turns, Turned, IsNormalOf, Verdict, bad, ill, heavy, suspect, accepted}
+
+-- two pairs of grammars of the same bytes mean the same
+abbrev pub PairsAgree : Type 0
+PairsAgree = (bytes : List ℕ) (p q : Pair) → IsPairOfBytes bytes p → IsPairOfBytes bytes q → P.MeanTheSame p q
+
+-- where bytes spell a well-formed sheet, each sheet that they spell is well formed
+abbrev pub SheetsAgree : Type 0
+SheetsAgree = (bytes : List ℕ) (s t : Sheet) → IsSheetOf bytes s → IsSheetOf bytes t → IsWell s → IsWell t
+
+-- What a run wrote is turned back by the same sheet, into the first document with each ignorable in its normal
+-- spelling, unless memory is wanting.
+abbrev pub TranslatesBack : Type 0
+TranslatesBack =
+    (one two : Run) (from to : Side) (form : Form) (sheet document answer : List ℕ)
+    → Turned one from to form sheet document answer
+    → Turns two to from AsIs sheet answer
+    → (o : Outcome)
+    → Told two o
+    → IsComplete two o
+    → (o ≡ Done) × (back : List ℕ) × IsNormalOf sheet from form document back × Appends two.out.taken_before two.out.taken_now back
+
+-- what `round` wrote is written again by `round`
+abbrev pub RoundIsIdempotent : Type 0
+RoundIsIdempotent =
+    (one two : Run) (side : Side) (form : Form) (sheet document answer : List ℕ)
+    → Turned one side side form sheet document answer
+    → Turns two side side AsIs sheet answer
+    → (o : Outcome)
+    → Told two o
+    → IsComplete two o
+    → (o ≡ Done) × Appends two.out.taken_before two.out.taken_now answer
+
+-- a document that was turned, and turned back, is turned into the same document as before
+abbrev pub TranslatesAgain : Type 0
+TranslatesAgain =
+    (one two three : Run) (from to : Side) (form : Form) (sheet document answer back : List ℕ)
+    → Turned one from to form sheet document answer
+    → Turned two to from AsIs sheet answer back
+    → Turns three from to AsIs sheet back
+    → (o : Outcome)
+    → Told three o
+    → IsComplete three o
+    → (o ≡ Done) × Appends three.out.taken_before three.out.taken_now answer
+
+-- a document of an accepted sheet is turned exactly where it is of the language, and else refused with its longest viable prefix
+pub record IsDecided (p : Pair) (side : Side) (word : List ℕ) (o : Outcome) : Type 0 where
+  pub turned : (o ≡ Done) ↔ InLang (grammar_of p side) word
+  pub refused : ((viable : ℕ) × (o ≡ Foreign viable) × IsViable (grammar_of p side) word viable) ↔ (InLang (grammar_of p side) word → ⊥)
+
+abbrev pub RefusesExactly : Type 0
+RefusesExactly =
+    (run : Run) (from to : Side) (form : Form) (sheet document word : List ℕ) (p : Pair)
+    → IsPairOfBytes sheet p
+    → IsAccepted p.text p.xml
+    → Turns run from to form sheet document
+    → IsDocument from form p.names document word
+    → (o : Outcome)
+    → Told run o
+    → IsComplete run o
+    → IsDecided p from word o
+
+-- a job for which the sheet is checked
+abbrev pub IsChecked : Job → Type 0
+IsChecked (Trees max) = ⊥
+IsChecked Check = ⊤
+IsChecked (Turn from to form) = ⊤
+IsChecked (Make seed lines) = ⊤
+
+-- what an outcome tells of the sheet's bytes: none where they could not be had, or nothing was done with them
+abbrev pub verdict : Outcome → Option Verdict
+verdict (SheetBad at) = Some bad
+verdict (SheetIll which) = Some ill
+verdict (Heavy weight) = Some heavy
+verdict (Suspect report) = Some suspect
+verdict Done = Some accepted
+verdict (Foreign viable) = Some accepted
+verdict (NotUtf8 at) = Some accepted
+verdict (NotXml at) = Some accepted
+verdict DocLong = Some accepted
+verdict ReadFault = Some accepted
+verdict (WriteFault written) = Some accepted
+verdict SheetLong = None
+verdict Usage = None
+verdict SheetFault = None
+verdict (NoteFault of written) = None
+
+-- two runs that check the same sheet tell the same of it
+abbrev pub OneVerdict : Type 0
+OneVerdict =
+    (one two : Run) (job other : Job) (sheet : List ℕ)
+    → AsksFor one job sheet
+    → AsksFor two other sheet
+    → IsChecked job
+    → IsChecked other
+    → (o q : Outcome)
+    → Told one o
+    → Told two q
+    → (v w : Verdict)
+    → verdict o ≡ Some v
+    → verdict q ≡ Some w
+    → v ≡ w
+
+-- an outcome that refuses the sheet
+abbrev pub RefusesSheet : Outcome → Type 0
+RefusesSheet (SheetBad at) = ⊤
+RefusesSheet (SheetIll which) = ⊤
+RefusesSheet (Heavy weight) = ⊤
+RefusesSheet (Suspect report) = ⊤
+RefusesSheet SheetLong = ⊤
+RefusesSheet o = ⊥
+
+-- once `check` was done, no run by the same sheet refuses it
+abbrev pub CheckDecides : Type 0
+CheckDecides =
+    (one two : Run) (job : Job) (sheet : List ℕ)
+    → AsksFor one Check sheet
+    → AsksFor two job sheet
+    → Told one Done
+    → (o : Outcome)
+    → Told two o
+    → RefusesSheet o
+    → ⊥

@@ -1,0 +1,76 @@
+-- What a run asks for and reads, where its devices tell it, and what it turned.
+use Rattle.std.specs.Prelude.{◌≡◌, ℕ, ◌≤◌, List, ◌++◌, length, Some}
+use Rattle.xs_io.specs.Causes.{Rose}
+use Rattle.xs_class.specs.declared.side.Side.{Side}
+use Rattle.xs_chars.specs.declared.form.Form.{Form}
+use Rattle.xs_words.specs.Command.{Sheet as Named}
+use Rattle.xs_gram.specs.Derivations.{Parts, done, fixed, leaf, skip, sub, Derivation, yield, normal}
+use Rattle.xs_gram.specs.Languages.{Derives}
+use Rattle.xs_pair.specs.Grammars.{Pair, grammar_of}
+use Rattle.xs_talk.specs.declared.outcome.Outcome.TheVariants.{Done}
+use Rattle.xs_top.specs.declared.asking.Job.{Job}
+use Rattle.xs_top.specs.declared.asking.Job.TheVariants.{Turn}
+use Rattle.xs_top.specs.Asked.{by, asked}
+use Rattle.xs_top.specs.Devices.{Run}
+use Rattle.xs_top.specs.Documents.{IsDocument, document_bytes}
+use Rattle.xs_top.specs.Known.{HasBytes}
+use Rattle.xs_top.specs.Sheets.{IsPairOfBytes}
+use Rattle.xs_top.specs.Ran.{Told}
+
+-- the words ask for the job by a sheet of these bytes
+pub record AsksFor (run : Run) (job : Job) (sheet : List ℕ) : Type 0 where
+  pub named : Named
+  pub is : asked run.words ≡ Some (by named job)
+  pub has : HasBytes run.shelf.files named sheet
+
+-- no count of a device rose
+pub record NoneRose (run : Run) : Type 0 where
+  pub shelf : Rose run.shelf.faults_before run.shelf.faults_now → ⊥
+  pub input : Rose run.input.faults_before run.input.faults_now → ⊥
+  pub out : Rose run.out.faults_before run.out.faults_now → ⊥
+  pub notes : Rose run.notes.faults_before run.notes.faults_now → ⊥
+
+-- the run is to turn this document from one side to the other by a sheet of these bytes, and no device fails
+pub record Turns (run : Run) (from to : Side) (form : Form) (sheet document : List ℕ) : Type 0 where
+  pub asks : AsksFor run (Turn from to form) sheet
+  pub input : run.input.left_before ≡ Some document
+  pub short : length document ≤ 1048576
+  pub none_rose : NoneRose run
+
+-- the run turned this document, and this is what out took
+pub record Turned (run : Run) (from to : Side) (form : Form) (sheet document answer : List ℕ) : Type 0 where
+  pub asks : AsksFor run (Turn from to form) sheet
+  pub input : run.input.left_before ≡ Some document
+  pub before : List ℕ
+  pub taken_before : run.out.taken_before ≡ Some before
+  pub taken_now : run.out.taken_now ≡ Some (before ++ answer)
+  pub is_done : Told run Done
+
+-- no part of a derivation is an ignorable
+abbrev pub HaveNoIgnorable : Parts → Type 0
+HaveNoIgnorable done = Unit {0}
+HaveNoIgnorable (fixed u ps) = HaveNoIgnorable ps
+HaveNoIgnorable (leaf u ps) = HaveNoIgnorable ps
+HaveNoIgnorable (skip u ps) = ⊥
+HaveNoIgnorable (sub q qs ps) = HaveNoIgnorable qs × HaveNoIgnorable ps
+
+-- The document of a side has one derivation by the sheet, and the bytes are it with each ignorable in its normal
+-- spelling; where it has no ignorable they are the document itself as it is written.
+pub record IsNormalOf (sheet : List ℕ) (side : Side) (form : Form) (document bytes : List ℕ) : Type 0 where
+  pub pair : Pair
+  pub is_pair : IsPairOfBytes sheet pair
+  pub word : List ℕ
+  pub is_document : IsDocument side form pair.names document word
+  pub derivation : Derivation
+  pub derives : Derives (grammar_of pair side) word derivation
+  pub only : (other : Derivation) → Derives (grammar_of pair side) word other → other ≡ derivation
+  pub is_normal : bytes ≡ document_bytes side pair.names (yield (normal (grammar_of pair side) derivation))
+  pub same : HaveNoIgnorable derivation.parts → bytes ≡ document_bytes side pair.names word
+
+-- what an outcome tells of the bytes of a sheet that is checked
+pub data Verdict : Type 0 where
+  bad : Verdict
+  ill : Verdict
+  heavy : Verdict
+  suspect : Verdict
+  accepted : Verdict

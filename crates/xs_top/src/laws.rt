@@ -1,0 +1,56 @@
+ghost use Rattle.xs_top.specs.Laws.{PairsAgree, SheetsAgree, TranslatesBack, RoundIsIdempotent, TranslatesAgain, RefusesExactly, OneVerdict, CheckDecides};
+
+use xs_check_laws::weights_are_exact;
+use xs_sheet_laws::{alike_pairs_mean_the_same, alike_sheets_mean_the_same, one_pair, one_sheet};
+use xs_xml::one_word;
+
+/// Two pairs of grammars of the same bytes mean the same, and so do two sheets.
+pub fn bytes_agree()
+    ensures pairs { PairsAgree }
+    ensures sheets { SheetsAgree }
+{
+    one_sheet();
+    alike_sheets_mean_the_same();
+    one_pair();
+    alike_pairs_mean_the_same();
+}
+
+/// What a run wrote is turned back, by the same sheet, into the document that it read, with each
+/// ignorable in its normal spelling.
+pub fn translates_back()
+    ensures { TranslatesBack }
+{
+    one_word();
+    bytes_agree();
+}
+
+/// What `round` wrote, `round` writes again; and a document that was turned and turned back is turned
+/// into the same document as before.
+pub fn round_is_idempotent()
+    ensures round { RoundIsIdempotent }
+    ensures again { TranslatesAgain }
+{
+    one_word();
+    bytes_agree();
+}
+
+/// By an accepted sheet a document is turned exactly where it is of the language, and is else refused
+/// with its longest viable prefix.
+pub fn refuses_exactly()
+    ensures { RefusesExactly }
+{
+    one_word();
+    weights_are_exact();
+    bytes_agree();
+}
+
+/// Outcomes that tell different things of a sheet exclude each other, and once `check` is done no run
+/// refuses the sheet.
+pub fn check_decides()
+    ensures one { OneVerdict }
+    ensures decides { CheckDecides }
+{
+    one_word();
+    weights_are_exact();
+    bytes_agree();
+}
