@@ -42,18 +42,18 @@ module _ (g : Grammar) where
   first_nullable (Non n s) is (sub q qs ps) f e = (record { rule = q; parts = qs }, (f.0, f.1), front_empty (parts_yield qs) (parts_yield ps) e)
   first_nullable _ is _ f e = absurd f
 
-  rest_empty : (item : GItem) (is : List GItem) (ps : Parts) → FitsItems g (item ∷ is) ps → parts_yield ps ≡ [] → (rs : Parts) × FitsItems g is rs × (parts_yield rs ≡ [])
-  rest_empty (Fixed v) is (fixed u ps) f e = (ps, f.1, rest_empty u (parts_yield ps) e)
-  rest_empty (Term t s) is (leaf u ps) f e = (ps, f.1, rest_empty u (parts_yield ps) e)
-  rest_empty (Skip k) is (skip u ps) f e = (ps, f.1, rest_empty u (parts_yield ps) e)
-  rest_empty (Non n s) is (sub q qs ps) f e = (ps, f.2, rest_empty (parts_yield qs) (parts_yield ps) e)
-  rest_empty _ is _ f e = absurd f
+  rest_nullable : (item : GItem) (is : List GItem) (ps : Parts) → FitsItems g (item ∷ is) ps → parts_yield ps ≡ [] → (rs : Parts) × FitsItems g is rs × (parts_yield rs ≡ [])
+  rest_nullable (Fixed v) is (fixed u ps) f e = (ps, f.1, rest_empty u (parts_yield ps) e)
+  rest_nullable (Term t s) is (leaf u ps) f e = (ps, f.1, rest_empty u (parts_yield ps) e)
+  rest_nullable (Skip k) is (skip u ps) f e = (ps, f.1, rest_empty u (parts_yield ps) e)
+  rest_nullable (Non n s) is (sub q qs ps) f e = (ps, f.2, rest_empty (parts_yield qs) (parts_yield ps) e)
+  rest_nullable _ is _ f e = absurd f
 
   -- each item of parts that spell the empty word is nullable
   each_nullable : (is : List GItem) (ps : Parts) → FitsItems g is ps → parts_yield ps ≡ [] → (k : ℕ) (item : GItem) → slice_get is k ≡ Some item → IsNullableItem g item
   each_nullable [] ps f e k item at = absurd (get_none k item at)
   each_nullable (x ∷ is) ps f e zero item at = subst (λ z. IsNullableItem g z) (get_first is x item at) (first_nullable x is ps f e)
-  each_nullable (x ∷ is) ps f e (suc k) item at = let r = rest_empty x is ps f e in each_nullable is r.0 r.1 r.2 k item at
+  each_nullable (x ∷ is) ps f e (suc k) item at = let r = rest_nullable x is ps f e in each_nullable is r.0 r.1 r.2 k item at
 
 module _ (g : Grammar) (w : List ℕ) where
   -- items that spell an empty stretch are nullable

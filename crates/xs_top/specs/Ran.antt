@@ -136,11 +136,7 @@ IsDoable p i (Turn from to form) = IsAccepted p.text p.xml × IsReadable p i fro
 IsDoable p i (Trees max) = IsReadable p i Text AsIs
 IsDoable p i (Make seed lines) = IsAccepted p.text p.xml × IsOfLanguage p Text AsIs (made_text seed lines)
 
-<<<<<<< HEAD
--- the sheet is known, did not fail, and is well formed, and nothing stands against the job
-=======
 -- The sheet did not fail, its bytes are known and spell two grammars, and nothing stands against the job by these.
->>>>>>> ee247ca4dc823dd2842a6b5cb4fafdd79749a23f
 pub record IsClear (run : Run) (sheet : Named) (job : Job) : Type 0 where
   pub sheet_sure : IsFailed run.shelf sheet → ⊥
   pub bytes : List ℕ

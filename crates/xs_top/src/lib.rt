@@ -15,11 +15,7 @@ mod answer;
 mod asking;
 mod checked;
 mod documents;
-<<<<<<< HEAD
-=======
 mod laws;
-mod lines;
->>>>>>> ee247ca4dc823dd2842a6b5cb4fafdd79749a23f
 mod listed;
 mod notes;
 mod outcome;

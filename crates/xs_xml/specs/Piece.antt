@@ -1,6 +1,6 @@
 -- The pieces of an XML document, of nine kinds: what each consists of, how it is spelt, and which are allowed.
 -- The text of a piece p is `spelt p []`; a list of characters begins with p where it is `spelt p rest` and `is_piece p`.
-use Rattle.std.specs.Prelude.{ℕ, ◌+◌, ◌-◌, ◌*◌, List, [], ◌∷◌, ◌++◌, map, codes, None, Some, if◌then◌else◌, ◌==◌, ◌&&◌, ◌||◌, not, nat_le, Bool, true, false, is_some}
+use Rattle.std.specs.Prelude.{ℕ, ◌+◌, ◌*◌, List, [], ◌∷◌, ◌++◌, map, codes, None, Some, if◌then◌else◌, ◌==◌, ◌&&◌, ◌||◌, not, nat_le, Bool, true, false, is_some}
 use Rattle.std.specs.declared.option.Option.{Option}
 use Rattle.xs_xml.specs.Tables.{is_char, is_name_char, is_white, is_digit, is_hex, is_quote}
 use Rattle.xs_class.specs.Tables.{is_name_start}
