@@ -58,7 +58,7 @@ fn shared_symbol(alloc: Global, first: (u32, u32), second: (u32, u32)) -> Result
     }
 }
 
-// Two ranges, and the least symbol that both have, or 0.
+/// Two ranges, and the least symbol that both have, or 0.
 const SHARED: [((u32, u32), (u32, u32), u32); 3] = [
     ((97, 122), (109, 113), 109),
     ((97, 102), (102, 107), 102),

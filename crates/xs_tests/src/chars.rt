@@ -20,7 +20,7 @@ fn bytes_that_are_no_utf8(rt: HostRuntime) {
     }
 }
 
-// Whether these are the numbers of the symbols.
+/// Whether these are the numbers of the symbols.
 fn are(symbols: &[Sym], numbers: &[u32]) -> bool {
     for (symbol, number) in symbols.iter().zip(numbers) {
         if symbol.number() != *number {
@@ -30,7 +30,7 @@ fn are(symbols: &[Sym], numbers: &[u32]) -> bool {
     symbols.len() == numbers.len()
 }
 
-// Bytes, a form, the numbers of symbols, and bytes again.
+/// Bytes, a form, the numbers of symbols, and bytes again.
 type Row<'t> = (&'t [u8], Form, &'t [u32], &'t [u8]);
 
 /// Whether the bytes are read in this form as these symbols, and these written as those bytes.

@@ -25,7 +25,7 @@ fn add_set(chart: &mut Chart) -> Result<(), Memory>
     Ok(())
 }
 
-// Whether both items are in the first set, and only the second one in the other.
+/// Whether both items are in the first set, and only the second one in the other.
 fn are_found(chart: &Chart) -> bool {
     chart.sets() == 2
         && chart.len(0) == 2
@@ -56,7 +56,8 @@ fn items_are_added_once_and_found(rt: HostRuntime) -> Result<(), Memory> {
     expect_added_once(&rt, &mut chart)
 }
 
-// Whether the first item waits for 5, and both, the second first, for 3, and none in the other set.
+/// Whether the first item waits for 5, and both, the second first, for 3, and none in the other
+/// set.
 fn are_waiting(chart: &Chart) -> bool {
     chart.sets() == 2
         && chart.waiting(0, 3) == 2

@@ -120,7 +120,7 @@ fn names_stand_in_the_order_of_their_bytes(rt: HostRuntime) -> Result<(), Memory
     Ok(())
 }
 
-// The number, and whether it is a character, begins a name, and stands in a name.
+/// The number, and whether it is a character, begins a name, and stands in a name.
 const TABLES: [(u32, bool, bool, bool); 19] = [
     (0x0, false, false, false),
     (0x9, true, false, false),
@@ -151,7 +151,7 @@ fn the_tables_are_those_of_the_standard(rt: HostRuntime) {
     }
 }
 
-// Whether a word that grows by a symbol and a piece, copied, has these symbols.
+/// Whether a word that grows by a symbol and a piece, copied, has these symbols.
 fn is_grown_word(word: &mut Word, symbols: &[Sym]) -> Result<bool, Memory> {
     word.push(Sym::opening(1))?;
     word.extend(&[Sym(1)])?;
@@ -163,7 +163,7 @@ fn word_grows(alloc: Global, symbols: &[Sym]) -> Result<bool, Memory> {
     is_grown_word(&mut word, symbols)
 }
 
-// Whether bytes that grow by a byte and a piece, copied, are these.
+/// Whether bytes that grow by a byte and a piece, copied, are these.
 fn are_grown_bytes(bytes: &mut Bytes, all: &[u8]) -> Result<bool, Memory> {
     bytes.push(b'c')?;
     bytes.extend(b"de")?;
@@ -175,7 +175,7 @@ fn bytes_grow(alloc: Global, all: &[u8]) -> Result<bool, Memory> {
     are_grown_bytes(&mut bytes, all)
 }
 
-// Whether a text, copied and held in a list, is this.
+/// Whether a text, copied and held in a list, is this.
 fn is_listed(alloc: Global, text: &Text, all: &str) -> Result<bool, Memory> {
     let mut texts = Listed::new(alloc);
     texts.push(text.copy()?)?;

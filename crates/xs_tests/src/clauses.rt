@@ -8,7 +8,7 @@ use std::process::Abort;
 use xs_class::Memory;
 use xs_clauses::{Clause, Premises, made};
 
-// The heads and premises of clauses.
+/// The heads and premises of clauses.
 type Table<'t> = &'t [(u32, &'t [u32])];
 
 /// Adds premises, all of which are below the count.

@@ -1,6 +1,7 @@
-//! Small grammars, of which each rule is given by a letter for each item: `S` and `T` are the nonterminals
-//! 0 and 1, `x`, `y` and `z` the terminals `[ab]`, `a*` and `a{1,2}`, `k` and `l` the ignorables `b*` and
-//! `(ab)?`, `w` is the fixed word of an a and a b, and any other letter the fixed word of itself.
+//! Small grammars, of which each rule is given by a letter for each item: `S` and `T` are the
+//! nonterminals 0 and 1, `x`, `y` and `z` the terminals `[ab]`, `a*` and `a{1,2}`, `k` and `l` the
+//! ignorables `b*` and `(ab)?`, `w` is the fixed word of an a and a b, and any other letter the
+//! fixed word of itself.
 ghost use Rattle.std.specs.Prelude.{◌≡◌, ◌<◌, length, IfOk};
 ghost use Rattle.xs_gram.specs.Sound.{IsSound};
 
@@ -129,8 +130,8 @@ fn reads(word: &[u8], letter: u8, from: u32, to: u32) -> bool {
     }
 }
 
-/// Where the words of a nonterminal end that begin at each place: for each place and nonterminal the bits
-/// of places.
+/// Where the words of a nonterminal end that begin at each place: for each place and nonterminal
+/// the bits of places.
 type Ends = [u32; 26];
 
 /// The places where words of the letter end that begin at the place.
@@ -214,7 +215,7 @@ fn is_word(word: &[u8], rows: &[(u32, &str)]) -> bool {
     }
 }
 
-/// The word whose letters are the binary digits of its number behind the first, an a for each 0.
+/// The word whose letters are the binary digits of its number after the first, an a for each 0.
 fn numbered(alloc: Global, number: u32) -> Result<Vec<u8>, Memory> {
     let mut word = Vec::new(alloc);
     let mut begun = false;
@@ -257,7 +258,8 @@ fn language(alloc: Global, rows: &[(u32, &str)], limit: u32) -> Result<Vec<bool>
     Ok(flags)
 }
 
-/// A flag for each number of a word below the limit, whether some word of the language below it begins so.
+/// A flag for each number of a word below the limit, whether some word of the language below it
+/// begins so.
 fn fronts(alloc: Global, words: &[bool], limit: u32) -> Result<Vec<bool>, Memory> {
     let mut flags = Vec::from_slice(alloc, words)?;
     for step in 0..limit {
@@ -283,7 +285,8 @@ fn farthest(fronts: &[bool], number: u32, length: usize) -> u64 {
     0
 }
 
-/// How many symbols of the numbered word begin a word of the language by the flags, or None where all are one.
+/// How many symbols of the numbered word begin a word of the language by the flags, or None where
+/// all are one.
 fn viable_by(words: &[bool], fronts: &[bool], number: u32, length: usize) -> Option<u64> {
     if is_set(words, number) {
         None

@@ -5,7 +5,7 @@ use std::test::Fail;
 use xs_class::{ATTR_END, Memory, Names, STRANGE, Sym, Word};
 use xs_form::{XmlFault, read_xml};
 
-// The kind of a mark, in braces with the mark's name.
+/// The kind of a mark, in braces with the mark's name.
 fn push_mark(shown: &mut String, names: &Names, mark: u32) -> Result<(), Memory> {
     let k = mark / 3;
     if k < names.len() {
@@ -48,7 +48,7 @@ fn push_symbols(shown: &mut String, names: &Names, symbols: &[Sym]) -> Result<()
     Ok(())
 }
 
-// Whether these are the symbols, with each mark in braces.
+/// Whether these are the symbols, with each mark in braces.
 fn are_shown(
     alloc: Global,
     names: &Names,
@@ -60,13 +60,13 @@ fn are_shown(
     Ok(shown.as_str() == expected)
 }
 
-// Whether this is the place, behind an exclamation mark.
+/// Whether this is the place, after an exclamation mark.
 fn is_place(alloc: Global, at: u64, expected: &str) -> Result<bool, Fail> {
     let shown = format!(in alloc; "!{at}")?;
     Ok(shown.as_str() == expected)
 }
 
-// Whether the document is answered by these symbols or by this place.
+/// Whether the document is answered by these symbols or by this place.
 fn is_answered(
     alloc: Global,
     names: &Names,
@@ -289,7 +289,7 @@ fn what_stands_outside_the_root(rt: HostRuntime) -> Result<(), Fail> {
     )
 }
 
-// Adds this symbol between the two texts.
+/// Adds this symbol between the two texts.
 fn add_between(word: &mut Word, number: u32, around: (&str, &str)) -> Result<(), Memory> {
     add_characters(word, around.0)?;
     word.push(Sym(number))?;
@@ -304,7 +304,7 @@ fn is_xml(alloc: Global, names: &Names, word: &Word) -> Result<bool, Memory> {
     }
 }
 
-// Whether the document of this symbol between the two texts is read.
+/// Whether the document of this symbol between the two texts is read.
 fn is_read(
     alloc: Global,
     names: &Names,
@@ -316,7 +316,7 @@ fn is_read(
     is_xml(alloc, names, &word)
 }
 
-// The document of each symbol between the two texts is read, or none is.
+/// The document of each symbol between the two texts is read, or none is.
 fn expect_each(
     rt: &impl Abort,
     alloc: Global,
@@ -334,8 +334,8 @@ fn expect_each(
     Ok(())
 }
 
-// Of the documents of a symbol between the two texts those of the symbols inside are read, and
-// those of the ones outside are not.
+/// Of the documents of a symbol between the two texts those of the symbols inside are read, and
+/// those of the ones outside are not.
 fn expect_table(
     rt: &impl Abort,
     alloc: Global,
@@ -388,7 +388,7 @@ fn add_times(word: &mut Word, text: &str, times: u32) -> Result<(), Memory> {
     Ok(())
 }
 
-// The document of so many elements in one another.
+/// The document of that many elements in one another.
 fn nested(alloc: Global, levels: u32) -> Result<Word, Memory> {
     let mut word = Word::new(alloc);
     add_times(&mut word, "<s>", levels)?;

@@ -16,7 +16,7 @@ fn counts(gram: &Gram) -> [u32; 6] {
     ]
 }
 
-// Whether the one terminal has one class, and the one rule of the start five items.
+/// Whether the one terminal has one class, and the one rule of the start five items.
 fn has_parts(gram: &Gram) -> bool {
     gram.terms() == 1
         && gram.rules() == 1

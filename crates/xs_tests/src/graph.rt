@@ -26,7 +26,7 @@ fn targets_from(
     Ok(targets)
 }
 
-/// The graph of so many nodes that has these edges.
+/// The graph of that many nodes that has these edges.
 fn graph_of(alloc: Global, nodes: u32, edges: &[(u32, u32)]) -> Result<Graph, Memory>
     ensures size { IfOk result (λ g. length g ≡ nodes) }
     ensures targets { IfOk result (All (All (λ b. b < nodes))) }

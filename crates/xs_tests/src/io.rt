@@ -12,7 +12,7 @@ use xs_io::{
 
 const ABC: &[u8] = b"abcdefg";
 
-// The numbers of the calls that fail: one, or none at 0.
+/// The numbers of the calls that fail: one, or none at 0.
 fn only(alloc: Global, number: u64) -> Result<Vec<u64>, Memory> {
     let mut fails = Vec::new(alloc);
     if number > 0 {
@@ -21,7 +21,7 @@ fn only(alloc: Global, number: u64) -> Result<Vec<u64>, Memory> {
     Ok(fails)
 }
 
-// Reads with steps of 3: whether all came, or the stop, and how many bytes are left.
+/// Reads with steps of 3: whether all came, or the stop, and how many bytes are left.
 fn read_with(
     alloc: Global,
     limit: usize,
@@ -69,7 +69,7 @@ fn a_sure_source_is_read_to_its_end(rt: HostRuntime) {
     assert!(rt; is_read_surely(rt.alloc()) == Ok(true));
 }
 
-// Writes with steps of 3: the answer, and how many bytes were taken.
+/// Writes with steps of 3: the answer, and how many bytes were taken.
 fn write_with(alloc: Global, number: u64) -> Result<(Result<(), WriteFault>, usize), Memory> {
     let mut sink = MemSink::new(alloc, 3, only(alloc, number)?);
     let result = put_all(&mut sink, ABC);
@@ -116,7 +116,7 @@ fn add_files(alloc: Global, shelf: &mut MemShelf) -> Result<(), Memory> {
     add(alloc, shelf, "a", ABC)
 }
 
-// Whether the file of this name comes whole, from a shelf of which one call fails.
+/// Whether the file of this name comes whole, from a shelf of which one call fails.
 fn file_with(alloc: Global, number: u64, name: &str) -> Result<bool, ReadStop> {
     let mut shelf = MemShelf::new(alloc, only(alloc, number)?);
     add_files(alloc, &mut shelf)?;
@@ -153,7 +153,7 @@ fn a_sure_shelf_keeps_its_files(rt: HostRuntime) {
     assert!(rt; is_kept_surely(rt.alloc()) == Ok(true));
 }
 
-// A reader and writer of which so many calls are interrupted first.
+/// A reader and writer of which that many calls are interrupted first.
 #[derive(Drop)]
 struct Interrupted {
     times: u32,

@@ -1,4 +1,5 @@
-//! Tests of the layers, one module for each crate, where that of `xs_top` is `run`.
+//! Tests of the layers, one module for each crate, where that of `xs_top` is `run`, and that of
+//! `xs_vert` and `xs_horiz` is `suspects`.
 //!
 //! They stand apart from the crates that they try, so that each of those is proved once: a crate
 //! with tests is proved a second time with them.
@@ -25,8 +26,6 @@ mod gram;
 #[cfg(test)]
 mod graph;
 #[cfg(test)]
-mod horiz;
-#[cfg(test)]
 mod io;
 #[cfg(test)]
 mod leiden;
@@ -49,6 +48,8 @@ mod sheet;
 #[cfg(test)]
 mod sheets;
 #[cfg(test)]
+mod suspects;
+#[cfg(test)]
 mod talk;
 #[cfg(test)]
 mod text_out;
@@ -56,8 +57,6 @@ mod text_out;
 mod tree;
 #[cfg(test)]
 mod turn;
-#[cfg(test)]
-mod vert;
 #[cfg(test)]
 mod wf;
 #[cfg(test)]

@@ -11,8 +11,8 @@ use xs_gram::Gram;
 use xs_loose::{LooseFault, Part, net_of, weight_by, weight_of, weights};
 use xs_order::components;
 
-// Digits with commas between them, in brackets: the rule of the brackets, of one digit, and of a list, a comma and
-// a digit.
+/// Digits with commas between them, in brackets: the rule of the brackets, of one digit, and of a
+/// list, a comma and a digit.
 const LISTS: &[u8] =
     b"xsugar-1\nstart w\nterminal d = /[0-9]/\nw : \"<\" [l a] \">\" = <w>[l a]</w>\n\
     l : [d a] = <l>[d a]</l>\nl : [l a] \",\" [d b] = <l>[l a]<d>[d b]</d></l>\n";

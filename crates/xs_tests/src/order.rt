@@ -7,14 +7,14 @@ use xs_class::{Memory, Side};
 use xs_gram::Gram;
 use xs_order::{OrderFault, components, nullable, productive, unit_order};
 
-// The nonterminals have the numbers 0 to 4: 1 and 2 derive the empty word, and so does 0 of them; 3 has no
-// rule without itself, and 4 a terminal without words.
+/// The nonterminals have the numbers 0 to 4: 1 and 2 derive the empty word, and so does 0 of them;
+/// 3 has no rule without itself, and 4 a terminal without words.
 const MIXED: &[u8] =
     b"xsugar-1\nstart a\nterminal e = /[^\\u{0}-\\u{10FFFF}]/\nignorable k = / */ \" \"\n\
     a : [b x] [c y] = <a>[b x][c y]</a>\nb : [k] = <b/>\nc : \"x\" = <c/>\nc : [b x] [b y] = <c>[b x][b y]</c>\n\
     d : [d x] \"x\" = <d>[d x]</d>\nf : [e x] = <f>[e x]</f>\n";
 
-// 1 has the ignorable and 2, and 2 has 1.
+/// 1 has the ignorable and 2, and 2 has 1.
 const LOOPING: &[u8] = b"xsugar-1\nstart a\nignorable k = / */ \" \"\n\
     a : \"x\" [a x] = <a>[a x]</a>\na : \"x\" = <a/>\nb : [k] [c x] = <b>[c x]</b>\nc : [b x] = <c>[b x]</c>\n";
 
@@ -60,7 +60,7 @@ fn are_parted(alloc: Global, gram: &Gram) -> Result<bool, Memory>
     Ok(comps.len() == 3 && comps[1] == comps[2] && comps[0] != comps[1])
 }
 
-/// Whether nonterminal 1 is told to derive itself alone.
+/// Whether nonterminal 1 is reported to derive itself alone.
 fn loops(alloc: Global, gram: &Gram) -> Result<bool, Memory>
     requires { IsBuilt gram.now }
 {

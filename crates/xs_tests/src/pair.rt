@@ -4,12 +4,12 @@ use std::test::Fail;
 use xs_class::Side;
 use xs_pair::{Ill, IllRule, PairFault};
 
-/// Two digits in parentheses with a comma between them, which are the other way round in XML: elements p, x
-/// and y have the numbers 0, 1 and 2.
+/// Two digits in parentheses with a comma between them, which are the other way round in XML:
+/// elements p, x and y have the numbers 0, 1 and 2.
 pub const PAIR: &[u8] =
     b"xsugar-1\nstart s\nterminal d = /[0-9]/\ns : \"(\" [d a] \",\" [d b] \")\" = <p><y>[d b]</y><x>[d a]</x></p>\n";
 
-// The failure of the sheet of these units.
+/// The failure of the sheet of these units.
 fn ill(alloc: Global, text: &str) -> Option<Ill> {
     match pair_of(alloc, text.as_bytes()) {
         Err(PairFault::Ill(ill)) => Some(ill),
@@ -18,7 +18,7 @@ fn ill(alloc: Global, text: &str) -> Option<Ill> {
     }
 }
 
-pub fn told(rule: IllRule, line: u32) -> Option<Ill> {
+pub fn reported(rule: IllRule, line: u32) -> Option<Ill> {
     Some(Ill { rule, line })
 }
 
@@ -80,8 +80,8 @@ const FAILING: [(&str, IllRule, u32); 8] = [
 ];
 
 #[test]
-fn the_least_line_of_each_rule_is_told(rt: HostRuntime) {
+fn the_least_line_of_each_rule_is_reported(rt: HostRuntime) {
     for (text, rule, line) in &FAILING {
-        assert_eq!(rt; ill(rt.alloc(), text), told(*rule, *line));
+        assert_eq!(rt; ill(rt.alloc(), text), reported(*rule, *line));
     }
 }

@@ -11,17 +11,17 @@ fn push_digits(shown: &mut String, numbers: &[u32]) -> Result<(), Memory> {
     Ok(())
 }
 
-// The first positions, the last ones, and those behind each, where they are below ten.
+/// The first positions, the last ones, and those after each, where they are below ten.
 fn push_positions(shown: &mut String, p: &Position) -> Result<(), Memory> {
     push_digits(shown, p.first.as_slice())?;
     push_digits(shown, p.last.as_slice())?;
-    for behind in p.follow.as_slice() {
-        push_digits(shown, behind.as_slice())?;
+    for after in p.follow.as_slice() {
+        push_digits(shown, after.as_slice())?;
     }
     Ok(())
 }
 
-// Whether the positions are shown so.
+/// Whether the positions are shown so.
 fn are_shown_so(alloc: Global, p: &Position, wanted: &str) -> Result<bool, Memory> {
     let mut shown = String::new(alloc);
     push_positions(&mut shown, p)?;
@@ -33,7 +33,7 @@ fn automaton(alloc: Global, pattern: &str) -> Result<Position, RegexFault> {
     Ok(positions(alloc, &regex)?)
 }
 
-// Whether the automaton of the pattern is shown so, and matches no empty word.
+/// Whether the automaton of the pattern is shown so, and matches no empty word.
 fn is_shown_so(alloc: Global, pattern: &str, wanted: &str) -> Result<bool, RegexFault> {
     let p = automaton(alloc, pattern)?;
     Ok(are_shown_so(alloc, &p, wanted)? && !p.nullable)
@@ -63,7 +63,7 @@ fn an_automaton_has_a_position_for_each_class(rt: HostRuntime) {
     }
 }
 
-// Whether this is a class, and then a sequence.
+/// Whether this is a class, and then a sequence.
 fn is_class_and_sequence(regex: &Regex) -> bool {
     match regex {
         Regex::Then(first, rest) => {
@@ -169,7 +169,7 @@ fn classes_are_cut_to_characters(rt: HostRuntime) {
     }
 }
 
-// The answers of another engine, Python's `re` with fullmatch and DOTALL.
+/// The answers of another engine, Python's `re` with fullmatch and DOTALL.
 static WORDS: [(&str, &str, bool); 343] = [
     ("abc", "abc", true),
     ("abc", "ab", false),
@@ -521,7 +521,7 @@ fn is_matched(alloc: Global, pattern: &str, text: &str) -> Result<bool, RegexFau
     reads(alloc, pattern, &word)
 }
 
-// The first row whose pattern does not answer as the row says, or the number of rows.
+/// The first row whose pattern does not answer as the row says, or the number of rows.
 fn first_wrong(alloc: Global, rows: &[(&str, &str, bool)]) -> Result<usize, RegexFault> {
     for (k, row) in rows.iter().enumerate() {
         let (pattern, text, want) = *row;

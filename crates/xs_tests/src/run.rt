@@ -18,7 +18,7 @@ mod sheets;
 mod translations;
 mod trees;
 
-// The name of the file that has the sheet.
+/// The name of the file that has the sheet.
 const SHEET: &str = "sheet";
 
 const CHECK: &[&str] = &["check", SHEET];
@@ -48,12 +48,12 @@ const RIGHT: &str =
 
 const TWINS: &str = "xsugar-1\nstart s\ns : [s a] [s b] = <s>[s a][s b]</s>\ns : \"a\" = <a/>\n";
 
-// Pairs with spaces, which carry nothing, round each part.
+/// Pairs with spaces, which carry nothing, round each part.
 const SPACED: &str = "xsugar-1\nstart s\nterminal d = /[0-9]/\nignorable w = / */ \"\"\n\
     s : \"(\" [w] [d a] [w] \",\" [w] [d b] [w] \")\" = <p><y>[d b]</y><x>[d a]</x></p>\n";
 
-// The calls at which devices fail, numbered from 1, where 0 is no call; each call moves at most `step`
-// bytes.
+/// The calls at which devices fail, numbered from 1, where 0 is no call; each call moves at most
+/// `step` bytes.
 #[derive(Clone, Copy)]
 struct Failures {
     shelf: u64,
@@ -63,7 +63,7 @@ struct Failures {
     step: usize,
 }
 
-// No call fails.
+/// No call fails.
 const NONE: Failures = Failures {
     shelf: 0,
     input: 0,
@@ -72,7 +72,7 @@ const NONE: Failures = Failures {
     step: 65_536,
 };
 
-// The devices of a run, in memory.
+/// The devices of a run, in memory.
 #[derive(Drop)]
 struct Devices {
     shelf: MemShelf,
@@ -81,14 +81,14 @@ struct Devices {
     notes: MemSink,
 }
 
-// A run that ended.
+/// A run that ended.
 #[derive(Drop)]
 struct Ended {
     outcome: Outcome,
     devices: Devices,
 }
 
-// What is run: the words, the bytes of the sheet and the input.
+/// What is run: the words, the bytes of the sheet and the input.
 #[derive(Clone, Copy)]
 struct Run<'t> {
     words: &'t [&'t str],
@@ -96,7 +96,7 @@ struct Run<'t> {
     input: &'t [u8],
 }
 
-// How a run ends: its status, how it breaks off, and what `notes` and `out` take.
+/// How a run ends: its status, how it breaks off, and what `notes` and `out` take.
 #[derive(Clone, Copy, Debug, PartialEq)]
 struct End<'t> {
     status: u8,
@@ -174,7 +174,7 @@ fn outcome_of(alloc: Global, words: &[&str], devices: &mut Devices) -> Result<Ou
     )
 }
 
-// The run of these words over the sheet and the input, in which these calls fail.
+/// The run of these words over the sheet and the input, in which these calls fail.
 fn ran(
     alloc: Global,
     words: &[&str],
@@ -187,8 +187,8 @@ fn ran(
     Ok(Ended { outcome, devices })
 }
 
-// The status of the outcome that `notes` failed to tell, or 0, and how many bytes the failing one of
-// `out` and `notes` took.
+/// The status of the outcome that `notes` failed to report, or 0, and how many bytes the failing
+/// one of `out` and `notes` took.
 fn broken_off(outcome: &Outcome) -> (u8, u64) {
     match outcome {
         Outcome::WriteFault { written } => (0, *written),
@@ -210,7 +210,7 @@ fn assert_end(rt: &impl Abort, ended: &Ended, end: End<'_>) {
     assert_eq!(rt; end_of(ended), end);
 }
 
-// The run of these words over the sheet and the input ends so where these calls fail.
+/// The run of these words over the sheet and the input ends so where these calls fail.
 fn expect_broken(
     rt: &impl Abort,
     alloc: Global,
@@ -223,7 +223,7 @@ fn expect_broken(
     Ok(())
 }
 
-// The run of these words over the sheet and the input ends so.
+/// The run of these words over the sheet and the input ends so.
 fn expect(
     rt: &impl Abort,
     alloc: Global,
@@ -240,16 +240,21 @@ fn expect(
     expect_broken(rt, alloc, run, NONE, end)
 }
 
-// The status, and whether `notes` took a line that begins so and `out` took nothing.
-fn told_by(end: End<'_>, begin: &[u8]) -> (u8, bool) {
+/// The status, and whether `notes` took a line that begins so and `out` took nothing.
+fn reported_by(end: End<'_>, begin: &[u8]) -> (u8, bool) {
     (
         end.status,
         end.notes.starts_with(begin) && end.out.is_empty(),
     )
 }
 
-// The status of a run, and whether `notes` takes a line that begins so and `out` takes nothing.
-fn told(alloc: Global, words: &[&str], sheet: &[u8], begin: &[u8]) -> Result<(u8, bool), Memory> {
+/// The status of a run, and whether `notes` takes a line that begins so and `out` takes nothing.
+fn reported(
+    alloc: Global,
+    words: &[&str],
+    sheet: &[u8],
+    begin: &[u8],
+) -> Result<(u8, bool), Memory> {
     let ended = ran(alloc, words, sheet, b"zzz", NONE)?;
-    Ok(told_by(end_of(&ended), begin))
+    Ok(reported_by(end_of(&ended), begin))
 }

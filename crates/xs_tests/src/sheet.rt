@@ -14,7 +14,7 @@ fn read(alloc: Global, text: &str) -> Result<Sheet, SheetFault> {
     read_sheet(alloc, text.as_bytes())
 }
 
-// Where the text is refused.
+/// Where the text is refused.
 fn refused(alloc: Global, text: &str) -> Option<u64> {
     match read(alloc, text) {
         Ok(_) => None,
@@ -23,7 +23,7 @@ fn refused(alloc: Global, text: &str) -> Option<u64> {
     }
 }
 
-// The name, the pattern and the line of a terminal.
+/// The name, the pattern and the line of a terminal.
 fn terminal(unit: &Unit) -> Option<(&str, &str, u32)> {
     match unit {
         Unit::Terminal {
@@ -36,7 +36,7 @@ fn terminal(unit: &Unit) -> Option<(&str, &str, u32)> {
     }
 }
 
-// The name and the line of a production, and the numbers of items of its sides.
+/// The name and the line of a production, and the numbers of items of its sides.
 fn production(unit: &Unit) -> Option<(&str, u32, usize, usize)> {
     match unit {
         Unit::Production {
@@ -49,7 +49,7 @@ fn production(unit: &Unit) -> Option<(&str, u32, usize, usize)> {
     }
 }
 
-// The tag of the one element of a production's XML side, and its numbers of attributes and items.
+/// The tag of the one element of a production's XML side, and its numbers of attributes and items.
 fn root(unit: &Unit) -> Option<(&str, usize, usize)> {
     let Unit::Production { right, .. } = unit else {
         return None;

@@ -48,9 +48,9 @@ pub fn push_all(sheet: &mut Bytes, pieces: &[&[u8]]) -> Result<(), Memory> {
     Ok(())
 }
 
-/// Appends the item of a letter: `S` and `T` are the nonterminals s and t, `m`, `q`, `x`, `y` and `z`
-/// terminals, each by this name, `k` and `l` ignorables, `w` is the fixed word of an a and a b, and any
-/// other letter the fixed word of itself.
+/// Appends the item of a letter: `S` and `T` are the nonterminals s and t, `m`, `q`, `x`, `y` and
+/// `z` terminals, each by this name, `k` and `l` ignorables, `w` is the fixed word of an a and a b,
+/// and any other letter the fixed word of itself.
 pub fn push_item(sheet: &mut Bytes, letter: u8, name: u8) -> Result<(), Memory> {
     match letter {
         b'S' => push_all(sheet, &[b"[s ", &[name], b"] "]),

@@ -5,7 +5,12 @@ use xs_class::{Memory, Names, Side, Sym, Text, Word};
 use xs_pair::{Ill, IllRule};
 use xs_talk::{Outcome, Report, fault_line, line_of, room};
 
-fn is_told(alloc: Global, names: &Names, outcome: &Outcome, line: &str) -> Result<bool, Memory> {
+fn is_reported(
+    alloc: Global,
+    names: &Names,
+    outcome: &Outcome,
+    line: &str,
+) -> Result<bool, Memory> {
     let found = line_of(alloc, outcome, names)?;
     Ok(found.as_slice() == line.as_bytes())
 }
@@ -17,12 +22,12 @@ fn expect_each(
     rows: &[(Outcome, &str)],
 ) -> Result<(), Memory> {
     for (outcome, line) in rows {
-        assert!(rt; is_told(alloc, names, outcome, line)?, "{line}");
+        assert!(rt; is_reported(alloc, names, outcome, line)?, "{line}");
     }
     Ok(())
 }
 
-/// The lines tell the outcomes of a sheet with the names `p` and `é`.
+/// The lines report the outcomes of a sheet with the names `p` and `é`.
 fn expect_told(rt: &impl Abort, alloc: Global, rows: &[(Outcome, &str)]) -> Result<(), Memory> {
     let names = names_of(alloc, &["p", "é"])?;
     expect_each(rt, alloc, &names, rows)

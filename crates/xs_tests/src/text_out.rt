@@ -9,13 +9,13 @@ use xs_gram::Gram;
 use xs_text_out::print_syms;
 use xs_tree::{Builder, Tree};
 
-/// On the side of XML a pair with its second child first and spaces between them, which are one space
-/// in their normal spelling, and numbers: a digit, or two numbers.
+/// On the side of XML a pair with its second child first and spaces between them, which are one
+/// space in their normal spelling, and numbers: a digit, or two numbers.
 const PAIR: &[u8] =
     b"xsugar-1\nstart s\nterminal d = /[0-9]/\nignorable k = / */ \" \"\np : [d a] [k] [n b] = [n b] [k] [d a]\n\
     n : [d a] = [d a]\nn : [n a] [n b] = [n a] [n b]\ns : [p a] = <s>[p a]</s>\n";
 
-/// Adds a pair of the digit 7 and of a number of the digit 3, which is doubled so many times.
+/// Adds a pair of the digit 7 and of a number of the digit 3, which is doubled that many times.
 fn add_pair(alloc: Global, builder: &mut Builder, times: u64) -> Result<u64, Memory>
     ensures { IfOk result (λ root. root < length builder.new) }
 {
@@ -32,7 +32,7 @@ fn pair(alloc: Global, times: u64) -> Result<Tree, Memory> {
     Ok(builder.finish(root))
 }
 
-/// What is printed of the pair whose number is doubled so many times.
+/// What is printed of the pair whose number is doubled that many times.
 fn printed(alloc: Global, gram: &Gram, times: u64) -> Result<Word, Memory> {
     let tree = pair(alloc, times)?;
     print_syms(alloc, gram, &tree)

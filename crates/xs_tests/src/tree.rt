@@ -14,7 +14,7 @@ pub fn add_digit(alloc: Global, builder: &mut Builder, code: u32) -> Result<u64,
     builder.leaf(&word)
 }
 
-/// Adds so many levels of nodes above a part, each with the one below as both its children.
+/// Adds that many levels of nodes above a part, each with the one below as both its children.
 pub fn add_doubled(
     builder: &mut Builder,
     production: u32,
@@ -46,7 +46,7 @@ fn pair(alloc: Global, first: u32, second: u32) -> Result<Tree, Memory> {
     Ok(builder.finish(root))
 }
 
-fn add_pair_from_behind(
+fn add_pair_from_the_end(
     alloc: Global,
     builder: &mut Builder,
     first: u32,
@@ -61,13 +61,13 @@ fn add_pair_from_behind(
 }
 
 /// The same pair, made from its second digit on, beside a leaf that the root does not reach.
-fn pair_from_behind(alloc: Global, first: u32, second: u32) -> Result<Tree, Memory> {
+fn pair_from_the_end(alloc: Global, first: u32, second: u32) -> Result<Tree, Memory> {
     let mut builder = Builder::new(alloc)?;
-    let root = add_pair_from_behind(alloc, &mut builder, first, second)?;
+    let root = add_pair_from_the_end(alloc, &mut builder, first, second)?;
     Ok(builder.finish(root))
 }
 
-/// A digit, and so many levels of nodes above it, each with the one below as both its children.
+/// A digit, and that many levels of nodes above it, each with the one below as both its children.
 fn doubled(alloc: Global, levels: u64) -> Result<Tree, Memory> {
     let mut builder = Builder::new(alloc)?;
     let digit = add_digit(alloc, &mut builder, 51)?;
@@ -100,7 +100,7 @@ fn parts_are_read_back(rt: HostRuntime) -> Result<(), Memory> {
 
 /// Whether a tree is the same as a pair that is made otherwise.
 fn is_same(alloc: Global, tree: &Tree, digits: (u32, u32)) -> Result<bool, Memory> {
-    let pair = pair_from_behind(alloc, digits.0, digits.1)?;
+    let pair = pair_from_the_end(alloc, digits.0, digits.1)?;
     same(alloc, tree, &pair)
 }
 

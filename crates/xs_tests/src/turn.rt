@@ -33,7 +33,7 @@ fn is_turned(
     Ok(turned.word.as_slice() == word)
 }
 
-/// Whether the document is foreign, and just so many of its leading symbols are viable.
+/// Whether the document is foreign, and just that many of its leading symbols are viable.
 fn is_foreign(alloc: Global, two: &Two, side: Side, doc: &[Sym], viable: u64) -> bool
     requires { IsSoundPair two.now }
 {

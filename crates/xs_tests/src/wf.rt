@@ -7,7 +7,7 @@ use xs_pair::{IllRule, rules_of};
 use xs_sheet::read_sheet;
 use xs_wf::{least_not_char, least_unit};
 
-// The least line at which the rule fails, among the units and then among the productions.
+/// The least line at which the rule fails, among the units and then among the productions.
 fn least_line(alloc: Global, rule: IllRule, text: &str) -> Result<Option<u32>, Memory> {
     if text.len() > 65536 {
         return Err(Memory);
@@ -51,7 +51,7 @@ const MEMBERLESS: [(&str, Option<u32>); 4] = [
 ];
 
 #[test]
-fn a_class_without_member_is_told(rt: HostRuntime) {
+fn a_class_without_member_is_reported(rt: HostRuntime) {
     for (text, answer) in &MEMBERLESS {
         let line = least_line(rt.alloc(), IllRule::EmptyClass, text);
         assert!(rt; line == Ok(*answer), "{text}");
@@ -90,7 +90,7 @@ const STRANGE: [(&str, Option<u32>); 7] = [
 ];
 
 #[test]
-fn a_character_outside_xml_is_told(rt: HostRuntime) {
+fn a_character_outside_xml_is_reported(rt: HostRuntime) {
     for (text, answer) in &STRANGE {
         let line = least_strange_line(rt.alloc(), text);
         assert!(rt; line == Ok(*answer), "{text}");
@@ -113,7 +113,7 @@ const UNMATCHED: [(&str, Option<u32>); 3] = [
 ];
 
 #[test]
-fn a_normal_spelling_that_is_not_matched_is_told(rt: HostRuntime) {
+fn a_normal_spelling_that_is_not_matched_is_reported(rt: HostRuntime) {
     for (text, answer) in &UNMATCHED {
         let line = least_line(rt.alloc(), IllRule::Normal, text);
         assert!(rt; line == Ok(*answer), "{text}");

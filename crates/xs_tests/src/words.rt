@@ -2,7 +2,7 @@ use std::alloc::Global;
 use xs_class::Memory;
 use xs_words::command_of;
 
-// Whether the words are a command.
+/// Whether the words are a command.
 fn is_command(alloc: Global, words: &[&str]) -> Result<bool, Memory> {
     let mut list = Vec::new(alloc);
     for word in words {

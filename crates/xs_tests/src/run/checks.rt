@@ -4,7 +4,7 @@ ghost use Rattle.xs_pair.specs.Sound.{IsSoundPair};
 
 use super::{
     CHECK, EMPTY, End, LEFT, LETTERS, NESTED, PAIR, RIGHT, SPACED, TO_TEXT, TO_XML, TWINS, done,
-    expect, refused, told,
+    expect, refused, reported,
 };
 use crate::sheets::{push_all, two_of};
 use std::alloc::Global;
@@ -27,7 +27,7 @@ const BRACKETS: &str = "xsugar-1\nstart doc\nterminal c = /[a-z]/\n\
     list : [list p] [item i] = [list p] [item i]\nitem : [c x] = [c x]\n\
     item : \"[\" [list l] \"]\" = <b>[list l]</b>\n";
 
-// A sheet, and what is said of it.
+/// A sheet, and what is said of it.
 type Line<'t> = (&'t str, &'t [u8]);
 
 const ACCEPTED: &[Line<'static>] = &[
@@ -75,7 +75,7 @@ fn the_shipped_sheet_is_accepted(rt: HostRuntime) -> Result<(), Fail> {
     expect(&rt, rt.alloc(), &["check", "@leiden"], b"", b"", done(line))
 }
 
-// A sheet that is suspect, and how its line begins.
+/// A sheet that is suspect, and how its line begins.
 const SUSPECT: &[Line<'static>] = &[
     (TWO_WORDS, b"suspect: text: s: line 4, cut 1: "),
     (TWO_WAYS, b"suspect: text: s: lines 4 and 5 share \"a\"\n"),
@@ -85,7 +85,7 @@ const SUSPECT: &[Line<'static>] = &[
 
 fn are_suspect(rt: &impl Abort, alloc: Global, words: &[&str]) -> Result<(), Fail> {
     for (sheet, begin) in SUSPECT {
-        let found = told(alloc, words, sheet.as_bytes(), begin)?;
+        let found = reported(alloc, words, sheet.as_bytes(), begin)?;
         assert_eq!(rt; found, (3, true), "{sheet}");
     }
     Ok(())
@@ -98,12 +98,12 @@ fn sheets_that_are_suspect(rt: HostRuntime) -> Result<(), Fail> {
     are_suspect(&rt, rt.alloc(), TO_TEXT)
 }
 
-// The letter by which an item, or a nonterminal of the doubling sheet, is named.
+/// The letter by which an item, or a nonterminal of the doubling sheet, is named.
 fn letter(number: u32) -> u8 {
     b'a'.saturating_add((number % 26) as u8)
 }
 
-// So many named items of the terminal `t`, behind each other.
+/// That many named items of the terminal `t`, one after another.
 fn push_items(sheet: &mut Bytes, count: u32) -> Result<(), Memory> {
     for number in 0..count {
         push_all(sheet, &[b"[t a", &[letter(number)], b"] "])?;
@@ -111,7 +111,7 @@ fn push_items(sheet: &mut Bytes, count: u32) -> Result<(), Memory> {
     Ok(())
 }
 
-// A string of so many hyphens, if there are any.
+/// A string of that many hyphens, if there are any.
 fn push_hyphens(sheet: &mut Bytes, count: u32) -> Result<(), Memory> {
     if count == 0 {
         return Ok(());
@@ -132,14 +132,14 @@ fn push_wide(sheet: &mut Bytes, items: u32, hyphens: u32) -> Result<(), Memory> 
     sheet.extend(b"</s>\n")
 }
 
-// A sheet of so many items, and a string of so many hyphens on its text side.
+/// A sheet of that many items, and a string of that many hyphens on its text side.
 fn wide(alloc: Global, items: u32, hyphens: u32) -> Result<Bytes, Memory> {
     let mut sheet = Bytes::new(alloc);
     push_wide(&mut sheet, items, hyphens)?;
     Ok(sheet)
 }
 
-// All items of a rule, if there is one.
+/// All items of a rule, if there is one.
 fn all_items(gram: &Gram, rule: u32) -> Option<Part>
     ensures { IfSome result (IsPart gram.now) }
 {
@@ -154,7 +154,7 @@ fn all_items(gram: &Gram, rule: u32) -> Option<Part>
     })
 }
 
-// What all items of the first rule of the text side weigh, and the fault of their net.
+/// What all items of the first rule of the text side weigh, and the fault of their net.
 fn heaviness(alloc: Global, two: &Two) -> Result<(u64, Option<LooseFault>), Memory>
     requires { IsSoundPair two.now }
 {
@@ -170,7 +170,7 @@ fn heaviness(alloc: Global, two: &Two) -> Result<(u64, Option<LooseFault>), Memo
     }
 }
 
-// The same where the sheet has so many items.
+/// The same where the sheet has that many items.
 fn heaviness_of(alloc: Global, items: u32) -> Result<(u64, Option<LooseFault>), Fail> {
     let sheet = wide(alloc, items, 0)?;
     let two = two_of(alloc, sheet.as_slice())?;
@@ -187,7 +187,7 @@ fn a_part_that_is_too_heavy_has_no_net(rt: HostRuntime) -> Result<(), Fail> {
 
 const ONE_OF_EACH: &[u8] = b"accepted: 1 terminals, 0 ignorables, 1 nonterminals, 1 productions\n";
 
-// So many items and hyphens, the status, `out` and `notes`.
+/// That many items and hyphens, the status, `out` and `notes`.
 type Width<'t> = (u32, u32, u8, &'t [u8], &'t [u8]);
 
 const WIDTHS: &[Width<'static>] = &[
@@ -196,7 +196,7 @@ const WIDTHS: &[Width<'static>] = &[
     (16, 176, 2, b"", b"sheet: weight 8193 is more than 8192\n"),
 ];
 
-// The sheet of a row ends so.
+/// The sheet of a row ends so.
 fn expect_width(rt: &impl Abort, alloc: Global, row: Width<'_>) -> Result<(), Fail> {
     let (items, hyphens, status, out, notes) = row;
     let end = End {
@@ -215,12 +215,12 @@ fn rules_at_the_limit_of_weight(rt: HostRuntime) -> Result<(), Fail> {
     Ok(())
 }
 
-// The names of the nonterminal of a letter, twice.
+/// The names of the nonterminal of a letter, twice.
 fn push_twice(sheet: &mut Bytes, letter: u8) -> Result<(), Memory> {
     push_all(sheet, &[b"[n", &[letter], b" a] [n", &[letter], b" b]"])
 }
 
-// The production of a nonterminal that is another one twice.
+/// The production of a nonterminal that is another one twice.
 fn push_double(sheet: &mut Bytes, name: u8, part: u8) -> Result<(), Memory> {
     push_all(sheet, &[b"n", &[name], b" : "])?;
     push_twice(sheet, part)?;
@@ -229,7 +229,7 @@ fn push_double(sheet: &mut Bytes, name: u8, part: u8) -> Result<(), Memory> {
     sheet.push(b'\n')
 }
 
-// The head of a sheet, whose start has the nonterminal of this letter, and the first nonterminal.
+/// The head of a sheet, whose start has the nonterminal of this letter, and the first nonterminal.
 fn push_head(sheet: &mut Bytes, last: u8) -> Result<(), Memory> {
     push_all(
         sheet,
@@ -252,7 +252,7 @@ fn push_doubles(sheet: &mut Bytes, most: u32) -> Result<(), Memory> {
     Ok(())
 }
 
-// A sheet in which each nonterminal but the first is the one before it, twice.
+/// A sheet in which each nonterminal but the first is the one before it, twice.
 fn doubling(alloc: Global, most: u32) -> Result<Bytes, Memory> {
     let mut sheet = Bytes::new(alloc);
     push_doubles(&mut sheet, most)?;
@@ -261,7 +261,7 @@ fn doubling(alloc: Global, most: u32) -> Result<Bytes, Memory> {
 
 const TWELVE: &[u8] = b"accepted: 0 terminals, 0 ignorables, 12 nonterminals, 12 productions\n";
 
-// The number of the last nonterminal, the status, `out` and `notes`.
+/// The number of the last nonterminal, the status, `out` and `notes`.
 type Double<'t> = (u32, u8, &'t [u8], &'t [u8]);
 
 const DOUBLES: &[Double<'static>] = &[
@@ -270,7 +270,7 @@ const DOUBLES: &[Double<'static>] = &[
     (20, 2, b"", b"sheet: weight 1000000 is more than 8192\n"),
 ];
 
-// The sheet of a row ends so.
+/// The sheet of a row ends so.
 fn expect_double(rt: &impl Abort, alloc: Global, row: Double<'_>) -> Result<(), Fail> {
     let (most, status, out, notes) = row;
     let end = End {

@@ -20,7 +20,7 @@ use xs_top::SHEET_LIMIT;
 use xs_turn::{TurnFault, turn};
 use xs_wf::{WfFault, well_formed};
 
-// What comes of a document.
+/// What comes of a document.
 #[derive(Clone, Copy, Debug, PartialEq, Eq)]
 enum Answer {
     Turned,
@@ -29,7 +29,7 @@ enum Answer {
     Foreign(u64),
 }
 
-// What comes of the symbols of a document of this side.
+/// What comes of the symbols of a document of this side.
 fn answer_to_symbols(alloc: Global, two: &Two, side: Side, doc: &Word) -> Result<Answer, TurnFault>
     requires sound { IsSoundPair two.now }
     requires short { length doc.now < 4294967295 }
@@ -42,7 +42,7 @@ fn answer_to_symbols(alloc: Global, two: &Two, side: Side, doc: &Word) -> Result
     }
 }
 
-// What comes of the characters of an XML document.
+/// What comes of the characters of an XML document.
 fn answer_to_xml(alloc: Global, two: &Two, characters: &Word) -> Result<Answer, Fail>
     requires sound { IsSoundPair two.now }
     requires short { length characters.now < 4294967295 }
@@ -54,7 +54,7 @@ fn answer_to_xml(alloc: Global, two: &Two, characters: &Word) -> Result<Answer, 
     }
 }
 
-// What comes of the characters of a document of this side.
+/// What comes of the characters of a document of this side.
 fn answer_to_characters(alloc: Global, two: &Two, side: Side, doc: &Word) -> Result<Answer, Fail>
     requires sound { IsSoundPair two.now }
     requires short { length doc.now < 4294967295 }
@@ -65,7 +65,7 @@ fn answer_to_characters(alloc: Global, two: &Two, side: Side, doc: &Word) -> Res
     }
 }
 
-// What comes of the bytes of a document of this side that is turned into the other.
+/// What comes of the bytes of a document of this side that is turned into the other.
 fn answer_to(alloc: Global, two: &Two, side: Side, bytes: &[u8]) -> Result<Answer, Fail>
     requires { IsSoundPair two.now }
 {
@@ -76,7 +76,7 @@ fn answer_to(alloc: Global, two: &Two, side: Side, bytes: &[u8]) -> Result<Answe
     }
 }
 
-// Each prefix of the document, from the empty one to the whole, has its answer.
+/// Each prefix of the document, from the empty one to the whole, has its answer.
 fn expect_each(
     rt: &impl Abort,
     alloc: Global,
@@ -96,7 +96,7 @@ fn expect_each(
     Ok(())
 }
 
-// Each prefix of the document has its answer by the shipped sheet.
+/// Each prefix of the document has its answer by the shipped sheet.
 fn expect_answers(
     rt: &impl Abort,
     alloc: Global,
@@ -108,7 +108,7 @@ fn expect_answers(
     expect_each(rt, alloc, &two, side, document.as_bytes(), answers)
 }
 
-// The answers to cuts inside the character that begins at this byte.
+/// The answers to cuts inside the character that begins at this byte.
 fn push_inner(answers: &mut Vec<Answer>, at: usize, c: char) -> Result<(), Fail> {
     for _ in 1..c.len_utf8() {
         answers.push(Answer::NotUtf8(at as u64))?;
@@ -116,8 +116,8 @@ fn push_inner(answers: &mut Vec<Answer>, at: usize, c: char) -> Result<(), Fail>
     Ok(())
 }
 
-// The answers to a text that is cut before each of its bytes: whole characters of it begin the
-// whole text, so that all of them are viable.
+/// The answers to a text that is cut before each of its bytes: whole characters of it begin the
+/// whole text, so that all of them are viable.
 fn answers_to_text(alloc: Global, text: &str) -> Result<Vec<Answer>, Fail> {
     let mut answers = Vec::new(alloc);
     let mut count = 0u64;
@@ -129,9 +129,9 @@ fn answers_to_text(alloc: Global, text: &str) -> Result<Vec<Answer>, Fail> {
     Ok(answers)
 }
 
-// Where the piece begins that is not whole behind this character: a tag, a comment or a declaration
-// goes on to `>`, and a reference to `;`.
-fn begun_behind(begun: Option<u64>, place: u64, c: char) -> Option<u64> {
+/// Where the piece begins that is not whole after this character: a tag, a comment or a declaration
+/// goes on to `>`, and a reference to `;`.
+fn begun_after(begun: Option<u64>, place: u64, c: char) -> Option<u64> {
     match c {
         '<' => Some(place),
         '&' => Some(place),
@@ -141,8 +141,8 @@ fn begun_behind(begun: Option<u64>, place: u64, c: char) -> Option<u64> {
     }
 }
 
-// The answers to XML that is cut before each of its bytes, where its root ends with its last byte:
-// the pieces before the one that is cut are legal.
+/// The answers to XML that is cut before each of its bytes, where its root ends with its last byte:
+/// the pieces before the one that is cut are legal.
 fn answers_to_xml(alloc: Global, xml: &str) -> Result<Vec<Answer>, Fail> {
     let mut answers = Vec::new(alloc);
     let mut begun = None;
@@ -150,7 +150,7 @@ fn answers_to_xml(alloc: Global, xml: &str) -> Result<Vec<Answer>, Fail> {
     for (at, c) in xml.char_indices() {
         answers.push(Answer::NotXml(begun.unwrap_or(count)))?;
         push_inner(&mut answers, at, c)?;
-        begun = begun_behind(begun, count, c);
+        begun = begun_after(begun, count, c);
         count = count.saturating_add(1);
     }
     Ok(answers)
@@ -166,7 +166,7 @@ fn each_prefix_of_a_text_is_viable(rt: HostRuntime) -> Result<(), Fail> {
 }
 
 #[test]
-fn each_prefix_of_xml_ends_behind_its_last_piece(rt: HostRuntime) -> Result<(), Fail> {
+fn each_prefix_of_xml_ends_after_its_last_piece(rt: HostRuntime) -> Result<(), Fail> {
     let alloc = rt.alloc();
     let mut answers = answers_to_xml(alloc, XML.trim_end())?;
     answers.push(Answer::Turned)?;
@@ -184,10 +184,10 @@ fn each_prefix_of_xml_with_references_and_comments(rt: HostRuntime) -> Result<()
 
 const ELEMENT: &[u8] = b"<s>aa</s>";
 
-// The place that is told of each prefix of the element but itself.
+/// The place that is reported for each prefix of the element but itself.
 const PLACES: &[u8] = &[0, 0, 0, 3, 4, 5, 5, 5, 5];
 
-// The first letters of the element are no XML, which is told with this place.
+/// The first letters of the element are no XML, which is reported with this place.
 fn expect_place(rt: &impl Abort, alloc: Global, length: usize, place: u8) -> Result<(), Fail> {
     let (prefix, _) = ELEMENT.split_at(length.min(ELEMENT.len()));
     let line = format!(in alloc; "input: character {place}: not XML\n")?;
@@ -211,7 +211,7 @@ fn each_prefix_of_an_element_of_letters(rt: HostRuntime) -> Result<(), Fail> {
     )
 }
 
-// What bytes are as a sheet.
+/// What bytes are as a sheet.
 #[derive(Clone, Copy, Debug, PartialEq, Eq)]
 enum Reading {
     Bad(u64),
@@ -240,9 +240,9 @@ fn reading_of(alloc: Global, bytes: &[u8]) -> Result<Reading, Fail> {
     }
 }
 
-// How many lines of the sheet have ended at the cut, with or without the last line feed; None inside
-// a line.
-fn lines_ended(before: &[u8], behind: &[u8]) -> Option<usize> {
+/// How many lines of the sheet have ended at the cut, with or without the last line feed; None
+/// inside a line.
+fn lines_ended(before: &[u8], after: &[u8]) -> Option<usize> {
     let mut lines = 0usize;
     for byte in before {
         if *byte == b'\n' {
@@ -251,14 +251,14 @@ fn lines_ended(before: &[u8], behind: &[u8]) -> Option<usize> {
     }
     if before.ends_with(b"\n") {
         Some(lines)
-    } else if behind.starts_with(b"\n") {
+    } else if after.starts_with(b"\n") {
         Some(lines.saturating_add(1))
     } else {
         None
     }
 }
 
-// The place of a refusal is none before `least`, and stands in the prefix.
+/// The place of a refusal is none before `least`, and stands in the prefix.
 fn next_least(rt: &impl Abort, reading: Reading, least: u64, length: usize) -> u64 {
     match reading {
         Reading::Bad(at) => {
@@ -275,9 +275,10 @@ fn ill(rule: IllRule, line: u32) -> Reading {
     Reading::Ill(Ill { rule, line })
 }
 
-// So many lines of the shipped sheet: up to line 12 there is no production, and from line 37 on
-// each nonterminal has one. `lines`, `line`, `k`, `w`, `u` and `mark` have their first productions
-// on lines 14, 16, 19, 25, 31 and 37, and stand in earlier ones on lines 13, 14, 16, 17, 18 and 21.
+/// That many lines of the shipped sheet: up to line 12 there is no production, and from line 37 on
+/// each nonterminal has one. `lines`, `line`, `k`, `w`, `u` and `mark` have their first productions
+/// on lines 14, 16, 19, 25, 31 and 37, and stand in earlier ones on lines 13, 14, 16, 17, 18 and
+/// 21.
 fn reading_of_lines(lines: usize) -> Reading {
     match lines {
         3..=12 => ill(IllRule::NoStart, 3),
@@ -291,8 +292,8 @@ fn reading_of_lines(lines: usize) -> Reading {
     }
 }
 
-// A prefix that ends inside a line is refused, and one of three lines or more as these lines are: then it
-// counts as one.
+/// A prefix that ends inside a line is refused, and one of three lines or more as these lines are:
+/// then it counts as one.
 fn compared_by_lines(rt: &impl Abort, reading: Reading, ended: Option<usize>) -> usize {
     match ended {
         None => {
@@ -308,7 +309,8 @@ fn compared_by_lines(rt: &impl Abort, reading: Reading, ended: Option<usize>) ->
     }
 }
 
-// No longer prefix is refused earlier, and those that end with a line are refused as their lines are.
+/// No longer prefix is refused earlier, and those that end with a line are refused as their lines
+/// are.
 #[test]
 fn each_prefix_of_the_sheet(rt: HostRuntime) -> Result<(), Fail> {
     let sheet = leiden_sheet();

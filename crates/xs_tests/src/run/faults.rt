@@ -3,8 +3,8 @@ use std::alloc::Global;
 use std::process::Abort;
 use std::test::Fail;
 
-// Words, an input, the calls of `input`, `out` and `notes` that fail, how many bytes a call moves, what
-// `out` and `notes` take, and how the run breaks off.
+/// Words, an input, the calls of `input`, `out` and `notes` that fail, how many bytes a call moves,
+/// what `out` and `notes` take, and how the run breaks off.
 type Row = (
     &'static [&'static str],
     &'static [u8],
@@ -73,7 +73,7 @@ fn the_rows_of_single_faults(rt: HostRuntime) -> Result<(), Fail> {
 
 const ANSWER: &[u8] = b"<p><y>7</y><x>3</x></p>\n";
 
-// The run that turns this text into XML by the pair sheet.
+/// The run that turns this text into XML by the pair sheet.
 fn turning(text: &[u8]) -> Run<'_> {
     Run {
         words: TO_XML,
@@ -82,21 +82,21 @@ fn turning(text: &[u8]) -> Run<'_> {
     }
 }
 
-// How many bytes calls before this one move.
+/// How many bytes calls before this one move.
 fn moved_before(call: u64, step: usize) -> usize {
     (call.saturating_sub(1) as usize).saturating_mul(step)
 }
 
-// Either the fault is told by this line, or the run is done.
-fn end_of(is_told: bool, line: &[u8]) -> End<'_> {
-    if is_told {
+/// Either the fault is reported by this line, or the run is done.
+fn end_of(is_reported: bool, line: &[u8]) -> End<'_> {
+    if is_reported {
         refused(6, line)
     } else {
         done(ANSWER)
     }
 }
 
-// This call of `out` fails, which is told with how many bytes `out` took.
+/// This call of `out` fails, which is reported with how many bytes `out` took.
 fn expect_cut(rt: &impl Abort, alloc: Global, failures: Failures) -> Result<(), Fail> {
     let taken = moved_before(failures.out, failures.step);
     let line = format!(in alloc; "output: cannot be written after {taken} bytes\n")?;
@@ -109,20 +109,20 @@ fn expect_cut(rt: &impl Abort, alloc: Global, failures: Failures) -> Result<(), 
     expect_broken(rt, alloc, turning(b"(3,7)"), failures, end)
 }
 
-// These calls fail, of which a run makes one where `is_told`.
+/// These calls fail, of which a run makes one where `is_reported`.
 fn expect_end(
     rt: &impl Abort,
     alloc: Global,
     failures: Failures,
-    is_told: bool,
+    is_reported: bool,
     line: &[u8],
 ) -> Result<(), Fail> {
-    let end = end_of(is_told, line);
+    let end = end_of(is_reported, line);
     expect_broken(rt, alloc, turning(b"(3,7)"), failures, end)
 }
 
-// This call of each device fails in turn, where a run makes so many calls of the shelf, of the input and
-// of `out`.
+/// This call of each device fails in turn, where a run makes that many calls of the shelf, of the
+/// input and of `out`.
 fn expect_faults(
     rt: &impl Abort,
     alloc: Global,
@@ -166,11 +166,12 @@ fn expect_faults(
     }
 }
 
-// By step: the calls of the shelf (the sheet, and its end), of the input up to its end, and of `out`.
+/// By step: the calls of the shelf (the sheet, and its end), of the input up to its end, and of
+/// `out`.
 const CALLS: &[(usize, [u64; 3])] = &[(1, [2, 6, 24]), (5, [2, 2, 5]), (100, [2, 2, 1])];
 
 #[test]
-fn each_failing_call_of_each_device_is_told(rt: HostRuntime) -> Result<(), Fail> {
+fn each_failing_call_of_each_device_is_reported(rt: HostRuntime) -> Result<(), Fail> {
     for (step, calls) in CALLS {
         for call in 1..41u64 {
             expect_faults(&rt, rt.alloc(), call, *step, *calls)?;
@@ -179,9 +180,9 @@ fn each_failing_call_of_each_device_is_told(rt: HostRuntime) -> Result<(), Fail>
     Ok(())
 }
 
-// What a run tells of which this call of `notes` fails: a prefix of its line, where the line takes that
-// call.
-fn expect_untold(rt: &impl Abort, alloc: Global, call: u64, step: usize) -> Result<(), Fail> {
+/// What a run reports of which this call of `notes` fails: a prefix of its line, where the line
+/// takes that call.
+fn expect_unreported(rt: &impl Abort, alloc: Global, call: u64, step: usize) -> Result<(), Fail> {
     let line: &[u8] = b"input: foreign after 4 symbols\n";
     let taken = moved_before(call, step);
     let failures = Failures {
@@ -204,7 +205,7 @@ fn expect_untold(rt: &impl Abort, alloc: Global, call: u64, step: usize) -> Resu
 fn each_failing_call_of_notes_is_answered(rt: HostRuntime) -> Result<(), Fail> {
     for step in [1usize, 7, 100] {
         for call in 1..41u64 {
-            expect_untold(&rt, rt.alloc(), call, step)?;
+            expect_unreported(&rt, rt.alloc(), call, step)?;
         }
     }
     Ok(())

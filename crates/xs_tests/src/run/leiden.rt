@@ -13,7 +13,7 @@ use xs_loose::{Part, weight_of};
 use xs_order::components;
 use xs_pair::Two;
 
-// A text of the shipped sheet; the dots below stand behind their letters.
+/// A text of the shipped sheet; the dots below stand after their letters.
 pub(super) const TEXT: &str = "<=\n1. (ἔτ(ους)) γ [.3] το[ῦ] .2\n\
     2.- α\u{323}β\u{323} καὶ <τὸ> {τὸ}\n=>\n";
 
@@ -24,7 +24,7 @@ pub(super) const XML: &str = "<ab>\n\
     <lb break=\"no\" n=\"2\"/><unclear>αβ</unclear> καὶ <supplied reason=\"omitted\">τὸ</supplied> \
     <surplus>τὸ</surplus>\n</ab>\n";
 
-// The same document with single quotes, a reference, comments, other orders and other white space.
+/// The same document with single quotes, a reference, comments, other orders and other white space.
 pub(super) const XML_OTHERWISE: &str = "<?xml version=\"1.0\" encoding=\"UTF-8\"?>\r\n<ab>\r\n\
     \x20 <lb n='1'/><expan>&#x1F14;τ<ex>ους</ex></expan> γ \
     <gap unit=\"character\" reason=\"lost\" quantity=\"3\"/><!-- two hands --> \
@@ -33,14 +33,14 @@ pub(super) const XML_OTHERWISE: &str = "<?xml version=\"1.0\" encoding=\"UTF-8\"
     \x20  <lb n=\"2\" break=\"no\"/><unclear>αβ</unclear> καὶ <supplied reason=\"omitted\">τὸ</supplied> \
     <surplus>τὸ</surplus></ab>";
 
-// A letter with a dot below as one character.
+/// A letter with a dot below as one character.
 const COMPOSED: &str = "<=\n1. \u{1EA1}\n=>\n";
 
 const TO_XML: &[&str] = &["to-xml", "@leiden"];
 
 const TO_TEXT: &[&str] = &["to-text", "@leiden"];
 
-// Words, an input and its answer.
+/// Words, an input and its answer.
 const ROWS: &[(&[&str], &str, &str)] = &[
     (TO_XML, TEXT, XML),
     (TO_TEXT, XML_OTHERWISE, TEXT),
@@ -68,7 +68,7 @@ fn documents_and_their_answers(rt: HostRuntime) -> Result<(), Fail> {
     Ok(())
 }
 
-// Letters that are unclear side by side.
+/// Letters that are unclear side by side.
 const SPLIT: &str = "<ab><lb n=\"1\"/><unclear>α</unclear><unclear>β</unclear></ab>";
 
 #[test]
@@ -83,7 +83,7 @@ fn a_dot_below_is_a_character_of_its_own(rt: HostRuntime) -> Result<(), Fail> {
     expect(&rt, rt.alloc(), TO_XML, b"", COMPOSED.as_bytes(), end)
 }
 
-// What the first production of a side weighs.
+/// What the first production of a side weighs.
 fn first_weight(alloc: Global, g: &Gram) -> Result<u64, Memory>
     requires { IsBuilt g.now }
 {
@@ -100,7 +100,7 @@ fn first_weight(alloc: Global, g: &Gram) -> Result<u64, Memory>
     Ok(weight_of(alloc, g, &comps, &part)?.saturating_add(1))
 }
 
-// What the first productions weigh: as text, and as XML.
+/// What the first productions weigh: as text, and as XML.
 fn first_weights(alloc: Global, two: &Two) -> Result<(u64, u64), Memory>
     requires { IsSoundPair two.now }
 {
@@ -124,7 +124,7 @@ fn the_shipped_sheet_is_written(rt: HostRuntime) -> Result<(), Fail> {
 
 const MAKE: &[&str] = &["make", "5", "2000"];
 
-// The run told of a text of 2000 lines, and the next one tells the same.
+/// The run reports a text of 2000 lines, and the next one reports the same.
 fn is_made_again(rt: &impl Abort, alloc: Global, first: &Ended) -> Result<(), Fail> {
     let end = end_of(first);
     assert!(rt; end.out.starts_with(b"make: lines 2000, text "));

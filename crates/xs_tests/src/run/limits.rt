@@ -7,7 +7,7 @@ use std::test::Fail;
 use xs_class::{Bytes, Memory};
 use xs_top::DOCUMENT_LIMIT;
 
-// Bytes by their pieces, and how often each stands behind the one before.
+/// Bytes by their pieces, and how often each stands after the one before.
 type Pieces<'t> = &'t [(&'t [u8], usize)];
 
 fn push_many(bytes: &mut Bytes, piece: &[u8], count: usize) -> Result<(), Memory> {
@@ -25,10 +25,10 @@ fn joined(alloc: Global, pieces: Pieces<'_>) -> Result<Bytes, Memory> {
     Ok(bytes)
 }
 
-// Words, a sheet and an input, and the status, `out` and `notes` of their run.
+/// Words, a sheet and an input, and the status, `out` and `notes` of their run.
 type Row<'t> = (&'t [&'t str], &'t str, Pieces<'t>, u8, Pieces<'t>, &'t [u8]);
 
-// The run ends with this status and these notes, and `out` takes the joined pieces.
+/// The run ends with this status and these notes, and `out` takes the joined pieces.
 fn expect_joined(
     rt: &impl Abort,
     alloc: Global,
@@ -119,7 +119,7 @@ fn documents_at_their_limit(rt: HostRuntime) -> Result<(), Fail> {
     expect_rows(&rt, rt.alloc(), DOCUMENTS)
 }
 
-// Sheets, and the status, `out` and `notes` of a run over each.
+/// Sheets, and the status, `out` and `notes` of a run over each.
 type SheetRow<'t> = (Pieces<'t>, u8, Pieces<'t>, &'t [u8]);
 
 fn expect_sheet(rt: &impl Abort, alloc: Global, row: SheetRow<'_>) -> Result<(), Fail> {
@@ -162,7 +162,7 @@ fn elements_inside_each_other(rt: HostRuntime) -> Result<(), Fail> {
     expect_sheets(&rt, rt.alloc(), DEPTHS)
 }
 
-// A sheet of 28 bytes, which a comment may follow.
+/// A sheet of 28 bytes, which a comment may follow.
 const COMMENTED: &[u8] = b"xsugar-1\nstart s\ns : = <s/>\n";
 
 const FILLED: &[SheetRow<'static>] = &[

@@ -18,21 +18,22 @@ fn is_read(alloc: Global, pattern: &str) -> Result<bool, RegexFault> {
     }
 }
 
-// Whether the pattern has a reading is as expected.
+/// Whether the pattern has a reading is as expected.
 fn expect_read(rt: &impl Abort, alloc: Global, pattern: &str, expected: bool) -> Result<(), Fail> {
     let found = is_read(alloc, pattern)?;
     assert_eq!(rt; found, expected, "{pattern}");
     Ok(())
 }
 
-// A text, a piece, how many copies of it follow, a text behind them, and whether the pattern is read.
+/// A text, a piece, how many copies of it follow, a text after them, and whether the pattern is
+/// read.
 type Copies<'t> = (&'t str, &'t str, usize, &'t str, bool);
 
 fn push_copies(pattern: &mut String, row: Copies<'_>) -> Result<(), Fail> {
-    let (before, piece, count, behind, _) = row;
+    let (before, piece, count, after, _) = row;
     pattern.push_str(before)?;
     push_many(pattern, piece, count)?;
-    pattern.push_str(behind)?;
+    pattern.push_str(after)?;
     Ok(())
 }
 
@@ -93,7 +94,7 @@ fn counts_at_their_bound_and_one_beyond(rt: HostRuntime) -> Result<(), Fail> {
     Ok(())
 }
 
-// So many parentheses round an `a`, and so many empty pairs behind them.
+/// That many parentheses round an `a`, and that many empty pairs after them.
 fn push_nested(pattern: &mut String, depth: usize, pairs: usize) -> Result<(), Fail> {
     push_many(pattern, "(", depth)?;
     pattern.push_str("a")?;
@@ -101,7 +102,7 @@ fn push_nested(pattern: &mut String, depth: usize, pairs: usize) -> Result<(), F
     push_many(pattern, "()", pairs)
 }
 
-// How deep parentheses stand, how many empty pairs follow, and whether the pattern is read.
+/// How deep parentheses stand, how many empty pairs follow, and whether the pattern is read.
 type Depth = (usize, usize, bool);
 
 fn expect_depth(rt: &impl Abort, alloc: Global, row: Depth) -> Result<(), Fail> {

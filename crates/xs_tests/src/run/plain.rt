@@ -1,6 +1,6 @@
-//! The check beside a plain search: tiny sheets are drawn, and the words of six letters at most that
-//! have two derivations are sought by counting.
-use super::{CHECK, told};
+//! The check beside a plain search: tiny sheets are drawn, and the words of six letters at most
+//! that have two derivations are sought by counting.
+use super::{CHECK, reported};
 use crate::sheets::push_item;
 use std::alloc::Global;
 use std::process::Abort;
@@ -9,11 +9,11 @@ use xs_class::{Bytes, Memory};
 
 mod ways;
 
-// How many sheets are drawn.
+/// How many sheets are drawn.
 const SHEETS: u32 = 600;
 
-// What stands at a place of a production: nothing, a letter, the nonterminal at which a tiny sheet
-// starts, its other nonterminal, or the terminals `/a*/` and `/ab?/`.
+/// What stands at a place of a production: nothing, a letter, the nonterminal at which a tiny sheet
+/// starts, its other nonterminal, or the terminals `/a*/` and `/ab?/`.
 #[derive(Clone, Copy)]
 enum Item {
     Nothing,
@@ -26,14 +26,14 @@ enum Item {
 
 type Body = [Item; 3];
 
-// The productions of the two nonterminals.
+/// The productions of the two nonterminals.
 #[derive(Drop)]
 struct Tiny {
     starts: Vec<Body>,
     others: Vec<Body>,
 }
 
-// The next number of a sequence, below ten.
+/// The next number of a sequence, below ten.
 fn drawn(seed: &mut u32) -> u32 {
     *seed = seed.wrapping_mul(1_103_515_245).wrapping_add(12_345);
     (*seed >> 16) % 10
@@ -60,7 +60,7 @@ fn drawn_bodies(alloc: Global, seed: &mut u32, count: u32) -> Result<Vec<Body>, 
     Ok(bodies)
 }
 
-// Two or three productions of the start, and one or two of the other nonterminal.
+/// Two or three productions of the start, and one or two of the other nonterminal.
 fn drawn_tiny(alloc: Global, seed: &mut u32) -> Result<Tiny, Memory> {
     let starts = 2 + drawn(seed) % 2;
     let others = 1 + drawn(seed) % 2;
@@ -87,20 +87,20 @@ fn push_body(sheet: &mut Bytes, body: &Body) -> Result<(), Memory> {
     push(sheet, body[2], b'z')
 }
 
-// The productions of a nonterminal, whose XML stands between two texts.
+/// The productions of a nonterminal, whose XML stands between two texts.
 fn push_bodies(
     sheet: &mut Bytes,
     name: &[u8],
     bodies: &[Body],
     before: &[u8],
-    behind: &[u8],
+    after: &[u8],
 ) -> Result<(), Memory> {
     for body in bodies {
         sheet.extend(name)?;
         push_body(sheet, body)?;
         sheet.extend(before)?;
         push_body(sheet, body)?;
-        sheet.extend(behind)?;
+        sheet.extend(after)?;
     }
     Ok(())
 }
@@ -111,33 +111,33 @@ fn push_tiny(sheet: &mut Bytes, tiny: &Tiny) -> Result<(), Memory> {
     push_bodies(sheet, b"t : ", &tiny.others, b"= ", b"\n")
 }
 
-// The status of the check of a sheet, and whether it tells a suspect of the text side.
-fn told_of(alloc: Global, tiny: &Tiny) -> Result<(u8, bool), Memory> {
+/// The status of the check of a sheet, and whether it reports a suspect of the text side.
+fn reported_of(alloc: Global, tiny: &Tiny) -> Result<(u8, bool), Memory> {
     let mut sheet = Bytes::new(alloc);
     push_tiny(&mut sheet, tiny)?;
-    told(alloc, CHECK, sheet.as_slice(), b"suspect: text: ")
+    reported(alloc, CHECK, sheet.as_slice(), b"suspect: text: ")
 }
 
-// Checks a sheet, and says whether a word of it has two derivations: then there is a suspect of the
-// text side. None where the sheet is not well formed.
+/// Checks a sheet, and says whether a word of it has two derivations: then there is a suspect of
+/// the text side. None where the sheet is not well formed.
 fn compared(
     rt: &impl Abort,
     alloc: Global,
     number: u32,
     tiny: &Tiny,
 ) -> Result<Option<bool>, Fail> {
-    let (status, is_told) = told_of(alloc, tiny)?;
+    let (status, is_reported) = reported_of(alloc, tiny)?;
     if status == 2 {
         return Ok(None);
     }
     let has_two = ways::has_two(alloc, tiny)?;
     if has_two {
-        assert_eq!(rt; (status, is_told), (3, true), "sheet {number}");
+        assert_eq!(rt; (status, is_reported), (3, true), "sheet {number}");
     }
     Ok(Some(has_two))
 }
 
-// The same of the next sheet that is drawn.
+/// The same of the next sheet that is drawn.
 fn drawn_and_compared(
     rt: &impl Abort,
     alloc: Global,

@@ -3,7 +3,7 @@ use std::alloc::Global;
 use std::process::Abort;
 use std::test::Fail;
 
-// Runs that are refused: the words, the sheet, the input, the status, and what `notes` takes.
+/// Runs that are refused: the words, the sheet, the input, the status, and what `notes` takes.
 type Row<'t> = (&'t [&'t str], &'t str, &'t [u8], u8, &'t [u8]);
 
 fn are_refused(rt: &impl Abort, alloc: Global, rows: &[Row<'_>]) -> Result<(), Fail> {

@@ -3,7 +3,7 @@ use std::alloc::Global;
 use std::process::Abort;
 use std::test::Fail;
 
-// A sheet that is refused on its own, with the line that says why.
+/// A sheet that is refused on its own, with the line that says why.
 type Row<'t> = (&'t str, &'t [u8]);
 
 fn are_refused(rt: &impl Abort, alloc: Global, rows: &[Row<'_>]) -> Result<(), Fail> {
@@ -159,7 +159,7 @@ const LEAST_LINES: &[Row<'static>] = &[
 ];
 
 #[test]
-fn the_least_line_of_a_rule_is_told(rt: HostRuntime) -> Result<(), Fail> {
+fn the_least_line_of_a_rule_is_reported(rt: HostRuntime) -> Result<(), Fail> {
     are_refused(&rt, rt.alloc(), LEAST_LINES)
 }
 
@@ -211,6 +211,6 @@ const EARLIER_RULES: &[Row<'static>] = &[
 ];
 
 #[test]
-fn of_two_rules_the_earlier_is_told(rt: HostRuntime) -> Result<(), Fail> {
+fn of_two_rules_the_earlier_is_reported(rt: HostRuntime) -> Result<(), Fail> {
     are_refused(&rt, rt.alloc(), EARLIER_RULES)
 }

@@ -6,7 +6,7 @@ use std::alloc::Global;
 use std::process::Abort;
 use std::test::Fail;
 
-// A sheet, a text and the XML document with the same tree.
+/// A sheet, a text and the XML document with the same tree.
 type Row<'t> = (&'t str, &'t [u8], &'t [u8]);
 
 const ROWS: &[Row<'static>] = &[
@@ -32,7 +32,7 @@ const ROUND_TEXT_NFD: &[&str] = &["round", SHEET, "text", "nfd"];
 
 const ROUND_XML: &[&str] = &["round", SHEET, "xml"];
 
-// The commands of texts and of XML, and whether their answer is XML.
+/// The commands of texts and of XML, and whether their answer is XML.
 const OF_TEXT: &[(&[&str], bool)] = &[
     (TO_XML, true),
     (&["to-xml", SHEET, "nfc"], true),
@@ -42,7 +42,7 @@ const OF_TEXT: &[(&[&str], bool)] = &[
 
 const OF_XML: &[(&[&str], bool)] = &[(TO_TEXT, false), (ROUND_XML, true)];
 
-// The input is answered by the text or by the XML, as each of the commands has it.
+/// The input is answered by the text or by the XML, as each of the commands has it.
 fn expect_each(
     rt: &impl Abort,
     alloc: Global,
@@ -68,7 +68,7 @@ fn each_text_is_translated_and_back(rt: HostRuntime) -> Result<(), Fail> {
     Ok(())
 }
 
-// Words, a sheet, an input and its answer.
+/// Words, a sheet, an input and its answer.
 type Answer<'t> = (&'t [&'t str], &'t str, &'t [u8], &'t [u8]);
 
 fn are_answered(rt: &impl Abort, alloc: Global, rows: &[Answer<'_>]) -> Result<(), Fail> {
@@ -98,7 +98,7 @@ fn one_mark_before_a_document_is_dropped(rt: HostRuntime) -> Result<(), Fail> {
     are_answered(&rt, rt.alloc(), MARKED)
 }
 
-// The letter `a` with a dot below as one character, U+1EA1, and as two, `a` and U+323.
+/// The letter `a` with a dot below as one character, U+1EA1, and as two, `a` and U+323.
 const ONE: &[u8] = b"\xe1\xba\xa1";
 
 const APART: &[u8] = b"a\xcc\xa3";
@@ -156,7 +156,7 @@ fn xml_is_written_in_its_normal_spelling(rt: HostRuntime) -> Result<(), Fail> {
     are_answered(&rt, rt.alloc(), SPELLINGS)
 }
 
-// The five trees of `aaaa`.
+/// The five trees of `aaaa`.
 const FIVE: &str = "(1 a:(1 a:(1 a:(2) b:(2)) b:(2)) b:(2))\n\
     (1 a:(1 a:(2) b:(1 a:(2) b:(2))) b:(2))\n\
     (1 a:(1 a:(2) b:(2)) b:(1 a:(2) b:(2)))\n\
@@ -164,7 +164,7 @@ const FIVE: &str = "(1 a:(1 a:(1 a:(2) b:(2)) b:(2)) b:(2))\n\
     (1 a:(2) b:(1 a:(2) b:(1 a:(2) b:(2))))\n\
     5 trees, no more\n";
 
-// A sheet, how many trees are asked for, a text, and what is listed.
+/// A sheet, how many trees are asked for, a text, and what is listed.
 const LISTINGS: &[(&str, &str, &[u8], &str)] = &[
     (TWINS, "1000", b"aaaa", FIVE),
     (TWINS, "5", b"aaaa", FIVE),
@@ -187,7 +187,7 @@ fn trees_are_listed(rt: HostRuntime) -> Result<(), Fail> {
     Ok(())
 }
 
-// The lines of the five trees of `aaaa` that stand in the answer.
+/// The lines of the five trees of `aaaa` that stand in the answer.
 fn lines_among(answer: &str) -> usize {
     let mut count = 0usize;
     for line in FIVE.lines() {
@@ -198,7 +198,7 @@ fn lines_among(answer: &str) -> usize {
     count
 }
 
-// Four of the five trees, in lines of their own.
+/// Four of the five trees, in lines of their own.
 fn are_four(answer: &str) -> bool {
     lines_among(answer) == 4 && answer.lines().count() == 5 && answer.ends_with("\n4 trees, more\n")
 }

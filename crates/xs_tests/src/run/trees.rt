@@ -21,7 +21,7 @@ fn tree_of(alloc: Global, two: &Two, text: &[u8]) -> Result<Tree, Fail>
     Ok(tree)
 }
 
-// Whether two texts have the same tree.
+/// Whether two texts have the same tree.
 fn have_same(alloc: Global, two: &Two, one: &[u8], other: &[u8]) -> Result<bool, Fail>
     requires { IsSoundPair two.now }
 {
@@ -30,7 +30,7 @@ fn have_same(alloc: Global, two: &Two, one: &[u8], other: &[u8]) -> Result<bool,
     Ok(same(alloc, &first, &second)?)
 }
 
-// Texts of the pairs with spaces, and whether their trees are the same.
+/// Texts of the pairs with spaces, and whether their trees are the same.
 const TEXTS: &[(&[u8], &[u8], bool)] = &[
     (b"(3,7)", b"( 3,  7 )", true),
     (b"(3,7)", b"(7,3)", false),

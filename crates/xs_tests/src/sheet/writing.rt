@@ -21,7 +21,7 @@ fn is_layout(alloc: Global, text: &str, wanted: &str) -> Result<bool, SheetFault
     Ok(bytes.as_slice() == wanted.as_bytes())
 }
 
-// Whether the layout of this text, and of that layout, is the one that is wanted.
+/// Whether the layout of this text, and of that layout, is the one that is wanted.
 fn is_written_so(alloc: Global, text: &str, wanted: &str) -> Result<bool, SheetFault> {
     Ok(is_layout(alloc, text, wanted)? && is_layout(alloc, wanted, wanted)?)
 }
@@ -99,20 +99,20 @@ fn strings_are_written_with_their_escapes(rt: HostRuntime) -> Result<(), Fail> {
     Ok(())
 }
 
-// All that a sheet holds, in one text.
+/// All that a sheet holds, in one text.
 fn shown(alloc: Global, text: &str) -> Result<String, Fail> {
     let sheet = read(alloc, text)?;
     let shown = format!(in alloc; "{sheet:?}")?;
     Ok(shown)
 }
 
-// The line of a sheet's start, and its number of units.
+/// The line of a sheet's start, and its number of units.
 fn counts(alloc: Global, text: &str) -> Result<(u32, usize), SheetFault> {
     let sheet = read(alloc, text)?;
     Ok((sheet.start_line, sheet.units.len()))
 }
 
-// All that a sheet holds after it is written and read again.
+/// All that a sheet holds after it is written and read again.
 fn shown_again(alloc: Global, text: &str) -> Result<String, Fail> {
     let bytes = written(alloc, text)?;
     shown(alloc, str::from_utf8(bytes.as_slice())?)

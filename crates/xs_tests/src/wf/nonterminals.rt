@@ -4,7 +4,7 @@ use std::alloc::Global;
 use xs_pair::PairFault;
 use xs_wf::{least_loop, least_unproductive};
 
-// The lines at which the two rules fail.
+/// The lines at which the two rules fail.
 fn lines_of(alloc: Global, text: &str) -> Result<(Option<u32>, Option<u32>), PairFault> {
     let two = pair_of(alloc, text.as_bytes())?;
     let wordless = least_unproductive(alloc, &two)?;
@@ -52,7 +52,7 @@ const LINES: [(&str, (Option<u32>, Option<u32>)); 9] = [
 ];
 
 #[test]
-fn the_first_production_of_the_first_nonterminal_is_told(rt: HostRuntime) {
+fn the_first_production_of_the_first_nonterminal_is_reported(rt: HostRuntime) {
     for (text, answer) in &LINES {
         let lines = lines_of(rt.alloc(), text);
         assert!(rt; lines == Ok(*answer), "{text}");

@@ -1,11 +1,11 @@
-use crate::pair::told;
+use crate::pair::reported;
 use crate::sheets::two_of;
 use std::alloc::Global;
 use xs_class::Side;
 use xs_pair::{Ill, IllRule};
 use xs_wf::WfFault;
 
-// The number of productions of a well-formed sheet.
+/// The number of productions of a well-formed sheet.
 fn productions(alloc: Global, text: &str) -> Option<u32> {
     match two_of(alloc, text.as_bytes()) {
         Ok(two) => Some(two.gram(Side::Text).rules()),
@@ -13,7 +13,7 @@ fn productions(alloc: Global, text: &str) -> Option<u32> {
     }
 }
 
-// The failure of a sheet.
+/// The failure of a sheet.
 fn ill(alloc: Global, text: &str) -> Option<Ill> {
     match two_of(alloc, text.as_bytes()) {
         Err(WfFault::Ill(ill)) => Some(ill),
@@ -101,6 +101,6 @@ const FAILING: [(&str, IllRule, u32); 9] = [
 fn the_first_rule_that_fails_is_told_with_its_least_line(rt: HostRuntime) {
     for (text, rule, line) in &FAILING {
         let ill = ill(rt.alloc(), text);
-        assert!(rt; ill == told(*rule, *line), "{text}");
+        assert!(rt; ill == reported(*rule, *line), "{text}");
     }
 }

@@ -2,8 +2,8 @@ use super::{Body, Item, Tiny};
 use std::alloc::Global;
 use xs_class::Memory;
 
-// In how many ways the nonterminals of a tiny sheet derive each stretch of a word of six letters,
-// where two stands for more, too.
+/// In how many ways the nonterminals of a tiny sheet derive each stretch of a word of six letters,
+/// where two stands for more, too.
 #[derive(Drop)]
 struct Ways {
     word: [u8; 6],
@@ -11,7 +11,7 @@ struct Ways {
     others: Vec<u8>,
 }
 
-// Where a table has the stretch of these ends.
+/// Where a table has the stretch of these ends.
 fn cell(from: usize, to: usize) -> usize {
     from.saturating_mul(7).saturating_add(to)
 }
@@ -29,7 +29,7 @@ fn write(table: &mut [u8], from: usize, to: usize, ways: u8) {
     }
 }
 
-// Whether letters spell an item that is no nonterminal.
+/// Whether letters spell an item that is no nonterminal.
 fn is_spelt(item: Item, letters: &[u8]) -> bool {
     match item {
         Item::Nothing => letters.is_empty(),
@@ -82,8 +82,8 @@ impl Ways {
         ways
     }
 
-    // Counts for a stretch, whose shorter stretches are counted. The start is counted before and
-    // after the other nonterminal, since either may be the other one beside empty words.
+    /// Counts for a stretch, whose shorter stretches are counted. The start is counted before and
+    /// after the other nonterminal, since either may be the other one beside empty words.
     fn count(&mut self, tiny: &Tiny, from: usize, to: usize) {
         let starts = self.of_bodies(&tiny.starts, from, to);
         write(&mut self.starts, from, to, starts);
@@ -105,7 +105,7 @@ impl Ways {
         }
     }
 
-    // Whether the word, or a beginning of it, has two derivations.
+    /// Whether the word, or a beginning of it, has two derivations.
     fn has_two(&self) -> bool {
         for to in 0..7 {
             if read(&self.starts, 0, to) > 1 {
@@ -116,12 +116,12 @@ impl Ways {
     }
 }
 
-// The letter that stands for the last bit of a number.
+/// The letter that stands for the last bit of a number.
 fn letter(number: u32) -> u8 {
     if number % 2 == 0 { b'a' } else { b'b' }
 }
 
-// The word of six letters that stands for a number.
+/// The word of six letters that stands for a number.
 fn word(number: u32) -> [u8; 6] {
     [
         letter(number),
@@ -133,7 +133,7 @@ fn word(number: u32) -> [u8; 6] {
     ]
 }
 
-// Whether a word of at most six letters has two derivations.
+/// Whether a word of at most six letters has two derivations.
 pub fn has_two(alloc: Global, tiny: &Tiny) -> Result<bool, Memory> {
     for number in 0..64 {
         let mut ways = Ways {
