@@ -1,12 +1,9 @@
 -- The unfoldings of the root are the derivations of the document.
-use Rattle.std.proofs.Common.{append-nil, ◌≡◌, ℕ, zero, [], ◌++◌, length, Some, refl, sym, ◌∙◌, ◌-◌, arith, List}
-use Rattle.std.proofs.Math.Seq.{take-length}
-use Rattle.std.specs.Prelude.{slice_range}
+use Rattle.std.proofs.Common.{append-nil, ◌≡◌, ℕ, zero, [], ◌++◌, length, Some, refl, sym, ◌∙◌, List}
 use Rattle.xs_gram.specs.Grammar.{Grammar}
 use Rattle.xs_gram.specs.Derivations.{Parts, done, sub, Derivation, parts_yield}
 use Rattle.xs_gram.specs.Languages.{Derives}
-use Rattle.xs_chart_laws.specs.Reading.{Reads}
-use Rattle.xs_chart_laws.proofs.Words.{Reads-slice, Reads-same, Reads-from_slice}
+use Rattle.xs_chart_laws.proofs.Words.{Reads-slice, Reads-same}
 use Rattle.xs_forest_laws.specs.declared.span.What.TheVariants.{Whole}
 use Rattle.xs_forest_laws.specs.Forest.{Forest, IsRow, read, items_of, Spans, IsRight}
 use Rattle.xs_forest_laws.specs.Laws.{IsExact}

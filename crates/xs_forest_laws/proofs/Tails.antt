@@ -1,9 +1,9 @@
 -- Which items are nullable, by tests, and from which places of a rule on all are.
-use Rattle.std.proofs.Common.{◌≡◌, ℕ, suc, ◌-◌, ◌<◌, ◌≤◌, List, [], ◌∷◌, ◌++◌, length, Bool, true, false, Some, refl, sym, ◌∙◌, subst, arith, inl, inr, ◌↔◌, leb}
+use Rattle.std.proofs.Common.{◌≡◌, ℕ, suc, ◌-◌, ◌<◌, ◌≤◌, [], length, Bool, true, Some, refl, sym, ◌∙◌, subst, arith, inl, inr, ◌↔◌, leb}
 use Rattle.std.proofs.lemmas.Bool.{leb-true, le-leb, cases_lt}
 use Rattle.std.specs.Prelude.{slice_get}
 use Rattle.xs_regex.specs.declared.position.Position.{Position}
-use Rattle.xs_regex.specs.Automaton.{Accepts, Runs, begins as run_begins, goes}
+use Rattle.xs_regex.specs.Automaton.{Accepts}
 use Rattle.xs_gram.specs.declared.parts.GItem.{GItem}
 use Rattle.xs_gram.specs.declared.parts.GItem.TheVariants.{Fixed, Term, Non, Skip}
 use Rattle.xs_gram.specs.Grammar.{Grammar, term_of, skip_of, items, ItemAt}
@@ -12,7 +12,7 @@ use Rattle.xs_chart_laws.proofs.Words.{get_lt}
 use Rattle.xs_chart_laws.proofs.Spelling.{term_agrees, skip_agrees}
 use Rattle.xs_forest_laws.specs.Order.{is_nullable_by, AreNullable, IsTailFrom, IsNullableFrom, IsTail}
 use Rattle.xs_class.proofs.Truth.{false_true}
-use Rattle.xs_class.proofs.Lists.{not_empty, some_length}
+use Rattle.xs_class.proofs.Lists.{some_length}
 use Rattle.xs_regex.proofs.Runs.{no_run}
 
 accepts_empty : (a : Position) → Accepts a [] → a.nullable ≡ true

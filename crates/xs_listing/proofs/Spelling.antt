@@ -1,6 +1,5 @@
 -- The derivation of a number, and that many first ones, written flat.
-use Rattle.std.proofs.Common.{◌≡◌, ◌⊎◌, inl, inr, ℕ, zero, suc, ◌+◌, ◌<◌, List, [], ◌∷◌, ◌++◌, length, min, ltb, Option, Some, None, refl, sym, ◌∙◌, ap, arith, subst, length-append}
-use Rattle.std.specs.Prelude.{slice_get}
+use Rattle.std.proofs.Common.{◌≡◌, inl, inr, ℕ, suc, ◌+◌, ◌<◌, List, [], ◌∷◌, ◌++◌, length, min, ltb, Option, Some, None, refl, sym, ◌∙◌, ap, arith, subst, length-append}
 use Rattle.xs_gram.specs.Derivations.{done, sub, Derivation}
 use Rattle.xs_forest.specs.Rows.{IsEarlier}
 use Rattle.xs_forest_laws.specs.declared.span.SpanKey.{SpanKey}

@@ -1,5 +1,5 @@
 -- Each step of the writing keeps what it ends with.
-use Rattle.std.proofs.Common.{◌≡◌, ◌⊎◌, inl, inr, ℕ, zero, suc, ◌-◌, ◌<◌, ◌≤◌, List, [], ◌∷◌, ◌++◌, length, map, reverse, take, drop, All, Option, Some, None, refl, sym, ◌∙◌, ap, arith, subst, append-nil, length-append}
+use Rattle.std.proofs.Common.{◌≡◌, inl, inr, ℕ, zero, suc, ◌-◌, ◌<◌, ◌≤◌, List, [], ◌∷◌, ◌++◌, length, map, reverse, take, drop, All, Option, Some, None, refl, sym, ◌∙◌, ap, arith, subst, append-nil, length-append}
 use Rattle.std.specs.Prelude.{slice_get, slice_index_or, slice_range}
 use Rattle.std.proofs.Math.Seq.{take-length}
 use Rattle.std.proofs.lemmas.List.{drop_all, reverse-append, map-append, length-map, take-append-le, drop-append-le}

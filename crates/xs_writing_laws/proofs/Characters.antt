@@ -1,15 +1,14 @@
 -- Lists of characters of XML.
-use Rattle.std.proofs.Common.{◌≡◌, ℕ, List, [], ◌∷◌, ◌++◌, Bool, true, false, ◌&&◌, ◌||◌, ◌≤◌, inl, inr, refl, arith}
+use Rattle.std.proofs.Common.{◌≡◌, ℕ, List, [], ◌∷◌, ◌++◌, true, ◌&&◌, ◌≤◌, refl, arith}
 use Rattle.std.specs.Prelude.{nat_le}
 use Rattle.std.proofs.lemmas.Bool.Decides.{nat_tests}
 use lib.Utf8.{scalar, scalars}
-use Rattle.xs_class.specs.Classes.{Has}
-use Rattle.xs_class.specs.Tables.{IsChar, char_table, in_ranges}
+use Rattle.xs_class.specs.Tables.{IsChar, char_table}
 use Rattle.xs_xml.specs.Tables.{is_char}
 use Rattle.xs_xml.specs.Piece.{all_of}
 use Rattle.xs_chars.specs.Text.{AreCharacters}
 use Rattle.xs_writing_laws.specs.Laws.{AreChars}
-use Rattle.xs_class.proofs.Truth.{and_true, both_true, or_left, or_right}
+use Rattle.xs_class.proofs.Truth.{and_true, both_true}
 use Rattle.xs_class.proofs.TableLaws.{is_in}
 
 pub chars_append : (u v : List ℕ) → AreChars u → AreChars v → AreChars (u ++ v)
