@@ -6,7 +6,7 @@ use Rattle.std.proofs.lemmas.Map.Keys.{any_passes_from_place, apart_from_distinc
 use Rattle.indexmap.proofs.CallerLemmas.{Contains-list_any}
 use Rattle.xs_chart.specs.declared.item.Item.{Item}
 use Rattle.xs_chart.specs.contracts.item.ItemPartialEq.TheImpl as block
-use Rattle.xs_chart.specs.Filled.{AreDifferent}
+use Rattle.xs_chart.specs.Different.{AreDifferent}
 
 abbrev eq : Item → Item → Bool
 eq = block.ghosts.eq

@@ -1,2 +1,3 @@
 pub mod Different
-pub mod Last
+pub mod Grouping
+pub mod Sets

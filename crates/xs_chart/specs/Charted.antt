@@ -1,12 +1,13 @@
 -- What contracts see of a chart: its sets, and who waits in each.
-use Rattle.std.specs.Prelude.{ℕ, ◌-◌, ◌^◌, ◌<◌, List, [], ◌∷◌, ◌++◌, length, slice_index_or, slice_set, All}
+use Rattle.std.specs.Prelude.{◌≡◌, ℕ, suc, ◌+◌, ◌-◌, ◌<◌, ◌≤◌, List, [], ◌∷◌, ◌++◌, length, map, filter, nat_eq, slice_index_or, slice_range, slice_set}
 use Rattle.xs_chart.specs.declared.item.Item.{Item}
-use Rattle.xs_chart.specs.Filled.{Filled, Waits, AreDifferent, waiting_for}
+use Rattle.xs_chart.specs.declared.waiting.Waiter.{Waiter}
+use Rattle.xs_chart.specs.declared.waiting.Waiting.{Waiting}
 
--- each set is the list of its items in the order in which they were added; beside each stands what waits in it
+-- each set is the list of its items in the order in which they were added; beside each stand the entries of its waiting lists
 pub record Charted : Type 0 where
   pub sets : List (List Item)
-  pub waits : List Waits
+  pub waits : List (List Waiter)
 
 -- the number of the last set
 abbrev pub last_set : Charted → ℕ
@@ -16,9 +17,23 @@ last_set chart = length chart.sets - 1
 abbrev pub items_of : Charted → ℕ → List Item
 items_of chart set = slice_index_or chart.sets set []
 
+abbrev pub number_of : Waiter → ℕ
+number_of waiter = waiter.number
+
+abbrev pub non_of : Waiter → ℕ
+non_of waiter = waiter.non
+
+-- the numbers that wait for the nonterminal, in the order of the entries
+abbrev pub waiting_for : List Waiter → ℕ → List ℕ
+waiting_for waits non = map number_of (filter (λ waiter. nat_eq non waiter.non) waits)
+
+-- the entries of a set's waiting lists
+abbrev pub waits_of : Charted → ℕ → List Waiter
+waits_of chart set = slice_index_or chart.waits set []
+
 -- the numbers of the items of a set that wait there for the nonterminal
 abbrev pub waiting_of : Charted → ℕ → ℕ → List ℕ
-waiting_of chart set non = waiting_for (slice_index_or chart.waits set []) non
+waiting_of chart set non = waiting_for (waits_of chart set) non
 
 -- the chart with one item more, which stands last in the last set
 abbrev pub with_item : Charted → Item → Charted
@@ -27,7 +42,8 @@ with_item chart item = record {
   waits = chart.waits;
 }
 
--- as many as a number of 32 bits counts, and each of different items
-pub record AreSets (sets : List Filled) : Type 0 where
-  pub counted : length sets < 2 ^ 32
-  pub different : All (λ set. AreDifferent set.items) sets
+-- the entries of a nonterminal's waiting list in a set, which is not the last, are these
+pub record IsWaiting (chart : Charted) (w : Waiting) : Type 0 where
+  pub finished : suc w.set < length chart.waits
+  pub within : w.from + w.count ≤ length (waits_of chart w.set)
+  pub is : waiting_of chart w.set w.non ≡ map number_of (slice_range (waits_of chart w.set) w.from (w.from + w.count))

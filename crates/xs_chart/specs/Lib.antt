@@ -1,2 +1,3 @@
 pub mod Charted
-pub mod Filled
+pub mod Different
+pub mod Kept

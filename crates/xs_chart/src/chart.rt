@@ -1,9 +1,13 @@
-ghost use Rattle.std.specs.Prelude.{◌≡◌, ◌<◌, ◌+◌, ◌↔◌, ◌≢◌, ℕ, [], ◌∷◌, ◌++◌, length, slice_get, if◌then◌else◌, Contains, IsTrue, IfOk, OnOk, OnErr};
+ghost use Rattle.std.specs.Prelude.{◌≡◌, ◌<◌, ◌+◌, ◌↔◌, ◌≢◌, suc, ℕ, [], ◌∷◌, ◌++◌, length, slice_get, if◌then◌else◌, Contains, IsTrue, IfOk, OnOk, OnErr};
+ghost use Rattle.xs_chart.specs.Different.{AreDifferent};
 
-use crate::{Item, Set};
+use crate::waiting::{find, keep};
+use crate::{Item, Waiter, Waiting};
+use indexmap::IndexSet;
 use std::alloc::Global;
 use std::marker::Model;
 use xs_class::Memory;
+use xs_flat::FlatLists;
 
 /// A list of sets, each a list of different items, with the waiting lists of each.
 ///
@@ -11,25 +15,55 @@ use xs_class::Memory;
 #[derive(Drop)]
 pub struct Chart {
     alloc: Global,
-    sets: Vec<Set>,
+    items: FlatLists<Item>,
+    waits: FlatLists<Waiter>,
+    last: IndexSet<Item>,
+    waiting: Vec<Waiter>,
+    is_open: bool,
 }
 
 impl Model for Chart {
-    ghost use Rattle.std.specs.Prelude.{map};
     ghost use Rattle.xs_chart.specs.Charted.{Charted};
+    ghost use Rattle.xs_chart.specs.Kept.{opened, IsKept};
 
     ghost Value = { Charted };
 
-    ghost view = { λ c. record { sets = map (λ s. s.items) c.sets.items; waits = map (λ s. s.waits) c.sets.items } };
+    ghost view = { λ c. record { sets = opened c.is_open c.items c.last.keys; waits = opened c.is_open c.waits c.waiting.items } };
 
-    ghost use Rattle.xs_chart.specs.Charted.{AreSets};
+    ghost invariant = { λ c. IsKept c.is_open c.items c.last.keys c.waits };
+}
 
-    ghost invariant = { λ c. AreSets c.sets.items };
+/// The set without items, with the memory of another one unless that is far too large.
+fn emptied(alloc: Global, last: &mut IndexSet<Item>)
+    ensures { last.new.keys ≡ [] }
+{
+    if last.capacity() / 16 > last.len() {
+        *last = IndexSet::new(alloc);
+    } else {
+        last.clear();
+    }
+}
+
+/// Puts the item last, unless it is there; true exactly where it was not there.
+fn put(last: &mut IndexSet<Item>, item: Item) -> Result<bool, Memory>
+    ensures added { IfOk result (λ added. IsTrue added ↔ (Contains last.old.keys item → ⊥)) }
+    ensures items { IfOk result (λ added. last.new.keys ≡ (if added then last.old.keys ++ item ∷ [] else last.old.keys)) }
+    ensures different { AreDifferent last.new.keys }
+    ensures err { OnErr result (last.new.keys ≡ last.old.keys) }
+{
+    let added = last.insert(item)?;
+    Ok(added)
+}
+
+/// Whether the item is there.
+fn found(last: &IndexSet<Item>, item: Item) -> bool
+    ensures { IsTrue result ↔ Contains last.now.keys item }
+{
+    last.contains(&item)
 }
 
 impl Chart {
-    ghost use Rattle.xs_chart.specs.Filled.{AreDifferent};
-    ghost use Rattle.xs_chart.specs.Charted.{items_of, last_set, waiting_of, with_item};
+    ghost use Rattle.xs_chart.specs.Charted.{items_of, last_set, waiting_of, with_item, IsWaiting};
 
     /// The chart without sets.
     pub fn new(alloc: Global) -> Result<Self, Memory>
@@ -38,18 +72,32 @@ impl Chart {
     {
         Ok(Chart {
             alloc,
-            sets: Vec::new(alloc),
+            items: FlatLists::new(alloc),
+            waits: FlatLists::new(alloc),
+            last: IndexSet::new(alloc),
+            waiting: Vec::new(alloc),
+            is_open: false,
         })
     }
 
-    /// A new last set, which is empty.
+    /// A new last set, which is empty. The waiting lists of the one before it are finished.
     pub fn push_set(&mut self) -> Result<(), Memory>
         requires { length self.old.sets < 4294967295 }
         ensures sets { OnOk result (self.new.sets ≡ self.old.sets ++ [] ∷ []) }
-        ensures waiting { OnOk result ((set non : ℕ) → waiting_of self.new set non ≡ waiting_of self.old set non) }
-        ensures err { OnErr result (self.new ≡ self.old) }
+        ensures waiting { (set non : ℕ) → waiting_of self.new set non ≡ waiting_of self.old set non }
+        ensures err { OnErr result (self.new.sets ≡ self.old.sets) }
     {
-        self.sets.push(Set::new(self.alloc))?;
+        if self.is_open {
+            keep(
+                &mut self.items,
+                &mut self.waits,
+                self.last.as_slice(),
+                &mut self.waiting,
+            )?;
+        }
+        emptied(self.alloc, &mut self.last);
+        self.waiting.clear();
+        self.is_open = true;
         Ok(())
     }
 
@@ -60,17 +108,32 @@ impl Chart {
         ensures last { IfOk result (λ added. self.new ≡ (if added then with_item self.old item else self.old)) }
         ensures err { OnErr result (self.new ≡ self.old) }
     {
-        let last = self.sets.len() - 1;
-        let set = &mut self.sets[last];
-        set.add(item)
+        put(&mut self.last, item)
     }
 
-    /// Whether the set has the item.
+    /// The items of a set.
+    fn items(&self, set: u32) -> &[Item]
+        requires { set < length self.now.sets }
+        ensures { result.now ≡ items_of self.now set }
+    {
+        if set as usize == self.items.len() {
+            self.last.as_slice()
+        } else {
+            self.items.list(set as usize)
+        }
+    }
+
+    /// Whether the set has the item: in constant expected time where it is the last one, and in time
+    /// linear in the set else.
     pub fn has(&self, set: u32, item: Item) -> bool
         requires { set < length self.now.sets }
         ensures { IsTrue result ↔ Contains (items_of self.now set) item }
     {
-        self.sets[set as usize].has(item)
+        if set as usize == self.items.len() {
+            found(&self.last, item)
+        } else {
+            self.items(set).contains(&item)
+        }
     }
 
     /// The item at place k of the set.
@@ -78,7 +141,7 @@ impl Chart {
         requires { k < length (items_of self.now set) }
         ensures { slice_get (items_of self.now set) k ≡ Some result }
     {
-        self.sets[set as usize].item(k)
+        self.items(set)[k as usize]
     }
 
     /// The number of the set's items.
@@ -86,7 +149,7 @@ impl Chart {
         requires { set < length self.now.sets }
         ensures { result ≡ length (items_of self.now set) }
     {
-        self.sets[set as usize].len()
+        self.items(set).len() as u64
     }
 
     /// The number of sets, each of which has different items.
@@ -94,7 +157,8 @@ impl Chart {
         ensures len { result ≡ length self.now.sets }
         ensures different { (set : ℕ) → AreDifferent (items_of self.now set) }
     {
-        self.sets.len() as u32
+        let finished = self.items.len() as u32;
+        if self.is_open { finished + 1 } else { finished }
     }
 
     /// Puts the number k of an item of the last set last in the nonterminal's waiting list there.
@@ -106,24 +170,39 @@ impl Chart {
         ensures earlier { OnOk result ((set other : ℕ) → set ≢ last_set self.old → waiting_of self.new set other ≡ waiting_of self.old set other) }
         ensures err { OnErr result (self.new ≡ self.old) }
     {
-        let last = self.sets.len() - 1;
-        let set = &mut self.sets[last];
-        set.wait(self.alloc, non, k)
+        match u32::try_from(k) {
+            Ok(number) => {
+                self.waiting.push(Waiter { non, number })?;
+                Ok(())
+            }
+            Err(_) => Err(Memory),
+        }
     }
 
-    /// The length of the nonterminal's waiting list in the set.
-    pub fn waiting(&self, set: u32, non: u32) -> u64
-        requires { set < length self.now.sets }
-        ensures { result ≡ length (waiting_of self.now set non) }
+    /// The nonterminal's waiting list in a set before the last one, in time logarithmic in the
+    /// entries of the set's lists.
+    pub fn waiting(&self, set: u32, non: u32) -> Waiting
+        requires { suc set < length self.now.sets }
+        ensures set { result.set ≡ set }
+        ensures non { result.non ≡ non }
+        ensures is { IsWaiting self.now result }
     {
-        self.sets[set as usize].waiting(non)
+        let (from, count) = find(self.waits.list(set as usize), non);
+        Waiting {
+            set,
+            non,
+            from,
+            count,
+        }
     }
 
-    /// Entry n of the nonterminal's waiting list in the set: a number of an item of the set.
-    pub fn waiter(&self, set: u32, non: u32, n: u64) -> u64
-        requires { n < length (waiting_of self.now set non) }
-        ensures { slice_get (waiting_of self.now set non) n ≡ Some result }
+    /// Entry n of a waiting list: a number of an item of the set.
+    pub fn waiter(&self, waiting: Waiting, n: usize) -> u64
+        requires is { IsWaiting self.now waiting }
+        requires n { n < waiting.count }
+        ensures { slice_get (waiting_of self.now waiting.set waiting.non) n ≡ Some result }
     {
-        self.sets[set as usize].waiter(non, n)
+        let waits = self.waits.list(waiting.set as usize);
+        u64::from(waits[waiting.from + n].number)
     }
 }

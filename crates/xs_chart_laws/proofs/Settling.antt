@@ -3,7 +3,7 @@ use Rattle.std.proofs.Common.{◌≡◌, ℕ, suc, ◌+◌, ◌<◌, List, lengt
 use Rattle.std.specs.declared.option.Option.{Option}
 use Rattle.std.specs.Prelude.{slice_get, Contains, IsTrue}
 use Rattle.xs_chart.specs.declared.item.Item.{Item}
-use Rattle.xs_chart.specs.Filled.{AreDifferent}
+use Rattle.xs_chart.specs.Different.{AreDifferent}
 use Rattle.xs_regex.specs.declared.position.Position.{Position}
 use Rattle.xs_regex.specs.Automaton.{HasAt, Leads}
 use Rattle.xs_gram.specs.declared.parts.GItem.{GItem}

@@ -1,7 +1,7 @@
 -- The chart of a document: the items that stand, by the numbers of their places.
 use Rattle.std.specs.Prelude.{◌≡◌, ◌↔◌, ℕ, suc, List, [], length, Some, slice_get, slice_index_or, Contains}
 use Rattle.xs_chart.specs.declared.item.Item.{Item}
-use Rattle.xs_chart.specs.Filled.{AreDifferent}
+use Rattle.xs_chart.specs.Different.{AreDifferent}
 use Rattle.xs_chart.specs.Charted.{Charted, items_of, waiting_of}
 use Rattle.xs_gram.specs.declared.places.Place.{Place}
 use Rattle.xs_gram.specs.Grammar.{Grammar}

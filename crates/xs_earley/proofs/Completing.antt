@@ -1,11 +1,13 @@
 -- The items that wait for a nonterminal in an earlier set, and what is after them.
-use Rattle.std.proofs.Common.{◌≡◌, ◌≢◌, ℕ, ◌<◌, List, [], length, Some, refl, sym, ◌∙◌, ap, subst, arith}
+use Rattle.std.proofs.Common.{◌≡◌, ◌≢◌, ℕ, suc, ◌<◌, ◌≤◌, ◌+◌, ◌-◌, List, [], length, map, take, drop, slice_range, Some, refl, sym, ◌∙◌, ap, subst, arith}
 use Rattle.std.specs.declared.option.Option.{Option}
 use Rattle.std.specs.Prelude.{Contains, slice_get, slice_index_or}
 use Rattle.std.proofs.lemmas.Option.{same_Some}
+use Rattle.std.proofs.lemmas.List.{length-map, length-drop, length-take-le}
 use Rattle.xs_chart.specs.declared.item.Item.{Item}
-use Rattle.xs_chart.specs.Filled.{waiting_for}
-use Rattle.xs_chart.specs.Charted.{Charted, items_of, waiting_of}
+use Rattle.xs_chart.specs.declared.waiting.Waiter.{Waiter}
+use Rattle.xs_chart.specs.declared.waiting.Waiting.{Waiting}
+use Rattle.xs_chart.specs.Charted.{Charted, items_of, waiting_of, waiting_for, waits_of, number_of, IsWaiting}
 use Rattle.xs_gram.specs.declared.places.Place.{Place}
 use Rattle.xs_gram.specs.Grammar.{Grammar}
 use Rattle.xs_chart_laws.specs.Steps.{next_of, IsBefore}
@@ -21,6 +23,29 @@ same_at o x y a b = same_Some x y (sym a ∙ b)
 
 pub waiting_same : (old now : Charted) (j non : ℕ) → now.waits ≡ old.waits → waiting_of now j non ≡ waiting_of old j non
 waiting_same old now j non e = ap (λ ws. waiting_for (slice_index_or ws j []) non) e
+
+-- an entry of the waiting list that was found is one of the list that was asked for
+pub waiter_of : (chart : Charted) (w : Waiting) (from non n k : ℕ) → w.set ≡ from → w.non ≡ non → slice_get (waiting_of chart w.set w.non) n ≡ Some k → slice_get (waiting_of chart from non) n ≡ Some k
+waiter_of chart w from non n k a b e = subst (λ s. slice_get (waiting_of chart s non) n ≡ Some k) a (subst (λ m. slice_get (waiting_of chart w.set m) n ≡ Some k) b e)
+
+-- where the waiting lists stay, what was found stays
+pub waiting_still : (old now : Charted) (w : Waiting) → now.waits ≡ old.waits → IsWaiting old w → IsWaiting now w
+waiting_still old now w e h = record {
+  finished = subst (λ ws. suc w.set < length ws) (sym e) h.finished;
+  within = subst (λ (ws : List (List Waiter)). w.from + w.count ≤ length (slice_index_or ws w.set [])) (sym e) h.within;
+  is = subst (λ (ws : List (List Waiter)). waiting_for (slice_index_or ws w.set []) w.non ≡ map number_of (slice_range (slice_index_or ws w.set []) w.from (w.from + w.count))) (sym e) h.is;
+}
+
+-- the waiting list has as many entries as were counted
+pub waiting_counted : (chart : Charted) (w : Waiting) (from non : ℕ) → w.set ≡ from → w.non ≡ non → IsWaiting chart w → length (waiting_of chart from non) ≡ w.count
+waiting_counted chart w from non a b h =
+    let row = waits_of chart w.set in
+    let within = h.within in
+    let wide : w.from + w.count - w.from ≡ w.count = omega arith in
+    let room : w.count ≤ length (drop w.from row) = rw length-drop (omega (arith, within)) in
+    let own : length (waiting_of chart w.set w.non) ≡ w.count
+    = ap length h.is ∙ length-map (slice_range row w.from (w.from + w.count)) number_of ∙ ap (λ n. length (take n (drop w.from row))) wide ∙ length-take-le w.count (drop w.from row) room in
+    subst (λ s. length (waiting_of chart s non) ≡ w.count) a (subst (λ m. length (waiting_of chart w.set m) ≡ w.count) b own)
 
 module _ (g : Grammar) (old now : Charted) (at from non : ℕ) (P : Place → ℕ → Type 0) (before : from < at) (exact : IsExact g old from non) (adds : Adds g at P old.sets now.sets) (same : now.waits ≡ old.waits) where
   -- the waiting list is as it was

@@ -1,11 +1,12 @@
 -- A set that is opened, closed and filled.
-use Rattle.std.proofs.Common.{◌≡◌, ◌≢◌, ℕ, zero, suc, ◌<◌, ◌≤◌, List, [], ◌∷◌, ◌++◌, length, Some, refl, sym, ◌∙◌, ap, subst, arith, inl, inr, length-append}
+use Rattle.std.proofs.Common.{◌≡◌, ◌≢◌, ℕ, zero, suc, ◌<◌, ◌≤◌, List, [], ◌∷◌, ◌++◌, length, set, Some, refl, sym, ◌∙◌, ap, subst, arith, inl, inr, length-append}
 use Rattle.std.specs.Prelude.{Contains, slice_get, slice_index_or}
 use Rattle.std.proofs.lemmas.Bool.{cases_eq, cases_lt}
-use Rattle.std.proofs.lemmas.List.{get_or_past}
+use Rattle.std.proofs.lemmas.List.{get_or_past, length-set}
 use Rattle.std.proofs.lemmas.Option.{slice_get_within}
 use Rattle.xs_chart.specs.declared.item.Item.{Item}
-use Rattle.xs_chart.specs.Filled.{AreDifferent, waiting_for}
+use Rattle.xs_chart.specs.Different.{AreDifferent}
+use Rattle.xs_chart.specs.Charted.{waiting_for}
 use Rattle.xs_chart.specs.Charted.{Charted, items_of, waiting_of}
 use Rattle.xs_gram.specs.declared.places.Place.{Place}
 use Rattle.xs_gram.specs.Grammar.{Grammar, IsRuleOf}
@@ -22,6 +23,7 @@ use Rattle.xs_earley.specs.Opening.{IsOpened}
 use Rattle.xs_earley.specs.Waiting.{WaitsBelow}
 use Rattle.xs_earley.proofs.Additions.{no_element, contains_at, at_contains, puts_kept}
 use Rattle.xs_earley.proofs.Completing.{waiting_same}
+use Rattle.xs_earley.proofs.Emptied.{contains_emptied, open_emptied, settled_emptied}
 use Rattle.xs_earley.proofs.Settlings.{of_stands}
 use Rattle.xs_earley.proofs.Queues.{waits_exact}
 use Rattle.xs_earley.proofs.Growths.{grows_kept, grows_stand, grown_puts, grown_then, settled_before_more}
@@ -125,18 +127,21 @@ module _ (g : Grammar) (w : List ℕ) where
       back i d o (inr x) = inr x
 
   -- a set that is opened and closed is filled
-  pub filled_more : (at : ℕ) (old mid new : Charted) (due later : List (List Item)) → IsFilled g w at old due → IsOpened g w at old due mid → Grown g w at mid.sets due new.sets later → ((k : ℕ) → k < length (items_of new at) → IsSettledAt g w new.sets later at k) → ((j non : ℕ) → j ≢ at → waiting_of new j non ≡ waiting_of mid j non) → WaitsBelow g new at (length (items_of new at)) → IsFilled g w (suc at) new later
+  pub filled_more : (at : ℕ) (old mid new : Charted) (due later : List (List Item)) → IsFilled g w at old due → IsOpened g w at old due mid → Grown g w at mid.sets (set due at []) new.sets later → ((k : ℕ) → k < length (items_of new at) → IsSettledAt g w new.sets later at k) → ((j non : ℕ) → j ≢ at → waiting_of new j non ≡ waiting_of mid j non) → WaitsBelow g new at (length (items_of new at)) → IsFilled g w (suc at) new later
   filled_more at old mid new due later filled open' grown settled earlier waits = record {
     counted = grown.chart.counted ∙ open'.ready.last;
-    lists = grown.noted.counted ∙ filled.lists;
+    lists = grown.noted.counted ∙ length-set due at [] ∙ filled.lists;
     stand = grows_stand g w mid.sets new.sets grown.chart open'.ready.stand;
-    due_stand = grows_stand g w due later grown.noted filled.due_stand;
+    due_stand = grows_stand g w (set due at []) later grown.noted (open_emptied due at there g w mid open'.ready).due_stand;
     waiters = record { exact = exact; once = once };
     arrived = arrived;
     starts = λ some. starts;
     settled = all;
   }
     where
+      there : at < length due
+      there = let within = open'.ready.within in let lists = filled.lists in omega (arith, within, lists)
+
       items_same : (j : ℕ) → j ≢ at → items_of new j ≡ items_of old j
       items_same j ne = grown.chart_same j ne ∙ open'.grown.chart_same j ne ∙ set_pushed old.sets j
 
@@ -161,7 +166,7 @@ module _ (g : Grammar) (w : List ℕ) where
       arrived : (k : ℕ) (item : Item) → k < suc at → Contains (set_at later k) item → Contains (set_at new.sets k) item
       arrived k item lt h =
           let le : k ≤ at = omega arith in
-          grows_kept g w mid.sets new.sets grown.chart k item (open'.ready.arrived k item le (subst (λ (l : List Item). Contains l item) (grown.noted_same k le) h))
+          grows_kept g w mid.sets new.sets grown.chart k item (open'.ready.arrived k item le (contains_emptied due at there k item (subst (λ (l : List Item). Contains l item) (grown.noted_same k le) h)))
 
       starts : (p : ℕ) → IsRuleOf g g.start p → HasPlace g new.sets 0 (at_dot p 0) 0
       starts p rule = elim (cases_eq at 0) [
@@ -171,8 +176,10 @@ module _ (g : Grammar) (w : List ℕ) where
 
       before : (j k : ℕ) → j < at → IsSettledAt g w new.sets later j k
       before j k lt =
-          settled_before_more g w at mid.sets due new.sets later grown j k lt
-          (settled_before_more g w at (old.sets ++ [] ∷ []) due mid.sets due open'.grown j k lt (settled_pushed old.sets due j k (filled.settled j k lt)))
+          let le : at ≤ at = omega arith in
+          settled_before_more g w at mid.sets (set due at []) new.sets later grown j k lt
+          (settled_emptied due at there g w mid.sets j k (λ item h. open'.ready.arrived at item le h)
+          (settled_before_more g w at (old.sets ++ [] ∷ []) due mid.sets due open'.grown j k lt (settled_pushed old.sets due j k (filled.settled j k lt))))
 
       here : (k : ℕ) → IsSettledAt g w new.sets later at k
       here k item c e num = settled k (slice_get_within (items_of new at) k item e) item c e num

@@ -1,5 +1,6 @@
 pub mod Additions
 pub mod Completing
+mod Emptied
 pub mod Growths
 pub mod Settlings
 pub mod Spelt

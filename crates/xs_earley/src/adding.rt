@@ -4,13 +4,11 @@ ghost use Rattle.xs_gram.specs.Grammar.{ItemAt};
 ghost use Rattle.xs_gram.specs.Places.{IsPlace};
 ghost use Rattle.xs_earley.specs.Adding.{Adds, Is, Passes};
 
+use crate::due::Items;
 use crate::places::after;
 use xs_chart::{Chart, Item};
-use xs_class::{Listed, Memory};
+use xs_class::Memory;
 use xs_gram::{Gram, Place};
-
-/// Items of one set, in the order in which they were noted.
-pub type Items = Listed<Item>;
 
 /// Adds the item of a place and an origin to the last set, unless it is there.
 pub fn put(chart: &mut Chart, g: &Gram, at: u32, place: Place, origin: u32) -> Result<(), Memory>

@@ -1,4 +1,4 @@
-ghost use Rattle.std.specs.Prelude.{◌≡◌, ◌<◌, ◌≤◌, suc, length, Contains, IfOk};
+ghost use Rattle.std.specs.Prelude.{◌≡◌, ◌<◌, ◌≤◌, suc, [], length, slice_set, Contains, IfOk};
 ghost use Rattle.xs_chart.specs.declared.item.Item.{Item};
 ghost use Rattle.xs_chart.specs.Charted.{items_of};
 ghost use Rattle.xs_gram.specs.Sound.{IsBuilt};
@@ -8,10 +8,9 @@ ghost use Rattle.xs_earley.specs.Asked.{AreCallFacts};
 ghost use Rattle.xs_earley.specs.Growing.{IsFilled};
 ghost use Rattle.xs_earley.specs.Opening.{IsOpened};
 
-use crate::adding::Items;
 use crate::close::close;
+use crate::due::{Items, no_items, recycle};
 use crate::facts::CallFacts;
-use crate::lists::empty_lists;
 use crate::steps::predict;
 use std::alloc::Global;
 use xs_chart::{Chart, Item};
@@ -48,8 +47,9 @@ fn begin(chart: &mut Chart, g: &Gram, facts: &CallFacts, at: u32) -> Result<(), 
 
 /// Opens the next set with what is due there, and the first one with the rules of the start.
 fn open_next(
+    alloc: Global,
     chart: &mut Chart,
-    due: &[Items],
+    due: &mut [Items],
     g: &Gram,
     doc: &Word,
     facts: &CallFacts,
@@ -57,19 +57,22 @@ fn open_next(
 ) -> Result<(), Memory>
     requires built { IsBuilt g.now }
     requires facts { AreCallFacts g.now facts.now }
-    requires filled { IsFilled g.now doc.now at chart.old due.now }
+    requires filled { IsFilled g.now doc.now at chart.old due.old }
     requires within { at ≤ length doc.now }
     requires few { length doc.now < 4294967295 }
-    ensures { IfOk result (λ _. IsOpened g.now doc.now at chart.old due.now chart.new) }
+    ensures opened { IfOk result (λ _. IsOpened g.now doc.now at chart.old due.old chart.new) }
+    ensures emptied { IfOk result (λ _. due.new ≡ slice_set due.old at []) }
 {
     chart.push_set()?;
     begin(chart, g, facts, at)?;
     put_all(chart, at, due[at as usize].as_slice())?;
+    recycle(alloc, due, at as usize);
     Ok(())
 }
 
 /// Fills the next set.
 fn fill_next(
+    alloc: Global,
     chart: &mut Chart,
     due: &mut [Items],
     g: &Gram,
@@ -84,7 +87,7 @@ fn fill_next(
     requires few { length doc.now < 4294967295 }
     ensures { IfOk result (λ _. IsFilled g.now doc.now (suc at) chart.new due.new) }
 {
-    open_next(chart, due, g, doc, facts, at)?;
+    open_next(alloc, chart, due, g, doc, facts, at)?;
     close(chart, due, g, doc, facts, at)?;
     Ok(())
 }
@@ -98,10 +101,10 @@ pub fn chart_of(alloc: Global, g: &Gram, doc: &Word, facts: &CallFacts) -> Resul
     ensures waiters { IfOk result (λ chart. HasWaiters g.now chart) }
 {
     let mut chart = Chart::new(alloc)?;
-    let mut due: Vec<Items> = empty_lists(alloc, doc.len() + 1)?;
+    let mut due = no_items(alloc, doc.len() + 1)?;
     'sets: while (chart.sets() as usize) <= doc.len() {
         let at = chart.sets();
-        fill_next(&mut chart, &mut due, g, doc, facts, at)?;
+        fill_next(alloc, &mut chart, &mut due, g, doc, facts, at)?;
     }
     Ok(chart)
 }

@@ -5,7 +5,7 @@ ghost use Rattle.xs_earley.specs.Asked.{AreCallFacts};
 ghost use Rattle.xs_earley.specs.Growing.{Grown, IsSettledAt, IsOpen};
 ghost use Rattle.xs_earley.specs.Waiting.{WaitsBelow};
 
-use crate::adding::Items;
+use crate::due::Items;
 use crate::facts::CallFacts;
 use crate::settle::settle;
 use crate::waiting::enlist;

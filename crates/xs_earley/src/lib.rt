@@ -11,6 +11,7 @@
 mod adding;
 mod chart;
 mod close;
+mod due;
 mod facts;
 mod far;
 mod fault;

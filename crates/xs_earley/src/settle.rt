@@ -12,7 +12,8 @@ ghost use Rattle.xs_earley.specs.Adding.{Adds, Ends, Predicts, ReadsWord};
 ghost use Rattle.xs_earley.specs.Asked.{AreCallFacts};
 ghost use Rattle.xs_earley.specs.Growing.{Has, Grown, IsSettledAt, IsExact, IsOpen};
 
-use crate::adding::{Items, note, pass};
+use crate::adding::{note, pass};
+use crate::due::Items;
 use crate::facts::CallFacts;
 use crate::places::{after, item_at};
 use crate::steps::{complete, following, go_on, is_last, predict};

@@ -5,7 +5,8 @@ ghost use Rattle.xs_chart_laws.specs.Steps.{HasAutomaton};
 ghost use Rattle.xs_earley.specs.Adding.{Adds, Begins, Enters, GoesOn, Completes};
 ghost use Rattle.xs_earley.specs.Growing.{IsExact};
 
-use crate::adding::{Items, note, put};
+use crate::adding::{note, put};
+use crate::due::Items;
 use crate::places::after;
 use xs_chart::Chart;
 use xs_class::{Memory, Sym, Word};
@@ -39,8 +40,9 @@ pub fn complete(chart: &mut Chart, g: &Gram, at: u32, from: u32, non: u32) -> Re
     ensures adds { IfOk result (λ _. Adds g.now at (Completes g.now chart.old.sets from non) chart.old.sets chart.new.sets) }
     ensures waits { IfOk result (λ _. chart.new.waits ≡ chart.old.waits) }
 {
-    'waiters: for n in 0..chart.waiting(from, non) {
-        let item = chart.item(from, chart.waiter(from, non, n));
+    let waiting = chart.waiting(from, non);
+    'waiters: for n in 0..waiting.count {
+        let item = chart.item(from, chart.waiter(waiting, n));
         let place = g.place(item.state);
         put(chart, g, at, after(g, place), item.origin)?;
     }

@@ -3,7 +3,7 @@
 -- has the item of place c and origin i.
 use Rattle.std.specs.Prelude.{◌≡◌, ◌⊎◌, ℕ, suc, ◌<◌, ◌≤◌, List, [], ◌∷◌, length, None, Some, slice_get, slice_range, Contains}
 use Rattle.xs_chart.specs.declared.item.Item.{Item}
-use Rattle.xs_chart.specs.Filled.{AreDifferent}
+use Rattle.xs_chart.specs.Different.{AreDifferent}
 use Rattle.xs_gram.specs.declared.parts.GItem.{GItem}
 use Rattle.xs_gram.specs.declared.parts.GItem.TheVariants.{Fixed, Term, Non, Skip}
 use Rattle.xs_gram.specs.declared.places.Place.{Place}

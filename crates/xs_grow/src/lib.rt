@@ -16,6 +16,7 @@
 mod call;
 mod calls;
 mod ends;
+mod few;
 mod forest;
 mod gather;
 mod groups;

@@ -67,22 +67,22 @@ fn alternative(g: &Gram, groups: &Groups<SpanKey>, key: SpanKey, number: u32) ->
     }
 }
 
-/// The alternatives that the numbers of the label stand for.
+/// Puts the alternatives that the numbers of the label stand for in place of others.
 fn alternatives(
-    alloc: Global,
     g: &Gram,
     groups: &Groups<SpanKey>,
     key: SpanKey,
     numbers: &[u32],
-) -> Result<Vec<Alt>, Memory>
+    alts: &mut Vec<Alt>,
+) -> Result<(), Memory>
     requires { (n : ℕ) → Contains numbers.now n → CanBeMade g.now key.what n }
-    ensures { IfOk result (λ alts. AreMade g.now groups.now key numbers.now alts.items) }
+    ensures { OnOk result (AreMade g.now groups.now key numbers.now alts.new.items) }
 {
-    let mut alts = Vec::new(alloc);
+    alts.clear();
     'numbers: for number in numbers {
         alts.push(alternative(g, groups, key, *number))?;
     }
-    Ok(alts)
+    Ok(())
 }
 
 /// Adds a row to the forest, which has no row of the label.
@@ -110,9 +110,10 @@ pub(crate) fn rows<'b>(
     ensures { IfOk result (AreRowsOf g.now groups.now (length groups.now)) }
 {
     let mut forest = Forest::new(alloc, bump)?;
+    let mut alts = Vec::new(alloc);
     'groups: for r in 0..groups.len() {
         let (key, numbers) = groups.group(r);
-        let alts = alternatives(alloc, g, groups, key, numbers)?;
+        alternatives(g, groups, key, numbers, &mut alts)?;
         add(&mut forest, key, &alts)?;
     }
     Ok(forest)

@@ -1,4 +1,4 @@
-ghost use Rattle.std.specs.Prelude.{◌≡◌, ◌<◌, [], length, OnOk};
+ghost use Rattle.std.specs.Prelude.{◌≡◌, ◌<◌, suc, [], length, OnOk};
 ghost use Rattle.xs_chart.specs.Charted.{items_of, last_set};
 
 use std::process::Abort;
@@ -56,16 +56,29 @@ fn items_are_added_once_and_found(rt: HostRuntime) -> Result<(), Memory> {
     expect_added_once(&rt, &mut chart)
 }
 
-/// Whether the first item waits for 5, and both, the second first, for 3, and none in the other
-/// set.
+/// Whether the nonterminal's waiting list in the set has these numbers.
+fn has_waiters(chart: &Chart, set: u32, non: u32, numbers: &[u64]) -> bool
+    requires { suc set < length chart.now.sets }
+{
+    let waiting = chart.waiting(set, non);
+    if waiting.count != numbers.len() {
+        return false;
+    }
+    for n in 0..waiting.count {
+        if chart.waiter(waiting, n) != numbers[n] {
+            return false;
+        }
+    }
+    true
+}
+
+/// Whether the first item waits for 5, and both, the second first, for 3, and none in the next set.
 fn are_waiting(chart: &Chart) -> bool {
-    chart.sets() == 2
-        && chart.waiting(0, 3) == 2
-        && chart.waiter(0, 3, 0) == 1
-        && chart.waiter(0, 3, 1) == 0
-        && chart.waiting(0, 5) == 1
-        && chart.waiting(0, 4) == 0
-        && chart.waiting(1, 3) == 0
+    chart.sets() == 3
+        && has_waiters(chart, 0, 3, &[1, 0])
+        && has_waiters(chart, 0, 5, &[0])
+        && has_waiters(chart, 0, 4, &[])
+        && has_waiters(chart, 1, 3, &[])
 }
 
 fn wait_thrice(chart: &mut Chart) -> Result<(), Memory>
@@ -84,6 +97,7 @@ fn waiting_lists_are_kept_by_set_and_nonterminal(rt: HostRuntime) -> Result<(), 
     add_set(&mut chart)?;
     assert!(rt; chart.sets() == 1 && chart.len(0) == 2);
     wait_thrice(&mut chart)?;
+    chart.push_set()?;
     chart.push_set()?;
     assert!(rt; are_waiting(&chart));
     Ok(())

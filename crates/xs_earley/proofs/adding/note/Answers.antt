@@ -12,7 +12,7 @@ returns c =
     let k = c.number-state.result in
     let item : Item = record { state = k; origin = c.args.origin } in
     let was : get_or due at c.index-due-at.result ≡ set_at due at = get_or_default due at c.index-due-at.result [] c.requires.at in
-    let is : c.push.new.self ≡ set_at due at ++ item ∷ [] = c.in_ok-push.ensures.ok ∙ ap (λ (l : List Item). l ++ item ∷ []) was in
+    let is : c.push.new.self ≡ set_at due at ++ item ∷ [] = c.in_ok-push.ensures ∙ ap (λ (l : List Item). l ++ item ∷ []) was in
     adds_one c.args.g.now at c.args.place k c.args.origin due (set due at c.push.new.self) c.number-state.ensures.found
     (set_puts due at item c.push.new.self c.requires.at is)
     (set_there due at item c.push.new.self c.requires.at is)

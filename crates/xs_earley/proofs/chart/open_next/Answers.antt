@@ -8,8 +8,8 @@ use Rattle.xs_earley.specs.Adding.{Puts}
 use Rattle.xs_earley.proofs.Filling.{opened}
 use Rattle.xs_earley.proofs.chart.open_next.Goals as goal
 
-pub returns : goal.returns
-returns c =
+pub returns-clause-opened : goal.returns-clause-opened
+returns-clause-opened c =
     let due = c.args.due.now in
     let at = c.args.at in
     let old = c.args.chart.now in

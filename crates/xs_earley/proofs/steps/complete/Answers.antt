@@ -9,14 +9,17 @@ use Rattle.xs_chart_laws.proofs.Words.{get_lt}
 use Rattle.xs_chart_laws.specs.Charts.{IsNumberBefore}
 use Rattle.xs_earley.specs.Adding.{Adds, Follows}
 use Rattle.xs_earley.proofs.Additions.{Among, among_more}
-use Rattle.xs_earley.proofs.Completing.{waiting_now, waiter_there, waiter_before, waiter_was, before_at, follows_one, follows_all}
+use Rattle.xs_earley.proofs.Completing.{waiter_of, waiting_still, waiting_counted, waiting_now, waiter_there, waiter_before, waiter_was, before_at, follows_one, follows_all}
 use Rattle.xs_earley.proofs.steps.complete.Goals as goal
 
 pub item-item-requires : goal.item-item-requires
 item-item-requires c =
     let old = c.args.chart.now in
     let P = Among (Follows c.args.g.now (items_of old c.args.from)) (take c.waiters.n (waiting_of old c.args.from c.args.non)) in
-    waiter_there c.args.g.now old c.waiters.chart c.args.at c.args.from c.args.non P c.requires.from c.requires.waiting c.waiters.invariant.adds c.waiters.invariant.waits c.waiters.n c.waiter.result c.waiter.ensures
+    waiter_there c.args.g.now old c.waiters.chart c.args.at c.args.from c.args.non P c.requires.from c.requires.waiting c.waiters.invariant.adds c.waiters.invariant.waits c.waiters.n c.waiter.result (waiter_of c.waiters.chart c.waiting-waiting.result c.args.from c.args.non c.waiters.n c.waiter.result c.waiting-waiting.ensures.set c.waiting-waiting.ensures.non c.waiter.ensures)
+
+pub waiter-requires-clause-is : goal.waiter-requires-clause-is
+waiter-requires-clause-is c = waiting_still c.args.chart.now c.waiters.chart c.waiting-waiting.result c.waiters.invariant.waits c.waiting-waiting.ensures.is
 
 pub place-place-requires : goal.place-place-requires
 place-place-requires c =
@@ -24,7 +27,7 @@ place-place-requires c =
     let g = c.args.g.now in
     let P = Among (Follows g (items_of old c.args.from)) (take c.waiters.n (waiting_of old c.args.from c.args.non)) in
     let item = c.item-item.result in
-    let before : IsNumberBefore g item.state c.args.non = waiter_before g old c.waiters.chart c.args.at c.args.from c.args.non P c.requires.from c.requires.waiting c.waiters.invariant.adds c.waiters.invariant.waits c.waiters.n c.waiter.result item c.waiter.ensures c.item-item.ensures in
+    let before : IsNumberBefore g item.state c.args.non = waiter_before g old c.waiters.chart c.args.at c.args.from c.args.non P c.requires.from c.requires.waiting c.waiters.invariant.adds c.waiters.invariant.waits c.waiters.n c.waiter.result item (waiter_of c.waiters.chart c.waiting-waiting.result c.args.from c.args.non c.waiters.n c.waiter.result c.waiting-waiting.ensures.set c.waiting-waiting.ensures.non c.waiter.ensures) c.item-item.ensures in
     get_lt (all_places g) item.state before.0 before.1
 
 pub after-requires-clause-item : goal.after-requires-clause-item
@@ -33,7 +36,7 @@ after-requires-clause-item c =
     let g = c.args.g.now in
     let P = Among (Follows g (items_of old c.args.from)) (take c.waiters.n (waiting_of old c.args.from c.args.non)) in
     let item = c.item-item.result in
-    let before : IsNumberBefore g item.state c.args.non = waiter_before g old c.waiters.chart c.args.at c.args.from c.args.non P c.requires.from c.requires.waiting c.waiters.invariant.adds c.waiters.invariant.waits c.waiters.n c.waiter.result item c.waiter.ensures c.item-item.ensures in
+    let before : IsNumberBefore g item.state c.args.non = waiter_before g old c.waiters.chart c.args.at c.args.from c.args.non P c.requires.from c.requires.waiting c.waiters.invariant.adds c.waiters.invariant.waits c.waiters.n c.waiter.result item (waiter_of c.waiters.chart c.waiting-waiting.result c.args.from c.args.non c.waiters.n c.waiter.result c.waiting-waiting.ensures.set c.waiting-waiting.ensures.non c.waiter.ensures) c.item-item.ensures in
     let here = before_at g item.state c.args.non c.place-place.result before c.place-place.ensures.listed in
     (Non c.args.non here.1, here.2)
 
@@ -51,7 +54,7 @@ waiters-preserved c =
     let item = c.item-item.result in
     let now = c.waiters.chart in
     let same = c.waiters.invariant.waits in
-    let entry : slice_get list n ≡ Some k = subst (λ (l : List ℕ). slice_get l n ≡ Some k) (waiting_now g old now c.args.at from non P c.requires.from c.requires.waiting c.waiters.invariant.adds same) c.waiter.ensures in
+    let entry : slice_get list n ≡ Some k = subst (λ (l : List ℕ). slice_get l n ≡ Some k) (waiting_now g old now c.args.at from non P c.requires.from c.requires.waiting c.waiters.invariant.adds same) (waiter_of now c.waiting-waiting.result from non n k c.waiting-waiting.ensures.set c.waiting-waiting.ensures.non c.waiter.ensures) in
     let was = waiter_was g old now c.args.at from non P c.requires.from c.requires.waiting c.waiters.invariant.adds same k item c.item-item.ensures in
     let next = follows_one g c.args.at (items_of old from) k item c.place-place.result c.after.result now.sets c.put.new.chart.sets was c.place-place.ensures.listed c.after.ensures.is c.in_ok-put.ensures.adds in
     record {
@@ -67,5 +70,6 @@ returns-clause-adds c =
     let non = c.args.non in
     let list = waiting_of old from non in
     let R = Follows g (items_of old from) in
-    let all = take_all c.waiters.n list (omega (arith, c.waiting-n-end.ensures)) in
+    let counted = waiting_counted old c.waiting-waiting.result from non c.waiting-waiting.ensures.set c.waiting-waiting.ensures.non c.waiting-waiting.ensures.is in
+    let all = take_all c.waiters.n list (omega (arith, counted)) in
     follows_all g c.args.at old from non old.sets c.waiters.chart.sets c.requires.waiting (subst (λ (l : List ℕ). Adds g c.args.at (Among R l) old.sets c.waiters.chart.sets) all c.waiters.invariant.adds)

@@ -1,22 +1,20 @@
-use Rattle.std.proofs.Common.{◌≡◌, ◌-◌, length, arith}
+use Rattle.std.proofs.Common.{◌<◌, length, sym, subst}
 use Rattle.std.proofs.lemmas.Result.{IfOk-weaker}
-use Rattle.xs_chart.proofs.Last.{last_items, seen_more, some_set}
+use Rattle.xs_chart.specs.Charted.{Charted}
+use Rattle.xs_chart.proofs.Sets.{last_items, item_more}
 use Rattle.xs_chart.proofs.chart.Chart.add.Goals as goal
 
 pub returns-clause-added : goal.returns-clause-added
 returns-clause-added c =
-    let sets = c.self.inside.sets.items in
-    let some = some_set sets c.args.self.now c.self.view_is c.requires in
-    let last : c.len-last.result - 1 ≡ length sets - 1 = omega arith in
-    let is = last_items sets c.index_mut-set.result.now _ last some c.index_mut-set.ensures.value in
-    rw (← c.self.view_is, is) c.add.ensures.added
+    let i = c.self.inside in
+    let some = subst (λ (z : Charted). 0 < length z.sets) (sym c.self.view_is) c.requires in
+    rw (← c.self.view_is, last_items i.is_open i.items i.last.keys i.waits i.waiting.items c.self.invariant some) c.put.ensures.added
 
 pub returns-clause-last : goal.returns-clause-last
 returns-clause-last c =
-    let sets = c.self.inside.sets.items in
-    let some = some_set sets c.args.self.now c.self.view_is c.requires in
-    let last : c.len-last.result - 1 ≡ length sets - 1 = omega arith in
+    let i = c.self.inside in
+    let some = subst (λ (z : Charted). 0 < length z.sets) (sym c.self.view_is) c.requires in
     rw (← c.self.view_is)
-    (IfOk-weaker c.add.result _ _
-    (λ added more. seen_more sets c.index_mut-set.result.now _ last some c.index_mut-set.ensures.value c.add.new.self c.args.item added more c.add.ensures.waits)
-    c.add.ensures.items)
+    (IfOk-weaker c.put.result _ _
+    (λ added more. item_more i.is_open i.items i.last.keys i.waits i.waiting.items c.self.invariant some c.args.item c.put.new.last.keys added more)
+    c.put.ensures.items)

@@ -1,9 +1,8 @@
 use Rattle.xs_chart.proofs.Different.{added_iff, different}
-use Rattle.xs_chart.proofs.set.Set.add.Goals as goal
+use Rattle.xs_chart.proofs.chart.put.Goals as goal
 
 pub returns-clause-added : goal.returns-clause-added
-returns-clause-added c =
-    rw (← c.self.view_is) (added_iff c.self.inside.items.keys c.args.item c.in_ok-added.added c.in_ok-added.ensures.added)
+returns-clause-added c = added_iff c.args.last.now.keys c.args.item c.in_ok-added.added c.in_ok-added.ensures.added
 
 pub returns-clause-different : goal.returns-clause-different
 returns-clause-different c = different c.insert.new.self.keys c.insert.ensures.unique

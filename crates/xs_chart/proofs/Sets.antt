@@ -1,0 +1,90 @@
+-- The sets of a chart: finished ones, and the last one.
+use Rattle.std.proofs.Common.{◌≡◌, ℕ, zero, suc, ◌-◌, ◌<◌, Bool, true, false, List, [], ◌∷◌, ◌++◌, length, get_or, set, All, if◌then◌else◌, refl, sym, ◌∙◌, ap, subst, arith}
+use Rattle.std.proofs.lemmas.Option.{none-some}
+use Rattle.std.proofs.lemmas.List.{length-append, get_or_at, set_at}
+use Rattle.std.proofs.lemmas.List.Elements.{All-head, All-tail}
+use Rattle.xs_chart.specs.declared.item.Item.{Item}
+use Rattle.xs_chart.specs.declared.waiting.Waiter.{Waiter}
+use Rattle.xs_chart.specs.Charted.{Charted, items_of, waiting_of, waiting_for, last_set, with_item}
+use Rattle.xs_chart.specs.Different.{AreDifferent}
+use Rattle.xs_chart.specs.Kept.{opened, IsKept}
+
+-- contracts see this chart
+abbrev pub seen : Bool → List (List Item) → List Item → List (List Waiter) → List Waiter → Charted
+seen o items last waits entries = record { sets = opened o items last; waits = opened o waits entries }
+
+length_opened : {A : Type 0} (xs : List A) (x : A) → length (opened true xs x) ≡ suc (length xs)
+length_opened xs x = let e = length-append xs (x ∷ []) in omega (arith, e)
+
+-- a chart that has a set has an open one
+pub is_open : {A : Type 0} (o : Bool) (items : List A) (last : A) → (o ≡ false → items ≡ []) → 0 < length (opened o items last) → o ≡ true
+is_open true items last first some = refl
+is_open false items last first some = let none = ap length (first refl) in absurd (omega (arith, none, some))
+
+module _ (o : Bool) (items : List (List Item)) (last : List Item) (waits : List (List Waiter)) (entries : List Waiter) (kept : IsKept o items last waits) (some : 0 < length (opened o items last)) where
+  opens : o ≡ true
+  opens = is_open o items last kept.first some
+
+  pub last_is : last_set (seen o items last waits entries) ≡ length items
+  last_is = subst (λ b. length (opened b items last) - 1 ≡ length items) (sym opens) (let e = length_opened items last in omega (arith, e))
+
+  -- the last set's items
+  pub last_items : items_of (seen o items last waits entries) (last_set (seen o items last waits entries)) ≡ last
+  last_items = ap (items_of (seen o items last waits entries)) last_is ∙ subst (λ b. get_or (opened b items last) (length items) [] ≡ last) (sym opens) (get_or_at items last [] [] (length items) refl)
+
+  -- what waits there
+  pub last_waits : (non : ℕ) → waiting_of (seen o items last waits entries) (last_set (seen o items last waits entries)) non ≡ waiting_for entries non
+  last_waits non =
+      ap (λ j. waiting_of (seen o items last waits entries) j non) last_is
+      ∙ ap (λ ws. waiting_for ws non) (subst (λ b. get_or (opened b waits entries) (length items) [] ≡ entries) (sym opens) (get_or_at waits entries [] [] (length items) kept.paired))
+
+  -- an item more
+  pub item_more : (item : Item) (new : List Item) (added : Bool) → new ≡ (if added then last ++ item ∷ [] else last)
+      → seen o items new waits entries ≡ (if added then with_item (seen o items last waits entries) item else seen o items last waits entries)
+  item_more item new true is =
+      let put : opened o items new ≡ set (opened o items last) (length items) (last ++ item ∷ [])
+      = ap (opened o items) is ∙ subst (λ b. opened b items (last ++ item ∷ []) ≡ set (opened b items last) (length items) (last ++ item ∷ [])) (sym opens) (sym (set_at items last [] (last ++ item ∷ []) (length items) refl)) in
+      let there : set (opened o items last) (length items) (last ++ item ∷ []) ≡ set (opened o items last) (last_set (seen o items last waits entries)) (items_of (seen o items last waits entries) (last_set (seen o items last waits entries)) ++ item ∷ [])
+      = ap (λ j. set (opened o items last) j (last ++ item ∷ [])) (sym last_is) ∙ ap (λ l. set (opened o items last) (last_set (seen o items last waits entries)) (l ++ item ∷ [])) (sym last_items) in
+      ap (λ (s : List (List Item)). let c : Charted = record { sets = s; waits = opened o waits entries } in c) (put ∙ there)
+  item_more item new false is = ap (λ l. seen o items l waits entries) is
+
+  -- an entry more in the last set
+  pub entry_more : (new : List Waiter) (non : ℕ) (more : List ℕ) → waiting_for new non ≡ waiting_for entries non ++ more
+      → waiting_of (seen o items last waits new) (last_set (seen o items last waits entries)) non ≡ waiting_of (seen o items last waits entries) (last_set (seen o items last waits entries)) non ++ more
+  entry_more new non more is =
+      ap (λ j. waiting_of (seen o items last waits new) j non) last_is
+      ∙ ap (λ ws. waiting_for ws non) (subst (λ b. get_or (opened b waits new) (length items) [] ≡ new) (sym opens) (get_or_at waits new [] [] (length items) kept.paired))
+      ∙ is ∙ ap (λ l. l ++ more) (sym (last_waits non))
+
+-- the sets have different items
+pub different_sets : (o : Bool) (items : List (List Item)) (last : List Item) → All AreDifferent items → AreDifferent last → (k : ℕ) → AreDifferent (get_or (opened o items last) k [])
+different_sets o [] last all own k = by o k
+  where
+    nothing : AreDifferent []
+    nothing j k item a b = absurd (none-some item a)
+
+    by : (o : Bool) (k : ℕ) → AreDifferent (get_or (opened o [] last) k [])
+    by true zero = own
+    by true (suc k) = nothing
+    by false k = nothing
+different_sets true (s ∷ items) last all own zero = All-head AreDifferent s items all
+different_sets true (s ∷ items) last all own (suc k) = different_sets true items last (All-tail AreDifferent s items all) own k
+different_sets false (s ∷ items) last all own zero = All-head AreDifferent s items all
+different_sets false (s ∷ items) last all own (suc k) = different_sets false items last (All-tail AreDifferent s items all) own k
+
+-- each waiting list is as it was where the last set is finished and an empty one opened
+pub waiting_kept : (waits : List (List Waiter)) (row entries : List Waiter) (non : ℕ) → waiting_for row non ≡ waiting_for entries non → (k : ℕ)
+    → waiting_for (get_or ((waits ++ row ∷ []) ++ [] ∷ []) k []) non ≡ waiting_for (get_or (waits ++ entries ∷ []) k []) non
+waiting_kept [] row entries non same zero = same
+waiting_kept [] row entries non same (suc zero) = refl
+waiting_kept [] row entries non same (suc (suc k)) = refl
+waiting_kept (w ∷ waits) row entries non same zero = refl
+waiting_kept (w ∷ waits) row entries non same (suc k) = waiting_kept waits row entries non same k
+
+-- and where there was none
+pub waiting_opened : (waits : List (List Waiter)) (non k : ℕ) → waiting_for (get_or (waits ++ [] ∷ []) k []) non ≡ waiting_for (get_or waits k []) non
+waiting_opened [] non zero = refl
+waiting_opened [] non (suc k) = refl
+waiting_opened (w ∷ waits) non zero = refl
+waiting_opened (w ∷ waits) non (suc k) = waiting_opened waits non k

@@ -1,0 +1,68 @@
+ghost use Rattle.std.specs.Prelude.{◌≡◌, ◌≤◌, ◌+◌, ◌++◌, ℕ, [], ◌∷◌, map, length, slice_range, IfOk, OnOk, OnErr};
+ghost use Rattle.std.specs.List.Sorted.{IsNonDecreasingBy};
+ghost use Rattle.xs_chart.specs.Charted.{waiting_for, number_of, non_of};
+ghost use Rattle.xs_chart.specs.Kept.{KeepsWaiting};
+
+use crate::Item;
+use xs_class::Memory;
+use xs_flat::FlatLists;
+
+/// An entry of a waiting list: the nonterminal, and the number of an item of the set.
+#[derive(Clone, Copy, Debug)]
+pub struct Waiter {
+    pub non: u32,
+    pub number: u32,
+}
+
+/// The waiting list of a nonterminal in a set: where its entries stand.
+#[derive(Clone, Copy, Debug)]
+pub struct Waiting {
+    pub set: u32,
+    pub non: u32,
+    pub from: usize,
+    pub count: usize,
+}
+
+/// Groups the entries by their nonterminals; those of one stay in their order.
+fn group(waits: &mut Vec<Waiter>) -> Result<(), Memory>
+    ensures same { (non : ℕ) → waiting_for waits.new.items non ≡ waiting_for waits.old.items non }
+    ensures grouped { OnOk result (IsNonDecreasingBy non_of waits.new.items) }
+{
+    waits.sort_by_key(|waiter| waiter.non)?;
+    Ok(())
+}
+
+/// Keeps a set that is finished: its items, and the entries of its waiting lists grouped.
+pub(crate) fn keep(
+    items: &mut FlatLists<Item>,
+    waits: &mut FlatLists<Waiter>,
+    last: &[Item],
+    waiting: &mut Vec<Waiter>,
+) -> Result<(), Memory>
+    ensures items { OnOk result (items.new ≡ items.old ++ last.now ∷ []) }
+    ensures waits { OnOk result (KeepsWaiting waits.old waiting.old.items waits.new) }
+    ensures same { (non : ℕ) → waiting_for waiting.new.items non ≡ waiting_for waiting.old.items non }
+    ensures err { OnErr result (items.new ≡ items.old) }
+    ensures waits_err { OnErr result (waits.new ≡ waits.old) }
+{
+    group(waiting)?;
+    waits.push(waiting)?;
+    match items.push(last) {
+        Ok(()) => Ok(()),
+        Err(memory) => {
+            waits.truncate(waits.len() - 1);
+            Err(memory)
+        }
+    }
+}
+
+/// Where the entries of a nonterminal begin among those that are grouped, and how many there are.
+pub(crate) fn find(waits: &[Waiter], non: u32) -> (usize, usize)
+    requires { IsNonDecreasingBy non_of waits.now }
+    ensures within { result.0 + result.1 ≤ length waits.now }
+    ensures is { waiting_for waits.now non ≡ map number_of (slice_range waits.now result.0 (result.0 + result.1)) }
+{
+    let from = waits.partition_point(|waiter| waiter.non < non);
+    let end = waits.partition_point(|waiter| waiter.non <= non);
+    (from, end - from)
+}
