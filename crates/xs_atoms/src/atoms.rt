@@ -1,3 +1,5 @@
+ghost use Rattle.std.specs.Prelude.{◌≡◌, ◌<◌, [], slice_index_or, IfOk, IfSome};
+
 use crate::distinct::Distinct;
 use crate::fixed::fixed_ranges;
 use crate::numbers::{skip_numbers, term_numbers};
@@ -26,38 +28,35 @@ pub struct Atoms {
 }
 
 impl Atoms {
+    ghost use Rattle.xs_atoms.specs.Alphabet.{AreAtoms, count_of, width_of, atom_of, term_classes, skip_classes, term_class, skip_class, class_has, word_of};
+
     /// The atoms of a grammar, or None where it has 65,535 atoms or more, or where its classes and
-    /// atoms make more than 2^24 pairs.
+    /// atoms make more than about 2^24 pairs.
     ///
     /// In time about linear in the ranges of its classes, but for the sorting of their ends and a
     /// row of the classes for each stretch between them.
-    pub fn of(alloc: Global, g: &Gram) -> Result<Option<Atoms>, Memory> {
+    pub fn of(alloc: Global, g: &Gram) -> Result<Option<Atoms>, Memory>
+        ensures { IfOk result (λ o. IfSome o (AreAtoms g.now)) }
+    {
         let fixed = fixed_ranges(alloc, g)?;
-        let mut distinct = Distinct::new(alloc);
-        distinct.number(&Class::from_ranges(alloc, &fixed)?)?;
+        let class = Class::from_ranges(alloc, &fixed)?;
+        let mut distinct = Distinct::one(alloc, class)?;
         let terms = term_numbers(alloc, g, &mut distinct)?;
         let skips = skip_numbers(alloc, g, &mut distinct)?;
         let turns = turns_of(alloc, &distinct.classes, &fixed)?;
-        let width = distinct.classes.len();
-        let Some(draft) = sweep(alloc, width, &turns)? else {
+        let Some(draft) = sweep(alloc, distinct.classes.len(), &turns)? else {
             return Ok(None);
         };
-        if draft.stretches.is_empty() {
-            return Ok(None);
-        }
-        let Ok(count) = u16::try_from(draft.singles.len()) else {
+        let Ok(width) = u32::try_from(distinct.classes.len()) else {
             return Ok(None);
         };
-        let Ok(width) = u32::try_from(width) else {
-            return Ok(None);
-        };
-        let pages = pages_of(alloc, &draft.stretches, draft.singles.len())?;
+        let pages = pages_of(alloc, &draft.stretches, draft.firsts.len())?;
         Ok(Some(Atoms {
             rest: pages.rest,
             pages: pages.pages,
             cells: pages.cells,
             width,
-            count,
+            count: draft.firsts.len() as u16,
             rows: draft.rows,
             terms,
             skips,
@@ -65,12 +64,17 @@ impl Atoms {
     }
 
     /// The number of atoms, which is also the atom of the end of a document.
-    pub fn count(&self) -> u32 {
+    pub fn count(&self) -> u32
+        ensures count { result ≡ count_of self.now }
+        ensures small { result < 65536 }
+    {
         u32::from(self.count)
     }
 
     /// The atom of a symbol, in constant time.
-    pub fn of_symbol(&self, s: Sym) -> u16 {
+    pub fn of_symbol(&self, s: Sym) -> u16
+        ensures { result ≡ atom_of self.now s }
+    {
         let number = s.number();
         match self.pages.get((number / 256) as usize) {
             None => self.rest,
@@ -82,7 +86,9 @@ impl Atoms {
     }
 
     /// The atoms of a document's symbols, and then that of its end as often as the padding says.
-    pub fn word(&self, alloc: Global, doc: &[Sym], padding: usize) -> Result<Vec<u16>, Memory> {
+    pub fn word(&self, alloc: Global, doc: &[Sym], padding: usize) -> Result<Vec<u16>, Memory>
+        ensures { IfOk result (λ word. word.items ≡ word_of self.now doc.now padding) }
+    {
         let Some(length) = doc.len().checked_add(padding) else {
             return Err(Memory);
         };
@@ -97,39 +103,65 @@ impl Atoms {
     }
 
     /// The number of distinct classes.
-    pub fn classes(&self) -> u32 {
+    pub fn classes(&self) -> u32
+        ensures { result ≡ width_of self.now }
+    {
         self.width
     }
 
-    /// The number of the class at a position of a terminal's automaton.
-    pub fn term_class(&self, term: u32, position: u32) -> u32 {
-        class_at(&self.terms, term, position)
+    /// The numbers of the classes at the positions of a terminal's automaton.
+    pub fn term_classes(&self, term: u32) -> &[u32]
+        ensures { result.now ≡ term_classes self.now term }
+    {
+        row_at(&self.terms, term)
     }
 
-    /// The number of the class at a position of an ignorable's automaton.
-    pub fn skip_class(&self, skip: u32, position: u32) -> u32 {
-        class_at(&self.skips, skip, position)
+    /// The numbers of the classes at the positions of an ignorable's automaton.
+    pub fn skip_classes(&self, skip: u32) -> &[u32]
+        ensures { result.now ≡ skip_classes self.now skip }
+    {
+        row_at(&self.skips, skip)
+    }
+
+    /// The number of the class at a position of a terminal's automaton, 0 where there is none.
+    pub fn term_class(&self, term: u32, position: u32) -> u32
+        ensures { result ≡ term_class self.now term position }
+    {
+        number_at(self.term_classes(term), position)
+    }
+
+    /// The number of the class at a position of an ignorable's automaton, 0 where there is none.
+    pub fn skip_class(&self, skip: u32, position: u32) -> u32
+        ensures { result ≡ skip_class self.now skip position }
+    {
+        number_at(self.skip_classes(skip), position)
     }
 
     /// Whether a class has the symbols of an atom, in constant time.
-    pub fn class_has(&self, class: u32, atom: u16) -> bool {
-        match self
-            .rows
-            .get(self.width as usize * atom as usize + class as usize)
-        {
-            None => false,
-            Some(has) => class < self.width && *has,
-        }
+    pub fn class_has(&self, class: u32, atom: u16) -> bool
+        ensures { result ≡ class_has self.now class atom }
+    {
+        let place = self.width as usize * atom as usize + class as usize;
+        place < self.rows.len() && self.rows[place]
+    }
+}
+
+/// A row, and the empty one where there is none.
+fn row_at(rows: &[Numbers], row: u32) -> &[u32]
+    ensures { result.now ≡ slice_index_or rows.now row [] }
+{
+    let number = row as usize;
+    if number < rows.len() {
+        rows[number].as_slice()
+    } else {
+        &[]
     }
 }
 
 /// The number at a place of a row, 0 where there is none.
-fn class_at(rows: &[Numbers], row: u32, place: u32) -> u32 {
-    match rows.get(row as usize) {
-        None => 0,
-        Some(numbers) => match numbers.as_slice().get(place as usize) {
-            None => 0,
-            Some(number) => *number,
-        },
-    }
+fn number_at(row: &[u32], place: u32) -> u32
+    ensures { result ≡ slice_index_or row.now place 0 }
+{
+    let at = place as usize;
+    if at < row.len() { row[at] } else { 0 }
 }

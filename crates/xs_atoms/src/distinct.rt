@@ -1,8 +1,11 @@
+ghost use Rattle.std.specs.Prelude.{◌≡◌, ◌∷◌, [], Some, slice_get, IsTrue, IfOk};
+ghost use Rattle.xs_atoms.specs.Classed.{StayAll};
+
 use std::alloc::Global;
 use std::collections::HashMap;
 use xs_class::{Class, Memory};
 
-/// Classes without repetition: they are numbered in the order in which they came.
+/// Classes, seldom one twice, by their numbers.
 #[derive(Drop)]
 pub struct Distinct {
     pub classes: Vec<Class>,
@@ -10,16 +13,23 @@ pub struct Distinct {
 }
 
 impl Distinct {
-    /// No class.
-    pub fn new(alloc: Global) -> Self {
-        Distinct {
-            classes: Vec::new(alloc),
+    /// One class.
+    pub fn one(alloc: Global, class: Class) -> Result<Self, Memory>
+        ensures { IfOk result (λ d. d.classes.items ≡ class ∷ []) }
+    {
+        let mut classes = Vec::new(alloc);
+        classes.push(class)?;
+        Ok(Distinct {
+            classes,
             found: HashMap::new(alloc),
-        }
+        })
     }
 
     /// The number of a class, which is appended where it is not there.
-    pub fn number(&mut self, class: &Class) -> Result<u32, Memory> {
+    pub fn number(&mut self, class: &Class) -> Result<u32, Memory>
+        ensures stay { IfOk result (λ _. StayAll self.old.classes.items self.new.classes.items) }
+        ensures there { IfOk result (λ n. slice_get self.new.classes.items n ≡ Some class.now) }
+    {
         let hash = hash_of(class.ranges());
         if let Some(number) = self.found.get(&hash) {
             let number = *number;
@@ -37,11 +47,26 @@ impl Distinct {
 }
 
 /// Whether the class stands at the number.
-fn is_at(classes: &[Class], number: u32, class: &Class) -> bool {
-    match classes.get(number as usize) {
-        None => false,
-        Some(other) => other.ranges() == class.ranges(),
+fn is_at(classes: &[Class], number: u32, class: &Class) -> bool
+    ensures { IsTrue result → slice_get classes.now number ≡ Some class.now }
+{
+    let place = number as usize;
+    place < classes.len() && are_same(classes[place].ranges(), class.ranges())
+}
+
+/// Whether the ranges are the same.
+fn are_same(a: &[(u32, u32)], b: &[(u32, u32)]) -> bool
+    ensures { IsTrue result → a.now ≡ b.now }
+{
+    if a.len() != b.len() {
+        return false;
     }
+    'places: for place in 0..a.len() {
+        if a[place].0 != b[place].0 || a[place].1 != b[place].1 {
+            return false;
+        }
+    }
+    true
 }
 
 /// A number that is seldom the same for two lists of ranges.

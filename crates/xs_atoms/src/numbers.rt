@@ -1,3 +1,6 @@
+ghost use Rattle.std.specs.Prelude.{IfOk};
+ghost use Rattle.xs_atoms.specs.Classed.{StayAll, AreNumbersOf, AreTermNumbers, AreSkipNumbers};
+
 use crate::distinct::Distinct;
 use std::alloc::Global;
 use xs_class::{Class, Memory};
@@ -9,10 +12,14 @@ pub fn term_numbers(
     alloc: Global,
     g: &Gram,
     distinct: &mut Distinct,
-) -> Result<Vec<Numbers>, Memory> {
+) -> Result<Vec<Numbers>, Memory>
+    ensures stay { IfOk result (λ _. StayAll distinct.old.classes.items distinct.new.classes.items) }
+    ensures numbers { IfOk result (λ rows. AreTermNumbers g.now distinct.new.classes.items rows.items) }
+{
     let mut rows = Vec::with_capacity(alloc, g.terms() as usize)?;
     'terms: for term in 0..g.terms() {
-        rows.push(numbers_of(alloc, g.term(term).classes.as_slice(), distinct)?)?;
+        let row = numbers_of(alloc, g.term(term).classes.as_slice(), distinct)?;
+        rows.push(row)?;
     }
     Ok(rows)
 }
@@ -22,23 +29,27 @@ pub fn skip_numbers(
     alloc: Global,
     g: &Gram,
     distinct: &mut Distinct,
-) -> Result<Vec<Numbers>, Memory> {
+) -> Result<Vec<Numbers>, Memory>
+    ensures stay { IfOk result (λ _. StayAll distinct.old.classes.items distinct.new.classes.items) }
+    ensures numbers { IfOk result (λ rows. AreSkipNumbers g.now distinct.new.classes.items rows.items) }
+{
     let mut rows = Vec::with_capacity(alloc, g.skips() as usize)?;
     'skips: for skip in 0..g.skips() {
-        rows.push(numbers_of(alloc, g.skip(skip).classes.as_slice(), distinct)?)?;
+        let row = numbers_of(alloc, g.skip(skip).classes.as_slice(), distinct)?;
+        rows.push(row)?;
     }
     Ok(rows)
 }
 
 /// The numbers of these classes.
-fn numbers_of(
-    alloc: Global,
-    classes: &[Class],
-    distinct: &mut Distinct,
-) -> Result<Numbers, Memory> {
+fn numbers_of(alloc: Global, classes: &[Class], distinct: &mut Distinct) -> Result<Numbers, Memory>
+    ensures stay { IfOk result (λ _. StayAll distinct.old.classes.items distinct.new.classes.items) }
+    ensures numbers { IfOk result (λ row. AreNumbersOf distinct.new.classes.items classes.now row) }
+{
     let mut numbers = Vec::with_capacity(alloc, classes.len())?;
     'classes: for class in classes {
-        numbers.push(distinct.number(class)?)?;
+        let number = distinct.number(class)?;
+        numbers.push(number)?;
     }
     Ok(Numbers::from_vec(numbers))
 }

@@ -1,8 +1,13 @@
-ghost use Rattle.std.specs.Prelude.{◌+◌, ◌<◌, ◌≤◌, ◌^◌, length};
+ghost use Rattle.std.specs.Prelude.{◌≡◌, ◌+◌, ◌*◌, ◌<◌, ◌≤◌, ◌^◌, ◌%◌, ◌/◌, ℕ, length, slice_get, slice_index_or, IsTrue, IfOk};
+ghost use Rattle.xs_atoms.specs.Pages.{IsIn, IsAtomIn, IsPage, IsSame, IsLonger, AreWhole, ArePages, cell_of};
+ghost use Rattle.xs_atoms.specs.declared.sweep.Stretch.{Stretch as AnyStretch};
 
 use crate::sweep::Stretch;
 use std::alloc::Global;
 use xs_class::Memory;
+
+/// A bound of symbols: the pages of more would be more than any memory.
+const MOST_SYMBOLS: u64 = 1 << 40;
 
 /// A table of two levels: for each page of 256 symbols where its cells begin, the cells, and the
 /// atom of all symbols on later pages.
@@ -13,49 +18,34 @@ pub struct Pages {
     pub rest: u16,
 }
 
-/// The cells so far, and for each atom where the cells of a page begin all of whose symbols have it.
-#[derive(Drop)]
-struct Table {
-    cells: Vec<u16>,
-    whole: Vec<Option<u32>>,
-}
-
-impl Table {
-    /// Where the cells of the page that begins at a symbol begin, which are appended where they are
-    /// not there. The symbol is in the stretch of this number.
-    fn page(&mut self, stretches: &[Stretch], at: usize, begin: u32) -> Result<u32, Memory>
-        requires at { at < length stretches.now }
-        requires begin { begin + 255 < 2 ^ 32 }
-    {
-        let Ok(first) = u32::try_from(self.cells.len()) else {
-            return Err(Memory);
-        };
-        if !is_whole(stretches, at, begin) {
-            push_cells(&mut self.cells, stretches, at, begin)?;
-            return Ok(first);
-        }
-        let atom = stretches[at].atom;
-        if let Some(Some(before)) = self.whole.get(atom as usize) {
-            return Ok(*before);
-        }
-        push_same(&mut self.cells, atom)?;
-        if let Some(whole) = self.whole.get_mut(atom as usize) {
-            *whole = Some(first);
-        }
-        Ok(first)
+/// The last stretch from one on that begins at a symbol or before it.
+fn current(stretches: &[Stretch], from: usize, symbol: u64) -> usize
+    requires within { from < length stretches.now }
+    requires begun { (t : AnyStretch) → slice_get stretches.now from ≡ Some t → t.start ≤ symbol }
+    ensures { IsIn stretches.now result symbol }
+{
+    let mut at = from;
+    'stretches: while at + 1 < stretches.len() && stretches[at + 1].start <= symbol {
+        at += 1;
     }
+    at
 }
 
 /// Whether all symbols of the page that begins at a symbol are in the stretch of this number.
-fn is_whole(stretches: &[Stretch], at: usize, begin: u32) -> bool
-    requires { at < length stretches.now }
+fn is_whole(stretches: &[Stretch], at: usize, begin: u64) -> bool
+    requires in_stretch { IsIn stretches.now at begin }
+    requires begin { begin < 1099511627776 }
+    ensures { IsTrue result → ((low : ℕ) → low < 256 → IsIn stretches.now at (begin + low)) }
 {
-    at + 1 == stretches.len() || u64::from(begin) + 255 < u64::from(stretches[at + 1].start)
+    at + 1 == stretches.len() || begin + 255 < stretches[at + 1].start
 }
 
 /// Appends a cell for each symbol of a page, all of the same atom.
-fn push_same(cells: &mut Vec<u16>, atom: u16) -> Result<(), Memory> {
-    'cells: for _ in 0..256 {
+fn push_same(cells: &mut Vec<u16>, atom: u16) -> Result<(), Memory>
+    ensures longer { IfOk result (λ _. IsLonger cells.old.items cells.new.items) }
+    ensures same { IfOk result (λ _. IsSame cells.new.items (length cells.old.items) atom) }
+{
+    'cells: for _ in 0..256_usize {
         cells.push(atom)?;
     }
     Ok(())
@@ -66,10 +56,12 @@ fn push_cells(
     cells: &mut Vec<u16>,
     stretches: &[Stretch],
     from: usize,
-    begin: u32,
+    begin: u64,
 ) -> Result<(), Memory>
-    requires at { from < length stretches.now }
-    requires begin { begin + 255 < 2 ^ 32 }
+    requires in_stretch { IsIn stretches.now from begin }
+    requires begin { begin < 1099511627776 }
+    ensures longer { IfOk result (λ _. IsLonger cells.old.items cells.new.items) }
+    ensures page { IfOk result (λ _. IsPage stretches.now cells.new.items (length cells.old.items) begin) }
 {
     let mut at = from;
     'cells: for low in 0..256 {
@@ -79,44 +71,90 @@ fn push_cells(
     Ok(())
 }
 
-/// The last stretch from one on that begins at a symbol or before it.
-fn current(stretches: &[Stretch], from: usize, symbol: u32) -> usize
-    requires { from < length stretches.now }
-    ensures { result < length stretches.now }
+/// Where the cells of the page that begins at a symbol begin, which are appended where they are not
+/// there. The symbol is in the stretch of this number.
+fn page(
+    cells: &mut Vec<u16>,
+    whole: &mut [Option<u32>],
+    stretches: &[Stretch],
+    at: usize,
+    begin: u64,
+) -> Result<u32, Memory>
+    requires in_stretch { IsIn stretches.now at begin }
+    requires begin { begin < 1099511627776 }
+    requires whole { AreWhole cells.old.items whole.old }
+    ensures longer { IfOk result (λ _. IsLonger cells.old.items cells.new.items) }
+    ensures whole { IfOk result (λ _. AreWhole cells.new.items whole.new) }
+    ensures page { IfOk result (λ first. IsPage stretches.now cells.new.items first begin) }
 {
-    let mut at = from;
-    'stretches: while at + 1 < stretches.len() && stretches[at + 1].start <= symbol {
-        at += 1;
-    }
-    at
-}
-
-/// The number of pages up to that of a symbol.
-fn pages_to(symbol: u32) -> u32
-    ensures { result ≤ 2 ^ 24 }
-{
-    symbol / 256 + 1
-}
-
-/// The table of stretches of this many atoms, whose beginnings ascend.
-pub fn pages_of(alloc: Global, stretches: &[Stretch], atoms: usize) -> Result<Pages, Memory>
-    requires { 0 < length stretches.now }
-{
-    let mut table = Table {
-        cells: Vec::new(alloc),
-        whole: vec![in alloc; None; atoms]?,
+    let Ok(first) = u32::try_from(cells.len()) else {
+        return Err(Memory);
     };
-    let last = stretches[stretches.len() - 1];
-    let count = pages_to(last.start);
-    let mut pages = Vec::with_capacity(alloc, count as usize)?;
-    let mut at = 0;
-    'pages: for page in 0..count {
-        at = current(stretches, at, page * 256);
-        pages.push(table.page(stretches, at, page * 256)?)?;
+    if !is_whole(stretches, at, begin) {
+        push_cells(cells, stretches, at, begin)?;
+        return Ok(first);
     }
+    let atom = stretches[at].atom;
+    let place = atom as usize;
+    if place >= whole.len() {
+        push_same(cells, atom)?;
+        return Ok(first);
+    }
+    if let Some(before) = whole[place] {
+        return Ok(before);
+    }
+    push_same(cells, atom)?;
+    whole[place] = Some(first);
+    Ok(first)
+}
+
+/// The table of stretches of this many atoms, the first of which begins at 0.
+pub fn pages_of(alloc: Global, stretches: &[Stretch], atoms: usize) -> Result<Pages, Memory>
+    requires some { 0 < length stretches.now }
+    requires begins { (t : AnyStretch) → slice_get stretches.now 0 ≡ Some t → t.start ≡ 0 }
+    ensures { IfOk result (λ p. (s : ℕ) → IsAtomIn stretches.now s (cell_of p.cells.items p.rest (s % 256) (slice_get p.pages.items (s / 256)))) }
+{
+    let mut cells = Vec::new(alloc);
+    let mut whole = vec![in alloc; None; atoms]?;
+    let last = stretches[stretches.len() - 1];
+    if last.start >= MOST_SYMBOLS {
+        return Err(Memory);
+    }
+    let pages = push_pages(
+        alloc,
+        &mut cells,
+        &mut whole,
+        stretches,
+        last.start / 256 + 1,
+    )?;
     Ok(Pages {
         pages,
-        cells: table.cells,
+        cells,
         rest: last.atom,
     })
+}
+
+/// Where the cells of this many pages begin, which are appended to no cells.
+fn push_pages(
+    alloc: Global,
+    cells: &mut Vec<u16>,
+    whole: &mut [Option<u32>],
+    stretches: &[Stretch],
+    count: u64,
+) -> Result<Vec<u32>, Memory>
+    requires some { 0 < length stretches.now }
+    requires begins { (t : AnyStretch) → slice_get stretches.now 0 ≡ Some t → t.start ≡ 0 }
+    requires count { count ≤ 4294967296 }
+    requires whole { AreWhole cells.old.items whole.old }
+    ensures count { IfOk result (λ pages. length pages.items ≡ count) }
+    ensures pages { IfOk result (λ pages. ArePages stretches.now cells.new.items pages.items) }
+{
+    let mut pages = Vec::new(alloc);
+    let mut at = 0;
+    'pages: for number in 0..count {
+        at = current(stretches, at, number * 256);
+        let first = page(cells, whole, stretches, at, number * 256)?;
+        pages.push(first)?;
+    }
+    Ok(pages)
 }

@@ -1,3 +1,7 @@
+ghost use Rattle.std.specs.Prelude.{◌≡◌, ◌++◌, None, IfOk};
+ghost use Rattle.std.specs.List.Sorted.{IsNonDecreasingBy};
+ghost use Rattle.xs_atoms.specs.Turns.{range_turns, class_turns, AreClasses, AreTurnsOf};
+
 use std::alloc::Global;
 use xs_class::{Class, Memory};
 
@@ -5,26 +9,35 @@ use xs_class::{Class, Memory};
 /// apart.
 #[derive(Clone, Copy, Debug)]
 pub struct Turn {
-    pub place: u32,
+    pub place: u64,
     pub class: Option<u32>,
 }
 
 /// The symbols at which the classes begin and end, and those about each of the fixed symbols, in
 /// ascending order.
-pub fn turns_of(
-    alloc: Global,
-    classes: &[Class],
-    fixed: &[(u32, u32)],
-) -> Result<Vec<Turn>, Memory> {
+pub fn turns_of(alloc: Global, classes: &[Class], fixed: &[(u32, u32)]) -> Result<Vec<Turn>, Memory>
+    ensures turns { IfOk result (λ turns. AreTurnsOf classes.now fixed.now turns.items) }
+    ensures sorted { IfOk result (λ turns. IsNonDecreasingBy (λ t. t.place) turns.items) }
+{
     let mut turns = Vec::new(alloc);
     push_turns(&mut turns, None, fixed)?;
-    let mut number: u32 = 0;
-    'classes: for class in classes {
-        push_turns(&mut turns, Some(number), class.ranges())?;
-        number = number.saturating_add(1);
-    }
+    push_classes(&mut turns, classes)?;
     turns.sort_unstable_by_key(|turn| turn.place);
     Ok(turns)
+}
+
+/// Appends the turns of the classes.
+fn push_classes(turns: &mut Vec<Turn>, classes: &[Class]) -> Result<(), Memory>
+    ensures turns { IfOk result (λ _. turns.new.items ≡ turns.old.items ++ class_turns 0 classes.now) }
+    ensures formed { IfOk result (λ _. AreClasses classes.now) }
+{
+    'classes: for (index, class) in classes.iter().enumerate() {
+        let Ok(number) = u32::try_from(index) else {
+            return Err(Memory);
+        };
+        push_turns(turns, Some(number), class.ranges())?;
+    }
+    Ok(())
 }
 
 /// Appends the beginnings of the ranges, and the symbols after their ends.
@@ -32,18 +45,18 @@ fn push_turns(
     turns: &mut Vec<Turn>,
     class: Option<u32>,
     ranges: &[(u32, u32)],
-) -> Result<(), Memory> {
-    'ranges: for range in ranges {
+) -> Result<(), Memory>
+    ensures { IfOk result (λ _. turns.new.items ≡ turns.old.items ++ range_turns class ranges.now) }
+{
+    'spans: for range in ranges {
         turns.push(Turn {
-            place: range.0,
+            place: u64::from(range.0),
             class,
         })?;
-        if range.1 < u32::MAX {
-            turns.push(Turn {
-                place: range.1 + 1,
-                class,
-            })?;
-        }
+        turns.push(Turn {
+            place: u64::from(range.1) + 1,
+            class,
+        })?;
     }
     Ok(())
 }

@@ -1,0 +1,6 @@
+pub mod Turning
+pub mod Rows
+pub mod Sweeping
+pub mod Fixing
+pub mod Paging
+pub mod Alphabets
