@@ -1,0 +1,4 @@
+pub mod Items
+pub mod Marks
+pub mod Spans
+pub mod Trees

@@ -1,0 +1,7 @@
+use Rattle.std.proofs.Common.{◌⊎◌, ℕ, Contains}
+use Rattle.xs_regex.specs.Automaton.{HasAt}
+use Rattle.xs_regex.specs.Marked.{Marked}
+use Rattle.xs_parse_table.proofs.runs.enter.Given as goal
+
+abbrev pub invariant-positions : goal.invariant-positions
+invariant-positions l = (k : ℕ) → Marked l.flags k → Marked l.initial.flags k ⊎ (Contains l.positions k × HasAt l.p k l.symbol)
