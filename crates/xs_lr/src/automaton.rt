@@ -16,7 +16,7 @@ pub const MOST_LOOKAHEAD: u32 = 8;
 const MOST_DEEP: usize = 512;
 
 /// What may be done in a state before an atom.
-#[derive(Clone, Copy, Debug)]
+#[derive(Clone, Copy)]
 enum Choice {
     /// The atom is taken.
     Shift,
@@ -36,7 +36,7 @@ pub struct Automaton<'a> {
     pub forks: Lists<u32>,
     search: Search,
     deep: usize,
-    alloc: Global,
+    pub alloc: Global,
 }
 
 impl<'a> Automaton<'a> {
@@ -65,6 +65,14 @@ impl<'a> Automaton<'a> {
         key.push((rules.production(rules.whole()).start, 0))?;
         let state = self.states.lr_state(&self.grammar, &mut self.search, &key)?;
         Ok(self.states.row(state))
+    }
+
+    /// An action of a list of actions.
+    pub fn forked(&self, number: u32, place: usize) -> u32 {
+        match self.forks.at(number).get(place) {
+            None => FAIL,
+            Some(action) => *action,
+        }
     }
 
     /// Whether the tables grew too large, or took too long to make.

@@ -2,7 +2,7 @@ use std::alloc::Global;
 use xs_class::Memory;
 
 /// Rows of bits, all of one width.
-#[derive(Debug, Drop)]
+#[derive(Drop)]
 pub struct BitRows {
     words: Vec<u64>,
     width: usize,

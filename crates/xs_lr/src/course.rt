@@ -1,6 +1,6 @@
 /// An entry of the stack: the row of the LR state after an item, the place of the document where the
 /// item ends, and the item's part of a node.
-#[derive(Clone, Copy, Debug)]
+#[derive(Clone, Copy)]
 pub struct Entry {
     pub row: u32,
     pub end: u32,
@@ -9,7 +9,7 @@ pub struct Entry {
 
 /// How far a document is read: the row of the state, the place of the document, and the numbers of
 /// entries, nodes and parts.
-#[derive(Clone, Copy, Debug)]
+#[derive(Clone, Copy)]
 pub struct Course {
     pub row: u32,
     pub at: u32,
@@ -19,7 +19,7 @@ pub struct Course {
 }
 
 /// Why reading stopped, with nothing done of the action at hand.
-#[derive(Clone, Copy, Debug)]
+#[derive(Clone, Copy)]
 pub enum Stop {
     /// The document is read.
     Accept,
@@ -30,7 +30,7 @@ pub enum Stop {
     /// A goto is not known.
     Goto { row: u32, cell: u32 },
     /// There is more than one action.
-    Fork(u32),
+    Fork,
     /// There is no room for an entry.
     Entries,
     /// There is no room for a node.

@@ -9,14 +9,14 @@ use xs_gram::{GItem, Gram};
 pub const AT_END: u32 = u32::MAX;
 
 /// A place in a production: before one of its items, or at its end.
-#[derive(Clone, Copy, Debug)]
+#[derive(Clone, Copy)]
 pub struct Place {
     pub production: u32,
     pub symbol: u32,
 }
 
 /// A production: its nonterminal, the place before its first item, and the number of its items.
-#[derive(Clone, Copy, Debug)]
+#[derive(Clone, Copy)]
 pub struct Production {
     pub head: u32,
     pub start: u32,
@@ -28,7 +28,7 @@ pub struct Production {
 ///
 /// A symbol is a token by its number, or a nonterminal by its number after those of the tokens. The
 /// places of a production stand in a row, and after its last item that of its end.
-#[derive(Debug, Drop)]
+#[derive(Drop)]
 pub struct Rules {
     pub tokens: u32,
     pub nons: u32,

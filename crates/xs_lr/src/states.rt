@@ -10,7 +10,7 @@ use xs_class::Memory;
 const MOST_CELLS: usize = 1 << 22;
 
 /// The kinds of states.
-#[derive(Clone, Copy, Debug)]
+#[derive(Clone, Copy)]
 pub enum Kind {
     /// A set of places.
     Lr,
@@ -107,6 +107,14 @@ impl States {
         match self.rows.get(state as usize) {
             None => 0,
             Some(row) => *row,
+        }
+    }
+
+    /// The cell of a production: that of its nonterminal in rows, and its length.
+    pub fn production_cell(&self, production: u32) -> u32 {
+        match self.table.get(production as usize) {
+            None => 0,
+            Some(cell) => *cell,
         }
     }
 

@@ -1,6 +1,4 @@
-use crate::action::{
-    ACCEPT, CHAIN, FAIL, KIND, LONG, LOOK, REDUCE, SHIFT, TOKEN, UNKNOWN, fork_of, to_row,
-};
+use crate::action::{ACCEPT, CHAIN, FAIL, KIND, LONG, LOOK, REDUCE, SHIFT, TOKEN, UNKNOWN, to_row};
 use crate::automaton::MOST_LOOKAHEAD;
 use crate::course::{Course, Entry, Stop};
 use crate::grammar::MOST_ITEMS;
@@ -101,10 +99,7 @@ fn stop_of(action: u32) -> Stop {
         UNKNOWN => Stop::Unknown,
         ACCEPT => Stop::Accept,
         FAIL => Stop::Fail,
-        _ => match fork_of(action) {
-            None => Stop::Fail,
-            Some(number) => Stop::Fork(number),
-        },
+        _ => Stop::Fork,
     }
 }
 

@@ -10,14 +10,14 @@ use xs_regex::Position;
 const MOST_STEPS: usize = 1 << 22;
 
 /// What a position reads: an atom of a class, or one atom.
-#[derive(Clone, Copy, Debug)]
+#[derive(Clone, Copy)]
 pub enum Reads {
     Class(u32),
     Atom(u16),
 }
 
 /// A state of the automaton of a token: its token, what it reads, and whether a word may end there.
-#[derive(Clone, Copy, Debug)]
+#[derive(Clone, Copy)]
 pub struct State {
     pub token: u32,
     pub reads: Reads,
