@@ -1,0 +1,365 @@
+use crate::action::{ACCEPT, CHAIN, FAIL, KIND, LOOK, REDUCE, SHIFT, TOKEN, UNKNOWN, fork_of};
+use crate::automaton::{Automaton, MOST_LOOKAHEAD};
+use crate::course::{Course, Entry};
+use crate::grammar::MOST_ITEMS;
+use crate::graph::{Added, Graph, Reduction};
+use crate::keys::capped;
+use std::alloc::Global;
+use std::mem;
+use xs_class::Memory;
+
+/// A head: a vertex, and a row of its LR state or of a scanning state in it, or an action that is to be
+/// done at the next place.
+#[derive(Clone, Copy)]
+pub struct Head {
+    pub vertex: u32,
+    pub what: u32,
+}
+
+/// What a fork reads: a document's atoms, and the entries of the stack at which it began.
+#[derive(Clone, Copy)]
+pub struct Input<'d> {
+    pub doc: &'d [u16],
+    pub stack: &'d [Entry],
+}
+
+/// A fork: a document is read in all the ways that its actions allow, place by place.
+#[derive(Drop)]
+pub struct Fork {
+    pub graph: Graph,
+    pub heads: Vec<Head>,
+    pub at: u32,
+    pub accepted: Option<u32>,
+    /// The way down that was found: entries from the top on, and the one below them.
+    pub way: Vec<Entry>,
+    pub bottom: u32,
+    next: Vec<Head>,
+    taken: Vec<Head>,
+    done: usize,
+    again: bool,
+    wait: usize,
+}
+
+impl Fork {
+    /// Begins where reading has come to, with this many steps to do.
+    pub fn new(alloc: Global, course: Course, steps: usize) -> Result<Self, Memory> {
+        let mut heads = Vec::new(alloc);
+        heads.push(Head {
+            vertex: course.depth.wrapping_sub(1),
+            what: course.row,
+        })?;
+        Ok(Fork {
+            graph: Graph::new(alloc, course.depth, steps),
+            heads,
+            at: course.at,
+            accepted: None,
+            way: Vec::new(alloc),
+            bottom: 0,
+            next: Vec::new(alloc),
+            taken: Vec::new(alloc),
+            done: 0,
+            again: false,
+            wait: 0,
+        })
+    }
+
+    /// Does all that may be done at this place.
+    pub fn settle(
+        &mut self,
+        input: Input<'_>,
+        automaton: &mut Automaton<'_>,
+    ) -> Result<(), Memory> {
+        'heads: for _ in 0..self.graph.steps() {
+            if let Some(head) = self.heads.get(self.done) {
+                let head = *head;
+                self.done = self.done.wrapping_add(1);
+                self.see_to(input, automaton, head, false)?;
+            } else if self.again {
+                self.again = false;
+                self.reduce_again(input, automaton)?;
+            } else {
+                break;
+            }
+        }
+        Ok(())
+    }
+
+    /// Does once more the reductions of all heads, since there are new ways down.
+    fn reduce_again(
+        &mut self,
+        input: Input<'_>,
+        automaton: &mut Automaton<'_>,
+    ) -> Result<(), Memory> {
+        'heads: for place in 0..self.heads.len() {
+            let Some(head) = self.heads.get(place) else {
+                break;
+            };
+            let head = *head;
+            self.see_to(input, automaton, head, true)?;
+        }
+        Ok(())
+    }
+
+    /// Does the actions of a head, or only the reductions among them.
+    fn see_to(
+        &mut self,
+        input: Input<'_>,
+        automaton: &mut Automaton<'_>,
+        head: Head,
+        again: bool,
+    ) -> Result<(), Memory> {
+        self.graph.spend();
+        let action = action_at(automaton, input.doc, head.what, self.at)?;
+        match fork_of(action) {
+            Some(number) if action & KIND == 0 => {
+                'actions: for place in 0..automaton.forks.at(number).len() {
+                    let action = automaton.forked(number, place);
+                    self.act(input, automaton, head.vertex, action, again)?;
+                }
+                Ok(())
+            }
+            _ => self.act(input, automaton, head.vertex, action, again),
+        }
+    }
+
+    /// Does an action at a vertex, or only if it is a reduction.
+    fn act(
+        &mut self,
+        input: Input<'_>,
+        automaton: &mut Automaton<'_>,
+        vertex: u32,
+        action: u32,
+        again: bool,
+    ) -> Result<(), Memory> {
+        if action & KIND == REDUCE || action & KIND == REDUCE | TOKEN {
+            return self.reduce(input, automaton, vertex, action);
+        }
+        if again {
+            return Ok(());
+        }
+        if action & SHIFT != 0 {
+            self.next.push(Head {
+                vertex,
+                what: action,
+            })?;
+        } else if action & TOKEN != 0 {
+            self.push(action >> 3, vertex, self.at)?;
+        } else if action == ACCEPT {
+            self.accepted = Some(vertex);
+        }
+        Ok(())
+    }
+
+    /// Adds an edge, and a head where that makes a vertex.
+    fn push(&mut self, row: u32, below: u32, part: u32) -> Result<(), Memory> {
+        match self.graph.add(row, self.at, below, part)? {
+            Added::Nothing => {}
+            Added::Edge => self.again = true,
+            Added::Vertex(vertex) => self.heads.push(Head { vertex, what: row })?,
+        }
+        Ok(())
+    }
+
+    /// Ends a production on all ways down from a vertex.
+    fn reduce(
+        &mut self,
+        input: Input<'_>,
+        automaton: &mut Automaton<'_>,
+        vertex: u32,
+        action: u32,
+    ) -> Result<(), Memory> {
+        let cell = automaton.states.production_cell(action >> 9);
+        let token = (action & TOKEN) >> 1;
+        let length = (cell & MOST_ITEMS).saturating_sub(token);
+        self.graph.find(input.stack, vertex, length)?;
+        'ways: for way in 0..self.graph.bottoms.len() {
+            self.reduce_way(input, automaton, way, length, action)?;
+        }
+        Ok(())
+    }
+
+    /// Ends a production on one way down.
+    fn reduce_way(
+        &mut self,
+        input: Input<'_>,
+        automaton: &mut Automaton<'_>,
+        way: usize,
+        length: u32,
+        action: u32,
+    ) -> Result<(), Memory> {
+        let Some(bottom) = self.graph.bottoms.get(way) else {
+            return Ok(());
+        };
+        let bottom = *bottom;
+        let below = self.graph.entry(input.stack, bottom);
+        let token = (action & TOKEN) >> 1;
+        let reduction = Reduction {
+            production: action >> 9,
+            from: below.end,
+            to: self.at,
+            parts: capped(self.graph.parts.len()),
+            length: length.wrapping_add(token),
+        };
+        let part = self.graph.reduce(way, length, reduction)?;
+        if token == 1 {
+            self.graph.parts.push(self.at)?;
+        }
+        self.go_to(automaton, bottom, below, part, action >> 9)
+    }
+
+    /// Goes to the state after a production's nonterminal, ending productions of one item on the way.
+    fn go_to(
+        &mut self,
+        automaton: &mut Automaton<'_>,
+        bottom: u32,
+        below: Entry,
+        part: u32,
+        production: u32,
+    ) -> Result<(), Memory> {
+        let mut part = part;
+        let mut to = goto(automaton, below.row, production)?;
+        'productions: for _ in 0..self.graph.steps() {
+            if to & CHAIN == 0 {
+                break;
+            }
+            self.graph.spend();
+            part = self.link(below.end, to & !CHAIN, part)?;
+            to = goto(automaton, below.row, to & !CHAIN)?;
+        }
+        self.push(to, bottom, part)
+    }
+
+    /// Appends a reduction of one part.
+    fn link(&mut self, from: u32, production: u32, part: u32) -> Result<u32, Memory> {
+        let parts = capped(self.graph.parts.len());
+        self.graph.parts.push(part)?;
+        self.graph.push_reduction(Reduction {
+            production,
+            from,
+            to: self.at,
+            parts,
+            length: 1,
+        })
+    }
+
+    /// Goes to the next place with the actions that took a symbol.
+    pub fn step(&mut self, input: Input<'_>, automaton: &mut Automaton<'_>) -> Result<(), Memory> {
+        self.at = self.at.wrapping_add(1);
+        self.heads.clear();
+        self.done = 0;
+        self.again = false;
+        self.graph.next_place();
+        mem::swap(&mut self.next, &mut self.taken);
+        self.next.clear();
+        'heads: for place in 0..self.taken.len() {
+            let Some(head) = self.taken.get(place) else {
+                break;
+            };
+            let head = *head;
+            self.take(input, automaton, head)?;
+        }
+        Ok(())
+    }
+
+    /// Does what is left of an action that took a symbol.
+    fn take(
+        &mut self,
+        input: Input<'_>,
+        automaton: &mut Automaton<'_>,
+        head: Head,
+    ) -> Result<(), Memory> {
+        if head.what & KIND != SHIFT {
+            return self.act(input, automaton, head.vertex, head.what & !SHIFT, false);
+        }
+        self.heads.push(Head {
+            vertex: head.vertex,
+            what: head.what >> 3,
+        })?;
+        Ok(())
+    }
+
+    /// Reads on until the document is read, all heads are gone, or one head is left whose way down is the
+    /// only one; reports whether there is a way.
+    pub fn read(
+        &mut self,
+        input: Input<'_>,
+        automaton: &mut Automaton<'_>,
+    ) -> Result<bool, Memory> {
+        'places: for _ in 0..input.doc.len() {
+            self.settle(input, automaton)?;
+            if self.graph.is_spent() || automaton.is_spent() {
+                return Ok(false);
+            }
+            if let Some(vertex) = self.accepted {
+                return self.find_way(input, vertex);
+            }
+            self.step(input, automaton)?;
+            match self.heads.as_slice() {
+                [] => return Ok(false),
+                [head] => {
+                    let vertex = head.vertex;
+                    if self.wait == 0 && self.find_way(input, vertex)? {
+                        return Ok(true);
+                    }
+                    self.wait = self.wait.saturating_sub(1);
+                }
+                _ => {}
+            }
+        }
+        Ok(false)
+    }
+
+    /// Finds the only way down from a vertex, and reports whether there is one.
+    fn find_way(&mut self, input: Input<'_>, vertex: u32) -> Result<bool, Memory> {
+        self.way.clear();
+        match self.graph.way_down(input.stack, vertex, &mut self.way)? {
+            Some(bottom) => {
+                self.bottom = bottom;
+                Ok(true)
+            }
+            None => {
+                self.wait = self.way.len();
+                Ok(false)
+            }
+        }
+    }
+}
+
+/// The action of a row at a place of the document, after all lookahead.
+fn action_at(automaton: &mut Automaton<'_>, doc: &[u16], row: u32, at: u32) -> Result<u32, Memory> {
+    let mut row = row;
+    let mut at = at;
+    'atoms: for _ in 0..=MOST_LOOKAHEAD {
+        let Some(atom) = doc.get(at as usize) else {
+            return Ok(FAIL);
+        };
+        let action = known(automaton, row, *atom)?;
+        if action & KIND != LOOK {
+            return Ok(action);
+        }
+        row = action >> 3;
+        at = at.wrapping_add(1);
+    }
+    Ok(FAIL)
+}
+
+/// The action of a row for an atom, which is filled where it is not known.
+fn known(automaton: &mut Automaton<'_>, row: u32, atom: u16) -> Result<u32, Memory> {
+    let action = automaton.states.cell(row, u32::from(atom));
+    if action != UNKNOWN {
+        return Ok(action);
+    }
+    automaton.fill(row, atom)?;
+    Ok(automaton.states.cell(row, u32::from(atom)))
+}
+
+/// Where the goto of a production's nonterminal leads from a row.
+fn goto(automaton: &mut Automaton<'_>, row: u32, production: u32) -> Result<u32, Memory> {
+    let cell = automaton.states.production_cell(production) >> 10;
+    let to = automaton.states.cell(row, cell);
+    if to != UNKNOWN {
+        return Ok(to);
+    }
+    automaton.fill_goto(row, cell)?;
+    Ok(automaton.states.cell(row, cell))
+}

@@ -1,0 +1,190 @@
+use crate::action::{KIND, LOOK};
+use crate::automaton::{Automaton, MOST_LOOKAHEAD};
+use crate::course::{Course, Entry, Stop};
+use crate::fork::{Fork, Input};
+use crate::made::Made;
+use crate::straight::read_on;
+use crate::tree::{Tree, grow, put};
+use std::alloc::Global;
+use xs_class::Memory;
+use xs_parse_table::ParseTable;
+
+/// The greatest number of times that reading stops for a cell, for room or for a fork.
+const MOST_STOPS: usize = 1 << 23;
+
+/// A document on the way: its stack and its tree with room for more, how far it is read, and how many
+/// steps forks may take.
+#[derive(Drop)]
+pub struct Reading<'d> {
+    doc: &'d [u16],
+    stack: Vec<Entry>,
+    tree: Tree,
+    course: Course,
+    most: usize,
+    steps: usize,
+    alloc: Global,
+}
+
+/// What comes of a stop.
+enum Outcome {
+    GoOn,
+    Read,
+    GiveUp,
+}
+
+impl<'d> Reading<'d> {
+    /// A document of which nothing is read, from a row on.
+    pub fn new(alloc: Global, doc: &'d [u16], row: u32) -> Result<Self, Memory> {
+        let most = doc.len().saturating_add(1024).min(1 << 26);
+        let stack = vec![in alloc; entry(row); 64]?;
+        Ok(Reading {
+            doc,
+            stack,
+            tree: Tree::new(alloc, most / 2, most + most / 4)?,
+            course: Course {
+                row,
+                at: 0,
+                depth: 1,
+                nodes: 0,
+                parts: 0,
+            },
+            most: most * 16,
+            steps: most * 32,
+            alloc,
+        })
+    }
+
+    /// Reads to the end of the document: whether it is of the language.
+    pub fn read(&mut self, automaton: &mut Automaton<'_>) -> Result<bool, Memory> {
+        'stops: for _ in 0..MOST_STOPS {
+            let (course, stop) = read_on(
+                &automaton.states.table,
+                self.doc,
+                &mut self.stack,
+                &mut self.tree.nodes,
+                &mut self.tree.parts,
+                self.most.saturating_mul(4),
+                self.course,
+            );
+            self.course = course;
+            match self.see_to(automaton, stop)? {
+                Outcome::GoOn => {}
+                Outcome::Read => return Ok(true),
+                Outcome::GiveUp => return Ok(false),
+            }
+        }
+        Ok(false)
+    }
+
+    /// Sees to a stop.
+    fn see_to(&mut self, automaton: &mut Automaton<'_>, stop: Stop) -> Result<Outcome, Memory> {
+        match stop {
+            Stop::Accept => return Ok(Outcome::Read),
+            Stop::Fail | Stop::Steps => return Ok(Outcome::GiveUp),
+            Stop::Fork => return self.fork(automaton),
+            Stop::Unknown => self.fill(automaton)?,
+            Stop::Goto { row, cell } => automaton.fill_goto(row, cell)?,
+            Stop::Entries => grow(&mut self.stack, entry(0))?,
+            Stop::Nodes => self.tree.grow_nodes()?,
+            Stop::Parts => self.tree.grow_parts()?,
+        }
+        if automaton.is_spent() || self.is_spent() {
+            Ok(Outcome::GiveUp)
+        } else {
+            Ok(Outcome::GoOn)
+        }
+    }
+
+    /// Whether there are too many entries, nodes or parts.
+    fn is_spent(&self) -> bool {
+        self.stack.len() > self.most
+            || self.tree.nodes.len() > self.most
+            || self.tree.parts.len() / 4 > self.most
+    }
+
+    /// Fills the cell at which reading stopped.
+    fn fill(&self, automaton: &mut Automaton<'_>) -> Result<(), Memory> {
+        let mut row = self.course.row;
+        let mut at = self.course.at;
+        'atoms: for _ in 0..=MOST_LOOKAHEAD {
+            let Some(atom) = self.doc.get(at as usize) else {
+                return Ok(());
+            };
+            let action = automaton.states.cell(row, u32::from(*atom));
+            if action & KIND != LOOK {
+                return automaton.fill(row, *atom);
+            }
+            row = action >> 3;
+            at = at.wrapping_add(1);
+        }
+        Ok(())
+    }
+
+    /// Reads in all ways that are allowed, until there is one.
+    fn fork(&mut self, automaton: &mut Automaton<'_>) -> Result<Outcome, Memory> {
+        let mut fork = Fork::new(self.alloc, self.course, self.steps)?;
+        let input = Input {
+            doc: self.doc,
+            stack: &self.stack,
+        };
+        let found = fork.read(input, automaton)?;
+        self.steps = fork.graph.steps();
+        if !found {
+            return Ok(Outcome::GiveUp);
+        }
+        self.join(&fork)?;
+        match fork.heads.as_slice() {
+            [head] if fork.accepted.is_none() => {
+                self.course.row = head.what;
+                Ok(Outcome::GoOn)
+            }
+            _ => Ok(Outcome::Read),
+        }
+    }
+
+    /// Takes over the way that a fork found: its nodes, and its entries on the stack.
+    fn join(&mut self, fork: &Fork) -> Result<(), Memory> {
+        let mut made = Made::new(self.alloc, &fork.graph)?;
+        'entries: for entry in &fork.way {
+            made.want(entry.part)?;
+        }
+        made.close(&fork.graph)?;
+        self.tree.count = self.course.nodes;
+        self.tree.part_count = self.course.parts;
+        made.put(&fork.graph, &mut self.tree)?;
+        self.course.at = fork.at;
+        self.course.nodes = self.tree.count;
+        self.course.parts = self.tree.part_count;
+        self.course.depth = fork.bottom.wrapping_add(1);
+        'way: for entry in fork.way.iter().rev() {
+            self.put_entry(Entry {
+                part: made.part(entry.part),
+                ..*entry
+            })?;
+        }
+        Ok(())
+    }
+
+    /// Puts an entry on the stack.
+    fn put_entry(&mut self, entry: Entry) -> Result<(), Memory> {
+        put(&mut self.stack, self.course.depth, entry)?;
+        self.course.depth = self.course.depth.wrapping_add(1);
+        Ok(())
+    }
+
+    /// The parse table of a document that is read.
+    pub fn into_table(self) -> ParseTable {
+        let mut tree = self.tree;
+        tree.count = self.course.nodes;
+        tree.part_count = self.course.parts;
+        tree.into_table()
+    }
+}
+
+fn entry(row: u32) -> Entry {
+    Entry {
+        row,
+        end: 0,
+        part: 0,
+    }
+}
