@@ -1,2 +1,5 @@
-pub mod Tables
+pub mod Moves
 pub mod Nodes
+pub mod Rows
+pub mod Tables
+pub mod Validators

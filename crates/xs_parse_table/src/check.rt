@@ -3,17 +3,27 @@ ghost use Rattle.xs_gram.specs.Derivations.{Derivation};
 ghost use Rattle.xs_gram.specs.Languages.{Derives};
 ghost use Rattle.xs_gram.specs.Sound.{IsBuilt};
 ghost use Rattle.xs_parse_table.specs.Nodes.{IsNode, IsRoot};
+ghost use Rattle.xs_parse_table.specs.Validators.{IsReady};
 ghost use Rattle.xs_parse_table.specs.Tables.{IsTreeOf};
 
 use crate::item::item_end;
-use crate::{Node, ParseTable};
+use crate::{Node, ParseTable, Validator};
 use xs_class::Sym;
 use xs_gram::Gram;
 
 /// Whether node v of a table is right by itself: its items, one after another, go from its beginning
 /// up to its end.
-fn is_node(g: &Gram, doc: &[Sym], table: &ParseTable, v: u32, node: Node) -> bool
-    requires { IsBuilt g.now }
+fn is_node(
+    validator: &Validator,
+    g: &Gram,
+    doc: &[Sym],
+    atoms: &[u16],
+    table: &ParseTable,
+    v: u32,
+    node: Node,
+) -> bool
+    requires built { IsBuilt g.now }
+    requires ready { IsReady g.now validator.now doc.now atoms.now }
     ensures { IsTrue result → IsNode g.now doc.now table.now.nodes.items table.now.parts.items v node }
 {
     if g.rules() <= node.production || doc.len() < node.to as usize {
@@ -30,7 +40,7 @@ fn is_node(g: &Gram, doc: &[Sym], table: &ParseTable, v: u32, node: Node) -> boo
         let Some(part) = parts.get(place) else {
             return false;
         };
-        let Some(end) = item_end(g, doc, nodes, v, item, at, *part) else {
+        let Some(end) = item_end(validator, g, doc, atoms, nodes, v, item, at, *part) else {
             return false;
         };
         at = end;
@@ -49,8 +59,15 @@ fn is_root(g: &Gram, doc: &[Sym], node: Node) -> bool
 }
 
 /// Whether the table means a derivation of the document; where the answer is no it still may.
-pub fn derives(g: &Gram, doc: &[Sym], table: &ParseTable) -> bool
-    requires { IsBuilt g.now }
+pub fn derives(
+    validator: &Validator,
+    g: &Gram,
+    doc: &[Sym],
+    atoms: &[u16],
+    table: &ParseTable,
+) -> bool
+    requires built { IsBuilt g.now }
+    requires ready { IsReady g.now validator.now doc.now atoms.now }
     ensures { IsTrue result → ((d : Derivation) × IsTreeOf table.now doc.now d × Derives g.now doc.now d) }
 {
     let nodes = table.nodes.as_slice();
@@ -64,7 +81,7 @@ pub fn derives(g: &Gram, doc: &[Sym], table: &ParseTable) -> bool
         let Ok(number) = u32::try_from(v) else {
             return false;
         };
-        if !is_node(g, doc, table, number, *node) {
+        if !is_node(validator, g, doc, atoms, table, number, *node) {
             return false;
         }
     }

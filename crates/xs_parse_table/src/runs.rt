@@ -1,6 +1,7 @@
 ghost use Rattle.std.specs.Prelude.{◌≡◌, ◌⊎◌, ◌≤◌, ℕ, length, Contains, IsTrue};
 ghost use Rattle.xs_regex.specs.Automaton.{Accepts, HasAt, Leads};
 ghost use Rattle.xs_regex.specs.Marked.{Marked};
+ghost use Rattle.xs_parse_table.specs.Moves.{Says};
 
 use xs_class::Sym;
 use xs_regex::Position;
@@ -60,4 +61,20 @@ pub fn accepts(p: &Position, word: &[Sym]) -> bool
         step(p, word[place], &before, &mut reached);
     }
     some_marked(p.last.as_slice(), &reached)
+}
+
+/// Whether the moves from the row at a cell lead by the atoms to a row where a run may end.
+pub fn says(cells: &[u32], count: u32, start: u32, atoms: &[u16]) -> bool
+    ensures { IsTrue result → Says cells.now count start atoms.now }
+{
+    let mut row = start;
+    'atoms: for atom in atoms {
+        let place = row as usize + *atom as usize;
+        if place >= cells.len() {
+            return false;
+        }
+        row = cells[place];
+    }
+    let end = row as usize + count as usize;
+    end < cells.len() && cells[end] == 1
 }
