@@ -7,4 +7,5 @@ pub mod Leveling
 pub mod Rowing
 pub mod Growing
 pub mod Charting
+mod Comparing
 pub mod Planting

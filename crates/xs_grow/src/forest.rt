@@ -39,6 +39,7 @@ fn marks_of(
     wholes(g, chart, &mut candidates)?;
     let groups = Groups::of(alloc, &candidates)?;
     let calls = calls_of(alloc, &groups)?;
+    drop(groups);
     fronts(alloc, g, chart, doc, &calls, &mut candidates)?;
     Ok(candidates)
 }
@@ -66,6 +67,7 @@ fn grow_by<'b>(
     let candidates = marks_of(alloc, g, chart, doc)?;
     let tails = tails(alloc, g, flags)?;
     let mut groups = Groups::of(alloc, &candidates)?;
+    drop(candidates);
     sort(&mut groups, g, ranks, &tails)?;
     let forest = rows(alloc, bump, g, &groups)?;
     let key = SpanKey {

@@ -1,4 +1,4 @@
-ghost use Rattle.std.specs.Prelude.{◌≡◌, ◌<◌, ℕ, length, slice_index_or, IfOk};
+ghost use Rattle.std.specs.Prelude.{◌≡◌, ◌<◌, ◌-◌, ℕ, length, slice_index_or, IfOk};
 ghost use Rattle.xs_gram.specs.Grammar.{rule_of, ItemAt};
 ghost use Rattle.xs_gram.specs.Sound.{IsBuilt};
 ghost use Rattle.xs_forest_laws.specs.Order.{is_nullable_by, AreNullable, IsTailFrom};
@@ -70,12 +70,19 @@ fn non_of(g: &Gram, rule: u32) -> u32
     0
 }
 
+/// How long the stretch of a label is.
+pub(crate) fn length_of(key: SpanKey) -> u32
+    ensures { result ≡ key.end - key.start }
+{
+    key.end.saturating_sub(key.start)
+}
+
 /// The place of a label in the order in which rows are made, children before parents: numbers that
 /// are compared one after the other.
 pub(crate) fn level(g: &Gram, ranks: &[u32], tails: &[u32], key: SpanKey) -> [u32; 5]
     ensures { result ≡ level_by g.now ranks.now tails.now key }
 {
-    let length = key.end.saturating_sub(key.start);
+    let length = length_of(key);
     match key.what {
         What::Whole(non) => [length, 0, number_at(ranks, non), 1, 0],
         What::Front { rule, dot } => {
