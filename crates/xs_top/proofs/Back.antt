@@ -26,8 +26,8 @@ use Rattle.xs_top.specs.Documents.{IsWordOf, document_bytes}
 use Rattle.xs_top.specs.Answers.{IsWrittenTree, IsTurnedInto}
 use Rattle.xs_top.specs.Sheets.{IsFailed, IsPairOfBytes}
 use Rattle.xs_top.specs.Ran.{IsOfLanguage, Told, IsHonest, IsComplete}
-use Rattle.xs_top.specs.Runs.{Turns, Turned, HaveNoIgnorable, IsNormalOf}
-use Rattle.xs_top.specs.Laws.{PairsAgree, TranslatesBack, RoundIsIdempotent, TranslatesAgain}
+use Rattle.xs_top.specs.Runs.{IsToTurn, IsUnhindered, Answers, Turned, HaveNoIgnorable, IsNormalOf}
+use Rattle.xs_top.specs.Laws.{PairsAgree, OneAnswer, TranslatesBack, RoundIsIdempotent, TranslatesAgain}
 use Rattle.xs_top.proofs.Agreeing.{on_side, unique_on}
 use Rattle.xs_top.proofs.Completing.{one_word, read_is}
 use Rattle.xs_top.proofs.Coming.{IsAnswered, done_answered, appended}
@@ -90,45 +90,38 @@ written_language p side tree bytes written = record {
   language = (written.back.0, written.back.1);
 }
 
-pub not_failed : (run : Run) (named : Named) → (Rose run.shelf.faults_before run.shelf.faults_now → ⊥) → IsFailed run.shelf named → ⊥
-not_failed run leiden sure failed = failed
-not_failed run (file name) sure failed = sure failed.shelf
-
 -- nothing stands against turning a document of the language
-pub is_honest : (run : Run) (from to : Side) (form : Form) (sheet document : List ℕ) (p : Pair) → Turns run from to form sheet document → IsPairOfBytes sheet p → IsAccepted p.text p.xml → IsOfLanguage p from form document → IsHonest run
-is_honest run from to form sheet document p turns is_pair accepted language = record {
-  ask = by turns.asks.named (Turn from to form);
-  is = turns.asks.is;
+pub is_honest : (run : Run) (from to : Side) (form : Form) (sheet document : List ℕ) (p : Pair) (job : IsToTurn run from to form sheet document) → IsUnhindered run job.asks.named document → IsPairOfBytes sheet p → IsAccepted p.text p.xml → IsOfLanguage p from form document → IsHonest run
+is_honest run from to form sheet document p job free is_pair accepted language = record {
+  ask = by job.asks.named (Turn from to form);
+  is = job.asks.is;
   free = record {
-    sheet_sure = not_failed run turns.asks.named turns.none_rose.shelf;
+    sheet_sure = free.sheet;
     bytes = sheet;
-    has = turns.asks.has;
+    has = job.asks.has;
     pair = p;
     spelled = is_pair;
-    doable = (accepted, record { document = document; input = turns.input; limit = turns.short; is = language; sure = turns.none_rose.input });
+    doable = (accepted, record { document = document; input = job.input; limit = free.short; is = language; sure = free.input });
   };
-  out_sure = turns.none_rose.out;
-  notes_sure = turns.none_rose.notes;
+  out_sure = free.out;
+  notes_sure = free.notes;
 }
 
--- and so it is turned
-record IsDoneBy (run : Run) (sheet : List ℕ) (from to : Side) (form : Form) (document : List ℕ) (o : Outcome) : Type 0 where
-  is_done : o ≡ Done
-  answer : List ℕ
-  is_turning : IsTurning sheet from to form document answer
-  appends : Appends run.out.taken_before run.out.taken_now answer
-
-is_turned : (run : Run) (from to : Side) (form : Form) (sheet document : List ℕ) (p : Pair) → Turns run from to form sheet document → IsPairOfBytes sheet p → IsAccepted p.text p.xml → IsOfLanguage p from form document → (o : Outcome) → Told run o → IsComplete run o → IsDoneBy run sheet from to form document o
-is_turned run from to form sheet document p turns is_pair accepted language o told complete =
-    let is : o ≡ Done = complete (is_honest run from to form sheet document p turns is_pair accepted language) in
-    let a = done_answered run sheet (Turn from to form) turns.asks (subst (λ (x : Outcome). Told run x) is told) in
-    record { is_done = is; answer = a.answer; is_turning = turning run from to form sheet document turns.input a; appends = a.appends }
+-- where it is turned, out took the answer
+turned_now : (run : Run) (from to : Side) (form : Form) (sheet document : List ℕ) → IsToTurn run from to form sheet document → Told run Done → (answer : List ℕ) × IsTurning sheet from to form document answer × Appends run.out.taken_before run.out.taken_now answer
+turned_now run from to form sheet document job told =
+    let a = done_answered run sheet (Turn from to form) job.asks told in
+    (a.answer, turning run from to form sheet document job.input a, a.appends)
 
 module _ (law : OneReading) (agree : PairsAgree) where
   -- a document is turned after another, by the same sheet
-  after : (run : Run) (from to side : Side) (form : Form) (sheet document answer : List ℕ) → IsTurning sheet from to form document answer → Turns run to side AsIs sheet answer → (o : Outcome) → Told run o → IsComplete run o → IsDoneBy run sheet to side AsIs answer o
-  after run from to side form sheet document answer t turns o told complete =
-      is_turned run to side AsIs sheet answer t.pair turns t.is_pair t.sure.accepted (written_language t.pair to t.tree answer t.turned.written) o told complete
+  after : (run : Run) (from to side : Side) (form : Form) (sheet document middle : List ℕ) → IsTurning sheet from to form document middle → (next : IsToTurn run to side AsIs sheet middle) → (o : Outcome) → Told run o → IsComplete run o → (P : List ℕ → Type 0) → ((last : List ℕ) → IsTurning sheet to side AsIs middle last → P last) → Answers run o (IsUnhindered run next.asks.named middle) P
+  after run from to side form sheet document middle t next o told complete P gives = record {
+    is_done = λ free. complete (is_honest run to side AsIs sheet middle t.pair next free t.is_pair t.sure.accepted (written_language t.pair to t.tree middle t.turned.written));
+    answer = λ is.
+        let a = turned_now run to side AsIs sheet middle next (subst (λ (x : Outcome). Told run x) is told) in
+        (a.0, gives a.0 a.1, a.2);
+  }
 
   -- the second document is the print of the first one's tree
   second_is : (from to side : Side) (form : Form) (sheet document middle last : List ℕ) (one : IsTurning sheet from to form document middle) (two : IsTurning sheet to side AsIs middle last) → last ≡ document_bytes side one.pair.names (print (grammar_of one.pair side) one.tree)
@@ -153,27 +146,43 @@ module _ (law : OneReading) (agree : PairsAgree) where
         same = λ none. is ∙ ap (λ (ps : Parts). document_bytes from one.pair.names (parts_yield ps)) (normal_as_is g (items g d.rule) d.parts none) ∙ ap (λ (w : List ℕ). document_bytes from one.pair.names w) one.turned.derives.1;
       }
 
+  -- two answers to one document are the same
+  one_tree : (from to : Side) (form : Form) (sheet document a b : List ℕ) (one : IsTurning sheet from to form document a) (two : IsTurning sheet from to form document b) → two.tree ≡ one.tree
+  one_tree from to form sheet document a b one two =
+      let same = agree sheet one.pair two.pair one.is_pair two.is_pair in
+      let g : Grammar = grammar_of one.pair from in
+      let w = one.turned.word in
+      let e = two.turned.derivation in
+      let read : IsWordOf from form one.pair.names document two.turned.word = subst (λ (ns : List (List ℕ)). IsWordOf from form ns document two.turned.word) (sym same.names) two.turned.document.word in
+      let word_is : two.turned.word ≡ w = one_word law from form one.pair.names document two.turned.word w read one.turned.document.word in
+      let means = on_side one.pair two.pair same from in
+      let derives : Derives g w e = (means.derivations.derives w e).1 (subst (λ (v : List ℕ). Derives (grammar_of two.pair from) v e) word_is two.turned.derives) in
+      let is : e ≡ one.turned.derivation = unique_on one.pair one.sure from w e one.turned.derivation derives one.turned.derives in
+      sym two.turned.tree_is ∙ sym (means.trees.strip e) ∙ ap (λ (d : Derivation). strip g d) is ∙ one.turned.tree_is
+
+  pub one_answer_lem : OneAnswer
+  one_answer_lem one two from to form sheet document answer other first second =
+      let a = was_turned one from to form sheet document answer first in
+      let b = was_turned two from to form sheet document other second in
+      let same = agree sheet a.pair b.pair a.is_pair b.is_pair in
+      written_same a.pair b.pair same to a.tree b.tree other (one_tree from to form sheet document answer other a b) b.turned.written ∙ sym a.turned.written.is
+
   pub translates_back_lem : TranslatesBack
-  translates_back_lem one two from to form sheet document answer first turns o told complete =
+  translates_back_lem one two from to form sheet document answer first next o told complete =
       let was = was_turned one from to form sheet document answer first in
-      let next = after two from to from form sheet document answer was turns o told complete in
-      (next.is_done, next.answer, normal_of from to form sheet document answer next.answer was next.is_turning, next.appends)
+      after two from to from form sheet document answer was next o told complete (IsNormalOf sheet from form document) (λ last now. normal_of from to form sheet document answer last was now)
 
   pub round_lem : RoundIsIdempotent
-  round_lem one two side form sheet document answer first turns o told complete =
+  round_lem one two side form sheet document answer first next o told complete =
       let was = was_turned one side side form sheet document answer first in
-      let next = after two side side side form sheet document answer was turns o told complete in
-      let same : next.answer ≡ answer = second_is side side side form sheet document answer next.answer was next.is_turning ∙ sym was.turned.written.is in
-      (next.is_done, subst (λ (b : List ℕ). Appends two.out.taken_before two.out.taken_now b) same next.appends)
+      after two side side side form sheet document answer was next o told complete (λ again. again ≡ answer) (λ last now. second_is side side side form sheet document answer last was now ∙ sym was.turned.written.is)
 
   pub translates_again_lem : TranslatesAgain
-  translates_again_lem one two three from to form sheet document answer back first second turns o told complete =
+  translates_again_lem one two three from to form sheet document answer back first second next o told complete =
       let was = was_turned one from to form sheet document answer first in
       let then = was_turned two to from AsIs sheet answer back second in
-      let next = after three to from to AsIs sheet answer back then turns o told complete in
       let same = agree sheet was.pair then.pair was.is_pair then.is_pair in
       let tree : then.tree ≡ was.tree = next_tree law was.pair then.pair same was.sure to from was.tree then.tree answer back was.turned.written then.turned in
-      let third : next.answer ≡ document_bytes to then.pair.names (print (grammar_of then.pair to) then.tree) = second_is to from to AsIs sheet answer back next.answer then next.is_turning in
       let first_is : answer ≡ document_bytes to then.pair.names (print (grammar_of then.pair to) then.tree) =
       was.turned.written.is ∙ ap (λ (t : Common). document_bytes to was.pair.names (print (grammar_of was.pair to) t)) (sym tree) ∙ ap (λ (w : List ℕ). document_bytes to was.pair.names w) ((on_side was.pair then.pair same to).trees.print then.tree) ∙ ap (λ (ns : List (List ℕ)). document_bytes to ns (print (grammar_of then.pair to) then.tree)) same.names in
-      (next.is_done, subst (λ (b : List ℕ). Appends three.out.taken_before three.out.taken_now b) (third ∙ sym first_is) next.appends)
+      after three to from to AsIs sheet answer back then next o told complete (λ again. again ≡ answer) (λ last now. second_is to from to AsIs sheet answer back last then now ∙ sym first_is)

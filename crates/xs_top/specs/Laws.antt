@@ -1,7 +1,6 @@
 -- The laws of a sheet, and of two runs or three by one sheet.
 use Rattle.std.specs.Prelude.{◌≡◌, ◌↔◌, ⊤, ℕ, List, None, Some}
 use Rattle.std.specs.declared.option.Option.{Option}
-use Rattle.std.specs.Io.KnownBytes.{Appends}
 use Rattle.xs_class.specs.declared.side.Side.{Side}
 use Rattle.xs_chars.specs.declared.form.Form.{Form}
 use Rattle.xs_chars.specs.declared.form.Form.TheVariants.{AsIs}
@@ -20,7 +19,7 @@ use Rattle.xs_top.specs.Devices.{Run}
 use Rattle.xs_top.specs.Documents.{IsDocument}
 use Rattle.xs_top.specs.Sheets.{IsPairOfBytes}
 use Rattle.xs_top.specs.Ran.{Told, IsComplete}
-use Rattle.xs_top.specs.Runs.{AsksFor, Turns, Turned, IsNormalOf, Verdict, bad, ill, heavy, suspect, accepted}
+use Rattle.xs_top.specs.Runs.{AsksFor, IsToTurn, IsUnhindered, Answers, Turned, IsNormalOf, Verdict, bad, ill, heavy, suspect, accepted}
 
 -- two pairs of grammars of the same bytes mean the same
 abbrev pub PairsAgree : Type 0
@@ -30,28 +29,36 @@ PairsAgree = (bytes : List ℕ) (p q : Pair) → IsPairOfBytes bytes p → IsPai
 abbrev pub SheetsAgree : Type 0
 SheetsAgree = (bytes : List ℕ) (s t : Sheet) → IsSheetOf bytes s → IsSheetOf bytes t → IsWell s → IsWell t
 
--- What a run wrote is turned back by the same sheet, into the first document with each ignorable in its normal
--- spelling, unless memory is wanting.
+-- What a run wrote is turned back by the same sheet, unless it is hindered or memory is wanting, and then out took the
+-- first document with each ignorable in its normal spelling.
 abbrev pub TranslatesBack : Type 0
 TranslatesBack =
     (one two : Run) (from to : Side) (form : Form) (sheet document answer : List ℕ)
     → Turned one from to form sheet document answer
-    → Turns two to from AsIs sheet answer
+    → (next : IsToTurn two to from AsIs sheet answer)
     → (o : Outcome)
     → Told two o
     → IsComplete two o
-    → (o ≡ Done) × (back : List ℕ) × IsNormalOf sheet from form document back × Appends two.out.taken_before two.out.taken_now back
+    → Answers two o (IsUnhindered two next.asks.named answer) (IsNormalOf sheet from form document)
+
+-- two runs that turn the same document by the same sheet write the same
+abbrev pub OneAnswer : Type 0
+OneAnswer =
+    (one two : Run) (from to : Side) (form : Form) (sheet document answer other : List ℕ)
+    → Turned one from to form sheet document answer
+    → Turned two from to form sheet document other
+    → other ≡ answer
 
 -- what `round` wrote is written again by `round`
 abbrev pub RoundIsIdempotent : Type 0
 RoundIsIdempotent =
     (one two : Run) (side : Side) (form : Form) (sheet document answer : List ℕ)
     → Turned one side side form sheet document answer
-    → Turns two side side AsIs sheet answer
+    → (next : IsToTurn two side side AsIs sheet answer)
     → (o : Outcome)
     → Told two o
     → IsComplete two o
-    → (o ≡ Done) × Appends two.out.taken_before two.out.taken_now answer
+    → Answers two o (IsUnhindered two next.asks.named answer) (λ again. again ≡ answer)
 
 -- a document that was turned, and turned back, is turned into the same document as before
 abbrev pub TranslatesAgain : Type 0
@@ -59,11 +66,11 @@ TranslatesAgain =
     (one two three : Run) (from to : Side) (form : Form) (sheet document answer back : List ℕ)
     → Turned one from to form sheet document answer
     → Turned two to from AsIs sheet answer back
-    → Turns three from to AsIs sheet back
+    → (next : IsToTurn three from to AsIs sheet back)
     → (o : Outcome)
     → Told three o
     → IsComplete three o
-    → (o ≡ Done) × Appends three.out.taken_before three.out.taken_now answer
+    → Answers three o (IsUnhindered three next.asks.named back) (λ again. again ≡ answer)
 
 -- a document of an accepted sheet is turned exactly where it is of the language, and else refused with its longest viable prefix
 pub record IsDecided (p : Pair) (side : Side) (word : List ℕ) (o : Outcome) : Type 0 where
@@ -75,7 +82,8 @@ RefusesExactly =
     (run : Run) (from to : Side) (form : Form) (sheet document word : List ℕ) (p : Pair)
     → IsPairOfBytes sheet p
     → IsAccepted p.text p.xml
-    → Turns run from to form sheet document
+    → (job : IsToTurn run from to form sheet document)
+    → IsUnhindered run job.asks.named document
     → IsDocument from form p.names document word
     → (o : Outcome)
     → Told run o

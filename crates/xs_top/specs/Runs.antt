@@ -1,5 +1,6 @@
 -- What a run asks for and reads, where its devices tell it, and what it turned.
 use Rattle.std.specs.Prelude.{◌≡◌, ℕ, ◌≤◌, List, ◌++◌, length, Some}
+use Rattle.std.specs.Io.KnownBytes.{Appends}
 use Rattle.xs_io.specs.Causes.{Rose}
 use Rattle.xs_class.specs.declared.side.Side.{Side}
 use Rattle.xs_chars.specs.declared.form.Form.{Form}
@@ -7,6 +8,7 @@ use Rattle.xs_words.specs.Command.{Sheet as Named}
 use Rattle.xs_gram.specs.Derivations.{Parts, done, fixed, leaf, skip, sub, Derivation, yield, normal}
 use Rattle.xs_gram.specs.Languages.{Derives}
 use Rattle.xs_pair.specs.Grammars.{Pair, grammar_of}
+use Rattle.xs_talk.specs.declared.outcome.Outcome.{Outcome}
 use Rattle.xs_talk.specs.declared.outcome.Outcome.TheVariants.{Done}
 use Rattle.xs_top.specs.declared.asking.Job.{Job}
 use Rattle.xs_top.specs.declared.asking.Job.TheVariants.{Turn}
@@ -14,7 +16,7 @@ use Rattle.xs_top.specs.Asked.{by, asked}
 use Rattle.xs_top.specs.Devices.{Run}
 use Rattle.xs_top.specs.Documents.{IsDocument, document_bytes}
 use Rattle.xs_top.specs.Known.{HasBytes}
-use Rattle.xs_top.specs.Sheets.{IsPairOfBytes}
+use Rattle.xs_top.specs.Sheets.{IsFailed, IsPairOfBytes}
 use Rattle.xs_top.specs.Ran.{Told}
 
 -- the words ask for the job by a sheet of these bytes
@@ -23,19 +25,23 @@ pub record AsksFor (run : Run) (job : Job) (sheet : List ℕ) : Type 0 where
   pub is : asked run.words ≡ Some (by named job)
   pub has : HasBytes run.shelf.files named sheet
 
--- no count of a device rose
-pub record NoneRose (run : Run) : Type 0 where
-  pub shelf : Rose run.shelf.faults_before run.shelf.faults_now → ⊥
+-- the run is to turn this document from one side to the other by a sheet of these bytes
+pub record IsToTurn (run : Run) (from to : Side) (form : Form) (sheet document : List ℕ) : Type 0 where
+  pub asks : AsksFor run (Turn from to form) sheet
+  pub input : run.input.left_before ≡ Some document
+
+-- nothing hinders it: the document is within its limit, the sheet did not fail, and no count of the other devices rose
+pub record IsUnhindered (run : Run) (named : Named) (document : List ℕ) : Type 0 where
+  pub short : length document ≤ 1048576
+  pub sheet : IsFailed run.shelf named → ⊥
   pub input : Rose run.input.faults_before run.input.faults_now → ⊥
   pub out : Rose run.out.faults_before run.out.faults_now → ⊥
   pub notes : Rose run.notes.faults_before run.notes.faults_now → ⊥
 
--- the run is to turn this document from one side to the other by a sheet of these bytes, and no device fails
-pub record Turns (run : Run) (from to : Side) (form : Form) (sheet document : List ℕ) : Type 0 where
-  pub asks : AsksFor run (Turn from to form) sheet
-  pub input : run.input.left_before ≡ Some document
-  pub short : length document ≤ 1048576
-  pub none_rose : NoneRose run
+-- the outcome is `Done` where nothing hinders the run, and out took such an answer where it is `Done`
+pub record Answers (run : Run) (o : Outcome) (unhindered : Type 0) (P : List ℕ → Type 0) : Type 0 where
+  pub is_done : unhindered → o ≡ Done
+  pub answer : o ≡ Done → (answer : List ℕ) × P answer × Appends run.out.taken_before run.out.taken_now answer
 
 -- the run turned this document, and this is what out took
 pub record Turned (run : Run) (from to : Side) (form : Form) (sheet document answer : List ℕ) : Type 0 where

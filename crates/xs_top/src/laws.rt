@@ -1,4 +1,4 @@
-ghost use Rattle.xs_top.specs.Laws.{PairsAgree, SheetsAgree, TranslatesBack, RoundIsIdempotent, TranslatesAgain, RefusesExactly, OneVerdict, CheckDecides};
+ghost use Rattle.xs_top.specs.Laws.{PairsAgree, SheetsAgree, OneAnswer, TranslatesBack, RoundIsIdempotent, TranslatesAgain, RefusesExactly, OneVerdict, CheckDecides};
 
 use xs_check_laws::weights_are_exact;
 use xs_sheet_laws::{alike_pairs_mean_the_same, alike_sheets_mean_the_same, one_pair, one_sheet};
@@ -13,6 +13,14 @@ pub fn bytes_agree()
     alike_sheets_mean_the_same();
     one_pair();
     alike_pairs_mean_the_same();
+}
+
+/// Two runs that turn the same document by the same sheet write the same.
+pub fn one_answer()
+    ensures { OneAnswer }
+{
+    one_word();
+    bytes_agree();
 }
 
 /// What a run wrote is turned back, by the same sheet, into the document that it read, with each

@@ -31,7 +31,9 @@ use crate::sheets::pair_for;
 use crate::stop::Stop;
 use crate::written::written;
 pub use answer::DOCUMENT_LIMIT;
-pub use laws::{bytes_agree, check_decides, refuses_exactly, round_is_idempotent, translates_back};
+pub use laws::{
+    bytes_agree, check_decides, one_answer, refuses_exactly, round_is_idempotent, translates_back,
+};
 pub use outcome::status;
 pub use sheets::SHEET_LIMIT;
 use std::alloc::Global;
