@@ -79,7 +79,7 @@ kids_low g h c is slot (kid (made p inner) kids) numbered closed fit =
     omega (arith, made_low g h c (lookup slot (kinds is)) p (weight g h (made p inner)) inner closed fit.0 node, kids_low g h c is (slot + 1) kids numbered closed fit.1)
 
 -- an item that is the nonterminal
-record IsItem (is : List GItem) (n : ℕ) : Type 0 where
+pub record IsItem (is : List GItem) (n : ℕ) : Type 0 where
   pub dot : ℕ
   pub slot : ℕ
   pub at : slice_get is dot ≡ Some (Non n slot)
@@ -93,7 +93,7 @@ no_term t n e = cc
 one_non : (m n : ℕ) → Some (of_non m) ≡ Some (of_non n) → m ≡ n
 one_non m n e = cc
 
-item_of : (is : List GItem) (s n : ℕ) → lookup s (kinds is) ≡ Some (of_non n) → IsItem is n
+pub item_of : (is : List GItem) (s n : ℕ) → lookup s (kinds is) ≡ Some (of_non n) → IsItem is n
 item_of [] s n e = absurd (none e)
   where
     none : None ≡ Some (of_non n) → ⊥
