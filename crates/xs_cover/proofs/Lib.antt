@@ -1,0 +1,5 @@
+pub mod Sums
+pub mod Sizes
+pub mod Costs
+pub mod Least
+pub mod Reached
