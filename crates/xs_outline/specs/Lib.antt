@@ -1,0 +1,6 @@
+pub mod Lines
+pub mod Shapes
+pub mod Order
+pub mod Outline
+pub mod Machine
+pub mod Laws
