@@ -3,4 +3,5 @@ pub mod Shapes
 pub mod Order
 pub mod Outline
 pub mod Machine
+pub mod Walk
 pub mod Laws

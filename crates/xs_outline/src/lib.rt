@@ -11,5 +11,9 @@
 #![tactic(auto)]
 
 mod laws;
+mod order;
+mod page;
+mod writer;
 
 pub use laws::{begins_tree, leads_to_tree, one_tree, written_has_tree};
+pub use writer::write_outline;
