@@ -1,0 +1,10 @@
+pub mod Machine
+pub mod Ordering
+pub mod Pairs
+pub mod Walking
+pub mod Viable
+pub mod Spelling
+pub mod Fitting
+pub mod Filling
+pub mod LawProofs
+pub mod Pages

@@ -1,0 +1,19 @@
+//! Outlines, a third notation for common trees: a line for each node and leaf.
+//!
+//! A line has the depth, the name of the slot in the parent, and the number of the production,
+//! counted from 1, or the word of a leaf as a sheet quotes it; the root's name is `tree`. A node's
+//! children follow it, each with all its own before the next, in any order. Outlines are thus a way
+//! to make documents by program without knowing either side's spelling.
+//!
+//! The definitions stand in specs/: Lines (lines and how they are spelt), Shapes (trees as outlines
+//! have them), Outline (what an outline is of), Order (how a tree is written), and Machine (how
+//! lines are read one by one).
+#![tactic(auto)]
+
+mod laws;
+mod order;
+mod page;
+mod writer;
+
+pub use laws::{begins_tree, leads_to_tree, one_tree, written_has_tree};
+pub use writer::write_outline;
