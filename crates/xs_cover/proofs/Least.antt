@@ -1,8 +1,7 @@
 -- Closed costs that some tree attains are the least size.
-use Rattle.std.proofs.Common.{◌≡◌, ℕ, ◌+◌, ◌≤◌, subst, sym, ap, ◌∙◌, arith}
-use Rattle.xs_gram.specs.Grammar.{Grammar, rule_of}
-use Rattle.xs_gram.specs.Common.{Common}
-use Rattle.xs_cover.specs.Sizes.{size, capped, weight}
+use Rattle.std.proofs.Common.{ℕ, ◌+◌, ◌≤◌, subst, sym, ap, ◌∙◌, arith}
+use Rattle.xs_gram.specs.Grammar.{rule_of}
+use Rattle.xs_cover.specs.Sizes.{capped, weight}
 use Rattle.xs_cover.specs.Costs.{rule_cost}
 use Rattle.xs_cover.specs.Laws.{CostsAreLeast}
 use Rattle.xs_cover.proofs.Sizes.{sizes_add_lem}

@@ -1,11 +1,11 @@
 -- A tree uses productions of reached nonterminals alone.
-use Rattle.std.proofs.Common.{◌≡◌, ◌⊎◌, inl, inr, ℕ, suc, ◌+◌, ◌<◌, List, [], ◌∷◌, length, refl, sym, subst, Some, None, true, slice_get}
+use Rattle.std.proofs.Common.{◌≡◌, ◌⊎◌, inl, inr, ℕ, ◌+◌, ◌<◌, List, length, refl, sym, subst, Some, None, true, slice_get}
 use Rattle.std.specs.declared.option.Option.{Option}
 use Rattle.xs_gram.specs.declared.parts.GItem.{GItem}
 use Rattle.xs_gram.specs.declared.parts.GItem.TheVariants.{Non}
 use Rattle.xs_gram.specs.Grammar.{Grammar, rule_of, items, ItemAt, IsRuleOf}
-use Rattle.xs_gram.specs.Common.{Common, Kids, Kind, word, made, no_kid, kid, of_term, of_non, lookup, kinds, KidsFit, KidFits}
-use Rattle.xs_cover.specs.Sizes.{SomeUses, Shows}
+use Rattle.xs_gram.specs.Common.{Kids, Kind, word, made, no_kid, kid, of_term, of_non, lookup, kinds, KidsFit, KidFits}
+use Rattle.xs_cover.specs.Sizes.{SomeUses}
 use Rattle.xs_cover.specs.Laws.{UnreachedIsNotShown}
 use Rattle.xs_cover.proofs.Sizes.{inner_fit}
 use Rattle.xs_cover.proofs.Costs.{item_of}

@@ -1,20 +1,20 @@
 -- Where both grammars are sound, each slot and the root can have some tree.
-use Rattle.std.proofs.Common.{◌≡◌, ◌≢◌, ◌⊎◌, inl, inr, ℕ, zero, suc, ◌+◌, ◌<◌, ◌≤◌, Bool, true, false, List, [], ◌∷◌, length, set, refl, sym, ◌∙◌, ap, subst, arith, Some, None, ◌==◌, eqb-true}
+use Rattle.std.proofs.Common.{◌≡◌, ◌≢◌, ℕ, zero, suc, ◌+◌, ◌<◌, Bool, true, false, List, [], ◌∷◌, length, set, refl, sym, ◌∙◌, ap, subst, arith, Some, None, ◌==◌, eqb-true}
 use Rattle.std.specs.Prelude.{slice_get}
 use Rattle.std.specs.declared.option.Option.{Option}
 use Rattle.std.proofs.lemmas.Option.{none-some, same_Some}
 use Rattle.std.proofs.lemmas.Bool.Decides.{nat_tests}
 use Rattle.xs_gram.specs.declared.parts.GItem.{GItem}
 use Rattle.xs_gram.specs.declared.parts.GItem.TheVariants.{Fixed, Term, Non, Skip}
-use Rattle.xs_gram.specs.Grammar.{Grammar, items, slots, term_of, IsTermWord}
+use Rattle.xs_gram.specs.Grammar.{Grammar, items, slots, term_of}
 use Rattle.xs_gram.specs.Derivations.{Parts, done, fixed, leaf as leaf_part, skip, sub, FitsItems}
-use Rattle.xs_gram.specs.Common.{Common, word, made, Kind, of_term, of_non, kinds, lookup}
+use Rattle.xs_gram.specs.Common.{Common, word, Kind, of_term, of_non, kinds, lookup}
 use Rattle.xs_gram.specs.Laws.{Every, IsDistinct, HasNumberedSlots}
 use Rattle.xs_gram.specs.Sound.{IsSound}
 use Rattle.xs_gram.proofs.Lookup.{AllOf, keys, length-keys, each_found}
 use Rattle.xs_chart_laws.proofs.Fillings.{some_word}
 use Rattle.xs_pair.specs.Grammars.{Pair}
-use Rattle.xs_outline.specs.Shapes.{Shape, leaf, node, Branches, none, branch, slot_count, kind_at, empty_cells, meaning, ShapeFits, BranchesFit, root_kind, HasSlotNames}
+use Rattle.xs_outline.specs.Shapes.{Shape, leaf, node, Branches, none, branch, slot_count, kind_at, empty_cells, meaning, ShapeFits, BranchesFit, HasSlotNames}
 use Rattle.xs_outline.proofs.Machine.{not_full}
 use Rattle.xs_outline.proofs.Viable.{CanFill}
 use Rattle.xs_outline.proofs.Fitting.{AreOwed, all_owed, none_at, set_other}

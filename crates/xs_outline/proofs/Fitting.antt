@@ -1,14 +1,14 @@
 -- The shape of a tree that fits is one that fits, and it means the tree.
-use Rattle.std.proofs.Common.{◌≡◌, ◌≢◌, ℕ, zero, suc, ◌+◌, ◌<◌, ◌≤◌, Bool, true, false, List, [], ◌∷◌, ◌++◌, length, get_or, set, replicate, refl, sym, ◌∙◌, ap, subst, arith, Some, None, if◌then◌else◌}
+use Rattle.std.proofs.Common.{◌≡◌, ◌≢◌, ℕ, zero, suc, ◌+◌, ◌<◌, Bool, true, false, List, [], ◌∷◌, length, get_or, set, replicate, refl, sym, ◌∙◌, ap, subst, arith, Some, None, if◌then◌else◌}
 use Rattle.std.specs.Prelude.{slice_get}
 use Rattle.std.specs.declared.option.Option.{Option}
 use Rattle.std.proofs.lemmas.Option.{none-some, same_Some}
 use Rattle.xs_gram.specs.declared.parts.GItem.{GItem}
-use Rattle.xs_gram.specs.Grammar.{Grammar, items, IsRuleOf}
+use Rattle.xs_gram.specs.Grammar.{Grammar, items}
 use Rattle.xs_gram.specs.Common.{Common, word, made, Kids, no_kid, kid, Kind, of_term, of_non, kinds, lookup, TreeFits, KidsFit, KidFits}
 use Rattle.xs_gram.specs.Laws.{Every, IsDistinct}
 use Rattle.xs_pair.specs.Grammars.{Pair}
-use Rattle.xs_outline.specs.Shapes.{Shape, leaf, node, Branches, none, branch, names_of, slot_count, slot_name, kind_at, empty_cells, is_full, kids_in, meaning, filled, ShapeFits, BranchesFit, root_kind, HasSlotNames}
+use Rattle.xs_outline.specs.Shapes.{Shape, leaf, Branches, none, branch, names_of, slot_count, kind_at, empty_cells, is_full, kids_in, meaning, filled, ShapeFits, BranchesFit, root_kind, HasSlotNames}
 use Rattle.xs_outline.specs.Order.{inserted, slots_in_order, order_of, branches_at, shape_of, shapes_of, is_before}
 use Rattle.xs_outline.proofs.Viable.{missing, none_missing}
 

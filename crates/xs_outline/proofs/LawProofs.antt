@@ -1,10 +1,8 @@
 -- The laws over outlines.
-use Rattle.std.proofs.Common.{◌≡◌, ℕ, List, ◌++◌, refl, sym, subst}
-use Rattle.xs_gram.specs.Common.{Common}
-use Rattle.xs_pair.specs.Grammars.{Pair}
-use Rattle.xs_outline.specs.Lines.{Line, text_lines}
+use Rattle.std.proofs.Common.{refl, sym, subst}
+use Rattle.xs_outline.specs.Lines.{text_lines}
 use Rattle.xs_outline.specs.Order.{shape_of}
-use Rattle.xs_outline.specs.Outline.{AreLinesOf, IsOutline}
+use Rattle.xs_outline.specs.Outline.{AreLinesOf}
 use Rattle.xs_outline.specs.Laws.{HasOneTree, WrittenHasTree, LeadsToTree, BeginsTree}
 use Rattle.xs_outline.proofs.Machine.{one_tree, lines_pass, passed_lines}
 use Rattle.xs_outline.proofs.Viable.{may_begin, begun_may}

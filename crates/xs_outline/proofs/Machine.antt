@@ -1,19 +1,18 @@
 -- The machine over lines takes exactly the lines of shapes that fit.
-use Rattle.std.proofs.Common.{◌≡◌, ℕ, zero, suc, ◌+◌, ◌<◌, ◌≤◌, Bool, true, false, List, [], ◌∷◌, ◌++◌, length, get_or, set, replicate, refl, sym, ◌∙◌, ap, subst, arith, Some, None, append_assoc, append-nil, length-append, if◌then◌else◌}
-use Rattle.std.specs.Prelude.{slice_get, is_some}
+use Rattle.std.proofs.Common.{◌≡◌, ℕ, zero, suc, ◌<◌, ◌≤◌, Bool, true, false, List, [], ◌∷◌, ◌++◌, length, set, refl, sym, ◌∙◌, ap, subst, arith, Some, None, append_assoc, append-nil, if◌then◌else◌}
+use Rattle.std.specs.Prelude.{slice_get}
 use Rattle.std.specs.declared.option.Option.{Option}
 use Rattle.std.proofs.lemmas.List.{length-set, length-replicate}
 use Rattle.std.proofs.lemmas.Option.{none-some, same_Some, slice_get_within, get_or_from_slice_get, slice_get-get_or}
 use Rattle.xs_class.specs.Ordered.{place_of}
-use Rattle.xs_gram.specs.Grammar.{IsRuleOf}
-use Rattle.xs_gram.specs.Common.{Common, word, made, Kind, of_term, of_non}
-use Rattle.xs_pair.specs.Units.{number_of, or_zero}
+use Rattle.xs_gram.specs.Common.{Common, made, Kind, of_term, of_non}
+use Rattle.xs_pair.specs.Units.{or_zero}
 use Rattle.xs_pair.specs.Grammars.{Pair}
 use Rattle.xs_pair.proofs.Places.{found_there}
 use Rattle.xs_outline.specs.Lines.{Entry, production, leaf_word, Line, line}
 use Rattle.xs_outline.specs.Shapes.{Shape, leaf, node, Branches, none, branch, names_of, slot_count, slot_name, kind_at, empty_cells, is_full, kids_in, meaning, filled, ShapeFits, BranchesFit, lines, branch_lines, root_name, root_kind}
 use Rattle.xs_outline.specs.Outline.{AreLinesOf}
-use Rattle.xs_outline.specs.Machine.{Frame, frame, State, at_start, within, complete, give, settle, enter, next, EntryFits, IsWelcome, MayCome, after, MayAllCome, Passes, HasDistinctSlots}
+use Rattle.xs_outline.specs.Machine.{Frame, frame, State, at_start, within, complete, give, settle, enter, next, EntryFits, MayCome, after, MayAllCome, Passes, HasDistinctSlots}
 
 if_true : {A : Type 0} (b : Bool) (x y : A) → b ≡ true → (if b then x else y) ≡ x
 if_true true x y e = refl

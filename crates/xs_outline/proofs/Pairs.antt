@@ -1,5 +1,5 @@
 -- The grammars of a sheet have a name for each slot of each production.
-use Rattle.std.proofs.Common.{◌≡◌, ℕ, zero, suc, ◌<◌, ◌≢◌, ◌⊎◌, inl, inr, List, [], ◌∷◌, length, get_or, map, refl, sym, ◌∙◌, ap, subst, arith, Some}
+use Rattle.std.proofs.Common.{◌≡◌, ℕ, zero, suc, ◌≢◌, ◌⊎◌, inl, inr, List, [], ◌∷◌, length, get_or, map, refl, sym, ◌∙◌, ap, subst, Some}
 use Rattle.std.specs.Prelude.{slice_get}
 use Rattle.std.proofs.lemmas.Option.{none-some, same_Some}
 use Rattle.xs_class.specs.Ordered.{place_of}
@@ -13,15 +13,14 @@ use Rattle.xs_gram.specs.Grammar.{items, slots, no_rule}
 use Rattle.xs_gram.specs.Laws.{Every, IsDistinct, HasNumberedSlots}
 use Rattle.xs_gram.proofs.Lookup.{keys}
 use Rattle.xs_sheet.specs.declared.sheet.Sheet.{Sheet}
-use Rattle.xs_pair.specs.declared.mark.Mark.{Mark}
 use Rattle.xs_pair.specs.declared.production.Rule.{Rule}
-use Rattle.xs_pair.specs.Grammars.{Pair, IsPairOf, Numbering, numbering, flat_marks, rule_part}
+use Rattle.xs_pair.specs.Grammars.{Pair, IsPairOf, Numbering, numbering, rule_part}
 use Rattle.xs_pair.specs.Listing.{rules_of}
 use Rattle.xs_pair.specs.Marks.{slot_names, slots_of}
 use Rattle.xs_pair.specs.Units.{number_of}
 use Rattle.xs_pair.proofs.Places.{found_there, first_before}
 use Rattle.xs_pair.proofs.SlotKinds.{numbered, flat_kinds}
-use Rattle.xs_outline.specs.Shapes.{names_of, slot_count, HasSlotNames}
+use Rattle.xs_outline.specs.Shapes.{names_of, HasSlotNames}
 use Rattle.xs_outline.specs.Machine.{HasDistinctSlots}
 
 names_long : (n : Numbering) (r : Rule) → length (kinds (rule_part n Text r).items) ≡ length (slot_names r.left)

@@ -1,9 +1,9 @@
 -- A text spells one line at most.
-use Rattle.std.proofs.Common.{◌≡◌, ◌≢◌, ℕ, zero, suc, ◌+◌, ◌<◌, ◌≤◌, Bool, true, false, List, [], ◌∷◌, ◌++◌, map, length, get_or, refl, sym, ◌∙◌, ap, subst, arith, Some, None, append-nil, append_assoc}
+use Rattle.std.proofs.Common.{◌≡◌, ◌≢◌, ℕ, suc, ◌<◌, List, [], ◌∷◌, ◌++◌, refl, sym, ◌∙◌, ap, subst, arith, Some}
 use Rattle.std.specs.Char.{digit_value}
 use Rattle.std.specs.Str.Parse.{AllDigits, digits_value}
 use Rattle.xs_lex.specs.declared.quoted.Spot.TheVariants.{Between}
-use Rattle.xs_lex.specs.Units.{QuotedUnit, spelt_quoted, is_quoted_unit, meaning}
+use Rattle.xs_lex.specs.Units.{spelt_quoted}
 use Rattle.xs_lex.specs.Spelling.{IsQuoted}
 use Rattle.xs_lex.specs.Scan.{value_at}
 use Rattle.xs_lex.proofs.QuotedLaws.{value_read}

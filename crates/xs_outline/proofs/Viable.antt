@@ -1,18 +1,17 @@
 -- Wherever lines have come, some more lead to a whole tree.
-use Rattle.std.proofs.Common.{◌≡◌, ℕ, zero, suc, ◌+◌, ◌<◌, ◌≤◌, Bool, true, false, List, [], ◌∷◌, ◌++◌, length, set, refl, sym, ◌∙◌, ap, subst, arith, Some, None, append-nil, if◌then◌else◌}
+use Rattle.std.proofs.Common.{◌≡◌, ℕ, zero, suc, ◌<◌, Bool, true, false, List, [], ◌∷◌, ◌++◌, length, set, refl, ◌∙◌, subst, arith, Some, None, if◌then◌else◌}
 use Rattle.std.specs.Prelude.{slice_get}
 use Rattle.std.specs.declared.option.Option.{Option}
 use Rattle.std.proofs.lemmas.List.{length-set}
-use Rattle.std.proofs.lemmas.Option.{none-some, slice_get_within}
-use Rattle.xs_gram.specs.Grammar.{IsRuleOf}
+use Rattle.std.proofs.lemmas.Option.{slice_get_within}
 use Rattle.xs_gram.specs.Common.{Common, word, made, Kind, of_term, of_non}
 use Rattle.xs_pair.specs.Grammars.{Pair}
 use Rattle.xs_pair.specs.Units.{number_of}
-use Rattle.xs_outline.specs.Lines.{Entry, production, leaf_word, Line, line}
-use Rattle.xs_outline.specs.Shapes.{Shape, leaf, node, Branches, none, branch, names_of, slot_count, kind_at, empty_cells, is_full, kids_in, meaning, filled, ShapeFits, BranchesFit, lines, branch_lines, root_name, root_kind}
+use Rattle.xs_outline.specs.Lines.{Entry, production, leaf_word, Line}
+use Rattle.xs_outline.specs.Shapes.{Shape, Branches, none, branch, names_of, slot_count, kind_at, empty_cells, is_full, kids_in, meaning, filled, ShapeFits, BranchesFit, lines, branch_lines, root_name, root_kind}
 use Rattle.xs_outline.specs.Outline.{AreLinesOf}
 use Rattle.xs_outline.specs.Machine.{Frame, frame, State, at_start, within, complete, give, settle, enter, next, EntryFits, MayCome, after, MayAllCome, Passes, HasDistinctSlots}
-use Rattle.xs_outline.proofs.Machine.{passes_then, front_may, lines_pass, passed_lines, shape_passes, branches_passes, long_set, long_empty}
+use Rattle.xs_outline.proofs.Machine.{passes_then, front_may, lines_pass, passed_lines, shape_passes, branches_passes, long_empty}
 
 if_false : {A : Type 0} (b : Bool) (x y : A) → b ≡ false → (if b then x else y) ≡ y
 if_false true x y e = cc

@@ -1,5 +1,5 @@
 -- What a step of the walk over a flat tree writes.
-use Rattle.std.proofs.Common.{◌≡◌, ℕ, zero, suc, ◌+◌, ◌<◌, ◌≤◌, List, [], ◌∷◌, ◌++◌, length, All, drop, get_or, refl, sym, ◌∙◌, ap, subst, arith, Some, None, append_assoc, append-nil, drop-cons, true}
+use Rattle.std.proofs.Common.{◌≡◌, ℕ, zero, suc, ◌+◌, ◌<◌, ◌≤◌, List, [], ◌∷◌, ◌++◌, length, drop, get_or, refl, sym, ◌∙◌, ap, subst, arith, Some, None, append_assoc, append-nil, drop-cons, true}
 use Rattle.std.specs.Prelude.{slice_get}
 use Rattle.std.specs.Str.{all_scalars}
 use Rattle.std.specs.declared.option.Option.{Option}
@@ -7,7 +7,7 @@ use Rattle.std.proofs.lemmas.List.{drop_all}
 use Rattle.std.proofs.lemmas.Option.{none-some, same_Some, get_or_from_slice_get, slice_get-get_or}
 use Rattle.xs_gram.specs.declared.parts.GItem.{GItem}
 use Rattle.xs_gram.specs.Grammar.{Grammar, items, IsTermWord}
-use Rattle.xs_gram.specs.Common.{Common, word, made, Kids, no_kid, kid, Kind, of_term, of_non, kinds, lookup, TreeFits, KidsFit, KidFits}
+use Rattle.xs_gram.specs.Common.{Common, word, made, Kids, Kind, of_term, of_non, kinds, lookup, TreeFits, KidsFit, KidFits}
 use Rattle.xs_tree.specs.declared.part.TreePart.{TreePart}
 use Rattle.xs_tree.specs.declared.part.TreePart.TheVariants.{Leaf, Node}
 use Rattle.xs_tree.specs.Flat.{Flat, IsFlat, common_at, common_of, production_of, kids_of, word_of, kids_at, tree_at, tree_of, trees_of}
@@ -18,7 +18,7 @@ use Rattle.xs_class.specs.declared.side.Side.TheVariants.{Text}
 use Rattle.xs_writing_laws.proofs.Characters.{chars_are_characters}
 use Rattle.xs_writing_laws.proofs.Spelling.{gram_spelt}
 use Rattle.xs_outline.specs.Lines.{Line, line, production, leaf_word, line_text, lines_text}
-use Rattle.xs_outline.specs.Shapes.{Shape, leaf, branch, names_of, slot_count, slot_name, kind_at, lines, branch_lines, root_name}
+use Rattle.xs_outline.specs.Shapes.{leaf, names_of, slot_count, slot_name, lines, branch_lines, root_name}
 use Rattle.xs_outline.specs.Order.{order_of, branches_at, shape_of, shapes_of, outline_of}
 use Rattle.xs_outline.proofs.Ordering.{order_below}
 use Rattle.xs_outline.specs.Walk.{tree_text, rest_text, IsNode, CanWrite, AreOpen, AreOrders, pending, task_at}

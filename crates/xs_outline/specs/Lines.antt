@@ -1,5 +1,5 @@
 -- The lines of an outline, and how each is spelt.
-use Rattle.std.specs.Prelude.{◌≡◌, ◌≢◌, ℕ, suc, Bool, List, [], ◌∷◌, ◌++◌, length, codes, decimal, ◌==◌, if◌then◌else◌, get_or}
+use Rattle.std.specs.Prelude.{◌≡◌, ◌≢◌, ℕ, suc, List, [], ◌∷◌, ◌++◌, length, decimal, ◌==◌, if◌then◌else◌, get_or}
 use Rattle.std.specs.Str.Parse.{AllDigits, digits_value}
 use Rattle.xs_lex.specs.Spelling.{IsQuoted}
 use Rattle.xs_sheet.specs.Layout.{quoted}

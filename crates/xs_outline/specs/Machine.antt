@@ -1,8 +1,8 @@
 -- Reading line by line: the nodes that have no child yet at some slot, and where a line leads.
-use Rattle.std.specs.Prelude.{◌≡◌, ℕ, suc, zero, List, [], ◌∷◌, length, None, Some, if◌then◌else◌, slice_get, slice_set}
+use Rattle.std.specs.Prelude.{◌≡◌, ℕ, suc, List, [], ◌∷◌, length, None, Some, if◌then◌else◌, slice_get, slice_set}
 use Rattle.std.specs.declared.option.Option.{Option}
 use Rattle.xs_class.specs.Ordered.{place_of}
-use Rattle.xs_gram.specs.Grammar.{Grammar, IsRuleOf, IsTermWord}
+use Rattle.xs_gram.specs.Grammar.{IsRuleOf, IsTermWord}
 use Rattle.xs_gram.specs.Common.{Common, word, made, Kind, of_term, of_non}
 use Rattle.xs_pair.specs.Units.{number_of}
 use Rattle.xs_pair.specs.Grammars.{Pair}

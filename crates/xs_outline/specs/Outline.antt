@@ -1,5 +1,5 @@
 -- What an outline is, which tree it is of, and from which line on a document is none.
-use Rattle.std.specs.Prelude.{◌≡◌, ℕ, suc, ◌≤◌, List, [], ◌∷◌, ◌++◌, length, take}
+use Rattle.std.specs.Prelude.{◌≡◌, ℕ, suc, ◌≤◌, List, ◌++◌, length, take}
 use Rattle.xs_gram.specs.Common.{Common}
 use Rattle.xs_pair.specs.Grammars.{Pair}
 use Rattle.xs_outline.specs.Lines.{Line, AreSpelt, text_lines}

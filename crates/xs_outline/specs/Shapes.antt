@@ -1,11 +1,11 @@
 -- Trees as outlines have them: the children of a node in any order, each with its slot.
-use Rattle.std.specs.Prelude.{◌≡◌, ℕ, suc, zero, Bool, true, List, [], ◌∷◌, ◌++◌, length, None, Some, codes, is_some, slice_get, slice_set, slice_index_or, replicate}
+use Rattle.std.specs.Prelude.{◌≡◌, ℕ, suc, Bool, true, List, [], ◌∷◌, ◌++◌, length, None, Some, codes, is_some, slice_get, slice_set, slice_index_or, replicate}
 use Rattle.std.specs.declared.option.Option.{Option}
 use Rattle.std.specs.List.{list_all}
-use Rattle.xs_gram.specs.Grammar.{Grammar, items, IsRuleOf, IsTermWord}
+use Rattle.xs_gram.specs.Grammar.{items, IsRuleOf, IsTermWord}
 use Rattle.xs_gram.specs.Common.{Common, word, made, Kids, no_kid, kid, child_of, lookup, Kind, of_term, of_non, kinds}
 use Rattle.xs_pair.specs.Grammars.{Pair}
-use Rattle.xs_outline.specs.Lines.{Entry, production, leaf_word, Line, line}
+use Rattle.xs_outline.specs.Lines.{production, leaf_word, Line, line}
 
 -- A leaf with its word, or a node with its production and its children in the order of their lines,
 -- each with the number of its slot.
