@@ -6,7 +6,7 @@
 //! to make documents by program without knowing either side's spelling.
 //!
 //! The definitions stand in specs/: Lines (lines and how they are spelt), Shapes (trees as outlines
-//! have them), Outline (what an outline is of), Order (how a tree is written), and Machine (how
+//! have them), Outline (what an outline is of), Order and Walk (how a tree is written), and Machine (how
 //! lines are read one by one).
 #![tactic(auto)]
 

@@ -230,7 +230,7 @@ fn write(alloc: Global, two: &Two, tree: &Tree, page: &mut Text) -> Result<(), M
 
 /// The outline of a tree: children in ascending order of the bytes of their names, every line
 /// ended, words as `write_sheet` writes quoted strings. In time linear in the tree and the outline,
-/// after n log n or more for the slots of the sheet.
+/// after the slots of each production were put in order, by insertion.
 pub fn write_outline(alloc: Global, two: &Two, tree: &Tree) -> Result<Bytes, Memory>
     requires pair { (s : AnySheet) × IsPairOf s two.now }
     requires built { IsBuilt two.now.text }
