@@ -12,6 +12,20 @@ in_room() {
   trap 'rm -rf "$room"' EXIT
 }
 
+# peak_of WORD..: the peak of resident memory in bytes of a run over $room/input, looked at until it ends.
+peak_of() {
+  local pid peak=0 key value
+  "$program" "$@" <"$room/input" >/dev/null 2>&1 &
+  pid=$!
+  while kill -0 "$pid" 2>/dev/null; do
+    while read -r key value _; do
+      if [ "$key" = VmHWM: ]; then peak=$value; fi
+    done <"/proc/$pid/status" || true
+  done 2>/dev/null
+  wait "$pid" || true
+  echo $((peak * 1024))
+}
+
 # copies WORD COUNT: the word that many times.
 copies() {
   printf '%*s' "$2" '' | sed "s: :$1:g"
