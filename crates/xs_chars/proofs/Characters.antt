@@ -1,13 +1,10 @@
 -- Characters and their UTF-8.
-use Rattle.std.proofs.Common.{◌≡◌, ◌<◌, ◌≤◌, ◌+◌, ◌==◌, ◌++◌, ℕ, suc, zero, List, [], ◌∷◌, length, take, get_or, Bool, true, false, refl, sym, ◌∙◌, ap, subst, arith, encode_utf8, encode_utf8_all, Some, None, append_assoc, append-nil}
-use Rattle.std.specs.Char.{IsScalar}
-use Rattle.std.specs.declared.option.Option.{Option}
-use Rattle.std.specs.Option.{SomeIff, IsSome}
+use Rattle.std.proofs.Common.{◌≡◌, ◌<◌, ◌≤◌, ◌+◌, ◌/◌, ◌%◌, ◌==◌, ◌++◌, ℕ, suc, zero, List, [], ◌∷◌, length, take, drop, get_or, Bool, true, false, refl, sym, ◌∙◌, ap, subst, arith, encode_utf8_all, append_assoc, append-nil}
+use Rattle.std.specs.Char.{IsScalar, encode_utf8}
 use Rattle.std.proofs.lemmas.List.{take_more}
 use Rattle.std.specs.Str.{chars, IsUtf8, all_scalars, IsValidUpTo}
-use Rattle.std.specs.String.{string_bytes}
-use Rattle.std.specs.declared.string.String.{String}
-use Rattle.std.proofs.lemmas.Str.{chars-encodes, encodes_same, encodes-append, IsUtf8-string_bytes}
+use Rattle.std.specs.Str.Pattern.{FindsCharPrefix, StripsPrefix}
+use Rattle.std.proofs.lemmas.Str.{chars-encodes, encodes_same, encodes-append, chars_past_char}
 use Rattle.std.proofs.lemmas.Bool.Decides.{nat_tests}
 use Rattle.xs_chars.specs.Text.{AreCharacters, byte_order_mark, without_mark, with_mark, IsUtf8BadAt}
 use Rattle.xs_chars.specs.Laws.{IsReadBack}
@@ -38,9 +35,6 @@ bad_at bytes at bad valid = record {
     not_more : (n : ℕ) → (at < n → ⊥) → n ≤ at
     not_more n not = grind arith
 
-pub rest_characters : (c : ℕ) (w : List ℕ) → AreCharacters (c ∷ w) → AreCharacters w
-rest_characters c w are = grind (arith, nat_tests)
-
 -- one mark more, and one mark dropped
 pub unmarked : (w : List ℕ) → without_mark (with_mark w) ≡ w
 unmarked [] = refl
@@ -63,22 +57,51 @@ read_back w are =
     let marked = marked_characters w are in
     ((with_mark w, (marked, refl)), ap without_mark (chars-encodes (with_mark w) marked) ∙ unmarked w)
 
-pub is_some : (o : Option ℕ) (P : Type 0) (v : ℕ) → SomeIff o P v → P → IsSome o
-is_some None P v given p = absurd (given p)
-is_some (Some x) P v given p = refl
+-- a text that begins with the mark, and one that does not
+pub begins_marked : (bytes rest : List ℕ) → IsUtf8 bytes → StripsPrefix (FindsCharPrefix byte_order_mark) bytes rest → chars rest ≡ without_mark (chars bytes)
+begins_marked bytes rest utf8 (n, found, is, long) =
+    ap chars is ∙ sym (ap without_mark (chars_past_char bytes (drop n bytes) byte_order_mark utf8 found.split))
 
--- a text is UTF-8
-pub own_chars : {Z : Type 0} (s : String Z) → encode_utf8_all (chars (string_bytes s)) ≡ string_bytes s
-own_chars s = spelt (string_bytes s) (IsUtf8-string_bytes s)
+pub begins_unmarked : (bytes : List ℕ) → IsUtf8 bytes → ((rest : List ℕ) → bytes ≡ encode_utf8 byte_order_mark ++ rest → ⊥) → chars bytes ≡ without_mark (chars bytes)
+begins_unmarked bytes ([], (scalars, is)) not =
+    let none : chars bytes ≡ [] = ap chars (sym is) ∙ chars-encodes [] scalars in
+    none ∙ sym (ap without_mark none)
+begins_unmarked bytes (c ∷ cs, (scalars, is)) not =
+    let are : chars bytes ≡ c ∷ cs = ap chars (sym is) ∙ chars-encodes (c ∷ cs) scalars in
+    are ∙ split (c == byte_order_mark) refl ∙ sym (ap without_mark are)
   where
-    spelt : (bytes : List ℕ) → IsUtf8 bytes → encode_utf8_all (chars bytes) ≡ bytes
-    spelt bytes (cs, (scalars, is)) = ap encode_utf8_all (ap chars (sym is) ∙ chars-encodes cs scalars) ∙ is
+    split : (t : Bool) → (c == byte_order_mark) ≡ t → c ∷ cs ≡ without_mark (c ∷ cs)
+    split true mark =
+        let same : c ≡ byte_order_mark = grind (arith, nat_tests) in
+        absurd (not (encode_utf8_all cs) (sym is ∙ ap (λ d. encode_utf8 d ++ encode_utf8_all cs) same))
+    split false mark = grind (arith, nat_tests)
+
+-- the bytes of a character, whose number is n
+pub two_bytes : (n c x : ℕ) → 128 ≤ n → n < 2048 → n ≡ c → x ≡ 128 + n % 64 → (192 + n / 64) ∷ x ∷ [] ≡ encode_utf8 c
+unfolding encode_utf8
+two_bytes n c x le lt same e = ap (λ z. (192 + n / 64) ∷ z ∷ []) e ∙ sym (spelt n le lt) ∙ ap encode_utf8 same
+  where
+    spelt : (n : ℕ) → 128 ≤ n → n < 2048 → encode_utf8 n ≡ (192 + n / 64) ∷ (128 + n % 64) ∷ []
+    spelt n le lt = grind (arith, nat_tests)
+
+pub three_bytes : (n c x y : ℕ) → 2048 ≤ n → n < 65536 → n ≡ c → x ≡ 128 + n / 64 % 64 → y ≡ 128 + n % 64 → (224 + n / 4096) ∷ x ∷ y ∷ [] ≡ encode_utf8 c
+unfolding encode_utf8
+three_bytes n c x y le lt same e f =
+    ap (λ z. (224 + n / 4096) ∷ z ∷ y ∷ []) e ∙ ap (λ z. (224 + n / 4096) ∷ (128 + n / 64 % 64) ∷ z ∷ []) f ∙ sym (spelt n le lt) ∙ ap encode_utf8 same
+  where
+    spelt : (n : ℕ) → 2048 ≤ n → n < 65536 → encode_utf8 n ≡ (224 + n / 4096) ∷ (128 + n / 64 % 64) ∷ (128 + n % 64) ∷ []
+    spelt n le lt = grind (arith, nat_tests)
+
+pub four_bytes : (n c x y z : ℕ) → 65536 ≤ n → n ≡ c → x ≡ 128 + n / 4096 % 64 → y ≡ 128 + n / 64 % 64 → z ≡ 128 + n % 64 → (240 + n / 262144) ∷ x ∷ y ∷ z ∷ [] ≡ encode_utf8 c
+unfolding encode_utf8
+four_bytes n c x y z le same e f g =
+    ap (λ b. (240 + n / 262144) ∷ b ∷ y ∷ z ∷ []) e ∙ ap (λ b. (240 + n / 262144) ∷ (128 + n / 4096 % 64) ∷ b ∷ z ∷ []) f
+    ∙ ap (λ b. (240 + n / 262144) ∷ (128 + n / 4096 % 64) ∷ (128 + n / 64 % 64) ∷ b ∷ []) g ∙ sym (spelt n le) ∙ ap encode_utf8 same
+  where
+    spelt : (n : ℕ) → 65536 ≤ n → encode_utf8 n ≡ (240 + n / 262144) ∷ (128 + n / 4096 % 64) ∷ (128 + n / 64 % 64) ∷ (128 + n % 64) ∷ []
+    spelt n le = grind (arith, nat_tests)
 
 -- one character more
 pub encodes_more : (w before : List ℕ) (i c : ℕ) → i < length w → c ≡ get_or w i c → before ++ encode_utf8_all (take i w) ++ encode_utf8 c ≡ before ++ encode_utf8_all (take (i + 1) w)
 encodes_more w before i c lt is =
     append_assoc before (encode_utf8_all (take i w)) (encode_utf8 c) ∙ ap (λ l. before ++ l) (ap (λ l. encode_utf8_all (take i w) ++ l) (sym (append-nil (encode_utf8 c))) ∙ sym (encodes-append (take i w) (c ∷ [])) ∙ ap encode_utf8_all (ap (λ x. take i w ++ x ∷ []) is ∙ sym (take_more w i c lt)))
-
--- the characters of the text that spells the form of a text's characters
-pub formed_chars : {Z Y : Type 0} (s : String Z) (t : String Y) (w form : List ℕ) → AreCharacters w → string_bytes s ≡ encode_utf8_all w → string_bytes t ≡ encode_utf8_all form → chars (string_bytes t) ≡ form
-formed_chars s t w form are is spelt = chars_are (string_bytes t) form (IsUtf8-string_bytes t) spelt

@@ -1,12 +1,14 @@
-ghost use Rattle.std.specs.Prelude.{◌≡◌, ◌<◌, length, IfOk, string_bytes, encode_utf8_all};
+ghost use Rattle.std.specs.Prelude.{◌≡◌, ◌<◌, length, IfOk};
 ghost use Rattle.std.specs.Str.{chars};
 ghost use Rattle.xs_chars.specs.Forms.{in_form};
 ghost use Rattle.xs_chars.specs.Text.{symbol_limit, AreCharacters};
+ghost use Rattle.unicode_normalization.specs.Forms.{nfc, nfd};
 
-use crate::strings::{string_of, word_of};
+use crate::strings::{utf8_of, word_of};
 use std::alloc::Global;
-use unicode_normalization::{to_nfc, to_nfd};
-use xs_class::{Memory, Sym, Word};
+use std::str;
+use unicode_normalization::{QuickCheck, is_nfc_quick, is_nfd_quick, to_nfc, to_nfd};
+use xs_class::{Memory, Word};
 
 /// The form that a text is put into: as it is, or a canonical normal form of Unicode (UAX 15).
 #[derive(Clone, Copy, Debug, PartialEq, Eq)]
@@ -19,27 +21,53 @@ pub enum Form {
 /// How many symbols a form may have, so that each place has a number of 32 bits.
 const MOST_SYMBOLS: usize = 4_294_967_294;
 
-/// The text in the form.
-fn text_in_form(alloc: Global, text: String, form: Form) -> Result<String, Memory>
-    ensures { IfOk result (λ changed. string_bytes changed ≡ encode_utf8_all (in_form form (chars (string_bytes text)))) }
+/// The text's characters in NFC.
+fn composed(alloc: Global, text: &str) -> Result<Word, Memory>
+    ensures form { IfOk result (λ w. w ≡ nfc (chars text.now)) }
+    ensures characters { IfOk result AreCharacters }
 {
-    match form {
-        Form::AsIs => Ok(text),
-        Form::Nfc => Ok(to_nfc(alloc, text.as_str())?),
-        Form::Nfd => Ok(to_nfd(alloc, text.as_str())?),
+    match is_nfc_quick(text.chars()) {
+        QuickCheck::Yes => word_of(alloc, text),
+        _ => {
+            let changed = to_nfc(alloc, text)?;
+            word_of(alloc, changed.as_str())
+        }
     }
 }
 
-/// The characters in the form.
-pub fn formed(alloc: Global, symbols: &[Sym], form: Form) -> Result<Word, Memory>
-    requires { AreCharacters symbols.now }
-    ensures form { IfOk result (λ w. w ≡ in_form form symbols.now) }
+/// The text's characters in NFD.
+fn decomposed(alloc: Global, text: &str) -> Result<Word, Memory>
+    ensures form { IfOk result (λ w. w ≡ nfd (chars text.now)) }
+    ensures characters { IfOk result AreCharacters }
+{
+    match is_nfd_quick(text.chars()) {
+        QuickCheck::Yes => word_of(alloc, text),
+        _ => {
+            let changed = to_nfd(alloc, text)?;
+            word_of(alloc, changed.as_str())
+        }
+    }
+}
+
+/// The text's characters in the form, however many.
+fn changed(alloc: Global, text: &str, form: Form) -> Result<Word, Memory>
+    ensures form { IfOk result (λ w. w ≡ in_form form (chars text.now)) }
+    ensures characters { IfOk result AreCharacters }
+{
+    match form {
+        Form::AsIs => word_of(alloc, text),
+        Form::Nfc => composed(alloc, text),
+        Form::Nfd => decomposed(alloc, text),
+    }
+}
+
+/// The text's characters in the form.
+pub fn formed(alloc: Global, text: &str, form: Form) -> Result<Word, Memory>
+    ensures form { IfOk result (λ w. w ≡ in_form form (chars text.now)) }
     ensures characters { IfOk result AreCharacters }
     ensures short { IfOk result (λ w. length w < symbol_limit) }
 {
-    let text = string_of(alloc, symbols)?;
-    let changed = text_in_form(alloc, text, form)?;
-    let word = word_of(alloc, changed.as_str())?;
+    let word = changed(alloc, text, form)?;
     if word.len() > MOST_SYMBOLS {
         return Err(Memory);
     }
@@ -54,5 +82,7 @@ pub fn in_form(alloc: Global, word: &Word, form: Form) -> Result<Word, Memory>
     ensures characters { IfOk result AreCharacters }
     ensures short { IfOk result (λ w. length w < symbol_limit) }
 {
-    formed(alloc, word.as_slice(), form)
+    let bytes = utf8_of(alloc, word.as_slice())?;
+    let text = str::from_utf8(&bytes).unwrap();
+    formed(alloc, text, form)
 }

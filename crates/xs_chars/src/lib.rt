@@ -7,6 +7,7 @@
 mod form;
 mod laws;
 mod reading;
+mod room;
 mod strings;
 mod writing;
 

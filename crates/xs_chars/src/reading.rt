@@ -6,9 +6,9 @@ ghost use Rattle.xs_chars.specs.Laws.{IsFault};
 use crate::form::{Form, formed};
 use crate::strings::word_of;
 use crate::writing::BYTE_ORDER_MARK;
+use simdutf8::compat::from_utf8;
 use std::alloc::Global;
-use std::str;
-use xs_class::{Memory, Sym, Word};
+use xs_class::{Memory, Word};
 
 /// Why bytes are not decoded.
 #[derive(Clone, Copy, Debug, PartialEq, Eq)]
@@ -29,33 +29,37 @@ impl From<Memory> for DecodeFault {
     }
 }
 
-/// The characters of the bytes as UTF-8, in time linear in them.
-pub fn decode(alloc: Global, bytes: &[u8]) -> Result<Word, DecodeFault>
-    ensures ok { IfOk result (λ w. IsUtf8 bytes.now × (w ≡ chars bytes.now)) }
+/// The text that the bytes spell.
+fn text_in(bytes: &[u8]) -> Result<&str, DecodeFault>
+    ensures ok { IfOk result (λ t. IsUtf8 bytes.now × (t.now ≡ bytes.now)) }
     ensures fault { IfErr result (IsFault bytes.now) }
-    ensures characters { IfOk result AreCharacters }
 {
-    match str::from_utf8(bytes) {
-        Ok(text) => Ok(word_of(alloc, text)?),
+    match from_utf8(bytes) {
+        Ok(text) => Ok(text),
         Err(bad) => Err(DecodeFault::NotUtf8 {
             at: bad.valid_up_to() as u64,
         }),
     }
 }
 
-/// The symbols after one byte order mark at the very front, where there is one.
-fn after_mark(symbols: &[Sym]) -> &[Sym]
-    ensures mark { result.now ≡ without_mark symbols.now }
-    ensures characters { AreCharacters symbols.now → AreCharacters result.now }
+/// The characters of the bytes as UTF-8, in time linear in them.
+pub fn decode(alloc: Global, bytes: &[u8]) -> Result<Word, DecodeFault>
+    ensures ok { IfOk result (λ w. IsUtf8 bytes.now × (w ≡ chars bytes.now)) }
+    ensures fault { IfErr result (IsFault bytes.now) }
+    ensures characters { IfOk result AreCharacters }
 {
-    if symbols.is_empty() {
-        return symbols;
+    let text = text_in(bytes)?;
+    Ok(word_of(alloc, text)?)
+}
+
+/// The text after one byte order mark at the very front, where there is one.
+fn after_mark(text: &str) -> &str
+    ensures { chars result.now ≡ without_mark (chars text.now) }
+{
+    match text.strip_prefix(BYTE_ORDER_MARK) {
+        Some(rest) => rest,
+        None => text,
     }
-    let first: &Sym = &symbols[0];
-    if first.number() == BYTE_ORDER_MARK as u32 {
-        return &symbols[1..];
-    }
-    symbols
 }
 
 /// The characters of a text document: those of the bytes as UTF-8, without one byte order mark at
@@ -66,6 +70,6 @@ pub fn read_text(alloc: Global, bytes: &[u8], form: Form) -> Result<Word, Decode
     ensures characters { IfOk result AreCharacters }
     ensures short { IfOk result (λ w. length w < symbol_limit) }
 {
-    let word = decode(alloc, bytes)?;
-    Ok(formed(alloc, after_mark(word.as_slice()), form)?)
+    let text = text_in(bytes)?;
+    Ok(formed(alloc, after_mark(text), form)?)
 }

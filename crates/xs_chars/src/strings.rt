@@ -1,65 +1,71 @@
-// Words of characters as strings, and strings as words.
-ghost use Rattle.std.specs.Prelude.{◌≡◌, ◌++◌, IfOk, encode_utf8_all, string_bytes};
+// Texts as words, and words of characters as UTF-8.
+ghost use Rattle.std.specs.Prelude.{◌≡◌, ◌+◌, ◌%◌, ◌++◌, IfOk, OnOk, encode_utf8, encode_utf8_all};
 ghost use Rattle.std.specs.Char.{IsScalar};
 ghost use Rattle.std.specs.Str.{chars};
 ghost use Rattle.xs_chars.specs.Text.{AreCharacters};
 
+use crate::room::{bytes_room, symbols_room};
 use std::alloc::Global;
 use xs_class::{Memory, Sym, Word};
-
-/// The characters of a text.
-fn chars_of(alloc: Global, text: &str) -> Result<Vec<char>, Memory>
-    ensures { IfOk result (λ cs. cs.items ≡ chars text.now) }
-{
-    Ok(text.chars().collect(alloc)?)
-}
-
-/// The word of the characters.
-fn symbols_of(alloc: Global, characters: &[char]) -> Result<Word, Memory>
-    ensures { IfOk result (λ w. w ≡ characters.now) }
-{
-    let mut symbols = Vec::with_capacity(alloc, characters.len())?;
-    'characters: for c in characters {
-        symbols.push(Sym::of_char(*c))?;
-    }
-    Ok(Word::from_vec(symbols))
-}
 
 /// The word of a text's characters.
 pub fn word_of(alloc: Global, text: &str) -> Result<Word, Memory>
     ensures word { IfOk result (λ w. w ≡ chars text.now) }
     ensures characters { IfOk result AreCharacters }
 {
-    let characters = chars_of(alloc, text)?;
-    let word = symbols_of(alloc, &characters)?;
-    Ok(word)
+    let mut symbols = Vec::with_capacity(alloc, symbols_room(text.as_bytes()))?;
+    symbols.extend(text.chars().map(Sym::of_char))?;
+    Ok(Word::from_vec(symbols))
 }
 
-/// The character that the symbol is.
-fn character(symbol: Sym) -> char
+/// The byte of a character's UTF-8 that holds these bits and is not the first.
+fn next_byte(bits: u32) -> u8
+    ensures { result ≡ 128 + bits % 64 }
+{
+    (0x80 + bits % 0x40) as u8
+}
+
+/// Appends the UTF-8 of a character.
+#[inline(always)]
+pub fn push_character(bytes: &mut Vec<u8>, symbol: Sym) -> Result<(), Memory>
     requires { IsScalar symbol }
-    ensures { result ≡ symbol }
+    ensures { OnOk result (bytes.new.items ≡ bytes.old.items ++ encode_utf8 symbol) }
 {
-    char::from_u32(symbol.number()).unwrap()
-}
-
-/// Appends the characters to a text.
-pub fn push_all(text: &mut String, symbols: &[Sym]) -> Result<(), Memory>
-    requires { AreCharacters symbols.now }
-    ensures { IfOk result (λ _. string_bytes text.new ≡ string_bytes text.old ++ encode_utf8_all symbols.now) }
-{
-    'symbols: for symbol in symbols {
-        text.push(character(*symbol))?;
+    let c = symbol.number();
+    if c < 0x80 {
+        bytes.push(c as u8)?;
+    } else if c < 0x800 {
+        bytes.extend_from_slice(&[(0xC0 + c / 0x40) as u8, next_byte(c)])?;
+    } else if c < 0x10000 {
+        bytes.extend_from_slice(&[(0xE0 + c / 0x1000) as u8, next_byte(c / 0x40), next_byte(c)])?;
+    } else {
+        bytes.extend_from_slice(&[
+            (0xF0 + c / 0x40000) as u8,
+            next_byte(c / 0x1000),
+            next_byte(c / 0x40),
+            next_byte(c),
+        ])?;
     }
     Ok(())
 }
 
-/// The text of a word's characters.
-pub fn string_of(alloc: Global, symbols: &[Sym]) -> Result<String, Memory>
+/// Appends the UTF-8 of the characters.
+pub fn push_all(bytes: &mut Vec<u8>, symbols: &[Sym]) -> Result<(), Memory>
     requires { AreCharacters symbols.now }
-    ensures { IfOk result (λ text. string_bytes text ≡ encode_utf8_all symbols.now) }
+    ensures { IfOk result (λ _. bytes.new.items ≡ bytes.old.items ++ encode_utf8_all symbols.now) }
 {
-    let mut text = String::with_capacity(alloc, symbols.len())?;
-    push_all(&mut text, symbols)?;
-    Ok(text)
+    'symbols: for symbol in symbols {
+        push_character(bytes, *symbol)?;
+    }
+    Ok(())
+}
+
+/// The UTF-8 of the characters.
+pub fn utf8_of(alloc: Global, symbols: &[Sym]) -> Result<Vec<u8>, Memory>
+    requires { AreCharacters symbols.now }
+    ensures { IfOk result (λ bytes. bytes.items ≡ encode_utf8_all symbols.now) }
+{
+    let mut bytes = Vec::with_capacity(alloc, bytes_room(symbols))?;
+    push_all(&mut bytes, symbols)?;
+    Ok(bytes)
 }

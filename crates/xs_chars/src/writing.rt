@@ -1,7 +1,8 @@
 ghost use Rattle.std.specs.Prelude.{◌≡◌, IfOk, encode_utf8_all};
 ghost use Rattle.xs_chars.specs.Text.{AreCharacters, text_bytes, has_mark};
 
-use crate::strings::{push_all, string_of};
+use crate::room::bytes_room;
+use crate::strings::{push_all, push_character, utf8_of};
 use std::alloc::Global;
 use xs_class::{Bytes, Memory, Sym, Word};
 
@@ -13,7 +14,7 @@ pub fn encode(alloc: Global, word: &Word) -> Result<Bytes, Memory>
     requires { AreCharacters word.now }
     ensures { IfOk result (λ bytes. bytes ≡ encode_utf8_all word.now) }
 {
-    Ok(Bytes::from_vec(string_of(alloc, word.as_slice())?.into_bytes()))
+    Ok(Bytes::from_vec(utf8_of(alloc, word.as_slice())?))
 }
 
 /// Whether the symbols begin with a byte order mark.
@@ -33,10 +34,12 @@ pub fn write_text(alloc: Global, word: &Word) -> Result<Bytes, Memory>
     requires { AreCharacters word.now }
     ensures { IfOk result (λ bytes. bytes ≡ text_bytes word.now) }
 {
-    let mut text = String::with_capacity(alloc, word.len())?;
-    if begins_with_mark(word.as_slice()) {
-        text.push(BYTE_ORDER_MARK)?;
+    let symbols = word.as_slice();
+    let room = bytes_room(symbols).saturating_add(BYTE_ORDER_MARK.len_utf8());
+    let mut bytes = Vec::with_capacity(alloc, room)?;
+    if begins_with_mark(symbols) {
+        push_character(&mut bytes, Sym::of_char(BYTE_ORDER_MARK))?;
     }
-    push_all(&mut text, word.as_slice())?;
-    Ok(Bytes::from_vec(text.into_bytes()))
+    push_all(&mut bytes, symbols)?;
+    Ok(Bytes::from_vec(bytes))
 }
