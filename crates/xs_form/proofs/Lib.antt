@@ -1,4 +1,5 @@
 pub mod AttributeLaws
+pub mod BareLaws
 pub mod LengthLaws
 pub mod NameLaws
 pub mod Numbers

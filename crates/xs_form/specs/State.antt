@@ -1,11 +1,12 @@
 -- The reader between two pieces, and its step over one.
-use Rattle.std.specs.Prelude.{ℕ, List, [], ◌∷◌, ◌++◌, map, reverse, Bool, true, false, ◌==◌, ◌&&◌, ◌||◌, if◌then◌else◌, Some, None}
+use Rattle.std.specs.Prelude.{◌≡◌, ℕ, ◌<◌, List, [], ◌∷◌, ◌++◌, length, map, reverse, Bool, true, false, not, ◌==◌, ◌&&◌, ◌||◌, if◌then◌else◌, Some, None}
 use Rattle.std.specs.declared.option.Option.{Option}
 use Rattle.std.specs.Borrow.{Bor}
-use Rattle.xs_xml.specs.Tables.{is_white}
+use Rattle.xs_xml.specs.Tables.{is_char, is_white}
 use Rattle.xs_xml.specs.Piece.{is_name, same}
 use Rattle.xs_xml.specs.Legal.{Spot, ahead, inside, beyond, opened, closed}
 use Rattle.xs_xml.specs.Reads.{opening, closing, lines}
+use Rattle.xs_xml.specs.Scan.{span}
 use Rattle.xs_form.specs.Sorted.{entry_symbols}
 use Rattle.xs_form.specs.Seen.{Seen, declared, letter, given, begins, stands, ends, aside, section}
 use Rattle.xs_form.specs.declared.reader.Reader.{Reader}
@@ -76,6 +77,20 @@ step names st (stands n es) = moved st (emptied st.spot) (opening names n ∷ (e
 step names st (ends n) = moved st (left st.spot n) (closing names n ∷ []) 0
 step names st aside = moved st (Some st.spot) [] 0
 step names st (section body) = moved st (only_inside st.spot) (lines false body) 0
+
+-- a Char that stands for itself in content, whatever stands around it: none of <, &, >, ] and CR
+abbrev pub is_bare : ℕ → Bool
+is_bare c = is_char c && not (c == 60 || (c == 38 || (c == 62 || (c == 93 || c == 13))))
+
+-- an element is open, and the text begins with a run of such characters and goes on with the rest
+pub record IsRun (st : State) (text run rest : List ℕ) : Type 0 where
+  pub inner : is_inside st.spot ≡ true
+  pub split : (run, rest) ≡ span is_bare text
+  pub some : 0 < length run
+
+-- the state after that run
+abbrev pub texted : State → List ℕ → State
+texted st run = record { spot = st.spot; word = st.word ++ run; fresh = false; run = 0 }
 
 -- the state after a step that was taken, or none after one that is refused
 abbrev pub taken : Bool → State → Option State

@@ -58,9 +58,14 @@ pub fn read_xml(alloc: Global, names: &Names, doc: &Word) -> Result<Word, XmlFau
     ensures fault { IfErr result (λ e. IsFault names.now doc.now e) }
 {
     let whole = doc.as_slice();
-    let mut reader = Reader::new(alloc);
+    let mut reader = Reader::with_room(alloc, whole.len())?;
     let mut rest = whole;
     'pieces: while !rest.is_empty() {
+        if let Some((run, more)) = reader.run_at(rest) {
+            reader.text(run)?;
+            rest = more;
+            continue;
+        }
         match event_at(alloc, rest)? {
             None => return Err(broken(whole, rest)),
             Some((event, more)) => {

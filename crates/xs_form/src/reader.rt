@@ -1,13 +1,13 @@
-ghost use Rattle.std.specs.Prelude.{◌≡◌, ◌∷◌, ◌++◌, [], false, true, IfOk, OnOk};
+ghost use Rattle.std.specs.Prelude.{◌≡◌, ◌∷◌, ◌++◌, [], false, true, IfOk, IfSome, OnOk};
 ghost use Rattle.xs_xml.specs.Piece.{is_name};
 ghost use Rattle.xs_xml.specs.Reads.{opening, closing, lines};
 ghost use Rattle.xs_form.specs.Sorted.{shown_entries, entry_symbols};
 ghost use Rattle.xs_form.specs.Seen.{declared, letter, given, begins, stands, ends, aside, section, shown_event};
-ghost use Rattle.xs_form.specs.State.{next_run as next_run_of, initial, line_symbols, state_of, is_inside, step, taken, finished, is_named};
+ghost use Rattle.xs_form.specs.State.{next_run as next_run_of, initial, line_symbols, state_of, is_inside, IsRun, texted, step, taken, finished, is_named};
 
 use crate::marks::{closing_mark, opening_mark, spelled};
 use crate::pieces::Event;
-use crate::runs::{equal, white};
+use crate::runs::{bare_run, equal, white};
 use crate::sorted::push_attributes;
 use std::alloc::Global;
 use std::collections::BTreeMap;
@@ -76,17 +76,17 @@ fn push_closing(word: &mut Word, alloc: Global, names: &Names, name: &[Sym]) -> 
 }
 
 impl<'a> Reader<'a> {
-    /// A reader that has read nothing yet.
-    pub fn new(alloc: Global) -> Self
-        ensures { state_of result ≡ initial }
+    /// A reader that has read nothing yet, with room for that many symbols.
+    pub fn with_room(alloc: Global, room: usize) -> Result<Self, Memory>
+        ensures { IfOk result (λ reader. state_of reader ≡ initial) }
     {
-        Reader {
+        Ok(Reader {
             names: Vec::new(alloc),
             ended: false,
             fresh: true,
             run: 0,
-            word: Word::new(alloc),
-        }
+            word: Word::from_vec(Vec::with_capacity(alloc, room)?),
+        })
     }
 
     /// Whether an element is open.
@@ -114,6 +114,32 @@ impl<'a> Reader<'a> {
     {
         self.fresh = false;
         self.run = 0;
+    }
+
+    /// The run of characters that the text begins with and that an open element takes as they are,
+    /// where there is one, and the rest.
+    pub fn run_at(&self, text: &'a [Sym]) -> Option<(&'a [Sym], &'a [Sym])>
+        ensures { IfSome result (λ r. IsRun (state_of self.now) text.now r.0.now r.1.now) }
+    {
+        if !self.is_inside() {
+            return None;
+        }
+        let (run, rest) = bare_run(text);
+        if run.is_empty() {
+            None
+        } else {
+            Some((run, rest))
+        }
+    }
+
+    /// Takes such a run.
+    pub fn text(&mut self, run: &[Sym]) -> Result<(), Memory>
+        ensures { OnOk result (state_of self.new ≡ texted (state_of self.old) run.now) }
+    {
+        self.word.extend(run)?;
+        self.fresh = false;
+        self.run = 0;
+        Ok(())
     }
 
     /// Takes a character, where it may stand here.

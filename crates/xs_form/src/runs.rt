@@ -3,6 +3,7 @@ ghost use Rattle.std.specs.Option.{option_map, option_copied};
 ghost use Rattle.xs_xml.specs.Tables.{is_char, is_name_char, is_white, is_digit, is_hex, is_quote};
 ghost use Rattle.xs_xml.specs.Piece.{is_name, all_of, same, lower};
 ghost use Rattle.xs_xml.specs.Scan.{after, span, cut};
+ghost use Rattle.xs_form.specs.State.{is_bare};
 ghost use Rattle.xs_class.specs.Tables.{is_name_start};
 
 use xs_class::{Sym, is_char, is_name_char, is_name_start};
@@ -56,6 +57,18 @@ pub fn allowed(number: u32) -> bool
     is_char(number)
 }
 
+/// Whether the character stands for itself in content, whatever stands around it.
+pub fn bare(symbol: Sym) -> bool
+    ensures { result ≡ is_bare symbol }
+{
+    let number = symbol.number();
+    if 93 < number && number < 0xD800 {
+        return true;
+    }
+    allowed(number)
+        && !(number == 60 || number == 38 || number == 62 || number == 93 || number == 13)
+}
+
 /// Whether a Name may begin with the symbol.
 pub fn begins_name(symbol: Sym) -> bool
     ensures { result ≡ is_name_start symbol }
@@ -87,6 +100,17 @@ pub fn white_run(text: &[Sym]) -> (&[Sym], &[Sym])
 {
     let mut end = 0;
     'run: while end < text.len() && white(text[end]) {
+        end += 1;
+    }
+    (&text[..end], &text[end..])
+}
+
+/// The characters at the front that stand for themselves in content, and the rest.
+pub fn bare_run(text: &[Sym]) -> (&[Sym], &[Sym])
+    ensures { (result.0.now, result.1.now) ≡ span is_bare text.now }
+{
+    let mut end = 0;
+    'run: while end < text.len() && bare(text[end]) {
         end += 1;
     }
     (&text[..end], &text[end..])

@@ -1,5 +1,5 @@
 -- The bytes of what is written.
-use Rattle.std.proofs.Common.{◌≡◌, ℕ, ◌+◌, ◌<◌, ◌≤◌, List, [], ◌∷◌, ◌++◌, length, drop, get_or, codes, encode_utf8_all, refl, sym, ◌∙◌, ap, append_assoc, length-append, arith}
+use Rattle.std.proofs.Common.{◌≡◌, ℕ, ◌+◌, ◌<◌, List, [], ◌∷◌, ◌++◌, length, drop, get_or, codes, encode_utf8_all, refl, sym, ◌∙◌, ap, append_assoc}
 use Rattle.std.proofs.lemmas.Str.{encodes-append}
 use Rattle.std.proofs.lemmas.List.{at_drop_more}
 use Rattle.xs_xml_out.specs.declared.kind.SymbolKind.{SymbolKind}
@@ -31,14 +31,3 @@ rest_bytes-step names mode after kind word here i symbol below read is_kind is_h
     ∙ ap (λ (s : ℕ). rest_bytes names mode (s ∷ drop (i + 1) word)) (sym read)
     ∙ rest_bytes-cons names mode symbol (drop (i + 1) word)
     ∙ rw (is_here, is_after, is_kind) refl
-
-line_feed : encode_utf8_all (codes "\n") ≡ codes "\n"
-unfolding lib.Utf8.encode
-line_feed = refl
-
--- at least the last LF is left to write
-pub rest_bytes-some : (names : List (List ℕ)) (mode : Mode) (word : List ℕ) → 1 ≤ length (rest_bytes names mode word)
-rest_bytes-some names mode word =
-    let parts = ap length (encodes-append (written names mode word) (codes "\n")) ∙ length-append (encode_utf8_all (written names mode word)) (encode_utf8_all (codes "\n")) in
-    let last = ap length line_feed in
-    omega (arith, parts, last)

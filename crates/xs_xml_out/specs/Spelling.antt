@@ -1,12 +1,11 @@
 -- What the code writes for one symbol.
-use Rattle.std.specs.Prelude.{ℕ, ◌<◌, List, ◌++◌, length, encode_utf8}
+use Rattle.std.specs.Prelude.{ℕ, ◌<◌, List, length, encode_utf8}
 use Rattle.std.specs.Char.{IsScalar}
 use Rattle.std.specs.List.{All}
 use Rattle.xs_xml_out.specs.declared.kind.SymbolKind.{SymbolKind}
 use Rattle.xs_xml_out.specs.declared.kind.SymbolKind.TheVariants.{Char, Opening, Attribute, Closing}
 use Rattle.xs_xml_out.specs.declared.spelling.Body.{Body}
 use Rattle.xs_xml_out.specs.declared.spelling.Body.TheVariants.{Single, Text}
-use Rattle.xs_xml_out.specs.declared.spelling.Spelling.{Spelling}
 use Rattle.xs_xml_out.specs.Written.{symbol_kind}
 
 -- a character is a scalar value, and a name is in the list
@@ -29,7 +28,3 @@ AreKnown names word = All (IsKnownSymbol names) word
 abbrev pub body_bytes : Body → List ℕ
 body_bytes (Single c) = encode_utf8 c
 body_bytes (Text text) = text.now
-
--- the bytes of a spelling
-abbrev pub spelling_bytes : Spelling → List ℕ
-spelling_bytes spelling = spelling.front.now ++ body_bytes spelling.body ++ spelling.back.now

@@ -18,6 +18,7 @@ pub enum SymbolKind {
 
 /// What the symbol is.
 #[tactic(auto, unfolding(crate::specs::Written::symbol_kind))]
+#[inline(always)]
 pub fn symbol_kind(symbol: Sym) -> SymbolKind
     ensures { result ≡ symbol_kind symbol }
 {

@@ -5,11 +5,8 @@ use Rattle.xs_xml_out.specs.Spelling.{AreKnown}
 use Rattle.xs_xml_out.proofs.Known.{balanced_known}
 use Rattle.xs_xml_out.proofs.write.write_xml.Goals as goal
 
-pub length_of-requires : goal.length_of-requires
-length_of-requires c = subst (AreKnown c.args.names.now) (sym c.as_slice-symbols.ensures) (balanced_known c.args.names.now c.args.word.now c.requires)
-
-pub put_all-requires-clause-known : goal.put_all-requires-clause-known
-put_all-requires-clause-known c = subst (AreKnown c.args.names.now) (sym c.as_slice-symbols.ensures) (balanced_known c.args.names.now c.args.word.now c.requires)
+pub put_all-requires : goal.put_all-requires
+put_all-requires c = subst (AreKnown c.args.names.now) (sym c.as_slice-symbols.ensures) (balanced_known c.args.names.now c.args.word.now c.requires)
 
 pub returns-clause-utf8 : goal.returns-clause-utf8
 returns-clause-utf8 c = subst (λ (b : List ℕ). IsUtf8 b) (sym (c.from_vec.ensures ∙ ap vec_items c.into_bytes.ensures.value)) (IsUtf8-string_bytes c.put_all.new.out)
