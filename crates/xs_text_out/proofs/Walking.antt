@@ -9,9 +9,8 @@ use Rattle.xs_gram.specs.declared.parts.RulePart.{RulePart}
 use Rattle.xs_gram.specs.Building.{NamesAreThere, items_count}
 use Rattle.xs_gram.specs.Grammar.{Grammar, no_rule}
 use Rattle.xs_gram.specs.Common.{Common, print, spelling}
-use Rattle.xs_tree.specs.declared.part.TreePart.TheVariants.{Leaf}
+use Rattle.xs_tree.specs.Flat.{Leaf, Flat, IsFlat, common_at, common_of, kids_of, production_of, trees_of, word_of}
 use Rattle.xs_tree.specs.Counts.{capped}
-use Rattle.xs_tree.specs.Flat.{Flat, IsFlat, common_at, common_of, kids_of, production_of, trees_of, word_of}
 use Rattle.xs_text_out.specs.declared.walk.Task.{Task}
 use Rattle.xs_text_out.specs.Printed.{AreLengths, AreThere, item_word, kid_word, rule_items, slot_word}
 use Rattle.xs_text_out.specs.Walk.{AreFalling, IsDeeper, base, left_over, pending, rest_items, rest_word, slots_at}

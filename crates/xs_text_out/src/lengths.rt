@@ -3,8 +3,7 @@ ghost use Rattle.xs_gram.specs.Building.{NamesAreThere};
 ghost use Rattle.xs_gram.specs.Common.{Common, spelling};
 ghost use Rattle.xs_gram.specs.Grammar.{Grammar};
 ghost use Rattle.xs_tree.specs.Counts.{capped};
-ghost use Rattle.xs_tree.specs.Flat.{tree_of, trees_of};
-ghost use Rattle.xs_tree.specs.declared.part.TreePart.{TreePart};
+ghost use Rattle.xs_tree.specs.Flat.{TreePart, tree_of, trees_of};
 ghost use Rattle.xs_text_out.specs.Printed.{AreThere, AreLengths, item_word, print_length, slot_word};
 
 use crate::items::{items_of, kid_at};

@@ -41,7 +41,7 @@ fn begin(t: &Tree, part: u64, tasks: &mut Vec<Task>, symbols: &mut Vec<Sym>)
     ensures stack { vec_capacity tasks.new ≡ vec_capacity tasks.old }
 {
     match t.word(part) {
-        Some(word) => append(symbols, word.as_slice()),
+        Some(word) => append(symbols, word),
         None => tasks.push_reserved(Task { part, dot: 0 }),
     }
 }
