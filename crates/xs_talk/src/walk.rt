@@ -182,14 +182,9 @@ pub fn tree_line(alloc: Global, two: &Two, tree: &Spelt, doc: &Word) -> Result<B
     let mut tasks = Vec::new(alloc);
     let root = tree.at(tree.len() - 1);
     push_part(alloc, two, doc, root, &mut tasks, &mut out)?;
-    'tasks: for _ in 0..u64::MAX {
-        match tasks.pop() {
-            None => {
-                out.push(b'\n')?;
-                return Ok(out);
-            }
-            Some(task) => perform(alloc, two, tree, doc, task, &mut tasks, &mut out)?,
-        }
+    'tasks: while let Some(task) = tasks.pop() {
+        perform(alloc, two, tree, doc, task, &mut tasks, &mut out)?;
     }
-    Err(Memory)
+    out.push(b'\n')?;
+    Ok(out)
 }
