@@ -88,27 +88,23 @@ pub record Last (g : Grammar) (w : List ℕ) (f : Forest) (q d row i j : ℕ) (r
   pub item : GItem
   pub by : FrontAlt g w f q d i j m item alt
 
-slot_of_term : (P : ℕ → Type 0) (is : List GItem) (d t s : ℕ) → slice_get is d ≡ Some (Term t s) → Every P (slots is) → P s
-slot_of_term P [] d t s e h = cc
-slot_of_term P (Fixed v ∷ is) zero t s e h = cc
-slot_of_term P (Skip k ∷ is) zero t s e h = cc
-slot_of_term P (Non n r ∷ is) zero t s e h = cc
-slot_of_term P (Term u r ∷ is) zero t s e h = let same : r ≡ s = cc in subst P same h.0
-slot_of_term P (Fixed v ∷ is) (suc d) t s e h = slot_of_term P is d t s e h
-slot_of_term P (Skip k ∷ is) (suc d) t s e h = slot_of_term P is d t s e h
-slot_of_term P (Non n r ∷ is) (suc d) t s e h = slot_of_term P is d t s e h.1
-slot_of_term P (Term u r ∷ is) (suc d) t s e h = slot_of_term P is d t s e h.1
+-- what holds of each slot holds of an item's, if it has one
+abbrev AtSlot : (ℕ → Type 0) → GItem → Type 0
+AtSlot P (Fixed v) = Unit {0}
+AtSlot P (Skip k) = Unit {0}
+AtSlot P (Term t s) = P s
+AtSlot P (Non n s) = P s
 
-slot_of_non : (P : ℕ → Type 0) (is : List GItem) (d t s : ℕ) → slice_get is d ≡ Some (Non t s) → Every P (slots is) → P s
-slot_of_non P [] d t s e h = cc
-slot_of_non P (Fixed v ∷ is) zero t s e h = cc
-slot_of_non P (Skip k ∷ is) zero t s e h = cc
-slot_of_non P (Term n r ∷ is) zero t s e h = cc
-slot_of_non P (Non u r ∷ is) zero t s e h = let same : r ≡ s = cc in subst P same h.0
-slot_of_non P (Fixed v ∷ is) (suc d) t s e h = slot_of_non P is d t s e h
-slot_of_non P (Skip k ∷ is) (suc d) t s e h = slot_of_non P is d t s e h
-slot_of_non P (Non n r ∷ is) (suc d) t s e h = slot_of_non P is d t s e h.1
-slot_of_non P (Term u r ∷ is) (suc d) t s e h = slot_of_non P is d t s e h.1
+at_slot : (P : ℕ → Type 0) (is : List GItem) (d : ℕ) (item : GItem) → slice_get is d ≡ Some item → Every P (slots is) → AtSlot P item
+at_slot P [] d item e h = cc
+at_slot P (Fixed v ∷ is) zero item e h = let same : Fixed v ≡ item = cc in subst (λ i. AtSlot P i) same tt
+at_slot P (Skip k ∷ is) zero item e h = let same : Skip k ≡ item = cc in subst (λ i. AtSlot P i) same tt
+at_slot P (Term t s ∷ is) zero item e h = let same : Term t s ≡ item = cc in subst (λ i. AtSlot P i) same h.0
+at_slot P (Non n s ∷ is) zero item e h = let same : Non n s ≡ item = cc in subst (λ i. AtSlot P i) same h.0
+at_slot P (Fixed v ∷ is) (suc d) item e h = at_slot P is d item e h
+at_slot P (Skip k ∷ is) (suc d) item e h = at_slot P is d item e h
+at_slot P (Term t s ∷ is) (suc d) item e h = at_slot P is d item e h.1
+at_slot P (Non n s ∷ is) (suc d) item e h = at_slot P is d item e h.1
 
 pub length_placed : (w numbers : List ℕ) (item : GItem) (step : FirstAlternative) (parts parts' : List TreePart) (kids kids' : List ℕ) → IsPlaced w numbers item step parts kids parts' kids' → length kids' ≡ length kids
 length_placed w numbers (Fixed v) step parts parts' kids kids' h = ap length h.1
@@ -269,13 +265,13 @@ module _ (g : Grammar) (w : List ℕ) (f : Forest) (right : IsRight g w f) (q : 
   can_place_item d m j o (Term t s) step count parts at slots le sp row made re se ee =
       let stop = spelt_inside g w f right (Term t s ∷ []) m j sp le in
       let is = Reads-is w m (parts_yield sp.0) j sp.1.1 in
-      (slot_of_term (λ x. x < count) (items g q) d t s at slots, omega arith, omega arith)
+      (at_slot (λ x. x < count) (items g q) d (Term t s) at slots, omega arith, omega arith)
   can_place_item d m j None (Non n s) step count parts at slots le sp row made re se ee = absurd (none row.0 row.1)
     where
       none : (c : ℕ) → None ≡ Some c → ⊥
       none c e = cc
   can_place_item d m j (Some c) (Non n s) step count parts at slots le sp row made re se ee =
-      (slot_of_non (λ x. x < count) (items g q) d n s at slots, c, re, made.0)
+      (at_slot (λ x. x < count) (items g q) d (Non n s) at slots, c, re, made.0)
 
   pub can_place : (d row : ℕ) (front : Option ℕ) (item : GItem) (step : FirstAlternative) (parts : List TreePart) (kids : List ℕ) → IsNumbered (slots (items g q)) → length kids ≡ length (slots (items g q)) → Gathers g w f q left numbers (suc d) front parts kids → front ≡ Some row → IsFirstAlternative f row step → ItemAt g q d item → CanPlace w numbers (length kids) item step
   can_place d row front item step parts kids numbered long so at st item_at =

@@ -9,3 +9,4 @@ pub mod Spelling
 pub mod Sizing
 pub mod Sized
 pub mod Owing
+mod Ending

@@ -309,6 +309,10 @@ module _ (g : Grammar) (w : List ℕ) (f : Forest) (cap : ℕ) (cs : List ℕ) w
   pub word_can : (p d i j : ℕ) (ts : List Task) (parts : List SpeltPart) (places : List ℕ) (end : Parts) → Goes g w f cap cs (Word p d i j ∷ ts) parts places end → (p < length g.rules) × (d < length (items g p))
   word_can p d i j ts parts places end h = let lt = get_lt (items g p) d h.walks.0 h.walks.1 in (item_rule g p d lt, lt)
 
+-- what is written, and what the tasks write then, ends with all parts of the unfolding
+abbrev pub Remains : Source → Option ℕ → ℕ → List Task → List SpeltPart → List ℕ → Type 0
+Remains s o k tasks parts places = (u : Unfolding) → At s.forest.now s.cap s.counts.now o k u → Goes s.g.now s.doc.now s.forest.now s.cap s.counts.now (reverse tasks) parts places (read s.g.now s.doc.now s.forest.now o u)
+
 module _ (s : Source) (is : IsSource s) where
   child_inside : (o : Option ℕ) → HasChild s o → IsInside s.g.now s.doc.now s.forest.now is.right o
   child_inside None h = tt
@@ -318,13 +322,14 @@ module _ (s : Source) (is : IsSource s) where
   some_unfolding None k h lt = (bare, omega arith)
   some_unfolding (Some r) k h lt = numbered s.g.now s.doc.now s.forest.now is.right s.cap s.counts.now is.counted (Some r) (h.0, h.0) k lt
 
-  pub task_first : (o : Option ℕ) (k : ℕ) (ts : List Task) (u : Unfolding) → HasChild s o → k < count_of s.counts.now o → ts ≡ child_task o k → At s.forest.now s.cap s.counts.now o k u → Goes s.g.now s.doc.now s.forest.now s.cap s.counts.now (reverse ts) [] [] (read s.g.now s.doc.now s.forest.now o u)
-  task_first o k ts u h lt e at =
-      let back : reverse ts ≡ child_task o k = ap reverse e ∙ (rev_child [] o k ∙ append-nil (child_task o k)) in
-      subst (λ (l : List Task). Goes s.g.now s.doc.now s.forest.now s.cap s.counts.now l [] [] (read s.g.now s.doc.now s.forest.now o u)) (sym back) (goes_first s.g.now s.doc.now s.forest.now s.cap s.counts.now is.right o k u at lt (child_inside o h))
+  pub remains_first : (o : Option ℕ) (k : ℕ) (tasks : List Task) (parts : List SpeltPart) (places : List ℕ) → HasChild s o → k < count_of s.counts.now o → tasks ≡ child_task o k → parts ≡ [] → places ≡ [] → Remains s o k tasks parts places
+  remains_first o k tasks parts places h lt first no_parts no_places u at =
+      let end = read s.g.now s.doc.now s.forest.now o u in
+      let back : reverse tasks ≡ child_task o k = ap reverse first ∙ (rev_child [] o k ∙ append-nil (child_task o k)) in
+      rw (back, no_parts, no_places) (goes_first s.g.now s.doc.now s.forest.now s.cap s.counts.now is.right o k u at lt (child_inside o h))
 
   -- what the next task needs is there
-  pub task_can : (task : Task) (ts : List Task) (parts : List SpeltPart) (places : List ℕ) (end : Parts) → Goes s.g.now s.doc.now s.forest.now s.cap s.counts.now (task ∷ ts) parts places end → CanDo s task (length places)
+  task_can : (task : Task) (ts : List Task) (parts : List SpeltPart) (places : List ℕ) (end : Parts) → Goes s.g.now s.doc.now s.forest.now s.cap s.counts.now (task ∷ ts) parts places end → CanDo s task (length places)
   task_can (Visit r k) ts parts places end h =
       let there = visit_there s.g.now s.doc.now s.forest.now s.cap s.counts.now is.right r k ts parts places end h in
       let lt = visit_within s.g.now s.doc.now s.forest.now s.cap s.counts.now is.right r k ts parts places end h in
@@ -333,7 +338,7 @@ module _ (s : Source) (is : IsSource s) where
   task_can (Close q n) ts parts places end h = close_can s.g.now s.doc.now s.forest.now s.cap s.counts.now q n ts parts places end h
 
   -- the next task is done
-  pub task_done : (task : Task) (old new : List Task) (parts parts' : List SpeltPart) (places places' : List ℕ) (end : Parts) → Goes s.g.now s.doc.now s.forest.now s.cap s.counts.now (task ∷ reverse old) parts places end → IsDone s.g.now s.forest.now s.cap s.counts.now task old parts places new parts' places' → Goes s.g.now s.doc.now s.forest.now s.cap s.counts.now (reverse new) parts' places' end
+  task_done : (task : Task) (old new : List Task) (parts parts' : List SpeltPart) (places places' : List ℕ) (end : Parts) → Goes s.g.now s.doc.now s.forest.now s.cap s.counts.now (task ∷ reverse old) parts places end → IsDone s.g.now s.forest.now s.cap s.counts.now task old parts places new parts' places' → Goes s.g.now s.doc.now s.forest.now s.cap s.counts.now (reverse new) parts' places' end
   task_done (Visit r k) old new parts parts' places places' end h (v, ep, el) =
       let there = visit_there s.g.now s.doc.now s.forest.now s.cap s.counts.now is.right r k (reverse old) parts places end h in
       let goes = goes_visit s.g.now s.doc.now s.forest.now s.cap s.counts.now is.right r k (reverse old) parts places end v.alt_number v.found h there v.is in
@@ -344,3 +349,22 @@ module _ (s : Source) (is : IsSource s) where
       (subst (λ (l : List ℕ). Goes s.g.now s.doc.now s.forest.now s.cap s.counts.now (child_task v.found.alt.left v.found.left ++ last_task s.forest.now (key_of s.forest.now r).what (key_of s.forest.now r) v.found (length places) ∷ reverse old) parts l end) (sym el) goes))
   task_done (Word p d i j) old new parts parts' places places' end h (e, wr) = subst (λ (l : List Task). Goes s.g.now s.doc.now s.forest.now s.cap s.counts.now (reverse l) parts' places' end) (sym e) (goes_word s.g.now s.doc.now s.forest.now s.cap s.counts.now p d i j (reverse old) parts parts' places places' end h wr)
   task_done (Close q n) old new parts parts' places places' end h (e, added) = subst (λ (l : List Task). Goes s.g.now s.doc.now s.forest.now s.cap s.counts.now (reverse l) parts' places' end) (sym e) (goes_close s.g.now s.doc.now s.forest.now s.cap s.counts.now q n (reverse old) parts parts' places places' end h added)
+
+  next_goes : (o : Option ℕ) (k : ℕ) (all tasks : List Task) (task : Task) (parts : List SpeltPart) (places : List ℕ) → Remains s o k all parts places → all ≡ tasks ++ task ∷ [] → (u : Unfolding) → At s.forest.now s.cap s.counts.now o k u → Goes s.g.now s.doc.now s.forest.now s.cap s.counts.now (task ∷ reverse tasks) parts places (read s.g.now s.doc.now s.forest.now o u)
+  next_goes o k all tasks task parts places remains popped u at =
+      subst (λ (l : List Task). Goes s.g.now s.doc.now s.forest.now s.cap s.counts.now l parts places (read s.g.now s.doc.now s.forest.now o u)) (ap reverse popped ∙ rev_push tasks task) (remains u at)
+
+  pub remains_can : (o : Option ℕ) (k : ℕ) (all tasks : List Task) (task : Task) (parts : List SpeltPart) (places : List ℕ) → HasChild s o → k < count_of s.counts.now o → Remains s o k all parts places → all ≡ tasks ++ task ∷ [] → CanDo s task (length places)
+  remains_can o k all tasks task parts places h lt remains popped =
+      let u = some_unfolding o k h lt in
+      task_can task (reverse tasks) parts places (read s.g.now s.doc.now s.forest.now o u.0) (next_goes o k all tasks task parts places remains popped u.0 u.1)
+
+  pub remains_next : (o : Option ℕ) (k : ℕ) (all tasks new : List Task) (task : Task) (parts parts' : List SpeltPart) (places places' : List ℕ) → Remains s o k all parts places → all ≡ tasks ++ task ∷ [] → IsDone s.g.now s.forest.now s.cap s.counts.now task tasks parts places new parts' places' → Remains s o k new parts' places'
+  remains_next o k all tasks new task parts parts' places places' remains popped done' u at =
+      task_done task tasks new parts parts' places places' (read s.g.now s.doc.now s.forest.now o u) (next_goes o k all tasks task parts places remains popped u at) done'
+
+  pub remains_none : (o : Option ℕ) (k : ℕ) (tasks : List Task) (parts : List SpeltPart) (places : List ℕ) (u : Unfolding) → Remains s o k tasks parts places → tasks ≡ [] → At s.forest.now s.cap s.counts.now o k u → AreWritten s.doc.now (read s.g.now s.doc.now s.forest.now o u) parts places
+  remains_none o k tasks parts places u remains empty at =
+      let end = read s.g.now s.doc.now s.forest.now o u in
+      goes_end s.g.now s.doc.now s.forest.now s.cap s.counts.now parts places end
+      (subst (λ (l : List Task). Goes s.g.now s.doc.now s.forest.now s.cap s.counts.now l parts places end) (ap reverse empty) (remains u at))

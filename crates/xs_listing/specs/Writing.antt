@@ -1,5 +1,6 @@
 -- What is still to be written of a derivation, and what one step of the writing does.
-use Rattle.std.specs.Prelude.{◌≡◌, ℕ, ◌-◌, ◌<◌, ◌≤◌, List, [], ◌∷◌, ◌++◌, length, take, drop, map, None, Some}
+use Rattle.std.specs.Prelude.{◌≡◌, ℕ, suc, ◌-◌, ◌^◌, ◌<◌, ◌≤◌, List, [], ◌∷◌, ◌++◌, length, take, drop, map, None, Some}
+use Rattle.std.specs.List.{sum_by}
 use Rattle.std.specs.declared.option.Option.{Option}
 use Rattle.xs_gram.specs.declared.parts.GItem.{GItem}
 use Rattle.xs_gram.specs.declared.parts.GItem.TheVariants.{Fixed, Term, Non, Skip as Ignored}
@@ -83,6 +84,16 @@ abbrev pub CanDo : Source → Task → ℕ → Type 0
 CanDo s (Visit r k) count = CanVisit s r k
 CanDo s (Word p d i j) count = (p < length s.g.now.rules) × (d < length (items s.g.now p))
 CanDo s (Close q n) count = n ≤ count
+
+-- How much a task is to do at most: a visit leaves two tasks, and those of them that are visits are of earlier rows.
+abbrev pub work : Task → ℕ
+work (Visit r k) = 3 ^ suc r
+work (Word p d i j) = 1
+work (Close q n) = 1
+
+-- how much the tasks are to do at most
+abbrev pub work_left : List Task → ℕ
+work_left tasks = sum_by work tasks
 
 -- the parts at the places are those of a derivation that are no fixed words, and the list is in order
 pub record AreWritten (w : List ℕ) (ps : Parts) (parts : List SpeltPart) (places : List ℕ) : Type 0 where

@@ -1,4 +1,4 @@
-ghost use Rattle.std.specs.Prelude.{◌≡◌, ℕ, ◌<◌, ◌≤◌, length, All, IfOk, OnOk};
+ghost use Rattle.std.specs.Prelude.{◌≡◌, ℕ, ◌<◌, ◌≤◌, ◌++◌, ◌∷◌, [], length, All, IfOk, OnOk};
 ghost use Rattle.xs_gram.specs.Grammar.{items};
 ghost use Rattle.xs_forest.specs.Rows.{IsEarlier};
 ghost use Rattle.xs_forest_laws.specs.declared.span.What.TheVariants.{Front};
@@ -6,11 +6,11 @@ ghost use Rattle.xs_forest_laws.specs.Forest.{IsRight, Unfolding, read};
 ghost use Rattle.xs_forest_laws.specs.Number.{count_of, At};
 ghost use Rattle.xs_tree.specs.Counts.{capped};
 ghost use Rattle.xs_listing.specs.Sizes.{spelt_count, word_count, size_at, last_count, IsSize, AreSizes};
-ghost use Rattle.xs_listing.specs.Writing.{IsSource, HasChild, CanDo};
+ghost use Rattle.xs_listing.specs.Writing.{IsSource, HasChild, CanDo, work_left};
 ghost use Rattle.xs_listing.specs.Owed.{IsCountedOff};
 
 use crate::rows::{alts_at, label_at};
-use crate::write::{Source, Task, push_child, visit};
+use crate::write::{Source, Task, first_tasks, visit};
 use std::alloc::Global;
 use xs_class::{Memory, Word};
 use xs_forest::{Alt, Forest};
@@ -100,6 +100,7 @@ fn count_task(source: &Source<'_, '_>, task: Task, tasks: &mut Vec<Task>) -> Res
     requires all { All (λ t. CanDo source.now t 0) tasks.old.items }
     ensures can { OnOk result (All (λ t. CanDo source.now t 0) tasks.new.items) }
     ensures counted { IfOk result (IsCountedOff source.now task tasks.old.items tasks.new.items) }
+    ensures less { OnOk result (work_left tasks.new.items < work_left (tasks.old.items ++ task ∷ [])) }
 {
     match task {
         Task::Visit { row, number: 0 } => Ok(source.sizes[row as usize]),
@@ -126,13 +127,9 @@ pub(crate) fn size_of(
     ensures { IfOk result (λ size. (u : Unfolding) → At source.now.forest.now source.now.cap source.now.counts.now child number u → size ≡ capped (spelt_count (read source.now.g.now source.now.doc.now source.now.forest.now child u))) }
 {
     let mut size: u64 = 0;
-    let mut tasks = Vec::new(alloc);
-    push_child(child, number, &mut tasks)?;
-    'tasks: for _ in 0..u64::MAX {
-        match tasks.pop() {
-            None => return Ok(size),
-            Some(task) => size = size.saturating_add(count_task(source, task, &mut tasks)?),
-        }
+    let mut tasks = first_tasks(alloc, child, number)?;
+    'tasks: while let Some(task) = tasks.pop() {
+        size = size.saturating_add(count_task(source, task, &mut tasks)?);
     }
-    Err(Memory)
+    Ok(size)
 }

@@ -95,11 +95,7 @@ fn write_node(rule: u32, from: u64, written: &mut Written) -> Result<(), Memory>
 }
 
 /// An unfolding of a child is to be written next.
-pub(crate) fn push_child(
-    child: Option<u64>,
-    number: u64,
-    tasks: &mut Vec<Task>,
-) -> Result<(), Memory>
+fn push_child(child: Option<u64>, number: u64, tasks: &mut Vec<Task>) -> Result<(), Memory>
     ensures { OnOk result (tasks.new.items ≡ tasks.old.items ++ child_task child number) }
 {
     match child {
@@ -109,6 +105,19 @@ pub(crate) fn push_child(
             Ok(())
         }
     }
+}
+
+/// An unfolding of a child is all that is to be written.
+pub(crate) fn first_tasks(
+    alloc: Global,
+    child: Option<u64>,
+    number: u64,
+) -> Result<Vec<Task>, Memory>
+    ensures { IfOk result (λ tasks. tasks.items ≡ child_task child number) }
+{
+    let mut tasks = Vec::new(alloc);
+    push_child(child, number, &mut tasks)?;
+    Ok(tasks)
 }
 
 /// What is to be written after the left child.
@@ -205,13 +214,9 @@ pub(crate) fn write_front(
         parts,
         places: Vec::new(alloc),
     };
-    let mut tasks = Vec::new(alloc);
-    push_child(front, number, &mut tasks)?;
-    'tasks: for _ in 0..u64::MAX {
-        match tasks.pop() {
-            None => return Ok(written),
-            Some(task) => perform(source, task, &mut tasks, &mut written)?,
-        }
+    let mut tasks = first_tasks(alloc, front, number)?;
+    'tasks: while let Some(task) = tasks.pop() {
+        perform(source, task, &mut tasks, &mut written)?;
     }
-    Err(Memory)
+    Ok(written)
 }

@@ -2,3 +2,4 @@ pub mod Slots
 mod Walking
 mod Listed
 mod Counting
+mod Ending

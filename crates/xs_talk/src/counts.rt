@@ -1,7 +1,7 @@
 ghost use Rattle.std.specs.Prelude.{◌≡◌, IfOk, OnOk};
 ghost use Rattle.xs_talk.specs.Counts.{counted, accepted_line as accepted_line_of, summary as summary_of};
 
-use itoa::Buffer;
+use crate::words::push_decimal;
 use std::alloc::Global;
 use xs_class::{Bytes, Memory, Side};
 use xs_pair::Two;
@@ -10,8 +10,7 @@ use xs_pair::Two;
 fn push_count(line: &mut Bytes, count: u64, text: &[u8]) -> Result<(), Memory>
     ensures { OnOk result (line.new ≡ counted line.old count text.now) }
 {
-    let mut digits = Buffer::new();
-    line.extend(digits.format(count).as_bytes())?;
+    push_decimal(line, count)?;
     line.extend(text)
 }
 

@@ -1,9 +1,8 @@
 ghost use Rattle.std.specs.Prelude.{◌≡◌, ◌++◌, IfOk, OnOk};
 ghost use Rattle.xs_talk.specs.Lines.{line as line_at, numbered as numbered_as, rule_words as words_of_rule, ill_line as line_of_ill, side_word as word_of_side, report_begin, shared, cut_at, cut_words, report_line};
 
-use crate::words::{push_quoted, push_three};
+use crate::words::{push_decimal, push_quoted, push_three};
 use crate::{Outcome, Report};
-use itoa::Buffer;
 use std::alloc::Global;
 use xs_class::{Bytes, Memory, Names, Side, Text, Word};
 use xs_pair::{Ill, IllRule};
@@ -15,9 +14,9 @@ const USAGE: &[u8] =
 fn push_numbered(out: &mut Bytes, before: &[u8], number: u64, after: &[u8]) -> Result<(), Memory>
     ensures { OnOk result (out.new ≡ out.old ++ numbered_as before.now number after.now) }
 {
-    let mut digits = Buffer::new();
-    let digits = digits.format(number).as_bytes();
-    push_three(out, before, digits, after)?;
+    out.extend(before)?;
+    push_decimal(out, number)?;
+    out.extend(after)?;
     Ok(())
 }
 

@@ -4,8 +4,7 @@ ghost use Rattle.xs_talk.specs.Derivations.{slot_text, slot_begin};
 ghost use Rattle.xs_talk.specs.Slots.{HasSlot, HasSlotNames, IsNamed};
 ghost use Rattle.xs_talk.specs.Walk.{IsSpelt, IsLineOf, label as label_of, IsOpened, CanWrite, IsWritten, HasKid, IsKidWritten, CanDo, IsDone};
 
-use crate::words::{push_quoted, push_three};
-use itoa::Buffer;
+use crate::words::{push_decimal, push_quoted, push_three};
 use std::alloc::Global;
 use xs_class::{Bytes, Memory, Side, Word};
 use xs_gram::GItem;
@@ -69,9 +68,8 @@ fn push_label(two: &Two, rule: u32, item: &GItem, out: &mut Bytes) -> Result<(),
 fn push_begin(rule: u32, out: &mut Bytes) -> Result<(), Memory>
     ensures { OnOk result (out.new ≡ out.old ++ (codes "(" ++ decimal (suc rule))) }
 {
-    let mut digits = Buffer::new();
     out.push(b'(')?;
-    out.extend(digits.format(u64::from(rule) + 1).as_bytes())?;
+    push_decimal(out, u64::from(rule) + 1)?;
     Ok(())
 }
 
@@ -182,14 +180,9 @@ pub fn tree_line(alloc: Global, two: &Two, tree: &Spelt, doc: &Word) -> Result<B
     let mut tasks = Vec::new(alloc);
     let root = tree.at(tree.len() - 1);
     push_part(alloc, two, doc, root, &mut tasks, &mut out)?;
-    'tasks: for _ in 0..u64::MAX {
-        match tasks.pop() {
-            None => {
-                out.push(b'\n')?;
-                return Ok(out);
-            }
-            Some(task) => perform(alloc, two, tree, doc, task, &mut tasks, &mut out)?,
-        }
+    'tasks: while let Some(task) = tasks.pop() {
+        perform(alloc, two, tree, doc, task, &mut tasks, &mut out)?;
     }
-    Err(Memory)
+    out.push(b'\n')?;
+    Ok(out)
 }

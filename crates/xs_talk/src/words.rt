@@ -1,7 +1,8 @@
-ghost use Rattle.std.specs.Prelude.{◌≡◌, ◌++◌, OnOk, encode_utf8_all, slice_get};
+ghost use Rattle.std.specs.Prelude.{◌≡◌, ◌++◌, OnOk, decimal, encode_utf8_all, slice_get};
 ghost use Rattle.std.specs.Option.{option_map};
 ghost use Rattle.xs_talk.specs.Words.{escaped, character, mark, mark_begin as mark_begin_of, symbol as symbol_of, shown, quoted};
 
+use itoa::Buffer;
 use std::alloc::Global;
 use xs_class::{Bytes, Memory, Names, Sym, Word};
 
@@ -19,6 +20,15 @@ pub fn push_three(out: &mut Bytes, first: &[u8], second: &[u8], third: &[u8]) ->
     out.extend(first)?;
     out.extend(second)?;
     out.extend(third)?;
+    Ok(())
+}
+
+/// Appends a number in decimal digits.
+pub fn push_decimal(out: &mut Bytes, number: u64) -> Result<(), Memory>
+    ensures { OnOk result (out.new ≡ out.old ++ decimal number) }
+{
+    let mut digits = Buffer::new();
+    out.extend(digits.format(number).as_bytes())?;
     Ok(())
 }
 

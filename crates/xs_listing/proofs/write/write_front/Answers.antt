@@ -1,42 +1,36 @@
-use Rattle.std.proofs.Common.{◌≡◌, ◌++◌, ◌∷◌, [], reverse, List, ℕ, sym, ◌∙◌, ap, subst, rules}
-use Rattle.xs_forest_laws.specs.Forest.{read}
-use Rattle.xs_listing.specs.declared.spelt.SpeltPart.{SpeltPart}
-use Rattle.xs_listing.specs.declared.write.Task.{Task}
-use Rattle.xs_listing.specs.Writing.{child_task}
-use Rattle.xs_listing.proofs.Walking.{Goes, rev_push, goes_end, some_unfolding, task_first, task_can, task_done}
+use Rattle.std.proofs.Common.{ap, arith, rules}
+use Rattle.xs_listing.specs.Writing.{work_left}
+use Rattle.xs_listing.proofs.Ending.{done_less}
+use Rattle.xs_listing.proofs.Walking.{remains_can, remains_first, remains_next, remains_none}
 use Rattle.xs_listing.proofs.write.write_front.Goals as goal
 
 pub tasks-init : goal.tasks-init
-tasks-init c u at =
-    let s = c.args.source.now in
-    let end = read s.g.now s.doc.now s.forest.now c.args.front u in
-    let first : c.push_child.new.tasks.items ≡ child_task c.args.front c.args.number = c.in_ok-push_child.ensures ∙ ap (λ (l : List Task). l ++ child_task c.args.front c.args.number) c.new-tasks.ensures.items in
-    let goes = task_first s c.requires.source c.args.front c.args.number c.push_child.new.tasks.items u c.requires.front c.requires.within first at in
-    subst (λ (l : List SpeltPart). Goes s.g.now s.doc.now s.forest.now s.cap s.counts.now (reverse c.push_child.new.tasks.items) l c.new.result.items end) (sym c.in_ok-parts.ensures.items)
-    (subst (λ (l : List ℕ). Goes s.g.now s.doc.now s.forest.now s.cap s.counts.now (reverse c.push_child.new.tasks.items) [] l end) (sym c.new.ensures.items) goes)
-
-pub returns-in-None : goal.returns-in-None
-returns-in-None c u at =
-    let s = c.args.source.now in
-    let end = read s.g.now s.doc.now s.forest.now c.args.front u in
-    let empty : c.tasks.tasks.items ≡ [] = search rules in
-    let none : reverse c.tasks.tasks.items ≡ [] = ap reverse empty in
-    goes_end s.g.now s.doc.now s.forest.now s.cap s.counts.now c.tasks.written.parts.items c.tasks.written.places.items end
-    (subst (λ (l : List Task). Goes s.g.now s.doc.now s.forest.now s.cap s.counts.now l c.tasks.written.parts.items c.tasks.written.places.items end) none (c.tasks.invariant u at))
+tasks-init c =
+    remains_first c.args.source.now c.requires.source c.args.front c.args.number c.in_ok-tasks.tasks.items
+    c.in_ok-parts.parts.items c.new.result.items c.requires.front c.requires.within c.in_ok-tasks.ensures
+    c.in_ok-parts.ensures.items c.new.ensures.items
 
 pub perform-requires-clause-can : goal.perform-requires-clause-can
 perform-requires-clause-can c =
-    let s = c.args.source.now in
-    let u = some_unfolding s c.requires.source c.args.front c.args.number c.requires.front c.requires.within in
-    let end = read s.g.now s.doc.now s.forest.now c.args.front u.0 in
-    let next : reverse c.tasks.tasks.items ≡ c.in-Some.task ∷ reverse c.pop.new.self.items = ap reverse c.in-Some.ensures.items ∙ rev_push c.pop.new.self.items c.in-Some.task in
-    let goes = subst (λ (l : List Task). Goes s.g.now s.doc.now s.forest.now s.cap s.counts.now l c.tasks.written.parts.items c.tasks.written.places.items end) next (c.tasks.invariant u.0 u.1) in
-    task_can s c.requires.source c.in-Some.task (reverse c.pop.new.self.items) c.tasks.written.parts.items c.tasks.written.places.items end goes
+    remains_can c.args.source.now c.requires.source c.args.front c.args.number c.tasks.tasks.items
+    c.pop.new.self.items c.in-Some.task c.tasks.written.parts.items c.tasks.written.places.items c.requires.front
+    c.requires.within c.tasks.invariant c.in-Some.ensures.items
 
 pub tasks-preserved : goal.tasks-preserved
-tasks-preserved c u at =
+tasks-preserved c =
+    remains_next c.args.source.now c.requires.source c.args.front c.args.number c.tasks.tasks.items
+    c.pop.new.self.items c.perform.new.tasks.items c.in-Some.task c.tasks.written.parts.items
+    c.perform.new.written.parts.items c.tasks.written.places.items c.perform.new.written.places.items
+    c.tasks.invariant c.in-Some.ensures.items c.in_ok-perform.ensures
+
+pub tasks-smaller : goal.tasks-smaller
+tasks-smaller c =
     let s = c.args.source.now in
-    let end = read s.g.now s.doc.now s.forest.now c.args.front u in
-    let next : reverse c.tasks.tasks.items ≡ c.in-Some.task ∷ reverse c.pop.new.self.items = ap reverse c.in-Some.ensures.items ∙ rev_push c.pop.new.self.items c.in-Some.task in
-    let goes = subst (λ (l : List Task). Goes s.g.now s.doc.now s.forest.now s.cap s.counts.now l c.tasks.written.parts.items c.tasks.written.places.items end) next (c.tasks.invariant u at) in
-    task_done s c.requires.source c.in-Some.task c.pop.new.self.items c.perform.new.tasks.items c.tasks.written.parts.items c.perform.new.written.parts.items c.tasks.written.places.items c.perform.new.written.places.items end goes c.in_ok-perform-in-Some.ensures
+    let can = remains_can s c.requires.source c.args.front c.args.number c.tasks.tasks.items c.pop.new.self.items c.in-Some.task c.tasks.written.parts.items c.tasks.written.places.items c.requires.front c.requires.within c.tasks.invariant c.in-Some.ensures.items in
+    let less = done_less s c.requires.source c.in-Some.task c.pop.new.self.items c.perform.new.tasks.items c.tasks.written.parts.items c.perform.new.written.parts.items c.tasks.written.places.items c.perform.new.written.places.items can c.in_ok-perform.ensures in
+    omega (arith, less, ap work_left c.in-Some.ensures.items)
+
+pub returns : goal.returns
+returns c u at =
+    remains_none c.args.source.now c.requires.source c.args.front c.args.number c.tasks.tasks.items
+    c.tasks.written.parts.items c.tasks.written.places.items u c.tasks.invariant (search rules) at

@@ -1,5 +1,6 @@
 use Rattle.std.proofs.Common.{◌-◌, sym, ◌∙◌, ap, rules, arith}
 use Rattle.std.specs.Prelude.{slice_get}
+use Rattle.xs_talk.proofs.Ending.{done_less, steps_left}
 use Rattle.xs_talk.proofs.Walking.{spelt_long, root_can, remains_first, remains_next, remains_none, next_can}
 use Rattle.xs_talk.proofs.walk.tree_line.Goals as goal
 
@@ -29,9 +30,16 @@ pub tasks-preserved : goal.tasks-preserved
 tasks-preserved c =
     remains_next c.args.two.now c.args.doc.now c.args.tree.now c.requires.names
     c.tasks.tasks.items c.pop.new.self.items c.perform.new.tasks.items c.in-Some.task c.tasks.out c.perform.new.out
-    c.tasks.invariant c.in-Some.ensures.items c.in_ok-perform-in-Some.ensures
+    c.tasks.invariant c.in-Some.ensures.items c.in_ok-perform.ensures
 
-pub returns-in-None : goal.returns-in-None
-returns-in-None c =
+pub tasks-smaller : goal.tasks-smaller
+tasks-smaller c =
+    let two = c.args.two.now in
+    let tree = c.args.tree.now in
+    let less = done_less two tree c.args.doc.now c.requires.spelt.2.in_order c.in-Some.task c.pop.new.self.items c.perform.new.tasks.items c.tasks.out c.perform.new.out c.in_ok-perform.ensures in
+    omega (arith, less, ap (steps_left two tree) c.in-Some.ensures.items)
+
+pub returns : goal.returns
+returns c =
     remains_none c.args.two.now c.args.doc.now c.args.tree.now c.tasks.tasks.items c.tasks.out c.push.new.self
-    c.tasks.invariant (search rules) c.in_ok-push-in-None.ensures.ok
+    c.tasks.invariant (search rules) c.in_ok-push.ensures.ok
