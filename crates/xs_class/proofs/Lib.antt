@@ -7,3 +7,4 @@ pub mod Places
 pub mod Sets
 pub mod TableLaws
 pub mod Truth
+pub mod Words

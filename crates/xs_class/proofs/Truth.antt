@@ -1,6 +1,6 @@
 -- Tests that come out true or false.
 use Rattle.std.proofs.lemmas.Bool.Decides.{nat_tests}
-use Rattle.std.proofs.Common.{nat_le, nat_lt, arith, ◌≤◌, ◌<◌, ◌≡◌, ℕ, true, false, Bool, not, ◌&&◌, ◌||◌, ◌==◌, refl, ap, eqb-true}
+use Rattle.std.proofs.Common.{nat_le, nat_lt, arith, ◌≤◌, ◌<◌, ◌≡◌, ℕ, true, false, Bool, not, ◌&&◌, ◌||◌, ◌==◌, refl, ap, eqb-true, if◌then◌else◌}
 
 pub and_true : (a b : Bool) → (a && b) ≡ true → (a ≡ true) × (b ≡ true)
 and_true true b is = (refl, is)
@@ -37,7 +37,18 @@ is_not a is = rw is refl
 pub false_true : false ≡ true → ⊥
 false_true e = cc
 
+pub if_true : {A : Type 0} (b : Bool) (x y : A) → b ≡ true → (if b then x else y) ≡ x
+if_true true x y e = refl
+if_true false x y e = cc
+
+pub if_false : {A : Type 0} (b : Bool) (x y : A) → b ≡ false → (if b then x else y) ≡ y
+if_false true x y e = cc
+if_false false x y e = refl
+
 -- tests of numbers
+pub eq_self : (x : ℕ) → (x == x) ≡ true
+eq_self x = grind (arith, nat_tests)
+
 pub le_is : (a b : ℕ) → nat_le a b ≡ true → a ≤ b
 le_is a b is = grind (arith, nat_tests)
 

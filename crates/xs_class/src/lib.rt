@@ -20,12 +20,12 @@ mod word;
 
 pub use bytes::Bytes;
 pub use class::Class;
-pub use listed::Listed;
+pub use listed::{Listed, empty_lists};
 pub use memory::Memory;
 pub use named::NameFault;
 pub use names::Names;
 pub use side::Side;
 pub use sym::{ATTR_END, STRANGE, Sym};
 pub use tables::{is_char, is_name_char, is_name_start};
-pub use text::Text;
+pub use text::{Text, letters, word_of};
 pub use word::Word;

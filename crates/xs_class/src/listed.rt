@@ -1,4 +1,4 @@
-ghost use Rattle.std.specs.Prelude.{◌≡◌, ◌<◌, ◌↔◌, [], ◌∷◌, ◌++◌, length, slice_get, IsTrue, OnOk, OnErr};
+ghost use Rattle.std.specs.Prelude.{◌≡◌, ◌<◌, ◌↔◌, ℕ, [], ◌∷◌, ◌++◌, length, slice_get, slice_index_or, IsTrue, IfOk, OnOk, OnErr};
 
 use crate::Memory;
 use std::alloc::Global;
@@ -81,4 +81,16 @@ impl<T: Drop> Listed<T> {
         self.all.push(element)?;
         Ok(())
     }
+}
+
+/// That many empty lists, which take no memory of their own.
+pub fn empty_lists<T: Drop>(alloc: Global, count: usize) -> Result<Vec<Listed<T>>, Memory>
+    ensures counted { IfOk result (λ lists. length lists.items ≡ count) }
+    ensures empty { IfOk result (λ lists. (k : ℕ) → slice_index_or lists.items k [] ≡ []) }
+{
+    let mut lists = Vec::with_capacity(alloc, count)?;
+    'lists: for _ in 0..count {
+        lists.push(Listed::new(alloc))?;
+    }
+    Ok(lists)
 }

@@ -2,7 +2,7 @@ ghost use Rattle.std.specs.Prelude.{◌≡◌, IfOk, IfErr, IsNone, IsSomeAnd};
 ghost use Rattle.std.specs.Str.{chars};
 ghost use Rattle.xs_class.specs.Named.{set_named, HasMembersOf};
 
-use crate::{Class, Memory};
+use crate::{Class, Memory, letters};
 use std::alloc::{AllocError, Global};
 use unicode::sets::{Set, by_name, normalize};
 
@@ -51,13 +51,6 @@ impl Class {
             Err(_) => Err(NameFault::NoSuchClass),
         }
     }
-}
-
-/// The characters of the name.
-fn letters(alloc: Global, name: &str) -> Result<Vec<char>, AllocError>
-    ensures { IfOk result (λ v. v.items ≡ chars name.now) }
-{
-    name.chars().collect(alloc)
 }
 
 /// The class of the members of the set.

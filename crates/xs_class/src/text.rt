@@ -1,7 +1,8 @@
-ghost use Rattle.std.specs.Prelude.{◌≡◌, [], ◌∷◌, ◌++◌, length, OnOk, OnErr, IfOk, encode_utf8_all};
+ghost use Rattle.std.specs.Prelude.{◌≡◌, ◌<◌, true, [], ◌∷◌, ◌++◌, length, nat_lt, OnOk, OnErr, IfOk, encode_utf8_all};
+ghost use Rattle.std.specs.List.{list_all};
 ghost use Rattle.std.specs.Str.{chars};
 
-use crate::Memory;
+use crate::{Memory, Sym, Word};
 use std::alloc::Global;
 use std::marker::Model;
 
@@ -55,6 +56,36 @@ impl Text {
         Ok(())
     }
 
+    /// Appends the characters of a string.
+    pub fn push_str(&mut self, piece: &str) -> Result<(), Memory>
+        ensures { OnOk result (self.new ≡ self.old ++ chars piece.now) }
+    {
+        self.text.push_str(piece)?;
+        Ok(())
+    }
+
+    /// Appends ASCII characters.
+    pub fn push_ascii(&mut self, word: &str) -> Result<(), Memory>
+        requires { list_all (λ b. nat_lt b 128) word.now ≡ true }
+        ensures { OnOk result (self.new ≡ self.old ++ word.now) }
+    {
+        self.push_str(word)
+    }
+
+    /// Appends a text.
+    pub fn push_text(&mut self, text: &Text) -> Result<(), Memory>
+        ensures { OnOk result (self.new ≡ self.old ++ text.now) }
+    {
+        self.push_str(text.as_str())
+    }
+
+    /// The UTF-8 of the characters, without memory.
+    pub fn into_bytes(self) -> Vec<u8>
+        ensures { result.items ≡ encode_utf8_all self }
+    {
+        self.text.into_bytes()
+    }
+
     /// The UTF-8 of the characters.
     pub fn as_str(&self) -> &str
         ensures spelled { result.now ≡ encode_utf8_all self.now }
@@ -69,4 +100,23 @@ impl Text {
     {
         self.text.as_str().chars().count()
     }
+}
+
+/// The characters of a string.
+pub fn letters(alloc: Global, text: &str) -> Result<Vec<char>, Memory>
+    ensures { IfOk result (λ v. v.items ≡ chars text.now) }
+{
+    Ok(text.chars().collect(alloc)?)
+}
+
+/// The word of a text's characters.
+pub fn word_of(alloc: Global, text: &Text) -> Result<Word, Memory>
+    ensures { IfOk result (λ w. w ≡ text.now) }
+{
+    let letters = letters(alloc, text.as_str())?;
+    let mut word = Word::new(alloc);
+    'letters: for letter in &letters {
+        word.push(Sym::of_char(*letter))?;
+    }
+    Ok(word)
 }

@@ -1,6 +1,6 @@
 use Rattle.std.proofs.Common.{rules}
 use Rattle.std.proofs.lemmas.Str.{chars_from_encodes}
-use Rattle.xs_class.proofs.named.letters.Goals as goal
+use Rattle.xs_class.proofs.text.letters.Goals as goal
 
 pub returns : goal.returns
 returns c = search (rules, chars_from_encodes)

@@ -1,0 +1,5 @@
+use Rattle.xs_class.proofs.Chars.{ascii_chars}
+use Rattle.xs_class.proofs.text.Text.push_ascii.Goals as goal
+
+pub returns : goal.returns
+returns c = rw (← ascii_chars c.args.word.now c.requires) c.push_str.ensures
