@@ -31,6 +31,13 @@ copies() {
   printf '%*s' "$2" '' | sed "s: :$1:g"
 }
 
+# nest COUNT: an a in that many parentheses, a document of bench/nested.xsugar.
+nest() {
+  copies '(' "$1"
+  printf a
+  copies ')' "$1"
+}
+
 # heaviest: a sheet whose production weighs 8,192 on its text side, the most that is accepted.
 heaviest() {
   local items='' number
