@@ -1,10 +1,11 @@
-ghost use Rattle.std.specs.Prelude.{◌≡◌, ◌≤◌, ◌<◌, length, take, IfOk, OnOk, OnErr, IfSome, IfNone, MatchResult};
+ghost use Rattle.std.specs.Prelude.{◌≡◌, ◌≤◌, ◌<◌, length, take, IfOk, OnOk, OnErr, IfSome, IfNone, MatchResult, Some, None};
 ghost use Rattle.std.specs.Io.{ReadsAtMost, WritesAtMost};
 ghost use Rattle.std.specs.Io.KnownBytes.{Appends, Consumes, IsAtEnd, Keeps, ReadConsumes, WriteAppends};
 ghost use Rattle.xs_io.specs.CallLog.{one_more};
 ghost use Rattle.xs_io.specs.Causes.{HasCause};
 ghost use Rattle.xs_io.specs.Shown.{StandIn, NameFailed};
 
+use crate::device::PIECE;
 use crate::{Failed, Shelf, Sink, Source};
 use std::io::{ErrorKind, Read, Seek, SeekFrom, Write};
 use std::rt::Files;
@@ -12,9 +13,6 @@ use std::{fs, io};
 
 /// How often one call is tried again where a signal interrupts it.
 const RETRIES: u32 = 1_000;
-
-/// How many bytes one read moves at most.
-const PIECE: usize = 4_096;
 
 /// One read, tried again while it is interrupted. `None` is a failure.
 fn read_again<R: Read>(reader: &mut R, buf: &mut [u8]) -> Option<usize>
@@ -39,6 +37,8 @@ fn read_again<R: Read>(reader: &mut R, buf: &mut [u8]) -> Option<usize>
 }
 
 /// One read through a piece of its own: a reader that fails may leave anything in what it was given.
+/// Never inlined, so that the piece stands on the stack for this call alone.
+#[inline(never)]
 fn read_whole<R: Read>(reader: &mut R, buf: &mut [u8]) -> Option<usize>
     requires { 0 < length buf.old }
     ensures bound { IfSome result (λ n. n ≤ length buf.new) }
@@ -75,6 +75,22 @@ fn write_again<W: Write>(writer: &mut W, piece: &[u8]) -> Option<usize>
         }
     }
     None
+}
+
+/// The answer of a call of which `None` is a failure: the count of faults then rises.
+fn counted(moved: Option<usize>, faults: &mut u64) -> Result<usize, Failed>
+    ensures cases { MatchResult result (λ n. moved ≡ Some n) (λ _. moved ≡ None) }
+    ensures cause { HasCause faults.old faults.new result }
+    ensures faults { MatchResult result (λ _. faults.new ≡ faults.old)
+        (λ _. faults.new ≡ one_more faults.old) }
+{
+    match moved {
+        Some(count) => Ok(count),
+        None => {
+            *faults = faults.saturating_add(1);
+            Err(Failed)
+        }
+    }
 }
 
 /// A source over a reader, such as the standard input.
@@ -118,13 +134,7 @@ impl<R: Read> Source for FromReader<R> {
         ensures faults { MatchResult result (λ _. reader_faults self.new ≡ reader_faults self.old)
             (λ _. reader_faults self.new ≡ one_more (reader_faults self.old)) }
     {
-        match read_whole(&mut self.reader, buf) {
-            Some(count) => Ok(count),
-            None => {
-                self.faults = self.faults.saturating_add(1);
-                Err(Failed)
-            }
-        }
+        counted(read_whole(&mut self.reader, buf), &mut self.faults)
     }
 }
 
@@ -171,13 +181,7 @@ impl<W: Write> Sink for ToWriter<W> {
         ensures faults { MatchResult result (λ _. writer_faults self.new ≡ writer_faults self.old)
             (λ _. writer_faults self.new ≡ one_more (writer_faults self.old)) }
     {
-        match write_again(&mut self.writer, piece) {
-            Some(count) => Ok(count),
-            None => {
-                self.faults = self.faults.saturating_add(1);
-                Err(Failed)
-            }
-        }
+        counted(write_again(&mut self.writer, piece), &mut self.faults)
     }
 }
 
@@ -219,7 +223,6 @@ impl<'r, R: Files> DirShelf<'r, R> {
 }
 
 impl<'r, R: Files> Shelf for DirShelf<'r, R> {
-    ghost use Rattle.std.specs.Prelude.{None};
     ghost use Rattle.xs_io.specs.Adapters.{dir_faults, dir_name_faults};
 
     ghost files = { λ _. None };
@@ -250,12 +253,6 @@ impl<'r, R: Files> Shelf for DirShelf<'r, R> {
             name,
             at,
         };
-        match read_whole(&mut file, buf) {
-            Some(count) => Ok(count),
-            None => {
-                self.faults = self.faults.saturating_add(1);
-                Err(Failed)
-            }
-        }
+        counted(read_whole(&mut file, buf), &mut self.faults)
     }
 }

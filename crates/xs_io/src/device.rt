@@ -5,6 +5,9 @@ ghost use Rattle.std.specs.Io.KnownBytes.{ReadConsumes, WriteAppends};
 ghost use Rattle.xs_io.specs.Causes.{HasCause};
 ghost use Rattle.xs_io.specs.Shown.{Files, StandIn, NameFailed};
 
+/// How many bytes one read asks for at most, and moves at most.
+pub(crate) const PIECE: usize = 65_536;
+
 /// A call of a device failed. It took or gave nothing, left the caller's buffer as it was, and the
 /// device's count of faults rose: it is greater after the call than before, or stands at 2^64 - 1.
 #[derive(Clone, Copy, Debug, PartialEq, Eq)]

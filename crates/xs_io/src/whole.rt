@@ -4,6 +4,7 @@ ghost use Rattle.xs_io.specs.Causes.{Rose};
 ghost use Rattle.xs_io.specs.Whole.{Drains, Exceeds, TakesAtMost};
 ghost use Rattle.xs_io.specs.Shown.{IsFile, IsLongFile, NameFailed, Touches};
 
+use crate::device::PIECE;
 use crate::{Failed, Shelf, Sink, Source};
 use std::alloc::Global;
 use xs_class::{Bytes, Memory};
@@ -46,9 +47,6 @@ impl From<Failed> for ReadStop {
 pub struct WriteFault {
     pub written: u64,
 }
-
-/// How many bytes a read asks for at most.
-const PIECE: usize = 65_536;
 
 /// A buffer of that many bytes, all 0.
 fn buffer(alloc: Global, len: usize) -> Result<Vec<u8>, Memory>
