@@ -9,6 +9,7 @@ use crate::marks::{Guesses, closing_mark, opening_mark};
 use crate::pieces::Event;
 use crate::runs::{bare_run, equal, white};
 use crate::sorted::push_attributes;
+use crate::values::Value;
 use std::alloc::Global;
 use std::collections::BTreeMap;
 use xs_class::{Memory, Names, Sym, Word};
@@ -57,10 +58,10 @@ fn push_opening(
     alloc: Global,
     names: &Names,
     name: &[Sym],
-    attributes: BTreeMap<String, Word>,
+    attributes: BTreeMap<String, Value<'_>>,
 ) -> Result<(), Memory>
     requires { is_name name.now ≡ true }
-    ensures { OnOk result (word.new ≡ word.old ++ opening names.now name.now ∷ entry_symbols names.now (shown_entries attributes)) }
+    ensures { OnOk result (word.new ≡ word.old ++ opening names.now name.now ∷ entry_symbols names.now (shown_entries attributes.entry)) }
 {
     let place = guesses.place(alloc, names, name)?;
     word.push(opening_mark(place))?;
@@ -187,10 +188,10 @@ impl<'a> Reader<'a> {
         alloc: Global,
         names: &Names,
         name: &'a [Sym],
-        attributes: BTreeMap<String, Word>,
+        attributes: BTreeMap<String, Value<'a>>,
     ) -> Result<bool, Memory>
         requires { is_name name.now ≡ true }
-        ensures { IfOk result (λ b. taken b (state_of self.new) ≡ step names.now (state_of self.old) (begins name.now (shown_entries attributes))) }
+        ensures { IfOk result (λ b. taken b (state_of self.new) ≡ step names.now (state_of self.old) (begins name.now (shown_entries attributes.entry))) }
     {
         if self.names.is_empty() && self.ended {
             return Ok(false);
@@ -215,10 +216,10 @@ impl<'a> Reader<'a> {
         alloc: Global,
         names: &Names,
         name: &'a [Sym],
-        attributes: BTreeMap<String, Word>,
+        attributes: BTreeMap<String, Value<'a>>,
     ) -> Result<bool, Memory>
         requires { is_name name.now ≡ true }
-        ensures { IfOk result (λ b. taken b (state_of self.new) ≡ step names.now (state_of self.old) (stands name.now (shown_entries attributes))) }
+        ensures { IfOk result (λ b. taken b (state_of self.new) ≡ step names.now (state_of self.old) (stands name.now (shown_entries attributes.entry))) }
     {
         if self.names.is_empty() {
             if self.ended {
