@@ -1,25 +1,20 @@
 -- A value read part by part.
-use Rattle.std.proofs.Common.{◌≡◌, ℕ, zero, suc, ◌≤◌, ◌<◌, List, [], ◌∷◌, ◌++◌, append-nil, append_assoc, length, Bool, true, false, ◌==◌, ◌&&◌, if◌then◌else◌, Some, None, refl, sym, ◌∙◌, ap, subst, arith}
+use Rattle.std.proofs.Common.{◌≡◌, ◌⊎◌, inl, inr, ℕ, zero, suc, ◌≤◌, ◌<◌, List, [], ◌∷◌, ◌++◌, append-nil, append_assoc, length, Bool, true, false, not, ◌==◌, ◌&&◌, ◌||◌, if◌then◌else◌, Some, None, refl, sym, ◌∙◌, ap, subst, arith}
 use Rattle.std.specs.declared.option.Option.{Option}
 use Rattle.std.specs.Option.{option_map}
 use Rattle.std.proofs.lemmas.Bool.Decides.{nat_tests}
-use Rattle.xs_xml.specs.Tables.{is_white}
+use Rattle.xs_xml.specs.Tables.{is_char, is_white}
 use Rattle.xs_xml.specs.Piece.{Bit, plain, ref, spelt_bit}
 use Rattle.xs_xml.specs.Reads.{value}
-use Rattle.xs_xml.specs.Scan.{bit_at, bits_at}
+use Rattle.xs_xml.specs.Scan.{span, bit_at, bits_at}
 use Rattle.xs_xml.proofs.Tags.{bit_long}
 use Rattle.xs_xml.proofs.TagSoundness.{bit_is}
+use Rattle.xs_xml.proofs.Reading.{white_cases}
 use Rattle.xs_form.specs.declared.values.ValuePart.{ValuePart}
-use Rattle.xs_form.specs.Values.{part_of, kept_part, part_symbols, is_return, is_written, all_written}
+use Rattle.xs_form.specs.declared.values.ValuePart.TheVariants.{Written}
+use Rattle.xs_form.specs.Values.{part_of, kept_part, part_symbols, is_return, is_written, all_written, is_kept, IsSoFar}
 use Rattle.xs_class.proofs.Lists.{some_inj}
-
--- what was read, and what is left, are the whole value
-pub record IsSoFar (q : ℕ) (text word : List ℕ) (cr written : Bool) (rest : List ℕ) : Type 0 where
-  pub fuel : ℕ
-  pub room : length rest ≤ fuel
-  pub value_is : value false (bits_at (length text) q text).0 ≡ word ++ value cr (bits_at fuel q rest).0
-  pub written_is : all_written (bits_at (length text) q text).0 ≡ (written && all_written (bits_at fuel q rest).0)
-  pub rest_is : (bits_at (length text) q text).1 ≡ (bits_at fuel q rest).1
+use Rattle.xs_class.proofs.Truth.{and_true, or_false, not_true}
 
 pub so_far_begins : (q : ℕ) (text : List ℕ) → IsSoFar q text [] false true text
 so_far_begins q text = record { fuel = length text; room = omega arith; value_is = refl; written_is = refl; rest_is = refl }
@@ -98,3 +93,62 @@ so_far_ends q text word cr written rest so is = by (bit_at q rest) refl is
           sym (so.written_is ∙ ap (λ (x : List Bit × List ℕ). written && all_written x.0) none ∙ and_true_right written),
           sym (so.rest_is ∙ ap (λ (x : List Bit × List ℕ). x.1) none),
         )
+
+-- a run of characters that stand for themselves
+pub kept_letter : (q c : ℕ) → (c == q) ≡ false → 60 < c → c < 55296 → true ≡ is_kept q c
+unfolding is_char
+kept_letter q c other above below = rw other (grind (arith, nat_tests))
+
+record IsKept (q c : ℕ) : Type 0 where
+  other : (c == q) ≡ false
+  char : is_char c ≡ true
+  no_tag : (c == 60) ≡ false
+  no_reference : (c == 38) ≡ false
+  no_tab : (c == 9) ≡ false
+  no_feed : (c == 10) ≡ false
+  no_return : (c == 13) ≡ false
+
+kept_parts : (q c : ℕ) → is_kept q c ≡ true → IsKept q c
+kept_parts q c is =
+    let o = and_true (not (c == q)) (is_char c && not (c == 60 || (c == 38 || (c == 9 || (c == 10 || c == 13))))) is in
+    let p = and_true (is_char c) (not (c == 60 || (c == 38 || (c == 9 || (c == 10 || c == 13))))) o.1 in
+    let a = or_false (c == 60) (c == 38 || (c == 9 || (c == 10 || c == 13))) (not_true (c == 60 || (c == 38 || (c == 9 || (c == 10 || c == 13)))) p.1) in
+    let b = or_false (c == 38) (c == 9 || (c == 10 || c == 13)) a.1 in
+    let d = or_false (c == 9) (c == 10 || c == 13) b.1 in
+    let e = or_false (c == 10) (c == 13) d.1 in
+    record { other = not_true (c == q) o.0; char = p.0; no_tag = a.0; no_reference = b.0; no_tab = d.0; no_feed = e.0; no_return = e.1 }
+
+kept_at : (q c : ℕ) (cs : List ℕ) → IsKept q c → Some (Written c, cs) ≡ option_map kept_part (bit_at q (c ∷ cs))
+kept_at q c cs is = rw (is.no_reference, is.char, is.no_tag, is.other) refl
+
+kept_symbol : (q c : ℕ) → IsKept q c → part_symbols false (Written c) ≡ c ∷ []
+kept_symbol q c is = rw (is.no_feed) (ap (λ (x : ℕ). x ∷ []) (by (is_white c) refl))
+  where
+    of : ((c ≡ 9) ⊎ (c ≡ 10)) ⊎ ((c ≡ 13) ⊎ (c ≡ 32)) → 32 ≡ c
+    of (inl (inl e)) = absurd (grind (arith, nat_tests, is.no_tab, e))
+    of (inl (inr e)) = absurd (grind (arith, nat_tests, is.no_feed, e))
+    of (inr (inl e)) = absurd (grind (arith, nat_tests, is.no_return, e))
+    of (inr (inr e)) = sym e
+
+    by : (t : Bool) → is_white c ≡ t → (if t then 32 else c) ≡ c
+    by true e = of (white_cases c e)
+    by false e = refl
+
+module _ (q : ℕ) (text : List ℕ) where
+  one_kept : (c : ℕ) (cs w : List ℕ) → is_kept q c ≡ true → IsSoFar q text w false true (c ∷ cs) → IsSoFar q text (w ++ c ∷ []) false true cs
+  one_kept c cs w is so =
+      let k = kept_parts q c is in
+      let next = so_far_more q text w false true (c ∷ cs) cs (Written c) so (kept_at q c cs k) in
+      let here : IsSoFar q text (w ++ part_symbols false (Written c)) false true cs = subst (λ (t : Bool). IsSoFar q text (w ++ part_symbols false (Written c)) t true cs) k.no_return next in
+      subst (λ (x : List ℕ). IsSoFar q text (w ++ x) false true cs) (kept_symbol q c k) here
+
+  pub kept_run : (rest w : List ℕ) → IsSoFar q text w false true rest → IsSoFar q text (w ++ (span (is_kept q) rest).0) false true (span (is_kept q) rest).1
+  kept_run [] w so = subst (λ (x : List ℕ). IsSoFar q text x false true []) (sym (append-nil w)) so
+  kept_run (c ∷ cs) w so = by (is_kept q c) refl (λ (next : IsSoFar q text (w ++ c ∷ []) false true cs). kept_run cs (w ++ c ∷ []) next)
+    where
+      by : (t : Bool) → is_kept q c ≡ t → (IsSoFar q text (w ++ c ∷ []) false true cs → IsSoFar q text ((w ++ c ∷ []) ++ (span (is_kept q) cs).0) false true (span (is_kept q) cs).1) → IsSoFar q text (w ++ (if◌then◌else◌ {A = List ℕ × List ℕ} t (c ∷ (span (is_kept q) cs).0, (span (is_kept q) cs).1) ([], c ∷ cs)).0) false true (if◌then◌else◌ {A = List ℕ × List ℕ} t (c ∷ (span (is_kept q) cs).0, (span (is_kept q) cs).1) ([], c ∷ cs)).1
+      by true is again = subst (λ (x : List ℕ). IsSoFar q text x false true (span (is_kept q) cs).1) (append_assoc w (c ∷ []) (span (is_kept q) cs).0) (again (one_kept c cs w is so))
+      by false is again = subst (λ (x : List ℕ). IsSoFar q text x false true (c ∷ cs)) (sym (append-nil w)) so
+
+pub run_so_far : (q : ℕ) (text run rest : List ℕ) → (run, rest) ≡ span (is_kept q) text → IsSoFar q text run false true rest
+run_so_far q text run rest is = subst (λ (r : List ℕ × List ℕ). IsSoFar q text r.0 false true r.1) (sym is) (kept_run q text text [] (so_far_begins q text))

@@ -7,7 +7,7 @@ use Rattle.xs_xml.specs.Piece as piece
 use Rattle.xs_xml.specs.Piece.{is_name, are_attributes}
 use Rattle.xs_xml.specs.Reads.{value}
 use Rattle.xs_xml.specs.Scan.{span, after, ◌>>=◌, attrs_at}
-use Rattle.xs_form.specs.Values.{all_written}
+use Rattle.xs_form.specs.Values.{all_written, value_symbols, value_written}
 use Rattle.xs_form.specs.declared.attributes.Attribute.{Attribute}
 use Rattle.xs_form.specs.declared.attributes.Head.{Head as CodeHead}
 use Rattle.xs_class.specs.Words.{is_empty}
@@ -22,7 +22,7 @@ abbrev pub held : piece.Attribute → Held
 held a = record { name = a.name; symbols = value false a.value; written = all_written a.value }
 
 abbrev pub shown : Attribute → Held
-shown a = record { name = a.name.now; symbols = a.value.symbols; written = a.value.written }
+shown a = record { name = a.name.now; symbols = value_symbols a.value; written = value_written a.value }
 
 abbrev pub kept_attribute : piece.Attribute × List ℕ → Held × List ℕ
 kept_attribute r = (held r.0, r.1)

@@ -12,7 +12,7 @@ use xs_class::{Memory, Sym};
 #[derive(Drop)]
 pub struct Attribute<'a> {
     pub name: &'a [Sym],
-    pub value: Value,
+    pub value: Value<'a>,
 }
 
 /// The name of an attribute, the quote that its value stands between, and the text from there on.

@@ -1,10 +1,12 @@
-ghost use Rattle.std.specs.Prelude.{◌≡◌, true, ◌++◌, IfOk, OnOk, encode_utf8, encode_utf8_all};
+ghost use Rattle.std.specs.Prelude.{◌≡◌, ◌<◌, true, ◌++◌, IsTrue, IfOk, IfSome, OnOk, encode_utf8, encode_utf8_all};
 ghost use Rattle.std.specs.Char.{IsScalar};
 ghost use Rattle.std.specs.Str.{chars};
 ghost use Rattle.std.specs.String.{string_bytes};
 ghost use Rattle.xs_xml.specs.Tables.{is_name_char};
-ghost use Rattle.xs_xml.specs.Piece.{all_of};
-ghost use Rattle.xs_xml.specs.Reads.{opening, attribute, closing};
+ghost use Rattle.xs_class.specs.Marks as mark;
+ghost use Rattle.xs_class.specs.Ordered.{place_of};
+ghost use Rattle.xs_xml.specs.Piece.{all_of, is_name};
+ghost use Rattle.xs_xml.specs.Reads.{marked};
 
 use std::alloc::Global;
 use xs_class::{Memory, Names, STRANGE, Sym};
@@ -32,32 +34,136 @@ pub fn spelled(alloc: Global, name: &[Sym]) -> Result<String, Memory>
     Ok(text)
 }
 
-/// The mark that opens an element of this name.
-pub fn opening_mark(names: &Names, name: &str) -> Sym
-    ensures { result ≡ opening names.now (chars name.now) }
+/// Whether the text is this name in ASCII. A name with other characters is not looked at.
+fn is_ascii_name(name: &[Sym], text: &str) -> bool
+    ensures { IsTrue result → text.now ≡ encode_utf8_all name.now }
 {
-    match names.place(name) {
-        Some(k) if k < names.len() => Sym::opening(k),
-        _ => STRANGE,
+    let mut rest = text.as_bytes();
+    'symbols: for symbol in name {
+        match rest {
+            [] => return false,
+            [first, others @ ..] => {
+                if *first >= 128 || symbol.number() != u32::from(*first) {
+                    return false;
+                }
+                rest = others;
+            }
+        }
+    }
+    rest.is_empty()
+}
+
+/// The place of the name that is this text.
+pub fn place_of_text(names: &Names, text: &str) -> Option<u32>
+    ensures value { result ≡ place_of names.now (chars text.now) }
+    ensures few { IfSome result (λ k. k < 65536) }
+{
+    match names.place(text) {
+        Some(k) if k < names.len() => Some(k),
+        _ => None,
     }
 }
 
-/// The mark that begins an attribute of this name.
-pub fn attribute_mark(names: &Names, name: &str) -> Sym
-    ensures { result ≡ attribute names.now (chars name.now) }
+/// The place of the name in the list, by its UTF-8.
+fn looked_up(alloc: Global, names: &Names, name: &[Sym]) -> Result<Option<u32>, Memory>
+    requires { is_name name.now ≡ true }
+    ensures value { IfOk result (λ o. o ≡ place_of names.now name.now) }
+    ensures few { IfOk result (λ o. IfSome o (λ k. k < 65536)) }
 {
-    match names.place(name) {
-        Some(k) if k < names.len() => Sym::attribute(k),
-        _ => STRANGE,
+    let text = spelled(alloc, name)?;
+    Ok(place_of_text(names, text.as_str()))
+}
+
+/// How many places are kept.
+const KEPT: usize = 64;
+
+/// A number below `KEPT` that is made of the name.
+fn slot_of(name: &[Sym]) -> usize {
+    match name {
+        [] => 0,
+        [first, rest @ ..] => {
+            let last = match rest {
+                [] => 0,
+                [.., last] => last.number(),
+            };
+            let ends = first.number().wrapping_add(last.wrapping_mul(5));
+            (ends as usize).wrapping_add(rest.len().wrapping_mul(11)) % KEPT
+        }
     }
 }
 
-/// The mark that closes an element of this name.
-pub fn closing_mark(names: &Names, name: &str) -> Sym
-    ensures { result ≡ closing names.now (chars name.now) }
+/// Places of names that were looked up before. Each is a guess, which is compared with the name
+/// before it is used.
+#[derive(Drop)]
+pub struct Guesses {
+    places: Vec<u32>,
+}
+
+impl Guesses {
+    /// Guesses of the first name alone.
+    pub fn new(alloc: Global) -> Result<Self, Memory> {
+        let mut places = Vec::with_capacity(alloc, KEPT)?;
+        'places: for _place in 0..KEPT {
+            places.push(0)?;
+        }
+        Ok(Guesses { places })
+    }
+
+    /// The place of the name in the list. A name that was looked up before needs no memory.
+    pub fn place(
+        &mut self,
+        alloc: Global,
+        names: &Names,
+        name: &[Sym],
+    ) -> Result<Option<u32>, Memory>
+        requires { is_name name.now ≡ true }
+        ensures value { IfOk result (λ o. o ≡ place_of names.now name.now) }
+        ensures few { IfOk result (λ o. IfSome o (λ k. k < 65536)) }
+    {
+        let slot = slot_of(name);
+        if let Some(guess) = self.places.get(slot) {
+            let guess = *guess;
+            if guess < names.len() && is_ascii_name(name, names.name(guess)) {
+                return Ok(Some(guess));
+            }
+        }
+        let place = looked_up(alloc, names, name)?;
+        if let Some(kept) = self.places.get_mut(slot) {
+            *kept = place.unwrap_or(0);
+        }
+        Ok(place)
+    }
+}
+
+/// The mark that opens an element of the name at this place.
+pub fn opening_mark(place: Option<u32>) -> Sym
+    requires { IfSome place (λ k. k < 65536) }
+    ensures { result ≡ marked mark.opening_mark place }
 {
-    match names.place(name) {
-        Some(k) if k < names.len() => Sym::closing(k),
-        _ => STRANGE,
+    match place {
+        None => STRANGE,
+        Some(k) => Sym::opening(k),
+    }
+}
+
+/// The mark that closes an element of the name at this place.
+pub fn closing_mark(place: Option<u32>) -> Sym
+    requires { IfSome place (λ k. k < 65536) }
+    ensures { result ≡ marked mark.closing_mark place }
+{
+    match place {
+        None => STRANGE,
+        Some(k) => Sym::closing(k),
+    }
+}
+
+/// The mark that begins an attribute of the name at this place.
+pub fn attribute_mark(place: Option<u32>) -> Sym
+    requires { IfSome place (λ k. k < 65536) }
+    ensures { result ≡ marked mark.attribute_mark place }
+{
+    match place {
+        None => STRANGE,
+        Some(k) => Sym::attribute(k),
     }
 }

@@ -12,9 +12,10 @@ use crate::runs::{
     spells_in_any_case, white, white_run,
 };
 use crate::sorted::by_name;
+use crate::values::Value;
 use std::alloc::Global;
 use std::collections::BTreeMap;
-use xs_class::{Memory, Sym, Word};
+use xs_class::{Memory, Sym};
 
 /// What a piece says: a CR or CR LF is the character LF, a comment or instruction says nothing.
 #[derive(Drop)]
@@ -24,11 +25,11 @@ pub enum Event<'a> {
     Reference(u32),
     Start {
         name: &'a [Sym],
-        attributes: BTreeMap<String, Word>,
+        attributes: BTreeMap<String, Value<'a>>,
     },
     Empty {
         name: &'a [Sym],
-        attributes: BTreeMap<String, Word>,
+        attributes: BTreeMap<String, Value<'a>>,
     },
     End(&'a [Sym]),
     Aside,
@@ -173,8 +174,8 @@ fn is_version(setting: &Attribute<'_>) -> bool
     ensures { result ≡ held_version (shown setting.now) }
 {
     spells(setting.name, b"version")
-        && setting.value.written
-        && spells(setting.value.symbols.as_slice(), b"1.0")
+        && setting.value.is_written()
+        && spells(setting.value.as_slice(), b"1.0")
 }
 
 /// Whether the setting is the encoding UTF-8.
@@ -182,8 +183,8 @@ fn is_encoding(setting: &Attribute<'_>) -> bool
     ensures { result ≡ held_encoding (shown setting.now) }
 {
     spells(setting.name, b"encoding")
-        && setting.value.written
-        && spells_in_any_case(setting.value.symbols.as_slice(), b"utf-8")
+        && setting.value.is_written()
+        && spells_in_any_case(setting.value.as_slice(), b"utf-8")
 }
 
 /// Whether the setting is a standalone declaration.
@@ -191,8 +192,8 @@ fn is_standalone(setting: &Attribute<'_>) -> bool
     ensures { result ≡ held_standalone (shown setting.now) }
 {
     spells(setting.name, b"standalone")
-        && setting.value.written
-        && says_yes_or_no(setting.value.symbols.as_slice())
+        && setting.value.is_written()
+        && says_yes_or_no(setting.value.as_slice())
 }
 
 /// Whether the value is `yes` or `no`.

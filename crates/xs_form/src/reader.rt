@@ -5,17 +5,18 @@ ghost use Rattle.xs_form.specs.Sorted.{shown_entries, entry_symbols};
 ghost use Rattle.xs_form.specs.Seen.{declared, letter, given, begins, stands, ends, aside, section, shown_event};
 ghost use Rattle.xs_form.specs.State.{next_run as next_run_of, initial, line_symbols, state_of, is_inside, IsRun, texted, step, taken, finished, is_named};
 
-use crate::marks::{closing_mark, opening_mark, spelled};
+use crate::marks::{Guesses, closing_mark, opening_mark};
 use crate::pieces::Event;
 use crate::runs::{bare_run, equal, white};
 use crate::sorted::push_attributes;
+use crate::values::Value;
 use std::alloc::Global;
 use std::collections::BTreeMap;
 use xs_class::{Memory, Names, Sym, Word};
 
 /// What is kept between two pieces: the names of the open elements, the innermost last, whether the
 /// root element has ended, whether no piece was read yet, of how many of the last pieces, two at
-/// most, each is the character `]`, and the symbols so far.
+/// most, each is the character `]`, the symbols so far, and places of names.
 #[derive(Drop)]
 pub struct Reader<'a> {
     names: Vec<&'a [Sym]>,
@@ -23,6 +24,7 @@ pub struct Reader<'a> {
     fresh: bool,
     run: u32,
     word: Word,
+    guesses: Guesses,
 }
 
 /// A CR gives LF, and the LF of CR LF nothing more.
@@ -52,26 +54,33 @@ fn push_lines(word: &mut Word, text: &[Sym]) -> Result<(), Memory>
 /// The marks of a tag's opening and of its attributes.
 fn push_opening(
     word: &mut Word,
+    guesses: &mut Guesses,
     alloc: Global,
     names: &Names,
     name: &[Sym],
-    attributes: BTreeMap<String, Word>,
+    attributes: BTreeMap<String, Value<'_>>,
 ) -> Result<(), Memory>
     requires { is_name name.now ≡ true }
-    ensures { OnOk result (word.new ≡ word.old ++ opening names.now name.now ∷ entry_symbols names.now (shown_entries attributes)) }
+    ensures { OnOk result (word.new ≡ word.old ++ opening names.now name.now ∷ entry_symbols names.now (shown_entries attributes.entry)) }
 {
-    let text = spelled(alloc, name)?;
-    word.push(opening_mark(names, text.as_str()))?;
+    let place = guesses.place(alloc, names, name)?;
+    word.push(opening_mark(place))?;
     push_attributes(word, names, attributes)
 }
 
 /// The mark of an element's end.
-fn push_closing(word: &mut Word, alloc: Global, names: &Names, name: &[Sym]) -> Result<(), Memory>
+fn push_closing(
+    word: &mut Word,
+    guesses: &mut Guesses,
+    alloc: Global,
+    names: &Names,
+    name: &[Sym],
+) -> Result<(), Memory>
     requires { is_name name.now ≡ true }
     ensures { OnOk result (word.new ≡ word.old ++ closing names.now name.now ∷ []) }
 {
-    let text = spelled(alloc, name)?;
-    word.push(closing_mark(names, text.as_str()))?;
+    let place = guesses.place(alloc, names, name)?;
+    word.push(closing_mark(place))?;
     Ok(())
 }
 
@@ -86,6 +95,7 @@ impl<'a> Reader<'a> {
             fresh: true,
             run: 0,
             word: Word::from_vec(Vec::with_capacity(alloc, room)?),
+            guesses: Guesses::new(alloc)?,
         })
     }
 
@@ -178,15 +188,22 @@ impl<'a> Reader<'a> {
         alloc: Global,
         names: &Names,
         name: &'a [Sym],
-        attributes: BTreeMap<String, Word>,
+        attributes: BTreeMap<String, Value<'a>>,
     ) -> Result<bool, Memory>
         requires { is_name name.now ≡ true }
-        ensures { IfOk result (λ b. taken b (state_of self.new) ≡ step names.now (state_of self.old) (begins name.now (shown_entries attributes))) }
+        ensures { IfOk result (λ b. taken b (state_of self.new) ≡ step names.now (state_of self.old) (begins name.now (shown_entries attributes.entry))) }
     {
         if self.names.is_empty() && self.ended {
             return Ok(false);
         }
-        push_opening(&mut self.word, alloc, names, name, attributes)?;
+        push_opening(
+            &mut self.word,
+            &mut self.guesses,
+            alloc,
+            names,
+            name,
+            attributes,
+        )?;
         self.names.push(name)?;
         self.fresh = false;
         self.run = 0;
@@ -199,10 +216,10 @@ impl<'a> Reader<'a> {
         alloc: Global,
         names: &Names,
         name: &'a [Sym],
-        attributes: BTreeMap<String, Word>,
+        attributes: BTreeMap<String, Value<'a>>,
     ) -> Result<bool, Memory>
         requires { is_name name.now ≡ true }
-        ensures { IfOk result (λ b. taken b (state_of self.new) ≡ step names.now (state_of self.old) (stands name.now (shown_entries attributes))) }
+        ensures { IfOk result (λ b. taken b (state_of self.new) ≡ step names.now (state_of self.old) (stands name.now (shown_entries attributes.entry))) }
     {
         if self.names.is_empty() {
             if self.ended {
@@ -210,8 +227,15 @@ impl<'a> Reader<'a> {
             }
             self.ended = true;
         }
-        push_opening(&mut self.word, alloc, names, name, attributes)?;
-        push_closing(&mut self.word, alloc, names, name)?;
+        push_opening(
+            &mut self.word,
+            &mut self.guesses,
+            alloc,
+            names,
+            name,
+            attributes,
+        )?;
+        push_closing(&mut self.word, &mut self.guesses, alloc, names, name)?;
         self.fresh = false;
         self.run = 0;
         Ok(true)
@@ -229,7 +253,7 @@ impl<'a> Reader<'a> {
             return Ok(false);
         }
         self.ended = self.names.is_empty();
-        push_closing(&mut self.word, alloc, names, name)?;
+        push_closing(&mut self.word, &mut self.guesses, alloc, names, name)?;
         self.fresh = false;
         self.run = 0;
         Ok(true)

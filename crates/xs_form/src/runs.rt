@@ -80,7 +80,11 @@ pub fn begins_name(symbol: Sym) -> bool
 pub fn in_name(symbol: Sym) -> bool
     ensures { result ≡ is_name_char symbol }
 {
-    is_name_char(symbol.number())
+    let number = symbol.number();
+    if 97 <= number && number <= 122 {
+        return true;
+    }
+    is_name_char(number)
 }
 
 /// The characters of names at the front, and the rest.

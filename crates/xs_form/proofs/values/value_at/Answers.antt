@@ -1,19 +1,15 @@
-use Rattle.std.proofs.Common.{◌≡◌, ◌&&◌, refl}
-use Rattle.xs_form.specs.Values.{is_written}
-use Rattle.xs_form.proofs.ValueLaws.{so_far_more, so_far_ends, part_shorter}
+use Rattle.std.proofs.lemmas.Result.{IfOk-weaker}
+use Rattle.xs_form.proofs.ValueLaws.{run_so_far, so_far_ends}
 use Rattle.xs_form.proofs.values.value_at.Goals as goal
-use Rattle.xs_form.proofs.values.value_at.Goals.{then-written, else-written}
 
-pub parts-smaller : goal.parts-smaller
-parts-smaller c = part_shorter c.args.quote c.parts.rest.now c.in-Some.more.now c.in-Some.part c.in-Some.ensures
-
-pub parts-preserved : goal.parts-preserved
-parts-preserved c =
-    let next = so_far_more c.args.quote c.args.text.now c.parts.symbols c.parts.after_return c.parts.written c.parts.rest.now c.in-Some.more.now c.in-Some.part c.parts.invariant c.in-Some.ensures in
-    let w : c.if-written.written ≡ (c.parts.written && is_written c.in-Some.part) = elim c.if-written.branch [ then-written w ↦ rw (w.written-is, w.if-written.true, w.is_written_part-written.ensures) refl | else-written w ↦ rw (w.written-is, w.if-written.false) refl ] in
-    rw (c.in_ok-push_part.ensures.ok, c.is_return_part-after_return.ensures, w) next
-
-pub returns : goal.returns
-returns c =
-    let end = so_far_ends c.args.quote c.args.text.now c.parts.symbols c.parts.after_return c.parts.written c.parts.rest.now c.parts.invariant c.in_default.ensures in
+pub returns-in-None : goal.returns-in-None
+returns-in-None c =
+    let run = c.kept_run.result.0.now in
+    let rest = c.kept_run.result.1.now in
+    let end = so_far_ends c.args.quote c.args.text.now _ _ _ _ (run_so_far c.args.quote c.args.text.now run rest c.kept_run.ensures) c.in-None.ensures in
     record { symbols = end.0; written = end.1; left = end.2 }
+
+pub returns-in-Some : goal.returns-in-Some
+returns-in-Some c =
+    let so = run_so_far c.args.quote c.args.text.now c.kept_run.result.0.now c.kept_run.result.1.now c.kept_run.ensures in
+    IfOk-weaker c.value_from.result _ _ (λ r from. from c.args.text.now so) c.value_from.ensures
