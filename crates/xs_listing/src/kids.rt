@@ -30,26 +30,19 @@ fn slot_count(items: &[GItem]) -> usize
 }
 
 /// A new leaf with the word of a stretch of the document.
-fn add_leaf(
-    alloc: Global,
-    doc: &Word,
-    step: &FirstAlternative,
-    builder: &mut Builder,
-) -> Result<u64, Memory>
+fn add_leaf(doc: &Word, step: &FirstAlternative, builder: &mut Builder) -> Result<u64, Memory>
     requires start { step.now.start ≤ step.now.end }
     requires end { step.now.end ≤ length doc.now }
     ensures number { IfOk result (λ number. number ≡ length builder.old) }
     ensures added { OnOk result (builder.new ≡ builder.old ++ Leaf (slice_range doc.now step.now.start step.now.end) ∷ []) }
 {
     let stretch = &doc.as_slice()[step.start as usize..step.end as usize];
-    let word = Word::of(alloc, stretch)?;
-    let number = builder.leaf(&word)?;
+    let number = builder.leaf(stretch)?;
     Ok(number)
 }
 
 /// Puts an item among the kids.
 fn place(
-    alloc: Global,
     doc: &Word,
     numbers: &[u64],
     item: &GItem,
@@ -63,7 +56,7 @@ fn place(
     match item {
         GItem::Fixed(_) | GItem::Skip { .. } => (),
         GItem::Term { slot, .. } => {
-            let number = add_leaf(alloc, doc, step, builder)?;
+            let number = add_leaf(doc, step, builder)?;
             kids[*slot as usize] = number;
         }
         GItem::Non { slot, .. } => kids[*slot as usize] = numbers[step.right.unwrap() as usize],
@@ -97,7 +90,7 @@ pub(crate) fn kids_of(
     'fronts: while dot > 0 {
         dot -= 1;
         let step = first_step(forest, front.unwrap());
-        place(alloc, doc, numbers, &items[dot], &step, builder, &mut kids)?;
+        place(doc, numbers, &items[dot], &step, builder, &mut kids)?;
         front = step.left;
     }
     Ok(kids)

@@ -2,16 +2,15 @@ ghost use Rattle.std.specs.Prelude.{◌≡◌, ◌<◌, ◌+◌, length, IfOk, O
 
 use std::alloc::Global;
 use std::process::Abort;
-use xs_class::{Memory, Sym, Word};
+use xs_class::{Memory, Sym};
 use xs_tree::{Builder, Tree, parts_of, same};
 
 /// Adds the leaf of a digit, and answers its number.
-pub fn add_digit(alloc: Global, builder: &mut Builder, code: u32) -> Result<u64, Memory>
+pub fn add_digit(builder: &mut Builder, code: u32) -> Result<u64, Memory>
     ensures number { IfOk result (λ number. number ≡ length builder.old) }
     ensures grown { OnOk result (length builder.new ≡ length builder.old + 1) }
 {
-    let word = Word::of(alloc, &[Sym(code)])?;
-    builder.leaf(&word)
+    builder.leaf(&[Sym(code)])
 }
 
 /// Adds that many levels of nodes above a part, each with the one below as both its children.
@@ -31,46 +30,41 @@ pub fn add_doubled(
     Ok(root)
 }
 
-fn add_pair(alloc: Global, builder: &mut Builder, first: u32, second: u32) -> Result<u64, Memory>
+fn add_pair(builder: &mut Builder, first: u32, second: u32) -> Result<u64, Memory>
     ensures { IfOk result (λ root. root < length builder.new) }
 {
-    let first = add_digit(alloc, builder, first)?;
-    let second = add_digit(alloc, builder, second)?;
+    let first = add_digit(builder, first)?;
+    let second = add_digit(builder, second)?;
     builder.node(0, &[first, second])
 }
 
 /// The pair of two digits.
 fn pair(alloc: Global, first: u32, second: u32) -> Result<Tree, Memory> {
     let mut builder = Builder::new(alloc)?;
-    let root = add_pair(alloc, &mut builder, first, second)?;
+    let root = add_pair(&mut builder, first, second)?;
     Ok(builder.finish(root))
 }
 
-fn add_pair_from_the_end(
-    alloc: Global,
-    builder: &mut Builder,
-    first: u32,
-    second: u32,
-) -> Result<u64, Memory>
+fn add_pair_from_the_end(builder: &mut Builder, first: u32, second: u32) -> Result<u64, Memory>
     ensures { IfOk result (λ root. root < length builder.new) }
 {
-    let second = add_digit(alloc, builder, second)?;
-    let _unused = add_digit(alloc, builder, first)?;
-    let first = add_digit(alloc, builder, first)?;
+    let second = add_digit(builder, second)?;
+    let _unused = add_digit(builder, first)?;
+    let first = add_digit(builder, first)?;
     builder.node(0, &[first, second])
 }
 
 /// The same pair, made from its second digit on, beside a leaf that the root does not reach.
 fn pair_from_the_end(alloc: Global, first: u32, second: u32) -> Result<Tree, Memory> {
     let mut builder = Builder::new(alloc)?;
-    let root = add_pair_from_the_end(alloc, &mut builder, first, second)?;
+    let root = add_pair_from_the_end(&mut builder, first, second)?;
     Ok(builder.finish(root))
 }
 
 /// A digit, and that many levels of nodes above it, each with the one below as both its children.
 fn doubled(alloc: Global, levels: u64) -> Result<Tree, Memory> {
     let mut builder = Builder::new(alloc)?;
-    let digit = add_digit(alloc, &mut builder, 51)?;
+    let digit = add_digit(&mut builder, 51)?;
     let root = add_doubled(&mut builder, 0, digit, levels)?;
     Ok(builder.finish(root))
 }
@@ -85,10 +79,7 @@ fn expect_parts(rt: &impl Abort, tree: &Tree) {
     assert!(rt; tree.kids(2) == [0, 1].as_slice());
     assert!(rt; tree.kid(2, 1) == 1);
     assert!(rt; tree.word(2).is_none());
-    assert!(rt; tree.word(1).is_some());
-    if let Some(word) = tree.word(1) {
-        assert!(rt; word.as_slice() == [Sym(55)].as_slice());
-    }
+    assert!(rt; tree.word(1) == Some([Sym(55)].as_slice()));
 }
 
 #[test]

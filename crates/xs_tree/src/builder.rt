@@ -3,7 +3,7 @@ ghost use Rattle.std.specs.Prelude.{◌≡◌, ◌<◌, [], ◌∷◌, ◌++◌,
 use crate::{Tree, TreePart};
 use std::alloc::Global;
 use std::marker::Model;
-use xs_class::{Listed, Memory, Word};
+use xs_class::{Listed, Memory, Sym, Word};
 
 /// The parts of a tree that is made from its leaves upwards, as contracts see it the list of them.
 ///
@@ -51,13 +51,13 @@ impl Builder {
     }
 
     /// A new leaf with a copy of the word, in time linear in the word; the answer is its number.
-    pub fn leaf(&mut self, word: &Word) -> Result<u64, Memory>
+    pub fn leaf(&mut self, word: &[Sym]) -> Result<u64, Memory>
         ensures number { IfOk result (λ number. number ≡ length self.old) }
         ensures added { OnOk result (self.new ≡ self.old ++ TreePart.Leaf word.now ∷ []) }
         ensures means { OnOk result (trees_of self.new ≡ trees_of self.old ++ tree_of (trees_of self.old) (TreePart.Leaf word.now) ∷ []) }
         ensures err { OnErr result (self.new ≡ self.old) }
     {
-        let word = word.copy()?;
+        let word = Word::of(*self.parts.allocator(), word)?;
         self.add(TreePart::Leaf(word))
     }
 
