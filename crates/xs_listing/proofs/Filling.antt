@@ -13,8 +13,7 @@ use Rattle.xs_gram.specs.Common.{Common, word, kid, lookup, child_of, in_order, 
 use Rattle.xs_gram.specs.Laws.{IsNumbered}
 use Rattle.xs_gram.proofs.Lookup.{length-keys}
 use Rattle.xs_gram.proofs.Entries.{keys_are, lookup_same, lookup_other, found}
-use Rattle.xs_tree.specs.declared.part.TreePart.{TreePart}
-use Rattle.xs_tree.specs.Flat.{tree_at, kids_at, tree_of, trees_of}
+use Rattle.xs_tree.specs.Flat.{TreePart, tree_at, kids_at, tree_of, trees_of}
 use Rattle.xs_tree.proofs.Trees.{trees_onward, tree_stays, trees_push, length-trees}
 use Rattle.xs_listing.specs.Making.{Extends, Fills}
 

@@ -12,9 +12,7 @@ use Rattle.xs_gram.specs.Laws.{Every, IsNumbered}
 use Rattle.xs_chart_laws.proofs.Words.{get_drop, Reads-is}
 use Rattle.xs_chart_laws.specs.Parts.{parts_then}
 use Rattle.xs_forest.specs.declared.row.Alt.{Alt}
-use Rattle.xs_tree.specs.declared.part.TreePart.{TreePart}
-use Rattle.xs_tree.specs.declared.part.TreePart.TheVariants.{Leaf}
-use Rattle.xs_tree.specs.Flat.{tree_at, trees_of}
+use Rattle.xs_tree.specs.Flat.{TreePart, Leaf, tree_at, trees_of}
 use Rattle.xs_forest_laws.specs.declared.span.SpanKey.{SpanKey}
 use Rattle.xs_forest_laws.specs.declared.span.What.TheVariants.{Front}
 use Rattle.xs_forest_laws.specs.Forest.{Forest, key_of, alts_of, IsRow, Unfolding, bare, pick, last_part, read, end_of, IsSpelt, FrontAt, ItemRow, FrontAlt, IsRight}

@@ -14,9 +14,7 @@ use Rattle.xs_gram.specs.Laws.{IsNumbered}
 use Rattle.xs_chart_laws.proofs.Words.{get_lt}
 use Rattle.xs_forest.specs.declared.row.Alt.{Alt}
 use Rattle.xs_forest.specs.Rows.{IsEarlier}
-use Rattle.xs_tree.specs.declared.part.TreePart.{TreePart}
-use Rattle.xs_tree.specs.declared.part.TreePart.TheVariants.{Node}
-use Rattle.xs_tree.specs.Flat.{tree_at, trees_of}
+use Rattle.xs_tree.specs.Flat.{TreePart, Node, tree_at, trees_of}
 use Rattle.xs_forest_laws.specs.declared.span.SpanKey.{SpanKey}
 use Rattle.xs_forest_laws.specs.declared.span.What.TheVariants.{Whole, Front}
 use Rattle.xs_forest_laws.specs.Forest.{Forest, key_at, key_of, alts_of, IsRow, Unfolding, bare, pick, read, FrontAt, ItemRow, WholeAlt, IsRight}

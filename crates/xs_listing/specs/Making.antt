@@ -7,9 +7,7 @@ use Rattle.xs_gram.specs.Grammar.{Grammar, items}
 use Rattle.xs_gram.specs.Derivations.{Parts, done, sub}
 use Rattle.xs_gram.specs.Common.{Common, strip, lookup}
 use Rattle.xs_forest.specs.declared.row.Alt.{Alt}
-use Rattle.xs_tree.specs.declared.part.TreePart.{TreePart}
-use Rattle.xs_tree.specs.declared.part.TreePart.TheVariants.{Leaf}
-use Rattle.xs_tree.specs.Flat.{tree_at, trees_of}
+use Rattle.xs_tree.specs.Flat.{TreePart, Leaf, tree_at, trees_of}
 use Rattle.xs_forest_laws.specs.declared.span.What.TheVariants.{Whole}
 use Rattle.xs_forest_laws.specs.Forest.{Forest, key_of, Unfolding, bare, pick, read, end_of, FrontAt}
 use Rattle.xs_forest_laws.specs.First.{IsFirst}

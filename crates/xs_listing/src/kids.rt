@@ -1,6 +1,6 @@
 ghost use Rattle.std.specs.Prelude.{◌≡◌, ◌<◌, ◌≤◌, ◌++◌, ◌∷◌, [], length, slice_range, IfOk, OnOk};
 ghost use Rattle.xs_gram.specs.Grammar.{items, slots};
-ghost use Rattle.xs_tree.specs.declared.part.TreePart.TheVariants.{Leaf};
+ghost use Rattle.xs_tree.specs.Flat.{Leaf};
 ghost use Rattle.xs_gram.specs.Common.{named};
 ghost use Rattle.xs_gram.specs.Sound.{IsBuilt};
 ghost use Rattle.xs_forest_laws.specs.Forest.{IsRight, Unfolding, read};

@@ -8,9 +8,7 @@ use Rattle.std.proofs.lemmas.Option.{none-some, same_Some, get_or_from_slice_get
 use Rattle.xs_gram.specs.declared.parts.GItem.{GItem}
 use Rattle.xs_gram.specs.Grammar.{Grammar, items, IsTermWord}
 use Rattle.xs_gram.specs.Common.{Common, word, made, Kids, Kind, of_term, of_non, kinds, lookup, TreeFits, KidsFit, KidFits}
-use Rattle.xs_tree.specs.declared.part.TreePart.{TreePart}
-use Rattle.xs_tree.specs.declared.part.TreePart.TheVariants.{Leaf, Node}
-use Rattle.xs_tree.specs.Flat.{Flat, IsFlat, common_at, common_of, production_of, kids_of, word_of, kids_at, tree_at, tree_of, trees_of}
+use Rattle.xs_tree.specs.Flat.{TreePart, Leaf, Node, Flat, IsFlat, common_at, common_of, production_of, kids_of, word_of, kids_at, tree_at, tree_of, trees_of}
 use Rattle.xs_tree.proofs.Trees.{tree_is}
 use Rattle.xs_sheet.specs.declared.sheet.Sheet.{Sheet}
 use Rattle.xs_pair.specs.Grammars.{Pair, IsPairOf}

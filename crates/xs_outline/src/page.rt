@@ -5,7 +5,7 @@ ghost use Rattle.xs_lex.specs.Units.{coded, spelt_quoted_unit};
 ghost use Rattle.xs_sheet.specs.Layout.{hex_digits, escape_sign, is_control, unit_of, quoted};
 
 use itoa::Buffer;
-use xs_class::{Memory, Sym, Text, Word};
+use xs_class::{Memory, Sym, Text};
 
 /// Appends the characters.
 pub fn push_str(page: &mut Text, piece: &str) -> Result<(), Memory>
@@ -104,12 +104,12 @@ fn character(symbol: Sym) -> char
 }
 
 /// Appends a quoted string that stands for the word.
-pub fn push_quoted(page: &mut Text, word: &Word) -> Result<(), Memory>
+pub fn push_quoted(page: &mut Text, word: &[Sym]) -> Result<(), Memory>
     requires { all_scalars word.now ≡ true }
     ensures { OnOk result (page.new ≡ page.old ++ quoted word.now) }
 {
     page.push('"')?;
-    'symbols: for symbol in word.as_slice() {
+    'symbols: for symbol in word {
         push_character(page, character(*symbol))?;
     }
     page.push('"')

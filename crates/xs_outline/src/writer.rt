@@ -13,7 +13,7 @@ ghost use Rattle.xs_outline.specs.Walk.{AreOpen, AreOrders, CanWrite, IsNode, pe
 use crate::order::{Slots, orders};
 use crate::page::{push_decimal, push_quoted, push_str};
 use std::alloc::Global;
-use xs_class::{Bytes, Memory, Text, Word};
+use xs_class::{Bytes, Memory, Sym, Text};
 use xs_pair::Two;
 use xs_tree::Tree;
 
@@ -44,7 +44,7 @@ fn push_head(page: &mut Text, depth: usize, name: &str) -> Result<(), Memory>
 }
 
 /// Appends the line of a leaf.
-fn push_leaf(page: &mut Text, depth: usize, name: &str, word: &Word) -> Result<(), Memory>
+fn push_leaf(page: &mut Text, depth: usize, name: &str, word: &[Sym]) -> Result<(), Memory>
     requires { all_scalars word.now ≡ true }
     ensures { OnOk result (page.new ≡ page.old ++ line_text (line depth (chars name.now) (leaf_word word.now))) }
 {
@@ -87,7 +87,7 @@ fn push_leaf_part(
     two: &Two,
     tree: &Tree,
     child: Child<'_>,
-    word: &Word,
+    word: &[Sym],
     tasks: &[Task],
     page: &mut Text,
 ) -> Result<(), Memory>

@@ -16,19 +16,19 @@ const PAIR: &[u8] =
     n : [d a] = [d a]\nn : [n a] [n b] = [n a] [n b]\ns : [p a] = <s>[p a]</s>\n";
 
 /// Adds a pair of the digit 7 and of a number of the digit 3, which is doubled that many times.
-fn add_pair(alloc: Global, builder: &mut Builder, times: u64) -> Result<u64, Memory>
+fn add_pair(builder: &mut Builder, times: u64) -> Result<u64, Memory>
     ensures { IfOk result (λ root. root < length builder.new) }
 {
-    let three = add_digit(alloc, builder, 51)?;
+    let three = add_digit(builder, 51)?;
     let number = builder.node(1, &[three])?;
     let number = add_doubled(builder, 2, number, times)?;
-    let seven = add_digit(alloc, builder, 55)?;
+    let seven = add_digit(builder, 55)?;
     builder.node(0, &[seven, number])
 }
 
 fn pair(alloc: Global, times: u64) -> Result<Tree, Memory> {
     let mut builder = Builder::new(alloc)?;
-    let root = add_pair(alloc, &mut builder, times)?;
+    let root = add_pair(&mut builder, times)?;
     Ok(builder.finish(root))
 }
 

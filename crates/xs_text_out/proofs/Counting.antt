@@ -5,10 +5,8 @@ use Rattle.std.proofs.lemmas.Option.{get_or_from_slice_get, slice_get-get_or, sl
 use Rattle.xs_gram.specs.declared.parts.GItem.{GItem}
 use Rattle.xs_gram.specs.Grammar.{Grammar}
 use Rattle.xs_gram.specs.Common.{Common, word, print, spelling}
-use Rattle.xs_tree.specs.declared.part.TreePart.{TreePart}
-use Rattle.xs_tree.specs.declared.part.TreePart.TheVariants.{Leaf, Node}
+use Rattle.xs_tree.specs.Flat.{TreePart, Leaf, Node, kids_of, production_of, tree_of, trees_of, word_of}
 use Rattle.xs_tree.specs.Counts.{capped}
-use Rattle.xs_tree.specs.Flat.{kids_of, production_of, tree_of, trees_of, word_of}
 use Rattle.xs_tree.proofs.Trees.{length-trees, trees_step}
 use Rattle.xs_text_out.specs.Printed.{AreLengths, item_word, kid_word, print_length, rule_items, slot_word}
 use Rattle.xs_text_out.proofs.Words.{node_prints, spelling_first}
@@ -77,7 +75,7 @@ lengths_step g lengths more parts i number lt are counted is =
     let before = trees_of (take i parts) in
     let found = get_or parts i (Leaf []) in
     let there : slice_get parts i ≡ Some found = slice_get-get_or parts i (Leaf []) lt in
-    let next : trees_of (take (i + 1) parts) ≡ before ++ tree_of before found ∷ [] = trees_step parts i found lt (sym (get_or_from_slice_get parts i found found there)) in
+    let next : trees_of (take (i + 1) parts) ≡ before ++ tree_of before found ∷ [] = trees_step parts i found there in
     is ∙ ap (λ l. l ++ number ∷ []) are ∙ ap (λ n. map (print_length g) before ++ n ∷ []) (counted found there) ∙ sym (map-append (print_length g) before (tree_of before found ∷ [])) ∙ ap (map (print_length g)) (sym next)
 
 pub lengths_end : (g : Grammar) (lengths : List ℕ) (parts : List TreePart) (i : ℕ) → length parts ≤ i → AreLengths g (trees_of (take i parts)) lengths → AreLengths g (trees_of parts) lengths

@@ -1,20 +1,18 @@
 -- What is still to be printed as a walk goes on, and that it ends.
-use Rattle.std.proofs.Common.{◌≡◌, ◌⊎◌, inl, inr, ℕ, zero, suc, ◌+◌, ◌*◌, ◌^◌, ◌<◌, ◌≤◌, List, [], ◌∷◌, ◌++◌, length, drop, get_or, Option, None, Some, slice_get, refl, sym, ◌∙◌, ap, subst, add-one, drop-cons, append_assoc, length-append, arith}
-use Rattle.std.proofs.lemmas.List.{append-nil, drop_all}
+use Rattle.std.proofs.Common.{◌≡◌, ℕ, zero, suc, ◌+◌, ◌*◌, ◌^◌, ◌<◌, ◌≤◌, List, [], ◌∷◌, ◌++◌, length, drop, get_or, Option, None, Some, slice_get, refl, sym, ◌∙◌, ap, subst, add-one, drop-cons, append_assoc, length-append, arith}
+use Rattle.std.proofs.lemmas.List.{append-nil, drop_all, length-drop}
 use Rattle.std.proofs.lemmas.Option.{get_or_from_slice_get, slice_get-get_or, slice_get_read, slice_get_within}
-use Rattle.std.proofs.Math.Nat.{mul-lt-mul_of_pos_right, one-le-pow, pow-le-pow_right, pow-succ'}
+use Rattle.std.proofs.Math.Nat.{mul-le-mul_right, mul-lt-mul_of_pos_right, one-le-pow, pow-le-pow_right, pow-succ'}
 use Rattle.xs_gram.specs.declared.parts.GItem.{GItem}
-use Rattle.xs_gram.specs.declared.parts.GItem.TheVariants.{Term, Non}
 use Rattle.xs_gram.specs.declared.parts.RulePart.{RulePart}
 use Rattle.xs_gram.specs.Building.{NamesAreThere, items_count}
 use Rattle.xs_gram.specs.Grammar.{Grammar, no_rule}
 use Rattle.xs_gram.specs.Common.{Common, print, spelling}
-use Rattle.xs_tree.specs.declared.part.TreePart.TheVariants.{Leaf}
+use Rattle.xs_tree.specs.Flat.{Leaf, Flat, IsFlat, common_at, common_of, production_of, trees_of, word_of}
 use Rattle.xs_tree.specs.Counts.{capped}
-use Rattle.xs_tree.specs.Flat.{Flat, IsFlat, common_at, common_of, kids_of, production_of, trees_of, word_of}
 use Rattle.xs_text_out.specs.declared.walk.Task.{Task}
 use Rattle.xs_text_out.specs.Printed.{AreLengths, AreThere, item_word, kid_word, rule_items, slot_word}
-use Rattle.xs_text_out.specs.Walk.{AreFalling, IsDeeper, base, left_over, pending, rest_items, rest_word, slots_at}
+use Rattle.xs_text_out.specs.Walk.{AreFalling, base, entered_word, left_over, pending, rest_items, rest_word, slots_at}
 use Rattle.xs_text_out.proofs.Words.{part_prints, spelling_first}
 use Rattle.xs_text_out.proofs.Counting.{kid_length, leaf_counted, node_counted}
 
@@ -56,6 +54,18 @@ empty_word : (w : List ℕ) → capped (length w) ≡ 0 → w ≡ []
 empty_word [] none = refl
 empty_word (x ∷ w) none = absurd (omega arith)
 
+-- nothing is printed at a slot where no child stands
+pub slot_missing : (g : Grammar) (trees : List Common) (kids : List ℕ) (slot : ℕ) → None ≡ slice_get kids slot → slot_word g trees kids slot ≡ []
+slot_missing g trees kids slot is = ap (kid_word g trees) (sym is)
+
+-- the word of a leaf is printed at its slot
+pub slot_leaf : (g : Grammar) (f : Flat) (kids : List ℕ) (slot kid : ℕ) (w : List ℕ) → IsFlat f → kid < length f.parts → Some kid ≡ slice_get kids slot → slice_get f.parts kid ≡ Some (Leaf w) → slot_word g (trees_of f.parts) kids slot ≡ w
+slot_leaf g f kids slot kid w flat lt is found = ap (kid_word g (trees_of f.parts)) (sym is) ∙ leaf_begun g f kid w flat lt (sym (ap word_of found))
+
+-- what a node prints is printed at its slot
+pub slot_node : (g : Grammar) (f : Flat) (kids : List ℕ) (slot kid : ℕ) → Some kid ≡ slice_get kids slot → slot_word g (trees_of f.parts) kids slot ≡ print g (common_at f kid)
+slot_node g f kids slot kid is = ap (kid_word g (trees_of f.parts)) (sym is)
+
 -- nothing is printed at a slot whose child prints nothing
 pub slot_empty : (g : Grammar) (trees : List Common) (kids lengths : List ℕ) (slot kid number : ℕ) → Some kid ≡ slice_get kids slot → kid < length lengths → number ≡ get_or lengths kid 0 → number ≡ 0 → AreLengths g trees lengths → slot_word g trees kids slot ≡ []
 slot_empty g trees kids lengths slot kid number is lt read none are =
@@ -72,12 +82,39 @@ pub rest_first : (g : Grammar) (f : Flat) (part dot : ℕ) (item : GItem) → sl
 rest_first g f part dot item is =
     ap (λ l. spelling g l (slots_at g f part)) (next_item g f part dot item is) ∙ spelling_first g item (rest_items g f (task_at part (dot + 1))) (slots_at g f part)
 
--- an item is printed, and the node goes on
-pub item_prints : (g : Grammar) (f : Flat) (part dot : ℕ) (item : GItem) (out new : List ℕ) (tasks left : List Task) → slice_get (rule_items g (production_of (slice_get f.parts part))) dot ≡ Some item → new ++ pending g f left ≡ out ++ (item_word g item (slots_at g f part) ++ pending g f (tasks ++ task_at part (dot + 1) ∷ [])) → new ++ pending g f left ≡ out ++ (rest_word g f (task_at part dot) ++ pending g f tasks)
-item_prints g f part dot item out new tasks left is printed =
-    let next = task_at part (dot + 1) in
+-- an item is printed, or up to a child that is still to be printed
+pub item_step : (g : Grammar) (f : Flat) (part dot : ℕ) (item : GItem) (entered : Option ℕ) (out new whole : List ℕ) → slice_get (rule_items g (production_of (slice_get f.parts part))) dot ≡ Some item → new ++ entered_word g f entered ≡ out ++ item_word g item (slots_at g f part) → out ++ rest_word g f (task_at part dot) ≡ whole → new ++ (entered_word g f entered ++ rest_word g f (task_at part (dot + 1))) ≡ whole
+item_step g f part dot item entered out new whole is printed so_far =
+    let rest = rest_word g f (task_at part (dot + 1)) in
     let here = item_word g item (slots_at g f part) in
-    printed ∙ ap (λ l. out ++ (here ++ l)) (pending_push g f tasks next) ∙ ap (λ l. out ++ l) (sym (append_assoc here (rest_word g f next) (pending g f tasks)) ∙ ap (λ l. l ++ pending g f tasks) (sym (rest_first g f part dot item is)))
+    sym (append_assoc new (entered_word g f entered) rest) ∙ ap (λ l. l ++ rest) printed ∙ append_assoc out here rest ∙ ap (λ l. out ++ l) (sym (rest_first g f part dot item is)) ∙ so_far
+
+-- there is room for an item where there is for all that is still to be printed
+pub item_room : (g : Grammar) (f : Flat) (part dot : ℕ) (item : GItem) (out start more : List ℕ) → slice_get (rule_items g (production_of (slice_get f.parts part))) dot ≡ Some item → out ++ rest_word g f (task_at part dot) ≡ start ++ more → length out + length (item_word g item (slots_at g f part)) ≤ length start + length more
+item_room g f part dot item out start more is so_far =
+    let here = item_word g item (slots_at g f part) in
+    let rest = rest_word g f (task_at part (dot + 1)) in
+    let all : length out + (length here + length rest) ≡ length start + length more =
+    ap (λ n. length out + n) (sym (length-append here rest)) ∙ sym (length-append out (here ++ rest)) ∙ ap length (ap (λ l. out ++ l) (sym (rest_first g f part dot item is)) ∙ so_far) ∙ length-append start more in
+    omega (arith, all)
+
+-- fewer items are still to be printed after one that is there
+pub rest_less : (g : Grammar) (f : Flat) (part begin dot : ℕ) (item : GItem) → slice_get (rule_items g (production_of (slice_get f.parts part))) dot ≡ Some item → begin ≤ dot → length (rest_items g f (task_at part (dot + 1))) < length (rest_items g f (task_at part begin))
+rest_less g f part begin dot item is le =
+    let all = rule_items g (production_of (slice_get f.parts part)) in
+    let within = slice_get_within all dot item is in
+    omega (arith, within, length-drop begin all, length-drop (dot + 1) all)
+
+-- what is printed of a node, and what then is still to be printed of it, come before the other nodes
+pub printed_before : (new out entry rest later : List ℕ) → new ++ entry ≡ out ++ rest → new ++ (entry ++ later) ≡ out ++ (rest ++ later)
+printed_before new out entry rest later is = sym (append_assoc new entry later) ∙ ap (λ l. l ++ later) is ∙ append_assoc out rest later
+
+-- a child begins, and the node goes on after it
+pub pending_entered : (g : Grammar) (f : Flat) (part next kid : ℕ) (tasks pushed new : List Task) → IsFlat f → kid < length f.parts → None ≡ word_of (slice_get f.parts kid) → pushed ≡ tasks ++ task_at part next ∷ [] → new ≡ pushed ++ task_at kid 0 ∷ [] → pending g f new ≡ (print g (common_at f kid) ++ rest_word g f (task_at part next)) ++ pending g f tasks
+pending_entered g f part next kid tasks pushed new flat lt is more entered =
+    let child = print g (common_at f kid) in
+    ap (pending g f) entered ∙ pending_push g f pushed (task_at kid 0) ∙ ap (λ l. l ++ pending g f pushed) (node_begun g f kid flat lt is)
+    ∙ ap (λ l. child ++ l) (ap (pending g f) more ∙ pending_push g f tasks (task_at part next)) ∙ sym (append_assoc child (rest_word g f (task_at part next)) (pending g f tasks))
 
 -- where no item is left nothing is
 pub rest_none : (g : Grammar) (f : Flat) (part dot : ℕ) → length (rule_items g (production_of (slice_get f.parts part))) ≤ dot → rest_word g f (task_at part dot) ≡ []
@@ -108,13 +145,11 @@ falling_last n tasks task falling =
     let long = falling_length n tasks task falling in
     omega arith
 
--- the next item is printed, and the nodes still fall
-pub falling_deeper : (n : ℕ) (tasks pushed new : List Task) (part dot next : ℕ) → AreFalling n (tasks ++ task_at part dot ∷ []) → pushed ≡ tasks ++ task_at part next ∷ [] → IsDeeper part pushed new → AreFalling n new
-falling_deeper n tasks pushed new part dot next falling more (inl same) =
-    subst (AreFalling n) (sym (same ∙ more)) (falling_same n tasks part dot next falling)
-falling_deeper n tasks pushed new part dot next falling more (inr (kid, lt, begun)) =
+-- a child begins, and the nodes still fall
+pub falling_entered : (n : ℕ) (tasks pushed new : List Task) (part dot next kid : ℕ) → AreFalling n (tasks ++ task_at part dot ∷ []) → kid < part → pushed ≡ tasks ++ task_at part next ∷ [] → new ≡ pushed ++ task_at kid 0 ∷ [] → AreFalling n new
+falling_entered n tasks pushed new part dot next kid falling lt more entered =
     let first = falling_on n tasks (task_at part next) (task_at kid 0) (falling_same n tasks part dot next falling) lt in
-    subst (AreFalling n) (sym (begun ∙ ap (λ (l : List Task). l ++ task_at kid 0 ∷ []) more)) first
+    subst (AreFalling n) (sym (entered ∙ ap (λ (l : List Task). l ++ task_at kid 0 ∷ []) more)) first
 
 -- how much there is to do
 abbrev weight : Grammar → Flat → Task → ℕ
@@ -154,39 +189,33 @@ less_gone g f tasks task =
     let some : 0 * base g ^ task.part < weight g f task = mul-lt-mul_of_pos_right {m = 0} {n = suc (length (rest_items g f task))} {k = base g ^ task.part} (omega arith) (power_some g task.part) in
     omega (arith, left_over_push g f tasks task, some)
 
--- the weight of a node by the number of its items that are left
-weighed : (g : Grammar) (f : Flat) (part dot : ℕ) (item : GItem) → slice_get (rule_items g (production_of (slice_get f.parts part))) dot ≡ Some item → weight g f (task_at part dot) ≡ weight g f (task_at part (dot + 1)) + base g ^ part
-weighed g f part dot item is =
-    let one : length (rest_items g f (task_at part dot)) ≡ suc (length (rest_items g f (task_at part (dot + 1)))) = ap length (next_item g f part dot item is) in
-    ap (λ n. suc n * base g ^ part) one ∙ spread (length (rest_items g f (task_at part (dot + 1)))) (base g ^ part)
+-- a node with fewer items that are left, and its place
+weight_less : (g : Grammar) (f : Flat) (part dot next : ℕ) → length (rest_items g f (task_at part next)) < length (rest_items g f (task_at part dot)) → weight g f (task_at part next) + base g ^ part ≤ weight g f (task_at part dot)
+weight_less g f part dot next less =
+    let k = length (rest_items g f (task_at part next)) in
+    let m = length (rest_items g f (task_at part dot)) in
+    let x = base g ^ part in
+    let more : suc (suc k) * x ≤ suc m * x = mul-le-mul_right {m = suc (suc k)} {n = suc m} x (omega arith) in
+    let split : suc (suc k) * x ≡ suc k * x + x = spread k x in
+    subst (λ n. n ≤ suc m * x) split more
   where
     spread : (k x : ℕ) → suc (suc k) * x ≡ suc k * x + x
     spread k x = omega arith
 
--- the next item is printed, and there is less to do
-pub less_deeper : (g : Grammar) (f : Flat) (tasks pushed new : List Task) (part dot : ℕ) (item : GItem) → slice_get (rule_items g (production_of (slice_get f.parts part))) dot ≡ Some item → pushed ≡ tasks ++ task_at part (dot + 1) ∷ [] → IsDeeper part pushed new → left_over g f new < left_over g f (tasks ++ task_at part dot ∷ [])
-less_deeper g f tasks pushed new part dot item is more (inl same) =
-    omega (arith, ap (left_over g f) (same ∙ more), left_over_push g f tasks (task_at part dot), left_over_push g f tasks (task_at part (dot + 1)), weighed g f part dot item is, power_some g part)
-less_deeper g f tasks pushed new part dot item is more (inr (kid, lt, begun)) =
-    let next = tasks ++ task_at part (dot + 1) ∷ [] in
-    let small = digit_below g f kid part lt in
-    omega (arith, ap (left_over g f) (begun ∙ ap (λ (l : List Task). l ++ task_at kid 0 ∷ []) more), left_over_push g f tasks (task_at part dot), left_over_push g f tasks (task_at part (dot + 1)), left_over_push g f next (task_at kid 0), weighed g f part dot item is, small)
+-- a child begins, and there is less to do
+pub less_entered : (g : Grammar) (f : Flat) (tasks pushed new : List Task) (part dot next kid : ℕ) → length (rest_items g f (task_at part next)) < length (rest_items g f (task_at part dot)) → kid < part → pushed ≡ tasks ++ task_at part next ∷ [] → new ≡ pushed ++ task_at kid 0 ∷ [] → left_over g f new < left_over g f (tasks ++ task_at part dot ∷ [])
+less_entered g f tasks pushed new part dot next kid less lt more entered =
+    let child = digit_below g f kid part lt in
+    let node = weight_less g f part dot next less in
+    let first = ap (left_over g f) more ∙ left_over_push g f tasks (task_at part next) in
+    let second = ap (left_over g f) entered ∙ left_over_push g f pushed (task_at kid 0) in
+    omega (arith, child, node, first, second, left_over_push g f tasks (task_at part dot))
 
 -- what is there of an item
 pub item_there : (g : Grammar) (is all : List GItem) (dot : ℕ) (item : GItem) → AreThere g is → is ≡ all → dot < length is → item ≡ get_or is dot item → NamesAreThere g item × (slice_get all dot ≡ Some item)
 item_there g is all dot item there same lt read =
     let found : slice_get is dot ≡ Some item = slice_get_read is (length is) dot item refl lt read in
     (there dot item found, ap (λ (l : List GItem). slice_get l dot) (sym same) ∙ found)
-
--- what is printed of an item with a slot is what stands there
-item_slot : (g : Grammar) (item : GItem) (slot : ℕ) (at : ℕ → List ℕ) → ((x : ℕ) × (item ≡ Term x slot)) ⊎ ((x : ℕ) × (item ≡ Non x slot)) → item_word g item at ≡ at slot
-item_slot g item slot at (inl (x, is)) = ap (λ i. item_word g i at) is
-item_slot g item slot at (inr (x, is)) = ap (λ i. item_word g i at) is
-
--- a leaf at the slot of an item is what is printed of the item
-pub leaf_room : (g : Grammar) (f : Flat) (part slot kid : ℕ) (item : GItem) (w : List ℕ) → IsFlat f → part < length f.parts → ((x : ℕ) × (item ≡ Term x slot)) ⊎ ((x : ℕ) × (item ≡ Non x slot)) → (kid < part) × (slice_get (kids_of (slice_get f.parts part)) slot ≡ Some kid) → word_of (slice_get f.parts kid) ≡ Some w → length (item_word g item (slots_at g f part)) ≡ length w
-leaf_room g f part slot kid item w flat lt is there leaf =
-    ap length (item_slot g item slot (slots_at g f part) is ∙ ap (kid_word g (trees_of f.parts)) there.1 ∙ leaf_begun g f kid w flat (omega (arith, there.0)) (sym leaf))
 
 -- what is printed and what is still to be printed is the whole, and the next node is printed first
 pub next_whole : (g : Grammar) (f : Flat) (out whole : List ℕ) (all tasks : List Task) (task : Task) → out ++ pending g f all ≡ whole → all ≡ tasks ++ task ∷ [] → out ++ (rest_word g f task ++ pending g f tasks) ≡ whole

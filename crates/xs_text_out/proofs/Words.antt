@@ -6,9 +6,7 @@ use Rattle.xs_gram.specs.declared.parts.GItem.{GItem}
 use Rattle.xs_gram.specs.declared.parts.GItem.TheVariants.{Fixed, Term, Non, Skip}
 use Rattle.xs_gram.specs.Grammar.{Grammar, items, no_rule}
 use Rattle.xs_gram.specs.Common.{Common, print, print_kids, spelling, word_at}
-use Rattle.xs_tree.specs.declared.part.TreePart.{TreePart}
-use Rattle.xs_tree.specs.declared.part.TreePart.TheVariants.{Node}
-use Rattle.xs_tree.specs.Flat.{Flat, IsFlat, common_at, kids_at, tree_of, trees_of}
+use Rattle.xs_tree.specs.Flat.{TreePart, Node, Flat, IsFlat, common_at, kids_at, tree_of, trees_of}
 use Rattle.xs_tree.proofs.Trees.{tree_is}
 use Rattle.xs_text_out.specs.Printed.{item_word, slot_word}
 

@@ -1,10 +1,13 @@
 -- The nodes that a walk over a flat tree is in, the innermost last, and what is still to be printed of them.
-use Rattle.std.specs.Prelude.{◌≡◌, ◌⊎◌, ℕ, suc, ◌+◌, ◌*◌, ◌^◌, ◌<◌, List, [], ◌∷◌, ◌++◌, length, drop, slice_get}
+use Rattle.std.specs.Prelude.{◌≡◌, ◌⊎◌, ℕ, suc, ◌+◌, ◌*◌, ◌^◌, ◌<◌, List, [], ◌∷◌, ◌++◌, length, drop, Option, None, Some, slice_get}
 use Rattle.xs_gram.specs.declared.parts.GItem.{GItem}
 use Rattle.xs_gram.specs.Building.{items_count}
 use Rattle.xs_gram.specs.Grammar.{Grammar}
-use Rattle.xs_gram.specs.Common.{spelling}
-use Rattle.xs_tree.specs.Flat.{Flat, kids_of, production_of, trees_of}
+use Rattle.xs_gram.specs.Common.{print, spelling}
+use Rattle.xs_tree.specs.Flat.{Flat, common_at, kids_of, production_of, trees_of, word_of}
+use Rattle.xs_text_out.specs.declared.walk.Child.{Child}
+use Rattle.xs_text_out.specs.declared.walk.Child.TheVariants.{Word, Node}
+use Rattle.xs_text_out.specs.declared.walk.Entry.{Entry}
 use Rattle.xs_text_out.specs.declared.walk.Task.{Task}
 use Rattle.xs_text_out.specs.Printed.{rule_items, slot_word}
 
@@ -34,9 +37,35 @@ AreFalling below (task ∷ tasks) = (task.part < below) × AreFalling task.part 
 abbrev pub IsBegun : ℕ → List Task → List Task → Type 0
 IsBegun part old new = (new ≡ old) ⊎ (new ≡ old ++ record { part = part; dot = 0 } ∷ [])
 
--- the walk is in the same nodes, or in a child of the part too
-abbrev pub IsDeeper : ℕ → List Task → List Task → Type 0
-IsDeeper part old new = (new ≡ old) ⊎ ((kid : ℕ) × (kid < part) × (new ≡ old ++ record { part = kid; dot = 0 } ∷ []))
+-- the part is a node before another part
+pub record IsNodeBefore (f : Flat) (part kid : ℕ) : Type 0 where
+  pub before : kid < part
+  pub node : None ≡ word_of (slice_get f.parts kid)
+
+-- what stands at a slot of a part is a word, or a node before the part
+abbrev pub IsNodeChild : Flat → ℕ → Child → Type 0
+IsNodeChild f part (Word w) = Unit {0}
+IsNodeChild f part (Node kid) = IsNodeBefore f part kid
+
+-- what is printed of what stands at a slot
+abbrev pub child_word : Grammar → Flat → Child → List ℕ
+child_word g f (Word w) = w.now
+child_word g f (Node kid) = print g (common_at f kid)
+
+-- what is still to be printed of an item: a child, or nothing
+abbrev pub entered_word : Grammar → Flat → Option ℕ → List ℕ
+entered_word g f None = []
+entered_word g f (Some kid) = print g (common_at f kid)
+
+-- what is still to be printed of a part from a child on, or nothing
+abbrev pub entry_word : Grammar → Flat → ℕ → Option Entry → List ℕ
+entry_word g f part None = []
+entry_word g f part (Some entry) = print g (common_at f entry.kid) ++ rest_word g f (record { part = part; dot = entry.next })
+
+-- the child is a node before the task's part, and fewer items are still to be printed after it
+pub record IsEntry (g : Grammar) (f : Flat) (task : Task) (entry : Entry) : Type 0 where
+  pub kid : IsNodeBefore f task.part entry.kid
+  pub less : length (rest_items g f (record { part = task.part; dot = entry.next })) < length (rest_items g f task)
 
 -- a base above the number of any rule's items and one
 abbrev pub base : Grammar → ℕ

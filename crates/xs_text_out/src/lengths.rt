@@ -3,15 +3,14 @@ ghost use Rattle.xs_gram.specs.Building.{NamesAreThere};
 ghost use Rattle.xs_gram.specs.Common.{Common, spelling};
 ghost use Rattle.xs_gram.specs.Grammar.{Grammar};
 ghost use Rattle.xs_tree.specs.Counts.{capped};
-ghost use Rattle.xs_tree.specs.Flat.{tree_of, trees_of};
-ghost use Rattle.xs_tree.specs.declared.part.TreePart.{TreePart};
+ghost use Rattle.xs_tree.specs.Flat.{TreePart, tree_of, trees_of};
 ghost use Rattle.xs_text_out.specs.Printed.{AreThere, AreLengths, item_word, print_length, slot_word};
 
 use crate::items::{items_of, kid_at};
 use std::alloc::Global;
 use xs_class::Memory;
 use xs_gram::{GItem, Gram};
-use xs_tree::Tree;
+use xs_tree::{Part, Tree};
 
 /// The length of what stands at a slot.
 fn slot_length(kids: &[u64], slot: u32, lengths: &[u64]) -> u64
@@ -57,9 +56,11 @@ fn part_length(g: &Gram, t: &Tree, part: u64, lengths: &[u64]) -> u64
     requires before { length lengths.now ≡ part }
     ensures { (trees : List Common) (found : TreePart) → slice_get t.now.parts part ≡ Some found → AreLengths g.now trees lengths.now → result ≡ print_length g.now (tree_of trees found) }
 {
-    match t.word(part) {
-        Some(word) => word.len() as u64,
-        None => items_length(g, items_of(g, t.production(part)), t.kids(part), lengths),
+    match t.part(part) {
+        Part::Leaf(word) => word.len() as u64,
+        Part::Node { production, kids } => {
+            items_length(g, items_of(g, production), kids, lengths)
+        }
     }
 }
 

@@ -1,15 +1,15 @@
-ghost use Rattle.std.specs.Prelude.{◌≡◌, ◌+◌, ◌<◌, ◌≤◌, ◌++◌, ℕ, List, [], ◌∷◌, Some, length, slice_get, vec_len, vec_capacity, MatchOption};
+ghost use Rattle.std.specs.Prelude.{◌≡◌, ◌+◌, ◌<◌, ◌≤◌, ◌++◌, ℕ, List, [], ◌∷◌, Some, length, slice_get, vec_len, vec_capacity, All, IfSome};
 ghost use Rattle.xs_gram.specs.Building.{NamesAreThere};
 ghost use Rattle.xs_gram.specs.Common.{print};
 ghost use Rattle.xs_gram.specs.Grammar.{Grammar};
 ghost use Rattle.xs_tree.specs.Flat.{IsFlat, common_at, common_of, kids_of, trees_of, word_of};
 ghost use Rattle.xs_text_out.specs.Printed.{AreLengths, item_word, slot_word};
-ghost use Rattle.xs_text_out.specs.Walk.{AreFalling, IsBegun, IsDeeper, left_over, pending, rest_word, slots_at};
+ghost use Rattle.xs_text_out.specs.Walk.{AreFalling, IsBegun, IsEntry, IsNodeBefore, IsNodeChild, child_word, entered_word, entry_word, left_over, pending, rest_word, slots_at};
 
-use crate::items::{items_of, kid_at};
+use crate::items::{kid_at, node_of};
 use xs_class::Sym;
 use xs_gram::{GItem, Gram};
-use xs_tree::Tree;
+use xs_tree::{Part, Tree};
 
 /// A node that the walk is in: its items from one on are still to be printed.
 #[derive(Clone, Copy)]
@@ -41,63 +41,116 @@ fn begin(t: &Tree, part: u64, tasks: &mut Vec<Task>, symbols: &mut Vec<Sym>)
     ensures stack { vec_capacity tasks.new ≡ vec_capacity tasks.old }
 {
     match t.word(part) {
-        Some(word) => append(symbols, word.as_slice()),
+        Some(word) => append(symbols, word),
         None => tasks.push_reserved(Task { part, dot: 0 }),
     }
 }
 
-/// The child at a slot of a node, where there is one that prints something.
-fn printing_kid(t: &Tree, part: u64, slot: u32, lengths: &[u64]) -> Option<u64>
+/// What stands at a slot of a node: a leaf with its word, a node with something to print, or
+/// nothing that prints, which is an empty word.
+#[derive(Clone, Copy)]
+pub enum Child<'t> {
+    Word(&'t [Sym]),
+    Node(u64),
+}
+
+/// What stands at a slot of a node with these children.
+fn child_at<'t>(t: &'t Tree, lengths: &[u64], part: u64, kids: &[u64], slot: u32) -> Child<'t>
+    requires flat { IsFlat t.now }
     requires part { part < length t.now.parts }
+    requires kids { All (λ kid. kid < part) kids.now }
     requires lengths { length lengths.now ≡ length t.now.parts }
-    ensures { MatchOption result ((g : Grammar) → AreLengths g (trees_of t.now.parts) lengths.now → slot_word g (trees_of t.now.parts) (kids_of (slice_get t.now.parts part)) slot ≡ [])
-        (λ kid. (kid < part) × (slice_get (kids_of (slice_get t.now.parts part)) slot ≡ Some kid)) }
+    ensures prints { (g : Grammar) → AreLengths g (trees_of t.now.parts) lengths.now → slot_word g (trees_of t.now.parts) kids.now slot ≡ child_word g t.now result }
+    ensures node { IsNodeChild t.now part result }
 {
-    match kid_at(t.kids(part), slot) {
-        None => None,
-        Some(kid) => {
+    let Some(kid) = kid_at(kids, slot) else {
+        return Child::Word(&[]);
+    };
+    match t.part(kid) {
+        Part::Leaf(word) => Child::Word(word),
+        Part::Node { .. } => {
             if lengths[kid as usize] == 0 {
-                None
+                Child::Word(&[])
             } else {
-                Some(kid)
+                Child::Node(kid)
             }
         }
     }
 }
 
-/// Prints an item of a node. A child that is a node itself begins.
+/// Prints an item of a node, unless it is a child that is a node itself with something to print: it
+/// is the answer.
 fn print_item(
     g: &Gram,
     t: &Tree,
     lengths: &[u64],
     part: u64,
     item: &GItem,
-    tasks: &mut Vec<Task>,
+    kids: &[u64],
     symbols: &mut Vec<Sym>,
-)
+) -> Option<u64>
     requires flat { IsFlat t.now }
     requires lengths { AreLengths g.now (trees_of t.now.parts) lengths.now }
     requires part { part < length t.now.parts }
     requires there { NamesAreThere g.now item.now }
+    requires kids { kids.now ≡ kids_of (slice_get t.now.parts part) }
+    requires before { All (λ kid. kid < part) kids.now }
     requires room { vec_len symbols.old + length (item_word g.now item.now (slots_at g.now t.now part)) ≤ vec_capacity symbols.old }
-    requires stack { vec_len tasks.old + part ≤ vec_capacity tasks.old }
-    ensures prints { symbols.new.items ++ pending g.now t.now tasks.new.items ≡ symbols.old.items ++ (item_word g.now item.now (slots_at g.now t.now part) ++ pending g.now t.now tasks.old.items) }
-    ensures deeper { IsDeeper part tasks.old.items tasks.new.items }
+    ensures prints { symbols.new.items ++ entered_word g.now t.now result ≡ symbols.old.items ++ item_word g.now item.now (slots_at g.now t.now part) }
+    ensures node { IfSome result (IsNodeBefore t.now part) }
     ensures room { vec_capacity symbols.old ≤ vec_capacity symbols.new }
-    ensures stack { vec_capacity tasks.new ≡ vec_capacity tasks.old }
 {
     match item {
         GItem::Fixed(word) => append(symbols, word.as_slice()),
         GItem::Skip { skip } => append(symbols, g.normal(*skip).as_slice()),
         GItem::Term { slot, .. } | GItem::Non { slot, .. } => {
-            if let Some(kid) = printing_kid(t, part, *slot, lengths) {
-                begin(t, kid, tasks, symbols);
+            match child_at(t, lengths, part, kids, *slot) {
+                Child::Word(word) => append(symbols, word),
+                Child::Node(kid) => return Some(kid),
             }
         }
     }
+    None
 }
 
-/// Prints the next item of a node, or leaves the node where no item is left.
+/// A child of a node that is a node itself with something to print, and how many of the node's items
+/// stand up to it.
+#[derive(Clone, Copy)]
+pub struct Entry {
+    pub kid: u64,
+    pub next: usize,
+}
+
+/// Prints the items of a node that are still to be printed, up to a child that is a node itself with
+/// something to print, if there is one.
+fn print_items(
+    g: &Gram,
+    t: &Tree,
+    lengths: &[u64],
+    task: Task,
+    symbols: &mut Vec<Sym>,
+) -> Option<Entry>
+    requires flat { IsFlat t.now }
+    requires lengths { AreLengths g.now (trees_of t.now.parts) lengths.now }
+    requires part { task.part < length t.now.parts }
+    requires room { vec_len symbols.old + length (rest_word g.now t.now task) ≤ vec_capacity symbols.old }
+    ensures prints { symbols.new.items ++ entry_word g.now t.now task.part result ≡ symbols.old.items ++ rest_word g.now t.now task }
+    ensures entry { IfSome result (IsEntry g.now t.now task) }
+    ensures room { vec_capacity symbols.old ≤ vec_capacity symbols.new }
+{
+    let (items, kids) = node_of(g, t, task.part);
+    'items: for dot in task.dot..items.len() {
+        let entered = print_item(g, t, lengths, task.part, &items[dot], kids, symbols);
+        if let Some(kid) = entered {
+            let next = dot + 1;
+            return Some(Entry { kid, next });
+        }
+    }
+    None
+}
+
+/// Prints the items of a node up to a child that is a node itself, which begins, or up to the end of
+/// the node, which is left.
 fn perform(
     g: &Gram,
     t: &Tree,
@@ -117,12 +170,13 @@ fn perform(
     ensures room { vec_capacity symbols.old ≤ vec_capacity symbols.new }
     ensures stack { vec_capacity tasks.new ≡ vec_capacity tasks.old }
 {
-    let Task { part, dot } = task;
-    let items = items_of(g, t.production(part));
-    if dot < items.len() {
-        tasks.push_reserved(Task { part, dot: dot + 1 });
-        print_item(g, t, lengths, part, &items[dot], tasks, symbols);
-    }
+    let Some(entry) = print_items(g, t, lengths, task, symbols) else {
+        return;
+    };
+    let part = task.part;
+    let Entry { kid, next } = entry;
+    tasks.push_reserved(Task { part, dot: next });
+    tasks.push_reserved(Task { part: kid, dot: 0 });
 }
 
 /// Writes the word of the tree into room that was reserved: for its symbols, and for as many nodes

@@ -1,11 +1,9 @@
 -- Counts of parts, made from those of their children.
-use Rattle.std.proofs.Common.{◌≡◌, ℕ, suc, ◌+◌, ◌<◌, ◌≤◌, List, [], ◌∷◌, ◌++◌, length, map, take, drop, All, get_or, refl, sym, ◌∙◌, ap, subst, add-one, drop-cons, arith}
+use Rattle.std.proofs.Common.{◌≡◌, ℕ, suc, ◌+◌, ◌<◌, ◌≤◌, List, [], ◌∷◌, ◌++◌, length, map, take, drop, All, get_or, slice_get, Some, refl, sym, ◌∙◌, ap, subst, add-one, drop-cons, arith}
 use Rattle.std.proofs.lemmas.List.{get_or-map, map-append, length-map, length-take-le, take_all, drop_all}
 use Rattle.std.proofs.lemmas.List.Elements.{All-head, All-tail}
 use Rattle.xs_gram.specs.Common.{Common, word, kids_count, parts_count}
-use Rattle.xs_tree.specs.declared.part.TreePart.{TreePart}
-use Rattle.xs_tree.specs.declared.part.TreePart.TheVariants.{Node}
-use Rattle.xs_tree.specs.Flat.{Flat, IsFlat, IsAfter, tree_at, kids_at, tree_of, trees_of, common_of}
+use Rattle.xs_tree.specs.Flat.{TreePart, Node, Flat, IsFlat, tree_at, kids_at, tree_of, trees_of, common_of}
 use Rattle.xs_tree.proofs.Trees.{trees_step, length-trees}
 use Rattle.xs_tree.specs.Counts.{capped, capped_count, picked_sum}
 
@@ -40,13 +38,12 @@ picked_end count whole numbers kids i le small so_far =
 pub capped_small : (n next : ℕ) → next ≡ capped n → capped next ≡ next
 capped_small n next is = omega arith
 
-pub node_counted : (trees : List Common) (counts kids out : List ℕ) (part : TreePart) (production count : ℕ) → count ≡ capped (1 + picked_sum counts out) → out ≡ kids → part ≡ Node production kids → IsAfter part (length counts) → counts ≡ map capped_count trees → count ≡ capped_count (tree_of trees part)
-node_counted trees counts kids out part production count counted same is after counts_are =
-    let below : All (λ k. k < length trees) kids =
-    subst (λ n. All (λ k. k < n) kids) (ap length counts_are ∙ length-map trees capped_count) (subst (λ p. IsAfter p (length counts)) is after) in
+pub node_counted : (trees : List Common) (counts kids : List ℕ) (production count : ℕ) → count ≡ capped (1 + picked_sum counts kids) → All (λ k. k < length counts) kids → counts ≡ map capped_count trees → count ≡ capped_count (tree_of trees (Node production kids))
+node_counted trees counts kids production count counted after counts_are =
+    let below : All (λ k. k < length trees) kids = subst (λ n. All (λ k. k < n) kids) (ap length counts_are ∙ length-map trees capped_count) after in
     let sums = picked_counts trees kids 1 below in
     let one : 1 + kids_count (kids_at trees kids) ≡ suc (kids_count (kids_at trees kids)) = omega arith in
-    counted ∙ ap (λ l. capped (1 + picked_sum counts l)) same ∙ ap (λ l. capped (1 + picked_sum l kids)) counts_are ∙ sums ∙ ap capped one ∙ ap (λ p. capped_count (tree_of trees p)) (sym is)
+    counted ∙ ap (λ l. capped (1 + picked_sum l kids)) counts_are ∙ sums ∙ ap capped one
 
 -- a count for each of the parts so far
 pub counts_long : (counts : List ℕ) (parts : List TreePart) (i : ℕ) → i < length parts → counts ≡ map capped_count (trees_of (take i parts)) → length counts ≡ i
@@ -62,10 +59,10 @@ counted_root counts parts i root le lt is =
     (omega arith, ap (λ l. get_or l root 0) all ∙ get_or-map capped_count (trees_of parts) root (word []) 0 there)
 
 -- the trees of some more parts begin with those of the parts
-pub counts_step : (counts : List ℕ) (parts : List TreePart) (i : ℕ) (part : TreePart) (count : ℕ) → i < length parts → part ≡ get_or parts i part → counts ≡ map capped_count (trees_of (take i parts)) → count ≡ capped_count (tree_of (trees_of (take i parts)) part) → counts ++ count ∷ [] ≡ map capped_count (trees_of (take (i + 1) parts))
-counts_step counts parts i part count lt is so_far counted =
+pub counts_step : (counts : List ℕ) (parts : List TreePart) (i : ℕ) (part : TreePart) (count : ℕ) → slice_get parts i ≡ Some part → counts ≡ map capped_count (trees_of (take i parts)) → count ≡ capped_count (tree_of (trees_of (take i parts)) part) → counts ++ count ∷ [] ≡ map capped_count (trees_of (take (i + 1) parts))
+counts_step counts parts i part count is so_far counted =
     let before = trees_of (take i parts) in
-    let next : trees_of (take (i + 1) parts) ≡ before ++ tree_of before part ∷ [] = trees_step parts i part lt is in
+    let next : trees_of (take (i + 1) parts) ≡ before ++ tree_of before part ∷ [] = trees_step parts i part is in
     ap (λ l. l ++ count ∷ []) so_far ∙ ap (λ n. map capped_count before ++ n ∷ []) counted ∙ sym (map-append capped_count before (tree_of before part ∷ [])) ∙ ap (map capped_count) (sym next)
 
 -- the count of the root

@@ -1,4 +1,5 @@
 pub mod Trees
 pub mod Counting
+mod Rows
 mod Shapes
 mod Numbering

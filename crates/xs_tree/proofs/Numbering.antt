@@ -4,9 +4,7 @@ use Rattle.std.proofs.lemmas.List.{append-nil, get_or-map, map-append, length-ma
 use Rattle.std.proofs.lemmas.List.Elements.{All-nil, All-cons, All-head, All-tail}
 use Rattle.std.proofs.lemmas.Option.{none-some, slice_get-get_or, slice_get_within}
 use Rattle.xs_gram.specs.Common.{Common, word, made, Kids, no_kid, kid}
-use Rattle.xs_tree.specs.declared.part.TreePart.{TreePart}
-use Rattle.xs_tree.specs.declared.part.TreePart.TheVariants.{Leaf, Node}
-use Rattle.xs_tree.specs.Flat.{Flat, IsFlat, common_of, IsAfter, AreRising, tree_at, kids_at, tree_of, trees_of}
+use Rattle.xs_tree.specs.Flat.{TreePart, Leaf, Node, Flat, IsFlat, common_of, IsAfter, AreRising, tree_at, kids_at, tree_of, trees_of}
 use Rattle.xs_tree.specs.Tables.{AreDifferent, AreNumbered, Extends, IsGrown, IsTable, picked, renumbered}
 use Rattle.xs_tree.proofs.Trees.{length-trees, part_ready, rising_none, rising_push, tree_is, tree_stays, trees_onward, trees_step}
 
@@ -81,14 +79,15 @@ pub numbered_long : (table parts : List TreePart) (numbers : List ℕ) (i : ℕ)
 numbered_long table parts numbers i le numbered =
     sym (length-map numbers (λ n. tree_at (trees_of table) n)) ∙ ap length numbered.means ∙ length-trees (take i parts) ∙ length-take-le i parts le
 
-one_more : (start table new parts : List TreePart) (numbers : List ℕ) (i number : ℕ) (part : TreePart) → SoFar start table (trees_of (take i parts)) numbers → AreRising parts → i < length parts → part ≡ get_or parts i part
+one_more : (start table new parts : List TreePart) (numbers : List ℕ) (i number : ℕ) (part : TreePart) → SoFar start table (trees_of (take i parts)) numbers → AreRising parts → slice_get parts i ≡ Some part
     → IsGrown table (renumbered numbers part) new → slice_get new number ≡ Some (renumbered numbers part) → AreDifferent new → SoFar start new (trees_of (take (i + 1) parts)) (numbers ++ number ∷ [])
-one_more start table new parts numbers i number part so rising lt is grown stored different =
+one_more start table new parts numbers i number part so rising is grown stored different =
     let shape = renumbered numbers part in
     let trees = trees_of (take i parts) in
     let means : ℕ → Common = λ n. tree_at (trees_of new) n in
+    let lt = slice_get_within parts i part is in
     let long = numbered_long table parts numbers i (omega arith) so.numbered in
-    let after = part_ready parts numbers i part rising lt is long in
+    let after = part_ready parts numbers i part rising is long in
     let ext = grown_extends table shape new grown in
     let risen = grown_rising table shape new so.is_table.rising (renumbered_after numbers part (length table) so.numbered.there after) grown in
     let still = numbered_still table new trees numbers ext so.numbered in
@@ -97,17 +96,17 @@ one_more start table new parts numbers i number part so rising lt is grown store
       is_table = record { rising = risen; different = different };
       goes_on = extends_twice start table new so.goes_on ext;
       numbered = record {
-        means = map-append means numbers (number ∷ []) ∙ ap (λ l. l ++ means number ∷ []) still.means ∙ ap (λ t. trees ++ t ∷ []) found ∙ sym (trees_step parts i part lt is);
+        means = map-append means numbers (number ∷ []) ∙ ap (λ l. l ++ means number ∷ []) still.means ∙ ap (λ t. trees ++ t ∷ []) found ∙ sym (trees_step parts i part is);
         there = numbers_push numbers (length new) number still.there (slice_get_within new number shape stored);
       };
     }
 
 -- one more part is numbered
-pub one_more_item : (start table new parts : List TreePart) (numbers now items : List ℕ) (i number : ℕ) (part shape : TreePart) → SoFar start table (trees_of (take i parts)) numbers → AreRising parts → i < length parts → part ≡ get_or parts i part
+pub one_more_item : (start table new parts : List TreePart) (numbers now items : List ℕ) (i number : ℕ) (part shape : TreePart) → SoFar start table (trees_of (take i parts)) numbers → AreRising parts → slice_get parts i ≡ Some part
     → now ≡ numbers → shape ≡ renumbered now part → IsGrown table shape new → slice_get new number ≡ Some shape → AreDifferent new → items ≡ numbers ++ number ∷ [] → SoFar start new (trees_of (take (i + 1) parts)) items
-one_more_item start table new parts numbers now items i number part shape so rising lt is same made_so grown stored different pushed =
+one_more_item start table new parts numbers now items i number part shape so rising is same made_so grown stored different pushed =
     let is_shape : shape ≡ renumbered numbers part = made_so ∙ ap (λ l. renumbered l part) same in
-    let next = one_more start table new parts numbers i number part so rising lt is (subst (λ p. IsGrown table p new) is_shape grown) (stored ∙ ap (λ p. Some p) is_shape) different in
+    let next = one_more start table new parts numbers i number part so rising is (subst (λ p. IsGrown table p new) is_shape grown) (stored ∙ ap (λ p. Some p) is_shape) different in
     subst (SoFar start new (trees_of (take (i + 1) parts))) (sym pushed) next
 
 word_same : (v w : List ℕ) → word v ≡ word w → v ≡ w

@@ -9,8 +9,7 @@ use Rattle.std.proofs.lemmas.Slice.Eq.{slice_eq-Decides}
 use Rattle.std.proofs.lemmas.List.{map-append}
 use Rattle.std.proofs.lemmas.Option.{none-some, same_Some, slice_get-map, slice_get_within, get_or_from_slice_get}
 use Rattle.std.proofs.lemmas.Map.Keys.{apart_from_distinct}
-use Rattle.xs_tree.specs.declared.part.TreePart.{TreePart}
-use Rattle.xs_tree.specs.declared.part.TreePart.TheVariants.{Leaf, Node}
+use Rattle.xs_tree.specs.Flat.{TreePart, Leaf, Node}
 use Rattle.xs_tree.specs.declared.table.Shape.{Shape}
 use Rattle.xs_tree.specs.declared.table.Shape.TheVariants.{Word, Made}
 use Rattle.xs_tree.specs.contracts.table.ShapePartialEq.TheImpl as block

@@ -1,13 +1,11 @@
 -- The trees of a list of parts, one for each part, and how they grow with it.
-use Rattle.std.proofs.Common.{◌≡◌, inl, inr, ℕ, zero, suc, ◌+◌, ◌<◌, List, [], ◌∷◌, ◌++◌, length, All, get_or, slice_get, Some, refl, sym, ◌∙◌, ap, subst, length-append, add-one, take, arith}
+use Rattle.std.proofs.Common.{◌≡◌, inl, inr, ℕ, zero, suc, ◌+◌, ◌<◌, List, [], ◌∷◌, ◌++◌, length, All, slice_get, Some, refl, sym, ◌∙◌, ap, subst, length-append, add-one, take, arith}
 use Rattle.std.proofs.lemmas.List.{get_or_append_left}
 use Rattle.std.proofs.lemmas.List.Elements.{All-head, All-tail}
-use Rattle.std.proofs.lemmas.Option.{none-some, same_Some, slice_get_read}
+use Rattle.std.proofs.lemmas.Option.{get_or_from_slice_get, none-some, same_Some, slice_get_within}
 use Rattle.std.proofs.Math.Seq.{get_or-append_seam, take-suc}
-use Rattle.xs_tree.specs.declared.part.TreePart.{TreePart}
-use Rattle.xs_tree.specs.declared.part.TreePart.TheVariants.{Leaf, Node}
+use Rattle.xs_tree.specs.Flat.{TreePart, Leaf, Node, IsAfter, AreRising, kids_at, tree_at, tree_of, trees_after, trees_of}
 use Rattle.xs_gram.specs.Common.{Common, word, made, kid}
-use Rattle.xs_tree.specs.Flat.{IsAfter, AreRising, kids_at, tree_at, tree_of, trees_after, trees_of}
 use Rattle.xs_class.proofs.Lists.{get_push}
 
 -- a part more is a tree more
@@ -29,12 +27,6 @@ rising_push parts part rising after i other is =
 pub rising_none : AreRising []
 rising_none i part is = absurd (none-some part is)
 
--- the children of a part that is there stand before it
-pub part_kids_before : (parts : List TreePart) (i : ℕ) (part : TreePart) (production : ℕ) (kids out : List ℕ) → AreRising parts → i < length parts → part ≡ get_or parts i part → part ≡ Node production kids → out ≡ kids → All (λ kid. kid < i) out
-part_kids_before parts i part production kids out rising within read is same =
-    let found = slice_get_read parts (length parts) i part refl within read in
-    subst (λ (l : List ℕ). All (λ kid. kid < i) l) (sym same) (subst (λ p. IsAfter p i) is (rising i part found))
-
 -- a tree for each part
 length-trees_after : (trees : List Common) (parts : List TreePart) → length (trees_after trees parts) ≡ length trees + length parts
 length-trees_after trees [] = omega arith
@@ -47,15 +39,15 @@ pub length-trees : (parts : List TreePart) → length (trees_of parts) ≡ lengt
 length-trees parts = omega (arith, length-trees_after [] parts)
 
 -- the trees of one part more of a list
-pub trees_step : (parts : List TreePart) (i : ℕ) (part : TreePart) → i < length parts → part ≡ get_or parts i part → trees_of (take (i + 1) parts) ≡ trees_of (take i parts) ++ tree_of (trees_of (take i parts)) part ∷ []
-trees_step parts i part lt is =
-    let one : take (i + 1) parts ≡ take i parts ++ part ∷ [] = ap (λ n. take n parts) (add-one i) ∙ take-suc parts i part lt ∙ ap (λ p. take i parts ++ p ∷ []) (sym is) in
+pub trees_step : (parts : List TreePart) (i : ℕ) (part : TreePart) → slice_get parts i ≡ Some part → trees_of (take (i + 1) parts) ≡ trees_of (take i parts) ++ tree_of (trees_of (take i parts)) part ∷ []
+trees_step parts i part is =
+    let read = get_or_from_slice_get parts i part part is in
+    let one : take (i + 1) parts ≡ take i parts ++ part ∷ [] = ap (λ n. take n parts) (add-one i) ∙ take-suc parts i part (slice_get_within parts i part is) ∙ ap (λ p. take i parts ++ p ∷ []) read in
     ap trees_of one ∙ trees_push (take i parts) part
 
 -- the children of part i stand below the length of a list that has that many
-pub part_ready : (parts : List TreePart) (numbers : List ℕ) (i : ℕ) (part : TreePart) → AreRising parts → i < length parts → part ≡ get_or parts i part → length numbers ≡ i → IsAfter part (length numbers)
-part_ready parts numbers i part rising lt is long =
-    subst (λ n. IsAfter part n) (sym long) (rising i part (slice_get_read parts (length parts) i part refl lt is))
+pub part_ready : (parts : List TreePart) (numbers : List ℕ) (i : ℕ) (part : TreePart) → AreRising parts → slice_get parts i ≡ Some part → length numbers ≡ i → IsAfter part (length numbers)
+part_ready parts numbers i part rising is long = subst (λ n. IsAfter part n) (sym long) (rising i part is)
 
 -- trees stay where they are
 pub tree_stays : (trees : List Common) (parts : List TreePart) (k : ℕ) → k < length trees → tree_at (trees_after trees parts) k ≡ tree_at trees k

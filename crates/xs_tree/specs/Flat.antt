@@ -1,8 +1,12 @@
 -- Flat trees: a list of parts, the children of each before it, and the common tree that each means.
 use Rattle.std.specs.Prelude.{◌≡◌, ℕ, ◌<◌, List, [], ◌∷◌, ◌++◌, length, All, Option, None, Some, slice_get, slice_index_or}
-use Rattle.xs_tree.specs.declared.part.TreePart.{TreePart}
-use Rattle.xs_tree.specs.declared.part.TreePart.TheVariants.{Leaf, Node}
 use Rattle.xs_gram.specs.Common.{Common, word, made, Kids, no_kid, kid}
+
+-- a part: a leaf with its word, or a node with its production and the places of its children in the
+-- order of the slots
+pub data TreePart : Type 0 where
+  Leaf : List ℕ → TreePart
+  Node : ℕ → List ℕ → TreePart
 
 -- the parts, and the place of the root among them
 pub record Flat : Type 0 where

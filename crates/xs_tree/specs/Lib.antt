@@ -1,3 +1,5 @@
 pub mod Flat
 pub mod Counts
+pub mod Lent
+pub mod Rows
 pub mod Tables

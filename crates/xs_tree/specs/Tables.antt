@@ -1,11 +1,9 @@
 -- Parts that stand in a table once each, so that equal trees have equal numbers.
 use Rattle.std.specs.Prelude.{◌≡◌, ◌⊎◌, ℕ, ◌<◌, List, [], ◌∷◌, ◌++◌, length, map, All, Some, slice_get, slice_index}
-use Rattle.xs_tree.specs.declared.part.TreePart.{TreePart}
-use Rattle.xs_tree.specs.declared.part.TreePart.TheVariants.{Leaf, Node}
+use Rattle.xs_tree.specs.Flat.{TreePart, Leaf, Node, AreRising, tree_at, trees_of}
 use Rattle.xs_tree.specs.declared.table.Shape.{Shape}
 use Rattle.xs_tree.specs.declared.table.Shape.TheVariants.{Word, Made}
 use Rattle.xs_gram.specs.Common.{Common}
-use Rattle.xs_tree.specs.Flat.{AreRising, tree_at, trees_of}
 
 -- a shape as a part
 abbrev pub part_of : Shape → TreePart

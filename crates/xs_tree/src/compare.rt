@@ -2,8 +2,9 @@ ghost use Rattle.std.specs.Prelude.{◌≡◌, ◌↔◌, map, IsTrue, IfOk, OnO
 ghost use Rattle.xs_tree.specs.Flat.{AreRising, common_of, trees_of};
 ghost use Rattle.xs_tree.specs.Tables.{AreNumbered, Extends, IsTable, part_of};
 
+use crate::Tree;
+use crate::parts::Parts;
 use crate::table::{Shape, number_at, number_of, shape_of};
-use crate::{Tree, TreePart};
 use indexmap::IndexSet;
 use std::alloc::Global;
 use xs_class::Memory;
@@ -12,7 +13,7 @@ use xs_class::Memory;
 fn numbers_of(
     alloc: Global,
     shapes: &mut IndexSet<Shape>,
-    parts: &[TreePart],
+    parts: &Parts,
 ) -> Result<Vec<u64>, Memory>
     requires table { IsTable (map part_of shapes.old.keys) }
     requires rising { AreRising parts.now }
@@ -21,8 +22,8 @@ fn numbers_of(
     ensures table { OnOk result (IsTable (map part_of shapes.new.keys)) }
 {
     let mut numbers = Vec::with_capacity(alloc, parts.len())?;
-    'parts: for part in parts {
-        let shape = shape_of(alloc, &numbers, part)?;
+    'parts: for i in 0..parts.len() {
+        let shape = shape_of(alloc, &numbers, parts.part(i))?;
         let number = number_of(shapes, shape)?;
         numbers.push(number)?;
     }

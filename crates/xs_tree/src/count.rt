@@ -1,10 +1,11 @@
 ghost use Rattle.std.specs.Prelude.{◌≡◌, ◌+◌, ◌<◌, List, length, map, All, IfOk};
 ghost use Rattle.xs_gram.specs.Common.{Common};
 ghost use Rattle.xs_tree.specs.Flat.{IsAfter, common_of, tree_of};
+ghost use Rattle.xs_tree.specs.Lent.{lent};
 ghost use Rattle.xs_tree.specs.Counts.{capped, capped_count, picked_sum};
 
 use crate::table::number_at;
-use crate::{Tree, TreePart};
+use crate::{Part, Tree};
 use std::alloc::Global;
 use xs_class::Memory;
 
@@ -20,13 +21,13 @@ fn node_count(kids: &[u64], counts: &[u64]) -> u64
     count
 }
 
-fn part_count(part: &TreePart, counts: &[u64]) -> u64
-    requires { IsAfter part.now (length counts.now) }
-    ensures { (trees : List Common) → counts.now ≡ map capped_count trees → result ≡ capped_count (tree_of trees part.now) }
+fn part_count(part: Part<'_>, counts: &[u64]) -> u64
+    requires { IsAfter (lent part) (length counts.now) }
+    ensures { (trees : List Common) → counts.now ≡ map capped_count trees → result ≡ capped_count (tree_of trees (lent part.entry)) }
 {
     match part {
-        TreePart::Leaf(_) => 1,
-        TreePart::Node { kids, .. } => node_count(kids.as_slice(), counts),
+        Part::Leaf(_) => 1,
+        Part::Node { kids, .. } => node_count(kids, counts),
     }
 }
 
@@ -37,8 +38,8 @@ pub fn parts_of(alloc: Global, tree: &Tree) -> Result<u64, Memory>
 {
     let parts = tree.parts();
     let mut counts = Vec::with_capacity(alloc, parts.len())?;
-    'parts: for part in parts {
-        let count = part_count(part, &counts);
+    'parts: for i in 0..parts.len() {
+        let count = part_count(parts.part(i), &counts);
         counts.push(count)?;
     }
     Ok(number_at(&counts, tree.root()))

@@ -1,8 +1,9 @@
 ghost use Rattle.std.specs.Prelude.{◌≡◌, ◌<◌, Some, length, map, All, slice_get, slice_index, IfOk, OnOk};
 ghost use Rattle.xs_tree.specs.Flat.{IsAfter};
+ghost use Rattle.xs_tree.specs.Lent.{lent};
 ghost use Rattle.xs_tree.specs.Tables.{AreDifferent, IsGrown, picked, part_of, renumbered};
 
-use crate::TreePart;
+use crate::Part;
 use indexmap::IndexSet;
 use std::alloc::Global;
 use xs_class::{Memory, Sym};
@@ -35,18 +36,15 @@ fn numbers_at(alloc: Global, numbers: &[u64], places: &[u64]) -> Result<Vec<u64>
 }
 
 /// The shape of a part, where the numbers of the parts before it are given.
-pub fn shape_of(alloc: Global, numbers: &[u64], part: &TreePart) -> Result<Shape, Memory>
-    requires { IsAfter part.now (length numbers.now) }
-    ensures { IfOk result (λ shape. part_of shape ≡ renumbered numbers.now part.now) }
+pub fn shape_of(alloc: Global, numbers: &[u64], part: Part<'_>) -> Result<Shape, Memory>
+    requires { IsAfter (lent part) (length numbers.now) }
+    ensures { IfOk result (λ shape. part_of shape ≡ renumbered numbers.now (lent part.entry)) }
 {
     match part {
-        TreePart::Leaf(word) => Ok(Shape::Word(Vec::from_slice(alloc, word.as_slice())?)),
-        TreePart::Node { production, kids } => {
-            let kids = numbers_at(alloc, numbers, kids.as_slice())?;
-            Ok(Shape::Made {
-                production: *production,
-                kids,
-            })
+        Part::Leaf(word) => Ok(Shape::Word(Vec::from_slice(alloc, word)?)),
+        Part::Node { production, kids } => {
+            let kids = numbers_at(alloc, numbers, kids)?;
+            Ok(Shape::Made { production, kids })
         }
     }
 }

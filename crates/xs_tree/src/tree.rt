@@ -1,9 +1,10 @@
 ghost use Rattle.std.specs.Prelude.{◌≡◌, ◌<◌, length, slice_get, All, Some};
 ghost use Rattle.std.specs.Option.{option_copied};
 
-use crate::TreePart;
+use crate::Part;
+use crate::parts::Parts;
 use std::marker::Model;
-use xs_class::Word;
+use xs_class::Sym;
 
 /// A flat tree: its parts, the children of each before it, and the root, as contracts see it the
 /// list of the parts and the root's place.
@@ -12,7 +13,7 @@ use xs_class::Word;
 /// root means can be far larger than the flat one.
 #[derive(Debug, Drop)]
 pub struct Tree {
-    parts: Vec<TreePart>,
+    parts: Parts,
     root: u64,
 }
 
@@ -21,26 +22,27 @@ impl Model for Tree {
 
     ghost Value = { Flat };
 
-    ghost view = { λ t. record { parts = t.parts.items; root = t.root } };
+    ghost view = { λ t. record { parts = t.parts; root = t.root } };
 
-    ghost invariant = { λ t. IsFlat (record { parts = t.parts.items; root = t.root }) };
+    ghost invariant = { λ t. IsFlat (record { parts = t.parts; root = t.root }) };
 }
 
 impl Tree {
-    ghost use Rattle.xs_tree.specs.Flat.{AreRising, IsFlat, kids_of, production_of, word_of};
+    ghost use Rattle.xs_tree.specs.Flat.{AreRising, IsAfter, IsFlat, kids_of, production_of, word_of};
+    ghost use Rattle.xs_tree.specs.Lent.{lent};
 
     /// The tree of these parts.
-    pub(crate) fn of(parts: Vec<TreePart>, root: u64) -> Self
-        requires root { root < length parts.items }
-        requires rising { AreRising parts.items }
-        ensures parts { result.parts ≡ parts.items }
+    pub(crate) fn of(parts: Parts, root: u64) -> Self
+        requires root { root < length parts }
+        requires rising { AreRising parts }
+        ensures parts { result.parts ≡ parts }
         ensures root { result.root ≡ root }
     {
         Tree { parts, root }
     }
 
     /// The parts in order.
-    pub(crate) fn parts(&self) -> &[TreePart]
+    pub(crate) fn parts(&self) -> &Parts
         ensures parts { result.now ≡ self.now.parts }
         ensures flat { IsFlat self.now }
     {
@@ -62,14 +64,23 @@ impl Tree {
         self.root
     }
 
+    /// Part i, whose children stand before it.
+    pub fn part(&self, i: u64) -> Part<'_>
+        requires { i < length self.now.parts }
+        ensures part { slice_get self.now.parts i ≡ Some (lent result) }
+        ensures before { IsAfter (lent result) i }
+    {
+        self.parts.part(i as usize)
+    }
+
     /// The production of a node, and None at a leaf.
     pub fn production(&self, i: u64) -> Option<u32>
         requires { i < length self.now.parts }
         ensures { result ≡ production_of (slice_get self.now.parts i) }
     {
-        match &self.parts[i as usize] {
-            TreePart::Leaf(_) => None,
-            TreePart::Node { production, .. } => Some(*production),
+        match self.part(i) {
+            Part::Leaf(_) => None,
+            Part::Node { production, .. } => Some(production),
         }
     }
 
@@ -79,9 +90,9 @@ impl Tree {
         ensures kids { result.now ≡ kids_of (slice_get self.now.parts i) }
         ensures before { All (λ kid. kid < i) result.now }
     {
-        match &self.parts[i as usize] {
-            TreePart::Leaf(_) => &[],
-            TreePart::Node { kids, .. } => kids.as_slice(),
+        match self.part(i) {
+            Part::Leaf(_) => &[],
+            Part::Node { kids, .. } => kids,
         }
     }
 
@@ -96,13 +107,13 @@ impl Tree {
     }
 
     /// The word of a leaf, and None at a node.
-    pub fn word(&self, i: u64) -> Option<&Word>
+    pub fn word(&self, i: u64) -> Option<&[Sym]>
         requires { i < length self.now.parts }
         ensures { option_copied result ≡ word_of (slice_get self.now.parts i) }
     {
-        match &self.parts[i as usize] {
-            TreePart::Leaf(word) => Some(word),
-            TreePart::Node { .. } => None,
+        match self.part(i) {
+            Part::Leaf(word) => Some(word),
+            Part::Node { .. } => None,
         }
     }
 }

@@ -193,7 +193,9 @@ pub fn tree_of(
     requires { IsBuilt g.now }
     ensures { IfOk result (λ o. IfSome o (λ tree. (d : Derivation) → IsTreeOf table.now doc.now d → Derives g.now doc.now d → common_of tree ≡ strip g.now d)) }
 {
-    let mut builder = Builder::new(alloc)?;
+    let parts = table.parts.len();
+    let rows = parts.saturating_add(1);
+    let mut builder = Builder::with_capacity(alloc, rows, parts, doc.len())?;
     let Some(numbers) = number_nodes(alloc, g, doc, table, &mut builder)? else {
         return Ok(None);
     };

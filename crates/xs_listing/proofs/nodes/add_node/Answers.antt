@@ -1,6 +1,5 @@
 use Rattle.std.proofs.Common.{◌≡◌, ◌<◌, ◌++◌, ◌∷◌, [], length, List, ℕ, All, sym, ◌∙◌, ap, subst}
-use Rattle.xs_tree.specs.declared.part.TreePart.{TreePart}
-use Rattle.xs_tree.specs.declared.part.TreePart.TheVariants.{Node}
+use Rattle.xs_tree.specs.Flat.{TreePart, Node}
 use Rattle.xs_listing.specs.Making.{IsMade}
 use Rattle.xs_listing.proofs.Preparing.{rule_there, can_gather, kids_before, node_made}
 use Rattle.xs_listing.proofs.nodes.add_node.Goals as goal

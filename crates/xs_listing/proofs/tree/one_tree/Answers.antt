@@ -2,8 +2,7 @@ use Rattle.std.proofs.Common.{◌≡◌, List, Bool, sym, ◌∙◌, ap, subst, 
 use Rattle.std.specs.Prelude.{slice_index}
 use Rattle.std.proofs.lemmas.List.{get_or_read}
 use Rattle.xs_gram.specs.Languages.{HasTree}
-use Rattle.xs_tree.specs.Flat.{tree_at, trees_of}
-use Rattle.xs_tree.specs.declared.part.TreePart.{TreePart}
+use Rattle.xs_tree.specs.Flat.{tree_at, trees_of, TreePart}
 use Rattle.xs_listing.specs.Marks.{AreMarked, IsMarked}
 use Rattle.xs_listing.proofs.Preparing.{root_ready, root_whole, root_tree}
 use Rattle.xs_listing.proofs.tree.one_tree.Goals as goal

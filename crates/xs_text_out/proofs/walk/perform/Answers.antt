@@ -1,47 +1,44 @@
-use Rattle.std.proofs.Common.{◌∙◌, ◌+◌, List, ◌++◌, length, ap, arith, refl}
-use Rattle.xs_text_out.specs.declared.walk.Task.{Task}
-use Rattle.xs_text_out.specs.Walk.{pending, slots_at}
-use Rattle.xs_text_out.specs.Printed.{item_word, rule_items}
-use Rattle.xs_text_out.proofs.Walking.{falling_deeper, falling_front, falling_last, falling_length, item_prints, item_there, less_deeper, less_gone}
+use Rattle.std.proofs.Common.{◌∙◌, ◌++◌, List, ℕ, length, ap, arith}
+use Rattle.xs_gram.specs.Common.{print}
+use Rattle.xs_tree.specs.Flat.{common_at}
+use Rattle.xs_text_out.specs.Walk.{pending, rest_word}
+use Rattle.xs_text_out.proofs.Walking.{falling_entered, falling_front, falling_last, falling_length, less_entered, less_gone, pending_entered, printed_before, task_at}
 use Rattle.xs_text_out.proofs.walk.perform.Goals as goal
 
-pub production-requires : goal.production-requires
-production-requires c = falling_last (length c.args.t.now.parts) c.args.tasks.now.items c.args.task c.requires.falling
+pub print_items-requires-clause-part : goal.print_items-requires-clause-part
+print_items-requires-clause-part c = falling_last (length c.args.t.now.parts) c.args.tasks.now.items c.args.task c.requires.falling
+
+pub returns-in_default-clause-falling : goal.returns-in_default-clause-falling
+returns-in_default-clause-falling c = falling_front (length c.args.t.now.parts) c.args.tasks.now.items c.args.task c.requires.falling
+
+pub returns-in_default-clause-less : goal.returns-in_default-clause-less
+returns-in_default-clause-less c = less_gone c.args.g.now c.args.t.now c.args.tasks.now.items c.args.task
 
 pub push_reserved-requires : goal.push_reserved-requires
 push_reserved-requires c =
     let long = falling_length (length c.args.t.now.parts) c.args.tasks.now.items c.args.task c.requires.falling in
-    omega arith
+    omega (arith, long, c.requires.stack, c.args.tasks.now.ok.0)
 
-pub print_item-requires-clause-part : goal.print_item-requires-clause-part
-print_item-requires-clause-part c = falling_last (length c.args.t.now.parts) c.args.tasks.now.items c.args.task c.requires.falling
-
-pub print_item-requires-clause-there : goal.print_item-requires-clause-there
-print_item-requires-clause-there c =
-    (item_there c.args.g.now c.items_of-items.result.now _ c.args.task.dot c.index-items-dot.result c.items_of-items.ensures.there refl c.if-dot-items.true c.index-items-dot.is).0
-
-pub print_item-requires-clause-stack : goal.print_item-requires-clause-stack
-print_item-requires-clause-stack c =
+pub push_reserved-requires-2 : goal.push_reserved-requires-2
+push_reserved-requires-2 c =
     let long = falling_length (length c.args.t.now.parts) c.args.tasks.now.items c.args.task c.requires.falling in
-    omega arith
+    omega (arith, long, c.requires.stack, c.args.tasks.now.ok.0, c.push_reserved.ensures.len, c.push_reserved.ensures.capacity, c.in-Some.ensures.entry.kid.before)
 
-pub returns-then-dot-items-clause-prints : goal.returns-then-dot-items-clause-prints
-returns-then-dot-items-clause-prints c =
-    let found = (item_there c.args.g.now c.items_of-items.result.now _ c.args.task.dot c.index-items-dot.result c.items_of-items.ensures.there (c.items_of-items.ensures.items ∙ ap (rule_items c.args.g.now) c.production.ensures) c.if-dot-items.true c.index-items-dot.is).1 in
-    item_prints c.args.g.now c.args.t.now c.args.task.part c.args.task.dot c.index-items-dot.result c.args.symbols.now.items c.print_item.new.symbols.items c.args.tasks.now.items c.print_item.new.tasks.items found
-    (c.print_item.ensures.prints ∙ ap (λ (l : List Task). c.args.symbols.now.items ++ (item_word c.args.g.now c.index-items-dot.result (slots_at c.args.g.now c.args.t.now c.args.task.part) ++ pending c.args.g.now c.args.t.now l)) c.push_reserved.ensures.items)
+pub returns-clause-prints : goal.returns-clause-prints
+returns-clause-prints c =
+    let g = c.args.g.now in
+    let f = c.args.t.now in
+    let part = c.args.task.part in
+    let entry = c.in-Some.entry in
+    let last = falling_last (length f.parts) c.args.tasks.now.items c.args.task c.requires.falling in
+    let ahead = pending_entered g f part entry.next entry.kid c.args.tasks.now.items c.push_reserved.new.self.items c.push_reserved-2.new.self.items c.requires.flat (omega (arith, last, c.in-Some.ensures.entry.kid.before)) c.in-Some.ensures.entry.kid.node c.push_reserved.ensures.items c.push_reserved-2.ensures.items in
+    ap (λ (l : List ℕ). c.print_items.new.symbols.items ++ l) ahead
+    ∙ printed_before c.print_items.new.symbols.items c.args.symbols.now.items (print g (common_at f entry.kid) ++ rest_word g f (task_at part entry.next)) (rest_word g f c.args.task) (pending g f c.args.tasks.now.items) c.in-Some.ensures.prints
 
-pub returns-then-dot-items-clause-falling : goal.returns-then-dot-items-clause-falling
-returns-then-dot-items-clause-falling c =
-    falling_deeper (length c.args.t.now.parts) c.args.tasks.now.items c.push_reserved.new.self.items c.print_item.new.tasks.items c.args.task.part c.args.task.dot (c.args.task.dot + 1) c.requires.falling c.push_reserved.ensures.items c.print_item.ensures.deeper
+pub returns-clause-falling : goal.returns-clause-falling
+returns-clause-falling c =
+    falling_entered (length c.args.t.now.parts) c.args.tasks.now.items c.push_reserved.new.self.items c.push_reserved-2.new.self.items c.args.task.part c.args.task.dot c.in-Some.entry.next c.in-Some.entry.kid c.requires.falling c.in-Some.ensures.entry.kid.before c.push_reserved.ensures.items c.push_reserved-2.ensures.items
 
-pub returns-then-dot-items-clause-less : goal.returns-then-dot-items-clause-less
-returns-then-dot-items-clause-less c =
-    let found = (item_there c.args.g.now c.items_of-items.result.now _ c.args.task.dot c.index-items-dot.result c.items_of-items.ensures.there (c.items_of-items.ensures.items ∙ ap (rule_items c.args.g.now) c.production.ensures) c.if-dot-items.true c.index-items-dot.is).1 in
-    less_deeper c.args.g.now c.args.t.now c.args.tasks.now.items c.push_reserved.new.self.items c.print_item.new.tasks.items c.args.task.part c.args.task.dot c.index-items-dot.result found c.push_reserved.ensures.items c.print_item.ensures.deeper
-
-pub returns-else-dot-items-clause-falling : goal.returns-else-dot-items-clause-falling
-returns-else-dot-items-clause-falling c = falling_front (length c.args.t.now.parts) c.args.tasks.now.items c.args.task c.requires.falling
-
-pub returns-else-dot-items-clause-less : goal.returns-else-dot-items-clause-less
-returns-else-dot-items-clause-less c = less_gone c.args.g.now c.args.t.now c.args.tasks.now.items c.args.task
+pub returns-clause-less : goal.returns-clause-less
+returns-clause-less c =
+    less_entered c.args.g.now c.args.t.now c.args.tasks.now.items c.push_reserved.new.self.items c.push_reserved-2.new.self.items c.args.task.part c.args.task.dot c.in-Some.entry.next c.in-Some.entry.kid c.in-Some.ensures.entry.less c.in-Some.ensures.entry.kid.before c.push_reserved.ensures.items c.push_reserved-2.ensures.items

@@ -5,4 +5,4 @@ use Rattle.xs_tree.proofs.Numbering.{SoFar}
 use Rattle.xs_tree.proofs.compare.numbers_of.Given as goal
 
 abbrev pub invariant-parts : goal.invariant-parts
-invariant-parts l = SoFar (map part_of l.fn.shapes.keys) (map part_of l.shapes.keys) (trees_of (take l.part-index l.parts)) l.numbers.items
+invariant-parts l = SoFar (map part_of l.fn.shapes.keys) (map part_of l.shapes.keys) (trees_of (take l.i l.parts)) l.numbers.items

@@ -1,6 +1,5 @@
 use Rattle.std.proofs.Common.{◌<◌, List, length, ◌∙◌, ap, arith}
-use Rattle.xs_tree.specs.declared.part.TreePart.{TreePart}
-use Rattle.xs_tree.specs.Flat.{tree_at, trees_of}
+use Rattle.xs_tree.specs.Flat.{TreePart, tree_at, trees_of}
 use Rattle.xs_tree.proofs.Trees.{length-trees}
 use Rattle.xs_turn.proofs.Nodes.{root_there, root_tree}
 use Rattle.xs_turn.proofs.table.tree_of.Goals as goal
