@@ -1,18 +1,25 @@
-//! Documents of small sheets without ignorables, turned both ways.
+//! Documents of small sheets without ignorables, translated both ways.
 ghost use Rattle.xs_pair.specs.Sound.{IsSoundPair};
 
 use crate::pair::PAIR;
 use crate::sheets::two_of;
-use bumpalo::Bump;
 use std::alloc::Global;
 use std::process::Abort;
 use xs_class::{Side, Sym, Word};
 use xs_pair::Two;
-use xs_turn::{TurnFault, turn};
+use xs_turn::{TurnFault, translate};
 use xs_wf::WfFault;
 
 /// The empty text, which is an empty element.
 const EMPTY: &[u8] = b"xsugar-1\nstart s\ns : = <s/>\n";
+
+/// The other side.
+pub fn other_side(side: Side) -> Side {
+    match side {
+        Side::Text => Side::Xml,
+        Side::Xml => Side::Text,
+    }
+}
 
 /// Whether the document of this side is turned into this word of the other.
 fn is_turned(
@@ -27,10 +34,9 @@ fn is_turned(
     if doc.len() >= 1000 {
         return Ok(false);
     }
-    let bump = Bump::new(alloc);
     let doc = Word::of(alloc, doc)?;
-    let turned = turn(alloc, &bump, two, side, &doc)?;
-    Ok(turned.word.as_slice() == word)
+    let translated = translate(alloc, two, side, other_side(side), &doc)?;
+    Ok(translated.word.as_slice() == word)
 }
 
 /// Whether the document is foreign, and just that many of its leading symbols are viable.

@@ -1,7 +1,6 @@
 -- A document that was turned is turned back.
 use Rattle.std.proofs.Common.{◌≡◌, ◌∙◌, ℕ, List, ◌∷◌, Some, sym, subst, ap, refl}
 use Rattle.std.specs.Io.KnownBytes.{Appends}
-use Rattle.xs_io.specs.Causes.{Rose}
 use Rattle.xs_class.specs.declared.side.Side.{Side}
 use Rattle.xs_chars.specs.declared.form.Form.{Form}
 use Rattle.xs_chars.specs.declared.form.Form.TheVariants.{AsIs}
@@ -14,7 +13,6 @@ use Rattle.xs_gram.specs.Common.{Common, print, strip}
 use Rattle.xs_gram.specs.Languages.{Derives}
 use Rattle.xs_check_laws.specs.Acceptance.{IsAccepted}
 use Rattle.xs_sheet_laws.specs.Pairs as P
-use Rattle.xs_words.specs.Command.{Sheet as Named, leiden, file}
 use Rattle.xs_pair.specs.Grammars.{Pair, grammar_of}
 use Rattle.xs_talk.specs.declared.outcome.Outcome.{Outcome}
 use Rattle.xs_talk.specs.declared.outcome.Outcome.TheVariants.{Done}
@@ -24,7 +22,7 @@ use Rattle.xs_top.specs.Devices.{Run}
 use Rattle.xs_top.specs.Checks.{IsSure}
 use Rattle.xs_top.specs.Documents.{IsWordOf, document_bytes}
 use Rattle.xs_top.specs.Answers.{IsWrittenTree, IsTurnedInto}
-use Rattle.xs_top.specs.Sheets.{IsFailed, IsPairOfBytes}
+use Rattle.xs_top.specs.Sheets.{IsPairOfBytes}
 use Rattle.xs_top.specs.Ran.{IsOfLanguage, Told, IsHonest, IsComplete}
 use Rattle.xs_top.specs.Runs.{IsToTurn, IsUnhindered, Answers, Turned, HaveNoIgnorable, IsNormalOf}
 use Rattle.xs_top.specs.Laws.{PairsAgree, OneAnswer, TranslatesBack, RoundIsIdempotent, TranslatesAgain}

@@ -15,7 +15,7 @@ use xs_chars::Form;
 use xs_class::{Bytes, Side};
 use xs_pair::Two;
 use xs_talk::listing;
-use xs_turn::turn;
+use xs_turn::forest_of;
 
 /// The listing of at most `max` derivations of a text.
 pub fn listed(alloc: Global, two: &Two, max: u32, bytes: &[u8]) -> Result<Bytes, Stop>
@@ -26,7 +26,7 @@ pub fn listed(alloc: Global, two: &Two, max: u32, bytes: &[u8]) -> Result<Bytes,
 {
     let doc = read_document(alloc, Side::Text, Form::AsIs, two.names(), bytes)?;
     let bump = Bump::new(alloc);
-    let turned = turn(alloc, &bump, two, Side::Text, &doc)?;
-    let answer = listing(alloc, two, &turned.grown, &doc, max)?;
+    let grown = forest_of(alloc, &bump, two, Side::Text, &doc)?;
+    let answer = listing(alloc, two, &grown, &doc, max)?;
     Ok(answer)
 }

@@ -2,7 +2,7 @@ ghost use Rattle.std.specs.Prelude.{◌≡◌, IfOk, IfErr};
 ghost use Rattle.xs_gram.specs.Common.{print};
 ghost use Rattle.xs_tree.specs.Flat.{common_of};
 ghost use Rattle.xs_pair.specs.Grammars.{grammar_of};
-ghost use Rattle.xs_pair.specs.Sound.{IsSoundPair, other};
+ghost use Rattle.xs_pair.specs.Sound.{IsSoundPair};
 ghost use Rattle.xs_writing_laws.specs.Laws.{CanBeWritten};
 ghost use Rattle.xs_turn.specs.Turned.{FitsBoth};
 ghost use Rattle.xs_top.specs.Answers.{IsTurnedInto, IsWrittenTree, IsUnread};
@@ -10,34 +10,13 @@ ghost use Rattle.xs_top.specs.Stops.{StopsBy};
 
 use crate::documents::{read_document, write_document};
 use crate::stop::Stop;
-use bumpalo::Bump;
 use std::alloc::Global;
 use xs_chars::Form;
 use xs_class::{Bytes, Memory, Side, Word};
 use xs_gram::{printed_has_tree, prints_normal};
 use xs_pair::Two;
-use xs_text_out::print_syms;
 use xs_tree::Tree;
-use xs_turn::{Turned, turn};
-
-/// The tree printed on a side, where its print on the other side of `from` is at hand.
-fn printed(
-    alloc: Global,
-    two: &Two,
-    from: Side,
-    to: Side,
-    tree: &Tree,
-    word: Word,
-) -> Result<Word, Memory>
-    requires { word ≡ print (grammar_of two.now (other from)) (common_of tree.now) }
-    ensures { IfOk result (λ w. w ≡ print (grammar_of two.now to) (common_of tree.now)) }
-{
-    if from == to {
-        print_syms(alloc, two.gram(to), tree)
-    } else {
-        Ok(word)
-    }
-}
+use xs_turn::{Translated, translate};
 
 /// The document of a tree's print.
 fn written(alloc: Global, two: &Two, to: Side, tree: &Tree, word: &Word) -> Result<Bytes, Memory>
@@ -74,9 +53,7 @@ pub fn turned_into(
 {
     prints_normal();
     let doc = read_document(alloc, from, form, two.names(), bytes)?;
-    let bump = Bump::new(alloc);
-    let Turned { tree, word, .. } = turn(alloc, &bump, two, from, &doc)?;
-    let word = printed(alloc, two, from, to, &tree, word)?;
+    let Translated { tree, word } = translate(alloc, two, from, to, &doc)?;
     let document = written(alloc, two, to, &tree, &word)?;
     Ok(TurnedInto { document, tree })
 }

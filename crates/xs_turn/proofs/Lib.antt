@@ -1,2 +1,4 @@
 pub mod Fitting
+pub mod Kids
+pub mod Nodes
 pub mod Sides

@@ -1,3 +1,4 @@
 pub mod Laws
-pub mod Between
+pub mod Stops
+pub mod Tables
 pub mod Turned

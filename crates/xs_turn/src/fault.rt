@@ -1,7 +1,7 @@
 use xs_class::Memory;
 use xs_earley::SeeFault;
 
-/// Why a document is not turned.
+/// Why a document is not translated.
 #[derive(Clone, Copy, Debug, PartialEq, Eq)]
 pub enum TurnFault {
     /// The document has no derivation; that many of its leading symbols begin some document that
@@ -24,7 +24,7 @@ impl From<Memory> for TurnFault {
 
 impl From<SeeFault> for TurnFault {
     ghost use Rattle.std.specs.Prelude.{◌≡◌};
-    ghost use Rattle.xs_turn.specs.Between.{fault_of};
+    ghost use Rattle.xs_turn.specs.Stops.{fault_of};
 
     ghost from_gives = { λ fault e. e ≡ fault_of fault };
 

@@ -6,7 +6,7 @@ ghost use Rattle.xs_pair.specs.Weights.{IsOfBytes};
 use super::leiden::{TEXT, XML, XML_OTHERWISE};
 use super::{LETTERS, TO_TEXT, done, expect, refused};
 use crate::sheets::two_of;
-use bumpalo::Bump;
+use crate::turn::other_side;
 use std::alloc::Global;
 use std::process::Abort;
 use std::test::Fail;
@@ -17,7 +17,7 @@ use xs_leiden::leiden_sheet;
 use xs_pair::{Ill, IllRule, Two};
 use xs_sheet::{Sheet, SheetFault, read_sheet};
 use xs_top::SHEET_LIMIT;
-use xs_turn::{TurnFault, turn};
+use xs_turn::{TurnFault, translate};
 use xs_wf::{WfFault, well_formed};
 
 /// What comes of a document.
@@ -34,8 +34,7 @@ fn answer_to_symbols(alloc: Global, two: &Two, side: Side, doc: &Word) -> Result
     requires sound { IsSoundPair two.now }
     requires short { length doc.now < 4294967295 }
 {
-    let bump = Bump::new(alloc);
-    match turn(alloc, &bump, two, side, doc) {
+    match translate(alloc, two, side, other_side(side), doc) {
         Ok(_) => Ok(Answer::Turned),
         Err(TurnFault::Foreign { viable }) => Ok(Answer::Foreign(viable)),
         Err(fault) => Err(fault),

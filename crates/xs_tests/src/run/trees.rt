@@ -2,7 +2,6 @@ ghost use Rattle.xs_pair.specs.Sound.{IsSoundPair};
 
 use super::SPACED;
 use crate::sheets::two_of;
-use bumpalo::Bump;
 use std::alloc::Global;
 use std::process::Abort;
 use std::test::Fail;
@@ -10,15 +9,14 @@ use xs_chars::{Form, read_text};
 use xs_class::Side;
 use xs_pair::Two;
 use xs_tree::{Tree, same};
-use xs_turn::{Turned, turn};
+use xs_turn::translate;
 
 fn tree_of(alloc: Global, two: &Two, text: &[u8]) -> Result<Tree, Fail>
     requires { IsSoundPair two.now }
 {
     let doc = read_text(alloc, text, Form::AsIs)?;
-    let bump = Bump::new(alloc);
-    let Turned { tree, .. } = turn(alloc, &bump, two, Side::Text, &doc)?;
-    Ok(tree)
+    let translated = translate(alloc, two, Side::Text, Side::Text, &doc)?;
+    Ok(translated.tree)
 }
 
 /// Whether two texts have the same tree.

@@ -6,4 +6,4 @@ use Rattle.xs_top.proofs.turned.turned_into.Goals as goal
 pub returns-clause-answer : goal.returns-clause-answer
 returns-clause-answer c =
     let document = subst (λ (names : List (List ℕ)). IsDocument c.args.from c.args.form names c.args.bytes.now c.in_ok-doc.doc) c.names.ensures c.in_ok-doc.ensures.document in
-    turned_by c.prints_normal.ensures _ c.requires.sound _ _ _ _ _ _ _ document c.in_ok-tree.ensures.turned.has c.in_ok-document.ensures
+    turned_by c.prints_normal.ensures _ c.requires.sound _ _ _ _ _ _ _ document c.in_ok-tree.ensures.translated.has c.in_ok-document.ensures

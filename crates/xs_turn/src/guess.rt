@@ -1,0 +1,48 @@
+ghost use Rattle.std.specs.Prelude.{IfOk, IfSome};
+ghost use Rattle.xs_gram.specs.Derivations.{Derivation};
+ghost use Rattle.xs_gram.specs.Languages.{Derives, HasTree};
+ghost use Rattle.xs_gram.specs.Sound.{IsBuilt};
+ghost use Rattle.xs_parse_table.specs.Tables.{IsTreeOf};
+ghost use Rattle.xs_tree.specs.Flat.{common_of};
+
+use crate::table::tree_of;
+use std::alloc::Global;
+use xs_atoms::Atoms;
+use xs_class::{Memory, Word};
+use xs_gram::Gram;
+use xs_lr::{PADDING, read};
+use xs_parse_table::{ParseTable, Validator};
+use xs_tree::Tree;
+
+/// A parse table that was guessed and that means a derivation of the document, or None where none
+/// was guessed, or where the check did not find that it means one.
+fn table_of(alloc: Global, g: &Gram, doc: &Word) -> Result<Option<ParseTable>, Memory>
+    requires { IsBuilt g.now }
+    ensures { IfOk result (λ o. IfSome o (λ table. (d : Derivation) × IsTreeOf table doc.now d × Derives g.now doc.now d)) }
+{
+    let Some(atoms) = Atoms::of(alloc, g)? else {
+        return Ok(None);
+    };
+    let word = atoms.word(alloc, doc.as_slice(), PADDING)?;
+    let Some(table) = read(alloc, g, &atoms, &word)? else {
+        return Ok(None);
+    };
+    let validator = Validator::of(alloc, g, &atoms)?;
+    if validator.validate(g, doc.as_slice(), &word, &table) {
+        Ok(Some(table))
+    } else {
+        Ok(None)
+    }
+}
+
+/// The tree of a derivation of the document that was guessed and checked, or None.
+pub fn guessed_tree(alloc: Global, g: &Gram, doc: &Word) -> Result<Option<Tree>, Memory>
+    requires { IsBuilt g.now }
+    ensures { IfOk result (λ o. IfSome o (λ tree. HasTree g.now doc.now (common_of tree))) }
+{
+    let Some(table) = table_of(alloc, g, doc)? else {
+        return Ok(None);
+    };
+    let tree = tree_of(alloc, g, doc.as_slice(), &table)?;
+    Ok(tree)
+}
