@@ -1,13 +1,13 @@
 -- Lists of steps that grow, and what their growth keeps.
-use Rattle.std.proofs.Common.{◌≡◌, ℕ, zero, suc, ◌+◌, ◌*◌, ◌/◌, ◌<◌, ◌≤◌, ◌⊎◌, true, false, List, [], ◌∷◌, ◌++◌, length, get_or, take, refl, sym, ap, subst, ◌∙◌, inl, inr, arith, slice_get, append_assoc, append-nil}
+use Rattle.std.proofs.Common.{◌≡◌, ℕ, zero, suc, ◌+◌, ◌*◌, ◌<◌, ◌≤◌, ◌⊎◌, true, false, List, [], ◌∷◌, ◌++◌, length, get_or, take, refl, sym, ap, subst, ◌∙◌, inl, inr, arith, slice_get, append_assoc, append-nil}
 use Rattle.std.specs.declared.option.Option.{Option}
 use Rattle.std.specs.declared.option.Option.TheVariants.{Some, None}
 use Rattle.std.specs.Option.{is_some, IfSome, IfNone}
 use Rattle.std.proofs.lemmas.Bool.{cases_eq, true≢false, false≢true}
 use Rattle.std.proofs.lemmas.List.{take_more, take_all}
 use Rattle.std.proofs.lemmas.List.Elements.{Contains-append_left, Contains-push, Contains-push_cases}
-use Rattle.std.proofs.lemmas.Nat.{div-mul-add}
 use Rattle.xs_class.specs.Classes.{Has}
+use Rattle.xs_class.proofs.Lists.{get_left, get_last, one_cell}
 use Rattle.xs_auto.specs.declared.edge.Edge.{Edge}
 use Rattle.xs_auto.specs.declared.reached_pair.ReachedPair.{ReachedPair}
 use Rattle.xs_auto.specs.declared.layer.Layer.{Layer}
@@ -15,19 +15,10 @@ use Rattle.xs_auto.specs.Marks.{Marks, IsMarked}
 use Rattle.xs_auto.specs.Searches.{step, IsFound, Among, Meets, Gains, KeepsArea, Extends, Fits}
 
 -- what stands in a list stands there when more is added, and what stands in the longer list is old or added
-pub at_left : {X : Type 0} (xs ys : List X) (k : ℕ) (x : X) → slice_get xs k ≡ Some x → slice_get (xs ++ ys) k ≡ Some x
-at_left [] ys k x e = cc
-at_left (y ∷ xs) ys zero x e = e
-at_left (y ∷ xs) ys (suc k) x e = at_left xs ys k x e
-
 pub at_cases : {X : Type 0} (xs ys : List X) (k : ℕ) (x : X) → slice_get (xs ++ ys) k ≡ Some x → (slice_get xs k ≡ Some x) ⊎ ((j : ℕ) × (k ≡ length xs + j) × (slice_get ys j ≡ Some x))
 at_cases [] ys k x e = inr (k, omega arith, e)
 at_cases (y ∷ xs) ys zero x e = inl e
 at_cases (y ∷ xs) ys (suc k) x e = elim (at_cases xs ys k x e) [ inl h ↦ inl h | inr h ↦ inr (h.0, omega (arith, h.1), h.2) ]
-
-pub at_last : {X : Type 0} (xs : List X) (x : X) → slice_get (xs ++ x ∷ []) (length xs) ≡ Some x
-at_last [] x = refl
-at_last (y ∷ xs) x = at_last xs x
 
 -- a list of one element has no other
 pub at_only : {X : Type 0} (x : X) (k : ℕ) (y : X) → slice_get (x ∷ []) k ≡ Some y → (k ≡ 0) × (y ≡ x)
@@ -35,7 +26,7 @@ at_only x zero y e = (refl, cc)
 at_only x (suc k) y e = cc
 
 pub found_more : {xs : List ReachedPair} {a b : ℕ} (ys : List ReachedPair) → IsFound xs a b → IsFound (xs ++ ys) a b
-found_more {xs} {a} {b} ys f = record { place = f.place; from = f.from; at = at_left xs ys f.place (step a b f.from) f.at }
+found_more {xs} {a} {b} ys f = record { place = f.place; from = f.from; at = get_left xs ys f.place (step a b f.from) f.at }
 
 pub gains_then : (R S : ReachedPair → Type 0) {xs ys zs : List ReachedPair} → Gains R xs ys → Gains S ys zs → Gains (λ s. R s ⊎ S s) xs zs
 gains_then R S {xs} {ys} {zs} g h = record {
@@ -67,7 +58,7 @@ gains_one xs ys t e = record {
   added = t ∷ [];
   is = e;
   each = λ k s f. (at_only t k s f).1;
-  there = λ s f. rw f (record { place = length xs; from = t.from; at = rw e (at_last xs t) });
+  there = λ s f. rw f (record { place = length xs; from = t.from; at = rw e (get_last xs t) });
 }
 
 pub gains_known : (xs : List ReachedPair) (t : ReachedPair) → IsFound xs t.first t.second → Gains (λ s. s ≡ t) xs xs
@@ -123,12 +114,6 @@ extends_then R S g h = record { area = area_then g.area h.area; seeds = h.seeds 
 pub extends_as : (R S : ReachedPair → Type 0) {l m : Layer} → ((s : ReachedPair) → R s → S s) → ((s : ReachedPair) → S s → R s) → Extends R l m → Extends S l m
 extends_as R S to back g = record { area = g.area; seeds = g.seeds; gains = gains_as R S to back g.gains }
 
--- one cell for each pair
-pub one_cell : (w a b c d : ℕ) → b < w → d < w → a * w + b ≡ c * w + d → (a ≡ c) × (b ≡ d)
-one_cell w a b c d h k e =
-    let same : a ≡ c = sym (div-mul-add a w b h) ∙ ap (λ x. x / w) e ∙ div-mul-add c w d k in
-    (same, omega (arith, ap (λ x. x * w) same))
-
 -- a new pair is marked and added
 pub fits_new : (l m : Layer) (p q : Marks) (s : ReachedPair) (cell : ℕ) → Fits l p → s.first < l.height → s.second < l.width → cell ≡ s.first * l.width + s.second → IsMarked p q l.map cell → KeepsArea l m → m.steps.items ≡ l.steps.items ++ s ∷ [] → Fits m q
 fits_new l m p q s cell f a b c marked area is = record {
@@ -141,7 +126,7 @@ fits_new l m p q s cell f a b c marked area is = record {
   known = λ x y y_in h. rw is (elim (cases_eq (x * l.width + y) cell) [
     | inl e ↦
         let same = one_cell l.width x y s.first s.second (rw area.width at y_in) b (e ∙ c) in
-        rw (same.0, same.1) (record { place = length l.steps.items; from = s.from; at = at_last l.steps.items s })
+        rw (same.0, same.1) (record { place = length l.steps.items; from = s.from; at = get_last l.steps.items s })
     | inr ne ↦ found_more (s ∷ []) (f.known x y (rw area.width at y_in) (sym (marked.there (x * l.width + y) ne) ∙ (rw (area.map, area.width) at h)))
   ]);
 }

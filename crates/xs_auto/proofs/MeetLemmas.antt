@@ -2,6 +2,7 @@
 use Rattle.std.proofs.Common.{◌≡◌, ℕ, List, [], ◌∷◌, ◌++◌, refl, ap, ◌∙◌, inl, inr, true}
 use Rattle.std.specs.List.{Contains}
 use Rattle.xs_class.specs.Classes.{Has}
+use Rattle.xs_class.proofs.Lists.{some_same}
 use Rattle.xs_auto.specs.declared.edge.Edge.{Edge}
 use Rattle.xs_auto.specs.declared.reached_pair.ReachedPair.{ReachedPair}
 use Rattle.xs_auto.specs.declared.layer.Layer.{Layer}
@@ -10,7 +11,6 @@ use Rattle.xs_auto.specs.Nets.{Graph, edges_of, final_at, Walks, rests, passes, 
 use Rattle.xs_auto.specs.Searches.{step, IsFound, Drifts, Leads, EndsBoth}
 use Rattle.xs_auto.specs.Shared.{IsShared}
 use Rattle.xs_auto.specs.Traces.{IsSeeded, IsRoot, IsTrace}
-use Rattle.xs_auto.proofs.SpreadLemmas.{some_same}
 
 abbrev pub Holds : (ℕ → ℕ → ℕ → ℕ → Type 0) → (ℕ → ℕ → Type 0) → Type 0
 Holds L Z = (a b c d : ℕ) → Z a b → L a b c d → Z c d
@@ -74,7 +74,7 @@ pub shared : (m n : Graph) (l : Layer) (place : ℕ) (t : Trace) → IsSeeded m 
 shared m n l place t r e h =
     let w = h.traced in
     let root = r.seeded t.seed w.first h.seed w.begins in
-    let end : w.last ≡ e.end = some_same w.ends e.at in
+    let end : w.last ≡ e.end = some_same _ _ _ w.ends e.at in
     record {
       first = record { first = w.first.first; last = w.last.first; starts = root.first; walks = w.walks_first; final = ap (λ s. final_at m s.first) end ∙ e.first };
       second = record { first = w.first.second; last = w.last.second; starts = root.second; walks = w.walks_second; final = ap (λ s. final_at n s.second) end ∙ e.second };

@@ -4,6 +4,7 @@ use Rattle.std.specs.declared.option.Option.{Option}
 use Rattle.std.specs.declared.option.Option.TheVariants.{Some, None}
 use Rattle.std.specs.Option.{IfSome, IfNone, IsSome}
 use Rattle.std.proofs.lemmas.Option.{slice_get_within}
+use Rattle.xs_class.proofs.Lists.{some_same}
 use Rattle.xs_auto.specs.declared.reached_pair.ReachedPair.{ReachedPair}
 use Rattle.xs_auto.specs.declared.layer.Layer.{Layer}
 use Rattle.xs_auto.specs.declared.trace.Trace.{Trace}
@@ -13,7 +14,7 @@ use Rattle.xs_auto.specs.Searches.{step, IsAt, IsFound, Drifts, ReadsBoth, Cross
 use Rattle.xs_auto.specs.Shared.{AreOverlap}
 use Rattle.xs_auto.specs.Traces.{IsTrace, AreReached}
 use Rattle.xs_auto.proofs.WalkLemmas.{walks_on}
-use Rattle.xs_auto.proofs.SpreadLemmas.{some_same, read_at}
+use Rattle.xs_auto.proofs.SpreadLemmas.{read_at}
 use Rattle.xs_auto.proofs.MeetLemmas.{Holds, pulled, Forked, forked, met, found_end}
 
 -- the first symbol leads from the turns into the middles
@@ -39,11 +40,11 @@ no_overlap a b r h none x (s ∷ u) y o =
     let rest = o.short_rest in
     let whole = o.long_rest in
     let one = forked (IsFound r.fronts.steps.items) h.fronts.closed short.walks long.walks (h.fronts.there (step short.first long.first 0) (record { first = short.starts; second = long.starts; from = refl })) in
-    let begun : whole.first ≡ h.start = some_same whole.starts h.starts in
+    let begun : whole.first ≡ h.start = some_same _ _ _ whole.starts h.starts in
     let turn = on_end a h.start r.fronts.steps.items r.turns.steps.items short.last one.at h.turns.there one.holds short.final in
     let two = first_symbol (IsFound r.turns.steps.items) (IsFound r.middles.steps.items) h.turns.closed (on_cross a b r.turns.steps.items r.middles.steps.items h.middles.there) h.middles.closed one.walks whole.walks (rw begun turn) in
     let three = on_end a h.start r.middles.steps.items r.rests.steps.items long.last two.at h.rests.there two.holds long.final in
-    let again : rest.first ≡ h.start = some_same rest.starts h.starts in
+    let again : rest.first ≡ h.start = some_same _ _ _ rest.starts h.starts in
     let end = met (IsFound r.rests.steps.items) h.rests.closed two.walks rest.walks (rw again three) in
     found_end b b r.rests.steps.items whole.last rest.last end whole.final rest.final none
 
@@ -54,15 +55,15 @@ overlap a b r place symbol front middle rest end crossing turn h ends t at u cro
     let m = u.traced in
     let y = t.traced in
     -- the rest's pair, and how it was seeded
-    let last : y.last ≡ ends.end = some_same y.ends ends.at in
-    let seed : y.first ≡ end = some_same y.begins at in
+    let last : y.last ≡ ends.end = some_same _ _ _ y.ends ends.at in
+    let seed : y.first ≡ end = some_same _ _ _ y.begins at in
     let seeded = h.rests.seeded rest.seed end t.seed at in
     -- the middle's pair, and how it was seeded
-    let turned : m.last ≡ seeded.end = some_same m.ends seeded.at in
-    let crossed : m.first ≡ crossing = some_same m.begins cross in
+    let turned : m.last ≡ seeded.end = some_same _ _ _ m.ends seeded.at in
+    let crossed : m.first ≡ crossing = some_same _ _ _ m.begins cross in
     -- the turn, and the front's pair
     let from = h.turns.turned crossing.from turn stood in
-    let fronted : x.last ≡ from.front = some_same x.ends from.at in
+    let fronted : x.last ≡ from.front = some_same _ _ _ x.ends from.at in
     let root = h.fronts.seeded front.seed x.first v.seed x.begins in
     let x_short : Walks a x.first.first front.word from.front.first = rw fronted at x.walks_first in
     let x_long : Walks a x.first.second front.word from.front.second = rw fronted at x.walks_second in
@@ -88,7 +89,7 @@ at_seed m n l place t s h e = read_at l.steps.items t.seed s (slice_get_within l
 crossed_at : (a b : Graph) (turns : List ReachedPair) (crossing turn : ReachedPair) → CrossesFrom a b turns crossing → turn ≡ get_or turns crossing.from turn → (IsAt turns crossing.from turn) × Crosses a b turn.first turn.second crossing.first crossing.second
 crossed_at a b turns crossing turn c e =
     let at = read_at turns crossing.from turn (slice_get_within turns crossing.from c.before c.at) e in
-    let same : c.before ≡ turn = some_same c.at at in
+    let same : c.before ≡ turn = some_same _ _ _ c.at at in
     (at, rw same at c.crosses)
 
 -- the same at the seed of a trace through the middles

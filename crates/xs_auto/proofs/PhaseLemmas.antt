@@ -1,7 +1,9 @@
 -- What a whole phase of a search has reached.
-use Rattle.std.proofs.Common.{◌≡◌, ℕ, zero, suc, ◌+◌, ◌<◌, List, [], ◌∷◌, ◌++◌, length, get_or, refl, sym, ap, subst, ◌∙◌, inl, inr, arith, slice_get, true}
+use Rattle.std.proofs.Common.{◌≡◌, ℕ, ◌+◌, ◌<◌, List, [], ◌++◌, length, get_or, refl, sym, ap, subst, ◌∙◌, inl, inr, arith, true}
 use Rattle.std.specs.declared.option.Option.TheVariants.{Some}
 use Rattle.std.proofs.lemmas.Bool.{cases_eq}
+use Rattle.std.proofs.lemmas.Option.{slice_get-get_or}
+use Rattle.xs_class.proofs.Lists.{some_same}
 use Rattle.xs_auto.specs.declared.reached_pair.ReachedPair.{ReachedPair}
 use Rattle.xs_auto.specs.declared.layer.Layer.{Layer}
 use Rattle.xs_auto.specs.Marks.{Marks}
@@ -9,7 +11,7 @@ use Rattle.xs_auto.specs.Nets.{Graph, final_at, Walks}
 use Rattle.xs_auto.specs.Searches.{step, IsAt, Gains, Extends, Fits, IsFor, KeepsArea, Closes, ClosesDrifts, InNets, EndsBoth, EndsFirst}
 use Rattle.xs_auto.specs.Traces.{IsSeeded, IsRoot, IsTurns}
 use Rattle.xs_auto.proofs.GainLemmas.{at_cases, area_then, extends_as}
-use Rattle.xs_auto.proofs.SpreadLemmas.{same_step, some_same, longer_found}
+use Rattle.xs_auto.proofs.SpreadLemmas.{same_step, longer_found}
 
 -- a layer that fits is in range
 pub in_area : (m n : Graph) (l k : Layer) (p : Marks) → IsFor m n l → KeepsArea l k → Fits k p → InNets m n k.steps.items
@@ -40,7 +42,7 @@ root_seed m n a b e f g = extends_as (λ s. s ≡ step a b 0) (IsRoot m n) to ba
     to s h = rw h (record { first = e; second = f; from = refl })
 
     back : (s : ReachedPair) → IsRoot m n s → s ≡ step a b 0
-    back s r = same_step s a b 0 (some_same r.first e) (some_same r.second f) r.from
+    back s r = same_step s a b 0 (some_same _ _ _ r.first e) (some_same _ _ _ r.second f) r.from
 
 -- a layer that was empty, was seeded by final front states, and was closed under empty moves then
 pub closed_turns : (a b : Graph) (start : ℕ) (fronts : List ReachedPair) (k l o : Layer) (p : Marks) → IsFor a b k → k.steps.items ≡ [] → Extends (EndsFirst a start fronts) k l → Fits o p → ClosesDrifts a b l o → IsTurns a b start fronts o
@@ -56,21 +58,15 @@ closed_turns a b start fronts k l o p nets none g f c = record {
   closed = c.closed;
 }
 
--- what a list has at a place
-pub got_at : {X : Type 0} (xs : List X) (i : ℕ) (d : X) → i < length xs → slice_get xs i ≡ Some (get_or xs i d)
-got_at [] i d l = absurd (omega arith)
-got_at (x ∷ xs) zero d l = refl
-got_at (x ∷ xs) (suc i) d l = got_at xs i d (omega arith)
-
 -- one more pair is not of two final states
 pub no_end_more : (m n : Graph) (steps : List ReachedPair) (place : ℕ) (d : ReachedPair) → place < length steps → (final_at m (get_or steps place d).first ≡ true → final_at n (get_or steps place d).second ≡ true → ⊥) → ((k : ℕ) → k < place → EndsBoth m n steps k → ⊥) → (k : ℕ) → k < place + 1 → EndsBoth m n steps k → ⊥
 no_end_more m n steps place d l here before k low e = elim (cases_eq k place) [
   | inl same ↦
-      let one : e.end ≡ get_or steps place d = some_same (rw same at e.at) (got_at steps place d l) in
+      let one : e.end ≡ get_or steps place d = some_same _ _ _ (rw same at e.at) (slice_get-get_or steps place d l) in
       here (ap (λ s. final_at m s.first) (sym one) ∙ e.first) (ap (λ s. final_at n s.second) (sym one) ∙ e.second)
   | inr ne ↦ before k (omega arith) e
 ]
 
 -- some step stands at each place of the list
 pub there_at : (steps : List ReachedPair) (i : ℕ) → i < length steps → (s : ReachedPair) × IsAt steps i s
-there_at steps i l = (get_or steps i (step 0 0 0), got_at steps i (step 0 0 0) l)
+there_at steps i l = (get_or steps i (step 0 0 0), slice_get-get_or steps i (step 0 0 0) l)

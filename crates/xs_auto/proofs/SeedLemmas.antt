@@ -2,13 +2,14 @@
 use Rattle.std.proofs.Common.{◌≡◌, ℕ, ◌+◌, ◌<◌, ◌⊎◌, true, false, List, length, refl, sym, ap, ◌∙◌, inl, inr, arith}
 use Rattle.std.proofs.lemmas.Bool.{cases_eq, true≢false}
 use Rattle.std.proofs.lemmas.Option.{slice_get_within}
+use Rattle.xs_class.proofs.Lists.{some_same}
 use Rattle.xs_auto.specs.declared.edge.Edge.{Edge}
 use Rattle.xs_auto.specs.declared.reached_pair.ReachedPair.{ReachedPair}
 use Rattle.xs_auto.specs.declared.layer.Layer.{Layer}
 use Rattle.xs_auto.specs.Nets.{Graph, edges_of, final_at}
 use Rattle.xs_auto.specs.Searches.{step, IsAt, Among, Meets, EndsFirst, CrossesFrom, Extends}
 use Rattle.xs_auto.proofs.GainLemmas.{extends_then, extends_as, extends_nothing}
-use Rattle.xs_auto.proofs.SpreadLemmas.{same_step, some_same}
+use Rattle.xs_auto.proofs.SpreadLemmas.{same_step}
 
 -- the steps that come from places below k
 pub record Below (k : ℕ) (R : ReachedPair → Type 0) (s : ReachedPair) : Type 0 where
@@ -49,7 +50,7 @@ ends_here net start steps k end at final g = extends_as (λ s. s ≡ step end.se
     back : (s : ReachedPair) → Here k (EndsFirst net start steps) s → s ≡ step end.second start k
     back s h =
         let r = h.is in
-        let same : r.end ≡ end = some_same (rw h.from at r.at) at in
+        let same : r.end ≡ end = some_same _ _ _ (rw h.from at r.at) at in
         same_step s end.second start k (r.first ∙ ap (λ x. x.second) same) r.second h.from
 
 pub ends_nowhere : (net : Graph) (start : ℕ) (steps : List ReachedPair) (k : ℕ) (end : ReachedPair) (l : Layer) → IsAt steps k end → final_at net end.first ≡ false → Extends (Here k (EndsFirst net start steps)) l l
@@ -58,7 +59,7 @@ ends_nowhere net start steps k end l at shut = extends_nothing (Here k (EndsFirs
     none : (s : ReachedPair) → Here k (EndsFirst net start steps) s → ⊥
     none s h =
         let r = h.is in
-        let same : r.end ≡ end = some_same (rw h.from at r.at) at in
+        let same : r.end ≡ end = some_same _ _ _ (rw h.from at r.at) at in
         true≢false (sym r.final ∙ ap (λ x. final_at net x.first) same ∙ shut)
 
 pub ends_low : (net : Graph) (start : ℕ) (steps : List ReachedPair) (s : ReachedPair) → EndsFirst net start steps s → s.from < length steps
@@ -77,7 +78,7 @@ crosses_here m n steps k at es fs here q r g = extends_as (Among es (λ e. Among
     back : (s : ReachedPair) → Here k (CrossesFrom m n steps) s → Among es (λ e. Among fs (λ f. Meets e f k)) s
     back s h =
         let c = h.is in
-        let same : c.before ≡ at = some_same (rw h.from at c.at) here in
+        let same : c.before ≡ at = some_same _ _ _ (rw h.from at c.at) here in
         let x = rw same at c.crosses in
         let y = x.1 in
         record { item = y.first; has = rw q y.of_first; gives = record { item = y.second; has = rw r y.of_second; gives = record { symbol = x.0; first = y.takes_first; second = y.takes_second; is = same_step s y.first.to y.second.to k (sym y.to_first) (sym y.to_second) h.from } } }

@@ -1,16 +1,15 @@
 -- How the steps that a layer has spread to all that they lead to.
 use Rattle.std.proofs.Common.{◌≡◌, ℕ, ◌+◌, ◌<◌, ◌≤◌, ◌⊎◌, List, [], ◌++◌, length, get_or, length-append, refl, sym, ap, ◌∙◌, inl, inr, arith, append_assoc, append-nil}
-use Rattle.std.specs.declared.option.Option.TheVariants.{Some}
-use Rattle.std.specs.declared.option.Option.{Option}
 use Rattle.std.proofs.lemmas.Bool.{cases_eq}
 use Rattle.std.proofs.lemmas.Option.{slice_get_within, slice_get_read}
+use Rattle.xs_class.proofs.Lists.{some_same, get_left}
 use Rattle.xs_auto.specs.declared.edge.Edge.{Edge}
 use Rattle.xs_auto.specs.declared.reached_pair.ReachedPair.{ReachedPair}
 use Rattle.xs_auto.specs.declared.layer.Layer.{Layer}
 use Rattle.xs_auto.specs.Marks.{Marks}
 use Rattle.xs_auto.specs.Nets.{Graph, edges_of, moves_of, states, rests}
 use Rattle.xs_auto.specs.Searches.{step, IsAt, IsFound, Among, Meets, DriftsFrom, LeadsFrom, Gains, KeepsArea, Extends, Fits, IsFor, IsChained, IsClosed, IsClosedBelow, IsLonger, IsDrifted}
-use Rattle.xs_auto.proofs.GainLemmas.{at_left, at_cases, found_more, extends_then, extends_as}
+use Rattle.xs_auto.proofs.GainLemmas.{at_cases, found_more, extends_then, extends_as}
 use Rattle.xs_auto.proofs.WalkLemmas.{walks_pass}
 
 pub same_step : (s : ReachedPair) (a b from : ℕ) → s.first ≡ a → s.second ≡ b → s.from ≡ from → s ≡ step a b from
@@ -58,7 +57,7 @@ pub longer_then : {xs ys zs : List ReachedPair} → IsLonger xs ys → IsLonger 
 longer_then {xs} a b = record { added = a.added ++ b.added; is = b.is ∙ ap (λ us. us ++ b.added) a.is ∙ append_assoc xs a.added b.added }
 
 pub longer_at : {xs ys : List ReachedPair} (k : ℕ) (s : ReachedPair) → IsLonger xs ys → IsAt xs k s → IsAt ys k s
-longer_at {xs} k s l e = rw l.is (at_left xs l.added k s e)
+longer_at {xs} k s l e = rw l.is (get_left xs l.added k s e)
 
 pub longer_found : {xs ys : List ReachedPair} {a b : ℕ} → IsLonger xs ys → IsFound xs a b → IsFound ys a b
 longer_found l f = rw l.is (found_more l.added f)
@@ -89,15 +88,12 @@ pub chained_more : {m n : Graph} {seeds k : ℕ} {xs ys : List ReachedPair} (s :
 chained_more {m} {n} {seeds} {k} {xs} {ys} s here chained g i t l e = elim (at_cases xs g.added i t (rw g.is at e)) [
   | inl h ↦
       let c = chained i t l h in
-      record { earlier = c.earlier; parent = c.parent; at = rw g.is (at_left xs g.added t.from c.parent c.at); leads = c.leads }
+      record { earlier = c.earlier; parent = c.parent; at = rw g.is (get_left xs g.added t.from c.parent c.at); leads = c.leads }
   | inr h ↦
       let r = g.each h.0 t h.2 in
       let w = slice_get_within xs k s here in
-      record { earlier = omega (arith, r.origin, h.1); parent = s; at = rw (g.is, r.origin) (at_left xs g.added k s here); leads = r.leads }
+      record { earlier = omega (arith, r.origin, h.1); parent = s; at = rw (g.is, r.origin) (get_left xs g.added k s here); leads = r.leads }
 ]
-
-pub some_same : {X : Type 0} {a b : X} {o : Option X} → o ≡ Some a → o ≡ Some b → a ≡ b
-some_same e f = cc
 
 -- the step at place k was gone on from
 pub closed_more : (L : ℕ → ℕ → ℕ → ℕ → Type 0) {k : ℕ} {xs ys : List ReachedPair} (s : ReachedPair) → IsAt xs k s → IsClosedBelow L k xs → IsLonger xs ys → ((c d : ℕ) → L s.first s.second c d → IsFound ys c d) → IsClosedBelow L (k + 1) ys
@@ -106,7 +102,7 @@ closed_more L {k} {xs} {ys} s here closed more there i t l e c d leads =
     elim (at_cases xs more.added i t (rw more.is at e)) [
       | inl h ↦ elim (cases_eq i k) [
         | inl same ↦
-            let one : t ≡ s = some_same h (rw same here) in
+            let one : t ≡ s = some_same _ _ _ h (rw same here) in
             there c d (rw one at leads)
         | inr ne ↦ longer_found more (closed i t (omega arith) h c d leads)
       ]

@@ -8,6 +8,7 @@ use Rattle.std.specs.List.{Contains}
 use Rattle.std.proofs.lemmas.List.{take_more, reverse-append}
 use Rattle.std.proofs.lemmas.List.Elements.{Contains-push_cases}
 use Rattle.xs_class.specs.Classes.{Has}
+use Rattle.xs_class.proofs.Lists.{some_same}
 use Rattle.xs_auto.specs.declared.edge.Edge.{Edge}
 use Rattle.xs_auto.specs.declared.reached_pair.ReachedPair.{ReachedPair}
 use Rattle.xs_auto.specs.Nets.{Graph, edges_of, Walks, rests, passes, reads}
@@ -56,12 +57,9 @@ reads_found m n a b c d i x es fs e p q l is to r = record { first = e; second =
 pub traced_none : (m n : Graph) (steps : List ReachedPair) (at : ℕ) (s : ReachedPair) → IsAt steps at s → IsTraced m n steps at at []
 traced_none m n steps at s e = record { first = s; last = s; begins = e; ends = e; walks_first = rests; walks_second = rests }
 
-pub some_is : {X : Type 0} {a b : X} {o : Option X} → o ≡ Some a → o ≡ Some b → a ≡ b
-some_is e f = cc
-
 pub traced_symbol : {m n : Graph} {steps : List ReachedPair} {at place from x : ℕ} {w : List ℕ} (s p : ReachedPair) → IsAt steps at s → IsAt steps from p → ReadsBoth m n p.first p.second x s.first s.second → IsTraced m n steps at place w → IsTraced m n steps from place (x ∷ w)
 traced_symbol {m} {n} {steps} {at} {place} {from} {x} {w} s p here up r t =
-    let same : t.first ≡ s = some_is t.begins here in
+    let same : t.first ≡ s = some_same _ _ _ t.begins here in
     let one : Walks m s.first w t.last.first = rw same at t.walks_first in
     let two : Walks n s.second w t.last.second = rw same at t.walks_second in
     record {
@@ -75,10 +73,10 @@ traced_symbol {m} {n} {steps} {at} {place} {from} {x} {w} s p here up r t =
 
 pub traced_move : {m n : Graph} {steps : List ReachedPair} {at place from : ℕ} {w : List ℕ} (s p : ReachedPair) → IsAt steps at s → IsAt steps from p → IsLink m n steps at s → s.from ≡ from → (Crosses m n p.first p.second s.first s.second → ⊥) → IsTraced m n steps at place w → IsTraced m n steps from place w
 traced_move {m} {n} {steps} {at} {place} {from} {w} s p here up link is none t =
-    let same : t.first ≡ s = some_is t.begins here in
+    let same : t.first ≡ s = some_same _ _ _ t.begins here in
     let one : Walks m s.first w t.last.first = rw same at t.walks_first in
     let two : Walks n s.second w t.last.second = rw same at t.walks_second in
-    let parent : link.parent ≡ p = some_is (rw is at link.at) up in
+    let parent : link.parent ≡ p = some_same _ _ _ (rw is at link.at) up in
     elim (rw parent at link.leads) [
       | inl d ↦ elim d [
         | inl x ↦ record { first = p; last = t.last; begins = up; ends = t.ends; walks_first = passes x.move one; walks_second = rw (← x.still) two }

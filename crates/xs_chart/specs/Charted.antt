@@ -9,6 +9,10 @@ pub record Charted : Type 0 where
   pub sets : List (List Item)
   pub waits : List (List Waiter)
 
+-- a chart has fewer sets than this, so that 32 bits have the number of each and of one more
+abbrev pub set_limit : ℕ
+set_limit = 4294967295
+
 -- the number of the last set
 abbrev pub last_set : Charted → ℕ
 last_set chart = length chart.sets - 1

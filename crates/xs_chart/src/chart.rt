@@ -63,7 +63,7 @@ fn found(last: &IndexSet<Item>, item: Item) -> bool
 }
 
 impl Chart {
-    ghost use Rattle.xs_chart.specs.Charted.{items_of, last_set, waiting_of, with_item, IsWaiting};
+    ghost use Rattle.xs_chart.specs.Charted.{items_of, last_set, waiting_of, with_item, IsWaiting, set_limit};
 
     /// The chart without sets.
     pub fn new(alloc: Global) -> Result<Self, Memory>
@@ -82,7 +82,7 @@ impl Chart {
 
     /// A new last set, which is empty. The waiting lists of the one before it are finished.
     pub fn push_set(&mut self) -> Result<(), Memory>
-        requires { length self.old.sets < 4294967295 }
+        requires { length self.old.sets < set_limit }
         ensures sets { OnOk result (self.new.sets ≡ self.old.sets ++ [] ∷ []) }
         ensures waiting { (set non : ℕ) → waiting_of self.new set non ≡ waiting_of self.old set non }
         ensures err { OnErr result (self.new.sets ≡ self.old.sets) }

@@ -1,7 +1,8 @@
 -- Which fronts of a document begin a word of the language.
-use Rattle.std.proofs.Common.{zero-add, take-add, append-nil, append_assoc, take-append-drop, ◌≡◌, ℕ, zero, suc, ◌+◌, ◌-◌, ◌≤◌, List, [], ◌∷◌, ◌++◌, length, take, drop, Some, None, refl, sym, ◌∙◌, subst, arith, ◌⊎◌, inl, inr, ◌↔◌}
+use Rattle.std.proofs.Common.{take-add, append-nil, append_assoc, take-append-drop, ◌≡◌, ℕ, suc, ◌+◌, ◌-◌, ◌≤◌, List, [], ◌∷◌, ◌++◌, length, take, drop, Some, None, refl, sym, ◌∙◌, subst, arith, ◌⊎◌, inl, inr, ◌↔◌}
 use Rattle.std.specs.declared.option.Option.{Option}
 use Rattle.std.specs.Prelude.{slice_get, slice_range}
+use Rattle.xs_class.proofs.Lists.{get_drop}
 use Rattle.xs_regex.specs.declared.position.Position.{Position}
 use Rattle.xs_regex.specs.Automaton.{Runs, begins as run_begins, goes, Accepts}
 use Rattle.xs_gram.specs.declared.parts.GItem.{GItem}
@@ -115,11 +116,6 @@ module _ (g : Grammar) (w : List ℕ) (has : ℕ → Place → ℕ → Type 0) (
   front_reached k h (v, (d, ((rule, f), e))) =
       cut d.rule 0 0 0 (items g d.rule) d.parts [] (take k w) v k (sym (append-nil (items g d.rule))) f (closed.starts d.rule rule) e (Reads-take k h)
 
-get-drop : {X : Type 0} (xs : List X) (n k : ℕ) → slice_get (drop n xs) k ≡ slice_get xs (n + k)
-get-drop xs zero k = rw (zero-add k)
-get-drop [] (suc n) k = refl
-get-drop (x ∷ xs) (suc n) k = let e : suc n + k ≡ suc (n + k) = omega arith in rw e (get-drop xs n k)
-
 end_word : (u u0 v0 rs v1 v2 y : List ℕ) → u ≡ u0 ++ v0 → rs ≡ v0 ++ v1 → y ≡ (u0 ++ rs) ++ v2 → y ≡ u ++ (v1 ++ v2)
 end_word u u0 v0 rs v1 v2 y a b c = c ∙ rw (a, b) (simp append_assoc)
 
@@ -143,7 +139,7 @@ module _ (g : Grammar) (w : List ℕ) (sound : IsSound g) where
   -- a rule of which the front has been spelt can be spelt to its end
   end_dot : (p n : ℕ) (u : List ℕ) → Spells g p n u → (ps : Parts) × (v : List ℕ) × FitsItems g (items g p) ps × (parts_yield ps ≡ u ++ v)
   end_dot p n u sp =
-      let rest = fill (drop n (items g p)) (λ k item e. filled g sound p (n + k) item (rw get-drop at e)) in
+      let rest = fill (drop n (items g p)) (λ k item e. filled g sound p (n + k) item (rw get_drop at e)) in
       let fits = then-fits g (take n (items g p)) (drop n (items g p)) sp.1 rest.0 sp.2 rest.1 in (
         parts_then sp.1 rest.0,
         parts_yield rest.0,

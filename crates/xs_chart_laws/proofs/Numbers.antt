@@ -1,6 +1,7 @@
 -- Places of a grammar and their numbers.
 use Rattle.std.proofs.Common.{◌≡◌, ℕ, suc, ◌+◌, ◌<◌, ◌≤◌, List, length, Some, None, refl, sym, ◌∙◌, subst, arith}
 use Rattle.std.specs.declared.option.Option.{Option}
+use Rattle.std.proofs.lemmas.Option.{none-some, same_Some}
 use Rattle.xs_regex.specs.declared.position.Position.{Position}
 use Rattle.xs_regex.proofs.Runs.{run_within}
 use Rattle.xs_gram.specs.declared.parts.GItem.{GItem}
@@ -13,12 +14,6 @@ use Rattle.xs_gram.proofs.Numbers.{offset, base, dot_there, number_dot, number_i
 use Rattle.xs_chart_laws.specs.Charts.{IsNumber}
 use Rattle.xs_chart_laws.proofs.Words.{get_lt}
 
-none_is : (k : ℕ) → None ≡ Some k → ⊥
-none_is k e = cc
-
-some_is : (m k : ℕ) → Some m ≡ Some k → m ≡ k
-some_is m k e = cc
-
 -- an item's automaton has its positions
 automaton_positions : (g : Grammar) (item : GItem) (a : Position) (k : ℕ) → IsAutomatonOf g item a → suc k ≤ length a.classes → suc k ≤ positions_of g item
 automaton_positions g (Term t s) a k lex lt = rw lex at lt
@@ -28,18 +23,18 @@ automaton_positions g (Non n s) a k lex lt = absurd lex
 
 -- the place at the front of a rule, after an item, and inside an item
 pub first_place : (g : Grammar) (p : ℕ) → p < length g.rules → IsPlace g (at_dot p 0)
-first_place g p lt = record { rule = lt; dot = omega arith; inside = λ k e. absurd (none_is k e) }
+first_place g p lt = record { rule = lt; dot = omega arith; inside = λ k e. absurd (none-some k e) }
 
 pub next_place : (g : Grammar) (p n : ℕ) (item : GItem) → p < length g.rules → ItemAt g p n item → IsPlace g (at_dot p (suc n))
-next_place g p n item lt at = record { rule = lt; dot = get_lt (items g p) n item at; inside = λ k e. absurd (none_is k e) }
+next_place g p n item lt at = record { rule = lt; dot = get_lt (items g p) n item at; inside = λ k e. absurd (none-some k e) }
 
 pub inside_place : (g : Grammar) (p n k : ℕ) (item : GItem) (a : Position) → p < length g.rules → ItemAt g p n item → IsAutomatonOf g item a → k < length a.classes → IsPlace g (at_inside p n k)
 inside_place g p n k item a lt at lex below =
     let within = get_lt (items g p) n item at in
-    record { rule = lt; dot = omega arith; inside = λ m e. (item, at, subst (λ x. suc x ≤ positions_of g item) (some_is k m e) (automaton_positions g item a k lex below)) }
+    record { rule = lt; dot = omega arith; inside = λ m e. (item, at, subst (λ x. suc x ≤ positions_of g item) (same_Some k m e) (automaton_positions g item a k lex below)) }
 
 place_from : (g : Grammar) (w : List ℕ) (p n : ℕ) (o : Option ℕ) (i j : ℕ) → Stands g w (record { rule = p; dot = n; inside = o }) i j → IsPlace g (record { rule = p; dot = n; inside = o })
-place_from g w p n None i j st = record { rule = st.1.0; dot = st.5.0; inside = λ k e. absurd (none_is k e) }
+place_from g w p n None i j st = record { rule = st.1.0; dot = st.5.0; inside = λ k e. absurd (none-some k e) }
 place_from g w p n (Some m) i j st = let b = st.5 in inside_place g p n m b.0 b.1 st.1.0 b.4 b.5 (run_within b.8)
 
 -- what stands is a place of the grammar

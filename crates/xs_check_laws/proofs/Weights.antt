@@ -4,7 +4,7 @@ use Rattle.std.proofs.Common.{◌≡◌, ℕ, suc, ◌+◌, ◌*◌, ◌≤◌, 
 use Rattle.xs_gram.specs.declared.parts.GItem.{GItem}
 use Rattle.xs_gram.specs.Grammar.{Grammar}
 use Rattle.xs_gram.specs.Loose.{AreOne}
-use Rattle.xs_check_laws.specs.Weights.{capped, Members, no_member, member_next, other_next, ItemWeighs, fixed_weighs, term_weighs, skip_weighs, non_weighs, ComponentWeighs, component_weighs, RulesWeigh, no_rule_yet, rule_of_member, rule_of_other, BodyWeighs, no_body, member_then, other_then, PartWeighs, no_part, part_then}
+use Rattle.xs_check_laws.specs.Weights.{cap, capped, Members, no_member, member_next, other_next, ItemWeighs, fixed_weighs, term_weighs, skip_weighs, non_weighs, ComponentWeighs, component_weighs, RulesWeigh, no_rule_yet, rule_of_member, rule_of_other, BodyWeighs, no_body, member_then, other_then, PartWeighs, no_part, part_then}
 use Rattle.xs_check_laws.specs.Laws.{PartWeighsOnce, RuleWeighsOnce}
 use Rattle.xs_check_laws.proofs.Walks.{one_on, one_back, member_moved}
 
@@ -82,7 +82,7 @@ pub component_moved : {g : Grammar} {c d w : ℕ} → ComponentWeighs g d w → 
 component_moved (component_weighs m r e) o = component_weighs (members_moved m o) (rules_moved r o) e
 
 -- weights of stretches add up
-pub body_within : {g : Grammar} {c w : ℕ} {is : List GItem} → BodyWeighs g c is w → w ≤ 1000000
+pub body_within : {g : Grammar} {c w : ℕ} {is : List GItem} → BodyWeighs g c is w → w ≤ cap
 body_within no_body = omega arith
 body_within (member_then a b e) = omega arith
 body_within (other_then a i b e) = omega arith
@@ -92,7 +92,7 @@ body_append {g} {c} {w = w} {x = x} {js = js} no_body r e = let h = body_within 
 body_append (member_then {rest = rest} {i = i} a b e) r h = member_then {i = i} a (body_append b r refl) (omega arith)
 body_append (other_then {own = own} {rest = rest} {i = i} a j b e) r h = other_then {i = i} a j (body_append b r refl) (omega arith)
 
-pub part_within : {g : Grammar} {w : ℕ} {is : List GItem} → PartWeighs g is w → w ≤ 1000000
+pub part_within : {g : Grammar} {w : ℕ} {is : List GItem} → PartWeighs g is w → w ≤ cap
 part_within no_part = omega arith
 part_within (part_then i r e) = omega arith
 

@@ -6,11 +6,11 @@ use Rattle.xs_class.specs.declared.side.Side.TheVariants.{Text, Xml}
 use Rattle.xs_gram.specs.Grammar.{Grammar}
 use Rattle.xs_gram.specs.Suspects.{IsVertical, IsHorizontal}
 use Rattle.xs_check_laws.specs.Freedom.{HasNoVertical, HasNoHorizontal}
-use Rattle.xs_check_laws.specs.Weights.{RuleWeighs}
+use Rattle.xs_check_laws.specs.Weights.{RuleWeighs, heaviest}
 
--- a rule may weigh at most 8,192
+-- a rule that weighs no more than it may
 abbrev pub IsLightRule : Grammar → ℕ → Type 0
-IsLightRule g p = (w : ℕ) × RuleWeighs g p w × (w ≤ 8192)
+IsLightRule g p = (w : ℕ) × RuleWeighs g p w × (w ≤ heaviest)
 
 abbrev pub IsLight : Grammar → Type 0
 IsLight g = (p : ℕ) → p < length g.rules → IsLightRule g p
@@ -30,7 +30,7 @@ pub record IsAccepted (text xml : Grammar) : Type 0 where
 pub record IsHeavyAt (g : Grammar) (p w : ℕ) : Type 0 where
   pub rule : p < length g.rules
   pub weighs : RuleWeighs g p w
-  pub heavy : 8192 < w
+  pub heavy : heaviest < w
   pub before : (q : ℕ) → q < p → IsLightRule g q
 
 -- the first heavy rule weighs w

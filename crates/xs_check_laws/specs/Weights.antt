@@ -6,9 +6,17 @@ use Rattle.xs_gram.specs.declared.parts.GItem.TheVariants.{Fixed, Term, Non, Ski
 use Rattle.xs_gram.specs.Grammar.{Grammar, rule_of, term_of, skip_of, items}
 use Rattle.xs_gram.specs.Loose.{AreOne, IsMember}
 
--- every sum above 1,000,000 counts as 1,000,000
+-- the greatest sum that counts
+abbrev pub cap : ℕ
+cap = 1000000
+
+-- every greater sum counts as that
 abbrev pub capped : ℕ → ℕ
-capped n = min n 1000000
+capped n = min n cap
+
+-- what a rule, and a part of one, may weigh at most
+abbrev pub heaviest : ℕ
+heaviest = 8192
 
 -- of the nonterminals below the bound that many are members of the component of c
 pub data Members (g : Grammar) (c : ℕ) : ℕ → ℕ → Type 0 where

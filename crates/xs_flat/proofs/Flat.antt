@@ -1,5 +1,5 @@
 -- Lists of lists kept flat.
-use Rattle.std.proofs.Common.{◌≡◌, ℕ, zero, suc, ◌+◌, ◌-◌, ◌<◌, ◌≤◌, List, [], ◌∷◌, ◌++◌, length, take, drop, get_or, slice_range, refl, sym, ◌∙◌, ap, subst, arith}
+use Rattle.std.proofs.Common.{◌≡◌, ℕ, zero, suc, ◌+◌, ◌-◌, ◌<◌, ◌≤◌, List, [], ◌∷◌, ◌++◌, length, length-append, take, drop, get_or, slice_range, refl, sym, ◌∙◌, ap, subst, arith}
 use Rattle.std.proofs.lemmas.List.{length-take-le, drop_at, take_all, drop-append-le, take-append-le, length-drop, drop-take, take-take}
 use Rattle.xs_flat.specs.Flat.{lists_from, Rise, begin_of}
 
@@ -85,3 +85,32 @@ length_first all ends n h le = length-take-le (begin_of 0 ends n) all (begin_le 
 -- how many lists there are
 pub length_seen : {A : Type 0} (all : List A) (ends : List ℕ) (seen : List (List A)) → lists_from all 0 ends ≡ seen → length ends ≡ length seen
 length_seen all ends seen is = sym (length_lists all 0 ends) ∙ ap length is
+
+-- a list that is there begins and ends within the elements
+pub placed : {A : Type 0} (all : List A) (ends : List ℕ) (seen : List (List A)) (k : ℕ) → lists_from all 0 ends ≡ seen → Rise 0 ends (length all) → k < length seen → (k < length ends) × (begin_of 0 ends k ≤ get_or ends k 0) × (get_or ends k 0 ≤ length all)
+placed all ends seen k is rise lt =
+    let same = length_seen all ends seen is in
+    let there : k < length ends = omega (arith, same, lt) in
+    let within = list_within 0 ends (length all) k rise there in
+    (there, within.0, within.1)
+
+-- one list more
+pub pushed : {A : Type 0} (all row all' : List A) (ends room ends' : List ℕ) (n : ℕ) (seen : List (List A)) → lists_from all 0 ends ≡ seen → Rise 0 ends (length all) → all' ≡ all ++ row → n ≡ length all' → room ≡ ends → ends' ≡ room ++ n ∷ [] → Rise 0 ends' (length all') × (lists_from all' 0 ends' ≡ seen ++ row ∷ [])
+pushed all row all' ends room ends' n seen is rise long counted same next =
+    let total : length all' ≡ length all + length row = ap length long ∙ length-append all row in
+    let whole : ends' ≡ ends ++ (length all + length row) ∷ [] = next ∙ ap (λ e. e ++ n ∷ []) same ∙ ap (λ m. ends ++ m ∷ []) (counted ∙ total) in
+    let risen = rise_more 0 ends (length all) (length all + length row) rise (omega arith) in (
+      subst (λ m. Rise 0 ends' m) (sym total) (subst (λ e. Rise 0 e (length all + length row)) (sym whole) risen),
+      ap (λ a. lists_from a 0 ends') long ∙ ap (lists_from (all ++ row) 0) whole ∙ lists_more all row 0 ends rise ∙ ap (λ l. l ++ row ∷ []) is,
+    )
+
+-- the first lists alone
+pub shortened : {A : Type 0} (all all' : List A) (ends ends' : List ℕ) (n begin : ℕ) (seen : List (List A)) → lists_from all 0 ends ≡ seen → Rise 0 ends (length all) → n ≤ length seen → begin ≡ begin_of 0 ends n → all' ≡ take begin all → ends' ≡ take n ends → Rise 0 ends' (length all') × (lists_from all' 0 ends' ≡ take n seen)
+shortened all all' ends ends' n begin seen is rise le begins first kept =
+    let same = length_seen all ends seen is in
+    let within : n ≤ length ends = omega (arith, same, le) in
+    let front : all' ≡ take (begin_of 0 ends n) all = first ∙ ap (λ m. take m all) begins in
+    let total : length all' ≡ begin_of 0 ends n = ap length front ∙ length_first all ends n rise within in (
+      subst (λ m. Rise 0 ends' m) (sym total) (subst (λ e. Rise 0 e (begin_of 0 ends n)) (sym kept) (rise_take 0 ends (length all) n rise within)),
+      ap (λ a. lists_from a 0 ends') front ∙ ap (lists_from (take (begin_of 0 ends n) all) 0) kept ∙ lists_take all 0 ends n rise within ∙ ap (take n) is,
+    )

@@ -14,7 +14,7 @@ use Rattle.xs_forest_laws.specs.declared.span.What.TheVariants.{Whole, Front}
 use Rattle.xs_forest_laws.specs.Forest.{Forest, key_at, no_row, key_of, alts_of, IsRow, FrontAt, ItemRow}
 use Rattle.xs_forest_laws.specs.Grown.{ItemOver, WholeBy, FrontBy, IsAltBy, IsLabelBy, IsGrown}
 use Rattle.xs_forest_laws.specs.Adding.{more_of, IsNext}
-use Rattle.xs_class.proofs.Lists.{some_same}
+use Rattle.xs_class.proofs.Lists.{some_same, one_longer}
 
 at_front : {X : Type 0} (xs : List X) (y : X) (r : ℕ) (d : X) → r < length xs → slice_index_or (xs ++ y ∷ []) r d ≡ slice_index_or xs r d
 at_front [] y r d h = absurd (omega arith)
@@ -24,10 +24,6 @@ at_front (x ∷ xs) y (suc r) d h = at_front xs y r d (omega arith)
 pub at_end : {X : Type 0} (xs : List X) (y : X) (d : X) → slice_index_or (xs ++ y ∷ []) (length xs) d ≡ y
 at_end [] y d = refl
 at_end (x ∷ xs) y d = at_end xs y d
-
-pub one_longer : {X : Type 0} (xs : List X) (y : X) → length (xs ++ y ∷ []) ≡ suc (length xs)
-one_longer [] y = refl
-one_longer (x ∷ xs) y = ap suc (one_longer xs y)
 
 none_some : {X : Type 0} (o : Option X) (x : X) → o ≡ None → o ≡ Some x → ⊥
 none_some o x e h = cc

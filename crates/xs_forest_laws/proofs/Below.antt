@@ -12,7 +12,7 @@ use Rattle.xs_chart_laws.proofs.Words.{get_lt, Reads-is}
 use Rattle.xs_forest_laws.specs.declared.span.What.TheVariants.{Whole, Front}
 use Rattle.xs_forest_laws.specs.Forest.{IsSpelt}
 use Rattle.xs_forest_laws.specs.Order.{IsRanked, IsNullableFrom, IsTail, level, IsLess}
-use Rattle.xs_class.proofs.Lists.{some_same, front_empty, rest_empty}
+use Rattle.xs_class.proofs.Lists.{some_same, front_empty, rest_empty, get_taken}
 
 no_length : (u : List ℕ) → length u ≡ 0 → u ≡ []
 no_length [] e = refl
@@ -20,12 +20,6 @@ no_length (x ∷ u) e = absurd (omega arith)
 
 reads_none : (w : List ℕ) (i : ℕ) (u : List ℕ) → Reads w i u i → u ≡ []
 reads_none w i u r = no_length u (omega (arith, Reads-is w i u i r))
-
-get_taken : {X : Type 0} (xs : List X) (d k : ℕ) (x : X) → k < d → slice_get xs k ≡ Some x → slice_get (take d xs) k ≡ Some x
-get_taken [] d k x lt e = cc
-get_taken (y ∷ xs) zero k x lt e = absurd (omega arith)
-get_taken (y ∷ xs) (suc d) zero x lt e = e
-get_taken (y ∷ xs) (suc d) (suc k) x lt e = get_taken xs d k x (omega arith) e
 
 get_none : {X : Type 0} (k : ℕ) (x : X) → slice_get [] k ≡ Some x → ⊥
 get_none k x e = cc

@@ -7,8 +7,8 @@ use Rattle.xs_gram.specs.Grammar.{Grammar}
 use Rattle.xs_forest.specs.declared.row.Alt.{Alt}
 use Rattle.xs_forest_laws.specs.Forest.{Forest, alts_of, Unfolding, bare, pick, IsRight}
 use Rattle.xs_forest_laws.specs.Number.{count_of, alts_count, alts_sum, IsCounted, At, AreCounts, IsChosen}
-use Rattle.xs_forest_laws.proofs.Number.{place_one, alt_one}
-use Rattle.xs_class.proofs.Lists.{first_in, rest_in}
+use Rattle.xs_forest_laws.proofs.Number.{alt_one}
+use Rattle.xs_class.proofs.Lists.{first_in, rest_in, one_longer, one_cell}
 
 -- counted with the cap at each step, or at the end
 pub alts_count-is : (cap : ℕ) (cs : List ℕ) (alts : List Alt) → alts_count cap cs alts ≡ min cap (alts_sum cap cs alts)
@@ -36,10 +36,6 @@ alts_more cap cs more (a ∷ alts) h =
 at_last : (xs : List ℕ) (y d : ℕ) → slice_index_or (xs ++ y ∷ []) (length xs) d ≡ y
 at_last [] y d = refl
 at_last (x ∷ xs) y d = at_last xs y d
-
-one_longer : (xs : List ℕ) (y : ℕ) → length (xs ++ y ∷ []) ≡ suc (length xs)
-one_longer [] y = refl
-one_longer (x ∷ xs) y = ap suc (one_longer xs y)
 
 pub none_counted : (f : Forest) (cap : ℕ) → AreCounts f cap []
 none_counted f cap = (omega arith, λ r lt. absurd (omega arith))
@@ -90,7 +86,7 @@ module _ (f : Forest) (cap : ℕ) (cs : List ℕ) (r k n x y : ℕ) (a : Alt) (h
       let c = alt_one cap cs (alts_of f r) n' n b a (x' * count_of cs b.right + y') (x * count_of cs a.right + y) e' h.alt bx' h.both (sym ek' ∙ h.number) in
       let er : count_of cs b.right ≡ count_of cs a.right = ap (λ (z : Alt). count_of cs z.right) c.1 in
       let same : x' * count_of cs a.right + y' ≡ x * count_of cs a.right + y = subst (λ z. x' * z + y' ≡ x * count_of cs a.right + y) er c.2 in
-      let p = place_one (count_of cs a.right) x' y' x y (subst (λ z. y' < z) er by') h.within same in (
+      let p = one_cell (count_of cs a.right) x' y' x y (subst (λ z. y' < z) er by') h.within same in (
         s,
         q,
         ap (λ z. pick z s q) c.1,

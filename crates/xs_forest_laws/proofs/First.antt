@@ -2,6 +2,7 @@
 use Rattle.std.proofs.Common.{◌≡◌, ℕ, zero, suc, ◌<◌, List, [], ◌∷◌, length, take, Option, Some, None, refl, arith, inl, inr, ◌⊎◌}
 use Rattle.std.proofs.Math.Seq.{take-length}
 use Rattle.std.specs.Prelude.{Contains}
+use Rattle.xs_class.proofs.Lists.{contains_of}
 use Rattle.xs_gram.specs.declared.parts.GItem.{GItem}
 use Rattle.xs_gram.specs.declared.parts.GItem.TheVariants.{Fixed, Term, Non, Skip}
 use Rattle.xs_gram.specs.Grammar.{Grammar, items}
@@ -13,7 +14,6 @@ use Rattle.xs_forest_laws.specs.Forest.{Forest, key_of, alts_of, IsRow, Unfoldin
 use Rattle.xs_forest_laws.specs.First.{IsFirst}
 use Rattle.xs_forest_laws.proofs.Read.{any_slot}
 use Rattle.xs_forest_laws.proofs.All.{fitting_is_unfolded}
-use Rattle.xs_forest_laws.proofs.Number.{contains_of}
 
 module _ (g : Grammar) (w : List ℕ) (f : Forest) (right : IsRight g w f) where
   abbrev pub HasUnfolding : Option ℕ → Type 0

@@ -2,14 +2,15 @@
 use Rattle.std.proofs.Common.{◌≡◌, ℕ, zero, suc, ◌+◌, ◌-◌, ◌*◌, ◌<◌, ◌≤◌, List, [], ◌∷◌, length, take, Option, Some, None, refl, sym, ap, ◌∙◌, arith, subst, inl, inr, ◌⊎◌}
 use Rattle.std.proofs.Math.Nat.{suc-mul}
 use Rattle.std.proofs.lemmas.Bool.{cases_lt}
-use Rattle.std.proofs.lemmas.Option.{get_or_from_slice_get, slice_get-get_or}
 use Rattle.std.specs.Prelude.{slice_get, Contains}
+use Rattle.xs_class.proofs.Lists.{get_of, contains_of, one_cell}
 use Rattle.xs_gram.specs.Grammar.{Grammar}
-use Rattle.xs_chart_laws.proofs.Words.{get_lt}
 use Rattle.xs_forest.specs.declared.row.Alt.{Alt}
 use Rattle.xs_forest_laws.specs.Forest.{Forest, alts_of, Unfolding, bare, pick, Unfolds, IsRight}
 use Rattle.xs_forest_laws.specs.Number.{count_of, alt_count, alts_count, alts_sum, IsCounted, At}
 use Rattle.xs_forest_laws.proofs.Once.{pick_is}
+pub use Rattle.xs_class.proofs.Lists.{one_cell as place_one}
+pub use Rattle.xs_class.proofs.Lists.{contains_of}
 
 -- a number below a product, as a place in rows of d
 pub place_of : (c d k : ℕ) → k < c * d → (x : ℕ) × (y : ℕ) × (x < c) × (y < d) × (k ≡ x * d + y)
@@ -28,16 +29,6 @@ place_lt zero d x y h k = absurd (omega arith)
 place_lt (suc c) d zero y h k = let e = suc-mul c d in let e' : zero * d ≡ 0 = omega arith in omega arith
 place_lt (suc c) d (suc x) y h k = let e = suc-mul c d in let e' = suc-mul x d in let ih = place_lt c d x y (omega arith) k in omega arith
 
-pub place_one : (d x y u v : ℕ) → y < d → v < d → x * d + y ≡ u * d + v → (x ≡ u) × (y ≡ v)
-place_one d zero y zero v h k e = (refl, omega arith)
-place_one d zero y (suc u) v h k e = let s = suc-mul u d in let z : zero * d ≡ 0 = omega arith in absurd (omega arith)
-place_one d (suc x) y zero v h k e = let s = suc-mul x d in let z : zero * d ≡ 0 = omega arith in absurd (omega arith)
-place_one d (suc x) y (suc u) v h k e =
-    let s = suc-mul x d in
-    let s' = suc-mul u d in
-    let r = place_one d x y u v h k (omega arith) in
-    (ap suc r.0, r.1)
-
 factor_le : (c d : ℕ) → 1 ≤ d → c ≤ c * d
 factor_le zero d h = omega arith
 factor_le (suc c) d h = let e = suc-mul c d in let ih = factor_le c d h in omega arith
@@ -45,12 +36,6 @@ factor_le (suc c) d h = let e = suc-mul c d in let ih = factor_le c d h in omega
 factor_le' : (c d : ℕ) → 1 ≤ c → d ≤ c * d
 factor_le' zero d h = absurd (omega arith)
 factor_le' (suc c) d h = let e = suc-mul c d in omega arith
-
-pub get_of : {X : Type 0} (xs : List X) (x : X) → Contains xs x → (n : ℕ) × (slice_get xs n ≡ Some x)
-get_of xs x (n, lt, e) = (n, slice_get-get_or xs n x lt ∙ ap Some e)
-
-pub contains_of : {X : Type 0} (xs : List X) (n : ℕ) (x : X) → slice_get xs n ≡ Some x → Contains xs x
-contains_of xs n x e = (n, get_lt xs n x e, get_or_from_slice_get xs n x x e)
 
 module _ (cap : ℕ) (cs : List ℕ) where
   -- the alternative in which a number lies
@@ -105,7 +90,7 @@ module _ (f : Forest) (cap : ℕ) (cs : List ℕ) where
       let c = alt_one cap cs (alts_of f r) n n' a b (x * count_of cs a.right + y) (x' * count_of cs b.right + y') e e' bx bx' (sym ek ∙ ek') in
       let er : count_of cs a.right ≡ count_of cs b.right = ap (λ (z : Alt). count_of cs z.right) c.1 in
       let same : x * count_of cs a.right + y ≡ x' * count_of cs a.right + y' = subst (λ z. x * count_of cs a.right + y ≡ x' * z + y') (sym er) c.2 in
-      let p = place_one (count_of cs a.right) x y x' y' by (subst (λ z. y' < z) (sym er) by') same in
+      let p = one_cell (count_of cs a.right) x y x' y' by (subst (λ z. y' < z) (sym er) by') same in
       let l' : At f cap cs a.left x s = subst (λ z. At f cap cs a.left z s) (sym p.0) (subst (λ (z : Alt). At f cap cs z.left x' s) (sym c.1) hl') in
       let t' : At f cap cs a.right y q = subst (λ z. At f cap cs a.right z q) (sym p.1) (subst (λ (z : Alt). At f cap cs z.right y' q) (sym c.1) ht') in
       pick_is a b l s t q c.1 (one_at a.left x l s hl l') (one_at a.right y t q ht t')

@@ -17,16 +17,17 @@ use Rattle.xs_forest_laws.specs.Placed.{key_in, IsOrdered, HasKeys}
 use Rattle.xs_forest_laws.proofs.Grows.{dot_spelt, over_spelt}
 use Rattle.xs_forest_laws.proofs.Below.{whole_below, front_below, last_below}
 
+-- a place before all items stands where it began
+pub empty_at : (g : Grammar) (w : List ℕ) (has : ℕ → Place → ℕ → Type 0) → IsExactChart g w has → (p i j : ℕ) → has j (at_dot p 0) i → i ≡ j
+empty_at g w has chart p i j h = go (dot_spelt g w p 0 i j (chart.sound (at_dot p 0) i j h))
+  where
+    go : IsSpelt g w [] i j → i ≡ j
+    go (done, (f, r)) = r
+    go (_, (f, r)) = absurd f
+
 module _ (g : Grammar) (w : List ℕ) (has : ℕ → Place → ℕ → Type 0) (chart : IsExactChart g w has) (rank : ℕ → ℕ) (tail : ℕ → ℕ → Bool) (ranked : IsRanked g rank) (is_tail : IsTail g tail) where
   abbrev lev : SpanKey → List ℕ
   lev = level_of g rank tail
-
-  empty_at : (p i j : ℕ) → has j (at_dot p 0) i → i ≡ j
-  empty_at p i j h = go (dot_spelt g w p 0 i j (chart.sound (at_dot p 0) i j h))
-    where
-      go : IsSpelt g w [] i j → i ≡ j
-      go (done, (f, r)) = r
-      go (_, (f, r)) = absurd f
 
   module _ (ks : List SpanKey) (ordered : IsOrdered g has lev ks) (f : Forest) (made : HasKeys f ks) (more : length f < length ks) (x : What) (i j : ℕ) (next : key_in ks (length f) ≡ key_at x i j) where
     -- a label of a lower level has a row
@@ -41,7 +42,7 @@ module _ (g : Grammar) (w : List ℕ) (has : ℕ → Place → ℕ → Type 0) (
         ]
 
     front_there : (p d k l : ℕ) → has l (at_dot p d) k → IsLess (level g rank tail (Front p d) k l) (level g rank tail x i j) → (o : Option ℕ) × FrontAt f p d k l o
-    front_there p zero k l h less = (None, (refl, empty_at p k l h))
+    front_there p zero k l h less = (None, (refl, empty_at g w has chart p k l h))
     front_there p (suc d) k l h less =
         let r = there (Front p (suc d)) k l (omega arith, h) less in
         (Some r.0, (r.0, refl, r.1))

@@ -14,8 +14,8 @@ use Rattle.xs_forest_laws.specs.Grown.{IsAltBy, IsLabelBy}
 use Rattle.xs_forest_laws.specs.Adding.{more_of}
 use Rattle.xs_forest_laws.specs.Placed.{key_in, IsOrdered, HasKeys}
 use Rattle.xs_forest_laws.proofs.Read.{get_or_is}
-use Rattle.xs_forest_laws.proofs.Adding.{alt_child, one_longer, key_more, at_end}
-use Rattle.xs_class.proofs.Lists.{first_in, rest_in}
+use Rattle.xs_forest_laws.proofs.Adding.{alt_child, key_more, at_end}
+use Rattle.xs_class.proofs.Lists.{first_in, rest_in, one_longer}
 
 pub child_earlier : (o : Option ℕ) (n : ℕ) → ((c : ℕ) → o ≡ Some c → c < n) → IsEarlier o n
 child_earlier None n h = tt

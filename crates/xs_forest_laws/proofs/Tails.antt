@@ -2,6 +2,7 @@
 use Rattle.std.proofs.Common.{◌≡◌, ℕ, suc, ◌-◌, ◌<◌, ◌≤◌, [], length, Bool, true, Some, refl, sym, ◌∙◌, subst, arith, inl, inr, ◌↔◌, leb}
 use Rattle.std.proofs.lemmas.Bool.{leb-true, le-leb, cases_lt}
 use Rattle.std.specs.Prelude.{slice_get}
+use Rattle.std.proofs.lemmas.Option.{same_Some}
 use Rattle.xs_regex.specs.declared.position.Position.{Position}
 use Rattle.xs_regex.specs.Automaton.{Accepts}
 use Rattle.xs_gram.specs.declared.parts.GItem.{GItem}
@@ -35,16 +36,13 @@ module _ (g : Grammar) (built : IsBuilt g) (flag : ℕ → Bool) (flags : AreNul
 pub none_after : (g : Grammar) (p : ℕ) → IsNullableFrom g p (length (items g p))
 none_after g p k item le at = let lt = get_lt (items g p) k item at in absurd (omega arith)
 
-some_same : {X : Type 0} (x y : X) → Some x ≡ Some y → x ≡ y
-some_same x y e = cc
-
 -- one item more
 pub nullable_more : (g : Grammar) (p d : ℕ) (item : GItem) → ItemAt g p d item → IsNullableItem g item → IsNullableFrom g p (suc d) → IsNullableFrom g p d
 nullable_more g p d item at nullable rest k other le there = elim (cases_lt d k) [
   | inl lt ↦ rest k other lt there
   | inr ge ↦
       let same : k ≡ d = omega arith in
-      subst (λ z. IsNullableItem g z) (some_same item other (sym at ∙ subst (λ z. slice_get (items g p) z ≡ Some other) same there)) nullable
+      subst (λ z. IsNullableItem g z) (same_Some item other (sym at ∙ subst (λ z. slice_get (items g p) z ≡ Some other) same there)) nullable
 ]
 
 -- the test by the first places from which all items are nullable

@@ -1,6 +1,7 @@
 -- Each step of the walk keeps what the walk ends with; what lies in the flat list stays there.
-use Rattle.std.proofs.Common.{◌≡◌, ℕ, zero, suc, List, [], ◌∷◌, ◌++◌, Some, None, refl, sym, ap, ◌∙◌}
-use Rattle.std.specs.Prelude.{slice_get, slice_range}
+use Rattle.std.proofs.Common.{◌≡◌, ℕ, suc, List, ◌∷◌, ◌++◌, Some, None, refl, sym, ap, ◌∙◌}
+use Rattle.std.specs.Prelude.{slice_range}
+use Rattle.xs_class.proofs.Lists.{get_left}
 use Rattle.xs_gram.specs.declared.parts.GItem.{GItem}
 use Rattle.xs_gram.specs.Grammar.{Grammar}
 use Rattle.xs_gram.specs.Derivations.{Parts, done, fixed, leaf, skip, sub}
@@ -35,19 +36,14 @@ module _ (g : Grammar) (w : List ℕ) (f : Forest) where
       front_step r p d i j m item a l t ts ps around row h ∙
       ap (λ o. end_of_walk g w f (visit a.left l (word (last_part item (slice_range w m j) o (read g w f o t)) ts)) ps around) e
 
-get_more : {X : Type 0} (xs ys : List X) (n : ℕ) (x : X) → slice_get xs n ≡ Some x → slice_get (xs ++ ys) n ≡ Some x
-get_more [] ys n x e = cc
-get_more (z ∷ xs) ys zero x e = e
-get_more (z ∷ xs) ys (suc n) x e = get_more xs ys n x e
-
 module _ (w : List ℕ) where
   -- more flat parts after
   pub are_more : (out more : List Flat) (ps : Parts) (vs : List ℕ) → AreAt w out ps vs → AreAt w (out ++ more) ps vs
   are_more out more done vs h = h
   are_more out more (fixed u ps) vs h = are_more out more ps vs h
-  are_more out more (leaf u ps) vs (v, i, j, us, e, at, is, h) = (v, i, j, us, e, get_more out more v (leaf_at i j) at, is, are_more out more ps us h)
-  are_more out more (skip u ps) vs (v, i, j, us, e, at, is, h) = (v, i, j, us, e, get_more out more v (skip_at i j) at, is, are_more out more ps us h)
-  are_more out more (sub q qs ps) vs (v, kids, us, e, at, hq, h) = (v, kids, us, e, get_more out more v (node q kids) at, are_more out more qs kids hq, are_more out more ps us h)
+  are_more out more (leaf u ps) vs (v, i, j, us, e, at, is, h) = (v, i, j, us, e, get_left out more v (leaf_at i j) at, is, are_more out more ps us h)
+  are_more out more (skip u ps) vs (v, i, j, us, e, at, is, h) = (v, i, j, us, e, get_left out more v (skip_at i j) at, is, are_more out more ps us h)
+  are_more out more (sub q qs ps) vs (v, kids, us, e, at, hq, h) = (v, kids, us, e, get_left out more v (node q kids) at, are_more out more qs kids hq, are_more out more ps us h)
 
   -- parts and then parts
   pub are_then : (out : List Flat) (ps rs : Parts) (vs us : List ℕ) → AreAt w out ps vs → AreAt w out rs us → AreAt w out (parts_then ps rs) (vs ++ us)

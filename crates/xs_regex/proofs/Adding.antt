@@ -10,23 +10,11 @@ use Rattle.ucd_sets.specs.declared.set.Set.{Set}
 use Rattle.xs_class.specs.Classes.{Has}
 use Rattle.xs_class.specs.Named.{set_named, HasMembersOf}
 use Rattle.xs_class.specs.Tables.{IsChar}
+use Rattle.xs_class.proofs.Adding.{has_append}
 use Rattle.xs_regex.specs.declared.fault.RegexFault.{RegexFault}
 use Rattle.xs_regex.specs.Characters.{Item, span, named, is_known, known, with_left, known_item, item_at, item_more, items_more, items_at, some_of, none_of, sorted, one_at, one_set}
 use Rattle.xs_regex.specs.Meaning.{IsOfItem, IsOfItems, IsClassOf}
 use Rattle.xs_regex.specs.Reported.{IsReported, Adds}
-
-pub has_append : (xs ys : List (ℕ × ℕ)) (s : ℕ) → Has (xs ++ ys) s ↔ (Has xs s ⊎ Has ys s)
-has_append [] ys s = (λ h. inr h, λ h. elim h [ inl a ↦ absurd a | inr b ↦ b ])
-has_append (x ∷ xs) ys s = (
-  λ h. elim h [
-    | inl a ↦ inl (inl a)
-    | inr b ↦ elim ((has_append xs ys s).0 b) [ inl c ↦ inl (inr c) | inr d ↦ inr d ]
-  ],
-  λ h. elim h [
-    | inl a ↦ elim a [ inl b ↦ inl b | inr c ↦ inr ((has_append xs ys s).1 (inl c)) ]
-    | inr d ↦ inr ((has_append xs ys s).1 (inr d))
-  ],
-)
 
 pub add_span : (old new : List (ℕ × ℕ)) (low high : ℕ) → new ≡ old ++ (low, high) ∷ [] → Adds old new (IsOfItem (span low high))
 add_span old new low high e = λ s. subst (λ (x : List (ℕ × ℕ)). Has x s ↔ (Has old s ⊎ IsOfItem (span low high) s)) (sym e) (

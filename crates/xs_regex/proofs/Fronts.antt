@@ -2,6 +2,7 @@
 use Rattle.std.proofs.Common.{◌≡◌, ◌∙◌, ℕ, suc, Bool, true, false, ◌==◌, List, [], ◌∷◌, ◌++◌, length, refl, sym, ap, subst, arith, None, Some, if◌then◌else◌}
 use Rattle.std.specs.Option.{IsSomeAnd}
 use Rattle.std.specs.declared.option.Option.{Option}
+use Rattle.std.proofs.lemmas.Option.{same_Some, none-some}
 use Rattle.xs_regex.specs.declared.regex.Regex.{Regex}
 use Rattle.xs_regex.specs.Meaning.{Means, MeanEach, leaning}
 use Rattle.xs_regex.specs.Pattern.{Tree, both, either}
@@ -106,12 +107,6 @@ module _ (n m d : ℕ) (here : List ℕ) (is : n ≡ suc m) where
       found (Some a) h = (a.0, ap (λ (l : List ℕ). pieces_after (Some (a.0, l)) (λ l. pieces_at m d l)) h.0 ∙ goes a.0 (stops left) f, h.1)
 
 -- sequences
-some_same : {x y : List ℕ} → Some x ≡ Some y → x ≡ y
-some_same e = cc
-
-none_some : {x : List ℕ} → None ≡ Some x → ⊥
-none_some e = cc
-
 some_none : {x : List ℕ} → Some x ≡ None → ⊥
 some_none e = cc
 
@@ -126,11 +121,11 @@ module _ (n m d : ℕ) (here : List ℕ) (is : n ≡ suc m) where
   sequence_followed part left rest h f = let x = found (sequence_at m d here) h in (x.0, unfold_regex ∙ x.1, x.2)
     where
       by_test : (t : Tree) (c : ℕ) (cs : List ℕ) (b : Bool) → (if b then Some cs else None) ≡ Some rest → (if b then with_tree (λ u. either t u) (regex_at m d cs) else Some (t, c ∷ cs)) ≡ with_tree (λ u. either t u) (regex_at m d rest)
-      by_test t c cs true e = ap (λ (l : List ℕ). with_tree (λ u. either t u) (regex_at m d l)) (some_same e)
-      by_test t c cs false e = absurd (none_some e)
+      by_test t c cs true e = ap (λ (l : List ℕ). with_tree (λ u. either t u) (regex_at m d l)) (same_Some _ _ e)
+      by_test t c cs false e = absurd (none-some _ e)
 
       goes : (t : Tree) (l : List ℕ) → after_bar l ≡ Some rest → regex_after (Some (t, l)) (λ l. regex_at m d l) ≡ with_tree (λ u. either t u) (regex_at m d rest)
-      goes t [] e = absurd (none_some e)
+      goes t [] e = absurd (none-some _ e)
       goes t (c ∷ cs) e = by_test t c cs (c == 124) e
 
       found : (o : Option (Tree × List ℕ)) → IsSomeAnd o (λ a. (a.1 ≡ left) × Means a.0 part) → (t : Tree) × (regex_after o (λ l. regex_at m d l) ≡ with_tree (λ u. either t u) (regex_at m d rest)) × Means t part

@@ -3,6 +3,7 @@ use Rattle.std.proofs.Common.{◌≡◌, ◌⊎◌, ◌∙◌, ℕ, zero, suc, �
 use Rattle.std.proofs.Common.{leb-true}
 use Rattle.std.proofs.Math.Nat.{mul-le-mul_left}
 use Rattle.std.specs.declared.option.Option.{Option}
+use Rattle.std.proofs.lemmas.Option.{same_Some}
 use Rattle.xs_regex.specs.declared.regex.Regex.{Regex}
 use Rattle.xs_regex.specs.declared.regex.Regex.TheVariants.{Empty, Set, Then', Or', Star', Times'}
 use Rattle.xs_regex.specs.Characters.{count_at, most_end, most_at, least_end, counts_at}
@@ -154,10 +155,7 @@ pattern_large pattern r large h u a =
     omega (arith, size_is, a.small)
   where
     same_tree : (t u : Tree) → ◌≡◌ {A = Option (Tree × List ℕ)} (Some (t, [])) (Some (u, [])) → t ≡ u
-    same_tree t u e = let inner : ◌≡◌ {A = Tree × List ℕ} (t, []) (u, []) = inside (t, []) (u, []) e in ap (λ (p : Tree × List ℕ). p.0) inner
-      where
-        inside : {X : Type 0} (x y : X) → Some x ≡ Some y → x ≡ y
-        inside x y e = cc
+    same_tree t u e = let inner : ◌≡◌ {A = Tree × List ℕ} (t, []) (u, []) = same_Some (t, []) (u, []) e in ap (λ (p : Tree × List ℕ). p.0) inner
 
 -- sizes up to 513
 pub times_up_to : (n s : ℕ) → min (n * min s 513) 513 ≡ min (n * s) 513

@@ -2,6 +2,8 @@
 use Rattle.std.proofs.Common.{◌≡◌, ◌≢◌, ◌⊎◌, ◌∙◌, ℕ, zero, suc, ◌+◌, ◌*◌, ◌≤◌, Bool, true, false, ◌==◌, List, [], ◌∷◌, length, refl, sym, ap, subst, inl, inr, arith, None, Some, if◌then◌else◌}
 use Rattle.std.proofs.lemmas.Bool.Decides.{eqb_tells}
 use Rattle.std.specs.declared.option.Option.{Option}
+use Rattle.xs_class.proofs.Truth.{if_false}
+use Rattle.xs_class.proofs.Lists.{some_pair}
 use Rattle.xs_regex.specs.Characters.{Sort, set_at, counts_at}
 use Rattle.xs_regex.specs.Pattern.{Tree, nothing, class, both, either, any, times, Stops, Ends, IsPlainNext, IsCounted, once, star, plus, question, braces, IsRegex, one_sequence, bar, IsSequence, no_piece, pieces, ArePieces, last_piece, next_piece, IsPiece, piece, IsAtom, set, group, IsReading}
 use Rattle.xs_regex.specs.Scan.{stops, braced, count_after, counted, class_of, closed, with_tree, pieces_after, regex_after, regex_at, pieces_at, atom_at}
@@ -56,10 +58,6 @@ read_counted (plus e) = rw e refl
 read_counted (question e) = rw e refl
 read_counted {t} (braces least most inner e is) = rw e (ap (λ o. braced t o) is)
 
-if_false : {A : Type 0} (b : Bool) (x y : A) → b ≡ false → (if b then x else y) ≡ y
-if_false true x y e = cc
-if_false false x y e = refl
-
 read_set : (n d : ℕ) (cs rest : List ℕ) (s : Sort) → set_at cs ≡ Some (s, rest) → atom_at (suc n) d cs ≡ Some (class s, rest)
 read_set n d [] rest s is = absurd (none_here refl is)
 read_set n zero (c ∷ cs) rest s is = ap (λ o. class_of o) is
@@ -109,27 +107,21 @@ is_other c k e = elim (eqb_tells c k) [ inl h ↦ absurd (true_false h.0 e) | in
     true_false : {b : Bool} → b ≡ true → b ≡ false → ⊥
     true_false e f = cc
 
-found_pair : {A B : Type 0} (a b : A) (l m : B) → ◌≡◌ {A = Option (A × B)} (Some (a, l)) (Some (b, m)) → (a ≡ b) × (l ≡ m)
-found_pair {A} {B} a b l m e = let same : ◌≡◌ {A = A × B} (a, l) (b, m) = inside (a, l) (b, m) e in (ap (λ (p : A × B). p.0) same, ap (λ (p : A × B). p.1) same)
-  where
-    inside : {X : Type 0} (x y : X) → Some x ≡ Some y → x ≡ y
-    inside x y e = cc
-
 with_found : (whole : Tree → Tree) (o : Option (Tree × List ℕ)) (t : Tree) (rest : List ℕ) → with_tree whole o ≡ Some (t, rest) → (u : Tree) × (o ≡ Some (u, rest)) × (whole u ≡ t)
 with_found whole None t rest e = absurd (none_here refl e)
-with_found whole (Some (u, left)) t rest e = let p = found_pair (whole u) t left rest e in (u, ap (λ (x : List ℕ). Some (u, x)) p.1, p.0)
+with_found whole (Some (u, left)) t rest e = let p = some_pair (whole u) t left rest e in (u, ap (λ (x : List ℕ). Some (u, x)) p.1, p.0)
 
 found_counted : (t u : Tree) (cs rest : List ℕ) → count_after t cs ≡ Some (u, rest) → IsCounted t cs u rest
-found_counted t u [] rest e = let p = found_pair t u [] rest e in subst (λ x. IsCounted t [] x rest) p.0 (subst (λ x. IsCounted t [] t x) p.1 (once tt))
+found_counted t u [] rest e = let p = some_pair t u [] rest e in subst (λ x. IsCounted t [] x rest) p.0 (subst (λ x. IsCounted t [] t x) p.1 (once tt))
 found_counted t u (c ∷ cs) rest e = elim (split_if (c == 42) _ _ _ e) [
-  | inl h ↦ let p = found_pair (any t) u cs rest h.1 in subst (λ x. IsCounted t (c ∷ cs) x rest) p.0 (star (front c 42 cs rest (is_same c 42 h.0) p.1))
+  | inl h ↦ let p = some_pair (any t) u cs rest h.1 in subst (λ x. IsCounted t (c ∷ cs) x rest) p.0 (star (front c 42 cs rest (is_same c 42 h.0) p.1))
   | inr g ↦ elim (split_if (c == 43) _ _ _ g.1) [
-    | inl h ↦ let p = found_pair (times t 1 None) u cs rest h.1 in subst (λ x. IsCounted t (c ∷ cs) x rest) p.0 (plus (front c 43 cs rest (is_same c 43 h.0) p.1))
+    | inl h ↦ let p = some_pair (times t 1 None) u cs rest h.1 in subst (λ x. IsCounted t (c ∷ cs) x rest) p.0 (plus (front c 43 cs rest (is_same c 43 h.0) p.1))
     | inr i ↦ elim (split_if (c == 63) _ _ _ i.1) [
-      | inl h ↦ let p = found_pair (times t 0 (Some 1)) u cs rest h.1 in subst (λ x. IsCounted t (c ∷ cs) x rest) p.0 (question (front c 63 cs rest (is_same c 63 h.0) p.1))
+      | inl h ↦ let p = some_pair (times t 0 (Some 1)) u cs rest h.1 in subst (λ x. IsCounted t (c ∷ cs) x rest) p.0 (question (front c 63 cs rest (is_same c 63 h.0) p.1))
       | inr j ↦ elim (split_if (c == 123) _ _ _ j.1) [
         | inl h ↦ in_braces (counts_at cs) refl (is_same c 123 h.0) h.1
-        | inr k ↦ let p = found_pair t u (c ∷ cs) rest k.1 in
+        | inr k ↦ let p = some_pair t u (c ∷ cs) rest k.1 in
             subst (λ x. IsCounted t (c ∷ cs) x rest) p.0 (subst (λ x. IsCounted t (c ∷ cs) t x) p.1 (once (is_other c 42 g.0, is_other c 43 i.0, is_other c 63 j.0, is_other c 123 k.0)))
       ]
     ]
@@ -142,7 +134,7 @@ found_counted t u (c ∷ cs) rest e = elim (split_if (c == 42) _ _ _ e) [
     in_braces : (o : Option ((ℕ × Option ℕ) × List ℕ)) → counts_at cs ≡ o → c ≡ 123 → braced t o ≡ Some (u, rest) → IsCounted t (c ∷ cs) u rest
     in_braces None is k e = absurd (none_here refl e)
     in_braces (Some ((least, most), left)) is k e =
-        let p = found_pair (times t least most) u left rest e in
+        let p = some_pair (times t least most) u left rest e in
         subst (λ x. IsCounted t (c ∷ cs) x rest) p.0 (braces least most cs (ap (λ x. x ∷ cs) k) (is ∙ ap (λ (x : List ℕ). Some ((least, most), x)) p.1))
 
 found_piece : (d : ℕ) (cs : List ℕ) (o : Option (Tree × List ℕ)) (t : Tree) (rest : List ℕ) → ((u : Tree) (left : List ℕ) → o ≡ Some (u, left) → IsAtom d cs u left) → counted o ≡ Some (t, rest) → IsPiece d cs t rest
@@ -152,36 +144,36 @@ found_piece d cs (Some (u, left)) t rest f e = piece u left (f u left refl) (fou
 found_pieces : (d : ℕ) (cs : List ℕ) (o : Option (Tree × List ℕ)) (others : List ℕ → Option (Tree × List ℕ)) (t : Tree) (rest : List ℕ) → ((u : Tree) (left : List ℕ) → o ≡ Some (u, left) → IsPiece d cs u left) → ((left : List ℕ) (u : Tree) (rest : List ℕ) → others left ≡ Some (u, rest) → ArePieces d left u rest) → pieces_after o others ≡ Some (t, rest) → ArePieces d cs t rest
 found_pieces d cs None others t rest f g e = absurd (none_here refl e)
 found_pieces d cs (Some (u, left)) others t rest f g e = elim (split_if (stops left) _ _ _ e) [
-  | inl h ↦ let p = found_pair u t left rest h.1 in subst (λ x. ArePieces d cs x rest) p.0 (subst (λ x. ArePieces d cs u x) p.1 (last_piece (f u left refl)))
+  | inl h ↦ let p = some_pair u t left rest h.1 in subst (λ x. ArePieces d cs x rest) p.0 (subst (λ x. ArePieces d cs u x) p.1 (last_piece (f u left refl)))
   | inr h ↦ let w = with_found (λ v. both u v) (others left) t rest h.1 in subst (λ x. ArePieces d cs x rest) w.2 (next_piece left (f u left refl) (g left w.0 rest w.1))
 ]
 
 found_after : (d : ℕ) (cs : List ℕ) (o : Option (Tree × List ℕ)) (others : List ℕ → Option (Tree × List ℕ)) (t : Tree) (rest : List ℕ) → ((u : Tree) (left : List ℕ) → o ≡ Some (u, left) → IsSequence d cs u left) → ((left : List ℕ) (u : Tree) (rest : List ℕ) → others left ≡ Some (u, rest) → IsRegex d left u rest) → regex_after o others ≡ Some (t, rest) → IsRegex d cs t rest
 found_after d cs None others t rest f g e = absurd (none_here refl e)
-found_after d cs (Some (u, [])) others t rest f g e = let p = found_pair u t [] rest e in subst (λ x. IsRegex d cs x rest) p.0 (subst (λ x. IsRegex d cs u x) p.1 (one_sequence (f u [] refl)))
+found_after d cs (Some (u, [])) others t rest f g e = let p = some_pair u t [] rest e in subst (λ x. IsRegex d cs x rest) p.0 (subst (λ x. IsRegex d cs u x) p.1 (one_sequence (f u [] refl)))
 found_after d cs (Some (u, c ∷ left)) others t rest f g e = elim (split_if (c == 124) _ _ _ e) [
   | inl h ↦
       let w = with_found (λ v. either u v) (others left) t rest h.1 in
       subst (λ x. IsRegex d cs x rest) w.2 (bar left (subst (λ x. IsSequence d cs u (x ∷ left)) (is_same c 124 h.0) (f u (c ∷ left) refl)) (g left w.0 rest w.1))
-  | inr h ↦ let p = found_pair u t (c ∷ left) rest h.1 in subst (λ x. IsRegex d cs x rest) p.0 (subst (λ x. IsRegex d cs u x) p.1 (one_sequence (f u (c ∷ left) refl)))
+  | inr h ↦ let p = some_pair u t (c ∷ left) rest h.1 in subst (λ x. IsRegex d cs x rest) p.0 (subst (λ x. IsRegex d cs u x) p.1 (one_sequence (f u (c ∷ left) refl)))
 ]
 
 found_sequence : (d : ℕ) (cs : List ℕ) (o : Option (Tree × List ℕ)) (t : Tree) (rest : List ℕ) → ((t : Tree) (rest : List ℕ) → o ≡ Some (t, rest) → ArePieces d cs t rest) → (if stops cs then Some (nothing, cs) else o) ≡ Some (t, rest) → IsSequence d cs t rest
 found_sequence d cs o t rest f e = elim (split_if (stops cs) _ _ _ e) [
-  | inl h ↦ let p = found_pair nothing t cs rest h.1 in subst (λ x. IsSequence d cs x rest) p.0 (subst (λ x. IsSequence d cs nothing x) p.1 no_piece)
+  | inl h ↦ let p = some_pair nothing t cs rest h.1 in subst (λ x. IsSequence d cs x rest) p.0 (subst (λ x. IsSequence d cs nothing x) p.1 no_piece)
   | inr h ↦ pieces (f t rest h.1)
 ]
 
 found_class : (d : ℕ) (cs : List ℕ) (o : Option (Sort × List ℕ)) (t : Tree) (rest : List ℕ) → set_at cs ≡ o → class_of o ≡ Some (t, rest) → IsAtom d cs t rest
 found_class d cs None t rest is e = absurd (none_here refl e)
-found_class d cs (Some (s, left)) t rest is e = let p = found_pair (class s) t left rest e in subst (λ x. IsAtom d cs x rest) p.0 (set s (is ∙ ap (λ (x : List ℕ). Some (s, x)) p.1))
+found_class d cs (Some (s, left)) t rest is e = let p = some_pair (class s) t left rest e in subst (λ x. IsAtom d cs x rest) p.0 (set s (is ∙ ap (λ (x : List ℕ). Some (s, x)) p.1))
 
 found_group : (d : ℕ) (c : ℕ) (cs : List ℕ) (o : Option (Tree × List ℕ)) (t : Tree) (rest : List ℕ) → c ≡ 40 → ((u : Tree) (left : List ℕ) → o ≡ Some (u, left) → IsRegex d cs u left) → closed o ≡ Some (t, rest) → IsAtom (suc d) (c ∷ cs) t rest
 found_group d c cs None t rest k f e = absurd (none_here refl e)
 found_group d c cs (Some (u, [])) t rest k f e = absurd (none_here refl e)
 found_group d c cs (Some (u, b ∷ left)) t rest k f e = elim (split_if (b == 41) _ _ _ e) [
   | inl h ↦
-      let p = found_pair u t left rest h.1 in
+      let p = some_pair u t left rest h.1 in
       let r : IsRegex d cs u (41 ∷ left) = subst (λ x. IsRegex d cs u (x ∷ left)) (is_same b 41 h.0) (f u (b ∷ left) refl) in
       subst (λ x. IsAtom (suc d) (c ∷ cs) x rest) p.0 (subst (λ x. IsAtom (suc d) (c ∷ cs) u x) p.1 (group cs (ap (λ x. x ∷ cs) k) r))
   | inr h ↦ absurd (none_here refl h.1)
@@ -216,4 +208,4 @@ pub same_reading : (cs : List ℕ) (t u : Tree) → IsReading cs t → IsReading
 same_reading cs t u a b =
     let e = read_whole (3 * length cs + 3) cs t (omega arith) a.regex in
     let f = read_whole (3 * length cs + 3) cs u (omega arith) b.regex in
-    (found_pair t u [] [] (sym e ∙ f)).0
+    (some_pair t u [] [] (sym e ∙ f)).0

@@ -3,6 +3,7 @@ use Rattle.std.proofs.Common.{◌≡◌, ◌⊎◌, ◌∙◌, ℕ, List, [], �
 use Rattle.std.proofs.lemmas.List.{append-nil}
 use Rattle.std.specs.List.{Contains}
 use Rattle.std.specs.Bool.{IsTrue}
+use Rattle.xs_class.proofs.Lists.{front_empty}
 use Rattle.xs_regex.specs.declared.position.Position.{Position}
 use Rattle.xs_regex.specs.Automaton.{HasAt, Leads, Runs, begins, goes, Accepts, IsWellFormed}
 use Rattle.xs_regex.specs.Matches.{joined, Each}
@@ -105,14 +106,10 @@ round_sound {p} {r} {w} t (inr a) =
 
 pub round_complete : {p r : Position} {u : List ℕ} → IsWellFormed p → IsRound p r → (us : List (List ℕ)) → Accepts p u → Each (Accepts p) us → Accepts r (u ++ joined us)
 round_complete {p} {r} {u} f t us a b = elim (round_words f t (u ∷ us) (a, b)) [
-  | inl e ↦ inl (e, rw t.nullable (empty_front a (front_nil u (joined us) e)))
+  | inl e ↦ inl (e, rw t.nullable (empty_front a (front_empty u (joined us) e)))
   | inr h ↦ inr (h.0, h.1, rw t.last h.2)
 ]
   where
-    front_nil : (x y : List ℕ) → x ++ y ≡ [] → x ≡ []
-    front_nil [] y e = refl
-    front_nil (s ∷ x) y e = cc
-
     empty_front : {x : List ℕ} → Accepts p x → x ≡ [] → IsTrue p.nullable
     empty_front (inl h) e = h.1
     empty_front (inr h) e = absurd (run_not_empty h.1 e)

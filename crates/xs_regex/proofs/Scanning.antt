@@ -1,9 +1,9 @@
 -- The reader finds what the grammar has, and nothing else.
 use Rattle.std.proofs.Common.{◌≡◌, ℕ, zero, suc, ◌+◌, ◌-◌, ◌*◌, ◌<◌, ◌≤◌, Bool, true, false, ◌&&◌, ◌==◌, nat_lt, nat_le, List, [], ◌∷◌, length, ap, arith, None, Some, if◌then◌else◌}
 use Rattle.std.specs.declared.option.Option.{Option}
-use Rattle.xs_regex.specs.Characters.{Item, Sort, some_of, none_of, is_punctuation, is_plain, is_plain_member, is_digit, is_hex, is_scalar, hex_at, code_at, escape_at, name_more, name_at, name_end, named_at, second_digit, count_at, most_end, most_at, least_end, counts_at, member_char_at, span_end, span_more, named_item, escaped_item, item_at, known, with_left, known_item, item_more, items_more, items_at, sorted, bracket_at, char_item, escaped_one, one_at, one_set, set_at}
+use Rattle.xs_class.specs.Words.{is_digit, hex_value}
+use Rattle.xs_regex.specs.Characters.{Item, Sort, some_of, none_of, is_punctuation, is_plain, is_plain_member, is_hex, is_scalar, hex_at, code_at, escape_at, name_more, name_at, name_end, named_at, second_digit, count_at, most_end, most_at, least_end, counts_at, member_char_at, span_end, span_more, named_item, escaped_item, item_at, known, with_left, known_item, item_more, items_more, items_at, sorted, bracket_at, char_item, escaped_one, one_at, one_set, set_at}
 use Rattle.xs_regex.specs.Pattern.{Tree, IsCounted, once, star, plus, question, braces, IsRegex, one_sequence, bar, IsSequence, no_piece, pieces, ArePieces, last_piece, next_piece, IsPiece, piece, IsAtom, set, group}
-use Rattle.xs_class.specs.Words.{hex_value}
 
 -- what is left is shorter
 abbrev pub Leaves : {A : Type 0} → ℕ → Option (A × List ℕ) → Type 0

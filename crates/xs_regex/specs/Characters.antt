@@ -3,7 +3,7 @@ use Rattle.std.specs.Prelude.{ℕ, zero, suc, ◌+◌, ◌-◌, ◌*◌, Bool, n
 use Rattle.std.specs.declared.option.Option.{Option}
 use Rattle.std.specs.Option.{is_some}
 use Rattle.xs_class.specs.Named.{set_named}
-use Rattle.xs_class.specs.Words.{hex_value}
+use Rattle.xs_class.specs.Words.{hex_value, is_digit}
 
 -- a range of characters, or the set that a name stands for
 pub data Item : Type 0 where
@@ -26,9 +26,6 @@ is_plain c = not (c == 92 || c == 47 || c == 91 || c == 93 || c == 40 || c == 41
 -- stands for itself in brackets: none of \ / [ ] - ^
 abbrev pub is_plain_member : ℕ → Bool
 is_plain_member c = not (c == 92 || c == 47 || c == 91 || c == 93 || c == 45 || c == 94)
-
-abbrev pub is_digit : ℕ → Bool
-is_digit c = nat_le 48 c && nat_le c 57
 
 abbrev pub is_hex : ℕ → Bool
 is_hex c = is_digit c || (nat_le 65 c && nat_le c 70) || (nat_le 97 c && nat_le c 102)

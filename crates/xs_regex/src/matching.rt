@@ -103,7 +103,7 @@ fn mark(flags: &mut [bool], numbers: &[u32])
 }
 
 /// Whether the flag of one of the numbers is set.
-fn some_marked(flags: &[bool], numbers: &[u32]) -> bool
+pub fn some_marked(flags: &[bool], numbers: &[u32]) -> bool
     requires { IsBelow numbers.now (length flags.now) }
     ensures { IsTrue result ↔ ((k : ℕ) × Contains numbers.now k × Marked flags.now k) }
 {

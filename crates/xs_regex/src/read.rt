@@ -10,7 +10,8 @@ ghost use Rattle.xs_regex.specs.declared.regex.Regex.{Regex as AnyRegex};
 use crate::measure::size_up_to;
 use crate::reader::regex;
 use crate::{Regex, RegexFault};
-use std::alloc::{AllocError, Global};
+use std::alloc::Global;
+use xs_class::letters;
 
 /// The regex that a pattern gives, in time linear in the pattern but for its classes.
 ///
@@ -22,7 +23,7 @@ pub fn read_regex(alloc: Global, pattern: &str) -> Result<Regex, RegexFault>
     ensures bounded { IfOk result IsBounded }
     ensures bad { IfErr result (λ e. e ≡ RegexFault.BadRegex → (t : Tree) → IsReading (chars pattern.now) t → ⊥) }
 {
-    let cs = match letters(alloc, pattern) {
+    let cs = match short_letters(alloc, pattern) {
         Ok(cs) => cs,
         Err(fault) => return Err(fault),
     };
@@ -39,23 +40,16 @@ pub fn read_regex(alloc: Global, pattern: &str) -> Result<Regex, RegexFault>
 }
 
 /// The characters of a pattern that is not too long.
-fn letters(alloc: Global, pattern: &str) -> Result<Vec<char>, RegexFault>
+fn short_letters(alloc: Global, pattern: &str) -> Result<Vec<char>, RegexFault>
     ensures same { IfOk result (λ cs. cs.items ≡ chars pattern.now) }
     ensures short { IfOk result (λ cs. length cs.items ≤ 2048) }
     ensures long { IfErr result (λ e. e ≡ RegexFault.BadRegex → 2048 < length (chars pattern.now)) }
 {
-    let cs = all_letters(alloc, pattern)?;
+    let cs = letters(alloc, pattern)?;
     if cs.len() > 2048 {
         return Err(RegexFault::BadRegex);
     }
     Ok(cs)
-}
-
-/// The characters of the pattern.
-fn all_letters(alloc: Global, pattern: &str) -> Result<Vec<char>, AllocError>
-    ensures { IfOk result (λ cs. cs.items ≡ chars pattern.now) }
-{
-    pattern.chars().collect(alloc)
 }
 
 /// The regex of the whole list of characters.

@@ -7,11 +7,12 @@ use Rattle.xs_sheet.specs.declared.item.Item.{Item}
 use Rattle.xs_sheet.specs.declared.item.Item.TheVariants.{Fixed, Named, Skip}
 use Rattle.xs_sheet.specs.declared.x_item.Attr.{Attr}
 use Rattle.xs_sheet.specs.Outline.{Content, nothing, item, element, UnitOutline, terminal, ignorable, production, Outline}
-use Rattle.xs_sheet.specs.Pieces.{same}
+use Rattle.xs_class.specs.Words.{same}
 use Rattle.xs_sheet.specs.Grammar.{IsWord, IsUnitName, IsName, IsString, IsRegular, ReadsItem, ReadsItems, ReadsAttrs, ReadsClosing, ReadsSign, ReadsContent, ReadsUnit, ReadsUnits, ReadsSheet}
 use Rattle.xs_sheet.specs.Machine.{is_kind, is_word, is_unit_name, is_name, Head, with_unit, Draft, Opened, Inside, Site, left_side, inside, value, put, puts, State, begin, versioned, started, units, named, equals, regular, normal, colon, at, square, square_name, square_slot, angle, attrs, attr_equals, closing, closed, Transition, go, finish, go_if, outline_at, between, in_tag, with_attr, with_empty, with_open, with_production, step, done, follow, run}
-use Rattle.xs_sheet.proofs.KindLaws.{kind_here, same_self, same_here}
+use Rattle.xs_sheet.proofs.KindLaws.{kind_here, same_here}
 use Rattle.xs_class.proofs.Truth.{lt_true, or_false}
+use Rattle.xs_class.proofs.Words.{same_self}
 
 pub run_go : (s t : State) (p : Piece) (rest : List Piece) → step s p ≡ go t → run s (p ∷ rest) ≡ run t rest
 run_go s t p rest is = ap (λ (z : Transition). follow z p (λ u. run u rest) rest) is

@@ -5,7 +5,7 @@ use Rattle.xs_lex.specs.declared.kind.Kind.TheVariants.{Quoted, Colon, Equals, S
 use Rattle.xs_sheet.specs.declared.piece.Piece.{Piece}
 use Rattle.xs_sheet.specs.declared.item.Item.TheVariants.{Fixed, Named, Skip}
 use Rattle.xs_sheet.specs.Outline.{nothing, element, ignorable, Outline}
-use Rattle.xs_sheet.specs.Pieces.{same}
+use Rattle.xs_class.specs.Words.{same}
 use Rattle.xs_sheet.specs.Machine.{is_kind, is_word, is_unit_name, is_name, is_regular, Head, with_unit, Opened, Inside, Site, left_side, inside, value, put, State, begin, versioned, started, units, named, equals, regular, normal, colon, at, square, square_name, square_slot, angle, attrs, attr_equals, closing, closed, Transition, go, finish, refuse, go_if, outline_at, between, after_pattern, closes, leaves, leave, with_attr, with_production, step, done, unfinished, follow, run}
 use Rattle.xs_sheet.proofs.Pieced.{IsEnding}
 use Rattle.xs_sheet.proofs.Whole.{done_inj, go_if_no, if_no, in_tag_no, closes_no}

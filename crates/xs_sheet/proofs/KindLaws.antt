@@ -1,16 +1,14 @@
 -- Kinds of pieces differ by their numbers.
 use Rattle.std.proofs.Common.{◌≡◌, ℕ, zero, suc, Bool, true, false, List, [], ◌∷◌, ◌==◌, refl, sym, ap, ◌∙◌, eqb-true}
-use Rattle.std.proofs.Common.{arith, nat_eq, nat_lt, encode_utf8_all}
-use Rattle.std.specs.Str.{chars, IsAscii}
-use Rattle.std.specs.List.{list_all}
-use Rattle.std.proofs.lemmas.Str.{chars-IsAscii}
+use Rattle.std.proofs.Common.{nat_eq, encode_utf8_all}
+use Rattle.std.specs.Str.{chars}
 use lib.Pointwise.{pointwise}
-use Rattle.std.proofs.lemmas.Bool.Decides.{nat_tests}
 use Rattle.xs_lex.specs.declared.kind.Kind.{Kind}
 use Rattle.xs_lex.specs.declared.kind.Kind.TheVariants.{Plain, Qual, Quoted, Pattern, Colon, Equals, SquareIn, SquareOut, Angle, AngleSlash, AngleEnd, SlashEnd, End, Bad}
 use Rattle.xs_sheet.specs.Machine.{kind_number, is_kind}
-use Rattle.xs_sheet.specs.Pieces.{same}
-use Rattle.xs_class.proofs.Truth.{and_true, lt_is}
+use Rattle.xs_class.specs.Words.{same}
+use Rattle.xs_class.proofs.Truth.{and_true, eq_self}
+use Rattle.xs_class.proofs.Words.{same_is, same_self}
 
 of_number : ℕ → Kind
 of_number zero = Plain
@@ -73,22 +71,6 @@ kind_here j k is = ap (λ (z : Kind). is_kind z k) is ∙ kind_self k
 pub kind_other : (j k l : Kind) → j ≡ k → is_kind k l ≡ false → is_kind j l ≡ false
 kind_other j k l is differs = ap (λ (z : Kind). is_kind z l) is ∙ differs
 
-pub same_is : (xs ys : List ℕ) → same xs ys ≡ true → xs ≡ ys
-same_is [] [] is = refl
-same_is [] (y ∷ ys) is = absurd (cc)
-same_is (x ∷ xs) [] is = absurd (cc)
-same_is (x ∷ xs) (y ∷ ys) is = let p = and_true (x == y) (same xs ys) is in by (eqb-true x y p.0) (same_is xs ys p.1)
-  where
-    by : x ≡ y → xs ≡ ys → (x ∷ xs) ≡ y ∷ ys
-    by e f = cc
-
-eq_self : (x : ℕ) → (x == x) ≡ true
-eq_self x = grind (arith, nat_tests)
-
-pub same_self : (xs : List ℕ) → same xs xs ≡ true
-same_self [] = refl
-same_self (x ∷ xs) = rw (eq_self x) (same_self xs)
-
 pub same_here : (xs ys : List ℕ) → xs ≡ ys → same xs ys ≡ true
 same_here xs ys is = ap (λ (z : List ℕ). same z ys) is ∙ same_self ys
 
@@ -118,11 +100,3 @@ tested false true text bytes a b p q e f g h =
 -- texts are the same where their bytes are
 pub text_test : (text bytes a b : List ℕ) → text ≡ encode_utf8_all a → bytes ≡ encode_utf8_all b → chars text ≡ a → chars bytes ≡ b → pointwise nat_eq text bytes ≡ same a b
 text_test text bytes a b e f g h = tested (pointwise nat_eq text bytes) (same a b) text bytes a b refl refl e f g h
-
-all_ascii : (bs : List ℕ) → list_all (λ b. nat_lt b 128) bs ≡ true → IsAscii bs
-all_ascii [] is k = omega arith
-all_ascii (b ∷ bs) is zero = lt_is b 128 (and_true (nat_lt b 128) (list_all (λ b. nat_lt b 128) bs) is).0
-all_ascii (b ∷ bs) is (suc k) = all_ascii bs (and_true (nat_lt b 128) (list_all (λ b. nat_lt b 128) bs) is).1 k
-
-pub ascii_chars : (bs : List ℕ) → list_all (λ b. nat_lt b 128) bs ≡ true → chars bs ≡ bs
-ascii_chars bs is = chars-IsAscii bs (all_ascii bs is)

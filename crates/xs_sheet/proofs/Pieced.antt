@@ -52,17 +52,18 @@ pieces_regular (m ∷ ls) [] are k d low = absurd are
 pieces_regular (m ∷ ls) (q ∷ ps) are zero d low = λ e. let r = are.0.regular e in (r.1, r.2)
 pieces_regular (m ∷ ls) (q ∷ ps) are (suc k) d low = pieces_regular ls ps are.1 k d (omega arith)
 
+-- one value for a quoted string
+pub quoted_same : (word a b : List ℕ) → IsQuoted word a → IsQuoted word b → a ≡ b
+quoted_same word a b p q = value_of word a p ∙ sym (value_of word b q)
+  where
+    value_of : (word a : List ℕ) → IsQuoted word a → a ≡ value_at (Some Between) (drop 1 word)
+    value_of word a p = p.means ∙ sym (ap (λ (z : List ℕ). value_at (Some Between) (drop 1 z)) p.is ∙ value_read p.units [] p.each)
+
 -- one list of pieces for a list of tokens
 text_same : (kind : Kind) (word a b : List ℕ) → IsTextOf kind word a → IsTextOf kind word b → a ≡ b
 text_same Plain word a b p q = p ∙ sym q
 text_same Qual word a b p q = p ∙ sym q
 text_same Quoted word a b p q = quoted_same word a b p q
-  where
-    value_of : (word a : List ℕ) → IsQuoted word a → a ≡ value_at (Some Between) (drop 1 word)
-    value_of word a p = p.means ∙ sym (ap (λ (z : List ℕ). value_at (Some Between) (drop 1 z)) p.is ∙ value_read p.units [] p.each)
-
-    quoted_same : (word a b : List ℕ) → IsQuoted word a → IsQuoted word b → a ≡ b
-    quoted_same word a b p q = value_of word a p ∙ sym (value_of word b q)
 text_same Pattern word a b p q = (same_from_push a b 47 47 (ap (λ (z : List ℕ). drop 1 z) (sym p.is ∙ q.is))).0
 text_same Colon word a b p q = p ∙ sym q
 text_same Equals word a b p q = p ∙ sym q

@@ -2,9 +2,9 @@
 use Rattle.std.proofs.Common.{◌≡◌, inl, ℕ, zero, suc, ◌+◌, if◌then◌else◌, Bool, true, false, ◌==◌, List, [], ◌∷◌, ◌++◌, map, length, take, codes, encode_utf8_all, IsUtf8, refl, sym, ap, ◌∙◌, subst, arith}
 use Rattle.std.specs.Str.{chars, all_scalars, is_utf8}
 use Rattle.std.specs.Str.Lossy.{utf8_valid_len, valid_len_up_to}
-use Rattle.std.proofs.lemmas.Bool.Decides.{nat_tests}
 use Rattle.std.proofs.lemmas.List.{take_all}
 use Rattle.std.proofs.lemmas.Str.{chars-encodes, utf8_valid_len-IsUtf8, scalars-chars, IsUtf8-nil, IsUtf8-from_is_utf8}
+use Rattle.xs_class.proofs.Truth.{eq_self}
 use Rattle.xs_lex.specs.declared.kind.Kind.TheVariants.{End}
 use Rattle.xs_lex.specs.Reading.{Lexeme, Extent, AreTokensFrom, AreTokens, extent_of, after_mark, valid, size_of, line_ends}
 use Rattle.xs_sheet.specs.declared.piece.Piece.{Piece}
@@ -21,9 +21,6 @@ use Rattle.xs_sheet.proofs.Renewed.{piece, pieces_at, lines_pieces, piece_is, li
 use Rattle.xs_lex.proofs.Reached.{scalars_parts}
 
 -- the tokens of the bytes of a text
-eq_self : (n : ℕ) → (n == n) ≡ true
-eq_self n = grind (arith, nat_tests)
-
 same_extent : (a b c d : ℕ) (s t : Bool) → a ≡ b → c ≡ d → s ≡ t → ◌≡◌ {A = Extent} (record { size = a; lines = c; whole = s }) (record { size = b; lines = d; whole = t })
 same_extent a b c d s t e f g = ap (λ (z : ℕ). record { size = z; lines = c; whole = s }) e ∙ ap (λ (z : ℕ). record { size = b; lines = z; whole = s }) f ∙ ap (λ (z : Bool). record { size = b; lines = d; whole = z }) g
 

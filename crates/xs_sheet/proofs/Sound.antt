@@ -7,11 +7,13 @@ use Rattle.xs_sheet.specs.declared.item.Item.{Item}
 use Rattle.xs_sheet.specs.declared.item.Item.TheVariants.{Fixed, Named, Skip}
 use Rattle.xs_sheet.specs.declared.x_item.Attr.{Attr}
 use Rattle.xs_sheet.specs.Outline.{Content, nothing, element, UnitOutline, terminal, ignorable, production, Outline}
-use Rattle.xs_sheet.specs.Pieces.{same, is_reserved}
+use Rattle.xs_class.specs.Words.{same}
+use Rattle.xs_sheet.specs.Pieces.{is_reserved}
 use Rattle.xs_sheet.specs.Grammar.{IsWord, IsUnitName, IsName, IsRegular, ReadsItem, ReadsItems, ReadsAttr, ReadsAttrs, ReadsOpening, ReadsSign, ReadsContent, ReadsUnit, ReadsUnits}
 use Rattle.xs_sheet.specs.Machine.{is_kind, is_word, is_unit_name, is_name, is_regular, Head, with_unit, Draft, Opened, Inside, Site, left_side, inside, value, put, State, begin, versioned, started, units, named, equals, regular, normal, colon, at, square, square_name, square_slot, angle, attrs, attr_equals, closing, closed, go, finish, go_if, outline_at, between, after_pattern, closes, leaves, leave, in_tag, with_attr, with_empty, with_open, with_production, step}
-use Rattle.xs_sheet.proofs.KindLaws.{kind_is, same_is}
+use Rattle.xs_sheet.proofs.KindLaws.{kind_is}
 use Rattle.xs_class.proofs.Truth.{and_true, not_true}
+use Rattle.xs_class.proofs.Words.{same_is}
 
 -- pieces read so far, up to the rest
 pub record AtHead (whole : List Piece) (h : Head) (rest : List Piece) : Type 0 where

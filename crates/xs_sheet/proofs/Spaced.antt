@@ -1,6 +1,7 @@
 -- Words on a page, one after another.
 use Rattle.std.proofs.Common.{◌≡◌, ℕ, ◌+◌, ◌<◌, Bool, true, false, List, [], ◌∷◌, ◌++◌, map, length, take, get_or, codes, append-nil, append_assoc, refl, sym, ap, ◌∙◌, subst}
-use Rattle.std.proofs.lemmas.List.{take_more, map-append}
+use Rattle.std.proofs.lemmas.List.{map-append}
+use Rattle.xs_class.proofs.Lists.{take_next}
 use Rattle.xs_sheet.specs.declared.item.Item.{Item}
 use Rattle.xs_sheet.specs.declared.x_item.Attr.{Attr}
 use Rattle.xs_sheet.specs.declared.x_item.XItem.{XItem, Plain, Element}
@@ -48,27 +49,24 @@ words_after x before = stepped (with_item x) _ (fold_out-XItem (Content → Cont
 content_more : (xs : List XItem) (x : XItem) → content_words (content_of (xs ++ x ∷ [])) ≡ content_words (content_of xs) ++ content_words (with_item x nothing)
 content_more xs x = ap (λ (z : Content). content_words z) (content_push xs x) ∙ words_after x (content_of xs)
 
-at_end : {A : Type 0} (xs : List A) (n : ℕ) (x : A) → n < length xs → x ≡ get_or xs n x → take (n + 1) xs ≡ take n xs ++ x ∷ []
-at_end xs n x low at = take_more xs n x low ∙ ap (λ z. take n xs ++ z ∷ []) (sym at)
-
 pub items_on : (old page new : List ℕ) (is : List Item) (n : ℕ) (i : Item) → n < length is → i ≡ get_or is n i → page ≡ old ++ spaced (items_words (take n is)) → new ≡ page ++ spaced (item_words i) → new ≡ old ++ spaced (items_words (take (n + 1) is))
 items_on old page new is n i low at so_far here =
-    page_on old page new _ _ _ so_far here (ap (λ (z : List Item). spaced (items_words z)) (at_end is n i low at) ∙ ap (λ (z : List Written). spaced z) (items_push (take n is) i) ∙ spaced-append (items_words (take n is)) (item_words i))
+    page_on old page new _ _ _ so_far here (ap (λ (z : List Item). spaced (items_words z)) (take_next is n i low at) ∙ ap (λ (z : List Written). spaced z) (items_push (take n is) i) ∙ spaced-append (items_words (take n is)) (item_words i))
 
 pub attrs_on : (old page new : List ℕ) (as_ : List Attr) (n : ℕ) (a : Attr) → n < length as_ → a ≡ get_or as_ n a → page ≡ old ++ spaced (attrs_words (take n as_)) → new ≡ page ++ spaced (attr_words a) → new ≡ old ++ spaced (attrs_words (take (n + 1) as_))
 attrs_on old page new as_ n a low at so_far here =
-    page_on old page new _ _ _ so_far here (ap (λ (z : List Attr). spaced (attrs_words z)) (at_end as_ n a low at) ∙ ap (λ (z : List Written). spaced z) (attrs_push (take n as_) a) ∙ spaced-append (attrs_words (take n as_)) (attr_words a))
+    page_on old page new _ _ _ so_far here (ap (λ (z : List Attr). spaced (attrs_words z)) (take_next as_ n a low at) ∙ ap (λ (z : List Written). spaced z) (attrs_push (take n as_) a) ∙ spaced-append (attrs_words (take n as_)) (attr_words a))
 
 pub content_on : (old page new : List ℕ) (xs : List XItem) (n : ℕ) (x : XItem) → n < length xs → x ≡ get_or xs n x → page ≡ old ++ spaced (content_words (content_of (take n xs))) → new ≡ page ++ spaced (content_words (with_item x nothing)) → new ≡ old ++ spaced (content_words (content_of (take (n + 1) xs)))
 content_on old page new xs n x low at so_far here =
-    page_on old page new _ _ _ so_far here (ap (λ (z : List XItem). spaced (content_words (content_of z))) (at_end xs n x low at) ∙ ap (λ (z : List Written). spaced z) (content_more (take n xs) x) ∙ spaced-append (content_words (content_of (take n xs))) (content_words (with_item x nothing)))
+    page_on old page new _ _ _ so_far here (ap (λ (z : List XItem). spaced (content_words (content_of z))) (take_next xs n x low at) ∙ ap (λ (z : List Written). spaced z) (content_more (take n xs) x) ∙ spaced-append (content_words (content_of (take n xs))) (content_words (with_item x nothing)))
 
 abbrev unit_line : Unit → List Written
 unit_line u = unit_words (unit_outline u)
 
 pub units_on : (old page new : List ℕ) (us : List Unit) (n : ℕ) (u : Unit) → n < length us → u ≡ get_or us n u → page ≡ old ++ lines_text (map unit_line (take n us)) → new ≡ page ++ line_text (unit_line u) → new ≡ old ++ lines_text (map unit_line (take (n + 1) us))
 units_on old page new us n u low at so_far here =
-    page_on old page new _ _ _ so_far here (ap (λ (z : List Unit). lines_text (map unit_line z)) (at_end us n u low at) ∙ ap (λ (z : List (List Written)). lines_text z) (map-append unit_line (take n us) (u ∷ [])) ∙ lines_push (map unit_line (take n us)) (unit_line u))
+    page_on old page new _ _ _ so_far here (ap (λ (z : List Unit). lines_text (map unit_line z)) (take_next us n u low at) ∙ ap (λ (z : List (List Written)). lines_text z) (map-append unit_line (take n us) (u ∷ [])) ∙ lines_push (map unit_line (take n us)) (unit_line u))
 
 -- an element
 item_some : (l : XItem-F (Content → Content) Content) (before : Content) → holds_nothing (item_step l before) ≡ false

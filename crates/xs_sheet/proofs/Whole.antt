@@ -7,10 +7,11 @@ use Rattle.xs_sheet.specs.declared.item.Item.{Item}
 use Rattle.xs_sheet.specs.declared.item.Item.TheVariants.{Fixed, Named, Skip}
 use Rattle.xs_sheet.specs.declared.x_item.Attr.{Attr}
 use Rattle.xs_sheet.specs.Outline.{Content, nothing, element, terminal, ignorable, Outline}
-use Rattle.xs_sheet.specs.Pieces.{same}
+use Rattle.xs_class.specs.Words.{same}
+use Rattle.xs_class.proofs.Words.{same_self}
 use Rattle.xs_sheet.specs.Grammar.{ReadsSheet, Begins}
 use Rattle.xs_sheet.specs.Machine.{is_kind, is_word, is_unit_name, is_name, is_regular, Head, with_unit, Draft, Opened, Inside, Site, left_side, inside, value, put, State, begin, versioned, started, units, named, equals, regular, normal, colon, at, square, square_name, square_slot, angle, attrs, attr_equals, closing, closed, Transition, go, finish, refuse, go_if, outline_at, between, after_pattern, closes, leaves, leave, in_tag, with_attr, with_empty, with_open, with_production, step, done, stuck, follow, run}
-use Rattle.xs_sheet.proofs.KindLaws.{kind_is, same_self}
+use Rattle.xs_sheet.proofs.KindLaws.{kind_is}
 use Rattle.xs_sheet.proofs.Complete.{run_go, sheet_complete}
 use Rattle.xs_sheet.proofs.Sound.{AtHead, AtState, AtSite, step_sound, leaves_finish}
 

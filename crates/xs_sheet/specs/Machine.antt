@@ -7,7 +7,8 @@ use Rattle.xs_sheet.specs.declared.item.Item.{Item}
 use Rattle.xs_sheet.specs.declared.item.Item.TheVariants.{Fixed, Named, Skip}
 use Rattle.xs_sheet.specs.declared.x_item.Attr.{Attr}
 use Rattle.xs_sheet.specs.Outline.{Content, nothing, item, element, UnitOutline, terminal, ignorable, production, Outline}
-use Rattle.xs_sheet.specs.Pieces.{same, is_reserved}
+use Rattle.xs_class.specs.Words.{same}
+use Rattle.xs_sheet.specs.Pieces.{is_reserved}
 
 abbrev pub kind_number : Kind → ℕ
 kind_number Plain = 0

@@ -2,16 +2,12 @@
 use Rattle.std.specs.Prelude.{◌≡◌, ⊤, ℕ, Bool, true, false, List, [], ◌∷◌, codes, ◌==◌, ◌&&◌, ◌||◌}
 use Rattle.xs_lex.specs.declared.kind.Kind.{Kind}
 use Rattle.xs_lex.specs.declared.kind.Kind.TheVariants.{Plain, Qual, Quoted, Pattern, Colon, Equals, SquareIn, SquareOut, Angle, AngleSlash, AngleEnd, SlashEnd, End, Bad}
+use Rattle.xs_class.specs.Words.{same}
 use Rattle.xs_lex.specs.Spelling.{IsQuoted, IsPattern, Spells}
 use Rattle.xs_lex.specs.Reading.{Lexeme}
 use Rattle.xs_regex.specs.declared.regex.Regex.{Regex}
 use Rattle.xs_sheet.specs.declared.piece.Piece.{Piece}
 use Rattle.xs_sheet.specs.Regular.{IsRegex}
-
-abbrev pub same : List ℕ → List ℕ → Bool
-same [] [] = true
-same (x ∷ xs) (y ∷ ys) = x == y && same xs ys
-same xs ys = false
 
 -- words that are no names of units
 abbrev pub is_reserved : List ℕ → Bool

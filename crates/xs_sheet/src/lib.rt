@@ -9,7 +9,6 @@
 
 mod elements;
 mod item;
-mod page;
 mod piece;
 mod pieces;
 mod quoting;
@@ -25,6 +24,7 @@ mod x_item;
 
 pub use item::{Item, Items};
 pub use piece::Piece;
+pub use quoting::push_quoted_character;
 pub use reader::{SheetFault, read_sheet};
 pub use sheet::Sheet;
 pub use unit::{Unit, Units};

@@ -3,7 +3,6 @@ ghost use Rattle.std.specs.Char.{digit_char};
 ghost use Rattle.xs_lex.specs.Units.{coded, spelt_quoted_unit};
 ghost use Rattle.xs_sheet.specs.Layout.{hex_digits, escape_sign, is_control, unit_of, quoted};
 
-use crate::page::Page;
 use xs_class::{Memory, Text};
 
 /// The lower-case hexadecimal digit of a number.
@@ -16,7 +15,7 @@ fn digit(number: u32) -> char
 
 /// Writes a number without leading zeros.
 #[tactic(auto, unfolding(crate::specs::Layout::hex_digits))]
-fn push_digits(page: &mut Page, number: u32) -> Result<(), Memory>
+fn push_digits(page: &mut Text, number: u32) -> Result<(), Memory>
     requires { number < 256 }
     ensures { OnOk result (page.new ≡ page.old ++ hex_digits number) }
 {
@@ -28,7 +27,7 @@ fn push_digits(page: &mut Page, number: u32) -> Result<(), Memory>
 }
 
 /// Writes a character by its number.
-fn push_number(page: &mut Page, number: u32) -> Result<(), Memory>
+fn push_number(page: &mut Text, number: u32) -> Result<(), Memory>
     requires { number < 256 }
     ensures { OnOk result (page.new ≡ page.old ++ spelt_quoted_unit (coded (hex_digits number)) []) }
 {
@@ -60,8 +59,8 @@ fn is_control(c: char) -> bool
     c < ' ' || c == '\u{7F}'
 }
 
-/// Writes a character of a quoted string.
-fn push_character(page: &mut Page, c: char) -> Result<(), Memory>
+/// Writes a character of a quoted string, as it is, escaped, or by its number.
+pub fn push_quoted_character(page: &mut Text, c: char) -> Result<(), Memory>
     ensures { OnOk result (page.new ≡ page.old ++ spelt_quoted_unit (unit_of c) []) }
 {
     if let Some(sign) = escape_sign(c) {
@@ -75,12 +74,12 @@ fn push_character(page: &mut Page, c: char) -> Result<(), Memory>
 }
 
 /// Writes a quoted string that stands for these characters.
-pub fn push_quoted(page: &mut Page, text: &Text) -> Result<(), Memory>
+pub fn push_quoted(page: &mut Text, text: &Text) -> Result<(), Memory>
     ensures { OnOk result (page.new ≡ page.old ++ quoted text.now) }
 {
     page.push('"')?;
     'characters: for c in text.as_str().chars() {
-        push_character(page, c)?;
+        push_quoted_character(page, c)?;
     }
     page.push('"')
 }

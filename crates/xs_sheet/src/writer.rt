@@ -5,14 +5,13 @@ ghost use Rattle.xs_sheet.specs.Outline.{nothing, with_item, content_of, unit_ou
 ghost use Rattle.xs_sheet.specs.Layout.{quoted, as_is, in_slashes, sign, item_words, items_words, attr_words, attrs_words, content_words, unit_words, spaced, line_text, lines_text, sheet_bytes};
 ghost use Rattle.xs_sheet.specs.Lines.{IsReadable, IsReadAgain};
 
-use crate::page::Page;
 use crate::quoting::push_quoted;
 use crate::{Attr, Item, Sheet, Unit, XItem};
 use std::alloc::Global;
 use xs_class::{Bytes, Memory, Text};
 
 /// Writes a space and ASCII characters.
-fn push_word(page: &mut Page, word: &str) -> Result<(), Memory>
+fn push_word(page: &mut Text, word: &str) -> Result<(), Memory>
     requires { list_all (λ b. nat_lt b 128) word.now ≡ true }
     ensures { OnOk result (page.new ≡ page.old ++ 32 ∷ word.now) }
 {
@@ -21,7 +20,7 @@ fn push_word(page: &mut Page, word: &str) -> Result<(), Memory>
 }
 
 /// Writes a space and a name.
-fn push_name(page: &mut Page, name: &Text) -> Result<(), Memory>
+fn push_name(page: &mut Text, name: &Text) -> Result<(), Memory>
     ensures { OnOk result (page.new ≡ page.old ++ 32 ∷ name.now) }
 {
     page.push(' ')?;
@@ -29,14 +28,14 @@ fn push_name(page: &mut Page, name: &Text) -> Result<(), Memory>
 }
 
 /// Writes a space and a quoted string.
-fn push_string(page: &mut Page, text: &Text) -> Result<(), Memory>
+fn push_string(page: &mut Text, text: &Text) -> Result<(), Memory>
     ensures { OnOk result (page.new ≡ page.old ++ 32 ∷ quoted text.now) }
 {
     page.push(' ')?;
     push_quoted(page, text)
 }
 
-fn push_item(page: &mut Page, item: &Item) -> Result<(), Memory>
+fn push_item(page: &mut Text, item: &Item) -> Result<(), Memory>
     ensures { OnOk result (page.new ≡ page.old ++ spaced (item_words item.now)) }
 {
     match item {
@@ -55,7 +54,7 @@ fn push_item(page: &mut Page, item: &Item) -> Result<(), Memory>
     }
 }
 
-fn push_items(page: &mut Page, items: &[Item]) -> Result<(), Memory>
+fn push_items(page: &mut Text, items: &[Item]) -> Result<(), Memory>
     ensures { OnOk result (page.new ≡ page.old ++ spaced (items_words items.now)) }
 {
     'items: for item in items {
@@ -64,7 +63,7 @@ fn push_items(page: &mut Page, items: &[Item]) -> Result<(), Memory>
     Ok(())
 }
 
-fn push_attr(page: &mut Page, attr: &Attr) -> Result<(), Memory>
+fn push_attr(page: &mut Text, attr: &Attr) -> Result<(), Memory>
     ensures { OnOk result (page.new ≡ page.old ++ spaced (attr_words attr.now)) }
 {
     push_name(page, &attr.name)?;
@@ -72,7 +71,7 @@ fn push_attr(page: &mut Page, attr: &Attr) -> Result<(), Memory>
     push_items(page, attr.value.as_slice())
 }
 
-fn push_attrs(page: &mut Page, attrs: &[Attr]) -> Result<(), Memory>
+fn push_attrs(page: &mut Text, attrs: &[Attr]) -> Result<(), Memory>
     ensures { OnOk result (page.new ≡ page.old ++ spaced (attrs_words attrs.now)) }
 {
     'attrs: for attr in attrs {
@@ -82,7 +81,7 @@ fn push_attrs(page: &mut Page, attrs: &[Attr]) -> Result<(), Memory>
 }
 
 /// Writes an element's first tag but for its end.
-fn push_tag(page: &mut Page, tag: &Text, attrs: &[Attr]) -> Result<(), Memory>
+fn push_tag(page: &mut Text, tag: &Text, attrs: &[Attr]) -> Result<(), Memory>
     ensures { OnOk result (page.new ≡ page.old ++ spaced (sign Angle ∷ as_is tag.now ∷ attrs_words attrs.now)) }
 {
     push_word(page, "<")?;
@@ -91,7 +90,7 @@ fn push_tag(page: &mut Page, tag: &Text, attrs: &[Attr]) -> Result<(), Memory>
 }
 
 /// Writes the tag that closes an element.
-fn push_end_tag(page: &mut Page, tag: &Text) -> Result<(), Memory>
+fn push_end_tag(page: &mut Text, tag: &Text) -> Result<(), Memory>
     ensures { OnOk result (page.new ≡ page.old ++ spaced (sign AngleSlash ∷ as_is tag.now ∷ sign AngleEnd ∷ [])) }
 {
     push_word(page, "</")?;
@@ -100,7 +99,7 @@ fn push_end_tag(page: &mut Page, tag: &Text) -> Result<(), Memory>
 }
 
 /// Writes an item of an XML side; elements stand at most 64 deep in each other.
-fn push_x_item(page: &mut Page, item: &XItem) -> Result<(), Memory>
+fn push_x_item(page: &mut Text, item: &XItem) -> Result<(), Memory>
     ensures { OnOk result (page.new ≡ page.old ++ spaced (content_words (with_item item.now nothing))) }
 {
     match item {
@@ -123,7 +122,7 @@ fn push_x_item(page: &mut Page, item: &XItem) -> Result<(), Memory>
     }
 }
 
-fn push_content(page: &mut Page, items: &[XItem]) -> Result<(), Memory>
+fn push_content(page: &mut Text, items: &[XItem]) -> Result<(), Memory>
     ensures { OnOk result (page.new ≡ page.old ++ spaced (content_words (content_of items.now))) }
 {
     'items: for item in items {
@@ -133,7 +132,7 @@ fn push_content(page: &mut Page, items: &[XItem]) -> Result<(), Memory>
 }
 
 /// Writes what a terminal and an ignorable have alike.
-fn push_regular(page: &mut Page, word: &str, name: &Text, pattern: &Text) -> Result<(), Memory>
+fn push_regular(page: &mut Text, word: &str, name: &Text, pattern: &Text) -> Result<(), Memory>
     requires { list_all (λ b. nat_lt b 128) word.now ≡ true }
     ensures { OnOk result (page.new ≡ page.old ++ word.now ++ spaced (as_is name.now ∷ sign Equals ∷ in_slashes pattern.now ∷ [])) }
 {
@@ -146,7 +145,7 @@ fn push_regular(page: &mut Page, word: &str, name: &Text, pattern: &Text) -> Res
 }
 
 fn push_production(
-    page: &mut Page,
+    page: &mut Text,
     name: &Text,
     left: &[Item],
     right: &[XItem],
@@ -161,7 +160,7 @@ fn push_production(
 }
 
 /// Writes a unit on a line of its own.
-fn push_unit(page: &mut Page, unit: &Unit) -> Result<(), Memory>
+fn push_unit(page: &mut Text, unit: &Unit) -> Result<(), Memory>
     ensures { OnOk result (page.new ≡ page.old ++ line_text (unit_words (unit_outline unit.now))) }
 {
     match unit {
@@ -192,7 +191,7 @@ fn push_unit(page: &mut Page, unit: &Unit) -> Result<(), Memory>
 }
 
 /// Writes the version word and the start, on a line each.
-fn push_head(page: &mut Page, start: &Text) -> Result<(), Memory>
+fn push_head(page: &mut Text, start: &Text) -> Result<(), Memory>
     ensures { OnOk result (page.new ≡ page.old ++ codes "xsugar-1\nstart " ++ start.now ++ 10 ∷ []) }
 {
     page.push_ascii("xsugar-1\nstart ")?;
@@ -200,7 +199,7 @@ fn push_head(page: &mut Page, start: &Text) -> Result<(), Memory>
     page.push('\n')
 }
 
-fn push_units(page: &mut Page, units: &[Unit]) -> Result<(), Memory>
+fn push_units(page: &mut Text, units: &[Unit]) -> Result<(), Memory>
     ensures { OnOk result (page.new ≡ page.old ++ lines_text (map (λ u. unit_words (unit_outline u)) units.now)) }
 {
     'units: for unit in units {
@@ -220,7 +219,7 @@ pub fn write_sheet(alloc: Global, sheet: &Sheet) -> Result<Bytes, Memory>
     ensures layout { IfOk result (λ b. b ≡ sheet_bytes sheet.now) }
     ensures read_again { IfOk result (λ b. IsReadAgain b sheet.now) }
 {
-    let mut page = Page::new(alloc);
+    let mut page = Text::new(alloc);
     push_head(&mut page, &sheet.start)?;
     push_units(&mut page, sheet.units.as_slice())?;
     Ok(Bytes::from_vec(page.into_bytes()))

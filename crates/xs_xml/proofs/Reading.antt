@@ -7,6 +7,7 @@ use Rattle.xs_xml.specs.Legal.{is_alone}
 use Rattle.xs_xml.specs.Scan.{span, cut, piece_at}
 use Rattle.xs_class.proofs.Truth.{and_true, both_true, not_true, and_no, or_false}
 use Rattle.xs_class.specs.Tables.{is_name_start}
+pub use Rattle.xs_class.proofs.Words.{same_is}
 
 -- spans
 abbrev pub stops : (ℕ → Bool) → List ℕ → Bool
@@ -61,15 +62,6 @@ no_semicolon body = all_of (λ c. not (59 == c)) body ≡ true
 pub cut_semicolon : (body rest : List ℕ) → all_of (λ c. not (59 == c)) body ≡ true → cut (codes ";") (body ++ 59 ∷ rest) ≡ Some (body, rest)
 cut_semicolon [] rest none = refl
 cut_semicolon (b ∷ bs) rest none = let p = and_true (not (59 == b)) (all_of (λ c. not (59 == c)) bs) none in cut_next (codes ";") b bs (bs ++ 59 ∷ rest) rest (rw (not_true (59 == b) p.0) refl) (cut_semicolon bs rest p.1)
-
-pub same_next : (p c : ℕ) (ps cs : List ℕ) → (p == c) ≡ true → ps ≡ cs → (p ∷ ps) ≡ c ∷ cs
-same_next p c ps cs here tail = let e : p ≡ c = eqb-true p c here in cc
-
-pub same_is : (xs ys : List ℕ) → same xs ys ≡ true → xs ≡ ys
-same_is [] [] is = refl
-same_is [] (y ∷ ys) is = absurd (cc)
-same_is (x ∷ xs) [] is = absurd (cc)
-same_is (x ∷ xs) (y ∷ ys) is = let p = and_true (x == y) (same xs ys) is in same_next x y xs ys p.0 (same_is xs ys p.1)
 
 is_not_semicolon : (f : ℕ → Bool) (c : ℕ) → f 59 ≡ false → f c ≡ true → not (59 == c) ≡ true
 is_not_semicolon f c out is_so = by (59 == c) refl

@@ -75,11 +75,8 @@ cut_kept d cs at low so_far is =
     let next_ : cut d cs ≡ fronted (take (suc at) cs) (cut d (drop (suc at) cs)) = so_far ∙ ap (λ (z : List ℕ). fronted (take at cs) (cut d z)) (drop-cons cs at 0 low) ∙ ap (λ (z : Option (List ℕ × List ℕ)). fronted (take at cs) z) (cut_not_here d (get_or cs at 0) (drop (suc at) cs) not_here) ∙ fronted_more (take at cs) (get_or cs at 0) (cut d (drop (suc at) cs)) ∙ ap (λ (z : List ℕ). fronted z (cut d (drop (suc at) cs))) (sym (take-suc cs at 0 low)) in
     rw (add-one at) next_
 
-no_end : (cs : List ℕ) (at : ℕ) → length cs ≤ at → drop at cs ≡ []
-no_end cs at end = drop_of_length-le cs end
-
 pub cut_none : (d cs : List ℕ) (at : ℕ) → length cs ≤ at → cut d cs ≡ fronted (take at cs) (cut d (drop at cs)) → None ≡ cut d cs
-cut_none d cs at end so_far = sym (so_far ∙ ap (λ (z : List ℕ). fronted (take at cs) (cut d z)) (no_end cs at end) ∙ fronted_none (take at cs))
+cut_none d cs at end so_far = sym (so_far ∙ ap (λ (z : List ℕ). fronted (take at cs) (cut d z)) (drop_of_length-le cs end) ∙ fronted_none (take at cs))
 
 -- what a cut finds does not hold the delimiter
 starts_more : (d b x : List ℕ) → starts d b ≡ true → starts d (b ++ x) ≡ true

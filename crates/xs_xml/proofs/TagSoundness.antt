@@ -4,8 +4,8 @@ use Rattle.std.specs.declared.option.Option.{Option}
 use Rattle.xs_xml.specs.Tables.{is_name_char, is_white}
 use Rattle.xs_xml.specs.Piece.{Attribute, Bit, plain, ref, declaration, start_tag, empty_tag, instruction, spelt_bit, spelt_bits, spelt_attribute, spelt_attributes, is_bit, same}
 use Rattle.xs_xml.specs.Scan.{span, after, cut, ◌>>=◌, kept, char_at, reference_at, end_at, in_cdata, in_comment, bang_at, as_instruction, instruction_name, instruction_at, markup_at, piece_at, bit_if, as_ref, bit_at, more, bits_at, attr_if, as_attr, attr_quote, attr_right, attr_at, attrs_at, tag_end, tag_at, declaration_attrs}
-use Rattle.xs_xml.proofs.Reading.{same_is}
 use Rattle.xs_class.proofs.Lists.{some_inj}
+use Rattle.xs_class.proofs.Words.{same_is}
 use Rattle.xs_xml.proofs.PieceSoundness.{Sound, sound_none, sound_if, sound_bind, sound_kept, span_is, after_is, cut_is, reference_sound, end_sound, cdata_sound, comment_sound, char_sound}
 
 -- bits

@@ -6,7 +6,7 @@ use Rattle.xs_class.specs.Tables.{is_name_start}
 use Rattle.xs_xml.specs.Piece.{declaration, start_tag, empty_tag, spelt, spelt_bit, spelt_bits, spelt_attribute, spelt_attributes, is_piece, is_name, is_gap, all_of, Bit, plain, ref, Attribute, is_bit, are_bits, is_attribute, are_attributes, are_settings, distinct}
 use Rattle.xs_xml.specs.Scan.{span, bit_at, bits_at, attr_at, attrs_at, piece_at}
 use Rattle.xs_xml.proofs.Reading.{stops, span_again, cut_semicolon, ref_plain, white_no_name, name_chars, gap_stops, start_in, name_9, white_out}
-use Rattle.xs_class.proofs.Truth.{and_true, or_false, not_true, no_other}
+use Rattle.xs_class.proofs.Truth.{and_true, or_false, not_true, no_other, eq_self}
 use Rattle.xs_class.proofs.Lists.{after_long}
 
 quote_cases : (q : ℕ) → is_quote q ≡ true → (q ≡ 34) ⊎ (q ≡ 39)
@@ -76,9 +76,6 @@ quote_no_white q is = by (quote_cases q is)
     by (inl e) = rw e quotes_no_white.0
     by (inr e) = rw e quotes_no_white.1
 
-pub same_number : (q : ℕ) → (q == q) ≡ true
-same_number q = grind (arith, nat_tests)
-
 gap_all : (gap : List ℕ) → is_gap gap ≡ true → all_of is_white gap ≡ true
 gap_all [] is = absurd (cc)
 gap_all (g ∷ gs) is = is
@@ -97,7 +94,7 @@ attr_again a rest is =
     let s3 = span_again is_white a.left (61 ∷ (a.right ++ a.quote ∷ bits)) p3.0 (rw white_out.3 refl) in
     let s4 = span_again is_white a.right (a.quote ∷ bits) p4.0 (rw (quote_no_white a.quote p5.0) refl) in
     let s5 = bits_again (length bits) a.quote a.value rest (bits_long a.value (a.quote ∷ rest)) p5.0 p5.1 in
-    rw (s1, s2, s3, s4, s5, same_number a.quote, is) refl
+    rw (s1, s2, s3, s4, s5, eq_self a.quote, is) refl
 
 -- what ends the attributes
 pub record IsEnd (c : ℕ) : Type 0 where

@@ -2,6 +2,7 @@
 -- The text of a piece p is `spelt p []`; a list of characters begins with p where it is `spelt p rest` and `is_piece p`.
 use Rattle.std.specs.Prelude.{ℕ, ◌+◌, ◌*◌, List, [], ◌∷◌, ◌++◌, map, codes, None, Some, if◌then◌else◌, ◌==◌, ◌&&◌, ◌||◌, not, nat_le, Bool, true, false, is_some}
 use Rattle.std.specs.declared.option.Option.{Option}
+pub use Rattle.xs_class.specs.Words.{same}
 use Rattle.xs_xml.specs.Tables.{is_char, is_name_char, is_white, is_digit, is_hex, is_quote}
 use Rattle.xs_class.specs.Tables.{is_name_start}
 use Rattle.xs_class.specs.Words.{hex_value}
@@ -21,12 +22,6 @@ starts (p ∷ ps) (c ∷ cs) = p == c && starts ps cs
 abbrev pub holds : List ℕ → List ℕ → Bool
 holds p [] = starts p []
 holds p (c ∷ cs) = starts p (c ∷ cs) || holds p cs
-
--- the lists are equal
-abbrev pub same : List ℕ → List ℕ → Bool
-same [] [] = true
-same (p ∷ ps) (c ∷ cs) = p == c && same ps cs
-same ps cs = false
 
 -- the list does not end with c
 abbrev pub ends_not : ℕ → List ℕ → Bool

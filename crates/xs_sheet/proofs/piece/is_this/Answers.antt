@@ -1,7 +1,8 @@
 use Rattle.std.proofs.Common.{◌≡◌, ◌∙◌, sym, ap, encode_utf8_all}
 use Rattle.std.specs.Str.{chars}
 use Rattle.std.proofs.lemmas.Str.{encodes-chars}
-use Rattle.xs_sheet.proofs.KindLaws.{text_test, ascii_chars}
+use Rattle.xs_class.proofs.Chars.{ascii_chars}
+use Rattle.xs_sheet.proofs.KindLaws.{text_test}
 use Rattle.xs_sheet.proofs.piece.is_this.Goals as goal
 
 pub returns : goal.returns

@@ -1,6 +1,6 @@
 use Rattle.std.proofs.Common.{◌∙◌, get_or, arith}
+use Rattle.std.proofs.lemmas.Option.{slice_get-get_or}
 use Rattle.xs_auto.specs.Searches.{step, CrossesFrom}
-use Rattle.xs_auto.proofs.PhaseLemmas.{got_at}
 use Rattle.xs_auto.proofs.SeedLemmas.{below_more, below_all, crosses_here, crosses_low}
 use Rattle.xs_auto.proofs.layer.Layer.seed_crossings.Goals as goal
 
@@ -11,7 +11,7 @@ places-preserved c =
     let steps = c.args.steps.now in
     let place = c.places.place in
     let at = get_or steps place (step 0 0 0) in
-    let here = got_at steps place (step 0 0 0) c.places-test.true in
+    let here = slice_get-get_or steps place (step 0 0 0) c.places-test.true in
     record {
       cells = c.visit_boths.ensures.cells ∙ c.places.invariant.cells;
       fits = c.in_ok-visit_boths.ensures.fits;

@@ -1,6 +1,6 @@
 use Rattle.std.proofs.Common.{◌∙◌, sym, get_or, arith}
+use Rattle.std.proofs.lemmas.Option.{slice_get-get_or}
 use Rattle.xs_auto.specs.Searches.{step, EndsFirst}
-use Rattle.xs_auto.proofs.PhaseLemmas.{got_at}
 use Rattle.xs_auto.proofs.SeedLemmas.{below_more, below_all, ends_here, ends_nowhere, ends_low}
 use Rattle.xs_auto.proofs.layer.Layer.seed_ends.Goals as goal
 use Rattle.xs_auto.proofs.layer.Layer.seed_ends.Goals.{then-is_final+in_ok-visit, else-is_final}
@@ -11,7 +11,7 @@ places-preserved c =
     let steps = c.args.steps.now in
     let place = c.places.place in
     let end = get_or steps place (step 0 0 0) in
-    let here = got_at steps place (step 0 0 0) c.places-test.true in
+    let here = slice_get-get_or steps place (step 0 0 0) c.places-test.true in
     let R = EndsFirst net c.args.start steps in
     elim c.if-is_final.branch [
       | then-is_final+in_ok-visit w ↦ rw (w.self-is, w.pairs-is) (record {
