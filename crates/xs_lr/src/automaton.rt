@@ -111,7 +111,9 @@ impl<'a> Automaton<'a> {
 
     /// The action of an LR or a scanning state before an atom.
     fn decide(&mut self, state: u32, lr: u32, atom: u16) -> Result<u32, Memory> {
-        let positions = self.shifted(state, lr, atom)?;
+        let mut positions = Vec::new(self.alloc);
+        let seen = self.push_shifted(&mut positions, state, lr, atom)?;
+        self.search.spend(seen);
         let choices = self.choices(state, lr, atom, &positions)?;
         match choices.as_slice() {
             [] => Ok(FAIL),
@@ -120,21 +122,33 @@ impl<'a> Automaton<'a> {
         }
     }
 
-    /// The positions that an atom leads to in a state.
-    fn shifted(&self, state: u32, lr: u32, atom: u16) -> Result<Vec<u32>, Memory> {
-        let mut positions = Vec::new(self.alloc);
+    /// Appends the positions that an atom leads to in a state, each once, and gives how many elements
+    /// were looked at.
+    fn push_shifted(
+        &self,
+        shifted: &mut Vec<u32>,
+        state: u32,
+        lr: u32,
+        atom: u16,
+    ) -> Result<usize, Memory> {
+        let tokens = &self.grammar.tokens;
+        let mut seen = self.states.moves(lr).len();
         if state == lr {
             'moves: for pair in self.states.moves(lr) {
-                self.push_read(&mut positions, self.grammar.tokens.first.at(pair.0), atom)?;
+                let first = tokens.first.at(pair.0);
+                seen = seen.saturating_add(first.len());
+                self.push_read(shifted, first, atom)?;
             }
         } else {
             'positions: for pair in body(self.states.keys.at(state)) {
-                self.push_read(&mut positions, self.grammar.tokens.follow.at(pair.0), atom)?;
+                let follow = tokens.follow.at(pair.0);
+                seen = seen.saturating_add(follow.len());
+                self.push_read(shifted, follow, atom)?;
             }
         }
-        positions.sort_unstable();
-        positions.dedup();
-        Ok(positions)
+        shifted.sort_unstable();
+        shifted.dedup();
+        Ok(seen)
     }
 
     /// Appends the positions that read an atom.

@@ -41,15 +41,15 @@ pub struct Fork {
 }
 
 impl Fork {
-    /// Begins where reading has come to, with this many steps to do.
-    pub fn new(alloc: Global, course: Course, steps: usize) -> Result<Self, Memory> {
+    /// Begins where reading has come to, with this much work to do.
+    pub fn new(alloc: Global, course: Course, work: usize) -> Result<Self, Memory> {
         let mut heads = Vec::new(alloc);
         heads.push(Head {
             vertex: course.depth.wrapping_sub(1),
             what: course.row,
         })?;
         Ok(Fork {
-            graph: Graph::new(alloc, course.depth, steps),
+            graph: Graph::new(alloc, course.depth, work),
             heads,
             at: course.at,
             accepted: None,
@@ -69,7 +69,10 @@ impl Fork {
         input: Input<'_>,
         automaton: &mut Automaton<'_>,
     ) -> Result<(), Memory> {
-        'heads: for _ in 0..self.graph.steps() {
+        'heads: for _ in 0..self.graph.work() {
+            if self.graph.is_spent() {
+                break;
+            }
             if let Some(head) = self.heads.get(self.done) {
                 let head = *head;
                 self.done = self.done.wrapping_add(1);
@@ -173,6 +176,9 @@ impl Fork {
         let length = (cell & MOST_ITEMS).saturating_sub(token);
         self.graph.find(input.stack, vertex, length)?;
         'ways: for way in 0..self.graph.bottoms.len() {
+            if self.graph.is_spent() {
+                break;
+            }
             self.reduce_way(input, automaton, way, length, action)?;
         }
         Ok(())
@@ -218,7 +224,7 @@ impl Fork {
     ) -> Result<(), Memory> {
         let mut part = part;
         let mut to = goto(automaton, below.row, production)?;
-        'productions: for _ in 0..self.graph.steps() {
+        'productions: for _ in 0..self.graph.work() {
             if to & CHAIN == 0 {
                 break;
             }

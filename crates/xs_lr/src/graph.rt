@@ -12,8 +12,11 @@ const DOWN: u32 = u32::MAX - 1;
 /// A part with this bit stands for a reduction by its number.
 pub const REDUCED: u32 = 1 << 31;
 
-/// The greatest number of elements of a graph.
-const MOST_ELEMENTS: usize = 1 << 22;
+/// The greatest number of words of a graph.
+const MOST_WORDS: usize = 1 << 24;
+
+/// How many elements that are looked at count as one step.
+const ELEMENTS: usize = 8;
 
 /// A vertex: an LR state at a place of the document, and its first edge.
 #[derive(Clone, Copy)]
@@ -66,12 +69,12 @@ pub struct Graph {
     vertices: Vec<Vertex>,
     edges: Vec<Edge>,
     here: usize,
-    steps: usize,
+    work: usize,
 }
 
 impl Graph {
-    /// No vertex over this many entries, and this many steps to do.
-    pub fn new(alloc: Global, base: u32, steps: usize) -> Self {
+    /// No vertex over this many entries, and this much work to do: eighths of steps.
+    pub fn new(alloc: Global, base: u32, work: usize) -> Self {
         Graph {
             base,
             reductions: Vec::new(alloc),
@@ -82,26 +85,36 @@ impl Graph {
             vertices: Vec::new(alloc),
             edges: Vec::new(alloc),
             here: 0,
-            steps,
+            work,
         }
     }
 
-    /// The steps that are left to do.
-    pub fn steps(&self) -> usize {
-        self.steps
+    /// The work that is left to do.
+    pub fn work(&self) -> usize {
+        self.work
     }
 
-    /// Whether there are no steps left, or too many elements.
+    /// Whether there is no work left, or the graph is too large.
     pub fn is_spent(&self) -> bool {
-        self.steps == 0
-            || self.edges.len() > MOST_ELEMENTS
-            || self.reductions.len() > MOST_ELEMENTS
-            || self.parts.len() > MOST_ELEMENTS
+        let pairs = self.vertices.len().saturating_add(self.edges.len());
+        let words = self
+            .reductions
+            .len()
+            .saturating_mul(5)
+            .saturating_add(pairs.saturating_mul(3))
+            .saturating_add(self.parts.len())
+            .saturating_add(self.gathered.len());
+        self.work == 0 || words > MOST_WORDS
     }
 
     /// Counts a step.
     pub fn spend(&mut self) {
-        self.steps = self.steps.saturating_sub(1);
+        self.spend_on(ELEMENTS);
+    }
+
+    /// Counts elements that are looked at.
+    fn spend_on(&mut self, elements: usize) {
+        self.work = self.work.saturating_sub(elements);
     }
 
     /// Begins the vertices of the next place.
@@ -181,16 +194,34 @@ impl Graph {
             })?;
             return Ok(Added::Vertex(id));
         };
-        let Some(vertex) = self.vertices.get_mut(place) else {
+        let Some(vertex) = self.vertices.get(place) else {
             return Ok(Added::Nothing);
         };
         let next = vertex.edge;
-        if has_edge(&self.edges, next, below) {
+        if self.has_edge(next, below) {
             return Ok(Added::Nothing);
         }
-        vertex.edge = number;
+        if let Some(vertex) = self.vertices.get_mut(place) {
+            vertex.edge = number;
+        }
         self.push_edge(below, part, next)?;
         Ok(Added::Edge)
+    }
+
+    /// Whether an edge, or one after it, leads to a vertex; also where there is no work left.
+    fn has_edge(&mut self, first: u32, below: u32) -> bool {
+        let mut next = first;
+        'edges: for _ in 0..self.work {
+            let Some(edge) = self.edges.get(next as usize) else {
+                return false;
+            };
+            if edge.below == below {
+                return true;
+            }
+            next = edge.next;
+            self.spend_on(1);
+        }
+        true
     }
 
     /// Appends an edge.
@@ -200,7 +231,9 @@ impl Graph {
     }
 
     /// The place of the vertex of a row among those of the place that is being read.
-    fn place_of(&self, row: u32) -> Option<usize> {
+    fn place_of(&mut self, row: u32) -> Option<usize> {
+        let count = self.vertices.len().saturating_sub(self.here);
+        self.spend_on(count);
         'vertices: for place in self.here..self.vertices.len() {
             if self.vertices[place].row == row {
                 return Some(place);
@@ -215,11 +248,14 @@ impl Graph {
         self.gathered.clear();
         self.path.clear();
         let mut next = Some(from);
-        'steps: for _ in 0..self.steps {
+        'steps: for _ in 0..self.work {
             let Some(id) = next else {
                 break;
             };
             self.spend();
+            if self.work == 0 || self.gathered.len() > MOST_WORDS {
+                break;
+            }
             next = if self.path.len() < length as usize {
                 self.descend(stack, id)?
             } else {
@@ -258,6 +294,8 @@ impl Graph {
     /// Keeps the way of the path, which ends at a vertex.
     fn keep(&mut self, stack: &[Entry], bottom: u32) -> Result<(), Memory> {
         self.bottoms.push(bottom)?;
+        let length = self.path.len();
+        self.spend_on(length);
         'path: for place in (0..self.path.len()).rev() {
             let Some(step) = self.path.get(place) else {
                 break;
@@ -313,19 +351,4 @@ impl Graph {
         }
         Ok(None)
     }
-}
-
-/// Whether an edge, or one after it, leads to a vertex.
-fn has_edge(edges: &[Edge], first: u32, below: u32) -> bool {
-    let mut next = first;
-    'edges: for _ in 0..edges.len() {
-        let Some(edge) = edges.get(next as usize) else {
-            return false;
-        };
-        if edge.below == below {
-            return true;
-        }
-        next = edge.next;
-    }
-    false
 }

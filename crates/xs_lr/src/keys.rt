@@ -27,6 +27,11 @@ impl Keys {
         self.lists.at(number)
     }
 
+    /// The number of pairs of all keys.
+    pub fn pairs(&self) -> usize {
+        self.lists.elements()
+    }
+
     /// The number of a key, or None where it is not there.
     pub fn find(&self, key: &[Pair]) -> Option<u32> {
         let number = *self.found.get(&hash_of(key))?;

@@ -9,6 +9,9 @@ use xs_parse_table::ParseTable;
 /// How often a document's atoms are followed by that of the end.
 pub const PADDING: usize = 10;
 
+/// The greatest number of atoms of a document: places are numbers of 31 bits.
+const MOST_SYMBOLS: usize = (1 << 31) - 1;
+
 /// A parse table of a document, or None where none was found.
 ///
 /// The document comes as its atoms, and then `PADDING` times that of the end. That a table is given
@@ -20,6 +23,9 @@ pub fn read(
     atoms: &Atoms,
     doc: &[u16],
 ) -> Result<Option<ParseTable>, Memory> {
+    if doc.len() > MOST_SYMBOLS {
+        return Ok(None);
+    }
     let Some(mut automaton) = Automaton::of(alloc, g, atoms)? else {
         return Ok(None);
     };

@@ -12,8 +12,11 @@ use xs_parse_table::ParseTable;
 /// The greatest number of times that reading stops for a cell, for room or for a fork.
 const MOST_STOPS: usize = 1 << 23;
 
-/// A document on the way: its stack and its tree with room for more, how far it is read, and how many
-/// steps forks may take.
+/// The greatest number of parts.
+const MOST_PARTS: usize = (1 << 31) - 1;
+
+/// A document on the way: its stack and its tree with room for more, how far it is read, the greatest
+/// number of entries and nodes, and the work that forks may do.
 #[derive(Drop)]
 pub struct Reading<'d> {
     doc: &'d [u16],
@@ -21,7 +24,7 @@ pub struct Reading<'d> {
     tree: Tree,
     course: Course,
     most: usize,
-    steps: usize,
+    work: usize,
     alloc: Global,
 }
 
@@ -49,7 +52,7 @@ impl<'d> Reading<'d> {
                 parts: 0,
             },
             most: most * 16,
-            steps: most * 32,
+            work: most * 256,
             alloc,
         })
     }
@@ -100,6 +103,7 @@ impl<'d> Reading<'d> {
         self.stack.len() > self.most
             || self.tree.nodes.len() > self.most
             || self.tree.parts.len() / 4 > self.most
+            || self.tree.parts.len() > MOST_PARTS
     }
 
     /// Fills the cell at which reading stopped.
@@ -122,13 +126,13 @@ impl<'d> Reading<'d> {
 
     /// Reads in all ways that are allowed, until there is one.
     fn fork(&mut self, automaton: &mut Automaton<'_>) -> Result<Outcome, Memory> {
-        let mut fork = Fork::new(self.alloc, self.course, self.steps)?;
+        let mut fork = Fork::new(self.alloc, self.course, self.work)?;
         let input = Input {
             doc: self.doc,
             stack: &self.stack,
         };
         let found = fork.read(input, automaton)?;
-        self.steps = fork.graph.steps();
+        self.work = fork.graph.work();
         if !found {
             return Ok(Outcome::GiveUp);
         }

@@ -6,7 +6,10 @@ use xs_atoms::Atoms;
 use xs_class::Memory;
 
 /// The greatest number of words of rows that are joined while the sets are made.
-const MOST_JOINED: usize = 1 << 26;
+const MOST_JOINED: usize = 1 << 23;
+
+/// The greatest number of pairs of a first position of a token and an atom.
+const MOST_READ: usize = 1 << 23;
 
 /// The nullable symbols, FIRST of symbols, FOLLOW of nonterminals, and for each place the atoms
 /// that may come next.
@@ -26,6 +29,10 @@ impl Sets {
         tokens: &Tokens,
         rules: &Rules,
     ) -> Result<Option<Sets>, Memory> {
+        let firsts = tokens.first.elements();
+        if firsts.saturating_mul(atoms.count() as usize) > MOST_READ {
+            return Ok(None);
+        }
         let symbols = rules.symbols();
         let places = symbols.wrapping_add(rules.nons);
         let rows = (places as usize).saturating_add(rules.places.len());

@@ -6,8 +6,11 @@ use crate::search::Search;
 use std::alloc::Global;
 use xs_class::Memory;
 
-/// The greatest number of cells of the table.
+/// The greatest number of cells of the table, and of words of all that is known of its states.
 const MOST_CELLS: usize = 1 << 22;
+
+/// The greatest number of states.
+const MOST_STATES: usize = 1 << 19;
 
 /// The kinds of states.
 #[derive(Clone, Copy)]
@@ -84,9 +87,13 @@ impl States {
         })
     }
 
-    /// Whether the table is too large.
+    /// Whether the table, or what is known of its states, is too large.
     pub fn is_full(&self) -> bool {
+        let pairs = self.keys.pairs().saturating_add(self.moves.elements());
         self.table.len() > MOST_CELLS
+            || pairs.saturating_mul(2) > MOST_CELLS
+            || self.ends.elements() > MOST_CELLS
+            || self.rows.len() > MOST_STATES
     }
 
     /// The number of states.
