@@ -33,6 +33,10 @@ pub unique_on : (p : Pair) → IsSure p → (side : Side) → IsUnique (grammar_
 unique_on p sure Text = sure.text
 unique_on p sure Xml = sure.xml
 
+-- grammars that are accepted
+pub sure_kept : (p q : Pair) → P.MeanTheSame p q → IsSure p → IsSure q
+sure_kept p q same sure = record { accepted = same.checked.accepted.0 sure.accepted; text = same.text.derivations.unique.0 sure.text; xml = same.xml.derivations.unique.0 sure.xml }
+
 -- a document, and one of the language
 pub document_kept : (p q : Pair) → P.MeanTheSame p q → (side : Side) (form : Form) (bytes w : List ℕ) → IsDocument side form q.names bytes w → IsDocument side form p.names bytes w
 document_kept p q same side form bytes w is = subst (λ (ns : List (List ℕ)). IsDocument side form ns bytes w) (sym same.names) is

@@ -11,23 +11,23 @@ use Rattle.xs_gram.specs.Grammar.{Grammar, items}
 use Rattle.xs_gram.specs.Derivations.{Parts, fixed, leaf, skip, sub, Derivation, parts_yield, yield, normal_parts, normal}
 use Rattle.xs_gram.specs.Common.{Common, print, strip}
 use Rattle.xs_gram.specs.Languages.{Derives}
-use Rattle.xs_check_laws.specs.Acceptance.{IsAccepted}
+use Rattle.xs_check_laws.specs.Laws.{RuleWeighsOnce}
 use Rattle.xs_sheet_laws.specs.Pairs as P
 use Rattle.xs_pair.specs.Grammars.{Pair, grammar_of}
 use Rattle.xs_talk.specs.declared.outcome.Outcome.{Outcome}
 use Rattle.xs_talk.specs.declared.outcome.Outcome.TheVariants.{Done}
 use Rattle.xs_top.specs.declared.asking.Job.TheVariants.{Turn}
-use Rattle.xs_top.specs.Asked.{by}
 use Rattle.xs_top.specs.Devices.{Run}
 use Rattle.xs_top.specs.Checks.{IsSure}
 use Rattle.xs_top.specs.Documents.{IsWordOf, document_bytes}
 use Rattle.xs_top.specs.Answers.{IsWrittenTree, IsTurnedInto}
 use Rattle.xs_top.specs.Sheets.{IsPairOfBytes}
-use Rattle.xs_top.specs.Ran.{IsOfLanguage, Told, IsHonest, IsComplete}
-use Rattle.xs_top.specs.Runs.{IsToTurn, IsUnhindered, Answers, Turned, HaveNoIgnorable, IsNormalOf}
-use Rattle.xs_top.specs.Laws.{PairsAgree, OneAnswer, TranslatesBack, RoundIsIdempotent, TranslatesAgain}
+use Rattle.xs_top.specs.Ran.{Told}
+use Rattle.xs_top.specs.Runs.{IsToTurn, Answers, Turned, HaveNoIgnorable, IsNormalOf}
+use Rattle.xs_top.specs.Laws.{PairsAgree, SheetsAgree, OneAnswer, TranslatesBack, RoundIsIdempotent, TranslatesAgain}
 use Rattle.xs_top.proofs.Agreeing.{on_side, unique_on}
 use Rattle.xs_top.proofs.Completing.{one_word, read_is}
+use Rattle.xs_top.proofs.Deciding.{ended_in_language, told_ended}
 use Rattle.xs_top.proofs.Coming.{IsAnswered, done_answered, appended}
 
 -- where there are no ignorables, a derivation is in normal form
@@ -79,32 +79,6 @@ was_turned run from to form sheet document answer t =
     let a = done_answered run sheet (Turn from to form) t.asks t.is_done in
     subst (λ (b : List ℕ). IsTurning sheet from to form document b) (appended run.out.taken_before run.out.taken_now t.before answer a.answer t.taken_before t.taken_now a.appends) (turning run from to form sheet document t.input a)
 
--- what was written is of the language
-written_language : (p : Pair) (side : Side) (tree : Common) (bytes : List ℕ) → IsWrittenTree p side tree bytes → IsOfLanguage p side AsIs bytes
-written_language p side tree bytes written = record {
-  utf8 = written.reads.utf8;
-  word = print (grammar_of p side) tree;
-  word_is = written.reads.word;
-  language = (written.back.0, written.back.1);
-}
-
--- nothing stands against turning a document of the language
-pub is_honest : (run : Run) (from to : Side) (form : Form) (sheet document : List ℕ) (p : Pair) (job : IsToTurn run from to form sheet document) → IsUnhindered run job.asks.named document → IsPairOfBytes sheet p → IsAccepted p.text p.xml → IsOfLanguage p from form document → IsHonest run
-is_honest run from to form sheet document p job free is_pair accepted language = record {
-  ask = by job.asks.named (Turn from to form);
-  is = job.asks.is;
-  free = record {
-    sheet_sure = free.sheet;
-    bytes = sheet;
-    has = job.asks.has;
-    pair = p;
-    spelled = is_pair;
-    doable = (accepted, record { document = document; input = job.input; limit = free.short; is = language; sure = free.input });
-  };
-  out_sure = free.out;
-  notes_sure = free.notes;
-}
-
 -- where it is turned, out took the answer
 turned_now : (run : Run) (from to : Side) (form : Form) (sheet document : List ℕ) → IsToTurn run from to form sheet document → Told run Done → (answer : List ℕ) × IsTurning sheet from to form document answer × Appends run.out.taken_before run.out.taken_now answer
 turned_now run from to form sheet document job told =
@@ -112,15 +86,6 @@ turned_now run from to form sheet document job told =
     (a.answer, turning run from to form sheet document job.input a, a.appends)
 
 module _ (law : OneReading) (agree : PairsAgree) where
-  -- a document is turned after another, by the same sheet
-  after : (run : Run) (from to side : Side) (form : Form) (sheet document middle : List ℕ) → IsTurning sheet from to form document middle → (next : IsToTurn run to side AsIs sheet middle) → (o : Outcome) → Told run o → IsComplete run o → (P : List ℕ → Type 0) → ((last : List ℕ) → IsTurning sheet to side AsIs middle last → P last) → Answers run o (IsUnhindered run next.asks.named middle) P
-  after run from to side form sheet document middle t next o told complete P gives = record {
-    is_done = λ free. complete (is_honest run to side AsIs sheet middle t.pair next free t.is_pair t.sure.accepted (written_language t.pair to t.tree middle t.turned.written));
-    answer = λ is.
-        let a = turned_now run to side AsIs sheet middle next (subst (λ (x : Outcome). Told run x) is told) in
-        (a.0, gives a.0 a.1, a.2);
-  }
-
   -- the second document is the print of the first one's tree
   second_is : (from to side : Side) (form : Form) (sheet document middle last : List ℕ) (one : IsTurning sheet from to form document middle) (two : IsTurning sheet to side AsIs middle last) → last ≡ document_bytes side one.pair.names (print (grammar_of one.pair side) one.tree)
   second_is from to side form sheet document middle last one two =
@@ -165,22 +130,33 @@ module _ (law : OneReading) (agree : PairsAgree) where
       let same = agree sheet a.pair b.pair a.is_pair b.is_pair in
       written_same a.pair b.pair same to a.tree b.tree other (one_tree from to form sheet document answer other a b) b.turned.written ∙ sym a.turned.written.is
 
-  pub translates_back_lem : TranslatesBack
-  translates_back_lem one two from to form sheet document answer first next o told complete =
-      let was = was_turned one from to form sheet document answer first in
-      after two from to from form sheet document answer was next o told complete (IsNormalOf sheet from form document) (λ last now. normal_of from to form sheet document answer last was now)
+  module _ (weigh : RuleWeighsOnce) (well : SheetsAgree) where
+    -- a document is turned after another, by the same sheet
+    after : (run : Run) (from to side : Side) (form : Form) (sheet document middle : List ℕ) → IsTurning sheet from to form document middle → (next : IsToTurn run to side AsIs sheet middle) → (o : Outcome) → Told run o → (P : List ℕ → Type 0) → ((last : List ℕ) → IsTurning sheet to side AsIs middle last → P last) → Answers run o next.asks.named middle P
+    after run from to side form sheet document middle t next o told P gives =
+        let word = print (grammar_of t.pair to) t.tree in record {
+          ends = λ whole. ended_in_language run t.pair to word o (t.turned.written.back.0, t.turned.written.back.1) (told_ended run to side AsIs sheet middle next whole law weigh agree well t.pair t.is_pair t.sure.accepted word t.turned.written.reads o told);
+          answer = λ is.
+              let a = turned_now run to side AsIs sheet middle next (subst (λ (x : Outcome). Told run x) is told) in
+              (a.0, gives a.0 a.1, a.2);
+        }
 
-  pub round_lem : RoundIsIdempotent
-  round_lem one two side form sheet document answer first next o told complete =
-      let was = was_turned one side side form sheet document answer first in
-      after two side side side form sheet document answer was next o told complete (λ again. again ≡ answer) (λ last now. second_is side side side form sheet document answer last was now ∙ sym was.turned.written.is)
+    pub translates_back_lem : TranslatesBack
+    translates_back_lem one two from to form sheet document answer first next o told =
+        let was = was_turned one from to form sheet document answer first in
+        after two from to from form sheet document answer was next o told (IsNormalOf sheet from form document) (λ last now. normal_of from to form sheet document answer last was now)
 
-  pub translates_again_lem : TranslatesAgain
-  translates_again_lem one two three from to form sheet document answer back first second next o told complete =
-      let was = was_turned one from to form sheet document answer first in
-      let then = was_turned two to from AsIs sheet answer back second in
-      let same = agree sheet was.pair then.pair was.is_pair then.is_pair in
-      let tree : then.tree ≡ was.tree = next_tree law was.pair then.pair same was.sure to from was.tree then.tree answer back was.turned.written then.turned in
-      let first_is : answer ≡ document_bytes to then.pair.names (print (grammar_of then.pair to) then.tree) =
-      was.turned.written.is ∙ ap (λ (t : Common). document_bytes to was.pair.names (print (grammar_of was.pair to) t)) (sym tree) ∙ ap (λ (w : List ℕ). document_bytes to was.pair.names w) ((on_side was.pair then.pair same to).trees.print then.tree) ∙ ap (λ (ns : List (List ℕ)). document_bytes to ns (print (grammar_of then.pair to) then.tree)) same.names in
-      after three to from to AsIs sheet answer back then next o told complete (λ again. again ≡ answer) (λ last now. second_is to from to AsIs sheet answer back last then now ∙ sym first_is)
+    pub round_lem : RoundIsIdempotent
+    round_lem one two side form sheet document answer first next o told =
+        let was = was_turned one side side form sheet document answer first in
+        after two side side side form sheet document answer was next o told (λ again. again ≡ answer) (λ last now. second_is side side side form sheet document answer last was now ∙ sym was.turned.written.is)
+
+    pub translates_again_lem : TranslatesAgain
+    translates_again_lem one two three from to form sheet document answer back first second next o told =
+        let was = was_turned one from to form sheet document answer first in
+        let then = was_turned two to from AsIs sheet answer back second in
+        let same = agree sheet was.pair then.pair was.is_pair then.is_pair in
+        let tree : then.tree ≡ was.tree = next_tree law was.pair then.pair same was.sure to from was.tree then.tree answer back was.turned.written then.turned in
+        let first_is : answer ≡ document_bytes to then.pair.names (print (grammar_of then.pair to) then.tree) =
+        was.turned.written.is ∙ ap (λ (t : Common). document_bytes to was.pair.names (print (grammar_of was.pair to) t)) (sym tree) ∙ ap (λ (w : List ℕ). document_bytes to was.pair.names w) ((on_side was.pair then.pair same to).trees.print then.tree) ∙ ap (λ (ns : List (List ℕ)). document_bytes to ns (print (grammar_of then.pair to) then.tree)) same.names in
+        after three to from to AsIs sheet answer back then next o told (λ again. again ≡ answer) (λ last now. second_is to from to AsIs sheet answer back last then now ∙ sym first_is)

@@ -6,6 +6,7 @@ mod Known
 mod Agreeing
 mod Completing
 mod Coming
+mod Deciding
 mod Back
 mod Exactly
 mod Verdicts

@@ -26,8 +26,9 @@ use Rattle.xs_top.specs.Checks.{IsReported, IsUnsure, IsSure}
 use Rattle.xs_top.specs.Answers.{IsUnread}
 use Rattle.xs_top.specs.Ran.{IsUntaken, IsUnanswered, IsUndone, IsAnswer, Took, Told}
 use Rattle.xs_top.specs.Runs.{AsksFor, Verdict, bad, ill, heavy, suspect, accepted}
-use Rattle.xs_top.specs.Laws.{PairsAgree, SheetsAgree, IsChecked, verdict, OneVerdict, RefusesSheet, CheckDecides}
+use Rattle.xs_top.specs.Laws.{PairsAgree, SheetsAgree, IsChecked, verdict, OneVerdict, RefusesSheet, CheckDecides, CheckAccepts}
 use Rattle.xs_top.proofs.Known.{has_only, has_short}
+use Rattle.xs_top.proofs.Agreeing.{sure_kept}
 use Rattle.xs_top.proofs.Completing.{not_heavy_rule, not_heavy, not_shown, not_unsure}
 use Rattle.xs_top.proofs.Coming.{Came, before, of_job, with_answer, told_came, done_answered}
 
@@ -233,3 +234,8 @@ module _ (law : OneReading) (weigh : RuleWeighsOnce) (agree : PairsAgree) (well 
           let a = done_answered one sheet Check asks is_done in
           came_not two sheet also.named job also.has (a.pair, a.is_pair, a.is_answer.1.accepted) o came refuses
       by_case (inr (of, written, note, rose)) = subst (λ (x : Outcome). RefusesSheet x) note refuses
+
+pub check_accepts_lem : PairsAgree → CheckAccepts
+check_accepts_lem agree run sheet asks told =
+    let a = done_answered run sheet Check asks told in
+    record { pair = a.pair; is_pair = a.is_pair; sure = λ p is_p. sure_kept a.pair p (agree sheet a.pair p a.is_pair is_p) a.is_answer.1 }

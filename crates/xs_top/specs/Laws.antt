@@ -1,5 +1,5 @@
 -- The laws of a sheet, and of two runs or three by one sheet.
-use Rattle.std.specs.Prelude.{◌≡◌, ◌↔◌, ⊤, ℕ, List, None, Some}
+use Rattle.std.specs.Prelude.{◌≡◌, ◌⊎◌, ◌↔◌, ⊤, ℕ, List, None, Some}
 use Rattle.std.specs.declared.option.Option.{Option}
 use Rattle.xs_class.specs.declared.side.Side.{Side}
 use Rattle.xs_chars.specs.declared.form.Form.{Form}
@@ -18,8 +18,9 @@ use Rattle.xs_top.specs.declared.asking.Job.TheVariants.{Check, Turn, Trees, Mak
 use Rattle.xs_top.specs.Devices.{Run}
 use Rattle.xs_top.specs.Documents.{IsDocument}
 use Rattle.xs_top.specs.Sheets.{IsPairOfBytes}
-use Rattle.xs_top.specs.Ran.{Told, IsComplete}
-use Rattle.xs_top.specs.Runs.{AsksFor, IsToTurn, IsUnhindered, Answers, Turned, IsNormalOf, Verdict, bad, ill, heavy, suspect, accepted}
+use Rattle.xs_top.specs.Checks.{IsSure}
+use Rattle.xs_top.specs.Ran.{Told}
+use Rattle.xs_top.specs.Runs.{AsksFor, IsToTurn, IsReadWhole, IsUnwritten, Answers, Turned, IsNormalOf, Verdict, bad, ill, heavy, suspect, accepted}
 
 -- two pairs of grammars of the same bytes mean the same
 abbrev pub PairsAgree : Type 0
@@ -29,8 +30,8 @@ PairsAgree = (bytes : List ℕ) (p q : Pair) → IsPairOfBytes bytes p → IsPai
 abbrev pub SheetsAgree : Type 0
 SheetsAgree = (bytes : List ℕ) (s t : Sheet) → IsSheetOf bytes s → IsSheetOf bytes t → IsWell s → IsWell t
 
--- What a run wrote is turned back by the same sheet, unless it is hindered or memory is wanting, and then out took the
--- first document with each ignorable in its normal spelling.
+-- What a run wrote is turned back by the same sheet where it is read whole, unless out or notes fail or memory is wanting;
+-- and then out took the first document with each ignorable in its normal spelling.
 abbrev pub TranslatesBack : Type 0
 TranslatesBack =
     (one two : Run) (from to : Side) (form : Form) (sheet document answer : List ℕ)
@@ -38,8 +39,7 @@ TranslatesBack =
     → (next : IsToTurn two to from AsIs sheet answer)
     → (o : Outcome)
     → Told two o
-    → IsComplete two o
-    → Answers two o (IsUnhindered two next.asks.named answer) (IsNormalOf sheet from form document)
+    → Answers two o next.asks.named answer (IsNormalOf sheet from form document)
 
 -- two runs that turn the same document by the same sheet write the same
 abbrev pub OneAnswer : Type 0
@@ -57,8 +57,7 @@ RoundIsIdempotent =
     → (next : IsToTurn two side side AsIs sheet answer)
     → (o : Outcome)
     → Told two o
-    → IsComplete two o
-    → Answers two o (IsUnhindered two next.asks.named answer) (λ again. again ≡ answer)
+    → Answers two o next.asks.named answer (λ again. again ≡ answer)
 
 -- a document that was turned, and turned back, is turned into the same document as before
 abbrev pub TranslatesAgain : Type 0
@@ -69,8 +68,7 @@ TranslatesAgain =
     → (next : IsToTurn three from to AsIs sheet back)
     → (o : Outcome)
     → Told three o
-    → IsComplete three o
-    → Answers three o (IsUnhindered three next.asks.named back) (λ again. again ≡ answer)
+    → Answers three o next.asks.named back (λ again. again ≡ answer)
 
 -- a document of an accepted sheet is turned exactly where it is of the language, and else refused with its longest viable prefix
 pub record IsDecided (p : Pair) (side : Side) (word : List ℕ) (o : Outcome) : Type 0 where
@@ -83,12 +81,11 @@ RefusesExactly =
     → IsPairOfBytes sheet p
     → IsAccepted p.text p.xml
     → (job : IsToTurn run from to form sheet document)
-    → IsUnhindered run job.asks.named document
+    → IsReadWhole run job.asks.named document
     → IsDocument from form p.names document word
     → (o : Outcome)
     → Told run o
-    → IsComplete run o
-    → IsDecided p from word o
+    → IsDecided p from word o ⊎ IsUnwritten run o
 
 -- a job for which the sheet is checked
 abbrev pub IsChecked : Job → Type 0
@@ -151,3 +148,12 @@ CheckDecides =
     → Told two o
     → RefusesSheet o
     → ⊥
+
+-- once `check` was done, the bytes spell two grammars, and any two that they spell are accepted
+pub record AreAccepted (sheet : List ℕ) : Type 0 where
+  pub pair : Pair
+  pub is_pair : IsPairOfBytes sheet pair
+  pub sure : (p : Pair) → IsPairOfBytes sheet p → IsSure p
+
+abbrev pub CheckAccepts : Type 0
+CheckAccepts = (run : Run) (sheet : List ℕ) → AsksFor run Check sheet → Told run Done → AreAccepted sheet

@@ -1,5 +1,5 @@
 -- What a run asks for and reads, where its devices tell it, and what it turned.
-use Rattle.std.specs.Prelude.{◌≡◌, ℕ, ◌≤◌, List, ◌++◌, length, Some}
+use Rattle.std.specs.Prelude.{◌≡◌, ◌⊎◌, ℕ, ◌≤◌, List, ◌++◌, length, Some}
 use Rattle.std.specs.Io.KnownBytes.{Appends}
 use Rattle.xs_io.specs.Causes.{Rose}
 use Rattle.xs_class.specs.declared.side.Side.{Side}
@@ -9,7 +9,7 @@ use Rattle.xs_gram.specs.Derivations.{Parts, done, fixed, leaf, skip, sub, Deriv
 use Rattle.xs_gram.specs.Languages.{Derives}
 use Rattle.xs_pair.specs.Grammars.{Pair, grammar_of}
 use Rattle.xs_talk.specs.declared.outcome.Outcome.{Outcome}
-use Rattle.xs_talk.specs.declared.outcome.Outcome.TheVariants.{Done}
+use Rattle.xs_talk.specs.declared.outcome.Outcome.TheVariants.{Done, WriteFault, NoteFault}
 use Rattle.xs_top.specs.declared.asking.Job.{Job}
 use Rattle.xs_top.specs.declared.asking.Job.TheVariants.{Turn}
 use Rattle.xs_top.specs.Asked.{by, asked}
@@ -30,17 +30,22 @@ pub record IsToTurn (run : Run) (from to : Side) (form : Form) (sheet document :
   pub asks : AsksFor run (Turn from to form) sheet
   pub input : run.input.left_before ≡ Some document
 
--- nothing hinders it: the document is within its limit, the sheet did not fail, and no count of the other devices rose
-pub record IsUnhindered (run : Run) (named : Named) (document : List ℕ) : Type 0 where
+-- its document is read whole: it is within its limit, and neither the sheet nor the input failed
+pub record IsReadWhole (run : Run) (named : Named) (document : List ℕ) : Type 0 where
   pub short : length document ≤ 1048576
   pub sheet : IsFailed run.shelf named → ⊥
   pub input : Rose run.input.faults_before run.input.faults_now → ⊥
-  pub out : Rose run.out.faults_before run.out.faults_now → ⊥
-  pub notes : Rose run.notes.faults_before run.notes.faults_now → ⊥
 
--- the outcome is `Done` where nothing hinders the run, and out took such an answer where it is `Done`
-pub record Answers (run : Run) (o : Outcome) (unhindered : Type 0) (P : List ℕ → Type 0) : Type 0 where
-  pub is_done : unhindered → o ≡ Done
+-- the outcome says that out or notes failed, whose count rose
+abbrev pub IsUnwritten : Run → Outcome → Type 0
+IsUnwritten run (WriteFault written) = Rose run.out.faults_before run.out.faults_now
+IsUnwritten run (NoteFault of written) = Rose run.notes.faults_before run.notes.faults_now
+IsUnwritten run o = ⊥
+
+-- Where the document is read whole the outcome is `Done`, or out or notes failed; and out took such an answer where it is
+-- `Done`.
+pub record Answers (run : Run) (o : Outcome) (named : Named) (document : List ℕ) (P : List ℕ → Type 0) : Type 0 where
+  pub ends : IsReadWhole run named document → (o ≡ Done) ⊎ IsUnwritten run o
   pub answer : o ≡ Done → (answer : List ℕ) × P answer × Appends run.out.taken_before run.out.taken_now answer
 
 -- the run turned this document, and this is what out took

@@ -1,4 +1,4 @@
-ghost use Rattle.xs_top.specs.Laws.{PairsAgree, SheetsAgree, OneAnswer, TranslatesBack, RoundIsIdempotent, TranslatesAgain, RefusesExactly, OneVerdict, CheckDecides};
+ghost use Rattle.xs_top.specs.Laws.{PairsAgree, SheetsAgree, OneAnswer, TranslatesBack, RoundIsIdempotent, TranslatesAgain, RefusesExactly, OneVerdict, CheckDecides, CheckAccepts};
 
 use xs_check_laws::weights_are_exact;
 use xs_sheet_laws::{alike_pairs_mean_the_same, alike_sheets_mean_the_same, one_pair, one_sheet};
@@ -29,6 +29,7 @@ pub fn translates_back()
     ensures { TranslatesBack }
 {
     one_word();
+    weights_are_exact();
     bytes_agree();
 }
 
@@ -39,6 +40,7 @@ pub fn round_is_idempotent()
     ensures again { TranslatesAgain }
 {
     one_word();
+    weights_are_exact();
     bytes_agree();
 }
 
@@ -52,11 +54,12 @@ pub fn refuses_exactly()
     bytes_agree();
 }
 
-/// Outcomes that tell different things of a sheet exclude each other, and once `check` is done no run
-/// refuses the sheet.
+/// Outcomes that tell different things of a sheet exclude each other; and once `check` is done no run
+/// refuses the sheet, and each word of either language has at most one derivation.
 pub fn check_decides()
     ensures one { OneVerdict }
     ensures decides { CheckDecides }
+    ensures accepts { CheckAccepts }
 {
     one_word();
     weights_are_exact();
