@@ -1,4 +1,4 @@
-// How much room a text takes, counted so that it is reserved at once. Nothing else depends on it.
+// How much room a text takes, counted so that one reservation serves. No promise rests on it.
 
 use xs_class::Sym;
 
