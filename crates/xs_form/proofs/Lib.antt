@@ -3,6 +3,7 @@ pub mod BareLaws
 pub mod LengthLaws
 pub mod NameLaws
 pub mod Numbers
+pub mod OrderLaws
 pub mod PieceLaws
 pub mod ReadLaws
 pub mod RuleLaws

@@ -3,7 +3,7 @@ use Rattle.std.proofs.Common.{◌≡◌, ℕ, ◌+◌, ◌<◌, ◌≤◌, lengt
 use lib.Utf8.{scalar}
 use Rattle.std.specs.Char.{IsScalar}
 use Rattle.std.specs.Str.{chars, all_scalars}
-use Rattle.std.proofs.lemmas.Str.{chars-encodes, encode_ascii}
+use Rattle.std.proofs.lemmas.Str.{chars-encodes}
 use Rattle.std.proofs.lemmas.Bool.Decides.{nat_tests}
 use Rattle.xs_xml.specs.Tables.{is_name_char}
 use Rattle.xs_xml.specs.Piece.{all_of, is_name}
@@ -44,9 +44,3 @@ known_back mark m text spelled n by_text same_text is_spelled is = by_text ∙ a
 pub small_letter : (c : ℕ) → 97 ≤ c → c ≤ 122 → true ≡ is_name_char c
 unfolding is_name_char is_name_start
 small_letter c above below = grind (arith, nat_tests)
-
--- a name in ASCII is its own UTF-8
-pub ascii_more : (whole rest others : List ℕ) (name : List ℕ) (i e b : ℕ) → i < length name → e ≡ get_or name i e → (encode_utf8_all (drop i name) ≡ rest → encode_utf8_all name ≡ whole) → rest ≡ b ∷ others → e ≡ b → b < 128 → encode_utf8_all (drop (i + 1) name) ≡ others → encode_utf8_all name ≡ whole
-ascii_more whole rest others name i e b low is so_far here same below after =
-    let one : encode_utf8 e ≡ b ∷ [] = subst (λ (x : ℕ). encode_utf8 x ≡ b ∷ []) (sym same) (encode_ascii b below) in
-    so_far (ap encode_utf8_all (drop_next name i e low is) ∙ ap (λ (x : List ℕ). x ++ encode_utf8_all (drop (i + 1) name)) one ∙ ap (λ (x : List ℕ). b ∷ x) after ∙ sym here)

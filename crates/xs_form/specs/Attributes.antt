@@ -8,7 +8,7 @@ use Rattle.xs_xml.specs.Piece.{is_name, are_attributes}
 use Rattle.xs_xml.specs.Reads.{value}
 use Rattle.xs_xml.specs.Scan.{span, after, ◌>>=◌, attrs_at}
 use Rattle.xs_form.specs.Values.{all_written, value_symbols, value_written}
-use Rattle.xs_form.specs.declared.attributes.Attribute.{Attribute}
+use Rattle.xs_form.specs.declared.attribute.Attribute.{Attribute}
 use Rattle.xs_form.specs.declared.attributes.Head.{Head as CodeHead}
 use Rattle.xs_class.specs.Words.{is_empty}
 

@@ -6,7 +6,7 @@ use Rattle.std.specs.Borrow.{Bor}
 use Rattle.xs_xml.specs.Piece.{Piece, declaration, character, line_end, reference, start_tag, empty_tag, end_tag, comment, instruction, cdata, named, ref_char, same, lower}
 use Rattle.xs_xml.specs.Scan.{Found, after, cut, ◌>>=◌, as_instruction}
 use Rattle.xs_form.specs.Attributes.{Held, held}
-use Rattle.xs_form.specs.Sorted.{keyed, held_in_order, shown_entries}
+use Rattle.xs_form.specs.Sorted.{keyed, held_in_order, shown_ordered}
 use Rattle.xs_form.specs.declared.pieces.Event.{Event}
 use Rattle.xs_form.specs.declared.pieces.Event.TheVariants.{Declaration, Character, Reference, Start, Empty, End, Aside, Section}
 use Rattle.xs_form.specs.declared.pieces.TagEnd.{TagEnd}
@@ -45,8 +45,8 @@ abbrev pub shown_event : Event → Seen
 shown_event Declaration = declared
 shown_event (Character c) = letter c
 shown_event (Reference c) = given c
-shown_event (Start n as_) = begins n.now (shown_entries as_)
-shown_event (Empty n as_) = stands n.now (shown_entries as_)
+shown_event (Start n as_) = begins n.now (shown_ordered as_)
+shown_event (Empty n as_) = stands n.now (shown_ordered as_)
 shown_event (End n) = ends n.now
 shown_event Aside = aside
 shown_event (Section body) = section body.now

@@ -3,17 +3,11 @@ ghost use Rattle.std.specs.Option.{option_map, option_copied};
 ghost use Rattle.xs_xml.specs.Scan.{after, attr_at};
 ghost use Rattle.xs_form.specs.Attributes.{head_at, shown_head, kept_attribute, shown_attribute, AreAttributes};
 
+use crate::attribute::Attribute;
 use crate::runs::{after_prefix, is_name_text, name_run, quotes, white_run};
-use crate::values::{Value, value_at};
+use crate::values::value_at;
 use std::alloc::Global;
 use xs_class::{Memory, Sym};
-
-/// An attribute of a tag.
-#[derive(Drop)]
-pub struct Attribute<'a> {
-    pub name: &'a [Sym],
-    pub value: Value<'a>,
-}
 
 /// The name of an attribute, the quote that its value stands between, and the text from there on.
 #[derive(Clone, Copy)]

@@ -6,9 +6,11 @@
 //! the normal form of a text in `xs_chars`.
 #![tactic(auto)]
 
+mod attribute;
 mod attributes;
 mod document;
 mod marks;
+mod order;
 mod pieces;
 mod reader;
 mod references;

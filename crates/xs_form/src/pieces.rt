@@ -5,16 +5,15 @@ ghost use Rattle.xs_xml.specs.Scan.{char_at, reference_at, end_at, in_cdata, in_
 ghost use Rattle.xs_form.specs.Attributes.{shown};
 ghost use Rattle.xs_form.specs.Seen.{found, shown_found, shown_end, tag_ends, past_feed, held_version, held_encoding, held_standalone, held_settings, instruction_body};
 
-use crate::attributes::{Attribute, attributes_at};
+use crate::attribute::Attribute;
+use crate::attributes::attributes_at;
 use crate::references::reference_char;
 use crate::runs::{
     after_prefix, all_allowed, allowed, cut_at, is, is_name_text, name_run, spells,
     spells_in_any_case, white, white_run,
 };
-use crate::sorted::by_name;
-use crate::values::Value;
+use crate::sorted::{Ordered, in_order};
 use std::alloc::Global;
-use std::collections::BTreeMap;
 use xs_class::{Memory, Sym};
 
 /// What a piece says: a CR or CR LF is the character LF, a comment or instruction says nothing.
@@ -25,11 +24,11 @@ pub enum Event<'a> {
     Reference(u32),
     Start {
         name: &'a [Sym],
-        attributes: BTreeMap<String, Value<'a>>,
+        attributes: Ordered<'a>,
     },
     Empty {
         name: &'a [Sym],
-        attributes: BTreeMap<String, Value<'a>>,
+        attributes: Ordered<'a>,
     },
     End(&'a [Sym]),
     Aside,
@@ -158,7 +157,7 @@ fn tag(alloc: Global, text: &[Sym]) -> Result<Option<(Event<'_>, &[Sym])>, Memor
     let Some(end) = tag_end(more) else {
         return Ok(None);
     };
-    match by_name(alloc, list)? {
+    match in_order(alloc, list)? {
         None => Ok(None),
         Some(attributes) => {
             if end.empty {

@@ -1,17 +1,15 @@
 ghost use Rattle.std.specs.Prelude.{◌≡◌, ◌∷◌, ◌++◌, [], false, true, IfOk, IfSome, OnOk};
 ghost use Rattle.xs_xml.specs.Piece.{is_name};
 ghost use Rattle.xs_xml.specs.Reads.{opening, closing, lines};
-ghost use Rattle.xs_form.specs.Sorted.{shown_entries, entry_symbols};
+ghost use Rattle.xs_form.specs.Sorted.{shown_ordered, entry_symbols};
 ghost use Rattle.xs_form.specs.Seen.{declared, letter, given, begins, stands, ends, aside, section, shown_event};
 ghost use Rattle.xs_form.specs.State.{next_run as next_run_of, initial, line_symbols, state_of, is_inside, IsRun, texted, step, taken, finished, is_named};
 
 use crate::marks::{Guesses, closing_mark, opening_mark};
 use crate::pieces::Event;
 use crate::runs::{bare_run, equal, white};
-use crate::sorted::push_attributes;
-use crate::values::Value;
+use crate::sorted::{Ordered, push_ordered};
 use std::alloc::Global;
-use std::collections::BTreeMap;
 use xs_class::{Memory, Names, Sym, Word};
 
 /// What is kept between two pieces: the names of the open elements, the innermost last, whether the
@@ -58,14 +56,14 @@ fn push_opening(
     alloc: Global,
     names: &Names,
     name: &[Sym],
-    attributes: BTreeMap<String, Value<'_>>,
+    attributes: Ordered<'_>,
 ) -> Result<(), Memory>
     requires { is_name name.now ≡ true }
-    ensures { OnOk result (word.new ≡ word.old ++ opening names.now name.now ∷ entry_symbols names.now (shown_entries attributes.entry)) }
+    ensures { OnOk result (word.new ≡ word.old ++ opening names.now name.now ∷ entry_symbols names.now (shown_ordered attributes.entry)) }
 {
     let place = guesses.place(alloc, names, name)?;
     word.push(opening_mark(place))?;
-    push_attributes(word, names, attributes)
+    push_ordered(word, guesses, alloc, names, attributes)
 }
 
 /// The mark of an element's end.
@@ -188,10 +186,10 @@ impl<'a> Reader<'a> {
         alloc: Global,
         names: &Names,
         name: &'a [Sym],
-        attributes: BTreeMap<String, Value<'a>>,
+        attributes: Ordered<'a>,
     ) -> Result<bool, Memory>
         requires { is_name name.now ≡ true }
-        ensures { IfOk result (λ b. taken b (state_of self.new) ≡ step names.now (state_of self.old) (begins name.now (shown_entries attributes.entry))) }
+        ensures { IfOk result (λ b. taken b (state_of self.new) ≡ step names.now (state_of self.old) (begins name.now (shown_ordered attributes.entry))) }
     {
         if self.names.is_empty() && self.ended {
             return Ok(false);
@@ -216,10 +214,10 @@ impl<'a> Reader<'a> {
         alloc: Global,
         names: &Names,
         name: &'a [Sym],
-        attributes: BTreeMap<String, Value<'a>>,
+        attributes: Ordered<'a>,
     ) -> Result<bool, Memory>
         requires { is_name name.now ≡ true }
-        ensures { IfOk result (λ b. taken b (state_of self.new) ≡ step names.now (state_of self.old) (stands name.now (shown_entries attributes.entry))) }
+        ensures { IfOk result (λ b. taken b (state_of self.new) ≡ step names.now (state_of self.old) (stands name.now (shown_ordered attributes.entry))) }
     {
         if self.names.is_empty() {
             if self.ended {
