@@ -110,10 +110,10 @@ pub printed_before : (new out entry rest later : List ℕ) → new ++ entry ≡ 
 printed_before new out entry rest later is = sym (append_assoc new entry later) ∙ ap (λ l. l ++ later) is ∙ append_assoc out rest later
 
 -- a child begins, and the node goes on after it
-pub pending_entered : (g : Grammar) (f : Flat) (part next kid : ℕ) (tasks pushed new : List Task) → IsFlat f → kid < length f.parts → None ≡ word_of (slice_get f.parts kid) → pushed ≡ tasks ++ task_at part next ∷ [] → new ≡ pushed ++ task_at kid 0 ∷ [] → pending g f new ≡ (print g (common_at f kid) ++ rest_word g f (task_at part next)) ++ pending g f tasks
-pending_entered g f part next kid tasks pushed new flat lt is more entered =
+pub pending_entered : (g : Grammar) (f : Flat) (part next kid : ℕ) (tasks pushed : List Task) → IsFlat f → kid < length f.parts → None ≡ word_of (slice_get f.parts kid) → pushed ≡ tasks ++ task_at part next ∷ [] → rest_word g f (task_at kid 0) ++ pending g f pushed ≡ (print g (common_at f kid) ++ rest_word g f (task_at part next)) ++ pending g f tasks
+pending_entered g f part next kid tasks pushed flat lt is more =
     let child = print g (common_at f kid) in
-    ap (pending g f) entered ∙ pending_push g f pushed (task_at kid 0) ∙ ap (λ l. l ++ pending g f pushed) (node_begun g f kid flat lt is)
+    ap (λ l. l ++ pending g f pushed) (node_begun g f kid flat lt is)
     ∙ ap (λ l. child ++ l) (ap (pending g f) more ∙ pending_push g f tasks (task_at part next)) ∙ sym (append_assoc child (rest_word g f (task_at part next)) (pending g f tasks))
 
 -- where no item is left nothing is
@@ -146,10 +146,10 @@ falling_last n tasks task falling =
     omega arith
 
 -- a child begins, and the nodes still fall
-pub falling_entered : (n : ℕ) (tasks pushed new : List Task) (part dot next kid : ℕ) → AreFalling n (tasks ++ task_at part dot ∷ []) → kid < part → pushed ≡ tasks ++ task_at part next ∷ [] → new ≡ pushed ++ task_at kid 0 ∷ [] → AreFalling n new
-falling_entered n tasks pushed new part dot next kid falling lt more entered =
+pub falling_entered : (n : ℕ) (tasks pushed : List Task) (part dot next kid : ℕ) → AreFalling n (tasks ++ task_at part dot ∷ []) → kid < part → pushed ≡ tasks ++ task_at part next ∷ [] → AreFalling n (pushed ++ task_at kid 0 ∷ [])
+falling_entered n tasks pushed part dot next kid falling lt more =
     let first = falling_on n tasks (task_at part next) (task_at kid 0) (falling_same n tasks part dot next falling) lt in
-    subst (AreFalling n) (sym (entered ∙ ap (λ (l : List Task). l ++ task_at kid 0 ∷ []) more)) first
+    subst (AreFalling n) (sym (ap (λ (l : List Task). l ++ task_at kid 0 ∷ []) more)) first
 
 -- how much there is to do
 abbrev weight : Grammar → Flat → Task → ℕ
@@ -203,12 +203,12 @@ weight_less g f part dot next less =
     spread k x = omega arith
 
 -- a child begins, and there is less to do
-pub less_entered : (g : Grammar) (f : Flat) (tasks pushed new : List Task) (part dot next kid : ℕ) → length (rest_items g f (task_at part next)) < length (rest_items g f (task_at part dot)) → kid < part → pushed ≡ tasks ++ task_at part next ∷ [] → new ≡ pushed ++ task_at kid 0 ∷ [] → left_over g f new < left_over g f (tasks ++ task_at part dot ∷ [])
-less_entered g f tasks pushed new part dot next kid less lt more entered =
+pub less_entered : (g : Grammar) (f : Flat) (tasks pushed : List Task) (part dot next kid : ℕ) → length (rest_items g f (task_at part next)) < length (rest_items g f (task_at part dot)) → kid < part → pushed ≡ tasks ++ task_at part next ∷ [] → left_over g f (pushed ++ task_at kid 0 ∷ []) < left_over g f (tasks ++ task_at part dot ∷ [])
+less_entered g f tasks pushed part dot next kid less lt more =
     let child = digit_below g f kid part lt in
     let node = weight_less g f part dot next less in
     let first = ap (left_over g f) more ∙ left_over_push g f tasks (task_at part next) in
-    let second = ap (left_over g f) entered ∙ left_over_push g f pushed (task_at kid 0) in
+    let second = left_over_push g f pushed (task_at kid 0) in
     omega (arith, child, node, first, second, left_over_push g f tasks (task_at part dot))
 
 -- what is there of an item
@@ -222,9 +222,9 @@ pub next_whole : (g : Grammar) (f : Flat) (out whole : List ℕ) (all tasks : Li
 next_whole g f out whole all tasks task is popped =
     ap (λ w. out ++ w) (sym (ap (pending g f) popped ∙ pending_push g f tasks task)) ∙ is
 
-pub next_room : (out here later whole : List ℕ) → out ++ (here ++ later) ≡ whole → length out + length here ≤ length whole
-next_room out here later whole is =
-    omega (arith, ap length is, length-append out (here ++ later), length-append here later)
+pub next_room : (out here later start all : List ℕ) → out ++ (here ++ later) ≡ start ++ all → length out + length here ≤ length start + length all
+next_room out here later start all is =
+    omega (arith, ap length is, length-append out (here ++ later), length-append here later, length-append start all)
 
 -- a root that is a leaf is what is printed
 pub root_room : (g : Grammar) (f : Flat) (root : ℕ) (w : List ℕ) → IsFlat f → root ≡ f.root → word_of (slice_get f.parts root) ≡ Some w → length (print g (common_of f)) ≡ length w

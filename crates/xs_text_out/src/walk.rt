@@ -18,15 +18,33 @@ pub struct Task {
     pub dot: usize,
 }
 
+/// Up to that many symbols are appended one by one: a copy of memory costs more to begin.
+const SHORT: usize = 6;
+
+/// Appends symbols one by one, for which there is room.
+fn append_each(symbols: &mut Vec<Sym>, piece: &[Sym])
+    requires { vec_len symbols.old + length piece.now ≤ vec_capacity symbols.old }
+    ensures items { symbols.new.items ≡ symbols.old.items ++ piece.now }
+    ensures room { vec_capacity symbols.old ≤ vec_capacity symbols.new }
+{
+    'symbols: for symbol in piece {
+        symbols.push_reserved(*symbol);
+    }
+}
+
 /// Appends symbols, for which there is room.
 fn append(symbols: &mut Vec<Sym>, piece: &[Sym])
     requires { vec_len symbols.old + length piece.now ≤ vec_capacity symbols.old }
     ensures items { symbols.new.items ≡ symbols.old.items ++ piece.now }
     ensures room { vec_capacity symbols.old ≤ vec_capacity symbols.new }
 {
-    let Ok(()) = symbols.extend_from_slice(piece) else {
-        unreachable!()
-    };
+    if piece.len() <= SHORT {
+        append_each(symbols, piece);
+    } else {
+        let Ok(()) = symbols.extend_from_slice(piece) else {
+            unreachable!()
+        };
+    }
 }
 
 /// Begins a part: the word of a leaf is written, and all items of a node are still to be printed.
@@ -149,20 +167,20 @@ fn print_items(
     None
 }
 
-/// Prints the items of a node up to a child that is a node itself, which begins, or up to the end of
-/// the node, which is left.
+/// Prints the items of a node, and where a child is a node itself those of the child first, and so
+/// on, up to the end of the first node that ends: the others are still to be gone on with.
 fn perform(
     g: &Gram,
     t: &Tree,
     lengths: &[u64],
-    task: Task,
+    mut task: Task,
     tasks: &mut Vec<Task>,
     symbols: &mut Vec<Sym>,
 )
     requires flat { IsFlat t.now }
     requires lengths { AreLengths g.now (trees_of t.now.parts) lengths.now }
     requires falling { AreFalling (length t.now.parts) (tasks.old.items ++ task ∷ []) }
-    requires room { vec_len symbols.old + length (rest_word g.now t.now task) ≤ vec_capacity symbols.old }
+    requires room { vec_len symbols.old + length (rest_word g.now t.now task ++ pending g.now t.now tasks.old.items) ≤ vec_capacity symbols.old }
     requires stack { length t.now.parts ≤ vec_capacity tasks.old }
     ensures prints { symbols.new.items ++ pending g.now t.now tasks.new.items ≡ symbols.old.items ++ (rest_word g.now t.now task ++ pending g.now t.now tasks.old.items) }
     ensures falling { AreFalling (length t.now.parts) tasks.new.items }
@@ -170,13 +188,12 @@ fn perform(
     ensures room { vec_capacity symbols.old ≤ vec_capacity symbols.new }
     ensures stack { vec_capacity tasks.new ≡ vec_capacity tasks.old }
 {
-    let Some(entry) = print_items(g, t, lengths, task, symbols) else {
-        return;
-    };
-    let part = task.part;
-    let Entry { kid, next } = entry;
-    tasks.push_reserved(Task { part, dot: next });
-    tasks.push_reserved(Task { part: kid, dot: 0 });
+    'nodes: while let Some(entry) = print_items(g, t, lengths, task, symbols) {
+        let Entry { kid, next } = entry;
+        let part = task.part;
+        tasks.push_reserved(Task { part, dot: next });
+        task = Task { part: kid, dot: 0 };
+    }
 }
 
 /// Writes the word of the tree into room that was reserved: for its symbols, and for as many nodes

@@ -1,8 +1,8 @@
-use Rattle.std.proofs.Common.{◌∙◌, ap, length, arith}
+use Rattle.std.proofs.Common.{◌≡◌, ◌+◌, ◌++◌, ◌∙◌, ap, length, length-append, sym, arith}
 use Rattle.xs_gram.specs.Common.{print}
 use Rattle.xs_tree.specs.Flat.{common_of}
 use Rattle.xs_text_out.specs.Walk.{pending, rest_word}
-use Rattle.xs_text_out.proofs.Walking.{next_room, next_whole, root_room}
+use Rattle.xs_text_out.proofs.Walking.{next_whole, root_room}
 use Rattle.xs_text_out.proofs.walk.walk.Goals as goal
 
 pub begin-requires-clause-room : goal.begin-requires-clause-room
@@ -14,8 +14,10 @@ pub perform-requires-clause-room : goal.perform-requires-clause-room
 perform-requires-clause-room c =
     let g = c.args.g.now in
     let f = c.args.t.now in
-    let whole = next_whole g f c.tasks.symbols.items (print g (common_of f)) c.tasks.tasks.items c.pop.new.self.items c.in-Some.task c.tasks.invariant.whole c.in-Some.ensures.items in
-    let within = next_room c.tasks.symbols.items (rest_word g f c.in-Some.task) (pending g f c.pop.new.self.items) (print g (common_of f)) whole in
+    let out = c.tasks.symbols.items in
+    let left = rest_word g f c.in-Some.task ++ pending g f c.pop.new.self.items in
+    let whole = next_whole g f out (print g (common_of f)) c.tasks.tasks.items c.pop.new.self.items c.in-Some.task c.tasks.invariant.whole c.in-Some.ensures.items in
+    let within : length out + length left ≡ length (print g (common_of f)) = sym (length-append out left) ∙ ap length whole in
     omega (arith, within, c.tasks.symbols.ok.0, c.tasks.invariant.room)
 
 pub tasks-preserved : goal.tasks-preserved
