@@ -46,11 +46,11 @@ module _ (g : Grammar) (w : List ℕ) (f : Forest) (right : IsRight g w f) where
   child_earlier r a None lt there is = tt
   child_earlier r a (Some c) lt there is = right.below r c a lt there (is c refl)
 
-  pub left_earlier : (r n : ℕ) (a : Alt) → r < length f → slice_get (alts_of f r) n ≡ Some a → IsEarlier a.left r
-  left_earlier r n a lt e = child_earlier r a a.left lt (contains_of (alts_of f r) n a e) (λ c is. inl is)
-
-  pub right_earlier : (r n : ℕ) (a : Alt) → r < length f → slice_get (alts_of f r) n ≡ Some a → IsEarlier a.right r
-  right_earlier r n a lt e = child_earlier r a a.right lt (contains_of (alts_of f r) n a e) (λ c is. inr is)
+  -- the children of an alternative stand below any number from the row's on
+  pub children_earlier : (r n m : ℕ) (a : Alt) → r < length f → r ≤ m → slice_get (alts_of f r) n ≡ Some a → IsEarlier a.left m × IsEarlier a.right m
+  children_earlier r n m a lt le e =
+      let there = contains_of (alts_of f r) n a e in
+      (earlier_more a.left r m le (child_earlier r a a.left lt there (λ c is. inl is)), earlier_more a.right r m le (child_earlier r a a.right lt there (λ c is. inr is)))
 
   -- a row that is a child, if there is one, begins within the document
   abbrev pub IsInside : Option ℕ → Type 0
@@ -91,7 +91,7 @@ module _ (g : Grammar) (w : List ℕ) (f : Forest) (right : IsRight g w f) where
       alt_inside k.what k.start k.end a (right.sound r k.what k.start k.end a (lt, refl) (contains_of (alts_of f r) n a e)) le
 
   pub rows_below : AreBelow f
-  rows_below r label alts e = each alts r (λ n a at. (left_earlier r n a lt (alt_at n a at), right_earlier r n a lt (alt_at n a at)))
+  rows_below r label alts e = each alts r (λ n a at. children_earlier r n r a lt (omega arith) (alt_at n a at))
     where
       lt : r < length f
       lt = get_lt f r (label, alts) e

@@ -13,7 +13,7 @@ use Rattle.xs_listing.specs.declared.write.Source.{Source}
 use Rattle.xs_listing.specs.declared.write.Task.{Task}
 use Rattle.xs_listing.specs.declared.write.Task.TheVariants.{Visit, Word, Close}
 use Rattle.xs_listing.specs.Writing.{child_task, item_task, last_task, IsVisited, IsDone, IsSource, CanDo, work, work_left}
-use Rattle.xs_listing.proofs.Children.{left_earlier, right_earlier}
+use Rattle.xs_listing.proofs.Children.{children_earlier}
 
 power_some : (r : ℕ) → 1 ≤ 3 ^ r
 power_some r = one-le-pow r 3 (omega arith)
@@ -48,10 +48,9 @@ module _ (s : Source) (is : IsSource s) where
       let c = v.found in
       let key = key_of s.forest.now r in
       let last = last_task s.forest.now key.what key c from in
-      let le = left_earlier s.g.now s.doc.now s.forest.now is.right r v.alt_number c.alt there v.is.alt in
-      let re = right_earlier s.g.now s.doc.now s.forest.now is.right r v.alt_number c.alt there v.is.alt in
-      let left : work_left (child_task c.alt.left c.left) ≤ 3 ^ r = child_small r c.alt.left c.left le in
-      let right : work last ≤ 3 ^ r = last_small s.forest.now r key.what key c from re in
+      let earlier = children_earlier s.g.now s.doc.now s.forest.now is.right r v.alt_number r c.alt there (omega arith) v.is.alt in
+      let left : work_left (child_task c.alt.left c.left) ≤ 3 ^ r = child_small r c.alt.left c.left earlier.0 in
+      let right : work last ≤ 3 ^ r = last_small s.forest.now r key.what key c from earlier.1 in
       let whole : 3 ^ suc r ≡ 3 * 3 ^ r = pow-succ' 3 r in
       omega (arith, ap work_left v.tasks, sum_by-append work (old ++ last ∷ []) (child_task c.alt.left c.left), sum_by_push work old last, sum_by_push work old (Visit r k), left, right, whole, power_some r)
 

@@ -8,7 +8,7 @@ use Rattle.xs_forest.specs.Rows.{IsEarlier}
 use Rattle.xs_forest_laws.specs.Forest.{Forest, alts_of, Unfolding, bare, pick, IsRight}
 use Rattle.xs_forest_laws.specs.First.{IsFirst}
 use Rattle.xs_listing.specs.Marks.{IsFirstAlt, IsReady, IsMarked, IsMarkedChild, AreMarked, with_mark, passed, pass}
-use Rattle.xs_listing.proofs.Children.{earlier_more, IsInside, children_inside, left_earlier, right_earlier}
+use Rattle.xs_listing.proofs.Children.{IsInside, children_earlier, children_inside}
 
 pub set_there : (m : List Bool) (c : ℕ) → c < length m → slice_get (slice_set m c true) c ≡ Some true
 set_there [] c lt = absurd (omega arith)
@@ -127,11 +127,8 @@ module _ (g : Grammar) (w : List ℕ) (f : Forest) (right : IsRight g w f) where
   }
 
   module _ (m : List Bool) (row : ℕ) (long : row < length m) (a : Alt) (lt : row < length f) (at : IsFirstAlt f row a) (marked : AreMarked w f m (suc row)) (own : IsMarked m row) where
-    left_before : IsEarlier a.left row
-    left_before = left_earlier g w f right row zero a lt at
-
-    right_before : IsEarlier a.right row
-    right_before = right_earlier g w f right row zero a lt at
+    before : (n : ℕ) → row ≤ n → IsEarlier a.left n × IsEarlier a.right n
+    before n le = children_earlier g w f right row zero n a lt le at
 
     ready_row : IsReady w f row
     ready_row = marked.ready row own
@@ -140,17 +137,17 @@ module _ (g : Grammar) (w : List ℕ) (f : Forest) (right : IsRight g w f) where
     ready_children = let h = ready_row in children_ready row a at h.chosen h.first h.inside
 
     left_marked : IsMarkedChild (with_mark a.right (with_mark a.left m)) a.left
-    left_marked = child_keeps a.right a.left (with_mark a.left m) (mark_there a.left m (earlier_more a.left row (length m) (omega arith) left_before))
+    left_marked = child_keeps a.right a.left (with_mark a.left m) (mark_there a.left m (before (length m) (omega arith)).0)
 
     right_marked : IsMarkedChild (with_mark a.right (with_mark a.left m)) a.right
     right_marked =
         let e = length_mark a.left m in
-        mark_there a.right (with_mark a.left m) (earlier_more a.right row (length (with_mark a.left m)) (omega arith) right_before)
+        mark_there a.right (with_mark a.left m) (before (length (with_mark a.left m)) (omega arith)).1
 
     was_marked : (r : ℕ) → row ≤ r → IsMarked (with_mark a.right (with_mark a.left m)) r → IsMarked m r
     was_marked r le h = elim (mark_only a.right (with_mark a.left m) r h) [
-      | inl e ↦ absurd (earlier_not a.right row r right_before le e)
-      | inr k ↦ elim (mark_only a.left m r k) [ inl e ↦ absurd (earlier_not a.left row r left_before le e) | inr old ↦ old ]
+      | inl e ↦ absurd (earlier_not a.right row r (before row (omega arith)).1 le e)
+      | inr k ↦ elim (mark_only a.left m r k) [ inl e ↦ absurd (earlier_not a.left row r (before row (omega arith)).0 le e) | inr old ↦ old ]
     ]
 
     same_alt : (b : Alt) → IsFirstAlt f row b → a ≡ b

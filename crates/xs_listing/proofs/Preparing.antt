@@ -27,7 +27,7 @@ use Rattle.xs_forest_laws.proofs.Number.{contains_of}
 use Rattle.xs_forest_laws.proofs.First.{has_first, first_unfolds}
 use Rattle.xs_listing.specs.Marks.{IsFirstAlt, IsReady, IsMarked, IsMarkedChild, AreMarked}
 use Rattle.xs_listing.specs.Making.{IsMade, IsWhole, AreMade, IsMadeChild, IsPrepared, CanMake, CanGather, Extends, Fills}
-use Rattle.xs_listing.proofs.Children.{earlier_more, left_earlier, right_earlier}
+use Rattle.xs_listing.proofs.Children.{children_earlier}
 use Rattle.xs_listing.proofs.Filling.{last_tree, kids_there, kids_are}
 use Rattle.xs_listing.proofs.Gathering.{one_first, made_more}
 
@@ -75,12 +75,11 @@ module _ (g : Grammar) (w : List ℕ) (f : Forest) (right : IsRight g w f) where
         let same : n ≡ r = cc in
         let row' = subst (λ x. IsRow f x (Front q (suc d)) i j) same row in
         let b = right.sound r (Front q (suc d)) i j a row' (contains_of (alts_of f r) 0 a first) in
-        let le = left_earlier g w f right r 0 a there first in
-        let re = right_earlier g w f right r 0 a there first in
+        let earlier = children_earlier g w f right r 0 (length numbers) a there (omega arith) first in
         let ml = marked.lefts r a (omega arith) mark first in
         let mr = marked.rights r a (omega arith) mark first in (
-          child_made b.1 b.0 j a.right b.2.right_is mr (earlier_more a.right r (length numbers) (omega arith) re),
-          front_prepared l q d i b.0 a.left b.2.left_is hl ml (earlier_more a.left r (length numbers) (omega arith) le),
+          child_made b.1 b.0 j a.right b.2.right_is mr earlier.1,
+          front_prepared l q d i b.0 a.left b.2.left_is hl ml earlier.0,
         )
 
     -- the next row, where it is marked and one of a nonterminal
@@ -95,10 +94,10 @@ module _ (g : Grammar) (w : List ℕ) (f : Forest) (right : IsRight g w f) where
 
         prepared : IsPrepared g w f parts numbers (pick node.alt node.l node.t)
         prepared =
-            let le = left_earlier g w f right (length numbers) 0 node.alt node.row.0 node.first in
+            let earlier = children_earlier g w f right (length numbers) 0 (length numbers) node.alt node.row.0 (omega arith) node.first in
             let ml = marked.lefts (length numbers) node.alt (omega arith) mark node.first in (
               subst (λ o. IsMadeChild g w f parts numbers o) (sym node.by.right_is) tt,
-              front_prepared node.l node.alt.rule (length (items g node.alt.rule)) (key_of f (length numbers)).start (key_of f (length numbers)).end node.alt.left node.by.left_is node.left_first ml le,
+              front_prepared node.l node.alt.rule (length (items g node.alt.rule)) (key_of f (length numbers)).start (key_of f (length numbers)).end node.alt.left node.by.left_is node.left_first ml earlier.0,
             )
 
   same_first : (r : ℕ) (a b : Alt) → IsFirstAlt f r a → IsFirstAlt f r b → a ≡ b

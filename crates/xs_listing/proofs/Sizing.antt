@@ -13,7 +13,7 @@ use Rattle.xs_listing.specs.declared.write.Source.{Source}
 use Rattle.xs_listing.specs.declared.write.Task.{Task}
 use Rattle.xs_listing.specs.declared.write.Task.TheVariants.{Visit}
 use Rattle.xs_listing.specs.Writing.{child_task, item_task, last_task, IsVisited, IsSource, CanVisit, CanDo}
-use Rattle.xs_listing.proofs.Children.{left_earlier, right_earlier}
+use Rattle.xs_listing.proofs.Children.{children_earlier}
 use Rattle.xs_listing.proofs.Walking.{item_rule}
 
 -- the places of first items lie within their rule
@@ -48,9 +48,8 @@ module _ (s : Source) (is : IsSource s) where
   pub visited_can : (r k : ℕ) (old new : List Task) → r < length s.forest.now → All (λ t. CanDo s t 0) old → IsVisited s.forest.now s.cap s.counts.now r k 0 old new → All (λ t. CanDo s t 0) new
   visited_can r k old new there all v =
       let c = v.found in
-      let le = left_earlier s.g.now s.doc.now s.forest.now is.right r v.alt_number c.alt there v.is.alt in
-      let re = right_earlier s.g.now s.doc.now s.forest.now is.right r v.alt_number c.alt there v.is.alt in
+      let earlier = children_earlier s.g.now s.doc.now s.forest.now is.right r v.alt_number r c.alt there (omega arith) v.is.alt in
       let lx = left_within s.cap s.counts.now _ k v.alt_number c.left c.right c.alt v.is in
-      let last = last_can r (key_of s.forest.now r).what c there (dots_within s.g.now s.doc.now s.forest.now is.right r there) re v.is.within in
+      let last = last_can r (key_of s.forest.now r).what c there (dots_within s.g.now s.doc.now s.forest.now is.right r there) earlier.1 v.is.within in
       subst (λ (l : List Task). All (λ t. CanDo s t 0) l) (sym v.tasks)
-      (All-append (λ t. CanDo s t 0) (old ++ last_task s.forest.now (key_of s.forest.now r).what (key_of s.forest.now r) c 0 ∷ []) (child_task c.alt.left c.left) (All-push (λ t. CanDo s t 0) old (last_task s.forest.now (key_of s.forest.now r).what (key_of s.forest.now r) c 0) all last) (child_can r c.alt.left c.left there le lx))
+      (All-append (λ t. CanDo s t 0) (old ++ last_task s.forest.now (key_of s.forest.now r).what (key_of s.forest.now r) c 0 ∷ []) (child_task c.alt.left c.left) (All-push (λ t. CanDo s t 0) old (last_task s.forest.now (key_of s.forest.now r).what (key_of s.forest.now r) c 0) all last) (child_can r c.alt.left c.left there earlier.0 lx))

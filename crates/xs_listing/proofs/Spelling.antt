@@ -20,7 +20,7 @@ use Rattle.xs_listing.specs.declared.write.Source.{Source}
 use Rattle.xs_listing.specs.Spelt.{IsSpeltOf, AreSpeltOf, IsListingOf}
 use Rattle.xs_listing.specs.Writing.{AreWritten, IsSource, HasChild}
 use Rattle.xs_listing.specs.Numbered.{IsNumbered, IsSpeltBy, AreSpeltBy}
-use Rattle.xs_listing.proofs.Children.{IsInside, children_inside, left_earlier}
+use Rattle.xs_listing.proofs.Children.{IsInside, children_earlier, children_inside}
 use Rattle.xs_listing.proofs.Walking.{some_unfolding, order_push, flat_more, places_below}
 use Rattle.xs_class.proofs.Lists.{get_push}
 
@@ -41,7 +41,7 @@ module _ (s : Source) (is : IsSource s) (root : ℕ) (row : IsRoot s.g.now s.doc
     left_there =
         let e = starts in
         let inside = children_inside s.g.now s.doc.now s.forest.now is.right root n c.alt there ch.alt (omega arith) in
-        child_of c.alt.left (left_earlier s.g.now s.doc.now s.forest.now is.right root n c.alt there ch.alt) inside.0
+        child_of c.alt.left (children_earlier s.g.now s.doc.now s.forest.now is.right root n root c.alt there (omega arith) ch.alt).0 inside.0
 
     pub left_number : c.left < count_of s.counts.now c.alt.left
     left_number = left_within s.cap s.counts.now (alts_of s.forest.now root) k n c.left c.right c.alt ch
