@@ -1,6 +1,7 @@
 -- A link that is replaced by a block, in drafts.
-use Rattle.std.proofs.Common.{◌≡◌, ◌⊎◌, ℕ, ◌<◌, ◌≤◌, List, sym, subst, ◌∙◌, inl, inr, arith, Some}
+use Rattle.std.proofs.Common.{◌≡◌, ◌⊎◌, ℕ, ◌<◌, ◌≤◌, List, sym, subst, ◌∙◌, inl, inr, arith}
 use Rattle.std.specs.List.{Contains}
+use Rattle.std.proofs.lemmas.Option.{same_Some}
 use Rattle.xs_gram.specs.declared.parts.GItem.{GItem}
 use Rattle.xs_gram.specs.Grammar.{Grammar, ItemAt}
 use Rattle.xs_gram.specs.Loose.{LooseItem}
@@ -29,10 +30,7 @@ net_draft g P count old new links entries bases grows = record {
 
 module _ (g : Grammar) (i : GItem) (l : Link) (there : ItemAt g l.rule l.dot i) where
   through : (a : ℕ) (w : List ℕ) (b : ℕ) → IsLinkArc g l a w b → Through (LooseItem g i) l.from l.to a w b
-  through a w b h = (h.from, h.to, subst (λ (j : GItem). LooseItem g j w) (some_same (sym h.is ∙ there)) h.loose)
-    where
-      some_same : {x y : GItem} → Some x ≡ Some y → x ≡ y
-      some_same e = cc
+  through a w b h = (h.from, h.to, subst (λ (j : GItem). LooseItem g j w) (same_Some _ _ (sym h.is ∙ there)) h.loose)
 
   link_arc : (a : ℕ) (w : List ℕ) (b : ℕ) → Through (LooseItem g i) l.from l.to a w b → IsLinkArc g l a w b
   link_arc a w b h = record { from = h.0; to = h.1; item = i; is = there; loose = h.2 }

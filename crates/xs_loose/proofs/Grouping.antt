@@ -4,6 +4,7 @@ use Rattle.std.specs.List.{All, Contains}
 use Rattle.std.proofs.lemmas.Bool.{cases_lt, cases_eq}
 use Rattle.std.proofs.lemmas.List.{get_or_append_left, get_or_push, get_or_past, get_or_default, length_push}
 use Rattle.std.proofs.lemmas.List.Elements.{Contains-get_or, Contains-append_left, Contains-push, Contains-push_cases, All-weaker, All-more}
+use Rattle.xs_class.proofs.Lists.{nothing_in}
 use Rattle.xs_gram.specs.Grammar.{Grammar, rule_of}
 use Rattle.xs_gram.specs.Sound.{IsInRange}
 use Rattle.xs_gram.specs.Loose.{AreComponents}
@@ -15,9 +16,6 @@ group_as xs to back group = record {
   only = λ i h. to i (group.only i h);
   rising = group.rising;
 }
-
-pub nothing_in : (xs : List ℕ) (i : ℕ) → xs ≡ [] → Contains xs i → ⊥
-nothing_in xs i e h = let none = rw e at h in omega (arith, none.1)
 
 pub groups_none : (keys : List ℕ) (groups : List (List ℕ)) → ((key : ℕ) → get_or groups key [] ≡ []) → AreGroups keys 0 groups
 groups_none keys groups blank key = record {

@@ -1,6 +1,7 @@
 -- Items of a grammar that is in range, and members of components by the components' numbers.
 use Rattle.std.proofs.Common.{◌≡◌, ℕ, zero, suc, ◌+◌, ◌<◌, List, [], ◌∷◌, length, get_or, refl, sym, ap, subst, ◌∙◌, arith, slice_get, Some}
 use Rattle.std.specs.List.{All}
+use Rattle.std.proofs.lemmas.Option.{slice_get-get_or}
 use Rattle.xs_gram.specs.declared.parts.GItem.{GItem}
 use Rattle.xs_gram.specs.declared.parts.GItem.TheVariants.{Fixed, Term, Non, Skip}
 use Rattle.xs_regex.specs.declared.position.Position.{Position}
@@ -12,11 +13,6 @@ use Rattle.xs_check_laws.specs.Weights.{ItemWeighs, fixed_weighs, term_weighs, s
 use Rattle.xs_loose.specs.Groups.{IsNonOf, IsRuleIn}
 use Rattle.xs_loose.specs.Weighing.{AreWeights, AreWeightsBefore, HasWeight, IsUnder, IsOneOf}
 
-pub got_at : {X : Type 0} (xs : List X) (k : ℕ) (d : X) → k < length xs → slice_get xs k ≡ Some (get_or xs k d)
-got_at [] k d l = absurd (omega arith)
-got_at (x ∷ xs) zero d l = refl
-got_at (x ∷ xs) (suc k) d l = got_at xs k d (omega arith)
-
 -- what the items of a rule name is there
 pub named : (g : Grammar) → IsInRange g → (p k : ℕ) (i : GItem) → ItemAt g p k i → NamesAreThere g i
 named g range p k (Fixed f) at = range.words p k f at
@@ -25,11 +21,11 @@ named g range p k (Non n s) at = range.nons p k n s at
 named g range p k (Skip j) at = range.skips p k j at
 
 pub names_there : (g : Grammar) → IsInRange g → (p : ℕ) → All (NamesAreThere g) (items g p)
-names_there g range p k d l = named g range p k (get_or (items g p) k d) (got_at (items g p) k d l)
+names_there g range p k d l = named g range p k (get_or (items g p) k d) (slice_get-get_or (items g p) k d l)
 
 -- no item of a rule is of a component after the rule's
 pub all_under : (g : Grammar) (comps : List ℕ) → IsInRange g → AreComponents g comps → (component p : ℕ) → IsRuleIn g comps component p → All (IsUnder comps component) (items g p)
-all_under g comps range are component p of k d l = by_item (get_or (items g p) k d) (got_at (items g p) k d l)
+all_under g comps range are component p of k d l = by_item (get_or (items g p) k d) (slice_get-get_or (items g p) k d l)
   where
     by_item : (i : GItem) → ItemAt g p k i → IsUnder comps component i
     by_item (Fixed f) at = tt
@@ -95,7 +91,7 @@ non_weight g i weights n s e h = rw e (non_weighs (subst (HasWeight g weights) e
 
 -- an item that was read in a rule stands there
 pub item_read : (g : Grammar) (p k : ℕ) (read : List GItem) (i : GItem) → read ≡ items g p → k < length (items g p) → i ≡ get_or read k i → ItemAt g p k i
-item_read g p k read i e low is = got_at (items g p) k i low ∙ ap (λ (x : GItem). Some x) (sym (is ∙ ap (λ (xs : List GItem). get_or xs k i) e))
+item_read g p k read i e low is = slice_get-get_or (items g p) k i low ∙ ap (λ (x : GItem). Some x) (sym (is ∙ ap (λ (xs : List GItem). get_or xs k i) e))
 
 pub read_at : (xs : List ℕ) (k x : ℕ) → slice_get xs k ≡ Some x → get_or xs k 0 ≡ x
 read_at [] k x e = cc

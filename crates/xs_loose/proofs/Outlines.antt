@@ -1,6 +1,7 @@
 -- A draft with one link over each item of a part.
 use Rattle.std.proofs.Common.{◌≡◌, ◌↔◌, ℕ, suc, min, ◌+◌, ◌-◌, ◌<◌, ◌≤◌, List, [], ◌∷◌, length, get_or, drop, refl, sym, ap, subst, ◌∙◌, arith, Some, length-take, length-drop, get_or-drop, get_or-take}
 use Rattle.std.proofs.lemmas.List.{drop_more, drop_all}
+use Rattle.std.proofs.lemmas.Option.{slice_get-get_or, same_Some}
 use Rattle.xs_gram.specs.declared.parts.GItem.{GItem}
 use Rattle.xs_gram.specs.Grammar.{Grammar, items, ItemAt}
 use Rattle.xs_gram.specs.Loose.{IsLoose, loose_none, loose_then}
@@ -8,7 +9,6 @@ use Rattle.xs_loose.specs.declared.link.Link.{Link}
 use Rattle.xs_loose.specs.declared.part.Part.{Part}
 use Rattle.xs_loose.specs.Arcs.{Path, stays, goes, IsLinkArc, Below}
 use Rattle.xs_loose.specs.Parts.{IsPart, part_items}
-use Rattle.xs_loose.proofs.Items.{got_at}
 
 -- the link over item j of a part
 abbrev pub link_over : Part → ℕ → Link
@@ -30,16 +30,13 @@ module _ (g : Grammar) (part : Part) (is : IsPart g part) where
   same_item j d l = get_or-take (part.end - part.start) (drop part.start (items g part.rule)) j d (omega (arith, part_count)) ∙ get_or-drop part.start (items g part.rule) j d
 
   pub item_over : (j : ℕ) (d : GItem) → j < length (part_items g part) → ItemAt g part.rule (part.start + j) (get_or (part_items g part) j d)
-  item_over j d l = got_at (items g part.rule) (part.start + j) d (omega (arith, part_count, is.within, is.order)) ∙ ap (λ (i : GItem). Some i) (sym (same_item j d l))
+  item_over j d l = slice_get-get_or (items g part.rule) (part.start + j) d (omega (arith, part_count, is.within, is.order)) ∙ ap (λ (i : GItem). Some i) (sym (same_item j d l))
 
   module _ (T : ℕ → List ℕ → ℕ → Type 0) (to : (a : ℕ) (w : List ℕ) (b : ℕ) → T a w b → Below (length (part_items g part)) (IsOver g part) a w b) (back : (a : ℕ) (w : List ℕ) (b : ℕ) → Below (length (part_items g part)) (IsOver g part) a w b → T a w b) where
     loose_from : {j k : ℕ} {w : List ℕ} → Path T j w k → k ≡ length (part_items g part) → IsLoose g (drop j (part_items g part)) w
     loose_from {j} {k} stays e = subst (λ (xs : List GItem). IsLoose g xs []) (sym (drop_all j (part_items g part) (omega arith))) loose_none
     loose_from {j} {k} {w} (goes {b = x} {u = u} {v = v} t p f) e = step (to j u x t) (loose_from p e)
       where
-        some_same : {x y : GItem} → Some x ≡ Some y → x ≡ y
-        some_same e = cc
-
         step : Below (length (part_items g part)) (IsOver g part) j u x → IsLoose g (drop x (part_items g part)) v → IsLoose g (drop j (part_items g part)) w
         step h rest =
             let own : IsLinkArc g (link_over part h.0) j u x = h.2 in
@@ -48,7 +45,7 @@ module _ (g : Grammar) (part : Part) (is : IsPart g part) where
             let i : GItem = own.item in
             let next : x ≡ j + 1 = omega (arith, own.to) in
             let there : ItemAt g part.rule (part.start + j) i = subst (λ (k : ℕ). ItemAt g part.rule (part.start + k) i) at own.is in
-            let same : get_or (part_items g part) j i ≡ i = some_same (sym (item_over j i within) ∙ there) in
+            let same : get_or (part_items g part) j i ≡ i = same_Some _ _ (sym (item_over j i within) ∙ there) in
             let tail : IsLoose g (drop (j + 1) (part_items g part)) v = subst (λ (m : ℕ). IsLoose g (drop m (part_items g part)) v) next rest in
             subst (λ (xs : List GItem). IsLoose g xs w) (sym (drop_more (part_items g part) j i within ∙ ap (λ (y : GItem). y ∷ drop (j + 1) (part_items g part)) same)) (loose_then own.loose tail f)
 

@@ -4,6 +4,7 @@ use Rattle.std.specs.List.{Contains}
 use Rattle.std.proofs.lemmas.Bool.{both_ways}
 use Rattle.std.proofs.lemmas.List.{take_more, take_all}
 use Rattle.std.proofs.lemmas.List.Elements.{Contains-append_left, Contains-push, Contains-push_cases}
+use Rattle.std.proofs.lemmas.Option.{same_Some}
 use Rattle.xs_class.specs.Classes.{Has}
 use Rattle.xs_regex.specs.declared.position.Position.{Position}
 use Rattle.xs_regex.specs.Automaton.{HasAt, Leads}
@@ -100,10 +101,7 @@ automaton_all p s base t count n0 n1 n2 n3 n4 n5 bare into follow leave skip =
 -- a row of an automaton that was read
 pub row_is : (rows : List (List ℕ)) (j : ℕ) (row : List ℕ) → slice_get rows j ≡ Some row → row ≡ get_or rows j []
 row_is [] j row e = cc
-row_is (r ∷ rs) zero row e = some_same (sym e)
-  where
-    some_same : {x y : List ℕ} → Some x ≡ Some y → x ≡ y
-    some_same e = cc
+row_is (r ∷ rs) zero row e = same_Some _ _ (sym e)
 row_is (r ∷ rs) (suc j) row e = row_is rs j row e
 
 pub row_leads : (p : Position) (j k : ℕ) (row : List ℕ) → slice_get p.follow j ≡ Some row → Contains row k → Leads p j k

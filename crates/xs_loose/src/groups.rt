@@ -1,11 +1,11 @@
-ghost use Rattle.std.specs.Prelude.{◌≡◌, ℕ, ◌<◌, ◌≤◌, [], length, slice_index_or, IfOk};
+ghost use Rattle.std.specs.Prelude.{◌≡◌, ◌<◌, ◌≤◌, length, IfOk};
 ghost use Rattle.std.specs.List.{All};
 ghost use Rattle.xs_gram.specs.Loose.{AreComponents};
 ghost use Rattle.xs_gram.specs.Sound.{IsBuilt};
 ghost use Rattle.xs_loose.specs.Groups.{AreGroups, AreRuleKeys, AreGrouped};
 
 use std::alloc::Global;
-use xs_class::Memory;
+use xs_class::{Memory, empty_lists};
 use xs_gram::{Comps, Gram};
 use xs_regex::Numbers;
 
@@ -75,22 +75,10 @@ fn grouped(alloc: Global, keys: &[u32], end: u32, count: usize) -> Result<Vec<Nu
     ensures counted { IfOk result (λ groups. length groups.items ≡ count) }
     ensures groups { IfOk result (λ groups. AreGroups keys.now end groups.items) }
 {
-    let mut groups = no_groups(alloc, count)?;
+    let mut groups: Vec<Numbers> = empty_lists(alloc, count)?;
     'keys: for place in 0..end {
         let group = &mut groups[keys[place as usize] as usize];
         group.push(place)?;
-    }
-    Ok(groups)
-}
-
-/// That many empty groups.
-fn no_groups(alloc: Global, count: usize) -> Result<Vec<Numbers>, Memory>
-    ensures counted { IfOk result (λ groups. length groups.items ≡ count) }
-    ensures blank { IfOk result (λ groups. (key : ℕ) → slice_index_or groups.items key [] ≡ []) }
-{
-    let mut groups = Vec::with_capacity(alloc, count)?;
-    'groups: for _ in 0..count {
-        groups.push(Numbers::new(alloc))?;
     }
     Ok(groups)
 }

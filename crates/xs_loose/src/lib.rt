@@ -22,6 +22,6 @@ mod weighing;
 mod word;
 
 pub use fault::LooseFault;
-pub use net::{net_by, net_of};
+pub use net::{HEAVIEST, net_by, net_of};
 pub use part::Part;
-pub use weighing::{Weights, weight_by, weight_of, weights};
+pub use weighing::{CAP, Weights, weight_by, weight_of, weights};

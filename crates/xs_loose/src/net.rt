@@ -24,8 +24,8 @@ use xs_auto::Net;
 use xs_class::Memory;
 use xs_gram::{Comps, GItem, Gram};
 
-/// The heaviest part that has a net.
-const HEAVIEST: u64 = 8192;
+/// What a part that has a net weighs at most, and a rule that is searched for suspects.
+pub const HEAVIEST: u64 = 8_192;
 
 /// A net with a start that accepts exactly the loose words of a part.
 ///

@@ -3,7 +3,7 @@ ghost use Rattle.std.specs.List.{All, Contains};
 ghost use Rattle.xs_gram.specs.Building.{NamesAreThere};
 ghost use Rattle.xs_gram.specs.Loose.{AreComponents};
 ghost use Rattle.xs_gram.specs.Sound.{IsBuilt};
-ghost use Rattle.xs_check_laws.specs.Weights.{capped, ItemWeighs, BodyWeighs, ComponentWeighs, PartWeighs};
+ghost use Rattle.xs_check_laws.specs.Weights.{cap, capped, ItemWeighs, BodyWeighs, ComponentWeighs, PartWeighs};
 ghost use Rattle.xs_loose.specs.Groups.{IsGroup, IsNonOf, IsRuleIn};
 ghost use Rattle.xs_loose.specs.Parts.{IsPart, part_items};
 ghost use Rattle.xs_loose.specs.Weighing.{AreWeights, AreWeightsBefore, HasWeight, IsUnder, Counts};
@@ -59,11 +59,14 @@ pub fn weight_of(alloc: Global, g: &Gram, comps: &Comps, part: &Part) -> Result<
     Ok(weight_by(g, &weights, part))
 }
 
-/// A sum as it counts: at most 1,000,000.
+/// The greatest sum that counts: every greater one counts as this.
+pub const CAP: u64 = 1_000_000;
+
+/// A sum as it counts.
 fn capped(sum: u64) -> u64
     ensures { result ≡ capped sum }
 {
-    sum.min(1_000_000)
+    sum.min(CAP)
 }
 
 /// The weight of items that stand outside of all components.
@@ -127,7 +130,7 @@ fn body_weight(g: &Gram, comps: &Comps, component: usize, items: &[GItem], weigh
     requires there { All (NamesAreThere g.now) items.now }
     requires under { All (IsUnder comps.now component) items.now }
     requires before { AreWeightsBefore g.now comps.now component weights.now }
-    ensures few { result ≤ 1000000 }
+    ensures few { result ≤ cap }
     ensures weighs { (c : ℕ) → IsNonOf g.now comps.now component c → BodyWeighs g.now c items.now result }
 {
     let mut sum = 0;

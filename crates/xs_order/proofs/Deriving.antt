@@ -14,7 +14,7 @@ use Rattle.xs_gram.specs.Derivations.{Parts, done, fixed, leaf, skip, sub, Deriv
 use Rattle.xs_order.specs.declared.leaves.Leaves.{Leaves}
 use Rattle.xs_order.specs.Leaves.{is_good, all_good}
 use Rattle.xs_order.specs.Rules.{nons_of, clause_at, AreClauses, AreMadeFlags}
-use Rattle.xs_class.proofs.Lists.{first_in}
+use Rattle.xs_class.proofs.Lists.{first_in, rest_in}
 
 -- the item, if it is no nonterminal, has a word of which W holds
 abbrev pub HasWord : Grammar → (List ℕ → Type 0) → GItem → Type 0
@@ -46,11 +46,8 @@ Agree g W l is = (item : GItem) → Contains is item → IsTrue (is_good l item)
 in_rule : (g : Grammar) (W : List ℕ → Type 0) (l : Leaves) (p : ℕ) → AreGood g W l → Agree g W l (items g p)
 in_rule g W l p good item (k, lt, e) = good p k item (slice_get_read (items g p) (length (items g p)) k item refl lt (sym e))
 
-tail_in : {X : Type 0} (x : X) (xs : List X) (y : X) → Contains xs y → Contains (x ∷ xs) y
-tail_in x xs y (k, l, e) = (suc k, omega arith, e)
-
 tail_agrees : (g : Grammar) (W : List ℕ → Type 0) (l : Leaves) (i : GItem) (is : List GItem) → Agree g W l (i ∷ is) → Agree g W l is
-tail_agrees g W l i is agree item h = agree item (tail_in i is item h)
+tail_agrees g W l i is agree item h = agree item (rest_in i is item h)
 
 -- parts for items whose nonterminals are derived
 parts_of : (g : Grammar) (W : List ℕ → Type 0) (l : Leaves) (is : List GItem) → Agree g W l is → all_good l is ≡ true → ((m : ℕ) → Contains (nons_of is) m → IsDerived g W m) → (ps : Parts) × FitsItems g is ps × AllLeaves W ps
@@ -71,7 +68,7 @@ parts_of g W l (Skip k ∷ is) agree good derived =
     (skip word.0 rest.0, (word.1, rest.1), (word.2, rest.2))
 parts_of g W l (Non n s ∷ is) agree good derived =
     let both = and_parts (is_good l (Non n s)) (all_good l is) good in
-    let rest = parts_of g W l is (tail_agrees g W l (Non n s) is agree) both.1 (λ m h. derived m (tail_in n (nons_of is) m h)) in
+    let rest = parts_of g W l is (tail_agrees g W l (Non n s) is agree) both.1 (λ m h. derived m (rest_in n (nons_of is) m h)) in
     let inner = derived n (first_in n (nons_of is)) in
     (sub inner.0.rule inner.0.parts rest.0, (inner.1.0, inner.1.1, rest.1), (inner.2, rest.2))
 

@@ -4,12 +4,10 @@ use Rattle.std.specs.List.{Contains}
 use Rattle.std.proofs.lemmas.Bool.{cases_lt, cases_eq}
 use Rattle.std.proofs.lemmas.List.{get_or_past, get_or_push, get_or_append_left, length_push}
 use Rattle.std.proofs.lemmas.List.Elements.{Contains-get_or, Contains-append_left, Contains-append_right, Contains-append_cases}
+use Rattle.xs_class.proofs.Lists.{nothing_in}
 use Rattle.xs_graph.specs.Graphs.{IsGraph, targets_of}
 use Rattle.xs_gram.specs.Grammar.{Grammar, rule_of}
 use Rattle.xs_order.specs.Graphs.{AreByRule, IsEdgeOf, IsGraphTo}
-
-nothing_in : (xs : List ℕ) (m : ℕ) → xs ≡ [] → Contains xs m → ⊥
-nothing_in xs m e h = let none = rw e at h in omega (arith, none.1)
 
 -- a list for one more rule
 pub lists_more : (R : ℕ → List ℕ → Type 0) (k : ℕ) (lists : List (List ℕ)) (list : List ℕ) → R k list → AreByRule R k lists → AreByRule R (k + 1) (lists ++ list ∷ [])

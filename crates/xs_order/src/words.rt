@@ -1,5 +1,4 @@
-ghost use Rattle.std.specs.Prelude.{◌≡◌, ℕ, ◌<◌, ◌↔◌, ◌^◌, List, [], ◌∷◌, false, length, slice_index_or, IsTrue, IfOk, OnOk};
-ghost use Rattle.std.specs.List.{Contains};
+ghost use Rattle.std.specs.Prelude.{◌≡◌, ℕ, ◌<◌, ◌↔◌, ◌^◌, List, [], ◌∷◌, false, length, IsTrue, IfOk, OnOk};
 ghost use Rattle.xs_clauses.specs.Made.{AreFlags};
 ghost use Rattle.xs_regex.specs.Automaton.{Accepts, IsBelow, IsWellFormed};
 ghost use Rattle.xs_order.specs.Runs.{HasSymbol, IsReached, premises_from, AreSteps, AreAdded};
@@ -7,7 +6,7 @@ ghost use Rattle.xs_order.specs.Runs.{HasSymbol, IsReached, premises_from, AreSt
 use std::alloc::Global;
 use xs_class::Memory;
 use xs_clauses::{Clause, Flags, Premises, made};
-use xs_regex::Position;
+use xs_regex::{Position, some_marked};
 
 /// Whether an automaton accepts a word, in time linear in its steps.
 pub fn has_word(alloc: Global, automaton: &Position) -> Result<bool, Memory>
@@ -19,7 +18,7 @@ pub fn has_word(alloc: Global, automaton: &Position) -> Result<bool, Memory>
         return Ok(true);
     }
     let reached = reached(alloc, automaton)?;
-    let answer = some_set(reached.as_slice(), automaton.last.as_slice());
+    let answer = some_marked(reached.as_slice(), automaton.last.as_slice());
     Ok(answer)
 }
 
@@ -118,17 +117,4 @@ fn has_symbol(automaton: &Position, position: u32) -> bool
         Some(_) => true,
         None => false,
     }
-}
-
-/// Whether the flag of one of the numbers is set.
-fn some_set(flags: &[bool], numbers: &[u32]) -> bool
-    requires { IsBelow numbers.now (length flags.now) }
-    ensures { IsTrue result ↔ ((k : ℕ) × Contains numbers.now k × IsTrue (slice_index_or flags.now k false)) }
-{
-    'numbers: for number in numbers {
-        if flags[*number as usize] {
-            return true;
-        }
-    }
-    false
 }

@@ -5,7 +5,7 @@ use Rattle.xs_loose.proofs.Grouping.{groups_none, groups_more}
 use Rattle.xs_loose.proofs.groups.grouped.Goals as goal
 
 pub keys-init : goal.keys-init
-keys-init c = record { counted = c.in_ok-groups.ensures.counted; groups = groups_none c.args.keys.now c.in_ok-groups.groups.items c.in_ok-groups.ensures.blank }
+keys-init c = record { counted = c.in_ok-groups.ensures.counted; groups = groups_none c.args.keys.now c.in_ok-groups.groups.items c.in_ok-groups.ensures.empty }
 
 pub keys-preserved : goal.keys-preserved
 keys-preserved c =

@@ -1,10 +1,10 @@
 use Rattle.std.proofs.Common.{◌≡◌, ◌∙◌, ℕ, ◌<◌, List, length, ap, subst, sym, arith, Some}
+use Rattle.std.proofs.lemmas.Option.{slice_get-get_or}
 use Rattle.xs_gram.specs.declared.parts.GItem.{GItem}
 use Rattle.xs_gram.specs.Grammar.{rule_of, items}
 use Rattle.xs_loose.specs.Groups.{IsNonOf}
 use Rattle.xs_loose.specs.Arcs.{DraftGrows, Below}
 use Rattle.xs_loose.specs.Laying.{ItemArc}
-use Rattle.xs_loose.proofs.Items.{got_at}
 use Rattle.xs_loose.proofs.ComponentGrowth.{draft_none, draft_more, spots_kept, item_tables}
 use Rattle.xs_loose.proofs.draft.Draft.lay_items.Goals as goal
 
@@ -26,7 +26,7 @@ lay_item-requires-clause-item c =
     let is = c.items-items.ensures.items in
     let low : c.dots.dot < length (items g c.args.rule) = omega (arith, c.dots-test.true, ap (λ (xs : List GItem). length xs) is) in
     let at = rw is at c.index-items-dot.is in
-    got_at (items g c.args.rule) c.dots.dot c.index-items-dot.result low ∙ ap (λ (i : GItem). Some i) (sym at)
+    slice_get-get_or (items g c.args.rule) c.dots.dot c.index-items-dot.result low ∙ ap (λ (i : GItem). Some i) (sym at)
 
 pub returns : goal.returns
 returns c = λ m of.
