@@ -40,6 +40,8 @@ mod order;
 #[cfg(test)]
 mod pair;
 #[cfg(test)]
+mod parse_table;
+#[cfg(test)]
 mod regex;
 #[cfg(test)]
 mod run;
