@@ -41,6 +41,10 @@ name_back n is = chars-encodes n (name_scalars n (name_chars n is))
 pub known_back : {M : Type 0} (mark : List ℕ → M) (m : M) (text spelled n : List ℕ) → m ≡ mark (chars text) → text ≡ spelled → spelled ≡ encode_utf8_all n → is_name n ≡ true → m ≡ mark n
 known_back mark m text spelled n by_text same_text is_spelled is = by_text ∙ ap (λ (x : List ℕ). mark (chars x)) (same_text ∙ is_spelled) ∙ ap mark (name_back n is)
 
+pub small_start : (c : ℕ) → 97 ≤ c → c ≤ 122 → true ≡ is_name_start c
+unfolding is_name_start
+small_start c above below = grind (arith, nat_tests)
+
 pub small_letter : (c : ℕ) → 97 ≤ c → c ≤ 122 → true ≡ is_name_char c
 unfolding is_name_char is_name_start
 small_letter c above below = grind (arith, nat_tests)

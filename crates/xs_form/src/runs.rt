@@ -73,7 +73,11 @@ pub fn bare(symbol: Sym) -> bool
 pub fn begins_name(symbol: Sym) -> bool
     ensures { result ≡ is_name_start symbol }
 {
-    is_name_start(symbol.number())
+    let number = symbol.number();
+    if 97 <= number && number <= 122 {
+        return true;
+    }
+    is_name_start(number)
 }
 
 /// Whether the symbol may stand in a Name.
