@@ -182,8 +182,8 @@ fn number_nodes(
     Ok(Some(numbers))
 }
 
-/// The common tree of the derivation that a table means, or None where some node of the table is not
-/// right. In time linear in the table and the words of its terminals.
+/// The common tree of the derivation that a table means, or None where some node of the table is
+/// not right. In time linear in the table and the words of its terminals.
 pub fn tree_of(
     alloc: Global,
     g: &Gram,
