@@ -1,6 +1,7 @@
 -- Closed costs bound the weight of each tree that shows a production from below.
 use Rattle.std.proofs.Common.{◌≡◌, ◌⊎◌, inl, inr, ℕ, suc, ◌+◌, ◌==◌, ◌≤◌, List, [], ◌∷◌, length, refl, sym, subst, ◌∙◌, ap, arith, Some, None, Bool, true, false, if◌then◌else◌, slice_get}
 use Rattle.std.specs.declared.option.Option.{Option}
+use Rattle.xs_gram.proofs.Printed.{keys-kinds, kids_long}
 use Rattle.xs_gram.specs.declared.parts.GItem.{GItem}
 use Rattle.xs_gram.specs.declared.parts.GItem.TheVariants.{Fixed, Term, Non, Skip}
 use Rattle.xs_gram.specs.Grammar.{Grammar, rule_of, items, slots, IsRuleOf}
@@ -11,7 +12,7 @@ use Rattle.xs_cover.specs.Sizes.{weight, kids_weight, SomeUses}
 use Rattle.xs_cover.specs.Costs.{Costs, slots_cost, rule_cost, AreClosed}
 use Rattle.xs_cover.specs.Laws.{ClosedCostsAreLow}
 use Rattle.xs_cover.proofs.Sums.{sum_of, sum_numbered, sum_from, upto_from}
-use Rattle.xs_cover.proofs.Sizes.{kids_long, fit_long, inner_fit}
+use Rattle.xs_cover.proofs.Sizes.{fit_long, inner_fit}
 
 abbrev kind_cost : Costs → Option Kind → ℕ
 kind_cost c None = 0
@@ -33,13 +34,6 @@ slots_entries c (Term t s ∷ is) = ap (λ n. c.terms t + n) (slots_entries c is
 slots_entries c (Non m s ∷ is) = ap (λ n. c.nons m + n) (slots_entries c is)
 slots_entries c (Skip k ∷ is) = slots_entries c is
 
-kinds_keys : (is : List GItem) → keys (kinds is) ≡ slots is
-kinds_keys [] = refl
-kinds_keys (Fixed f ∷ is) = kinds_keys is
-kinds_keys (Term t s ∷ is) = ap (λ l. s ∷ l) (kinds_keys is)
-kinds_keys (Non n s ∷ is) = ap (λ l. s ∷ l) (kinds_keys is)
-kinds_keys (Skip k ∷ is) = kinds_keys is
-
 by_lookup : (c : Costs) (es xs : List (ℕ × Kind)) → AllOf (λ e. lookup e.0 es ≡ Some e.1) xs → entries_cost c xs ≡ sum_of (λ s. kind_cost c (lookup s es)) (keys xs)
 by_lookup c es [] all = refl
 by_lookup c es (x ∷ xs) all = omega (arith, ap (λ k. kind_cost c k) all.0, by_lookup c es xs all.1)
@@ -49,8 +43,8 @@ slots_sum : (g : Grammar) (c : Costs) (p : ℕ) → HasNumberedSlots g → slots
 slots_sum g c p numbered =
     let is = items g p in
     let f = λ (s : ℕ). kind_cost c (lookup s (kinds is)) in
-    let found : AllOf (λ e. lookup e.0 (kinds is) ≡ Some e.1) (kinds is) = each_found (kinds is) (subst IsDistinct (sym (kinds_keys is)) (numbered p).once) in
-    slots_entries c is ∙ by_lookup c (kinds is) (kinds is) found ∙ ap (λ l. sum_of f l) (kinds_keys is) ∙ sum_numbered f (slots is) (numbered p) ∙ upto_from f f 0 (length (slots is)) (λ j. ap f (omega arith))
+    let found : AllOf (λ e. lookup e.0 (kinds is) ≡ Some e.1) (kinds is) = each_found (kinds is) (subst IsDistinct (sym (keys-kinds is)) (numbered p).once) in
+    slots_entries c is ∙ by_lookup c (kinds is) (kinds is) found ∙ ap (λ l. sum_of f l) (keys-kinds is) ∙ sum_numbered f (slots is) (numbered p) ∙ upto_from f f 0 (length (slots is)) (λ j. ap f (omega arith))
 
 -- a node weighs at least what its production costs, where its children weigh what its slots cost
 node_low : (g h : Grammar) (c : Costs) (p : ℕ) (kids : Kids) → HasNumberedSlots g → KidsFit g (items g p) 0 kids → sum_from (cost_at c (items g p)) 0 (kids_long kids) ≤ kids_weight g h kids → rule_cost g h c p ≤ weight g h (made p kids)

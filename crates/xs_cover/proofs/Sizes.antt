@@ -1,6 +1,7 @@
 -- Sizes add up.
 use Rattle.std.proofs.Common.{◌≡◌, ℕ, suc, ◌+◌, List, [], ◌∷◌, length, length-append, refl, ◌∙◌, ap, arith, Some, None}
 use Rattle.std.specs.declared.option.Option.{Option}
+use Rattle.xs_gram.proofs.Printed.{kids_long, kinds_long}
 use Rattle.xs_gram.specs.declared.parts.GItem.{GItem}
 use Rattle.xs_gram.specs.declared.parts.GItem.TheVariants.{Fixed, Term, Non, Skip}
 use Rattle.xs_gram.specs.Grammar.{Grammar, items, slots, normal_word}
@@ -10,22 +11,10 @@ use Rattle.xs_cover.specs.Sizes.{size, fixed_length, weight, kids_weight}
 use Rattle.xs_cover.specs.Laws.{SizesAdd}
 use Rattle.xs_cover.proofs.Sums.{sum_of, sum_upto, sum_numbered}
 
--- the number of children
-abbrev pub kids_long : Kids → ℕ
-kids_long no_kid = 0
-kids_long (kid t kids) = suc (kids_long kids)
-
 -- the number of symbols of words
 abbrev words_length : List (List ℕ) → ℕ
 words_length [] = 0
 words_length (w ∷ ws) = length w + words_length ws
-
-pub kinds_long : (is : List GItem) → length (kinds is) ≡ length (slots is)
-kinds_long [] = refl
-kinds_long (Fixed f ∷ is) = kinds_long is
-kinds_long (Term t s ∷ is) = ap suc (kinds_long is)
-kinds_long (Non n s ∷ is) = ap suc (kinds_long is)
-kinds_long (Skip k ∷ is) = kinds_long is
 
 -- as many children fit as there are slots
 pub fit_long : (g : Grammar) (is : List GItem) (slot : ℕ) (kids : Kids) → KidsFit g is slot kids → slot + kids_long kids ≡ length (slots is)

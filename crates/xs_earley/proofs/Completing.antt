@@ -1,9 +1,8 @@
 -- The items that wait for a nonterminal in an earlier set, and what is after them.
 use Rattle.std.proofs.Common.{◌≡◌, ◌≢◌, ℕ, suc, ◌<◌, ◌≤◌, ◌+◌, ◌-◌, List, [], length, map, take, drop, slice_range, Some, refl, sym, ◌∙◌, ap, subst, arith}
-use Rattle.std.specs.declared.option.Option.{Option}
 use Rattle.std.specs.Prelude.{Contains, slice_get, slice_index_or}
-use Rattle.std.proofs.lemmas.Option.{same_Some}
 use Rattle.std.proofs.lemmas.List.{length-map, length-drop, length-take-le}
+use Rattle.xs_class.proofs.Lists.{get_of, contains_of, some_same}
 use Rattle.xs_chart.specs.declared.item.Item.{Item}
 use Rattle.xs_chart.specs.declared.waiting.Waiter.{Waiter}
 use Rattle.xs_chart.specs.declared.waiting.Waiting.{Waiting}
@@ -16,10 +15,7 @@ use Rattle.xs_chart_laws.proofs.Words.{get_lt}
 use Rattle.xs_chart_laws.proofs.Numbers.{one_place}
 use Rattle.xs_earley.specs.Adding.{Adds, Is, Completes, Follows}
 use Rattle.xs_earley.specs.Growing.{IsExact}
-use Rattle.xs_earley.proofs.Additions.{Among, adds_same, contains_at, at_contains}
-
-pub same_at : {X : Type 0} (o : Option X) (x y : X) → o ≡ Some x → o ≡ Some y → x ≡ y
-same_at o x y a b = same_Some x y (sym a ∙ b)
+use Rattle.xs_earley.proofs.Additions.{Among, adds_same}
 
 pub waiting_same : (old now : Charted) (j non : ℕ) → now.waits ≡ old.waits → waiting_of now j non ≡ waiting_of old j non
 waiting_same old now j non e = ap (λ ws. waiting_for (slice_index_or ws j []) non) e
@@ -58,7 +54,7 @@ module _ (g : Grammar) (old now : Charted) (at from non : ℕ) (P : Place → �
   -- and so is the item of an entry
   pub waiter_item : (n k : ℕ) → slice_get (waiting_of now from non) n ≡ Some k → (item : Item) × (slice_get (items_of old from) k ≡ Some item) × IsNumberBefore g item.state non
   waiter_item n k e =
-      (exact k).0 (at_contains (waiting_of old from non) n k (subst (λ (l : List ℕ). slice_get l n ≡ Some k) waiting_now e))
+      (exact k).0 (contains_of (waiting_of old from non) n k (subst (λ (l : List ℕ). slice_get l n ≡ Some k) waiting_now e))
 
   pub waiter_there : (n k : ℕ) → slice_get (waiting_of now from non) n ≡ Some k → k < length (items_of now from)
   waiter_there n k e =
@@ -71,7 +67,7 @@ module _ (g : Grammar) (old now : Charted) (at from non : ℕ) (P : Place → �
   pub waiter_before : (n k : ℕ) (item : Item) → slice_get (waiting_of now from non) n ≡ Some k → slice_get (items_of now from) k ≡ Some item → IsNumberBefore g item.state non
   waiter_before n k item e at_k =
       let h = waiter_item n k e in
-      subst (λ (x : Item). IsNumberBefore g x.state non) (same_at (slice_get (items_of old from) k) h.0 item h.1 (waiter_was k item at_k)) h.2
+      subst (λ (x : Item). IsNumberBefore g x.state non) (some_same (slice_get (items_of old from) k) h.0 item h.1 (waiter_was k item at_k)) h.2
 
 -- a place before a nonterminal is the place of its number
 pub before_at : (g : Grammar) (state non : ℕ) (place : Place) → IsNumberBefore g state non → IsNumber g state place → IsBefore g place non
@@ -86,7 +82,7 @@ follows_one g at items k item place after a b e num is adds = adds_same g at (Is
 
     from : (c : Place) (i : ℕ) → Follows g items k c i → Is after item.origin c i
     from c i (x, f, d, n, q) =
-        let one = same_at (slice_get items k) x item f e in
+        let one = some_same (slice_get items k) x item f e in
         let there = one_place g item.state d place (subst (λ (y : Item). IsNumber g y.state d) one n) num in
         (q.0 ∙ ap next_of there ∙ sym is, q.1 ∙ ap (λ (y : Item). y.origin) one)
 
@@ -100,13 +96,13 @@ follows_all g at old from non a b exact adds = adds_same g at (Among (Follows g 
     to : (c : Place) (i : ℕ) → Among (Follows g (items_of old from)) (waiting_of old from non) c i → Completes g old.sets from non c i
     to c i (n, h, (item, e, d, num, q)) =
         let x = (exact n).0 h in
-        let one = same_at (slice_get (items_of old from) n) x.0 item x.1 e in
+        let one = some_same (slice_get (items_of old from) n) x.0 item x.1 e in
         let before = before_at g item.state non d (subst (λ (y : Item). IsNumberBefore g y.state non) one x.2) num in
-        let there : Contains (set_at old.sets from) item = at_contains (items_of old from) n item e in
+        let there : Contains (set_at old.sets from) item = contains_of (items_of old from) n item e in
         (d, (item.state, num, subst (λ o. Contains (set_at old.sets from) (record { state = item.state; origin = o })) (sym q.1) there), before, q.0)
 
     back : (c : Place) (i : ℕ) → Completes g old.sets from non c i → Among (Follows g (items_of old from)) (waiting_of old from non) c i
     back c i (d, h, before, is) =
         let item : Item = record { state = h.0; origin = i } in
-        let x = contains_at (items_of old from) item h.2 in
+        let x = get_of (items_of old from) item h.2 in
         (x.0, (exact x.0).1 (item, x.1, (d, h.1, before)), (item, x.1, d, h.1, (is, refl)))

@@ -4,9 +4,10 @@ use Rattle.std.specs.Prelude.{Contains, slice_get, slice_index_or}
 use Rattle.std.proofs.lemmas.Bool.{cases_eq, cases_lt}
 use Rattle.std.proofs.lemmas.List.{get_or_past, length-set}
 use Rattle.std.proofs.lemmas.Option.{slice_get_within}
+use Rattle.xs_class.proofs.Lists.{get_of, contains_of}
 use Rattle.xs_chart.specs.declared.item.Item.{Item}
 use Rattle.xs_chart.specs.Different.{AreDifferent}
-use Rattle.xs_chart.specs.Charted.{waiting_for}
+use Rattle.xs_chart.specs.Charted.{waiting_for, set_limit}
 use Rattle.xs_chart.specs.Charted.{Charted, items_of, waiting_of}
 use Rattle.xs_gram.specs.declared.places.Place.{Place}
 use Rattle.xs_gram.specs.Grammar.{Grammar, IsRuleOf}
@@ -21,7 +22,7 @@ use Rattle.xs_earley.specs.Adding.{Puts, IsOf, Adds, Starts}
 use Rattle.xs_earley.specs.Growing.{Grown, Has, IsSettledAt, IsExact, IsFilled}
 use Rattle.xs_earley.specs.Opening.{IsOpened}
 use Rattle.xs_earley.specs.Waiting.{WaitsBelow}
-use Rattle.xs_earley.proofs.Additions.{no_element, contains_at, at_contains, puts_kept}
+use Rattle.xs_earley.proofs.Additions.{no_element, puts_kept}
 use Rattle.xs_earley.proofs.Completing.{waiting_same}
 use Rattle.xs_earley.proofs.Emptied.{contains_emptied, open_emptied, settled_emptied}
 use Rattle.xs_earley.proofs.Settlings.{of_stands}
@@ -55,7 +56,7 @@ module _ (g : Grammar) (w : List ℕ) where
       subst (λ j. Stands g w c i j) (sym first) (subst (λ d. Stands g w d i 0) (sym is.0) (subst (λ o. Stands g w (at_dot q 0) o 0) (sym is.1) (start_stands g w built q rule)))
 
   -- a set is opened
-  pub opened : (built : IsBuilt g) (at : ℕ) (old pushed begun new : Charted) (due : List (List Item)) → IsFilled g w at old due → at ≤ length w → length w < 4294967295 → pushed.sets ≡ old.sets ++ [] ∷ [] → ((j non : ℕ) → waiting_of pushed j non ≡ waiting_of old j non) → Adds g at (Starts g at) pushed.sets begun.sets → begun.waits ≡ pushed.waits → Puts at (Contains (set_at due at)) begun.sets new.sets → ((item : Item) → Contains (set_at due at) item → Contains (items_of new at) item) → new.waits ≡ begun.waits → IsOpened g w at old due new
+  pub opened : (built : IsBuilt g) (at : ℕ) (old pushed begun new : Charted) (due : List (List Item)) → IsFilled g w at old due → at ≤ length w → length w < set_limit → pushed.sets ≡ old.sets ++ [] ∷ [] → ((j non : ℕ) → waiting_of pushed j non ≡ waiting_of old j non) → Adds g at (Starts g at) pushed.sets begun.sets → begun.waits ≡ pushed.waits → Puts at (Contains (set_at due at)) begun.sets new.sets → ((item : Item) → Contains (set_at due at) item → Contains (items_of new at) item) → new.waits ≡ begun.waits → IsOpened g w at old due new
   opened built at old pushed begun new due filled within few is waiting begins begun_waits puts there new_waits = record {
     ready = record {
       last = counted;
@@ -100,7 +101,7 @@ module _ (g : Grammar) (w : List ℕ) where
       never non n h =
           let x = (filled.waiters.exact at non n).0 h in
           let past : length old.sets ≤ at = omega (arith, filled.counted) in
-          no_element x.0 (at_contains [] n x.0 (subst (λ (l : List Item). slice_get l n ≡ Some x.0) (past_set old.sets at past) x.1))
+          no_element x.0 (contains_of [] n x.0 (subst (λ (l : List Item). slice_get l n ≡ Some x.0) (past_set old.sets at past) x.1))
 
       arrived : (k : ℕ) (item : Item) → k ≤ at → Contains (set_at due k) item → Contains (set_at new.sets k) item
       arrived k item le h = elim (cases_eq k at) [
@@ -198,8 +199,8 @@ module _ (g : Grammar) (w : List ℕ) where
     stand = λ j item h. absurd (no_item j item h);
     due_stand = λ j item h. absurd (no_element item (subst (λ (l : List Item). Contains l item) (empty j) h));
     waiters = record {
-      exact = λ j non n. ((λ h. absurd (no_number j non n h)), (λ h. absurd (no_item j h.0 (at_contains (items_of chart j) n h.0 h.1))));
-      once = λ j non a b n x y. absurd (no_number j non n (at_contains (waiting_of chart j non) a n x));
+      exact = λ j non n. ((λ h. absurd (no_number j non n h)), (λ h. absurd (no_item j h.0 (contains_of (items_of chart j) n h.0 h.1))));
+      once = λ j non a b n x y. absurd (no_number j non n (contains_of (waiting_of chart j non) a n x));
     };
     arrived = λ k item lt h. absurd (omega arith);
     starts = λ lt. absurd (omega arith);
@@ -229,7 +230,7 @@ module _ (g : Grammar) (w : List ℕ) where
 
       settled : (j : ℕ) (item : Item) (c : Place) → Contains (set_at chart.sets j) item → IsNumber g item.state c → IsSettled g w (HasPlace g chart.sets) j c item.origin
       settled j item c h num =
-          let n = contains_at (set_at chart.sets j) item h in
+          let n = get_of (set_at chart.sets j) item h in
           settled_kept g w (Has g chart.sets due) j c item.origin (HasPlace g chart.sets) more (λ k d o lt x. inl x) (filled.settled j n.0 (within j item h) item c n.1 num)
         where
           within : (j : ℕ) (item : Item) → Contains (set_at chart.sets j) item → j < at

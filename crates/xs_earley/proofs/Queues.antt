@@ -4,6 +4,7 @@ use Rattle.std.specs.Prelude.{Contains, slice_get}
 use Rattle.std.proofs.lemmas.Bool.{cases_eq, cases_lt}
 use Rattle.std.proofs.lemmas.Option.{slice_get_within}
 use Rattle.std.proofs.lemmas.List.Elements.{Contains-append_left, Contains-push, Contains-push_cases}
+use Rattle.xs_class.proofs.Lists.{contains_of, some_same}
 use Rattle.xs_chart.specs.declared.item.Item.{Item}
 use Rattle.xs_chart.specs.Charted.{Charted, items_of, waiting_of, last_set}
 use Rattle.xs_gram.specs.declared.parts.GItem.TheVariants.{Non}
@@ -13,14 +14,14 @@ use Rattle.xs_chart_laws.specs.Steps.{IsBefore}
 use Rattle.xs_chart_laws.specs.Charts.{IsNumber, IsNumberBefore}
 use Rattle.xs_earley.specs.Growing.{Grows, IsExact}
 use Rattle.xs_earley.specs.Waiting.{Waited, IsWaiting, WaitsBelow}
-use Rattle.xs_earley.proofs.Additions.{no_element, last_at, at_contains}
-use Rattle.xs_earley.proofs.Completing.{same_at, before_at, waiting_same}
+use Rattle.xs_earley.proofs.Additions.{no_element, last_at}
+use Rattle.xs_earley.proofs.Completing.{before_at, waiting_same}
 use Rattle.xs_earley.proofs.Growths.{grows_item, grows_item_more}
 use Rattle.xs_chart_laws.proofs.Settling.{same_non}
 
 -- a place is before one nonterminal
 before_once : (g : Grammar) (c : Place) (m n : ℕ) → IsBefore g c m → IsBefore g c n → m ≡ n
-before_once g c m n a b = same_non m n a.1 b.1 (same_at (slice_get (items g c.rule) c.dot) (Non m a.1) (Non n b.1) a.2 b.2)
+before_once g c m n a b = same_non m n a.1 b.1 (some_same (slice_get (items g c.rule) c.dot) (Non m a.1) (Non n b.1) a.2 b.2)
 
 -- a number is put in the list of the nonterminal before which it stands
 pub waited_some : (g : Grammar) (old new : Charted) (at k state non : ℕ) (place : Place) → length old.sets ≡ suc at → IsNumber g state place → IsBefore g place non → waiting_of new (last_set old) non ≡ waiting_of old (last_set old) non ++ k ∷ [] → ((other : ℕ) → other ≢ non → waiting_of new (last_set old) other ≡ waiting_of old (last_set old) other) → ((set other : ℕ) → set ≢ last_set old → waiting_of new set other ≡ waiting_of old set other) → Waited g at k state old new
@@ -76,10 +77,10 @@ below_push list k P p below = record { exact = λ n. (to n, from n); once = once
 
     first : (a b n : ℕ) → slice_get list a ≡ Some n → (slice_get list b ≡ Some n) ⊎ ((b ≡ length list) × (n ≡ k)) → a ≡ b
     first a b n x (inl y) = below.once a b n x y
-    first a b n x (inr y) = absurd (never n y.1 (at_contains list a n x))
+    first a b n x (inr y) = absurd (never n y.1 (contains_of list a n x))
 
     last : (a b n : ℕ) → a ≡ length list → n ≡ k → (slice_get list b ≡ Some n) ⊎ ((b ≡ length list) × (n ≡ k)) → a ≡ b
-    last a b n x e (inl y) = absurd (never n e (at_contains list b n y))
+    last a b n x e (inl y) = absurd (never n e (contains_of list b n y))
     last a b n x e (inr y) = x ∙ sym y.0
 
     once : (a b n : ℕ) → slice_get (list ++ k ∷ []) a ≡ Some n → slice_get (list ++ k ∷ []) b ≡ Some n → a ≡ b
@@ -137,7 +138,7 @@ waits_more g w old mid new at k item waits there waited same grows kept = waits_
     each : (non : ℕ) → AreBelow (waiting_of new at non) (k + 1) (IsWaiting g (items_of new at) non)
     each non = subst (λ l. AreBelow l (k + 1) (IsWaiting g (items_of new at) non)) (sym (waiting_same mid new at non kept)) (elim (waited.there non) [
       | inl h ↦ subst (λ l. AreBelow l (k + 1) (IsWaiting g (items_of new at) non)) (sym h.1) (below_push (waiting_of old at non) k (IsWaiting g (items_of new at) non) (item, now, h.0) (first non))
-      | inr h ↦ subst (λ l. AreBelow l (k + 1) (IsWaiting g (items_of new at) non)) (sym h.1) (below_skip (waiting_of old at non) k (IsWaiting g (items_of new at) non) (λ x. h.0 (subst (λ (y : Item). IsNumberBefore g y.state non) (same_at (slice_get (items_of new at) k) x.0 item x.1 now) x.2)) (first non))
+      | inr h ↦ subst (λ l. AreBelow l (k + 1) (IsWaiting g (items_of new at) non)) (sym h.1) (below_skip (waiting_of old at non) k (IsWaiting g (items_of new at) non) (λ x. h.0 (subst (λ (y : Item). IsNumberBefore g y.state non) (some_same (slice_get (items_of new at) k) x.0 item x.1 now) x.2)) (first non))
     ])
 
 -- the lists of all items are exact
@@ -148,5 +149,5 @@ waits_exact g chart at waits non n = ((λ h. ((waits.exact non n).0 h).1), (λ h
 pub waits_none : (g : Grammar) (chart : Charted) (at : ℕ) → ((non : ℕ) → waiting_of chart at non ≡ []) → WaitsBelow g chart at 0
 waits_none g chart at none = record {
   exact = λ non n. ((λ h. absurd (no_element n (subst (λ (l : List ℕ). Contains l n) (none non) h))), (λ h. absurd (omega (arith, h.0))));
-  once = λ non a b n x y. absurd (no_element n (subst (λ (l : List ℕ). Contains l n) (none non) (at_contains (waiting_of chart at non) a n x)));
+  once = λ non a b n x y. absurd (no_element n (subst (λ (l : List ℕ). Contains l n) (none non) (contains_of (waiting_of chart at non) a n x)));
 }

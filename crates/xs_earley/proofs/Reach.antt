@@ -2,6 +2,7 @@
 use Rattle.std.proofs.Common.{◌≡◌, ℕ, zero, suc, ◌+◌, ◌<◌, ◌≤◌, List, [], ◌∷◌, ◌++◌, length, take, Some, sym, subst, arith, inl, inr}
 use Rattle.std.specs.Prelude.{Contains, slice_get}
 use Rattle.std.proofs.lemmas.List.Elements.{Contains-push_cases}
+use Rattle.xs_class.proofs.Lists.{contains_of}
 use Rattle.xs_chart.specs.declared.item.Item.{Item}
 use Rattle.xs_gram.specs.declared.places.Place.{Place}
 use Rattle.xs_gram.specs.Grammar.{Grammar}
@@ -11,17 +12,17 @@ use Rattle.xs_chart_laws.specs.Charts.{IsNumber, set_at, HasPlace, IsChartOf}
 use Rattle.xs_chart_laws.proofs.Words.{get_lt, get_take}
 use Rattle.xs_chart_laws.proofs.Numbers.{one_place}
 use Rattle.xs_earley.specs.Seen.{ReachesFrom}
-use Rattle.xs_earley.proofs.Additions.{at_contains, no_element}
+use Rattle.xs_earley.proofs.Additions.{no_element}
 
 -- the number of a chart's item is that of a place
 pub numbered : (g : Grammar) (w : List ℕ) (sets : List (List Item)) → IsChartOf g w sets → (j k : ℕ) (item : Item) → slice_get (set_at sets j) k ≡ Some item → item.state < length (all_places g)
 numbered g w sets chart j k item e =
-    let st = (chart.stand j item).0 (at_contains (set_at sets j) k item e) in
+    let st = (chart.stand j item).0 (contains_of (set_at sets j) k item e) in
     get_lt (all_places g) item.state st.0 st.1
 
 -- from an item of the set
 pub reaches_one : (g : Grammar) (w : List ℕ) (j : ℕ) (items : List Item) (k : ℕ) (item : Item) (c : Place) (reach : ℕ) → slice_get items k ≡ Some item → IsNumber g item.state c → ReadsTo g w j c reach → ReachesFrom g w j items reach
-reaches_one g w j items k item c reach e num reads = (item, c, at_contains items k item e, num, reads)
+reaches_one g w j items k item c reach e num reads = (item, c, contains_of items k item e, num, reads)
 
 -- one item more
 pub reaches_more : (g : Grammar) (w : List ℕ) (j : ℕ) (items : List Item) (n : ℕ) (item : Item) (c : Place) (reach best : ℕ) → slice_get items n ≡ Some item → IsNumber g item.state c → ((k : ℕ) → ReadsTo g w j c k → k ≤ reach) → ((k : ℕ) → ReachesFrom g w j (take n items) k → k ≤ best) → (more : ℕ) → best ≤ more → reach ≤ more → (k : ℕ) → ReachesFrom g w j (take (n + 1) items) k → k ≤ more

@@ -20,10 +20,9 @@ use Rattle.xs_chart_laws.proofs.Steps.{passed_stands, called_stands, completed_s
 use Rattle.xs_chart_laws.proofs.Settling.{has_place_more, settled_fixed, settled_non, settled_lex, settled_inside, settled_end}
 use Rattle.xs_earley.specs.Adding.{IsOf, Adds, Passes, Begins, GoesOn, Ends, Predicts, ReadsWord}
 use Rattle.xs_earley.specs.Growing.{Grown, Has, IsSettledAt}
-use Rattle.xs_earley.proofs.Additions.{adds_then, at_contains}
-use Rattle.xs_earley.proofs.Completing.{same_at}
+use Rattle.xs_earley.proofs.Additions.{adds_then}
 use Rattle.xs_earley.proofs.Growths.{grown_puts, grown_notes, grown_then, grows_item}
-use Rattle.xs_class.proofs.Lists.{some_same}
+use Rattle.xs_class.proofs.Lists.{some_same, contains_of}
 
 -- where each place and origin with the property stands, so does each item of one
 pub of_stands : (g : Grammar) (w : List ℕ) (at : ℕ) (P : Place → ℕ → Type 0) → ((c : Place) (i : ℕ) → P c i → Stands g w c i at) → (item : Item) → IsOf g P item → ItemStands g w item at
@@ -172,12 +171,12 @@ module _ (g : Grammar) (w : List ℕ) (built : IsBuilt g) (at : ℕ) (place : Pl
 pub settled_by_place : (g : Grammar) (w : List ℕ) (old due new later : List (List Item)) (at k : ℕ) (item : Item) (place : Place) → Grown g w at old due new later → k < length (set_at old at) → slice_get (set_at old at) k ≡ Some item → IsNumber g item.state place → IsSettled g w (Has g new later) at place item.origin → IsSettledAt g w new later at k
 settled_by_place g w old due new later at k item place grown lt e num h x c at_k is =
     let was = grows_item g w old new grown.chart at k x lt at_k in
-    let one : x ≡ item = same_at (slice_get (set_at old at) k) x item was e in
+    let one : x ≡ item = some_same (slice_get (set_at old at) k) x item was e in
     let there : c ≡ place = one_place g item.state c place (subst (λ (y : Item). IsNumber g y.state c) one is) num in
     subst (λ d. IsSettled g w (Has g new later) at d x.origin) (sym there) (subst (λ (y : Item). IsSettled g w (Has g new later) at place y.origin) (sym one) h)
 
 -- an item of a set stands by its place
 pub stands_by_place : (g : Grammar) (w : List ℕ) (sets : List (List Item)) (at k : ℕ) (item : Item) (place : Place) → AllItemsStand g w sets → slice_get (set_at sets at) k ≡ Some item → IsNumber g item.state place → Stands g w place item.origin at
 stands_by_place g w sets at k item place all e num =
-    let st = all at item (at_contains (set_at sets at) k item e) in
+    let st = all at item (contains_of (set_at sets at) k item e) in
     subst (λ d. Stands g w d item.origin at) (one_place g item.state st.0 place st.1 num) st.2

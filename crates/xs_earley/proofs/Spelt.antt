@@ -1,8 +1,9 @@
 -- How much of a word the document has from a place on.
-use Rattle.std.proofs.Common.{◌≡◌, ◌↔◌, ℕ, zero, suc, ◌+◌, ◌-◌, ◌<◌, ◌≤◌, List, [], ◌∷◌, ◌++◌, length, take, drop, Some, refl, sym, ◌∙◌, ap, subst, arith, inl, inr, zero-add}
+use Rattle.std.proofs.Common.{◌≡◌, ◌↔◌, ℕ, zero, suc, ◌+◌, ◌-◌, ◌<◌, ◌≤◌, List, [], ◌∷◌, ◌++◌, length, take, drop, Some, sym, ◌∙◌, ap, subst, arith, inl, inr}
 use Rattle.std.proofs.lemmas.List.{take_rest, take_all}
 use Rattle.std.specs.Prelude.{slice_get}
 use Rattle.std.proofs.lemmas.Bool.{cases_lt}
+use Rattle.xs_class.proofs.Lists.{get_drop}
 use Rattle.xs_chart_laws.specs.Reading.{Reads}
 use Rattle.xs_chart_laws.proofs.Words.{get_take, Reads-join}
 
@@ -40,14 +41,7 @@ reads_stops w i f n x at_n other m r = elim (cases_lt n m) [
 
 -- the rest of a list from a place on, as code takes it
 pub rest_get : {X : Type 0} (xs : List X) (at n : ℕ) → slice_get (take (length xs - at) (drop at xs)) n ≡ slice_get xs (at + n)
-rest_get xs at n = ap (λ (l : List _). slice_get l n) (take_rest xs at) ∙ dropped xs at n
-  where
-    dropped : {X : Type 0} (xs : List X) (at n : ℕ) → slice_get (drop at xs) n ≡ slice_get xs (at + n)
-    dropped xs zero n = ap (λ k. slice_get xs k) (sym (zero-add n))
-    dropped [] (suc at) n = refl
-    dropped (x ∷ xs) (suc at) n =
-        let e : suc at + n ≡ suc (at + n) = omega arith in
-        dropped xs at n ∙ sym (ap (λ k. slice_get (x ∷ xs) k) e)
+rest_get xs at n = ap (λ (l : List _). slice_get l n) (take_rest xs at) ∙ get_drop xs at n
 
 -- the whole word
 pub reads_whole : (w : List ℕ) (i : ℕ) (f : List ℕ) (n : ℕ) → n ≤ length f → Reads w i (take n f) (i + n) → ((m : ℕ) → m ≤ length f → Reads w i (take m f) (i + m) → m ≤ n) → (n ≡ length f) ↔ Reads w i f (i + length f)

@@ -1,7 +1,7 @@
 -- Sets that grow while an item is settled: those of the chart, and the lists of what is due in later ones.
 use Rattle.std.specs.Prelude.{◌≡◌, ◌≢◌, ◌↔◌, ◌⊎◌, ℕ, suc, ◌<◌, ◌≤◌, List, ◌++◌, length, Some, slice_get, Contains}
 use Rattle.xs_chart.specs.declared.item.Item.{Item}
-use Rattle.xs_chart.specs.Charted.{Charted, items_of, waiting_of}
+use Rattle.xs_chart.specs.Charted.{Charted, items_of, waiting_of, set_limit}
 use Rattle.xs_gram.specs.declared.places.Place.{Place}
 use Rattle.xs_gram.specs.Grammar.{Grammar, IsRuleOf}
 use Rattle.xs_gram.specs.Places.{at_dot}
@@ -43,7 +43,7 @@ IsExact g chart j non = (n : ℕ) → Contains (waiting_of chart j non) n ↔ ((
 pub record IsOpen (g : Grammar) (w : List ℕ) (at : ℕ) (chart : Charted) (due : List (List Item)) : Type 0 where
   pub last : length chart.sets ≡ suc at
   pub within : at ≤ length w
-  pub few : length w < 4294967295
+  pub few : length w < set_limit
   pub lists : length due ≡ suc (length w)
   pub stand : AllItemsStand g w chart.sets
   pub due_stand : AllItemsStand g w due

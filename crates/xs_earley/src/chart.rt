@@ -1,6 +1,6 @@
 ghost use Rattle.std.specs.Prelude.{◌≡◌, ◌<◌, ◌≤◌, suc, [], length, slice_set, Contains, IfOk};
 ghost use Rattle.xs_chart.specs.declared.item.Item.{Item};
-ghost use Rattle.xs_chart.specs.Charted.{items_of};
+ghost use Rattle.xs_chart.specs.Charted.{items_of, set_limit};
 ghost use Rattle.xs_gram.specs.Sound.{IsBuilt};
 ghost use Rattle.xs_chart_laws.specs.Charts.{IsChartOf, HasWaiters};
 ghost use Rattle.xs_earley.specs.Adding.{Puts, Adds, Starts};
@@ -59,7 +59,7 @@ fn open_next(
     requires facts { AreCallFacts g.now facts.now }
     requires filled { IsFilled g.now doc.now at chart.old due.old }
     requires within { at ≤ length doc.now }
-    requires few { length doc.now < 4294967295 }
+    requires few { length doc.now < set_limit }
     ensures opened { IfOk result (λ _. IsOpened g.now doc.now at chart.old due.old chart.new) }
     ensures emptied { IfOk result (λ _. due.new ≡ slice_set due.old at []) }
 {
@@ -84,7 +84,7 @@ fn fill_next(
     requires facts { AreCallFacts g.now facts.now }
     requires filled { IsFilled g.now doc.now at chart.old due.old }
     requires within { at ≤ length doc.now }
-    requires few { length doc.now < 4294967295 }
+    requires few { length doc.now < set_limit }
     ensures { IfOk result (λ _. IsFilled g.now doc.now (suc at) chart.new due.new) }
 {
     open_next(alloc, chart, due, g, doc, facts, at)?;
@@ -96,7 +96,7 @@ fn fill_next(
 pub fn chart_of(alloc: Global, g: &Gram, doc: &Word, facts: &CallFacts) -> Result<Chart, Memory>
     requires built { IsBuilt g.now }
     requires facts { AreCallFacts g.now facts.now }
-    requires few { length doc.now < 4294967295 }
+    requires few { length doc.now < set_limit }
     ensures chart { IfOk result (λ chart. IsChartOf g.now doc.now chart.sets) }
     ensures waiters { IfOk result (λ chart. HasWaiters g.now chart) }
 {

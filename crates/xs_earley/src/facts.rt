@@ -4,9 +4,8 @@ ghost use Rattle.xs_gram.specs.Sound.{IsBuilt, IsNullable};
 ghost use Rattle.xs_order.specs.Order.{AreNullable};
 ghost use Rattle.xs_earley.specs.Asked.{AreRules, AreCallFacts};
 
-use crate::lists::empty_lists;
 use std::alloc::Global;
-use xs_class::Memory;
+use xs_class::{Memory, empty_lists};
 use xs_gram::Gram;
 use xs_order::Flags;
 use xs_regex::Numbers;

@@ -1,5 +1,5 @@
 ghost use Rattle.std.specs.Prelude.{◌≡◌, ◌⊎◌, ◌<◌, ◌≤◌, ℕ, length};
-ghost use Rattle.xs_chart.specs.Charted.{items_of};
+ghost use Rattle.xs_chart.specs.Charted.{items_of, set_limit};
 ghost use Rattle.xs_gram.specs.Languages.{IsViable};
 ghost use Rattle.xs_gram.specs.Places.{IsPlace};
 ghost use Rattle.xs_gram.specs.Sound.{IsSound};
@@ -17,7 +17,7 @@ use xs_gram::{GItem, Gram, Place};
 fn reach_of(g: &Gram, doc: &Word, at: usize, place: Place) -> usize
     requires place { IsPlace g.now place }
     requires at { at ≤ length doc.now }
-    requires few { length doc.now < 4294967295 }
+    requires few { length doc.now < set_limit }
     ensures reached { ReadsTo g.now doc.now at place result }
     ensures most { (k : ℕ) → ReadsTo g.now doc.now at place k → k ≤ result }
 {
@@ -37,7 +37,7 @@ fn reach_of(g: &Gram, doc: &Word, at: usize, place: Place) -> usize
 fn reach_set(g: &Gram, doc: &Word, chart: &Chart, at: u32, best: usize) -> usize
     requires chart { IsChartOf g.now doc.now chart.now.sets }
     requires at { at ≤ length doc.now }
-    requires few { length doc.now < 4294967295 }
+    requires few { length doc.now < set_limit }
     ensures more { best ≤ result }
     ensures reached { (result ≡ best) ⊎ ReachesFrom g.now doc.now at (items_of chart.now at) result }
     ensures most { (k : ℕ) → ReachesFrom g.now doc.now at (items_of chart.now at) k → k ≤ result }
@@ -55,7 +55,7 @@ fn reach_set(g: &Gram, doc: &Word, chart: &Chart, at: u32, best: usize) -> usize
 pub fn viable(g: &Gram, doc: &Word, chart: &Chart) -> u64
     requires sound { IsSound g.now }
     requires chart { IsChartOf g.now doc.now chart.now.sets }
-    requires few { length doc.now < 4294967295 }
+    requires few { length doc.now < set_limit }
     ensures { IsViable g.now doc.now result }
 {
     let mut best = 0;

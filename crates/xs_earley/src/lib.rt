@@ -15,7 +15,6 @@ mod due;
 mod facts;
 mod far;
 mod fault;
-mod lists;
 mod places;
 mod recogniser;
 mod settle;

@@ -1,4 +1,5 @@
 ghost use Rattle.std.specs.Prelude.{◌<◌, ◌↔◌, length, IfOk, IfErr, IsTrue};
+ghost use Rattle.xs_chart.specs.Charted.{set_limit};
 ghost use Rattle.xs_gram.specs.Grammar.{items};
 ghost use Rattle.xs_gram.specs.Languages.{InLang};
 ghost use Rattle.xs_gram.specs.Places.{at_dot};
@@ -37,7 +38,7 @@ fn is_whole(g: &Gram, doc: &Word, facts: &CallFacts, chart: &Chart) -> bool
     requires built { IsBuilt g.now }
     requires facts { AreCallFacts g.now facts.now }
     requires chart { IsChartOf g.now doc.now chart.now.sets }
-    requires few { length doc.now < 4294967295 }
+    requires few { length doc.now < set_limit }
     ensures { IsTrue result ↔ InLang g.now doc.now }
 {
     let at = doc.len() as u32;
@@ -61,7 +62,7 @@ fn is_whole(g: &Gram, doc: &Word, facts: &CallFacts, chart: &Chart) -> bool
 /// they are predicted, as in J. Aycock and R. N. Horspool, Practical Earley parsing.
 pub fn recognise(alloc: Global, g: &Gram, doc: &Word) -> Result<Chart, SeeFault>
     requires sound { IsSound g.now }
-    requires few { length doc.now < 4294967295 }
+    requires few { length doc.now < set_limit }
     ensures language { IfOk result (λ _. InLang g.now doc.now) }
     ensures chart { IfOk result (λ chart. IsChartOf g.now doc.now chart.sets) }
     ensures waiters { IfOk result (λ chart. HasWaiters g.now chart) }

@@ -1,6 +1,6 @@
 ghost use Rattle.std.specs.Prelude.{◌≡◌, ◌<◌, ◌≤◌, ◌+◌, suc, ℕ, length, None, Some, IfOk};
 ghost use Rattle.xs_regex.specs.Automaton.{IsWellFormed};
-ghost use Rattle.xs_chart.specs.Charted.{items_of};
+ghost use Rattle.xs_chart.specs.Charted.{items_of, set_limit};
 ghost use Rattle.xs_gram.specs.declared.parts.GItem.{GItem};
 ghost use Rattle.xs_gram.specs.declared.parts.GItem.TheVariants.{Fixed, Non};
 ghost use Rattle.xs_gram.specs.Grammar.{ItemAt};
@@ -75,7 +75,7 @@ fn read_word(
     requires place { IsPlace g.now place }
     requires item { (item : GItem) × ItemAt g.now place.rule place.dot item }
     requires at { at ≤ length doc.now }
-    requires few { length doc.now < 4294967295 }
+    requires few { length doc.now < set_limit }
     requires lists { length due.old ≡ suc (length doc.now) }
     ensures { IfOk result (λ _. Adds g.now (at + length word.now) (ReadsWord doc.now at word.now place origin) due.old due.new) }
 {

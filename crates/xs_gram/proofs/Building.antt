@@ -1,6 +1,7 @@
 -- What is appended while a grammar is built, and that what is built is in range, small and sound.
 use Rattle.std.proofs.Common.{◌≡◌, ◌⊎◌, inl, inr, ℕ, suc, zero, ◌+◌, ◌-◌, ◌<◌, ◌≤◌, add-one, List, [], ◌∷◌, ◌++◌, length, drop, get_or, refl, sym, ◌∙◌, ap, subst, arith, Some, slice_get, slice_index_or, append_assoc, length-append, drop-cons}
 use Rattle.std.proofs.lemmas.List.{get_or_append_left, get_or_default}
+use Rattle.xs_class.proofs.Lists.{get_left}
 use Rattle.xs_gram.specs.declared.parts.GItem.{GItem}
 use Rattle.xs_gram.specs.declared.parts.RulePart.{RulePart}
 use Rattle.xs_gram.specs.declared.places.Place.{Place}
@@ -39,12 +40,6 @@ pub positions_few : (g : Grammar) (p d : ℕ) (is : List GItem) (item : GItem) (
 positions_few g p d is item xs all lt at whole =
     let opened : rule_places g p d (drop d is) ≡ at_dot p d ∷ (insides p d 0 (positions_of g item) ++ rule_places g p (d + 1) (drop (d + 1) is)) = ap (λ l. rule_places g p d l) (drop_next is d item lt at) in
     omega (arith, ap length opened, ap length whole, length-append xs (rule_places g p d (drop d is)), length-append (insides p d 0 (positions_of g item)) (rule_places g p (d + 1) (drop (d + 1) is)), length-insides p d 0 (positions_of g item))
-
-get_left : {A : Type 0} (xs ys : List A) (k : ℕ) (c : A) → slice_get xs k ≡ Some c → slice_get (xs ++ ys) k ≡ Some c
-get_left [] ys zero c is = cc
-get_left [] ys (suc k) c is = cc
-get_left (x ∷ xs) ys zero c is = is
-get_left (x ∷ xs) ys (suc k) c is = get_left xs ys k c is
 
 get_seam : {A : Type 0} (xs ys : List A) (c : A) → slice_get (xs ++ c ∷ ys) (length xs) ≡ Some c
 get_seam [] ys c = refl

@@ -6,3 +6,4 @@ pub mod Numbers
 pub mod Inversion
 pub mod Building
 pub mod Ready
+pub mod Each

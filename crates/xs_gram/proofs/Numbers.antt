@@ -1,6 +1,8 @@
 -- The number of a place: where its rule begins, where its item begins in the rule, and the position inside.
 use Rattle.std.proofs.Common.{◌≡◌, ◌⊎◌, inl, inr, ℕ, suc, zero, ◌+◌, ◌<◌, ◌≤◌, List, [], ◌∷◌, ◌++◌, length, refl, sym, ◌∙◌, ap, subst, arith, Some, None, slice_get, slice_index_or}
 use Rattle.std.specs.declared.option.Option.{Option}
+use Rattle.std.proofs.lemmas.Option.{same_Some}
+use Rattle.xs_class.proofs.Lists.{get_left}
 use Rattle.xs_gram.specs.declared.parts.GItem.{GItem}
 use Rattle.xs_gram.specs.declared.parts.RulePart.{RulePart}
 use Rattle.xs_gram.specs.declared.places.Place.{Place}
@@ -24,9 +26,6 @@ base g p rs zero = 0
 base g p [] (suc q) = 0
 base g p (r ∷ rs) (suc q) = length (rule_places g p 0 r.items) + base g (p + 1) rs q
 
-some_is : {A : Type 0} (x y : A) → Some x ≡ Some y → x ≡ y
-some_is x y e = cc
-
 -- an element of two lists joined is of the first or of the second
 get_split : {A : Type 0} (xs ys : List A) (k : ℕ) (c : A) → slice_get (xs ++ ys) k ≡ Some c → ((k < length xs) × (slice_get xs k ≡ Some c)) ⊎ ((m : ℕ) × (k ≡ length xs + m) × (slice_get ys m ≡ Some c))
 get_split [] ys k c is = inr (k, omega arith, is)
@@ -36,15 +35,6 @@ get_split (x ∷ xs) ys (suc k) c is = next (get_split xs ys k c is)
     next : ((k < length xs) × (slice_get xs k ≡ Some c)) ⊎ ((m : ℕ) × (k ≡ length xs + m) × (slice_get ys m ≡ Some c)) → ((suc k < length (x ∷ xs)) × (slice_get (x ∷ xs) (suc k) ≡ Some c)) ⊎ ((m : ℕ) × (suc k ≡ length (x ∷ xs) + m) × (slice_get ys m ≡ Some c))
     next (inl (lt, there)) = inl (omega arith, there)
     next (inr (m, e, there)) = inr (m, omega (arith, e), there)
-
-get_left : {A : Type 0} (xs ys : List A) (k : ℕ) (c : A) → slice_get xs k ≡ Some c → slice_get (xs ++ ys) k ≡ Some c
-get_left [] ys k c is = absurd (none k is)
-  where
-    none : (k : ℕ) → slice_get [] k ≡ Some c → ⊥
-    none zero e = cc
-    none (suc k) e = cc
-get_left (x ∷ xs) ys zero c is = is
-get_left (x ∷ xs) ys (suc k) c is = get_left xs ys k c is
 
 get_right : {A : Type 0} (xs ys : List A) (k m : ℕ) (c : A) → m ≡ length xs + k → slice_get ys k ≡ Some c → slice_get (xs ++ ys) m ≡ Some c
 get_right [] ys k m c e is = subst (λ n. slice_get ys n ≡ Some c) (omega (arith, e)) is
@@ -64,7 +54,7 @@ insides_at p n k zero (suc j) c is = absurd (none is)
   where
     none : None ≡ Some c → ⊥
     none e = cc
-insides_at p n k (suc count) zero c is = (sym (some_is _ _ is) ∙ ap (λ m. at_inside p n m) (omega arith), omega arith)
+insides_at p n k (suc count) zero c is = (sym (same_Some _ _ is) ∙ ap (λ m. at_inside p n m) (omega arith), omega arith)
 insides_at p n k (suc count) (suc j) c is =
     let rest = insides_at p n (k + 1) count j c is in
     (rest.0 ∙ ap (λ m. at_inside p n m) (omega arith), omega (arith, rest.1))
@@ -84,7 +74,7 @@ pub record IsLocated (g : Grammar) (p n : ℕ) (is : List GItem) (c : Place) (j 
   pub inside : (k : ℕ) → c.inside ≡ Some k → (item : GItem) × (slice_get is steps ≡ Some item) × (k < positions_of g item)
 
 located : (g : Grammar) (p n : ℕ) (is : List GItem) (c : Place) (j : ℕ) → slice_get (rule_places g p n is) j ≡ Some c → IsLocated g p n is c j
-located g p n [] c zero is_c = subst (λ x. IsLocated g p n [] x zero) (some_is _ _ is_c) (record { steps = 0; rule_is = refl; dot_is = omega arith; within = omega arith; at = refl; inside = λ k e. absurd (none k e) })
+located g p n [] c zero is_c = subst (λ x. IsLocated g p n [] x zero) (same_Some _ _ is_c) (record { steps = 0; rule_is = refl; dot_is = omega arith; within = omega arith; at = refl; inside = λ k e. absurd (none k e) })
   where
     none : (k : ℕ) → None ≡ Some k → ⊥
     none k e = cc
@@ -93,14 +83,14 @@ located g p n [] c (suc j) is_c = absurd (none j is_c)
     none : (j : ℕ) → slice_get [] j ≡ Some c → ⊥
     none zero e = cc
     none (suc j) e = cc
-located g p n (i ∷ is) c zero is_c = subst (λ x. IsLocated g p n (i ∷ is) x zero) (some_is _ _ is_c) (record { steps = 0; rule_is = refl; dot_is = omega arith; within = omega arith; at = refl; inside = λ k e. absurd (none k e) })
+located g p n (i ∷ is) c zero is_c = subst (λ x. IsLocated g p n (i ∷ is) x zero) (same_Some _ _ is_c) (record { steps = 0; rule_is = refl; dot_is = omega arith; within = omega arith; at = refl; inside = λ k e. absurd (none k e) })
   where
     none : (k : ℕ) → None ≡ Some k → ⊥
     none k e = cc
 located g p n (i ∷ is) c (suc j) is_c = either (λ m there. located g p (n + 1) is c m there) (get_split (insides p n 0 (positions_of g i)) (rule_places g p (n + 1) is) j c is_c)
   where
     inside_here : (c ≡ at_inside p n (0 + j)) → (j < positions_of g i) → IsLocated g p n (i ∷ is) c (suc j)
-    inside_here e lt = subst (λ x. IsLocated g p n (i ∷ is) x (suc j)) (sym e) (record { steps = 0; rule_is = refl; dot_is = omega arith; within = omega arith; at = omega arith; inside = λ k e'. (i, refl, omega (arith, some_is _ _ e', lt)) })
+    inside_here e lt = subst (λ x. IsLocated g p n (i ∷ is) x (suc j)) (sym e) (record { steps = 0; rule_is = refl; dot_is = omega arith; within = omega arith; at = omega arith; inside = λ k e'. (i, refl, omega (arith, same_Some _ _ e', lt)) })
 
     further : (m : ℕ) → j ≡ length (insides p n 0 (positions_of g i)) + m → IsLocated g p (n + 1) is c m → IsLocated g p n (i ∷ is) c (suc j)
     further m e r = record {
@@ -197,7 +187,7 @@ inside_get g p n [] (suc d) k item is_item lt = absurd (none is_item)
     none : None ≡ Some item → ⊥
     none e = cc
 inside_get g p n (i ∷ is) zero k item is_item lt =
-    let below : k < positions_of g i = subst (λ x. k < positions_of g x) (sym (some_is _ _ is_item)) lt in
+    let below : k < positions_of g i = subst (λ x. k < positions_of g x) (sym (same_Some _ _ is_item)) lt in
     let there : slice_get (insides p n 0 (positions_of g i)) k ≡ Some (at_inside p n (0 + k)) = insides_get p n 0 (positions_of g i) k below in
     let whole : slice_get (rule_places g p n (i ∷ is)) (suc k) ≡ Some (at_inside p n (0 + k)) = get_left (insides p n 0 (positions_of g i)) (rule_places g p (n + 1) is) k (at_inside p n (0 + k)) there in
     let here : 0 + suc k ≡ suc k = omega arith in

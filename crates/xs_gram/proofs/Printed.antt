@@ -42,9 +42,10 @@ kid_at no_kid k = word []
 kid_at (kid t kids) zero = t
 kid_at (kid t kids) (suc k) = kid_at kids k
 
-abbrev count : Kids → ℕ
-count no_kid = 0
-count (kid t kids) = suc (count kids)
+-- the number of children
+abbrev pub kids_long : Kids → ℕ
+kids_long no_kid = 0
+kids_long (kid t kids) = suc (kids_long kids)
 
 -- the child is right for its slot's kind: its filling fits, yields its print and has its tree
 abbrev Good : Grammar → Option Kind → Common → Type 0
@@ -59,13 +60,13 @@ abbrev AllGood : Grammar → List GItem → ℕ → Kids → Type 0
 AllGood g is slot no_kid = Unit {0}
 AllGood g is slot (kid t kids) = Good g (lookup slot (kinds is)) t × AllGood g is (slot + 1) kids
 
-good_at : (g : Grammar) (is : List GItem) (slot : ℕ) (kids : Kids) → AllGood g is slot kids → (k : ℕ) → k < count kids → Good g (lookup (slot + k) (kinds is)) (kid_at kids k)
+good_at : (g : Grammar) (is : List GItem) (slot : ℕ) (kids : Kids) → AllGood g is slot kids → (k : ℕ) → k < kids_long kids → Good g (lookup (slot + k) (kinds is)) (kid_at kids k)
 good_at g is slot no_kid all k lt = absurd (omega arith)
 good_at g is slot (kid t kids) all zero lt = subst (λ m. Good g (lookup m (kinds is)) t) (omega arith) all.0
 good_at g is slot (kid t kids) all (suc k) lt = subst (λ m. Good g (lookup m (kinds is)) (kid_at kids k)) (omega arith) (good_at g is (slot + 1) kids all.1 k (omega arith))
 
 -- the fillings and the words by the children
-filling_is : (g : Grammar) (kids : Kids) (k : ℕ) → k < count kids → filling_at (fillings g kids) k ≡ filling g (kid_at kids k)
+filling_is : (g : Grammar) (kids : Kids) (k : ℕ) → k < kids_long kids → filling_at (fillings g kids) k ≡ filling g (kid_at kids k)
 filling_is g no_kid k lt = absurd (omega arith)
 filling_is g (kid t kids) zero lt = refl
 filling_is g (kid t kids) (suc k) lt = filling_is g kids k (omega arith)
@@ -75,22 +76,29 @@ word_is g no_kid k = refl
 word_is g (kid t kids) zero = refl
 word_is g (kid t kids) (suc k) = word_is g kids k
 
-counted : (g : Grammar) (is : List GItem) (slot : ℕ) (kids : Kids) → KidsFit g is slot kids → slot + count kids ≡ length (kinds is)
+pub counted : (g : Grammar) (is : List GItem) (slot : ℕ) (kids : Kids) → KidsFit g is slot kids → slot + kids_long kids ≡ length (kinds is)
 counted g is slot no_kid fit = omega (arith, fit)
 counted g is slot (kid t kids) fit = omega (arith, counted g is (slot + 1) kids fit.1)
 
-keys-kinds : (is : List GItem) → keys (kinds is) ≡ slots is
+pub keys-kinds : (is : List GItem) → keys (kinds is) ≡ slots is
 keys-kinds [] = refl
 keys-kinds (Fixed f ∷ is) = keys-kinds is
 keys-kinds (Term t s ∷ is) = ap (λ (l : List ℕ). s ∷ l) (keys-kinds is)
 keys-kinds (Non n s ∷ is) = ap (λ (l : List ℕ). s ∷ l) (keys-kinds is)
 keys-kinds (Skip k ∷ is) = keys-kinds is
 
+pub kinds_long : (is : List GItem) → length (kinds is) ≡ length (slots is)
+kinds_long [] = refl
+kinds_long (Fixed f ∷ is) = kinds_long is
+kinds_long (Term t s ∷ is) = ap suc (kinds_long is)
+kinds_long (Non n s ∷ is) = ap suc (kinds_long is)
+kinds_long (Skip k ∷ is) = kinds_long is
+
 -- the children are good for the kinds of these slots, and stand where they are looked up
 abbrev Holds : Grammar → Kids → ℕ × Kind → Type 0
 Holds g kids e = Good g (Some e.1) (kid_at kids e.0) × (filling_at (fillings g kids) e.0 ≡ filling g (kid_at kids e.0))
 
-each_good : (g : Grammar) (is : List GItem) (kids : Kids) → AllGood g is 0 kids → (xs : List (ℕ × Kind)) → AllOf (λ e. e.0 < count kids) xs → AllOf (λ e. lookup e.0 (kinds is) ≡ Some e.1) xs → AllOf (Holds g kids) xs
+each_good : (g : Grammar) (is : List GItem) (kids : Kids) → AllGood g is 0 kids → (xs : List (ℕ × Kind)) → AllOf (λ e. e.0 < kids_long kids) xs → AllOf (λ e. lookup e.0 (kinds is) ≡ Some e.1) xs → AllOf (Holds g kids) xs
 each_good g is kids all [] below are = tt
 each_good g is kids all (x ∷ xs) below are =
     ((subst (λ kind. Good g kind (kid_at kids x.0)) are.0 (subst (λ m. Good g (lookup m (kinds is)) (kid_at kids x.0)) (omega arith) (good_at g is 0 kids all x.0 below.0)), filling_is g kids x.0 below.0), each_good g is kids all xs below.1 are.1)
@@ -151,14 +159,14 @@ good_is_found g kids es k None is good = absurd good
 good_is_found g kids es k (Some kind) is good = child_found kids es k kind is
 
 -- the children from a slot on, read in order
-ordered : (es : List (ℕ × Common)) (kids : Kids) (slot : ℕ) → ((k : ℕ) → k < count kids → lookup (slot + k) es ≡ Some (kid_at kids k)) → in_order (count kids) slot es ≡ kids
+ordered : (es : List (ℕ × Common)) (kids : Kids) (slot : ℕ) → ((k : ℕ) → k < kids_long kids → lookup (slot + k) es ≡ Some (kid_at kids k)) → in_order (kids_long kids) slot es ≡ kids
 ordered es no_kid slot all = refl
 ordered es (kid t kids) slot all =
     let first : lookup slot es ≡ Some t = subst (λ m. lookup m es ≡ Some t) (omega arith) (all 0 (omega arith)) in
-    let rest : (k : ℕ) → k < count kids → lookup (slot + 1 + k) es ≡ Some (kid_at kids k) = λ k lt. subst (λ m. lookup m es ≡ Some (kid_at kids k)) (omega arith) (all (suc k) (omega arith)) in
+    let rest : (k : ℕ) → k < kids_long kids → lookup (slot + 1 + k) es ≡ Some (kid_at kids k) = λ k lt. subst (λ m. lookup m es ≡ Some (kid_at kids k)) (omega arith) (all (suc k) (omega arith)) in
     rw (first, ordered es kids (slot + 1) rest) refl
 
-children_are : (g : Grammar) (is : List GItem) (kids : Kids) → AllGood g is 0 kids → count kids ≡ length (kinds is) → children (entries kids (kinds is)) ≡ kids
+children_are : (g : Grammar) (is : List GItem) (kids : Kids) → AllGood g is 0 kids → kids_long kids ≡ length (kinds is) → children (entries kids (kinds is)) ≡ kids
 children_are g is kids all long =
     ap (λ n. in_order n 0 (entries kids (kinds is))) (length-entries kids (kinds is) ∙ sym long)
     ∙ ordered (entries kids (kinds is)) kids 0 (λ k lt. subst (λ m. lookup m (entries kids (kinds is)) ≡ Some (kid_at kids k)) (omega arith) (good_is_found g kids (kinds is) k (lookup k (kinds is)) refl (subst (λ m. Good g (lookup m (kinds is)) (kid_at kids k)) (omega arith) (good_at g is 0 kids all k lt))))
@@ -176,12 +184,12 @@ all_normal g normals (Term t s ∷ is) = all_normal g normals is
 all_normal g normals (Non n s ∷ is) = all_normal g normals is
 all_normal g normals (Skip k ∷ is) = (normals k, all_normal g normals is)
 
-filled : (g : Grammar) → HasNumberedSlots g → HasNormals g → (p : ℕ) (kids : Kids) → AllGood g (items g p) 0 kids → count kids ≡ length (kinds (items g p)) → IsFilled g p kids (fill g (items g p) (filling_at (fillings g kids)))
+filled : (g : Grammar) → HasNumberedSlots g → HasNormals g → (p : ℕ) (kids : Kids) → AllGood g (items g p) 0 kids → kids_long kids ≡ length (kinds (items g p)) → IsFilled g p kids (fill g (items g p) (filling_at (fillings g kids)))
 filled g numbered normals p kids all long =
     let is : List GItem = items g p in
     let are : keys (kinds is) ≡ slots is = keys-kinds is in
-    let number : length (slots is) ≡ count kids = ap length (sym are) ∙ length-keys (kinds is) ∙ sym long in
-    let below : AllOf (λ e. e.0 < count kids) (kinds is) = by_keys (λ n. n < count kids) (kinds is) (subst (λ (l : List ℕ). Every (λ n. n < count kids) l) (sym are) (subst (λ (m : ℕ). Every (λ n. n < m) (slots is)) number (numbered p).below)) in
+    let number : length (slots is) ≡ kids_long kids = ap length (sym are) ∙ length-keys (kinds is) ∙ sym long in
+    let below : AllOf (λ e. e.0 < kids_long kids) (kinds is) = by_keys (λ n. n < kids_long kids) (kinds is) (subst (λ (l : List ℕ). Every (λ n. n < kids_long kids) l) (sym are) (subst (λ (m : ℕ). Every (λ n. n < m) (slots is)) number (numbered p).below)) in
     let found : AllOf (λ e. lookup e.0 (kinds is) ≡ Some e.1) (kinds is) = each_found (kinds is) (subst IsDistinct (sym are) (numbered p).once) in
     let holds : AllOf (Holds g kids) (kinds is) = each_good g is kids all (kinds is) below found in
     record {

@@ -1,5 +1,6 @@
 -- What is built of parts that a grammar can be built of is in range, small, with automata, and has few places.
-use Rattle.std.proofs.Common.{◌≡◌, ℕ, suc, zero, ◌+◌, ◌*◌, ◌<◌, ◌≤◌, List, [], ◌∷◌, length, map, refl, sym, ◌∙◌, ap, subst, arith, Some, slice_get, slice_index_or, length-append}
+use Rattle.std.proofs.Common.{◌≡◌, ℕ, suc, zero, ◌+◌, ◌*◌, ◌<◌, ◌≤◌, List, [], ◌∷◌, length, map, refl, sym, ◌∙◌, ap, subst, arith, slice_index_or, length-append}
+use Rattle.xs_gram.proofs.Each.{each_within, each_get, each_map, each_both, each_or, each_weaker}
 use Rattle.xs_gram.specs.declared.parts.GItem.{GItem}
 use Rattle.xs_gram.specs.declared.parts.GItem.TheVariants.{Fixed, Term, Non, Skip}
 use Rattle.xs_gram.specs.declared.parts.RulePart.{RulePart}
@@ -11,41 +12,6 @@ use Rattle.xs_gram.specs.Sound.{IsInRange, HasAutomata}
 use Rattle.xs_gram.specs.Places.{positions_of, insides, rule_places, places_from}
 use Rattle.xs_gram.specs.Building.{EachOf, NamesAreThere, items_count, IsRuleAmong, IsFit, CanBuild, IsOf, skip_part, TermHasAutomaton, SkipHasAutomaton, IsReady}
 use Rattle.xs_gram.proofs.Numbers.{length-insides}
-
-each_or : {A : Type 0} (P : A → Type 0) (xs : List A) (d : A) (n : ℕ) → EachOf P xs → P d → P (slice_index_or xs n d)
-each_or P [] d zero each at = at
-each_or P [] d (suc n) each at = at
-each_or P (x ∷ xs) d zero each at = each.0
-each_or P (x ∷ xs) d (suc n) each at = each_or P xs d n each.1 at
-
-each_within : {A : Type 0} (P : A → Type 0) (xs : List A) (d : A) (n : ℕ) → EachOf P xs → n < length xs → P (slice_index_or xs n d)
-each_within P [] d n each lt = absurd (omega arith)
-each_within P (x ∷ xs) d zero each lt = each.0
-each_within P (x ∷ xs) d (suc n) each lt = each_within P xs d n each.1 (omega arith)
-
-each_get : {A : Type 0} (P : A → Type 0) (xs : List A) (n : ℕ) (x : A) → EachOf P xs → slice_get xs n ≡ Some x → P x
-each_get {A = A} P [] n x each is = absurd (none n is)
-  where
-    none : (n : ℕ) → slice_get {X = A} [] n ≡ Some x → ⊥
-    none zero e = cc
-    none (suc n) e = cc
-each_get P (y ∷ xs) zero x each is = subst P (some_is y x is) each.0
-  where
-    some_is : {A : Type 0} (x y : A) → Some x ≡ Some y → x ≡ y
-    some_is x y e = cc
-each_get P (y ∷ xs) (suc n) x each is = each_get P xs n x each.1 is
-
-pub each_map : {A B : Type 0} (f : A → B) (P : B → Type 0) (xs : List A) → EachOf P (map f xs) → EachOf (λ x. P (f x)) xs
-each_map f P [] each = tt
-each_map f P (x ∷ xs) each = (each.0, each_map f P xs each.1)
-
-each_both : {A : Type 0} (P Q R : A → Type 0) → ((x : A) → P x → Q x → R x) → (xs : List A) → EachOf P xs → EachOf Q xs → EachOf R xs
-each_both P Q R f [] p q = tt
-each_both P Q R f (x ∷ xs) p q = (f x p.0 q.0, each_both P Q R f xs p.1 q.1)
-
-pub each_weaker : {A : Type 0} (P Q : A → Type 0) → ((x : A) → P x → Q x) → (xs : List A) → EachOf P xs → EachOf Q xs
-each_weaker P Q f [] p = tt
-each_weaker P Q f (x ∷ xs) p = (f x p.0, each_weaker P Q f xs p.1)
 
 long_map : {A B : Type 0} (f : A → B) (xs : List A) → length (map f xs) ≡ length xs
 long_map f [] = refl

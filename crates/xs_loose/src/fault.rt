@@ -1,9 +1,9 @@
 use xs_class::Memory;
 
-/// Why a part has no net, or a grammar is not searched for suspects.
+/// Why a part has no net.
 #[derive(Clone, Copy, Debug, PartialEq, Eq)]
 pub enum LooseFault {
-    /// The part, or a rule, weighs more than 8,192; this is its weight.
+    /// The part weighs more than 8,192; this is its weight.
     Heavy { weight: u64 },
     Memory,
 }

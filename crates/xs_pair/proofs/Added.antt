@@ -1,6 +1,8 @@
 -- Regexes of terminals and parts of ignorables, unit by unit.
 use Rattle.std.proofs.Common.{◌≡◌, ◌<◌, ◌+◌, sym, subst, ℕ, suc, zero, List, [], ◌∷◌, ◌++◌, length, take, get_or, Some, slice_get}
 use Rattle.std.proofs.lemmas.Option.{none-some, same_Some}
+use Rattle.xs_class.proofs.Lists.{take_next}
+use Rattle.xs_gram.proofs.Each.{each_push}
 use Rattle.xs_regex.specs.declared.regex.Regex.{Regex}
 use Rattle.xs_regex.specs.Meaning.{IsPatternOf}
 use Rattle.xs_sheet.specs.declared.unit.Unit.{Unit}
@@ -9,17 +11,12 @@ use Rattle.xs_sheet.specs.Grammar.{HasRegex, HaveRegexes}
 use Rattle.xs_gram.specs.declared.parts.SkipPart.{SkipPart}
 use Rattle.xs_gram.specs.Building.{EachOf, IsFit}
 use Rattle.xs_pair.specs.Grammars.{AreTermsOf, AreSkipsOf, IsTermAdded, IsSkipAdded}
-use Rattle.xs_pair.proofs.Places.{take_next}
 
 -- each unit has the regex of its pattern
 pub has_regex : (us : List Unit) (k : ℕ) (u : Unit) → HaveRegexes us → slice_get us k ≡ Some u → HasRegex u
 has_regex [] k u all at = absurd (none-some u at)
 has_regex (v ∷ us) zero u all at = subst HasRegex (same_Some v u at) all.0
 has_regex (v ∷ us) (suc k) u all at = has_regex us k u all.1 at
-
-each_push : {A : Type 0} (P : A → Type 0) (xs : List A) (x : A) → EachOf P xs → P x → EachOf P (xs ++ x ∷ [])
-each_push P [] x all here = (here, tt)
-each_push P (y ∷ xs) x all here = (all.0, each_push P xs x all.1 here)
 
 term_push : (us : List Unit) (rs : List Regex) (name pattern : List ℕ) (regex : Regex) (line : ℕ) (r : Regex) → AreTermsOf us rs → IsPatternOf pattern r → AreTermsOf (us ++ Terminal name pattern regex line ∷ []) (rs ++ r ∷ [])
 term_push [] [] name pattern regex line r are of = (of, tt)

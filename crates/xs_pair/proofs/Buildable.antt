@@ -8,6 +8,7 @@ use Rattle.std.proofs.lemmas.Bool.Decides.{nat_tests}
 use Rattle.std.proofs.lemmas.Option.{none-some, same_Some, slice_get_within, slice_get-map, slice_get-get_or}
 use Rattle.std.proofs.lemmas.Map.Steps.{le-length_from_below}
 use Rattle.xs_class.specs.Ordered.{place_of}
+use Rattle.xs_gram.proofs.Each.{each_append}
 use Rattle.xs_sheet.specs.declared.item.Item.{Item}
 use Rattle.xs_sheet.specs.declared.item.Item.TheVariants as I
 use Rattle.xs_sheet.specs.declared.unit.Unit.{Unit}
@@ -23,32 +24,21 @@ use Rattle.xs_pair.specs.declared.names.Sort.TheVariants as S
 use Rattle.xs_pair.specs.Directories.{IsDistinct}
 use Rattle.xs_pair.specs.Grammars.{numbering, Numbering, flat_item, flat_mark, flat_marks, named_item}
 use Rattle.xs_pair.specs.Marks.{item_slots, mark_slots, slots_of, slot_names}
-use Rattle.xs_pair.specs.Rules.{SomeOf, IsAmong, IsAbsent, IsNameless, IsUndefined, IsMisnamed, IsMiskinded, HasRepeat}
+use Rattle.xs_pair.specs.Rules.{SomeOf, IsAmong, IsNameless, IsUndefined, IsMisnamed, IsMiskinded, HasRepeat}
 use Rattle.xs_pair.specs.Units.{names_of, nons_of, terms_of, skips_of, number_of}
 use Rattle.xs_pair.specs.Weights.{item_weight, mark_weight, marks_weight}
-use Rattle.xs_pair.proofs.Places.{found_there, among_or_absent, not_both}
+use Rattle.xs_pair.proofs.Places.{found_there, not_both, among_if}
 use Rattle.xs_pair.proofs.Numbering.{number_is, number_bound, firsts_have, sorted}
 use Rattle.xs_pair.proofs.Once.{distinct_no_repeat}
 
-each_append : {A : Type 0} (P : A → Type 0) (xs ys : List A) → EachOf P xs → EachOf P ys → EachOf P (xs ++ ys)
-each_append P [] ys hx hy = hy
-each_append P (x ∷ xs) ys hx hy = (hx.0, each_append P xs ys hx.1 hy)
-
 There : List Unit → GItem → Type 0
 There us i = NamesThere (length (nons_of us)) (length (terms_of us)) (length (skips_of us)) i
-
-among : (ns : List (List ℕ)) (name : List ℕ) → (IsAbsent ns name → ⊥) → IsAmong ns name
-among ns name not = by_case (among_or_absent ns name)
-  where
-    by_case : IsAmong ns name ⊎ IsAbsent ns name → IsAmong ns name
-    by_case (inl h) = h
-    by_case (inr h) = absurd (not h)
 
 -- what the items of an item name is there
 item_there : (us : List Unit) (names sl : List (List ℕ)) (i : Item) → (IsNameless (names_of S.Any us) i → ⊥) → (IsMisnamed (skips_of us) i → ⊥) → EachOf (NamesThere (length (nons_of us)) (length (terms_of us)) (length (skips_of us))) (flat_item (numbering us names) sl i)
 item_there us names sl (I.Fixed []) named kind = tt
 item_there us names sl (I.Fixed (c ∷ cs)) named kind = (omega arith, tt)
-item_there us names sl (I.Skip name) named kind = (number_bound (skips_of us) name (among (skips_of us) name kind), tt)
+item_there us names sl (I.Skip name) named kind = (number_bound (skips_of us) name (among_if (skips_of us) name kind), tt)
 item_there us names sl (I.Named name slot) named kind = (by_case (place_of (terms_of us) name) refl, tt)
   where
     of_unit : place_of (terms_of us) name ≡ None → IsAmong (terms_of us) name ⊎ (IsAmong (skips_of us) name ⊎ IsAmong (names_of S.Production us) name) → number_of (nons_of us) name < length (nons_of us)
@@ -57,7 +47,7 @@ item_there us names sl (I.Named name slot) named kind = (by_case (place_of (term
     of_unit none (inr (inr h)) = number_bound (nons_of us) name (firsts_have (names_of S.Production us) name h)
 
     by_case : (o : Option ℕ) → place_of (terms_of us) name ≡ o → NamesThere (length (nons_of us)) (length (terms_of us)) (length (skips_of us)) (named_item o (number_of (nons_of us) name) (number_of sl slot))
-    by_case None is = of_unit is (sorted us name (among (names_of S.Any us) name named))
+    by_case None is = of_unit is (sorted us name (among_if (names_of S.Any us) name named))
     by_case (Some t) is = slice_get_within (terms_of us) t name (found_there (terms_of us) name t is)
 
 mark_there : (us : List Unit) (names sl : List (List ℕ)) (m : Mark) → (IsUndefined (names_of S.Any us) m → ⊥) → (IsMiskinded (terms_of us) (skips_of us) m → ⊥) → EachOf (NamesThere (length (nons_of us)) (length (terms_of us)) (length (skips_of us))) (flat_mark (numbering us names) sl m)

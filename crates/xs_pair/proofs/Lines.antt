@@ -5,16 +5,17 @@ use Rattle.std.specs.declared.option.Option.{Option}
 use Rattle.std.proofs.lemmas.Bool.{cases_lt}
 use Rattle.std.proofs.lemmas.List.{length-take-le}
 use Rattle.std.proofs.lemmas.Option.{none-some, same_Some}
+use Rattle.xs_class.proofs.Lists.{get_left, get_last, take_next}
 use Rattle.xs_gram.proofs.Building.{drop_next}
 use Rattle.xs_pair.specs.declared.mark.Mark.{Mark}
 use Rattle.xs_pair.specs.Rules.{SomeOf}
 use Rattle.xs_pair.specs.Verdict.{IsLineWhere, IsFirstLine, earlier}
 use Rattle.xs_pair.specs.Weights.{mark_weight, marks_weight}
-use Rattle.xs_pair.proofs.Places.{get_front, get_last, get_snoc, take_next}
+use Rattle.xs_pair.proofs.Places.{get_snoc}
 
 -- a line of the front is one of the whole, and the last element's is another
 line_front : {A : Type 0} (P : ℕ → A → Type 0) (f : A → ℕ) (xs : List A) (x : A) (line : ℕ) → IsLineWhere P f xs line → IsLineWhere P f (xs ++ x ∷ []) line
-line_front P f xs x line (k, y, at, holds, is) = (k, y, get_front xs (x ∷ []) k y at, holds, is)
+line_front P f xs x line (k, y, at, holds, is) = (k, y, get_left xs (x ∷ []) k y at, holds, is)
 
 line_last : {A : Type 0} (P : ℕ → A → Type 0) (f : A → ℕ) (xs : List A) (x : A) → P (length xs) x → IsLineWhere P f (xs ++ x ∷ []) (f x)
 line_last P f xs x holds = (length xs, x, get_last xs x, holds, refl)

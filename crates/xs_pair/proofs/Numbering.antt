@@ -4,6 +4,7 @@ use Rattle.std.specs.declared.option.Option.{Option}
 use Rattle.std.specs.Option.{option_map}
 use Rattle.std.proofs.lemmas.Option.{none-some, same_Some, slice_get_within, slice_get-map}
 use Rattle.xs_class.specs.Ordered.{place_of}
+use Rattle.xs_class.proofs.Lists.{get_left, get_last}
 use Rattle.xs_sheet.specs.declared.unit.Unit.{Unit}
 use Rattle.xs_sheet.specs.declared.unit.Unit.TheVariants as V
 use Rattle.xs_pair.specs.declared.names.Sort.TheVariants as S
@@ -11,7 +12,7 @@ use Rattle.xs_pair.specs.declared.production.Rule.{Rule}
 use Rattle.xs_pair.specs.Listing.{rules_of}
 use Rattle.xs_pair.specs.Units.{names_of, nons_of, terms_of, skips_of, with_name, with_names, firsts, number_of, or_zero}
 use Rattle.xs_pair.specs.Rules.{IsAmong}
-use Rattle.xs_pair.proofs.Places.{found_there, first_before, get_front, get_last}
+use Rattle.xs_pair.proofs.Places.{found_there, first_before}
 
 -- the number of a name that is there
 pub number_is : (ns : List (List ℕ)) (name : List ℕ) (k : ℕ) → place_of ns name ≡ Some k → number_of ns name ≡ k
@@ -34,21 +35,21 @@ among_cons n ns name (k, is) = by_case k (found_there (n ∷ ns) name k is)
     by_case zero at = inl (same_Some n name at)
     by_case (suc j) at = inr (among_at ns j name at)
 
-kept : (ns : List (List ℕ)) (n name : List ℕ) → IsAmong ns name → IsAmong (with_name ns n) name
+pub kept : (ns : List (List ℕ)) (n name : List ℕ) → IsAmong ns name → IsAmong (with_name ns n) name
 kept ns n name (k, is) = by_case (place_of ns n)
   where
     by_case : (o : Option ℕ) → IsAmong (elim o [ None ↦ ns ++ n ∷ [] | Some j ↦ ns ]) name
-    by_case None = among_at (ns ++ n ∷ []) k name (get_front ns (n ∷ []) k name (found_there ns name k is))
+    by_case None = among_at (ns ++ n ∷ []) k name (get_left ns (n ∷ []) k name (found_there ns name k is))
     by_case (Some j) = (k, is)
 
-put_in : (ns : List (List ℕ)) (n : List ℕ) → IsAmong (with_name ns n) n
+pub put_in : (ns : List (List ℕ)) (n : List ℕ) → IsAmong (with_name ns n) n
 put_in ns n = by_case (place_of ns n) refl
   where
     by_case : (o : Option ℕ) → place_of ns n ≡ o → IsAmong (elim o [ None ↦ ns ++ n ∷ [] | Some j ↦ ns ]) n
     by_case None is = among_at (ns ++ n ∷ []) (length ns) n (get_last ns n)
     by_case (Some j) is = (j, is)
 
-with_names_kept : (ns list : List (List ℕ)) (name : List ℕ) → IsAmong ns name → IsAmong (with_names ns list) name
+pub with_names_kept : (ns list : List (List ℕ)) (name : List ℕ) → IsAmong ns name → IsAmong (with_names ns list) name
 with_names_kept ns [] name among = among
 with_names_kept ns (n ∷ list) name among = with_names_kept (with_name ns n) list name (kept ns n name among)
 

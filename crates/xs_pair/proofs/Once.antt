@@ -5,7 +5,7 @@ use Rattle.std.proofs.lemmas.Option.{none-some, same_Some}
 use Rattle.xs_class.specs.Ordered.{place_of}
 use Rattle.xs_pair.specs.Directories.{IsDistinct}
 use Rattle.xs_pair.specs.Rules.{IsAbsent, IsAmong, IsOnce, IsNotOnce, HasRepeat}
-use Rattle.xs_pair.proofs.Places.{found_there, first_before, stands_nowhere, among_or_absent}
+use Rattle.xs_pair.proofs.Places.{found_there, first_before, stands_nowhere, among_if}
 
 -- in a list where each name stands at one place only, none stands twice
 pub distinct_no_repeat : (ns : List (List ℕ)) → IsDistinct ns → HasRepeat ns → ⊥
@@ -65,18 +65,10 @@ pub once_right : (left right : List (List ℕ)) → (IsNotOnce left right → �
 once_right left right passes = no_repeat_distinct right (λ r. passes (right_repeats left right r))
 
 pub once_back : (left right : List (List ℕ)) → (IsNotOnce left right → ⊥) → Has left right
-once_back left right passes k name at = by_case (among_or_absent left name)
-  where
-    by_case : IsAmong left name ⊎ IsAbsent left name → IsAmong left name
-    by_case (inl h) = h
-    by_case (inr h) = absurd (passes (left_lacks left right k name at h))
+once_back left right passes k name at = among_if left name (λ h. passes (left_lacks left right k name at h))
 
 pub once_forth : (left right : List (List ℕ)) → (IsNotOnce left right → ⊥) → Has right left
-once_forth left right passes k name at = by_case (among_or_absent right name)
-  where
-    by_case : IsAmong right name ⊎ IsAbsent right name → IsAmong right name
-    by_case (inl h) = h
-    by_case (inr h) = absurd (passes (right_lacks left right k name at h))
+once_forth left right passes k name at = among_if right name (λ h. passes (right_lacks left right k name at h))
 
 -- a slot of a list of slots and names
 abbrev pub slot_of : List ℕ × List ℕ → List ℕ

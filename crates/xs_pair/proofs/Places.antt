@@ -6,10 +6,10 @@ use Rattle.std.specs.declared.option.Option.{Option}
 use Rattle.std.specs.Cmp.Lexicographic.{bytes_decides}
 use Rattle.std.specs.Str.{chars}
 use Rattle.std.proofs.lemmas.Bool.{cases_lt}
-use Rattle.std.proofs.lemmas.List.{take_more}
 use Rattle.std.proofs.lemmas.Option.{none-some, same_Some, slice_get_within, slice_get_read}
 use Rattle.xs_class.specs.Ordered.{place_of}
 use Rattle.xs_class.proofs.Places.{nowhere_is_none}
+use Rattle.xs_class.proofs.Lists.{get_left, get_last, get_taken}
 use Rattle.xs_gram.proofs.Building.{drop_next}
 use Rattle.xs_pair.specs.Units.{with_name, with_names}
 use Rattle.xs_pair.specs.Directories.{IsDistinct}
@@ -47,19 +47,17 @@ among_or_absent ns name = by_case (place_of ns name) refl
     by_case None e = inr e
     by_case (Some k) e = inl (k, e)
 
+pub among_if : (ns : List (List ℕ)) (name : List ℕ) → (IsAbsent ns name → ⊥) → IsAmong ns name
+among_if ns name not = by_case (among_or_absent ns name)
+  where
+    by_case : IsAmong ns name ⊎ IsAbsent ns name → IsAmong ns name
+    by_case (inl h) = h
+    by_case (inr h) = absurd (not h)
+
 pub not_both : (ns : List (List ℕ)) (name : List ℕ) → IsAmong ns name → IsAbsent ns name → ⊥
 not_both ns name (k, is) none = none-some k (sym none ∙ is)
 
 -- a list with one more element
-pub get_front : {A : Type 0} (xs ys : List A) (j : ℕ) (y : A) → slice_get xs j ≡ Some y → slice_get (xs ++ ys) j ≡ Some y
-get_front [] ys j y at = absurd (none-some y at)
-get_front (x ∷ xs) ys zero y at = at
-get_front (x ∷ xs) ys (suc j) y at = get_front xs ys j y at
-
-pub get_last : {A : Type 0} (xs : List A) (x : A) → slice_get (xs ++ x ∷ []) (length xs) ≡ Some x
-get_last [] x = refl
-get_last (y ∷ xs) x = get_last xs x
-
 pub get_snoc : {A : Type 0} (xs : List A) (x : A) (j : ℕ) (y : A) → slice_get (xs ++ x ∷ []) j ≡ Some y → (slice_get xs j ≡ Some y) ⊎ ((j ≡ length xs) × (x ≡ y))
 get_snoc [] x zero y at = inr (refl, same_Some x y at)
 get_snoc [] x (suc j) y at = absurd (none-some y at)
@@ -76,12 +74,6 @@ get_take [] (suc i) j y at = absurd (none-some y at)
 get_take (x ∷ xs) (suc i) zero y at = (omega arith, at)
 get_take (x ∷ xs) (suc i) (suc j) y at = let h = get_take xs i j y at in (omega (arith, h.0), h.1)
 
-pub take_get : {A : Type 0} (xs : List A) (i j : ℕ) (y : A) → j < i → slice_get xs j ≡ Some y → slice_get (take i xs) j ≡ Some y
-take_get xs zero j y lt at = absurd (omega arith)
-take_get [] (suc i) j y lt at = absurd (none-some y at)
-take_get (x ∷ xs) (suc i) zero y lt at = at
-take_get (x ∷ xs) (suc i) (suc j) y lt at = take_get xs i j y (omega arith) at
-
 pub absent_snoc : (ns : List (List ℕ)) (n name : List ℕ) → IsAbsent ns name → (n ≡ name → ⊥) → IsAbsent (ns ++ n ∷ []) name
 absent_snoc ns n name none other = nowhere_is_none (ns ++ n ∷ []) name (λ j at. by_case j (get_snoc ns n j name at))
   where
@@ -91,7 +83,7 @@ absent_snoc ns n name none other = nowhere_is_none (ns ++ n ∷ []) name (λ j a
 
 pub absent_front : (ns : List (List ℕ)) (n name : List ℕ) → IsAbsent (ns ++ n ∷ []) name → IsAbsent ns name × (n ≡ name → ⊥)
 absent_front ns n name none = (
-  nowhere_is_none ns name (λ j at. stands_nowhere (ns ++ n ∷ []) name j none (get_front ns (n ∷ []) j name at)),
+  nowhere_is_none ns name (λ j at. stands_nowhere (ns ++ n ∷ []) name j none (get_left ns (n ∷ []) j name at)),
   λ same. stands_nowhere (ns ++ n ∷ []) name (length ns) none (get_last ns n ∙ ap Some same),
 )
 
@@ -130,7 +122,7 @@ among_before list i name at other =
     let (k, le, found) = first_before list name i at in
     let apart : k ≡ i → ⊥ = λ e. other (found ∙ ap Some e) in
     let low : k < i = omega arith in
-    by_case k (among_or_absent (take i list) name) (take_get list i k name low (found_there list name k found))
+    by_case k (among_or_absent (take i list) name) (get_taken list i k name low (found_there list name k found))
   where
     by_case : (k : ℕ) → IsAmong (take i list) name ⊎ IsAbsent (take i list) name → slice_get (take i list) k ≡ Some name → IsAmong (take i list) name
     by_case k (inl h) at = h
@@ -142,7 +134,7 @@ within_take list i k name found lt = by_case (among_or_absent (take i list) name
   where
     by_case : IsAmong (take i list) name ⊎ IsAbsent (take i list) name → IsAmong (take i list) name
     by_case (inl h) = h
-    by_case (inr h) = absurd (stands_nowhere (take i list) name k h (take_get list i k name lt (found_there list name k found)))
+    by_case (inr h) = absurd (stands_nowhere (take i list) name k h (get_taken list i k name lt (found_there list name k found)))
 
 pub take_within : (list : List (List ℕ)) (i : ℕ) (name : List ℕ) → IsAmong (take i list) name → (k : ℕ) × (place_of list name ≡ Some k) × (k < i)
 take_within list i name (j, is) =
@@ -223,6 +215,3 @@ told list self said n i whole read is = subst (λ l. place_of l n ≡ Some i) (s
 
 pub told_not : (list self : List (List ℕ)) (said : List ℕ) (n : List ℕ) (i : ℕ) → list ≡ self → chars said ≡ n → (place_of self (chars said) ≡ Some i → ⊥) → place_of list n ≡ Some i → ⊥
 told_not list self said n i whole read not is = not (subst (λ l. place_of l (chars said) ≡ Some i) whole (subst (λ m. place_of list m ≡ Some i) (sym read) is))
-
-pub take_next : {A : Type 0} (xs : List A) (i : ℕ) (x : A) → i < length xs → x ≡ get_or xs i x → take (i + 1) xs ≡ take i xs ++ x ∷ []
-take_next xs i x lt at = take_more xs i x lt ∙ ap (λ y. take i xs ++ y ∷ []) (sym at)

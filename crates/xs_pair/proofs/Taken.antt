@@ -3,6 +3,7 @@ use Rattle.std.proofs.Common.{◌≡◌, ◌∙◌, ◌<◌, ◌+◌, ap, sym, r
 use Rattle.std.specs.Prelude.{filter, IsTrue, ◌↔◌, if◌then◌else◌}
 use Rattle.std.specs.declared.option.Option.{Option}
 use Rattle.std.proofs.lemmas.List.{take-append-drop, take_at, length-take-le}
+use Rattle.xs_class.proofs.Lists.{take_next}
 use Rattle.xs_sheet.specs.declared.unit.Unit.{Unit}
 use Rattle.xs_sheet.specs.declared.unit.Unit.TheVariants as V
 use Rattle.xs_pair.specs.declared.names.Sort.{Sort}
@@ -11,7 +12,7 @@ use Rattle.xs_pair.specs.declared.outline.Outline.{Outline}
 use Rattle.xs_pair.specs.Units.{names_of, is_of, unit_name}
 use Rattle.xs_pair.specs.Rules.{IsAmong, IsTwice}
 use Rattle.xs_pair.specs.Verdict.{IsTaken, IsWithin, IsFirstLine, IsLineWhere, earlier}
-use Rattle.xs_pair.proofs.Places.{within_take, take_within, take_next, when_true, when_false}
+use Rattle.xs_pair.proofs.Places.{within_take, take_within, when_true, when_false}
 use Rattle.xs_pair.proofs.Lines.{take_passes, take_fails}
 
 pub names-append : (sort : Sort) (xs ys : List Unit) → names_of sort (xs ++ ys) ≡ names_of sort xs ++ names_of sort ys

@@ -1,5 +1,4 @@
 ghost use Rattle.std.specs.Prelude.{◌≡◌, ◌++◌, ◌∷◌, ◌<◌, [], IfOk, OnOk};
-ghost use Rattle.std.specs.Str.{chars};
 ghost use Rattle.xs_gram.specs.declared.parts.GItem.TheVariants as G;
 ghost use Rattle.xs_gram.specs.Building.{EachOf, IsFit};
 ghost use Rattle.xs_regex.specs.declared.regex.Regex.{Regex as AnyRegex};
@@ -14,29 +13,11 @@ ghost use Rattle.xs_pair.specs.Grammars.{flat_item, flat_mark, flat_marks, named
 use crate::outline::Outline;
 use crate::slots::slot_directory;
 use crate::{Directory, Mark, Rule};
-use std::alloc::{AllocError, Global};
-use xs_class::{ATTR_END, Memory, Names, Side, Sym, Text, Word};
+use std::alloc::Global;
+use xs_class::{ATTR_END, Memory, Names, Side, Sym, Text, Word, word_of};
 use xs_gram::{GItem, GItems, GramParts, Regexes, RulePart, Rules, SkipPart, Skips};
 use xs_regex::{Regex, RegexFault, read_regex};
 use xs_sheet::{Item, Sheet, Unit};
-
-fn letters(alloc: Global, text: &str) -> Result<Vec<char>, AllocError>
-    ensures { IfOk result (λ v. v.items ≡ chars text.now) }
-{
-    text.chars().collect(alloc)
-}
-
-/// The word of a text's characters.
-fn word_of(alloc: Global, text: &Text) -> Result<Word, Memory>
-    ensures { IfOk result (λ w. w ≡ text.now) }
-{
-    let letters = letters(alloc, text.as_str())?;
-    let mut word = Word::new(alloc);
-    'letters: for letter in &letters {
-        word.push(Sym::of_char(*letter))?;
-    }
-    Ok(word)
-}
 
 /// The number of a name that is in the directory.
 fn number(directory: &Directory, name: &Text) -> u32

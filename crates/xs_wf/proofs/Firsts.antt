@@ -10,6 +10,7 @@ use Rattle.xs_class.specs.Ordered.{place_of}
 use Rattle.xs_class.specs.declared.side.Side.{Side}
 use Rattle.xs_class.specs.declared.side.Side.TheVariants.{Text}
 use Rattle.xs_class.proofs.Places.{first_is_found, nowhere_is_none}
+use Rattle.xs_class.proofs.Lists.{get_left, get_taken}
 use Rattle.xs_sheet.specs.declared.sheet.Sheet.{Sheet}
 use Rattle.xs_gram.specs.declared.parts.RulePart.{RulePart}
 use Rattle.xs_gram.specs.Grammar.{Grammar, no_rule, rule_of, IsRuleOf}
@@ -23,7 +24,7 @@ use Rattle.xs_pair.specs.Rules.{IsAmong, IsAbsent}
 use Rattle.xs_pair.specs.Units.{names_of, nons_of, with_name, with_names, firsts, number_of}
 use Rattle.xs_pair.specs.Verdict.{IsFirstLine}
 use Rattle.xs_pair.proofs.Numbering.{number_is, among_at, firsts_have, rule_names, rule_is_named}
-use Rattle.xs_pair.proofs.Places.{found_there, first_before, stands_nowhere, among_or_absent, get_front, get_snoc, get_take, take_get, absent_snoc}
+use Rattle.xs_pair.proofs.Places.{found_there, first_before, stands_nowhere, among_or_absent, get_snoc, get_take, absent_snoc}
 use Rattle.xs_wf.specs.Nonterminals.{IsFirstRule, IsFirstLineOf, IsLineOfSome, IsFirstNon, IsPair, HaveOrderedLines}
 use Rattle.xs_pair.proofs.Alike.{at_map}
 
@@ -35,7 +36,7 @@ front_get (z ∷ xs) ys (suc j) x lt at = front_get xs ys j x (omega arith) at
 
 -- a name's first place, with more names after
 place_front : (xs ys : List (List ℕ)) (x : List ℕ) (k : ℕ) → place_of xs x ≡ Some k → place_of (xs ++ ys) x ≡ Some k
-place_front xs ys x k is = first_is_found (xs ++ ys) x k (get_front xs ys k x (found_there xs x k is)) (λ j lt at. earlier j lt at)
+place_front xs ys x k is = first_is_found (xs ++ ys) x k (get_left xs ys k x (found_there xs x k is)) (λ j lt at. earlier j lt at)
   where
     earlier : (j : ℕ) → j < k → slice_get (xs ++ ys) j ≡ Some x → ⊥
     earlier j lt at =
@@ -151,7 +152,7 @@ rules_in_order s names side g is n m j k one two less = by_case (cases_lt j k)
     before x y at_y place_x place_y lt =
         let heads : List (List ℕ) = names_of S.Production s.units in
         let none : IsAbsent (take j heads) x = nowhere_is_none (take j heads) x (λ i at. let h = get_take heads j i x at in one.first i h.0 (name_rule s names side g is n i x h.1 place_x)) in
-        earlier_number heads j x y n m none (among_at (take j heads) k y (take_get heads j k y lt at_y)) place_x place_y
+        earlier_number heads j x y n m none (among_at (take j heads) k y (get_taken heads j k y lt at_y)) place_x place_y
 
     not_before : k ≤ j → (k < j) ⊎ (j ≤ k) → j < k
     not_before le (inl lt) =

@@ -1,9 +1,11 @@
 -- What is known of the regexes of a grammar, from what was tested of the units.
-use Rattle.std.proofs.Common.{◌≡◌, ◌∙◌, ◌<◌, ◌+◌, sym, refl, subst, ℕ, suc, zero, List, [], ◌∷◌, ◌++◌, length, map, take, get_or, Some, None, Bool, true, false, slice_index_or}
+use Rattle.std.proofs.Common.{◌≡◌, ◌∙◌, ◌<◌, ◌+◌, sym, refl, subst, ℕ, List, [], ◌∷◌, length, map, take, get_or, Some, None, Bool, true, false}
 use Rattle.std.specs.Prelude.{if◌then◌else◌}
 use Rattle.std.specs.declared.option.Option.{Option}
 use Rattle.std.proofs.lemmas.Option.{none-some}
 use Rattle.xs_class.specs.declared.side.Side.{Side}
+use Rattle.xs_class.proofs.Lists.{take_next}
+use Rattle.xs_gram.proofs.Each.{each_map, each_or, each_push}
 use Rattle.xs_regex.specs.declared.regex.Regex.{Regex}
 use Rattle.xs_regex.specs.Matches.{Matches}
 use Rattle.xs_regex.specs.Size.{HasMembers}
@@ -21,21 +23,10 @@ use Rattle.xs_gram.specs.Laws.{HasNormals}
 use Rattle.xs_pair.specs.declared.ill.IllRule.TheVariants as R
 use Rattle.xs_pair.specs.Grammars.{AreTermsOf, AreSkipsOf, IsGramOf}
 use Rattle.xs_pair.specs.Verdict.{earlier}
-use Rattle.xs_pair.proofs.Places.{take_next}
 use Rattle.xs_wf.specs.Units.{AreFine}
 use Rattle.xs_wf.proofs.Patterns.{same_members}
-use Rattle.xs_gram.proofs.Ready.{each_map}
 
 -- P holds at each number, where it holds of what stands for one that is not there
-each_or : {A : Type 0} (P : A → Type 0) (xs : List A) (d : A) (n : ℕ) → EachOf P xs → P d → P (slice_index_or xs n d)
-each_or P [] d n each out = out
-each_or P (x ∷ xs) d zero each out = each.0
-each_or P (x ∷ xs) d (suc n) each out = each_or P xs d n each.1 out
-
-each_push : {A : Type 0} (P : A → Type 0) (xs : List A) (x : A) → EachOf P xs → P x → EachOf P (xs ++ x ∷ [])
-each_push P [] x each here = (here, tt)
-each_push P (y ∷ xs) x each here = (each.0, each_push P xs x each.1 here)
-
 -- over the front of a list that grows by its next element, where no line was found
 pub fine_next : {A : Type 0} (P : A → Type 0) (xs : List A) (i : ℕ) (x : A) (o p : Option ℕ) (line : ℕ) (b : Bool) → i < length xs → x ≡ get_or xs i x → (b ≡ false → P x) → p ≡ (if b then Some (earlier o line) else o) → (o ≡ None → EachOf P (take i xs)) → p ≡ None → EachOf P (take (i + 1) xs)
 fine_next P xs i x o p line true lt at here is before none = absurd (none-some (earlier o line) (sym none ∙ is))

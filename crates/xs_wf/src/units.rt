@@ -1,12 +1,11 @@
 ghost use Rattle.std.specs.Prelude.{◌≡◌, ◌↔◌, false, IsTrue, IfOk};
-ghost use Rattle.std.specs.Str.{chars};
 ghost use Rattle.xs_regex.specs.Size.{HasMember, HasMembers};
 ghost use Rattle.xs_sheet.specs.Grammar.{HasRegex};
 ghost use Rattle.xs_pair.specs.Rules.{SomeOf};
 ghost use Rattle.xs_wf.specs.Units.{IsStrange, HasStrange, IsStrangeItem, IsStrangeMark, IsStrangeRule, IsEmptyUnit, IsStrangeUnit, IsUnmatchedUnit, IsFullUnit, IsMatchedUnit};
 
-use std::alloc::{AllocError, Global};
-use xs_class::{Class, Memory, Sym, Text, Word, is_char};
+use std::alloc::Global;
+use xs_class::{Class, Memory, Text, is_char, letters, word_of};
 use xs_pair::{Mark, Rule};
 use xs_regex::{Regex, matches};
 use xs_sheet::{Item, Unit};
@@ -59,12 +58,6 @@ pub fn is_empty_unit(unit: &Unit) -> bool
         Unit::Ignorable { regex, .. } => !has_members(regex),
         Unit::Production { .. } => false,
     }
-}
-
-fn letters(alloc: Global, text: &str) -> Result<Vec<char>, AllocError>
-    ensures { IfOk result (λ v. v.items ≡ chars text.now) }
-{
-    text.chars().collect(alloc)
 }
 
 fn is_strange(letter: char) -> bool
@@ -136,18 +129,6 @@ pub fn is_strange_unit(alloc: Global, unit: &Unit) -> Result<bool, Memory>
         Unit::Terminal { .. } => Ok(false),
         Unit::Production { .. } => Ok(false),
     }
-}
-
-/// The word of a text's characters.
-fn word_of(alloc: Global, text: &Text) -> Result<Word, Memory>
-    ensures { IfOk result (λ w. w ≡ text.now) }
-{
-    let letters = letters(alloc, text.as_str())?;
-    let mut word = Word::new(alloc);
-    'letters: for letter in &letters {
-        word.push(Sym::of_char(*letter))?;
-    }
-    Ok(word)
 }
 
 /// Whether the regex of an ignorable does not match its normal spelling.

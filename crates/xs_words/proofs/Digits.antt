@@ -1,6 +1,7 @@
 -- More digits make no number smaller.
 use Rattle.std.proofs.Common.{◌≡◌, ◌∙◌, ℕ, suc, ◌+◌, ◌-◌, ◌*◌, ◌<◌, true, false, List, [], ◌∷◌, None, refl, sym, ap, cond, length, drop, get_or, arith, drop-cons}
-use Rattle.xs_words.specs.Number.{number_after, within, is_digit}
+use Rattle.xs_class.specs.Words.{is_digit}
+use Rattle.xs_words.specs.Number.{number_after, within}
 
 pub beyond : (n : ℕ) (bs : List ℕ) (least most : ℕ) → most < n → within least most (number_after n bs) ≡ None
 beyond n [] least most h = grind arith

@@ -1,9 +1,7 @@
 -- Numbers in decimal digits, without a sign and without a leading zero but for 0 itself.
 use Rattle.std.specs.Prelude.{ℕ, ◌+◌, ◌-◌, ◌*◌, Bool, true, false, List, [], ◌∷◌, None, Some, ◌==◌, ◌&&◌, not, nat_le, if◌then◌else◌}
 use Rattle.std.specs.declared.option.Option.{Option}
-
-abbrev pub is_digit : ℕ → Bool
-is_digit b = nat_le 48 b && nat_le b 57
+use Rattle.xs_class.specs.Words.{is_digit}
 
 -- there is a digit, and where more follow it is no zero
 abbrev pub begins_well : List ℕ → Bool

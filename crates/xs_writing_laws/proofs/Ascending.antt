@@ -1,5 +1,5 @@
 -- Attributes in ascending order of their names' numbers.
-use Rattle.std.proofs.Common.{◌≡◌, ◌≢◌, ◌∙◌, ◌⊎◌, ◌<◌, ◌≤◌, ℕ, suc, List, [], ◌∷◌, map, length, take, drop, get_or, Bool, true, false, cond, ltb, Some, refl, sym, ap, subst, inl, inr, arith, encode_utf8_all, if◌then◌else◌}
+use Rattle.std.proofs.Common.{◌≡◌, ◌≢◌, ◌∙◌, ◌⊎◌, ◌<◌, ◌≤◌, ℕ, suc, List, [], ◌∷◌, map, take, drop, get_or, Bool, true, false, cond, ltb, Some, refl, sym, ap, subst, inl, inr, arith, encode_utf8_all, if◌then◌else◌}
 use Rattle.std.specs.Prelude.{slice_get}
 use Rattle.std.specs.List.{insert}
 use Rattle.std.specs.Ordering.{nat_cmp, is_lt}
@@ -16,8 +16,10 @@ use Rattle.xs_pair.specs.Rules.{IsAmong, HasRepeat}
 use Rattle.xs_pair.specs.Units.{number_of, or_zero}
 use Rattle.xs_pair.specs.Marks.{is_before, place_before, placed, by_name, attr_names}
 use Rattle.xs_pair.proofs.Places.{found_there}
-use Rattle.xs_writing_laws.proofs.Lists.{each_append, each_inserted, each_take, each_drop}
+use Rattle.xs_writing_laws.proofs.Lists.{each_inserted, each_take, each_drop}
 use Rattle.xs_class.proofs.Places.{not_lower}
+use Rattle.xs_pair.proofs.Buildable.{same_number, repeat_later}
+use Rattle.xs_gram.proofs.Each.{each_append}
 
 -- a number put before the first one above it
 abbrev put : ℕ → List ℕ → List ℕ
@@ -75,16 +77,6 @@ rises_all ns (x ∷ xs) up apart once = rises_all (put x ns) xs (rises_put 0 x n
 apart_nothing : (xs : List ℕ) → Apart [] xs
 apart_nothing [] = tt
 apart_nothing (x ∷ xs) = (tt, apart_nothing xs)
-
--- a name among names has a number below their count
-pub among_below : (names : List (List ℕ)) (name : List ℕ) → IsAmong names name → number_of names name < length names
-among_below names name among = subst (λ k. k < length names) (sym (ap or_zero among.1)) (slice_get_within names among.0 name (found_there names name among.0 among.1))
-
--- names with one number are one name
-pub same_number : (names : List (List ℕ)) (a b : List ℕ) → IsAmong names a → IsAmong names b → number_of names a ≡ number_of names b → a ≡ b
-same_number names a b at bt same =
-    let one : at.0 ≡ bt.0 = sym (ap or_zero at.1) ∙ same ∙ ap or_zero bt.1 in
-    same_Some a b (sym (found_there names a at.0 at.1) ∙ ap (λ k. slice_get names k) one ∙ found_there names b bt.0 bt.1)
 
 earlier : (names : List (List ℕ)) → IsOrdered names → (a b : List ℕ) (j k : ℕ) → slice_get names j ≡ Some a → slice_get names k ≡ Some b → j < k → slice_cmp nat_cmp (encode_utf8_all a) (encode_utf8_all b) ≡ Less
 earlier names up a b j k at bt lt =
@@ -146,13 +138,10 @@ apart_from : (names : List (List ℕ)) (name : List ℕ) → IsAmong names name 
 apart_from names name among [] are never = tt
 apart_from names name among (b ∷ bs) are never = (λ same. never 0 (ap Some (same_number names b.name name are.0 among same)), apart_from names name among bs are.1 (λ k at. never (suc k) at))
 
-later_repeat : (name : List ℕ) (names : List (List ℕ)) → HasRepeat names → HasRepeat (name ∷ names)
-later_repeat name names r = let lt = r.before in record { name = r.name; j = suc r.j; k = suc r.k; before = omega arith; first_at = r.first_at; again_at = r.again_at }
-
 numbers_once : (names : List (List ℕ)) (attrs : List Attr) → AreAmong names attrs → (HasRepeat (attr_names attrs) → ⊥) → Once (numbers names attrs)
 numbers_once names [] are never = tt
 numbers_once names (a ∷ attrs) are never =
-    (apart_from names a.name are.0 attrs are.1 (λ k at. never (record { name = a.name; j = 0; k = suc k; before = omega arith; first_at = refl; again_at = at })), numbers_once names attrs are.1 (λ r. never (later_repeat a.name (attr_names attrs) r)))
+    (apart_from names a.name are.0 attrs are.1 (λ k at. never (record { name = a.name; j = 0; k = suc k; before = omega arith; first_at = refl; again_at = at })), numbers_once names attrs are.1 (λ r. never (repeat_later a.name (attr_names attrs) r)))
 
 -- sorted by name, attributes that differ in name have numbers that rise
 pub sorted_rise : (names : List (List ℕ)) → IsOrdered names → (attrs : List Attr) → AreAmong names (by_name attrs) → (HasRepeat (attr_names attrs) → ⊥) → Rises 0 (numbers names (by_name attrs))

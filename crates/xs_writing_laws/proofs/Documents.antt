@@ -2,6 +2,8 @@
 use Rattle.std.proofs.Common.{◌≡◌, ◌∙◌, ◌<◌, ℕ, List, [], ◌∷◌, map, length, true, refl, sym, subst, inl, inr}
 use Rattle.xs_class.specs.declared.side.Side.TheVariants.{Xml}
 use Rattle.xs_class.specs.Ordered.{IsOrdered}
+use Rattle.xs_pair.proofs.Buildable.{same_number}
+use Rattle.xs_gram.proofs.Each.{each_weaker}
 use Rattle.xs_sheet.specs.declared.x_item.XItem.{XItem}
 use Rattle.xs_sheet.specs.declared.sheet.Sheet.{Sheet}
 use Rattle.xs_sheet.specs.declared.unit.Unit.{Unit as SheetUnit}
@@ -27,12 +29,10 @@ use Rattle.xs_writing_laws.proofs.Lists.{each_at, each_in}
 use Rattle.xs_writing_laws.proofs.Spelling.{IsSpelt, gram_spelt}
 use Rattle.xs_writing_laws.proofs.Nested as N
 use Rattle.xs_writing_laws.proofs.Nested.{IsNested, IsElement, all_nested, root_element}
-use Rattle.xs_writing_laws.proofs.Ascending.{same_number}
 use Rattle.xs_writing_laws.proofs.Cuts.{HasContent}
 use Rattle.xs_writing_laws.proofs.Elements.{IsGood, nested_content, element_balanced}
 use Rattle.xs_writing_laws.proofs.Heads.{heads_among, head_among}
 use Rattle.xs_writing_laws.proofs.Good.{good_rules, root_rules}
-use Rattle.xs_gram.proofs.Ready.{each_weaker}
 
 -- the XML side of a production is that of items of a sheet
 abbrev IsShaped : Rule → Type 0

@@ -4,6 +4,8 @@ use Rattle.std.specs.declared.option.Option.{Option}
 use Rattle.std.proofs.lemmas.List.Concat.{flat_map-append}
 use Rattle.xs_class.specs.Marks.{attr_end, opening_mark, attribute_mark, closing_mark}
 use Rattle.xs_class.specs.Ordered.{IsOrdered}
+use Rattle.xs_pair.proofs.Numbering.{number_bound}
+use Rattle.xs_gram.proofs.Each.{each_append}
 use Rattle.xs_sheet.specs.declared.item.Item.{Item}
 use Rattle.xs_sheet.specs.declared.item.Item.TheVariants as I
 use Rattle.xs_sheet.specs.declared.x_item.Attr.{Attr}
@@ -22,12 +24,12 @@ use Rattle.xs_pair.specs.Units.{number_of}
 use Rattle.xs_pair.specs.Rules.{IsAmong, HasRepeat}
 use Rattle.xs_pair.specs.Grammars.{Numbering, named_item, fixed_item, flat_item, flat_mark, flat_marks}
 use Rattle.xs_writing_laws.specs.Laws.{AreChars, HasChars}
-use Rattle.xs_writing_laws.proofs.Lists.{each_append, each_front, each_back}
+use Rattle.xs_writing_laws.proofs.Lists.{each_front, each_back}
 use Rattle.xs_writing_laws.proofs.Spelling.{IsSpelt}
 use Rattle.xs_writing_laws.proofs.Texts.{text_item}
 use Rattle.xs_writing_laws.proofs.Nested as N
 use Rattle.xs_writing_laws.proofs.Nested.{IsNested, IsElement}
-use Rattle.xs_writing_laws.proofs.Ascending.{Rises, numbers, attr_number, AreAmong, among_below, sorted_rise}
+use Rattle.xs_writing_laws.proofs.Ascending.{Rises, numbers, attr_number, AreAmong, sorted_rise}
 use Rattle.xs_writing_laws.proofs.Cuts.{HasContent, cut, after, attributes_more, content_append, IsValueItem, value_word, content_word}
 
 -- a string of characters of XML, a terminal or an ignorable
@@ -89,7 +91,7 @@ attrs_parts g n slots spelt (a ∷ attrs) ps good fit inner =
     let values : EachOf IsValueItem (flat_marks n slots (map Value a.value)) = value_items n slots a.value (each_front (IsGood n) (map Value a.value) (AttributeEnd ∷ []) here.1) in
     record {
       all = record { name = k; value = parts_yield c.front } ∷ more.all;
-      are = (among_below n.names a.name here.0, value_word g spelt (flat_marks n slots (map Value a.value)) c.front values c.fits_front, more.are);
+      are = (number_bound n.names a.name here.0, value_word g spelt (flat_marks n slots (map Value a.value)) c.front values c.fits_front, more.are);
       are_numbered = numbers_more n.names a attrs (parts_yield c.front) more.all more.are_numbered;
       is = attr_word (attribute_mark k) attr_end (parts_yield ps) (parts_yield first.rest) (parts_yield c.front) (parts_yield c.back) (parts_yield last.rest) (attributes_word more.all []) first.is_word c.is_word last.is_word more.is;
     }
@@ -153,7 +155,7 @@ element_parts g n slots spelt up tag attrs inner rest ps good fit content =
       attributes = has.all;
       front = d.front;
       back = last.rest;
-      is_named = among_below n.names tag good.0.0;
+      is_named = number_bound n.names tag good.0.0;
       are_attributes = has.are;
       is_ascending = numbered_ascend (numbers n.names sorted) has.all has.are_numbered rise;
       fits_front = d.fits_front;

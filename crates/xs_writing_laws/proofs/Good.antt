@@ -4,6 +4,7 @@ use Rattle.std.specs.Prelude.{slice_get}
 use Rattle.std.specs.List.{Contains}
 use Rattle.std.proofs.lemmas.Option.{get_or_from_slice_get, slice_get_within, slice_get-get_or}
 use Rattle.xs_class.specs.Ordered.{AreNamesOf}
+use Rattle.xs_gram.proofs.Each.{each_weaker}
 use Rattle.xs_sheet.specs.declared.item.Item.{Item}
 use Rattle.xs_sheet.specs.declared.item.Item.TheVariants as I
 use Rattle.xs_sheet.specs.declared.sheet.Sheet.{Sheet}
@@ -19,7 +20,6 @@ use Rattle.xs_pair.proofs.Places.{first_before, among_or_absent}
 use Rattle.xs_writing_laws.specs.Laws.{HasChars, IsOfChars, IsWritable}
 use Rattle.xs_writing_laws.proofs.Lists.{each_get, each_of_flat_map}
 use Rattle.xs_writing_laws.proofs.Elements.{IsValue, IsGood}
-use Rattle.xs_gram.proofs.Ready.{each_weaker}
 
 -- what holds of no element does not hold of each
 pub none_of : {A : Type 0} (P : A → Type 0) (xs : List A) → (SomeOf P xs → ⊥) → EachOf (λ x. P x → ⊥) xs

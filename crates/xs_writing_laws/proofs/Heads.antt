@@ -1,9 +1,9 @@
 -- The names of productions, and the numbers of nonterminals.
-use Rattle.std.proofs.Common.{◌≡◌, ℕ, zero, suc, List, [], ◌∷◌, ◌++◌, length, None, Some, refl, subst}
+use Rattle.std.proofs.Common.{◌≡◌, ℕ, zero, suc, List, [], ◌∷◌, Some, refl, subst}
 use Rattle.std.specs.Prelude.{slice_get}
-use Rattle.std.specs.declared.option.Option.{Option}
 use Rattle.std.proofs.lemmas.Option.{none-some, same_Some}
-use Rattle.xs_class.specs.Ordered.{place_of}
+use Rattle.xs_pair.proofs.Numbering.{put_in, with_names_kept}
+use Rattle.xs_gram.proofs.Each.{each_weaker}
 use Rattle.xs_sheet.specs.declared.unit.Unit.{Unit as SheetUnit}
 use Rattle.xs_sheet.specs.declared.unit.Unit.TheVariants.{Terminal, Ignorable, Production}
 use Rattle.xs_gram.specs.Building.{EachOf}
@@ -12,33 +12,10 @@ use Rattle.xs_pair.specs.declared.production.Rule.{Rule}
 use Rattle.xs_pair.specs.Rules.{IsAmong}
 use Rattle.xs_pair.specs.Units.{with_name, with_names, names_of, nons_of}
 use Rattle.xs_pair.specs.Listing.{rules_of}
-use Rattle.xs_pair.proofs.Places.{found_there, first_before, get_front, get_last}
-use Rattle.xs_gram.proofs.Ready.{each_weaker}
-
-stands_among : (names : List (List ℕ)) (name : List ℕ) (j : ℕ) → slice_get names j ≡ Some name → IsAmong names name
-stands_among names name j at = let found = first_before names name j at in (found.0, found.2)
-
-kept_more : (names : List (List ℕ)) (n m : List ℕ) → IsAmong names m → IsAmong (with_name names n) m
-kept_more names n m among = by (place_of names n)
-  where
-    by : (o : Option ℕ) → IsAmong (elim o [ None ↦ names ++ n ∷ [] | Some k ↦ names ]) m
-    by None = stands_among (names ++ n ∷ []) m among.0 (get_front names (n ∷ []) among.0 m (found_there names m among.0 among.1))
-    by (Some k) = among
-
-added_more : (names : List (List ℕ)) (n : List ℕ) → IsAmong (with_name names n) n
-added_more names n = by (place_of names n) refl
-  where
-    by : (o : Option ℕ) → place_of names n ≡ o → IsAmong (elim o [ None ↦ names ++ n ∷ [] | Some k ↦ names ]) n
-    by None at = stands_among (names ++ n ∷ []) n (length names) (get_last names n)
-    by (Some k) at = (k, at)
-
-all_kept : (names list : List (List ℕ)) (m : List ℕ) → IsAmong names m → IsAmong (with_names names list) m
-all_kept names [] m among = among
-all_kept names (n ∷ ns) m among = all_kept (with_name names n) ns m (kept_more names n m among)
 
 all_added : (names list : List (List ℕ)) (m : List ℕ) (k : ℕ) → slice_get list k ≡ Some m → IsAmong (with_names names list) m
 all_added names [] m k at = absurd (none-some m at)
-all_added names (n ∷ ns) m zero at = all_kept (with_name names n) ns m (subst (λ x. IsAmong (with_name names n) x) (same_Some n m at) (added_more names n))
+all_added names (n ∷ ns) m zero at = with_names_kept (with_name names n) ns m (subst (λ x. IsAmong (with_name names n) x) (same_Some n m at) (put_in names n))
 all_added names (n ∷ ns) m (suc k) at = all_added (with_name names n) ns m k at
 
 -- a name of a production is that of a nonterminal

@@ -3,6 +3,7 @@ use Rattle.std.proofs.Common.{◌<◌, ℕ, List, [], ◌∷◌, ◌++◌, map, 
 use Rattle.std.specs.List.{insert, Contains}
 use Rattle.std.proofs.lemmas.List.Elements.{Contains-get_or}
 use Rattle.xs_class.specs.Ordered.{AreNamesOf}
+use Rattle.xs_gram.proofs.Each.{each_append}
 use Rattle.xs_sheet.specs.declared.item.Item.{Item}
 use Rattle.xs_sheet.specs.declared.x_item.Attr.{Attr}
 use Rattle.xs_sheet.specs.declared.x_item.XItem.{XItem, Plain, Element}
@@ -18,7 +19,7 @@ use Rattle.xs_pair.specs.Listing.{rules_of, names_in}
 use Rattle.xs_pair.specs.Marks.{marks_of, all_marks, mark_name, mark_names, attr_marks, attrs_marks, by_name, placed, place_before, opening_marks}
 use Rattle.xs_pair.proofs.Marks.{marks_plain, marks_element}
 use Rattle.xs_writing_laws.specs.Laws.{NamesAreNames}
-use Rattle.xs_writing_laws.proofs.Lists.{each_append, each_flat_map, each_in}
+use Rattle.xs_writing_laws.proofs.Lists.{each_flat_map, each_in}
 use Rattle.xs_writing_laws.proofs.Nested.{item_induction}
 use Rattle.xs_writing_laws.proofs.Ascending.{each_insert}
 use Rattle.xs_writing_laws.proofs.NamesRead.{IsXmlName, IsNamed, HasNames, UnitHasNames, sheet_read}

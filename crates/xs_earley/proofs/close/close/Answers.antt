@@ -1,6 +1,7 @@
 use Rattle.std.proofs.Common.{◌≡◌, ◌≢◌, ◌<◌, ◌+◌, ◌∙◌, ℕ, List, length, sym, subst, arith, inl, inr}
 use Rattle.std.proofs.lemmas.Bool.{cases_lt}
 use Rattle.std.proofs.lemmas.Option.{slice_get_within}
+use Rattle.xs_class.proofs.Lists.{contains_of}
 use Rattle.xs_chart.specs.declared.item.Item.{Item}
 use Rattle.xs_chart.specs.Charted.{Charted, items_of}
 use Rattle.xs_gram.specs.Grammar.{Grammar}
@@ -9,7 +10,6 @@ use Rattle.xs_chart_laws.specs.Charts.{set_at}
 use Rattle.xs_chart_laws.proofs.Words.{get_lt, get_some}
 use Rattle.xs_earley.specs.Growing.{Grown, IsSettledAt, IsOpen}
 use Rattle.xs_earley.specs.Waiting.{Waited}
-use Rattle.xs_earley.proofs.Additions.{at_contains}
 use Rattle.xs_earley.proofs.Completing.{waiting_same}
 use Rattle.xs_earley.proofs.Growths.{grown_none, grown_then, settled_at_more, open_more, grows_item_more}
 use Rattle.xs_earley.proofs.Queues.{waits_more}
@@ -17,7 +17,7 @@ use Rattle.xs_earley.proofs.close.close.Goals as goal
 
 pub enlist-requires-clause-numbers : goal.enlist-requires-clause-numbers
 enlist-requires-clause-numbers c item e =
-    let st = c.items.invariant.ready.stand c.args.at item (at_contains (items_of c.items.chart c.args.at) c.items.k item e) in
+    let st = c.items.invariant.ready.stand c.args.at item (contains_of (items_of c.items.chart c.args.at) c.items.k item e) in
     get_lt (all_places c.args.g.now) item.state st.0 st.1
 
 -- the set stays open while a number is put in a waiting list of it

@@ -1,14 +1,14 @@
 use Rattle.xs_gram.specs.Places.{all_places}
 use Rattle.xs_chart_laws.proofs.Words.{get_lt}
 use Rattle.xs_chart_laws.specs.Charts.{set_at}
-use Rattle.xs_earley.proofs.Additions.{at_contains}
 use Rattle.xs_earley.proofs.Settlings.{settled_by_place, stands_by_place}
 use Rattle.xs_earley.proofs.settle.settle.Goals as goal
+use Rattle.xs_class.proofs.Lists.{contains_of}
 
 pub place-place-requires : goal.place-place-requires
 place-place-requires c =
     let item = c.item-item.result in
-    let st = c.requires.open.stand c.args.at item (at_contains (set_at c.args.chart.now.sets c.args.at) c.args.k item c.item-item.ensures) in
+    let st = c.requires.open.stand c.args.at item (contains_of (set_at c.args.chart.now.sets c.args.at) c.args.k item c.item-item.ensures) in
     get_lt (all_places c.args.g.now) item.state st.0 st.1
 
 pub settle_place-requires-clause-stands : goal.settle_place-requires-clause-stands

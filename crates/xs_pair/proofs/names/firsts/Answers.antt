@@ -1,9 +1,10 @@
 use Rattle.std.proofs.Common.{arith, length, ◌≡◌, ◌+◌, ◌∙◌, sym, refl, ap, take, List, [], ◌∷◌, ◌++◌, ℕ, Some}
 use Rattle.std.proofs.Math.ListN.{drop_of_length-le}
 use Rattle.xs_class.specs.Ordered.{place_of}
+use Rattle.xs_class.proofs.Lists.{take_next}
 use Rattle.xs_pair.proofs.Shorter.{firsts_short}
 use Rattle.xs_pair.specs.Units as U
-use Rattle.xs_pair.proofs.Places.{get_at, told, told_not, when_true, when_false, first_step, again_step, same_more, same_again, among_same, among_before, take_next}
+use Rattle.xs_pair.proofs.Places.{get_at, told, told_not, when_true, when_false, first_step, again_step, same_more, same_again, among_same, among_before}
 use Rattle.xs_pair.proofs.names.firsts.Goals as goal
 use Rattle.xs_pair.proofs.names.firsts.Goals.{then-is_first+in_ok-name+in_ok-push, else-is_first}
 

@@ -1,8 +1,0 @@
-use Rattle.std.proofs.Common.{◌≡◌, ℕ, [], length, get_or}
-use Rattle.xs_earley.proofs.lists.empty_lists.Given as goal
-
-abbrev pub invariant-lists : goal.invariant-lists
-invariant-lists g l = record {
-  counted : length l.lists.items ≡ l.counter;
-  empty : (k : ℕ) → get_or l.lists.items k [] ≡ [];
-}

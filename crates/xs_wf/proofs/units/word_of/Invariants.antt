@@ -1,5 +1,0 @@
-use Rattle.std.proofs.Common.{◌≡◌, take}
-use Rattle.xs_wf.proofs.units.word_of.Given as goal
-
-abbrev pub invariant-letters : goal.invariant-letters
-invariant-letters l = l.word ≡ take l.letter-index l.letter-items
