@@ -18,7 +18,7 @@ const UNITS: &[u8] =
     ignorable k = /b*/ \"\"\nignorable l = /(ab)?/ \"\"\n";
 
 /// The word of these letters.
-fn word_of(alloc: Global, letters: &[u8]) -> Result<Word, Memory>
+pub fn word_of(alloc: Global, letters: &[u8]) -> Result<Word, Memory>
     ensures { IfOk result (λ w. length w ≡ length letters.now) }
 {
     let mut word = Word::new(alloc);
@@ -51,7 +51,8 @@ fn push_rule(sheet: &mut Bytes, row: (u32, &str)) -> Result<(), Memory> {
     sheet.extend(b"</s>\n")
 }
 
-fn sheet_of(alloc: Global, rows: &[(u32, &str)]) -> Result<Bytes, Memory> {
+/// The sheet of these rules.
+pub fn sheet_of(alloc: Global, rows: &[(u32, &str)]) -> Result<Bytes, Memory> {
     let mut sheet = Bytes::of(alloc, UNITS)?;
     for row in rows {
         push_rule(&mut sheet, *row)?;
@@ -216,7 +217,7 @@ fn is_word(word: &[u8], rows: &[(u32, &str)]) -> bool {
 }
 
 /// The word whose letters are the binary digits of its number after the first, an a for each 0.
-fn numbered(alloc: Global, number: u32) -> Result<Vec<u8>, Memory> {
+pub fn numbered(alloc: Global, number: u32) -> Result<Vec<u8>, Memory> {
     let mut word = Vec::new(alloc);
     let mut begun = false;
     for place in 0..32 {

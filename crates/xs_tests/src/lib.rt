@@ -18,6 +18,8 @@ mod clauses;
 #[cfg(test)]
 mod earley;
 #[cfg(test)]
+mod examples;
+#[cfg(test)]
 mod forest;
 #[cfg(test)]
 mod form;
@@ -33,6 +35,8 @@ mod leiden;
 mod lex;
 #[cfg(test)]
 mod loose;
+#[cfg(test)]
+mod lr;
 #[cfg(test)]
 mod names;
 #[cfg(test)]
