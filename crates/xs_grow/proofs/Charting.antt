@@ -2,6 +2,7 @@
 use Rattle.std.proofs.Common.{◌≡◌, ℕ, suc, ◌<◌, List, ◌++◌, length, slice_get, Some, refl, sym, ap, ◌∙◌, subst, arith, inl, inr}
 use Rattle.std.specs.Prelude.{Contains}
 use Rattle.std.proofs.lemmas.Option.{slice_get_within}
+use Rattle.xs_class.proofs.Lists.{get_of, contains_of}
 use Rattle.xs_chart.specs.declared.item.Item.{Item}
 use Rattle.xs_gram.specs.declared.parts.GItem.{GItem}
 use Rattle.xs_gram.specs.declared.parts.GItem.TheVariants.{Fixed, Term, Non, Skip}
@@ -23,7 +24,7 @@ use Rattle.xs_grow.specs.declared.call.Call.{Call}
 use Rattle.xs_grow.specs.Lists.{HasAllOf}
 use Rattle.xs_grow.specs.Grouped.{Grouped, IsGroup, HasGroups}
 use Rattle.xs_grow.specs.Candidates.{Candidate, call_at, WholeCandidate, FrontCandidate, IsCandidate, WholeAt, EndsAt, FrontFrom, InSets, CallIn, AreCallsOf, EndOnce, HasPlaces}
-use Rattle.xs_grow.proofs.ListLemmas.{get_contains, contains_get, all_same, all_append}
+use Rattle.xs_grow.proofs.ListLemmas.{all_same, all_append}
 use Rattle.xs_grow.proofs.Growing.{mark_facts}
 
 module _ (g : Grammar) (w : List ℕ) (sets : List (List Item)) (chart : IsChartOf g w sets) where
@@ -38,11 +39,11 @@ module _ (g : Grammar) (w : List ℕ) (sets : List (List Item)) (chart : IsChart
 
   -- the item's place, by its number
   item_has : (j k : ℕ) (it : Item) (c : Place) → slice_get (set_at sets j) k ≡ Some it → IsNumber g it.state c → has j c it.origin
-  item_has j k it c at number = (it.state, number, get_contains (set_at sets j) k it at)
+  item_has j k it c at number = (it.state, number, contains_of (set_at sets j) k it at)
 
   item_rule : (j k : ℕ) (it : Item) (c : Place) → slice_get (set_at sets j) k ≡ Some it → IsNumber g it.state c → c.rule < length g.rules
   item_rule j k it c at number =
-      let s = (chart.stand j it).0 (get_contains (set_at sets j) k it at) in
+      let s = (chart.stand j it).0 (contains_of (set_at sets j) k it at) in
       let same = one_place g it.state s.0 c s.1 number in
       subst (λ (z : Place). z.rule < length g.rules) same s.2.1.0
 
@@ -70,7 +71,7 @@ module _ (g : Grammar) (w : List ℕ) (sets : List (List Item)) (chart : IsChart
       from c h =
           let lt = set_within h.end (at_dot h.rule (length (items g h.rule))) h.start h.ended in
           let it : Item = record { state = h.ended.0; origin = h.start } in
-          let at = contains_get (set_at sets h.end) it h.ended.2 in (
+          let at = get_of (set_at sets h.end) it h.ended.2 in (
             h.end,
             lt,
             (
@@ -150,7 +151,7 @@ module _ (g : Grammar) (w : List ℕ) (sets : List (List Item)) (chart : IsChart
         from c h =
             let lt = set_within h.split (at_dot h.rule h.dot) h.start h.before in
             let it : Item = record { state = h.before.0; origin = h.start } in
-            let at = contains_get (set_at sets h.split) it h.before.2 in (
+            let at = get_of (set_at sets h.split) it h.before.2 in (
               h.split,
               lt,
               (

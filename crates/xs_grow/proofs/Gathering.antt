@@ -3,6 +3,7 @@ use Rattle.std.proofs.Common.{◌≡◌, ◌⊎◌, ℕ, zero, suc, List, [], �
 use Rattle.std.specs.Prelude.{Contains}
 use Rattle.std.proofs.lemmas.Bool.{cases_eq}
 use Rattle.std.proofs.lemmas.Option.{none-some, same_Some}
+use Rattle.xs_class.proofs.Lists.{get_of, contains_of}
 use Rattle.xs_chart.specs.declared.item.Item.{Item}
 use Rattle.xs_chart.specs.Different.{AreDifferent}
 use Rattle.xs_gram.specs.declared.parts.GItem.{GItem}
@@ -21,7 +22,7 @@ use Rattle.xs_grow.specs.declared.call.Call.{Call}
 use Rattle.xs_grow.specs.Lists.{AreOnce, HasAllOf, Appends}
 use Rattle.xs_grow.specs.Grouped.{Grouped, IsGroup, AreApart}
 use Rattle.xs_grow.specs.Candidates.{Candidate, call_at, WholeAt, EndsAt, FrontFrom, InSet, InSets, CallIn, called}
-use Rattle.xs_grow.proofs.ListLemmas.{get_contains, contains_get, all_none, all_push, all_same, appends_none, appends_one, appends_more}
+use Rattle.xs_grow.proofs.ListLemmas.{all_none, all_push, all_same, appends_none, appends_one, appends_more}
 
 module _ (P : ℕ → Item → Candidate → Type 0) (sets : List (List Item)) where
   pub set_none : (j : ℕ) (candidates : List Candidate) → Appends (InSet P sets j 0) candidates candidates
@@ -149,18 +150,18 @@ module _ (g : Grammar) where
 
         sound : (m : Candidate) → Contains (map (mark_of j it place) ends) m → FrontFrom g w calls j it m
         sound m c =
-            let at' = contains_get (map (mark_of j it place) ends) m c in
+            let at' = get_of (map (mark_of j it place) ends) m c in
             let e = got ends at'.0 m at'.1 in
-            record { place = place; numbered = number; plain = plain; item = item; at = at; end = e.0; last = all.sound e.0 (get_contains ends at'.0 e.0 e.1); is = sym e.2 }
+            record { place = place; numbered = number; plain = plain; item = item; at = at; end = e.0; last = all.sound e.0 (contains_of ends at'.0 e.0 e.1); is = sym e.2 }
 
         complete : (m : Candidate) → FrontFrom g w calls j it m → Contains (map (mark_of j it place) ends) m
         complete m h =
             let same = one_place g it.state h.place place h.numbered number in
             let at' : ItemAt g place.rule place.dot h.item = subst (λ (c : Place). ItemAt g c.rule c.dot h.item) same h.at in
             let item' : h.item ≡ item = same_Some h.item item (sym at' ∙ at) in
-            let c = contains_get ends h.end (all.complete h.end (subst (λ z. EndsAt g w calls z j h.end) item' h.last)) in
+            let c = get_of ends h.end (all.complete h.end (subst (λ z. EndsAt g w calls z j h.end) item' h.last)) in
             let is : m ≡ mark_of j it place h.end = h.is ∙ ap (λ (c : Place). (key_at (Front c.rule (suc c.dot)) it.origin h.end, j)) same in
-            subst (λ z. Contains (map (mark_of j it place) ends) z) (sym is) (get_contains (map (mark_of j it place) ends) c.0 (mark_of j it place h.end) (put ends c.0 h.end c.1))
+            subst (λ z. Contains (map (mark_of j it place) ends) z) (sym is) (contains_of (map (mark_of j it place) ends) c.0 (mark_of j it place h.end) (put ends c.0 h.end c.1))
 
         once : AreOnce (map (mark_of j it place) ends)
         once k l m a b =

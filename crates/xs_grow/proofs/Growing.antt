@@ -8,11 +8,13 @@ use Rattle.std.proofs.lemmas.Bool.{cases_lt}
 use Rattle.std.proofs.lemmas.Cmp.{nat_list_cmp_total}
 use Rattle.std.proofs.lemmas.Option.{none-some, same_Some, slice_get_within}
 use Rattle.std.proofs.lemmas.List.Sorted.{ranks_by, IsPermutation-sym, Contains-permutation}
+use Rattle.xs_class.proofs.Lists.{get_of, contains_of}
+use Rattle.xs_forest_laws.proofs.Placed.{empty_at}
 use Rattle.xs_gram.specs.declared.parts.GItem.{GItem}
 use Rattle.xs_gram.specs.declared.parts.GItem.TheVariants.{Fixed, Term, Non, Skip}
 use Rattle.xs_gram.specs.declared.places.Place.{Place}
 use Rattle.xs_gram.specs.Grammar.{Grammar, items, IsRuleOf, ItemAt}
-use Rattle.xs_gram.specs.Derivations.{done, parts_yield}
+use Rattle.xs_gram.specs.Derivations.{parts_yield}
 use Rattle.xs_gram.specs.Places.{at_dot}
 use Rattle.xs_gram.specs.Sound.{IsBuilt}
 use Rattle.xs_chart_laws.specs.Reading.{Reads}
@@ -36,7 +38,6 @@ use Rattle.xs_grow.specs.Grouped.{Grouped, IsGroup, AreApart, HasGroups}
 use Rattle.xs_grow.specs.Levels.{rank_by, tail_by, level_by}
 use Rattle.xs_grow.specs.Candidates.{Candidate, IsCandidate}
 use Rattle.xs_grow.specs.Making.{FindsFront, FindsItem, IsMade, CanBeMade, AreMade, AllCanBeMade, ChildrenAreEarlier, AreRowsOf}
-use Rattle.xs_grow.proofs.ListLemmas.{get_contains, contains_get}
 use Rattle.xs_grow.proofs.Rowing.{made_of}
 
 -- groups that change places are of the same candidates
@@ -50,10 +51,10 @@ permuted_groups {L} candidates old new perm apart h = record {
 }
   where
     back : (r : ℕ) (l : L) (ns : List ℕ) → IsGroup new r l ns → (s : ℕ) × IsGroup old s l ns
-    back r l ns is = contains_get old (l, ns) (Contains-permutation new old (l, ns) (IsPermutation-sym old new perm) (get_contains new r (l, ns) is))
+    back r l ns is = get_of old (l, ns) (Contains-permutation new old (l, ns) (IsPermutation-sym old new perm) (contains_of new r (l, ns) is))
 
     forth : (r : ℕ) (l : L) (ns : List ℕ) → IsGroup old r l ns → (s : ℕ) × IsGroup new s l ns
-    forth r l ns is = contains_get new (l, ns) (Contains-permutation old new (l, ns) perm (get_contains old r (l, ns) is))
+    forth r l ns is = get_of new (l, ns) (Contains-permutation old new (l, ns) perm (contains_of old r (l, ns) is))
 
 -- a place that is less compares as less
 less_cmp : (xs ys : List ℕ) → IsLess xs ys → slice_cmp nat_cmp xs ys ≡ Less
@@ -129,13 +130,6 @@ module _ (g : Grammar) (w : List ℕ) (has : ℕ → Place → ℕ → Type 0) w
         let r = Reads-split w i s.0 (parts_yield s.1) j (subst (λ z. Reads w i z j) s.4 (stood_reads g w (at_dot p (suc d)) i j st)) in
         let st' = stood g w (at_dot p d) st.0 i r.0 s.0 st.1 st.2 r.1 s.2 in
         (r.0, (item.0, item.1, exact.complete (at_dot p d) i r.0 st', spelt_over g w has exact p d i r.0 j item.0 st' item.1 (s.1, (s.3, r.2))))
-
-    empty_at : (p i j : ℕ) → has j (at_dot p 0) i → i ≡ j
-    empty_at p i j h = go (dot_spelt g w p 0 i j (exact.sound (at_dot p 0) i j h))
-      where
-        go : IsSpelt g w [] i j → i ≡ j
-        go (done, (f, r)) = r
-        go (_, (f, r)) = absurd f
 
     facts_label : (x : What) (i j n : ℕ) → Facts x i j n → IsLabelBy g has x i j
     facts_label (Whole m) i j n h = (n, h.0, h.1)
@@ -221,7 +215,7 @@ module _ (g : Grammar) (w : List ℕ) (has : ℕ → Place → ℕ → Type 0) w
 
           -- the children of an alternative are the rows of their labels
           front_at : (p d i j : ℕ) (o : Option ℕ) → FindsFront groups p d i j o → has j (at_dot p d) i → FrontAt f p d i j o
-          front_at p zero i j o h there = (h, empty_at p i j there)
+          front_at p zero i j o h there = (h, empty_at g w has exact p i j there)
           front_at p (suc d) i j None h there = let o = label_group (Front p (suc d)) i j (omega arith, there) in absurd (h o.0 o.1 o.2)
           front_at p (suc d) i j (Some r) h there = (r, refl, group_row r (Front p (suc d)) i j h.0 h.1)
 
@@ -260,9 +254,9 @@ module _ (g : Grammar) (w : List ℕ) (has : ℕ → Place → ℕ → Type 0) w
           below : (r c : ℕ) (a : Alt) → r < length f → Contains (alts_of f r) a → (a.left ≡ Some c) ⊎ (a.right ≡ Some c) → c < r
           below r c a lt contained child =
               let x = after r (key_of f r).what (key_of f r).start (key_of f r).end (lt, refl) in
-              let at = contains_get x.alts a (subst (λ z. Contains z a) x.alts_are contained) in
+              let at = get_of x.alts a (subst (λ z. Contains z a) x.alts_are contained) in
               let n = made_of g groups (key_of f r) x.numbers x.alts at.0 a x.made at.1 in
-              children_earlier r c (key_of f r) x.numbers n.0 a x.group (get_contains x.numbers at.0 n.0 n.1) n.2 child
+              children_earlier r c (key_of f r) x.numbers n.0 a x.group (contains_of x.numbers at.0 n.0 n.1) n.2 child
 
           labels : (r : ℕ) (x : What) (i j : ℕ) → IsRow f r x i j → IsLabelBy g has x i j
           labels r x i j row =
@@ -273,9 +267,9 @@ module _ (g : Grammar) (w : List ℕ) (has : ℕ → Place → ℕ → Type 0) w
           sound : (r : ℕ) (x : What) (i j : ℕ) (a : Alt) → IsRow f r x i j → Contains (alts_of f r) a → IsAltBy g w has f x i j a
           sound r x i j a row contained =
               let b = after r x i j row in
-              let at = contains_get b.alts a (subst (λ z. Contains z a) b.alts_are contained) in
+              let at = get_of b.alts a (subst (λ z. Contains z a) b.alts_are contained) in
               let n = made_of g groups (key_at x i j) b.numbers b.alts at.0 a b.made at.1 in
-              alt_by x i j n.0 a (group_facts r (key_at x i j) b.numbers n.0 b.group (get_contains b.numbers at.0 n.0 n.1)) n.2
+              alt_by x i j n.0 a (group_facts r (key_at x i j) b.numbers n.0 b.group (contains_of b.numbers at.0 n.0 n.1)) n.2
 
           -- the alternative of a candidate of the row's label
           made_there : (r : ℕ) (x : What) (i j n : ℕ) → IsRow f r x i j → Facts x i j n → (a : Alt) × Contains (alts_of f r) a × IsMade g groups x i j n a
@@ -284,9 +278,9 @@ module _ (g : Grammar) (w : List ℕ) (has : ℕ → Place → ℕ → Type 0) w
               let o = facts_group x i j n h in
               let same : o.0 ≡ r = grouped.apart o.0 r (key_at x i j) o.1 b.numbers o.2 b.group in
               let numbers : o.1 ≡ b.numbers = ap (λ (z : SpanKey × List ℕ). z.1) (same_Some (key_at x i j, o.1) (key_at x i j, b.numbers) (sym (subst (λ z. IsGroup groups z (key_at x i j) o.1) same o.2) ∙ b.group)) in
-              let at = contains_get b.numbers n (subst (λ z. Contains z n) numbers o.3) in
+              let at = get_of b.numbers n (subst (λ z. Contains z n) numbers o.3) in
               let a = b.made.each at.0 n at.1 in
-              (a.0, subst (λ z. Contains z a.0) (sym b.alts_are) (get_contains b.alts at.0 a.0 a.1), a.2)
+              (a.0, subst (λ z. Contains z a.0) (sym b.alts_are) (contains_of b.alts at.0 a.0 a.1), a.2)
 
           wholes : (r n i j q : ℕ) → IsRow f r (Whole n) i j → IsRuleOf g n q → has j (at_dot q (length (items g q))) i → (a : Alt) × Contains (alts_of f r) a × WholeBy g has f n i j q a
           wholes r n i j q row of ended =
@@ -304,7 +298,7 @@ module _ (g : Grammar) (w : List ℕ) (has : ℕ → Place → ℕ → Type 0) w
               let x = after r key.what key.start key.end (lt, refl) in
               let n = made_of g groups key x.numbers x.alts k a x.made (subst (λ z. slice_get z k ≡ Some a) x.alts_are at_k) in
               let m = made_of g groups key x.numbers x.alts l a x.made (subst (λ z. slice_get z l ≡ Some a) x.alts_are at_l) in
-              let same = made_once key.what key.start key.end n.0 m.0 a (group_facts r key x.numbers n.0 x.group (get_contains x.numbers k n.0 n.1)) (group_facts r key x.numbers m.0 x.group (get_contains x.numbers l m.0 m.1)) n.2 m.2 in
+              let same = made_once key.what key.start key.end n.0 m.0 a (group_facts r key x.numbers n.0 x.group (contains_of x.numbers k n.0 n.1)) (group_facts r key x.numbers m.0 x.group (contains_of x.numbers l m.0 m.1)) n.2 m.2 in
               grouped.once all.once r key x.numbers x.group k l m.0 (subst (λ z. slice_get x.numbers k ≡ Some z) same n.1) m.1
 
           pub rows_grown : IsGrown g w has f

@@ -2,6 +2,7 @@
 use Rattle.std.proofs.Common.{◌≡◌, ◌⊎◌, ◌↔◌, ℕ, zero, suc, ◌<◌, ◌≤◌, Bool, true, false, List, [], ◌∷◌, ◌++◌, length, slice_get, get_or, Some, refl, sym, ap, ◌∙◌, subst, arith, inl, inr, true≢false}
 use Rattle.std.proofs.lemmas.Bool.{cases_lt}
 use Rattle.std.proofs.lemmas.Option.{same_Some}
+use Rattle.xs_class.proofs.Lists.{one_longer}
 use Rattle.xs_gram.specs.declared.parts.GItem.{GItem}
 use Rattle.xs_gram.specs.Grammar.{Grammar, items, ItemAt}
 use Rattle.xs_gram.specs.Sound.{IsNullableItem}
@@ -52,17 +53,13 @@ get_or_end : (xs : List ℕ) (x : ℕ) → get_or (xs ++ x ∷ []) (length xs) 0
 get_or_end [] x = refl
 get_or_end (y ∷ xs) x = get_or_end xs x
 
-longer : (xs : List ℕ) (x : ℕ) → length (xs ++ x ∷ []) ≡ suc (length xs)
-longer [] x = refl
-longer (y ∷ xs) x = ap suc (longer xs x)
-
 -- the tails of the first n rules
 pub record AreTailsTo (g : Grammar) (tails : List ℕ) (n : ℕ) : Type 0 where
   pub long : length tails ≡ n
   pub each : (p : ℕ) → p < n → IsTailFrom g p (get_or tails p 0)
 
 pub tails_more : (g : Grammar) (tails tails' : List ℕ) (n next x : ℕ) → next ≡ suc n → tails' ≡ tails ++ x ∷ [] → IsTailFrom g n x → AreTailsTo g tails n → AreTailsTo g tails' next
-tails_more g tails tails' n next x e is tail h = subst (λ z. AreTailsTo g z next) (sym is) (record { long = longer tails x ∙ (ap suc h.long ∙ sym e); each = each })
+tails_more g tails tails' n next x e is tail h = subst (λ z. AreTailsTo g z next) (sym is) (record { long = one_longer tails x ∙ (ap suc h.long ∙ sym e); each = each })
   where
     each : (p : ℕ) → p < next → IsTailFrom g p (get_or (tails ++ x ∷ []) p 0)
     each p lt = elim (cases_lt p n) [

@@ -1,34 +1,24 @@
 -- Lists by their places, and lists that have exactly what a fact holds of.
 use Rattle.std.proofs.Common.{◌≡◌, ◌⊎◌, ℕ, zero, suc, ◌+◌, ◌<◌, List, [], ◌∷◌, ◌++◌, length, slice_get, Some, refl, sym, ap, ◌∙◌, subst, arith, inl, inr, append-nil, append_assoc}
 use Rattle.std.specs.Prelude.{Contains, slice_set}
-use Rattle.std.proofs.lemmas.Option.{none-some, same_Some, slice_get-get_or, slice_get_within, get_or_from_slice_get}
+use Rattle.std.proofs.lemmas.Option.{none-some, same_Some, slice_get_within}
 use Rattle.std.proofs.lemmas.List.Elements.{Contains-append_left, Contains-append_right, Contains-append_cases}
+use Rattle.xs_class.proofs.Lists.{get_of, contains_of, get_left, get_last}
 use Rattle.xs_grow.specs.Lists.{AreOnce, HasAllOf, Appends}
 
 module _ {X : Type 0} where
-  pub contains_get : (xs : List X) (x : X) → Contains xs x → (k : ℕ) × (slice_get xs k ≡ Some x)
-  contains_get xs x h = (h.0, slice_get-get_or xs h.0 x h.1 ∙ ap (λ (y : X). Some y) h.2)
-
-  pub get_contains : (xs : List X) (k : ℕ) (x : X) → slice_get xs k ≡ Some x → Contains xs x
-  get_contains xs k x e = (k, slice_get_within xs k x e, get_or_from_slice_get xs k x x e)
-
   pub none_contained : (x : X) → Contains [] x → ⊥
   none_contained x h = absurd (omega (arith, h.1))
 
   pub one_contained : (y x : X) → Contains (y ∷ []) x → y ≡ x
-  one_contained y x h = go (contains_get (y ∷ []) x h)
+  one_contained y x h = go (get_of (y ∷ []) x h)
     where
       go : (k : ℕ) × (slice_get (y ∷ []) k ≡ Some x) → y ≡ x
       go (zero, e) = same_Some y x e
       go (suc k, e) = absurd (none-some x e)
 
   pub contains_one : (y : X) → Contains (y ∷ []) y
-  contains_one y = get_contains (y ∷ []) zero y refl
-
-  pub get_append_left : (xs ys : List X) (k : ℕ) (x : X) → slice_get xs k ≡ Some x → slice_get (xs ++ ys) k ≡ Some x
-  get_append_left [] ys k x e = absurd (none-some x e)
-  get_append_left (y ∷ xs) ys zero x e = e
-  get_append_left (y ∷ xs) ys (suc k) x e = get_append_left xs ys k x e
+  contains_one y = contains_of (y ∷ []) zero y refl
 
   pub get_append_cases : (xs ys : List X) (k : ℕ) (x : X) → slice_get (xs ++ ys) k ≡ Some x → (slice_get xs k ≡ Some x) ⊎ ((n : ℕ) × (k ≡ length xs + n) × (slice_get ys n ≡ Some x))
   get_append_cases [] ys k x e = inr (k, omega arith, e)
@@ -37,16 +27,6 @@ module _ {X : Type 0} where
     | inl h ↦ inl h
     | inr h ↦ let is : k ≡ length xs + h.0 = h.1 in inr (h.0, omega arith, h.2)
   ]
-
-  pub get_end : (xs : List X) (y : X) → slice_get (xs ++ y ∷ []) (length xs) ≡ Some y
-  get_end [] y = refl
-  get_end (x ∷ xs) y = get_end xs y
-
-  pub get_push_cases : (xs : List X) (y : X) (k : ℕ) (x : X) → slice_get (xs ++ y ∷ []) k ≡ Some x → (slice_get xs k ≡ Some x) ⊎ ((k ≡ length xs) × (y ≡ x))
-  get_push_cases [] y zero x e = inr (refl, same_Some y x e)
-  get_push_cases [] y (suc k) x e = absurd (none-some x e)
-  get_push_cases (z ∷ xs) y zero x e = inl e
-  get_push_cases (z ∷ xs) y (suc k) x e = elim (get_push_cases xs y k x e) [ inl h ↦ inl h | inr h ↦ inr (ap suc h.0, h.1) ]
 
   pub set_same : (xs : List X) (r : ℕ) (v y : X) → slice_get xs r ≡ Some y → slice_get (slice_set xs r v) r ≡ Some v
   set_same [] r v y e = absurd (none-some y e)
@@ -68,8 +48,8 @@ module _ {X : Type 0} where
     where
       go : (slice_get xs k ≡ Some x) ⊎ ((n : ℕ) × (k ≡ length xs + n) × (slice_get ys n ≡ Some x)) → (slice_get xs l ≡ Some x) ⊎ ((n : ℕ) × (l ≡ length xs + n) × (slice_get ys n ≡ Some x)) → k ≡ l
       go (inl h) (inl i) = a k l x h i
-      go (inl h) (inr i) = absurd (apart x (get_contains xs k x h) (get_contains ys i.0 x i.2))
-      go (inr h) (inl i) = absurd (apart x (get_contains xs l x i) (get_contains ys h.0 x h.2))
+      go (inl h) (inr i) = absurd (apart x (contains_of xs k x h) (contains_of ys i.0 x i.2))
+      go (inr h) (inl i) = absurd (apart x (contains_of xs l x i) (contains_of ys h.0 x h.2))
       go (inr h) (inr i) = h.1 ∙ (ap (λ n. length xs + n) (b h.0 i.0 x h.2 i.2) ∙ sym i.1)
 
   pub once_one : (y : X) → AreOnce (y ∷ [])
@@ -81,12 +61,12 @@ module _ {X : Type 0} where
   once_push xs y a new = once_append xs (y ∷ []) a (once_one y) (λ x h i. new (subst (λ z. Contains xs z) (sym (one_contained y x i)) h))
 
   pub once_front : (xs : List X) (y : X) → AreOnce (xs ++ y ∷ []) → AreOnce xs
-  once_front xs y a k l x e f = a k l x (get_append_left xs (y ∷ []) k x e) (get_append_left xs (y ∷ []) l x f)
+  once_front xs y a k l x e f = a k l x (get_left xs (y ∷ []) k x e) (get_left xs (y ∷ []) l x f)
 
   pub once_last : (xs : List X) (y : X) → AreOnce (xs ++ y ∷ []) → Contains xs y → ⊥
   once_last xs y a h =
-      let at = contains_get xs y h in
-      let same : at.0 ≡ length xs = a at.0 (length xs) y (get_append_left xs (y ∷ []) at.0 y at.1) (get_end xs y) in
+      let at = get_of xs y h in
+      let same : at.0 ≡ length xs = a at.0 (length xs) y (get_left xs (y ∷ []) at.0 y at.1) (get_last xs y) in
       let lt : at.0 < length xs = slice_get_within xs at.0 y at.1 in
       absurd (omega arith)
 

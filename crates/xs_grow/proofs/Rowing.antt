@@ -1,33 +1,29 @@
 -- One alternative more of a row, and one row more.
-use Rattle.std.proofs.Common.{◌≡◌, ◌⊎◌, ℕ, zero, suc, ◌<◌, List, [], ◌∷◌, ◌++◌, length, slice_get, Option, Some, None, refl, sym, ap, ◌∙◌, subst, arith, inl, inr}
+use Rattle.std.proofs.Common.{◌≡◌, ◌⊎◌, ℕ, zero, suc, ◌<◌, List, [], ◌∷◌, ◌++◌, length, slice_get, Option, Some, refl, sym, ap, ◌∙◌, subst, arith, inl, inr}
 use Rattle.std.proofs.lemmas.Bool.{cases_lt}
 use Rattle.std.proofs.lemmas.Option.{none-some, same_Some, slice_get_within}
+use Rattle.xs_class.proofs.Lists.{one_longer, contains_of, get_left, get_last, get_push}
 use Rattle.xs_chart_laws.proofs.Words.{get_some}
 use Rattle.xs_gram.specs.Grammar.{Grammar}
 use Rattle.xs_forest.specs.declared.row.Alt.{Alt}
-use Rattle.xs_forest.specs.Rows.{IsEarlier, AreEarlier, HasLabel}
+use Rattle.xs_forest.specs.Rows.{AreEarlier, HasLabel}
 use Rattle.xs_forest_laws.specs.declared.span.SpanKey.{SpanKey}
 use Rattle.xs_forest_laws.specs.Forest.{Forest}
 use Rattle.xs_grow.specs.Grouped.{Grouped, IsGroup, AreApart}
 use Rattle.xs_grow.specs.Making.{IsMade, AreMade, ChildrenAreEarlier, AreRowsOf}
-use Rattle.xs_grow.proofs.ListLemmas.{get_contains, get_push_cases, get_append_left, get_end}
 use Rattle.xs_forest_laws.proofs.Rows.{child_earlier}
-
-longer : {X : Type 0} (xs : List X) (x : X) → length (xs ++ x ∷ []) ≡ suc (length xs)
-longer [] x = refl
-longer (y ∷ xs) x = ap suc (longer xs x)
 
 module _ (g : Grammar) (groups : Grouped SpanKey) (key : SpanKey) where
   pub none_made : AreMade g groups key [] []
   none_made = record { long = refl; each = λ k n e. absurd (none-some n e) }
 
   pub made_more : (numbers more : List ℕ) (alts alts' : List Alt) (n : ℕ) (a : Alt) → more ≡ numbers ++ n ∷ [] → alts' ≡ alts ++ a ∷ [] → IsMade g groups key.what key.start key.end n a → AreMade g groups key numbers alts → AreMade g groups key more alts'
-  made_more numbers more alts alts' n a e f made h = subst (λ z. AreMade g groups key z alts') (sym e) (subst (λ z. AreMade g groups key (numbers ++ n ∷ []) z) (sym f) (record { long = longer alts a ∙ (ap suc h.long ∙ sym (longer numbers n)); each = each }))
+  made_more numbers more alts alts' n a e f made h = subst (λ z. AreMade g groups key z alts') (sym e) (subst (λ z. AreMade g groups key (numbers ++ n ∷ []) z) (sym f) (record { long = one_longer alts a ∙ (ap suc h.long ∙ sym (one_longer numbers n)); each = each }))
     where
       each : (k m : ℕ) → slice_get (numbers ++ n ∷ []) k ≡ Some m → (b : Alt) × (slice_get (alts ++ a ∷ []) k ≡ Some b) × IsMade g groups key.what key.start key.end m b
-      each k m at = elim (get_push_cases numbers n k m at) [
-        | inl old ↦ let b = h.each k m old in (b.0, get_append_left alts (a ∷ []) k b.0 b.1, b.2)
-        | inr last ↦ (a, ap (λ z. slice_get (alts ++ a ∷ []) z) (last.0 ∙ sym h.long) ∙ get_end alts a, subst (λ z. IsMade g groups key.what key.start key.end z a) last.1 made)
+      each k m at = elim (get_push numbers n m k at) [
+        | inl old ↦ let b = h.each k m old in (b.0, get_left alts (a ∷ []) k b.0 b.1, b.2)
+        | inr last ↦ (a, ap (λ z. slice_get (alts ++ a ∷ []) z) (last.0 ∙ sym h.long) ∙ get_last alts a, subst (λ z. IsMade g groups key.what key.start key.end z a) last.1 made)
       ]
 
   -- each alternative is one that a number stands for
@@ -52,7 +48,7 @@ module _ (g : Grammar) (groups : Grouped SpanKey) where
   pub row_earlier : (r t : ℕ) (key : SpanKey) (numbers : List ℕ) (alts : List Alt) → ChildrenAreEarlier g groups → IsGroup groups r key numbers → AreMade g groups key numbers alts → t ≡ r → AreEarlier alts t
   row_earlier r t key numbers alts earlier is made e = all_earlier alts t (λ k c a at child.
       let n = made_of g groups key numbers alts k a made at in
-      let lt = earlier r c key numbers n.0 a is (get_contains numbers k n.0 n.1) n.2 child in
+      let lt = earlier r c key numbers n.0 a is (contains_of numbers k n.0 n.1) n.2 child in
       omega arith)
 
   -- the label of the next row is that of no row before it
@@ -73,18 +69,18 @@ module _ (g : Grammar) (groups : Grouped SpanKey) where
   no_rows = record { long = refl; each = λ r key numbers lt is. absurd (omega arith) }
 
   pub row_more : (t next : ℕ) (key : SpanKey) (numbers : List ℕ) (alts : List Alt) (old new : Forest) → next ≡ suc t → new ≡ old ++ (key, alts) ∷ [] → IsGroup groups t key numbers → AreMade g groups key numbers alts → AreRowsOf g groups t old → AreRowsOf g groups next new
-  row_more t next key numbers alts old new e f is made h = subst (λ z. AreRowsOf g groups next z) (sym f) (record { long = longer old (key, alts) ∙ (ap suc h.long ∙ sym e); each = each })
+  row_more t next key numbers alts old new e f is made h = subst (λ z. AreRowsOf g groups next z) (sym f) (record { long = one_longer old (key, alts) ∙ (ap suc h.long ∙ sym e); each = each })
     where
       same_key : (a b : SpanKey) (ns ms : List ℕ) → ◌≡◌ {A = Option (SpanKey × List ℕ)} (Some (a, ns)) (Some (b, ms)) → (a ≡ b) × (ns ≡ ms)
       same_key a b ns ms e = (ap (λ (z : SpanKey × List ℕ). z.0) (same_Some (a, ns) (b, ms) e), ap (λ (z : SpanKey × List ℕ). z.1) (same_Some (a, ns) (b, ms) e))
 
       each : (r : ℕ) (k : SpanKey) (ns : List ℕ) → r < next → IsGroup groups r k ns → (as' : List Alt) × (slice_get (old ++ (key, alts) ∷ []) r ≡ Some (k, as')) × AreMade g groups k ns as'
       each r k ns lt at = elim (cases_lt r t) [
-        | inl less ↦ let b = h.each r k ns less at in (b.0, get_append_left old ((key, alts) ∷ []) r (k, b.0) b.1, b.2)
+        | inl less ↦ let b = h.each r k ns less at in (b.0, get_left old ((key, alts) ∷ []) r (k, b.0) b.1, b.2)
         | inr ge ↦
             let same : r ≡ t = omega arith in
             let keys = same_key key k numbers ns (sym is ∙ subst (λ z. slice_get groups z ≡ Some (k, ns)) same at) in
             let l = h.long in
             let last : r ≡ length old = omega arith in
-            (alts, ap (λ z. slice_get (old ++ (key, alts) ∷ []) z) last ∙ (get_end old (key, alts) ∙ ap (λ (z : SpanKey). Some (z, alts)) keys.0), subst (λ z. AreMade g groups z ns alts) keys.0 (subst (λ z. AreMade g groups key z alts) keys.1 made))
+            (alts, ap (λ z. slice_get (old ++ (key, alts) ∷ []) z) last ∙ (get_last old (key, alts) ∙ ap (λ (z : SpanKey). Some (z, alts)) keys.0), subst (λ z. AreMade g groups z ns alts) keys.0 (subst (λ z. AreMade g groups key z alts) keys.1 made))
       ]

@@ -13,7 +13,7 @@ use Rattle.xs_chart_laws.proofs.Words.{Reads-join, Reads-slice, Reads-from_slice
 use Rattle.xs_grow.specs.Lists.{HasAllOf}
 use Rattle.xs_grow.specs.Running.{Enters, AcceptsTo}
 use Rattle.xs_grow.proofs.ListLemmas.{none_contained, all_none, all_one, all_same, all_push}
-use Rattle.xs_class.proofs.Lists.{not_empty}
+use Rattle.xs_regex.proofs.Runs.{no_run}
 
 -- a test of a list's elements
 pub contained : (xs : List ℕ) (x : ℕ) (r : Bool) → Decides r (Contains xs x) → (b : Bool) → r ≡ b → MatchBool b (Contains xs x) (Contains xs x → ⊥)
@@ -107,10 +107,6 @@ run_last p _ u s k (goes v j x run l h is) e =
     let b : u ++ s ∷ [] ≡ v ++ x ∷ [] = sym e ∙ is in
     let both = same_from_push u v s x b in
     (inr (j, subst (λ (z : List ℕ). Runs p z j) (sym both.0) run, l), subst (λ (z : ℕ). HasAt p k z) (sym both.1) h)
-
-pub no_run : (p : Position) (u : List ℕ) (k : ℕ) → u ≡ [] → Runs p u k → ⊥
-no_run p _ k e (begins s f h is) = not_empty [] s (sym e ∙ is)
-no_run p _ k e (goes v j s run l h is) = not_empty v s (sym e ∙ is)
 
 none_long : (w : List ℕ) → w ≡ [] → length w ≡ 0
 none_long w e = ap length e

@@ -1,4 +1,5 @@
 ghost use Rattle.std.specs.Prelude.{◌↔◌, ◌<◌, ◌≤◌, ◌+◌, ℕ, length, IfOk, IsTrue};
+ghost use Rattle.xs_chart.specs.Charted.{set_limit};
 ghost use Rattle.xs_gram.specs.Sound.{IsBuilt};
 ghost use Rattle.xs_gram.specs.Grammar.{ItemAt};
 ghost use Rattle.xs_chart_laws.specs.Reading.{Reads};
@@ -30,7 +31,7 @@ fn reads(doc: &Word, at: usize, word: &Word) -> bool
 
 /// The place where a fixed word ends that begins at a place of the document, if it stands there.
 fn fixed_end(alloc: Global, doc: &Word, at: u32, word: &Word) -> Result<Vec<u32>, Memory>
-    requires short { length doc.now < 4294967295 }
+    requires short { length doc.now < set_limit }
     requires within { at ≤ length doc.now }
     ensures { IfOk result (λ ends. HasAllOf (Reads doc.now at word.now) ends.items) }
 {
@@ -53,7 +54,7 @@ pub(crate) fn ends_of(
     requires built { IsBuilt g.now }
     requires item { (p : ℕ) × (n : ℕ) × ItemAt g.now p n item.now }
     requires once { EndOnce calls.now }
-    requires short { length doc.now < 4294967295 }
+    requires short { length doc.now < set_limit }
     requires within { at ≤ length doc.now }
     ensures { IfOk result (λ ends. HasAllOf (EndsAt g.now doc.now calls.now item.now at) ends.items) }
 {

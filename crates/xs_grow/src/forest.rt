@@ -1,4 +1,5 @@
 ghost use Rattle.std.specs.Prelude.{◌<◌, length, IfOk};
+ghost use Rattle.xs_chart.specs.Charted.{set_limit};
 ghost use Rattle.xs_gram.specs.Sound.{IsBuilt, IsSound};
 ghost use Rattle.xs_order.specs.Order.{AreRanks};
 ghost use Rattle.xs_gram.specs.Languages.{InLang};
@@ -32,7 +33,7 @@ fn marks_of(
 ) -> Result<Vec<(SpanKey, u32)>, Memory>
     requires built { IsBuilt g.now }
     requires chart { IsChartOf g.now doc.now chart.now.sets }
-    requires short { length doc.now < 4294967295 }
+    requires short { length doc.now < set_limit }
     ensures { IfOk result (λ candidates. HasAllOf (IsCandidate g.now doc.now (HasPlace g.now chart.now.sets)) candidates.items) }
 {
     let mut candidates = Vec::new(alloc);
@@ -58,7 +59,7 @@ fn grow_by<'b>(
     requires built { IsBuilt g.now }
     requires in_language { InLang g.now doc.now }
     requires chart { IsChartOf g.now doc.now chart.now.sets }
-    requires short { length doc.now < 4294967295 }
+    requires short { length doc.now < set_limit }
     requires ranked { IsRanked g.now (rank_by ranks.now) }
     requires flags { AreNullable g.now (flag_by flags.now) }
     ensures forest { IfOk result (λ grown. IsForestOf g.now doc.now grown.forest grown.root) }
@@ -110,7 +111,7 @@ pub fn grow<'b>(
     requires sound { IsSound g.now }
     requires in_language { InLang g.now doc.now }
     requires chart { IsChartOf g.now doc.now chart.now.sets }
-    requires short { length doc.now < 4294967295 }
+    requires short { length doc.now < set_limit }
     ensures forest { IfOk result (λ grown. IsForestOf g.now doc.now grown.forest grown.root) }
     ensures exact { IfOk result (λ grown. IsExact g.now doc.now grown.forest grown.root) }
 {

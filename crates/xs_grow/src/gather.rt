@@ -1,4 +1,5 @@
 ghost use Rattle.std.specs.Prelude.{◌≡◌, ◌↔◌, ◌<◌, ◌≤◌, ◌++◌, ◌+◌, None, length, map, OnOk, IsTrue};
+ghost use Rattle.xs_chart.specs.Charted.{set_limit};
 ghost use Rattle.xs_gram.specs.Sound.{IsBuilt};
 ghost use Rattle.xs_gram.specs.Grammar.{items};
 ghost use Rattle.xs_gram.specs.Places.{all_places, IsPlace};
@@ -113,7 +114,7 @@ fn fronts_at(
 ) -> Result<(), Memory>
     requires built { IsBuilt g.now }
     requires once { EndOnce calls.now }
-    requires short { length doc.now < 4294967295 }
+    requires short { length doc.now < set_limit }
     requires within { set ≤ length doc.now }
     requires place { item.state < length (all_places g.now) }
     ensures { OnOk result (Appends (FrontFrom g.now doc.now calls.now set item) candidates.old.items candidates.new.items) }
@@ -149,7 +150,7 @@ fn fronts_in(
 ) -> Result<(), Memory>
     requires built { IsBuilt g.now }
     requires once { EndOnce calls.now }
-    requires short { length doc.now < 4294967295 }
+    requires short { length doc.now < set_limit }
     requires within { set ≤ length doc.now }
     requires set { set < length chart.now.sets }
     requires places { HasPlaces g.now chart.now.sets }
@@ -173,7 +174,7 @@ pub(crate) fn fronts(
 ) -> Result<(), Memory>
     requires built { IsBuilt g.now }
     requires once { EndOnce calls.now }
-    requires short { length doc.now < 4294967295 }
+    requires short { length doc.now < set_limit }
     requires counted { length chart.now.sets ≤ length doc.now + 1 }
     requires places { HasPlaces g.now chart.now.sets }
     ensures { OnOk result (Appends (InSets (FrontFrom g.now doc.now calls.now) chart.now.sets (length chart.now.sets)) candidates.old.items candidates.new.items) }

@@ -1,4 +1,5 @@
 ghost use Rattle.std.specs.Prelude.{◌⊎◌, ◌↔◌, ◌<◌, ◌≤◌, ℕ, length, IfOk, OnOk, IsTrue, Contains, MatchBool};
+ghost use Rattle.xs_chart.specs.Charted.{set_limit};
 ghost use Rattle.xs_regex.specs.Automaton.{HasAt, IsBelow, IsWellFormed};
 ghost use Rattle.xs_grow.specs.Lists.{HasAllOf};
 ghost use Rattle.xs_grow.specs.Running.{Enters, AcceptsTo};
@@ -87,7 +88,7 @@ pub(crate) fn ends_from(
     from: u32,
 ) -> Result<Vec<u32>, Memory>
     requires formed { IsWellFormed p.now }
-    requires short { length doc.now < 4294967295 }
+    requires short { length doc.now < set_limit }
     requires within { from ≤ length doc.now }
     ensures { IfOk result (λ ends. HasAllOf (AcceptsTo p.now doc.now from (length doc.now)) ends.items) }
 {

@@ -1,8 +1,8 @@
 use Rattle.std.proofs.Common.{◌≡◌, ◌+◌, ℕ, suc, length, sym, subst, arith}
+use Rattle.xs_class.proofs.Lists.{contains_of}
 use Rattle.xs_chart_laws.specs.Charts.{set_at}
 use Rattle.xs_grow.specs.Lists.{Appends}
 use Rattle.xs_grow.specs.Candidates.{FrontFrom, InSet}
-use Rattle.xs_grow.proofs.ListLemmas.{get_contains}
 use Rattle.xs_grow.proofs.Gathering.{set_none, set_more, front_item}
 use Rattle.xs_grow.proofs.gather.fronts_in.Goals as goal
 
@@ -10,7 +10,7 @@ pub items-init : goal.items-init
 items-init c = set_none (FrontFrom c.args.g.now c.args.doc.now c.args.calls.now) c.args.chart.now.sets c.args.set c.args.candidates.now.items
 
 pub fronts_at-requires-clause-place : goal.fronts_at-requires-clause-place
-fronts_at-requires-clause-place c = c.requires.places.placed c.args.set c.item.result (get_contains (set_at c.args.chart.now.sets c.args.set) c.items.k c.item.result c.item.ensures)
+fronts_at-requires-clause-place c = c.requires.places.placed c.args.set c.item.result (contains_of (set_at c.args.chart.now.sets c.args.set) c.items.k c.item.result c.item.ensures)
 
 pub items-preserved : goal.items-preserved
 items-preserved c =

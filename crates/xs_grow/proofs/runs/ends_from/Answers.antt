@@ -3,11 +3,12 @@ use Rattle.std.specs.Prelude.{Contains, IsTrue, slice_range, ◌==◌}
 use Rattle.std.proofs.lemmas.Bool.{eqb-true}
 use Rattle.std.proofs.lemmas.Bool.Decides.{Decides-eqb}
 use Rattle.std.proofs.lemmas.List.{nil_from_length}
+use Rattle.xs_regex.proofs.Runs.{no_run}
 use Rattle.xs_regex.specs.Automaton.{Runs}
 use Rattle.xs_grow.specs.Lists.{HasAllOf}
 use Rattle.xs_grow.specs.Running.{AcceptsTo}
 use Rattle.xs_grow.proofs.ListLemmas.{none_contained}
-use Rattle.xs_grow.proofs.Runnings.{no_run, slice_none, run_below, reached_more, ends_first, ends_more, ends_stuck}
+use Rattle.xs_grow.proofs.Runnings.{slice_none, run_below, reached_more, ends_first, ends_more, ends_stuck}
 use Rattle.xs_grow.proofs.runs.ends_from.Goals as goal
 use Rattle.xs_grow.proofs.runs.ends_from.Goals.{then-p+in_ok-push, else-p, then-has_last+in_ok-push-2, else-has_last}
 

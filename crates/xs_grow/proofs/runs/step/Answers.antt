@@ -1,4 +1,4 @@
-use Rattle.std.proofs.Common.{◌≡◌, ◌↔◌, ◌⊎◌, ◌+◌, ◌∷◌, ◌++◌, [], ℕ, List, take, get_or, subst, arith}
+use Rattle.std.proofs.Common.{◌↔◌, ◌⊎◌, ◌+◌, ℕ, List, take, get_or, subst, arith}
 use Rattle.std.specs.List.{Contains}
 use Rattle.std.proofs.lemmas.List.{take_more, take_all}
 use Rattle.std.proofs.lemmas.List.Elements.{Contains-get_or}
@@ -24,10 +24,8 @@ pub reached-preserved : goal.reached-preserved
 reached-preserved c =
     let reached = c.args.reached.now in
     let i = c.reached.position-index in
-    let x = get_or reached i 0 in
-    let e : take (i + 1) reached ≡ take i reached ++ x ∷ [] = take_more reached i 0 (omega arith) in
     let entered = subst (λ (row : List ℕ). (k : ℕ) → Contains c.enter.new.next.items k ↔ (Contains c.reached.next.items k ⊎ (Contains row k × HasAt c.args.p.now k c.args.symbol))) c.as_slice.ensures c.in_ok-enter.ensures in
-    follow_more c.args.p.now c.args.symbol c.args.at_start (take i reached) (take (i + 1) reached) c.at.result.now c.reached.next.items c.enter.new.next.items x e c.at.ensures c.reached.invariant entered
+    follow_more c.args.p.now c.args.symbol c.args.at_start (take i reached) (take (i + 1) reached) c.at.result.now c.reached.next.items c.enter.new.next.items (get_or reached i 0) (take_more reached i 0 (omega arith)) c.at.ensures c.reached.invariant entered
 
 pub returns : goal.returns
 returns c =
