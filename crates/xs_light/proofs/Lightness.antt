@@ -2,7 +2,7 @@
 use Rattle.std.proofs.Common.{◌≡◌, ℕ, zero, suc, ◌+◌, ◌-◌, ◌<◌, ◌≤◌, List, take, drop, slice_range, refl, arith}
 use Rattle.xs_gram.specs.declared.parts.GItem.{GItem}
 use Rattle.xs_gram.specs.Grammar.{Grammar, items}
-use Rattle.xs_check_laws.specs.Weights.{capped, PartWeighs, no_part, part_then}
+use Rattle.xs_check_laws.specs.Weights.{heaviest, capped, PartWeighs, no_part, part_then}
 use Rattle.xs_check_laws.specs.Acceptance.{IsLightRule, IsLight, IsHeaviness}
 use Rattle.xs_check_laws.proofs.Weights.{part_within, part_weighs_once_lem, rule_weighs_once_lem}
 
@@ -24,7 +24,7 @@ rest_weighs (suc k) (part_then i r e) =
     let t = rest_weighs k r in
     (t.0, t.1, omega (arith, t.2, e, part_within r))
 
-pub part_not_heavy : (g : Grammar) (p start end w : ℕ) → IsLightRule g p → PartWeighs g (slice_range (items g p) start end) w → 8192 < w → ⊥
+pub part_not_heavy : (g : Grammar) (p start end w : ℕ) → IsLightRule g p → PartWeighs g (slice_range (items g p) start end) w → heaviest < w → ⊥
 part_not_heavy g p start end w light h heavy =
     let rest = rest_weighs start light.1.1 in
     let part = front_weighs (end - start) rest.1 in

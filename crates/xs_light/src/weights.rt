@@ -10,13 +10,7 @@ use crate::CheckFault;
 use crate::nets::whole;
 use std::alloc::Global;
 use xs_gram::{Comps, Gram};
-use xs_loose::{Weights, weight_by, weights};
-
-/// What a light rule weighs at most.
-const HEAVIEST: u64 = 8_192;
-
-/// What every greater sum counts as.
-const CAP: u64 = 1_000_000;
+use xs_loose::{CAP, HEAVIEST, Weights, weight_by, weights};
 
 /// Makes sure that each rule of a grammar weighs at most 8,192, in time linear in the grammar.
 ///
