@@ -16,7 +16,7 @@ use Rattle.xs_talk.specs.declared.outcome.Outcome.{Outcome}
 use Rattle.xs_talk.specs.declared.outcome.Outcome.TheVariants.{Done, WriteFault, NoteFault}
 use Rattle.xs_top.specs.declared.asking.Job.{Job}
 use Rattle.xs_top.specs.declared.asking.Job.TheVariants.{Check, Turn}
-use Rattle.xs_top.specs.Asked.{Ask, by, asked}
+use Rattle.xs_top.specs.Asked.{by, asked}
 use Rattle.xs_top.specs.Devices.{Run}
 use Rattle.xs_top.specs.Known.{HasBytes}
 use Rattle.xs_top.specs.Sheets.{IsFailed}

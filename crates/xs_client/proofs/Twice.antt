@@ -11,7 +11,6 @@ use Rattle.xs_talk.specs.declared.outcome.Outcome.{Outcome}
 use Rattle.xs_talk.specs.declared.outcome.Outcome.TheVariants.{Done}
 use Rattle.xs_top.specs.declared.asking.Job.TheVariants.{Check, Turn}
 use Rattle.xs_top.specs.Asked.{by, asked}
-use Rattle.xs_top.specs.Devices.{Run}
 use Rattle.xs_top.specs.Ran.{Told}
 use Rattle.xs_top.specs.Runs.{IsUnwritten, Answers, IsNormalOf}
 use Rattle.xs_top.specs.Laws.{TranslatesBack, RoundIsIdempotent, RefusesExactly, CheckDecides, CheckAccepts, IsDecided, RefusesSheet}

@@ -1,5 +1,5 @@
 -- Runs over devices in memory, and what two of them say of each other.
-use Rattle.std.specs.Prelude.{◌≡◌, ◌⊎◌, ⊤, ℕ, List, [], None, Some, codes}
+use Rattle.std.specs.Prelude.{◌≡◌, ◌⊎◌, ⊤, ℕ, List, [], Some, codes}
 use Rattle.std.specs.declared.option.Option.{Option}
 use Rattle.xs_io.specs.Causes.{Rose}
 use Rattle.xs_class.specs.declared.side.Side.TheVariants.{Text}
