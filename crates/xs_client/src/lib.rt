@@ -9,6 +9,8 @@
 mod back;
 mod checked;
 mod ran;
+#[cfg(test)]
+mod tests;
 mod words;
 
 pub use back::{round_twice, text_and_back};

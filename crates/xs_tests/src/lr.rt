@@ -19,9 +19,11 @@ use xs_class::{Memory, Side, Sym, Word};
 use xs_earley::{SeeFault, recognise};
 use xs_gram::Gram;
 use xs_leiden::{leiden_sheet, make_text};
+use xs_listing::one_tree;
 use xs_lr::{PADDING, read};
 use xs_pair::Two;
-use xs_turn::{TurnFault, turn};
+use xs_tree::{Tree, same};
+use xs_turn::{TurnFault, forest_of, translate};
 
 /// What comes of a document.
 #[derive(Clone, Copy, Debug, PartialEq, Eq)]
@@ -74,16 +76,29 @@ pub fn agree(alloc: Global, g: &Gram, doc: &Word) -> Result<bool, Memory>
     Ok((found == Found::Right) == is_word)
 }
 
-/// Whether a table is found that passes for the document, and for the one of the other side.
+/// The tree of the document's derivation by the exact recogniser and its forest.
+fn exact_tree(alloc: Global, two: &Two, side: Side, doc: &Word) -> Result<Tree, TurnFault>
+    requires pair { IsSoundPair two.now }
+    requires short { length doc.now < 4294967295 }
+{
+    let bump = Bump::new(alloc);
+    let grown = forest_of(alloc, &bump, two, side, doc)?;
+    let tree = one_tree(alloc, &grown, two.gram(side), doc)?;
+    Ok(tree)
+}
+
+/// Whether a table is found that passes for the text and for its XML document, and the translation
+/// has the tree of the exact way.
 fn are_found(alloc: Global, two: &Two, text: &Word) -> Result<bool, TurnFault>
     requires pair { IsSoundPair two.now }
     requires short { length text.now < 4294967295 }
 {
-    let bump = Bump::new(alloc);
-    let turned = turn(alloc, &bump, two, Side::Text, text)?;
+    let translated = translate(alloc, two, Side::Text, Side::Xml, text)?;
+    let exact = exact_tree(alloc, two, Side::Text, text)?;
+    let is_exact = same(alloc, &translated.tree, &exact)?;
     let there = found_for(alloc, two.gram(Side::Text), text.as_slice())?;
-    let back = found_for(alloc, two.gram(Side::Xml), turned.word.as_slice())?;
-    Ok(there == Found::Right && back == Found::Right)
+    let back = found_for(alloc, two.gram(Side::Xml), translated.word.as_slice())?;
+    Ok(is_exact && there == Found::Right && back == Found::Right)
 }
 
 fn expect_found(rt: &impl Abort, alloc: Global, sheet: &[u8], text: &[u8]) -> Result<(), Fail> {
