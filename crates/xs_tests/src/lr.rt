@@ -18,12 +18,13 @@ use xs_chars::decode;
 use xs_class::{Memory, Side, Sym, Word};
 use xs_earley::{SeeFault, recognise};
 use xs_gram::Gram;
+use xs_grow::grow;
 use xs_leiden::{leiden_sheet, make_text};
 use xs_listing::one_tree;
 use xs_lr::{PADDING, read};
 use xs_pair::Two;
 use xs_tree::{Tree, same};
-use xs_turn::{TurnFault, forest_of, translate};
+use xs_turn::{TurnFault, translate};
 
 /// What comes of a document.
 #[derive(Clone, Copy, Debug, PartialEq, Eq)]
@@ -77,13 +78,14 @@ pub fn agree(alloc: Global, g: &Gram, doc: &Word) -> Result<bool, Memory>
 }
 
 /// The tree of the document's derivation by the exact recogniser and its forest.
-fn exact_tree(alloc: Global, two: &Two, side: Side, doc: &Word) -> Result<Tree, TurnFault>
-    requires pair { IsSoundPair two.now }
+fn exact_tree(alloc: Global, g: &Gram, doc: &Word) -> Result<Tree, TurnFault>
+    requires sound { IsSound g.now }
     requires short { length doc.now < 4294967295 }
 {
     let bump = Bump::new(alloc);
-    let grown = forest_of(alloc, &bump, two, side, doc)?;
-    let tree = one_tree(alloc, &grown, two.gram(side), doc)?;
+    let chart = recognise(alloc, g, doc)?;
+    let grown = grow(alloc, &bump, g, &chart, doc)?;
+    let tree = one_tree(alloc, &grown, g, doc)?;
     Ok(tree)
 }
 
@@ -94,7 +96,7 @@ fn are_found(alloc: Global, two: &Two, text: &Word) -> Result<bool, TurnFault>
     requires short { length text.now < 4294967295 }
 {
     let translated = translate(alloc, two, Side::Text, Side::Xml, text)?;
-    let exact = exact_tree(alloc, two, Side::Text, text)?;
+    let exact = exact_tree(alloc, two.gram(Side::Text), text)?;
     let is_exact = same(alloc, &translated.tree, &exact)?;
     let there = found_for(alloc, two.gram(Side::Text), text.as_slice())?;
     let back = found_for(alloc, two.gram(Side::Xml), translated.word.as_slice())?;
