@@ -7,10 +7,11 @@ use Rattle.xs_gram.specs.declared.parts.RulePart.{RulePart}
 use Rattle.xs_gram.specs.declared.parts.Terminal.{Terminal}
 use Rattle.xs_gram.specs.declared.parts.GramParts.{GramParts}
 use Rattle.xs_gram.specs.Grammar.{Grammar, no_rule, no_terminal, no_ignorable, items, slots, term_of, skip_of}
-use Rattle.xs_gram.specs.Laws.{IsNumbered, HasNumberedSlots}
-use Rattle.xs_gram.specs.Sound.{IsInRange, HasAutomata}
+use Rattle.xs_gram.specs.Fences.{fence_symbols, spread_items, IsLevel, level_none, AvoidsFences}
+use Rattle.xs_gram.specs.Laws.{IsDistinct, IsNumbered, HasNumberedSlots}
+use Rattle.xs_gram.specs.Sound.{IsInRange, HasAutomata, IsProper}
 use Rattle.xs_gram.specs.Places.{positions_of, insides, rule_places, places_from}
-use Rattle.xs_gram.specs.Building.{EachOf, NamesAreThere, items_count, IsRuleAmong, IsFit, CanBuild, IsOf, skip_part, TermHasAutomaton, SkipHasAutomaton, IsReady}
+use Rattle.xs_gram.specs.Building.{EachOf, NamesAreThere, items_count, IsRuleAmong, IsFit, CanBuild, HasProperFences, IsOf, skip_part, TermHasAutomaton, SkipHasAutomaton, IsReady}
 use Rattle.xs_gram.proofs.Numbers.{length-insides}
 
 long_map : {A B : Type 0} (f : A → B) (xs : List A) → length (map f xs) ≡ length xs
@@ -79,6 +80,23 @@ with_automata g terms skips fit_terms fit_skips = record {
 numbered : (g : Grammar) → EachOf (λ r. IsNumbered (slots r.items)) g.rules → HasNumberedSlots g
 numbered g each = λ p. each_or (λ r. IsNumbered (slots r.items)) g.rules no_rule p each (record { below = tt; once = tt })
 
+with_fences : (parts : GramParts) (g : Grammar) → HasProperFences parts → IsOf parts g → IsProper g
+with_fences parts g proper of = record {
+  once = subst (λ fs. IsDistinct (fence_symbols fs)) (sym of.fences) proper.once;
+  terms = λ t lt. each_within (λ t. AvoidsFences g.fences t.regex) g.terms no_terminal t terms lt;
+  skips = λ k lt. each_within (λ k. AvoidsFences g.fences k.regex) g.skips no_ignorable k skips lt;
+  level = λ p. each_or (λ r. IsLevel g.fences (spread_items g.fences r.items)) g.rules no_rule p rules level_none;
+}
+  where
+    terms : EachOf (λ t. AvoidsFences g.fences t.regex) g.terms
+    terms = each_map (λ (t : Terminal). t.regex) (AvoidsFences g.fences) g.terms (subst (λ l. EachOf (AvoidsFences g.fences) l) (sym of.terms) (subst (λ fs. EachOf (AvoidsFences fs) parts.terms) (sym of.fences) proper.each_term))
+
+    skips : EachOf (λ k. AvoidsFences g.fences k.regex) g.skips
+    skips = each_map skip_part (λ k. AvoidsFences g.fences k.regex) g.skips (subst (λ l. EachOf (λ k. AvoidsFences g.fences k.regex) l) (sym of.skips) (subst (λ fs. EachOf (λ k. AvoidsFences fs k.regex) parts.skips) (sym of.fences) proper.each_skip))
+
+    rules : EachOf (λ r. IsLevel g.fences (spread_items g.fences r.items)) g.rules
+    rules = subst (λ l. EachOf (λ r. IsLevel g.fences (spread_items g.fences r.items)) l) (sym of.rules) (subst (λ fs. EachOf (λ r. IsLevel fs (spread_items fs r.items)) parts.rules) (sym of.fences) proper.each_rule)
+
 pub ready : (parts : GramParts) (g : Grammar) → CanBuild parts → IsOf parts g → EachOf TermHasAutomaton g.terms → EachOf SkipHasAutomaton g.skips → IsReady g
 ready parts g can of term_automata skip_automata =
     let many_terms : length g.terms ≡ length parts.terms = sym (long_map (λ (t : Terminal). t.regex) g.terms) ∙ ap length of.terms in
@@ -103,6 +121,7 @@ ready parts g can of term_automata skip_automata =
         };
         slots = numbered g (each_weaker (IsRuleAmong g.nons (length g.terms) (length g.skips)) (λ r. IsNumbered (slots r.items)) (λ r a. a.slots) g.rules rules);
         automata = with_automata g term_automata skip_automata fit_terms fit_skips;
+        proper = with_fences parts g can.fences of;
       };
       names = names;
       few = omega (arith, places_small g 0 g.rules small, many_rules, many_items, can.rules, can.items);

@@ -11,7 +11,8 @@ use Rattle.xs_gram.specs.declared.parts.Ignorable.{Ignorable}
 use Rattle.xs_gram.specs.declared.parts.GramParts.{GramParts}
 use Rattle.xs_gram.specs.declared.places.Place.{Place}
 use Rattle.xs_gram.specs.Grammar.{Grammar, items, slots}
-use Rattle.xs_gram.specs.Laws.{IsNumbered}
+use Rattle.xs_gram.specs.Laws.{IsDistinct, IsNumbered}
+use Rattle.xs_gram.specs.Fences.{fence_symbols, spread_items, IsLevel, AvoidsFences}
 use Rattle.xs_gram.specs.Sound.{IsAutomaton, IsBuilt}
 use Rattle.xs_gram.specs.Places.{at_dot, all_places}
 
@@ -59,6 +60,15 @@ pub record IsFit (regex : Regex) : Type 0 where
   pub size : size regex ≤ 512
   pub bounded : IsBounded regex
 
+-- The fences of these parts are proper: no symbol stands twice in them, no class of a terminal or an
+-- ignorable has one of their symbols, and in each rule they are balanced, each right one closing the
+-- innermost open left one, which is of its own pair.
+pub record HasProperFences (parts : GramParts) : Type 0 where
+  pub once : IsDistinct (fence_symbols parts.fences)
+  pub each_term : EachOf (AvoidsFences parts.fences) parts.terms
+  pub each_skip : EachOf (λ k. AvoidsFences parts.fences k.regex) parts.skips
+  pub each_rule : EachOf (λ r. IsLevel parts.fences (spread_items parts.fences r.items)) parts.rules
+
 -- a grammar can be built of these parts
 pub record CanBuild (parts : GramParts) : Type 0 where
   pub start : parts.start < parts.nons
@@ -70,6 +80,7 @@ pub record CanBuild (parts : GramParts) : Type 0 where
   pub skips : length parts.skips < 65536
   pub items : items_count parts.rules < 65536
   pub symbols : symbols_count parts.rules < 65536
+  pub fences : HasProperFences parts
 
 -- the regex and the normal spelling of an ignorable of a grammar
 abbrev pub skip_part : Ignorable → SkipPart
@@ -82,6 +93,7 @@ pub record IsOf (parts : GramParts) (g : Grammar) : Type 0 where
   pub rules : g.rules ≡ parts.rules
   pub terms : map (λ (t : Terminal). t.regex) g.terms ≡ parts.terms
   pub skips : map skip_part g.skips ≡ parts.skips
+  pub fences : g.fences ≡ parts.fences
 
 -- the automaton beside the regex is one of it
 abbrev pub TermHasAutomaton : Terminal → Type 0

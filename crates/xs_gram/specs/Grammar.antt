@@ -1,4 +1,4 @@
--- One side of a sheet: its start, its rules, and its terminals and ignorables.
+-- One side of a sheet: its start, its rules, its terminals and ignorables, and its fences.
 use Rattle.std.specs.Prelude.{◌≡◌, ℕ, ◌<◌, List, [], ◌∷◌, length, false, slice_get, slice_index_or, Some}
 use Rattle.xs_regex.specs.declared.regex.Regex.TheVariants.{Empty}
 use Rattle.xs_regex.specs.declared.position.Position.{Position}
@@ -15,6 +15,7 @@ pub record Grammar : Type 0 where
   pub rules : List RulePart
   pub terms : List Terminal
   pub skips : List Ignorable
+  pub fences : List (ℕ × ℕ)
 
 -- what stands for a rule, a terminal and an ignorable that are not there
 abbrev pub no_rule : RulePart

@@ -1,4 +1,5 @@
 pub mod Grammar
+pub mod Fences
 pub mod Derivations
 pub mod Common
 pub mod Languages
@@ -7,5 +8,6 @@ pub mod Laws
 pub mod Sound
 pub mod Loose
 pub mod Suspects
+pub mod Fenced
 pub mod Places
 pub mod Building

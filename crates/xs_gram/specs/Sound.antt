@@ -9,7 +9,8 @@ use Rattle.xs_gram.specs.declared.parts.GItem.{GItem}
 use Rattle.xs_gram.specs.declared.parts.GItem.TheVariants.{Fixed, Term, Non, Skip}
 use Rattle.xs_gram.specs.Grammar.{Grammar, rule_of, term_of, skip_of, items, IsRuleOf, ItemAt, IsTermWord, IsSkipWord}
 use Rattle.xs_gram.specs.Derivations.{Derivation, Fits, yield}
-use Rattle.xs_gram.specs.Laws.{HasNumberedSlots}
+use Rattle.xs_gram.specs.Fences.{fence_symbols, spread, IsLevel, AvoidsFences}
+use Rattle.xs_gram.specs.Laws.{IsDistinct, HasNumberedSlots}
 
 -- the automaton is one of the regex: it accepts exactly what the regex matches, and where no class
 -- is empty each of its positions can be gone on from to a last one
@@ -42,12 +43,22 @@ pub record HasAutomata (g : Grammar) : Type 0 where
   pub terms_bounded : (t : ℕ) → t < length g.terms → (size (term_of g t).regex ≤ 512) × IsBounded (term_of g t).regex
   pub skips_bounded : (k : ℕ) → k < length g.skips → (size (skip_of g k).regex ≤ 512) × IsBounded (skip_of g k).regex
 
+-- The fences are proper: no symbol stands twice in them, no class of a terminal or an ignorable has
+-- one of their symbols, and in each rule they are balanced, each right one closing the innermost
+-- open left one, which is of its own pair.
+pub record IsProper (g : Grammar) : Type 0 where
+  pub once : IsDistinct (fence_symbols g.fences)
+  pub terms : (t : ℕ) → t < length g.terms → AvoidsFences g.fences (term_of g t).regex
+  pub skips : (k : ℕ) → k < length g.skips → AvoidsFences g.fences (skip_of g k).regex
+  pub level : (p : ℕ) → IsLevel g.fences (spread g p)
+
 -- what building a grammar gives
 pub record IsBuilt (g : Grammar) : Type 0 where
   pub range : IsInRange g
   pub small : IsSmall g
   pub slots : HasNumberedSlots g
   pub automata : HasAutomata g
+  pub proper : IsProper g
 
 -- the nonterminal derives the empty word
 abbrev pub IsNullable : Grammar → ℕ → Type 0

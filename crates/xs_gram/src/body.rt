@@ -7,7 +7,7 @@ use crate::automata::{ignorables, terminals};
 use crate::{GItem, GramParts, Ignorable, Place, RulePart, Terminal};
 use std::alloc::Global;
 use std::marker::Model;
-use xs_class::Memory;
+use xs_class::{Memory, Sym};
 use xs_regex::Numbers;
 
 /// The parts of a grammar, without the list of its places.
@@ -18,6 +18,7 @@ pub struct Body {
     pub rules: Vec<RulePart>,
     pub terms: Vec<Terminal>,
     pub skips: Vec<Ignorable>,
+    pub fences: Vec<(Sym, Sym)>,
 }
 
 impl Model for Body {
@@ -29,7 +30,7 @@ impl Model for Body {
 
     ghost coded = { Prim.hlevel (codes, e.the_row.coded) };
 
-    ghost view = { λ b. record { start = b.start; nons = b.nons; rules = b.rules.items; terms = b.terms.items; skips = b.skips.items } };
+    ghost view = { λ b. record { start = b.start; nons = b.nons; rules = b.rules.items; terms = b.terms.items; skips = b.skips.items; fences = b.fences.items } };
 }
 
 impl Body {
@@ -47,6 +48,7 @@ impl Body {
             rules: parts.rules.into_vec(),
             terms,
             skips,
+            fences: parts.fences.into_vec(),
         })
     }
 

@@ -8,7 +8,7 @@ use crate::body::Body;
 use crate::{GItem, GramParts, Ignorable, Place, RulePart, Terminal};
 use std::alloc::Global;
 use std::marker::Model;
-use xs_class::{Memory, Word};
+use xs_class::{Memory, Sym, Word};
 use xs_regex::{Numbers, Position};
 
 /// A grammar: one side of a sheet, as contracts see it a record of its start, its number of
@@ -23,6 +23,7 @@ pub struct Gram {
     rules: Vec<RulePart>,
     terms: Vec<Terminal>,
     skips: Vec<Ignorable>,
+    fences: Vec<(Sym, Sym)>,
     places: Vec<Place>,
     starts: Vec<Numbers>,
 }
@@ -37,9 +38,9 @@ impl Model for Gram {
 
     ghost coded = { Prim.hlevel (codes, e.the_row.coded) };
 
-    ghost view = { λ g. record { start = g.start; nons = g.nons; rules = g.rules.items; terms = g.terms.items; skips = g.skips.items } };
+    ghost view = { λ g. record { start = g.start; nons = g.nons; rules = g.rules.items; terms = g.terms.items; skips = g.skips.items; fences = g.fences.items } };
 
-    ghost invariant = { λ g. IsKept (record { start = g.start; nons = g.nons; rules = g.rules.items; terms = g.terms.items; skips = g.skips.items }) g.places.items g.starts.items };
+    ghost invariant = { λ g. IsKept (record { start = g.start; nons = g.nons; rules = g.rules.items; terms = g.terms.items; skips = g.skips.items; fences = g.fences.items }) g.places.items g.starts.items };
 }
 
 impl Gram {
@@ -59,6 +60,7 @@ impl Gram {
             rules: body.rules,
             terms: body.terms,
             skips: body.skips,
+            fences: body.fences,
             places,
             starts,
         })
@@ -129,6 +131,13 @@ impl Gram {
         ensures { result ≡ (rule_of self.now rule).non }
     {
         self.rules[rule as usize].non
+    }
+
+    /// The fences: pairs of a left and a right symbol.
+    pub fn fences(&self) -> &[(Sym, Sym)]
+        ensures { result.now ≡ self.now.fences }
+    {
+        &self.fences
     }
 
     /// The items of a rule, and that all numbers that items name are there.

@@ -1,4 +1,4 @@
-use xs_class::{Listed, Word};
+use xs_class::{Listed, Sym, Word};
 use xs_regex::{Position, Regex};
 
 /// An item of a rule on one side: a fixed word, a terminal or a nonterminal with its slot, or an
@@ -34,6 +34,9 @@ pub type Regexes = Listed<Regex>;
 
 pub type Skips = Listed<SkipPart>;
 
+/// Pairs of symbols, a left one and a right one, that enclose groups of a rule's items.
+pub type Fences = Listed<(Sym, Sym)>;
+
 /// What a grammar is built from.
 #[derive(Debug, Drop)]
 pub struct GramParts {
@@ -42,6 +45,7 @@ pub struct GramParts {
     pub rules: Rules,
     pub terms: Regexes,
     pub skips: Skips,
+    pub fences: Fences,
 }
 
 /// A terminal of a grammar: its regex, and the position automaton that accepts its words.

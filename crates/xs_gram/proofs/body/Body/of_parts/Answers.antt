@@ -9,4 +9,5 @@ returns-clause-ready c = ready c.args.parts _ c.requires (record {
   rules = c.into_vec-3.ensures;
   terms = c.in_ok-terms.ensures.all ∙ c.into_vec.ensures;
   skips = c.in_ok-skips.ensures.all ∙ c.into_vec-2.ensures;
+  fences = c.into_vec-4.ensures;
 }) c.in_ok-terms.ensures.automata c.in_ok-skips.ensures.automata

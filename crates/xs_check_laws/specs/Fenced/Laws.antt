@@ -1,0 +1,52 @@
+-- The laws for grammars with fences: it is decided which nonterminals are of one component, what
+-- derivations spell is loose, without suspects each word has one derivation, and each stretch and
+-- rule has one weight.
+use Rattle.std.specs.Prelude.{◌≡◌, ℕ, List}
+use Rattle.std.specs.List.{concat, slice_range}
+use Rattle.xs_gram.specs.declared.parts.GItem.{GItem}
+use Rattle.xs_gram.specs.Grammar.{Grammar}
+use Rattle.xs_gram.specs.Derivations.{Derivation, Fits, yield}
+use Rattle.xs_gram.specs.Languages.{IsUnique}
+use Rattle.xs_gram.specs.Sound.{IsBuilt}
+use Rattle.xs_gram.specs.Fences.{spread, IsLevel}
+use Rattle.xs_gram.specs.Fenced.Loose.{AreOne, IsLoose}
+use Rattle.xs_check_laws.specs.Laws.{IsUniqueAt}
+use Rattle.xs_check_laws.specs.Fenced.Words.{spread_words}
+use Rattle.xs_check_laws.specs.Fenced.Freedom.{HasNoVertical, HasNoHorizontal}
+use Rattle.xs_check_laws.specs.Fenced.Weights.{PartWeighs, RuleWeighs}
+use Rattle.xs_check_laws.specs.Fenced.Acceptance.{IsAccepted}
+
+-- it is decided of each two nonterminals whether they are of one component
+abbrev pub ComponentsAreDecided : Type 0
+ComponentsAreDecided = (g : Grammar) → IsBuilt g → (m n : ℕ) → Dec (AreOne g m n)
+
+-- the words of the spread items, joined in order, are the yield
+abbrev pub WordsAreTheYield : Type 0
+WordsAreTheYield = (g : Grammar) (non : ℕ) (d : Derivation) → Fits g non d → concat (spread_words g d) ≡ yield d
+
+-- what each level stretch of a rule's spread items spells in a derivation is loose for it
+abbrev pub YieldsAreLoose : Type 0
+YieldsAreLoose =
+    (g : Grammar) → IsBuilt g → (non : ℕ) (d : Derivation) → Fits g non d → (start end : ℕ)
+    → IsLevel g.fences (slice_range (spread g d.rule) start end)
+    → IsLoose g (slice_range (spread g d.rule) start end) (concat (slice_range (spread_words g d) start end))
+
+-- without suspects two derivations of one nonterminal with one yield are equal
+abbrev pub NoSuspectIsUniqueAt : Type 0
+NoSuspectIsUniqueAt = (g : Grammar) → IsBuilt g → HasNoVertical g → HasNoHorizontal g → (non : ℕ) → IsUniqueAt g non
+
+-- and so each word of the language has one derivation
+abbrev pub NoSuspectIsUnique : Type 0
+NoSuspectIsUnique = (g : Grammar) → IsBuilt g → HasNoVertical g → HasNoHorizontal g → IsUnique g
+
+-- where two grammars are accepted, each word of either language has one derivation
+abbrev pub AcceptedIsUnique : Type 0
+AcceptedIsUnique = (text xml : Grammar) → IsBuilt text → IsBuilt xml → IsAccepted text xml → IsUnique text × IsUnique xml
+
+-- a level stretch has one weight
+abbrev pub PartWeighsOnce : Type 0
+PartWeighsOnce = (g : Grammar) → IsBuilt g → (is : List GItem) (v w : ℕ) → PartWeighs g is v → PartWeighs g is w → v ≡ w
+
+-- a rule has one weight
+abbrev pub RuleWeighsOnce : Type 0
+RuleWeighsOnce = (g : Grammar) → IsBuilt g → (p v w : ℕ) → RuleWeighs g p v → RuleWeighs g p w → v ≡ w
