@@ -9,8 +9,13 @@
 //! loose for two rules of one nonterminal, and none can be cut at two places of a rule, each word
 //! has at most one derivation; and a part has one weight. They ask only that it is decided of each
 //! two nonterminals whether they are of one component.
+//!
+//! `fence_laws` has the same laws for grammars with fences, whose groups are called and returned from
+//! exactly. There they ask only for a built grammar: that it is decided which nonterminals are of one
+//! component is proved of it.
 #![tactic(auto)]
 
+pub mod fence_laws;
 mod laws;
 
 pub use laws::{

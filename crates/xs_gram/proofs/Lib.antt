@@ -7,3 +7,5 @@ pub mod Inversion
 pub mod Building
 pub mod Ready
 pub mod Each
+pub mod Fences
+pub mod Levels

@@ -26,8 +26,8 @@ abbrev pub is_fence : List (ℕ × ℕ) → ℕ → Bool
 is_fence fs s = is_left fs s || is_right fs s
 
 -- the two symbols are a fence
-abbrev pub IsFence : List (ℕ × ℕ) → ℕ → ℕ → Type 0
-IsFence fs l r = Contains fs (l, r)
+pub record IsFence (fs : List (ℕ × ℕ)) (l r : ℕ) : Type 0 where
+  pub is : Contains fs (l, r)
 
 -- the fixed word, unless it is empty, and then the items
 abbrev pub after_word : List ℕ → List GItem → List GItem

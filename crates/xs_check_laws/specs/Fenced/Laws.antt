@@ -22,7 +22,7 @@ ComponentsAreDecided = (g : Grammar) → IsBuilt g → (m n : ℕ) → Dec (AreO
 
 -- the words of the spread items, joined in order, are the yield
 abbrev pub WordsAreTheYield : Type 0
-WordsAreTheYield = (g : Grammar) (non : ℕ) (d : Derivation) → Fits g non d → concat (spread_words g d) ≡ yield d
+WordsAreTheYield = (g : Grammar) → IsBuilt g → (non : ℕ) (d : Derivation) → Fits g non d → concat (spread_words g d) ≡ yield d
 
 -- what each level stretch of a rule's spread items spells in a derivation is loose for it
 abbrev pub YieldsAreLoose : Type 0

@@ -1,0 +1,5 @@
+pub mod Words
+pub mod Components
+pub mod Walks
+pub mod Unique
+pub mod Weights

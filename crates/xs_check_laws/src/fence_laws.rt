@@ -1,0 +1,33 @@
+ghost use Rattle.xs_check_laws.specs.Fenced.Laws.{ComponentsAreDecided, WordsAreTheYield, YieldsAreLoose, NoSuspectIsUniqueAt, NoSuspectIsUnique, AcceptedIsUnique, PartWeighsOnce, RuleWeighsOnce};
+
+/// It is decided of each two nonterminals of a built grammar whether they are of one component.
+pub fn components_are_decided()
+    ensures { ComponentsAreDecided }
+{}
+
+/// The words of the spread items of a derivation's rule, joined in order, are its yield.
+pub fn words_are_the_yield()
+    ensures { WordsAreTheYield }
+{}
+
+/// What each level stretch of a rule's spread items spells in a derivation is loose for it.
+pub fn yields_are_loose()
+    ensures { YieldsAreLoose }
+{}
+
+/// Without suspects a word has at most one derivation, from the start and from each nonterminal.
+pub fn no_suspect_is_unique()
+    ensures at { NoSuspectIsUniqueAt }
+    ensures start { NoSuspectIsUnique }
+{}
+
+/// Where the two grammars of a sheet are accepted, each word of either has at most one derivation.
+pub fn accepted_is_unique()
+    ensures { AcceptedIsUnique }
+{}
+
+/// A level stretch has one weight, and so has a rule.
+pub fn weights_are_exact()
+    ensures part { PartWeighsOnce }
+    ensures rule { RuleWeighsOnce }
+{}
