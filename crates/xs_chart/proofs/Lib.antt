@@ -1,3 +1,3 @@
-pub mod Different
 pub mod Grouping
+pub mod Linking
 pub mod Sets

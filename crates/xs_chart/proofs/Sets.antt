@@ -1,13 +1,13 @@
 -- The sets of a chart: finished ones, and the last one.
-use Rattle.std.proofs.Common.{◌≡◌, ℕ, zero, suc, ◌-◌, ◌<◌, Bool, true, false, List, [], ◌∷◌, ◌++◌, length, get_or, set, All, if◌then◌else◌, refl, sym, ◌∙◌, ap, subst, arith}
+use Rattle.std.proofs.Common.{◌≡◌, ℕ, zero, suc, ◌-◌, Bool, true, false, List, [], ◌∷◌, ◌++◌, length, get_or, set, take, All, if◌then◌else◌, rules, refl, sym, ◌∙◌, ap, subst, arith}
 use Rattle.std.proofs.lemmas.Option.{none-some}
-use Rattle.std.proofs.lemmas.List.{length-append, get_or_at, set_at}
-use Rattle.std.proofs.lemmas.List.Elements.{All-head, All-tail}
+use Rattle.std.proofs.lemmas.List.{length-append, length-take-le, get_or_at, set_at}
+use Rattle.std.proofs.lemmas.List.Elements.{All-head, All-tail, All-cons}
 use Rattle.xs_chart.specs.declared.item.Item.{Item}
 use Rattle.xs_chart.specs.declared.waiting.Waiter.{Waiter}
-use Rattle.xs_chart.specs.Charted.{Charted, items_of, waiting_of, waiting_for, last_set, with_item}
+use Rattle.xs_chart.specs.Charted.{Charted, items_of, waiting_of, waiting_for, last_set, with_item, first_sets, before_last}
 use Rattle.xs_chart.specs.Different.{AreDifferent}
-use Rattle.xs_chart.specs.Kept.{opened, IsKept}
+use Rattle.xs_chart.specs.Kept.{opened, IsGrouped, IsKept}
 
 -- contracts see this chart
 abbrev pub seen : Bool → List (List Item) → List Item → List (List Waiter) → List Waiter → Charted
@@ -16,15 +16,7 @@ seen o items last waits entries = record { sets = opened o items last; waits = o
 length_opened : {A : Type 0} (xs : List A) (x : A) → length (opened true xs x) ≡ suc (length xs)
 length_opened xs x = let e = length-append xs (x ∷ []) in omega (arith, e)
 
--- a chart that has a set has an open one
-pub is_open : {A : Type 0} (o : Bool) (items : List A) (last : A) → (o ≡ false → items ≡ []) → 0 < length (opened o items last) → o ≡ true
-is_open true items last first some = refl
-is_open false items last first some = let none = ap length (first refl) in absurd (omega (arith, none, some))
-
-module _ (o : Bool) (items : List (List Item)) (last : List Item) (waits : List (List Waiter)) (entries : List Waiter) (kept : IsKept o items last waits) (some : 0 < length (opened o items last)) where
-  opens : o ≡ true
-  opens = is_open o items last kept.first some
-
+module _ (o : Bool) (items : List (List Item)) (last : List Item) (waits : List (List Waiter)) (entries : List Waiter) (kept : IsKept o items last waits) (opens : o ≡ true) where
   pub last_is : last_set (seen o items last waits entries) ≡ length items
   last_is = subst (λ b. length (opened b items last) - 1 ≡ length items) (sym opens) (let e = length_opened items last in omega (arith, e))
 
@@ -56,6 +48,44 @@ module _ (o : Bool) (items : List (List Item)) (last : List Item) (waits : List 
       ap (λ j. waiting_of (seen o items last waits new) j non) last_is
       ∙ ap (λ ws. waiting_for ws non) (subst (λ b. get_or (opened b waits new) (length items) [] ≡ new) (sym opens) (get_or_at waits new [] [] (length items) kept.paired))
       ∙ is ∙ ap (λ l. l ++ more) (sym (last_waits non))
+
+-- charts with the same sets and waiting lists are the same
+pub same_seen : (o p : Bool) (items more : List (List Item)) (last end : List Item) (waits kept : List (List Waiter)) (entries others : List Waiter)
+    → opened o items last ≡ opened p more end → opened o waits entries ≡ opened p kept others → seen o items last waits entries ≡ seen p more end kept others
+same_seen o p items more last end waits kept entries others e f =
+    ap (λ (s : List (List Item)). let c : Charted = record { sets = s; waits = opened o waits entries } in c) e
+    ∙ ap (λ (ws : List (List Waiter)). let c : Charted = record { sets = opened p more end; waits = ws } in c) f
+
+take_pushed : {A : Type 0} (xs : List A) (y : A) → take (length xs) (xs ++ y ∷ []) ≡ xs
+take_pushed [] y = refl
+take_pushed (x ∷ xs) y = ap (λ l. x ∷ l) (take_pushed xs y)
+
+-- the sets before an open last one
+pub before_open : (items : List (List Item)) (last : List Item) (waits : List (List Waiter)) (entries : List Waiter) → length waits ≡ length items
+    → before_last (seen true items last waits entries) ≡ record { sets = items; waits = waits }
+before_open items last waits entries paired =
+    let at : length (items ++ last ∷ []) - 1 ≡ length items = let e = length-append items (last ∷ []) in omega (arith, e) in
+    ap (λ n. first_sets n (seen true items last waits entries)) at
+    ∙ ap (λ (s : List (List Item)). let c : Charted = record { sets = s; waits = take (length items) (waits ++ entries ∷ []) } in c) (take_pushed items last)
+    ∙ ap (λ (ws : List (List Waiter)). let c : Charted = record { sets = items; waits = ws } in c) (ap (λ n. take n (waits ++ entries ∷ [])) (sym paired) ∙ take_pushed waits entries)
+
+All_taken : {A : Type 0} (P : A → Type 0) (n : ℕ) (xs : List A) → All P xs → All P (take n xs)
+All_taken P zero xs all = search rules
+All_taken P (suc n) [] all = all
+All_taken P (suc n) (x ∷ xs) all = All-cons P x (take n xs) (All-head P x xs all) (All_taken P n xs (All-tail P x xs all))
+
+-- the last of the finished sets is opened again
+pub kept_reopened : (set : ℕ) (items : List (List Item)) (last new : List Item) (waits : List (List Waiter)) → suc set ≡ length items → IsKept false items last waits → AreDifferent new → IsKept true (take set items) new (take set waits)
+kept_reopened set items last new waits is kept different =
+    let long = length-take-le set items (omega (arith, is)) in
+    let wide = length-take-le set waits (omega (arith, is, kept.paired)) in
+    record {
+      counted = (let e = length-append (take set items) ([] ∷ []) in let below = kept.counted in omega (arith, e, long, is, below));
+      paired = wide ∙ sym long;
+      different = All_taken AreDifferent set items kept.different;
+      last_different = different;
+      grouped = All_taken IsGrouped set waits kept.grouped;
+    }
 
 -- the sets have different items
 pub different_sets : (o : Bool) (items : List (List Item)) (last : List Item) → All AreDifferent items → AreDifferent last → (k : ℕ) → AreDifferent (get_or (opened o items last) k [])

@@ -1,5 +1,5 @@
 -- What contracts see of a chart: its sets, and who waits in each.
-use Rattle.std.specs.Prelude.{◌≡◌, ℕ, suc, ◌+◌, ◌-◌, ◌<◌, ◌≤◌, List, [], ◌∷◌, ◌++◌, length, map, filter, nat_eq, slice_index_or, slice_range, slice_set}
+use Rattle.std.specs.Prelude.{◌≡◌, ℕ, suc, ◌+◌, ◌-◌, ◌<◌, ◌≤◌, List, [], ◌∷◌, ◌++◌, length, map, filter, nat_eq, slice_index_or, slice_range, slice_set, take}
 use Rattle.xs_chart.specs.declared.item.Item.{Item}
 use Rattle.xs_chart.specs.declared.waiting.Waiter.{Waiter}
 use Rattle.xs_chart.specs.declared.waiting.Waiting.{Waiting}
@@ -38,6 +38,14 @@ waits_of chart set = slice_index_or chart.waits set []
 -- the numbers of the items of a set that wait there for the nonterminal
 abbrev pub waiting_of : Charted → ℕ → ℕ → List ℕ
 waiting_of chart set non = waiting_for (waits_of chart set) non
+
+-- the first sets of a chart, with their waiting lists
+abbrev pub first_sets : ℕ → Charted → Charted
+first_sets count chart = record { sets = take count chart.sets; waits = take count chart.waits }
+
+-- all sets but the last one
+abbrev pub before_last : Charted → Charted
+before_last chart = first_sets (last_set chart) chart
 
 -- the chart with one item more, which stands last in the last set
 abbrev pub with_item : Charted → Item → Charted

@@ -15,10 +15,9 @@ opened true finished last = finished ++ last ∷ []
 abbrev pub IsGrouped : List Waiter → Type 0
 IsGrouped waits = IsNonDecreasingBy non_of waits
 
--- There are as many sets as a number of 32 bits counts, each of different items, and none before the first is
--- open; the finished ones have grouped entries of waiting lists.
+-- There are as many sets as a number of 32 bits counts, each of different items; the finished ones have grouped
+-- entries of waiting lists.
 pub record IsKept (is_open : Bool) (items : List (List Item)) (last : List Item) (waits : List (List Waiter)) : Type 0 where
-  pub first : is_open ≡ false → items ≡ []
   pub counted : length (opened is_open items []) < 2 ^ 32
   pub paired : length waits ≡ length items
   pub different : All AreDifferent items

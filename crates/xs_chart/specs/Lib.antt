@@ -1,3 +1,4 @@
 pub mod Charted
 pub mod Different
 pub mod Kept
+pub mod Linked

@@ -1,9 +1,10 @@
-ghost use Rattle.std.specs.Prelude.{◌≡◌, ◌<◌, ◌+◌, ◌↔◌, ◌≢◌, suc, ℕ, [], ◌∷◌, ◌++◌, length, slice_get, if◌then◌else◌, Contains, IsTrue, IfOk, OnOk, OnErr};
+ghost use Rattle.std.specs.Prelude.{◌≡◌, ◌<◌, ◌≤◌, ◌+◌, ◌↔◌, ◌≢◌, suc, ℕ, [], ◌∷◌, ◌++◌, length, true, slice_get, if◌then◌else◌, Contains, IsTrue, IfOk, OnOk, OnErr};
 ghost use Rattle.xs_chart.specs.Different.{AreDifferent};
+ghost use Rattle.xs_chart.specs.Kept.{opened, IsKept};
 
+use crate::table::Table;
 use crate::waiting::{find, keep};
 use crate::{Item, Waiter, Waiting};
-use indexmap::IndexSet;
 use std::alloc::Global;
 use std::marker::Model;
 use xs_class::Memory;
@@ -14,10 +15,9 @@ use xs_flat::FlatLists;
 /// Sets, and the places in a set, are numbered from 0.
 #[derive(Drop)]
 pub struct Chart {
-    alloc: Global,
     items: FlatLists<Item>,
     waits: FlatLists<Waiter>,
-    last: IndexSet<Item>,
+    last: Table,
     waiting: Vec<Waiter>,
     is_open: bool,
 }
@@ -28,42 +28,54 @@ impl Model for Chart {
 
     ghost Value = { Charted };
 
-    ghost view = { λ c. record { sets = opened c.is_open c.items c.last.keys; waits = opened c.is_open c.waits c.waiting.items } };
+    ghost view = { λ c. record { sets = opened c.is_open c.items c.last; waits = opened c.is_open c.waits c.waiting.items } };
 
-    ghost invariant = { λ c. IsKept c.is_open c.items c.last.keys c.waits };
+    ghost invariant = { λ c. IsKept c.is_open c.items c.last c.waits };
 }
 
-/// The set without items, with the memory of another one unless that is far too large.
-fn emptied(alloc: Global, last: &mut IndexSet<Item>)
-    ensures { last.new.keys ≡ [] }
+/// Puts the items in the table, which has none of them.
+fn refill(last: &mut Table, items: &[Item]) -> Result<(), Memory>
+    requires { AreDifferent items.now }
+    ensures items { OnOk result (last.new ≡ items.now) }
+    ensures different { AreDifferent last.new }
 {
-    if last.capacity() / 16 > last.len() {
-        *last = IndexSet::new(alloc);
-    } else {
-        last.clear();
+    last.clear();
+    'items: for item in items {
+        last.add(*item)?;
     }
+    Ok(())
 }
 
-/// Puts the item last, unless it is there; true exactly where it was not there.
-fn put(last: &mut IndexSet<Item>, item: Item) -> Result<bool, Memory>
-    ensures added { IfOk result (λ added. IsTrue added ↔ (Contains last.old.keys item → ⊥)) }
-    ensures items { IfOk result (λ added. last.new.keys ≡ (if added then last.old.keys ++ item ∷ [] else last.old.keys)) }
-    ensures different { AreDifferent last.new.keys }
-    ensures err { OnErr result (last.new.keys ≡ last.old.keys) }
+/// Opens the last set again, where the sets after it were removed.
+fn reopen(
+    is_open: &mut bool,
+    items: &mut FlatLists<Item>,
+    waits: &mut FlatLists<Waiter>,
+    last: &mut Table,
+    waiting: &mut Vec<Waiter>,
+) -> Result<(), Memory>
+    requires kept { IsKept is_open.old items.old last.old waits.old }
+    requires some { 0 < length (opened is_open.old items.old last.old) }
+    ensures open { OnOk result (is_open.new ≡ true) }
+    ensures sets { opened is_open.new items.new last.new ≡ opened is_open.old items.old last.old }
+    ensures waits { opened is_open.new waits.new waiting.new.items ≡ opened is_open.old waits.old waiting.old.items }
+    ensures kept { IsKept is_open.new items.new last.new waits.new }
 {
-    let added = last.insert(item)?;
-    Ok(added)
-}
-
-/// Whether the item is there.
-fn found(last: &IndexSet<Item>, item: Item) -> bool
-    ensures { IsTrue result ↔ Contains last.now.keys item }
-{
-    last.contains(&item)
+    if *is_open {
+        return Ok(());
+    }
+    let set = items.len() - 1;
+    refill(last, items.list(set))?;
+    waiting.clear();
+    waiting.extend_from_slice(waits.list(set))?;
+    items.truncate(set);
+    waits.truncate(set);
+    *is_open = true;
+    Ok(())
 }
 
 impl Chart {
-    ghost use Rattle.xs_chart.specs.Charted.{items_of, last_set, waiting_of, with_item, IsWaiting, set_limit};
+    ghost use Rattle.xs_chart.specs.Charted.{items_of, last_set, waiting_of, with_item, first_sets, before_last, IsWaiting, set_limit};
 
     /// The chart without sets.
     pub fn new(alloc: Global) -> Result<Self, Memory>
@@ -71,10 +83,9 @@ impl Chart {
         ensures waits { IfOk result (λ chart. chart.waits ≡ []) }
     {
         Ok(Chart {
-            alloc,
             items: FlatLists::new(alloc),
             waits: FlatLists::new(alloc),
-            last: IndexSet::new(alloc),
+            last: Table::new(alloc)?,
             waiting: Vec::new(alloc),
             is_open: false,
         })
@@ -95,7 +106,7 @@ impl Chart {
                 &mut self.waiting,
             )?;
         }
-        emptied(self.alloc, &mut self.last);
+        self.last.clear();
         self.waiting.clear();
         self.is_open = true;
         Ok(())
@@ -106,13 +117,22 @@ impl Chart {
         requires { 0 < length self.old.sets }
         ensures added { IfOk result (λ added. IsTrue added ↔ (Contains (items_of self.old (last_set self.old)) item → ⊥)) }
         ensures last { IfOk result (λ added. self.new ≡ (if added then with_item self.old item else self.old)) }
+        ensures before { before_last self.new ≡ before_last self.old }
         ensures err { OnErr result (self.new ≡ self.old) }
     {
-        put(&mut self.last, item)
+        reopen(
+            &mut self.is_open,
+            &mut self.items,
+            &mut self.waits,
+            &mut self.last,
+            &mut self.waiting,
+        )?;
+        let added = self.last.add(item)?;
+        Ok(added)
     }
 
-    /// The items of a set.
-    fn items(&self, set: u32) -> &[Item]
+    /// The items of a set, in the order in which they were added.
+    pub fn items(&self, set: u32) -> &[Item]
         requires { set < length self.now.sets }
         ensures { result.now ≡ items_of self.now set }
     {
@@ -123,14 +143,14 @@ impl Chart {
         }
     }
 
-    /// Whether the set has the item: in constant expected time where it is the last one, and in time
-    /// linear in the set else.
+    /// Whether the set has the item: in constant expected time where it is the last one and later ones
+    /// were not removed, and in time linear in the set else.
     pub fn has(&self, set: u32, item: Item) -> bool
         requires { set < length self.now.sets }
         ensures { IsTrue result ↔ Contains (items_of self.now set) item }
     {
         if set as usize == self.items.len() {
-            found(&self.last, item)
+            self.last.has(item)
         } else {
             self.items(set).contains(&item)
         }
@@ -168,14 +188,35 @@ impl Chart {
         ensures there { OnOk result (waiting_of self.new (last_set self.old) non ≡ waiting_of self.old (last_set self.old) non ++ k ∷ []) }
         ensures others { OnOk result ((other : ℕ) → other ≢ non → waiting_of self.new (last_set self.old) other ≡ waiting_of self.old (last_set self.old) other) }
         ensures earlier { OnOk result ((set other : ℕ) → set ≢ last_set self.old → waiting_of self.new set other ≡ waiting_of self.old set other) }
+        ensures before { before_last self.new ≡ before_last self.old }
         ensures err { OnErr result (self.new ≡ self.old) }
     {
+        reopen(
+            &mut self.is_open,
+            &mut self.items,
+            &mut self.waits,
+            &mut self.last,
+            &mut self.waiting,
+        )?;
         match u32::try_from(k) {
             Ok(number) => {
                 self.waiting.push(Waiter { non, number })?;
                 Ok(())
             }
             Err(_) => Err(Memory),
+        }
+    }
+
+    /// Keeps the first sets, with their waiting lists; takes no memory.
+    pub fn truncate(&mut self, sets: u32)
+        requires { sets ≤ length self.old.sets }
+        ensures { self.new ≡ first_sets sets self.old }
+    {
+        let count = sets as usize;
+        if count <= self.items.len() {
+            self.items.truncate(count);
+            self.waits.truncate(count);
+            self.is_open = false;
         }
     }
 

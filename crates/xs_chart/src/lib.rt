@@ -9,6 +9,7 @@
 
 mod chart;
 mod item;
+mod table;
 mod waiting;
 
 pub use chart::Chart;

@@ -1,5 +1,0 @@
-use Rattle.xs_chart.proofs.Different.{found_iff}
-use Rattle.xs_chart.proofs.chart.found.Goals as goal
-
-pub returns : goal.returns
-returns c = found_iff c.args.last.now.keys c.args.item c.contains.result c.contains.ensures
