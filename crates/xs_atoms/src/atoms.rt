@@ -1,6 +1,7 @@
 ghost use Rattle.std.specs.Prelude.{◌≡◌, ◌<◌, [], slice_index_or, IfOk, IfSome};
 
 use crate::distinct::Distinct;
+use crate::fault::AtomsFault;
 use crate::fixed::fixed_ranges;
 use crate::numbers::{skip_numbers, term_numbers};
 use crate::pages::pages_of;
@@ -30,13 +31,25 @@ pub struct Atoms {
 impl Atoms {
     ghost use Rattle.xs_atoms.specs.Alphabet.{AreAtoms, count_of, width_of, atom_of, term_classes, skip_classes, term_class, skip_class, class_has, word_of};
 
-    /// The atoms of a grammar, or None where it has 65,535 atoms or more, or where its classes and
-    /// atoms make more than about 2^24 pairs.
+    /// The atoms of a grammar, or None where it has 65,535 atoms or more, where its classes and
+    /// atoms make more than about 2^24 pairs, or where 32 bits do not number its classes or the
+    /// cells of its symbols.
     ///
     /// In time about linear in the ranges of its classes, but for the sorting of their ends and a
     /// row of the classes for each stretch between them.
     pub fn of(alloc: Global, g: &Gram) -> Result<Option<Atoms>, Memory>
         ensures { IfOk result (λ o. IfSome o (AreAtoms g.now)) }
+    {
+        match Atoms::made(alloc, g) {
+            Ok(atoms) => Ok(Some(atoms)),
+            Err(AtomsFault::TooMany) => Ok(None),
+            Err(AtomsFault::Memory) => Err(Memory),
+        }
+    }
+
+    /// The same, with a cause where there are none.
+    fn made(alloc: Global, g: &Gram) -> Result<Atoms, AtomsFault>
+        ensures { IfOk result (AreAtoms g.now) }
     {
         let fixed = fixed_ranges(alloc, g)?;
         let class = Class::from_ranges(alloc, &fixed)?;
@@ -45,13 +58,13 @@ impl Atoms {
         let skips = skip_numbers(alloc, g, &mut distinct)?;
         let turns = turns_of(alloc, &distinct.classes, &fixed)?;
         let Some(draft) = sweep(alloc, distinct.classes.len(), &turns)? else {
-            return Ok(None);
+            return Err(AtomsFault::TooMany);
         };
         let Ok(width) = u32::try_from(distinct.classes.len()) else {
-            return Ok(None);
+            return Err(AtomsFault::TooMany);
         };
         let pages = pages_of(alloc, &draft.stretches, draft.firsts.len())?;
-        Ok(Some(Atoms {
+        Ok(Atoms {
             rest: pages.rest,
             pages: pages.pages,
             cells: pages.cells,
@@ -60,7 +73,7 @@ impl Atoms {
             rows: draft.rows,
             terms,
             skips,
-        }))
+        })
     }
 
     /// The number of atoms, which is also the atom of the end of a document.
@@ -89,10 +102,7 @@ impl Atoms {
     pub fn word(&self, alloc: Global, doc: &[Sym], padding: usize) -> Result<Vec<u16>, Memory>
         ensures { IfOk result (λ word. word.items ≡ word_of self.now doc.now padding) }
     {
-        let Some(length) = doc.len().checked_add(padding) else {
-            return Err(Memory);
-        };
-        let mut atoms = Vec::with_capacity(alloc, length)?;
+        let mut atoms = Vec::with_capacity(alloc, doc.len().saturating_add(padding))?;
         'symbols: for symbol in doc {
             atoms.push(self.of_symbol(*symbol))?;
         }

@@ -1,6 +1,7 @@
 ghost use Rattle.std.specs.Prelude.{◌≡◌, ◌∷◌, [], Some, slice_get, IsTrue, IfOk};
 ghost use Rattle.xs_atoms.specs.Classed.{StayAll};
 
+use crate::fault::AtomsFault;
 use std::alloc::Global;
 use std::collections::HashMap;
 use xs_class::{Class, Memory};
@@ -26,7 +27,7 @@ impl Distinct {
     }
 
     /// The number of a class, which is appended where it is not there.
-    pub fn number(&mut self, class: &Class) -> Result<u32, Memory>
+    pub fn number(&mut self, class: &Class) -> Result<u32, AtomsFault>
         ensures stay { IfOk result (λ _. StayAll self.old.classes.items self.new.classes.items) }
         ensures there { IfOk result (λ n. slice_get self.new.classes.items n ≡ Some class.now) }
     {
@@ -38,7 +39,7 @@ impl Distinct {
             }
         }
         let Ok(number) = u32::try_from(self.classes.len()) else {
-            return Err(Memory);
+            return Err(AtomsFault::TooMany);
         };
         self.classes.push(class.copy()?)?;
         self.found.insert(hash, number)?;

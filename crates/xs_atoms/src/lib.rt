@@ -8,6 +8,7 @@
 
 mod atoms;
 mod distinct;
+mod fault;
 mod fixed;
 mod numbers;
 mod pages;

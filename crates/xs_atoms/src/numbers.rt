@@ -2,8 +2,9 @@ ghost use Rattle.std.specs.Prelude.{IfOk};
 ghost use Rattle.xs_atoms.specs.Classed.{StayAll, AreNumbersOf, AreTermNumbers, AreSkipNumbers};
 
 use crate::distinct::Distinct;
+use crate::fault::AtomsFault;
 use std::alloc::Global;
-use xs_class::{Class, Memory};
+use xs_class::Class;
 use xs_gram::Gram;
 use xs_regex::Numbers;
 
@@ -12,7 +13,7 @@ pub fn term_numbers(
     alloc: Global,
     g: &Gram,
     distinct: &mut Distinct,
-) -> Result<Vec<Numbers>, Memory>
+) -> Result<Vec<Numbers>, AtomsFault>
     ensures stay { IfOk result (λ _. StayAll distinct.old.classes.items distinct.new.classes.items) }
     ensures numbers { IfOk result (λ rows. AreTermNumbers g.now distinct.new.classes.items rows.items) }
 {
@@ -29,7 +30,7 @@ pub fn skip_numbers(
     alloc: Global,
     g: &Gram,
     distinct: &mut Distinct,
-) -> Result<Vec<Numbers>, Memory>
+) -> Result<Vec<Numbers>, AtomsFault>
     ensures stay { IfOk result (λ _. StayAll distinct.old.classes.items distinct.new.classes.items) }
     ensures numbers { IfOk result (λ rows. AreSkipNumbers g.now distinct.new.classes.items rows.items) }
 {
@@ -42,7 +43,11 @@ pub fn skip_numbers(
 }
 
 /// The numbers of these classes.
-fn numbers_of(alloc: Global, classes: &[Class], distinct: &mut Distinct) -> Result<Numbers, Memory>
+fn numbers_of(
+    alloc: Global,
+    classes: &[Class],
+    distinct: &mut Distinct,
+) -> Result<Numbers, AtomsFault>
     ensures stay { IfOk result (λ _. StayAll distinct.old.classes.items distinct.new.classes.items) }
     ensures numbers { IfOk result (λ row. AreNumbersOf distinct.new.classes.items classes.now row) }
 {

@@ -2,6 +2,7 @@ ghost use Rattle.std.specs.Prelude.{◌≡◌, ◌+◌, ◌*◌, ◌<◌, ◌≤
 ghost use Rattle.xs_atoms.specs.Pages.{IsIn, IsAtomIn, IsPage, IsSame, IsLonger, AreWhole, ArePages, cell_of};
 ghost use Rattle.xs_atoms.specs.declared.sweep.Stretch.{Stretch as AnyStretch};
 
+use crate::fault::AtomsFault;
 use crate::sweep::Stretch;
 use std::alloc::Global;
 use xs_class::Memory;
@@ -79,7 +80,7 @@ fn page(
     stretches: &[Stretch],
     at: usize,
     begin: u64,
-) -> Result<u32, Memory>
+) -> Result<u32, AtomsFault>
     requires in_stretch { IsIn stretches.now at begin }
     requires begin { begin < 1099511627776 }
     requires whole { AreWhole cells.old.items whole.old }
@@ -88,7 +89,7 @@ fn page(
     ensures page { IfOk result (λ first. IsPage stretches.now cells.new.items first begin) }
 {
     let Ok(first) = u32::try_from(cells.len()) else {
-        return Err(Memory);
+        return Err(AtomsFault::TooMany);
     };
     if !is_whole(stretches, at, begin) {
         push_cells(cells, stretches, at, begin)?;
@@ -109,7 +110,7 @@ fn page(
 }
 
 /// The table of stretches of this many atoms, the first of which begins at 0.
-pub fn pages_of(alloc: Global, stretches: &[Stretch], atoms: usize) -> Result<Pages, Memory>
+pub fn pages_of(alloc: Global, stretches: &[Stretch], atoms: usize) -> Result<Pages, AtomsFault>
     requires some { 0 < length stretches.now }
     requires begins { (t : AnyStretch) → slice_get stretches.now 0 ≡ Some t → t.start ≡ 0 }
     ensures { IfOk result (λ p. (s : ℕ) → IsAtomIn stretches.now s (cell_of p.cells.items p.rest (s % 256) (slice_get p.pages.items (s / 256)))) }
@@ -118,7 +119,7 @@ pub fn pages_of(alloc: Global, stretches: &[Stretch], atoms: usize) -> Result<Pa
     let mut whole = vec![in alloc; None; atoms]?;
     let last = stretches[stretches.len() - 1];
     if last.start >= MOST_SYMBOLS {
-        return Err(Memory);
+        return Err(AtomsFault::TooMany);
     }
     let pages = push_pages(
         alloc,
@@ -141,7 +142,7 @@ fn push_pages(
     whole: &mut [Option<u32>],
     stretches: &[Stretch],
     count: u64,
-) -> Result<Vec<u32>, Memory>
+) -> Result<Vec<u32>, AtomsFault>
     requires some { 0 < length stretches.now }
     requires begins { (t : AnyStretch) → slice_get stretches.now 0 ≡ Some t → t.start ≡ 0 }
     requires count { count ≤ 4294967296 }

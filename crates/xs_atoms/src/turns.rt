@@ -2,6 +2,7 @@ ghost use Rattle.std.specs.Prelude.{◌≡◌, ◌++◌, None, IfOk};
 ghost use Rattle.std.specs.List.Sorted.{IsNonDecreasingBy};
 ghost use Rattle.xs_atoms.specs.Turns.{range_turns, class_turns, AreClasses, AreTurnsOf};
 
+use crate::fault::AtomsFault;
 use std::alloc::Global;
 use xs_class::{Class, Memory};
 
@@ -15,7 +16,11 @@ pub struct Turn {
 
 /// The symbols at which the classes begin and end, and those about each of the fixed symbols, in
 /// ascending order.
-pub fn turns_of(alloc: Global, classes: &[Class], fixed: &[(u32, u32)]) -> Result<Vec<Turn>, Memory>
+pub fn turns_of(
+    alloc: Global,
+    classes: &[Class],
+    fixed: &[(u32, u32)],
+) -> Result<Vec<Turn>, AtomsFault>
     ensures turns { IfOk result (λ turns. AreTurnsOf classes.now fixed.now turns.items) }
     ensures sorted { IfOk result (λ turns. IsNonDecreasingBy (λ t. t.place) turns.items) }
 {
@@ -27,13 +32,13 @@ pub fn turns_of(alloc: Global, classes: &[Class], fixed: &[(u32, u32)]) -> Resul
 }
 
 /// Appends the turns of the classes.
-fn push_classes(turns: &mut Vec<Turn>, classes: &[Class]) -> Result<(), Memory>
+fn push_classes(turns: &mut Vec<Turn>, classes: &[Class]) -> Result<(), AtomsFault>
     ensures turns { IfOk result (λ _. turns.new.items ≡ turns.old.items ++ class_turns 0 classes.now) }
     ensures formed { IfOk result (λ _. AreClasses classes.now) }
 {
     'classes: for (index, class) in classes.iter().enumerate() {
         let Ok(number) = u32::try_from(index) else {
-            return Err(Memory);
+            return Err(AtomsFault::TooMany);
         };
         push_turns(turns, Some(number), class.ranges())?;
     }

@@ -45,7 +45,7 @@ fn mark_next(p: &Position, set: &[u32], flags: &mut [bool])
     }
 }
 
-/// The marked positions, in ascending order.
+/// The marked positions that 32 bits number, in ascending order.
 fn marked(alloc: Global, flags: &[bool]) -> Result<Vec<u32>, Memory>
     ensures { IfOk result (λ list. (k : ℕ) → Contains list.items k → Marked flags.now k) }
 {
@@ -53,7 +53,7 @@ fn marked(alloc: Global, flags: &[bool]) -> Result<Vec<u32>, Memory>
     'flags: for (place, flag) in flags.iter().enumerate() {
         if *flag {
             let Ok(position) = u32::try_from(place) else {
-                return Err(Memory);
+                return Ok(list);
             };
             list.push(position)?;
         }
@@ -154,26 +154,18 @@ fn end_cell(ends: bool) -> u32
     if ends { 1 } else { 0 }
 }
 
-/// The first cell of the row of a set.
-fn cell_of(start: u32, number: usize, width: u32) -> Result<u32, Memory>
-    ensures { IfOk result (λ cell. cell ≡ start + suc number * width) }
+/// The first cell of the row of a set, or None where 32 bits do not number it.
+fn cell_of(start: u32, number: usize, width: u32) -> Option<u32>
+    ensures { IfSome result (λ cell. cell ≡ start + suc number * width) }
 {
-    let Some(rows) = number.checked_add(1) else {
-        return Err(Memory);
-    };
-    let Some(cells) = rows.checked_mul(width as usize) else {
-        return Err(Memory);
-    };
-    let Some(cell) = cells.checked_add(start as usize) else {
-        return Err(Memory);
-    };
-    let Ok(cell) = u32::try_from(cell) else {
-        return Err(Memory);
-    };
-    Ok(cell)
+    let rows = number.checked_add(1)?;
+    let cells = rows.checked_mul(width as usize)?;
+    let cell = cells.checked_add(start as usize)?;
+    u32::try_from(cell).ok()
 }
 
-/// Appends a cell for each atom, which leads from the row of this number to that of a set.
+/// Appends a cell for each atom, which leads from the row of this number to that of a set; false
+/// where there are too many cells.
 fn push_moves(
     alloc: Global,
     classes: &[u32],
@@ -182,24 +174,26 @@ fn push_moves(
     may: &[u32],
     sets: &mut Sets,
     cells: &mut Vec<u32>,
-) -> Result<(), Memory>
+) -> Result<bool, Memory>
     ensures sets { IfOk result (λ _. AreLonger sets.old.sets.items sets.new.sets.items) }
     ensures cells { IfOk result (λ _. AreLonger cells.old.items cells.new.items) }
-    ensures count { IfOk result (λ _. length cells.new.items ≡ length cells.old.items + atoms.now.count) }
-    ensures moves { IfOk result (λ _. AreChoices atoms.now classes.now may.now start sets.new.sets.items cells.new.items (length cells.old.items) atoms.now.count) }
+    ensures count { IfOk result (λ few. IsTrue few → length cells.new.items ≡ length cells.old.items + atoms.now.count) }
+    ensures moves { IfOk result (λ few. IsTrue few → AreChoices atoms.now classes.now may.now start sets.new.sets.items cells.new.items (length cells.old.items) atoms.now.count) }
 {
     let mut chosen = Vec::new(alloc);
     let count = atoms.count();
     'atoms: for atom in 0..count {
         choose(atoms, classes, may, atom, &mut chosen)?;
         let number = sets.number(alloc, &chosen)?;
-        let cell = cell_of(start, number, count + 1)?;
+        let Some(cell) = cell_of(start, number, count + 1) else {
+            return Ok(false);
+        };
         cells.push(cell)?;
     }
-    Ok(())
+    Ok(true)
 }
 
-/// Appends the row of this number.
+/// Appends the row of this number; false where there are too many cells.
 fn push_row(
     alloc: Global,
     p: &Position,
@@ -210,21 +204,23 @@ fn push_row(
     flags: &mut [bool],
     sets: &mut Sets,
     cells: &mut Vec<u32>,
-) -> Result<(), Memory>
+) -> Result<bool, Memory>
     requires row { row ≤ length sets.old.sets.items }
     requires room { length flags.old ≡ length p.now.classes }
     requires classes { AreClassesOf p.now atoms.now classes.now }
     ensures sets { IfOk result (λ _. AreLonger sets.old.sets.items sets.new.sets.items) }
     ensures cells { IfOk result (λ _. AreLonger cells.old.items cells.new.items) }
-    ensures count { IfOk result (λ _. length cells.new.items ≡ length cells.old.items + suc atoms.now.count) }
-    ensures row { IfOk result (λ _. IsRow p.now atoms.now sets.new.sets.items start row cells.new.items (length cells.old.items)) }
+    ensures count { IfOk result (λ few. IsTrue few → length cells.new.items ≡ length cells.old.items + suc atoms.now.count) }
+    ensures row { IfOk result (λ few. IsTrue few → IsRow p.now atoms.now sets.new.sets.items start row cells.new.items (length cells.old.items)) }
     ensures room { IfOk result (λ _. length flags.new ≡ length flags.old) }
 {
     let may = may_come(alloc, p, &sets.sets, row, flags)?;
-    push_moves(alloc, classes, atoms, start, &may, sets, cells)?;
+    if !push_moves(alloc, classes, atoms, start, &may, sets, cells)? {
+        return Ok(false);
+    }
     let end = end_cell(may_end(p, &sets.sets, row));
     cells.push(end)?;
-    Ok(())
+    Ok(true)
 }
 
 /// Appends the rows of an automaton from this cell on, and says whether there are few enough.
@@ -249,15 +245,17 @@ fn fill_rows(
         if row > sets.sets.len() {
             return Ok(true);
         }
-        push_row(
+        if !push_row(
             alloc, p, classes, atoms, start, row, flags, &mut sets, cells,
-        )?;
+        )? {
+            return Ok(false);
+        }
     }
     Ok(false)
 }
 
 /// Appends the rows of an automaton, and gives the first cell of its start's, or None where there
-/// are more than twice its positions and 16.
+/// are more than twice its positions and 16, or more cells than 32 bits number.
 pub fn push_rows(
     alloc: Global,
     p: &Position,
@@ -270,7 +268,7 @@ pub fn push_rows(
     ensures moves { IfOk result (λ o. IfSome o (AreMoves p.now atoms.now cells.new.items)) }
 {
     let Ok(start) = u32::try_from(cells.len()) else {
-        return Err(Memory);
+        return Ok(None);
     };
     let mut flags = vec![in alloc; false; p.classes.len()]?;
     if fill_rows(alloc, p, classes, atoms, start, &mut flags, cells)? {

@@ -10,7 +10,7 @@ use xs_regex::Numbers;
 #[derive(Drop)]
 pub struct Sets {
     pub sets: Vec<Numbers>,
-    found: HashMap<u64, u32>,
+    found: HashMap<u64, usize>,
 }
 
 impl Sets {
@@ -31,18 +31,15 @@ impl Sets {
     {
         let hash = hash_of(set);
         if let Some(number) = self.found.get(&hash) {
-            let place = *number as usize;
+            let place = *number;
             if is_at(&self.sets, place, set) {
                 return Ok(place);
             }
         }
         let place = self.sets.len();
-        let Ok(number) = u32::try_from(place) else {
-            return Err(Memory);
-        };
         let numbers = Vec::from_slice(alloc, set)?;
         self.sets.push(Numbers::from_vec(numbers))?;
-        self.found.insert(hash, number)?;
+        self.found.insert(hash, place)?;
         Ok(place)
     }
 }

@@ -29,7 +29,8 @@ impl Validator {
     ghost use Rattle.xs_parse_table.specs.Validators.{IsValidatorOf, IsReady};
 
     /// The moves of each terminal and ignorable that has few enough sets of positions: at most twice
-    /// its positions and 16. All others are run by their automata.
+    /// its positions and 16, as far as 32 bits number their cells. All others are run by their
+    /// automata.
     pub fn of(alloc: Global, g: &Gram, atoms: &Atoms) -> Result<Validator, Memory>
         requires { AreAtoms g.now atoms.now }
         ensures { IfOk result (IsValidatorOf g.now atoms.now) }

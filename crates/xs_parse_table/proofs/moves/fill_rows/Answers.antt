@@ -7,7 +7,8 @@ rows-init c = rw c.new-sets.ensures (rows_begun c.args.p.now c.args.atoms.now c.
 
 pub rows-preserved : goal.rows-preserved
 rows-preserved c =
-    rows_more c.args.p.now c.args.atoms.now c.args.cells.now.items c.args.start c.rows.sets.sets.items c.push_row.new.sets.sets.items c.rows.cells.items c.push_row.new.cells.items c.rows.row c.rows.invariant (omega arith) c.in_ok-push_row.ensures.sets c.in_ok-push_row.ensures.cells c.in_ok-push_row.ensures.count c.in_ok-push_row.ensures.row
+    let few = c.if-not-branch.false in
+    rows_more c.args.p.now c.args.atoms.now c.args.cells.now.items c.args.start c.rows.sets.sets.items c.push_row.new.sets.sets.items c.rows.cells.items c.push_row.new.cells.items c.rows.row c.rows.invariant (omega arith) c.in_ok-push_row.ensures.sets c.in_ok-push_row.ensures.cells (c.in_ok-push_row.ensures.count few) (c.in_ok-push_row.ensures.row few)
 
 pub returns-then-row-len-clause-moves : goal.returns-then-row-len-clause-moves
 returns-then-row-len-clause-moves c = λ t.

@@ -4,7 +4,7 @@ use Rattle.std.specs.Prelude.{slice_get}
 use Rattle.xs_atoms.proofs.Alphabets.{turns_kept, alphabet, later_terms, some_stretch, first_begins}
 use Rattle.xs_atoms.proofs.Fixing.{rules_single}
 use Rattle.xs_atoms.proofs.Rows.{len_is}
-use Rattle.xs_atoms.proofs.atoms.Atoms.of.Goals as goal
+use Rattle.xs_atoms.proofs.atoms.Atoms.made.Goals as goal
 
 pub sweep-requires-clause-width : goal.sweep-requires-clause-width
 sweep-requires-clause-width c =
