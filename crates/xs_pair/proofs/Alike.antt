@@ -83,6 +83,7 @@ term_words (V.Terminal name pattern regex line ∷ us) (r ∷ rs) [] one two t d
 term_words (V.Terminal name pattern regex line ∷ us) (r ∷ rs) (q ∷ qs) one two zero d w m = same_words pattern r q one.0 two.0 w m
 term_words (V.Terminal name pattern regex line ∷ us) (r ∷ rs) (q ∷ qs) one two (suc t) d w m = term_words us rs qs one.1 two.1 t d w m
 term_words (V.Ignorable name pattern regex normal line ∷ us) rs qs one two t d w m = term_words us rs qs one two t d w m
+term_words (V.Fence left right line ∷ us) rs qs one two t d w m = term_words us rs qs one two t d w m
 term_words (V.Production name left right line ∷ us) rs qs one two t d w m = term_words us rs qs one two t d w m
 
 pub regex_at : (ts : List Terminal) (t : ℕ) → get_or (map (λ (x : Terminal). x.regex) ts) t no_terminal.regex ≡ (get_or ts t no_terminal).regex

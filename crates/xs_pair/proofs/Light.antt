@@ -15,7 +15,7 @@ use Rattle.xs_sheet.specs.declared.item.Item.{Item}
 use Rattle.xs_sheet.specs.declared.item.Item.TheVariants.{Fixed, Named, Skip}
 use Rattle.xs_sheet.specs.declared.x_item.Attr.{Attr}
 use Rattle.xs_sheet.specs.declared.sheet.Sheet.{Sheet}
-use Rattle.xs_sheet.specs.Outline.{Content, nothing, item, element, UnitOutline, terminal, ignorable, production, unit_outline}
+use Rattle.xs_sheet.specs.Outline.{Content, nothing, item, element, UnitOutline, terminal, ignorable, production, fence, unit_outline}
 use Rattle.xs_sheet.specs.Pieces.{IsPiece, ArePieces, IsTextOf}
 use Rattle.xs_sheet.specs.Grammar.{ReadsItem, ReadsItems, ReadsAttr, ReadsAttrs, ReadsSign, ReadsClosing, ReadsContent, ReadsUnit, ReadsUnits, IsSheetOf}
 use Rattle.xs_pair.specs.Weights.{item_weight}
@@ -143,6 +143,7 @@ content_weight (element before tag attrs inner) = content_weight before + (attrs
 abbrev pub unit_weight : UnitOutline → ℕ
 unit_weight (terminal name pattern line) = 1
 unit_weight (ignorable name pattern normal line) = 1
+unit_weight (fence left right line) = 1
 unit_weight (production name left right line) = items_weight left + (content_weight right + 1)
 
 abbrev pub units_weight : List UnitOutline → ℕ
@@ -189,6 +190,7 @@ read_content depth (element before tag attrs inner) ps rest (mid, front, low, na
 read_unit : (u : UnitOutline) (ps rest : List Piece) → ReadsUnit u ps rest → unit_weight u + all_heavy rest ≤ all_heavy ps
 read_unit (terminal name pattern line) ps rest r = omega (arith, ap all_heavy r.is, kind_heavy r.word Plain r.word_is.plain)
 read_unit (ignorable name pattern normal line) ps rest r = omega (arith, ap all_heavy r.is, kind_heavy r.word Plain r.word_is.plain)
+read_unit (fence left right line) ps rest r = omega (arith, ap all_heavy r.is, kind_heavy r.word Plain r.word_is.plain)
 read_unit (production name left right line) ps rest r =
     omega (arith, ap all_heavy r.is, kind_heavy r.name_piece Plain r.name_is.plain, read_items left r.next r.mid r.left_is, ap all_heavy r.equals_is.is, read_content 0 right r.inside rest r.right_is)
 

@@ -99,6 +99,7 @@ units_same : (us : List Unit) → weight us ≡ units_weight (map unit_outline u
 units_same [] = refl
 units_same (V.Terminal name pattern regex line ∷ us) = let rest = units_same us in omega arith
 units_same (V.Ignorable name pattern regex normal line ∷ us) = let rest = units_same us in omega arith
+units_same (V.Fence left right line ∷ us) = let rest = units_same us in omega arith
 units_same (V.Production name left right line ∷ us) = omega (arith, units_same us, contents_weight left, all_weigh right.all.items nothing)
 
 -- a sheet of at most 65,536 bytes weighs less than 65,536

@@ -70,6 +70,7 @@ pub rule_names : (us : List Unit) → map (λ (r : Rule). r.name) (rules_of us) 
 rule_names [] = refl
 rule_names (V.Terminal name pattern regex line ∷ us) = rule_names us
 rule_names (V.Ignorable name pattern regex normal line ∷ us) = rule_names us
+rule_names (V.Fence left right line ∷ us) = rule_names us
 rule_names (V.Production name left right line ∷ us) = ap (λ (l : List (List ℕ)). name ∷ l) (rule_names us)
 
 pub rule_is_named : (us : List Unit) (k : ℕ) (r : Rule) → slice_get (rules_of us) k ≡ Some r → IsAmong (nons_of us) r.name
@@ -99,6 +100,7 @@ sorted (V.Ignorable n pattern regex normal line ∷ us) name among = by_case (am
         place (inl h) = inl h
         place (inr (inl h)) = inr (inl (among_rest n (skips_of us) name h))
         place (inr (inr h)) = inr (inr h)
+sorted (V.Fence left right line ∷ us) name among = sorted us name among
 sorted (V.Production n left right line ∷ us) name among = by_case (among_cons n (names_of S.Any us) name among) (λ rest. sorted us name rest)
   where
     by_case : (n ≡ name) ⊎ IsAmong (names_of S.Any us) name → (IsAmong (names_of S.Any us) name → IsAmong (terms_of us) name ⊎ (IsAmong (skips_of us) name ⊎ IsAmong (names_of S.Production us) name)) → IsAmong (terms_of us) name ⊎ (IsAmong (skips_of us) name ⊎ IsAmong (n ∷ names_of S.Production us) name)

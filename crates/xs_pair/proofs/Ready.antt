@@ -73,6 +73,7 @@ terms_long [] (r ∷ rs) are = absurd are
 terms_long (V.Terminal name pattern regex line ∷ us) [] are = absurd are
 terms_long (V.Terminal name pattern regex line ∷ us) (r ∷ rs) are = ap suc (terms_long us rs are.1)
 terms_long (V.Ignorable name pattern regex normal line ∷ us) rs are = terms_long us rs are
+terms_long (V.Fence left right line ∷ us) rs are = terms_long us rs are
 terms_long (V.Production name left right line ∷ us) rs are = terms_long us rs are
 
 skips_long : (us : List Unit) (ks : List SkipPart) → AreSkipsOf us ks → length ks ≡ length (skips_of us)
@@ -81,6 +82,7 @@ skips_long [] (k ∷ ks) are = absurd are
 skips_long (V.Terminal name pattern regex line ∷ us) ks are = skips_long us ks are
 skips_long (V.Ignorable name pattern regex normal line ∷ us) [] are = absurd are
 skips_long (V.Ignorable name pattern regex normal line ∷ us) (k ∷ ks) are = ap suc (skips_long us ks are.2)
+skips_long (V.Fence left right line ∷ us) ks are = skips_long us ks are
 skips_long (V.Production name left right line ∷ us) ks are = skips_long us ks are
 
 -- what the weight of a sheet bounds
@@ -88,18 +90,21 @@ pub units_light : (us : List Unit) → length us ≤ weight us
 units_light [] = omega arith
 units_light (V.Terminal name pattern regex line ∷ us) = let rest = units_light us in omega arith
 units_light (V.Ignorable name pattern regex normal line ∷ us) = let rest = units_light us in omega arith
+units_light (V.Fence left right line ∷ us) = let rest = units_light us in omega arith
 units_light (V.Production name left right line ∷ us) = let rest = units_light us in omega arith
 
 rules_short : (us : List Unit) → length (rules_of us) ≤ length us
 rules_short [] = omega arith
 rules_short (V.Terminal name pattern regex line ∷ us) = let rest = rules_short us in omega arith
 rules_short (V.Ignorable name pattern regex normal line ∷ us) = let rest = rules_short us in omega arith
+rules_short (V.Fence left right line ∷ us) = let rest = rules_short us in omega arith
 rules_short (V.Production name left right line ∷ us) = let rest = rules_short us in omega arith
 
 parts_light : (names : List (List ℕ)) (all : List Unit) (side : Side) (us : List Unit) → (items_count (rule_parts (numbering all names) side (rules_of us)) ≤ weight us) × (symbols_count (rule_parts (numbering all names) side (rules_of us)) ≤ weight us)
 parts_light names all side [] = (omega arith, omega arith)
 parts_light names all side (V.Terminal name pattern regex line ∷ us) = let rest = parts_light names all side us in (omega (arith, rest.0), omega (arith, rest.1))
 parts_light names all side (V.Ignorable name pattern regex normal line ∷ us) = let rest = parts_light names all side us in (omega (arith, rest.0), omega (arith, rest.1))
+parts_light names all side (V.Fence left right line ∷ us) = let rest = parts_light names all side us in (omega (arith, rest.0), omega (arith, rest.1))
 parts_light names all Text (V.Production name left right line ∷ us) =
     let r = rule_of name left right.all.items line in
     let rest = parts_light names all Text us in
@@ -115,6 +120,7 @@ rule_light : (us : List Unit) (k : ℕ) (r : Rule) → slice_get (rules_of us) k
 rule_light [] k r at = absurd (none-some r at)
 rule_light (V.Terminal name pattern regex line ∷ us) k r at = let rest = rule_light us k r at in omega arith
 rule_light (V.Ignorable name pattern regex normal line ∷ us) k r at = let rest = rule_light us k r at in omega arith
+rule_light (V.Fence left right line ∷ us) k r at = let rest = rule_light us k r at in omega arith
 rule_light (V.Production name left right line ∷ us) zero r at =
     let same : rule_weight (rule_of name left right.all.items line) ≡ rule_weight r = ap rule_weight (same_Some (rule_of name left right.all.items line) r at) in omega arith
 rule_light (V.Production name left right line ∷ us) (suc k) r at = let rest = rule_light us k r at in omega arith
@@ -135,6 +141,7 @@ pub names_light : (us : List Unit) → length (names_in (rules_of us)) ≤ weigh
 names_light [] = omega arith
 names_light (V.Terminal name pattern regex line ∷ us) = let rest = names_light us in omega arith
 names_light (V.Ignorable name pattern regex normal line ∷ us) = let rest = names_light us in omega arith
+names_light (V.Fence left right line ∷ us) = let rest = names_light us in omega arith
 names_light (V.Production name left right line ∷ us) =
     let r = rule_of name left right.all.items line in
     omega (arith, length-append (mark_names r.right) (names_in (rules_of us)), mark_names_short r.right, names_light us)

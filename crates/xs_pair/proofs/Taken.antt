@@ -27,12 +27,6 @@ names_front : (sort : Sort) (us : List Unit) (p : ℕ) → take (length (names_o
 names_front sort us p =
     ap (λ (l : List (List ℕ)). take (length (names_of sort (take p us))) l) (ap (names_of sort) (sym (take-append-drop p us)) ∙ names-append sort (take p us) (drop p us)) ∙ take_at (names_of sort (take p us)) (names_of sort (drop p us)) (length (names_of sort (take p us))) refl
 
-any_length : (us : List Unit) → length (names_of S.Any us) ≡ length us
-any_length [] = refl
-any_length (V.Terminal name pattern regex line ∷ us) = ap suc (any_length us)
-any_length (V.Ignorable name pattern regex normal line ∷ us) = ap suc (any_length us)
-any_length (V.Production name left right line ∷ us) = ap suc (any_length us)
-
 within_among : (sort : Sort) (us : List Unit) (p c : ℕ) (name : List ℕ) → c ≡ length (names_of sort (take p us)) → IsWithin (names_of sort us) name c ↔ IsAmong (names_of sort (take p us)) name
 within_among sort us p c name is = (
   λ (k, found, lt). subst (λ l. IsAmong l name) (ap (λ d. take d (names_of sort us)) is ∙ names_front sort us p) (within_take (names_of sort us) c k name found lt),
@@ -40,15 +34,16 @@ within_among sort us p c name is = (
 )
 
 -- a unit's name is taken exactly where the unit has a name twice
-pub taken_twice : (us : List Unit) (o : Outline) (p c : ℕ) (u : Unit) → o.units ≡ names_of S.Any us → o.lexical ≡ names_of S.Lexical us → p < length us → c ≡ length (names_of S.Lexical (take p us)) → IsTaken o p c u ↔ IsTwice us p u
-taken_twice us o p c (V.Terminal name pattern regex line) any lexical lt count = subst (λ l. IsWithin l name p ↔ IsAmong (names_of S.Any (take p us)) name) (sym any) (within_among S.Any us p p name (sym (any_length (take p us) ∙ length-take-le p us (omega arith))))
-taken_twice us o p c (V.Ignorable name pattern regex normal line) any lexical lt count = subst (λ l. IsWithin l name p ↔ IsAmong (names_of S.Any (take p us)) name) (sym any) (within_among S.Any us p p name (sym (any_length (take p us) ∙ length-take-le p us (omega arith))))
-taken_twice us o p c (V.Production name left right line) any lexical lt count = subst (λ l. IsWithin l name c ↔ IsAmong (names_of S.Lexical (take p us)) name) (sym lexical) (within_among S.Lexical us p c name count)
+pub taken_twice : (us : List Unit) (o : Outline) (p n c : ℕ) (u : Unit) → o.units ≡ names_of S.Any us → o.lexical ≡ names_of S.Lexical us → n ≡ length (names_of S.Any (take p us)) → c ≡ length (names_of S.Lexical (take p us)) → IsTaken o n c u ↔ IsTwice us p u
+taken_twice us o p n c (V.Terminal name pattern regex line) any lexical named count = subst (λ l. IsWithin l name n ↔ IsAmong (names_of S.Any (take p us)) name) (sym any) (within_among S.Any us p n name named)
+taken_twice us o p n c (V.Ignorable name pattern regex normal line) any lexical named count = subst (λ l. IsWithin l name n ↔ IsAmong (names_of S.Any (take p us)) name) (sym any) (within_among S.Any us p n name named)
+taken_twice us o p n c (V.Production name left right line) any lexical named count = subst (λ l. IsWithin l name c ↔ IsAmong (names_of S.Lexical (take p us)) name) (sym lexical) (within_among S.Lexical us p c name count)
+taken_twice us o p n c (V.Fence left right line) any lexical named count = (λ h. h, λ h. h)
 
-pub count_next : (us : List Unit) (p : ℕ) (u : Unit) (old new : ℕ) → p < length us → u ≡ get_or us p u → old ≡ length (names_of S.Lexical (take p us)) → new ≡ old + length (names_of S.Lexical (u ∷ [])) → new ≡ length (names_of S.Lexical (take (p + 1) us))
-count_next us p u old new lt at before next =
-    let split : names_of S.Lexical (take (p + 1) us) ≡ names_of S.Lexical (take p us) ++ names_of S.Lexical (u ∷ []) = ap (names_of S.Lexical) (take_next us p u lt at) ∙ names-append S.Lexical (take p us) (u ∷ []) in
-    let long : length (names_of S.Lexical (take (p + 1) us)) ≡ length (names_of S.Lexical (take p us)) + length (names_of S.Lexical (u ∷ [])) = ap length split ∙ length-append (names_of S.Lexical (take p us)) (names_of S.Lexical (u ∷ [])) in
+pub count_next : (sort : Sort) (us : List Unit) (p : ℕ) (u : Unit) (old new : ℕ) → p < length us → u ≡ get_or us p u → old ≡ length (names_of sort (take p us)) → new ≡ old + length (names_of sort (u ∷ [])) → new ≡ length (names_of sort (take (p + 1) us))
+count_next sort us p u old new lt at before next =
+    let split : names_of sort (take (p + 1) us) ≡ names_of sort (take p us) ++ names_of sort (u ∷ []) = ap (names_of sort) (take_next us p u lt at) ∙ names-append sort (take p us) (u ∷ []) in
+    let long : length (names_of sort (take (p + 1) us)) ≡ length (names_of sort (take p us)) + length (names_of sort (u ∷ [])) = ap length split ∙ length-append (names_of sort (take p us)) (names_of sort (u ∷ [])) in
     omega arith
 
 -- the least line with one more element that was tested

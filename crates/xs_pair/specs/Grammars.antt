@@ -11,7 +11,7 @@ use Rattle.xs_regex.specs.Meaning.{IsPatternOf}
 use Rattle.xs_sheet.specs.declared.item.Item.{Item}
 use Rattle.xs_sheet.specs.declared.item.Item.TheVariants as I
 use Rattle.xs_sheet.specs.declared.unit.Unit.{Unit}
-use Rattle.xs_sheet.specs.declared.unit.Unit.TheVariants.{Terminal, Ignorable, Production}
+use Rattle.xs_sheet.specs.declared.unit.Unit.TheVariants.{Terminal, Ignorable, Production, Fence}
 use Rattle.xs_sheet.specs.declared.sheet.Sheet.{Sheet}
 use Rattle.xs_gram.specs.declared.parts.GItem.{GItem}
 use Rattle.xs_gram.specs.declared.parts.GItem.TheVariants.{Fixed, Term, Non, Skip}
@@ -93,6 +93,7 @@ AreTermsOf (Terminal name pattern regex line ∷ us) [] = ⊥
 AreTermsOf (Terminal name pattern regex line ∷ us) (r ∷ rs) = IsPatternOf pattern r × AreTermsOf us rs
 AreTermsOf (Ignorable name pattern regex normal line ∷ us) rs = AreTermsOf us rs
 AreTermsOf (Production name left right line ∷ us) rs = AreTermsOf us rs
+AreTermsOf (Fence left right line ∷ us) rs = AreTermsOf us rs
 
 -- each part has the regex of the ignorable's pattern, and its normal spelling
 abbrev pub AreSkipsOf : List Unit → List SkipPart → Type 0
@@ -102,18 +103,21 @@ AreSkipsOf (Terminal name pattern regex line ∷ us) ks = AreSkipsOf us ks
 AreSkipsOf (Ignorable name pattern regex normal line ∷ us) [] = ⊥
 AreSkipsOf (Ignorable name pattern regex normal line ∷ us) (k ∷ ks) = IsPatternOf pattern k.regex × (k.normal ≡ normal) × AreSkipsOf us ks
 AreSkipsOf (Production name left right line ∷ us) ks = AreSkipsOf us ks
+AreSkipsOf (Fence left right line ∷ us) ks = AreSkipsOf us ks
 
 -- a terminal adds the regex of its pattern, another unit none
 abbrev pub IsTermAdded : Unit → List Regex → List Regex → Type 0
 IsTermAdded (Terminal name pattern regex line) old new = (r : Regex) × IsPatternOf pattern r × IsFit r × (new ≡ old ++ r ∷ [])
 IsTermAdded (Ignorable name pattern regex normal line) old new = new ≡ old
 IsTermAdded (Production name left right line) old new = new ≡ old
+IsTermAdded (Fence left right line) old new = new ≡ old
 
 -- an ignorable adds its part, another unit none
 abbrev pub IsSkipAdded : Unit → List SkipPart → List SkipPart → Type 0
 IsSkipAdded (Terminal name pattern regex line) old new = new ≡ old
 IsSkipAdded (Ignorable name pattern regex normal line) old new = (k : SkipPart) × IsPatternOf pattern k.regex × IsFit k.regex × (k.normal ≡ normal) × (new ≡ old ++ k ∷ [])
 IsSkipAdded (Production name left right line) old new = new ≡ old
+IsSkipAdded (Fence left right line) old new = new ≡ old
 
 -- the parts of one side's grammar, where the names of elements and attributes are given
 pub record ArePartsOf (s : Sheet) (names : List (List ℕ)) (side : Side) (parts : GramParts) : Type 0 where

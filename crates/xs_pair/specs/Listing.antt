@@ -4,7 +4,7 @@ use Rattle.std.specs.List.{flat_map}
 use Rattle.xs_sheet.specs.declared.item.Item.{Item}
 use Rattle.xs_sheet.specs.declared.x_item.XItem.{XItem}
 use Rattle.xs_sheet.specs.declared.unit.Unit.{Unit}
-use Rattle.xs_sheet.specs.declared.unit.Unit.TheVariants.{Terminal, Ignorable, Production}
+use Rattle.xs_sheet.specs.declared.unit.Unit.TheVariants.{Terminal, Ignorable, Production, Fence}
 use Rattle.xs_pair.specs.declared.mark.Mark.TheVariants.{Content}
 use Rattle.xs_pair.specs.declared.production.Rule.{Rule}
 use Rattle.xs_pair.specs.Marks.{all_marks, is_element, mark_names}
@@ -17,6 +17,7 @@ rule_of name left right line = record { name = name; left = map Content left; ri
 abbrev pub rule_in : Unit → List Rule
 rule_in (Terminal name pattern regex line) = []
 rule_in (Ignorable name pattern regex normal line) = []
+rule_in (Fence left right line) = []
 rule_in (Production name left right line) = rule_of name left right.all.items line ∷ []
 
 -- the productions of the units, in their order

@@ -4,7 +4,7 @@ use Rattle.xs_class.specs.Ordered.{place_of}
 use Rattle.xs_sheet.specs.declared.item.Item.{Item}
 use Rattle.xs_sheet.specs.declared.item.Item.TheVariants as I
 use Rattle.xs_sheet.specs.declared.unit.Unit.{Unit}
-use Rattle.xs_sheet.specs.declared.unit.Unit.TheVariants.{Terminal, Ignorable, Production}
+use Rattle.xs_sheet.specs.declared.unit.Unit.TheVariants.{Terminal, Ignorable, Production, Fence}
 use Rattle.xs_pair.specs.declared.mark.Mark.{Mark}
 use Rattle.xs_pair.specs.declared.mark.Mark.TheVariants.{Opening, Attribute, AttributeEnd, Closing, Value, Content}
 use Rattle.xs_pair.specs.declared.names.Sort.TheVariants as S
@@ -30,6 +30,7 @@ abbrev pub IsTwice : List Unit → ℕ → Unit → Type 0
 IsTwice us k (Terminal name pattern regex line) = IsAmong (names_of S.Any (take k us)) name
 IsTwice us k (Ignorable name pattern regex normal line) = IsAmong (names_of S.Any (take k us)) name
 IsTwice us k (Production name left right line) = IsAmong (names_of S.Lexical (take k us)) name
+IsTwice us k (Fence left right line) = ⊥
 
 -- an item's name is the name of no unit
 abbrev pub IsNameless : List (List ℕ) → Item → Type 0

@@ -2,22 +2,26 @@
 use Rattle.std.specs.Prelude.{ℕ, Bool, true, false, List, [], ◌∷◌, ◌++◌, map, filter, None, Some}
 use Rattle.std.specs.declared.option.Option.{Option}
 use Rattle.xs_sheet.specs.declared.unit.Unit.{Unit}
-use Rattle.xs_sheet.specs.declared.unit.Unit.TheVariants.{Terminal, Ignorable, Production}
+use Rattle.xs_sheet.specs.declared.unit.Unit.TheVariants.{Terminal, Ignorable, Production, Fence}
 use Rattle.xs_class.specs.Ordered.{place_of}
 use Rattle.xs_pair.specs.declared.names.Sort.{Sort}
 use Rattle.xs_pair.specs.declared.names.Sort.TheVariants as S
 
+-- the name of a unit; of a fence, which has none, its first text
 abbrev pub unit_name : Unit → List ℕ
 unit_name (Terminal name pattern regex line) = name
 unit_name (Ignorable name pattern regex normal line) = name
 unit_name (Production name left right line) = name
+unit_name (Fence left right line) = left
 
 abbrev pub unit_line : Unit → ℕ
 unit_line (Terminal name pattern regex line) = line
 unit_line (Ignorable name pattern regex normal line) = line
 unit_line (Production name left right line) = line
+unit_line (Fence left right line) = line
 
--- the unit is of this sort: any unit, one that is no production, a terminal, an ignorable, a production
+-- the unit is of this sort: any unit that has a name, one that is no production, a terminal, an ignorable, a
+-- production; a fence is of none
 abbrev pub is_of : Sort → Unit → Bool
 is_of S.Any (Terminal name pattern regex line) = true
 is_of S.Any (Ignorable name pattern regex normal line) = true
@@ -34,6 +38,11 @@ is_of S.Ignorable (Production name left right line) = false
 is_of S.Production (Terminal name pattern regex line) = false
 is_of S.Production (Ignorable name pattern regex normal line) = false
 is_of S.Production (Production name left right line) = true
+is_of S.Any (Fence left right line) = false
+is_of S.Lexical (Fence left right line) = false
+is_of S.Terminal (Fence left right line) = false
+is_of S.Ignorable (Fence left right line) = false
+is_of S.Production (Fence left right line) = false
 
 -- the names of the units of a sort, in the order of the units
 abbrev pub names_of : Sort → List Unit → List (List ℕ)

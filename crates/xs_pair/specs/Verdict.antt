@@ -140,15 +140,16 @@ pub record IsOutlineOf (s : Sheet) (o : Outline) : Type 0 where
 abbrev pub tables_in : Outline → Tables
 tables_in o = record { units = o.units; terms = o.terms; skips = o.skips; start = o.start }
 
--- the unit's name is among the first `place` names of units, for a production among the first `lexical` of terminals
+-- the unit's name is among the first `named` names of units, for a production among the first `lexical` of terminals
 -- and ignorables
 abbrev pub IsWithin : List (List ℕ) → List ℕ → ℕ → Type 0
 IsWithin names name count = (k : ℕ) × (place_of names name ≡ Some k) × (k < count)
 
 abbrev pub IsTaken : Outline → ℕ → ℕ → Unit → Type 0
-IsTaken o place lexical (U.Terminal name pattern regex line) = IsWithin o.units name place
-IsTaken o place lexical (U.Ignorable name pattern regex normal line) = IsWithin o.units name place
-IsTaken o place lexical (U.Production name left right line) = IsWithin o.lexical name lexical
+IsTaken o named lexical (U.Terminal name pattern regex line) = IsWithin o.units name named
+IsTaken o named lexical (U.Ignorable name pattern regex normal line) = IsWithin o.units name named
+IsTaken o named lexical (U.Production name left right line) = IsWithin o.lexical name lexical
+IsTaken o named lexical (U.Fence left right line) = ⊥
 
 -- the lesser of two lines, where there is one already
 abbrev pub earlier : Option ℕ → ℕ → ℕ

@@ -5,7 +5,7 @@ use Rattle.xs_sheet.specs.declared.sheet.Sheet.{Sheet}
 use Rattle.xs_sheet.specs.Grammar.{IsSheetOf}
 use Rattle.xs_sheet.specs.declared.item.Item.TheVariants as I
 use Rattle.xs_sheet.specs.declared.unit.Unit.{Unit}
-use Rattle.xs_sheet.specs.declared.unit.Unit.TheVariants.{Terminal, Ignorable, Production}
+use Rattle.xs_sheet.specs.declared.unit.Unit.TheVariants.{Terminal, Ignorable, Production, Fence}
 use Rattle.xs_pair.specs.declared.mark.Mark.{Mark}
 use Rattle.xs_pair.specs.declared.mark.Mark.TheVariants.{Opening, Attribute, AttributeEnd, Closing, Value, Content}
 use Rattle.xs_pair.specs.declared.production.Rule.{Rule}
@@ -38,6 +38,7 @@ weight [] = 0
 weight (Terminal name pattern regex line ∷ us) = weight us + 1
 weight (Ignorable name pattern regex normal line ∷ us) = weight us + 1
 weight (Production name left right line ∷ us) = rule_weight (rule_of name left right.all.items line) + weight us
+weight (Fence left right line ∷ us) = weight us + 1
 
 -- no production is too heavy to be counted by 16 bits
 abbrev pub AreLight : List Rule → Type 0

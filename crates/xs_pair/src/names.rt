@@ -9,6 +9,7 @@ use xs_sheet::Unit;
 /// Which units are meant.
 #[derive(Clone, Copy, Debug, PartialEq, Eq)]
 pub enum Sort {
+    /// Any unit that has a name: a fence has none, and is of no sort.
     Any,
     /// Terminals and ignorables.
     Lexical,
@@ -17,7 +18,7 @@ pub enum Sort {
     Production,
 }
 
-/// The name of a unit.
+/// The name of a unit; of a fence, which has none, its first text.
 pub fn unit_name(unit: &Unit) -> &Text
     ensures { result.now ≡ U.unit_name unit.now }
 {
@@ -25,6 +26,7 @@ pub fn unit_name(unit: &Unit) -> &Text
         Unit::Terminal { name, .. } => name,
         Unit::Ignorable { name, .. } => name,
         Unit::Production { name, .. } => name,
+        Unit::Fence { left, .. } => left,
     }
 }
 
@@ -36,6 +38,7 @@ pub fn unit_line(unit: &Unit) -> u32
         Unit::Terminal { line, .. } => *line,
         Unit::Ignorable { line, .. } => *line,
         Unit::Production { line, .. } => *line,
+        Unit::Fence { line, .. } => *line,
     }
 }
 
@@ -56,6 +59,7 @@ pub fn is_of(sort: Sort, unit: &Unit) -> bool
             Sort::Any | Sort::Production => true,
             Sort::Lexical | Sort::Terminal | Sort::Ignorable => false,
         },
+        Unit::Fence { .. } => false,
     }
 }
 

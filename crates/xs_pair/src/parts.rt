@@ -76,6 +76,7 @@ fn push_regex(alloc: Global, unit: &Unit, regexes: &mut Vec<Regex>) -> Result<()
         }
         Unit::Ignorable { .. } => Ok(()),
         Unit::Production { .. } => Ok(()),
+        Unit::Fence { .. } => Ok(()),
     }
 }
 
@@ -109,6 +110,7 @@ fn push_skip(alloc: Global, unit: &Unit, parts: &mut Vec<SkipPart>) -> Result<()
         }
         Unit::Terminal { .. } => Ok(()),
         Unit::Production { .. } => Ok(()),
+        Unit::Fence { .. } => Ok(()),
     }
 }
 

@@ -15,17 +15,13 @@ use std::alloc::Global;
 use xs_class::{Memory, Text};
 use xs_sheet::{Item, Sheet, Unit};
 
-/// The number of terminals and ignorables, with one more unit.
-fn with_unit(lexical: usize, unit: &Unit) -> usize
-    requires { lexical < 2 ^ 63 }
-    ensures count { result ≡ lexical + length (U.names_of S.Lexical (unit.now ∷ [])) }
-    ensures few { result ≤ lexical + 1 }
+/// The number of units of a sort, with one more unit.
+fn with_unit(sort: Sort, count: usize, unit: &Unit) -> usize
+    requires { count < 2 ^ 63 }
+    ensures count { result ≡ count + length (U.names_of sort (unit.now ∷ [])) }
+    ensures few { result ≤ count + 1 }
 {
-    if is_of(Sort::Lexical, unit) {
-        lexical + 1
-    } else {
-        lexical
-    }
+    if is_of(sort, unit) { count + 1 } else { count }
 }
 
 /// Whether an element has two attributes of one name.
@@ -202,13 +198,14 @@ impl Outline {
 
     /// Whether the unit's name is among the first names of units, or, for a production, of
     /// terminals and ignorables.
-    fn is_taken(&self, place: usize, lexical: usize, unit: &Unit) -> bool
-        ensures { IsTrue result ↔ IsTaken self.now place lexical unit.now }
+    fn is_taken(&self, named: usize, lexical: usize, unit: &Unit) -> bool
+        ensures { IsTrue result ↔ IsTaken self.now named lexical unit.now }
     {
         match unit {
-            Unit::Terminal { name, .. } => self.units.is_within(name.as_str(), place),
-            Unit::Ignorable { name, .. } => self.units.is_within(name.as_str(), place),
+            Unit::Terminal { name, .. } => self.units.is_within(name.as_str(), named),
+            Unit::Ignorable { name, .. } => self.units.is_within(name.as_str(), named),
             Unit::Production { name, .. } => self.lexical.is_within(name.as_str(), lexical),
+            Unit::Fence { .. } => false,
         }
     }
 
@@ -220,11 +217,13 @@ impl Outline {
         ensures { IsFirstLine (IsLineWhere (IsTwice units.now) U.unit_line units.now) result }
     {
         let mut least = None;
+        let mut named = 0usize;
         let mut lexical = 0usize;
-        'units: for (place, unit) in units.iter().enumerate() {
-            let fails = self.is_taken(place, lexical, unit);
+        'units: for unit in units {
+            let fails = self.is_taken(named, lexical, unit);
             least = with_line(least, unit_line(unit), fails);
-            lexical = with_unit(lexical, unit);
+            named = with_unit(Sort::Any, named, unit);
+            lexical = with_unit(Sort::Lexical, lexical, unit);
         }
         least
     }

@@ -6,10 +6,10 @@ use Rattle.xs_sheet.specs.declared.piece.Piece.{Piece}
 use Rattle.xs_sheet.specs.declared.item.Item.{Item}
 use Rattle.xs_sheet.specs.declared.item.Item.TheVariants.{Fixed, Named, Skip}
 use Rattle.xs_sheet.specs.declared.x_item.Attr.{Attr}
-use Rattle.xs_sheet.specs.Outline.{Content, nothing, item, element, UnitOutline, terminal, ignorable, production, Outline}
+use Rattle.xs_sheet.specs.Outline.{Content, nothing, item, element, UnitOutline, terminal, ignorable, production, fence, Outline}
 use Rattle.xs_class.specs.Words.{same}
-use Rattle.xs_sheet.specs.Grammar.{IsWord, IsUnitName, IsName, IsString, IsRegular, ReadsItem, ReadsItems, ReadsAttrs, ReadsClosing, ReadsSign, ReadsContent, ReadsUnit, ReadsUnits, ReadsSheet}
-use Rattle.xs_sheet.specs.Machine.{is_kind, is_word, is_unit_name, is_name, Head, with_unit, Draft, Opened, Inside, Site, left_side, inside, value, put, puts, State, begin, versioned, started, units, named, equals, regular, normal, colon, at, square, square_name, square_slot, angle, attrs, attr_equals, closing, closed, Transition, go, finish, go_if, outline_at, between, in_tag, with_attr, with_empty, with_open, with_production, step, done, follow, run}
+use Rattle.xs_sheet.specs.Grammar.{IsWord, IsUnitName, IsName, IsString, IsRegular, ReadsItem, ReadsItems, ReadsAttrs, ReadsClosing, ReadsSign, ReadsContent, ReadsUnit, ReadsUnits, IsVersion, version_word, MayStand, AllMayStand, ReadsSheet}
+use Rattle.xs_sheet.specs.Machine.{is_kind, is_word, is_unit_name, is_name, Head, with_unit, Draft, Opened, Inside, Site, left_side, inside, value, put, puts, State, begin, versioned, started, units, named, equals, regular, normal, left_fence, right_fence, colon, at, square, square_name, square_slot, angle, attrs, attr_equals, closing, closed, Transition, go, finish, go_if, outline_at, between, in_tag, with_attr, with_empty, with_open, with_production, step, done, follow, run}
 use Rattle.xs_sheet.proofs.KindLaws.{kind_here, same_here}
 use Rattle.xs_class.proofs.Truth.{lt_true, or_false}
 use Rattle.xs_class.proofs.Words.{same_self}
@@ -256,30 +256,45 @@ left_step : (h : Head) (name : List ℕ) (line : ℕ) (is : List Item) (p : Piec
 unfolding is_kind with_kind
 left_step h name line is p e = at_kind (at (left_side h name line is)) p Equals (go (place_of (record { head = h; name = name; line = line; left = is }) [] nothing)) e refl
 
-unit_complete : (u : UnitOutline) (ps rest : List Piece) (s : State) (h : Head) → IsBetween s h → ReadsUnit u ps rest → (t : State) × (run s ps ≡ run t rest) × IsBetween t (with_unit h u)
+fence_word : (h : Head) (p : Piece) → IsWord p (codes "fence") → h.version ≡ 2 → between h p ≡ go (left_fence h p.line)
+unfolding is_kind with_kind
+fence_word h p w second = between_at h p (go (left_fence h p.line)) w.plain (rw (w.word_is, second) refl)
+
+left_fence_step : (h : Head) (line : ℕ) (p : Piece) (left : List ℕ) → IsString p left → step (left_fence h line) p ≡ go (right_fence h line left)
+unfolding is_kind with_kind
+left_fence_step h line p left s = text_of (left_fence h line) (λ z. right_fence h line z) p left (at_kind (left_fence h line) p Quoted (go (right_fence h line p.text)) s.kind refl) s.text_is
+
+right_fence_step : (h : Head) (line : ℕ) (left : List ℕ) (p : Piece) (right : List ℕ) → IsString p right → step (right_fence h line left) p ≡ go (units (with_unit h (fence left right line)))
+unfolding is_kind with_kind
+right_fence_step h line left p right s = text_of (right_fence h line left) (λ z. units (with_unit h (fence left z line))) p right (at_kind (right_fence h line left) p Quoted (go (units (with_unit h (fence left p.text line)))) s.kind refl) s.text_is
+
+unit_complete : (u : UnitOutline) (ps rest : List Piece) (s : State) (h : Head) → IsBetween s h → ReadsUnit u ps rest → MayStand h.version u → (t : State) × (run s ps ≡ run t rest) × IsBetween t (with_unit h u)
 unfolding IsBetween
-unit_complete (terminal name pattern line) ps rest s h here r =
+unit_complete (terminal name pattern line) ps rest s h here r may =
     let first = here r.word (inl r.word_is.plain) ∙ terminal_word h r.word r.word_is ∙ ap (λ (n : ℕ). go (named h true n)) r.line_is in
     (units (with_unit h (terminal name pattern line)), ap (λ (z : List Piece). run s z) r.is ∙ run_go s (named h true line) r.word (r.name_piece ∷ r.equals ∷ r.pattern_piece ∷ rest) first ∙ run_go (named h true line) (equals h true line name) r.name_piece (r.equals ∷ r.pattern_piece ∷ rest) (named_unit_step h true line r.name_piece name r.name_is) ∙ run_go (equals h true line name) (regular h true line name) r.equals (r.pattern_piece ∷ rest) (unit_equals_step h true line name r.equals r.equals_is) ∙ run_go (regular h true line name) (units (with_unit h (terminal name pattern line))) r.pattern_piece rest (terminal_step h line name r.pattern_piece pattern r.pattern_is), units_between (with_unit h (terminal name pattern line)))
-unit_complete (ignorable name pattern text line) ps rest s h here r =
+unit_complete (ignorable name pattern text line) ps rest s h here r may =
     let first = here r.word (inl r.word_is.plain) ∙ ignorable_word h r.word r.word_is ∙ ap (λ (n : ℕ). go (named h false n)) r.line_is in
     (units (with_unit h (ignorable name pattern text line)), ap (λ (z : List Piece). run s z) r.is ∙ run_go s (named h false line) r.word (r.name_piece ∷ r.equals ∷ r.pattern_piece ∷ r.normal_piece ∷ rest) first ∙ run_go (named h false line) (equals h false line name) r.name_piece (r.equals ∷ r.pattern_piece ∷ r.normal_piece ∷ rest) (named_unit_step h false line r.name_piece name r.name_is) ∙ run_go (equals h false line name) (regular h false line name) r.equals (r.pattern_piece ∷ r.normal_piece ∷ rest) (unit_equals_step h false line name r.equals r.equals_is) ∙ run_go (regular h false line name) (normal h line name pattern) r.pattern_piece (r.normal_piece ∷ rest) (ignorable_step h line name r.pattern_piece pattern r.pattern_is) ∙ run_go (normal h line name pattern) (units (with_unit h (ignorable name pattern text line))) r.normal_piece rest (normal_step h line name pattern r.normal_piece text r.normal_is), units_between (with_unit h (ignorable name pattern text line)))
-unit_complete (production name left right line) ps rest s h here r =
+unit_complete (production name left right line) ps rest s h here r may =
     let d : Draft = record { head = h; name = name; line = line; left = left } in
     let first = here r.name_piece (inl r.name_is.plain) ∙ production_word h r.name_piece name r.name_is ∙ ap (λ (n : ℕ). go (colon h name n)) r.line_is in
     let sign = r.equals_is in
     (place_of d [] right, ap (λ (z : List Piece). run s z) r.is ∙ run_go s (colon h name line) r.name_piece (r.colon ∷ r.next) first ∙ run_go (colon h name line) (at (left_side h name line [])) r.colon r.next (colon_step h name line r.colon r.colon_is) ∙ items_complete left r.next r.mid (left_side h name line []) r.left_is ∙ ap (λ (z : Site). run (at z) r.mid) (puts_left h name line [] left) ∙ ap (λ (z : List Piece). run (at (left_side h name line left)) z) sign.is ∙ run_go (at (left_side h name line left)) (place_of d [] nothing) sign.sign r.inside (left_step h name line left sign.sign sign.kind_is) ∙ content_complete right 0 r.inside rest d [] refl r.right_is, content_between d right)
+unit_complete (fence left right line) ps rest s h here r may =
+    let first = here r.word (inl r.word_is.plain) ∙ fence_word h r.word r.word_is may ∙ ap (λ (n : ℕ). go (left_fence h n)) r.line_is in
+    (units (with_unit h (fence left right line)), ap (λ (z : List Piece). run s z) r.is ∙ run_go s (left_fence h line) r.word (r.left_piece ∷ r.right_piece ∷ rest) first ∙ run_go (left_fence h line) (right_fence h line left) r.left_piece (r.right_piece ∷ rest) (left_fence_step h line r.left_piece left r.left_is) ∙ run_go (right_fence h line left) (units (with_unit h (fence left right line))) r.right_piece rest (right_fence_step h line left r.right_piece right r.right_is), units_between (with_unit h (fence left right line)))
 
 with_units : Head → List UnitOutline → Head
-with_units h us = record { start = h.start; start_line = h.start_line; units = h.units ++ us }
+with_units h us = record { version = h.version; start = h.start; start_line = h.start_line; units = h.units ++ us }
 
-units_complete : (us : List UnitOutline) (ps rest : List Piece) (s : State) (h : Head) → IsBetween s h → ReadsUnits us ps rest → (t : State) × (run s ps ≡ run t rest) × IsBetween t (with_units h us)
+units_complete : (us : List UnitOutline) (ps rest : List Piece) (s : State) (h : Head) → IsBetween s h → ReadsUnits us ps rest → AllMayStand h.version us → (t : State) × (run s ps ≡ run t rest) × IsBetween t (with_units h us)
 unfolding with_units
-units_complete [] ps rest s h here r = (s, ap (λ (z : List Piece). run s z) r, subst (λ (us : List UnitOutline). IsBetween s (record { start = h.start; start_line = h.start_line; units = us })) (sym (append-nil h.units)) here)
-units_complete (u ∷ us) ps rest s h here r =
-    let one = unit_complete u ps r.0 s h here r.1 in
-    let more = units_complete us r.0 rest one.0 (with_unit h u) one.2 r.2 in
-    (more.0, one.1 ∙ more.1, subst (λ (z : List UnitOutline). IsBetween more.0 (record { start = h.start; start_line = h.start_line; units = z })) (append_assoc h.units (u ∷ []) us) more.2)
+units_complete [] ps rest s h here r may = (s, ap (λ (z : List Piece). run s z) r, subst (λ (us : List UnitOutline). IsBetween s (record { version = h.version; start = h.start; start_line = h.start_line; units = us })) (sym (append-nil h.units)) here)
+units_complete (u ∷ us) ps rest s h here r may =
+    let one = unit_complete u ps r.0 s h here r.1 may.0 in
+    let more = units_complete us r.0 rest one.0 (with_unit h u) one.2 r.2 may.1 in
+    (more.0, one.1 ∙ more.1, subst (λ (z : List UnitOutline). IsBetween more.0 (record { version = h.version; start = h.start; start_line = h.start_line; units = z })) (append_assoc h.units (u ∷ []) us) more.2)
 
 end_here : (h : Head) (p : Piece) → p.kind ≡ End → between h p ≡ finish (outline_at h)
 unfolding is_kind with_kind
@@ -288,15 +303,22 @@ end_here h p is = subst (λ (z : Kind). between h (with_kind p z) ≡ finish (ou
 run_finish : (s : State) (o : Outline) (p : Piece) (rest : List Piece) → step s p ≡ finish o → run s (p ∷ rest) ≡ done o rest
 run_finish s o p rest is = ap (λ (z : Transition). follow z p (λ u. run u rest) rest) is
 
+-- the version word
+begun : (p : Piece) (version : ℕ) → IsWord p (version_word version) → IsVersion version → step begin p ≡ go (versioned version)
+unfolding is_kind with_kind
+begun p version w (inl is) = at_kind begin p Plain (go (versioned version)) w.plain (rw (w.word_is, is) refl)
+begun p version w (inr is) = at_kind begin p Plain (go (versioned version)) w.plain (rw (w.word_is, is) refl)
+
 -- a reading of the grammar is what the reader gives
 pub sheet_complete : (ps : List Piece) (o : Outline) → ReadsSheet ps o → run begin ps ≡ done o []
 unfolding IsBetween with_units
 sheet_complete ps o r =
-    let h : Head = record { start = o.start; start_line = o.start_line; units = [] } in
-    let all = units_complete o.units r.next r.mid (units h) h (units_between h) r.units_are in
+    let h : Head = record { version = o.version; start = o.start; start_line = o.start_line; units = [] } in
+    let whole : Head = record { version = o.version; start = o.start; start_line = o.start_line; units = o.units } in
+    let all = units_complete o.units r.next r.mid (units h) h (units_between h) r.units_are r.units_may in
     let sign = r.end_is in
-    let last = run_finish all.0 (outline_at (record { start = o.start; start_line = o.start_line; units = o.units })) sign.sign [] (all.2 sign.sign (inr sign.kind_is) ∙ end_here (record { start = o.start; start_line = o.start_line; units = o.units }) sign.sign sign.kind_is) in
-    let version = go_yes (is_word (codes "xsugar-1") r.word) versioned (word_is r.word (codes "xsugar-1") r.word_is) in
-    let start_word = go_yes (is_word (codes "start") r.start_word) (started r.start_word.line) (word_is r.start_word (codes "start") r.start_is) ∙ ap (λ (n : ℕ). go (started n)) r.line_is in
-    let name = text_of (started o.start_line) (λ z. units (record { start = z; start_line = o.start_line; units = [] })) r.name_piece o.start (go_yes (is_unit_name r.name_piece) (units (record { start = r.name_piece.text; start_line = o.start_line; units = [] })) (unit_name_is r.name_piece o.start r.name_is)) r.name_is.name_is in
-    ap (λ (z : List Piece). run begin z) r.is ∙ run_go begin versioned r.word (r.start_word ∷ r.name_piece ∷ r.next) version ∙ run_go versioned (started o.start_line) r.start_word (r.name_piece ∷ r.next) start_word ∙ run_go (started o.start_line) (units h) r.name_piece r.next name ∙ all.1 ∙ ap (λ (z : List Piece). run all.0 z) sign.is ∙ last ∙ ap (λ (n : ℕ). done (record { version = n; start = o.start; start_line = o.start_line; units = o.units }) []) (sym r.version_is)
+    let last = run_finish all.0 (outline_at whole) sign.sign [] (all.2 sign.sign (inr sign.kind_is) ∙ end_here whole sign.sign sign.kind_is) in
+    let version = begun r.word o.version r.word_is r.version_is in
+    let start_word = go_yes (is_word (codes "start") r.start_word) (started o.version r.start_word.line) (word_is r.start_word (codes "start") r.start_is) ∙ ap (λ (n : ℕ). go (started o.version n)) r.line_is in
+    let name = text_of (started o.version o.start_line) (λ z. units (record { version = o.version; start = z; start_line = o.start_line; units = [] })) r.name_piece o.start (go_yes (is_unit_name r.name_piece) (units (record { version = o.version; start = r.name_piece.text; start_line = o.start_line; units = [] })) (unit_name_is r.name_piece o.start r.name_is)) r.name_is.name_is in
+    ap (λ (z : List Piece). run begin z) r.is ∙ run_go begin (versioned o.version) r.word (r.start_word ∷ r.name_piece ∷ r.next) version ∙ run_go (versioned o.version) (started o.version o.start_line) r.start_word (r.name_piece ∷ r.next) start_word ∙ run_go (started o.version o.start_line) (units h) r.name_piece r.next name ∙ all.1 ∙ ap (λ (z : List Piece). run all.0 z) sign.is ∙ last

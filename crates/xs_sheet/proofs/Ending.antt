@@ -4,11 +4,11 @@ use Rattle.xs_lex.specs.declared.kind.Kind.{Kind}
 use Rattle.xs_lex.specs.declared.kind.Kind.TheVariants.{Quoted, Colon, Equals, SquareIn, SquareOut, Angle, AngleSlash, AngleEnd, End, Bad}
 use Rattle.xs_sheet.specs.declared.piece.Piece.{Piece}
 use Rattle.xs_sheet.specs.declared.item.Item.TheVariants.{Fixed, Named, Skip}
-use Rattle.xs_sheet.specs.Outline.{nothing, element, ignorable, Outline}
+use Rattle.xs_sheet.specs.Outline.{nothing, element, ignorable, fence, Outline}
 use Rattle.xs_class.specs.Words.{same}
-use Rattle.xs_sheet.specs.Machine.{is_kind, is_word, is_unit_name, is_name, is_regular, Head, with_unit, Opened, Inside, Site, left_side, inside, value, put, State, begin, versioned, started, units, named, equals, regular, normal, colon, at, square, square_name, square_slot, angle, attrs, attr_equals, closing, closed, Transition, go, finish, refuse, go_if, outline_at, between, after_pattern, closes, leaves, leave, with_attr, with_production, step, done, unfinished, follow, run}
+use Rattle.xs_sheet.specs.Machine.{is_kind, is_word, is_unit_name, is_name, is_regular, Head, with_unit, Opened, Inside, Site, left_side, inside, value, put, State, begin, versioned, started, units, named, equals, regular, normal, left_fence, right_fence, colon, at, square, square_name, square_slot, angle, attrs, attr_equals, closing, closed, Transition, go, finish, refuse, go_if, outline_at, fence_or_production, between, after_pattern, closes, leaves, leave, with_attr, with_production, step, done, unfinished, follow, run}
 use Rattle.xs_sheet.proofs.Pieced.{IsEnding}
-use Rattle.xs_sheet.proofs.Whole.{done_inj, go_if_no, if_no, in_tag_no, closes_no}
+use Rattle.xs_sheet.proofs.Whole.{done_inj, go_if_no, if_no, begin_no, fence_no, in_tag_no, closes_no}
 use Rattle.xs_sheet.proofs.Complete.{with_kind}
 
 -- the kind of a last piece: that of the end, or that of a bad token
@@ -32,13 +32,15 @@ both Q one other false = other
 stops : (s : State) (p : Piece) (t : State) (b : Bool) → Stops s p t b
 unfolding is_kind with_kind
 stops begin p t b = both (Stops begin p t) (λ e. cc) (λ e. cc) b
-stops versioned p t b = both (Stops versioned p t) (λ e. cc) (λ e. cc) b
-stops (started line) p t b = both (Stops (started line) p t) (λ e. cc) (λ e. cc) b
+stops (versioned version) p t b = both (Stops (versioned version) p t) (λ e. cc) (λ e. cc) b
+stops (started version line) p t b = both (Stops (started version line) p t) (λ e. cc) (λ e. cc) b
 stops (units h) p t b = both (Stops (units h) p t) (λ e. cc) (λ e. cc) b
 stops (named h k line) p t b = both (Stops (named h k line) p t) (λ e. cc) (λ e. cc) b
 stops (equals h k line name) p t b = both (Stops (equals h k line name) p t) (λ e. cc) (λ e. cc) b
 stops (regular h k line name) p t b = both (Stops (regular h k line name) p t) (λ e. cc) (λ e. cc) b
 stops (normal h line name pattern) p t b = both (Stops (normal h line name pattern) p t) (λ e. cc) (λ e. cc) b
+stops (left_fence h line) p t b = both (Stops (left_fence h line) p t) (λ e. cc) (λ e. cc) b
+stops (right_fence h line left) p t b = both (Stops (right_fence h line left) p t) (λ e. cc) (λ e. cc) b
 stops (colon h name line) p t b = both (Stops (colon h name line) p t) (λ e. cc) (λ e. cc) b
 stops (at (left_side h name line is)) p t b = both (Stops (at (left_side h name line is)) p t) (λ e. cc) (λ e. cc) b
 stops (at (inside c)) p t b = both (Stops (at (inside c)) p t) (λ e. opens_stop c c.opens p true t e) (λ e. opens_stop c c.opens p false t e) b
@@ -60,14 +62,13 @@ last_stops s p t (inr k) e = stops s p t false (subst (λ (z : Kind). step s (wi
 
 -- only the end of a file finishes
 between_ends : (h : Head) (p : Piece) (o : Outline) → between h p ≡ finish o → is_kind p.kind End ≡ true
-between_ends h p o e = by (is_kind p.kind End) (is_word (codes "terminal") p) (is_word (codes "ignorable") p) (is_unit_name p) e
+between_ends h p o e = by (is_kind p.kind End) (is_word (codes "terminal") p) (is_word (codes "ignorable") p) e
   where
-    by : (b1 b2 b3 b4 : Bool) → (if b1 then finish (outline_at h) else (if b2 then go (named h true p.line) else (if b3 then go (named h false p.line) else go_if b4 (colon h p.text p.line)))) ≡ finish o → b1 ≡ true
-    by true b2 b3 b4 f = refl
-    by false true b3 b4 f = absurd (cc)
-    by false false true b4 f = absurd (cc)
-    by false false false true f = absurd (cc)
-    by false false false false f = absurd (cc)
+    by : (b1 b2 b3 : Bool) → (if b1 then finish (outline_at h) else (if b2 then go (named h true p.line) else (if b3 then go (named h false p.line) else fence_or_production h p))) ≡ finish o → b1 ≡ true
+    by true b2 b3 f = refl
+    by false true b3 f = absurd (cc)
+    by false false true f = absurd (cc)
+    by false false false f = absurd (fence_no h p o f)
 
 leaves_ends : (c : Inside) (os : List Opened) (p : Piece) (o : Outline) → leaves c os p ≡ finish o → is_kind p.kind End ≡ true
 leaves_ends c [] p o e = between_ends (with_production c.draft c.so_far) p o e
@@ -85,14 +86,16 @@ leave_ends (value c tag as_ name []) p o g = absurd (cc)
 leave_ends (value c tag as_ name (i ∷ is)) p o g = absurd (in_tag_no c tag (with_attr as_ name (i ∷ is)) p o g)
 
 finish_ends : (s : State) (p : Piece) (o : Outline) → step s p ≡ finish o → is_kind p.kind End ≡ true
-finish_ends begin p o g = absurd (go_if_no (is_word (codes "xsugar-1") p) versioned o g)
-finish_ends versioned p o g = absurd (go_if_no (is_word (codes "start") p) (started p.line) o g)
-finish_ends (started line) p o g = absurd (go_if_no (is_unit_name p) (units (record { start = p.text; start_line = line; units = [] })) o g)
+finish_ends begin p o g = absurd (begin_no p o g)
+finish_ends (versioned version) p o g = absurd (go_if_no (is_word (codes "start") p) (started version p.line) o g)
+finish_ends (started version line) p o g = absurd (go_if_no (is_unit_name p) (units (record { version = version; start = p.text; start_line = line; units = [] })) o g)
 finish_ends (units h) p o g = between_ends h p o g
 finish_ends (named h t line) p o g = absurd (go_if_no (is_unit_name p) (equals h t line p.text) o g)
 finish_ends (equals h t line name) p o g = absurd (go_if_no (is_kind p.kind Equals) (regular h t line name) o g)
 finish_ends (regular h t line name) p o g = absurd (go_if_no (is_regular p) (after_pattern h t line name p) o g)
 finish_ends (normal h line name pattern) p o g = absurd (go_if_no (is_kind p.kind Quoted) (units (with_unit h (ignorable name pattern p.text line))) o g)
+finish_ends (left_fence h line) p o g = absurd (go_if_no (is_kind p.kind Quoted) (right_fence h line p.text) o g)
+finish_ends (right_fence h line left) p o g = absurd (go_if_no (is_kind p.kind Quoted) (units (with_unit h (fence left p.text line))) o g)
 finish_ends (colon h name line) p o g = absurd (go_if_no (is_kind p.kind Colon) (at (left_side h name line [])) o g)
 finish_ends (at pl) p o g = by (is_kind p.kind Quoted) (is_kind p.kind SquareIn) g
   where

@@ -1,5 +1,5 @@
 -- What is written is read as the same sheet, on the lines of the layout.
-use Rattle.std.proofs.Common.{◌≡◌, inl, ℕ, zero, suc, ◌+◌, if◌then◌else◌, Bool, true, false, ◌==◌, List, [], ◌∷◌, ◌++◌, map, length, take, codes, encode_utf8_all, IsUtf8, refl, sym, ap, ◌∙◌, subst, arith}
+use Rattle.std.proofs.Common.{◌≡◌, inl, ℕ, zero, suc, ◌+◌, if◌then◌else◌, Bool, true, false, ◌==◌, List, [], ◌∷◌, ◌++◌, append_assoc, map, length, take, codes, encode_utf8_all, IsUtf8, refl, sym, ap, ◌∙◌, subst, arith}
 use Rattle.std.specs.Str.{chars, all_scalars, is_utf8}
 use Rattle.std.specs.Str.Lossy.{utf8_valid_len, valid_len_up_to}
 use Rattle.std.proofs.lemmas.List.{take_all}
@@ -9,10 +9,10 @@ use Rattle.xs_lex.specs.declared.kind.Kind.TheVariants.{End}
 use Rattle.xs_lex.specs.Reading.{Lexeme, Extent, AreTokensFrom, AreTokens, extent_of, after_mark, valid, size_of, line_ends}
 use Rattle.xs_sheet.specs.declared.piece.Piece.{Piece}
 use Rattle.xs_sheet.specs.declared.unit.Unit.{Unit}
-use Rattle.xs_sheet.specs.declared.unit.Unit.TheVariants.{Terminal, Ignorable, Production}
+use Rattle.xs_sheet.specs.declared.unit.Unit.TheVariants.{Terminal, Ignorable, Production, Fence}
 use Rattle.xs_sheet.specs.declared.sheet.Sheet.{Sheet}
-use Rattle.xs_sheet.specs.Outline.{UnitOutline, terminal, ignorable, production, unit_outline, outline_of}
-use Rattle.xs_sheet.specs.Grammar.{ReadsSign, ReadsUnits, HaveRegexes, IsSheetOf}
+use Rattle.xs_sheet.specs.Outline.{UnitOutline, terminal, ignorable, production, fence, unit_outline, outline_of}
+use Rattle.xs_sheet.specs.Grammar.{ReadsSign, ReadsUnits, HaveRegexes, version_word, MayStand, AllMayStand, IsSheetOf}
 use Rattle.xs_sheet.specs.Layout.{Written, as_is, unit_words, spaced, spelling, lines_text, sheet_lines, sheet_bytes}
 use Rattle.xs_sheet.specs.Lines.{at_line, in_lines, laid_out, without_lines, AreSameButLines, IsReadable, IsReadAgain}
 use Rattle.xs_sheet.proofs.Lexed.{IsGood, AreGood, AreLines, text_lexemes, text_lexed, whole_extent, lines_scalars}
@@ -44,6 +44,7 @@ outline_at : (line : ℕ) (u : Unit) → unit_outline (at_line line u) ≡ lined
 outline_at line (Terminal name pattern regex old) = refl
 outline_at line (Ignorable name pattern regex normal old) = refl
 outline_at line (Production name left right old) = refl
+outline_at line (Fence left right old) = refl
 
 outlines_in : (line : ℕ) (us : List Unit) → map unit_outline (in_lines line us) ≡ lined_from line (map unit_outline us)
 outlines_in line [] = refl
@@ -53,6 +54,7 @@ line_good : (u : UnitOutline) (ls : List (List Written)) → AreGood (unit_words
 line_good (terminal name inner line) ls good lines = (good, lines)
 line_good (ignorable name inner normal line) ls good lines = (good, lines)
 line_good (production name left right line) ls good lines = (good, lines)
+line_good (fence left right line) ls good lines = (good, lines)
 
 lines_good : (us : List UnitOutline) → UnitsAgain us → AreLines (map unit_words us)
 lines_good [] again = tt
@@ -77,6 +79,23 @@ regexes_in line [] have = tt
 regexes_in line (Terminal name pattern regex old ∷ us) have = (have.0, regexes_in (line + 1) us have.1)
 regexes_in line (Ignorable name pattern regex normal old ∷ us) have = (have.0, regexes_in (line + 1) us have.1)
 regexes_in line (Production name left right old ∷ us) have = (have.0, regexes_in (line + 1) us have.1)
+regexes_in line (Fence left right old ∷ us) have = (have.0, regexes_in (line + 1) us have.1)
+
+-- a unit may stand on another line
+may_lined : (version line : ℕ) (u : UnitOutline) → MayStand version u → MayStand version (lined line u)
+may_lined version line (terminal name inner old) may = tt
+may_lined version line (ignorable name inner normal old) may = tt
+may_lined version line (production name left right old) may = tt
+may_lined version line (fence left right old) may = may
+
+all_may_lined : (version line : ℕ) (us : List UnitOutline) → AllMayStand version us → AllMayStand version (lined_from line us)
+all_may_lined version line [] may = tt
+all_may_lined version line (u ∷ us) may = (may_lined version line u may.0, all_may_lined version (line + 1) us may.1)
+
+-- a written sheet does not begin with U+FEFF
+no_mark : (t : Bool) (rest : List ℕ) → after_mark ((if t then codes "xsugar-2" else codes "xsugar-1") ++ rest) ≡ (if t then codes "xsugar-2" else codes "xsugar-1") ++ rest
+no_mark true rest = refl
+no_mark false rest = refl
 
 -- the characters of a file
 front_utf8 : (bs : List ℕ) (n : ℕ) → IsUtf8 (take (valid_len_up_to bs n) bs)
@@ -108,22 +127,24 @@ written_is_read bytes s sheet =
     let r = sheet.reads in
     let good = tokens_good (extent_of bytes) (after_mark (chars (valid bytes))) sheet.tokens sheet.pieces (file_scalars bytes) sheet.tokens_are sheet.pieces_are in
     let g = subst (λ (z : List Piece). GoodPieces z) r.is good in
-    let word : Written = as_is (codes "xsugar-1") in
+    let version = version_word s.version in
+    let word : Written = as_is version in
     let us = map unit_outline s.units in
     let again = units_again us r.next r.mid r.units_are g.1.1.1 in
-    let word_good : IsGood word = name_good r.word (codes "xsugar-1") (inl r.word_is.plain) r.word_is.word_is g.0 in
+    let word_good : IsGood word = name_good r.word version (inl r.word_is.plain) r.word_is.word_is g.0 in
     let start_good = name_good r.start_word (codes "start") (inl r.start_is.plain) r.start_is.word_is g.1.0 in
     let named = name_good r.name_piece s.start (inl r.name_is.plain) r.name_is.name_is g.1.1.0 in
     let ls : List (List Written) = (as_is (codes "start") ∷ as_is s.start ∷ []) ∷ map unit_words us in
     let lines : AreLines ls = ((start_good, (named, tt)), lines_good us again) in
     let text = lines_text (sheet_lines (outline_of s)) in
+    let mark : after_mark text ≡ text = ap after_mark (append_assoc version (10 ∷ []) (lines_text ls)) ∙ no_mark (s.version == 2) (10 ∷ lines_text ls) ∙ sym (append_assoc version (10 ∷ []) (lines_text ls)) in
     let scalars : all_scalars text ≡ true = lines_scalars ((word ∷ []) ∷ ls) ((word_good, tt), lines) in
     let at = size_of (spelling word) in
     let begun = at + size_of (spaced (as_is (codes "start") ∷ as_is s.start ∷ [])) in
     let read = units_read us again begun 2 in
     record {
       tokens = text_lexemes word ls;
-      tokens_are = bytes_lexed text (text_lexemes word ls) scalars refl (text_lexed word ls word_good lines);
+      tokens_are = bytes_lexed text (text_lexemes word ls) scalars mark (text_lexed word ls word_good lines);
       pieces = piece word 0 1 ∷ lines_pieces at 1 ls;
       pieces_are = (piece_is word 0 1 word_good, lines_are_pieces ls at 1 lines);
       reads = record {
@@ -132,13 +153,14 @@ written_is_read bytes s sheet =
         name_piece = piece (as_is s.start) (at + 1 + size_of (codes "start") + 1) 2;
         next = lines_pieces begun 2 (map unit_words us);
         is = refl;
-        word_is = word_of 1 (piece word 0 1) (codes "xsugar-1") (piece_of word 0 1) (plain_good r.word (codes "xsugar-1") r.word_is.plain r.word_is.word_is g.0);
+        word_is = word_of 1 (piece word 0 1) version (piece_of word 0 1) (plain_good r.word version r.word_is.plain r.word_is.word_is g.0);
         version_is = r.version_is;
         start_is = word_of 2 (piece (as_is (codes "start")) (at + 1) 2) (codes "start") (piece_of (as_is (codes "start")) (at + 1) 2) (plain_good r.start_word (codes "start") r.start_is.plain r.start_is.word_is g.1.0);
         name_is = unit_name_of 2 r.name_piece (piece (as_is s.start) (at + 1 + size_of (codes "start") + 1) 2) s.start (piece_of (as_is s.start) (at + 1 + size_of (codes "start") + 1) 2) r.name_is g.1.1.0;
         line_is = refl;
         mid = read.0;
         units_are = subst (λ (z : List UnitOutline). ReadsUnits z (lines_pieces begun 2 (map unit_words us)) read.0) (sym (outlines_in 3 s.units)) read.1;
+        units_may = subst (λ (z : List UnitOutline). AllMayStand s.version z) (sym (outlines_in 3 s.units)) (all_may_lined s.version 3 us r.units_may);
         end_is = read.2;
       };
       regexes = regexes_in 3 s.units sheet.regexes;
@@ -149,6 +171,7 @@ no_line : (line : ℕ) (u : Unit) → at_line 0 (at_line line u) ≡ at_line 0 u
 no_line line (Terminal name pattern regex old) = refl
 no_line line (Ignorable name pattern regex normal old) = refl
 no_line line (Production name left right old) = refl
+no_line line (Fence left right old) = refl
 
 no_lines : (line : ℕ) (us : List Unit) → map (at_line 0) (in_lines line us) ≡ map (at_line 0) us
 no_lines line [] = refl
@@ -161,6 +184,7 @@ other_line : (line old : ℕ) (u : Unit) → at_line line (at_line old u) ≡ at
 other_line line old (Terminal name pattern regex l) = refl
 other_line line old (Ignorable name pattern regex normal l) = refl
 other_line line old (Production name left right l) = refl
+other_line line old (Fence left right l) = refl
 
 other_lines : (line : ℕ) (us : List Unit) → in_lines line (map (at_line 0) us) ≡ in_lines line us
 other_lines line [] = refl
@@ -173,13 +197,14 @@ same_words : (u : Unit) → unit_words (unit_outline (at_line 0 u)) ≡ unit_wor
 same_words (Terminal name pattern regex l) = refl
 same_words (Ignorable name pattern regex normal l) = refl
 same_words (Production name left right l) = refl
+same_words (Fence left right l) = refl
 
 all_words : (us : List Unit) → map unit_words (map unit_outline (map (at_line 0) us)) ≡ map unit_words (map unit_outline us)
 all_words [] = refl
 all_words (u ∷ us) = ap (λ (z : List Written). z ∷ map unit_words (map unit_outline (map (at_line 0) us))) (same_words u) ∙ ap (λ (z : List (List Written)). unit_words (unit_outline u) ∷ z) (all_words us)
 
 bytes_bare : (s : Sheet) → sheet_bytes (without_lines s) ≡ sheet_bytes s
-bytes_bare s = ap (λ (z : List (List Written)). encode_utf8_all (lines_text ((as_is (codes "xsugar-1") ∷ []) ∷ (as_is (codes "start") ∷ as_is s.start ∷ []) ∷ z))) (all_words s.units)
+bytes_bare s = ap (λ (z : List (List Written)). encode_utf8_all (lines_text ((as_is (version_word s.version) ∷ []) ∷ (as_is (codes "start") ∷ as_is s.start ∷ []) ∷ z))) (all_words s.units)
 
 pub readable_is_read : (bytes : List ℕ) (s : Sheet) → IsReadable s → bytes ≡ sheet_bytes s → IsReadAgain bytes s
 readable_is_read bytes s r is =

@@ -13,7 +13,7 @@ use Rattle.xs_sheet.specs.declared.item.Item.{Item}
 use Rattle.xs_sheet.specs.declared.item.Item.TheVariants.{Fixed, Named, Skip}
 use Rattle.xs_sheet.specs.declared.x_item.Attr.{Attr}
 use Rattle.xs_sheet.specs.Regular.{IsRegex}
-use Rattle.xs_sheet.specs.Outline.{Content, nothing, item, element, UnitOutline, terminal, ignorable, production}
+use Rattle.xs_sheet.specs.Outline.{Content, nothing, item, element, UnitOutline, terminal, ignorable, production, fence}
 use Rattle.xs_sheet.specs.Pieces.{is_reserved, IsTextOf, IsPiece, ArePieces}
 use Rattle.xs_sheet.specs.Grammar.{IsWord, IsUnitName, IsName, IsString, IsRegular, ReadsItem, ReadsItems, ReadsAttr, ReadsAttrs, ReadsClosing, ReadsSign, ReadsContent, ReadsUnit, ReadsUnits}
 use Rattle.xs_sheet.specs.Layout.{Written, as_is, in_quotes, in_slashes, sign, sign_spelling, spelling, spaced, item_words, items_words, attr_words, attrs_words, holds_nothing, after_attrs, element_words, content_words, unit_words}
@@ -309,6 +309,7 @@ abbrev pub lined : ℕ → UnitOutline → UnitOutline
 lined line (terminal name inner old) = terminal name inner line
 lined line (ignorable name inner normal old) = ignorable name inner normal line
 lined line (production name left right old) = production name left right line
+lined line (fence left right old) = fence left right line
 
 unit_again : (u : UnitOutline) (ps rest : List Piece) → ReadsUnit u ps rest → GoodPieces ps → IsAgain (λ line qs more. ReadsUnit (lined line u) qs more) (unit_words u) rest
 unit_again (terminal name inner old) ps rest r good =
@@ -349,6 +350,17 @@ unit_again (production name left right old) ps rest r good =
           let s = split line (items_words left) (sign Equals ∷ content_words right) a.1 more a.4 in
           let q = s.2 in
           record { name_piece = f.0; colon = a.0; next = a.1; is = on qs f.1 (a.0 ∷ a.1) f.0 f.2 a.2; name_is = unit_name_of line r.name_piece f.0 name f.3 r.name_is g.0; colon_is = a.3.kind_is; mid = s.0; left_is = lefts.again line a.1 s.0 s.1; inside = q.1; equals_is = record { sign = q.0; is = q.2; kind_is = q.3.kind_is }; right_is = rights.again line q.1 more q.4; line_is = f.3.line_is };
+    }
+unit_again (fence left right old) ps rest r good =
+    let g = cut ps (r.word ∷ r.left_piece ∷ r.right_piece ∷ rest) r.is good in
+    let plain = plain_good r.word (codes "fence") r.word_is.plain r.word_is.word_is g.0 in
+    record {
+      left = g.1.1.1;
+      words = (name_good r.word (codes "fence") (inl r.word_is.plain) r.word_is.word_is g.0, (string_good r.left_piece left r.left_is g.1.0, (string_good r.right_piece right r.right_is g.1.1.0, tt)));
+      again = λ line qs more f.
+          let a = f.4 in
+          let b = a.4 in
+          record { word = f.0; left_piece = a.0; right_piece = b.0; is = on qs f.1 (a.0 ∷ b.0 ∷ more) f.0 f.2 (on f.1 a.1 (b.0 ∷ more) a.0 a.2 (on a.1 b.1 more b.0 b.2 b.4)); word_is = word_of line f.0 (codes "fence") f.3 plain; left_is = string_of line a.0 left a.3; right_is = string_of line b.0 right b.3; line_is = f.3.line_is };
     }
 
 abbrev pub UnitsAgain : List UnitOutline → Type 0

@@ -1,16 +1,16 @@
 -- What the reader reads, the grammar reads.
-use Rattle.std.proofs.Common.{◌≡◌, ◌⊎◌, inl, inr, ℕ, ◌+◌, ◌<◌, List, [], ◌∷◌, ◌++◌, length, true, false, Bool, not, ◌&&◌, ◌||◌, nat_lt, if◌then◌else◌, codes, refl, sym, subst, arith}
+use Rattle.std.proofs.Common.{◌≡◌, ◌⊎◌, inl, inr, ℕ, ◌+◌, ◌<◌, List, [], ◌∷◌, ◌++◌, length, true, false, Bool, not, ◌&&◌, ◌||◌, ◌==◌, nat_lt, if◌then◌else◌, codes, refl, sym, subst, arith, eqb-true}
 use Rattle.std.proofs.lemmas.Bool.Decides.{nat_tests}
 use Rattle.xs_lex.specs.declared.kind.Kind.TheVariants.{Plain, Qual, Quoted, Pattern, Colon, Equals, SquareIn, SquareOut, Angle, AngleSlash, AngleEnd, SlashEnd, End}
 use Rattle.xs_sheet.specs.declared.piece.Piece.{Piece}
 use Rattle.xs_sheet.specs.declared.item.Item.{Item}
 use Rattle.xs_sheet.specs.declared.item.Item.TheVariants.{Fixed, Named, Skip}
 use Rattle.xs_sheet.specs.declared.x_item.Attr.{Attr}
-use Rattle.xs_sheet.specs.Outline.{Content, nothing, element, UnitOutline, terminal, ignorable, production, Outline}
+use Rattle.xs_sheet.specs.Outline.{Content, nothing, element, UnitOutline, terminal, ignorable, production, fence, Outline}
 use Rattle.xs_class.specs.Words.{same}
 use Rattle.xs_sheet.specs.Pieces.{is_reserved}
-use Rattle.xs_sheet.specs.Grammar.{IsWord, IsUnitName, IsName, IsRegular, ReadsItem, ReadsItems, ReadsAttr, ReadsAttrs, ReadsOpening, ReadsSign, ReadsContent, ReadsUnit, ReadsUnits}
-use Rattle.xs_sheet.specs.Machine.{is_kind, is_word, is_unit_name, is_name, is_regular, Head, with_unit, Draft, Opened, Inside, Site, left_side, inside, value, put, State, begin, versioned, started, units, named, equals, regular, normal, colon, at, square, square_name, square_slot, angle, attrs, attr_equals, closing, closed, go, finish, go_if, outline_at, between, after_pattern, closes, leaves, leave, in_tag, with_attr, with_empty, with_open, with_production, step}
+use Rattle.xs_sheet.specs.Grammar.{IsWord, IsUnitName, IsName, IsString, IsRegular, ReadsItem, ReadsItems, ReadsAttr, ReadsAttrs, ReadsOpening, ReadsSign, ReadsContent, ReadsUnit, ReadsUnits, IsVersion, version_word, MayStand, AllMayStand}
+use Rattle.xs_sheet.specs.Machine.{is_kind, is_word, is_unit_name, is_name, is_regular, Head, with_unit, Draft, Opened, Inside, Site, left_side, inside, value, put, State, begin, versioned, started, units, named, equals, regular, normal, left_fence, right_fence, colon, at, square, square_name, square_slot, angle, attrs, attr_equals, closing, closed, go, finish, go_if, outline_at, begins_fence, fence_or_production, between, after_pattern, closes, leaves, leave, in_tag, with_attr, with_empty, with_open, with_production, step}
 use Rattle.xs_sheet.proofs.KindLaws.{kind_is}
 use Rattle.xs_class.proofs.Truth.{and_true, not_true}
 use Rattle.xs_class.proofs.Words.{same_is}
@@ -22,11 +22,13 @@ pub record AtHead (whole : List Piece) (h : Head) (rest : List Piece) : Type 0 w
   pub name_piece : Piece
   pub next : List Piece
   pub is : whole ≡ word ∷ start_word ∷ name_piece ∷ next
-  pub word_is : IsWord word (codes "xsugar-1")
+  pub word_is : IsWord word (version_word h.version)
+  pub version_is : IsVersion h.version
   pub start_is : IsWord start_word (codes "start")
   pub name_is : IsUnitName name_piece h.start
   pub line_is : start_word.line ≡ h.start_line
   pub units_are : ReadsUnits h.units next rest
+  pub units_may : AllMayStand h.version h.units
 
 pub record AtLeft (whole : List Piece) (h : Head) (name : List ℕ) (line : ℕ) (is : List Item) (rest : List Piece) : Type 0 where
   pub before : List Piece
@@ -69,13 +71,15 @@ unit_word false = codes "ignorable"
 
 unfoldable pub AtState : List Piece → State → List Piece → Type 0
 AtState whole begin rest = whole ≡ rest
-AtState whole versioned rest = (v : Piece) × (whole ≡ v ∷ rest) × IsWord v (codes "xsugar-1")
-AtState whole (started line) rest = (v : Piece) × (s : Piece) × (whole ≡ v ∷ s ∷ rest) × IsWord v (codes "xsugar-1") × IsWord s (codes "start") × (s.line ≡ line)
+AtState whole (versioned version) rest = (v : Piece) × (whole ≡ v ∷ rest) × IsWord v (version_word version) × IsVersion version
+AtState whole (started version line) rest = (v : Piece) × (s : Piece) × (whole ≡ v ∷ s ∷ rest) × IsWord v (version_word version) × IsVersion version × IsWord s (codes "start") × (s.line ≡ line)
 AtState whole (units h) rest = AtHead whole h rest
 AtState whole (named h t line) rest = (w : Piece) × AtHead whole h (w ∷ rest) × IsWord w (unit_word t) × (w.line ≡ line)
 AtState whole (equals h t line name) rest = (w : Piece) × (n : Piece) × AtHead whole h (w ∷ n ∷ rest) × IsWord w (unit_word t) × (w.line ≡ line) × IsUnitName n name
 AtState whole (regular h t line name) rest = (w : Piece) × (n : Piece) × (e : Piece) × AtHead whole h (w ∷ n ∷ e ∷ rest) × IsWord w (unit_word t) × (w.line ≡ line) × IsUnitName n name × (e.kind ≡ Equals)
 AtState whole (normal h line name pattern) rest = (w : Piece) × (n : Piece) × (e : Piece) × (p : Piece) × AtHead whole h (w ∷ n ∷ e ∷ p ∷ rest) × IsWord w (codes "ignorable") × (w.line ≡ line) × IsUnitName n name × (e.kind ≡ Equals) × IsRegular p pattern
+AtState whole (left_fence h line) rest = (w : Piece) × AtHead whole h (w ∷ rest) × IsWord w (codes "fence") × (w.line ≡ line) × (h.version ≡ 2)
+AtState whole (right_fence h line left) rest = (w : Piece) × (l : Piece) × AtHead whole h (w ∷ l ∷ rest) × IsWord w (codes "fence") × (w.line ≡ line) × (h.version ≡ 2) × IsString l left
 AtState whole (colon h name line) rest = (n : Piece) × AtHead whole h (n ∷ rest) × IsUnitName n name × (n.line ≡ line)
 AtState whole (at pl) rest = AtSite whole pl rest
 AtState whole (square pl) rest = (a : Piece) × AtSite whole pl (a ∷ rest) × (a.kind ≡ SquareIn)
@@ -100,8 +104,12 @@ units_push : (us : List UnitOutline) (u : UnitOutline) (ps mid rest : List Piece
 units_push [] u ps mid rest r one = (rest, subst (λ (z : List Piece). ReadsUnit u z rest) (sym r) one, refl)
 units_push (v ∷ us) u ps mid rest r one = (r.0, r.1, units_push us u r.0 mid rest r.2 one)
 
-unit_more : (whole : List Piece) (h : Head) (u : UnitOutline) (mid rest : List Piece) → AtHead whole h mid → ReadsUnit u mid rest → AtHead whole (with_unit h u) rest
-unit_more whole h u mid rest a r = record { word = a.word; start_word = a.start_word; name_piece = a.name_piece; next = a.next; is = a.is; word_is = a.word_is; start_is = a.start_is; name_is = a.name_is; line_is = a.line_is; units_are = units_push h.units u a.next mid rest a.units_are r }
+may_push : (version : ℕ) (us : List UnitOutline) (u : UnitOutline) → AllMayStand version us → MayStand version u → AllMayStand version (us ++ u ∷ [])
+may_push version [] u all one = (one, tt)
+may_push version (v ∷ us) u all one = (all.0, may_push version us u all.1 one)
+
+unit_more : (whole : List Piece) (h : Head) (u : UnitOutline) (mid rest : List Piece) → AtHead whole h mid → ReadsUnit u mid rest → MayStand h.version u → AtHead whole (with_unit h u) rest
+unit_more whole h u mid rest a r may = record { word = a.word; start_word = a.start_word; name_piece = a.name_piece; next = a.next; is = a.is; word_is = a.word_is; version_is = a.version_is; start_is = a.start_is; name_is = a.name_is; line_is = a.line_is; units_are = units_push h.units u a.next mid rest a.units_are r; units_may = may_push h.version h.units u a.units_may may }
 
 site_more : (whole : List Piece) (pl : Site) (i : Item) (mid rest : List Piece) → AtSite whole pl mid → ReadsItem i mid rest → AtSite whole (put pl i) rest
 unfolding AtSite AtInside AtValue
@@ -141,15 +149,25 @@ moved : (whole : List Piece) (s t : State) (rest : List Piece) → s ≡ t → A
 moved whole s t rest is a = subst (λ (z : State). AtState whole z rest) is a
 
 -- between units
+fence_sound : (whole : List Piece) (h : Head) (p : Piece) (rest : List Piece) (t : State) → AtHead whole h (p ∷ rest) → fence_or_production h p ≡ go t → AtState whole t rest
+unfolding AtState
+fence_sound whole h p rest t a is = by (begins_fence h p) refl is
+  where
+    by : (b : Bool) → begins_fence h p ≡ b → (if b then go (left_fence h p.line) else go_if (is_unit_name p) (colon h p.text p.line)) ≡ go t → AtState whole t rest
+    by true e g =
+        let b = and_true (is_word (codes "fence") p) (h.version == 2) e in
+        moved whole (left_fence h p.line) t rest (go_inj (left_fence h p.line) t g) (p, a, word_of (codes "fence") p b.0, refl, eqb-true h.version 2 b.1)
+    by false e g = let q = if_go (is_unit_name p) (colon h p.text p.line) t g in moved whole (colon h p.text p.line) t rest q.1 (p, a, unit_name p q.0, refl)
+
 between_sound : (whole : List Piece) (h : Head) (p : Piece) (rest : List Piece) (t : State) → AtHead whole h (p ∷ rest) → between h p ≡ go t → AtState whole t rest
 unfolding AtState unit_word
 between_sound whole h p rest t a is = by (is_kind p.kind End) (is_word (codes "terminal") p) (is_word (codes "ignorable") p) refl refl refl is
   where
-    by : (b1 b2 b3 : Bool) → is_kind p.kind End ≡ b1 → is_word (codes "terminal") p ≡ b2 → is_word (codes "ignorable") p ≡ b3 → (if b1 then finish (outline_at h) else (if b2 then go (named h true p.line) else (if b3 then go (named h false p.line) else go_if (is_unit_name p) (colon h p.text p.line)))) ≡ go t → AtState whole t rest
+    by : (b1 b2 b3 : Bool) → is_kind p.kind End ≡ b1 → is_word (codes "terminal") p ≡ b2 → is_word (codes "ignorable") p ≡ b3 → (if b1 then finish (outline_at h) else (if b2 then go (named h true p.line) else (if b3 then go (named h false p.line) else fence_or_production h p))) ≡ go t → AtState whole t rest
     by true b2 b3 e1 e2 e3 g = absurd (cc)
     by false true b3 e1 e2 e3 g = moved whole (named h true p.line) t rest (go_inj (named h true p.line) t g) (p, a, word_of (codes "terminal") p e2, refl)
     by false false true e1 e2 e3 g = moved whole (named h false p.line) t rest (go_inj (named h false p.line) t g) (p, a, word_of (codes "ignorable") p e3, refl)
-    by false false false e1 e2 e3 g = let q = if_go (is_unit_name p) (colon h p.text p.line) t g in moved whole (colon h p.text p.line) t rest q.1 (p, a, unit_name p q.0, refl)
+    by false false false e1 e2 e3 g = fence_sound whole h p rest t a g
 
 -- inside a tag
 in_tag_sound : (whole : List Piece) (c : Inside) (tag : List ℕ) (as_ : List Attr) (p : Piece) (rest : List Piece) (t : State) → AtAttrs whole c tag as_ (p ∷ rest) → in_tag c tag as_ p ≡ go t → AtState whole t rest
@@ -178,7 +196,7 @@ unfolding AtInside AtOpens
 production_of whole d right rest a =
     let draft = a.1 in
     let left = draft.left in
-    unit_more whole d.head (production d.name d.left right d.line) left.before rest left.head (record { name_piece = left.name_piece; colon = left.colon_piece; next = left.next; is = left.split; name_is = left.name_is; colon_is = left.colon_is; mid = draft.mid; left_is = left.items_are; inside = a.0; equals_is = draft.sign; right_is = a.2; line_is = left.line_is })
+    unit_more whole d.head (production d.name d.left right d.line) left.before rest left.head (record { name_piece = left.name_piece; colon = left.colon_piece; next = left.next; is = left.split; name_is = left.name_is; colon_is = left.colon_is; mid = draft.mid; left_is = left.items_are; inside = a.0; equals_is = draft.sign; right_is = a.2; line_is = left.line_is }) tt
 
 closes_sound : (whole : List Piece) (c : Inside) (os : List Opened) (p : Piece) (rest : List Piece) (t : State) → c.opens ≡ os → AtInside whole c (p ∷ rest) → p.kind ≡ AngleSlash → closes c os ≡ go t → AtState whole t rest
 unfolding AtState
@@ -228,7 +246,7 @@ regular_sound whole h k line name p rest t a g =
     moved whole (after_pattern h k line name p) t rest q.1 (by k a (record { kind = kind_is p.kind Pattern b.0; regular = b.1; pattern_is = refl }))
   where
     by : (k : Bool) → AtState whole (regular h k line name) (p ∷ rest) → IsRegular p p.text → AtState whole (after_pattern h k line name p) rest
-    by true x r = unit_more whole h (terminal name p.text line) (x.0 ∷ x.1 ∷ x.2 ∷ p ∷ rest) rest x.3 (record { word = x.0; name_piece = x.1; equals = x.2; pattern_piece = p; is = refl; word_is = x.4; name_is = x.6; equals_is = x.7; pattern_is = r; line_is = x.5 })
+    by true x r = unit_more whole h (terminal name p.text line) (x.0 ∷ x.1 ∷ x.2 ∷ p ∷ rest) rest x.3 (record { word = x.0; name_piece = x.1; equals = x.2; pattern_piece = p; is = refl; word_is = x.4; name_is = x.6; equals_is = x.7; pattern_is = r; line_is = x.5 }) tt
     by false x r = (x.0, x.1, x.2, p, x.3, x.4, x.5, x.6, x.7, r)
 
 closed_sound : (whole : List Piece) (d : Draft) (o : Opened) (os : List Opened) (inner : Content) (p : Piece) (rest : List Piece) (t : State) → AtState whole (closed d o os inner) (p ∷ rest) → step (closed d o os inner) p ≡ go t → AtState whole t rest
@@ -245,15 +263,23 @@ attrs_begin : (whole : List Piece) (c : Inside) (p : Piece) (rest : List Piece) 
 unfolding AtState AtAttrs
 attrs_begin whole c p rest a n = (a.0 ∷ p ∷ rest, rest, a.1, a.3, record { angle = a.0; name = p; is = refl; angle_is = a.2; name_is = n }, refl)
 
+begin_sound : (whole : List Piece) (p : Piece) (rest : List Piece) (t : State) → whole ≡ p ∷ rest → step begin p ≡ go t → AtState whole t rest
+unfolding AtState
+begin_sound whole p rest t a g = by (is_word (codes "xsugar-1") p) refl g
+  where
+    by : (b : Bool) → is_word (codes "xsugar-1") p ≡ b → (if b then go (versioned 1) else go_if (is_word (codes "xsugar-2") p) (versioned 2)) ≡ go t → AtState whole t rest
+    by true e h = moved whole (versioned 1) t rest (go_inj (versioned 1) t h) (p, a, word_of (codes "xsugar-1") p e, inl refl)
+    by false e h = let q = if_go (is_word (codes "xsugar-2") p) (versioned 2) t h in moved whole (versioned 2) t rest q.1 (p, a, word_of (codes "xsugar-2") p q.0, inr refl)
+
 -- one step
 pub step_sound : (whole : List Piece) (s : State) (p : Piece) (rest : List Piece) (t : State) → AtState whole s (p ∷ rest) → step s p ≡ go t → AtState whole t rest
 unfolding AtState AtSite AtValue unit_word
-step_sound whole begin p rest t a g = let q = if_go (is_word (codes "xsugar-1") p) versioned t g in moved whole versioned t rest q.1 (p, a, word_of (codes "xsugar-1") p q.0)
-step_sound whole versioned p rest t a g = let q = if_go (is_word (codes "start") p) (started p.line) t g in moved whole (started p.line) t rest q.1 (a.0, p, a.1, a.2, word_of (codes "start") p q.0, refl)
-step_sound whole (started line) p rest t a g =
-    let h : Head = record { start = p.text; start_line = line; units = [] } in
+step_sound whole begin p rest t a g = begin_sound whole p rest t a g
+step_sound whole (versioned version) p rest t a g = let q = if_go (is_word (codes "start") p) (started version p.line) t g in moved whole (started version p.line) t rest q.1 (a.0, p, a.1, a.2, a.3, word_of (codes "start") p q.0, refl)
+step_sound whole (started version line) p rest t a g =
+    let h : Head = record { version = version; start = p.text; start_line = line; units = [] } in
     let q = if_go (is_unit_name p) (units h) t g in
-    moved whole (units h) t rest q.1 (record { word = a.0; start_word = a.1; name_piece = p; next = rest; is = a.2; word_is = a.3; start_is = a.4; name_is = unit_name p q.0; line_is = a.5; units_are = refl })
+    moved whole (units h) t rest q.1 (record { word = a.0; start_word = a.1; name_piece = p; next = rest; is = a.2; word_is = a.3; version_is = a.4; start_is = a.5; name_is = unit_name p q.0; line_is = a.6; units_are = refl; units_may = tt })
 step_sound whole (units h) p rest t a g = between_sound whole h p rest t a g
 step_sound whole (named h k line) p rest t a g = let q = if_go (is_unit_name p) (equals h k line p.text) t g in moved whole (equals h k line p.text) t rest q.1 (a.0, p, a.1, a.2, a.3, unit_name p q.0)
 step_sound whole (equals h k line name) p rest t a g = let q = if_go (is_kind p.kind Equals) (regular h k line name) t g in moved whole (regular h k line name) t rest q.1 (a.0, a.1, p, a.2, a.3, a.4, a.5, kind_is p.kind Equals q.0)
@@ -261,7 +287,14 @@ step_sound whole (regular h k line name) p rest t a g = regular_sound whole h k 
 step_sound whole (normal h line name pattern) p rest t a g =
     let u : UnitOutline = ignorable name pattern p.text line in
     let q = if_go (is_kind p.kind Quoted) (units (with_unit h u)) t g in
-    moved whole (units (with_unit h u)) t rest q.1 (unit_more whole h u (a.0 ∷ a.1 ∷ a.2 ∷ a.3 ∷ p ∷ rest) rest a.4 (record { word = a.0; name_piece = a.1; equals = a.2; pattern_piece = a.3; normal_piece = p; is = refl; word_is = a.5; name_is = a.7; equals_is = a.8; pattern_is = a.9; normal_is = record { kind = kind_is p.kind Quoted q.0; text_is = refl }; line_is = a.6 }))
+    moved whole (units (with_unit h u)) t rest q.1 (unit_more whole h u (a.0 ∷ a.1 ∷ a.2 ∷ a.3 ∷ p ∷ rest) rest a.4 (record { word = a.0; name_piece = a.1; equals = a.2; pattern_piece = a.3; normal_piece = p; is = refl; word_is = a.5; name_is = a.7; equals_is = a.8; pattern_is = a.9; normal_is = record { kind = kind_is p.kind Quoted q.0; text_is = refl }; line_is = a.6 }) tt)
+step_sound whole (left_fence h line) p rest t a g =
+    let q = if_go (is_kind p.kind Quoted) (right_fence h line p.text) t g in
+    moved whole (right_fence h line p.text) t rest q.1 (a.0, p, a.1, a.2, a.3, a.4, record { kind = kind_is p.kind Quoted q.0; text_is = refl })
+step_sound whole (right_fence h line left) p rest t a g =
+    let u : UnitOutline = fence left p.text line in
+    let q = if_go (is_kind p.kind Quoted) (units (with_unit h u)) t g in
+    moved whole (units (with_unit h u)) t rest q.1 (unit_more whole h u (a.0 ∷ a.1 ∷ p ∷ rest) rest a.2 (record { word = a.0; left_piece = a.1; right_piece = p; is = refl; word_is = a.3; left_is = a.6; right_is = record { kind = kind_is p.kind Quoted q.0; text_is = refl }; line_is = a.4 }) a.5)
 step_sound whole (colon h name line) p rest t a g =
     let q = if_go (is_kind p.kind Colon) (at (left_side h name line [])) t g in
     moved whole (at (left_side h name line [])) t rest q.1 (record { before = a.0 ∷ p ∷ rest; head = a.1; name_piece = a.0; colon_piece = p; next = rest; split = refl; name_is = a.2; colon_is = kind_is p.kind Colon q.0; line_is = a.3; items_are = refl })

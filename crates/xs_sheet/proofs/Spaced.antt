@@ -13,6 +13,7 @@ use Rattle.xs_sheet.specs.declared.unit.Unit.{Unit}
 use Rattle.xs_sheet.specs.declared.sheet.Sheet.{Sheet}
 use Rattle.xs_sheet.specs.Outline.{Content, nothing, laid, item_step, items_step, with_item, content_of, unit_outline, outline_of}
 use Rattle.xs_lex.specs.declared.kind.Kind.TheVariants.{Colon, Equals, Angle, AngleSlash, AngleEnd, SlashEnd}
+use Rattle.xs_sheet.specs.Grammar.{version_word}
 use Rattle.xs_sheet.specs.Layout.{Written, as_is, sign, spelling, holds_nothing, after_attrs, element_words, item_words, items_words, attr_words, attrs_words, content_words, unit_words, spaced, line_text, lines_text, sheet_lines}
 use Rattle.xs_sheet.proofs.ContentLaws.{content_push, with_plain, with_element}
 
@@ -135,7 +136,14 @@ unit_lines : (us : List Unit) → map unit_line us ≡ map unit_words (map unit_
 unit_lines [] = refl
 unit_lines (u ∷ us) = ap (λ (z : List (List Written)). unit_line u ∷ z) (unit_lines us)
 
-pub sheet_on : (s : Sheet) (shown : List Unit) (empty head page : List ℕ) → shown ≡ s.units → empty ≡ [] → head ≡ empty ++ codes "xsugar-1\nstart " ++ s.start ++ 10 ∷ [] → page ≡ head ++ lines_text (map unit_line shown) → page ≡ lines_text (sheet_lines (outline_of s))
+head_on : (version start units : List ℕ) → (([] ++ version ++ codes "\nstart " ++ start ++ 10 ∷ []) ++ units) ≡ (version ++ 10 ∷ []) ++ ((codes "start" ++ ((32 ∷ (start ++ [])) ++ 10 ∷ [])) ++ units)
+head_on version start units =
+    let line = codes "\nstart " ++ (start ++ 10 ∷ []) in
+    let front : version ++ codes "\nstart " ++ start ++ 10 ∷ [] ≡ version ++ line = append_assoc (version ++ codes "\nstart ") start (10 ∷ []) ∙ append_assoc version (codes "\nstart ") (start ++ 10 ∷ []) in
+    ap (λ (z : List ℕ). z ++ units) front ∙ append_assoc version line units ∙ ap (λ (z : List ℕ). version ++ ((10 ∷ codes "start " ++ (z ++ 10 ∷ [])) ++ units)) (sym (append-nil start)) ∙ sym (append_assoc version (10 ∷ []) ((codes "start" ++ ((32 ∷ (start ++ [])) ++ 10 ∷ [])) ++ units))
+
+pub sheet_on : (s : Sheet) (shown : List Unit) (empty head page : List ℕ) → shown ≡ s.units → empty ≡ [] → head ≡ empty ++ version_word s.version ++ codes "\nstart " ++ s.start ++ 10 ∷ [] → page ≡ head ++ lines_text (map unit_line shown) → page ≡ lines_text (sheet_lines (outline_of s))
 sheet_on s shown empty head page same none begun is =
+    let version = version_word s.version in
     let units : lines_text (map unit_line shown) ≡ lines_text (map unit_words (map unit_outline s.units)) = ap (λ (us : List Unit). lines_text (map unit_line us)) same ∙ ap (λ (z : List (List Written)). lines_text z) (unit_lines s.units) in
-    is ∙ ap (λ (z : List ℕ). z ++ lines_text (map unit_line shown)) (begun ∙ ap (λ (z : List ℕ). z ++ codes "xsugar-1\nstart " ++ s.start ++ 10 ∷ []) none) ∙ ap (λ (z : List ℕ). ([] ++ codes "xsugar-1\nstart " ++ s.start ++ 10 ∷ []) ++ z) units ∙ ap (λ (z : List ℕ). ([] ++ codes "xsugar-1\nstart " ++ z ++ 10 ∷ []) ++ lines_text (map unit_words (map unit_outline s.units))) (sym (append-nil s.start))
+    is ∙ ap (λ (z : List ℕ). z ++ lines_text (map unit_line shown)) (begun ∙ ap (λ (z : List ℕ). z ++ version ++ codes "\nstart " ++ s.start ++ 10 ∷ []) none) ∙ ap (λ (z : List ℕ). ([] ++ version ++ codes "\nstart " ++ s.start ++ 10 ∷ []) ++ z) units ∙ head_on version s.start (lines_text (map unit_words (map unit_outline s.units)))

@@ -6,11 +6,11 @@ use Rattle.xs_sheet.specs.declared.piece.Piece.{Piece}
 use Rattle.xs_sheet.specs.declared.item.Item.{Item}
 use Rattle.xs_sheet.specs.declared.item.Item.TheVariants.{Fixed, Named, Skip}
 use Rattle.xs_sheet.specs.declared.x_item.Attr.{Attr}
-use Rattle.xs_sheet.specs.Outline.{Content, nothing, element, terminal, ignorable, Outline}
+use Rattle.xs_sheet.specs.Outline.{Content, nothing, element, terminal, ignorable, fence, Outline}
 use Rattle.xs_class.specs.Words.{same}
 use Rattle.xs_class.proofs.Words.{same_self}
 use Rattle.xs_sheet.specs.Grammar.{ReadsSheet, Begins}
-use Rattle.xs_sheet.specs.Machine.{is_kind, is_word, is_unit_name, is_name, is_regular, Head, with_unit, Draft, Opened, Inside, Site, left_side, inside, value, put, State, begin, versioned, started, units, named, equals, regular, normal, colon, at, square, square_name, square_slot, angle, attrs, attr_equals, closing, closed, Transition, go, finish, refuse, go_if, outline_at, between, after_pattern, closes, leaves, leave, in_tag, with_attr, with_empty, with_open, with_production, step, done, stuck, follow, run}
+use Rattle.xs_sheet.specs.Machine.{is_kind, is_word, is_unit_name, is_name, is_regular, Head, with_unit, Draft, Opened, Inside, Site, left_side, inside, value, put, State, begin, versioned, started, units, named, equals, regular, normal, left_fence, right_fence, colon, at, square, square_name, square_slot, angle, attrs, attr_equals, closing, closed, Transition, go, finish, refuse, go_if, outline_at, begins_fence, fence_or_production, between, after_pattern, closes, leaves, leave, in_tag, with_attr, with_empty, with_open, with_production, step, done, stuck, follow, run}
 use Rattle.xs_sheet.proofs.KindLaws.{kind_is}
 use Rattle.xs_sheet.proofs.Complete.{run_go, sheet_complete}
 use Rattle.xs_sheet.proofs.Sound.{AtHead, AtState, AtSite, step_sound, leaves_finish}
@@ -71,24 +71,30 @@ unfolding is_kind
 regular_ends h true line name = then_ends (regular h true line name) (units (with_unit h (terminal name [] line))) (piece Pattern []) refl (units_end (with_unit h (terminal name [] line)))
 regular_ends h false line name = then_ends (regular h false line name) (normal h line name []) (piece Pattern []) refl (normal_ends h line name [])
 
-started_ends : (line : ℕ) → Ends (started line)
+right_fence_ends : (h : Head) (line : ℕ) (left : List ℕ) → Ends (right_fence h line left)
 unfolding is_kind
-started_ends line = then_ends (started line) (units (record { start = codes "a"; start_line = line; units = [] })) (piece Plain (codes "a")) refl (units_end (record { start = codes "a"; start_line = line; units = [] }))
+right_fence_ends h line left = then_ends (right_fence h line left) (units (with_unit h (fence left [] line))) (piece Quoted []) refl (units_end (with_unit h (fence left [] line)))
 
-versioned_ends : Ends versioned
+started_ends : (version line : ℕ) → Ends (started version line)
 unfolding is_kind
-versioned_ends = then_ends versioned (started 0) (piece Plain (codes "start")) refl (started_ends 0)
+started_ends version line = then_ends (started version line) (units (record { version = version; start = codes "a"; start_line = line; units = [] })) (piece Plain (codes "a")) refl (units_end (record { version = version; start = codes "a"; start_line = line; units = [] }))
+
+versioned_ends : (version : ℕ) → Ends (versioned version)
+unfolding is_kind
+versioned_ends version = then_ends (versioned version) (started version 0) (piece Plain (codes "start")) refl (started_ends version 0)
 
 state_ends : (s : State) → Ends s
 unfolding is_kind
-state_ends begin = then_ends begin versioned (piece Plain (codes "xsugar-1")) refl versioned_ends
-state_ends versioned = versioned_ends
-state_ends (started line) = started_ends line
+state_ends begin = then_ends begin (versioned 1) (piece Plain (codes "xsugar-1")) refl (versioned_ends 1)
+state_ends (versioned version) = versioned_ends version
+state_ends (started version line) = started_ends version line
 state_ends (units h) = units_end h
 state_ends (named h t line) = then_ends (named h t line) (equals h t line (codes "a")) (piece Plain (codes "a")) refl (then_ends (equals h t line (codes "a")) (regular h t line (codes "a")) (piece Equals []) refl (regular_ends h t line (codes "a")))
 state_ends (equals h t line name) = then_ends (equals h t line name) (regular h t line name) (piece Equals []) refl (regular_ends h t line name)
 state_ends (regular h t line name) = regular_ends h t line name
 state_ends (normal h line name pattern) = normal_ends h line name pattern
+state_ends (left_fence h line) = then_ends (left_fence h line) (right_fence h line []) (piece Quoted []) refl (right_fence_ends h line [])
+state_ends (right_fence h line left) = right_fence_ends h line left
 state_ends (colon h name line) = then_ends (colon h name line) (at (left_side h name line [])) (piece Colon []) refl (left_ends h name line [])
 state_ends (at pl) = site_ends pl
 state_ends (square pl) = then_ends (square pl) (square_name pl (codes "a")) (piece Plain (codes "a")) refl (then_ends (square_name pl (codes "a")) (at (put pl (Skip (codes "a")))) (piece SquareOut []) refl (site_ends (put pl (Skip (codes "a")))))
@@ -110,19 +116,6 @@ stuck_inj p q e = cc
 finish_inj : (o q : Outline) → finish o ≡ finish q → o ≡ q
 finish_inj o q e = cc
 
-sheet_at : (whole : List Piece) (h : Head) (p : Piece) → AtHead whole h (p ∷ []) → p.kind ≡ End → ReadsSheet whole (outline_at h)
-sheet_at whole h p a is = record { word = a.word; start_word = a.start_word; name_piece = a.name_piece; next = a.next; is = a.is; word_is = a.word_is; version_is = refl; start_is = a.start_is; name_is = a.name_is; line_is = a.line_is; mid = p ∷ []; units_are = a.units_are; end_is = record { sign = p; is = refl; kind_is = is } }
-
-between_finish : (whole : List Piece) (h : Head) (p : Piece) (o : Outline) → AtHead whole h (p ∷ []) → between h p ≡ finish o → ReadsSheet whole o
-between_finish whole h p o a g = by (is_kind p.kind End) (is_word (codes "terminal") p) (is_word (codes "ignorable") p) (is_unit_name p) refl g
-  where
-    by : (b1 b2 b3 b4 : Bool) → is_kind p.kind End ≡ b1 → (if b1 then finish (outline_at h) else (if b2 then go (named h true p.line) else (if b3 then go (named h false p.line) else go_if b4 (colon h p.text p.line)))) ≡ finish o → ReadsSheet whole o
-    by true b2 b3 b4 e f = subst (λ (z : Outline). ReadsSheet whole z) (finish_inj (outline_at h) o f) (sheet_at whole h p a (kind_is p.kind End e))
-    by false true b3 b4 e f = absurd (cc)
-    by false false true b4 e f = absurd (cc)
-    by false false false true e f = absurd (cc)
-    by false false false false e f = absurd (cc)
-
 pub go_if_no : (t : Bool) (s : State) (o : Outline) → go_if t s ≡ finish o → ⊥
 go_if_no true s o e = cc
 go_if_no false s o e = cc
@@ -130,6 +123,24 @@ go_if_no false s o e = cc
 pub if_no : (t : Bool) (s : State) (r : Transition) (o : Outline) → (r ≡ finish o → ⊥) → (if t then go s else r) ≡ finish o → ⊥
 if_no true s r o no_r e = cc
 if_no false s r o no_r e = no_r e
+
+pub fence_no : (h : Head) (p : Piece) (o : Outline) → fence_or_production h p ≡ finish o → ⊥
+fence_no h p o e = if_no (begins_fence h p) (left_fence h p.line) (go_if (is_unit_name p) (colon h p.text p.line)) o (λ f. go_if_no (is_unit_name p) (colon h p.text p.line) o f) e
+
+pub begin_no : (p : Piece) (o : Outline) → step begin p ≡ finish o → ⊥
+begin_no p o e = if_no (is_word (codes "xsugar-1") p) (versioned 1) (go_if (is_word (codes "xsugar-2") p) (versioned 2)) o (λ f. go_if_no (is_word (codes "xsugar-2") p) (versioned 2) o f) e
+
+sheet_at : (whole : List Piece) (h : Head) (p : Piece) → AtHead whole h (p ∷ []) → p.kind ≡ End → ReadsSheet whole (outline_at h)
+sheet_at whole h p a is = record { word = a.word; start_word = a.start_word; name_piece = a.name_piece; next = a.next; is = a.is; word_is = a.word_is; version_is = a.version_is; start_is = a.start_is; name_is = a.name_is; line_is = a.line_is; mid = p ∷ []; units_are = a.units_are; units_may = a.units_may; end_is = record { sign = p; is = refl; kind_is = is } }
+
+between_finish : (whole : List Piece) (h : Head) (p : Piece) (o : Outline) → AtHead whole h (p ∷ []) → between h p ≡ finish o → ReadsSheet whole o
+between_finish whole h p o a g = by (is_kind p.kind End) (is_word (codes "terminal") p) (is_word (codes "ignorable") p) refl g
+  where
+    by : (b1 b2 b3 : Bool) → is_kind p.kind End ≡ b1 → (if b1 then finish (outline_at h) else (if b2 then go (named h true p.line) else (if b3 then go (named h false p.line) else fence_or_production h p))) ≡ finish o → ReadsSheet whole o
+    by true b2 b3 e f = subst (λ (z : Outline). ReadsSheet whole z) (finish_inj (outline_at h) o f) (sheet_at whole h p a (kind_is p.kind End e))
+    by false true b3 e f = absurd (cc)
+    by false false true e f = absurd (cc)
+    by false false false e f = absurd (fence_no h p o f)
 
 pub in_tag_no : (c : Inside) (tag : List ℕ) (as_ : List Attr) (p : Piece) (o : Outline) → in_tag c tag as_ p ≡ finish o → ⊥
 in_tag_no c tag as_ p o e = if_no (is_name p) (attr_equals c tag as_ p.text) (if is_kind p.kind SlashEnd then go (at (inside (with_empty c tag as_))) else go_if (is_kind p.kind AngleEnd) (at (inside (with_open c tag as_)))) o (λ f. if_no (is_kind p.kind SlashEnd) (at (inside (with_empty c tag as_))) (go_if (is_kind p.kind AngleEnd) (at (inside (with_open c tag as_)))) o (λ g. go_if_no (is_kind p.kind AngleEnd) (at (inside (with_open c tag as_))) o g) f) e
@@ -152,14 +163,16 @@ leave_finish whole (value c tag as_ name (i ∷ is)) p o a g = absurd (in_tag_no
 
 step_finish : (whole : List Piece) (s : State) (p : Piece) (o : Outline) → AtState whole s (p ∷ []) → step s p ≡ finish o → ReadsSheet whole o
 unfolding AtState
-step_finish whole begin p o a g = absurd (go_if_no (is_word (codes "xsugar-1") p) versioned o g)
-step_finish whole versioned p o a g = absurd (go_if_no (is_word (codes "start") p) (started p.line) o g)
-step_finish whole (started line) p o a g = absurd (go_if_no (is_unit_name p) (units (record { start = p.text; start_line = line; units = [] })) o g)
+step_finish whole begin p o a g = absurd (begin_no p o g)
+step_finish whole (versioned version) p o a g = absurd (go_if_no (is_word (codes "start") p) (started version p.line) o g)
+step_finish whole (started version line) p o a g = absurd (go_if_no (is_unit_name p) (units (record { version = version; start = p.text; start_line = line; units = [] })) o g)
 step_finish whole (units h) p o a g = between_finish whole h p o a g
 step_finish whole (named h t line) p o a g = absurd (go_if_no (is_unit_name p) (equals h t line p.text) o g)
 step_finish whole (equals h t line name) p o a g = absurd (go_if_no (is_kind p.kind Equals) (regular h t line name) o g)
 step_finish whole (regular h t line name) p o a g = absurd (go_if_no (is_regular p) (after_pattern h t line name p) o g)
 step_finish whole (normal h line name pattern) p o a g = absurd (go_if_no (is_kind p.kind Quoted) (units (with_unit h (ignorable name pattern p.text line))) o g)
+step_finish whole (left_fence h line) p o a g = absurd (go_if_no (is_kind p.kind Quoted) (right_fence h line p.text) o g)
+step_finish whole (right_fence h line left) p o a g = absurd (go_if_no (is_kind p.kind Quoted) (units (with_unit h (fence left p.text line))) o g)
 step_finish whole (colon h name line) p o a g = absurd (go_if_no (is_kind p.kind Colon) (at (left_side h name line [])) o g)
 step_finish whole (at pl) p o a g = by (is_kind p.kind Quoted) (is_kind p.kind SquareIn) g
   where

@@ -1,5 +1,5 @@
 -- The grammar of a sheet: each form as a relation of what it gives, the pieces, and the pieces after it.
-use Rattle.std.specs.Prelude.{◌≡◌, ◌⊎◌, ⊤, ℕ, ◌+◌, ◌<◌, true, false, List, [], ◌∷◌, ◌++◌, length, codes}
+use Rattle.std.specs.Prelude.{◌≡◌, ◌⊎◌, ⊤, ℕ, ◌+◌, ◌<◌, ◌==◌, if◌then◌else◌, true, false, List, [], ◌∷◌, ◌++◌, length, codes}
 use Rattle.xs_lex.specs.declared.kind.Kind.{Kind}
 use Rattle.xs_lex.specs.declared.kind.Kind.TheVariants.{Plain, Qual, Quoted, Pattern, Colon, Equals, SquareIn, SquareOut, Angle, AngleSlash, AngleEnd, SlashEnd, End}
 use Rattle.xs_lex.specs.Reading.{Lexeme, AreTokens}
@@ -8,10 +8,10 @@ use Rattle.xs_sheet.specs.declared.item.Item.{Item}
 use Rattle.xs_sheet.specs.declared.item.Item.TheVariants.{Fixed, Named, Skip}
 use Rattle.xs_sheet.specs.declared.x_item.Attr.{Attr}
 use Rattle.xs_sheet.specs.declared.unit.Unit.{Unit}
-use Rattle.xs_sheet.specs.declared.unit.Unit.TheVariants.{Terminal, Ignorable, Production}
+use Rattle.xs_sheet.specs.declared.unit.Unit.TheVariants.{Terminal, Ignorable, Production, Fence}
 use Rattle.xs_sheet.specs.declared.sheet.Sheet.{Sheet}
 use Rattle.xs_sheet.specs.Regular.{IsRegex}
-use Rattle.xs_sheet.specs.Outline.{Content, nothing, item, element, UnitOutline, terminal, ignorable, production, Outline, outline_of}
+use Rattle.xs_sheet.specs.Outline.{Content, nothing, item, element, UnitOutline, terminal, ignorable, production, fence, Outline, outline_of}
 use Rattle.xs_sheet.specs.Pieces.{is_reserved, ArePieces}
 
 -- this very word
@@ -137,14 +137,43 @@ pub record ReadsProduction (name : List ℕ) (left : List Item) (right : Content
   pub right_is : ReadsContent 0 right inside rest
   pub line_is : name_piece.line ≡ line
 
+pub record ReadsFence (left right : List ℕ) (line : ℕ) (ps rest : List Piece) : Type 0 where
+  pub word : Piece
+  pub left_piece : Piece
+  pub right_piece : Piece
+  pub is : ps ≡ word ∷ left_piece ∷ right_piece ∷ rest
+  pub word_is : IsWord word (codes "fence")
+  pub left_is : IsString left_piece left
+  pub right_is : IsString right_piece right
+  pub line_is : word.line ≡ line
+
 abbrev pub ReadsUnit : UnitOutline → List Piece → List Piece → Type 0
 ReadsUnit (terminal name pattern line) ps rest = ReadsTerminal name pattern line ps rest
 ReadsUnit (ignorable name pattern normal line) ps rest = ReadsIgnorable name pattern normal line ps rest
 ReadsUnit (production name left right line) ps rest = ReadsProduction name left right line ps rest
+ReadsUnit (fence left right line) ps rest = ReadsFence left right line ps rest
 
 abbrev pub ReadsUnits : List UnitOutline → List Piece → List Piece → Type 0
 ReadsUnits [] ps rest = ps ≡ rest
 ReadsUnits (u ∷ us) ps rest = (mid : List Piece) × ReadsUnit u ps mid × ReadsUnits us mid rest
+
+-- the versions of sheets, and the word that each begins with
+abbrev pub IsVersion : ℕ → Type 0
+IsVersion version = (version ≡ 1) ⊎ (version ≡ 2)
+
+abbrev pub version_word : ℕ → List ℕ
+version_word version = if version == 2 then codes "xsugar-2" else codes "xsugar-1"
+
+-- a fence may stand in a sheet of version 2 alone, and any other unit in each sheet
+abbrev pub MayStand : ℕ → UnitOutline → Type 0
+MayStand version (terminal name pattern line) = ⊤
+MayStand version (ignorable name pattern normal line) = ⊤
+MayStand version (production name left right line) = ⊤
+MayStand version (fence left right line) = version ≡ 2
+
+abbrev pub AllMayStand : ℕ → List UnitOutline → Type 0
+AllMayStand version [] = ⊤
+AllMayStand version (u ∷ us) = MayStand version u × AllMayStand version us
 
 -- the version word, `start` and its name, the units, and the end
 pub record ReadsSheet (ps : List Piece) (o : Outline) : Type 0 where
@@ -153,13 +182,14 @@ pub record ReadsSheet (ps : List Piece) (o : Outline) : Type 0 where
   pub name_piece : Piece
   pub next : List Piece
   pub is : ps ≡ word ∷ start_word ∷ name_piece ∷ next
-  pub word_is : IsWord word (codes "xsugar-1")
-  pub version_is : o.version ≡ 1
+  pub word_is : IsWord word (version_word o.version)
+  pub version_is : IsVersion o.version
   pub start_is : IsWord start_word (codes "start")
   pub name_is : IsUnitName name_piece o.start
   pub line_is : start_word.line ≡ o.start_line
   pub mid : List Piece
   pub units_are : ReadsUnits o.units next mid
+  pub units_may : AllMayStand o.version o.units
   pub end_is : ReadsSign End mid []
 
 -- the regular expression is that of the pattern
@@ -167,6 +197,7 @@ abbrev pub HasRegex : Unit → Type 0
 HasRegex (Terminal name pattern regex line) = IsRegex pattern regex
 HasRegex (Ignorable name pattern regex normal line) = IsRegex pattern regex
 HasRegex (Production name left right line) = ⊤
+HasRegex (Fence left right line) = ⊤
 
 abbrev pub HaveRegexes : List Unit → Type 0
 HaveRegexes [] = ⊤

@@ -9,7 +9,8 @@ use Rattle.xs_sheet.specs.declared.item.Item.{Item}
 use Rattle.xs_sheet.specs.declared.item.Item.TheVariants.{Fixed, Named, Skip}
 use Rattle.xs_sheet.specs.declared.x_item.Attr.{Attr}
 use Rattle.xs_sheet.specs.declared.sheet.Sheet.{Sheet}
-use Rattle.xs_sheet.specs.Outline.{Content, nothing, item, element, UnitOutline, terminal, ignorable, production, Outline, outline_of}
+use Rattle.xs_sheet.specs.Outline.{Content, nothing, item, element, UnitOutline, terminal, ignorable, production, fence, Outline, outline_of}
+use Rattle.xs_sheet.specs.Grammar.{version_word}
 
 -- a number below 256 in lower-case hexadecimal digits, without leading zeros
 unfoldable pub hex_digits : ℕ → List ℕ
@@ -106,6 +107,7 @@ abbrev pub unit_words : UnitOutline → List Written
 unit_words (terminal name inner line) = as_is (codes "terminal") ∷ as_is name ∷ sign Equals ∷ in_slashes inner ∷ []
 unit_words (ignorable name inner normal line) = as_is (codes "ignorable") ∷ as_is name ∷ sign Equals ∷ in_slashes inner ∷ in_quotes normal ∷ []
 unit_words (production name left right line) = as_is name ∷ sign Colon ∷ (items_words left ++ sign Equals ∷ content_words right)
+unit_words (fence left right line) = as_is (codes "fence") ∷ in_quotes left ∷ in_quotes right ∷ []
 
 -- each word after one space
 abbrev pub spaced : List Written → List ℕ
@@ -123,7 +125,7 @@ lines_text (l ∷ ls) = line_text l ++ lines_text ls
 
 -- the version word, `start` and the name, and each unit, on lines of their own
 abbrev pub sheet_lines : Outline → List (List Written)
-sheet_lines o = (as_is (codes "xsugar-1") ∷ []) ∷ (as_is (codes "start") ∷ as_is o.start ∷ []) ∷ map unit_words o.units
+sheet_lines o = (as_is (version_word o.version) ∷ []) ∷ (as_is (codes "start") ∷ as_is o.start ∷ []) ∷ map unit_words o.units
 
 -- the bytes that a sheet is written as
 abbrev pub sheet_bytes : Sheet → List ℕ

@@ -1,7 +1,7 @@
 -- Sheets but for the lines of their units.
 use Rattle.std.specs.Prelude.{◌≡◌, ℕ, ◌+◌, List, [], ◌∷◌, map}
 use Rattle.xs_sheet.specs.declared.unit.Unit.{Unit}
-use Rattle.xs_sheet.specs.declared.unit.Unit.TheVariants.{Terminal, Ignorable, Production}
+use Rattle.xs_sheet.specs.declared.unit.Unit.TheVariants.{Terminal, Ignorable, Production, Fence}
 use Rattle.xs_sheet.specs.declared.sheet.Sheet.{Sheet}
 use Rattle.xs_sheet.specs.Grammar.{IsSheetOf}
 
@@ -10,6 +10,7 @@ abbrev pub at_line : ℕ → Unit → Unit
 at_line line (Terminal name pattern regex old) = Terminal name pattern regex line
 at_line line (Ignorable name pattern regex normal old) = Ignorable name pattern regex normal line
 at_line line (Production name left right old) = Production name left right line
+at_line line (Fence left right old) = Fence left right line
 
 -- the units on a line each, from this line on
 abbrev pub in_lines : ℕ → List Unit → List Unit

@@ -6,7 +6,7 @@ use Rattle.xs_sheet.specs.declared.piece.Piece.{Piece}
 use Rattle.xs_sheet.specs.declared.item.Item.{Item}
 use Rattle.xs_sheet.specs.declared.item.Item.TheVariants.{Fixed, Named, Skip}
 use Rattle.xs_sheet.specs.declared.x_item.Attr.{Attr}
-use Rattle.xs_sheet.specs.Outline.{Content, nothing, item, element, UnitOutline, terminal, ignorable, production, Outline}
+use Rattle.xs_sheet.specs.Outline.{Content, nothing, item, element, UnitOutline, terminal, ignorable, production, fence, Outline}
 use Rattle.xs_class.specs.Words.{same}
 use Rattle.xs_sheet.specs.Pieces.{is_reserved}
 
@@ -41,14 +41,15 @@ is_name p = is_kind p.kind Plain || is_kind p.kind Qual
 abbrev pub is_regular : Piece → Bool
 is_regular p = is_kind p.kind Pattern && p.regular
 
--- the start and the units so far
+-- the version, the start and the units so far
 pub record Head : Type 0 where
+  pub version : ℕ
   pub start : List ℕ
   pub start_line : ℕ
   pub units : List UnitOutline
 
 abbrev pub with_unit : Head → UnitOutline → Head
-with_unit h u = record { start = h.start; start_line = h.start_line; units = h.units ++ u ∷ [] }
+with_unit h u = record { version = h.version; start = h.start; start_line = h.start_line; units = h.units ++ u ∷ [] }
 
 -- a production whose XML side is being read
 pub record Draft : Type 0 where
@@ -89,13 +90,15 @@ puts pl (i ∷ is) = puts (put pl i) is
 
 pub data State : Type 0 where
   begin : State
-  versioned : State
-  started : ℕ → State
+  versioned : ℕ → State
+  started : ℕ → ℕ → State
   units : Head → State
   named : Head → Bool → ℕ → State
   equals : Head → Bool → ℕ → List ℕ → State
   regular : Head → Bool → ℕ → List ℕ → State
   normal : Head → ℕ → List ℕ → List ℕ → State
+  left_fence : Head → ℕ → State
+  right_fence : Head → ℕ → List ℕ → State
   colon : Head → List ℕ → ℕ → State
   at : Site → State
   square : Site → State
@@ -117,11 +120,19 @@ go_if true s = go s
 go_if false s = refuse
 
 abbrev pub outline_at : Head → Outline
-outline_at h = record { version = 1; start = h.start; start_line = h.start_line; units = h.units }
+outline_at h = record { version = h.version; start = h.start; start_line = h.start_line; units = h.units }
+
+-- the word `fence` begins a unit in version 2
+abbrev pub begins_fence : Head → Piece → Bool
+begins_fence h p = is_word (codes "fence") p && h.version == 2
+
+-- at a fence or a production
+abbrev pub fence_or_production : Head → Piece → Transition
+fence_or_production h p = if begins_fence h p then go (left_fence h p.line) else go_if (is_unit_name p) (colon h p.text p.line)
 
 -- between units
 abbrev pub between : Head → Piece → Transition
-between h p = if is_kind p.kind End then finish (outline_at h) else (if is_word (codes "terminal") p then go (named h true p.line) else (if is_word (codes "ignorable") p then go (named h false p.line) else go_if (is_unit_name p) (colon h p.text p.line)))
+between h p = if is_kind p.kind End then finish (outline_at h) else (if is_word (codes "terminal") p then go (named h true p.line) else (if is_word (codes "ignorable") p then go (named h false p.line) else fence_or_production h p))
 
 -- a terminal's or an ignorable's pattern
 abbrev pub after_pattern : Head → Bool → ℕ → List ℕ → Piece → State
@@ -166,14 +177,16 @@ leave (value c tag as_ name []) p = refuse
 leave (value c tag as_ name (i ∷ is)) p = in_tag c tag (with_attr as_ name (i ∷ is)) p
 
 abbrev pub step : State → Piece → Transition
-step begin p = go_if (is_word (codes "xsugar-1") p) versioned
-step versioned p = go_if (is_word (codes "start") p) (started p.line)
-step (started line) p = go_if (is_unit_name p) (units (record { start = p.text; start_line = line; units = [] }))
+step begin p = if is_word (codes "xsugar-1") p then go (versioned 1) else go_if (is_word (codes "xsugar-2") p) (versioned 2)
+step (versioned version) p = go_if (is_word (codes "start") p) (started version p.line)
+step (started version line) p = go_if (is_unit_name p) (units (record { version = version; start = p.text; start_line = line; units = [] }))
 step (units h) p = between h p
 step (named h t line) p = go_if (is_unit_name p) (equals h t line p.text)
 step (equals h t line name) p = go_if (is_kind p.kind Equals) (regular h t line name)
 step (regular h t line name) p = go_if (is_regular p) (after_pattern h t line name p)
 step (normal h line name pattern) p = go_if (is_kind p.kind Quoted) (units (with_unit h (ignorable name pattern p.text line)))
+step (left_fence h line) p = go_if (is_kind p.kind Quoted) (right_fence h line p.text)
+step (right_fence h line left) p = go_if (is_kind p.kind Quoted) (units (with_unit h (fence left p.text line)))
 step (colon h name line) p = go_if (is_kind p.kind Colon) (at (left_side h name line []))
 step (at pl) p = if is_kind p.kind Quoted then go (at (put pl (Fixed p.text))) else (if is_kind p.kind SquareIn then go (square pl) else leave pl p)
 step (square pl) p = go_if (is_unit_name p) (square_name pl p.text)

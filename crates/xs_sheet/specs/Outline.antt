@@ -7,7 +7,7 @@ use Rattle.xs_sheet.specs.declared.x_item.XItem.TheOpen as O
 use Rattle.xs_sheet.specs.declared.x_item.XItem.TheOpen.{XItem-F, XItems-F}
 use Rattle.xs_sheet.specs.declared.x_item.XItem.TheFolds.{fold-XItem}
 use Rattle.xs_sheet.specs.declared.unit.Unit.{Unit}
-use Rattle.xs_sheet.specs.declared.unit.Unit.TheVariants.{Terminal, Ignorable, Production}
+use Rattle.xs_sheet.specs.declared.unit.Unit.TheVariants.{Terminal, Ignorable, Production, Fence}
 use Rattle.xs_sheet.specs.declared.sheet.Sheet.{Sheet}
 
 -- the items of an XML side, the last one outermost; an element has its tag, its attributes and its content
@@ -40,13 +40,15 @@ pub data UnitOutline : Type 0 where
   terminal : List ℕ → List ℕ → ℕ → UnitOutline
   ignorable : List ℕ → List ℕ → List ℕ → ℕ → UnitOutline
   production : List ℕ → List Item → Content → ℕ → UnitOutline
+  fence : List ℕ → List ℕ → ℕ → UnitOutline
 
 -- a terminal has its name, pattern and line; an ignorable also its normal spelling; a production its name, sides and
--- line
+-- line; a fence its two texts and line
 abbrev pub unit_outline : Unit → UnitOutline
 unit_outline (Terminal name pattern regex line) = terminal name pattern line
 unit_outline (Ignorable name pattern regex normal line) = ignorable name pattern normal line
 unit_outline (Production name left right line) = production name left (content_of right.all.items) line
+unit_outline (Fence left right line) = fence left right line
 
 pub record Outline : Type 0 where
   pub version : ℕ

@@ -22,7 +22,7 @@ use Rattle.xs_sheet.specs.Grammar.{HaveRegexes}
 use Rattle.xs_sheet.specs.Machine as M
 
 abbrev pub head_view : Head → M.Head
-head_view h = record { start = h.start; start_line = h.start_line; units = map unit_outline h.units.items }
+head_view h = record { version = h.version; start = h.start; start_line = h.start_line; units = map unit_outline h.units.items }
 
 abbrev pub draft_view : Draft → M.Draft
 draft_view d = record { head = head_view d.head; name = d.name; line = d.line; left = d.left.items }
@@ -43,13 +43,15 @@ site_view (P.Value v) = M.value (inside_view v.tag.inside) v.tag.name v.tag.attr
 
 abbrev pub unit_view : UnitState → M.State
 unit_view U.Begin = M.begin
-unit_view U.Versioned = M.versioned
-unit_view (U.Started line) = M.started line
+unit_view (U.Versioned version) = M.versioned version
+unit_view (U.Started version line) = M.started version line
 unit_view (U.Units head) = M.units (head_view head)
 unit_view (U.Named begun) = M.named (head_view begun.head) begun.terminal begun.line
 unit_view (U.Equals begun name) = M.equals (head_view begun.head) begun.terminal begun.line name
 unit_view (U.Regular begun name) = M.regular (head_view begun.head) begun.terminal begun.line name
 unit_view (U.Normal head line name pattern regex) = M.normal (head_view head) line name pattern
+unit_view (U.LeftFence head line) = M.left_fence (head_view head) line
+unit_view (U.RightFence head line left) = M.right_fence (head_view head) line left
 unit_view (U.Colon head name line) = M.colon (head_view head) name line
 
 abbrev pub item_view : ItemState → M.State
@@ -83,13 +85,15 @@ SiteHasRegexes (P.Value v) = HaveRegexes v.tag.inside.draft.head.units.items
 
 abbrev pub UnitHasRegexes : UnitState → Type 0
 UnitHasRegexes U.Begin = ⊤
-UnitHasRegexes U.Versioned = ⊤
-UnitHasRegexes (U.Started line) = ⊤
+UnitHasRegexes (U.Versioned version) = ⊤
+UnitHasRegexes (U.Started version line) = ⊤
 UnitHasRegexes (U.Units head) = HaveRegexes head.units.items
 UnitHasRegexes (U.Named begun) = HaveRegexes begun.head.units.items
 UnitHasRegexes (U.Equals begun name) = HaveRegexes begun.head.units.items
 UnitHasRegexes (U.Regular begun name) = HaveRegexes begun.head.units.items
 UnitHasRegexes (U.Normal head line name pattern regex) = HaveRegexes head.units.items × IsRegex pattern regex
+UnitHasRegexes (U.LeftFence head line) = HaveRegexes head.units.items
+UnitHasRegexes (U.RightFence head line left) = HaveRegexes head.units.items
 UnitHasRegexes (U.Colon head name line) = HaveRegexes head.units.items
 
 abbrev pub ItemHasRegexes : ItemState → Type 0

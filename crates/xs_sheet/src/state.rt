@@ -2,9 +2,10 @@ use crate::{Attr, Item, Sheet, Unit, XItem};
 use xs_class::Text;
 use xs_regex::Regex;
 
-/// The start and the units so far.
+/// The version, the start and the units so far.
 #[derive(Drop)]
 pub struct Head {
+    pub version: u32,
     pub start: Text,
     pub start_line: u32,
     pub units: Vec<Unit>,
@@ -77,10 +78,13 @@ pub enum Site {
 pub enum UnitState {
     /// At the front.
     Begin,
-    /// After the version word.
-    Versioned,
+    /// After the word of this version.
+    Versioned(u32),
     /// After the word `start`.
-    Started(u32),
+    Started {
+        version: u32,
+        line: u32,
+    },
     /// Between units.
     Units(Head),
     /// After `terminal` or `ignorable`.
@@ -96,6 +100,17 @@ pub enum UnitState {
         name: Text,
         pattern: Text,
         regex: Regex,
+    },
+    /// After `fence`.
+    LeftFence {
+        head: Head,
+        line: u32,
+    },
+    /// After a fence's first text.
+    RightFence {
+        head: Head,
+        line: u32,
+        left: Text,
     },
     /// After a production's name.
     Colon {

@@ -27,6 +27,12 @@ pub enum Unit {
         right: XItems,
         line: u32,
     },
+    /// Two characters that stand round what they open and close, in a sheet of version 2.
+    Fence {
+        left: Text,
+        right: Text,
+        line: u32,
+    },
 }
 
 /// Units in order.

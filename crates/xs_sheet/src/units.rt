@@ -56,26 +56,32 @@ fn begin(piece: &Piece) -> Transition
     ensures view { transition_view result ≡ M.step M.begin piece.now }
     ensures regexes { TransitionHasRegexes result }
 {
-    if !piece.is_word("xsugar-1") {
-        return Transition::Refuse;
+    if piece.is_word("xsugar-1") {
+        return Transition::Go(State::Unit(UnitState::Versioned(1)));
     }
-    Transition::Go(State::Unit(UnitState::Versioned))
+    if piece.is_word("xsugar-2") {
+        return Transition::Go(State::Unit(UnitState::Versioned(2)));
+    }
+    Transition::Refuse
 }
 
 /// After the version word.
-fn versioned(piece: &Piece) -> Transition
-    ensures view { transition_view result ≡ M.step M.versioned piece.now }
+fn versioned(version: u32, piece: &Piece) -> Transition
+    ensures view { transition_view result ≡ M.step (M.versioned version) piece.now }
     ensures regexes { TransitionHasRegexes result }
 {
     if !piece.is_word("start") {
         return Transition::Refuse;
     }
-    Transition::Go(State::Unit(UnitState::Started(piece.line)))
+    Transition::Go(State::Unit(UnitState::Started {
+        version,
+        line: piece.line,
+    }))
 }
 
 /// After the word `start`.
-fn started(alloc: Global, line: u32, piece: &Piece) -> Result<Transition, Memory>
-    ensures view { IfOk result (λ s. transition_view s ≡ M.step (M.started line) piece.now) }
+fn started(alloc: Global, version: u32, line: u32, piece: &Piece) -> Result<Transition, Memory>
+    ensures view { IfOk result (λ s. transition_view s ≡ M.step (M.started version line) piece.now) }
     ensures regexes { IfOk result TransitionHasRegexes }
 {
     if !piece.is_unit_name() {
@@ -83,6 +89,7 @@ fn started(alloc: Global, line: u32, piece: &Piece) -> Result<Transition, Memory
     }
     let start = copy(alloc, &piece.text)?;
     Ok(Transition::Go(State::Unit(UnitState::Units(Head {
+        version,
         start,
         start_line: line,
         units: Vec::new(alloc),
@@ -96,7 +103,7 @@ fn finish(head: Head) -> Transition
     ensures regexes { TransitionHasRegexes result }
 {
     Transition::Finish(Sheet {
-        version: 1,
+        version: head.version,
         start: head.start,
         start_line: head.start_line,
         units: Units::from_vec(head.units),
@@ -115,6 +122,31 @@ fn begin_production(alloc: Global, head: Head, piece: &Piece) -> Result<Transiti
         name,
         line: piece.line,
     })))
+}
+
+/// Whether the piece is the word `fence` in a sheet of version 2.
+fn begins_fence(head: &Head, piece: &Piece) -> bool
+    ensures { result ≡ M.begins_fence (head_view head.now) piece.now }
+{
+    piece.is_word("fence") && head.version == 2
+}
+
+/// At a fence or a production, or at neither.
+fn after_words(alloc: Global, head: Head, piece: &Piece) -> Result<Transition, Memory>
+    requires { HaveRegexes head.units.items }
+    ensures view { IfOk result (λ s. transition_view s ≡ M.fence_or_production (head_view head) piece.now) }
+    ensures regexes { IfOk result TransitionHasRegexes }
+{
+    if begins_fence(&head, piece) {
+        return Ok(Transition::Go(State::Unit(UnitState::LeftFence {
+            head,
+            line: piece.line,
+        })));
+    }
+    if piece.is_unit_name() {
+        return begin_production(alloc, head, piece);
+    }
+    Ok(Transition::Refuse)
 }
 
 /// Between units.
@@ -141,10 +173,7 @@ pub fn between(alloc: Global, head: Head, piece: &Piece) -> Result<Transition, M
             line,
         }))));
     }
-    if piece.is_unit_name() {
-        return begin_production(alloc, head, piece);
-    }
-    Ok(Transition::Refuse)
+    after_words(alloc, head, piece)
 }
 
 /// After `terminal` or `ignorable`.
@@ -279,6 +308,39 @@ fn normal(
     after_unit(head, unit)
 }
 
+/// After `fence`.
+fn left_fence(alloc: Global, head: Head, line: u32, piece: &Piece) -> Result<Transition, Memory>
+    requires { HaveRegexes head.units.items }
+    ensures view { IfOk result (λ s. transition_view s ≡ M.step (M.left_fence (head_view head) line) piece.now) }
+    ensures regexes { IfOk result TransitionHasRegexes }
+{
+    if !piece.is(Kind::Quoted) {
+        return Ok(Transition::Refuse);
+    }
+    let left = copy(alloc, &piece.text)?;
+    Ok(Transition::Go(State::Unit(UnitState::RightFence { head, line, left })))
+}
+
+/// After a fence's first text.
+fn right_fence(
+    alloc: Global,
+    head: Head,
+    line: u32,
+    left: Text,
+    piece: &Piece,
+) -> Result<Transition, Memory>
+    requires { HaveRegexes head.units.items }
+    ensures view { IfOk result (λ s. transition_view s ≡ M.step (M.right_fence (head_view head) line left) piece.now) }
+    ensures regexes { IfOk result TransitionHasRegexes }
+{
+    if !piece.is(Kind::Quoted) {
+        return Ok(Transition::Refuse);
+    }
+    let right = copy(alloc, &piece.text)?;
+    let unit = Unit::Fence { left, right, line };
+    after_unit(head, unit)
+}
+
 /// After a production's name.
 fn colon(alloc: Global, head: Head, name: Text, line: u32, piece: &Piece) -> Transition
     requires { HaveRegexes head.units.items }
@@ -305,8 +367,8 @@ pub fn step_unit(alloc: Global, state: UnitState, piece: &Piece) -> Result<Trans
 {
     match state {
         UnitState::Begin => Ok(begin(piece)),
-        UnitState::Versioned => Ok(versioned(piece)),
-        UnitState::Started(line) => started(alloc, line, piece),
+        UnitState::Versioned(version) => Ok(versioned(version, piece)),
+        UnitState::Started { version, line } => started(alloc, version, line, piece),
         UnitState::Units(head) => between(alloc, head, piece),
         UnitState::Named(begun) => named(alloc, begun, piece),
         UnitState::Equals(begun, name) => Ok(equals(begun, name, piece)),
@@ -318,6 +380,8 @@ pub fn step_unit(alloc: Global, state: UnitState, piece: &Piece) -> Result<Trans
             pattern,
             regex,
         } => normal(alloc, head, line, name, pattern, regex, piece),
+        UnitState::LeftFence { head, line } => left_fence(alloc, head, line, piece),
+        UnitState::RightFence { head, line, left } => right_fence(alloc, head, line, left, piece),
         UnitState::Colon { head, name, line } => Ok(colon(alloc, head, name, line, piece)),
     }
 }

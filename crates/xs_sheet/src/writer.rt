@@ -2,7 +2,8 @@ ghost use Rattle.std.specs.Prelude.{◌≡◌, true, [], ◌∷◌, ◌++◌, na
 ghost use Rattle.std.specs.List.{list_all};
 ghost use Rattle.xs_lex.specs.declared.kind.Kind.TheVariants.{Colon, Equals, Angle, AngleSlash, AngleEnd};
 ghost use Rattle.xs_sheet.specs.Outline.{nothing, with_item, content_of, unit_outline};
-ghost use Rattle.xs_sheet.specs.Layout.{quoted, as_is, in_slashes, sign, item_words, items_words, attr_words, attrs_words, content_words, unit_words, spaced, line_text, lines_text, sheet_bytes};
+ghost use Rattle.xs_sheet.specs.Layout.{quoted, as_is, in_quotes, in_slashes, sign, item_words, items_words, attr_words, attrs_words, content_words, unit_words, spaced, line_text, lines_text, sheet_bytes};
+ghost use Rattle.xs_sheet.specs.Grammar.{version_word};
 ghost use Rattle.xs_sheet.specs.Lines.{IsReadable, IsReadAgain};
 
 use crate::quoting::push_quoted;
@@ -159,6 +160,14 @@ fn push_production(
     push_content(page, right)
 }
 
+fn push_fence(page: &mut Text, left: &Text, right: &Text) -> Result<(), Memory>
+    ensures { OnOk result (page.new ≡ page.old ++ codes "fence" ++ spaced (in_quotes left.now ∷ in_quotes right.now ∷ [])) }
+{
+    page.push_ascii("fence")?;
+    push_string(page, left)?;
+    push_string(page, right)
+}
+
 /// Writes a unit on a line of its own.
 fn push_unit(page: &mut Text, unit: &Unit) -> Result<(), Memory>
     ensures { OnOk result (page.new ≡ page.old ++ line_text (unit_words (unit_outline unit.now))) }
@@ -186,15 +195,31 @@ fn push_unit(page: &mut Text, unit: &Unit) -> Result<(), Memory>
             right,
             line: _,
         } => push_production(page, name, left.as_slice(), right.as_slice())?,
+        Unit::Fence {
+            left,
+            right,
+            line: _,
+        } => push_fence(page, left, right)?,
     }
     page.push('\n')
 }
 
-/// Writes the version word and the start, on a line each.
-fn push_head(page: &mut Text, start: &Text) -> Result<(), Memory>
-    ensures { OnOk result (page.new ≡ page.old ++ codes "xsugar-1\nstart " ++ start.now ++ 10 ∷ []) }
+fn push_version(page: &mut Text, version: u32) -> Result<(), Memory>
+    ensures { OnOk result (page.new ≡ page.old ++ version_word version) }
 {
-    page.push_ascii("xsugar-1\nstart ")?;
+    if version == 2 {
+        page.push_ascii("xsugar-2")
+    } else {
+        page.push_ascii("xsugar-1")
+    }
+}
+
+/// Writes the version word and the start, on a line each.
+fn push_head(page: &mut Text, version: u32, start: &Text) -> Result<(), Memory>
+    ensures { OnOk result (page.new ≡ page.old ++ version_word version ++ codes "\nstart " ++ start.now ++ 10 ∷ []) }
+{
+    push_version(page, version)?;
+    page.push_ascii("\nstart ")?;
     page.push_text(start)?;
     page.push('\n')
 }
@@ -220,7 +245,7 @@ pub fn write_sheet(alloc: Global, sheet: &Sheet) -> Result<Bytes, Memory>
     ensures read_again { IfOk result (λ b. IsReadAgain b sheet.now) }
 {
     let mut page = Text::new(alloc);
-    push_head(&mut page, &sheet.start)?;
+    push_head(&mut page, sheet.version, &sheet.start)?;
     push_units(&mut page, sheet.units.as_slice())?;
     Ok(Bytes::from_vec(page.into_bytes()))
 }

@@ -2,7 +2,7 @@
 use Rattle.std.proofs.Common.{◌≡◌, ◌∙◌, ℕ, List, inl, inr, take, refl, sym, subst}
 use Rattle.xs_sheet.specs.declared.sheet.Sheet.{Sheet}
 use Rattle.xs_sheet.specs.declared.unit.Unit.{Unit}
-use Rattle.xs_sheet.specs.declared.unit.Unit.TheVariants.{Terminal, Ignorable, Production}
+use Rattle.xs_sheet.specs.declared.unit.Unit.TheVariants.{Terminal, Ignorable, Production, Fence}
 use Rattle.xs_pair.specs.declared.ill.Ill.{Ill}
 use Rattle.xs_pair.specs.declared.ill.IllRule.{IllRule}
 use Rattle.xs_pair.specs.declared.ill.IllRule.TheVariants as I
@@ -30,24 +30,28 @@ twice_kept : (us vs : List Unit) (k : ℕ) (u v : Unit) → AllAlike us vs → A
 twice_kept us vs k (Terminal n p r l) (Terminal n' p' r' l') all a h = among _ _ n n' (names_same S.Any (take k us) (take k vs) (fronts k us vs all)) a.0 h
 twice_kept us vs k (Ignorable n p r m l) (Ignorable n' p' r' m' l') all a h = among _ _ n n' (names_same S.Any (take k us) (take k vs) (fronts k us vs all)) a.0 h
 twice_kept us vs k (Production n x y l) (Production n' x' y' l') all a h = among _ _ n n' (names_same S.Lexical (take k us) (take k vs) (fronts k us vs all)) a.0 h
+twice_kept us vs k (Fence x y l) (Fence x' y' l') all a h = absurd h
 twice_kept us vs k u v all a h = absurd a
 
 empty_kept : (u v : Unit) → AreAlikeUnits u v → IsEmptyUnit u → IsEmptyUnit v
 empty_kept (Terminal n p r l) (Terminal n' p' r' l') a h = subst (λ x. HasEmptyClass x) a.1 h
 empty_kept (Ignorable n p r m l) (Ignorable n' p' r' m' l') a h = subst (λ x. HasEmptyClass x) a.1 h
 empty_kept (Production n x y l) (Production n' x' y' l') a h = absurd h
+empty_kept (Fence x y l) (Fence x' y' l') a h = absurd h
 empty_kept u v a h = absurd a
 
 strange_kept : (u v : Unit) → AreAlikeUnits u v → IsStrangeUnit u → IsStrangeUnit v
 strange_kept (Terminal n p r l) (Terminal n' p' r' l') a h = absurd h
 strange_kept (Ignorable n p r m l) (Ignorable n' p' r' m' l') a h = subst (λ x. HasStrange x) a.3 h
 strange_kept (Production n x y l) (Production n' x' y' l') a h = absurd h
+strange_kept (Fence x y l) (Fence x' y' l') a h = absurd h
 strange_kept u v a h = absurd a
 
 unmatched_kept : (u v : Unit) → AreAlikeUnits u v → IsUnmatchedUnit u → IsUnmatchedUnit v
 unmatched_kept (Terminal n p r l) (Terminal n' p' r' l') a h = absurd h
 unmatched_kept (Ignorable n p r m l) (Ignorable n' p' r' m' l') a h = subst (λ x. IsUnmatched p' x) a.3 (subst (λ x. IsUnmatched x m) a.1 h)
 unmatched_kept (Production n x y l) (Production n' x' y' l') a h = absurd h
+unmatched_kept (Fence x y l) (Fence x' y' l') a h = absurd h
 unmatched_kept u v a h = absurd a
 
 -- a line of a unit is one of its twin

@@ -59,6 +59,13 @@ terms_kept (V.Ignorable n p r m l ∷ us) (V.Terminal n' p' r' l' ∷ vs) rs ali
 terms_kept (V.Ignorable n p r m l ∷ us) (V.Production n' a' b' l' ∷ vs) rs alike are = absurd alike.0
 terms_kept (V.Production n a b l ∷ us) (V.Terminal n' p' r' l' ∷ vs) rs alike are = absurd alike.0
 terms_kept (V.Production n a b l ∷ us) (V.Ignorable n' p' r' m' l' ∷ vs) rs alike are = absurd alike.0
+terms_kept (V.Fence a b l ∷ us) (V.Fence a' b' l' ∷ vs) rs alike are = terms_kept us vs rs alike.1 are
+terms_kept (V.Terminal n p r l ∷ us) (V.Fence a' b' l' ∷ vs) rs alike are = absurd alike.0
+terms_kept (V.Ignorable n p r m l ∷ us) (V.Fence a' b' l' ∷ vs) rs alike are = absurd alike.0
+terms_kept (V.Production n a b l ∷ us) (V.Fence a' b' l' ∷ vs) rs alike are = absurd alike.0
+terms_kept (V.Fence a b l ∷ us) (V.Terminal n' p' r' l' ∷ vs) rs alike are = absurd alike.0
+terms_kept (V.Fence a b l ∷ us) (V.Ignorable n' p' r' m' l' ∷ vs) rs alike are = absurd alike.0
+terms_kept (V.Fence a b l ∷ us) (V.Production n' a' b' l' ∷ vs) rs alike are = absurd alike.0
 terms_kept [] (v ∷ vs) rs alike are = absurd alike
 terms_kept (u ∷ us) [] rs alike are = absurd alike
 
@@ -75,6 +82,13 @@ skips_kept (V.Ignorable n p r m l ∷ us) (V.Terminal n' p' r' l' ∷ vs) ks ali
 skips_kept (V.Ignorable n p r m l ∷ us) (V.Production n' a' b' l' ∷ vs) ks alike are = absurd alike.0
 skips_kept (V.Production n a b l ∷ us) (V.Terminal n' p' r' l' ∷ vs) ks alike are = absurd alike.0
 skips_kept (V.Production n a b l ∷ us) (V.Ignorable n' p' r' m' l' ∷ vs) ks alike are = absurd alike.0
+skips_kept (V.Fence a b l ∷ us) (V.Fence a' b' l' ∷ vs) ks alike are = skips_kept us vs ks alike.1 are
+skips_kept (V.Terminal n p r l ∷ us) (V.Fence a' b' l' ∷ vs) ks alike are = absurd alike.0
+skips_kept (V.Ignorable n p r m l ∷ us) (V.Fence a' b' l' ∷ vs) ks alike are = absurd alike.0
+skips_kept (V.Production n a b l ∷ us) (V.Fence a' b' l' ∷ vs) ks alike are = absurd alike.0
+skips_kept (V.Fence a b l ∷ us) (V.Terminal n' p' r' l' ∷ vs) ks alike are = absurd alike.0
+skips_kept (V.Fence a b l ∷ us) (V.Ignorable n' p' r' m' l' ∷ vs) ks alike are = absurd alike.0
+skips_kept (V.Fence a b l ∷ us) (V.Production n' a' b' l' ∷ vs) ks alike are = absurd alike.0
 skips_kept [] (v ∷ vs) ks alike are = absurd alike
 skips_kept (u ∷ us) [] ks alike are = absurd alike
 
@@ -123,6 +137,7 @@ terms_like (V.Terminal name pattern regex line ∷ us) [] qs d one two = absurd 
 terms_like (V.Terminal name pattern regex line ∷ us) (r ∷ rs) [] d one two = absurd two
 terms_like (V.Terminal name pattern regex line ∷ us) (r ∷ rs) (q ∷ qs) d one two = like_more r q rs qs d (regexes_alike pattern r q one.0 two.0) (terms_like us rs qs d one.1 two.1)
 terms_like (V.Ignorable name pattern regex normal line ∷ us) rs qs d one two = terms_like us rs qs d one two
+terms_like (V.Fence left right line ∷ us) rs qs d one two = terms_like us rs qs d one two
 terms_like (V.Production name left right line ∷ us) rs qs d one two = terms_like us rs qs d one two
 
 record AreLikeSkips (js ks : List SkipPart) (d : SkipPart) : Type 0 where
@@ -150,6 +165,7 @@ skips_like (V.Ignorable name pattern regex normal line ∷ us) [] ks d one two =
 skips_like (V.Ignorable name pattern regex normal line ∷ us) (i ∷ js) [] d one two = absurd two
 skips_like (V.Ignorable name pattern regex normal line ∷ us) (i ∷ js) (j ∷ ks) d one two =
     skip_more i j js ks d (regexes_alike pattern i.regex j.regex one.0 two.0) (one.1 ∙ sym two.1) (skips_like us js ks d one.2 two.2)
+skips_like (V.Fence left right line ∷ us) js ks d one two = skips_like us js ks d one two
 skips_like (V.Production name left right line ∷ us) js ks d one two = skips_like us js ks d one two
 
 part_at : (ks : List Ignorable) (k : ℕ) → get_or (map skip_part ks) k (skip_part no_ignorable) ≡ skip_part (get_or ks k no_ignorable)

@@ -9,9 +9,9 @@ use Rattle.xs_regex.proofs.Readings.{same_reading}
 use Rattle.xs_sheet.specs.declared.piece.Piece.{Piece}
 use Rattle.xs_sheet.specs.declared.item.Item.{Item}
 use Rattle.xs_sheet.specs.declared.unit.Unit.{Unit}
-use Rattle.xs_sheet.specs.declared.unit.Unit.TheVariants.{Terminal, Ignorable, Production}
+use Rattle.xs_sheet.specs.declared.unit.Unit.TheVariants.{Terminal, Ignorable, Production, Fence}
 use Rattle.xs_sheet.specs.declared.sheet.Sheet.{Sheet}
-use Rattle.xs_sheet.specs.Outline.{Content, UnitOutline, terminal, ignorable, production, unit_outline, Outline, outline_of}
+use Rattle.xs_sheet.specs.Outline.{Content, UnitOutline, terminal, ignorable, production, fence, unit_outline, Outline, outline_of}
 use Rattle.xs_sheet.specs.Pieces.{ArePieces}
 use Rattle.xs_sheet.specs.Grammar.{HaveRegexes, ReadsSheet, IsSheetOf}
 use Rattle.xs_sheet.specs.Machine.{done}
@@ -39,6 +39,9 @@ ignorables n m p q a b k l e = (cc, cc, cc, cc)
 productions : (n m : List ℕ) (i j : List Item) (c d : Content) (k l : ℕ) → production n i c k ≡ production m j d l → (n ≡ m) × (i ≡ j) × (c ≡ d) × (k ≡ l)
 productions n m i j c d k l e = (cc, cc, cc, cc)
 
+fences : (a b c d : List ℕ) (k l : ℕ) → fence a b k ≡ fence c d l → (a ≡ c) × (b ≡ d) × (k ≡ l)
+fences a b c d k l e = (cc, cc, cc)
+
 unit_alike : (u v : Unit) (us vs : List Unit) → unit_outline u ≡ unit_outline v → HaveRegexes (u ∷ us) → HaveRegexes (v ∷ vs) → AreAlikeUnits u v
 unit_alike (Terminal name pattern regex line) (Terminal name' pattern' regex' line') us vs e h k =
     let is = terminals name name' pattern pattern' line line' e in
@@ -47,6 +50,13 @@ unit_alike (Ignorable name pattern regex normal line) (Ignorable name' pattern' 
     let is = ignorables name name' pattern pattern' normal normal' line line' e in
     (is.0, is.1, regexes_alike pattern regex regex' h.0 (subst (λ p. IsPatternOf p regex') (sym is.1) k.0), is.2, is.3)
 unit_alike (Production name left right line) (Production name' left' right' line') us vs e h k = productions name name' left left' _ _ line line' e
+unit_alike (Fence left right line) (Fence left' right' line') us vs e h k = fences left right left' right' line line' e
+unit_alike (Fence left right line) (Terminal name' pattern' regex' line') us vs e h k = cc
+unit_alike (Fence left right line) (Ignorable name' pattern' regex' normal' line') us vs e h k = cc
+unit_alike (Fence left right line) (Production name' left' right' line') us vs e h k = cc
+unit_alike (Terminal name pattern regex line) (Fence left' right' line') us vs e h k = cc
+unit_alike (Ignorable name pattern regex normal line) (Fence left' right' line') us vs e h k = cc
+unit_alike (Production name left right line) (Fence left' right' line') us vs e h k = cc
 unit_alike (Terminal name pattern regex line) (Ignorable name' pattern' regex' normal' line') us vs e h k = cc
 unit_alike (Terminal name pattern regex line) (Production name' left' right' line') us vs e h k = cc
 unit_alike (Ignorable name pattern regex normal line) (Terminal name' pattern' regex' line') us vs e h k = cc

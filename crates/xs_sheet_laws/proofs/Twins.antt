@@ -1,7 +1,7 @@
 -- Units that are alike: the same names, sorts, lines and productions.
 use Rattle.std.proofs.Common.{◌≡◌, ◌∙◌, ℕ, zero, suc, Bool, true, false, List, [], ◌∷◌, ◌++◌, map, take, filter, cond, refl, sym, ap, Some, slice_get}
 use Rattle.xs_sheet.specs.declared.unit.Unit.{Unit}
-use Rattle.xs_sheet.specs.declared.unit.Unit.TheVariants.{Terminal, Ignorable, Production}
+use Rattle.xs_sheet.specs.declared.unit.Unit.TheVariants.{Terminal, Ignorable, Production, Fence}
 use Rattle.xs_pair.specs.declared.names.Sort.{Sort}
 use Rattle.xs_pair.specs.declared.names.Sort.TheVariants as S
 use Rattle.xs_pair.specs.declared.production.Rule.{Rule}
@@ -38,6 +38,13 @@ productions name name' left left' right right' line line' S.Terminal = refl
 productions name name' left left' right right' line line' S.Ignorable = refl
 productions name name' left left' right right' line line' S.Production = refl
 
+fences : (left left' right right' : List ℕ) (line line' : ℕ) (sort : Sort) → is_of sort (Fence left right line) ≡ is_of sort (Fence left' right' line')
+fences left left' right right' line line' S.Any = refl
+fences left left' right right' line line' S.Lexical = refl
+fences left left' right right' line line' S.Terminal = refl
+fences left left' right right' line line' S.Ignorable = refl
+fences left left' right right' line line' S.Production = refl
+
 pub twins : (u v : Unit) → AreAlikeUnits u v → AreTwins u v
 twins (Terminal name pattern regex line) (Terminal name' pattern' regex' line') a = record {
   name = a.0;
@@ -57,12 +64,19 @@ twins (Production name left right line) (Production name' left' right' line') a 
   sorts = productions name name' left left' right right' line line';
   rules = ap (λ (r : Rule). r ∷ []) (rule_same name name' left left' right.all.items right'.all.items line line' a.0 a.1 a.2 a.3);
 }
+twins (Fence left right line) (Fence left' right' line') a = record {
+  name = a.0;
+  line = a.2;
+  sorts = fences left left' right right' line line';
+  rules = refl;
+}
 twins u v a = absurd a
 
 unit_back : (u v : Unit) → AreAlikeUnits u v → AreAlikeUnits v u
 unit_back (Terminal name pattern regex line) (Terminal name' pattern' regex' line') a = (sym a.0, sym a.1, regex_back a.2, sym a.3)
 unit_back (Ignorable name pattern regex normal line) (Ignorable name' pattern' regex' normal' line') a = (sym a.0, sym a.1, regex_back a.2, sym a.3, sym a.4)
 unit_back (Production name left right line) (Production name' left' right' line') a = (sym a.0, sym a.1, sym a.2, sym a.3)
+unit_back (Fence left right line) (Fence left' right' line') a = (sym a.0, sym a.1, sym a.2)
 unit_back u v a = absurd a
 
 pub all_back : (us vs : List Unit) → AllAlike us vs → AllAlike vs us

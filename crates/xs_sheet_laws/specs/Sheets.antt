@@ -1,7 +1,7 @@
 -- Sheets that are alike.
 use Rattle.std.specs.Prelude.{◌≡◌, ◌↔◌, ⊤, List, [], ◌∷◌}
 use Rattle.xs_sheet.specs.declared.unit.Unit.{Unit}
-use Rattle.xs_sheet.specs.declared.unit.Unit.TheVariants.{Terminal, Ignorable, Production}
+use Rattle.xs_sheet.specs.declared.unit.Unit.TheVariants.{Terminal, Ignorable, Production, Fence}
 use Rattle.xs_sheet.specs.declared.sheet.Sheet.{Sheet}
 use Rattle.xs_sheet.specs.Outline.{content_of}
 use Rattle.xs_pair.specs.declared.ill.Ill.{Ill}
@@ -9,7 +9,7 @@ use Rattle.xs_pair.specs.Grammars.{Pair, IsPairOf}
 use Rattle.xs_wf.specs.Rules.{IsWell, IsIll}
 use Rattle.xs_sheet_laws.specs.Regexes as R
 
--- They have the same name, line, pattern, normal spelling and sides, and their regexes are alike.
+-- They have the same name, line, pattern, normal spelling, sides and texts, and their regexes are alike.
 abbrev pub AreAlikeUnits : Unit → Unit → Type 0
 AreAlikeUnits (Terminal name pattern regex line) (Terminal name' pattern' regex' line') =
     (name ≡ name') × (pattern ≡ pattern') × R.AreAlike regex regex' × (line ≡ line')
@@ -17,6 +17,7 @@ AreAlikeUnits (Ignorable name pattern regex normal line) (Ignorable name' patter
     (name ≡ name') × (pattern ≡ pattern') × R.AreAlike regex regex' × (normal ≡ normal') × (line ≡ line')
 AreAlikeUnits (Production name left right line) (Production name' left' right' line') =
     (name ≡ name') × (left ≡ left') × (content_of right.all.items ≡ content_of right'.all.items) × (line ≡ line')
+AreAlikeUnits (Fence left right line) (Fence left' right' line') = (left ≡ left') × (right ≡ right') × (line ≡ line')
 AreAlikeUnits u v = ⊥
 
 -- the same, one by one

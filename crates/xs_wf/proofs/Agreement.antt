@@ -97,6 +97,7 @@ skip_words (V.Ignorable name pattern regex normal line ∷ us) [] ks one two k d
 skip_words (V.Ignorable name pattern regex normal line ∷ us) (i ∷ js) [] one two k d w m = absurd two
 skip_words (V.Ignorable name pattern regex normal line ∷ us) (i ∷ js) (j ∷ ks) one two zero d w m = same_words pattern i.regex j.regex one.0 two.0 w m
 skip_words (V.Ignorable name pattern regex normal line ∷ us) (i ∷ js) (j ∷ ks) one two (suc k) d w m = skip_words us js ks one.2 two.2 k d w m
+skip_words (V.Fence left right line ∷ us) js ks one two k d w m = skip_words us js ks one two k d w m
 skip_words (V.Production name left right line ∷ us) js ks one two k d w m = skip_words us js ks one two k d w m
 
 skip_at : (ks : List Ignorable) (k : ℕ) → (get_or (map skip_part ks) k (skip_part no_ignorable)).regex ≡ (get_or ks k no_ignorable).regex

@@ -12,7 +12,7 @@ use Rattle.xs_sheet.specs.declared.item.Item.{Item}
 use Rattle.xs_sheet.specs.declared.item.Item.TheVariants.{Fixed, Named, Skip}
 use Rattle.xs_sheet.specs.declared.x_item.Attr.{Attr}
 use Rattle.xs_sheet.specs.declared.unit.Unit.{Unit}
-use Rattle.xs_sheet.specs.declared.unit.Unit.TheVariants.{Terminal, Ignorable, Production}
+use Rattle.xs_sheet.specs.declared.unit.Unit.TheVariants.{Terminal, Ignorable, Production, Fence}
 use Rattle.xs_sheet.specs.declared.sheet.Sheet.{Sheet}
 use Rattle.xs_sheet.specs.Outline.{Content, nothing, item, element, content_of, unit_outline}
 use Rattle.xs_sheet.specs.Pieces.{ArePieces}
@@ -152,6 +152,9 @@ unit_rises (Terminal name pattern regex line) ps rest low r =
 unit_rises (Ignorable name pattern regex normal line) ps rest low r =
     let front : List Piece = r.name_piece ∷ r.equals ∷ r.pattern_piece ∷ r.normal_piece ∷ [] in
     from_first r.word ps (front ++ rest) rest line low r.is r.line_is (cut front (front ++ rest) rest refl)
+unit_rises (Fence left right line) ps rest low r =
+    let front : List Piece = r.left_piece ∷ r.right_piece ∷ [] in
+    from_first r.word ps (front ++ rest) rest line low r.is r.line_is (cut front (front ++ rest) rest refl)
 unit_rises (Production name left right line) ps rest low r =
     from_first r.name_piece ps (r.colon ∷ r.next) rest line low r.is r.line_is
     (λ n rise. content_keeps 0 (content_of right.all.items) r.inside rest r.right_is n (cut (r.equals_is.sign ∷ []) r.mid r.inside r.equals_is.is n (items_keeps left r.next r.mid r.left_is n (cut (r.colon ∷ []) (r.colon ∷ r.next) r.next refl n rise))))
@@ -163,6 +166,7 @@ rule_lines rs = map (λ (r : Rule). r.line) rs
 unit_added : (u : Unit) (rs : List Rule) (low : ℕ) → low ≤ unit_line u → RiseFrom (unit_line u) (rule_lines rs) → RiseFrom low (rule_lines (rule_in u ++ rs))
 unit_added (Terminal name pattern regex line) rs low le rise = rise_lower low line (rule_lines rs) le rise
 unit_added (Ignorable name pattern regex normal line) rs low le rise = rise_lower low line (rule_lines rs) le rise
+unit_added (Fence left right line) rs low le rise = rise_lower low line (rule_lines rs) le rise
 unit_added (Production name left right line) rs low le rise = (le, rise)
 
 rules_rise : (us : List Unit) (ps rest : List Piece) (low : ℕ) → ReadsUnits (map unit_outline us) ps rest → RiseFrom low (piece_lines ps) → RiseFrom low (rule_lines (rules_of us))

@@ -12,7 +12,7 @@ use Rattle.xs_regex.specs.Size.{HasMembers}
 use Rattle.xs_regex.proofs.Meanings.{same_words}
 use Rattle.xs_sheet.specs.declared.sheet.Sheet.{Sheet}
 use Rattle.xs_sheet.specs.declared.unit.Unit.{Unit}
-use Rattle.xs_sheet.specs.declared.unit.Unit.TheVariants.{Terminal, Ignorable, Production}
+use Rattle.xs_sheet.specs.declared.unit.Unit.TheVariants.{Terminal, Ignorable, Production, Fence}
 use Rattle.xs_sheet.specs.Grammar.{HaveRegexes}
 use Rattle.xs_gram.specs.declared.parts.Terminal.{Terminal as GTerminal}
 use Rattle.xs_gram.specs.declared.parts.Ignorable.{Ignorable as GIgnorable}
@@ -38,6 +38,7 @@ terms_full [] (r ∷ rs) have fine are = absurd are
 terms_full (Terminal name pattern regex line ∷ us) [] have fine are = tt
 terms_full (Terminal name pattern regex line ∷ us) (r ∷ rs) have fine are = (same_members pattern regex r have.0 are.0 fine.0, terms_full us rs have.1 fine.1 are.1)
 terms_full (Ignorable name pattern regex normal line ∷ us) rs have fine are = terms_full us rs have.1 fine.1 are
+terms_full (Fence left right line ∷ us) rs have fine are = terms_full us rs have.1 fine.1 are
 terms_full (Production name left right line ∷ us) rs have fine are = terms_full us rs have.1 fine.1 are
 
 skips_full : (us : List Unit) (ks : List SkipPart) → HaveRegexes us → AreFine R.EmptyClass us → AreSkipsOf us ks → EachOf (λ (k : SkipPart). HasMembers k.regex) ks
@@ -46,6 +47,7 @@ skips_full [] (k ∷ ks) have fine are = absurd are
 skips_full (Ignorable name pattern regex normal line ∷ us) [] have fine are = tt
 skips_full (Ignorable name pattern regex normal line ∷ us) (k ∷ ks) have fine are = (same_members pattern regex k.regex have.0 are.0 fine.0, skips_full us ks have.1 fine.1 are.2)
 skips_full (Terminal name pattern regex line ∷ us) ks have fine are = skips_full us ks have.1 fine.1 are
+skips_full (Fence left right line ∷ us) ks have fine are = skips_full us ks have.1 fine.1 are
 skips_full (Production name left right line ∷ us) ks have fine are = skips_full us ks have.1 fine.1 are
 
 skips_normal : (us : List Unit) (ks : List SkipPart) → HaveRegexes us → AreFine R.Normal us → AreSkipsOf us ks → EachOf (λ (k : SkipPart). Matches k.regex k.normal) ks
@@ -57,6 +59,7 @@ skips_normal (Ignorable name pattern regex normal line ∷ us) (k ∷ ks) have f
   skips_normal us ks have.1 fine.1 are.2,
 )
 skips_normal (Terminal name pattern regex line ∷ us) ks have fine are = skips_normal us ks have.1 fine.1 are
+skips_normal (Fence left right line ∷ us) ks have fine are = skips_normal us ks have.1 fine.1 are
 skips_normal (Production name left right line ∷ us) ks have fine are = skips_normal us ks have.1 fine.1 are
 
 -- no class of a terminal or of an ignorable is empty

@@ -9,7 +9,7 @@ use Rattle.xs_regex.specs.Size.{HasMembers}
 use Rattle.xs_sheet.specs.declared.item.Item.{Item}
 use Rattle.xs_sheet.specs.declared.item.Item.TheVariants as I
 use Rattle.xs_sheet.specs.declared.unit.Unit.{Unit}
-use Rattle.xs_sheet.specs.declared.unit.Unit.TheVariants.{Terminal, Ignorable, Production}
+use Rattle.xs_sheet.specs.declared.unit.Unit.TheVariants.{Terminal, Ignorable, Production, Fence}
 use Rattle.xs_gram.specs.Building.{EachOf}
 use Rattle.xs_pair.specs.declared.ill.IllRule.{IllRule}
 use Rattle.xs_pair.specs.declared.ill.IllRule.TheVariants.{Twice, Undefined, NoStart, NameOnce, Kind, AttrTwice, RootShape, EmptyClass, NotChar, Normal, Unproductive, Loop}
@@ -40,18 +40,21 @@ abbrev pub IsEmptyUnit : Unit → Type 0
 IsEmptyUnit (Terminal name pattern regex line) = HasEmptyClass pattern
 IsEmptyUnit (Ignorable name pattern regex normal line) = HasEmptyClass pattern
 IsEmptyUnit (Production name left right line) = ⊥
+IsEmptyUnit (Fence left right line) = ⊥
 
 -- the normal spelling of an ignorable holds a character that XML does not have
 abbrev pub IsStrangeUnit : Unit → Type 0
 IsStrangeUnit (Terminal name pattern regex line) = ⊥
 IsStrangeUnit (Ignorable name pattern regex normal line) = HasStrange normal
 IsStrangeUnit (Production name left right line) = ⊥
+IsStrangeUnit (Fence left right line) = ⊥
 
 -- the regex of an ignorable does not match its normal spelling
 abbrev pub IsUnmatchedUnit : Unit → Type 0
 IsUnmatchedUnit (Terminal name pattern regex line) = ⊥
 IsUnmatchedUnit (Ignorable name pattern regex normal line) = IsUnmatched pattern normal
 IsUnmatchedUnit (Production name left right line) = ⊥
+IsUnmatchedUnit (Fence left right line) = ⊥
 
 -- a rule that speaks of single units fails at one
 abbrev pub IsIllUnit : IllRule → Unit → Type 0
@@ -73,12 +76,14 @@ abbrev pub IsFullUnit : Unit → Type 0
 IsFullUnit (Terminal name pattern regex line) = HasMembers regex
 IsFullUnit (Ignorable name pattern regex normal line) = HasMembers regex
 IsFullUnit (Production name left right line) = ⊤
+IsFullUnit (Fence left right line) = ⊤
 
 -- the regex of an ignorable matches its normal spelling
 abbrev pub IsMatchedUnit : Unit → Type 0
 IsMatchedUnit (Terminal name pattern regex line) = ⊤
 IsMatchedUnit (Ignorable name pattern regex normal line) = Matches regex normal
 IsMatchedUnit (Production name left right line) = ⊤
+IsMatchedUnit (Fence left right line) = ⊤
 
 -- what is known of a unit where a rule that speaks of single units does not fail
 abbrev pub IsFineUnit : IllRule → Unit → Type 0

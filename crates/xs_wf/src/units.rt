@@ -56,7 +56,7 @@ pub fn is_empty_unit(unit: &Unit) -> bool
     match unit {
         Unit::Terminal { regex, .. } => !has_members(regex),
         Unit::Ignorable { regex, .. } => !has_members(regex),
-        Unit::Production { .. } => false,
+        Unit::Production { .. } | Unit::Fence { .. } => false,
     }
 }
 
@@ -127,7 +127,7 @@ pub fn is_strange_unit(alloc: Global, unit: &Unit) -> Result<bool, Memory>
     match unit {
         Unit::Ignorable { normal, .. } => has_strange(alloc, normal),
         Unit::Terminal { .. } => Ok(false),
-        Unit::Production { .. } => Ok(false),
+        Unit::Production { .. } | Unit::Fence { .. } => Ok(false),
     }
 }
 
@@ -144,6 +144,6 @@ pub fn is_unmatched_unit(alloc: Global, unit: &Unit) -> Result<bool, Memory>
             Ok(!fits)
         }
         Unit::Terminal { .. } => Ok(false),
-        Unit::Production { .. } => Ok(false),
+        Unit::Production { .. } | Unit::Fence { .. } => Ok(false),
     }
 }

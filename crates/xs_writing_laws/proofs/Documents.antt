@@ -7,7 +7,7 @@ use Rattle.xs_gram.proofs.Each.{each_weaker}
 use Rattle.xs_sheet.specs.declared.x_item.XItem.{XItem}
 use Rattle.xs_sheet.specs.declared.sheet.Sheet.{Sheet}
 use Rattle.xs_sheet.specs.declared.unit.Unit.{Unit as SheetUnit}
-use Rattle.xs_sheet.specs.declared.unit.Unit.TheVariants.{Terminal, Ignorable, Production}
+use Rattle.xs_sheet.specs.declared.unit.Unit.TheVariants.{Terminal, Ignorable, Production, Fence}
 use Rattle.xs_gram.specs.declared.parts.GItem.{GItem}
 use Rattle.xs_gram.specs.declared.parts.GItem.TheVariants.{Fixed, Term, Non, Skip}
 use Rattle.xs_gram.specs.declared.parts.RulePart.{RulePart}
@@ -42,6 +42,7 @@ shapes : (us : List SheetUnit) → EachOf IsShaped (rules_of us)
 shapes [] = tt
 shapes (Terminal name pattern regex line ∷ us) = shapes us
 shapes (Ignorable name pattern regex normal line ∷ us) = shapes us
+shapes (Fence left right line ∷ us) = shapes us
 shapes (Production name left right line ∷ us) = ((right.all.items, refl, refl), shapes us)
 
 -- a rule of good marks; those of the number of the start are one element

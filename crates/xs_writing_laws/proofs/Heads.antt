@@ -5,7 +5,7 @@ use Rattle.std.proofs.lemmas.Option.{none-some, same_Some}
 use Rattle.xs_pair.proofs.Numbering.{put_in, with_names_kept}
 use Rattle.xs_gram.proofs.Each.{each_weaker}
 use Rattle.xs_sheet.specs.declared.unit.Unit.{Unit as SheetUnit}
-use Rattle.xs_sheet.specs.declared.unit.Unit.TheVariants.{Terminal, Ignorable, Production}
+use Rattle.xs_sheet.specs.declared.unit.Unit.TheVariants.{Terminal, Ignorable, Production, Fence}
 use Rattle.xs_gram.specs.Building.{EachOf}
 use Rattle.xs_pair.specs.declared.names.Sort.TheVariants as S
 use Rattle.xs_pair.specs.declared.production.Rule.{Rule}
@@ -29,6 +29,7 @@ heads : (us : List SheetUnit) → EachOf (IsHead (names_of S.Production us)) (ru
 heads [] = tt
 heads (Terminal name pattern regex line ∷ us) = heads us
 heads (Ignorable name pattern regex normal line ∷ us) = heads us
+heads (Fence left right line ∷ us) = heads us
 heads (Production name left right line ∷ us) = ((0, refl), each_weaker (IsHead (names_of S.Production us)) (IsHead (name ∷ names_of S.Production us)) (λ r at. (suc at.0, at.1)) (rules_of us) (heads us))
 
 -- each production's name is that of a nonterminal

@@ -9,7 +9,7 @@ use Rattle.xs_sheet.specs.declared.x_item.Attr.{Attr}
 use Rattle.xs_sheet.specs.declared.x_item.XItem.{XItem, Plain, Element}
 use Rattle.xs_sheet.specs.declared.x_item.XItems.{XItems}
 use Rattle.xs_sheet.specs.declared.unit.Unit.{Unit as SheetUnit}
-use Rattle.xs_sheet.specs.declared.unit.Unit.TheVariants.{Terminal, Ignorable, Production}
+use Rattle.xs_sheet.specs.declared.unit.Unit.TheVariants.{Terminal, Ignorable, Production, Fence}
 use Rattle.xs_sheet.specs.Outline.{Content, nothing, laid, with_item, content_of, unit_outline}
 use Rattle.xs_sheet.proofs.ContentLaws.{with_plain, with_element}
 use Rattle.xs_gram.specs.Building.{EachOf}
@@ -77,6 +77,7 @@ units_named : (us : List SheetUnit) → EachOf (λ (u : SheetUnit). UnitHasNames
 units_named [] named = tt
 units_named (Terminal name pattern regex line ∷ us) named = units_named us named.1
 units_named (Ignorable name pattern regex normal line ∷ us) named = units_named us named.1
+units_named (Fence left right line ∷ us) named = units_named us named.1
 units_named (Production name left right line ∷ us) named =
     each_append IsXmlName (mark_names (all_marks right.all.items)) (names_in (rules_of us)) (side_named right.all.items named.0) (units_named us named.1)
 

@@ -6,7 +6,7 @@ use Rattle.xs_sheet.specs.declared.item.Item.TheVariants.{Fixed, Named, Skip}
 use Rattle.xs_sheet.specs.declared.x_item.Attr.{Attr}
 use Rattle.xs_sheet.specs.declared.unit.Unit.{Unit as SheetUnit}
 use Rattle.xs_sheet.specs.declared.sheet.Sheet.{Sheet}
-use Rattle.xs_sheet.specs.Outline.{Content, nothing, item, element, UnitOutline, terminal, ignorable, production, unit_outline}
+use Rattle.xs_sheet.specs.Outline.{Content, nothing, item, element, UnitOutline, terminal, ignorable, production, fence, unit_outline}
 use Rattle.xs_sheet.specs.Grammar.{IsName, ReadsItem, ReadsItems, ReadsAttr, ReadsAttrs, ReadsOpening, ReadsClosing, ReadsSign, ReadsContent, ReadsUnit, ReadsUnits, IsSheetOf}
 use Rattle.xs_lex.specs.declared.kind.Kind.{Kind}
 use Rattle.xs_lex.specs.declared.kind.Kind.TheVariants.{SlashEnd, AngleEnd, Equals}
@@ -82,11 +82,13 @@ content_read depth (element before tag attrs inner) ps rest reads fine =
 abbrev pub UnitHasNames : UnitOutline → Type 0
 UnitHasNames (terminal name pattern line) = Unit {0}
 UnitHasNames (ignorable name pattern normal line) = Unit {0}
+UnitHasNames (fence left right line) = Unit {0}
 UnitHasNames (production name left right line) = HasNames right
 
 unit_read : (u : UnitOutline) (ps rest : List Piece) → ReadsUnit u ps rest → Fine ps → UnitHasNames u × Fine rest
 unit_read (terminal name pattern line) ps rest reads fine = (tt, (subst Fine reads.is fine).1.1.1.1)
 unit_read (ignorable name pattern normal line) ps rest reads fine = (tt, (subst Fine reads.is fine).1.1.1.1.1)
+unit_read (fence left right line) ps rest reads fine = (tt, (subst Fine reads.is fine).1.1.1)
 unit_read (production name left right line) ps rest reads fine =
     let here = (subst Fine reads.is fine).1.1 in
     content_read 0 right reads.inside rest reads.right_is (after_sign Equals reads.mid reads.inside reads.equals_is (after_items left reads.next reads.mid reads.left_is here))

@@ -6,7 +6,7 @@ use Rattle.xs_regex.specs.Matches.{Matches, Each, joined}
 use Rattle.xs_regex.specs.Meaning.{Means, IsPatternOf}
 use Rattle.xs_regex.specs.Pattern.{Tree, nothing, class, both, either, any, times}
 use Rattle.xs_sheet.specs.declared.unit.Unit.{Unit as SheetUnit}
-use Rattle.xs_sheet.specs.declared.unit.Unit.TheVariants.{Terminal, Ignorable, Production}
+use Rattle.xs_sheet.specs.declared.unit.Unit.TheVariants.{Terminal, Ignorable, Production, Fence}
 use Rattle.xs_sheet.specs.declared.sheet.Sheet.{Sheet}
 use Rattle.xs_class.specs.declared.side.Side.{Side}
 use Rattle.xs_gram.specs.declared.parts.SkipPart.{SkipPart}
@@ -48,6 +48,7 @@ terms_words [] (r ∷ rs) are = absurd are
 terms_words (Terminal name pattern regex line ∷ us) [] are = absurd are
 terms_words (Terminal name pattern regex line ∷ us) (r ∷ rs) are = (pattern_words pattern r are.0, terms_words us rs are.1)
 terms_words (Ignorable name pattern regex normal line ∷ us) rs are = terms_words us rs are
+terms_words (Fence left right line ∷ us) rs are = terms_words us rs are
 terms_words (Production name left right line ∷ us) rs are = terms_words us rs are
 
 skips_words : (us : List SheetUnit) (ks : List SkipPart) → AreSkipsOf us ks → EachOf (λ (k : SkipPart). HasCharWords k.regex) ks
@@ -56,6 +57,7 @@ skips_words [] (k ∷ ks) are = absurd are
 skips_words (Terminal name pattern regex line ∷ us) ks are = skips_words us ks are
 skips_words (Ignorable name pattern regex normal line ∷ us) [] are = absurd are
 skips_words (Ignorable name pattern regex normal line ∷ us) (k ∷ ks) are = (pattern_words pattern k.regex are.0, skips_words us ks are.2)
+skips_words (Fence left right line ∷ us) ks are = skips_words us ks are
 skips_words (Production name left right line ∷ us) ks are = skips_words us ks are
 
 -- the words of a grammar's terminals and ignorables are characters of XML

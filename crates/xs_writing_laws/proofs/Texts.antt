@@ -8,7 +8,7 @@ use Rattle.xs_sheet.specs.declared.item.Item.{Item}
 use Rattle.xs_sheet.specs.declared.item.Item.TheVariants as I
 use Rattle.xs_sheet.specs.declared.sheet.Sheet.{Sheet}
 use Rattle.xs_sheet.specs.declared.unit.Unit.{Unit as SheetUnit}
-use Rattle.xs_sheet.specs.declared.unit.Unit.TheVariants.{Terminal, Ignorable, Production}
+use Rattle.xs_sheet.specs.declared.unit.Unit.TheVariants.{Terminal, Ignorable, Production, Fence}
 use Rattle.xs_gram.specs.declared.parts.GItem.{GItem}
 use Rattle.xs_gram.specs.declared.parts.GItem.TheVariants.{Fixed, Term, Non, Skip}
 use Rattle.xs_gram.specs.declared.parts.RulePart.{RulePart}
@@ -63,6 +63,7 @@ lefts : (us : List SheetUnit) → EachOf IsOfItems (rules_of us)
 lefts [] = tt
 lefts (Terminal name pattern regex line ∷ us) = lefts us
 lefts (Ignorable name pattern regex normal line ∷ us) = lefts us
+lefts (Fence left right line ∷ us) = lefts us
 lefts (Production name left right line ∷ us) = ((left, refl), lefts us)
 
 content_items : (n : Numbering) (slots : List (List ℕ)) (is : List Item) → EachOf IsOfChars (map Content is) → EachOf IsTextItem (flat_marks n slots (map Content is))

@@ -7,7 +7,9 @@ use Rattle.xs_pair.proofs.outline.Outline.least_twice.Given as goal
 
 abbrev pub invariant-units : goal.invariant-units
 invariant-units l = record {
-  few : l.lexical ≤ l.place;
-  count : l.lexical ≡ length (U.names_of S.Lexical (take l.place l.units));
-  first : IsFirstLine (IsLineWhere (IsTwice l.units) U.unit_line (take l.place l.units)) l.least;
+  few : l.lexical ≤ l.unit-index;
+  fewer : l.named ≤ l.unit-index;
+  names : l.named ≡ length (U.names_of S.Any (take l.unit-index l.units));
+  count : l.lexical ≡ length (U.names_of S.Lexical (take l.unit-index l.units));
+  first : IsFirstLine (IsLineWhere (IsTwice l.units) U.unit_line (take l.unit-index l.units)) l.least;
 }
