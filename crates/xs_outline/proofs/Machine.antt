@@ -1,10 +1,11 @@
 -- The machine over lines takes exactly the lines of shapes that fit.
-use Rattle.std.proofs.Common.{◌≡◌, ℕ, zero, suc, ◌<◌, ◌≤◌, Bool, true, false, List, [], ◌∷◌, ◌++◌, length, set, refl, sym, ◌∙◌, ap, subst, arith, Some, None, append_assoc, append-nil, if◌then◌else◌}
+use Rattle.std.proofs.Common.{◌≡◌, ℕ, zero, suc, ◌<◌, ◌≤◌, Bool, true, false, List, [], ◌∷◌, ◌++◌, length, set, refl, sym, ◌∙◌, ap, subst, arith, Some, None, append_assoc, append-nil}
 use Rattle.std.specs.Prelude.{slice_get}
 use Rattle.std.specs.declared.option.Option.{Option}
 use Rattle.std.proofs.lemmas.List.{length-set, length-replicate}
 use Rattle.std.proofs.lemmas.Option.{none-some, same_Some, slice_get_within, get_or_from_slice_get, slice_get-get_or}
 use Rattle.xs_class.specs.Ordered.{place_of}
+use Rattle.xs_class.proofs.Truth.{if_true, if_false}
 use Rattle.xs_gram.specs.Common.{Common, made, Kind, of_term, of_non}
 use Rattle.xs_pair.specs.Units.{or_zero}
 use Rattle.xs_pair.specs.Grammars.{Pair}
@@ -13,14 +14,6 @@ use Rattle.xs_outline.specs.Lines.{Entry, production, leaf_word, Line, line}
 use Rattle.xs_outline.specs.Shapes.{Shape, leaf, node, Branches, none, branch, names_of, slot_count, slot_name, kind_at, empty_cells, is_full, kids_in, meaning, filled, ShapeFits, BranchesFit, lines, branch_lines, root_name, root_kind}
 use Rattle.xs_outline.specs.Outline.{AreLinesOf}
 use Rattle.xs_outline.specs.Machine.{Frame, frame, State, at_start, within, complete, give, settle, enter, next, EntryFits, MayCome, after, MayAllCome, Passes, HasDistinctSlots}
-
-if_true : {A : Type 0} (b : Bool) (x y : A) → b ≡ true → (if b then x else y) ≡ x
-if_true true x y e = refl
-if_true false x y e = cc
-
-if_false : {A : Type 0} (b : Bool) (x y : A) → b ≡ false → (if b then x else y) ≡ y
-if_false true x y e = cc
-if_false false x y e = refl
 
 -- a slot without a child
 pub not_full : (cells : List (Option Common)) (s : ℕ) → slice_get cells s ≡ Some None → is_full cells ≡ false

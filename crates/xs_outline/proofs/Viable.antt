@@ -4,6 +4,7 @@ use Rattle.std.specs.Prelude.{slice_get}
 use Rattle.std.specs.declared.option.Option.{Option}
 use Rattle.std.proofs.lemmas.List.{length-set}
 use Rattle.std.proofs.lemmas.Option.{slice_get_within}
+use Rattle.xs_class.proofs.Truth.{if_false}
 use Rattle.xs_gram.specs.Common.{Common, word, made, Kind, of_term, of_non}
 use Rattle.xs_pair.specs.Grammars.{Pair}
 use Rattle.xs_pair.specs.Units.{number_of}
@@ -12,10 +13,6 @@ use Rattle.xs_outline.specs.Shapes.{Shape, Branches, none, branch, names_of, slo
 use Rattle.xs_outline.specs.Outline.{AreLinesOf}
 use Rattle.xs_outline.specs.Machine.{Frame, frame, State, at_start, within, complete, give, settle, enter, next, EntryFits, MayCome, after, MayAllCome, Passes, HasDistinctSlots}
 use Rattle.xs_outline.proofs.Machine.{passes_then, front_may, lines_pass, passed_lines, shape_passes, branches_passes, long_empty}
-
-if_false : {A : Type 0} (b : Bool) (x y : A) → b ≡ false → (if b then x else y) ≡ y
-if_false true x y e = cc
-if_false false x y e = refl
 
 -- how many slots have no child
 abbrev pub missing : List (Option Common) → ℕ

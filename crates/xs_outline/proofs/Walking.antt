@@ -1,5 +1,5 @@
 -- What a step of the walk over a flat tree writes.
-use Rattle.std.proofs.Common.{◌≡◌, ℕ, zero, suc, ◌+◌, ◌<◌, ◌≤◌, List, [], ◌∷◌, ◌++◌, length, drop, get_or, refl, sym, ◌∙◌, ap, subst, arith, Some, None, append_assoc, append-nil, drop-cons, true}
+use Rattle.std.proofs.Common.{◌≡◌, ℕ, zero, suc, ◌+◌, ◌*◌, ◌-◌, ◌<◌, ◌≤◌, List, [], ◌∷◌, ◌++◌, length, drop, get_or, refl, sym, ◌∙◌, ap, subst, arith, Some, None, append_assoc, append-nil, drop-cons, true, decimal, length-append}
 use Rattle.std.specs.Prelude.{slice_get}
 use Rattle.std.specs.Str.{all_scalars}
 use Rattle.std.specs.declared.option.Option.{Option}
@@ -15,7 +15,7 @@ use Rattle.xs_pair.specs.Grammars.{Pair, IsPairOf}
 use Rattle.xs_class.specs.declared.side.Side.TheVariants.{Text}
 use Rattle.xs_writing_laws.proofs.Characters.{chars_are_characters}
 use Rattle.xs_writing_laws.proofs.Spelling.{gram_spelt}
-use Rattle.xs_outline.specs.Lines.{Line, line, production, leaf_word, line_text, lines_text}
+use Rattle.xs_outline.specs.Lines.{Line, line, production, leaf_word, entry_text, line_text, lines_text}
 use Rattle.xs_outline.specs.Shapes.{leaf, names_of, slot_count, slot_name, lines, branch_lines, root_name}
 use Rattle.xs_outline.specs.Order.{order_of, branches_at, shape_of, shapes_of, outline_of}
 use Rattle.xs_outline.proofs.Ordering.{order_below}
@@ -54,15 +54,12 @@ open_front p f (first ∷ tasks) task all =
 found : (f : Flat) (part : ℕ) → IsFlat f → part < length f.parts → common_at f part ≡ tree_of (trees_of f.parts) (get_or f.parts part (Leaf []))
 found f part flat lt = tree_is f.parts part (get_or f.parts part (Leaf [])) flat.rising (slice_get-get_or f.parts part (Leaf []) lt)
 
-there : (f : Flat) (part : ℕ) → part < length f.parts → slice_get f.parts part ≡ Some (get_or f.parts part (Leaf []))
-there f part lt = slice_get-get_or f.parts part (Leaf []) lt
-
 leaf_of : (trees : List Common) (x : TreePart) (w : List ℕ) → Some w ≡ word_of (Some x) → tree_of trees x ≡ word w
 leaf_of trees (Leaf u) w is = ap (λ z. word z) (sym (same_Some w u is))
 leaf_of trees (Node q ks) w is = absurd (none-some w (sym is))
 
 pub leaf_is : (f : Flat) (part : ℕ) (w : List ℕ) → IsFlat f → part < length f.parts → Some w ≡ word_of (slice_get f.parts part) → common_at f part ≡ word w
-leaf_is f part w flat lt is = found f part flat lt ∙ leaf_of (trees_of f.parts) (get_or f.parts part (Leaf [])) w (is ∙ ap word_of (there f part lt))
+leaf_is f part w flat lt is = found f part flat lt ∙ leaf_of (trees_of f.parts) (get_or f.parts part (Leaf [])) w (is ∙ ap word_of (slice_get-get_or f.parts part (Leaf []) lt))
 
 node_of : (trees : List Common) (x : TreePart) (q : ℕ) → Some q ≡ production_of (Some x) → tree_of trees x ≡ made q (kids_at trees (kids_of (Some x)))
 node_of trees (Leaf u) q is = absurd (none-some q (sym is))
@@ -70,8 +67,8 @@ node_of trees (Node r ks) q is = ap (λ z. made z (kids_at trees ks)) (sym (same
 
 pub node_is : (f : Flat) (part q : ℕ) → IsFlat f → part < length f.parts → Some q ≡ production_of (slice_get f.parts part) → common_at f part ≡ made q (kids_at (trees_of f.parts) (kids_of (slice_get f.parts part)))
 node_is f part q flat lt is =
-    found f part flat lt ∙ node_of (trees_of f.parts) (get_or f.parts part (Leaf [])) q (is ∙ ap production_of (there f part lt))
-    ∙ ap (λ o. made q (kids_at (trees_of f.parts) (kids_of o))) (sym (there f part lt))
+    found f part flat lt ∙ node_of (trees_of f.parts) (get_or f.parts part (Leaf [])) q (is ∙ ap production_of (slice_get-get_or f.parts part (Leaf []) lt))
+    ∙ ap (λ o. made q (kids_at (trees_of f.parts) (kids_of o))) (sym (slice_get-get_or f.parts part (Leaf []) lt))
 
 -- a part is a leaf or a node
 not_both : (x : TreePart) → None ≡ word_of (Some x) → None ≡ production_of (Some x) → ⊥
@@ -79,7 +76,7 @@ not_both (Leaf w) a b = absurd (none-some w a)
 not_both (Node q ks) a b = absurd (none-some q b)
 
 pub no_third : (f : Flat) (part : ℕ) → part < length f.parts → None ≡ word_of (slice_get f.parts part) → None ≡ production_of (slice_get f.parts part) → ⊥
-no_third f part lt a b = not_both (get_or f.parts part (Leaf [])) (a ∙ ap word_of (there f part lt)) (b ∙ ap production_of (there f part lt))
+no_third f part lt a b = not_both (get_or f.parts part (Leaf [])) (a ∙ ap word_of (slice_get-get_or f.parts part (Leaf []) lt)) (b ∙ ap production_of (slice_get-get_or f.parts part (Leaf []) lt))
 
 leaf_no_node : (x : TreePart) (trees : List Common) → (p : Pair) → None ≡ production_of (Some x) → IsNode p (tree_of trees x) → ⊥
 leaf_no_node (Leaf w) trees p is node = node
@@ -87,7 +84,7 @@ leaf_no_node (Node q ks) trees p is node = absurd (none-some q is)
 
 pub node_has : (p : Pair) (f : Flat) (part : ℕ) → IsFlat f → part < length f.parts → IsNode p (common_at f part) → None ≡ production_of (slice_get f.parts part) → ⊥
 node_has p f part flat lt node is =
-    leaf_no_node (get_or f.parts part (Leaf [])) (trees_of f.parts) p (is ∙ ap production_of (there f part lt)) (subst (IsNode p) (found f part flat lt) node)
+    leaf_no_node (get_or f.parts part (Leaf [])) (trees_of f.parts) p (is ∙ ap production_of (slice_get-get_or f.parts part (Leaf []) lt)) (subst (IsNode p) (found f part flat lt) node)
 
 -- the shape of a child
 shape_at : (p : Pair) (trees : List Common) (ks : List ℕ) (s : ℕ) → s < length ks → get_or (shapes_of p (kids_at trees ks)) s (leaf []) ≡ shape_of p (tree_at trees (get_or ks s 0))
@@ -151,6 +148,12 @@ rest_none p f part q dot depth flat lt is le =
     let shapes = shapes_of p (kids_at (trees_of f.parts) (kids_of (slice_get f.parts part))) in
     ap (rest_text p depth dot) (node_is f part q flat lt is) ∙ ap (λ (z : List ℕ). lines_text (branch_lines p q depth (branches_at z shapes))) (drop_all dot (order_of p q) le)
 
+-- a page with one more line is longer
+pub line_grows : (page new : List ℕ) (l : Line) → new ≡ page ++ line_text l → length page < length new
+line_grows page new l is =
+    let front = length-append (decimal l.depth) (32 ∷ (l.name ++ 32 ∷ (entry_text l.entry ++ 10 ∷ []))) in
+    subst (λ (z : List ℕ). length page < length z) (sym is) (omega (arith, length-append page (line_text l), front))
+
 -- a leaf is written whole
 pub leaf_writes : (p : Pair) (f : Flat) (part depth : ℕ) (name w : List ℕ) → IsFlat f → part < length f.parts → Some w ≡ word_of (slice_get f.parts part) → tree_text p depth name (common_at f part) ≡ line_text (line depth name (leaf_word w))
 leaf_writes p f part depth name w flat lt is = ap (tree_text p depth name) (leaf_is f part w flat lt is) ∙ append-nil (line_text (line depth name (leaf_word w)))
@@ -184,7 +187,7 @@ wordless p trees (Node q ks) node = refl
 
 pub node_wordless : (p : Pair) (f : Flat) (part : ℕ) → IsFlat f → part < length f.parts → IsNode p (common_at f part) → None ≡ word_of (slice_get f.parts part)
 node_wordless p f part flat lt node =
-    wordless p (trees_of f.parts) (get_or f.parts part (Leaf [])) (subst (IsNode p) (found f part flat lt) node) ∙ ap word_of (sym (there f part lt))
+    wordless p (trees_of f.parts) (get_or f.parts part (Leaf [])) (subst (IsNode p) (found f part flat lt) node) ∙ ap word_of (sym (slice_get-get_or f.parts part (Leaf []) lt))
 
 -- the line of a leaf is written
 pub leaf_step : (p : Pair) (f : Flat) (part n : ℕ) (name w page new : List ℕ) (tasks : List Task) → IsFlat f → part < length f.parts → Some w ≡ word_of (slice_get f.parts part) → n ≡ length tasks → new ≡ page ++ line_text (line n name (leaf_word w)) → new ++ pending p f 0 tasks ≡ page ++ (tree_text p (length tasks) name (common_at f part) ++ pending p f 0 tasks)
@@ -216,6 +219,17 @@ long_push (t ∷ ts) task = ap suc (long_push ts task)
 
 zero_plus : (k : ℕ) → 0 + k ≡ k
 zero_plus k = omega arith
+
+pub one_more : (tasks more : List Task) (task : Task) → more ≡ tasks ++ task ∷ [] → length more ≤ length tasks + 1
+one_more tasks more task is = omega (arith, ap (λ (z : List Task). length z) is ∙ long_push tasks task)
+
+-- with each task less is to be done
+pub walk_falls : (p : Pair) (f : Flat) (page new whole : List ℕ) (all tasks left : List Task) (task : Task) → all ≡ tasks ++ task ∷ [] → new ++ pending p f 0 left ≡ whole → 2 * length page + length left ≤ 2 * length new + length tasks → 2 * (length whole - length new) + length left < 2 * (length whole - length page) + length all
+walk_falls p f page new whole all tasks left task popped writes falls =
+    let long = length-append new (pending p f 0 left) in
+    let total = ap (λ (z : List ℕ). length z) writes in
+    let more = ap (λ (z : List Task). length z) popped ∙ long_push tasks task in
+    omega (arith, long, total, more, falls)
 
 -- a child is written, and the node goes on
 pub child_step : (p : Pair) (f : Flat) (part dot next child : ℕ) (name page new : List ℕ) (tasks pushed left : List Task) → next ≡ dot + 1 → pushed ≡ tasks ++ task_at part next ∷ [] → ((depth : ℕ) → rest_text p depth dot (common_at f part) ≡ tree_text p depth name (common_at f child) ++ rest_text p depth (dot + 1) (common_at f part)) → new ++ pending p f 0 left ≡ page ++ (tree_text p (length pushed) name (common_at f child) ++ pending p f 0 pushed) → new ++ pending p f 0 left ≡ page ++ (rest_text p (suc (length tasks)) dot (common_at f part) ++ pending p f 0 tasks)

@@ -1,4 +1,4 @@
-ghost use Rattle.std.specs.Prelude.{◌≡◌, ◌<◌, ◌+◌, ◌∷◌, ◌++◌, [], ℕ, suc, true, codes, decimal, length, encode_utf8_all, slice_get, None, Some, IfOk, OnOk, MatchOption};
+ghost use Rattle.std.specs.Prelude.{◌≡◌, ◌<◌, ◌≤◌, ◌+◌, ◌*◌, ◌∷◌, ◌++◌, [], ℕ, suc, true, codes, decimal, length, encode_utf8_all, slice_get, None, Some, IfOk, OnOk, MatchOption};
 ghost use Rattle.std.specs.Str.{all_scalars, chars};
 ghost use Rattle.xs_sheet.specs.declared.sheet.Sheet.{Sheet as AnySheet};
 ghost use Rattle.xs_gram.specs.Common.{Common, word, made, TreeFits};
@@ -11,7 +11,7 @@ ghost use Rattle.xs_outline.specs.Shapes.{HasSlotNames};
 ghost use Rattle.xs_outline.specs.Walk.{AreOpen, AreOrders, CanWrite, IsNode, pending, rest_text, task_at, tree_text};
 
 use crate::order::{Slots, orders};
-use crate::page::{push_decimal, push_quoted, push_str};
+use crate::page::{push_decimal, push_quoted};
 use std::alloc::Global;
 use xs_class::{Bytes, Memory, Sym, Text};
 use xs_pair::Two;
@@ -39,7 +39,7 @@ fn push_head(page: &mut Text, depth: usize, name: &str) -> Result<(), Memory>
 {
     push_decimal(page, depth as u64)?;
     page.push(' ')?;
-    push_str(page, name)?;
+    page.push_str(name)?;
     page.push(' ')
 }
 
@@ -95,7 +95,8 @@ fn push_leaf_part(
     requires part { child.part < length tree.now.parts }
     requires word { Some word.now ≡ word_of (slice_get tree.now.parts child.part) }
     requires can { CanWrite two.now (common_at tree.now child.part) }
-    ensures { OnOk result (page.new ++ pending two.now tree.now 0 tasks.now ≡ page.old ++ (tree_text two.now (length tasks.now) (chars child.entry.name.now) (common_at tree.now child.entry.part) ++ pending two.now tree.now 0 tasks.now)) }
+    ensures longer { OnOk result (length page.old < length page.new) }
+    ensures writes { OnOk result (page.new ++ pending two.now tree.now 0 tasks.now ≡ page.old ++ (tree_text two.now (length tasks.now) (chars child.entry.name.now) (common_at tree.now child.entry.part) ++ pending two.now tree.now 0 tasks.now)) }
 {
     push_leaf(page, tasks.len(), child.name, word)
 }
@@ -113,6 +114,8 @@ fn push_node_part(
     requires node { None ≡ word_of (slice_get tree.now.parts child.part) }
     requires can { CanWrite two.now (common_at tree.now child.part) }
     requires inside { AreOpen two.now tree.now tasks.old.items }
+    ensures longer { OnOk result (length page.old < length page.new) }
+    ensures fewer { OnOk result (length tasks.new.items ≤ length tasks.old.items + 1) }
     ensures inside { OnOk result (AreOpen two.now tree.now tasks.new.items) }
     ensures writes { OnOk result (page.new ++ pending two.now tree.now 0 tasks.new.items ≡ page.old ++ (tree_text two.now (length tasks.old.items) (chars child.entry.name.now) (common_at tree.now child.entry.part) ++ pending two.now tree.now 0 tasks.old.items)) }
 {
@@ -133,6 +136,8 @@ fn push_part(
     requires part { child.part < length tree.now.parts }
     requires can { CanWrite two.now (common_at tree.now child.part) }
     requires inside { AreOpen two.now tree.now tasks.old.items }
+    ensures longer { OnOk result (length page.old < length page.new) }
+    ensures fewer { OnOk result (length tasks.new.items ≤ length tasks.old.items + 1) }
     ensures inside { OnOk result (AreOpen two.now tree.now tasks.new.items) }
     ensures writes { OnOk result (page.new ++ pending two.now tree.now 0 tasks.new.items ≡ page.old ++ (tree_text two.now (length tasks.old.items) (chars child.entry.name.now) (common_at tree.now child.entry.part) ++ pending two.now tree.now 0 tasks.old.items)) }
 {
@@ -192,6 +197,7 @@ fn perform(
     requires part { task.part < length tree.now.parts }
     requires node { IsNode two.now (common_at tree.now task.part) }
     requires inside { AreOpen two.now tree.now tasks.old.items }
+    ensures falls { OnOk result (2 * length page.old + length tasks.new.items ≤ 2 * length page.new + length tasks.old.items) }
     ensures inside { OnOk result (AreOpen two.now tree.now tasks.new.items) }
     ensures writes { OnOk result (page.new ++ pending two.now tree.now 0 tasks.new.items ≡ page.old ++ (rest_text two.now (suc (length tasks.old.items)) task.dot (common_at tree.now task.part) ++ pending two.now tree.now 0 tasks.old.items)) }
 {
@@ -219,13 +225,10 @@ fn write(alloc: Global, two: &Two, tree: &Tree, page: &mut Text) -> Result<(), M
         count: 0,
     };
     push_part(two, tree, root, &mut tasks, page)?;
-    'tasks: for _ in 0..u64::MAX {
-        let Some(task) = tasks.pop() else {
-            return Ok(());
-        };
+    'tasks: while let Some(task) = tasks.pop() {
         perform(two, tree, &orders, task, &mut tasks, page)?;
     }
-    Err(Memory)
+    Ok(())
 }
 
 /// The outline of a tree: children in ascending order of the bytes of their names, every line

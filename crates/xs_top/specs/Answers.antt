@@ -1,5 +1,5 @@
 -- What is answered to the bytes of a document.
-use Rattle.std.specs.Prelude.{◌≡◌, ℕ, List, length}
+use Rattle.std.specs.Prelude.{◌≡◌, ℕ, List, length, encode_utf8_all}
 use Rattle.xs_class.specs.declared.side.Side.{Side}
 use Rattle.xs_class.specs.declared.side.Side.TheVariants.{Text, Xml}
 use Rattle.xs_chars.specs.declared.form.Form.{Form}
@@ -10,6 +10,7 @@ use Rattle.xs_gram.specs.Languages.{Derives, HasTree}
 use Rattle.xs_tree.specs.Counts.{capped_count}
 use Rattle.xs_leiden.specs.Made.{made_text}
 use Rattle.xs_pair.specs.Grammars.{Pair, grammar_of}
+use Rattle.xs_outline.specs.Order.{outline_of}
 use Rattle.xs_turn.specs.Turned.{IsForeign}
 use Rattle.xs_talk.specs.Derivations.{IsListing}
 use Rattle.xs_talk.specs.declared.outcome.Outcome.{Outcome}
@@ -46,6 +47,14 @@ pub record IsListingOf (p : Pair) (max : ℕ) (bytes answer : List ℕ) : Type 0
   pub word : List ℕ
   pub document : IsDocument Text AsIs p.names bytes word
   pub is : IsListing p word max answer
+
+-- the document has a derivation, and the answer is the outline of its tree
+pub record IsOutlined (p : Pair) (from : Side) (form : Form) (bytes answer : List ℕ) : Type 0 where
+  pub word : List ℕ
+  pub document : IsDocument from form p.names bytes word
+  pub derivation : Derivation
+  pub derives : Derives (grammar_of p from) word derivation
+  pub is : answer ≡ encode_utf8_all (outline_of p (strip (grammar_of p from) derivation))
 
 -- the document has no derivation, and its first `viable` symbols are viable
 pub record IsForeignDocument (p : Pair) (side : Side) (form : Form) (bytes : List ℕ) (viable : ℕ) : Type 0 where

@@ -12,6 +12,7 @@ ghost use Rattle.xs_top.specs.Stops.{StopsBy};
 use crate::asking::Job;
 use crate::checked::checked;
 use crate::listed::listed;
+use crate::outlined::outlined;
 use crate::stop::Stop;
 use crate::turned::turned_into;
 use std::alloc::Global;
@@ -119,6 +120,24 @@ fn make<S: Source>(
     Ok(line)
 }
 
+/// The outline of the tree of the input, once the sheet is accepted.
+fn to_tree<S: Source>(
+    alloc: Global,
+    two: &Two,
+    from: Side,
+    form: Form,
+    input: &mut S,
+) -> Result<Bytes, Stop>
+    requires pair { IsPair two.now }
+    requires sound { IsSoundPair two.now }
+    ensures answer { IfOk result (IsAnswer two.now (input_of S.left S.faults input.old input.new) (J.ToTree from form)) }
+    ensures stop { IfErr result (StopsBy (IsUndone two.now (input_of S.left S.faults input.old input.new) (J.ToTree from form))) }
+{
+    checked(alloc, two)?;
+    let bytes = taken(alloc, input)?;
+    outlined(alloc, two, from, form, bytes.as_slice())
+}
+
 /// The answer of a job by the two grammars of a sheet.
 pub fn answer_of<S: Source>(
     alloc: Global,
@@ -138,5 +157,6 @@ pub fn answer_of<S: Source>(
         Job::Turn { from, to, form } => turn(alloc, two, from, to, form, input),
         Job::Trees { max } => list(alloc, two, max, input),
         Job::Make { seed, lines } => make(alloc, two, seed, lines, input),
+        Job::ToTree { from, form } => to_tree(alloc, two, from, form, input),
     }
 }

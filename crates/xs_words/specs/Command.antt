@@ -3,6 +3,8 @@ use Rattle.std.specs.Prelude.{ℕ, List, [], ◌∷◌, None, Some, codes, ◌&&
 use Rattle.std.specs.declared.option.Option.{Option}
 use Rattle.std.specs.Option.{option_map}
 use Rattle.std.specs.Str.{bytes_eq}
+use Rattle.xs_class.specs.declared.side.Side.{Side}
+use Rattle.xs_class.specs.declared.side.Side.TheVariants.{Text, Xml}
 use Rattle.xs_chars.specs.declared.form.Form.{Form}
 use Rattle.xs_chars.specs.declared.form.Form.TheVariants.{AsIs, Nfc, Nfd}
 use Rattle.xs_words.specs.Number.{number_within}
@@ -12,7 +14,7 @@ pub data Sheet : Type 0 where
   leiden : Sheet
   file : List ℕ → Sheet
 
--- a command, with its sheet, its form and its numbers: a greatest number of trees, a seed and a number of lines
+-- a command, with its sheet, its side, its form and its numbers: a greatest number of trees, a seed and a number of lines
 pub data Command : Type 0 where
   check : Sheet → Command
   to_xml : Sheet → Form → Command
@@ -22,12 +24,16 @@ pub data Command : Type 0 where
   trees : Sheet → ℕ → Command
   print_sheet : Command
   make : ℕ → ℕ → Command
+  to_tree : Sheet → Side → Form → Command
 
 abbrev pub sheet_of : List ℕ → Sheet
 sheet_of word = if bytes_eq word (codes "@leiden") then leiden else file word
 
 abbrev pub form_of : List ℕ → Option Form
 form_of word = if bytes_eq word (codes "asis") then Some AsIs else (if bytes_eq word (codes "nfc") then Some Nfc else (if bytes_eq word (codes "nfd") then Some Nfd else None))
+
+abbrev pub side_of : List ℕ → Option Side
+side_of word = if bytes_eq word (codes "text") then Some Text else (if bytes_eq word (codes "xml") then Some Xml else None)
 
 -- check SHEET, to-xml SHEET, to-text SHEET
 abbrev pub command_of_two : List ℕ → List ℕ → Option Command
@@ -43,13 +49,18 @@ make_of None lines = None
 make_of (Some seed) None = None
 make_of (Some seed) (Some lines) = Some (make seed lines)
 
--- to-xml SHEET FORM, round SHEET SIDE, trees SHEET MAX, make SEED LINES
-abbrev pub command_of_three : List ℕ → List ℕ → List ℕ → Option Command
-command_of_three verb first second = if bytes_eq verb (codes "to-xml") then option_map (to_xml (sheet_of first)) (form_of second) else (if bytes_eq verb (codes "round") then round_of first second else (if bytes_eq verb (codes "trees") then option_map (trees (sheet_of first)) (number_within 1 1000 second) else (if bytes_eq verb (codes "make") then make_of (number_within 0 2147483647 first) (number_within 1 2000 second) else None)))
+-- to-tree SHEET text, to-tree SHEET xml
+abbrev pub to_tree_of : List ℕ → Option Side → Option Command
+to_tree_of sheet None = None
+to_tree_of sheet (Some side) = Some (to_tree (sheet_of sheet) side AsIs)
 
--- round SHEET text FORM
+-- to-xml SHEET FORM, round SHEET SIDE, trees SHEET MAX, make SEED LINES, to-tree SHEET SIDE
+abbrev pub command_of_three : List ℕ → List ℕ → List ℕ → Option Command
+command_of_three verb first second = if bytes_eq verb (codes "to-xml") then option_map (to_xml (sheet_of first)) (form_of second) else (if bytes_eq verb (codes "round") then round_of first second else (if bytes_eq verb (codes "trees") then option_map (trees (sheet_of first)) (number_within 1 1000 second) else (if bytes_eq verb (codes "make") then make_of (number_within 0 2147483647 first) (number_within 1 2000 second) else (if bytes_eq verb (codes "to-tree") then to_tree_of first (side_of second) else None))))
+
+-- round SHEET text FORM, to-tree SHEET text FORM
 abbrev pub command_of_four : List ℕ → List ℕ → List ℕ → List ℕ → Option Command
-command_of_four verb sheet side form = if bytes_eq verb (codes "round") && bytes_eq side (codes "text") then option_map (round_text (sheet_of sheet)) (form_of form) else None
+command_of_four verb sheet side form = if bytes_eq verb (codes "round") && bytes_eq side (codes "text") then option_map (round_text (sheet_of sheet)) (form_of form) else (if bytes_eq verb (codes "to-tree") && bytes_eq side (codes "text") then option_map (to_tree (sheet_of sheet) Text) (form_of form) else None)
 
 -- the command that the words are, or none; a text is taken as it is where no form is named
 abbrev pub command_of : List (List ℕ) → Option Command

@@ -1,4 +1,5 @@
 use xs_chars::Form;
+use xs_class::Side;
 
 /// The sheet that a word names: `@leiden` names the one that the program includes, and any other
 /// word a file.
@@ -12,20 +13,45 @@ pub enum SheetName<'w> {
 #[derive(Clone, Copy)]
 pub enum Command<'w> {
     /// `check SHEET`: whether the sheet is accepted.
-    Check { sheet: SheetName<'w> },
+    Check {
+        sheet: SheetName<'w>,
+    },
     /// `to-xml SHEET` or `to-xml SHEET FORM`: the text of the input as XML.
-    ToXml { sheet: SheetName<'w>, form: Form },
+    ToXml {
+        sheet: SheetName<'w>,
+        form: Form,
+    },
     /// `to-text SHEET`: the XML of the input as text.
-    ToText { sheet: SheetName<'w> },
+    ToText {
+        sheet: SheetName<'w>,
+    },
     /// `round SHEET text` or `round SHEET text FORM`: the text of the input, to XML and back.
-    RoundText { sheet: SheetName<'w>, form: Form },
+    RoundText {
+        sheet: SheetName<'w>,
+        form: Form,
+    },
     /// `round SHEET xml`: the XML of the input, to text and back.
-    RoundXml { sheet: SheetName<'w> },
+    RoundXml {
+        sheet: SheetName<'w>,
+    },
     /// `trees SHEET MAX`: at most `max` derivations of the text of the input, 1 to 1,000.
-    Trees { sheet: SheetName<'w>, max: u32 },
+    Trees {
+        sheet: SheetName<'w>,
+        max: u32,
+    },
     /// `sheet`: the sheet that the program includes.
     PrintSheet,
     /// `make SEED LINES`: a text of 1 to 2,000 lines that is made from a seed of at most
     /// 2,147,483,647.
-    Make { seed: u32, lines: u32 },
+    Make {
+        seed: u32,
+        lines: u32,
+    },
+    /// `to-tree SHEET text`, `to-tree SHEET text FORM` or `to-tree SHEET xml`: the outline of the
+    /// tree of the input, a text in this form, or XML as it is.
+    ToTree {
+        sheet: SheetName<'w>,
+        side: Side,
+        form: Form,
+    },
 }

@@ -1,11 +1,12 @@
 ghost use Rattle.std.specs.Prelude.{◌≡◌, ◌≤◌, IfSome, map, string_bytes};
 ghost use Rattle.std.specs.Option.{option_map};
-ghost use Rattle.xs_words.specs.Command.{command_of as meant_by, command_of_two, command_of_three, command_of_four, form_of, sheet_of, round_of, make_of};
+ghost use Rattle.xs_words.specs.Command.{command_of as meant_by, command_of_two, command_of_three, command_of_four, form_of, side_of, sheet_of, round_of, make_of};
 ghost use Rattle.xs_words.specs.Meaning.{meant, sheet_meant, HasLines};
 
 use crate::number::number;
 use crate::{Command, SheetName};
 use xs_chars::Form;
+use xs_class::Side;
 
 const MOST_TREES: u32 = 1000;
 
@@ -32,6 +33,17 @@ fn form_named(word: &str) -> Option<Form>
         "asis" => Some(Form::AsIs),
         "nfc" => Some(Form::Nfc),
         "nfd" => Some(Form::Nfd),
+        _ => None,
+    }
+}
+
+/// The side that the word names.
+fn side_named(word: &str) -> Option<Side>
+    ensures { result ≡ side_of word.now }
+{
+    match word {
+        "text" => Some(Side::Text),
+        "xml" => Some(Side::Xml),
         _ => None,
     }
 }
@@ -102,6 +114,15 @@ fn of_three<'w>(verb: &str, first: &'w str, second: &str) -> Option<Command<'w>>
             number(first, 0, GREATEST_SEED),
             number(second, 1, MOST_LINES),
         ),
+        "to-tree" => {
+            let side = side_named(second)?;
+            let sheet = sheet_name(first);
+            Some(Command::ToTree {
+                sheet,
+                side,
+                form: Form::AsIs,
+            })
+        }
         _ => None,
     }
 }
@@ -116,14 +137,23 @@ fn of_four<'w>(verb: &str, sheet: &'w str, side: &str, form: &str) -> Option<Com
         let sheet = sheet_name(sheet);
         return Some(Command::RoundText { sheet, form });
     }
+    if verb == "to-tree" && side == "text" {
+        let form = form_named(form)?;
+        let sheet = sheet_name(sheet);
+        return Some(Command::ToTree {
+            sheet,
+            side: Side::Text,
+            form,
+        });
+    }
     None
 }
 
 /// The command that the words are, or None where they are none.
 ///
 /// The forms are `check SHEET`, `to-xml SHEET`, `to-xml SHEET FORM`, `to-text SHEET`,
-/// `round SHEET text`, `round SHEET text FORM`, `round SHEET xml`, `trees SHEET MAX`, `sheet` and
-/// `make SEED LINES`. SHEET is `@leiden` or a file's name, and FORM `asis`, which is meant where it
+/// `round SHEET text`, `round SHEET text FORM`, `round SHEET xml`, `trees SHEET MAX`, `sheet`,
+/// `make SEED LINES`, `to-tree SHEET text`, `to-tree SHEET text FORM` and `to-tree SHEET xml`. SHEET is `@leiden` or a file's name, and FORM `asis`, which is meant where it
 /// is left out, `nfc` or `nfd`. MAX is 1 to 1,000, SEED 0 to 2,147,483,647 and LINES 1 to 2,000,
 /// each in decimal digits without a sign, and without a leading zero but for `0` itself. Takes no
 /// memory; time is linear in the words.

@@ -2,7 +2,7 @@ use Rattle.std.proofs.Common.{refl}
 use Rattle.std.specs.Str.{chars}
 use Rattle.xs_tree.specs.Flat.{common_of}
 use Rattle.xs_outline.specs.Order.{outline_of}
-use Rattle.xs_outline.proofs.Walking.{popped_task, root_step, task_step}
+use Rattle.xs_outline.proofs.Walking.{popped_task, root_step, task_step, walk_falls}
 use Rattle.xs_outline.specs.Shapes.{root_name}
 use Rattle.xs_outline.proofs.writer.write.Goals as goal
 
@@ -27,3 +27,8 @@ tasks-preserved c = record {
   inside = c.in_ok-perform.ensures.inside;
   writes = task_step c.args.two.now c.args.tree.now c.tasks.page c.perform.new.page (outline_of c.args.two.now (common_of c.args.tree.now)) c.tasks.tasks.items c.pop.new.self.items c.perform.new.tasks.items c.in-Some.task c.in-Some.ensures.items c.tasks.invariant.writes c.in_ok-perform.ensures.writes;
 }
+
+pub tasks-smaller : goal.tasks-smaller
+tasks-smaller c =
+    let writes = task_step c.args.two.now c.args.tree.now c.tasks.page c.perform.new.page (outline_of c.args.two.now (common_of c.args.tree.now)) c.tasks.tasks.items c.pop.new.self.items c.perform.new.tasks.items c.in-Some.task c.in-Some.ensures.items c.tasks.invariant.writes c.in_ok-perform.ensures.writes in
+    walk_falls c.args.two.now c.args.tree.now c.tasks.page c.perform.new.page (outline_of c.args.two.now (common_of c.args.tree.now)) c.tasks.tasks.items c.pop.new.self.items c.perform.new.tasks.items c.in-Some.task c.in-Some.ensures.items writes c.in_ok-perform.ensures.falls
