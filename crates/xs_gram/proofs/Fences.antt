@@ -107,3 +107,30 @@ has_right (f ∷ fs) l e = by_case (f.0 == l) refl (λ later. has_right fs l lat
 
 pub some_right : (fs : List (ℕ × ℕ)) (l : ℕ) → is_left fs l ≡ true → (r : ℕ) × IsFence fs l r
 some_right fs l e = let h = has_right fs l e in (h.0, of_among fs l h.0 h.1)
+
+-- and so has a right one
+has_left : (fs : List (ℕ × ℕ)) (r : ℕ) → is_right fs r ≡ true → (l : ℕ) × IsAmong fs l r
+has_left [] r e = absurd (false_true {b = false} e refl)
+has_left (f ∷ fs) r e = by_case (f.1 == r) refl (λ later. has_left fs r later)
+  where
+    by_case : (b : Bool) → (f.1 == r) ≡ b → (is_right fs r ≡ true → (l : ℕ) × IsAmong fs l r) → (l : ℕ) × IsAmong (f ∷ fs) l r
+    by_case true is more = (f.0, inl (refl, eqb-true f.1 r is))
+    by_case false is more = let k = more (rw is at e) in (k.0, inr k.1)
+
+pub some_left : (fs : List (ℕ × ℕ)) (r : ℕ) → is_right fs r ≡ true → (l : ℕ) × IsFence fs l r
+some_left fs r e = let h = has_left fs r e in (h.0, of_among fs h.0 r h.1)
+
+-- so a left one is no right one, and a right one no left one
+pub left_not_right : {fs : List (ℕ × ℕ)} {l r : ℕ} → IsDistinct (fence_symbols fs) → IsFence fs l r → is_right fs l ≡ false
+left_not_right {fs} {l} once f = by_case (is_right fs l) refl
+  where
+    by_case : (b : Bool) → is_right fs l ≡ b → is_right fs l ≡ false
+    by_case true is = let h = some_left fs l is in absurd (sides_apart once f h.1 refl)
+    by_case false is = is
+
+pub right_not_left : {fs : List (ℕ × ℕ)} {l r : ℕ} → IsDistinct (fence_symbols fs) → IsFence fs l r → is_left fs r ≡ false
+right_not_left {fs} {r = r} once f = by_case (is_left fs r) refl
+  where
+    by_case : (b : Bool) → is_left fs r ≡ b → is_left fs r ≡ false
+    by_case true is = let h = some_right fs r is in absurd (sides_apart once h.1 f refl)
+    by_case false is = is

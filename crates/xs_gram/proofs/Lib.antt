@@ -9,3 +9,6 @@ pub mod Ready
 pub mod Each
 pub mod Fences
 pub mod Levels
+pub mod Spreading
+pub mod Partners
+pub mod Unfenced

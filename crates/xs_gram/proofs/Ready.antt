@@ -11,8 +11,9 @@ use Rattle.xs_gram.specs.Fences.{fence_symbols, spread_items, IsLevel, level_non
 use Rattle.xs_gram.specs.Laws.{IsDistinct, IsNumbered, HasNumberedSlots}
 use Rattle.xs_gram.specs.Sound.{IsInRange, HasAutomata, IsProper}
 use Rattle.xs_gram.specs.Places.{positions_of, insides, rule_places, places_from}
-use Rattle.xs_gram.specs.Building.{EachOf, NamesAreThere, items_count, IsRuleAmong, IsFit, CanBuild, HasProperFences, IsOf, skip_part, TermHasAutomaton, SkipHasAutomaton, IsReady}
+use Rattle.xs_gram.specs.Building.{EachOf, NamesAreThere, fixed_symbols, items_count, symbols_count, IsRuleAmong, IsFit, CanBuild, HasProperFences, IsOf, skip_part, TermHasAutomaton, SkipHasAutomaton, IsReady}
 use Rattle.xs_gram.proofs.Numbers.{length-insides}
+use Rattle.xs_gram.proofs.Spreading.{spread_short}
 
 long_map : {A B : Type 0} (f : A → B) (xs : List A) → length (map f xs) ≡ length xs
 long_map f [] = refl
@@ -27,6 +28,14 @@ items_within [] (suc p) = omega arith
 items_within (r ∷ rs) zero = omega arith
 items_within (r ∷ rs) (suc p) =
     let rest = items_within rs p in
+    omega arith
+
+symbols_within : (rs : List RulePart) (p : ℕ) → fixed_symbols (slice_index_or rs p no_rule).items ≤ symbols_count rs
+symbols_within [] zero = omega arith
+symbols_within [] (suc p) = omega arith
+symbols_within (r ∷ rs) zero = omega arith
+symbols_within (r ∷ rs) (suc p) =
+    let rest = symbols_within rs p in
     omega arith
 
 -- at most 513 places for an item, and one for a rule's end
@@ -124,5 +133,6 @@ ready parts g can of term_automata skip_automata =
         proper = with_fences parts g can.fences of;
       };
       names = names;
+      short = λ p. omega (arith, spread_short g.fences (items g p), items_within g.rules p, symbols_within g.rules p, many_items, ap symbols_count of.rules, can.items, can.symbols);
       few = omega (arith, places_small g 0 g.rules small, many_rules, many_items, can.rules, can.items);
     }

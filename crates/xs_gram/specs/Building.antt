@@ -12,7 +12,7 @@ use Rattle.xs_gram.specs.declared.parts.GramParts.{GramParts}
 use Rattle.xs_gram.specs.declared.places.Place.{Place}
 use Rattle.xs_gram.specs.Grammar.{Grammar, items, slots}
 use Rattle.xs_gram.specs.Laws.{IsDistinct, IsNumbered}
-use Rattle.xs_gram.specs.Fences.{fence_symbols, spread_items, IsLevel, AvoidsFences}
+use Rattle.xs_gram.specs.Fences.{fence_symbols, spread_items, spread, IsLevel, AvoidsFences}
 use Rattle.xs_gram.specs.Sound.{IsAutomaton, IsBuilt}
 use Rattle.xs_gram.specs.Places.{at_dot, all_places}
 
@@ -127,3 +127,4 @@ pub record IsReady (g : Grammar) : Type 0 where
   pub built : IsBuilt g
   pub names : EachOf (λ r. EachOf (NamesAreThere g) r.items) g.rules
   pub few : length (all_places g) < 2 ^ 32
+  pub short : (p : ℕ) → length (spread g p) < 2 ^ 32

@@ -9,5 +9,6 @@ pub mod Sound
 pub mod Loose
 pub mod Suspects
 pub mod Fenced
+pub mod Spreading
 pub mod Places
 pub mod Building

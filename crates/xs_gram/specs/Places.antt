@@ -1,11 +1,14 @@
 -- The places of a grammar, in the order of their numbers.
 use Rattle.std.specs.Prelude.{◌≡◌, ℕ, zero, suc, ◌+◌, ◌<◌, ◌≤◌, ◌^◌, List, [], ◌∷◌, ◌++◌, length, None, Some, slice_get, slice_index_or}
+use Rattle.std.specs.declared.option.Option.{Option}
 use Rattle.xs_gram.specs.declared.parts.GItem.{GItem}
 use Rattle.xs_gram.specs.declared.parts.GItem.TheVariants.{Fixed, Term, Non, Skip}
 use Rattle.xs_gram.specs.declared.parts.RulePart.{RulePart}
 use Rattle.xs_gram.specs.declared.places.Place.{Place}
 use Rattle.xs_gram.specs.Grammar.{Grammar, term_of, skip_of, items, ItemAt}
-use Rattle.xs_gram.specs.Sound.{IsInRange, IsSmall}
+use Rattle.xs_gram.specs.Fences.{spread}
+use Rattle.xs_gram.specs.Spreading.{AreSpreads, ArePartners}
+use Rattle.xs_gram.specs.Sound.{IsInRange, IsSmall, IsProper}
 
 -- before item n of rule p, and there inside a terminal or an ignorable at position k
 abbrev pub at_dot : ℕ → ℕ → Place
@@ -49,9 +52,9 @@ pub record IsPlace (g : Grammar) (c : Place) : Type 0 where
 abbrev pub start_at : List (List ℕ) → ℕ → ℕ → ℕ
 start_at starts p n = slice_index_or (slice_index_or starts p []) n 0
 
--- What a grammar keeps beside its parts: that numbers are in range, the list of its places, and
--- where in it those of each item begin.
-pub record IsKept (g : Grammar) (places : List Place) (starts : List (List ℕ)) : Type 0 where
+-- What a grammar keeps beside its parts: that numbers are in range and its fences proper, the list of
+-- its places, where in it those of each item begin, its spread items and the partners of left fences.
+pub record IsKept (g : Grammar) (places : List Place) (starts : List (List ℕ)) (spreads : List (List GItem)) (partners : List (List (Option ℕ))) : Type 0 where
   pub range : IsInRange g
   pub small : IsSmall g
   pub listed : places ≡ all_places g
@@ -59,3 +62,7 @@ pub record IsKept (g : Grammar) (places : List Place) (starts : List (List ℕ))
   pub rows : length starts ≡ length g.rules
   pub long : (p : ℕ) → p < length g.rules → length (slice_index_or starts p []) ≡ suc (length (items g p))
   pub found : (p n : ℕ) → p < length g.rules → n ≤ length (items g p) → slice_get places (start_at starts p n) ≡ Some (at_dot p n)
+  pub proper : IsProper g
+  pub short : (p : ℕ) → length (spread g p) < 2 ^ 32
+  pub spread_out : AreSpreads g (length g.rules) spreads
+  pub partnered : ArePartners g (length g.rules) partners

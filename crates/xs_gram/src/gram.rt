@@ -1,11 +1,13 @@
-ghost use Rattle.std.specs.Prelude.{◌≡◌, ◌<◌, ◌≤◌, ◌+◌, ◌^◌, ℕ, Some, None, length, slice_get, IfOk};
+ghost use Rattle.std.specs.Prelude.{◌≡◌, ◌↔◌, IfSome, ◌<◌, ◌≤◌, ◌+◌, ◌^◌, ℕ, Some, None, length, slice_get, IfOk};
 ghost use Rattle.xs_gram.specs.Grammar.{rule_of, term_of, skip_of, items, normal_word};
 ghost use Rattle.xs_gram.specs.Building.{CanBuild, IsOf};
-ghost use Rattle.xs_gram.specs.Sound.{IsInRange, IsSmall, IsBuilt};
+ghost use Rattle.xs_gram.specs.Fences.{spread, IsPartner, IsLeftFence};
+ghost use Rattle.xs_gram.specs.Spreading.{partners};
+ghost use Rattle.xs_gram.specs.Sound.{IsInRange, IsSmall, IsProper, IsBuilt};
 ghost use Rattle.xs_gram.specs.Places.{all_places, at_dot, IsPlace};
 
 use crate::body::Body;
-use crate::{GItem, GramParts, Ignorable, Place, RulePart, Terminal};
+use crate::{GItem, GItems, GramParts, Ignorable, Partners, Place, RulePart, Terminal};
 use std::alloc::Global;
 use std::marker::Model;
 use xs_class::{Memory, Sym, Word};
@@ -26,6 +28,8 @@ pub struct Gram {
     fences: Vec<(Sym, Sym)>,
     places: Vec<Place>,
     starts: Vec<Numbers>,
+    spreads: Vec<GItems>,
+    partners: Vec<Partners>,
 }
 
 impl Model for Gram {
@@ -40,7 +44,7 @@ impl Model for Gram {
 
     ghost view = { λ g. record { start = g.start; nons = g.nons; rules = g.rules.items; terms = g.terms.items; skips = g.skips.items; fences = g.fences.items } };
 
-    ghost invariant = { λ g. IsKept (record { start = g.start; nons = g.nons; rules = g.rules.items; terms = g.terms.items; skips = g.skips.items; fences = g.fences.items }) g.places.items g.starts.items };
+    ghost invariant = { λ g. IsKept (record { start = g.start; nons = g.nons; rules = g.rules.items; terms = g.terms.items; skips = g.skips.items; fences = g.fences.items }) g.places.items g.starts.items g.spreads.items g.partners.items };
 }
 
 impl Gram {
@@ -54,6 +58,8 @@ impl Gram {
         let body = Body::of_parts(alloc, parts)?;
         let mut places = Vec::new(alloc);
         let starts = body.push_rules(alloc, &mut places)?;
+        let spreads = body.spreads(alloc)?;
+        let partners = body.partners(alloc, &spreads)?;
         Ok(Gram {
             start: body.start,
             nons: body.nons,
@@ -63,6 +69,8 @@ impl Gram {
             fences: body.fences,
             places,
             starts,
+            spreads,
+            partners,
         })
     }
 
@@ -148,6 +156,37 @@ impl Gram {
         ensures small { IsSmall self.now }
     {
         self.rules[rule as usize].items.as_slice()
+    }
+
+    /// The items of a rule in which each fixed word is split at fence symbols: each fence symbol is a
+    /// fixed word by itself, and the stretches between stay whole.
+    pub fn spread(&self, rule: u32) -> &[GItem]
+        requires { rule < length self.now.rules }
+        ensures items { result.now ≡ spread self.now rule }
+        ensures proper { IsProper self.now }
+        ensures short { length (spread self.now rule) < 2 ^ 32 }
+    {
+        self.spreads[rule as usize].as_slice()
+    }
+
+    /// The partners of a rule's spread items, as they are kept.
+    fn partners_of(&self, rule: u32) -> &[Option<u32>]
+        requires { rule < length self.now.rules }
+        ensures list { result.now ≡ partners self.now.fences 0 (spread self.now rule) }
+        ensures proper { IsProper self.now }
+    {
+        self.partners[rule as usize].as_slice()
+    }
+
+    /// The number of the right fence that closes a left fence of a rule's spread items, in constant
+    /// time, and `None` exactly where spread item `k` is no left fence.
+    pub fn partner(&self, rule: u32, k: u32) -> Option<u32>
+        requires rule { rule < length self.now.rules }
+        requires item { k < length (spread self.now rule) }
+        ensures some { IfSome result (IsPartner self.now.fences (spread self.now rule) k) }
+        ensures none { (result ≡ None) ↔ ¬ IsLeftFence self.now.fences (spread self.now rule) k }
+    {
+        self.partners_of(rule)[k as usize]
     }
 
     /// The number of places.

@@ -19,14 +19,15 @@ mod gram;
 mod laws;
 mod parts;
 mod places;
+mod spread;
 mod suspect;
 
 pub use components::Comps;
 pub use gram::Gram;
 pub use laws::{printed_has_tree, prints_normal};
 pub use parts::{
-    Fences, GItem, GItems, GramParts, Ignorable, Regexes, RulePart, Rules, SkipPart, Skips,
-    Terminal,
+    Fences, GItem, GItems, GramParts, Ignorable, Partners, Regexes, RulePart, Rules, SkipPart,
+    Skips, Terminal,
 };
 pub use places::Place;
 pub use suspect::Suspect;

@@ -14,6 +14,9 @@ pub enum GItem {
 /// The items of a rule, in order.
 pub type GItems = Listed<GItem>;
 
+/// For each spread item of a rule the number of the right fence that closes it, if it is a left one.
+pub type Partners = Listed<Option<u32>>;
+
 /// A rule: its nonterminal and its items.
 #[derive(Debug, Drop)]
 pub struct RulePart {

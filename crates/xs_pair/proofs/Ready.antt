@@ -11,9 +11,11 @@ use Rattle.xs_sheet.specs.declared.unit.Unit.TheVariants as V
 use Rattle.xs_gram.specs.declared.parts.SkipPart.{SkipPart}
 use Rattle.xs_gram.specs.declared.parts.GramParts.{GramParts}
 use Rattle.xs_gram.specs.Grammar.{slots}
-use Rattle.xs_gram.specs.Laws.{IsNumbered}
+use Rattle.xs_gram.specs.Laws.{IsDistinct, IsNumbered}
+use Rattle.xs_gram.specs.Fences.{fence_symbols, spread_items, IsLevel, AvoidsFences}
+use Rattle.xs_gram.proofs.Unfenced.{level_unfenced, avoids_unfenced}
 use Rattle.xs_gram.specs.Grammar.{Grammar}
-use Rattle.xs_gram.specs.Building.{EachOf, NamesThere, IsRuleAmong, IsFit, IsOf, CanBuild, items_count, symbols_count}
+use Rattle.xs_gram.specs.Building.{EachOf, NamesThere, IsRuleAmong, IsFit, IsOf, CanBuild, HasProperFences, items_count, symbols_count}
 use Rattle.xs_pair.specs.declared.ill.IllRule.TheVariants.{Undefined, NoStart, NameOnce, Kind}
 use Rattle.xs_pair.specs.declared.mark.Mark.{Mark}
 use Rattle.xs_pair.specs.declared.mark.Mark.TheVariants.{Opening, Attribute, AttributeEnd, Closing, Value, Content}
@@ -153,6 +155,19 @@ start_named s none = by_case (among_or_absent (names_of S.Production s.units) s.
     by_case (inl h) = firsts_have (names_of S.Production s.units) s.start h
     by_case (inr h) = absurd (none NoStart s.start_line (h, refl))
 
+each_of : {A : Type 0} (P : A → Type 0) (xs : List A) → ((x : A) → P x) → EachOf P xs
+each_of P [] h = tt
+each_of P (x ∷ xs) h = (h x, each_of P xs h)
+
+-- without fences the fences are proper
+unfenced : (parts : GramParts) → parts.fences ≡ [] → HasProperFences parts
+unfenced parts none = record {
+  once = subst (λ fs. IsDistinct (fence_symbols fs)) (sym none) tt;
+  each_term = subst (λ fs. EachOf (AvoidsFences fs) parts.terms) (sym none) (each_of (AvoidsFences []) parts.terms avoids_unfenced);
+  each_skip = subst (λ fs. EachOf (λ k. AvoidsFences fs k.regex) parts.skips) (sym none) (each_of (λ k. AvoidsFences [] k.regex) parts.skips (λ k. avoids_unfenced k.regex));
+  each_rule = subst (λ fs. EachOf (λ r. IsLevel fs (spread_items fs r.items)) parts.rules) (sym none) (each_of (λ r. IsLevel [] (spread_items [] r.items)) parts.rules (λ r. level_unfenced (spread_items [] r.items)));
+}
+
 pub can_build : (s : Sheet) (names : List (List ℕ)) (side : Side) (parts : GramParts) → ArePartsOf s names side parts → EachOf IsFit parts.terms → EachOf (λ k. IsFit k.regex) parts.skips → NoneFails (FailsAt s) → weight s.units < 65536 → CanBuild parts
 can_build s names side parts are terms skips none light =
     let us = s.units in
@@ -170,6 +185,7 @@ can_build s names side parts are terms skips none light =
       skips = omega (arith, k_is, names_short S.Ignorable us, short, light);
       items = rw are.rules (omega (arith, counts.0, light));
       symbols = rw are.rules (omega (arith, counts.1, light));
+      fences = unfenced parts are.fences;
     }
 
 -- the grammar of the parts of a side is the grammar of that side
@@ -180,4 +196,5 @@ gram_is s names side parts g are of = record {
   rules = of.rules ∙ are.rules;
   terms = subst (λ rs. AreTermsOf s.units rs) (sym of.terms) are.terms;
   skips = subst (λ ks. AreSkipsOf s.units ks) (sym of.skips) are.skips;
+  fences = of.fences ∙ are.fences;
 }

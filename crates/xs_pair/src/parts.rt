@@ -15,7 +15,7 @@ use crate::slots::slot_directory;
 use crate::{Directory, Mark, Rule};
 use std::alloc::Global;
 use xs_class::{ATTR_END, Memory, Names, Side, Sym, Text, Word, word_of};
-use xs_gram::{GItem, GItems, GramParts, Regexes, RulePart, Rules, SkipPart, Skips};
+use xs_gram::{Fences, GItem, GItems, GramParts, Regexes, RulePart, Rules, SkipPart, Skips};
 use xs_regex::{Regex, RegexFault, read_regex};
 use xs_sheet::{Item, Sheet, Unit};
 
@@ -267,6 +267,7 @@ impl Outline {
             rules: Rules::from_vec(rules),
             terms: Regexes::from_vec(terms),
             skips: Skips::from_vec(skips),
+            fences: Fences::new(alloc),
         })
     }
 }
