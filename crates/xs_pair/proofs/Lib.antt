@@ -17,3 +17,7 @@ pub mod Trees
 pub mod Alike
 pub mod Light
 pub mod MarksLight
+pub mod Balancing
+pub mod Apart
+pub mod Regexes
+pub mod FenceOrders

@@ -8,13 +8,13 @@ use Rattle.xs_class.specs.declared.memory.Memory.{Memory}
 use Rattle.std.proofs.lemmas.Bool.{cases_lt}
 use Rattle.xs_sheet.specs.declared.sheet.Sheet.{Sheet}
 use Rattle.xs_pair.specs.declared.ill.IllRule.{IllRule}
-use Rattle.xs_pair.specs.declared.ill.IllRule.TheVariants.{Twice, Undefined, NoStart, NameOnce, Kind, AttrTwice, RootShape, EmptyClass, NotChar, Normal, Unproductive, Loop}
+use Rattle.xs_pair.specs.declared.ill.IllRule.TheVariants.{Twice, Undefined, NoStart, NameOnce, Kind, AttrTwice, RootShape, EmptyClass, NotChar, Normal, Unproductive, Loop, FenceChar, FenceInside, FenceOpen}
 use Rattle.xs_pair.specs.declared.outline.Outline.{Outline}
 use Rattle.xs_pair.specs.Listing.{rules_of}
 use Rattle.xs_pair.specs.Verdict.{order, NoneBefore, NoneFails, IsFirstLine, FailsAt, FailsAmong, tables_of, tables_in, IsOutlineOf}
 
 rule_at : ℕ → IllRule
-rule_at n = if n == 0 then Twice else (if n == 1 then Undefined else (if n == 2 then NoStart else (if n == 3 then NameOnce else (if n == 4 then Kind else (if n == 5 then AttrTwice else (if n == 6 then RootShape else (if n == 7 then EmptyClass else (if n == 8 then NotChar else (if n == 9 then Normal else (if n == 10 then Unproductive else Loop))))))))))
+rule_at n = if n == 0 then Twice else (if n == 1 then Undefined else (if n == 2 then NoStart else (if n == 3 then NameOnce else (if n == 4 then Kind else (if n == 5 then AttrTwice else (if n == 6 then RootShape else (if n == 7 then EmptyClass else (if n == 8 then NotChar else (if n == 9 then Normal else (if n == 10 then Unproductive else (if n == 11 then Loop else (if n == 12 then FenceChar else (if n == 13 then FenceInside else FenceOpen)))))))))))))
 
 at_order : (rule : IllRule) → rule_at (order rule) ≡ rule
 unfolding rule_at
@@ -30,6 +30,9 @@ at_order NotChar = refl
 at_order Normal = refl
 at_order Unproductive = refl
 at_order Loop = refl
+at_order FenceChar = refl
+at_order FenceInside = refl
+at_order FenceOpen = refl
 
 same_order : (a b : IllRule) → order a ≡ order b → a ≡ b
 same_order a b e = sym (at_order a) ∙ ap rule_at e ∙ at_order b
@@ -59,6 +62,9 @@ none_fails s before NotChar line fails = fails
 none_fails s before Normal line fails = fails
 none_fails s before Unproductive line fails = fails
 none_fails s before Loop line fails = fails
+none_fails s before FenceChar line fails = fails
+none_fails s before FenceInside line fails = fails
+none_fails s before FenceOpen line fails = fails
 
 -- the first line of what fails at the same lines
 pub first_same : (A B : ℕ → Type 0) (o : Option ℕ) → ((line : ℕ) → A line → B line) → ((line : ℕ) → B line → A line) → IsFirstLine A o → IsFirstLine B o

@@ -1,8 +1,8 @@
 -- Names of units before a unit.
-use Rattle.std.proofs.Common.{◌≡◌, ◌∙◌, ◌<◌, ◌+◌, ap, sym, refl, subst, ℕ, suc, List, [], ◌∷◌, ◌++◌, length, map, take, drop, get_or, Some, Bool, true, false, cond, arith, length-append}
+use Rattle.std.proofs.Common.{◌≡◌, ◌∙◌, ◌<◌, ◌+◌, ap, sym, refl, subst, ℕ, List, [], ◌∷◌, ◌++◌, length, map, take, drop, get_or, Some, Bool, true, false, cond, arith, length-append}
 use Rattle.std.specs.Prelude.{filter, IsTrue, ◌↔◌, if◌then◌else◌}
 use Rattle.std.specs.declared.option.Option.{Option}
-use Rattle.std.proofs.lemmas.List.{take-append-drop, take_at, length-take-le}
+use Rattle.std.proofs.lemmas.List.{take-append-drop, take_at}
 use Rattle.xs_class.proofs.Lists.{take_next}
 use Rattle.xs_sheet.specs.declared.unit.Unit.{Unit}
 use Rattle.xs_sheet.specs.declared.unit.Unit.TheVariants as V

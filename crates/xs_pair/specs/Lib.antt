@@ -7,3 +7,5 @@ pub mod Verdict
 pub mod Grammars
 pub mod Directories
 pub mod Sound
+pub mod Fences
+pub mod Balance

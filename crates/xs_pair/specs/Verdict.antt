@@ -8,7 +8,7 @@ use Rattle.xs_class.specs.Ordered.{place_of}
 use Rattle.xs_pair.specs.declared.outline.Outline.{Outline}
 use Rattle.xs_pair.specs.declared.ill.Ill.{Ill}
 use Rattle.xs_pair.specs.declared.ill.IllRule.{IllRule}
-use Rattle.xs_pair.specs.declared.ill.IllRule.TheVariants.{Twice, Undefined, NoStart, NameOnce, Kind, AttrTwice, RootShape, EmptyClass, NotChar, Normal, Unproductive, Loop}
+use Rattle.xs_pair.specs.declared.ill.IllRule.TheVariants.{Twice, Undefined, NoStart, NameOnce, Kind, AttrTwice, RootShape, EmptyClass, NotChar, Normal, Unproductive, Loop, FenceChar, FenceInside, FenceOpen}
 use Rattle.xs_pair.specs.declared.fault.PairFault.{PairFault}
 use Rattle.xs_pair.specs.declared.fault.PairFault.TheVariants as F
 use Rattle.xs_pair.specs.declared.mark.Mark.{Mark}
@@ -43,6 +43,9 @@ IsIllMark NotChar t m = ⊥
 IsIllMark Normal t m = ⊥
 IsIllMark Unproductive t m = ⊥
 IsIllMark Loop t m = ⊥
+IsIllMark FenceChar t m = ⊥
+IsIllMark FenceInside t m = ⊥
+IsIllMark FenceOpen t m = ⊥
 
 -- a rule that speaks of productions fails in one
 abbrev pub FailsIn : IllRule → Tables → Rule → Type 0
@@ -58,6 +61,9 @@ FailsIn NotChar t r = ⊥
 FailsIn Normal t r = ⊥
 FailsIn Unproductive t r = ⊥
 FailsIn Loop t r = ⊥
+FailsIn FenceChar t r = ⊥
+FailsIn FenceInside t r = ⊥
+FailsIn FenceOpen t r = ⊥
 
 -- the line of an element of which P holds, beside its place
 abbrev pub IsLineWhere : {A : Type 0} → (ℕ → A → Type 0) → (A → ℕ) → List A → ℕ → Type 0
@@ -81,6 +87,9 @@ FailsAt s NotChar line = ⊥
 FailsAt s Normal line = ⊥
 FailsAt s Unproductive line = ⊥
 FailsAt s Loop line = ⊥
+FailsAt s FenceChar line = ⊥
+FailsAt s FenceInside line = ⊥
+FailsAt s FenceOpen line = ⊥
 
 -- the rules in order
 abbrev pub order : IllRule → ℕ
@@ -96,6 +105,9 @@ order NotChar = 8
 order Normal = 9
 order Unproductive = 10
 order Loop = 11
+order FenceChar = 12
+order FenceInside = 13
+order FenceOpen = 14
 
 -- no rule fails at any line
 abbrev pub NoneFails : (IllRule → ℕ → Type 0) → Type 0

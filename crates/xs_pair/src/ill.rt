@@ -1,4 +1,4 @@
-/// The twelve rules of a well-formed sheet, in the order in which they are reported.
+/// The fifteen rules of a well-formed sheet, in the order in which they are reported.
 #[derive(Clone, Copy, Debug, PartialEq, Eq)]
 pub enum IllRule {
     /// A terminal or an ignorable has the name of an earlier unit, or a production that of an
@@ -26,6 +26,13 @@ pub enum IllRule {
     Unproductive,
     /// A nonterminal derives itself alone.
     Loop,
+    /// The texts of a fence are not two different single characters, or one is a character of an
+    /// earlier fence.
+    FenceChar,
+    /// A class in a regular expression has a fence character.
+    FenceInside,
+    /// The fence characters of a text side are not balanced.
+    FenceOpen,
 }
 
 /// The first rule that fails, and the least line at which it does, counted from 1.

@@ -111,6 +111,7 @@ impl Outline {
             IllRule::Twice | IllRule::NoStart | IllRule::NameOnce | IllRule::RootShape => Ok(false),
             IllRule::EmptyClass | IllRule::NotChar | IllRule::Normal => Ok(false),
             IllRule::Unproductive | IllRule::Loop => Ok(false),
+            IllRule::FenceChar | IllRule::FenceInside | IllRule::FenceOpen => Ok(false),
         }
     }
 
@@ -178,6 +179,7 @@ impl Outline {
             IllRule::Twice | IllRule::NoStart => Ok(false),
             IllRule::EmptyClass | IllRule::NotChar | IllRule::Normal => Ok(false),
             IllRule::Unproductive | IllRule::Loop => Ok(false),
+            IllRule::FenceChar | IllRule::FenceInside | IllRule::FenceOpen => Ok(false),
         }
     }
 
@@ -259,6 +261,9 @@ impl Outline {
             IllRule::Normal => Ok(None),
             IllRule::Unproductive => Ok(None),
             IllRule::Loop => Ok(None),
+            IllRule::FenceChar => Ok(None),
+            IllRule::FenceInside => Ok(None),
+            IllRule::FenceOpen => Ok(None),
         }
     }
 
