@@ -1,5 +1,5 @@
 -- Level stretches: they join, a group's end is found in one way, and what stands in no group.
-use Rattle.std.proofs.Common.{◌≡◌, ◌⊎◌, inl, inr, ℕ, suc, ◌+◌, List, [], ◌∷◌, ◌++◌, length, refl, sym, ap, ◌∙◌, subst, arith, append_assoc, length-append}
+use Rattle.std.proofs.Common.{◌≡◌, ◌⊎◌, inl, inr, ℕ, suc, ◌+◌, List, [], ◌∷◌, ◌++◌, length, refl, sym, ap, ◌∙◌, subst, arith, append_assoc, length-append, slice_get, Some}
 use Rattle.xs_gram.specs.declared.parts.GItem.{GItem}
 use Rattle.xs_gram.specs.declared.parts.GItem.TheVariants.{Fixed}
 use Rattle.xs_gram.specs.Laws.{IsDistinct}
@@ -150,3 +150,11 @@ outer_group {fs} {l} {r} {inside} {after} {is} {k} {j} once f i e o = by_front o
         let opened : grouped l inside r after ≡ grouped m inner s (later ++ j ∷ rest) = sym e ∙ h ∙ ap (λ (x : List GItem). x ++ j ∷ rest) split ∙ group_more m inner s later (j ∷ rest) in
         let o = level_once fs once i u f q (cons_parts opened).1 in
         (length later, omega (arith, place, ap length split, ap length o.inside, length-append inner (Fixed (s ∷ []) ∷ later)), record { before = later; after = rest; split = o.after; level = t; plain = own; place = refl })
+
+-- an outer item stands at its place
+pub outer_at : {fs : List (ℕ × ℕ)} {is : List GItem} {k : ℕ} {i : GItem} → OuterAt fs is k i → slice_get is k ≡ Some i
+outer_at {k = k} {i = i} o = ap (λ (x : List GItem). slice_get x k) o.split ∙ ap (λ (n : ℕ). slice_get (o.before ++ i ∷ o.after) n) o.place ∙ seam o.before i o.after
+  where
+    seam : (before : List GItem) (i : GItem) (after : List GItem) → slice_get (before ++ i ∷ after) (length before) ≡ Some i
+    seam [] i after = refl
+    seam (x ∷ xs) i after = seam xs i after

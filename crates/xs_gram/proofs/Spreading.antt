@@ -1,12 +1,15 @@
 -- Spread items and partners, as they are found.
-use Rattle.std.proofs.Common.{◌≡◌, ℕ, suc, ◌+◌, ◌-◌, ◌<◌, ◌≤◌, List, [], ◌∷◌, ◌++◌, length, drop, get_or, reverse, refl, sym, ap, ◌∙◌, arith, append_assoc, length-append, true, false}
+use Rattle.std.proofs.Common.{◌≡◌, ℕ, zero, suc, ◌+◌, ◌-◌, ◌<◌, ◌≤◌, List, [], ◌∷◌, ◌++◌, length, drop, get_or, reverse, refl, sym, ap, subst, ◌∙◌, arith, append_assoc, length-append, true, false, slice_get, Some}
 use Rattle.std.proofs.lemmas.List.{reverse-append}
 use Rattle.std.specs.declared.option.Option.{Option}
 use Rattle.xs_gram.specs.declared.parts.GItem.{GItem}
 use Rattle.xs_gram.specs.declared.parts.GItem.TheVariants.{Fixed, Term, Non, Skip}
-use Rattle.xs_gram.specs.Fences.{is_fence, after_word, split_word, spread_items}
-use Rattle.xs_gram.specs.Building.{fixed_symbols}
+use Rattle.xs_gram.specs.Fences.{is_fence, after_word, split_word, spread_items, spread}
+use Rattle.xs_gram.specs.Grammar.{Grammar, items}
+use Rattle.xs_gram.specs.Sound.{IsInRange}
+use Rattle.xs_gram.specs.Building.{NamesAreThere, fixed_symbols}
 use Rattle.xs_gram.specs.Spreading.{waiting, waiting_from, partner_from, partners}
+use Rattle.xs_class.proofs.Lists.{some_inj}
 use Rattle.xs_gram.proofs.Building.{drop_next}
 
 after_more : (w : List ℕ) (is : List GItem) → after_word w is ≡ after_word w [] ++ is
@@ -71,3 +74,41 @@ spread_short fs (Fixed w ∷ is) = omega (arith, split_short fs [] w (spread_ite
 spread_short fs (Term t s ∷ is) = omega (arith, spread_short fs is)
 spread_short fs (Non n s ∷ is) = omega (arith, spread_short fs is)
 spread_short fs (Skip k ∷ is) = omega (arith, spread_short fs is)
+
+-- a spread item names what is there, as the items do, and no fixed word is empty
+module _ (P : GItem → Type 0) where
+  after_each : (w : List ℕ) (is : List GItem) (k : ℕ) (i : GItem) → ((f : List ℕ) → 0 < length f → P (Fixed f)) → ((k : ℕ) (i : GItem) → slice_get is k ≡ Some i → P i) → slice_get (after_word w is) k ≡ Some i → P i
+  after_each [] is k i fixed each at = each k i at
+  after_each (s ∷ w) is zero i fixed each at = subst P (some_inj (Fixed (s ∷ w)) i at) (fixed (s ∷ w) (omega arith))
+  after_each (s ∷ w) is (suc k) i fixed each at = each k i at
+
+  first_each : (s : ℕ) (is : List GItem) → ((f : List ℕ) → 0 < length f → P (Fixed f)) → ((k : ℕ) (i : GItem) → slice_get is k ≡ Some i → P i) → (k : ℕ) (i : GItem) → slice_get (Fixed (s ∷ []) ∷ is) k ≡ Some i → P i
+  first_each s is fixed each zero i at = subst P (some_inj (Fixed (s ∷ [])) i at) (fixed (s ∷ []) (omega arith))
+  first_each s is fixed each (suc k) i at = each k i at
+
+  split_each : (fs : List (ℕ × ℕ)) (before w : List ℕ) (is : List GItem) → ((f : List ℕ) → 0 < length f → P (Fixed f)) → ((k : ℕ) (i : GItem) → slice_get is k ≡ Some i → P i) → (k : ℕ) (i : GItem) → slice_get (split_word fs before w is) k ≡ Some i → P i
+  split_each fs before [] is fixed each = λ k i at. after_each before is k i fixed each at
+  split_each fs before (s ∷ w) is fixed each =
+      let t : (k : ℕ) (i : GItem) → slice_get (after_word before (Fixed (s ∷ []) ∷ split_word fs [] w is)) k ≡ Some i → P i = λ k i at. after_each before (Fixed (s ∷ []) ∷ split_word fs [] w is) k i fixed (first_each s (split_word fs [] w is) fixed (split_each fs [] w is fixed each)) at in
+      let f = split_each fs (before ++ s ∷ []) w is fixed each in
+      elim (is_fence fs s) as (λ b. (k : ℕ) (i : GItem) → slice_get {X = GItem} (elim b [ true ↦ after_word before (Fixed (s ∷ []) ∷ split_word fs [] w is) | false ↦ split_word fs (before ++ s ∷ []) w is ]) k ≡ Some i → P i) [ true ↦ t | false ↦ f ]
+
+  one_more : (x : GItem) (is : List GItem) → P x → ((k : ℕ) (i : GItem) → slice_get is k ≡ Some i → P i) → (k : ℕ) (i : GItem) → slice_get (x ∷ is) k ≡ Some i → P i
+  one_more x is own each zero i at = subst P (some_inj x i at) own
+  one_more x is own each (suc k) i at = each k i at
+
+  pub spread_each : (fs : List (ℕ × ℕ)) (is : List GItem) → ((f : List ℕ) → 0 < length f → P (Fixed f)) → ((k : ℕ) (i : GItem) → slice_get is k ≡ Some i → P i) → (k : ℕ) (i : GItem) → slice_get (spread_items fs is) k ≡ Some i → P i
+  spread_each fs [] fixed each = each
+  spread_each fs (Fixed w ∷ is) fixed each = split_each fs [] w (spread_items fs is) fixed (spread_each fs is fixed (λ k i at. each (suc k) i at))
+  spread_each fs (Term t s ∷ is) fixed each = one_more (Term t s) (spread_items fs is) (each 0 (Term t s) refl) (spread_each fs is fixed (λ k i at. each (suc k) i at))
+  spread_each fs (Non n s ∷ is) fixed each = one_more (Non n s) (spread_items fs is) (each 0 (Non n s) refl) (spread_each fs is fixed (λ k i at. each (suc k) i at))
+  spread_each fs (Skip n ∷ is) fixed each = one_more (Skip n) (spread_items fs is) (each 0 (Skip n) refl) (spread_each fs is fixed (λ k i at. each (suc k) i at))
+
+pub spread_names : (g : Grammar) → IsInRange g → (p k : ℕ) (i : GItem) → slice_get (spread g p) k ≡ Some i → NamesAreThere g i
+spread_names g range p = spread_each (NamesAreThere g) g.fences (items g p) (λ f lt. lt) named
+  where
+    named : (k : ℕ) (i : GItem) → slice_get (items g p) k ≡ Some i → NamesAreThere g i
+    named k (Fixed f) at = range.words p k f at
+    named k (Term t s) at = range.terms p k t s at
+    named k (Non n s) at = range.nons p k n s at
+    named k (Skip n) at = range.skips p k n at

@@ -8,3 +8,4 @@ pub mod Live
 pub mod Edges
 pub mod Leads
 pub mod Parted
+pub mod Outer

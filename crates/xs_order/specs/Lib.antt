@@ -4,3 +4,4 @@ pub mod Order
 pub mod Rules
 pub mod Runs
 pub mod Wanted
+pub mod Outer

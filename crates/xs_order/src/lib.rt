@@ -10,6 +10,7 @@
 mod component;
 mod derived;
 mod fault;
+pub mod fenced;
 mod graphs;
 mod leading;
 mod leaves;
