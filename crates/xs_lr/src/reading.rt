@@ -70,6 +70,7 @@ impl<'d> Reading<'d> {
                 self.course,
             );
             self.course = course;
+            self.tree.cut(course.nodes, course.parts);
             match self.see_to(automaton, stop)? {
                 Outcome::GoOn => {}
                 Outcome::Read => return Ok(true),
@@ -101,9 +102,9 @@ impl<'d> Reading<'d> {
     /// Whether there are too many entries, nodes or parts.
     fn is_spent(&self) -> bool {
         self.stack.len() > self.most
-            || self.tree.nodes.len() > self.most
-            || self.tree.parts.len() / 4 > self.most
-            || self.tree.parts.len() > MOST_PARTS
+            || self.tree.nodes.capacity() > self.most
+            || self.tree.parts.capacity() / 4 > self.most
+            || self.tree.parts.capacity() > MOST_PARTS
     }
 
     /// Fills the cell at which reading stopped.
@@ -153,8 +154,6 @@ impl<'d> Reading<'d> {
             made.want(entry.part)?;
         }
         made.close(&fork.graph)?;
-        self.tree.count = self.course.nodes;
-        self.tree.part_count = self.course.parts;
         made.put(&fork.graph, &mut self.tree)?;
         self.course.at = fork.at;
         self.course.nodes = self.tree.count;
@@ -178,10 +177,7 @@ impl<'d> Reading<'d> {
 
     /// The parse table of a document that is read.
     pub fn into_table(self) -> ParseTable {
-        let mut tree = self.tree;
-        tree.count = self.course.nodes;
-        tree.part_count = self.course.parts;
-        tree.into_table()
+        self.tree.into_table()
     }
 }
 

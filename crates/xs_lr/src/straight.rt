@@ -4,13 +4,14 @@ use crate::course::{Course, Entry, Stop};
 use crate::grammar::MOST_ITEMS;
 use xs_parse_table::Node;
 
-/// Reads on while there is one action, for this many steps at most.
+/// Reads on while there is one action, for this many steps at most. Where it stops for want of room,
+/// nodes and parts beyond the course may stand there, which are none.
 pub fn read_on(
     table: &[u32],
     doc: &[u16],
     stack: &mut [Entry],
-    nodes: &mut [Node],
-    parts: &mut [u32],
+    nodes: &mut Vec<Node>,
+    parts: &mut Vec<u32>,
     steps: usize,
     from: Course,
 ) -> (Course, Stop) {
@@ -73,8 +74,8 @@ fn look(table: &[u32], doc: &[u16], row: u32, at: u32) -> u32 {
 fn act(
     table: &[u32],
     stack: &mut [Entry],
-    nodes: &mut [Node],
-    parts: &mut [u32],
+    nodes: &mut Vec<Node>,
+    parts: &mut Vec<u32>,
     action: u32,
     course: Course,
 ) -> Result<Course, Stop> {
@@ -129,8 +130,8 @@ fn end_token(stack: &mut [Entry], action: u32, course: Course) -> Result<Course,
 fn reduce(
     table: &[u32],
     stack: &mut [Entry],
-    nodes: &mut [Node],
-    parts: &mut [u32],
+    nodes: &mut Vec<Node>,
+    parts: &mut Vec<u32>,
     action: u32,
     course: Course,
 ) -> Result<Course, Stop> {
@@ -180,24 +181,24 @@ fn goto(table: &[u32], row: u32, cell: u32) -> Result<u32, Stop> {
     }
 }
 
-/// Puts a node next, and gives the number of nodes then.
+/// Puts a node next where there is room, and gives the number of nodes then.
 #[inline(always)]
 fn push_node(
-    nodes: &mut [Node],
+    nodes: &mut Vec<Node>,
     course: Course,
     production: u32,
     from: u32,
     to: u32,
 ) -> Result<u32, Stop> {
-    let Some(node) = nodes.get_mut(course.nodes as usize) else {
+    if nodes.len() >= nodes.capacity() {
         return Err(Stop::Nodes);
-    };
-    *node = Node {
+    }
+    nodes.push_reserved(Node {
         production,
         parts: course.parts,
         from,
         to,
-    };
+    });
     Ok(course.nodes.wrapping_add(1))
 }
 
@@ -206,7 +207,7 @@ fn push_node(
 #[inline(always)]
 fn copy_parts(
     stack: &[Entry],
-    parts: &mut [u32],
+    parts: &mut Vec<u32>,
     down: u32,
     course: Course,
     token: u32,
@@ -226,13 +227,13 @@ fn copy_parts(
     }
 }
 
-/// Puts a part at a place, and gives the next place.
+/// Puts a part next, at a place, where there is room, and gives the next place.
 #[inline(always)]
-fn push_part(parts: &mut [u32], place: u32, part: u32) -> Result<u32, Stop> {
-    let Some(there) = parts.get_mut(place as usize) else {
+fn push_part(parts: &mut Vec<u32>, place: u32, part: u32) -> Result<u32, Stop> {
+    if parts.len() >= parts.capacity() {
         return Err(Stop::Parts);
-    };
-    *there = part;
+    }
+    parts.push_reserved(part);
     Ok(place.wrapping_add(1))
 }
 
@@ -240,13 +241,13 @@ fn push_part(parts: &mut [u32], place: u32, part: u32) -> Result<u32, Stop> {
 #[inline(always)]
 fn chain(
     table: &[u32],
-    nodes: &mut [Node],
-    parts: &mut [u32],
+    nodes: &mut Vec<Node>,
+    parts: &mut Vec<u32>,
     below: Entry,
     made: Course,
 ) -> Result<Course, Stop> {
     let mut course = made;
-    'productions: for _ in 0..nodes.len() {
+    'productions: for _ in 0..table.len() {
         if course.row & CHAIN == 0 {
             break;
         }
@@ -259,8 +260,8 @@ fn chain(
 #[inline(always)]
 fn link(
     table: &[u32],
-    nodes: &mut [Node],
-    parts: &mut [u32],
+    nodes: &mut Vec<Node>,
+    parts: &mut Vec<u32>,
     below: Entry,
     course: Course,
 ) -> Result<Course, Stop> {

@@ -2,7 +2,7 @@ use std::alloc::Global;
 use xs_class::Memory;
 use xs_parse_table::{Node, ParseTable};
 
-/// Nodes and parts with room for more: how many of each count.
+/// Nodes and parts, with room for more, and how many of each there are.
 #[derive(Drop)]
 pub struct Tree {
     pub nodes: Vec<Node>,
@@ -14,24 +14,30 @@ pub struct Tree {
 impl Tree {
     /// No node, with room for some.
     pub fn new(alloc: Global, nodes: usize, parts: usize) -> Result<Self, Memory> {
-        let nodes = vec![in alloc; no_node(); nodes]?;
-        let parts = vec![in alloc; 0; parts]?;
         Ok(Tree {
-            nodes,
-            parts,
+            nodes: Vec::with_capacity(alloc, nodes)?,
+            parts: Vec::with_capacity(alloc, parts)?,
             count: 0,
             part_count: 0,
         })
     }
 
+    /// The first nodes and parts alone.
+    pub fn cut(&mut self, count: u32, part_count: u32) {
+        self.nodes.truncate(count as usize);
+        self.parts.truncate(part_count as usize);
+        self.count = count;
+        self.part_count = part_count;
+    }
+
     /// Makes more room for nodes.
     pub fn grow_nodes(&mut self) -> Result<(), Memory> {
-        grow(&mut self.nodes, no_node())
+        make_room(&mut self.nodes)
     }
 
     /// Makes more room for parts.
     pub fn grow_parts(&mut self) -> Result<(), Memory> {
-        grow(&mut self.parts, 0)
+        make_room(&mut self.parts)
     }
 
     /// Puts a node next whose parts come next.
@@ -42,35 +48,31 @@ impl Tree {
             from,
             to,
         };
-        put(&mut self.nodes, self.count, node)?;
+        self.nodes.push(node)?;
         self.count = self.count.wrapping_add(1);
         Ok(())
     }
 
     /// Puts a part next.
     pub fn put_part(&mut self, part: u32) -> Result<(), Memory> {
-        put(&mut self.parts, self.part_count, part)?;
+        self.parts.push(part)?;
         self.part_count = self.part_count.wrapping_add(1);
         Ok(())
     }
 
-    /// The parse table, without the room.
+    /// The parse table.
     pub fn into_table(self) -> ParseTable {
-        let mut nodes = self.nodes;
-        let mut parts = self.parts;
-        nodes.truncate(self.count as usize);
-        parts.truncate(self.part_count as usize);
-        ParseTable { nodes, parts }
+        ParseTable {
+            nodes: self.nodes,
+            parts: self.parts,
+        }
     }
 }
 
-fn no_node() -> Node {
-    Node {
-        production: 0,
-        parts: 0,
-        from: 0,
-        to: 0,
-    }
+/// Doubles the room beyond the elements that are there.
+fn make_room<T: Drop>(list: &mut Vec<T>) -> Result<(), Memory> {
+    list.reserve(list.len().saturating_add(16))?;
+    Ok(())
 }
 
 /// Puts an element at a place, or appends it where the list ends before it.

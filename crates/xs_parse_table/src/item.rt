@@ -13,6 +13,22 @@ use xs_class::Sym;
 use xs_gram::{GItem, Gram};
 use xs_regex::Position;
 
+/// Whether the words are the same, symbol by symbol: most are too short for a comparison of memory.
+#[inline(always)]
+fn are_same(a: &[Sym], b: &[Sym]) -> bool
+    ensures { IsTrue result → a.now ≡ b.now }
+{
+    if a.len() != b.len() {
+        return false;
+    }
+    'places: for place in 0..a.len() {
+        if a[place] != b[place] {
+            return false;
+        }
+    }
+    true
+}
+
 /// Whether the word stands in the document from one place up to another.
 fn is_word(doc: &[Sym], at: u32, to: u32, word: &[Sym]) -> bool
     ensures { IsTrue result → IsWordPart (λ w. w ≡ word.now) doc.now at to to }
@@ -21,7 +37,7 @@ fn is_word(doc: &[Sym], at: u32, to: u32, word: &[Sym]) -> bool
         return false;
     }
     let there = &doc[at as usize..to as usize];
-    there == word
+    are_same(there, word)
 }
 
 /// Whether the automaton accepts what stands in the document from one place up to another.

@@ -50,6 +50,7 @@ impl Builder {
     }
 
     /// A new leaf with a copy of the word, in time linear in the word; the answer is its number.
+    #[inline(always)]
     pub fn leaf(&mut self, word: &[Sym]) -> Result<u64, Memory>
         ensures number { IfOk result (λ number. number ≡ length self.old) }
         ensures added { OnOk result (self.new ≡ self.old ++ Leaf word.now ∷ []) }
@@ -63,6 +64,7 @@ impl Builder {
 
     /// A new node with these children in the order of the slots, in time linear in their number;
     /// the answer is its number.
+    #[inline(always)]
     pub fn node(&mut self, production: u32, kids: &[u64]) -> Result<u64, Memory>
         requires { All (λ kid. kid < length self.old) kids.now }
         ensures number { IfOk result (λ number. number ≡ length self.old) }

@@ -1,4 +1,4 @@
-ghost use Rattle.std.specs.Prelude.{◌≡◌, ◌<◌, ◌∷◌, ◌++◌, [], Some, length, slice_get, OnOk, OnErr, IfOk};
+ghost use Rattle.std.specs.Prelude.{◌≡◌, ◌<◌, ◌≤◌, ◌+◌, ◌∷◌, ◌++◌, [], Some, length, slice_get, vec_len, vec_capacity, OnOk, OnErr, IfOk};
 ghost use Rattle.xs_tree.specs.Flat.{Leaf, Node};
 ghost use Rattle.xs_tree.specs.Lent.{lent};
 
@@ -6,6 +6,35 @@ use crate::Part;
 use std::alloc::Global;
 use std::marker::Model;
 use xs_class::{Memory, Sym};
+
+/// Up to that many elements are appended one by one: a copy of memory costs more to begin.
+const SHORT: usize = 6;
+
+/// Appends elements one by one, for which there is room.
+#[inline(always)]
+fn append_each<T: Copy + Drop>(list: &mut Vec<T>, piece: &[T])
+    requires { vec_len list.old + length piece.now ≤ vec_capacity list.old }
+    ensures { list.new.items ≡ list.old.items ++ piece.now }
+{
+    'elements: for element in piece {
+        list.push_reserved(*element);
+    }
+}
+
+/// Appends elements, or all stays as it was.
+#[inline(always)]
+fn append<T: Copy + Drop>(list: &mut Vec<T>, piece: &[T]) -> Result<(), Memory>
+    ensures ok { OnOk result (list.new.items ≡ list.old.items ++ piece.now) }
+    ensures err { OnErr result (list.new.items ≡ list.old.items) }
+{
+    if piece.len() > SHORT {
+        list.extend_from_slice(piece)?;
+        return Ok(());
+    }
+    list.reserve(piece.len())?;
+    append_each(list, piece);
+    Ok(())
+}
 
 /// Where the word of a leaf stands among all symbols, or where the children of a node stand among
 /// all children.
@@ -87,26 +116,28 @@ impl Parts {
     }
 
     /// A new last leaf, or all stays as it was.
+    #[inline(always)]
     pub fn push_leaf(&mut self, word: &[Sym]) -> Result<(), Memory>
         ensures ok { OnOk result (self.new ≡ self.old ++ Leaf word.now ∷ []) }
         ensures err { OnErr result (self.new ≡ self.old) }
     {
         self.rows.reserve(1)?;
         let begin = self.symbols.len();
-        self.symbols.extend_from_slice(word)?;
+        append(&mut self.symbols, word)?;
         let end = self.symbols.len();
         self.rows.push_reserved(Row::Word { begin, end });
         Ok(())
     }
 
     /// A new last node, or all stays as it was.
+    #[inline(always)]
     pub fn push_node(&mut self, production: u32, kids: &[u64]) -> Result<(), Memory>
         ensures ok { OnOk result (self.new ≡ self.old ++ Node production kids.now ∷ []) }
         ensures err { OnErr result (self.new ≡ self.old) }
     {
         self.rows.reserve(1)?;
         let begin = self.kids.len();
-        self.kids.extend_from_slice(kids)?;
+        append(&mut self.kids, kids)?;
         let end = self.kids.len();
         self.rows.push_reserved(Row::Made {
             production,

@@ -1,5 +1,5 @@
 -- The common tree of a parse table, made node by node.
-use Rattle.std.specs.Prelude.{◌≡◌, ℕ, ◌<◌, List, [], ◌∷◌, ◌++◌, length, Some, slice_get, slice_index, slice_set, slice_range}
+use Rattle.std.specs.Prelude.{◌≡◌, ℕ, ◌<◌, List, [], ◌∷◌, ◌++◌, length, Some, slice_get, slice_index, slice_index_or, slice_set, slice_range}
 use Rattle.xs_gram.specs.declared.parts.GItem.{GItem}
 use Rattle.xs_gram.specs.declared.parts.GItem.TheVariants.{Fixed, Term, Non, Skip}
 use Rattle.xs_gram.specs.Grammar.{Grammar, items, slots}
@@ -9,6 +9,10 @@ use Rattle.xs_parse_table.specs.declared.table.Node.{Node}
 use Rattle.xs_parse_table.specs.declared.table.ParseTable.{ParseTable}
 use Rattle.xs_parse_table.specs.Tables.{ArePartsAt}
 use Rattle.xs_tree.specs.Flat.{tree_at}
+
+-- the numbers are those of the slots of all productions
+abbrev pub AreSlotCounts : Grammar → List ℕ → Type 0
+AreSlotCounts g counts = (length counts ≡ length g.rules) × ((p : ℕ) → p < length counts → slice_index_or counts p 0 ≡ length (slots (items g p)))
 
 -- the parts are of the node's production, and the table means them at the node
 abbrev pub AreNodeParts : Grammar → List ℕ → ParseTable → Node → Parts → Type 0

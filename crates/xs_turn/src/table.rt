@@ -6,7 +6,7 @@ ghost use Rattle.xs_gram.specs.Languages.{Derives};
 ghost use Rattle.xs_gram.specs.Sound.{IsBuilt};
 ghost use Rattle.xs_parse_table.specs.Tables.{IsTreeOf};
 ghost use Rattle.xs_tree.specs.Flat.{trees_of, common_of};
-ghost use Rattle.xs_turn.specs.Tables.{AreNodeTrees, AreNodeKids, IsNodeTree, Grows, IsLeafPlaced, IsNodePlaced, IsPlaced};
+ghost use Rattle.xs_turn.specs.Tables.{AreSlotCounts, AreNodeTrees, AreNodeKids, IsNodeTree, Grows, IsLeafPlaced, IsNodePlaced, IsPlaced};
 
 use std::alloc::Global;
 use xs_class::{Memory, Sym};
@@ -26,6 +26,17 @@ fn slot_count(items: &[GItem]) -> usize
         }
     }
     count
+}
+
+/// The number of slots of each production, counted once a grammar.
+fn slot_counts(alloc: Global, g: &Gram) -> Result<Vec<usize>, Memory>
+    ensures { IfOk result (λ counts. AreSlotCounts g.now counts.items) }
+{
+    let mut counts = Vec::with_capacity(alloc, g.rules() as usize)?;
+    'rules: for rule in 0..g.rules() {
+        counts.push(slot_count(g.items(rule)))?;
+    }
+    Ok(counts)
 }
 
 /// Puts a new leaf with the word between two places at a slot; false where there are no such places
@@ -137,20 +148,23 @@ fn add_node(
     g: &Gram,
     doc: &[Sym],
     table: &ParseTable,
+    counts: &[usize],
     node: Node,
     numbers: &[u64],
     builder: &mut Builder,
     kids: &mut Vec<u64>,
 ) -> Result<Option<u64>, Memory>
     requires built { IsBuilt g.now }
+    requires counts { AreSlotCounts g.now counts.now }
     requires earlier { AreNodeTrees g.now doc.now table.now (trees_of builder.old) numbers.now }
     ensures grows { IfOk result (λ number. IfSome number (λ _. Grows (trees_of builder.old) (trees_of builder.new))) }
     ensures made { IfOk result (λ number. IfSome number (IsNodeTree g.now doc.now table.now (trees_of builder.new) node)) }
 {
-    if g.rules() <= node.production {
+    let production = node.production as usize;
+    if counts.len() <= production {
         return Ok(None);
     }
-    kids.resize(slot_count(g.items(node.production)), 0)?;
+    kids.resize(counts[production], 0)?;
     if !place_all(g, doc, table, node, numbers, builder, kids)? {
         return Ok(None);
     }
@@ -164,9 +178,11 @@ fn number_nodes(
     g: &Gram,
     doc: &[Sym],
     table: &ParseTable,
+    counts: &[usize],
     builder: &mut Builder,
 ) -> Result<Option<Vec<u64>>, Memory>
     requires built { IsBuilt g.now }
+    requires counts { AreSlotCounts g.now counts.now }
     ensures long { IfOk result (λ o. IfSome o (λ numbers. length numbers.items ≡ length table.now.nodes.items)) }
     ensures numbered { IfOk result (λ o. IfSome o (λ numbers. AreNodeTrees g.now doc.now table.now (trees_of builder.new) numbers.items)) }
 {
@@ -174,7 +190,8 @@ fn number_nodes(
     let mut numbers = Vec::with_capacity(alloc, nodes.len())?;
     let mut kids = Vec::new(alloc);
     'nodes: for node in nodes {
-        let Some(number) = add_node(g, doc, table, *node, &numbers, builder, &mut kids)? else {
+        let Some(number) = add_node(g, doc, table, counts, *node, &numbers, builder, &mut kids)?
+        else {
             return Ok(None);
         };
         numbers.push(number)?;
@@ -196,7 +213,8 @@ pub fn tree_of(
     let parts = table.parts.len();
     let rows = parts.saturating_add(1);
     let mut builder = Builder::with_capacity(alloc, rows, parts, doc.len())?;
-    let Some(numbers) = number_nodes(alloc, g, doc, table, &mut builder)? else {
+    let counts = slot_counts(alloc, g)?;
+    let Some(numbers) = number_nodes(alloc, g, doc, table, &counts, &mut builder)? else {
         return Ok(None);
     };
     let list = numbers.as_slice();
