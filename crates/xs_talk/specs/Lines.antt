@@ -4,7 +4,7 @@ use Rattle.xs_class.specs.declared.side.Side.{Side}
 use Rattle.xs_class.specs.declared.side.Side.TheVariants.{Text, Xml}
 use Rattle.xs_pair.specs.declared.ill.Ill.{Ill}
 use Rattle.xs_pair.specs.declared.ill.IllRule.{IllRule}
-use Rattle.xs_pair.specs.declared.ill.IllRule.TheVariants.{Twice, Undefined, NoStart, NameOnce, Kind, AttrTwice, RootShape, EmptyClass, NotChar, Normal, Unproductive, Loop}
+use Rattle.xs_pair.specs.declared.ill.IllRule.TheVariants.{Twice, Undefined, NoStart, NameOnce, Kind, AttrTwice, RootShape, EmptyClass, NotChar, Normal, Unproductive, Loop, FenceChar, FenceInside, FenceOpen}
 use Rattle.xs_talk.specs.declared.outcome.Report.{Report}
 use Rattle.xs_talk.specs.declared.outcome.Report.TheVariants.{Vertical, Horizontal}
 use Rattle.xs_talk.specs.declared.outcome.Outcome.{Outcome}
@@ -30,6 +30,9 @@ rule_words NotChar = codes "character not allowed"
 rule_words Normal = codes "normal spelling does not match"
 rule_words Unproductive = codes "derives no word"
 rule_words Loop = codes "derives itself"
+rule_words FenceChar = codes "fence is not two new characters"
+rule_words FenceInside = codes "fence inside a regular expression"
+rule_words FenceOpen = codes "fence not closed"
 
 abbrev pub ill_line : Ill → List ℕ
 ill_line ill = numbered (codes "sheet: line ") ill.line (codes ": ") ++ rule_words ill.rule ++ codes "\n"

@@ -44,6 +44,9 @@ fn rule_words(rule: IllRule) -> &'static [u8]
         IllRule::Normal => b"normal spelling does not match",
         IllRule::Unproductive => b"derives no word",
         IllRule::Loop => b"derives itself",
+        IllRule::FenceChar => b"fence is not two new characters",
+        IllRule::FenceInside => b"fence inside a regular expression",
+        IllRule::FenceOpen => b"fence not closed",
     }
 }
 

@@ -1,9 +1,9 @@
--- What is known of a sheet while its last five rules are tried.
+-- What is known of a sheet while the rules after the first seven are tried.
 use Rattle.std.specs.Prelude.{⊤, ℕ}
 use Rattle.xs_sheet.specs.declared.sheet.Sheet.{Sheet}
 use Rattle.xs_gram.specs.Sound.{IsBuilt}
 use Rattle.xs_pair.specs.declared.ill.IllRule.{IllRule}
-use Rattle.xs_pair.specs.declared.ill.IllRule.TheVariants.{Twice, Undefined, NoStart, NameOnce, Kind, AttrTwice, RootShape, EmptyClass, NotChar, Normal, Unproductive, Loop}
+use Rattle.xs_pair.specs.declared.ill.IllRule.TheVariants.{Twice, Undefined, NoStart, NameOnce, Kind, AttrTwice, RootShape, EmptyClass, NotChar, Normal, Unproductive, Loop, FenceChar, FenceInside, FenceOpen}
 use Rattle.xs_pair.specs.declared.fault.PairFault.{PairFault}
 use Rattle.xs_pair.specs.declared.fault.PairFault.TheVariants as P
 use Rattle.xs_pair.specs.Grammars.{Pair, IsPairOf, HaveSameTrees}
@@ -42,6 +42,9 @@ Gives s p NotChar = ⊤
 Gives s p Normal = AreFine Normal s.units
 Gives s p Unproductive = AreProductive p
 Gives s p Loop = (n : ℕ) → IsLooping p n → ⊥
+Gives s p FenceChar = ⊤
+Gives s p FenceInside = ⊤
+Gives s p FenceOpen = ⊤
 
 -- each rule that is tried gives what it does
 abbrev pub AllGive : Sheet → Pair → Type 0

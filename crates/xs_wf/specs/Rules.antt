@@ -1,13 +1,14 @@
--- The twelve rules of a well-formed sheet.
+-- The fifteen rules of a well-formed sheet.
 use Rattle.std.specs.Prelude.{◌⊎◌, ⊤, ℕ}
 use Rattle.xs_sheet.specs.declared.sheet.Sheet.{Sheet}
 use Rattle.xs_sheet.specs.declared.unit.Unit.{Unit}
 use Rattle.xs_pair.specs.declared.ill.Ill.{Ill}
 use Rattle.xs_pair.specs.declared.ill.IllRule.{IllRule}
-use Rattle.xs_pair.specs.declared.ill.IllRule.TheVariants.{Twice, Undefined, NoStart, NameOnce, Kind, AttrTwice, RootShape, EmptyClass, NotChar, Normal, Unproductive, Loop}
+use Rattle.xs_pair.specs.declared.ill.IllRule.TheVariants.{Twice, Undefined, NoStart, NameOnce, Kind, AttrTwice, RootShape, EmptyClass, NotChar, Normal, Unproductive, Loop, FenceChar, FenceInside, FenceOpen}
 use Rattle.xs_pair.specs.declared.production.Rule.{Rule}
 use Rattle.xs_pair.specs.Units.{unit_line}
 use Rattle.xs_pair.specs.Listing.{rules_of}
+use Rattle.xs_pair.specs.Fences.{FenceFails}
 use Rattle.xs_pair.specs.Verdict.{FailsAt, IsLineWhere, NoneFails, IsFirstIll}
 use Rattle.xs_wf.specs.declared.well.WfFault.{WfFault}
 use Rattle.xs_wf.specs.declared.well.WfFault.TheVariants as F
@@ -36,6 +37,9 @@ Fails s NotChar line = FailsAmongUnits s IsStrangeUnit line ⊎ FailsAmongRules 
 Fails s Normal line = FailsAmongUnits s IsUnmatchedUnit line
 Fails s Unproductive line = FailsAmongNons IsUnproductive s line
 Fails s Loop line = FailsAmongNons IsLooping s line
+Fails s FenceChar line = FenceFails s.units FenceChar line
+Fails s FenceInside line = FenceFails s.units FenceInside line
+Fails s FenceOpen line = FenceFails s.units FenceOpen line
 
 -- no rule fails
 abbrev pub IsWell : Sheet → Type 0

@@ -12,7 +12,7 @@ use Rattle.xs_sheet.specs.declared.unit.Unit.{Unit}
 use Rattle.xs_sheet.specs.declared.unit.Unit.TheVariants.{Terminal, Ignorable, Production, Fence}
 use Rattle.xs_gram.specs.Building.{EachOf}
 use Rattle.xs_pair.specs.declared.ill.IllRule.{IllRule}
-use Rattle.xs_pair.specs.declared.ill.IllRule.TheVariants.{Twice, Undefined, NoStart, NameOnce, Kind, AttrTwice, RootShape, EmptyClass, NotChar, Normal, Unproductive, Loop}
+use Rattle.xs_pair.specs.declared.ill.IllRule.TheVariants.{Twice, Undefined, NoStart, NameOnce, Kind, AttrTwice, RootShape, EmptyClass, NotChar, Normal, Unproductive, Loop, FenceChar, FenceInside, FenceOpen}
 use Rattle.xs_pair.specs.declared.mark.Mark.{Mark}
 use Rattle.xs_pair.specs.declared.mark.Mark.TheVariants.{Opening, Attribute, AttributeEnd, Closing, Value, Content}
 use Rattle.xs_pair.specs.declared.production.Rule.{Rule}
@@ -70,6 +70,9 @@ IsIllUnit NotChar u = IsStrangeUnit u
 IsIllUnit Normal u = IsUnmatchedUnit u
 IsIllUnit Unproductive u = ⊥
 IsIllUnit Loop u = ⊥
+IsIllUnit FenceChar u = ⊥
+IsIllUnit FenceInside u = ⊥
+IsIllUnit FenceOpen u = ⊥
 
 -- each class in the regex of a terminal or of an ignorable has a member
 abbrev pub IsFullUnit : Unit → Type 0
@@ -99,6 +102,9 @@ IsFineUnit NotChar u = ⊤
 IsFineUnit Normal u = IsMatchedUnit u
 IsFineUnit Unproductive u = ⊤
 IsFineUnit Loop u = ⊤
+IsFineUnit FenceChar u = ⊤
+IsFineUnit FenceInside u = ⊤
+IsFineUnit FenceOpen u = ⊤
 
 -- the same of each unit
 abbrev pub AreFine : IllRule → List Unit → Type 0

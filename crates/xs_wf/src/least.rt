@@ -34,6 +34,7 @@ fn is_ill_unit(alloc: Global, rule: IllRule, unit: &Unit) -> Result<bool, Memory
         IllRule::Twice | IllRule::Undefined | IllRule::NoStart | IllRule::NameOnce => Ok(false),
         IllRule::Kind | IllRule::AttrTwice | IllRule::RootShape => Ok(false),
         IllRule::Unproductive | IllRule::Loop => Ok(false),
+        IllRule::FenceChar | IllRule::FenceInside | IllRule::FenceOpen => Ok(false),
     }
 }
 

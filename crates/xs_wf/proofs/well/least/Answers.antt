@@ -16,31 +16,31 @@ use Rattle.xs_wf.proofs.Refusals.{none_of_seven}
 use Rattle.xs_wf.proofs.well.least.Goals as goal
 
 pub least_unproductive-requires-clause-lines : goal.least_unproductive-requires-clause-lines
-least_unproductive-requires-clause-lines c = pair_ordered c.args.sheet.now c.args.two.now c.requires.bytes c.requires.of
+least_unproductive-requires-clause-lines c = pair_ordered c.args.sheet.now c.args.two.now c.requires.grammars.bytes c.requires.grammars.of
 
 pub least_loop-requires-clause-lines : goal.least_loop-requires-clause-lines
-least_loop-requires-clause-lines c = pair_ordered c.args.sheet.now c.args.two.now c.requires.bytes c.requires.of
+least_loop-requires-clause-lines c = pair_ordered c.args.sheet.now c.args.two.now c.requires.grammars.bytes c.requires.grammars.of
 
 pub returns-in-Twice-clause-first : goal.returns-in-Twice-clause-first
-returns-in-Twice-clause-first c = none_of_seven c.args.sheet.now c.args.rule Twice c.in-Twice.is (omega arith) c.requires.passed
+returns-in-Twice-clause-first c = none_of_seven c.args.sheet.now c.args.rule Twice c.in-Twice.is (omega arith) c.requires.grammars.passed
 
 pub returns-in-Undefined-clause-first : goal.returns-in-Undefined-clause-first
-returns-in-Undefined-clause-first c = none_of_seven c.args.sheet.now c.args.rule Undefined c.in-Undefined.is (omega arith) c.requires.passed
+returns-in-Undefined-clause-first c = none_of_seven c.args.sheet.now c.args.rule Undefined c.in-Undefined.is (omega arith) c.requires.grammars.passed
 
 pub returns-in-NoStart-clause-first : goal.returns-in-NoStart-clause-first
-returns-in-NoStart-clause-first c = none_of_seven c.args.sheet.now c.args.rule NoStart c.in-NoStart.is (omega arith) c.requires.passed
+returns-in-NoStart-clause-first c = none_of_seven c.args.sheet.now c.args.rule NoStart c.in-NoStart.is (omega arith) c.requires.grammars.passed
 
 pub returns-in-NameOnce-clause-first : goal.returns-in-NameOnce-clause-first
-returns-in-NameOnce-clause-first c = none_of_seven c.args.sheet.now c.args.rule NameOnce c.in-NameOnce.is (omega arith) c.requires.passed
+returns-in-NameOnce-clause-first c = none_of_seven c.args.sheet.now c.args.rule NameOnce c.in-NameOnce.is (omega arith) c.requires.grammars.passed
 
 pub returns-in-Kind-clause-first : goal.returns-in-Kind-clause-first
-returns-in-Kind-clause-first c = none_of_seven c.args.sheet.now c.args.rule Kind c.in-Kind.is (omega arith) c.requires.passed
+returns-in-Kind-clause-first c = none_of_seven c.args.sheet.now c.args.rule Kind c.in-Kind.is (omega arith) c.requires.grammars.passed
 
 pub returns-in-AttrTwice-clause-first : goal.returns-in-AttrTwice-clause-first
-returns-in-AttrTwice-clause-first c = none_of_seven c.args.sheet.now c.args.rule AttrTwice c.in-AttrTwice.is (omega arith) c.requires.passed
+returns-in-AttrTwice-clause-first c = none_of_seven c.args.sheet.now c.args.rule AttrTwice c.in-AttrTwice.is (omega arith) c.requires.grammars.passed
 
 pub returns-in-RootShape-clause-first : goal.returns-in-RootShape-clause-first
-returns-in-RootShape-clause-first c = none_of_seven c.args.sheet.now c.args.rule RootShape c.in-RootShape.is (omega arith) c.requires.passed
+returns-in-RootShape-clause-first c = none_of_seven c.args.sheet.now c.args.rule RootShape c.in-RootShape.is (omega arith) c.requires.grammars.passed
 
 pub returns-in-EmptyClass-clause-first : goal.returns-in-EmptyClass-clause-first
 returns-in-EmptyClass-clause-first c =
@@ -59,13 +59,13 @@ pub returns-in-Unproductive-clause-first : goal.returns-in-Unproductive-clause-f
 returns-in-Unproductive-clause-first c =
     let two = c.args.two.now in
     subst (λ r. IfOk c.least_unproductive.result (IsFirstLine (Fails c.args.sheet.now r))) (sym c.in-Unproductive.is)
-    (IfOk-weaker c.least_unproductive.result (IsFirstLine (IsFirstLineOf two (IsUnproductive two))) (IsFirstLine (FailsAmongNons IsUnproductive c.args.sheet.now)) (unproductive_fails c.args.sheet.now two c.requires.of) c.least_unproductive.ensures.first)
+    (IfOk-weaker c.least_unproductive.result (IsFirstLine (IsFirstLineOf two (IsUnproductive two))) (IsFirstLine (FailsAmongNons IsUnproductive c.args.sheet.now)) (unproductive_fails c.args.sheet.now two c.requires.grammars.of) c.least_unproductive.ensures.first)
 
 pub returns-in-Loop-clause-first : goal.returns-in-Loop-clause-first
 returns-in-Loop-clause-first c =
     let two = c.args.two.now in
     subst (λ r. IfOk c.least_loop.result (IsFirstLine (Fails c.args.sheet.now r))) (sym c.in-Loop.is)
-    (IfOk-weaker c.least_loop.result (IsFirstLine (IsFirstLineOf two (IsLooping two))) (IsFirstLine (FailsAmongNons IsLooping c.args.sheet.now)) (looping_fails c.args.sheet.now two c.requires.of) c.least_loop.ensures.first)
+    (IfOk-weaker c.least_loop.result (IsFirstLine (IsFirstLineOf two (IsLooping two))) (IsFirstLine (FailsAmongNons IsLooping c.args.sheet.now)) (looping_fails c.args.sheet.now two c.requires.grammars.of) c.least_loop.ensures.first)
 
 pub returns-in-Unproductive-clause-gives : goal.returns-in-Unproductive-clause-gives
 returns-in-Unproductive-clause-gives c =
