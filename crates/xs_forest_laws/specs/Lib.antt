@@ -8,3 +8,4 @@ pub mod Number
 pub mod Listing
 pub mod Walk
 pub mod Laws
+pub mod Spread

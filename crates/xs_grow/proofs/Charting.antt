@@ -9,23 +9,21 @@ use Rattle.xs_gram.specs.declared.parts.GItem.TheVariants.{Fixed, Term, Non, Ski
 use Rattle.xs_gram.specs.declared.places.Place.{Place}
 use Rattle.xs_gram.specs.Grammar.{Grammar, rule_of, items}
 use Rattle.xs_gram.specs.Places.{at_dot, all_places}
-use Rattle.xs_gram.specs.Chart.{Stands}
 use Rattle.xs_gram.specs.Languages.{InLang}
 use Rattle.xs_gram.proofs.Numbers.{as_dot}
 use Rattle.xs_chart_laws.specs.Charts.{IsNumber, HasPlace, IsChartOf, set_at}
 use Rattle.xs_chart_laws.proofs.Numbers.{one_place}
-use Rattle.xs_chart_laws.proofs.Charts.{chart_all_stand}
+use Rattle.xs_chart_laws.proofs.Charts.{chart_all_stand, chart_has_all}
 use Rattle.xs_chart_laws.proofs.Language.{whole_of}
 use Rattle.xs_forest_laws.specs.declared.span.SpanKey.{SpanKey}
 use Rattle.xs_forest_laws.specs.declared.span.What.TheVariants.{Whole, Front}
 use Rattle.xs_forest_laws.specs.Forest.{key_at}
-use Rattle.xs_forest_laws.specs.Grown.{IsFinished, ItemOver, IsLabelBy}
+use Rattle.xs_forest_laws.specs.Grown.{IsFinished, ItemOver}
 use Rattle.xs_grow.specs.declared.call.Call.{Call}
 use Rattle.xs_grow.specs.Lists.{HasAllOf}
-use Rattle.xs_grow.specs.Grouped.{Grouped, IsGroup, HasGroups}
-use Rattle.xs_grow.specs.Candidates.{Candidate, call_at, WholeCandidate, FrontCandidate, IsCandidate, WholeAt, EndsAt, FrontFrom, InSets, CallIn, AreCallsOf, EndOnce, HasPlaces}
-use Rattle.xs_grow.proofs.ListLemmas.{all_same, all_append}
-use Rattle.xs_grow.proofs.Growing.{mark_facts}
+use Rattle.xs_grow.specs.Candidates.{Candidate, call_at, WholeCandidate, FrontCandidate, WholeAt, EndsAt, FrontFrom, InSets, CallIn, AreCallsOf, HasPlaces}
+use Rattle.xs_grow.specs.Making.{stands_at, IsLabel}
+use Rattle.xs_grow.proofs.ListLemmas.{all_same}
 
 module _ (g : Grammar) (w : List ℕ) (sets : List (List Item)) (chart : IsChartOf g w sets) where
   abbrev has : ℕ → Place → ℕ → Type 0
@@ -89,32 +87,24 @@ module _ (g : Grammar) (w : List ℕ) (sets : List (List Item)) (chart : IsChart
             ),
           )
 
-  module _ (wholes : List Candidate) (all : HasAllOf (WholeCandidate g has) wholes) (groups : Grouped SpanKey) (grouped : HasGroups wholes groups) (calls : Grouped Call) (called : AreCallsOf groups calls) where
-    pub ends_once : EndOnce calls
-    ends_once r call ends is = called.2.once called.1.once r call ends is
+  module _ (wholes : List Candidate) (all : HasAllOf (WholeCandidate g has) wholes) (calls : List (Call × ℕ)) (called : AreCallsOf wholes calls) where
+    none_whole : (n m : ℕ) → Whole n ≡ Whole m → n ≡ m
+    none_whole n m e = cc
 
-    same_call : (n m i k j l : ℕ) → ◌≡◌ {A = Call × ℕ} (call_at n i, j) (call_at m k, l) → (n ≡ m) × (i ≡ k) × (j ≡ l)
-    same_call n m i k j l e = (ap (λ (z : Call × ℕ). z.0.non) e, ap (λ (z : Call × ℕ). z.0.start) e, ap (λ (z : Call × ℕ). z.1) e)
+    ends_finished : (n m j : ℕ) → Contains calls (call_at n m, j) → IsFinished g has n m j
+    ends_finished n m j c =
+        let k = called.sound (call_at n m, j) c in
+        let h = all.sound (key_at (Whole k.2) k.3 k.4, k.5) (contains_of wholes k.0 (key_at (Whole k.2) k.3 k.4, k.5) k.6) in
+        let non : h.non ≡ n = sym (none_whole k.2 h.non (ap (λ (z : Candidate). z.0.what) h.is)) ∙ sym (ap (λ (z : Call × ℕ). z.0.non) k.7) in
+        let start : h.start ≡ m = sym (ap (λ (z : Candidate). z.0.start) h.is) ∙ sym (ap (λ (z : Call × ℕ). z.0.start) k.7) in
+        let end : h.end ≡ j = sym (ap (λ (z : Candidate). z.0.end) h.is) ∙ sym (ap (λ (z : Call × ℕ). z.1) k.7) in
+        subst (λ z. IsFinished g has z m j) non (subst (λ z. IsFinished g has h.non z j) start (subst (λ z. IsFinished g has h.non h.start z) end (h.rule, h.of, h.ended)))
 
-    group_finished : (r n i j : ℕ) (rules : List ℕ) → IsGroup groups r (key_at (Whole n) i j) rules → IsFinished g has n i j
-    group_finished r n i j rules is =
-        let q = grouped.filled r (key_at (Whole n) i j) rules is in
-        let candidate = all.sound (key_at (Whole n) i j, q.0) (grouped.sound r (key_at (Whole n) i j) rules q.0 is q.1) in
-        let facts = mark_facts g w has (key_at (Whole n) i j, q.0) (inl candidate) in
-        (q.0, facts.0, facts.1)
-
-    ends_finished : (n m j : ℕ) → (r : ℕ) × (ends : List ℕ) × IsGroup calls r (call_at n m) ends × Contains ends j → IsFinished g has n m j
-    ends_finished n m j (r, ends, is, c) =
-        let k = called.1.sound (call_at n m, j) (called.2.sound r (call_at n m) ends j is c) in
-        let e = same_call n k.2 m k.3 j k.4 k.7 in
-        subst (λ z. IsFinished g has z m j) (sym e.0) (subst (λ z. IsFinished g has k.2 z j) (sym e.1) (subst (λ z. IsFinished g has k.2 k.3 z) (sym e.2) (group_finished k.0 k.2 k.3 k.4 k.5 k.6)))
-
-    finished_ends : (n m j : ℕ) → IsFinished g has n m j → (r : ℕ) × (ends : List ℕ) × IsGroup calls r (call_at n m) ends × Contains ends j
+    finished_ends : (n m j : ℕ) → IsFinished g has n m j → Contains calls (call_at n m, j)
     finished_ends n m j (q, of, ended) =
         let candidate : WholeCandidate g has (key_at (Whole n) m j, q) = record { non = n; rule = q; start = m; end = j; is = refl; of = of; ended = ended } in
-        let o = grouped.complete (key_at (Whole n) m j) q (all.complete (key_at (Whole n) m j, q) candidate) in
-        let c : CallIn groups (length groups) (call_at n m, j) = (o.0, slice_get_within groups o.0 (key_at (Whole n) m j, o.1) o.2, n, m, j, o.1, o.2, refl) in
-        called.2.complete (call_at n m) j (called.1.complete (call_at n m, j) c)
+        let at = get_of wholes (key_at (Whole n) m j, q) (all.complete (key_at (Whole n) m j, q) candidate) in
+        called.complete (call_at n m, j) (at.0, slice_get_within wholes at.0 (key_at (Whole n) m j, q) at.1, n, m, j, q, at.1, refl)
 
     -- where an item ends
     ends_over : (item : GItem) (m j : ℕ) → EndsAt g w calls item m j → ItemOver g w has item m j
@@ -142,6 +132,8 @@ module _ (g : Grammar) (w : List ℕ) (sets : List (List Item)) (chart : IsChart
           split = j;
           item = p.item;
           is = p.is;
+          later = p.later;
+          searched = p.searched;
           at = p.at;
           before = subst (λ (z : Place). has j z it.origin) (sym (as_dot p.place p.plain)) (item_has j k it p.place at p.numbered);
           last = ends_over p.item j p.end p.last;
@@ -164,6 +156,8 @@ module _ (g : Grammar) (w : List ℕ) (sets : List (List Item)) (chart : IsChart
                   numbered = h.before.1;
                   plain = refl;
                   item = h.item;
+                  later = h.later;
+                  searched = h.searched;
                   at = h.at;
                   end = h.end;
                   last = over_ends h.item h.split h.end h.last;
@@ -172,15 +166,43 @@ module _ (g : Grammar) (w : List ℕ) (sets : List (List Item)) (chart : IsChart
               ),
             )
 
-    apart : (c : Candidate) → WholeCandidate g has c → FrontCandidate g w has c → ⊥
-    apart c a b = none_same a.non b.rule (suc b.dot) (ap (λ (z : Candidate). z.0.what) (sym a.is ∙ b.is))
-      where
-        none_same : (n p d : ℕ) → Whole n ≡ Front p d → ⊥
-        none_same n p d e = cc
+  -- by what stands
+  finished_stands : (n i j : ℕ) → IsFinished g has n i j → IsFinished g (stands_at g w) n i j
+  finished_stands n i j (q, of, ended) = (q, of, chart_all_stand g w sets chart (at_dot q (length (items g q))) i j ended)
 
-    pub all_marked : (fronts : List Candidate) → HasAllOf (InSets (FrontFrom g w calls) sets (length sets)) fronts → HasAllOf (IsCandidate g w has) (wholes ++ fronts)
-    all_marked fronts h = all_append (WholeCandidate g has) (FrontCandidate g w has) (IsCandidate g w has) wholes fronts all (fronts_marked fronts h) apart (λ c a. inl a) (λ c b. inr b) (λ c m. m)
+  finished_has : (n i j : ℕ) → IsFinished g (stands_at g w) n i j → IsFinished g has n i j
+  finished_has n i j (q, of, ended) = (q, of, chart_has_all g w sets chart (at_dot q (length (items g q))) i j ended)
 
-  -- a document of the language has the label of its start
-  pub start_label : InLang g w → ((c : Place) (i j : ℕ) → Stands g w c i j → has j c i) → IsLabelBy g has (Whole g.start) 0 (length w)
-  start_label in_lang complete = let e = whole_of g w in_lang in (e.0, e.1, complete (at_dot e.0 (length (items g e.0))) 0 (length w) e.2)
+  over_stands : (item : GItem) (m j : ℕ) → ItemOver g w has item m j → ItemOver g w (stands_at g w) item m j
+  over_stands (Fixed v) m j h = h
+  over_stands (Term t s) m j h = h
+  over_stands (Skip k) m j h = h
+  over_stands (Non n s) m j h = finished_stands n m j h
+
+  over_has : (item : GItem) (m j : ℕ) → ItemOver g w (stands_at g w) item m j → ItemOver g w has item m j
+  over_has (Fixed v) m j h = h
+  over_has (Term t s) m j h = h
+  over_has (Skip k) m j h = h
+  over_has (Non n s) m j h = finished_has n m j h
+
+  whole_stands : (c : Candidate) → WholeCandidate g has c → WholeCandidate g (stands_at g w) c
+  whole_stands c h = record { non = h.non; rule = h.rule; start = h.start; end = h.end; is = h.is; of = h.of; ended = chart_all_stand g w sets chart (at_dot h.rule (length (items g h.rule))) h.start h.end h.ended }
+
+  whole_has : (c : Candidate) → WholeCandidate g (stands_at g w) c → WholeCandidate g has c
+  whole_has c h = record { non = h.non; rule = h.rule; start = h.start; end = h.end; is = h.is; of = h.of; ended = chart_has_all g w sets chart (at_dot h.rule (length (items g h.rule))) h.start h.end h.ended }
+
+  front_stands : (c : Candidate) → FrontCandidate g w has c → FrontCandidate g w (stands_at g w) c
+  front_stands c h = record { rule = h.rule; dot = h.dot; start = h.start; end = h.end; split = h.split; item = h.item; is = h.is; later = h.later; searched = h.searched; at = h.at; before = chart_all_stand g w sets chart (at_dot h.rule h.dot) h.start h.split h.before; last = over_stands h.item h.split h.end h.last }
+
+  front_has : (c : Candidate) → FrontCandidate g w (stands_at g w) c → FrontCandidate g w has c
+  front_has c h = record { rule = h.rule; dot = h.dot; start = h.start; end = h.end; split = h.split; item = h.item; is = h.is; later = h.later; searched = h.searched; at = h.at; before = chart_has_all g w sets chart (at_dot h.rule h.dot) h.start h.split h.before; last = over_has h.item h.split h.end h.last }
+
+  pub wholes_stand : (marks : List Candidate) → HasAllOf (InSets (WholeAt g) sets (length sets)) marks → HasAllOf (WholeCandidate g (stands_at g w)) marks
+  wholes_stand marks all = all_same (WholeCandidate g has) (WholeCandidate g (stands_at g w)) marks whole_stands whole_has (wholes_marked marks all)
+
+  pub fronts_stand : (wholes : List Candidate) → HasAllOf (WholeCandidate g (stands_at g w)) wholes → (calls : List (Call × ℕ)) → AreCallsOf wholes calls → (marks : List Candidate) → HasAllOf (InSets (FrontFrom g w calls) sets (length sets)) marks → HasAllOf (FrontCandidate g w (stands_at g w)) marks
+  fronts_stand wholes all calls called marks fronts = all_same (FrontCandidate g w has) (FrontCandidate g w (stands_at g w)) marks front_stands front_has (fronts_marked wholes (all_same (WholeCandidate g (stands_at g w)) (WholeCandidate g has) wholes whole_has whole_stands all) calls called marks fronts)
+
+-- a document of the language has the label of its start
+pub start_label : (g : Grammar) (w : List ℕ) → InLang g w → IsLabel g w (key_at (Whole g.start) 0 (length w))
+start_label g w in_lang = let e = whole_of g w in_lang in (e.0, e.1, e.2)

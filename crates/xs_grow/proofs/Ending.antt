@@ -10,11 +10,9 @@ use Rattle.xs_chart_laws.proofs.Words.{get_take, Reads-join, Reads-is, Reads-wit
 use Rattle.xs_chart_laws.proofs.Spelling.{term_agrees, skip_agrees}
 use Rattle.xs_grow.specs.declared.call.Call.{Call}
 use Rattle.xs_grow.specs.Lists.{HasAllOf}
-use Rattle.xs_grow.specs.Grouped.{Grouped, IsGroup, HasNone, AreApart}
-use Rattle.xs_grow.specs.Candidates.{call_at, EndsAt, EndOnce}
+use Rattle.xs_grow.specs.Candidates.{EndsAt}
 use Rattle.xs_grow.specs.Running.{AcceptsTo}
 use Rattle.xs_grow.proofs.ListLemmas.{all_none, all_one, all_same}
-use Rattle.xs_grow.proofs.Grouping.{one_group_of}
 
 pub reads_more : (w u : List ℕ) (at k x next : ℕ) → Reads w at (take k u) (at + k) → slice_get u k ≡ Some x → slice_get w (at + k) ≡ Some x → next ≡ suc k → Reads w at (take next u) (at + next)
 reads_more w u at k x next r here there e =
@@ -44,7 +42,7 @@ fixed_ends w u at end ends b reads (inl (t, e, is)) =
 fixed_ends w u at end ends b reads (inr (f, is)) =
     subst (λ z. HasAllOf (Reads w at u) z) (sym is) (all_none (Reads w at u) (λ j r. true≢false (sym (reads.1 (subst (λ z. Reads w at u z) (Reads-is w at u j r) r)) ∙ f)))
 
-module _ (g : Grammar) (w : List ℕ) (calls : Grouped Call) (built : IsBuilt g) (p n : ℕ) where
+module _ (g : Grammar) (w : List ℕ) (calls : List (Call × ℕ)) (built : IsBuilt g) (p n : ℕ) where
   pub term_ends : (t s m : ℕ) (ends : List ℕ) → ItemAt g p n (Term t s) → HasAllOf (AcceptsTo (term_of g t).automaton w m (length w)) ends → HasAllOf (EndsAt g w calls (Term t s) m) ends
   term_ends t s m ends at all =
       let agrees = (term_agrees g built p n t s at).accepts in
@@ -54,12 +52,3 @@ module _ (g : Grammar) (w : List ℕ) (calls : Grouped Call) (built : IsBuilt g)
   skip_ends k m ends at all =
       let agrees = (skip_agrees g built p n k at).accepts in
       all_same (AcceptsTo (skip_of g k).automaton w m (length w)) (EndsAt g w calls (Skip k) m) ends (λ j h. (h.0, h.1, (agrees (slice_range w m j)).1 h.2)) (λ j h. (h.0, h.1, (agrees (slice_range w m j)).0 h.2)) all
-
-pub non_ends : (g : Grammar) (w : List ℕ) (calls : Grouped Call) (n s m : ℕ) (ends : List ℕ) → EndOnce calls → AreApart calls → ((r : ℕ) × IsGroup calls r (call_at n m) ends) ⊎ (HasNone calls (call_at n m) × (ends ≡ [])) → HasAllOf (EndsAt g w calls (Non n s) m) ends
-non_ends g w calls n s m ends once apart (inl (r, is)) = record {
-  sound = λ j c. (r, ends, is, c);
-  complete = λ j h. subst (λ (z : List ℕ). Contains z j) (one_group_of calls apart h.0 r (call_at n m) h.1 ends h.2 is) h.3;
-  once = once r (call_at n m) ends is;
-}
-non_ends g w calls n s m ends once apart (inr (none, e)) =
-    subst (λ z. HasAllOf (EndsAt g w calls (Non n s) m) z) (sym e) (all_none (EndsAt g w calls (Non n s) m) (λ j h. none h.0 h.1 h.2))

@@ -1,5 +1,5 @@
--- The candidates of one item more, of one set more, and of one group more.
-use Rattle.std.proofs.Common.{◌≡◌, ◌⊎◌, ℕ, zero, suc, List, [], ◌∷◌, ◌++◌, length, slice_get, map, None, Some, refl, sym, ap, ◌∙◌, subst, arith, inl, inr, append-nil}
+-- The candidates of one item more, of one set more, and of one mark more.
+use Rattle.std.proofs.Common.{◌≡◌, ◌⊎◌, ℕ, zero, suc, ◌<◌, List, [], ◌∷◌, ◌++◌, length, slice_get, map, None, Some, refl, sym, ap, ◌∙◌, subst, arith, inl, inr, append-nil}
 use Rattle.std.specs.Prelude.{Contains}
 use Rattle.std.proofs.lemmas.Bool.{cases_eq}
 use Rattle.std.proofs.lemmas.Option.{none-some, same_Some}
@@ -20,8 +20,8 @@ use Rattle.xs_forest_laws.specs.declared.span.What.TheVariants.{Whole, Front}
 use Rattle.xs_forest_laws.specs.Forest.{key_at}
 use Rattle.xs_grow.specs.declared.call.Call.{Call}
 use Rattle.xs_grow.specs.Lists.{AreOnce, HasAllOf, Appends}
-use Rattle.xs_grow.specs.Grouped.{Grouped, IsGroup, AreApart}
-use Rattle.xs_grow.specs.Candidates.{Candidate, call_at, WholeAt, EndsAt, FrontFrom, InSet, InSets, CallIn, called}
+use Rattle.xs_grow.specs.Marked.{IsFirst, IsAgain}
+use Rattle.xs_grow.specs.Candidates.{Candidate, call_at, WholeAt, IsSearched, IsLater, EndsAt, FrontFrom, InSet, InSets, CallIn, called, IsCallPushed}
 use Rattle.xs_grow.proofs.ListLemmas.{all_none, all_push, all_same, appends_none, appends_one, appends_more}
 
 module _ (P : ℕ → Item → Candidate → Type 0) (sets : List (List Item)) where
@@ -110,7 +110,7 @@ module _ (g : Grammar) where
   whole_one j it place a b number (inr (none, e)) =
       subst (λ z. Appends (WholeAt g j it) a z) (sym e) (appends_none (WholeAt g j it) a (λ m h. none (subst (λ (c : Place). (c.inside ≡ None) × (c.dot ≡ length (items g c.rule))) (one_place g it.state h.place place h.numbered number) (h.plain, h.whole))))
 
-  module _ (w : List ℕ) (calls : Grouped Call) where
+  module _ (w : List ℕ) (calls : List (Call × ℕ)) where
     pub front_item : (j : ℕ) (one two : Item) (m : Candidate) → FrontFrom g w calls j one m → FrontFrom g w calls j two m → one ≡ two
     front_item j one two m a b =
         let s = same_start (Front a.place.rule (suc a.place.dot)) (Front b.place.rule (suc b.place.dot)) one.origin a.end two.origin b.end j j (sym a.is ∙ b.is) in
@@ -119,15 +119,12 @@ module _ (g : Grammar) where
     pub front_set : (i j : ℕ) (one two : Item) (m : Candidate) → FrontFrom g w calls i one m → FrontFrom g w calls j two m → i ≡ j
     front_set i j one two m a b = (same_start (Front a.place.rule (suc a.place.dot)) (Front b.place.rule (suc b.place.dot)) one.origin a.end two.origin b.end i j (sym a.is ∙ b.is)).3
 
-    -- an item that stands inside an item, or at the end of its rule, has no such candidates
+    -- an item that stands inside an item, or before none that is searched, has no such candidates
     pub front_inside : (j : ℕ) (it : Item) (place : Place) (k : ℕ) (a : List Candidate) → IsNumber g it.state place → place.inside ≡ Some k → Appends (FrontFrom g w calls j it) a a
     front_inside j it place k a number inside = appends_none (FrontFrom g w calls j it) a (λ m h. none-some k (sym h.plain ∙ (ap (λ (c : Place). c.inside) (one_place g it.state h.place place h.numbered number) ∙ inside)))
 
-    pub front_end : (j : ℕ) (it : Item) (place : Place) (a : List Candidate) → IsNumber g it.state place → place.dot ≡ length (items g place.rule) → Appends (FrontFrom g w calls j it) a a
-    front_end j it place a number end = appends_none (FrontFrom g w calls j it) a (λ m h.
-        let at : ItemAt g place.rule place.dot h.item = subst (λ (c : Place). ItemAt g c.rule c.dot h.item) (one_place g it.state h.place place h.numbered number) h.at in
-        let lt = get_lt (items g place.rule) place.dot h.item at in
-        absurd (omega arith))
+    pub front_not : (j : ℕ) (it : Item) (place : Place) (a : List Candidate) → IsNumber g it.state place → (IsLater (items g place.rule) place.dot → ⊥) → Appends (FrontFrom g w calls j it) a a
+    front_not j it place a number none = appends_none (FrontFrom g w calls j it) a (λ m h. none (subst (λ (c : Place). IsLater (items g c.rule) c.dot) (one_place g it.state h.place place h.numbered number) (h.item, h.at, h.later, h.searched)))
 
     abbrev mark_of : (j : ℕ) (it : Item) (place : Place) (end : ℕ) → Candidate
     mark_of j it place end = (key_at (Front place.rule (suc place.dot)) it.origin end, j)
@@ -135,8 +132,8 @@ module _ (g : Grammar) where
     same_end : (j : ℕ) (it : Item) (place : Place) (e f : ℕ) → mark_of j it place e ≡ mark_of j it place f → e ≡ f
     same_end j it place e f h = ap (λ (z : Candidate). z.0.end) h
 
-    mapped_all : (j : ℕ) (it : Item) (place : Place) (item : GItem) (ends : List ℕ) → IsNumber g it.state place → place.inside ≡ None → ItemAt g place.rule place.dot item → HasAllOf (EndsAt g w calls item j) ends → HasAllOf (FrontFrom g w calls j it) (map (mark_of j it place) ends)
-    mapped_all j it place item ends number plain at all = record { sound = sound; complete = complete; once = once }
+    mapped_all : (j : ℕ) (it : Item) (place : Place) (item : GItem) (ends : List ℕ) → IsNumber g it.state place → place.inside ≡ None → 0 < place.dot → IsSearched item → ItemAt g place.rule place.dot item → HasAllOf (EndsAt g w calls item j) ends → HasAllOf (FrontFrom g w calls j it) (map (mark_of j it place) ends)
+    mapped_all j it place item ends number plain later searched at all = record { sound = sound; complete = complete; once = once }
       where
         got : (xs : List ℕ) (k : ℕ) (m : Candidate) → slice_get (map (mark_of j it place) xs) k ≡ Some m → (e : ℕ) × (slice_get xs k ≡ Some e) × (mark_of j it place e ≡ m)
         got [] k m h = absurd (none-some m h)
@@ -152,7 +149,7 @@ module _ (g : Grammar) where
         sound m c =
             let at' = get_of (map (mark_of j it place) ends) m c in
             let e = got ends at'.0 m at'.1 in
-            record { place = place; numbered = number; plain = plain; item = item; at = at; end = e.0; last = all.sound e.0 (contains_of ends at'.0 e.0 e.1); is = sym e.2 }
+            record { place = place; numbered = number; plain = plain; item = item; later = later; searched = searched; at = at; end = e.0; last = all.sound e.0 (contains_of ends at'.0 e.0 e.1); is = sym e.2 }
 
         complete : (m : Candidate) → FrontFrom g w calls j it m → Contains (map (mark_of j it place) ends) m
         complete m h =
@@ -170,55 +167,63 @@ module _ (g : Grammar) where
             let same : f.0 ≡ e.0 = same_end j it place f.0 e.0 (f.2 ∙ sym e.2) in
             all.once k l e.0 e.1 (subst (λ z. slice_get ends l ≡ Some z) same f.1)
 
-    pub front_ends : (j : ℕ) (it : Item) (place : Place) (item : GItem) (ends : List ℕ) (a b : List Candidate) (dot : ℕ) → IsNumber g it.state place → place.inside ≡ None → ItemAt g place.rule place.dot item → HasAllOf (EndsAt g w calls item j) ends → dot ≡ suc place.dot → b ≡ a ++ map (λ end. (key_at (Front place.rule dot) it.origin end, j)) ends → Appends (FrontFrom g w calls j it) a b
-    front_ends j it place item ends a b dot number plain at all e is =
-        record { added = map (mark_of j it place) ends; is = is ∙ ap (λ d. a ++ map (λ end. (key_at (Front place.rule d) it.origin end, j)) ends) e; all = mapped_all j it place item ends number plain at all }
+    pub front_ends : (j : ℕ) (it : Item) (place : Place) (item : GItem) (ends : List ℕ) (a b : List Candidate) (dot : ℕ) → IsNumber g it.state place → place.inside ≡ None → IsLater (items g place.rule) place.dot → ItemAt g place.rule place.dot item → HasAllOf (EndsAt g w calls item j) ends → dot ≡ suc place.dot → b ≡ a ++ map (λ end. (key_at (Front place.rule dot) it.origin end, j)) ends → Appends (FrontFrom g w calls j it) a b
+    front_ends j it place item ends a b dot number plain (other, there, later, searched) at all e is =
+        record { added = map (mark_of j it place) ends; is = is ∙ ap (λ d. a ++ map (λ end. (key_at (Front place.rule d) it.origin end, j)) ends) e; all = mapped_all j it place item ends number plain later (subst IsSearched (same_Some other item (sym there ∙ at)) searched) at all }
 
--- a call of one group more
-module _ (groups : Grouped SpanKey) where
-  what_group : (r : ℕ) (a b : SpanKey) (ns ms : List ℕ) → slice_get groups r ≡ Some (a, ns) → slice_get groups r ≡ Some (b, ms) → a ≡ b
-  what_group r a b ns ms e f = ap (λ (z : SpanKey × List ℕ). z.0) (same_Some (a, ns) (b, ms) (sym e ∙ f))
-
+-- the calls of one mark more
+module _ (marks : List Candidate) where
   none_whole : (n p d : ℕ) → Whole n ≡ Front p d → ⊥
   none_whole n p d e = cc
 
   same_whole : (n m : ℕ) → Whole n ≡ Whole m → n ≡ m
   same_whole n m e = cc
 
-  pub calls_none : HasAllOf (CallIn groups 0) []
-  calls_none = all_none (CallIn groups 0) (λ c h. absurd (omega (arith, h.1)))
+  pub calls_none : HasAllOf (CallIn marks 0) []
+  calls_none = all_none (CallIn marks 0) (λ c h. absurd (omega (arith, h.1)))
 
-  pub calls_more : (t : ℕ) (x : What) (i j : ℕ) (ns : List ℕ) (old new : List (Call × ℕ)) → AreApart groups → slice_get groups t ≡ Some (key_at x i j, ns) → new ≡ old ++ called (key_at x i j) → HasAllOf (CallIn groups t) old → HasAllOf (CallIn groups (suc t)) new
-  calls_more t (Whole n) i j ns old new apart here e all =
-      subst (λ z. HasAllOf (CallIn groups (suc t)) z) (sym e) (all_push (CallIn groups t) (CallIn groups (suc t)) old (call_at n i, j) all fresh (t, omega arith, n, i, j, ns, here, refl) keep split)
+  keep : (t : ℕ) (c : Call × ℕ) → CallIn marks t c → CallIn marks (suc t) c
+  keep t c (r, lt, m, k, l, q, at, is) = (r, omega (arith, lt), m, k, l, q, at, is)
+
+  -- the call of a mark
+  at_last : (t : ℕ) (x : What) (i j number : ℕ) (c : Call × ℕ) → slice_get marks t ≡ Some (key_at x i j, number) → CallIn marks (suc t) c → CallIn marks t c ⊎ ((n : ℕ) × (x ≡ Whole n) × ((call_at n i, j) ≡ c))
+  at_last t x i j number c here (r, lt, m, k, l, q, at, is) = elim (cases_eq r t) [
+    | inl e ↦
+        let same = same_Some (key_at x i j, number) (key_at (Whole m) k l, q) (sym here ∙ subst (λ z. slice_get marks z ≡ Some (key_at (Whole m) k l, q)) e at) in
+        inr (m, ap (λ (z : Candidate). z.0.what) same, ap (λ (z : Candidate). (call_at m z.0.start, z.0.end)) same ∙ sym is)
+    | inr ne ↦ let le = lt in inl (r, omega arith, m, k, l, q, at, is)
+  ]
+
+  pub calls_more : (t : ℕ) (x : What) (i j number : ℕ) (old new : List (Call × ℕ)) → slice_get marks t ≡ Some (key_at x i j, number) → IsCallPushed marks t (key_at x i j) old new → HasAllOf (CallIn marks t) old → HasAllOf (CallIn marks (suc t)) new
+  calls_more t (Whole n) i j number old new here (inl (first, e)) all =
+      subst (λ z. HasAllOf (CallIn marks (suc t)) z) (sym e) (all_push (CallIn marks t) (CallIn marks (suc t)) old (call_at n i, j) all fresh (t, omega arith, n, i, j, number, here, refl) (keep t) split)
     where
-      fresh : CallIn groups t (call_at n i, j) → ⊥
-      fresh (r, lt, m, k, l, ms, at, is) =
+      fresh : CallIn marks t (call_at n i, j) → ⊥
+      fresh (r, lt, m, k, l, q, at, is) =
           let n' : n ≡ m = ap (λ (z : Call × ℕ). z.0.non) is in
           let i' : i ≡ k = ap (λ (z : Call × ℕ). z.0.start) is in
           let j' : j ≡ l = ap (λ (z : Call × ℕ). z.1) is in
-          let same : key_at (Whole n) i j ≡ key_at (Whole m) k l = ap (λ z. key_at (Whole z) i j) n' ∙ (ap (λ z. key_at (Whole m) z j) i' ∙ ap (λ z. key_at (Whole m) k z) j') in
-          let r' : r ≡ t = apart r t (key_at (Whole n) i j) ms ns (subst (λ z. IsGroup groups r z ms) (sym same) at) here in
-          absurd (omega (arith, lt))
+          let same : key_at (Whole m) k l ≡ key_at (Whole n) i j = sym (ap (λ z. key_at (Whole z) i j) n' ∙ (ap (λ z. key_at (Whole m) z j) i' ∙ ap (λ z. key_at (Whole m) k z) j')) in
+          first r q lt (subst (λ z. slice_get marks r ≡ Some (z, q)) same at)
 
-      keep : (c : Call × ℕ) → CallIn groups t c → CallIn groups (suc t) c
-      keep c (r, lt, m, k, l, ms, at, is) = (r, omega (arith, lt), m, k, l, ms, at, is)
-
-      split : (c : Call × ℕ) → CallIn groups (suc t) c → CallIn groups t c ⊎ ((call_at n i, j) ≡ c)
-      split c (r, lt, m, k, l, ms, at, is) = elim (cases_eq r t) [
-        | inl r' ↦
-            let same = what_group t (key_at (Whole n) i j) (key_at (Whole m) k l) ns ms here (subst (λ z. IsGroup groups z (key_at (Whole m) k l) ms) r' at) in
-            inr (ap (λ z. (call_at z i, j)) (same_whole n m (ap (λ (z : SpanKey). z.what) same)) ∙ (ap (λ z. (call_at m z, j)) (ap (λ (z : SpanKey). z.start) same) ∙ (ap (λ z. (call_at m k, z)) (ap (λ (z : SpanKey). z.end) same) ∙ sym is)))
-        | inr ne ↦ let le = lt in inl (r, omega arith, m, k, l, ms, at, is)
+      split : (c : Call × ℕ) → CallIn marks (suc t) c → CallIn marks t c ⊎ ((call_at n i, j) ≡ c)
+      split c h = elim (at_last t (Whole n) i j number c here h) [
+        | inl old ↦ inl old
+        | inr (m, is, same) ↦ inr (ap (λ z. (call_at z i, j)) (same_whole n m is) ∙ same)
       ]
-  calls_more t (Front p d) i j ns old new apart here e all =
-      subst (λ z. HasAllOf (CallIn groups (suc t)) z) (sym (e ∙ append-nil old)) (all_same (CallIn groups t) (CallIn groups (suc t)) old keep back all)
+  calls_more t (Front p d) i j number old new here (inl (first, e)) all =
+      subst (λ z. HasAllOf (CallIn marks (suc t)) z) (sym (e ∙ append-nil old)) (all_same (CallIn marks t) (CallIn marks (suc t)) old (keep t) back all)
     where
-      keep : (c : Call × ℕ) → CallIn groups t c → CallIn groups (suc t) c
-      keep c (r, lt, m, k, l, ms, at, is) = (r, omega (arith, lt), m, k, l, ms, at, is)
-
-      back : (c : Call × ℕ) → CallIn groups (suc t) c → CallIn groups t c
-      back c (r, lt, m, k, l, ms, at, is) = elim (cases_eq r t) [
-        | inl r' ↦ absurd (none_whole m p d (sym (ap (λ (z : SpanKey). z.what) (what_group t (key_at (Front p d) i j) (key_at (Whole m) k l) ns ms here (subst (λ z. IsGroup groups z (key_at (Whole m) k l) ms) r' at)))))
-        | inr ne ↦ let le = lt in (r, omega arith, m, k, l, ms, at, is)
+      back : (c : Call × ℕ) → CallIn marks (suc t) c → CallIn marks t c
+      back c h = elim (at_last t (Front p d) i j number c here h) [
+        | inl old ↦ old
+        | inr (m, is, same) ↦ absurd (none_whole m p d (sym is))
+      ]
+  calls_more t x i j number old new here (inr ((m, q, lt, at), e)) all =
+      subst (λ z. HasAllOf (CallIn marks (suc t)) z) (sym e) (all_same (CallIn marks t) (CallIn marks (suc t)) old (keep t) back all)
+    where
+      back : (c : Call × ℕ) → CallIn marks (suc t) c → CallIn marks t c
+      back c h = elim (at_last t x i j number c here h) [
+        | inl old ↦ old
+        | inr (n, is, same) ↦ (m, lt, n, i, j, q, subst (λ z. slice_get marks m ≡ Some (key_at z i j, q)) is at, sym same)
       ]

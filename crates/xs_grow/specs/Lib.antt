@@ -1,7 +1,6 @@
 pub mod Lists
-pub mod Grouped
+pub mod Marked
+pub mod Spread
 pub mod Running
 pub mod Candidates
-pub mod Few
-pub mod Levels
 pub mod Making

@@ -1,58 +1,83 @@
--- The rows of a forest from groups of candidates: one for each group, with an alternative for each number.
-use Rattle.std.specs.Prelude.{◌≡◌, ◌⊎◌, ℕ, zero, suc, ◌<◌, List, length, None, Some, slice_get, Contains, MatchOption}
+-- What the rows of a forest are made of: for each label the numbers that stand for its alternatives, and for
+-- each number the alternative with the rows of its children.
+use Rattle.std.specs.Prelude.{◌≡◌, ◌⊎◌, ℕ, zero, suc, ◌<◌, List, [], ◌∷◌, ◌++◌, length, All, None, Some, slice_get, MatchOption}
 use Rattle.std.specs.declared.option.Option.{Option}
 use Rattle.xs_gram.specs.declared.parts.GItem.{GItem}
 use Rattle.xs_gram.specs.declared.parts.GItem.TheVariants.{Fixed, Term, Non, Skip}
-use Rattle.xs_gram.specs.Grammar.{Grammar, items}
+use Rattle.xs_gram.specs.declared.places.Place.{Place}
+use Rattle.xs_gram.specs.Grammar.{Grammar, items, IsRuleOf, ItemAt}
+use Rattle.xs_gram.specs.Places.{at_dot}
+use Rattle.xs_gram.specs.Chart.{Stands}
+use Rattle.xs_gram.specs.Sound.{IsBuilt}
+use Rattle.xs_chart.specs.Charted.{set_limit}
 use Rattle.xs_forest.specs.declared.row.Alt.{Alt}
+use Rattle.xs_forest.specs.Rows.{HasLabel}
 use Rattle.xs_forest_laws.specs.declared.span.SpanKey.{SpanKey}
 use Rattle.xs_forest_laws.specs.declared.span.What.{What}
 use Rattle.xs_forest_laws.specs.declared.span.What.TheVariants.{Whole, Front}
 use Rattle.xs_forest_laws.specs.Forest.{Forest, key_at, item_of}
-use Rattle.xs_grow.specs.Grouped.{Grouped, IsGroup, HasNone}
+use Rattle.xs_forest_laws.specs.Grown.{ItemOver, IsLabelBy}
+use Rattle.xs_grow.specs.declared.source.Source.{Source}
+use Rattle.xs_grow.specs.Lists.{HasAllOf}
+use Rattle.xs_grow.specs.Candidates.{WholeCandidate, FrontCandidate}
 
--- o is the number of the label's group, and None where it has none
-abbrev pub Finds : Grouped SpanKey → SpanKey → Option ℕ → Type 0
-Finds groups key o = MatchOption o (HasNone groups key) (λ r. (numbers : List ℕ) × IsGroup groups r key numbers)
+-- the item of place c and origin i stands in set j
+abbrev pub stands_at : Grammar → List ℕ → ℕ → Place → ℕ → Type 0
+stands_at g w j c i = Stands g w c i j
 
--- the same of the first d items of a rule, None where d is 0
-abbrev pub FindsFront : Grouped SpanKey → ℕ → ℕ → ℕ → ℕ → Option ℕ → Type 0
-FindsFront groups p zero i j o = o ≡ None
-FindsFront groups p (suc d) i j o = Finds groups (key_at (Front p (suc d)) i j) o
+-- the label is one of the chart
+abbrev pub IsLabel : Grammar → List ℕ → SpanKey → Type 0
+IsLabel g w key = IsLabelBy g (stands_at g w) key.what key.start key.end
 
--- the same of an item, None where it is no nonterminal
-abbrev pub FindsItem : Grouped SpanKey → GItem → ℕ → ℕ → Option ℕ → Type 0
-FindsItem groups (Fixed v) i j o = o ≡ None
-FindsItem groups (Term t s) i j o = o ≡ None
-FindsItem groups (Skip k) i j o = o ≡ None
-FindsItem groups (Non n s) i j o = Finds groups (key_at (Whole n) i j) o
+-- the number stands for an alternative: of a nonterminal it is a rule that is finished over the stretch, of
+-- first items a place where the last of them may begin
+abbrev pub IsNumberOf : Grammar → List ℕ → (ℕ → Place → ℕ → Type 0) → What → ℕ → ℕ → ℕ → Type 0
+IsNumberOf g w has (Whole n) i j q = IsRuleOf g n q × has j (at_dot q (length (items g q))) i
+IsNumberOf g w has (Front p zero) i j m = ⊥
+IsNumberOf g w has (Front p (suc d)) i j m = (item : GItem) × ItemAt g p d item × has m (at_dot p d) i × ItemOver g w has item m j
+
+-- the numbers of a label
+abbrev pub AreNumbersOf : Grammar → List ℕ → SpanKey → List ℕ → Type 0
+AreNumbersOf g w key numbers = HasAllOf (IsNumberOf g w (stands_at g w) key.what key.start key.end) numbers
+
+-- the marks are those of the document
+pub record IsSource (s : Source) : Type 0 where
+  pub built : IsBuilt s.g.now
+  pub short : length s.doc.now < set_limit
+  pub wholes : HasAllOf (WholeCandidate s.g.now (stands_at s.g.now s.doc.now)) s.wholes.now
+  pub splits : HasAllOf (FrontCandidate s.g.now s.doc.now (stands_at s.g.now s.doc.now)) s.splits.now
+
+-- o is the row of the first d items of rule p over the stretch, and no row where d is 0
+abbrev pub IsFront : Forest → ℕ → ℕ → ℕ → ℕ → Option ℕ → Type 0
+IsFront f p zero i j o = o ≡ None
+IsFront f p (suc d) i j o = (r : ℕ) × (o ≡ Some r) × HasLabel f r (key_at (Front p (suc d)) i j)
+
+-- o is the row of the item over the stretch where it is a nonterminal, and else no row
+abbrev pub IsItem : Forest → GItem → ℕ → ℕ → Option ℕ → Type 0
+IsItem f (Fixed v) i j o = o ≡ None
+IsItem f (Term t s) i j o = o ≡ None
+IsItem f (Skip k) i j o = o ≡ None
+IsItem f (Non n s) i j o = (r : ℕ) × (o ≡ Some r) × HasLabel f r (key_at (Whole n) i j)
 
 -- the alternative that a number of the label stands for
-abbrev pub IsMade : Grammar → Grouped SpanKey → What → ℕ → ℕ → ℕ → Alt → Type 0
-IsMade g groups (Whole n) i j q a = (a.rule ≡ q) × FindsFront groups q (length (items g q)) i j a.left × (a.right ≡ None)
-IsMade g groups (Front p zero) i j m a = Unit {0}
-IsMade g groups (Front p (suc d)) i j m a = (a.rule ≡ p) × FindsFront groups p d i m a.left × FindsItem groups (item_of g p d) m j a.right
-
--- the rules and items that the label and the number name are there
-abbrev pub CanBeMade : Grammar → What → ℕ → Type 0
-CanBeMade g (Whole n) q = q < length g.rules
-CanBeMade g (Front p zero) m = (p < length g.rules) × (zero < zero)
-CanBeMade g (Front p (suc d)) m = (p < length g.rules) × (d < length (items g p))
+abbrev pub IsMade : Grammar → Forest → What → ℕ → ℕ → ℕ → Alt → Type 0
+IsMade g f (Whole n) i j q a = (a.rule ≡ q) × IsFront f q (length (items g q)) i j a.left × (a.right ≡ None)
+IsMade g f (Front p zero) i j m a = ⊥
+IsMade g f (Front p (suc d)) i j m a = (a.rule ≡ p) × IsFront f p d i m a.left × IsItem f (item_of g p d) m j a.right
 
 -- the alternatives that the numbers stand for, in their order
-pub record AreMade (g : Grammar) (groups : Grouped SpanKey) (key : SpanKey) (numbers : List ℕ) (alts : List Alt) : Type 0 where
+pub record AreMade (g : Grammar) (f : Forest) (key : SpanKey) (numbers : List ℕ) (alts : List Alt) : Type 0 where
   pub long : length alts ≡ length numbers
-  pub each : (k n : ℕ) → slice_get numbers k ≡ Some n → (a : Alt) × (slice_get alts k ≡ Some a) × IsMade g groups key.what key.start key.end n a
+  pub each : (k n : ℕ) → slice_get numbers k ≡ Some n → (a : Alt) × (slice_get alts k ≡ Some a) × IsMade g f key.what key.start key.end n a
 
--- all that the groups name is there
-abbrev pub AllCanBeMade : Grammar → Grouped SpanKey → Type 0
-AllCanBeMade g groups = (r : ℕ) (key : SpanKey) (numbers : List ℕ) (n : ℕ) → IsGroup groups r key numbers → Contains numbers n → CanBeMade g key.what n
+-- The list goes on by labels of the chart that have no row yet; where it goes on by none, P holds.
+pub record Misses (g : Grammar) (w : List ℕ) (P : Type 0) (old new : List SpanKey) : Type 0 where
+  pub more : List SpanKey
+  pub is : new ≡ old ++ more
+  pub labels : All (IsLabel g w) more
+  pub done : more ≡ [] → P
 
--- the children that an alternative of a group names are earlier groups
-abbrev pub ChildrenAreEarlier : Grammar → Grouped SpanKey → Type 0
-ChildrenAreEarlier g groups = (r c : ℕ) (key : SpanKey) (numbers : List ℕ) (n : ℕ) (a : Alt) → IsGroup groups r key numbers → Contains numbers n → IsMade g groups key.what key.start key.end n a → (a.left ≡ Some c) ⊎ (a.right ≡ Some c) → c < r
-
--- the rows are those of the first t groups
-pub record AreRowsOf (g : Grammar) (groups : Grouped SpanKey) (t : ℕ) (rows : Forest) : Type 0 where
-  pub long : length rows ≡ t
-  pub each : (r : ℕ) (key : SpanKey) (numbers : List ℕ) → r < t → IsGroup groups r key numbers → (alts : List Alt) × (slice_get rows r ≡ Some (key, alts)) × AreMade g groups key numbers alts
+-- the labels that are still to be made are those of the chart, the root first
+pub record AreOwed (g : Grammar) (w : List ℕ) (root : SpanKey) (stack : List SpanKey) : Type 0 where
+  pub labels : All (IsLabel g w) stack
+  pub root_first : slice_get stack 0 ≡ Some root

@@ -1,23 +1,34 @@
-ghost use Rattle.std.specs.Prelude.{◌++◌, ◌≡◌, IfOk, OnOk};
-ghost use Rattle.xs_grow.specs.Candidates.{AreCallsOf, called};
+ghost use Rattle.std.specs.Prelude.{◌≡◌, ◌<◌, Some, length, slice_get, IfOk, OnOk};
+ghost use Rattle.xs_grow.specs.Candidates.{AreCallsOf, IsCallPushed};
 
 use crate::call::Call;
-use crate::groups::Groups;
+use crate::marks::Marks;
 use std::alloc::Global;
 use xs_class::Memory;
 use xs_forest_laws::{SpanKey, What};
 
-/// Adds the call of a nonterminal's stretch, with the stretch's end.
-fn push_call(key: SpanKey, candidates: &mut Vec<(Call, u32)>) -> Result<(), Memory>
-    ensures { OnOk result (candidates.new.items ≡ candidates.old.items ++ called key) }
+/// Adds the call of the nonterminal's stretch that a mark is of, with the stretch's end, unless an
+/// earlier mark is of the same stretch.
+fn push_call(
+    wholes: &Marks<SpanKey>,
+    t: u64,
+    key: SpanKey,
+    number: u32,
+    calls: &mut Marks<Call>,
+) -> Result<(), Memory>
+    requires { slice_get wholes.now t ≡ Some (key, number) }
+    ensures { OnOk result (IsCallPushed wholes.now t key calls.old calls.new) }
 {
+    if !wholes.is_first(key, t) {
+        return Ok(());
+    }
     match key.what {
         What::Whole(non) => {
             let call = Call {
                 non,
                 start: key.start,
             };
-            candidates.push((call, key.end))?;
+            calls.push(call, key.end)?;
             Ok(())
         }
         What::Front { .. } => Ok(()),
@@ -25,13 +36,13 @@ fn push_call(key: SpanKey, candidates: &mut Vec<(Call, u32)>) -> Result<(), Memo
 }
 
 /// The places where each nonterminal ends that begins at a place, each once.
-pub(crate) fn calls_of(alloc: Global, wholes: &Groups<SpanKey>) -> Result<Groups<Call>, Memory>
+pub(crate) fn calls_of(alloc: Global, wholes: &Marks<SpanKey>) -> Result<Marks<Call>, Memory>
     ensures { IfOk result (AreCallsOf wholes.now) }
 {
-    let mut candidates = Vec::new(alloc);
-    'groups: for r in 0..wholes.len() {
-        push_call(wholes.group(r).0, &mut candidates)?;
+    let mut calls = Marks::new(alloc, wholes.len() as usize)?;
+    'marks: for t in 0..wholes.len() {
+        let (key, number) = wholes.at(t);
+        push_call(wholes, t, key, number, &mut calls)?;
     }
-    let calls = Groups::of(alloc, &candidates)?;
     Ok(calls)
 }

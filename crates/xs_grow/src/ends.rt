@@ -3,11 +3,11 @@ ghost use Rattle.xs_chart.specs.Charted.{set_limit};
 ghost use Rattle.xs_gram.specs.Sound.{IsBuilt};
 ghost use Rattle.xs_gram.specs.Grammar.{ItemAt};
 ghost use Rattle.xs_chart_laws.specs.Reading.{Reads};
-ghost use Rattle.xs_grow.specs.Lists.{HasAllOf};
-ghost use Rattle.xs_grow.specs.Candidates.{EndsAt, EndOnce};
+ghost use Rattle.xs_grow.specs.Lists.{AreOnce, HasAllOf};
+ghost use Rattle.xs_grow.specs.Candidates.{EndsAt};
 
 use crate::call::Call;
-use crate::groups::Groups;
+use crate::marks::Marks;
 use crate::runs::ends_from;
 use std::alloc::Global;
 use xs_class::{Memory, Word};
@@ -47,13 +47,13 @@ pub(crate) fn ends_of(
     alloc: Global,
     g: &Gram,
     doc: &Word,
-    calls: &Groups<Call>,
+    calls: &Marks<Call>,
     item: &GItem,
     at: u32,
 ) -> Result<Vec<u32>, Memory>
     requires built { IsBuilt g.now }
     requires item { (p : ℕ) × (n : ℕ) × ItemAt g.now p n item.now }
-    requires once { EndOnce calls.now }
+    requires once { AreOnce calls.now }
     requires short { length doc.now < set_limit }
     requires within { at ≤ length doc.now }
     ensures { IfOk result (λ ends. HasAllOf (EndsAt g.now doc.now calls.now item.now at) ends.items) }
@@ -76,7 +76,8 @@ pub(crate) fn ends_of(
                 non: *non,
                 start: at,
             };
-            let ends = Vec::from_slice(alloc, calls.numbers(call))?;
+            let mut ends = Vec::new(alloc);
+            calls.numbers(call, &mut ends)?;
             Ok(ends)
         }
     }

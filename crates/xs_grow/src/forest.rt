@@ -1,113 +1,104 @@
-ghost use Rattle.std.specs.Prelude.{◌<◌, length, IfOk};
+ghost use Rattle.std.specs.Prelude.{◌≡◌, ◌<◌, length, IfOk, OnOk};
 ghost use Rattle.xs_chart.specs.Charted.{set_limit};
 ghost use Rattle.xs_gram.specs.Sound.{IsBuilt, IsSound};
-ghost use Rattle.xs_order.specs.Order.{AreRanks};
 ghost use Rattle.xs_gram.specs.Languages.{InLang};
 ghost use Rattle.xs_chart_laws.specs.Charts.{HasPlace, IsChartOf};
-ghost use Rattle.xs_forest_laws.specs.Order.{IsRanked, AreNullable};
+ghost use Rattle.xs_forest_laws.specs.Forest.{IsRow};
+ghost use Rattle.xs_forest_laws.specs.Grown.{IsGrown};
 ghost use Rattle.xs_forest_laws.specs.Laws.{IsForestOf, IsExact};
 ghost use Rattle.xs_grow.specs.Lists.{HasAllOf};
-ghost use Rattle.xs_grow.specs.Levels.{flag_by, rank_by};
-ghost use Rattle.xs_grow.specs.Candidates.{IsCandidate};
+ghost use Rattle.xs_grow.specs.Candidates.{WholeCandidate, FrontCandidate};
+ghost use Rattle.xs_grow.specs.Making.{stands_at, IsSource, IsLabel};
 
 use crate::calls::calls_of;
 use crate::gather::{fronts, wholes};
-use crate::groups::{Groups, sort};
-use crate::levels::tails;
-use crate::rows::rows;
-use bumpalo::Bump;
+use crate::marks::Marks;
+use crate::rows::{Buffers, visit};
+use crate::source::Source;
 use std::alloc::Global;
 use xs_chart::Chart;
 use xs_class::{Memory, Word};
+use xs_forest::Builder;
 use xs_forest_laws::{Grown, SpanKey, What};
 use xs_gram::Gram;
-use xs_order::{OrderFault, Ranks, nullable, unit_order};
 
-/// The candidates of a document's chart: each label of its forest, with each number that stands for
-/// an alternative of it, once.
-fn marks_of(
-    alloc: Global,
-    g: &Gram,
-    chart: &Chart,
-    doc: &Word,
-) -> Result<Vec<(SpanKey, u32)>, Memory>
+/// The marks of the rules that are finished in a document's chart.
+fn wholes_of(alloc: Global, g: &Gram, chart: &Chart, doc: &Word) -> Result<Marks<SpanKey>, Memory>
     requires built { IsBuilt g.now }
     requires chart { IsChartOf g.now doc.now chart.now.sets }
-    requires short { length doc.now < set_limit }
-    ensures { IfOk result (λ candidates. HasAllOf (IsCandidate g.now doc.now (HasPlace g.now chart.now.sets)) candidates.items) }
+    ensures { IfOk result (λ marks. HasAllOf (WholeCandidate g.now (stands_at g.now doc.now)) marks) }
 {
-    let mut candidates = Vec::new(alloc);
-    wholes(g, chart, &mut candidates)?;
-    let groups = Groups::of(alloc, &candidates)?;
-    let calls = calls_of(alloc, &groups)?;
-    drop(groups);
-    fronts(alloc, g, chart, doc, &calls, &mut candidates)?;
-    Ok(candidates)
+    let mut marks = Marks::new(alloc, doc.len())?;
+    wholes(g, chart, &mut marks)?;
+    Ok(marks)
 }
 
-/// The forest of a document from its chart, by ranks of the nonterminals and flags that say which
-/// of them derive the empty word.
-fn grow_by<'b>(
+/// The marks of two or more first items of which the last is no fixed word.
+fn splits_of(
     alloc: Global,
-    bump: &'b Bump<Global>,
     g: &Gram,
     chart: &Chart,
     doc: &Word,
-    ranks: &[u32],
-    flags: &[bool],
-) -> Result<Grown<'b>, Memory>
+    wholes: &Marks<SpanKey>,
+) -> Result<Marks<SpanKey>, Memory>
     requires built { IsBuilt g.now }
-    requires in_language { InLang g.now doc.now }
     requires chart { IsChartOf g.now doc.now chart.now.sets }
     requires short { length doc.now < set_limit }
-    requires ranked { IsRanked g.now (rank_by ranks.now) }
-    requires flags { AreNullable g.now (flag_by flags.now) }
-    ensures forest { IfOk result (λ grown. IsForestOf g.now doc.now grown.forest grown.root) }
-    ensures exact { IfOk result (λ grown. IsExact g.now doc.now grown.forest grown.root) }
+    requires wholes { HasAllOf (WholeCandidate g.now (stands_at g.now doc.now)) wholes.now }
+    ensures { IfOk result (λ marks. HasAllOf (FrontCandidate g.now doc.now (stands_at g.now doc.now)) marks) }
 {
-    let candidates = marks_of(alloc, g, chart, doc)?;
-    let tails = tails(alloc, g, flags)?;
-    let mut groups = Groups::of(alloc, &candidates)?;
-    drop(candidates);
-    sort(&mut groups, g, ranks, &tails)?;
-    let forest = rows(alloc, bump, g, &groups)?;
-    let key = SpanKey {
-        what: What::Whole(g.start()),
-        start: 0,
-        end: doc.len() as u32,
+    let calls = calls_of(alloc, wholes)?;
+    let mut marks = Marks::new(alloc, doc.len())?;
+    fronts(alloc, g, chart, doc, &calls, &mut marks)?;
+    Ok(marks)
+}
+
+/// Makes the row of the root and those that it needs, each after its children. The answer is the
+/// number of the root's row.
+///
+/// A label is looked at when it comes last on the stack, and left there until its children have
+/// rows. No label needs itself, since the grammar is sound, so the stack ends.
+fn grow_rows(
+    alloc: Global,
+    source: &Source<'_>,
+    forest: &mut Builder<SpanKey>,
+    root: SpanKey,
+) -> Result<u32, Memory>
+    requires source { IsSource source.now }
+    requires grown { IsGrown source.now.g.now source.now.doc.now (stands_at source.now.g.now source.now.doc.now) forest.old }
+    requires root { IsLabel source.now.g.now source.now.doc.now root }
+    ensures grown { OnOk result (IsGrown source.now.g.now source.now.doc.now (stands_at source.now.g.now source.now.doc.now) forest.new) }
+    ensures row { IfOk result (λ row. IsRow forest.new row root.what root.start root.end) }
+{
+    let mut buffers = Buffers {
+        numbers: Vec::new(alloc),
+        alts: Vec::new(alloc),
     };
-    let root = groups.find(key).unwrap();
-    Ok(Grown { forest, root })
-}
-
-/// The ranks of the nonterminals of a sound grammar.
-fn ranks_of(alloc: Global, g: &Gram) -> Result<Ranks, Memory>
-    requires { IsSound g.now }
-    ensures { IfOk result (AreRanks g.now) }
-{
-    match unit_order(alloc, g) {
-        Ok(ranks) => Ok(ranks),
-        Err(OrderFault::Memory) => Err(Memory),
-        Err(OrderFault::Loop { .. }) => unreachable!(),
+    let mut stack = Vec::new(alloc);
+    stack.push(root)?;
+    'labels: for _ in 0..u64::MAX {
+        let key = stack[stack.len() - 1];
+        if let Some(row) = visit(source, forest, key, &mut buffers, &mut stack)? {
+            stack.truncate(stack.len() - 1);
+            if stack.is_empty() {
+                return Ok(row);
+            }
+        }
     }
+    Err(Memory)
 }
 
 /// The forest of a document of the grammar, from the document's chart, with its root: the
 /// unfoldings of the root are exactly the derivations of the document, each once.
 ///
-/// There is one row for each nonterminal over a stretch of the document over which a rule of it is
-/// finished, with an alternative for each such rule, and one for some first items of a rule over a
-/// stretch, with an alternative for each place where the last of them may begin. Rows stand after
-/// those of their children, and places are counted from 0. The sets of the chart may have their
-/// items in any order. A document without ambiguity takes time linear in the chart, by the steps of
-/// automata and the sorting of the labels; otherwise the alternatives count too.
-pub fn grow<'b>(
-    alloc: Global,
-    bump: &'b Bump<Global>,
-    g: &Gram,
-    chart: &Chart,
-    doc: &Word,
-) -> Result<Grown<'b>, Memory>
+/// There is a row for each label that the root needs and no other: for the nonterminals over
+/// stretches of the document with an alternative for each rule that is finished there, and for first
+/// items of a rule over a stretch with one for each place where the last of them may begin. Rows
+/// stand after those of their children, and places are counted from 0. The sets of the chart may
+/// have their items in any order. The time is linear in the chart, in the places where each item
+/// before a nonterminal, a terminal or an ignorable may end that is not the first of its rule, by
+/// the steps of automata, and in the alternatives.
+pub fn grow(alloc: Global, g: &Gram, chart: &Chart, doc: &Word) -> Result<Grown, Memory>
     requires sound { IsSound g.now }
     requires in_language { InLang g.now doc.now }
     requires chart { IsChartOf g.now doc.now chart.now.sets }
@@ -115,16 +106,23 @@ pub fn grow<'b>(
     ensures forest { IfOk result (λ grown. IsForestOf g.now doc.now grown.forest grown.root) }
     ensures exact { IfOk result (λ grown. IsExact g.now doc.now grown.forest grown.root) }
 {
-    let ranks = ranks_of(alloc, g)?;
-    let flags = nullable(alloc, g)?;
-    let grown = grow_by(
-        alloc,
-        bump,
+    let wholes = wholes_of(alloc, g, chart, doc)?;
+    let splits = splits_of(alloc, g, chart, doc, &wholes)?;
+    let source = Source {
         g,
-        chart,
         doc,
-        ranks.as_slice(),
-        flags.as_slice(),
-    )?;
-    Ok(grown)
+        wholes: &wholes,
+        splits: &splits,
+    };
+    let root = SpanKey {
+        what: What::Whole(g.start()),
+        start: 0,
+        end: doc.len() as u32,
+    };
+    let mut forest = Builder::new(alloc, doc.len())?;
+    let row = grow_rows(alloc, &source, &mut forest, root)?;
+    Ok(Grown {
+        forest: forest.finish(),
+        root: u64::from(row),
+    })
 }

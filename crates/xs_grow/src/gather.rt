@@ -1,21 +1,21 @@
-ghost use Rattle.std.specs.Prelude.{◌≡◌, ◌↔◌, ◌<◌, ◌≤◌, ◌++◌, ◌+◌, None, length, map, OnOk, IsTrue};
+ghost use Rattle.std.specs.Prelude.{◌≡◌, ◌↔◌, ◌<◌, ◌≤◌, ◌++◌, ◌+◌, None, length, map, OnOk, IsTrue, MatchBool};
 ghost use Rattle.xs_chart.specs.Charted.{set_limit};
 ghost use Rattle.xs_gram.specs.Sound.{IsBuilt};
 ghost use Rattle.xs_gram.specs.Grammar.{items};
 ghost use Rattle.xs_gram.specs.Places.{all_places, IsPlace};
 ghost use Rattle.xs_chart_laws.specs.Charts.{set_at};
 ghost use Rattle.xs_forest_laws.specs.Forest.{key_at};
-ghost use Rattle.xs_grow.specs.Lists.{Appends};
-ghost use Rattle.xs_grow.specs.Candidates.{WholeAt, FrontFrom, InSet, InSets, EndOnce, HasPlaces};
+ghost use Rattle.xs_grow.specs.Lists.{AreOnce, Appends};
+ghost use Rattle.xs_grow.specs.Candidates.{WholeAt, FrontFrom, InSet, InSets, IsLater, HasPlaces};
 
 use crate::call::Call;
 use crate::ends::ends_of;
-use crate::groups::Groups;
+use crate::marks::Marks;
 use std::alloc::Global;
 use xs_chart::{Chart, Item};
 use xs_class::{Memory, Word};
 use xs_forest_laws::{SpanKey, What};
-use xs_gram::{Gram, Place};
+use xs_gram::{GItem, Gram, Place};
 
 /// Whether the place stands at the end of its rule.
 fn is_end(g: &Gram, place: Place) -> bool
@@ -26,14 +26,9 @@ fn is_end(g: &Gram, place: Place) -> bool
 }
 
 /// Adds the candidate of an item that stands at the end of its rule.
-fn whole_at(
-    g: &Gram,
-    set: u32,
-    item: Item,
-    candidates: &mut Vec<(SpanKey, u32)>,
-) -> Result<(), Memory>
+fn whole_at(g: &Gram, set: u32, item: Item, candidates: &mut Marks<SpanKey>) -> Result<(), Memory>
     requires { item.state < length (all_places g.now) }
-    ensures { OnOk result (Appends (WholeAt g.now set item) candidates.old.items candidates.new.items) }
+    ensures { OnOk result (Appends (WholeAt g.now set item) candidates.old candidates.new) }
 {
     let place = g.place(item.state);
     if is_end(g, place) {
@@ -42,7 +37,7 @@ fn whole_at(
             start: item.origin,
             end: set,
         };
-        candidates.push((key, place.rule))?;
+        candidates.push(key, place.rule)?;
     }
     Ok(())
 }
@@ -52,11 +47,11 @@ fn wholes_in(
     g: &Gram,
     chart: &Chart,
     set: u32,
-    candidates: &mut Vec<(SpanKey, u32)>,
+    candidates: &mut Marks<SpanKey>,
 ) -> Result<(), Memory>
     requires set { set < length chart.now.sets }
     requires places { HasPlaces g.now chart.now.sets }
-    ensures { OnOk result (Appends (InSet (WholeAt g.now) chart.now.sets set (length (set_at chart.now.sets set))) candidates.old.items candidates.new.items) }
+    ensures { OnOk result (Appends (InSet (WholeAt g.now) chart.now.sets set (length (set_at chart.now.sets set))) candidates.old candidates.new) }
 {
     'items: for k in 0..chart.len(set) {
         whole_at(g, set, chart.item(set, k), candidates)?;
@@ -66,13 +61,9 @@ fn wholes_in(
 
 /// Adds the candidates of the rules that are finished: a label for each stretch of a nonterminal,
 /// with the rule.
-pub(crate) fn wholes(
-    g: &Gram,
-    chart: &Chart,
-    candidates: &mut Vec<(SpanKey, u32)>,
-) -> Result<(), Memory>
+pub(crate) fn wholes(g: &Gram, chart: &Chart, candidates: &mut Marks<SpanKey>) -> Result<(), Memory>
     requires places { HasPlaces g.now chart.now.sets }
-    ensures { OnOk result (Appends (InSets (WholeAt g.now) chart.now.sets (length chart.now.sets)) candidates.old.items candidates.new.items) }
+    ensures { OnOk result (Appends (InSets (WholeAt g.now) chart.now.sets (length chart.now.sets)) candidates.old candidates.new) }
 {
     'sets: for set in 0..chart.sets() {
         wholes_in(g, chart, set, candidates)?;
@@ -86,9 +77,9 @@ fn push_ends(
     start: u32,
     place: u32,
     ends: &[u32],
-    candidates: &mut Vec<(SpanKey, u32)>,
+    candidates: &mut Marks<SpanKey>,
 ) -> Result<(), Memory>
-    ensures { OnOk result (candidates.new.items ≡ candidates.old.items ++ map (λ end. (key_at what start end, place)) ends.now) }
+    ensures { OnOk result (candidates.new ≡ candidates.old ++ map (λ end. (key_at what start end, place)) ends.now) }
 {
     'ends: for end in ends {
         let key = SpanKey {
@@ -96,35 +87,48 @@ fn push_ends(
             start,
             end: *end,
         };
-        candidates.push((key, place))?;
+        candidates.push(key, place)?;
     }
     Ok(())
 }
 
-/// Adds the candidates of an item that stands before an item of its rule: one for each place where
-/// that may end.
+/// Whether the item at a place of a rule is not its first one, and no fixed word.
+fn is_later(items: &[GItem], dot: u32) -> bool
+    ensures { MatchBool result (IsLater items.now dot) (IsLater items.now dot → ⊥) }
+{
+    if dot == 0 || dot as usize >= items.len() {
+        return false;
+    }
+    match &items[dot as usize] {
+        GItem::Fixed(_) => false,
+        GItem::Term { .. } | GItem::Skip { .. } | GItem::Non { .. } => true,
+    }
+}
+
+/// Adds the candidates of an item that stands before a later item of its rule, no fixed word: one
+/// for each place where that may end.
 fn fronts_at(
     alloc: Global,
     g: &Gram,
     doc: &Word,
-    calls: &Groups<Call>,
+    calls: &Marks<Call>,
     set: u32,
     item: Item,
-    candidates: &mut Vec<(SpanKey, u32)>,
+    candidates: &mut Marks<SpanKey>,
 ) -> Result<(), Memory>
     requires built { IsBuilt g.now }
-    requires once { EndOnce calls.now }
+    requires once { AreOnce calls.now }
     requires short { length doc.now < set_limit }
     requires within { set ≤ length doc.now }
     requires place { item.state < length (all_places g.now) }
-    ensures { OnOk result (Appends (FrontFrom g.now doc.now calls.now set item) candidates.old.items candidates.new.items) }
+    ensures { OnOk result (Appends (FrontFrom g.now doc.now calls.now set item) candidates.old candidates.new) }
 {
     let place = g.place(item.state);
     let items = g.items(place.rule);
     match place.inside {
         Some(_) => Ok(()),
         None => {
-            if place.dot as usize == items.len() {
+            if !is_later(items, place.dot) {
                 return Ok(());
             }
             let ends = ends_of(alloc, g, doc, calls, &items[place.dot as usize], set)?;
@@ -138,23 +142,23 @@ fn fronts_at(
     }
 }
 
-/// Adds the candidates of the items of the set that stand before an item of their rule.
+/// Adds the candidates of the items of the set that stand before a later item of their rule.
 fn fronts_in(
     alloc: Global,
     g: &Gram,
     chart: &Chart,
     doc: &Word,
-    calls: &Groups<Call>,
+    calls: &Marks<Call>,
     set: u32,
-    candidates: &mut Vec<(SpanKey, u32)>,
+    candidates: &mut Marks<SpanKey>,
 ) -> Result<(), Memory>
     requires built { IsBuilt g.now }
-    requires once { EndOnce calls.now }
+    requires once { AreOnce calls.now }
     requires short { length doc.now < set_limit }
     requires within { set ≤ length doc.now }
     requires set { set < length chart.now.sets }
     requires places { HasPlaces g.now chart.now.sets }
-    ensures { OnOk result (Appends (InSet (FrontFrom g.now doc.now calls.now) chart.now.sets set (length (set_at chart.now.sets set))) candidates.old.items candidates.new.items) }
+    ensures { OnOk result (Appends (InSet (FrontFrom g.now doc.now calls.now) chart.now.sets set (length (set_at chart.now.sets set))) candidates.old candidates.new) }
 {
     'items: for k in 0..chart.len(set) {
         fronts_at(alloc, g, doc, calls, set, chart.item(set, k), candidates)?;
@@ -162,22 +166,22 @@ fn fronts_in(
     Ok(())
 }
 
-/// Adds the candidates of first items: a label for each stretch of them, with a place where the
-/// last of them may begin.
+/// Adds the candidates of two or more first items of which the last is no fixed word: a label for
+/// each stretch of them, with a place where the last of them may begin.
 pub(crate) fn fronts(
     alloc: Global,
     g: &Gram,
     chart: &Chart,
     doc: &Word,
-    calls: &Groups<Call>,
-    candidates: &mut Vec<(SpanKey, u32)>,
+    calls: &Marks<Call>,
+    candidates: &mut Marks<SpanKey>,
 ) -> Result<(), Memory>
     requires built { IsBuilt g.now }
-    requires once { EndOnce calls.now }
+    requires once { AreOnce calls.now }
     requires short { length doc.now < set_limit }
     requires counted { length chart.now.sets ≤ length doc.now + 1 }
     requires places { HasPlaces g.now chart.now.sets }
-    ensures { OnOk result (Appends (InSets (FrontFrom g.now doc.now calls.now) chart.now.sets (length chart.now.sets)) candidates.old.items candidates.new.items) }
+    ensures { OnOk result (Appends (InSets (FrontFrom g.now doc.now calls.now) chart.now.sets (length chart.now.sets)) candidates.old candidates.new) }
 {
     'sets: for set in 0..chart.sets() {
         fronts_in(alloc, g, chart, doc, calls, set, candidates)?;

@@ -1,28 +1,27 @@
 //! Growing the shared packed parse forest of a document from its chart, and what is read from it.
 //!
-//! Growing goes in four steps. First the chart's candidates are gathered (`gather`): a label for
-//! each stretch of a nonterminal with a rule that is finished there, and a label for each stretch
-//! of first items of a rule with a place where the last of them may begin. For that each item of
-//! the chart is read once and looked forwards: an automaton runs on from it (`runs`), a fixed word
-//! is compared, and where a nonterminal ends is looked up by its call (`calls`). Then the
-//! candidates are grouped by their labels (`groups`), and the labels sorted so that children come
-//! first (`levels`). Last each group becomes a row, and each of its candidates an alternative
-//! (`rows`).
+//! The forest has the rows that its root needs and no others. First the chart is read for what a
+//! label does not show by itself (`gather`): which rules are finished over each stretch of a
+//! nonterminal, and for two or more first items of a rule of which the last is no fixed word, where
+//! that may begin. For that each such item of the chart is looked at forwards: an automaton runs on
+//! from it (`runs`), and where a nonterminal ends is looked up by its call (`calls`). What was found
+//! are marks, flat lists in which the numbers of a label are found (`marks`).
 //!
-//! Each candidate becomes one alternative, so without ambiguity a forest takes time linear in the
-//! chart, by what the steps of automata and the sorting of labels take.
+//! Then rows are made from the root on, with a stack of labels (`forest`): the numbers of the last
+//! label are found (`numbers`), each stands for an alternative, and where all children have rows the
+//! label gets its own (`rows`); else the labels of the missing ones go on the stack.
 #![tactic(auto)]
 
 mod call;
 mod calls;
 mod ends;
-mod few;
 mod forest;
 mod gather;
-mod groups;
-mod levels;
+mod marks;
+mod numbers;
 mod rows;
 mod runs;
+mod source;
 
 pub use forest::grow;
 // A forest is read by the names that stand here too.

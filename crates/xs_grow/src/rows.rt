@@ -1,120 +1,205 @@
-ghost use Rattle.std.specs.Prelude.{◌≡◌, ◌<◌, ◌++◌, ◌∷◌, [], ℕ, length, Contains, IfOk, OnOk};
-ghost use Rattle.xs_gram.specs.Grammar.{items};
-ghost use Rattle.xs_forest.specs.Rows.{AreEarlier, HasLabel};
-ghost use Rattle.xs_grow.specs.Making.{FindsFront, FindsItem, IsMade, CanBeMade, AreMade, AllCanBeMade, ChildrenAreEarlier, AreRowsOf};
+ghost use Rattle.std.specs.Prelude.{◌≡◌, ◌⊎◌, ◌<◌, ◌++◌, ◌∷◌, [], ℕ, zero, suc, None, Some, length, Contains, IfOk, OnOk, MatchOption};
+ghost use Rattle.xs_gram.specs.Places.{at_dot};
+ghost use Rattle.xs_forest.specs.Rows.{HasLabel};
+ghost use Rattle.xs_forest_laws.specs.Forest.{IsRow, item_of};
+ghost use Rattle.xs_forest_laws.specs.Grown.{IsGrown, ItemOver};
+ghost use Rattle.xs_grow.specs.Making.{stands_at, IsSource, IsLabel, IsNumberOf, AreNumbersOf, IsFront, IsItem, IsMade, AreMade, Misses};
 
-use crate::groups::Groups;
-use bumpalo::Bump;
-use std::alloc::Global;
+use crate::numbers::numbers_of;
+use crate::source::Source;
 use xs_class::Memory;
-use xs_forest::{AddFault, Alt, Forest};
+use xs_forest::{AddFault, Alt, Builder};
 use xs_forest_laws::{SpanKey, What};
 use xs_gram::{GItem, Gram};
 
-/// The group of the first `dot` items of a rule over a stretch.
-fn front_row(groups: &Groups<SpanKey>, rule: u32, dot: u32, start: u32, end: u32) -> Option<u64>
-    ensures { FindsFront groups.now rule dot start end result }
+/// The row of a label, which is missing where there is none.
+fn child(
+    source: &Source<'_>,
+    forest: &Builder<SpanKey>,
+    key: SpanKey,
+    missing: &mut Vec<SpanKey>,
+) -> Result<Option<u32>, Memory>
+    requires { IsLabel source.now.g.now source.now.doc.now key }
+    ensures { IfOk result (λ row. Misses source.now.g.now source.now.doc.now ((r : ℕ) × (row ≡ Some r) × HasLabel forest.now r key) missing.old.items missing.new.items) }
+{
+    match forest.find(key) {
+        Some(row) => Ok(Some(row)),
+        None => {
+            missing.push(key)?;
+            Ok(None)
+        }
+    }
+}
+
+/// The row of the first `dot` items of a rule over a stretch, none where there are none.
+fn front_row(
+    source: &Source<'_>,
+    forest: &Builder<SpanKey>,
+    rule: u32,
+    dot: u32,
+    start: u32,
+    end: u32,
+    missing: &mut Vec<SpanKey>,
+) -> Result<Option<u32>, Memory>
+    requires { stands_at source.now.g.now source.now.doc.now end (at_dot rule dot) start }
+    ensures { IfOk result (λ row. Misses source.now.g.now source.now.doc.now (IsFront forest.now rule dot start end row) missing.old.items missing.new.items) }
 {
     if dot == 0 {
-        return None;
+        return Ok(None);
     }
-    groups.find(SpanKey {
+    let key = SpanKey {
         what: What::Front { rule, dot },
         start,
         end,
-    })
+    };
+    let row = child(source, forest, key, missing)?;
+    Ok(row)
 }
 
-/// The group of an item over a stretch, where it is a nonterminal.
-fn item_row(groups: &Groups<SpanKey>, item: &GItem, start: u32, end: u32) -> Option<u64>
-    ensures { FindsItem groups.now item.now start end result }
+/// The row of an item over a stretch, none where it is no nonterminal.
+fn item_row(
+    source: &Source<'_>,
+    forest: &Builder<SpanKey>,
+    item: &GItem,
+    start: u32,
+    end: u32,
+    missing: &mut Vec<SpanKey>,
+) -> Result<Option<u32>, Memory>
+    requires { ItemOver source.now.g.now source.now.doc.now (stands_at source.now.g.now source.now.doc.now) item.now start end }
+    ensures { IfOk result (λ row. Misses source.now.g.now source.now.doc.now (IsItem forest.now item.now start end row) missing.old.items missing.new.items) }
 {
     match item {
-        GItem::Fixed(_) => None,
-        GItem::Term { .. } => None,
-        GItem::Skip { .. } => None,
-        GItem::Non { non, .. } => groups.find(SpanKey {
-            what: What::Whole(*non),
-            start,
-            end,
-        }),
+        GItem::Fixed(_) | GItem::Term { .. } | GItem::Skip { .. } => Ok(None),
+        GItem::Non { non, .. } => {
+            let key = SpanKey {
+                what: What::Whole(*non),
+                start,
+                end,
+            };
+            let row = child(source, forest, key, missing)?;
+            Ok(row)
+        }
     }
 }
 
-/// The alternative that a number of the label stands for.
-fn alternative(g: &Gram, groups: &Groups<SpanKey>, key: SpanKey, number: u32) -> Alt
-    requires { CanBeMade g.now key.what number }
-    ensures { IsMade g.now groups.now key.what key.start key.end number result }
+/// The alternative that a number of the label stands for, with the rows of its children; labels of
+/// children that have no row go to those that are missing.
+fn alternative(
+    source: &Source<'_>,
+    forest: &Builder<SpanKey>,
+    key: SpanKey,
+    number: u32,
+    missing: &mut Vec<SpanKey>,
+) -> Result<Alt, Memory>
+    requires source { IsSource source.now }
+    requires number { IsNumberOf source.now.g.now source.now.doc.now (stands_at source.now.g.now source.now.doc.now) key.what key.start key.end number }
+    ensures { IfOk result (λ alt. Misses source.now.g.now source.now.doc.now (IsMade source.now.g.now forest.now key.what key.start key.end number alt) missing.old.items missing.new.items) }
 {
     match key.what {
         What::Whole(_) => {
-            let dot = g.items(number).len() as u32;
-            Alt {
+            let dot = source.g.items(number).len() as u32;
+            let left = front_row(source, forest, number, dot, key.start, key.end, missing)?;
+            Ok(Alt {
                 rule: number,
-                left: front_row(groups, number, dot, key.start, key.end),
+                left,
                 right: None,
-            }
+            })
         }
         What::Front { rule, dot } => {
             let before = dot - 1;
-            let item = &g.items(rule)[before as usize];
-            Alt {
-                rule,
-                left: front_row(groups, rule, before, key.start, number),
-                right: item_row(groups, item, number, key.end),
-            }
+            let item = &source.g.items(rule)[before as usize];
+            let left = front_row(source, forest, rule, before, key.start, number, missing)?;
+            let right = item_row(source, forest, item, number, key.end, missing)?;
+            Ok(Alt { rule, left, right })
         }
     }
 }
 
 /// Puts the alternatives that the numbers of the label stand for in place of others.
 fn alternatives(
-    g: &Gram,
-    groups: &Groups<SpanKey>,
+    source: &Source<'_>,
+    forest: &Builder<SpanKey>,
     key: SpanKey,
     numbers: &[u32],
     alts: &mut Vec<Alt>,
+    missing: &mut Vec<SpanKey>,
 ) -> Result<(), Memory>
-    requires { (n : ℕ) → Contains numbers.now n → CanBeMade g.now key.what n }
-    ensures { OnOk result (AreMade g.now groups.now key numbers.now alts.new.items) }
+    requires source { IsSource source.now }
+    requires numbers { AreNumbersOf source.now.g.now source.now.doc.now key numbers.now }
+    ensures { OnOk result (Misses source.now.g.now source.now.doc.now (AreMade source.now.g.now forest.now key numbers.now alts.new.items) missing.old.items missing.new.items) }
 {
     alts.clear();
     'numbers: for number in numbers {
-        alts.push(alternative(g, groups, key, *number))?;
+        let alt = alternative(source, forest, key, *number, missing)?;
+        alts.push(alt)?;
     }
     Ok(())
 }
 
-/// Adds a row to the forest, which has no row of the label.
-fn add(forest: &mut Forest<'_, SpanKey>, key: SpanKey, alts: &[Alt]) -> Result<(), Memory>
-    requires earlier { AreEarlier alts.now (length forest.old) }
+/// Adds the row of a label that has none, by its numbers and the alternatives that they stand for.
+fn add(
+    source: &Source<'_>,
+    forest: &mut Builder<SpanKey>,
+    key: SpanKey,
+    numbers: &[u32],
+    alts: &[Alt],
+) -> Result<u32, Memory>
+    requires source { IsSource source.now }
+    requires grown { IsGrown source.now.g.now source.now.doc.now (stands_at source.now.g.now source.now.doc.now) forest.old }
+    requires label { IsLabel source.now.g.now source.now.doc.now key }
     requires missing { (at : ℕ) → HasLabel forest.old at key → ⊥ }
-    ensures { OnOk result (forest.new ≡ forest.old ++ (key, alts.now) ∷ []) }
+    requires numbers { AreNumbersOf source.now.g.now source.now.doc.now key numbers.now }
+    requires made { AreMade source.now.g.now forest.old key numbers.now alts.now }
+    ensures grown { OnOk result (IsGrown source.now.g.now source.now.doc.now (stands_at source.now.g.now source.now.doc.now) forest.new) }
+    ensures row { IfOk result (λ row. IsRow forest.new row key.what key.start key.end) }
 {
     match forest.add_row(key, alts) {
-        Ok(_) => Ok(()),
+        Ok(row) => Ok(row),
         Err(AddFault::Memory) => Err(Memory),
         Err(AddFault::Repeated { .. }) => unreachable!(),
     }
 }
 
-/// The forest with a row for each group, in the order of the groups.
-pub(crate) fn rows<'b>(
-    alloc: Global,
-    bump: &'b Bump<Global>,
-    g: &Gram,
-    groups: &Groups<SpanKey>,
-) -> Result<Forest<'b, SpanKey>, Memory>
-    requires made { AllCanBeMade g.now groups.now }
-    requires earlier { ChildrenAreEarlier g.now groups.now }
-    ensures { IfOk result (AreRowsOf g.now groups.now (length groups.now)) }
+/// Two buffers of one row's making, used for all.
+#[derive(Drop)]
+pub(crate) struct Buffers {
+    pub numbers: Vec<u32>,
+    pub alts: Vec<Alt>,
+}
+
+/// The row of a label, which is made if its children have rows; where some have none it is no row,
+/// and their labels go to those that are missing.
+pub(crate) fn visit(
+    source: &Source<'_>,
+    forest: &mut Builder<SpanKey>,
+    key: SpanKey,
+    buffers: &mut Buffers,
+    missing: &mut Vec<SpanKey>,
+) -> Result<Option<u32>, Memory>
+    requires source { IsSource source.now }
+    requires grown { IsGrown source.now.g.now source.now.doc.now (stands_at source.now.g.now source.now.doc.now) forest.old }
+    requires label { IsLabel source.now.g.now source.now.doc.now key }
+    ensures grown { OnOk result (IsGrown source.now.g.now source.now.doc.now (stands_at source.now.g.now source.now.doc.now) forest.new) }
+    ensures row { IfOk result (λ row. MatchOption row (Unit {0}) (λ r. IsRow forest.new r key.what key.start key.end)) }
+    ensures same { IfOk result (λ row. MatchOption row (Unit {0}) (λ r. missing.new.items ≡ missing.old.items)) }
+    ensures missing { OnOk result (Misses source.now.g.now source.now.doc.now (Unit {0}) missing.old.items missing.new.items) }
 {
-    let mut forest = Forest::new(alloc, bump)?;
-    let mut alts = Vec::new(alloc);
-    'groups: for r in 0..groups.len() {
-        let (key, numbers) = groups.group(r);
-        alternatives(g, groups, key, numbers, &mut alts)?;
-        add(&mut forest, key, &alts)?;
+    if let Some(row) = forest.find(key) {
+        return Ok(Some(row));
     }
-    Ok(forest)
+    numbers_of(source, key, &mut buffers.numbers)?;
+    let before = missing.len();
+    alternatives(
+        source,
+        forest,
+        key,
+        &buffers.numbers,
+        &mut buffers.alts,
+        missing,
+    )?;
+    if missing.len() > before {
+        return Ok(None);
+    }
+    let row = add(source, forest, key, &buffers.numbers, &buffers.alts)?;
+    Ok(Some(row))
 }

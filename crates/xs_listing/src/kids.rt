@@ -8,7 +8,6 @@ ghost use Rattle.xs_forest_laws.specs.First.{IsFirst};
 ghost use Rattle.xs_listing.specs.Making.{CanPlace, IsPlaced, CanGather, Extends, Fills};
 
 use crate::rows::{FirstAlternative, first_step};
-use std::alloc::Global;
 use xs_class::{Memory, Word};
 use xs_forest::{Alt, Forest};
 use xs_forest_laws::SpanKey;
@@ -64,34 +63,35 @@ fn place(
     Ok(())
 }
 
-/// The parts of a node's kids in the order of the slots, with a new leaf for each word of a
+/// Puts the parts of a node's kids, in the order of the slots, in place of others, with a new leaf for each word of a
 /// terminal, in time linear in the rule's items and the words.
 pub(crate) fn kids_of(
-    alloc: Global,
     g: &Gram,
     doc: &Word,
-    forest: &Forest<'_, SpanKey>,
+    forest: &Forest<SpanKey>,
     numbers: &[u64],
     alt: Alt,
     builder: &mut Builder,
-) -> Result<Vec<u64>, Memory>
+    kids: &mut Vec<u64>,
+) -> Result<(), Memory>
     requires built { IsBuilt g.now }
     requires right { IsRight g.now doc.now forest.now }
     requires rule { alt.rule < length g.now.rules }
     requires gather { CanGather g.now doc.now forest.now builder.old numbers.now alt.rule alt.left }
-    ensures long { IfOk result (λ kids. length kids.items ≡ length (slots (items g.now alt.rule))) }
+    ensures long { OnOk result (length kids.new.items ≡ length (slots (items g.now alt.rule))) }
     ensures extends { OnOk result (Extends builder.old builder.new) }
-    ensures kids { IfOk result (λ kids. (u : Unfolding) → IsFirst forest.now alt.left u → Fills builder.new kids.items (named g.now (items g.now alt.rule) (read g.now doc.now forest.now alt.left u))) }
+    ensures kids { OnOk result ((u : Unfolding) → IsFirst forest.now alt.left u → Fills builder.new kids.new.items (named g.now (items g.now alt.rule) (read g.now doc.now forest.now alt.left u))) }
 {
     let items = g.items(alt.rule);
-    let mut kids = vec![in alloc; 0; slot_count(items)]?;
+    kids.clear();
+    kids.resize(slot_count(items), 0)?;
     let mut dot = items.len();
     let mut front = alt.left;
     'fronts: while dot > 0 {
         dot -= 1;
-        let step = first_step(forest, front.unwrap());
-        place(doc, numbers, &items[dot], &step, builder, &mut kids)?;
+        let step = first_step(forest, front.unwrap() as u64);
+        place(doc, numbers, &items[dot], &step, builder, kids)?;
         front = step.left;
     }
-    Ok(kids)
+    Ok(())
 }

@@ -16,7 +16,7 @@ use xs_forest_laws::Grown;
 use xs_gram::Gram;
 
 /// The derivation of a number.
-fn spell(alloc: Global, source: &Source<'_, '_>, root: u64, number: u64) -> Result<Spelt, Memory>
+fn spell(alloc: Global, source: &Source<'_>, root: u64, number: u64) -> Result<Spelt, Memory>
     requires source { IsSource source.now }
     requires root { IsRoot source.now.g.now source.now.doc.now source.now.forest.now root }
     requires within { number < count_of source.now.counts.now (Some root) }
@@ -35,12 +35,7 @@ fn spell(alloc: Global, source: &Source<'_, '_>, root: u64, number: u64) -> Resu
 }
 
 /// That many first derivations.
-fn spell_all(
-    alloc: Global,
-    source: &Source<'_, '_>,
-    root: u64,
-    count: u64,
-) -> Result<Spelts, Memory>
+fn spell_all(alloc: Global, source: &Source<'_>, root: u64, count: u64) -> Result<Spelts, Memory>
     requires source { IsSource source.now }
     requires root { IsRoot source.now.g.now source.now.doc.now source.now.forest.now root }
     requires within { count ≤ count_of source.now.counts.now (Some root) }
@@ -62,7 +57,7 @@ fn spell_all(
 /// larger than any memory the answer is want of memory at once.
 pub fn list_trees(
     alloc: Global,
-    grown: &Grown<'_>,
+    grown: &Grown,
     g: &Gram,
     doc: &Word,
     max: u32,

@@ -13,15 +13,15 @@ use xs_forest_laws::{SpanKey, What};
 use xs_gram::Gram;
 use xs_tree::Builder;
 
-/// A new node for a row of a nonterminal.
+/// A new node for a row of a nonterminal, whose kids are put in place of others.
 fn add_node(
-    alloc: Global,
     g: &Gram,
     doc: &Word,
-    forest: &Forest<'_, SpanKey>,
+    forest: &Forest<SpanKey>,
     numbers: &[u64],
     row: u64,
     builder: &mut Builder,
+    kids: &mut Vec<u64>,
 ) -> Result<u64, Memory>
     requires there { row < length forest.now }
     requires built { IsBuilt g.now }
@@ -31,21 +31,21 @@ fn add_node(
     ensures made { IfOk result (IsMade g.now doc.now forest.now builder.new row) }
 {
     let alt = first_alt(forest, row);
-    let kids = kids_of(alloc, g, doc, forest, numbers, alt, builder)?;
-    let number = builder.node(alt.rule, &kids)?;
+    kids_of(g, doc, forest, numbers, alt, builder, kids)?;
+    let number = builder.node(alt.rule, kids)?;
     Ok(number)
 }
 
 /// The part of the next row, a new node where the row is marked and one of a nonterminal, and else
 /// 0.
 fn number_row(
-    alloc: Global,
     g: &Gram,
     doc: &Word,
-    forest: &Forest<'_, SpanKey>,
+    forest: &Forest<SpanKey>,
     marks: &[bool],
     numbers: &[u64],
     builder: &mut Builder,
+    kids: &mut Vec<u64>,
 ) -> Result<u64, Memory>
     requires there { length numbers.now < length forest.now }
     requires long { length marks.now ≡ length forest.now }
@@ -63,7 +63,7 @@ fn number_row(
     match label_at(forest, row as u64).what {
         What::Front { .. } => Ok(0),
         What::Whole(_) => {
-            let number = add_node(alloc, g, doc, forest, numbers, row as u64, builder)?;
+            let number = add_node(g, doc, forest, numbers, row as u64, builder, kids)?;
             Ok(number)
         }
     }
@@ -75,7 +75,7 @@ pub(crate) fn number_rows(
     alloc: Global,
     g: &Gram,
     doc: &Word,
-    forest: &Forest<'_, SpanKey>,
+    forest: &Forest<SpanKey>,
     marks: &[bool],
     builder: &mut Builder,
 ) -> Result<Vec<u64>, Memory>
@@ -87,8 +87,9 @@ pub(crate) fn number_rows(
     ensures made { IfOk result (λ numbers. AreMade g.now doc.now forest.now marks.now builder.new numbers.items) }
 {
     let mut numbers = Vec::with_capacity(alloc, marks.len())?;
+    let mut kids = Vec::new(alloc);
     'rows: for _ in 0..marks.len() {
-        let number = number_row(alloc, g, doc, forest, marks, &numbers, builder)?;
+        let number = number_row(g, doc, forest, marks, &numbers, builder, &mut kids)?;
         numbers.push(number)?;
     }
     Ok(numbers)

@@ -1,24 +1,23 @@
-use Rattle.std.proofs.Common.{◌≡◌, ◌+◌, ℕ, suc, List, length, sym, subst, arith}
+use Rattle.std.proofs.Common.{◌≡◌, ◌+◌, ℕ, suc, length, List, sym, subst, arith}
 use Rattle.xs_grow.specs.declared.call.Call.{Call}
 use Rattle.xs_grow.specs.Lists.{HasAllOf}
-use Rattle.xs_grow.specs.Grouped.{HasGroups}
 use Rattle.xs_grow.specs.Candidates.{CallIn}
 use Rattle.xs_grow.proofs.Gathering.{calls_none, calls_more}
 use Rattle.xs_grow.proofs.calls.calls_of.Goals as goal
 
-pub groups-init : goal.groups-init
-groups-init c = subst (λ z. HasAllOf (CallIn c.args.wholes.now 0) z) (sym c.new-candidates.ensures.items) (calls_none c.args.wholes.now)
+pub marks-init : goal.marks-init
+marks-init c = subst (λ (z : List (Call × ℕ)). HasAllOf (CallIn c.args.wholes.now 0) z) (sym c.in_ok-calls.ensures) (calls_none c.args.wholes.now)
 
-pub groups-preserved : goal.groups-preserved
-groups-preserved c =
-    let groups = c.args.wholes.now in
-    let r = c.groups.r in
-    let key = c.group.result.0 in
-    let one : r + 1 ≡ suc r = omega arith in
-    subst (λ (z : ℕ). HasAllOf (CallIn groups z) c.push_call.new.candidates.items) (sym one) (calls_more groups r key.what key.start key.end c.group.result.1.now c.groups.candidates.items c.push_call.new.candidates.items c.len-r-end.ensures.apart c.group.ensures c.in_ok-push_call.ensures c.groups.invariant)
+pub marks-preserved : goal.marks-preserved
+marks-preserved c =
+    let marks = c.args.wholes.now in
+    let t = c.marks.t in
+    let key = c.at-number.result.0 in
+    let one : t + 1 ≡ suc t = omega arith in
+    subst (λ (z : ℕ). HasAllOf (CallIn marks z) c.push_call.new.calls) (sym one) (calls_more marks t key.what key.start key.end c.at-number.result.1 c.marks.calls c.push_call.new.calls c.at-number.ensures c.in_ok-push_call.ensures c.marks.invariant)
 
 pub returns : goal.returns
 returns c =
-    let groups = c.args.wholes.now in
-    let all : c.groups.r ≡ length groups = omega arith in
-    (c.groups.candidates.items, subst (λ (z : ℕ). HasAllOf (CallIn groups z) c.groups.candidates.items) all c.groups.invariant, subst (λ (z : List (Call × ℕ)). HasGroups z c.in_ok-calls.calls) c.deref.ensures.value c.in_ok-calls.ensures)
+    let marks = c.args.wholes.now in
+    let all : c.marks.t ≡ length marks = omega arith in
+    subst (λ (z : ℕ). HasAllOf (CallIn marks z) c.marks.calls) all c.marks.invariant

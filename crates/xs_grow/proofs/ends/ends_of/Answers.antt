@@ -1,11 +1,13 @@
 use Rattle.std.proofs.Common.{◌∙◌, Some, sym, ap, subst}
-use Rattle.std.specs.Prelude.{length}
+use Rattle.std.specs.Prelude.{ℕ, List, length, Contains}
 use Rattle.xs_regex.specs.declared.position.Position.{Position}
 use Rattle.xs_regex.specs.Automaton.{IsWellFormed}
 use Rattle.xs_chart_laws.proofs.Spelling.{term_agrees, skip_agrees}
-use Rattle.xs_grow.specs.Lists.{HasAllOf}
+use Rattle.xs_grow.specs.Lists.{HasAllOf, Appends}
 use Rattle.xs_grow.specs.Running.{AcceptsTo}
-use Rattle.xs_grow.proofs.Ending.{term_ends, skip_ends, non_ends}
+use Rattle.xs_grow.specs.Candidates.{call_at}
+use Rattle.xs_grow.proofs.ListLemmas.{appends_all}
+use Rattle.xs_grow.proofs.Ending.{term_ends, skip_ends}
 use Rattle.xs_grow.proofs.ends.ends_of.Goals as goal
 
 pub ends_from-requires-clause-formed : goal.ends_from-requires-clause-formed
@@ -38,8 +40,10 @@ returns-in_ok-ends-in-Skip c =
     let all = subst (λ (a : Position). HasAllOf (AcceptsTo a w c.args.at (length w)) c.in_ok-ends-in-Skip.ends.items) c.skip.ensures c.in_ok-ends-in-Skip.ensures in
     rw c.in-Skip.is (skip_ends g w c.args.calls.now c.requires.built it.0 it.1 c.in-Skip.skip c.args.at c.in_ok-ends-in-Skip.ends.items at all)
 
-pub returns-in_ok-ends-in-Non : goal.returns-in_ok-ends-in-Non
-returns-in_ok-ends-in-Non c =
+pub returns-in_ok-numbers-in-Non : goal.returns-in_ok-numbers-in-Non
+returns-in_ok-numbers-in-Non c =
     let calls = c.args.calls.now in
-    let all = non_ends c.args.g.now c.args.doc.now calls c.in-Non.non c.in-Non.slot c.args.at c.numbers.result.now c.requires.once c.numbers.ensures.apart c.numbers.ensures.numbers in
-    rw (c.in-Non.is, c.in_ok-ends-in-Non.ensures.items) all
+    let call = call_at c.in-Non.non c.args.at in
+    let P = λ (n : ℕ). Contains calls (call, n) in
+    let all = appends_all P c.numbers.new.out.items (subst (λ (z : List ℕ). Appends P z c.numbers.new.out.items) c.new-ends.ensures.items c.in_ok-numbers-in-Non.ensures) in
+    rw c.in-Non.is all

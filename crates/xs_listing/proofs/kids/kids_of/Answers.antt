@@ -25,13 +25,13 @@ read_item is js d item same lt at = subst (λ (l : List GItem). slice_get l d �
 pub fronts-init : goal.fronts-init
 fronts-init c =
     let same = c.items-items.ensures.items in
-    let len = c.in_ok-kids.ensures.len in
+    let len = c.in_ok-resize.ensures.len in
     let count = c.slot_count.ensures in
     record {
       within = omega arith;
       long = omega arith;
       extends = extends_none c.args.builder.now;
-      gathers = subst (λ n. Gathers c.args.g.now c.args.doc.now c.args.forest.now c.args.alt.rule c.args.alt.left c.args.numbers.now n c.args.alt.left c.args.builder.now c.in_ok-kids.kids.items) (sym (ap length same)) (gathers_all c.args.g.now c.args.doc.now c.args.forest.now c.requires.right c.args.alt.rule c.args.alt.left c.args.numbers.now c.args.builder.now c.in_ok-kids.kids.items c.requires.gather);
+      gathers = subst (λ n. Gathers c.args.g.now c.args.doc.now c.args.forest.now c.args.alt.rule c.args.alt.left c.args.numbers.now n c.args.alt.left c.args.builder.now c.resize.new.self.items) (sym (ap length same)) (gathers_all c.args.g.now c.args.doc.now c.args.forest.now c.requires.right c.args.alt.rule c.args.alt.left c.args.numbers.now c.args.builder.now c.resize.new.self.items c.requires.gather);
     }
 
 pub first_step-step-requires-clause-below : goal.first_step-step-requires-clause-below

@@ -1,0 +1,9 @@
+use Rattle.xs_forest_laws.specs.Grown.{IsGrown}
+use Rattle.xs_grow.specs.Making.{stands_at, AreOwed}
+use Rattle.xs_grow.proofs.forest.grow_rows.Given as goal
+
+abbrev pub invariant-labels : goal.invariant-labels
+invariant-labels l = record {
+  grown : IsGrown l.source.g.now l.source.doc.now (stands_at l.source.g.now l.source.doc.now) l.forest;
+  owed : AreOwed l.source.g.now l.source.doc.now l.fn.root l.stack.items;
+}

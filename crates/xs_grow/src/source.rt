@@ -1,0 +1,15 @@
+use crate::marks::Marks;
+use xs_class::Word;
+use xs_forest_laws::SpanKey;
+use xs_gram::Gram;
+
+/// What rows are made of: the grammar, the document, and the marks of its chart, which are the
+/// rules that are finished over each stretch of a nonterminal, and for first items of which the
+/// last shows from neither side where it begins, the places where it may begin.
+#[derive(Drop)]
+pub struct Source<'s> {
+    pub g: &'s Gram,
+    pub doc: &'s Word,
+    pub wholes: &'s Marks<SpanKey>,
+    pub splits: &'s Marks<SpanKey>,
+}
