@@ -63,6 +63,9 @@ fresh_bit word r = rw (shr_and_one word r) (one_of (bit_at word r) (bit_at-lt wo
     one_of (suc zero) l = refl
     one_of (suc (suc b)) l = absurd (omega arith)
 
+pub held_bit : (word r : ℕ) → nat_eq (bit_and (word / 2 ^ r) 1) 1 ≡ nat_eq (bit_at word r) 1
+held_bit word r = rw (shr_and_one word r) refl
+
 -- one more word is used, up to the greatest that ever was
 pub bit_holds : (bound used last word : ℕ) (words : List ℕ) (c : ℕ) → HoldsBits bound used words → c / 64 < length words → last ≡ max used (c / 64 + 1) → HoldsBits bound last (set words (c / 64) word)
 bit_holds bound used last word words c h l e = record {

@@ -1,12 +1,4 @@
 pub mod BitLemmas
 pub mod ClassLemmas
 pub mod CommonLemmas
-pub mod GainLemmas
 pub mod MarkLemmas
-pub mod MeetLemmas
-pub mod OverlapLemmas
-pub mod PhaseLemmas
-pub mod SeedLemmas
-pub mod SpreadLemmas
-pub mod TraceLemmas
-pub mod WalkLemmas

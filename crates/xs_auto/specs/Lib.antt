@@ -1,6 +1,4 @@
 pub mod Bits
 pub mod Marks
+pub mod Nests
 pub mod Nets
-pub mod Searches
-pub mod Shared
-pub mod Traces

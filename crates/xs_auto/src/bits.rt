@@ -60,4 +60,12 @@ impl BitSet {
         self.used = self.used.max(place + 1);
         (word >> bit) & 1 == 0
     }
+    /// Whether a number is in the set.
+    pub fn has(&self, number: u64) -> bool
+        requires { number < length self.now }
+        ensures { result ≡ get_or self.now number false }
+    {
+        let place = (number / 64) as usize;
+        (self.words[place] >> (number % 64)) & 1 == 1
+    }
 }

@@ -2,17 +2,19 @@ mod state;
 
 ghost use Rattle.std.specs.Prelude.{◌≡◌, ◌<◌, ◌-◌, ◌^◌, [], OnOk, OnErr, IfOk, IfSome, Some, None};
 ghost use Rattle.std.specs.List.{All};
-ghost use Rattle.xs_auto.specs.Nets.{states, final_at, edges_of, moves_of, AddsState, AddsEdge, AddsMove, SetsFinal, IsSound};
+ghost use Rattle.xs_auto.specs.Nets.{states, final_at, edges_of, moves_of, calls_of, AddsState, AddsEdge, AddsMove, AddsCall, SetsFinal, IsSound};
 
-use crate::Edge;
+use crate::{Call, Edge};
 use state::State;
 use std::alloc::Global;
 use std::marker::Model;
 use xs_class::{Class, Memory};
 
-/// States that are numbered from 0, with a start, final states, edges by classes and empty moves.
+/// States that are numbered from 0, with a start, final states, edges by classes, empty moves, and
+/// calls of groups.
 ///
-/// Each state that is named in a net is one of its states.
+/// Each state that is named in a net is one of its states. What a call reads is said by a nest of
+/// groups; by itself a net goes nowhere by its calls.
 #[derive(Debug, Drop)]
 pub struct Net {
     start: Option<u32>,
@@ -80,6 +82,18 @@ impl Net {
         Ok(())
     }
 
+    /// Adds a call of a group, which leads from a to b.
+    pub fn call(&mut self, a: u32, group: u32, b: u32) -> Result<(), Memory>
+        requires from { a < states self.old }
+        requires to { b < states self.old }
+        ensures ok { OnOk result (AddsCall self.old self.new a (record { group = group; to = b })) }
+        ensures err { OnErr result (self.new ≡ self.old) }
+    {
+        let state = &mut self.states[a as usize];
+        state.add_call(Call { group, to: b })?;
+        Ok(())
+    }
+
     /// Makes a the state to begin from, in place of any that was set before.
     pub fn set_start(&mut self, a: u32)
         requires { a < states self.old }
@@ -137,5 +151,13 @@ impl Net {
         ensures exist { All (λ b. b < states self.now) result.now }
     {
         self.states[a as usize].moves()
+    }
+    /// The calls that lead from a state, in the order in which they were added.
+    pub fn calls(&self, a: u32) -> &[Call]
+        requires { a < states self.now }
+        ensures value { result.now ≡ calls_of self.now a }
+        ensures exist { All (λ k. k.to < states self.now) result.now }
+    {
+        self.states[a as usize].calls()
     }
 }

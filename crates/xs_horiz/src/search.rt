@@ -9,11 +9,11 @@ ghost use Rattle.xs_light.specs.Causes.{IsCause};
 ghost use Rattle.xs_horiz.specs.Cuts.{OverlapsAt, IsFirstCut, HasNoCut};
 
 use std::alloc::Global;
-use xs_auto::Overlap;
 use xs_class::{Memory, Word};
 use xs_gram::{Comps, Gram};
 use xs_light::{CheckFault, Maps, light, light_net};
 use xs_loose::Part;
+use xs_meet::Overlap;
 
 /// A cut of a rule, with words x, a and y, a not empty: x and xa are loose for the items before it,
 /// y and ay for those from it on. The cut is the number of items before it.

@@ -1,10 +1,11 @@
 ghost use Rattle.std.specs.Prelude.{ℕ, ◌≡◌, ◌≤◌, List, IsSome, IfOk, IfSome, IfNone, OnOk};
-ghost use Rattle.xs_auto.specs.Shared.{IsShared, AreOverlap};
+ghost use Rattle.xs_meet.specs.Shared.{IsShared, AreOverlap};
 
 use std::alloc::Global;
 use std::marker::Model;
-use xs_auto::{Net, Overlap, Pairs, meet_word, overlap_word};
+use xs_auto::{Net, Pairs};
 use xs_class::{Memory, Word};
+use xs_meet::{Overlap, meet_word, overlap_word};
 
 /// Maps for searches over pairs of states, which contracts see as the number of cells of each.
 ///

@@ -4,8 +4,9 @@ ghost use Rattle.xs_auto.specs.Nets.{states};
 
 use std::alloc::Global;
 use std::test::Fail;
-use xs_auto::{Net, Overlap, Pairs, meet_word, overlap_word};
+use xs_auto::{Net, Pairs};
 use xs_class::{Class, Memory, Word};
+use xs_meet::{Overlap, meet_word, overlap_word};
 
 /// A net that accepts one or more symbols of a range, by an edge and an empty move back.
 fn run_of(alloc: Global, range: (u32, u32)) -> Result<Net, Memory>

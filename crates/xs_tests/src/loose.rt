@@ -5,10 +5,11 @@ ghost use Rattle.xs_loose.specs.Parts.{IsPart};
 use crate::sheets::pair_of;
 use std::alloc::Global;
 use std::test::Fail;
-use xs_auto::{Net, Pairs, meet_word};
+use xs_auto::{Net, Pairs};
 use xs_class::{Class, Memory, Side};
 use xs_gram::Gram;
 use xs_loose::{LooseFault, Part, net_of, weight_by, weight_of, weights};
+use xs_meet::meet_word;
 use xs_order::components;
 
 /// Digits with commas between them, in brackets: the rule of the brackets, of one digit, and of a

@@ -1,7 +1,7 @@
 ghost use Rattle.std.specs.Prelude.{◌≡◌, ◌++◌, ◌∷◌, [], true, OnOk, OnErr};
 ghost use Rattle.xs_auto.specs.Nets.{bare};
 
-use crate::Edge;
+use crate::{Call, Edge};
 use std::alloc::Global;
 use std::marker::Model;
 use xs_class::Memory;
@@ -12,6 +12,7 @@ pub struct State {
     is_final: bool,
     edges: Vec<Edge>,
     moves: Vec<u32>,
+    calls: Vec<Call>,
 }
 
 impl Model for State {
@@ -19,7 +20,7 @@ impl Model for State {
 
     ghost Value = { Node };
 
-    ghost view = { λ s. record { final = s.is_final; edges = s.edges.items; moves = s.moves.items } };
+    ghost view = { λ s. record { final = s.is_final; edges = s.edges.items; moves = s.moves.items; calls = s.calls.items } };
 }
 
 impl State {
@@ -30,6 +31,7 @@ impl State {
             is_final: false,
             edges: Vec::new(alloc),
             moves: Vec::new(alloc),
+            calls: Vec::new(alloc),
         }
     }
 
@@ -46,6 +48,14 @@ impl State {
         ensures err { OnErr result (self.new ≡ self.old) }
     {
         self.moves.push(to)?;
+        Ok(())
+    }
+
+    pub fn add_call(&mut self, call: Call) -> Result<(), Memory>
+        ensures ok { OnOk result (self.new ≡ record self.old { calls = self.old.calls ++ call ∷ [] }) }
+        ensures err { OnErr result (self.new ≡ self.old) }
+    {
+        self.calls.push(call)?;
         Ok(())
     }
 
@@ -71,5 +81,11 @@ impl State {
         ensures { result.now ≡ self.now.moves }
     {
         &self.moves
+    }
+
+    pub fn calls(&self) -> &[Call]
+        ensures { result.now ≡ self.now.calls }
+    {
+        &self.calls
     }
 }

@@ -1,0 +1,11 @@
+pub mod AloneLemmas
+pub mod GainLemmas
+pub mod NestLemmas
+pub mod OverlapLemmas
+pub mod PhaseLemmas
+pub mod SeedLemmas
+pub mod SharingLemmas
+pub mod SpellingLemmas
+pub mod SpreadLemmas
+pub mod TraceLemmas
+pub mod WalkLemmas

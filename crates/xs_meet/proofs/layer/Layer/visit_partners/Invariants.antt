@@ -1,0 +1,11 @@
+use Rattle.std.proofs.Common.{◌≡◌, take}
+use Rattle.xs_meet.specs.Searches.{Fits, Extends, Among, Joins}
+use Rattle.xs_meet.specs.Sharing.{AreKnown}
+use Rattle.xs_meet.proofs.layer.Layer.visit_partners.Given as goal
+
+abbrev pub invariant-others : goal.invariant-others
+invariant-others l = record {
+  cells : l.pairs.cells ≡ l.initial.pairs.cells;
+  fits : Fits l.self l.pairs;
+  more : Extends (Among (take l.other-index l.others) (λ k. Joins (AreKnown l.shared) l.call k l.from)) l.initial.self l.self;
+}

@@ -1,0 +1,118 @@
+ghost use Rattle.std.specs.Prelude.{◌≡◌, ◌<◌, ◌+◌, ◌↔◌, ℕ, true, length, IfOk, IsTrue};
+ghost use Rattle.xs_auto.specs.Nests.{group_at, HaveOneFence, IsFenced, AreShared};
+ghost use Rattle.xs_meet.specs.Rounds.{Tries, AreThese, AreFrom, AreWithin};
+ghost use Rattle.xs_meet.specs.Sharing.{has_at, HasRoom, IsSharing, IsSharedOf};
+
+use crate::meet::meet_pieces;
+use crate::shared::Shared;
+use std::alloc::Global;
+use xs_auto::{Nest, Pairs};
+use xs_class::Memory;
+
+impl Shared {
+    /// Which two groups of the nest have one fence and contents that accept a common word.
+    ///
+    /// Goes in rounds over the pairs of groups that have one fence and are not known to share a word,
+    /// until a round finds no more; so there is at most one round more than there are pairs that share
+    /// one. The pairs of states are marked in the first map.
+    pub fn of(alloc: Global, nest: &Nest, pairs: &mut Pairs) -> Result<Shared, Memory>
+        requires fenced { IsFenced nest.now }
+        requires room { HasRoom nest.now pairs.old.cells }
+        ensures cells { pairs.new.cells ≡ pairs.old.cells }
+        ensures ok { IfOk result (IsSharedOf nest.now) }
+        ensures exact { IfOk result (λ s. (g h : ℕ) → (has_at s g h ≡ true) ↔ AreShared nest.now g h) }
+    {
+        let mut shared = Shared::blank(alloc, nest.len())?;
+        'rounds: while shared.try_all(alloc, nest, pairs)? {}
+        Ok(shared)
+    }
+
+    /// One round: tries each two groups, and says whether any were found to share a word.
+    fn try_all(&mut self, alloc: Global, nest: &Nest, pairs: &mut Pairs) -> Result<bool, Memory>
+        requires fenced { IsFenced nest.now }
+        requires room { HasRoom nest.now pairs.old.cells }
+        requires sharing { IsSharing nest.now self.old }
+        ensures cells { pairs.new.cells ≡ pairs.old.cells }
+        ensures ok { IfOk result (Tries nest.now (AreWithin (length nest.now) (length nest.now)) self.old self.new) }
+    {
+        let mut grown = false;
+        'groups: for first in 0..nest.len() {
+            let found = self.try_from(alloc, nest, first, pairs)?;
+            grown = grown || found;
+        }
+        Ok(grown)
+    }
+
+    /// Tries a group with itself and each after it.
+    fn try_from(
+        &mut self,
+        alloc: Global,
+        nest: &Nest,
+        first: u32,
+        pairs: &mut Pairs,
+    ) -> Result<bool, Memory>
+        requires fenced { IsFenced nest.now }
+        requires room { HasRoom nest.now pairs.old.cells }
+        requires sharing { IsSharing nest.now self.old }
+        requires first { first < length nest.now }
+        ensures cells { pairs.new.cells ≡ pairs.old.cells }
+        ensures ok { IfOk result (Tries nest.now (AreFrom first (length nest.now)) self.old self.new) }
+    {
+        let mut grown = false;
+        'partners: for second in first..nest.len() {
+            let found = self.try_pair(alloc, nest, first, second, pairs)?;
+            grown = grown || found;
+        }
+        Ok(grown)
+    }
+
+    /// Tries two groups, unless they are known to share a word.
+    fn try_pair(
+        &mut self,
+        alloc: Global,
+        nest: &Nest,
+        first: u32,
+        second: u32,
+        pairs: &mut Pairs,
+    ) -> Result<bool, Memory>
+        requires fenced { IsFenced nest.now }
+        requires room { HasRoom nest.now pairs.old.cells }
+        requires sharing { IsSharing nest.now self.old }
+        requires first { first < length nest.now }
+        requires second { second < length nest.now }
+        ensures cells { pairs.new.cells ≡ pairs.old.cells }
+        ensures ok { IfOk result (Tries nest.now (AreThese first second) self.old self.new) }
+    {
+        if !have_one_fence(nest, first, second) {
+            return Ok(false);
+        }
+        if self.has(first, second) {
+            return Ok(false);
+        }
+        let found = meet_pieces(
+            alloc,
+            self,
+            nest.content(first),
+            nest.content(second),
+            pairs,
+        )?;
+        match found {
+            None => Ok(false),
+            Some(pieces) => {
+                self.add(first, second, &pieces)?;
+                Ok(true)
+            }
+        }
+    }
+}
+
+/// Whether two groups have one fence.
+fn have_one_fence(nest: &Nest, first: u32, second: u32) -> bool
+    requires first { first < length nest.now }
+    requires second { second < length nest.now }
+    ensures { IsTrue result ↔ HaveOneFence (group_at nest.now first) (group_at nest.now second) }
+{
+    let (left, right) = nest.fence(first);
+    let (left2, right2) = nest.fence(second);
+    left == left2 && right == right2
+}

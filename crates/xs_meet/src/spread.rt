@@ -1,0 +1,136 @@
+ghost use Rattle.std.specs.Prelude.{◌≡◌, ◌<◌, OnOk};
+ghost use Rattle.xs_auto.specs.Nets.{states};
+ghost use Rattle.xs_meet.specs.Searches.{Fits, Extends, IsFor, DriftsFrom, StridesFrom, LeadsFrom, Closes, ClosesDrifts};
+ghost use Rattle.xs_meet.specs.Sharing.{AreKnown};
+
+use crate::layer::Layer;
+use crate::reached_pair::ReachedPair;
+use crate::shared::Shared;
+use xs_auto::{Net, Pairs};
+use xs_class::Memory;
+
+impl Layer {
+    /// Visits the pairs to which an empty move of either net leads from a pair.
+    fn drift(
+        &mut self,
+        pairs: &mut Pairs,
+        first: &Net,
+        second: &Net,
+        at: ReachedPair,
+        from: usize,
+    ) -> Result<(), Memory>
+        requires nets { IsFor first.now second.now self.old }
+        requires fits { Fits self.old pairs.old }
+        requires first { at.first < states first.now }
+        requires second { at.second < states second.now }
+        ensures cells { pairs.new.cells ≡ pairs.old.cells }
+        ensures fits { OnOk result (Fits self.new pairs.new) }
+        ensures ok { OnOk result (Extends (DriftsFrom first.now second.now at.first at.second from) self.old self.new) }
+    {
+        self.visit_firsts(pairs, first.moves(at.first), at.second, from)?;
+        self.visit_seconds(pairs, at.first, second.moves(at.second), from)?;
+        Ok(())
+    }
+
+    /// Visits the pairs to which edges, or calls, of both nets lead from a pair.
+    pub fn stride(
+        &mut self,
+        pairs: &mut Pairs,
+        shared: &Shared,
+        first: &Net,
+        second: &Net,
+        at: ReachedPair,
+        from: usize,
+    ) -> Result<(), Memory>
+        requires nets { IsFor first.now second.now self.old }
+        requires fits { Fits self.old pairs.old }
+        requires first { at.first < states first.now }
+        requires second { at.second < states second.now }
+        ensures cells { pairs.new.cells ≡ pairs.old.cells }
+        ensures fits { OnOk result (Fits self.new pairs.new) }
+        ensures ok { OnOk result (Extends (StridesFrom (AreKnown shared.now) first.now second.now at.first at.second from) self.old self.new) }
+    {
+        self.visit_boths(pairs, first.edges(at.first), second.edges(at.second), from)?;
+        self.visit_calls(
+            pairs,
+            shared,
+            first.calls(at.first),
+            second.calls(at.second),
+            from,
+        )?;
+        Ok(())
+    }
+
+    /// Visits the pairs to which an empty move of either net, or edges or calls of both, lead from a
+    /// pair.
+    fn expand(
+        &mut self,
+        pairs: &mut Pairs,
+        shared: &Shared,
+        first: &Net,
+        second: &Net,
+        at: ReachedPair,
+        from: usize,
+    ) -> Result<(), Memory>
+        requires nets { IsFor first.now second.now self.old }
+        requires fits { Fits self.old pairs.old }
+        requires first { at.first < states first.now }
+        requires second { at.second < states second.now }
+        ensures cells { pairs.new.cells ≡ pairs.old.cells }
+        ensures fits { OnOk result (Fits self.new pairs.new) }
+        ensures ok { OnOk result (Extends (LeadsFrom (AreKnown shared.now) first.now second.now at.first at.second from) self.old self.new) }
+    {
+        self.drift(pairs, first, second, at, from)?;
+        self.stride(pairs, shared, first, second, at, from)?;
+        Ok(())
+    }
+
+    /// Adds all pairs to which the steps lead, each with the place of the step that led there.
+    pub fn close(
+        &mut self,
+        pairs: &mut Pairs,
+        shared: &Shared,
+        first: &Net,
+        second: &Net,
+    ) -> Result<(), Memory>
+        requires nets { IsFor first.now second.now self.old }
+        requires fits { Fits self.old pairs.old }
+        ensures cells { pairs.new.cells ≡ pairs.old.cells }
+        ensures fits { OnOk result (Fits self.new pairs.new) }
+        ensures ok { OnOk result (Closes (AreKnown shared.now) first.now second.now self.old self.new) }
+    {
+        self.seeds = self.steps.len();
+        'places: for place in 0..usize::MAX {
+            if place >= self.steps.len() {
+                return Ok(());
+            }
+            let at = self.steps[place];
+            self.expand(pairs, shared, first, second, at, place)?;
+        }
+        Ok(())
+    }
+
+    /// Adds all pairs to which the steps lead by empty moves alone, each with the origin of the
+    /// step that led there.
+    pub fn close_drifts(
+        &mut self,
+        pairs: &mut Pairs,
+        first: &Net,
+        second: &Net,
+    ) -> Result<(), Memory>
+        requires nets { IsFor first.now second.now self.old }
+        requires fits { Fits self.old pairs.old }
+        ensures cells { pairs.new.cells ≡ pairs.old.cells }
+        ensures fits { OnOk result (Fits self.new pairs.new) }
+        ensures ok { OnOk result (ClosesDrifts first.now second.now self.old self.new) }
+    {
+        'places: for place in 0..usize::MAX {
+            if place >= self.steps.len() {
+                return Ok(());
+            }
+            let at = self.steps[place];
+            self.drift(pairs, first, second, at, at.from)?;
+        }
+        Ok(())
+    }
+}
