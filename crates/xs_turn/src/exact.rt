@@ -6,7 +6,6 @@ ghost use Rattle.xs_tree.specs.Flat.{common_of};
 ghost use Rattle.xs_turn.specs.Stops.{IsStop};
 
 use crate::TurnFault;
-use bumpalo::Bump;
 use std::alloc::Global;
 use xs_class::Word;
 use xs_earley::recognise;
@@ -17,12 +16,7 @@ use xs_listing::one_tree;
 use xs_tree::Tree;
 
 /// The forest of a document of a grammar.
-pub fn grown<'b>(
-    alloc: Global,
-    bump: &'b Bump<Global>,
-    g: &Gram,
-    doc: &Word,
-) -> Result<Grown<'b>, TurnFault>
+pub fn grown(alloc: Global, g: &Gram, doc: &Word) -> Result<Grown, TurnFault>
     requires sound { IsSound g.now }
     requires short { length doc.now < 4294967295 }
     ensures language { IfOk result (λ _. InLang g.now doc.now) }
@@ -31,7 +25,7 @@ pub fn grown<'b>(
     ensures stop { IfErr result (IsStop g.now doc.now) }
 {
     let chart = recognise(alloc, g, doc)?;
-    let grown = grow(alloc, bump, g, &chart, doc)?;
+    let grown = grow(alloc, g, &chart, doc)?;
     Ok(grown)
 }
 
@@ -42,8 +36,7 @@ pub fn exact_tree(alloc: Global, g: &Gram, doc: &Word) -> Result<Tree, TurnFault
     ensures tree { IfOk result (λ tree. HasTree g.now doc.now (common_of tree)) }
     ensures stop { IfErr result (IsStop g.now doc.now) }
 {
-    let bump = Bump::new(alloc);
-    let grown = grown(alloc, &bump, g, doc)?;
+    let grown = grown(alloc, g, doc)?;
     let tree = one_tree(alloc, &grown, g, doc)?;
     Ok(tree)
 }

@@ -10,7 +10,6 @@ ghost use Rattle.xs_turn.specs.Turned.{FitsBoth, IsTranslated, IsRefusal};
 use crate::TurnFault;
 use crate::exact::{exact_tree, grown};
 use crate::guess::guessed_tree;
-use bumpalo::Bump;
 use std::alloc::Global;
 use xs_class::{Side, Word};
 use xs_forest_laws::Grown;
@@ -68,19 +67,18 @@ pub fn translate(
     Ok(Translated { tree, word })
 }
 
-/// The forest of a document of a side, in an arena: its unfoldings are exactly the derivations of
+/// The forest of a document of a side: its unfoldings are exactly the derivations of
 /// the document, each once.
 ///
 /// `Foreign` is answered as by `translate`. A document without ambiguity takes time linear in its
 /// chart.
 #[tactic(auto, using(crate::proofs::Sides::refusal_of))]
-pub fn forest_of<'b>(
+pub fn forest_of(
     alloc: Global,
-    bump: &'b Bump<Global>,
     two: &Two,
     side: Side,
     doc: &Word,
-) -> Result<Grown<'b>, TurnFault>
+) -> Result<Grown, TurnFault>
     requires text { IsSound two.now.text }
     requires xml { IsSound two.now.xml }
     requires short { length doc.now < 4294967295 }
@@ -88,6 +86,6 @@ pub fn forest_of<'b>(
     ensures exact { IfOk result (λ grown. IsExact (grammar_of two.now side) doc.now grown.forest grown.root) }
     ensures foreign { IfErr result (IsRefusal two.now side doc.now) }
 {
-    let grown = grown(alloc, bump, two.gram(side), doc)?;
+    let grown = grown(alloc, two.gram(side), doc)?;
     Ok(grown)
 }
