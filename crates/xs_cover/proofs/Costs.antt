@@ -9,18 +9,13 @@ use Rattle.xs_gram.specs.Common.{Common, Kids, Kind, word, made, no_kid, kid, of
 use Rattle.xs_gram.specs.Laws.{IsDistinct, HasNumberedSlots}
 use Rattle.xs_gram.proofs.Lookup.{AllOf, keys, each_found}
 use Rattle.xs_cover.specs.Sizes.{weight, kids_weight, SomeUses}
-use Rattle.xs_cover.specs.Costs.{Costs, slots_cost, rule_cost, AreClosed}
+use Rattle.xs_cover.specs.Costs.{Costs, kind_cost, slots_cost, rule_cost, AreClosed}
 use Rattle.xs_cover.specs.Laws.{ClosedCostsAreLow}
 use Rattle.xs_cover.proofs.Sums.{sum_of, sum_numbered, sum_from, upto_from}
 use Rattle.xs_cover.proofs.Sizes.{fit_long, inner_fit}
 
-abbrev kind_cost : Costs → Option Kind → ℕ
-kind_cost c None = 0
-kind_cost c (Some (of_term t)) = c.terms t
-kind_cost c (Some (of_non n)) = c.nons n
-
 -- what the slot of that number costs
-abbrev cost_at : Costs → List GItem → ℕ → ℕ
+abbrev pub cost_at : Costs → List GItem → ℕ → ℕ
 cost_at c is slot = kind_cost c (lookup slot (kinds is))
 
 abbrev entries_cost : Costs → List (ℕ × Kind) → ℕ
@@ -39,7 +34,7 @@ by_lookup c es [] all = refl
 by_lookup c es (x ∷ xs) all = omega (arith, ap (λ k. kind_cost c k) all.0, by_lookup c es xs all.1)
 
 -- what the slots cost, in the order of their numbers
-slots_sum : (g : Grammar) (c : Costs) (p : ℕ) → HasNumberedSlots g → slots_cost c (items g p) ≡ sum_from (cost_at c (items g p)) 0 (length (slots (items g p)))
+pub slots_sum : (g : Grammar) (c : Costs) (p : ℕ) → HasNumberedSlots g → slots_cost c (items g p) ≡ sum_from (cost_at c (items g p)) 0 (length (slots (items g p)))
 slots_sum g c p numbered =
     let is = items g p in
     let f = λ (s : ℕ). kind_cost c (lookup s (kinds is)) in
@@ -47,7 +42,7 @@ slots_sum g c p numbered =
     slots_entries c is ∙ by_lookup c (kinds is) (kinds is) found ∙ ap (λ l. sum_of f l) (keys-kinds is) ∙ sum_numbered f (slots is) (numbered p) ∙ upto_from f f 0 (length (slots is)) (λ j. ap f (omega arith))
 
 -- a node weighs at least what its production costs, where its children weigh what its slots cost
-node_low : (g h : Grammar) (c : Costs) (p : ℕ) (kids : Kids) → HasNumberedSlots g → KidsFit g (items g p) 0 kids → sum_from (cost_at c (items g p)) 0 (kids_long kids) ≤ kids_weight g h kids → rule_cost g h c p ≤ weight g h (made p kids)
+pub node_low : (g h : Grammar) (c : Costs) (p : ℕ) (kids : Kids) → HasNumberedSlots g → KidsFit g (items g p) 0 kids → sum_from (cost_at c (items g p)) 0 (kids_long kids) ≤ kids_weight g h kids → rule_cost g h c p ≤ weight g h (made p kids)
 node_low g h c p kids numbered fit low =
     let long : length (slots (items g p)) ≡ kids_long kids = omega (arith, fit_long g (items g p) 0 kids fit) in
     let sum : slots_cost c (items g p) ≡ sum_from (cost_at c (items g p)) 0 (kids_long kids) = slots_sum g c p numbered ∙ ap (λ n. sum_from (cost_at c (items g p)) 0 n) long in
@@ -64,7 +59,7 @@ made_low g h c (Some (of_term t)) p bound kids closed fit low = absurd fit
 made_low g h c (Some (of_non n)) p bound kids closed fit low = omega (arith, closed.rules p fit.0.0, ap c.nons fit.0.1, low)
 
 -- children weigh at least what their slots cost
-kids_low : (g h : Grammar) (c : Costs) (is : List GItem) (slot : ℕ) (kids : Kids) → HasNumberedSlots g → AreClosed g h c → KidsFit g is slot kids → sum_from (cost_at c is) slot (kids_long kids) ≤ kids_weight g h kids
+pub kids_low : (g h : Grammar) (c : Costs) (is : List GItem) (slot : ℕ) (kids : Kids) → HasNumberedSlots g → AreClosed g h c → KidsFit g is slot kids → sum_from (cost_at c is) slot (kids_long kids) ≤ kids_weight g h kids
 kids_low g h c is slot no_kid numbered closed fit = omega arith
 kids_low g h c is slot (kid (word w) kids) numbered closed fit = omega (arith, word_low g h c (lookup slot (kinds is)) w closed fit.0, kids_low g h c is (slot + 1) kids numbered closed fit.1)
 kids_low g h c is slot (kid (made p inner) kids) numbered closed fit =

@@ -3,3 +3,13 @@ pub mod Sizes
 pub mod Costs
 pub mod Least
 pub mod Reached
+pub mod Ways
+pub mod Filling
+pub mod Existing
+pub mod Counting
+pub mod Around
+pub mod Showing
+pub mod Stepping
+pub mod Leaves
+pub mod Chains
+pub mod Sweeping

@@ -1,9 +1,11 @@
 -- Costs of terminals, of nonterminals and of what stands around them, from which no rule leads to
 -- lower ones.
-use Rattle.std.specs.Prelude.{◌≡◌, ℕ, ◌+◌, ◌<◌, ◌≤◌, List, [], ◌∷◌, length}
+use Rattle.std.specs.Prelude.{◌≡◌, ℕ, ◌+◌, ◌<◌, ◌≤◌, List, [], ◌∷◌, length, None, Some}
+use Rattle.std.specs.declared.option.Option.{Option}
 use Rattle.xs_gram.specs.declared.parts.GItem.{GItem}
 use Rattle.xs_gram.specs.declared.parts.GItem.TheVariants.{Fixed, Term, Non, Skip}
 use Rattle.xs_gram.specs.Grammar.{Grammar, rule_of, items, ItemAt, IsTermWord}
+use Rattle.xs_gram.specs.Common.{Kind, of_term, of_non}
 use Rattle.xs_cover.specs.Sizes.{own_length}
 
 -- a cost for each terminal, for each nonterminal, and for what stands around it in a tree
@@ -11,6 +13,12 @@ pub record Costs : Type 0 where
   pub terms : ℕ → ℕ
   pub nons : ℕ → ℕ
   pub around : ℕ → ℕ
+
+-- what a slot of the kind costs
+abbrev pub kind_cost : Costs → Option Kind → ℕ
+kind_cost c None = 0
+kind_cost c (Some (of_term t)) = c.terms t
+kind_cost c (Some (of_non n)) = c.nons n
 
 -- what the slots of items cost
 abbrev pub slots_cost : Costs → List GItem → ℕ

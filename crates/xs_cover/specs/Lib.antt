@@ -1,3 +1,8 @@
 pub mod Sizes
 pub mod Costs
 pub mod Laws
+pub mod Tables
+pub mod Shortest
+pub mod Prices
+pub mod Steps
+pub mod Kept

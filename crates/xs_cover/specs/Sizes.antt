@@ -1,5 +1,6 @@
 -- Sizes of common trees, the productions that they use, and the least size of a tree that uses one.
-use Rattle.std.specs.Prelude.{◌≡◌, ◌⊎◌, ℕ, ◌+◌, ◌≤◌, min, List, [], ◌∷◌, length}
+use Rattle.std.specs.Prelude.{◌≡◌, ◌⊎◌, ℕ, ◌+◌, ◌<◌, ◌≤◌, min, List, [], ◌∷◌, length, None, Some}
+use Rattle.std.specs.declared.option.Option.{Option}
 use Rattle.xs_gram.specs.declared.parts.GItem.{GItem}
 use Rattle.xs_gram.specs.declared.parts.GItem.TheVariants.{Fixed, Term, Non, Skip}
 use Rattle.xs_gram.specs.Grammar.{Grammar, items, normal_word}
@@ -36,6 +37,21 @@ IsReachable g p = (t : Common) × Shows g p t
 pub record IsLeast (g h : Grammar) (p n : ℕ) : Type 0 where
   pub attained : (t : Common) × Shows g p t × (capped (size g h t) ≡ n)
   pub least : (t : Common) → Shows g p t → n ≤ capped (size g h t)
+
+-- the least size of a tree that shows the production, and none where no tree does
+abbrev pub IsLeastSize : Grammar → Grammar → ℕ → Option ℕ → Type 0
+IsLeastSize g h p None = (t : Common) → Shows g p t → ⊥
+IsLeastSize g h p (Some n) = IsLeast g h p n
+
+-- each tree that shows the production has more than 4,096 symbols
+abbrev pub IsTooLong : Grammar → Grammar → ℕ → Type 0
+IsTooLong g h p = (t : Common) → Shows g p t → 4096 < size g h t
+
+-- the tree shows the production, none that does is smaller, and it is not too long
+pub record IsLeastTree (g h : Grammar) (p : ℕ) (t : Common) : Type 0 where
+  pub shows : Shows g p t
+  pub least : (u : Common) → Shows g p u → size g h t ≤ size g h u
+  pub short : size g h t ≤ 4096
 
 -- the number of symbols of the fixed words and of the ignorables of items, these in normal spelling
 abbrev pub fixed_length : Grammar → List GItem → ℕ

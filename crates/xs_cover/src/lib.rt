@@ -1,12 +1,31 @@
-//! Smallest documents: the size of a common tree, and the least size of one that uses a production.
+//! Smallest documents: for each production of a sheet the least size of a document pair that uses
+//! it, and such a pair's tree.
 //!
-//! The size of a tree is the number of symbols of its words on both sides, where ignorables stand in
-//! their normal spellings. specs/ has sizes, which productions a tree uses, what the least size is,
-//! and costs. Sizes add up from the leaves on. Costs are closed where no rule gives a lower one, as
-//! the distances of Knuth, A generalization of Dijkstra's algorithm, 1977, are: no tree that shows a
-//! production is smaller than closed costs say, and a tree as small as they say is a least one.
+//! The size of a common tree is the number of symbols of its words on both sides, where ignorables
+//! stand in their normal spellings. Sizes add up: a production costs what it has of its own on both
+//! sides, and what its slots cost; a terminal costs its least word once for each side (`words`), a
+//! nonterminal what its cheapest production does. So the least tree of each nonterminal is found as
+//! by Knuth, A generalization of Dijkstra's algorithm, 1977 (`trees`, `upwards`), and what stands
+//! around each nonterminal in a tree of the start by Dijkstra's algorithm itself (`contexts`,
+//! `downwards`). The least size for a production is the sum of what stands around its nonterminal
+//! and what it costs itself (`covers`); its tree is read off the steps that lead there (`shown`).
+//!
+//! specs/ has sizes, which productions a tree uses, what the least size is (Sizes), and costs from
+//! which no rule leads to lower ones (Costs): no tree that shows a production is smaller than such
+//! closed costs say, and a tree as small as they say is a least one. In what order costs are lowered
+//! matters for speed alone: all rules are looked at until none lowers a cost.
 #![tactic(auto)]
 
+mod contexts;
+mod covers;
+mod downwards;
 mod laws;
+mod prices;
+mod rows;
+mod shown;
+mod trees;
+mod upwards;
+mod words;
 
+pub use covers::{Covers, cover};
 pub use laws::{closed_costs_are_low, costs_are_least, sizes_add, unreached_is_not_shown};

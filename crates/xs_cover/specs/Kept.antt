@@ -1,0 +1,46 @@
+-- When tables of costs, trees and steps are complete, and what they then say.
+use Rattle.std.specs.Prelude.{◌≡◌, ℕ, ◌+◌, ◌<◌, ◌≤◌, List, length, None, slice_index_or}
+use Rattle.std.specs.declared.option.Option.{Option}
+use Rattle.xs_gram.specs.Grammar.{Grammar}
+use Rattle.xs_gram.specs.Common.{Common, TreeFits}
+use Rattle.xs_pair.specs.Grammars.{Pair}
+use Rattle.xs_tree.specs.Flat.{tree_at, trees_of}
+use Rattle.xs_cover.specs.declared.prices.Prices.{Prices}
+use Rattle.xs_cover.specs.declared.contexts.Step.{Step}
+use Rattle.xs_cover.specs.declared.contexts.Contexts.{Contexts}
+use Rattle.xs_cover.specs.declared.covers.Covers.{Covers}
+use Rattle.xs_cover.specs.Sizes.{capped, weight, Uses, IsLeast, IsLeastSize}
+use Rattle.xs_cover.specs.Prices.{AreLow, HaveTrees, IsClosed}
+use Rattle.xs_cover.specs.Steps.{step_at, AreContexts, IsPassed}
+
+-- no rule gives a lower cost, and no step leads to less
+pub record AreComplete (g h : Grammar) (p : Prices) (numbers : List ℕ) (trees : List Common) (c : Contexts) : Type 0 where
+  pub have : HaveTrees g h trees p.terms.items p.nons.items numbers
+  pub low : AreLow g p.terms.items
+  pub closed : (q : ℕ) → q < length g.rules → IsClosed g h p q
+  pub contexts : AreContexts g h p c
+  pub passed : (q : ℕ) → q < length g.rules → IsPassed g h p c.arounds.items q
+
+-- the least sizes, by production
+abbrev pub sizes_of : Covers → List (Option ℕ)
+sizes_of c = c.sizes.items
+
+-- what covers of two grammars are: a least size for each production, and what its trees are made of
+pub record AreCoversOf (two : Pair) (c : Covers) : Type 0 where
+  pub counted : length (sizes_of c) ≡ length two.text.rules
+  pub sizes : (p : ℕ) → p < length two.text.rules → IsLeastSize two.text two.xml p (slice_index_or (sizes_of c) p None)
+  pub complete : AreComplete two.text two.xml c.prices c.numbers.items (trees_of c.tree.parts) c.contexts
+
+-- Tree `number` fits the nonterminal to which step `place` leads, it shows the production, and
+-- weighs, with what stands around it, at most so much.
+pub record HoldsAt (g h : Grammar) (p : Prices) (numbers : List ℕ) (steps : List Step) (rule most place : ℕ) (trees : List Common) (number : ℕ) : Type 0 where
+  pub have : HaveTrees g h trees p.terms.items p.nons.items numbers
+  pub on : place < length steps
+  pub there : number < length trees
+  pub fits : TreeFits g (step_at steps place).non (tree_at trees number)
+  pub uses : Uses (tree_at trees number) rule
+  pub light : (step_at steps place).cost + capped (weight g h (tree_at trees number)) ≤ most
+
+-- some tree shows the production, and a least one is not too long
+abbrev pub IsShort : Grammar → Grammar → ℕ → Type 0
+IsShort g h rule = (n : ℕ) × IsLeast g h rule n × (n ≤ 4096)
