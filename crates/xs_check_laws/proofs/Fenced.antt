@@ -3,3 +3,4 @@ pub mod Components
 pub mod Walks
 pub mod Unique
 pub mod Weights
+pub mod Unfenced

@@ -1,4 +1,4 @@
-ghost use Rattle.xs_check_laws.specs.Fenced.Laws.{ComponentsAreDecided, WordsAreTheYield, YieldsAreLoose, NoSuspectIsUniqueAt, NoSuspectIsUnique, AcceptedIsUnique, PartWeighsOnce, RuleWeighsOnce};
+ghost use Rattle.xs_check_laws.specs.Fenced.Laws.{ComponentsAreDecided, WordsAreTheYield, YieldsAreLoose, NoSuspectIsUniqueAt, NoSuspectIsUnique, AcceptedIsUnique, PartWeighsOnce, RuleWeighsOnce, UnfencedIsSame};
 
 /// It is decided of each two nonterminals of a built grammar whether they are of one component.
 pub fn components_are_decided()
@@ -30,4 +30,9 @@ pub fn accepted_is_unique()
 pub fn weights_are_exact()
     ensures part { PartWeighsOnce }
     ensures rule { RuleWeighsOnce }
+{}
+
+/// Without fences, loose words, suspects and weights are those where no groups are told apart.
+pub fn unfenced_is_same()
+    ensures { UnfencedIsSame }
 {}

@@ -1,9 +1,9 @@
 -- Level stretches: they join, a group's end is found in one way, and what stands in no group.
-use Rattle.std.proofs.Common.{◌≡◌, ◌⊎◌, inl, inr, ℕ, suc, ◌+◌, List, [], ◌∷◌, ◌++◌, length, refl, sym, ap, ◌∙◌, subst, arith, append_assoc, length-append, slice_get, Some}
+use Rattle.std.proofs.Common.{◌≡◌, ◌⊎◌, inl, inr, ℕ, suc, ◌+◌, ◌<◌, List, [], ◌∷◌, ◌++◌, length, refl, sym, ap, ◌∙◌, subst, arith, append_assoc, length-append, drop, drop_at, slice_get, Some}
 use Rattle.xs_gram.specs.declared.parts.GItem.{GItem}
 use Rattle.xs_gram.specs.declared.parts.GItem.TheVariants.{Fixed}
 use Rattle.xs_gram.specs.Laws.{IsDistinct}
-use Rattle.xs_gram.specs.Fences.{fence_symbols, IsFence, IsPlain, grouped, IsLevel, level_none, level_then, level_group, OuterAt}
+use Rattle.xs_gram.specs.Fences.{fence_symbols, IsFence, IsPlain, grouped, IsLevel, level_none, level_then, level_group, OuterAt, GroupAt}
 use Rattle.xs_gram.proofs.Fences.{left_not_plain, right_not_plain, sides_apart}
 
 pub cons_parts : {A : Type 0} {s t : A} {u v : List A} → s ∷ u ≡ t ∷ v → (s ≡ t) × (u ≡ v)
@@ -158,3 +158,18 @@ outer_at {k = k} {i = i} o = ap (λ (x : List GItem). slice_get x k) o.split ∙
     seam : (before : List GItem) (i : GItem) (after : List GItem) → slice_get (before ++ i ∷ after) (length before) ≡ Some i
     seam [] i after = refl
     seam (x ∷ xs) i after = seam xs i after
+
+-- what begins a level stretch is a left fence, or plain and followed by a level stretch
+pub level_first : {fs : List (ℕ × ℕ)} {i : GItem} {js : List GItem} → ((l r : ℕ) → IsFence fs l r → i ≡ Fixed (l ∷ []) → ⊥) → IsLevel fs (i ∷ js) → IsPlain fs i × IsLevel fs js
+level_first other (level_then plain t) = (plain, t)
+level_first other (level_group {l = l} {r = r} f j t e) = absurd (other l r f (cons_parts e).0)
+
+-- the stretches from a group's left fence on, and after its right fence, which is in the stretch
+pub group_opened : {fs : List (ℕ × ℕ)} {is : List GItem} {k m l : ℕ} {inside : List GItem} {r : ℕ} (a : GroupAt fs is k m l inside r) → (drop k is ≡ grouped l inside r a.after) × (drop (suc m) is ≡ a.after) × (m < length is)
+group_opened {is = is} {k = k} {m = m} {l = l} {inside = inside} {r = r} a =
+    let long = length_grouped a.before l inside r in
+    let split : is ≡ (a.before ++ grouped l inside r []) ++ a.after = a.split ∙ group_split a.before l inside r a.after in (
+      ap (λ (x : List GItem). drop k x) a.split ∙ drop_at a.before (grouped l inside r a.after) k (sym a.place),
+      ap (λ (x : List GItem). drop (suc m) x) split ∙ drop_at (a.before ++ grouped l inside r []) a.after (suc m) (omega (arith, long, a.partner, a.place)),
+      omega (arith, ap length split, length-append (a.before ++ grouped l inside r []) a.after, long, a.partner, a.place),
+    )

@@ -12,3 +12,4 @@ pub mod Levels
 pub mod Spreading
 pub mod Partners
 pub mod Unfenced
+pub mod Classes

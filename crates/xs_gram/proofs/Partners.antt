@@ -79,7 +79,7 @@ some_one : {A : Type 0} {x y : A} → Some x ≡ Some y → x ≡ y
 some_one e = cc
 
 -- what stands in front of a place, the item there, and what follows
-split_at : {A : Type 0} (xs : List A) (k : ℕ) (x : A) → slice_get xs k ≡ Some x → (before : List A) × (after : List A) × (xs ≡ before ++ x ∷ after) × (k ≡ length before)
+pub split_at : {A : Type 0} (xs : List A) (k : ℕ) (x : A) → slice_get xs k ≡ Some x → (before : List A) × (after : List A) × (xs ≡ before ++ x ∷ after) × (k ≡ length before)
 split_at [] k x e = absurd cc
 split_at (y ∷ xs) zero x e = ([], xs, ap (λ z. z ∷ xs) (some_one e), refl)
 split_at (y ∷ xs) (suc k) x e = let h = split_at xs k x e in (y ∷ h.0, h.1, ap (λ z. y ∷ z) h.2, ap suc h.3)

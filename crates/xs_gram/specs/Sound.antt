@@ -4,7 +4,7 @@ use Rattle.xs_regex.specs.declared.regex.Regex.{Regex}
 use Rattle.xs_regex.specs.declared.position.Position.{Position}
 use Rattle.xs_regex.specs.Matches.{Matches}
 use Rattle.xs_regex.specs.Automaton.{Accepts, IsWellFormed, EachEnds}
-use Rattle.xs_regex.specs.Size.{size, IsBounded, HasMembers}
+use Rattle.xs_regex.specs.Size.{size, sets, IsBounded, HasMembers}
 use Rattle.xs_gram.specs.declared.parts.GItem.{GItem}
 use Rattle.xs_gram.specs.declared.parts.GItem.TheVariants.{Fixed, Term, Non, Skip}
 use Rattle.xs_gram.specs.Grammar.{Grammar, rule_of, term_of, skip_of, items, IsRuleOf, ItemAt, IsTermWord, IsSkipWord}
@@ -13,11 +13,13 @@ use Rattle.xs_gram.specs.Fences.{fence_symbols, spread, IsLevel, AvoidsFences}
 use Rattle.xs_gram.specs.Laws.{IsDistinct, HasNumberedSlots}
 
 -- the automaton is one of the regex: it accepts exactly what the regex matches, and where no class
--- is empty each of its positions can be gone on from to a last one
+-- is empty each of its positions can be gone on from to a last one; its classes are those of the
+-- regex, those of a repetition once for each copy
 pub record IsAutomaton (regex : Regex) (a : Position) : Type 0 where
   pub accepts : (w : List ℕ) → Matches regex w ↔ Accepts a w
   pub formed : IsWellFormed a
   pub positions : length a.classes ≡ size regex
+  pub classes : a.classes ≡ sets regex
   pub ends : HasMembers regex → EachEnds a
 
 -- the numbers that items name are there, and no fixed word is empty

@@ -1,5 +1,5 @@
 -- The nonterminals among outer items, and the components by them.
-use Rattle.std.proofs.Common.{◌≡◌, ◌↔◌, inl, inr, ℕ, zero, suc, ◌+◌, ◌<◌, ◌≤◌, List, [], ◌∷◌, ◌++◌, length, drop, get_or, refl, sym, ap, subst, ◌∙◌, arith, append_assoc, append-nil, length-append, drop_at, slice_get, Some}
+use Rattle.std.proofs.Common.{◌≡◌, ◌↔◌, inl, inr, ℕ, zero, suc, ◌+◌, ◌<◌, ◌≤◌, List, [], ◌∷◌, ◌++◌, length, drop, get_or, refl, sym, ap, subst, ◌∙◌, arith, append_assoc, append-nil, slice_get, Some}
 use Rattle.std.specs.List.{Contains}
 use Rattle.std.proofs.lemmas.Option.{slice_get-get_or}
 use Rattle.std.proofs.lemmas.List.Elements.{Contains-append_left, Contains-append_right, Contains-append_cases}
@@ -9,11 +9,11 @@ use Rattle.xs_gram.specs.declared.parts.GItem.TheVariants.{Fixed, Term, Non, Ski
 use Rattle.xs_gram.specs.Grammar.{Grammar}
 use Rattle.xs_gram.specs.Laws.{IsDistinct}
 use Rattle.xs_gram.specs.Sound.{IsInRange}
-use Rattle.xs_gram.specs.Fences.{fence_symbols, spread, IsFence, IsPlain, IsLevel, level_then, level_group, grouped, OuterAt, IsPartner, IsLeftFence}
+use Rattle.xs_gram.specs.Fences.{fence_symbols, spread, IsFence, IsLevel, OuterAt, IsPartner, IsLeftFence}
 use Rattle.xs_gram.specs.Fenced.Loose.{Uses, Reaches, here, onward, AreComponents}
 use Rattle.xs_gram.proofs.Fences.{is_left_of}
 use Rattle.xs_gram.proofs.Spreading.{spread_names}
-use Rattle.xs_gram.proofs.Levels.{cons_parts, after_group, group_split, length_grouped, outer_at, outer_none, outer_here, outer_later, outer_then, outer_after, outer_group}
+use Rattle.xs_gram.proofs.Levels.{level_first, group_opened, after_group, outer_at, outer_none, outer_here, outer_later, outer_then, outer_after, outer_group}
 use Rattle.xs_gram.proofs.Building.{drop_next}
 use Rattle.xs_order.specs.Graphs.{AreByRule, IsGraphTo}
 use Rattle.xs_order.specs.Rules.{nons_of}
@@ -54,11 +54,6 @@ outer_are_nons once (item_nons {i = i} {ns = ns} plain t e) n k s o =
     ])
 outer_are_nons once (group_nons f i t e) n k s o = let h = outer_group once f i e o in outer_are_nons once t n h.0 s h.2
 
--- what begins a level stretch is a left fence, or plain and followed by a level stretch
-plain_first : {fs : List (ℕ × ℕ)} {i : GItem} {js : List GItem} → ((l r : ℕ) → IsFence fs l r → i ≡ Fixed (l ∷ []) → ⊥) → IsLevel fs (i ∷ js) → IsPlain fs i × IsLevel fs js
-plain_first other (level_then plain t) = (plain, t)
-plain_first other (level_group {l = l} {r = r} f j t e) = absurd (other l r f (cons_parts e).0)
-
 get_here : {A : Type 0} (xs : List A) (k : ℕ) (x : A) → k < length xs → x ≡ get_or xs k x → slice_get xs k ≡ Some x
 get_here xs k x lt e = slice_get-get_or xs k x lt ∙ ap (λ z. Some z) (sym e)
 
@@ -67,7 +62,7 @@ pub item_past : (fs : List (ℕ × ℕ)) (is : List GItem) (place : ℕ) (item :
 item_past fs is place item old new lt at level other adds =
     let opened = drop_next is place item lt at in
     let no_left : (l r : ℕ) → IsFence fs l r → item ≡ Fixed (l ∷ []) → ⊥ = λ l r f e. other record { symbol = l; item = get_here is place item lt at ∙ ap (λ (x : GItem). Some x) e; left = is_left_of f } in
-    let first = plain_first no_left (subst (λ (x : List GItem). IsLevel fs x) opened level) in
+    let first = level_first no_left (subst (λ (x : List GItem). IsLevel fs x) opened level) in
     record {
       later = omega arith;
       within = omega arith;
@@ -81,12 +76,13 @@ item_past fs is place item old new lt at level other adds =
 pub group_past : (fs : List (ℕ × ℕ)) (is : List GItem) (place m : ℕ) (old : List ℕ) → IsDistinct (fence_symbols fs) → IsLevel fs (drop place is) → IsPartner fs is place m → IsPast fs is place (m + 1) old old
 group_past fs is place m old once level p =
     let a = p.group in
-    let here : drop place is ≡ grouped p.left p.inside p.right a.after = ap (λ (x : List GItem). drop place x) a.split ∙ drop_at a.before (grouped p.left p.inside p.right a.after) place (sym a.place) in
-    let long = length_grouped a.before p.left p.inside p.right in
-    let next : drop (m + 1) is ≡ a.after = ap (λ (x : List GItem). drop (m + 1) x) (a.split ∙ group_split a.before p.left p.inside p.right a.after) ∙ drop_at (a.before ++ grouped p.left p.inside p.right []) a.after (m + 1) (omega (arith, long, a.partner, a.place)) in
+    let opened = group_opened a in
+    let here = opened.0 in
+    let more : m + 1 ≡ suc m = omega arith in
+    let next : drop (m + 1) is ≡ a.after = ap (λ (k : ℕ). drop k is) more ∙ opened.1 in
     record {
       later = omega (arith, a.partner);
-      within = omega (arith, ap length (a.split ∙ group_split a.before p.left p.inside p.right a.after), length-append (a.before ++ grouped p.left p.inside p.right []) a.after, long, a.partner, a.place);
+      within = omega (arith, opened.2);
       level = subst (λ (x : List GItem). IsLevel fs x) (sym next) (after_group fs once a.fence a.within here level);
       added = [];
       adds = sym (append-nil old);

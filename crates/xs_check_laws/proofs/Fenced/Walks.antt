@@ -7,7 +7,8 @@ use Rattle.xs_gram.specs.Grammar.{Grammar, items, IsRuleOf}
 use Rattle.xs_gram.specs.Derivations.{Parts, done, fixed, leaf, skip, sub, FitsItems}
 use Rattle.xs_gram.specs.Sound.{IsBuilt}
 use Rattle.xs_gram.specs.Fences.{spread, IsLevel, level_none, level_then, level_group, grouped, OuterAt, OuterGroupAt}
-use Rattle.xs_gram.specs.Fenced.Loose.{Reaches, here, onward, AreOne, IsMember, Spot, entry, exit, at, LooseItem, loose_fixed, loose_term, loose_skip, loose_non, Step, begins, passes, encloses, calls, ends, returns, Walk, stays, goes}
+use Rattle.xs_gram.specs.Loose.{Spot, entry, exit, at}
+use Rattle.xs_gram.specs.Fenced.Loose.{Reaches, here, onward, AreOne, IsMember, LooseItem, loose_fixed, loose_term, loose_skip, loose_non, Step, begins, passes, encloses, calls, ends, returns, Walk, stays, goes}
 use Rattle.xs_gram.proofs.Levels.{level_append, group_split, length_grouped}
 use Rattle.xs_check_laws.specs.Words.{part_words}
 use Rattle.xs_check_laws.specs.Fenced.Words.{split_words}

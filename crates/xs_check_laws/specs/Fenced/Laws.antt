@@ -1,15 +1,19 @@
 -- The laws for grammars with fences: it is decided which nonterminals are of one component, what
 -- derivations spell is loose, without suspects each word has one derivation, and each stretch and
 -- rule has one weight.
-use Rattle.std.specs.Prelude.{◌≡◌, ℕ, List}
+use Rattle.std.specs.Prelude.{◌≡◌, ◌↔◌, ℕ, List, []}
 use Rattle.std.specs.List.{concat, slice_range}
 use Rattle.xs_gram.specs.declared.parts.GItem.{GItem}
-use Rattle.xs_gram.specs.Grammar.{Grammar}
+use Rattle.xs_gram.specs.Grammar.{Grammar, items}
 use Rattle.xs_gram.specs.Derivations.{Derivation, Fits, yield}
 use Rattle.xs_gram.specs.Languages.{IsUnique}
-use Rattle.xs_gram.specs.Sound.{IsBuilt}
+use Rattle.xs_gram.specs.Sound.{IsInRange, IsBuilt}
+use Rattle.xs_gram.specs.Loose as O
+use Rattle.xs_gram.specs.Suspects as S
 use Rattle.xs_gram.specs.Fences.{spread, IsLevel}
 use Rattle.xs_gram.specs.Fenced.Loose.{AreOne, IsLoose}
+use Rattle.xs_gram.specs.Fenced.Suspects.{IsVertical, IsHorizontal}
+use Rattle.xs_check_laws.specs.Weights as V
 use Rattle.xs_check_laws.specs.Laws.{IsUniqueAt}
 use Rattle.xs_check_laws.specs.Fenced.Words.{spread_words}
 use Rattle.xs_check_laws.specs.Fenced.Freedom.{HasNoVertical, HasNoHorizontal}
@@ -50,3 +54,14 @@ PartWeighsOnce = (g : Grammar) → IsBuilt g → (is : List GItem) (v w : ℕ) �
 -- a rule has one weight
 abbrev pub RuleWeighsOnce : Type 0
 RuleWeighsOnce = (g : Grammar) → IsBuilt g → (p v w : ℕ) → RuleWeighs g p v → RuleWeighs g p w → v ≡ w
+
+-- a grammar is checked as if no groups were told apart
+pub record IsCheckedPlainly (g : Grammar) : Type 0 where
+  pub loose : (p : ℕ) (w : List ℕ) → IsLoose g (spread g p) w ↔ O.IsLoose g (items g p) w
+  pub vertical : (p q : ℕ) (w : List ℕ) → IsVertical g p q w ↔ S.IsVertical g p q w
+  pub horizontal : (p c : ℕ) (x a y : List ℕ) → IsHorizontal g p c x a y ↔ S.IsHorizontal g p c x a y
+  pub weighs : (p w : ℕ) → RuleWeighs g p w ↔ V.RuleWeighs g p w
+
+-- without fences this is so
+abbrev pub UnfencedIsSame : Type 0
+UnfencedIsSame = (g : Grammar) → IsInRange g → g.fences ≡ [] → IsCheckedPlainly g

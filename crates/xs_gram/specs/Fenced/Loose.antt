@@ -4,6 +4,7 @@ use Rattle.std.specs.Prelude.{◌≡◌, ◌↔◌, ℕ, suc, ◌<◌, ◌≤◌
 use Rattle.xs_gram.specs.declared.parts.GItem.{GItem}
 use Rattle.xs_gram.specs.declared.parts.GItem.TheVariants.{Fixed, Term, Non, Skip}
 use Rattle.xs_gram.specs.Grammar.{Grammar, IsRuleOf, IsTermWord, IsSkipWord}
+use Rattle.xs_gram.specs.Loose.{Spot, entry, exit, at}
 use Rattle.xs_gram.specs.Fences.{spread, IsFence, IsPlain, grouped, OuterAt, OuterGroupAt}
 
 -- a rule of m has the outer item n
@@ -37,14 +38,8 @@ IsMember g c (Term t s) = ⊥
 IsMember g c (Non m s) = AreOne g c m
 IsMember g c (Skip k) = ⊥
 
--- the places of a component: the entry and the exit of each member, and a number of spread items
--- into a rule, where no group is open
-pub data Spot : Type 0 where
-  entry : ℕ → Spot
-  exit : ℕ → Spot
-  at : ℕ → ℕ → Spot
-
--- A loose word of an item, of a level stretch, a step in the component of c and a walk of steps,
+-- The places of a component are spots: those inside a rule are numbers of spread items where no group
+-- is open. A loose word of an item, of a level stretch, a step in the component of c and a walk of steps,
 -- each with its word. A group in a stretch has its left symbol, a loose word of the stretch inside,
 -- and its right symbol. An outer item that is no member is of a lower component, and what a group
 -- encloses is spelt by a shorter word.
