@@ -1,7 +1,5 @@
 -- Two grammars that documents can be turned by.
 use Rattle.std.specs.Prelude.{◌≡◌}
-use Rattle.xs_class.specs.declared.side.Side.{Side}
-use Rattle.xs_class.specs.declared.side.Side.TheVariants.{Text, Xml}
 use Rattle.xs_gram.specs.Sound.{IsSound}
 use Rattle.xs_gram.specs.Laws.{HasNormals}
 use Rattle.xs_pair.specs.Grammars.{Pair, HaveSameTrees}
@@ -15,8 +13,3 @@ pub record IsSoundPair (p : Pair) : Type 0 where
   pub xml_normals : HasNormals p.xml
   pub same : HaveSameTrees p.text p.xml
   pub starts : p.text.start ≡ p.xml.start
-
--- the other side
-abbrev pub other : Side → Side
-other Text = Xml
-other Xml = Text

@@ -1,3 +1,4 @@
+pub mod Sharing
 pub mod Words
 mod Counting
 mod Walking

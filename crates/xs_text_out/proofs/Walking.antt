@@ -1,5 +1,5 @@
 -- What is still to be printed as a walk goes on, and that it ends.
-use Rattle.std.proofs.Common.{◌≡◌, ℕ, zero, suc, ◌+◌, ◌*◌, ◌^◌, ◌<◌, ◌≤◌, List, [], ◌∷◌, ◌++◌, length, drop, get_or, Option, None, Some, slice_get, refl, sym, ◌∙◌, ap, subst, add-one, drop-cons, append_assoc, length-append, arith}
+use Rattle.std.proofs.Common.{◌≡◌, Bool, true, false, ℕ, zero, suc, ◌+◌, ◌*◌, ◌^◌, ◌<◌, ◌≤◌, List, [], ◌∷◌, ◌++◌, length, drop, get_or, Option, None, Some, slice_get, refl, sym, ◌∙◌, ap, subst, add-one, drop-cons, append_assoc, length-append, arith}
 use Rattle.std.proofs.lemmas.List.{append-nil, drop_all, length-drop}
 use Rattle.std.proofs.lemmas.Option.{get_or_from_slice_get, slice_get-get_or, slice_get_read, slice_get_within}
 use Rattle.std.proofs.Math.Nat.{mul-le-mul_right, mul-lt-mul_of_pos_right, one-le-pow, pow-le-pow_right, pow-succ'}
@@ -12,7 +12,7 @@ use Rattle.xs_tree.specs.Flat.{Leaf, Flat, IsFlat, common_at, common_of, product
 use Rattle.xs_tree.specs.Counts.{capped}
 use Rattle.xs_text_out.specs.declared.walk.Task.{Task}
 use Rattle.xs_text_out.specs.Printed.{AreLengths, AreThere, item_word, kid_word, rule_items, slot_word}
-use Rattle.xs_text_out.specs.Walk.{AreFalling, base, entered_word, left_over, pending, rest_items, rest_word, slots_at}
+use Rattle.xs_text_out.specs.Walk.{AreFalling, IsAside, base, entered_word, left_over, pending, rest_items, rest_word, slots_at}
 use Rattle.xs_text_out.proofs.Words.{part_prints, spelling_first}
 use Rattle.xs_text_out.proofs.Counting.{kid_length, leaf_counted, node_counted}
 
@@ -109,12 +109,18 @@ rest_less g f part begin dot item is le =
 pub printed_before : (new out entry rest later : List ℕ) → new ++ entry ≡ out ++ rest → new ++ (entry ++ later) ≡ out ++ (rest ++ later)
 printed_before new out entry rest later is = sym (append_assoc new entry later) ∙ ap (λ l. l ++ later) is ∙ append_assoc out rest later
 
+-- what is still to be printed of a node that was put aside, and of those before it
+pending_aside : (g : Grammar) (f : Flat) (tasks pushed : List Task) (task : Task) (more : Bool) → IsAside more task tasks pushed → (more ≡ false → rest_items g f task ≡ []) → pending g f pushed ≡ rest_word g f task ++ pending g f tasks
+pending_aside g f tasks pushed task true aside last = ap (pending g f) aside ∙ pending_push g f tasks task
+pending_aside g f tasks pushed task false aside last =
+    ap (pending g f) aside ∙ sym (ap (λ l. spelling g l (slots_at g f task.part) ++ pending g f tasks) (last refl))
+
 -- a child begins, and the node goes on after it
-pub pending_entered : (g : Grammar) (f : Flat) (part next kid : ℕ) (tasks pushed : List Task) → IsFlat f → kid < length f.parts → None ≡ word_of (slice_get f.parts kid) → pushed ≡ tasks ++ task_at part next ∷ [] → rest_word g f (task_at kid 0) ++ pending g f pushed ≡ (print g (common_at f kid) ++ rest_word g f (task_at part next)) ++ pending g f tasks
-pending_entered g f part next kid tasks pushed flat lt is more =
+pub pending_entered : (g : Grammar) (f : Flat) (part next kid : ℕ) (tasks pushed : List Task) (more : Bool) → IsFlat f → kid < length f.parts → None ≡ word_of (slice_get f.parts kid) → IsAside more (task_at part next) tasks pushed → (more ≡ false → rest_items g f (task_at part next) ≡ []) → rest_word g f (task_at kid 0) ++ pending g f pushed ≡ (print g (common_at f kid) ++ rest_word g f (task_at part next)) ++ pending g f tasks
+pending_entered g f part next kid tasks pushed more flat lt is aside last =
     let child = print g (common_at f kid) in
     ap (λ l. l ++ pending g f pushed) (node_begun g f kid flat lt is)
-    ∙ ap (λ l. child ++ l) (ap (pending g f) more ∙ pending_push g f tasks (task_at part next)) ∙ sym (append_assoc child (rest_word g f (task_at part next)) (pending g f tasks))
+    ∙ ap (λ l. child ++ l) (pending_aside g f tasks pushed (task_at part next) more aside last) ∙ sym (append_assoc child (rest_word g f (task_at part next)) (pending g f tasks))
 
 -- where no item is left nothing is
 pub rest_none : (g : Grammar) (f : Flat) (part dot : ℕ) → length (rule_items g (production_of (slice_get f.parts part))) ≤ dot → rest_word g f (task_at part dot) ≡ []
@@ -145,11 +151,17 @@ falling_last n tasks task falling =
     let long = falling_length n tasks task falling in
     omega arith
 
+falling_lower : (n : ℕ) (tasks : List Task) (task other : Task) → AreFalling n (tasks ++ task ∷ []) → other.part < task.part → AreFalling n (tasks ++ other ∷ [])
+falling_lower n [] task other falling lt = (omega (arith, falling.0), tt)
+falling_lower n (first ∷ tasks) task other falling lt = (falling.0, falling_lower first.part tasks task other falling.1 lt)
+
 -- a child begins, and the nodes still fall
-pub falling_entered : (n : ℕ) (tasks pushed : List Task) (part dot next kid : ℕ) → AreFalling n (tasks ++ task_at part dot ∷ []) → kid < part → pushed ≡ tasks ++ task_at part next ∷ [] → AreFalling n (pushed ++ task_at kid 0 ∷ [])
-falling_entered n tasks pushed part dot next kid falling lt more =
+pub falling_entered : (n : ℕ) (tasks pushed : List Task) (part dot next kid : ℕ) (more : Bool) → AreFalling n (tasks ++ task_at part dot ∷ []) → kid < part → IsAside more (task_at part next) tasks pushed → AreFalling n (pushed ++ task_at kid 0 ∷ [])
+falling_entered n tasks pushed part dot next kid true falling lt aside =
     let first = falling_on n tasks (task_at part next) (task_at kid 0) (falling_same n tasks part dot next falling) lt in
-    subst (AreFalling n) (sym (ap (λ (l : List Task). l ++ task_at kid 0 ∷ []) more)) first
+    subst (AreFalling n) (sym (ap (λ (l : List Task). l ++ task_at kid 0 ∷ []) aside)) first
+falling_entered n tasks pushed part dot next kid false falling lt aside =
+    subst (AreFalling n) (sym (ap (λ (l : List Task). l ++ task_at kid 0 ∷ []) aside)) (falling_lower n tasks (task_at part dot) (task_at kid 0) falling lt)
 
 -- how much there is to do
 abbrev weight : Grammar → Flat → Task → ℕ
@@ -203,13 +215,18 @@ weight_less g f part dot next less =
     spread k x = omega arith
 
 -- a child begins, and there is less to do
-pub less_entered : (g : Grammar) (f : Flat) (tasks pushed : List Task) (part dot next kid : ℕ) → length (rest_items g f (task_at part next)) < length (rest_items g f (task_at part dot)) → kid < part → pushed ≡ tasks ++ task_at part next ∷ [] → left_over g f (pushed ++ task_at kid 0 ∷ []) < left_over g f (tasks ++ task_at part dot ∷ [])
-less_entered g f tasks pushed part dot next kid less lt more =
+pub less_entered : (g : Grammar) (f : Flat) (tasks pushed : List Task) (part dot next kid : ℕ) (more : Bool) → length (rest_items g f (task_at part next)) < length (rest_items g f (task_at part dot)) → kid < part → IsAside more (task_at part next) tasks pushed → left_over g f (pushed ++ task_at kid 0 ∷ []) < left_over g f (tasks ++ task_at part dot ∷ [])
+less_entered g f tasks pushed part dot next kid true less lt more =
     let child = digit_below g f kid part lt in
     let node = weight_less g f part dot next less in
     let first = ap (left_over g f) more ∙ left_over_push g f tasks (task_at part next) in
     let second = left_over_push g f pushed (task_at kid 0) in
     omega (arith, child, node, first, second, left_over_push g f tasks (task_at part dot))
+less_entered g f tasks pushed part dot next kid false less lt more =
+    let child = digit_below g f kid part lt in
+    let node = weight_less g f part dot next less in
+    let same = ap (λ (l : List Task). left_over g f (l ++ task_at kid 0 ∷ [])) more in
+    omega (arith, child, node, same, left_over_push g f tasks (task_at kid 0), left_over_push g f tasks (task_at part dot))
 
 -- what is there of an item
 pub item_there : (g : Grammar) (is all : List GItem) (dot : ℕ) (item : GItem) → AreThere g is → is ≡ all → dot < length is → item ≡ get_or is dot item → NamesAreThere g item × (slice_get all dot ≡ Some item)

@@ -1,2 +1,3 @@
 pub mod Printed
+pub mod Shares
 pub mod Walk

@@ -1,5 +1,5 @@
 -- The nodes that a walk over a flat tree is in, the innermost last, and what is still to be printed of them.
-use Rattle.std.specs.Prelude.{◌≡◌, ◌⊎◌, ℕ, suc, ◌+◌, ◌*◌, ◌^◌, ◌<◌, List, [], ◌∷◌, ◌++◌, length, drop, Option, None, Some, slice_get}
+use Rattle.std.specs.Prelude.{◌≡◌, ◌⊎◌, Bool, true, false, ℕ, suc, ◌+◌, ◌*◌, ◌^◌, ◌<◌, List, [], ◌∷◌, ◌++◌, length, drop, Option, None, Some, slice_get}
 use Rattle.xs_gram.specs.declared.parts.GItem.{GItem}
 use Rattle.xs_gram.specs.Building.{items_count}
 use Rattle.xs_gram.specs.Grammar.{Grammar}
@@ -37,6 +37,11 @@ AreFalling below (task ∷ tasks) = (task.part < below) × AreFalling task.part 
 abbrev pub IsBegun : ℕ → List Task → List Task → Type 0
 IsBegun part old new = (new ≡ old) ⊎ (new ≡ old ++ record { part = part; dot = 0 } ∷ [])
 
+-- a node that is to be gone on with is put last, if it has more items
+abbrev pub IsAside : Bool → Task → List Task → List Task → Type 0
+IsAside true task old new = new ≡ old ++ task ∷ []
+IsAside false task old new = new ≡ old
+
 -- the part is a node before another part
 pub record IsNodeBefore (f : Flat) (part kid : ℕ) : Type 0 where
   pub before : kid < part
@@ -62,10 +67,12 @@ abbrev pub entry_word : Grammar → Flat → ℕ → Option Entry → List ℕ
 entry_word g f part None = []
 entry_word g f part (Some entry) = print g (common_at f entry.kid) ++ rest_word g f (record { part = part; dot = entry.next })
 
--- the child is a node before the task's part, and fewer items are still to be printed after it
+-- the child is a node before the task's part, and fewer items are still to be printed after it, or
+-- none
 pub record IsEntry (g : Grammar) (f : Flat) (task : Task) (entry : Entry) : Type 0 where
   pub kid : IsNodeBefore f task.part entry.kid
   pub less : length (rest_items g f (record { part = task.part; dot = entry.next })) < length (rest_items g f task)
+  pub last : entry.more ≡ false → rest_items g f (record { part = task.part; dot = entry.next }) ≡ []
 
 -- a base above the number of any rule's items and one
 abbrev pub base : Grammar → ℕ

@@ -10,6 +10,7 @@
 mod items;
 mod lengths;
 mod printing;
+mod shares;
 mod walk;
 
 pub use printing::print_syms;

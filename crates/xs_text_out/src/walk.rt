@@ -4,7 +4,7 @@ ghost use Rattle.xs_gram.specs.Common.{print};
 ghost use Rattle.xs_gram.specs.Grammar.{Grammar};
 ghost use Rattle.xs_tree.specs.Flat.{IsFlat, common_at, common_of, kids_of, trees_of, word_of};
 ghost use Rattle.xs_text_out.specs.Printed.{AreLengths, item_word, slot_word};
-ghost use Rattle.xs_text_out.specs.Walk.{AreFalling, IsBegun, IsEntry, IsNodeBefore, IsNodeChild, child_word, entered_word, entry_word, left_over, pending, rest_word, slots_at};
+ghost use Rattle.xs_text_out.specs.Walk.{AreFalling, IsAside, IsBegun, IsEntry, IsNodeBefore, IsNodeChild, child_word, entered_word, entry_word, left_over, pending, rest_word, slots_at};
 
 use crate::items::{kid_at, node_of};
 use xs_class::Sym;
@@ -131,12 +131,13 @@ fn print_item(
     None
 }
 
-/// A child of a node that is a node itself with something to print, and how many of the node's items
-/// stand up to it.
+/// A child of a node that is a node itself with something to print, how many of the node's items
+/// stand up to it, and whether there are more.
 #[derive(Clone, Copy)]
 pub struct Entry {
     pub kid: u64,
     pub next: usize,
+    pub more: bool,
 }
 
 /// Prints the items of a node that are still to be printed, up to a child that is a node itself with
@@ -161,10 +162,23 @@ fn print_items(
         let entered = print_item(g, t, lengths, task.part, &items[dot], kids, symbols);
         if let Some(kid) = entered {
             let next = dot + 1;
-            return Some(Entry { kid, next });
+            let more = next < items.len();
+            return Some(Entry { kid, next, more });
         }
     }
     None
+}
+
+/// Puts a node last that is to be gone on with, if it has more items.
+#[inline(always)]
+fn put_aside(tasks: &mut Vec<Task>, task: Task, more: bool)
+    requires { vec_len tasks.old < vec_capacity tasks.old }
+    ensures aside { IsAside more task tasks.old.items tasks.new.items }
+    ensures stack { vec_capacity tasks.new ≡ vec_capacity tasks.old }
+{
+    if more {
+        tasks.push_reserved(task);
+    }
 }
 
 /// Prints the items of a node, and where a child is a node itself those of the child first, and so
@@ -189,9 +203,9 @@ fn perform(
     ensures stack { vec_capacity tasks.new ≡ vec_capacity tasks.old }
 {
     'nodes: while let Some(entry) = print_items(g, t, lengths, task, symbols) {
-        let Entry { kid, next } = entry;
+        let Entry { kid, next, more } = entry;
         let part = task.part;
-        tasks.push_reserved(Task { part, dot: next });
+        put_aside(tasks, Task { part, dot: next }, more);
         task = Task { part: kid, dot: 0 };
     }
 }

@@ -1,10 +1,9 @@
 use Rattle.std.proofs.Common.{◌≡◌, ◌∙◌, Some, ap, length, sym}
 use Rattle.std.proofs.lemmas.Option.{same_Some}
-use Rattle.xs_gram.specs.Common.{spelling}
 use Rattle.xs_tree.specs.Counts.{capped}
 use Rattle.xs_tree.specs.Flat.{TreePart, Node, tree_of}
 use Rattle.xs_tree.specs.Lent.{lent}
-use Rattle.xs_text_out.specs.Printed.{print_length, slot_word}
+use Rattle.xs_text_out.specs.Printed.{print_length}
 use Rattle.xs_text_out.proofs.Words.{node_prints}
 use Rattle.xs_text_out.proofs.lengths.part_length.Goals as goal
 
@@ -13,7 +12,6 @@ returns-in-Node c trees found there are =
     let g = c.args.g.now in
     let kids = c.in-Node.kids.now in
     let is : found ≡ Node c.in-Node.production kids = same_Some found (Node c.in-Node.production kids) (sym there ∙ c.part.ensures.part ∙ ap (λ p. Some (lent p)) c.in-Node.is) in
-    c.items_length.ensures trees are
-    ∙ ap (λ l. capped (length (spelling g l (slot_word g trees kids)))) c.items_of.ensures.items
+    c.node_length.ensures trees are
     ∙ ap (λ w. capped (length w)) (sym (node_prints g trees c.in-Node.production kids))
     ∙ ap (λ (p : TreePart). print_length g (tree_of trees p)) (sym is)

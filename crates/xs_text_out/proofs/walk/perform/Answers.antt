@@ -15,8 +15,8 @@ print_items-requires-clause-room c =
     let within = next_room c.nodes.symbols.items (rest_word g f c.nodes.task) (pending g f c.nodes.tasks.items) c.args.symbols.now.items (rest_word g f c.args.task ++ pending g f c.args.tasks.now.items) c.nodes.invariant.whole in
     omega (arith, within, c.nodes.symbols.ok.0, c.args.symbols.now.ok.0, c.nodes.invariant.room, c.requires.room)
 
-pub push_reserved-requires : goal.push_reserved-requires
-push_reserved-requires c =
+pub put_aside-requires : goal.put_aside-requires
+put_aside-requires c =
     let long = falling_length (length c.args.t.now.parts) c.nodes.tasks.items c.nodes.task c.nodes.invariant.falling in
     omega (arith, long, c.requires.stack, c.nodes.invariant.stack, c.nodes.tasks.ok.0)
 
@@ -27,18 +27,18 @@ nodes-preserved c =
     let part = c.nodes.task.part in
     let entry = c.in-Some.entry in
     let tasks = c.nodes.tasks.items in
-    let pushed = c.push_reserved.new.self.items in
+    let pushed = c.put_aside.new.tasks.items in
     let last = falling_last (length f.parts) tasks c.nodes.task c.nodes.invariant.falling in
-    let ahead = pending_entered g f part entry.next entry.kid tasks pushed c.requires.flat (omega (arith, last, c.in-Some.ensures.entry.kid.before)) c.in-Some.ensures.entry.kid.node c.push_reserved.ensures.items in
-    let less = less_entered g f tasks pushed part c.nodes.task.dot entry.next entry.kid c.in-Some.ensures.entry.less c.in-Some.ensures.entry.kid.before c.push_reserved.ensures.items in
+    let ahead = pending_entered g f part entry.next entry.kid tasks pushed entry.more c.requires.flat (omega (arith, last, c.in-Some.ensures.entry.kid.before)) c.in-Some.ensures.entry.kid.node c.put_aside.ensures.aside c.in-Some.ensures.entry.last in
+    let less = less_entered g f tasks pushed part c.nodes.task.dot entry.next entry.kid entry.more c.in-Some.ensures.entry.less c.in-Some.ensures.entry.kid.before c.put_aside.ensures.aside in
     record {
       whole = ap (λ (l : List ℕ). c.print_items.new.symbols.items ++ l) ahead
           ∙ printed_before c.print_items.new.symbols.items c.nodes.symbols.items (print g (common_at f entry.kid) ++ rest_word g f (task_at part entry.next)) (rest_word g f c.nodes.task) (pending g f tasks) c.in-Some.ensures.prints
           ∙ c.nodes.invariant.whole;
-      falling = falling_entered (length f.parts) tasks pushed part c.nodes.task.dot entry.next entry.kid c.nodes.invariant.falling c.in-Some.ensures.entry.kid.before c.push_reserved.ensures.items;
+      falling = falling_entered (length f.parts) tasks pushed part c.nodes.task.dot entry.next entry.kid entry.more c.nodes.invariant.falling c.in-Some.ensures.entry.kid.before c.put_aside.ensures.aside;
       less = omega (arith, less, c.nodes.invariant.less);
       room = omega (arith, c.in-Some.ensures.room, c.nodes.invariant.room);
-      stack = c.push_reserved.ensures.capacity ∙ c.nodes.invariant.stack;
+      stack = c.put_aside.ensures.stack ∙ c.nodes.invariant.stack;
     }
 
 pub nodes-smaller : goal.nodes-smaller
