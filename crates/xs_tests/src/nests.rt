@@ -37,8 +37,8 @@ fn calls(alloc: Global, group: u32) -> Result<Net, Memory>
     Ok(net)
 }
 
-/// Four groups in parentheses: one of groups of the third kind, one of groups of the fourth, and two
-/// of letters.
+/// Four groups in parentheses: one of groups of the third kind, one of groups of the fourth, and
+/// two of letters.
 fn brackets(alloc: Global, first: (u32, u32), second: (u32, u32)) -> Result<Nest, Memory>
     ensures { IfOk result AreBrackets }
 {
