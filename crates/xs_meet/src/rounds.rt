@@ -12,9 +12,9 @@ use xs_class::Memory;
 impl Shared {
     /// Which two groups of the nest have one fence and contents that accept a common word.
     ///
-    /// Goes in rounds over the pairs of groups that have one fence and are not known to share a word,
-    /// until a round finds no more; so there is at most one round more than there are pairs that share
-    /// one. The pairs of states are marked in the first map.
+    /// Goes in rounds over the pairs of groups that have one fence and are not known to share a
+    /// word, until a round finds no more; so there is at most one round more than there are pairs
+    /// that share one. The pairs of states are marked in the first map.
     pub fn of(alloc: Global, nest: &Nest, pairs: &mut Pairs) -> Result<Shared, Memory>
         requires fenced { IsFenced nest.now }
         requires room { HasRoom nest.now pairs.old.cells }

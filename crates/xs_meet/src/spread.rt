@@ -61,8 +61,8 @@ impl Layer {
         Ok(())
     }
 
-    /// Visits the pairs to which an empty move of either net, or edges or calls of both, lead from a
-    /// pair.
+    /// Visits the pairs to which an empty move of either net, or edges or calls of both, lead from
+    /// a pair.
     fn expand(
         &mut self,
         pairs: &mut Pairs,

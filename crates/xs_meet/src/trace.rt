@@ -49,8 +49,8 @@ pub fn read_trace(
     Ok(Trace { pieces, seed: at })
 }
 
-/// A symbol, or two groups, by which edges, or calls, of both nets lead from one pair to another, if
-/// any do.
+/// A symbol, or two groups, by which edges, or calls, of both nets lead from one pair to another,
+/// if any do.
 pub fn piece_between(
     shared: &Shared,
     first: &Net,

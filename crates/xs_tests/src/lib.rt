@@ -1,5 +1,6 @@
-//! Tests of the layers, one module for each crate, where that of `xs_top` is `run`, and that of
-//! `xs_vert` and `xs_horiz` is `suspects`.
+//! Tests of the layers, one module for each crate, where that of `xs_top` is `run`, that of
+//! `xs_vert` and `xs_horiz` is `suspects`, and `xs_meet` has `auto` for nets alone and `nests` for
+//! nets that call groups.
 //!
 //! They stand apart from the crates that they try, so that each of those is proved once: a crate
 //! with tests is proved a second time with them.
@@ -39,6 +40,8 @@ mod loose;
 mod lr;
 #[cfg(test)]
 mod names;
+#[cfg(test)]
+mod nests;
 #[cfg(test)]
 mod order;
 #[cfg(test)]
