@@ -10,7 +10,8 @@ use Rattle.xs_gram.specs.Laws.{Every, IsDistinct}
 use Rattle.xs_pair.specs.Grammars.{Pair}
 use Rattle.xs_outline.specs.Shapes.{Shape, leaf, Branches, none, branch, names_of, slot_count, kind_at, empty_cells, is_full, kids_in, meaning, filled, ShapeFits, BranchesFit, root_kind, HasSlotNames}
 use Rattle.xs_outline.specs.Order.{inserted, slots_in_order, order_of, branches_at, shape_of, shapes_of, is_before}
-use Rattle.xs_outline.proofs.Viable.{missing, none_missing}
+use Rattle.xs_outline.specs.Reader.{missing}
+use Rattle.xs_outline.proofs.Viable.{none_missing}
 
 -- these slots are those without a child, each once
 abbrev pub AreOwed : List (Option Common) → List ℕ → Type 0
@@ -24,7 +25,7 @@ set_other (c ∷ cells) zero (suc r) x differ = refl
 set_other (c ∷ cells) (suc s) zero x differ = refl
 set_other (c ∷ cells) (suc s) (suc r) x differ = set_other cells s r x (λ e. differ (ap suc e))
 
-missing_set : (cells : List (Option Common)) (s : ℕ) (t : Common) → slice_get cells s ≡ Some None → suc (missing (set cells s (Some t))) ≡ missing cells
+pub missing_set : (cells : List (Option Common)) (s : ℕ) (t : Common) → slice_get cells s ≡ Some None → suc (missing (set cells s (Some t))) ≡ missing cells
 missing_set [] s t free = absurd (none-some None free)
 missing_set (None ∷ cells) zero t free = refl
 missing_set (Some u ∷ cells) zero t free = absurd (none-some u (sym (same_Some (Some u) None free)))
@@ -40,7 +41,7 @@ owed [] cells count free distinct = none_missing cells count
 owed (s ∷ ss) cells count free distinct =
     (free.0, λ t. owed ss (set cells s (Some t)) (let less = missing_set cells s t free.0 in omega (arith, count, less)) (others_free ss cells s t free.1 distinct.0) distinct.1)
 
-missing_none : (n : ℕ) → missing (replicate n None) ≡ n
+pub missing_none : (n : ℕ) → missing (replicate n None) ≡ n
 missing_none zero = refl
 missing_none (suc n) = ap suc (missing_none n)
 

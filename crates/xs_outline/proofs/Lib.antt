@@ -8,3 +8,14 @@ pub mod Fitting
 pub mod Filling
 pub mod LawProofs
 pub mod Pages
+pub mod Units
+pub mod Numerals
+pub mod Cuts
+pub mod Parsing
+pub mod SlotTables
+pub mod Keeping
+pub mod Whole
+pub mod Placing
+pub mod Grown
+pub mod Giving
+pub mod ReadLines

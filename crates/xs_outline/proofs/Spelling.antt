@@ -19,7 +19,7 @@ pub digits_lack : (ds : List ℕ) → AllDigits 10 ds → Lacks 32 ds
 digits_lack [] all = tt
 digits_lack (d ∷ ds) all = (digit_no_space d all.0, digits_lack ds all.1)
 
-first_same : (x y : ℕ) (xs ys : List ℕ) → x ∷ xs ≡ y ∷ ys → (x ≡ y) × (xs ≡ ys)
+pub first_same : (x y : ℕ) (xs ys : List ℕ) → x ∷ xs ≡ y ∷ ys → (x ≡ y) × (xs ≡ ys)
 first_same x y xs ys e = (cc, cc)
 
 -- what stands before the first of a symbol, and after it

@@ -12,13 +12,8 @@ use Rattle.xs_outline.specs.Lines.{Entry, production, leaf_word, Line}
 use Rattle.xs_outline.specs.Shapes.{Shape, Branches, none, branch, names_of, slot_count, kind_at, empty_cells, is_full, kids_in, meaning, filled, ShapeFits, BranchesFit, lines, branch_lines, root_name, root_kind}
 use Rattle.xs_outline.specs.Outline.{AreLinesOf}
 use Rattle.xs_outline.specs.Machine.{Frame, frame, State, at_start, within, complete, give, settle, enter, next, EntryFits, MayCome, after, MayAllCome, Passes, HasDistinctSlots}
+use Rattle.xs_outline.specs.Reader.{missing}
 use Rattle.xs_outline.proofs.Machine.{passes_then, front_may, lines_pass, passed_lines, shape_passes, branches_passes, long_empty}
-
--- how many slots have no child
-abbrev pub missing : List (Option Common) → ℕ
-missing [] = 0
-missing (None ∷ cells) = suc (missing cells)
-missing (Some t ∷ cells) = missing cells
 
 pub none_missing : (cells : List (Option Common)) → missing cells ≡ 0 → is_full cells ≡ true
 none_missing [] is = refl

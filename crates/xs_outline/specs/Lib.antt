@@ -5,3 +5,8 @@ pub mod Outline
 pub mod Machine
 pub mod Walk
 pub mod Laws
+pub mod Reading
+pub mod Parsed
+pub mod Tables
+pub mod Reader
+pub mod Refusal

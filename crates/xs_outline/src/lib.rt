@@ -10,10 +10,21 @@
 //! lines are read one by one).
 #![tactic(auto)]
 
+mod children;
+mod fault;
 mod laws;
+mod line;
+mod matching;
+mod numeral;
 mod order;
 mod page;
+mod quoted;
+mod reader;
+mod reading;
+mod slot_table;
 mod writer;
 
+pub use fault::OutlineFault;
 pub use laws::{begins_tree, leads_to_tree, one_tree, written_has_tree};
+pub use reading::read_outline;
 pub use writer::write_outline;

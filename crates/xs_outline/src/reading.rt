@@ -1,0 +1,48 @@
+ghost use Rattle.std.specs.Prelude.{IfOk, IfErr};
+ghost use Rattle.xs_sheet.specs.declared.sheet.Sheet.{Sheet as AnySheet};
+ghost use Rattle.xs_gram.specs.Common.{TreeFits};
+ghost use Rattle.xs_gram.specs.Sound.{IsSound};
+ghost use Rattle.xs_pair.specs.Grammars.{IsPairOf};
+ghost use Rattle.xs_tree.specs.Flat.{common_of};
+ghost use Rattle.xs_outline.specs.Outline.{IsOutline};
+ghost use Rattle.xs_outline.specs.Refusal.{IsRefusal};
+
+use crate::OutlineFault;
+use crate::line::first_line;
+use crate::reader::Reader;
+use crate::slot_table::tables;
+use std::alloc::Global;
+use xs_class::Word;
+use xs_pair::Two;
+use xs_tree::Tree;
+
+/// The tree of an outline.
+///
+/// `OutlineBad` comes exactly where the characters are an outline of no tree. Lines end in LF, and
+/// that of the last may be left out; children may come in any order, and words be quoted in any
+/// spelling that a sheet allows. The time is linear in the outline and the tree, in expectation,
+/// but for that of matching each word with its terminal.
+pub fn read_outline(alloc: Global, two: &Two, doc: &Word) -> Result<Tree, OutlineFault>
+    requires pair { (s : AnySheet) × IsPairOf s two.now }
+    requires sound { IsSound two.now.text }
+    ensures tree { IfOk result (λ tree. IsOutline two.now doc.now (common_of tree)) }
+    ensures fits { IfOk result (λ tree. TreeFits two.now.text two.now.text.start (common_of tree)) }
+    ensures bad { IfErr result (IsRefusal two.now doc.now) }
+{
+    let tables = tables(alloc, two)?;
+    let mut reader = Reader::new(alloc)?;
+    let mut rest = doc.as_slice();
+    let mut number: u64 = 0;
+    'lines: while !rest.is_empty() {
+        let (text, more) = first_line(rest);
+        if !reader.read(alloc, two, &tables, number, text)? {
+            return Err(OutlineFault::OutlineBad { line: number + 1 });
+        }
+        number += 1;
+        rest = more;
+    }
+    match reader.root {
+        Some(root) => Ok(reader.parts.finish(root)),
+        None => Err(OutlineFault::OutlineBad { line: number + 1 }),
+    }
+}
