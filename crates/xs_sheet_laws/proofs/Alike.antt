@@ -24,6 +24,7 @@ alike_back g h a = record {
   start = sym a.start;
   nons = sym a.nons;
   rules = sym a.rules;
+  fences = sym a.fences;
   terms = sym a.terms;
   skips = sym a.skips;
   term_regexes = λ t. regex_back (a.term_regexes t);
@@ -79,7 +80,7 @@ same_with g ts ks alike =
 
 pub mean_the_same : AlikeMeanTheSame
 mean_the_same g h alike =
-    let is = is_with_parts g h alike.start alike.nons alike.rules in
+    let is = is_with_parts g h alike.start alike.nons alike.rules alike.fences in
     subst (λ (z : Grammar). MeanTheSame g z) is (same_with g h.terms h.skips (subst (λ (z : Grammar). AreAlike g z) (sym is) alike))
 
 sees : (g h : Grammar) → AreAlike g h → C.SeesTheSame g h

@@ -86,6 +86,7 @@ gram_kept s t names side g alike of =
       rules = of.rules ∙ ap (λ (n : Numbering). rule_parts n side (rules_of s.units)) (numbered_same s.units t.units names same) ∙ ap (λ (rs : List Rule). rule_parts (numbering t.units names) side rs) same.rules;
       terms = terms_kept s.units t.units (map (λ (x : Terminal). x.regex) g.terms) alike.units of.terms;
       skips = skips_kept s.units t.units (map skip_part g.skips) alike.units of.skips;
+      fences = of.fences;
     }
 
 -- sheets that are alike have the same pairs
@@ -164,6 +165,7 @@ grams_alike s ms ns side g h same one two =
     let skips = skips_like s.units (map skip_part g.skips) (map skip_part h.skips) (skip_part no_ignorable) one.skips two.skips in record {
       start = one.start ∙ sym two.start;
       nons = one.nons ∙ sym two.nons;
+      fences = one.fences ∙ sym two.fences;
       rules = one.rules ∙ ap (λ names. rule_parts (numbering s.units names) side (rules_of s.units)) same ∙ sym two.rules;
       terms = sym (length-map g.terms regex_of) ∙ terms.long ∙ length-map h.terms regex_of;
       skips = sym (length-map g.skips skip_part) ∙ skips.long ∙ length-map h.skips skip_part;
