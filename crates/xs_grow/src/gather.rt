@@ -17,6 +17,17 @@ use xs_class::{Memory, Word};
 use xs_forest_laws::{SpanKey, What};
 use xs_gram::{GItem, Gram, Place};
 
+/// How many items the chart has, as far as a number goes: about as many marks and rows there are
+/// at most.
+pub(crate) fn room(chart: &Chart) -> usize
+{
+    let mut count: usize = 0;
+    'sets: for set in 0..chart.sets() {
+        count = count.saturating_add(chart.len(set) as usize);
+    }
+    count
+}
+
 /// Whether the place stands at the end of its rule.
 fn is_end(g: &Gram, place: Place) -> bool
     requires { IsPlace g.now place }
