@@ -1,5 +1,5 @@
 -- The candidates that are gathered of a chart's items are the chart's candidates.
-use Rattle.std.proofs.Common.{◌≡◌, ℕ, suc, ◌<◌, List, ◌++◌, length, slice_get, Some, refl, sym, ap, ◌∙◌, subst, arith, inl, inr}
+use Rattle.std.proofs.Common.{◌≡◌, ℕ, suc, ◌<◌, List, [], ◌++◌, length, slice_get, Some, refl, sym, ap, ◌∙◌, subst, arith, inl, inr}
 use Rattle.std.specs.Prelude.{Contains}
 use Rattle.std.proofs.lemmas.Option.{slice_get_within}
 use Rattle.xs_class.proofs.Lists.{get_of, contains_of}
@@ -21,9 +21,9 @@ use Rattle.xs_forest_laws.specs.Forest.{key_at}
 use Rattle.xs_forest_laws.specs.Grown.{IsFinished, ItemOver}
 use Rattle.xs_grow.specs.declared.call.Call.{Call}
 use Rattle.xs_grow.specs.Lists.{HasAllOf}
-use Rattle.xs_grow.specs.Candidates.{Candidate, call_at, WholeCandidate, FrontCandidate, WholeAt, EndsAt, FrontFrom, InSets, CallIn, AreCallsOf, HasPlaces}
+use Rattle.xs_grow.specs.Candidates.{Candidate, call_at, WholeCandidate, FrontCandidate, WholeAt, EndsAt, FrontFrom, InSets, CallIn, AreCallsOf, HasPlaces, IsLater}
 use Rattle.xs_grow.specs.Making.{stands_at, IsLabel}
-use Rattle.xs_grow.proofs.ListLemmas.{all_same}
+use Rattle.xs_grow.proofs.ListLemmas.{all_none, all_same}
 
 module _ (g : Grammar) (w : List ℕ) (sets : List (List Item)) (chart : IsChartOf g w sets) where
   abbrev has : ℕ → Place → ℕ → Type 0
@@ -206,3 +206,7 @@ module _ (g : Grammar) (w : List ℕ) (sets : List (List Item)) (chart : IsChart
 -- a document of the language has the label of its start
 pub start_label : (g : Grammar) (w : List ℕ) → InLang g w → IsLabel g w (key_at (Whole g.start) 0 (length w))
 start_label g w in_lang = let e = whole_of g w in_lang in (e.0, e.1, e.2)
+
+-- where no rule has a later item that is searched, there are no such candidates
+pub no_fronts : (g : Grammar) (w : List ℕ) (marks : List Candidate) → marks ≡ [] → ((p n : ℕ) → p < length g.rules → IsLater (items g p) n → ⊥) → HasAllOf (FrontCandidate g w (stands_at g w)) marks
+no_fronts g w marks e none = subst (λ z. HasAllOf (FrontCandidate g w (stands_at g w)) z) (sym e) (all_none (FrontCandidate g w (stands_at g w)) (λ c h. none h.rule h.dot h.before.1.0 (h.item, h.at, h.later, h.searched)))

@@ -11,7 +11,7 @@ ghost use Rattle.xs_grow.specs.Candidates.{WholeCandidate, FrontCandidate};
 ghost use Rattle.xs_grow.specs.Making.{stands_at, IsSource, IsLabel};
 
 use crate::calls::calls_of;
-use crate::gather::{fronts, wholes};
+use crate::gather::{fronts, has_later, room, wholes};
 use crate::marks::Marks;
 use crate::rows::{Buffers, visit};
 use crate::source::Source;
@@ -28,12 +28,13 @@ fn wholes_of(alloc: Global, g: &Gram, chart: &Chart, doc: &Word) -> Result<Marks
     requires chart { IsChartOf g.now doc.now chart.now.sets }
     ensures { IfOk result (λ marks. HasAllOf (WholeCandidate g.now (stands_at g.now doc.now)) marks) }
 {
-    let mut marks = Marks::new(alloc, doc.len())?;
+    let mut marks = Marks::new(alloc, room(chart))?;
     wholes(g, chart, &mut marks)?;
     Ok(marks)
 }
 
-/// The marks of two or more first items of which the last is no fixed word.
+/// The marks of two or more first items of which the last is no fixed word. The chart is not read
+/// for them where no rule has such items.
 fn splits_of(
     alloc: Global,
     g: &Gram,
@@ -47,8 +48,12 @@ fn splits_of(
     requires wholes { HasAllOf (WholeCandidate g.now (stands_at g.now doc.now)) wholes.now }
     ensures { IfOk result (λ marks. HasAllOf (FrontCandidate g.now doc.now (stands_at g.now doc.now)) marks) }
 {
+    if !has_later(g) {
+        let none = Marks::new(alloc, 1)?;
+        return Ok(none);
+    }
     let calls = calls_of(alloc, wholes)?;
-    let mut marks = Marks::new(alloc, doc.len())?;
+    let mut marks = Marks::new(alloc, room(chart))?;
     fronts(alloc, g, chart, doc, &calls, &mut marks)?;
     Ok(marks)
 }
@@ -119,7 +124,7 @@ pub fn grow(alloc: Global, g: &Gram, chart: &Chart, doc: &Word) -> Result<Grown,
         start: 0,
         end: doc.len() as u32,
     };
-    let mut forest = Builder::new(alloc, doc.len())?;
+    let mut forest = Builder::new(alloc, room(chart))?;
     let row = grow_rows(alloc, &source, &mut forest, root)?;
     Ok(Grown {
         forest: forest.finish(),

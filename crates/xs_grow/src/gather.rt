@@ -1,4 +1,4 @@
-ghost use Rattle.std.specs.Prelude.{◌≡◌, ◌↔◌, ◌<◌, ◌≤◌, ◌++◌, ◌+◌, None, length, map, OnOk, IsTrue, MatchBool};
+ghost use Rattle.std.specs.Prelude.{◌≡◌, ◌↔◌, ◌<◌, ◌≤◌, ℕ, ◌++◌, ◌+◌, None, length, map, OnOk, IsTrue, MatchBool};
 ghost use Rattle.xs_chart.specs.Charted.{set_limit};
 ghost use Rattle.xs_gram.specs.Sound.{IsBuilt};
 ghost use Rattle.xs_gram.specs.Grammar.{items};
@@ -16,6 +16,17 @@ use xs_chart::{Chart, Item};
 use xs_class::{Memory, Word};
 use xs_forest_laws::{SpanKey, What};
 use xs_gram::{GItem, Gram, Place};
+
+/// How many items the chart has, as far as a number goes: about as many marks and rows there are
+/// at most.
+pub(crate) fn room(chart: &Chart) -> usize
+{
+    let mut count: usize = 0;
+    'sets: for set in 0..chart.sets() {
+        count = count.saturating_add(chart.len(set) as usize);
+    }
+    count
+}
 
 /// Whether the place stands at the end of its rule.
 fn is_end(g: &Gram, place: Place) -> bool
@@ -93,16 +104,40 @@ fn push_ends(
 }
 
 /// Whether the item at a place of a rule is not its first one, and no fixed word.
-fn is_later(items: &[GItem], dot: u32) -> bool
+fn is_later(items: &[GItem], dot: usize) -> bool
     ensures { MatchBool result (IsLater items.now dot) (IsLater items.now dot → ⊥) }
 {
-    if dot == 0 || dot as usize >= items.len() {
+    if dot == 0 || dot >= items.len() {
         return false;
     }
-    match &items[dot as usize] {
+    match &items[dot] {
         GItem::Fixed(_) => false,
         GItem::Term { .. } | GItem::Skip { .. } | GItem::Non { .. } => true,
     }
+}
+
+/// Whether the rule has a later item, no fixed word.
+fn any_later(items: &[GItem]) -> bool
+    ensures { MatchBool result (Unit {0}) ((n : ℕ) → IsLater items.now n → ⊥) }
+{
+    'dots: for dot in 0..items.len() {
+        if is_later(items, dot) {
+            return true;
+        }
+    }
+    false
+}
+
+/// Whether a rule has a later item, no fixed word.
+pub(crate) fn has_later(g: &Gram) -> bool
+    ensures { MatchBool result (Unit {0}) ((p n : ℕ) → p < length g.now.rules → IsLater (items g.now p) n → ⊥) }
+{
+    'rules: for rule in 0..g.rules() {
+        if any_later(g.items(rule)) {
+            return true;
+        }
+    }
+    false
 }
 
 /// Adds the candidates of an item that stands before a later item of its rule, no fixed word: one
@@ -128,7 +163,7 @@ fn fronts_at(
     match place.inside {
         Some(_) => Ok(()),
         None => {
-            if !is_later(items, place.dot) {
+            if !is_later(items, place.dot as usize) {
                 return Ok(());
             }
             let ends = ends_of(alloc, g, doc, calls, &items[place.dot as usize], set)?;

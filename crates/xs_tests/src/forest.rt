@@ -1,6 +1,5 @@
-use bumpalo::Bump;
 use std::test::Fail;
-use xs_forest::{AddFault, Alt, Forest};
+use xs_forest::{AddFault, Alt, Builder};
 use xs_forest_laws::{SpanKey, What};
 
 const LEAF: Alt = Alt {
@@ -29,14 +28,17 @@ const SECOND: SpanKey = SpanKey {
 
 #[test]
 fn rows_are_numbered_and_labelled_once(rt: HostRuntime) -> Result<(), Fail> {
-    let bump = Bump::new(rt.alloc());
-    let mut forest = Forest::new(rt.alloc(), &bump)?;
+    let mut forest = Builder::new(rt.alloc(), 1)?;
     assert!(rt; forest.len() == 0);
     assert!(rt; forest.add_row(FIRST, &[LEAF]) == Ok(0));
     assert!(rt; forest.len() == 1);
     assert!(rt; forest.add_row(SECOND, &[PAIR, LEAF]) == Ok(1));
     assert!(rt; forest.len() == 2);
     assert!(rt; forest.add_row(SECOND, &[]) == Err(AddFault::Repeated { at: 1 }));
+    assert!(rt; forest.len() == 2);
+    assert!(rt; forest.find(FIRST) == Some(0));
+    assert!(rt; forest.find(SECOND) == Some(1));
+    let forest = forest.finish();
     assert!(rt; forest.len() == 2);
     let row = forest.row(1);
     assert!(rt; row.label == SECOND && row.alts == [PAIR, LEAF].as_slice());

@@ -9,7 +9,6 @@ mod languages;
 use crate::examples::EXAMPLES;
 use crate::parse_table::passes;
 use crate::sheets::two_of;
-use bumpalo::Bump;
 use std::alloc::Global;
 use std::process::Abort;
 use std::test::Fail;
@@ -82,9 +81,8 @@ fn exact_tree(alloc: Global, g: &Gram, doc: &Word) -> Result<Tree, TurnFault>
     requires sound { IsSound g.now }
     requires short { length doc.now < 4294967295 }
 {
-    let bump = Bump::new(alloc);
     let chart = recognise(alloc, g, doc)?;
-    let grown = grow(alloc, &bump, g, &chart, doc)?;
+    let grown = grow(alloc, g, &chart, doc)?;
     let tree = one_tree(alloc, &grown, g, doc)?;
     Ok(tree)
 }
