@@ -11,3 +11,5 @@ pub mod Charts
 pub mod Steps
 pub mod Settling
 pub mod Reaching
+pub mod Longer
+pub mod Nexts

@@ -47,9 +47,8 @@ Arrives g w j c k d =
     ((k ≡ suc j) × (x : ℕ) × (slice_get w j ≡ Some x) × (a : Position) × HasAutomaton g c a × (m : ℕ) × GoesBy a c.inside x m × (d ≡ at_inside c.rule c.dot m)) ⊎
     ((f : List ℕ) × (c.inside ≡ None) × ItemAt g c.rule c.dot (Fixed f) × Reads w j f k × (d ≡ next_of c))
 
--- all that the item of place c and origin i in set j leads to is there
-pub record IsSettled (g : Grammar) (w : List ℕ) (has : ℕ → Place → ℕ → Type 0) (j : ℕ) (c : Place) (i : ℕ) : Type 0 where
+-- all that the item of place c and origin i in set j leads to there is there
+pub record IsSettled (g : Grammar) (has : ℕ → Place → ℕ → Type 0) (j : ℕ) (c : Place) (i : ℕ) : Type 0 where
   pub passed : IsPassed g c → has j (next_of c) i
   pub called : (non q : ℕ) → IsBefore g c non → IsRuleOf g non q → has j (at_dot q 0) j
   pub completed : (non : ℕ) (d : Place) (o : ℕ) → IsAtEnd g c non → i < j → has i d o → IsBefore g d non → has j (next_of d) o
-  pub arrived : (k : ℕ) (d : Place) → Arrives g w j c k d → has k d i

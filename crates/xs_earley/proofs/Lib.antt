@@ -1,11 +1,10 @@
 pub mod Additions
-pub mod Completing
-mod Emptied
 pub mod Growths
 pub mod Settlings
-pub mod Spelt
+pub mod Completing
 pub mod Queues
-pub mod Filling
 pub mod Tables
 pub mod Wholes
-pub mod Reach
+pub mod Rowings
+pub mod Arrivals
+pub mod Steppings

@@ -12,11 +12,18 @@ use Rattle.xs_gram.specs.declared.places.Place.{Place}
 use Rattle.xs_gram.specs.Grammar.{Grammar, items}
 use Rattle.xs_chart_laws.specs.Steps.{IsBefore}
 use Rattle.xs_chart_laws.specs.Charts.{IsNumber, IsNumberBefore}
-use Rattle.xs_earley.specs.Growing.{Grows, IsExact}
+use Rattle.xs_earley.specs.Growing.{Grown, Standing, IsExact}
+use Rattle.xs_gram.specs.Places.{all_places}
+use Rattle.xs_chart_laws.proofs.Words.{get_some}
+use Rattle.xs_earley.specs.declared.facts.Facts.{Facts}
+use Rattle.xs_earley.specs.declared.rows.Row.{Row}
+use Rattle.xs_earley.specs.declared.rows.Stand.TheVariants.{AtNon}
+use Rattle.xs_earley.specs.Facts.{row_at, IsStand, AreFacts}
+use Rattle.xs_earley.proofs.Settlings.{row_is, before_stand}
 use Rattle.xs_earley.specs.Waiting.{Waited, IsWaiting, WaitsBelow}
 use Rattle.xs_earley.proofs.Additions.{no_element, last_at}
 use Rattle.xs_earley.proofs.Completing.{before_at, waiting_same}
-use Rattle.xs_earley.proofs.Growths.{grows_item, grows_item_more}
+use Rattle.xs_earley.proofs.Growths.{put_item, put_item_more}
 use Rattle.xs_chart_laws.proofs.Settling.{same_non}
 
 -- a place is before one nonterminal
@@ -114,22 +121,22 @@ waits_from : (g : Grammar) (chart : Charted) (at k : ℕ) → ((non : ℕ) → A
 waits_from g chart at k all = record { exact = λ non. (all non).exact; once = λ non. (all non).once }
 
 -- item k is put in its list, and then the set grows
-pub waits_more : (g : Grammar) (w : List ℕ) (old mid new : Charted) (at k : ℕ) (item : Item) → WaitsBelow g old at k → slice_get (items_of old at) k ≡ Some item → Waited g at k item.state old mid → mid.sets ≡ old.sets → Grows g w mid.sets new.sets → new.waits ≡ mid.waits → WaitsBelow g new at (k + 1)
+pub waits_more : (g : Grammar) (w : List ℕ) (old mid new : Charted) (at k : ℕ) (item : Item) → WaitsBelow g old at k → slice_get (items_of old at) k ≡ Some item → Waited g at k item.state old mid → mid.sets ≡ old.sets → Grown g w at mid.sets new.sets → new.waits ≡ mid.waits → WaitsBelow g new at (k + 1)
 waits_more g w old mid new at k item waits there waited same grows kept = waits_from g new at (k + 1) each
   where
-    grows' : Grows g w old.sets new.sets
-    grows' = subst (λ s. Grows g w s new.sets) same grows
+    grows' : Grown g w at old.sets new.sets
+    grows' = subst (λ s. Grown g w at s new.sets) same grows
 
     lt : k < length (items_of old at)
     lt = slice_get_within (items_of old at) k item there
 
     now : slice_get (items_of new at) k ≡ Some item
-    now = grows_item_more g w old.sets new.sets grows' at k item there
+    now = put_item_more at (Standing g w at) old.sets new.sets grows' k item there
 
     alike : (non n : ℕ) → n < k → IsWaiting g (items_of old at) non n ↔ IsWaiting g (items_of new at) non n
     alike non n below = (
-      (λ h. (h.0, grows_item_more g w old.sets new.sets grows' at n h.0 h.1, h.2)),
-      (λ h. let before : n < length (items_of old at) = omega (arith, lt) in (h.0, grows_item g w old.sets new.sets grows' at n h.0 before h.1, h.2)),
+      (λ h. (h.0, put_item_more at (Standing g w at) old.sets new.sets grows' n h.0 h.1, h.2)),
+      (λ h. let before : n < length (items_of old at) = omega (arith, lt) in (h.0, put_item at (Standing g w at) old.sets new.sets grows' n h.0 before h.1, h.2)),
     )
 
     first : (non : ℕ) → AreBelow (waiting_of old at non) k (IsWaiting g (items_of new at) non)
@@ -151,3 +158,17 @@ waits_none g chart at none = record {
   exact = λ non n. ((λ h. absurd (no_element n (subst (λ (l : List ℕ). Contains l n) (none non) h))), (λ h. absurd (omega (arith, h.0))));
   once = λ non a b n x y. absurd (no_element n (subst (λ (l : List ℕ). Contains l n) (none non) (contains_of (waiting_of chart at non) a n x)));
 }
+
+-- an item before a nonterminal, by its row
+pub waited_at : (g : Grammar) (f : Facts) → AreFacts g f → (old new : Charted) (at k : ℕ) (was item : Item) (row : Row) (non : ℕ) → length old.sets ≡ suc at → slice_get (items_of old at) k ≡ Some was → slice_get (items_of old at) k ≡ Some item → was.state < length (all_places g) → row ≡ row_at f.rows.items was.state → row.stand ≡ AtNon non → waiting_of new (last_set old) non ≡ waiting_of old (last_set old) non ++ k ∷ [] → ((other : ℕ) → other ≢ non → waiting_of new (last_set old) other ≡ waiting_of old (last_set old) other) → ((set other : ℕ) → set ≢ last_set old → waiting_of new set other ≡ waiting_of old set other) → Waited g at k item.state old new
+waited_at g f facts old new at k was item row non last e there lt is stand here others earlier =
+    let p = get_some (all_places g) was.state lt in
+    let before : IsBefore g p.0 non = subst (λ s. IsStand g f.letters.items p.0 s) stand (row_is g f facts was.state p.0 p.1 row is).stand in
+    subst (λ (x : Item). Waited g at k x.state old new) (some_same (slice_get (items_of old at) k) was item e there) (waited_some g old new at k was.state non p.0 last p.1 before here others earlier)
+
+-- and one that stands before none
+pub waited_not : (g : Grammar) (f : Facts) → AreFacts g f → (chart : Charted) (at k : ℕ) (was item : Item) (row : Row) → slice_get (items_of chart at) k ≡ Some was → slice_get (items_of chart at) k ≡ Some item → was.state < length (all_places g) → row ≡ row_at f.rows.items was.state → ((non : ℕ) → row.stand ≡ AtNon non → ⊥) → Waited g at k item.state chart chart
+waited_not g f facts chart at k was item row e there lt is never =
+    let p = get_some (all_places g) was.state lt in
+    let r = row_is g f facts was.state p.0 p.1 row is in
+    subst (λ (x : Item). Waited g at k x.state chart chart) (some_same (slice_get (items_of chart at) k) was item e there) (waited_none g chart at k was.state p.0 p.1 (λ non before. never non (before_stand g f.letters.items p.0 row.stand non r.stand before)))

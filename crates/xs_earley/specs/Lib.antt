@@ -1,6 +1,9 @@
 pub mod Adding
+pub mod Arriving
 pub mod Asked
+pub mod Facts
 pub mod Growing
-pub mod Opening
-pub mod Waiting
+pub mod Running
 pub mod Seen
+pub mod Stages
+pub mod Waiting

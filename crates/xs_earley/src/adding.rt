@@ -1,57 +1,51 @@
-ghost use Rattle.std.specs.Prelude.{◌≡◌, ◌<◌, suc, length, IfOk};
-ghost use Rattle.xs_gram.specs.declared.parts.GItem.{GItem};
-ghost use Rattle.xs_gram.specs.Grammar.{ItemAt};
-ghost use Rattle.xs_gram.specs.Places.{IsPlace};
-ghost use Rattle.xs_earley.specs.Adding.{Adds, Is, Passes};
+ghost use Rattle.std.specs.Prelude.{◌≡◌, suc, ℕ, List, length, IfOk, Contains};
+ghost use Rattle.xs_chart.specs.declared.item.Item.{Item as AnyItem};
+ghost use Rattle.xs_chart.specs.Charted.{items_of, before_last};
+ghost use Rattle.xs_gram.specs.declared.places.Place.{Place};
+ghost use Rattle.xs_gram.specs.Grammar.{Grammar};
+ghost use Rattle.xs_chart_laws.specs.Charts.{IsNumber};
+ghost use Rattle.xs_earley.specs.Adding.{Puts, Adds, Is, Passes};
+ghost use Rattle.xs_earley.specs.Facts.{IsRow};
 
-use crate::due::Items;
-use crate::places::after;
+use crate::rows::Row;
 use xs_chart::{Chart, Item};
 use xs_class::Memory;
-use xs_gram::{Gram, Place};
 
-/// Adds the item of a place and an origin to the last set, unless it is there.
-pub fn put(chart: &mut Chart, g: &Gram, at: u32, place: Place, origin: u32) -> Result<(), Memory>
-    requires place { IsPlace g.now place }
+/// Adds the item of a state and an origin to the last set, unless it is there.
+pub fn put(chart: &mut Chart, at: u32, state: u32, origin: u32) -> Result<(), Memory>
     requires last { length chart.old.sets ≡ suc at }
-    ensures adds { IfOk result (λ _. Adds g.now at (Is place origin) chart.old.sets chart.new.sets) }
-    ensures waits { IfOk result (λ _. chart.new.waits ≡ chart.old.waits) }
+    ensures adds { IfOk result (λ _. (g : Grammar) (c : Place) → IsNumber g state c → Adds g at (Is c origin) chart.old.sets chart.new.sets) }
+    ensures waits { chart.new.waits ≡ chart.old.waits }
+    ensures before { before_last chart.new ≡ before_last chart.old }
 {
-    let state = g.number(place);
     chart.add(Item { state, origin })?;
     Ok(())
 }
 
-/// Where the condition holds, adds the item after the place's to the last set.
-pub fn pass(
-    chart: &mut Chart,
-    g: &Gram,
-    at: u32,
-    condition: bool,
-    place: Place,
-    origin: u32,
-) -> Result<(), Memory>
-    requires place { IsPlace g.now place }
-    requires item { (item : GItem) × ItemAt g.now place.rule place.dot item }
+/// Adds the items to the last set, each unless it is there.
+pub fn put_all(chart: &mut Chart, at: u32, items: &[Item]) -> Result<(), Memory>
     requires last { length chart.old.sets ≡ suc at }
-    ensures adds { IfOk result (λ _. Adds g.now at (Passes condition place origin) chart.old.sets chart.new.sets) }
-    ensures waits { IfOk result (λ _. chart.new.waits ≡ chart.old.waits) }
+    ensures puts { IfOk result (λ _. Puts at (Contains items.now) chart.old.sets chart.new.sets) }
+    ensures there { IfOk result (λ _. (item : AnyItem) → Contains items.now item → Contains (items_of chart.new at) item) }
+    ensures waits { chart.new.waits ≡ chart.old.waits }
+    ensures before { before_last chart.new ≡ before_last chart.old }
 {
-    if condition {
-        put(chart, g, at, after(g, place), origin)
-    } else {
-        Ok(())
+    'items: for item in items {
+        chart.add(*item)?;
     }
+    Ok(())
 }
 
-/// Notes the item of a place and an origin for a set.
-pub fn note(due: &mut [Items], g: &Gram, at: usize, place: Place, origin: u32) -> Result<(), Memory>
-    requires place { IsPlace g.now place }
-    requires at { at < length due.old }
-    ensures { IfOk result (λ _. Adds g.now at (Is place origin) due.old due.new) }
+/// Adds the item after the place of a row to the last set, where the place may be passed over.
+pub fn pass(chart: &mut Chart, at: u32, row: Row, origin: u32) -> Result<(), Memory>
+    requires last { length chart.old.sets ≡ suc at }
+    ensures adds { IfOk result (λ _. (g : Grammar) (letters : List ℕ) (c : Place) → IsRow g letters c row → Adds g at (Passes g c origin) chart.old.sets chart.new.sets) }
+    ensures waits { chart.new.waits ≡ chart.old.waits }
+    ensures before { before_last chart.new ≡ before_last chart.old }
 {
-    let state = g.number(place);
-    let items = &mut due[at];
-    items.push(Item { state, origin })?;
+    if !row.passes {
+        return Ok(());
+    }
+    put(chart, at, row.next, origin)?;
     Ok(())
 }

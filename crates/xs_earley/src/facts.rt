@@ -1,20 +1,25 @@
-ghost use Rattle.std.specs.Prelude.{◌<◌, ◌↔◌, ℕ, length, IfOk, IsTrue, Contains};
+ghost use Rattle.std.specs.Prelude.{◌≡◌, ◌<◌, ◌↔◌, ℕ, length, IfOk, Contains};
 ghost use Rattle.xs_gram.specs.Grammar.{IsRuleOf};
-ghost use Rattle.xs_gram.specs.Sound.{IsBuilt, IsNullable};
+ghost use Rattle.xs_gram.specs.Sound.{IsBuilt};
 ghost use Rattle.xs_order.specs.Order.{AreNullable};
-ghost use Rattle.xs_earley.specs.Asked.{AreRules, AreCallFacts};
+ghost use Rattle.xs_earley.specs.Asked.{AreRules};
+ghost use Rattle.xs_earley.specs.Facts.{AreFacts, row_at};
 
+use crate::rows::{Row, rows_of};
 use std::alloc::Global;
-use xs_class::{Memory, empty_lists};
+use xs_class::{Memory, Sym, empty_lists};
 use xs_gram::Gram;
-use xs_order::Flags;
+use xs_order::{Flags, nullable};
 use xs_regex::Numbers;
 
-/// Of each nonterminal, whether it derives the empty word, and its rules.
+/// Of each nonterminal, whether it derives the empty word, and its rules; of each place a row; and
+/// the symbols of all fixed words.
 #[derive(Drop)]
-pub struct CallFacts {
-    nulls: Flags,
-    rules: Vec<Numbers>,
+pub struct Facts {
+    pub nulls: Flags,
+    pub rules: Vec<Numbers>,
+    pub rows: Vec<Row>,
+    pub letters: Vec<Sym>,
 }
 
 /// The rules of each nonterminal.
@@ -30,33 +35,39 @@ fn rules_of(alloc: Global, g: &Gram) -> Result<Vec<Numbers>, Memory>
     Ok(rows)
 }
 
-impl CallFacts {
-    /// The table of a grammar, by the flags of the nonterminals that derive the empty word; linear
-    /// in its nonterminals and rules.
-    pub fn of(alloc: Global, g: &Gram, nulls: Flags) -> Result<CallFacts, Memory>
+impl Facts {
+    /// The facts of a grammar; linear in its nonterminals, rules, places and fixed words, beyond the
+    /// nonterminals that derive the empty word.
+    pub fn of(alloc: Global, g: &Gram) -> Result<Facts, Memory>
         requires built { IsBuilt g.now }
-        requires nulls { AreNullable g.now nulls }
-        ensures { IfOk result (AreCallFacts g.now) }
+        ensures { IfOk result (AreFacts g.now) }
     {
+        let nulls = nullable(alloc, g)?;
         let rules = rules_of(alloc, g)?;
-        Ok(CallFacts { nulls, rules })
-    }
-
-    /// Whether the nonterminal derives the empty word.
-    pub fn is_nullable(&self, g: &Gram, non: u32) -> bool
-        requires facts { AreCallFacts g.now self.now }
-        requires non { non < g.now.nons }
-        ensures { IsTrue result ↔ IsNullable g.now non }
-    {
-        *self.nulls.at(non as usize)
+        let (rows, letters) = rows_of(alloc, g, &nulls)?;
+        let _places = g.places();
+        Ok(Facts {
+            nulls,
+            rules,
+            rows,
+            letters,
+        })
     }
 
     /// The rules of the nonterminal.
     pub fn rules(&self, g: &Gram, non: u32) -> &[u32]
-        requires facts { AreCallFacts g.now self.now }
+        requires facts { AreFacts g.now self.now }
         requires non { non < g.now.nons }
         ensures { (q : ℕ) → Contains result.now q ↔ IsRuleOf g.now non q }
     {
         self.rules[non as usize].as_slice()
+    }
+
+    /// The row of a place by its number.
+    pub fn row(&self, state: u32) -> Row
+        requires { state < length self.now.rows.items }
+        ensures { result ≡ row_at self.now.rows.items state }
+    {
+        self.rows[state as usize]
     }
 }

@@ -1,8 +1,8 @@
-ghost use Rattle.std.specs.Prelude.{◌≡◌, ◌<◌, ℕ, length, MatchOption};
+ghost use Rattle.std.specs.Prelude.{◌≡◌, length, MatchOption};
 ghost use Rattle.xs_gram.specs.declared.parts.GItem.{GItem};
 ghost use Rattle.xs_gram.specs.Grammar.{items, ItemAt};
 ghost use Rattle.xs_gram.specs.Places.{IsPlace};
-ghost use Rattle.xs_chart_laws.specs.Steps.{next_of, IsBefore};
+ghost use Rattle.xs_chart_laws.specs.Steps.{next_of};
 
 use xs_gram::{GItem, Gram, Place};
 
@@ -30,22 +30,5 @@ pub fn after(g: &Gram, place: Place) -> Place
         }
     } else {
         place
-    }
-}
-
-/// The nonterminal before which the place stands, if it stands before one.
-pub fn awaited(g: &Gram, place: Place) -> Option<u32>
-    requires place { IsPlace g.now place }
-    ensures { MatchOption result ((non : ℕ) → IsBefore g.now place non → ⊥) (λ non. IsBefore g.now place non) }
-{
-    match place.inside {
-        Some(_) => None,
-        None => match item_at(g, place) {
-            Some(GItem::Non { non, .. }) => Some(*non),
-            Some(GItem::Fixed(_)) => None,
-            Some(GItem::Term { .. }) => None,
-            Some(GItem::Skip { .. }) => None,
-            None => None,
-        },
     }
 }

@@ -1,192 +1,217 @@
-ghost use Rattle.std.specs.Prelude.{◌≡◌, ◌<◌, ◌≤◌, ◌+◌, suc, ℕ, length, None, Some, IfOk};
-ghost use Rattle.xs_regex.specs.Automaton.{IsWellFormed};
-ghost use Rattle.xs_chart.specs.Charted.{items_of, set_limit};
-ghost use Rattle.xs_gram.specs.declared.parts.GItem.{GItem};
-ghost use Rattle.xs_gram.specs.declared.parts.GItem.TheVariants.{Fixed, Non};
-ghost use Rattle.xs_gram.specs.Grammar.{ItemAt};
-ghost use Rattle.xs_gram.specs.Chart.{Stands};
-ghost use Rattle.xs_gram.specs.Places.{IsPlace};
+ghost use Rattle.std.specs.Prelude.{◌≡◌, ◌≢◌, ◌<◌, suc, ℕ, Some, length, slice_get, slice_index_or, IfOk};
+ghost use Rattle.xs_chart.specs.declared.item.Item.{Item as AnyItem};
+ghost use Rattle.xs_chart.specs.Charted.{items_of, waiting_of, before_last};
+ghost use Rattle.xs_gram.specs.declared.places.Place.{Place};
+ghost use Rattle.xs_gram.specs.Places.{all_places};
 ghost use Rattle.xs_gram.specs.Sound.{IsBuilt};
-ghost use Rattle.xs_chart_laws.specs.Steps.{HasAutomaton, IsSettled};
-ghost use Rattle.xs_earley.specs.Adding.{Adds, Ends, Predicts, ReadsWord};
-ghost use Rattle.xs_earley.specs.Asked.{AreCallFacts};
-ghost use Rattle.xs_earley.specs.Growing.{Has, Grown, IsSettledAt, IsExact, IsOpen};
+ghost use Rattle.xs_chart_laws.specs.Steps.{IsSettled};
+ghost use Rattle.xs_chart_laws.specs.Charts.{IsNumber, HasPlace, ItemStands};
+ghost use Rattle.xs_earley.specs.declared.rows.Stand.TheVariants.{AtNon};
+ghost use Rattle.xs_earley.specs.Adding.{Adds, Calls, Completes, Leads, AreCalled};
+ghost use Rattle.xs_earley.specs.Facts.{AreFacts};
+ghost use Rattle.xs_earley.specs.Growing.{Grown, IsSettledAt, IsExact, IsOpen};
+ghost use Rattle.xs_earley.specs.Waiting.{Waited, WaitsBelow};
 
-use crate::adding::{note, pass};
-use crate::due::Items;
-use crate::facts::CallFacts;
-use crate::places::{after, item_at};
-use crate::steps::{complete, following, go_on, is_last, predict};
-use crate::words::has_word;
-use xs_chart::Chart;
-use xs_class::{Memory, Word};
-use xs_gram::{GItem, Gram, Place};
-use xs_regex::Position;
+use crate::adding::pass;
+use crate::facts::Facts;
+use crate::rows::Stand;
+use crate::steps::{complete, predict};
+use xs_chart::{Chart, Item};
+use xs_class::{Memory, Sym};
+use xs_gram::Gram;
 
-/// At the end of a rule that began in an earlier set, completes its nonterminal there.
-fn end_rule(chart: &mut Chart, g: &Gram, at: u32, rule: u32, origin: u32) -> Result<(), Memory>
-    requires rule { rule < length g.now.rules }
-    requires last { length chart.old.sets ≡ suc at }
-    requires waiting { (non : ℕ) → origin < at → IsExact g.now chart.old origin non }
-    ensures adds { IfOk result (λ _. Adds g.now at (Ends g.now chart.old.sets origin at rule) chart.old.sets chart.new.sets) }
-    ensures waits { IfOk result (λ _. chart.new.waits ≡ chart.old.waits) }
-{
-    if origin < at {
-        complete(chart, g, at, origin, g.non_of(rule))
-    } else {
-        Ok(())
-    }
-}
-
-/// Before a nonterminal, passes over it where it derives the empty word, and begins its rules.
-fn call(
+/// At the end of a rule of a nonterminal that began in an earlier set, completes it there.
+fn end_rule(
     chart: &mut Chart,
     g: &Gram,
-    facts: &CallFacts,
+    facts: &Facts,
     at: u32,
     non: u32,
-    place: Place,
     origin: u32,
 ) -> Result<(), Memory>
-    requires facts { AreCallFacts g.now facts.now }
-    requires non { non < g.now.nons }
-    requires place { IsPlace g.now place }
-    requires item { (item : GItem) × ItemAt g.now place.rule place.dot item }
+    requires facts { AreFacts g.now facts.now }
     requires last { length chart.old.sets ≡ suc at }
-    ensures adds { IfOk result (λ _. Adds g.now at (Predicts g.now at non place origin) chart.old.sets chart.new.sets) }
-    ensures waits { IfOk result (λ _. chart.new.waits ≡ chart.old.waits) }
+    requires waiting { origin < at → IsExact g.now chart.old origin non }
+    ensures adds { IfOk result (λ _. Adds g.now at (λ c i. (origin < at) × Completes g.now chart.old.sets origin non c i) chart.old.sets chart.new.sets) }
+    ensures waits { chart.new.waits ≡ chart.old.waits }
+    ensures before { before_last chart.new ≡ before_last chart.old }
 {
-    pass(chart, g, at, facts.is_nullable(g, non), place, origin)?;
-    predict(chart, g, at, facts.rules(g, non))?;
+    if origin >= at {
+        return Ok(());
+    }
+    complete(chart, g, facts, at, origin, non)?;
     Ok(())
 }
 
-/// Before a fixed word that the document has there, notes what is after it for the set where it
-/// ends.
-fn read_word(
-    due: &mut [Items],
-    g: &Gram,
-    doc: &Word,
-    at: u32,
-    word: &Word,
-    place: Place,
-    origin: u32,
-) -> Result<(), Memory>
-    requires place { IsPlace g.now place }
-    requires item { (item : GItem) × ItemAt g.now place.rule place.dot item }
-    requires at { at ≤ length doc.now }
-    requires few { length doc.now < set_limit }
-    requires lists { length due.old ≡ suc (length doc.now) }
-    ensures { IfOk result (λ _. Adds g.now (at + length word.now) (ReadsWord doc.now at word.now place origin) due.old due.new) }
-{
-    if has_word(doc, at as usize, word) {
-        note(due, g, at as usize + word.len(), after(g, place), origin)
-    } else {
-        Ok(())
-    }
-}
-
-/// Before or inside a terminal or an ignorable, passes over it or ends it where it can, and goes on
-/// in it by the next symbol.
-fn settle_lex(
+/// Begins the rules of a nonterminal, unless it is marked as one whose rules are begun, and marks it.
+fn call(
     chart: &mut Chart,
-    due: &mut [Items],
+    called: &mut [bool],
     g: &Gram,
-    doc: &Word,
+    facts: &Facts,
     at: u32,
-    automaton: &Position,
-    place: Place,
-    origin: u32,
+    non: u32,
 ) -> Result<(), Memory>
-    requires built { IsBuilt g.now }
-    requires automaton { HasAutomaton g.now place automaton.now }
-    requires formed { IsWellFormed automaton.now }
-    requires stands { Stands g.now doc.now place origin at }
+    requires facts { AreFacts g.now facts.now }
+    requires non { non < g.now.nons }
+    requires marks { length called.old ≡ g.now.nons }
+    requires called { AreCalled g.now at chart.old.sets called.old }
     requires last { length chart.old.sets ≡ suc at }
-    requires lists { length due.old ≡ suc (length doc.now) }
-    ensures grown { IfOk result (λ _. Grown g.now doc.now at chart.old.sets due.old chart.new.sets due.new) }
-    ensures settled { IfOk result (λ _. IsSettled g.now doc.now (Has g.now chart.new.sets due.new) at place origin) }
-    ensures waits { IfOk result (λ _. chart.new.waits ≡ chart.old.waits) }
+    ensures adds { IfOk result (λ _. Adds g.now at (Calls g.now at non) chart.old.sets chart.new.sets) }
+    ensures called { IfOk result (λ _. AreCalled g.now at chart.new.sets called.new) }
+    ensures waits { chart.new.waits ≡ chart.old.waits }
+    ensures before { before_last chart.new ≡ before_last chart.old }
 {
-    match place.inside {
-        None => {
-            let positions = automaton.first.as_slice();
-            pass(chart, g, at, automaton.nullable, place, origin)?;
-            go_on(due, g, doc, at, automaton, positions, place, origin)?;
-            Ok(())
-        }
-        Some(position) => {
-            let positions = following(automaton, position);
-            pass(chart, g, at, is_last(automaton, position), place, origin)?;
-            go_on(due, g, doc, at, automaton, positions, place, origin)?;
-            Ok(())
-        }
+    if called[non as usize] {
+        return Ok(());
     }
+    predict(chart, g, at, facts.rules(g, non))?;
+    called[non as usize] = true;
+    Ok(())
 }
 
-/// Adds and notes all that an item of the last set leads to, by its place and origin.
-fn settle_place(
+/// Adds what stands at a place leads to, beside what may be passed over.
+fn lead(
     chart: &mut Chart,
-    due: &mut [Items],
+    called: &mut [bool],
     g: &Gram,
-    doc: &Word,
-    facts: &CallFacts,
+    facts: &Facts,
     at: u32,
-    place: Place,
+    stand: Stand,
     origin: u32,
 ) -> Result<(), Memory>
-    requires built { IsBuilt g.now }
-    requires facts { AreCallFacts g.now facts.now }
-    requires open { IsOpen g.now doc.now at chart.old due.old }
-    requires stands { Stands g.now doc.now place origin at }
-    ensures grown { IfOk result (λ _. Grown g.now doc.now at chart.old.sets due.old chart.new.sets due.new) }
-    ensures settled { IfOk result (λ _. IsSettled g.now doc.now (Has g.now chart.new.sets due.new) at place origin) }
-    ensures waits { IfOk result (λ _. chart.new.waits ≡ chart.old.waits) }
+    requires facts { AreFacts g.now facts.now }
+    requires stand { (non : ℕ) → stand ≡ AtNon non → non < g.now.nons }
+    requires marks { length called.old ≡ g.now.nons }
+    requires called { AreCalled g.now at chart.old.sets called.old }
+    requires last { length chart.old.sets ≡ suc at }
+    requires waiting { (non : ℕ) → origin < at → IsExact g.now chart.old origin non }
+    ensures adds { IfOk result (λ _. Adds g.now at (Leads g.now chart.old.sets at origin stand) chart.old.sets chart.new.sets) }
+    ensures called { IfOk result (λ _. AreCalled g.now at chart.new.sets called.new) }
+    ensures waits { chart.new.waits ≡ chart.old.waits }
+    ensures before { before_last chart.new ≡ before_last chart.old }
 {
-    match item_at(g, place) {
-        None => {
-            end_rule(chart, g, at, place.rule, origin)?;
+    match stand {
+        Stand::AtEnd(non) => {
+            end_rule(chart, g, facts, at, non, origin)?;
             Ok(())
         }
-        Some(GItem::Fixed(word)) => {
-            read_word(due, g, doc, at, word, place, origin)?;
+        Stand::AtNon(non) => {
+            call(chart, called, g, facts, at, non)?;
             Ok(())
         }
-        Some(GItem::Term { term, .. }) => {
-            settle_lex(chart, due, g, doc, at, g.term(*term), place, origin)?;
-            Ok(())
-        }
-        Some(GItem::Skip { skip }) => {
-            settle_lex(chart, due, g, doc, at, g.skip(*skip), place, origin)?;
-            Ok(())
-        }
-        Some(GItem::Non { non, .. }) => {
-            call(chart, g, facts, at, *non, place, origin)?;
-            Ok(())
-        }
+        Stand::AtWord(_, _) => Ok(()),
+        Stand::AtTerm(_) => Ok(()),
+        Stand::AtSkip(_) => Ok(()),
     }
 }
 
-/// Adds and notes all that item k of the last set leads to.
-pub fn settle(
+/// Adds all that an item of the last set leads to there.
+fn settle_item(
     chart: &mut Chart,
-    due: &mut [Items],
+    called: &mut [bool],
     g: &Gram,
-    doc: &Word,
-    facts: &CallFacts,
+    facts: &Facts,
+    doc: &[Sym],
+    at: u32,
+    item: Item,
+) -> Result<(), Memory>
+    requires built { IsBuilt g.now }
+    requires facts { AreFacts g.now facts.now }
+    requires marks { length called.old ≡ g.now.nons }
+    requires called { AreCalled g.now at chart.old.sets called.old }
+    requires open { IsOpen g.now doc.now at chart.old }
+    requires stands { ItemStands g.now doc.now item at }
+    ensures grown { IfOk result (λ _. Grown g.now doc.now at chart.old.sets chart.new.sets) }
+    ensures settled { IfOk result (λ _. (c : Place) → IsNumber g.now item.state c → IsSettled g.now (HasPlace g.now chart.new.sets) at c item.origin) }
+    ensures called { IfOk result (λ _. AreCalled g.now at chart.new.sets called.new) }
+    ensures waits { chart.new.waits ≡ chart.old.waits }
+    ensures before { before_last chart.new ≡ before_last chart.old }
+{
+    let row = facts.row(item.state);
+    pass(chart, at, row, item.origin)?;
+    lead(chart, called, g, facts, at, row.stand, item.origin)?;
+    Ok(())
+}
+
+/// Adds all that item k of the last set leads to there.
+fn settle(
+    chart: &mut Chart,
+    called: &mut [bool],
+    g: &Gram,
+    facts: &Facts,
+    doc: &[Sym],
     at: u32,
     k: u64,
 ) -> Result<(), Memory>
     requires built { IsBuilt g.now }
-    requires facts { AreCallFacts g.now facts.now }
-    requires open { IsOpen g.now doc.now at chart.old due.old }
+    requires facts { AreFacts g.now facts.now }
+    requires marks { length called.old ≡ g.now.nons }
+    requires called { AreCalled g.now at chart.old.sets called.old }
+    requires open { IsOpen g.now doc.now at chart.old }
     requires item { k < length (items_of chart.old at) }
-    ensures grown { IfOk result (λ _. Grown g.now doc.now at chart.old.sets due.old chart.new.sets due.new) }
-    ensures settled { IfOk result (λ _. IsSettledAt g.now doc.now chart.new.sets due.new at k) }
-    ensures waits { IfOk result (λ _. chart.new.waits ≡ chart.old.waits) }
+    ensures grown { IfOk result (λ _. Grown g.now doc.now at chart.old.sets chart.new.sets) }
+    ensures settled { IfOk result (λ _. IsSettledAt g.now chart.new.sets at k) }
+    ensures called { IfOk result (λ _. AreCalled g.now at chart.new.sets called.new) }
+    ensures waits { chart.new.waits ≡ chart.old.waits }
+    ensures before { before_last chart.new ≡ before_last chart.old }
 {
     let item = chart.item(at, k);
-    let place = g.place(item.state);
-    settle_place(chart, due, g, doc, facts, at, place, item.origin)?;
+    settle_item(chart, called, g, facts, doc, at, item)?;
+    Ok(())
+}
+
+/// Puts item k of the last set in the waiting list of the nonterminal before which it stands, if it
+/// stands before one.
+fn enlist(chart: &mut Chart, g: &Gram, facts: &Facts, at: u32, k: u64) -> Result<(), Memory>
+    requires facts { AreFacts g.now facts.now }
+    requires last { length chart.old.sets ≡ suc at }
+    requires item { k < length (items_of chart.old at) }
+    requires numbers { (item : AnyItem) → slice_get (items_of chart.old at) k ≡ Some item → item.state < length (all_places g.now) }
+    ensures sets { IfOk result (λ _. chart.new.sets ≡ chart.old.sets) }
+    ensures waited { IfOk result (λ _. (item : AnyItem) → slice_get (items_of chart.old at) k ≡ Some item → Waited g.now at k item.state chart.old chart.new) }
+    ensures before { before_last chart.new ≡ before_last chart.old }
+{
+    let item = chart.item(at, k);
+    let row = facts.row(item.state);
+    match row.stand {
+        Stand::AtNon(non) => {
+            chart.wait(non, k)?;
+            Ok(())
+        }
+        Stand::AtEnd(_) => Ok(()),
+        Stand::AtWord(_, _) => Ok(()),
+        Stand::AtTerm(_) => Ok(()),
+        Stand::AtSkip(_) => Ok(()),
+    }
+}
+
+/// Adds to the last set all that its items lead to there, and puts them in their waiting lists.
+pub fn close(
+    chart: &mut Chart,
+    called: &mut [bool],
+    g: &Gram,
+    facts: &Facts,
+    doc: &[Sym],
+    at: u32,
+) -> Result<(), Memory>
+    requires built { IsBuilt g.now }
+    requires facts { AreFacts g.now facts.now }
+    requires marks { length called.old ≡ g.now.nons }
+    requires called { AreCalled g.now at chart.old.sets called.old }
+    requires open { IsOpen g.now doc.now at chart.old }
+    requires waits { WaitsBelow g.now chart.old at 0 }
+    ensures grown { IfOk result (λ _. Grown g.now doc.now at chart.old.sets chart.new.sets) }
+    ensures settled { IfOk result (λ _. (k : ℕ) → k < length (items_of chart.new at) → IsSettledAt g.now chart.new.sets at k) }
+    ensures earlier { IfOk result (λ _. (j non : ℕ) → j ≢ at → waiting_of chart.new j non ≡ waiting_of chart.old j non) }
+    ensures waits { IfOk result (λ _. WaitsBelow g.now chart.new at (length (items_of chart.new at))) }
+    ensures before { before_last chart.new ≡ before_last chart.old }
+{
+    let mut k = 0;
+    'items: while k < chart.len(at) {
+        enlist(chart, g, facts, at, k)?;
+        settle(chart, called, g, facts, doc, at, k)?;
+        k += 1;
+    }
     Ok(())
 }

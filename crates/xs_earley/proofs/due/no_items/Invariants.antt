@@ -1,8 +1,0 @@
-use Rattle.std.proofs.Common.{◌≡◌, ℕ, [], length, get_or}
-use Rattle.xs_earley.proofs.due.no_items.Given as goal
-
-abbrev pub invariant-lists : goal.invariant-lists
-invariant-lists l = record {
-  counted : length l.lists.items ≡ l.counter;
-  empty : (k : ℕ) → get_or l.lists.items k [] ≡ [];
-}

@@ -1,6 +1,0 @@
-use Rattle.std.proofs.Common.{◌+◌, take}
-use Rattle.xs_chart_laws.specs.Reading.{Reads}
-use Rattle.xs_earley.proofs.words.common.Given as goal
-
-abbrev pub invariant-symbols : goal.invariant-symbols
-invariant-symbols l = Reads l.doc l.at (take l.n l.word) (l.at + l.n)

@@ -1,0 +1,263 @@
+ghost use Rattle.std.specs.Prelude.{◌≡◌, ◌<◌, ◌+◌, ◌++◌, ◌^◌, [], ◌∷◌, ℕ, length, slice_get, slice_index_or, Contains, IfOk};
+ghost use Rattle.xs_chart.specs.declared.item.Item.{Item as AnyItem};
+ghost use Rattle.xs_gram.specs.Sound.{IsBuilt};
+ghost use Rattle.xs_gram.specs.Places.{all_places};
+ghost use Rattle.xs_earley.specs.declared.begun.Begun.{Begun as AnyBegun};
+ghost use Rattle.xs_earley.specs.Facts.{AreFacts};
+ghost use Rattle.xs_earley.specs.Arriving.{gathered, at_has, positions_at, entered, lex_due, is_letter, word_due, word_begun, item_due, item_begun, more_due, more_begun};
+
+use crate::begun::Begun;
+use crate::facts::Facts;
+use crate::rows::Stand;
+use xs_chart::Item;
+use xs_class::{Memory, Sym};
+use xs_gram::Gram;
+use xs_regex::Position;
+
+/// Whether the position's class has the symbol.
+fn has_at(automaton: &Position, position: u32, symbol: Sym) -> bool
+    ensures { result ≡ at_has automaton.now position symbol }
+{
+    match automaton.classes.as_slice().get(position as usize) {
+        Some(class) => class.has(symbol),
+        None => false,
+    }
+}
+
+/// The row of positions at a place, none where there is no such row.
+fn row_at(automaton: &Position, place: usize) -> &[u32]
+    ensures { result.now ≡ slice_index_or automaton.now.follow place [] }
+{
+    match automaton.follow.as_slice().get(place) {
+        Some(row) => row.as_slice(),
+        None => &[],
+    }
+}
+
+/// The positions to which the automaton may go from a state, by the number of the place before it.
+fn next_positions(automaton: &Position, state: u32, base: u32) -> &[u32]
+    ensures { result.now ≡ positions_at automaton.now state base }
+{
+    if state == base {
+        automaton.first.as_slice()
+    } else {
+        row_at(
+            automaton,
+            (state as usize).saturating_sub(base as usize + 1),
+        )
+    }
+}
+
+/// Appends the item inside the automaton at a position, where that has the symbol.
+fn enter(
+    due: &mut Vec<Item>,
+    automaton: &Position,
+    position: u32,
+    symbol: Sym,
+    base: u32,
+    origin: u32,
+) -> Result<(), Memory>
+    requires { base + 1 + position < 2 ^ 32 }
+    ensures { IfOk result (λ _. due.new.items ≡ due.old.items ++ entered automaton.now symbol base origin position) }
+{
+    if !has_at(automaton, position, symbol) {
+        return Ok(());
+    }
+    due.push(Item {
+        state: base + 1 + position,
+        origin,
+    })?;
+    Ok(())
+}
+
+/// Appends the items to which the automaton goes by the symbol from a state.
+fn go_on(
+    due: &mut Vec<Item>,
+    automaton: &Position,
+    symbol: Sym,
+    state: u32,
+    base: u32,
+    origin: u32,
+) -> Result<(), Memory>
+    requires { (k : ℕ) → Contains (positions_at automaton.now state base) k → base + 1 + k < 2 ^ 32 }
+    ensures { IfOk result (λ _. due.new.items ≡ due.old.items ++ lex_due automaton.now symbol state base origin) }
+{
+    let positions = next_positions(automaton, state, base);
+    'positions: for position in positions {
+        enter(due, automaton, *position, symbol, base, origin)?;
+    }
+    Ok(())
+}
+
+/// Whether the symbol stands at a place of the list.
+fn is_at(letters: &[Sym], place: usize, symbol: Sym) -> bool
+    ensures { result ≡ is_letter (slice_get letters.now place) symbol }
+{
+    match letters.get(place) {
+        Some(letter) => letter.number() == symbol.number(),
+        None => false,
+    }
+}
+
+/// Reads the symbol as that at a place of a fixed word: appends the item after the word where it is
+/// the last one, and the begun word where it is not.
+fn read_letter(
+    due: &mut Vec<Item>,
+    fresh: &mut Vec<Begun>,
+    letters: &[Sym],
+    symbol: Sym,
+    at: usize,
+    end: usize,
+    item: Item,
+    begun: Begun,
+) -> Result<(), Memory>
+    requires { at < 2 ^ 34 }
+    ensures due { IfOk result (λ _. due.new.items ≡ due.old.items ++ word_due letters.now symbol at end item) }
+    ensures fresh { IfOk result (λ _. fresh.new.items ≡ fresh.old.items ++ word_begun letters.now symbol at end begun) }
+{
+    if !is_at(letters, at, symbol) {
+        return Ok(());
+    }
+    if at + 1 == end {
+        due.push(item)?;
+        return Ok(());
+    }
+    fresh.push(begun)?;
+    Ok(())
+}
+
+/// Appends what an item of the last set leads to by the symbol.
+fn arrive(
+    due: &mut Vec<Item>,
+    fresh: &mut Vec<Begun>,
+    g: &Gram,
+    facts: &Facts,
+    symbol: Sym,
+    item: Item,
+) -> Result<(), Memory>
+    requires built { IsBuilt g.now }
+    requires facts { AreFacts g.now facts.now }
+    requires state { item.state < length (all_places g.now) }
+    ensures due { IfOk result (λ _. due.new.items ≡ due.old.items ++ item_due g.now facts.now symbol item) }
+    ensures fresh { IfOk result (λ _. fresh.new.items ≡ fresh.old.items ++ item_begun facts.now symbol item) }
+{
+    let row = facts.row(item.state);
+    match row.stand {
+        Stand::AtEnd(_) => Ok(()),
+        Stand::AtNon(_) => Ok(()),
+        Stand::AtWord(from, end) => {
+            let next = Item {
+                state: row.next,
+                origin: item.origin,
+            };
+            let begun = Begun {
+                state: item.state,
+                origin: item.origin,
+                count: 1,
+            };
+            read_letter(
+                due,
+                fresh,
+                &facts.letters,
+                symbol,
+                from as usize,
+                end as usize,
+                next,
+                begun,
+            )?;
+            Ok(())
+        }
+        Stand::AtTerm(term) => {
+            go_on(due, g.term(term), symbol, item.state, row.base, item.origin)?;
+            Ok(())
+        }
+        Stand::AtSkip(skip) => {
+            go_on(due, g.skip(skip), symbol, item.state, row.base, item.origin)?;
+            Ok(())
+        }
+    }
+}
+
+/// Appends what the items of the last set lead to by the symbol.
+pub fn arrive_all(
+    due: &mut Vec<Item>,
+    fresh: &mut Vec<Begun>,
+    g: &Gram,
+    facts: &Facts,
+    symbol: Sym,
+    items: &[Item],
+) -> Result<(), Memory>
+    requires built { IsBuilt g.now }
+    requires facts { AreFacts g.now facts.now }
+    requires states { (item : AnyItem) → Contains items.now item → item.state < length (all_places g.now) }
+    ensures due { IfOk result (λ _. due.new.items ≡ due.old.items ++ gathered (item_due g.now facts.now symbol) items.now) }
+    ensures fresh { IfOk result (λ _. fresh.new.items ≡ fresh.old.items ++ gathered (item_begun facts.now symbol) items.now) }
+{
+    'items: for item in items {
+        arrive(due, fresh, g, facts, symbol, *item)?;
+    }
+    Ok(())
+}
+
+/// Appends what a begun word leads to by the symbol.
+fn read_on(
+    due: &mut Vec<Item>,
+    fresh: &mut Vec<Begun>,
+    facts: &Facts,
+    symbol: Sym,
+    begun: Begun,
+) -> Result<(), Memory>
+    requires state { begun.state < length facts.now.rows.items }
+    requires count { begun.count + 1 < 2 ^ 32 }
+    ensures due { IfOk result (λ _. due.new.items ≡ due.old.items ++ more_due facts.now symbol begun) }
+    ensures fresh { IfOk result (λ _. fresh.new.items ≡ fresh.old.items ++ more_begun facts.now symbol begun) }
+{
+    let row = facts.row(begun.state);
+    match row.stand {
+        Stand::AtEnd(_) => Ok(()),
+        Stand::AtNon(_) => Ok(()),
+        Stand::AtWord(from, end) => {
+            let next = Item {
+                state: row.next,
+                origin: begun.origin,
+            };
+            let more = Begun {
+                state: begun.state,
+                origin: begun.origin,
+                count: begun.count + 1,
+            };
+            read_letter(
+                due,
+                fresh,
+                &facts.letters,
+                symbol,
+                from as usize + begun.count as usize,
+                end as usize,
+                next,
+                more,
+            )?;
+            Ok(())
+        }
+        Stand::AtTerm(_) => Ok(()),
+        Stand::AtSkip(_) => Ok(()),
+    }
+}
+
+/// Appends what the begun words lead to by the symbol.
+pub fn read_all(
+    due: &mut Vec<Item>,
+    fresh: &mut Vec<Begun>,
+    facts: &Facts,
+    symbol: Sym,
+    begun: &[Begun],
+) -> Result<(), Memory>
+    requires states { (b : AnyBegun) → Contains begun.now b → b.state < length facts.now.rows.items }
+    requires counts { (b : AnyBegun) → Contains begun.now b → b.count + 1 < 2 ^ 32 }
+    ensures due { IfOk result (λ _. due.new.items ≡ due.old.items ++ gathered (more_due facts.now symbol) begun.now) }
+    ensures fresh { IfOk result (λ _. fresh.new.items ≡ fresh.old.items ++ gathered (more_begun facts.now symbol) begun.now) }
+{
+    'begun: for one in begun {
+        read_on(due, fresh, facts, symbol, *one)?;
+    }
+    Ok(())
+}

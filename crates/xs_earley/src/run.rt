@@ -1,0 +1,198 @@
+ghost use Rattle.std.specs.Prelude.{◌≡◌, ◌<◌, ◌≤◌, ◌+◌, ◌↔◌, suc, ℕ, false, [], ◌∷◌, ◌++◌, length, take, IsTrue, IfOk, OnErr};
+ghost use Rattle.xs_chart.specs.Charted.{set_limit};
+ghost use Rattle.xs_gram.specs.Grammar.{Grammar, items};
+ghost use Rattle.xs_gram.specs.Languages.{InLang, IsFront};
+ghost use Rattle.xs_gram.specs.Places.{at_dot};
+ghost use Rattle.xs_gram.specs.Sound.{IsSound};
+ghost use Rattle.xs_chart_laws.specs.Charts.{HasPlace, IsChartOf, HasWaiters};
+ghost use Rattle.xs_earley.specs.Facts.{AreFacts};
+ghost use Rattle.xs_earley.specs.Running.{IsRunOf};
+
+use crate::begun::Begun;
+use crate::facts::Facts;
+use crate::stage::{first_set, gather, next_set};
+use std::alloc::Global;
+use std::marker::Model;
+use xs_chart::{Chart, Item};
+use xs_class::{Memory, Sym};
+use xs_flat::FlatLists;
+use xs_gram::{Gram, Place};
+
+/// A recogniser that reads a document symbol by symbol, and can go back.
+///
+/// Contracts see it as the word so far, its chart, and what it keeps beside them. It is of one
+/// grammar, the one with which it began; `IsRunOf` says what then holds at every moment.
+#[derive(Drop)]
+pub struct Run {
+    facts: Facts,
+    word: Vec<Sym>,
+    chart: Chart,
+    begun: FlatLists<Begun>,
+    called: Vec<bool>,
+    due: Vec<Item>,
+    fresh: Vec<Begun>,
+}
+
+impl Model for Run {
+    ghost use Rattle.std.specs.Prelude.{length};
+    ghost use Rattle.xs_earley.specs.Running.{Running};
+
+    ghost Value = { Running };
+
+    ghost view = { λ r. record { word = r.word.items; chart = r.chart; begun = r.begun; facts = r.facts; marks = length r.called.items } };
+}
+
+/// Whether set `at` of the chart has the rule at its end, from the front of the document.
+fn has_whole(g: &Gram, chart: &Chart, at: u32, rule: u32) -> bool
+    requires rule { rule < length g.now.rules }
+    requires at { at < length chart.now.sets }
+    ensures { IsTrue result ↔ HasPlace g.now chart.now.sets at (at_dot rule (length (items g.now rule))) 0 }
+{
+    let place = Place {
+        rule,
+        dot: g.items(rule).len() as u32,
+        inside: None,
+    };
+    let state = g.number(place);
+    chart.has(at, Item { state, origin: 0 })
+}
+
+/// Whether a whole rule of the start is read over the document.
+fn is_whole(g: &Gram, doc: &[Sym], facts: &Facts, chart: &Chart) -> bool
+    requires sound { IsSound g.now }
+    requires facts { AreFacts g.now facts.now }
+    requires chart { IsChartOf g.now doc.now chart.now.sets }
+    requires few { length doc.now < set_limit }
+    ensures { IsTrue result ↔ InLang g.now doc.now }
+{
+    let at = doc.len() as u32;
+    'starts: for rule in facts.rules(g, g.start()) {
+        if has_whole(g, chart, at, *rule) {
+            return true;
+        }
+    }
+    false
+}
+
+/// Whether neither an item nor a begun word was gathered.
+fn is_nothing(due: &[Item], fresh: &[Begun]) -> bool
+    ensures { IsTrue result ↔ ((due.now ≡ []) × (fresh.now ≡ [])) }
+{
+    due.is_empty() && fresh.is_empty()
+}
+
+impl Run {
+    /// A run of a grammar over the empty word. In time linear in the grammar, beyond what the first
+    /// set leads to.
+    pub fn begin(alloc: Global, g: &Gram) -> Result<Run, Memory>
+        requires sound { IsSound g.now }
+        ensures run { IfOk result (IsRunOf g.now) }
+        ensures word { IfOk result (λ run. run.word ≡ []) }
+    {
+        let facts = Facts::of(alloc, g)?;
+        let mut called = vec![in alloc; false; g.nons() as usize]?;
+        let mut chart = Chart::new(alloc)?;
+        first_set(&mut chart, &mut called, g, &facts)?;
+        let mut begun = FlatLists::new(alloc);
+        begun.push(&[])?;
+        Ok(Run {
+            facts,
+            word: Vec::new(alloc),
+            chart,
+            begun,
+            called,
+            due: Vec::new(alloc),
+            fresh: Vec::new(alloc),
+        })
+    }
+
+    /// Reads one symbol more; true exactly where the word so far, followed by the symbol, begins a
+    /// word of the language. Where it does not, the run is unchanged; after `Memory` it has the word
+    /// and the sets that it had. In time linear in what the last set and the new one lead to.
+    pub fn step(&mut self, g: &Gram, symbol: Sym) -> Result<bool, Memory>
+        requires run { IsRunOf g.now self.old }
+        requires more { length self.old.word + 1 < set_limit }
+        ensures next { IfOk result (λ next. IsTrue next ↔ IsFront g.now (self.old.word ++ symbol ∷ [])) }
+        ensures run { IsRunOf g.now self.new }
+        ensures word { IfOk result (λ next. IsTrue next → self.new.word ≡ self.old.word ++ symbol ∷ []) }
+        ensures unchanged { IfOk result (λ next. next ≡ false → self.new ≡ self.old) }
+        ensures err { OnErr result (self.new.word ≡ self.old.word) }
+        ensures err_sets { OnErr result (self.new.chart.sets ≡ self.old.chart.sets) }
+    {
+        gather(
+            &mut self.due,
+            &mut self.fresh,
+            g,
+            &self.facts,
+            &self.word,
+            &self.chart,
+            &self.begun,
+            symbol,
+        )?;
+        if is_nothing(&self.due, &self.fresh) {
+            return Ok(false);
+        }
+        let length = self.word.len();
+        let advanced = next_set(
+            &mut self.word,
+            &mut self.chart,
+            &mut self.begun,
+            &mut self.called,
+            g,
+            &self.facts,
+            symbol,
+            &self.due,
+            &self.fresh,
+        );
+        match advanced {
+            Ok(()) => Ok(true),
+            Err(memory) => {
+                self.word.truncate(length);
+                self.chart.truncate(length as u32 + 1);
+                self.begun.truncate(length + 1);
+                Err(memory)
+            }
+        }
+    }
+
+    /// Goes back to the first symbols; takes no memory.
+    pub fn back(&mut self, len: u32)
+        requires run { (g : Grammar) × IsRunOf g self.old }
+        requires len { len ≤ length self.old.word }
+        ensures word { self.new.word ≡ take len self.old.word }
+        ensures run { (g : Grammar) → IsRunOf g self.old → IsRunOf g self.new }
+    {
+        self.word.truncate(len as usize);
+        self.chart.truncate(len + 1);
+        self.begun.truncate(len as usize + 1);
+    }
+
+    /// The number of symbols so far.
+    pub fn len(&self) -> usize
+        ensures { result ≡ length self.now.word }
+    {
+        self.word.len()
+    }
+
+    /// Whether the word so far is of the language.
+    pub fn whole(&self, g: &Gram) -> bool
+        requires { IsRunOf g.now self.now }
+        ensures { IsTrue result ↔ InLang g.now self.now.word }
+    {
+        is_whole(g, &self.word, &self.facts, &self.chart)
+    }
+
+    /// The chart of the word so far.
+    pub fn chart(&self) -> &Chart
+        ensures { result.now ≡ self.now.chart }
+    {
+        &self.chart
+    }
+
+    /// The chart of the word so far, of which nothing else is kept.
+    pub fn into_chart(self) -> Chart
+        ensures { result ≡ self.chart }
+    {
+        self.chart
+    }
+}
