@@ -19,8 +19,7 @@ use xs_gram::{GItem, Gram, Place};
 
 /// How many items the chart has, as far as a number goes: about as many marks and rows there are
 /// at most.
-pub(crate) fn room(chart: &Chart) -> usize
-{
+pub(crate) fn room(chart: &Chart) -> usize {
     let mut count: usize = 0;
     'sets: for set in 0..chart.sets() {
         count = count.saturating_add(chart.len(set) as usize);

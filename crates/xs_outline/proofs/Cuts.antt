@@ -1,9 +1,8 @@
 -- A text cut at the first of a symbol.
-use Rattle.std.proofs.Common.{◌≡◌, ◌≢◌, ◌⊎◌, inl, inr, ℕ, zero, suc, ◌+◌, ◌<◌, ◌≤◌, List, [], ◌∷◌, ◌++◌, length, take, drop, get_or, Some, add-one, refl, sym, ap, ◌∙◌, subst, arith}
+use Rattle.std.proofs.Common.{◌≡◌, ◌≢◌, ℕ, zero, suc, ◌+◌, ◌<◌, List, [], ◌∷◌, ◌++◌, length, take, drop, get_or, Some, add-one, sym, ap, ◌∙◌, subst, arith}
 use Rattle.std.specs.Prelude.{slice_get}
 use Rattle.std.proofs.lemmas.Option.{same_Some, none-some}
 use Rattle.xs_outline.specs.Lines.{Lacks}
-use Rattle.xs_outline.specs.Reading.{IsFirstLine}
 
 lacks_next : (c : ℕ) (w : List ℕ) (i x : ℕ) → i < length w → x ≡ get_or w i x → x ≢ c → Lacks c (take i w) → Lacks c (take (suc i) w)
 lacks_next c [] i x lt is other lacks = absurd (omega (arith, lt))

@@ -1,7 +1,6 @@
 -- A tree is given to the innermost node, of what the reader keeps.
-use Rattle.std.proofs.Common.{◌≡◌, false, replicate, ℕ, suc, ◌+◌, ◌<◌, ◌≤◌, List, [], ◌∷◌, ◌++◌, length, length-append, Some, None, refl, sym, ap, ◌∙◌, subst, arith}
+use Rattle.std.proofs.Common.{◌≡◌, false, replicate, ℕ, suc, ◌<◌, ◌≤◌, List, [], ◌∷◌, ◌++◌, length, length-append, Some, None, refl, sym, ap, ◌∙◌, subst, arith}
 use Rattle.std.specs.Prelude.{slice_get, IsSome}
-use Rattle.std.specs.declared.option.Option.{Option}
 use Rattle.std.proofs.lemmas.Option.{none-some, same_Some}
 use Rattle.xs_gram.specs.Common.{Common, made, no_kid}
 use Rattle.xs_tree.specs.Flat.{TreePart, Node, tree_at, tree_of, trees_of, kids_at}
@@ -9,13 +8,13 @@ use Rattle.xs_tree.proofs.Trees.{length-trees}
 use Rattle.xs_pair.specs.Grammars.{Pair}
 use Rattle.xs_outline.specs.Lines.{production}
 use Rattle.xs_outline.specs.Shapes.{slot_count, is_full, empty_cells}
-use Rattle.xs_outline.specs.Machine.{Frame, frame, frame_tree, State, within, complete, give, settle, enter}
+use Rattle.xs_outline.specs.Machine.{Frame, frame, frame_tree, within, complete, give, settle, enter}
 use Rattle.xs_outline.specs.declared.reader.Open.{Open}
 use Rattle.xs_outline.specs.declared.reader.Reader.{Reader}
 use Rattle.xs_outline.specs.Reader.{child_at, missing, cells_of, frame_of, frames_onto, frames, state, state_at, state_within, less, IsFree, IsOpen, AreOpen, AreChildren, IsKept, IsClosed}
 use Rattle.xs_outline.proofs.Fitting.{missing_none}
 use Rattle.xs_outline.proofs.Keeping.{Popped, open_pop, open_push, open_wider, frames_push, put_back, closed, all_children, children_now, cells_none, tree_kept, parts_keep, stay_open, not_full_yet, last_part, Closed}
-use Rattle.xs_class.proofs.Truth.{if_true, if_false}
+use Rattle.xs_class.proofs.Truth.{if_false}
 
 no_root : (p : Pair) (bound : ℕ) (r : Reader) → r.root ≡ None → (part : ℕ) → r.root ≡ Some part → (part < length r.parts) × (r.open.items ≡ [])
 no_root p bound r root part is = absurd (none-some part (sym root ∙ is))

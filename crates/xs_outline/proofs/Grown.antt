@@ -1,13 +1,12 @@
 -- The tree of a shape that fits is one that fits.
-use Rattle.std.proofs.Common.{◌≡◌, ◌≢◌, ◌⊎◌, inl, inr, ℕ, zero, suc, ◌+◌, ◌<◌, Bool, true, false, List, [], ◌∷◌, length, set, replicate, Some, None, ◌==◌, refl, sym, ◌∙◌, ap, subst, arith, eqb-true}
+use Rattle.std.proofs.Common.{◌≡◌, ◌≢◌, ℕ, zero, suc, ◌+◌, ◌<◌, Bool, true, false, List, [], ◌∷◌, length, set, replicate, Some, None, ◌==◌, refl, sym, ◌∙◌, ap, subst, arith, eqb-true}
 use Rattle.std.specs.Prelude.{slice_get}
 use Rattle.std.specs.declared.option.Option.{Option}
 use Rattle.std.proofs.lemmas.Bool.Decides.{nat_tests}
-use Rattle.std.proofs.lemmas.List.{length-set}
 use Rattle.std.proofs.lemmas.Option.{none-some, same_Some, slice_get_within}
 use Rattle.xs_gram.specs.declared.parts.GItem.{GItem}
 use Rattle.xs_gram.specs.Grammar.{items}
-use Rattle.xs_gram.specs.Common.{Common, word, made, Kids, no_kid, kid, Kind, of_term, of_non, kinds, lookup, TreeFits, KidsFit, KidFits}
+use Rattle.xs_gram.specs.Common.{Common, word, made, Kind, of_term, of_non, kinds, lookup, TreeFits, KidsFit, KidFits}
 use Rattle.xs_pair.specs.Grammars.{Pair}
 use Rattle.xs_outline.specs.Shapes.{Shape, leaf, node, Branches, none, branch, slot_count, kind_at, empty_cells, is_full, kids_in, meaning, filled, ShapeFits, BranchesFit, root_kind, HasSlotNames}
 use Rattle.xs_outline.specs.Outline.{IsOutline}

@@ -1,19 +1,19 @@
 -- What the reader keeps, from one line to the next.
-use Rattle.std.proofs.Common.{◌≡◌, ◌≢◌, ◌⊎◌, inl, inr, ℕ, zero, suc, ◌+◌, ◌-◌, ◌<◌, ◌≤◌, Bool, true, false, nat_eq, ◌&&◌, List, [], ◌∷◌, ◌++◌, length, get_or, set, replicate, Some, None, if◌then◌else◌, refl, sym, ap, ◌∙◌, subst, arith, append_assoc}
+use Rattle.std.proofs.Common.{◌≡◌, ◌⊎◌, inl, inr, ℕ, zero, suc, ◌+◌, ◌-◌, ◌<◌, ◌≤◌, Bool, true, false, nat_eq, ◌&&◌, List, [], ◌∷◌, ◌++◌, length, set, replicate, Some, None, refl, sym, ap, ◌∙◌, subst, arith}
 use Rattle.std.specs.Prelude.{slice_get}
 use Rattle.std.specs.declared.option.Option.{Option}
 use Rattle.std.proofs.lemmas.Bool.Decides.{nat_tests}
-use Rattle.std.proofs.lemmas.Option.{none-some, same_Some, slice_get_within}
-use Rattle.xs_gram.specs.Common.{Common, word, made, Kids, no_kid, kid, child_of}
-use Rattle.xs_tree.specs.Flat.{TreePart, tree_at, trees_of, kids_at}
+use Rattle.std.proofs.lemmas.Option.{same_Some, slice_get_within}
+use Rattle.xs_gram.specs.Common.{Common, made, kid, child_of}
+use Rattle.xs_tree.specs.Flat.{TreePart, tree_at, kids_at}
 use Rattle.xs_pair.specs.Grammars.{Pair}
-use Rattle.xs_outline.specs.Shapes.{slot_count, is_full, kids_in, empty_cells}
+use Rattle.xs_outline.specs.Shapes.{slot_count, is_full, kids_in}
 use Rattle.xs_class.proofs.Truth.{if_true, if_false}
-use Rattle.xs_outline.specs.Machine.{Frame, frame, frame_tree, State, within, give}
+use Rattle.xs_outline.specs.Machine.{Frame, frame, frame_tree, within, give}
 use Rattle.xs_outline.specs.declared.reader.Open.{Open}
 use Rattle.xs_outline.specs.Reader.{tree_in, cells_from, missing, cells_of, frame_of, frames_onto, less, IsFree, IsOpen, AreOpen, AreChildren}
 use Rattle.xs_outline.proofs.Viable.{none_missing}
-use Rattle.xs_outline.proofs.Fitting.{missing_set, missing_none}
+use Rattle.xs_outline.proofs.Fitting.{missing_set}
 
 pub pair_apart : (node n slot s : ℕ) → (n ≡ node → s ≡ slot → ⊥) → (nat_eq node n && nat_eq slot s) ≡ false
 pair_apart node n slot s apart = by (nat_eq node n) (nat_eq slot s) refl refl

@@ -1,10 +1,9 @@
 -- Numbers are read exactly, where they are below 2^64.
-use Rattle.std.proofs.Common.{◌≡◌, ◌≢◌, ℕ, suc, ◌+◌, ◌*◌, ◌^◌, ◌<◌, ◌≤◌, List, [], ◌∷◌, length, Some, None, true, false, Bool, ◌&&◌, if◌then◌else◌, ◌==◌, nat_lt, refl, sym, ap, ◌∙◌, subst, arith, eqb-true}
-use Rattle.std.specs.Prelude.{get_or}
+use Rattle.std.proofs.Common.{◌≡◌, ◌≢◌, ℕ, ◌+◌, ◌*◌, ◌^◌, ◌<◌, ◌≤◌, List, [], ◌∷◌, length, Some, None, true, false, Bool, ◌&&◌, if◌then◌else◌, ◌==◌, nat_lt, refl, sym, ap, ◌∙◌, subst, arith, eqb-true}
 use Rattle.std.specs.declared.option.Option.{Option}
 use Rattle.std.specs.Char.{digit_value}
-use Rattle.std.specs.Str.Parse.{AllDigits, digits_value, digits_value_after}
-use Rattle.xs_class.proofs.Truth.{and_true, both_true, lt_true, lt_is}
+use Rattle.std.specs.Str.Parse.{AllDigits, digits_value_after}
+use Rattle.xs_class.proofs.Truth.{and_true, lt_true, lt_is}
 use Rattle.xs_class.proofs.Lists.{some_inj}
 use Rattle.xs_outline.specs.Lines.{IsNumeral}
 use Rattle.xs_outline.specs.Reading.{number_after, numeral_at}

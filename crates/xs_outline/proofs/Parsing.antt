@@ -1,10 +1,10 @@
 -- A line is read exactly, where its numbers are below 2^64.
-use Rattle.std.proofs.Common.{◌≡◌, ◌≢◌, ℕ, suc, ◌+◌, ◌-◌, ◌^◌, ◌<◌, List, [], ◌∷◌, ◌++◌, Some, None, refl, sym, ap, ◌∙◌, subst, arith}
+use Rattle.std.proofs.Common.{◌≡◌, ℕ, suc, List, [], ◌∷◌, ◌++◌, Some, None, refl, sym, ap, ◌∙◌, subst, arith}
 use Rattle.std.specs.declared.option.Option.{Option}
 use Rattle.xs_class.proofs.Lists.{some_inj}
 use Rattle.xs_outline.specs.Lines.{Entry, production, leaf_word, Line, line, Lacks, IsNumeral, SpellsEntry, SpellsLine}
 use Rattle.xs_outline.specs.Reading.{numeral_at, NoQuoted}
-use Rattle.xs_outline.specs.Parsed.{IsLowEntry, NoEntry, NoLine}
+use Rattle.xs_outline.specs.Parsed.{NoEntry, NoLine}
 use Rattle.xs_outline.proofs.Spelling.{digits_lack, same_cut}
 use Rattle.xs_outline.proofs.Numerals.{numeral_found, numeral_read}
 

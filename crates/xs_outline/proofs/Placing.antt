@@ -1,8 +1,7 @@
 -- Where a line leads.
-use Rattle.std.proofs.Common.{◌≡◌, ◌≢◌, ℕ, zero, suc, ◌+◌, ◌<◌, ◌≤◌, true, false, List, [], ◌∷◌, ◌++◌, length, length-append, get_or, Some, None, refl, sym, ap, ◌∙◌, subst, arith, Bool, ◌==◌, if◌then◌else◌}
-use Rattle.std.specs.Prelude.{slice_get, bytes_eq, IsSome}
+use Rattle.std.proofs.Common.{◌≡◌, ℕ, suc, ◌+◌, ◌<◌, true, false, List, [], ◌∷◌, ◌++◌, length, length-append, get_or, Some, None, refl, sym, ap, ◌∙◌, subst, arith, Bool, ◌==◌, if◌then◌else◌}
+use Rattle.std.specs.Prelude.{slice_get}
 use Rattle.std.specs.declared.option.Option.{Option}
-use Rattle.std.specs.Cmp.Lexicographic.{bytes_decides}
 use Rattle.std.proofs.lemmas.Option.{none-some, same_Some, slice_get_within, slice_get-get_or, get_or_from_slice_get}
 use Rattle.xs_class.specs.Ordered.{place_of}
 use Rattle.xs_gram.specs.declared.parts.GItem.{GItem}
@@ -18,11 +17,11 @@ use Rattle.xs_outline.specs.declared.slot_table.Kind.{Kind as Known}
 use Rattle.xs_outline.specs.declared.slot_table.SlotTable.{SlotTable}
 use Rattle.xs_outline.specs.declared.reader.Open.{Open}
 use Rattle.xs_outline.specs.declared.reader.Reader.{Reader}
-use Rattle.xs_outline.specs.Lines.{Entry, production, leaf_word, line}
-use Rattle.xs_outline.specs.Shapes.{names_of, slot_count, kind_at, root_name, root_kind}
-use Rattle.xs_outline.specs.Machine.{Frame, State, at_start, within, complete, enter, EntryFits, IsWelcome, MayCome}
-use Rattle.xs_outline.specs.Tables.{kind_meant, known, kind_in, name_list, IsTable, AreTables}
-use Rattle.xs_outline.specs.Reader.{child_at, tree_in, cells_of, frame_of, frames_onto, frames, IsThere, state, state_at, state_within, AreOpen, IsKept, IsPlaceFor, NoPlaceFor}
+use Rattle.xs_outline.specs.Lines.{Entry, line}
+use Rattle.xs_outline.specs.Shapes.{names_of, slot_count, kind_at, root_name}
+use Rattle.xs_outline.specs.Machine.{Frame, at_start, within, enter, EntryFits, IsWelcome, MayCome}
+use Rattle.xs_outline.specs.Tables.{known, name_list, IsTable}
+use Rattle.xs_outline.specs.Reader.{child_at, tree_in, frame_of, frames_onto, frames, IsThere, state, state_at, state_within, AreOpen, IsKept, IsPlaceFor, NoPlaceFor}
 use Rattle.xs_outline.proofs.Keeping.{frames_push, open_pop, cell_at}
 
 pub frames_long : (p : Pair) (trees : List Common) (look : ℕ → ℕ → Option ℕ) (fs : List Frame) (os : List Open) → length (frames_onto p trees look fs os) ≡ length fs + length os

@@ -1,5 +1,5 @@
 -- A line that is read, by what the reader keeps.
-use Rattle.std.proofs.Common.{◌≡◌, ℕ, suc, ◌+◌, ◌^◌, ◌<◌, ◌≤◌, Bool, true, false, List, [], ◌∷◌, length, Some, None, refl, sym, ap, ◌∙◌, subst, arith}
+use Rattle.std.proofs.Common.{◌≡◌, ℕ, suc, ◌+◌, ◌^◌, ◌<◌, ◌≤◌, Bool, true, false, List, [], ◌∷◌, length, Some, None, sym, ap, ◌∙◌, subst, arith}
 use Rattle.std.specs.Prelude.{MatchBool}
 use Rattle.std.specs.declared.option.Option.{Option}
 use Rattle.std.proofs.lemmas.Option.{none-some}
@@ -13,7 +13,7 @@ use Rattle.xs_outline.specs.Lines.{Entry, production, leaf_word, Line, SpellsLin
 use Rattle.xs_outline.specs.Shapes.{kind_at, root_kind}
 use Rattle.xs_outline.specs.Machine.{Frame, at_start, within, complete, next, EntryFits, MayCome}
 use Rattle.xs_outline.specs.Parsed.{IsLowEntry, NoLine}
-use Rattle.xs_outline.specs.Reader.{child_at, frame_of, frames_onto, frames, state, state_at, state_within, AreOpen, IsKept, IsNew, Goes, IsStuck}
+use Rattle.xs_outline.specs.Reader.{child_at, frame_of, frames, state, state_at, state_within, AreOpen, IsKept, IsNew, Goes, IsStuck}
 use Rattle.xs_outline.proofs.Spelling.{same_line}
 use Rattle.xs_outline.proofs.Placing.{root_state, frames_long}
 

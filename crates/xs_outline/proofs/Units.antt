@@ -1,14 +1,13 @@
 -- A unit of a quoted string is read exactly: what it spells is read, and what is read it spells.
-use Rattle.std.proofs.Common.{◌≡◌, ℕ, suc, ◌+◌, ◌*◌, ◌<◌, ◌≤◌, List, [], ◌∷◌, ◌++◌, map, length, append_assoc, add-zero, Some, None, true, false, Bool, not, ◌&&◌, ◌||◌, if◌then◌else◌, ◌==◌, nat_lt, nat_le, refl, sym, ap, ◌∙◌, subst, arith, eqb-true}
+use Rattle.std.proofs.Common.{◌≡◌, ℕ, suc, ◌+◌, ◌*◌, ◌<◌, ◌≤◌, List, [], ◌∷◌, ◌++◌, map, length, append_assoc, add-zero, Some, None, true, false, Bool, ◌&&◌, ◌||◌, if◌then◌else◌, ◌==◌, nat_lt, nat_le, refl, sym, ap, ◌∙◌, subst, arith, eqb-true}
 use Rattle.std.specs.declared.option.Option.{Option}
 use Rattle.std.specs.List.{list_all}
 use Rattle.std.specs.Char.{digit_value}
 use Rattle.std.proofs.lemmas.List.{map-append}
 use Rattle.xs_class.proofs.Truth.{and_true, both_true, not_true, or_false, lt_true, le_is, le_true, lt_is, no_other}
-use Rattle.xs_class.proofs.Lists.{some_inj, some_pair}
+use Rattle.xs_class.proofs.Lists.{some_pair}
 use Rattle.xs_lex.specs.Units.{QuotedUnit, plain, escaped, coded, number, is_hex, is_scalar, is_escape, escape_char, is_quoted_unit, spelt_quoted_unit, spelt_quoted, meaning}
 use Rattle.xs_lex.specs.Spelling.{IsQuoted}
-use Rattle.xs_lex.proofs.QuotedLaws.{unit_front}
 use Rattle.xs_outline.specs.Reading.{digits_at, coded_at, escaped_at, unit_at, ends_at, NoQuoted}
 use Rattle.xs_outline.proofs.Spelling.{first_same}
 

@@ -1,18 +1,17 @@
 -- Lines that were read one by one: where they lead, and from which line on there is no outline.
-use Rattle.std.proofs.Common.{◌≡◌, ◌≢◌, ◌⊎◌, inl, inr, ℕ, zero, suc, ◌+◌, ◌<◌, ◌≤◌, Bool, true, false, List, [], ◌∷◌, ◌++◌, length, length-append, take, drop, refl, sym, ap, ◌∙◌, subst, arith, append_assoc, append-nil, ◌==◌, eqb-true, if◌then◌else◌}
+use Rattle.std.proofs.Common.{◌≡◌, ◌≢◌, ◌⊎◌, inl, inr, ℕ, zero, suc, ◌<◌, ◌≤◌, Bool, true, false, List, [], ◌∷◌, ◌++◌, length, length-append, take, refl, sym, ap, ◌∙◌, subst, arith, append_assoc, append-nil, ◌==◌, eqb-true}
 use Rattle.std.proofs.lemmas.Bool.{cases_lt}
 use Rattle.std.proofs.lemmas.List.{take_all}
-use Rattle.xs_class.proofs.Truth.{if_true, if_false}
+use Rattle.xs_class.proofs.Truth.{if_false}
 use Rattle.xs_gram.specs.Common.{Common}
 use Rattle.xs_gram.specs.Sound.{IsSound}
 use Rattle.xs_sheet.specs.declared.sheet.Sheet.{Sheet}
 use Rattle.xs_pair.specs.Grammars.{Pair, IsPairOf}
 use Rattle.xs_outline.specs.Lines.{Line, Lacks, SpellsLine, AreSpelt, text_lines, with_first}
 use Rattle.xs_outline.specs.Outline.{AreLinesOf, IsOutline, BeginsOutline, IsBadAt}
-use Rattle.xs_outline.specs.Machine.{State, at_start, within, complete, next, MayCome, after, MayAllCome, Passes}
+use Rattle.xs_outline.specs.Machine.{State, at_start, complete, next, MayCome, after, MayAllCome}
 use Rattle.xs_outline.specs.Reading.{IsFirstLine}
 use Rattle.xs_outline.specs.Reader.{Goes, IsStuck, IsRead}
-use Rattle.xs_outline.proofs.Machine.{complete_same}
 use Rattle.xs_outline.proofs.LawProofs.{leads_lem, begins_lem}
 use Rattle.xs_outline.proofs.Spelling.{same_line, same_lines}
 

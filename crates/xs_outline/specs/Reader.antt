@@ -1,5 +1,5 @@
 -- What the reader of lines keeps, and the state that it stands for.
-use Rattle.std.specs.Prelude.{◌≡◌, ◌⊎◌, ℕ, zero, suc, ◌<◌, ◌≤◌, ◌+◌, ◌-◌, List, [], ◌∷◌, ◌++◌, length, None, Some, nat_eq, ◌&&◌, slice_get}
+use Rattle.std.specs.Prelude.{◌≡◌, ℕ, zero, suc, ◌<◌, ◌≤◌, ◌+◌, ◌-◌, List, [], ◌∷◌, ◌++◌, length, None, Some, nat_eq, ◌&&◌, slice_get}
 use Rattle.std.specs.declared.option.Option.{Option}
 use Rattle.std.specs.HashMap.{HashMap, get}
 use Rattle.xs_gram.specs.Common.{Common, Kind, of_term, of_non}

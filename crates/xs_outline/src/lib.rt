@@ -6,8 +6,10 @@
 //! to make documents by program without knowing either side's spelling.
 //!
 //! The definitions stand in specs/: Lines (lines and how they are spelt), Shapes (trees as outlines
-//! have them), Outline (what an outline is of), Order and Walk (how a tree is written), and Machine (how
-//! lines are read one by one).
+//! have them), Outline (what an outline is of, and where it is none), Order and Walk (how a tree is
+//! written), Machine (how lines lead from one state to another), Reading and Parsed (how the parts of
+//! a line are read), Tables (what is found of a slot by its name), and Reader (what is kept while
+//! lines are read).
 #![tactic(auto)]
 
 mod children;

@@ -73,12 +73,7 @@ pub fn translate(
 /// `Foreign` is answered as by `translate`. A document without ambiguity takes time linear in its
 /// chart.
 #[tactic(auto, using(crate::proofs::Sides::refusal_of))]
-pub fn forest_of(
-    alloc: Global,
-    two: &Two,
-    side: Side,
-    doc: &Word,
-) -> Result<Grown, TurnFault>
+pub fn forest_of(alloc: Global, two: &Two, side: Side, doc: &Word) -> Result<Grown, TurnFault>
     requires text { IsSound two.now.text }
     requires xml { IsSound two.now.xml }
     requires short { length doc.now < 4294967295 }

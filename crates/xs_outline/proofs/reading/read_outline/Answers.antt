@@ -1,5 +1,5 @@
-use Rattle.std.proofs.Common.{◌≡◌, ◌+◌, ◌∙◌, ℕ, List, [], true, false, suc, length, sym, subst, add-one, arith, rules}
-use Rattle.xs_gram.specs.Common.{Common, TreeFits}
+use Rattle.std.proofs.Common.{◌≡◌, ◌+◌, ℕ, List, [], true, false, sym, subst, add-one, rules}
+use Rattle.xs_gram.specs.Common.{Common}
 use Rattle.xs_tree.specs.Flat.{common_of}
 use Rattle.xs_regex.proofs.Flags.{empty_test}
 use Rattle.xs_outline.specs.Outline.{IsOutline}

@@ -1,7 +1,6 @@
-use Rattle.std.proofs.Common.{◌≡◌, ◌∙◌, Some, sym, ap, subst, true, List, ℕ}
+use Rattle.std.proofs.Common.{◌≡◌, ◌∙◌, Some, sym, ap, List, ℕ}
 use Rattle.std.specs.Prelude.{slice_get}
 use Rattle.std.specs.Cmp.Lexicographic.{bytes_decides}
-use Rattle.xs_class.specs.Ordered.{place_of}
 use Rattle.xs_outline.specs.Shapes.{names_of}
 use Rattle.xs_outline.proofs.SlotTables.{name_inserted}
 use Rattle.xs_outline.proofs.slot_table.names_in.Goals as goal

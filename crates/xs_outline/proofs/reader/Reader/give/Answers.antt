@@ -1,9 +1,9 @@
-use Rattle.std.proofs.Common.{◌≡◌, ◌<◌, ◌∙◌, true, false, length, ap, arith, rules, subst, sym}
+use Rattle.std.proofs.Common.{◌≡◌, ◌<◌, ◌∙◌, true, false, length, ap, arith, rules, subst}
 use Rattle.std.specs.Prelude.{vec_len}
 use Rattle.xs_outline.specs.declared.slot_table.SlotTable.{SlotTable}
 use Rattle.xs_outline.specs.Shapes.{slot_count}
 use Rattle.xs_outline.proofs.Placing.{row_at}
-use Rattle.xs_outline.proofs.Giving.{filled_kept, filled_state, filled_all, filled_below, filled_rule, closed_root, closed_part, closed_free, closed_same, closed_kept, given_state, given_kept}
+use Rattle.xs_outline.proofs.Giving.{filled_kept, filled_state, filled_all, filled_below, filled_rule, closed_root, closed_part, closed_free, closed_same, closed_kept}
 use Rattle.xs_outline.proofs.reader.Reader.give.Goals as goal
 
 pub returns-then-not-branch-clause-state : goal.returns-then-not-branch-clause-state
