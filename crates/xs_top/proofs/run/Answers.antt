@@ -6,7 +6,7 @@ use Rattle.xs_top.specs.Meaning.{ask_meant}
 use Rattle.xs_top.specs.Devices.{shelves_of, input_of, output_of, run_of}
 use Rattle.xs_top.specs.Ran.{no_command}
 use Rattle.xs_top.proofs.Going.{usage_told, shipped_told, unpaired_told, undone_told, answered_told}
-use Rattle.xs_top.proofs.Completing.{complete_if}
+use Rattle.xs_top.proofs.Completing.{complete, complete_if}
 use Rattle.xs_top.proofs.run.Goals as goal
 
 pub returns-in-None-clause-told : goal.returns-in-None-clause-told
@@ -32,6 +32,9 @@ returns-in-Err-Refused-clause-complete g c = complete_if c.one_word.ensures c.we
 pub returns-in-Ok-answer_of-clause-told : goal.returns-in-Ok-answer_of-clause-told
 returns-in-Ok-answer_of-clause-told g c =
     answered_told _ (sheet_meant c.in-Some-By.sheet) c.in-Some-By.job c.in-Ok.two c.in-Ok-answer_of.answer c.as_slice.result.now c.written-in-Ok-answer_of.result (sym c.asked.ensures.ask ∙ ap (λ o. option_map ask_meant o) c.in-Some-By.is ∙ ap (λ a. Some (ask_meant a)) c.in-Some-By.field-0-is) c.in-Ok.ensures.pair c.in-Ok-answer_of.ensures.answer c.as_slice.ensures c.written-in-Ok-answer_of.ensures
+
+pub returns-in-Ok-answer_of-clause-complete : goal.returns-in-Ok-answer_of-clause-complete
+returns-in-Ok-answer_of-clause-complete g c = complete c.one_word.ensures c.weights_are_exact.ensures.rule c.bytes_agree.ensures.pairs c.bytes_agree.ensures.sheets _ c.written-in-Ok-answer_of.result (returns-in-Ok-answer_of-clause-told g c)
 
 pub returns-in-Err-Refused-answer_of-clause-told : goal.returns-in-Err-Refused-answer_of-clause-told
 returns-in-Err-Refused-answer_of-clause-told g c =
