@@ -30,6 +30,7 @@ fn are_same(a: &[Sym], b: &[Sym]) -> bool
 }
 
 /// Whether the word stands in the document from one place up to another.
+#[inline(always)]
 fn is_word(doc: &[Sym], at: u32, to: u32, word: &[Sym]) -> bool
     ensures { IsTrue result → IsWordPart (λ w. w ≡ word.now) doc.now at to to }
 {
@@ -100,6 +101,7 @@ fn start_of(starts: &[Option<u32>], number: u32) -> Option<u32>
 
 /// The end of a child of node v: the node before it that is of a rule of the nonterminal and begins
 /// at the place.
+#[inline(always)]
 fn child_end(
     g: &Gram,
     doc: &[Sym],
@@ -165,6 +167,7 @@ fn is_skip(
 
 /// The place where an item of node v ends that begins at a place and has this part, or None where
 /// its part is not right.
+#[inline(always)]
 pub fn item_end(
     validator: &Validator,
     g: &Gram,

@@ -38,7 +38,12 @@ fn append(symbols: &mut Vec<Sym>, piece: &[Sym])
     ensures items { symbols.new.items ≡ symbols.old.items ++ piece.now }
     ensures room { vec_capacity symbols.old ≤ vec_capacity symbols.new }
 {
-    if piece.len() <= SHORT {
+    if let [only] = piece {
+        symbols.push_reserved(*only);
+    } else if let [first, second] = piece {
+        symbols.push_reserved(*first);
+        symbols.push_reserved(*second);
+    } else if piece.len() <= SHORT {
         append_each(symbols, piece);
     } else {
         let Ok(()) = symbols.extend_from_slice(piece) else {
