@@ -25,9 +25,6 @@ pub const FAIL: u32 = 2 << 3;
 /// From this payload on an action stands for a list of actions.
 const FIRST_FORK: u32 = 3;
 
-/// The length in a reduction that says that the production's cell has it.
-pub const LONG: u32 = 63;
-
 /// A goto of this bit is a production of one item that ends there.
 pub const CHAIN: u32 = 1 << 31;
 
@@ -37,8 +34,8 @@ pub fn to_row(row: u32, kind: u32) -> u32 {
 }
 
 /// The action that ends a production.
-pub fn to_end(production: u32, length: u32, kind: u32) -> u32 {
-    (production << 9) | (length.min(LONG) << 3) | kind
+pub fn to_end(production: u32, kind: u32) -> u32 {
+    (production << 3) | kind
 }
 
 /// The action that stands for a list of actions.

@@ -240,7 +240,7 @@ impl<'a> Automaton<'a> {
     fn action(&mut self, lr: u32, choice: Choice, positions: &[u32]) -> Result<u32, Memory> {
         match choice {
             Choice::Accept => Ok(ACCEPT),
-            Choice::Reduce(production) => Ok(self.end(production, REDUCE)),
+            Choice::Reduce(production) => Ok(to_end(production, REDUCE)),
             Choice::Token(token) => self.after_token(lr, token, TOKEN),
             Choice::Shift => match self.only_token(positions) {
                 Some(token) => self.after_token(lr, token, TOKEN | SHIFT),
@@ -249,21 +249,12 @@ impl<'a> Automaton<'a> {
         }
     }
 
-    /// The action that ends a production.
-    fn end(&self, production: u32, kind: u32) -> u32 {
-        to_end(
-            production,
-            self.grammar.rules.production(production).length,
-            kind,
-        )
-    }
-
     /// The action that ends a token, and the production that it is the last item of, if nothing else
     /// may come.
     fn after_token(&mut self, lr: u32, token: u32, kind: u32) -> Result<u32, Memory> {
         let state = self.after(lr, token)?;
         match self.states.only_end(&self.grammar, state) {
-            Some(production) => Ok(self.end(production, kind | REDUCE)),
+            Some(production) => Ok(to_end(production, kind | REDUCE)),
             None => Ok(to_row(self.states.row(state), kind)),
         }
     }

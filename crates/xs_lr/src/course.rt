@@ -7,15 +7,13 @@ pub struct Entry {
     pub part: u32,
 }
 
-/// How far a document is read: the row of the state, the place of the document, and the numbers of
-/// entries, nodes and parts.
+/// How far a document is read: the row of the state, the place of the document, and the number of
+/// entries.
 #[derive(Clone, Copy)]
 pub struct Course {
     pub row: u32,
     pub at: u32,
     pub depth: u32,
-    pub nodes: u32,
-    pub parts: u32,
 }
 
 /// Why reading stopped, with nothing done of the action at hand.

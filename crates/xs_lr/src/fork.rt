@@ -171,7 +171,7 @@ impl Fork {
         vertex: u32,
         action: u32,
     ) -> Result<(), Memory> {
-        let cell = automaton.states.production_cell(action >> 9);
+        let cell = automaton.states.production_cell(action >> 3);
         let token = (action & TOKEN) >> 1;
         let length = (cell & MOST_ITEMS).saturating_sub(token);
         self.graph.find(input.stack, vertex, length)?;
@@ -200,7 +200,7 @@ impl Fork {
         let below = self.graph.entry(input.stack, bottom);
         let token = (action & TOKEN) >> 1;
         let reduction = Reduction {
-            production: action >> 9,
+            production: action >> 3,
             from: below.end,
             to: self.at,
             parts: capped(self.graph.parts.len()),
@@ -210,7 +210,7 @@ impl Fork {
         if token == 1 {
             self.graph.parts.push(self.at)?;
         }
-        self.go_to(automaton, bottom, below, part, action >> 9)
+        self.go_to(automaton, bottom, below, part, action >> 3)
     }
 
     /// Goes to the state after a production's nonterminal, ending productions of one item on the way.

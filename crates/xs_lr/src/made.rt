@@ -68,7 +68,7 @@ impl Made {
             let wanted = *wanted;
             let reduction = reduction_at(graph, wanted);
             if let Some(number) = self.numbers.get_mut(wanted as usize) {
-                *number = tree.count;
+                *number = tree.count();
             }
             tree.put_node(reduction.production, reduction.from, reduction.to)?;
             self.put_parts(tree, parts_of(graph, reduction))?;

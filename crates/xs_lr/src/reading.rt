@@ -48,8 +48,6 @@ impl<'d> Reading<'d> {
                 row,
                 at: 0,
                 depth: 1,
-                nodes: 0,
-                parts: 0,
             },
             most: most * 16,
             work: most * 256,
@@ -60,17 +58,15 @@ impl<'d> Reading<'d> {
     /// Reads to the end of the document: whether it is of the language.
     pub fn read(&mut self, automaton: &mut Automaton<'_>) -> Result<bool, Memory> {
         'stops: for _ in 0..MOST_STOPS {
-            let (course, stop) = read_on(
+            let stop = read_on(
                 &automaton.states.table,
                 self.doc,
                 &mut self.stack,
                 &mut self.tree.nodes,
                 &mut self.tree.parts,
                 self.most.saturating_mul(4),
-                self.course,
+                &mut self.course,
             );
-            self.course = course;
-            self.tree.cut(course.nodes, course.parts);
             match self.see_to(automaton, stop)? {
                 Outcome::GoOn => {}
                 Outcome::Read => return Ok(true),
@@ -156,8 +152,6 @@ impl<'d> Reading<'d> {
         made.close(&fork.graph)?;
         made.put(&fork.graph, &mut self.tree)?;
         self.course.at = fork.at;
-        self.course.nodes = self.tree.count;
-        self.course.parts = self.tree.part_count;
         self.course.depth = fork.bottom.wrapping_add(1);
         'way: for entry in fork.way.iter().rev() {
             self.put_entry(Entry {

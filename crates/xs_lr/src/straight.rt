@@ -1,11 +1,13 @@
-use crate::action::{ACCEPT, CHAIN, FAIL, KIND, LONG, LOOK, REDUCE, SHIFT, TOKEN, UNKNOWN, to_row};
+ghost use Rattle.std.specs.Prelude.{◌≡◌, ◌+◌, ◌≤◌, length, vec_len, vec_capacity};
+
+use crate::action::{ACCEPT, CHAIN, FAIL, KIND, LOOK, REDUCE, SHIFT, TOKEN, UNKNOWN, to_row};
 use crate::automaton::MOST_LOOKAHEAD;
 use crate::course::{Course, Entry, Stop};
 use crate::grammar::MOST_ITEMS;
 use xs_parse_table::Node;
 
-/// Reads on while there is one action, for this many steps at most. Where it stops for want of room,
-/// nodes and parts beyond the course may stand there, which are none.
+/// Reads on while there is one action, for this many steps at most, and gives why reading stopped.
+/// Nodes and parts are then those of what is read.
 pub fn read_on(
     table: &[u32],
     doc: &[u16],
@@ -13,21 +15,25 @@ pub fn read_on(
     nodes: &mut Vec<Node>,
     parts: &mut Vec<u32>,
     steps: usize,
-    from: Course,
-) -> (Course, Stop) {
-    let mut course = from;
+    course: &mut Course,
+) -> Stop {
+    let mut now = *course;
     'steps: for _ in 0..steps {
-        let action = action_at(table, doc, course.row, course.at);
-        if action == to_row(course.row, SHIFT) {
-            course.at = course.at.wrapping_add(1);
+        let action = action_at(table, doc, now.row, now.at);
+        if action == to_row(now.row, SHIFT) {
+            now.at = now.at.wrapping_add(1);
             continue;
         }
-        match act(table, stack, nodes, parts, action, course) {
-            Ok(next) => course = next,
-            Err(stop) => return (course, stop),
+        match act(table, stack, nodes, parts, action, now) {
+            Ok(next) => now = next,
+            Err(stop) => {
+                *course = now;
+                return stop;
+            }
         }
     }
-    (course, Stop::Steps)
+    *course = now;
+    Stop::Steps
 }
 
 /// The action of a row at a place of the document.
@@ -87,7 +93,7 @@ fn act(
         Ok(Course {
             row: action >> 3,
             at: course.at.wrapping_add(1),
-            ..course
+            depth: course.depth,
         })
     } else {
         Err(stop_of(action))
@@ -109,19 +115,28 @@ fn stop_of(action: u32) -> Stop {
 fn end_token(stack: &mut [Entry], action: u32, course: Course) -> Result<Course, Stop> {
     let row = action >> 3;
     let end = course.at.wrapping_add(action & SHIFT);
-    let Some(entry) = stack.get_mut(course.depth as usize) else {
+    put_entry(
+        stack,
+        course.depth,
+        Entry {
+            row,
+            end,
+            part: end,
+        },
+    )
+}
+
+/// Puts an entry at a place of the stack: what is read ends there.
+#[inline(always)]
+fn put_entry(stack: &mut [Entry], place: u32, entry: Entry) -> Result<Course, Stop> {
+    let Some(there) = stack.get_mut(place as usize) else {
         return Err(Stop::Entries);
     };
-    *entry = Entry {
-        row,
-        end,
-        part: end,
-    };
+    *there = entry;
     Ok(Course {
-        row,
-        at: end,
-        depth: course.depth.wrapping_add(1),
-        ..course
+        row: entry.row,
+        at: entry.end,
+        depth: place.wrapping_add(1),
     })
 }
 
@@ -135,40 +150,37 @@ fn reduce(
     action: u32,
     course: Course,
 ) -> Result<Course, Stop> {
-    let production = action >> 9;
-    let token = (action & TOKEN) >> 1;
+    let production = action >> 3;
     let Some(cell) = table.get(production as usize) else {
         return Err(Stop::Fail);
     };
-    let down = course
-        .depth
-        .wrapping_add(token)
-        .wrapping_sub(length_of(action, *cell));
-    let Some(below) = stack.get((down as usize).wrapping_sub(1)) else {
+    let token = (action & TOKEN) >> 1;
+    let end = course.at.wrapping_add(action & SHIFT);
+    let above = course.depth.wrapping_add(token);
+    let down = above.wrapping_sub(*cell & MOST_ITEMS);
+    let below = (down as usize).wrapping_sub(1);
+    let Some([below, entries @ ..]) = stack.get(below..course.depth as usize) else {
         return Err(Stop::Fail);
     };
-    let below = *below;
-    let end = course.at.wrapping_add(action & SHIFT);
-    let made = Course {
-        row: goto(table, below.row, *cell >> 10)?,
-        at: end,
-        depth: down,
-        nodes: push_node(nodes, course, production, below.end, end)?,
-        parts: copy_parts(stack, parts, down, course, token, end)?,
-    };
-    let last = chain(table, nodes, parts, below, made)?;
-    push_reduced(stack, last)
-}
-
-/// The number of items of the production that an action ends.
-#[inline(always)]
-fn length_of(action: u32, cell: u32) -> u32 {
-    let length = (action >> 3) & LONG;
-    if length == LONG {
-        cell & MOST_ITEMS
-    } else {
-        length
+    if stack.len() <= down as usize {
+        return Err(Stop::Entries);
     }
+    let below = *below;
+    let row = goto(table, below.row, *cell >> 10)?;
+    let node = Node {
+        production,
+        parts: number_of(parts.len()),
+        from: below.end,
+        to: end,
+    };
+    let part = push_node(nodes, parts, node, entries, token)?;
+    let entry = Entry { row, end, part };
+    let last = if row & CHAIN == 0 {
+        entry
+    } else {
+        chain(table, nodes, parts, below, entry, node.parts)?
+    };
+    put_entry(stack, down, last)
 }
 
 /// Where a goto cell leads.
@@ -181,79 +193,81 @@ fn goto(table: &[u32], row: u32, cell: u32) -> Result<u32, Stop> {
     }
 }
 
-/// Puts a node next where there is room, and gives the number of nodes then.
+/// The number of the element after a list of this length, which here fits 32 bits.
+#[inline(always)]
+fn number_of(length: usize) -> u32 {
+    (length % (1 << 32)) as u32
+}
+
+/// Puts a node next with the parts of entries, and that of a token that ends, where there is room
+/// for all of it, and gives the node's number. Most nodes have few entries, so the first two stand
+/// apart from the loop.
 #[inline(always)]
 fn push_node(
     nodes: &mut Vec<Node>,
-    course: Course,
-    production: u32,
-    from: u32,
-    to: u32,
+    parts: &mut Vec<u32>,
+    node: Node,
+    entries: &[Entry],
+    token: u32,
 ) -> Result<u32, Stop> {
     if nodes.len() >= nodes.capacity() {
         return Err(Stop::Nodes);
     }
-    nodes.push_reserved(Node {
-        production,
-        parts: course.parts,
-        from,
-        to,
-    });
-    Ok(course.nodes.wrapping_add(1))
-}
-
-/// Puts the parts of the entries from one on next, and that of a token that ends, and gives the
-/// number of parts then.
-#[inline(always)]
-fn copy_parts(
-    stack: &[Entry],
-    parts: &mut Vec<u32>,
-    down: u32,
-    course: Course,
-    token: u32,
-    end: u32,
-) -> Result<u32, Stop> {
-    let mut next = course.parts;
-    'entries: for place in down..course.depth {
-        let Some(entry) = stack.get(place as usize) else {
-            return Err(Stop::Fail);
-        };
-        next = push_part(parts, next, entry.part)?;
-    }
-    if token == 0 {
-        Ok(next)
-    } else {
-        push_part(parts, next, end)
-    }
-}
-
-/// Puts a part next, at a place, where there is room, and gives the next place.
-#[inline(always)]
-fn push_part(parts: &mut Vec<u32>, place: u32, part: u32) -> Result<u32, Stop> {
-    if parts.len() >= parts.capacity() {
+    if parts.capacity() - parts.len() <= entries.len() {
         return Err(Stop::Parts);
     }
-    parts.push_reserved(part);
-    Ok(place.wrapping_add(1))
+    let number = number_of(nodes.len());
+    nodes.push_reserved(node);
+    if let [first, others @ ..] = entries {
+        parts.push_reserved(first.part);
+        if let [second, others @ ..] = others {
+            parts.push_reserved(second.part);
+            push_parts(parts, others);
+        }
+    }
+    if token != 0 {
+        parts.push_reserved(node.to);
+    }
+    Ok(number)
 }
 
-/// Ends the productions of one item that follow from a node, as long as a goto is such a production.
+/// Puts the parts of entries next, for which there is room.
 #[inline(always)]
+fn push_parts(parts: &mut Vec<u32>, entries: &[Entry])
+    requires { vec_len parts.old + length entries.now ≤ vec_capacity parts.old }
+    ensures length { vec_len parts.new ≡ vec_len parts.old + length entries.now }
+    ensures room { vec_capacity parts.old ≤ vec_capacity parts.new }
+{
+    'entries: for entry in entries {
+        parts.push_reserved(entry.part);
+    }
+}
+
+/// Ends the productions of one item that follow from the last node, as long as a goto is such a
+/// production; where it stops, that node goes too, and its parts from one on.
 fn chain(
     table: &[u32],
     nodes: &mut Vec<Node>,
     parts: &mut Vec<u32>,
     below: Entry,
-    made: Course,
-) -> Result<Course, Stop> {
-    let mut course = made;
+    made: Entry,
+    from: u32,
+) -> Result<Entry, Stop> {
+    let mut last = made;
     'productions: for _ in 0..table.len() {
-        if course.row & CHAIN == 0 {
+        if last.row & CHAIN == 0 {
             break;
         }
-        course = link(table, nodes, parts, below, course)?;
+        match link(table, nodes, parts, below, last) {
+            Ok(next) => last = next,
+            Err(stop) => {
+                nodes.truncate(made.part as usize);
+                parts.truncate(from as usize);
+                return Err(stop);
+            }
+        }
     }
-    Ok(course)
+    Ok(last)
 }
 
 /// Ends a production of one item, the last node.
@@ -263,34 +277,23 @@ fn link(
     nodes: &mut Vec<Node>,
     parts: &mut Vec<u32>,
     below: Entry,
-    course: Course,
-) -> Result<Course, Stop> {
-    let production = course.row & !CHAIN;
+    last: Entry,
+) -> Result<Entry, Stop> {
+    let production = last.row & !CHAIN;
     let Some(cell) = table.get(production as usize) else {
         return Err(Stop::Fail);
     };
-    let last = course.nodes.wrapping_sub(1);
-    Ok(Course {
-        row: goto(table, below.row, *cell >> 10)?,
-        nodes: push_node(nodes, course, production, below.end, course.at)?,
-        parts: push_part(parts, course.parts, last)?,
-        ..course
-    })
-}
-
-/// Puts the entry of the last node on the stack.
-#[inline(always)]
-fn push_reduced(stack: &mut [Entry], course: Course) -> Result<Course, Stop> {
-    let Some(entry) = stack.get_mut(course.depth as usize) else {
-        return Err(Stop::Entries);
+    let row = goto(table, below.row, *cell >> 10)?;
+    let node = Node {
+        production,
+        parts: number_of(parts.len()),
+        from: below.end,
+        to: last.end,
     };
-    *entry = Entry {
-        row: course.row,
-        end: course.at,
-        part: course.nodes.wrapping_sub(1),
-    };
-    Ok(Course {
-        depth: course.depth.wrapping_add(1),
-        ..course
+    let part = push_node(nodes, parts, node, &[last], 0)?;
+    Ok(Entry {
+        row,
+        end: last.end,
+        part,
     })
 }

@@ -1,14 +1,13 @@
+use crate::keys::capped;
 use std::alloc::Global;
 use xs_class::Memory;
 use xs_parse_table::{Node, ParseTable};
 
-/// Nodes and parts, with room for more, and how many of each there are.
+/// Nodes and parts, with room for more.
 #[derive(Drop)]
 pub struct Tree {
     pub nodes: Vec<Node>,
     pub parts: Vec<u32>,
-    pub count: u32,
-    pub part_count: u32,
 }
 
 impl Tree {
@@ -17,17 +16,12 @@ impl Tree {
         Ok(Tree {
             nodes: Vec::with_capacity(alloc, nodes)?,
             parts: Vec::with_capacity(alloc, parts)?,
-            count: 0,
-            part_count: 0,
         })
     }
 
-    /// The first nodes and parts alone.
-    pub fn cut(&mut self, count: u32, part_count: u32) {
-        self.nodes.truncate(count as usize);
-        self.parts.truncate(part_count as usize);
-        self.count = count;
-        self.part_count = part_count;
+    /// The number of nodes.
+    pub fn count(&self) -> u32 {
+        capped(self.nodes.len())
     }
 
     /// Makes more room for nodes.
@@ -44,19 +38,17 @@ impl Tree {
     pub fn put_node(&mut self, production: u32, from: u32, to: u32) -> Result<(), Memory> {
         let node = Node {
             production,
-            parts: self.part_count,
+            parts: capped(self.parts.len()),
             from,
             to,
         };
         self.nodes.push(node)?;
-        self.count = self.count.wrapping_add(1);
         Ok(())
     }
 
     /// Puts a part next.
     pub fn put_part(&mut self, part: u32) -> Result<(), Memory> {
         self.parts.push(part)?;
-        self.part_count = self.part_count.wrapping_add(1);
         Ok(())
     }
 
@@ -84,8 +76,9 @@ pub fn put<T: Copy + Drop>(list: &mut Vec<T>, place: u32, element: T) -> Result<
     Ok(())
 }
 
-/// Doubles the room.
+/// Makes half as much room again: what is not needed is filled all the same.
 pub fn grow<T: Copy + Drop>(list: &mut Vec<T>, element: T) -> Result<(), Memory> {
-    list.resize(list.len().saturating_mul(2).saturating_add(16), element)?;
+    let more = (list.len() / 2).saturating_add(16);
+    list.resize(list.len().saturating_add(more), element)?;
     Ok(())
 }
