@@ -9,20 +9,28 @@ use Rattle.xs_sheet_laws.specs.Meanings as M
 use Rattle.xs_sheet_laws.specs.Pairs as P
 use Rattle.xs_sheet_laws.specs.Laws.{OneSheet, AlikeSheetsMeanTheSame, OnePairOfBytes, AlikePairsMeanTheSame}
 use Rattle.xs_leiden.specs.Made.{made_text}
+use Rattle.xs_gram.specs.Common.{Common}
+use Rattle.xs_chars.specs.Text.{text_of}
+use Rattle.xs_outline.specs.Outline.{IsOutline}
 use Rattle.xs_pair.specs.Grammars.{Pair, grammar_of}
 use Rattle.xs_top.specs.declared.asking.Job.{Job}
-use Rattle.xs_top.specs.declared.asking.Job.TheVariants.{Check, Turn, Trees, Make, ToTree}
+use Rattle.xs_top.specs.declared.asking.Job.TheVariants.{Check, Turn, Trees, Make, ToTree, FromTree}
 use Rattle.xs_top.specs.Devices.{Input}
 use Rattle.xs_top.specs.Documents.{IsWordOf, IsDocument}
 use Rattle.xs_top.specs.Checks.{IsSure}
-use Rattle.xs_top.specs.Ran.{IsOfLanguage, IsReadable, IsDoable}
-use Rattle.xs_top.specs.Laws.{PairsAgree, SheetsAgree}
+use Rattle.xs_top.specs.Answers.{IsOutlineDocument}
+use Rattle.xs_top.specs.Ran.{IsOfLanguage, IsReadable, IsReadableOutline, IsDoable}
+use Rattle.xs_top.specs.Laws.{PairsAgree, SheetsAgree, OutlinesAgree}
+use Rattle.xs_top.proofs.Outlines.{outline_kept}
 
 pub pairs_agree_lem : OnePairOfBytes → AlikePairsMeanTheSame → PairsAgree
 pairs_agree_lem one mean bytes p q is_p is_q = mean p q (one bytes is_p.sheet is_q.sheet p q is_p.spelled is_q.spelled is_p.pair is_q.pair)
 
 pub sheets_agree_lem : OneSheet → AlikeSheetsMeanTheSame → SheetsAgree
 sheets_agree_lem one mean bytes s t is_s is_t well = (mean s t (one bytes s t is_s is_t)).well.0 well
+
+pub outlines_agree_lem : OnePairOfBytes → OutlinesAgree
+outlines_agree_lem one bytes p q is_p is_q w tree is = outline_kept p q (one bytes is_p.sheet is_q.sheet p q is_p.spelled is_q.spelled is_p.pair is_q.pair) w tree is
 
 -- one side of two pairs
 pub on_side : (p q : Pair) → P.MeanTheSame p q → (side : Side) → M.MeanTheSame (grammar_of p side) (grammar_of q side)
@@ -52,9 +60,24 @@ language_kept p q same side form bytes is = record {
 readable_kept : (p q : Pair) → P.MeanTheSame p q → (i : Input) (side : Side) (form : Form) → IsReadable p i side form → IsReadable q i side form
 readable_kept p q same i side form is = record { document = is.document; input = is.input; limit = is.limit; is = language_kept p q same side form is.document is.is; sure = is.sure }
 
-pub doable_kept : (p q : Pair) → P.MeanTheSame p q → (i : Input) (job : Job) → IsDoable p i job → IsDoable q i job
-doable_kept p q same i Check doable = same.checked.accepted.0 doable
-doable_kept p q same i (Turn from to form) doable = (same.checked.accepted.0 doable.0, readable_kept p q same i from form doable.1)
-doable_kept p q same i (Trees max) doable = readable_kept p q same i Text AsIs doable
-doable_kept p q same i (Make seed lines) doable = (same.checked.accepted.0 doable.0, language_kept p q same Text AsIs (made_text seed lines) doable.1)
-doable_kept p q same i (ToTree from form) doable = (same.checked.accepted.0 doable.0, readable_kept p q same i from form doable.1)
+-- each outline by one pair is one by the other
+abbrev pub KeepOutlines : Pair → Pair → Type 0
+KeepOutlines p q = (w : List ℕ) (tree : Common) → IsOutline p w tree → IsOutline q w tree
+
+outline_readable : (p q : Pair) → KeepOutlines p q → (i : Input) → IsReadableOutline p i → IsReadableOutline q i
+outline_readable p q keep i is = record {
+  document = is.document;
+  input = is.input;
+  limit = is.limit;
+  tree = is.tree;
+  is = record { utf8 = is.is.utf8; outline = keep (text_of is.document AsIs) is.tree is.is.outline };
+  sure = is.sure;
+}
+
+pub doable_kept : (p q : Pair) → P.MeanTheSame p q → KeepOutlines p q → (i : Input) (job : Job) → IsDoable p i job → IsDoable q i job
+doable_kept p q same keep i Check doable = same.checked.accepted.0 doable
+doable_kept p q same keep i (Turn from to form) doable = (same.checked.accepted.0 doable.0, readable_kept p q same i from form doable.1)
+doable_kept p q same keep i (Trees max) doable = readable_kept p q same i Text AsIs doable
+doable_kept p q same keep i (Make seed lines) doable = (same.checked.accepted.0 doable.0, language_kept p q same Text AsIs (made_text seed lines) doable.1)
+doable_kept p q same keep i (ToTree from form) doable = (same.checked.accepted.0 doable.0, readable_kept p q same i from form doable.1)
+doable_kept p q same keep i (FromTree to) doable = (same.checked.accepted.0 doable.0, outline_readable p q keep i doable.1)

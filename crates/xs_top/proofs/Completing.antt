@@ -3,6 +3,7 @@ use Rattle.std.proofs.Common.{◌≡◌, ◌∙◌, ℕ, ◌<◌, ◌≤◌, Lis
 use Rattle.std.specs.Prelude.{Result, Ok, Err, IfOk}
 use Rattle.std.specs.declared.option.Option.{Option}
 use Rattle.xs_class.specs.declared.memory.Memory.{Memory as Refusal}
+use Rattle.xs_io.specs.Causes.{Rose}
 use Rattle.xs_io.specs.Whole.{Drains, Exceeds}
 use Rattle.xs_class.specs.declared.side.Side.{Side}
 use Rattle.xs_class.specs.declared.side.Side.TheVariants.{Text, Xml}
@@ -12,6 +13,7 @@ use Rattle.xs_chars.specs.Text.{text_of}
 use Rattle.xs_xml.specs.Laws.{OneReading}
 use Rattle.xs_gram.specs.Languages.{InLang}
 use Rattle.xs_gram.specs.Grammar.{Grammar}
+use Rattle.xs_gram.specs.Common.{Common}
 use Rattle.xs_gram.specs.declared.suspect.Suspect.{Suspect as Found}
 use Rattle.xs_gram.specs.declared.suspect.Suspect.TheVariants.{Vertical, Horizontal}
 use Rattle.xs_check_laws.specs.Acceptance.{IsAccepted, IsLight, IsHeaviness, IsFirstHeavy, IsSuspect}
@@ -19,9 +21,9 @@ use Rattle.xs_check_laws.specs.Laws.{RuleWeighsOnce}
 use Rattle.xs_unique.specs.Reasons.{shown}
 use Rattle.xs_pair.specs.Grammars.{Pair, grammar_of}
 use Rattle.xs_talk.specs.declared.outcome.Outcome.{Outcome}
-use Rattle.xs_talk.specs.declared.outcome.Outcome.TheVariants.{Done, Foreign, SheetLong, SheetBad, SheetIll, Heavy, Suspect, NotUtf8, NotXml, Usage, SheetFault, ReadFault, WriteFault, NoteFault, DocLong}
+use Rattle.xs_talk.specs.declared.outcome.Outcome.TheVariants.{Done, Foreign, SheetLong, SheetBad, SheetIll, Heavy, Suspect, NotUtf8, NotXml, Usage, SheetFault, ReadFault, WriteFault, NoteFault, DocLong, OutlineBad}
 use Rattle.xs_top.specs.declared.asking.Job.{Job}
-use Rattle.xs_top.specs.declared.asking.Job.TheVariants.{Check, Turn, Trees, Make, ToTree}
+use Rattle.xs_top.specs.declared.asking.Job.TheVariants.{Check, Turn, Trees, Make, ToTree, FromTree}
 use Rattle.xs_top.specs.Asked.{Ask, by, asked}
 use Rattle.xs_leiden.specs.Sheet.{leiden_core}
 use Rattle.xs_leiden.specs.Made.{made_text}
@@ -30,13 +32,13 @@ use Rattle.xs_top.specs.Devices.{Run, Input}
 use Rattle.xs_sheet.specs.Grammar.{IsSheetOf}
 use Rattle.xs_top.specs.Known.{HasBytes}
 use Rattle.xs_top.specs.Sheets.{IsFailed, IsPairOfBytes, IsUnpaired}
-use Rattle.xs_top.specs.Laws.{PairsAgree, SheetsAgree}
+use Rattle.xs_top.specs.Laws.{PairsAgree, SheetsAgree, OutlinesAgree}
 use Rattle.xs_top.proofs.Known.{has_only, has_short, spelled_pair}
 use Rattle.xs_top.proofs.Agreeing.{doable_kept}
 use Rattle.xs_top.specs.Checks.{IsUnsure}
 use Rattle.xs_top.specs.Documents.{IsWordOf}
-use Rattle.xs_top.specs.Answers.{IsUnread}
-use Rattle.xs_top.specs.Ran.{IsUntaken, IsUnanswered, IsUndone, Took, Went, no_command, shipped_written, unpaired, undone, answered, Tells, Told, IsOfLanguage, IsReadable, IsDoable, IsClear, IsFree, IsHonest, IsComplete}
+use Rattle.xs_top.specs.Answers.{IsOutlineDocument, IsUnread, IsNoOutline}
+use Rattle.xs_top.specs.Ran.{IsUntaken, IsUnanswered, IsUnmade, IsUndone, Took, Went, no_command, shipped_written, unpaired, undone, answered, Tells, Told, IsOfLanguage, IsReadable, IsReadableOutline, IsDoable, IsClear, IsFree, IsHonest, IsComplete}
 
 same_ask : (a b : Ask) → Some a ≡ Some b → a ≡ b
 same_ask a b e = cc
@@ -100,6 +102,7 @@ module _ (law : OneReading) (weigh : RuleWeighsOnce) (agree : PairsAgree) (well 
   not_unsure p (WriteFault written) accepted unsure = absurd unsure
   not_unsure p (NoteFault of written) accepted unsure = absurd unsure
   not_unsure p DocLong accepted unsure = absurd unsure
+  not_unsure p (OutlineBad bad) accepted unsure = absurd unsure
 
   -- a document of the language is not refused
   not_unread : (p : Pair) (side : Side) (form : Form) (bytes : List ℕ) (is : IsOfLanguage p side form bytes) (o : Outcome) → IsUnread p side form bytes o → ⊥
@@ -120,29 +123,30 @@ module _ (law : OneReading) (weigh : RuleWeighsOnce) (agree : PairsAgree) (well 
   not_unread p side form bytes is (WriteFault written) unread = absurd unread
   not_unread p side form bytes is (NoteFault of written) unread = absurd unread
   not_unread p side form bytes is DocLong unread = absurd unread
+  not_unread p side form bytes is (OutlineBad bad) unread = absurd unread
 
-  not_untaken : (p : Pair) (i : Input) (side : Side) (form : Form) → IsReadable p i side form → (o : Outcome) → IsUntaken i o → ⊥
-  not_untaken p i side form readable ReadFault untaken = readable.sure untaken
-  not_untaken p i side form readable DocLong untaken = not_long i.left_before i.left_now readable.document 1048576 readable.input readable.limit untaken
-  not_untaken p i side form readable Done untaken = absurd untaken
-  not_untaken p i side form readable (Foreign viable) untaken = absurd untaken
-  not_untaken p i side form readable SheetLong untaken = absurd untaken
-  not_untaken p i side form readable (SheetBad at) untaken = absurd untaken
-  not_untaken p i side form readable (SheetIll ill) untaken = absurd untaken
-  not_untaken p i side form readable (Heavy weight) untaken = absurd untaken
-  not_untaken p i side form readable (Suspect report) untaken = absurd untaken
-  not_untaken p i side form readable (NotUtf8 at) untaken = absurd untaken
-  not_untaken p i side form readable (NotXml at) untaken = absurd untaken
-  not_untaken p i side form readable Usage untaken = absurd untaken
-  not_untaken p i side form readable SheetFault untaken = absurd untaken
-  not_untaken p i side form readable (WriteFault written) untaken = absurd untaken
-  not_untaken p i side form readable (NoteFault of written) untaken = absurd untaken
+  -- nor is an outline
+  not_no_outline : (p : Pair) (bytes : List ℕ) (tree : Common) → IsOutlineDocument p bytes tree → (o : Outcome) → IsNoOutline p bytes o → ⊥
+  not_no_outline p bytes tree is (NotUtf8 at) why = why.bad is.utf8
+  not_no_outline p bytes tree is (OutlineBad bad) why = why.bad.none tree is.outline
+  not_no_outline p bytes tree is o why = why
+
+  not_untaken : (i : Input) (document : List ℕ) → i.left_before ≡ Some document → length document ≤ 1048576 → (Rose i.faults_before i.faults_now → ⊥) → (o : Outcome) → IsUntaken i o → ⊥
+  not_untaken i document input limit sure ReadFault untaken = sure untaken
+  not_untaken i document input limit sure DocLong untaken = not_long i.left_before i.left_now document 1048576 input limit untaken
+  not_untaken i document input limit sure o untaken = untaken
 
   not_unanswered : (p : Pair) (i : Input) (side : Side) (form : Form) → IsReadable p i side form → (o : Outcome) → IsUnanswered p i side form o → ⊥
-  not_unanswered p i side form readable o (inl untaken) = not_untaken p i side form readable o untaken
+  not_unanswered p i side form readable o (inl untaken) = not_untaken i readable.document readable.input readable.limit readable.sure o untaken
   not_unanswered p i side form readable o (inr (bytes, takes, unread)) =
       let same : bytes ≡ readable.document = read_is i.left_before i.left_now readable.document bytes 1048576 readable.input takes in
       not_unread p side form readable.document readable.is o (subst (λ (b : List ℕ). IsUnread p side form b o) same unread)
+
+  not_unmade : (p : Pair) (i : Input) → IsReadableOutline p i → (o : Outcome) → IsUnmade p i o → ⊥
+  not_unmade p i readable o (inl untaken) = not_untaken i readable.document readable.input readable.limit readable.sure o untaken
+  not_unmade p i readable o (inr (bytes, takes, why)) =
+      let same : bytes ≡ readable.document = read_is i.left_before i.left_now readable.document bytes 1048576 readable.input takes in
+      not_no_outline p readable.document readable.tree readable.is o (subst (λ (b : List ℕ). IsNoOutline p b o) same why)
 
   not_undone : (p : Pair) (i : Input) (job : Job) → IsDoable p i job → (o : Outcome) → IsUndone p i job o → ⊥
   not_undone p i Check doable o why = not_unsure p o doable why.1
@@ -153,6 +157,8 @@ module _ (law : OneReading) (weigh : RuleWeighsOnce) (agree : PairsAgree) (well 
   not_undone p i (Make seed lines) doable o (inr unread) = not_unread p Text AsIs (made_text seed lines) doable.1 o unread.2
   not_undone p i (ToTree from form) doable o (inl unchecked) = not_unsure p o doable.0 unchecked.1
   not_undone p i (ToTree from form) doable o (inr unanswered) = not_unanswered p i from form doable.1 o unanswered.1
+  not_undone p i (FromTree to) doable o (inl unchecked) = not_unsure p o doable.0 unchecked.1
+  not_undone p i (FromTree to) doable o (inr unmade) = not_unmade p i doable.1 o unmade.1
 
   -- bytes that are known and spell two grammars are no reason
   module _ (run : Run) (sheet : Named) (known : List ℕ) (pair : Pair) (sure : IsFailed run.shelf sheet → ⊥) (has : HasBytes run.shelf.files sheet known) (spells : IsPairOfBytes known pair) where
@@ -190,8 +196,10 @@ module _ (law : OneReading) (weigh : RuleWeighsOnce) (agree : PairsAgree) (well 
     not_unpaired (NoteFault of written) (inr (bytes, are, bad)) = absurd bad
     not_unpaired DocLong (inl stopped) = absurd stopped
     not_unpaired DocLong (inr (bytes, are, bad)) = absurd bad
+    not_unpaired (OutlineBad bad) (inl stopped) = absurd stopped
+    not_unpaired (OutlineBad bad) (inr (bytes, are, why)) = absurd why
 
-  module _ (run : Run) (honest : IsHonest run) where
+  module _ (outlines : OutlinesAgree) (run : Run) (honest : IsHonest run) where
     its_clear : (sheet : Named) (job : Job) → asked run.words ≡ Some (by sheet job) → IsClear run sheet job
     its_clear sheet job is = subst (λ (a : Ask). IsFree run a) (same_ask honest.ask (by sheet job) (sym honest.is ∙ is)) honest.free
 
@@ -211,6 +219,7 @@ module _ (law : OneReading) (weigh : RuleWeighsOnce) (agree : PairsAgree) (well 
     took_done answer ReadFault took = absurd took
     took_done answer (NoteFault of written) took = absurd took
     took_done answer DocLong took = absurd took
+    took_done answer (OutlineBad bad) took = absurd took
 
     went_done : (o : Outcome) (names : List (List ℕ)) → Went run o names → o ≡ Done
     went_done o names (no_command none read took) = absurd (not_none honest.ask (asked run.words) none honest.is)
@@ -218,17 +227,18 @@ module _ (law : OneReading) (weigh : RuleWeighsOnce) (agree : PairsAgree) (well 
     went_done o names (unpaired sheet job is why read took) = let clear = its_clear sheet job is in absurd (not_unpaired run sheet clear.bytes clear.pair clear.sheet_sure clear.has clear.spelled o why)
     went_done o names (undone sheet job p is spells why took) =
         let clear = its_clear sheet job is in
-        let same = agree clear.bytes clear.pair p clear.spelled (spelled_pair run.shelf.files sheet clear.bytes p clear.has spells) in
-        absurd (not_undone p run.input job (doable_kept clear.pair p same run.input job clear.doable) o why)
+        let spelled : IsPairOfBytes clear.bytes p = spelled_pair run.shelf.files sheet clear.bytes p clear.has spells in
+        let same = agree clear.bytes clear.pair p clear.spelled spelled in
+        absurd (not_undone p run.input job (doable_kept clear.pair p same (outlines clear.bytes clear.pair p clear.spelled spelled) run.input job clear.doable) o why)
     went_done o names (answered sheet job p answer is spells has took) = took_done answer o took
 
     told_done : (o result : Outcome) (names : List (List ℕ)) → Went run o names → Tells run.notes names o result → result ≡ Done
     told_done o result names went (inl told) = told.0 ∙ went_done o names went
     told_done o result names went (inr (of, written, is, fails)) = absurd (honest.notes_sure fails.rose)
 
-pub complete : OneReading → RuleWeighsOnce → PairsAgree → SheetsAgree → (run : Run) (result : Outcome) → Told run result → IsComplete run result
-complete law weigh agree well run result (o, names, went, tells) honest = told_done law weigh agree well run honest o result names went tells
+pub complete : OneReading → RuleWeighsOnce → PairsAgree → SheetsAgree → OutlinesAgree → (run : Run) (result : Outcome) → Told run result → IsComplete run result
+complete law weigh agree well outlines run result (o, names, went, tells) honest = told_done law weigh agree well outlines run honest o result names went tells
 
-pub complete_if : OneReading → RuleWeighsOnce → PairsAgree → SheetsAgree → (run : Run) (r : Result Outcome Refusal) → IfOk r (Told run) → IfOk r (IsComplete run)
-complete_if law weigh agree well run (Ok result) told = complete law weigh agree well run result told
-complete_if law weigh agree well run (Err e) told = told
+pub complete_if : OneReading → RuleWeighsOnce → PairsAgree → SheetsAgree → OutlinesAgree → (run : Run) (r : Result Outcome Refusal) → IfOk r (Told run) → IfOk r (IsComplete run)
+complete_if law weigh agree well outlines run (Ok result) told = complete law weigh agree well outlines run result told
+complete_if law weigh agree well outlines run (Err e) told = told

@@ -3,8 +3,10 @@ mod Writing
 mod Writable
 mod Going
 mod Known
+mod Outlines
 mod Agreeing
 mod Completing
+mod Only
 mod Coming
 mod Deciding
 mod Back

@@ -13,8 +13,14 @@ use Rattle.xs_xml_out.specs.Laws.{IsReadBack as XmlIsReadBack, IsDecoded, Begins
 use Rattle.xs_form.specs.declared.document.XmlFault.{XmlFault}
 use Rattle.xs_form.specs.declared.document.XmlFault.TheVariants as F
 use Rattle.xs_form.specs.Fault.{IsFault}
+use Rattle.xs_pair.specs.Grammars.{Pair}
+use Rattle.xs_outline.specs.declared.fault.OutlineFault.{OutlineFault}
+use Rattle.xs_outline.specs.declared.fault.OutlineFault.TheVariants as L
+use Rattle.xs_outline.specs.Outline.{IsBadAt}
+use Rattle.xs_outline.specs.Refusal.{IsRefusal}
 use Rattle.xs_top.specs.Documents.{IsDocument, IsNoDocument, CanWrite}
-use Rattle.xs_top.specs.Stops.{StopsBy, stop_of_xml}
+use Rattle.xs_top.specs.Answers.{IsNoOutline}
+use Rattle.xs_top.specs.Stops.{StopsBy, stop_of_xml, stop_of_outline}
 
 -- characters that are read, and why they are no XML
 pub xml_stops : (names : List (List ℕ)) (bytes doc : List ℕ) (e : XmlFault) → IsDocument Text AsIs [] bytes doc → IsFault names doc e → StopsBy (IsNoDocument names Xml bytes) (stop_of_xml e)
@@ -22,6 +28,11 @@ xml_stops names bytes doc (F.NotXml at) read fault =
     let broken : IsFault names (text_of bytes AsIs) (F.NotXml at) = subst (λ (d : List ℕ). IsFault names d (F.NotXml at)) read.word fault in
     (refl, record { utf8 = read.utf8; none = broken.0; broken = broken.1 })
 xml_stops names bytes doc F.Memory read fault = tt
+
+-- characters that are read, and why they are no outline
+pub outline_stops : (p : Pair) (bytes doc : List ℕ) (e : OutlineFault) → IsDocument Text AsIs [] bytes doc → IsRefusal p doc e → StopsBy (IsNoOutline p bytes) (stop_of_outline e)
+outline_stops p bytes doc (L.OutlineBad line) read bad = record { utf8 = read.utf8; bad = subst (λ (d : List ℕ). IsBadAt p d line) read.word bad }
+outline_stops p bytes doc L.Memory read bad = tt
 
 -- a text that is written
 pub text_reads : IsReadBack → (side : Side) (names : List (List ℕ)) (bytes word : List ℕ) → side ≡ Text → CanWrite names side word → bytes ≡ text_bytes word → IsDocument side AsIs names bytes word

@@ -2,7 +2,7 @@
 use Rattle.std.proofs.Common.{◌≡◌, ℕ, List, sym, subst}
 use Rattle.xs_class.specs.declared.side.Side.{Side}
 use Rattle.xs_class.specs.declared.side.Side.TheVariants.{Text, Xml}
-use Rattle.xs_gram.specs.Common.{Common, print}
+use Rattle.xs_gram.specs.Common.{Common, TreeFits, print}
 use Rattle.xs_gram.specs.Derivations.{yield, normal}
 use Rattle.xs_gram.specs.Languages.{HasTree}
 use Rattle.xs_gram.specs.Laws.{PrintedHasTree, PrintsNormal, HasNumberedSlots}
@@ -41,3 +41,8 @@ turned_by law p sound from to form bytes answer word tree document has written =
   normal = subst (λ (t : Common). print (grammar_of p from) t ≡ yield (normal (grammar_of p from) has.0)) has.2 (law (grammar_of p from) (grammar_of p from).start has.0 (slots_numbered p sound from) has.1.0);
   written = written;
 }
+
+-- a tree that fits on the text side fits on either
+pub fits_both : (p : Pair) (t : Common) → IsSoundPair p → TreeFits p.text p.text.start t → FitsBoth p t
+fits_both p t sound fits Text = fits
+fits_both p t sound fits Xml = subst (λ n. TreeFits p.xml n t) sound.starts ((sound.same p.text.start t).0 fits)

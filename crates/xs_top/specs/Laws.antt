@@ -10,11 +10,13 @@ use Rattle.xs_sheet.specs.declared.sheet.Sheet.{Sheet}
 use Rattle.xs_sheet.specs.Grammar.{IsSheetOf}
 use Rattle.xs_sheet_laws.specs.Pairs as P
 use Rattle.xs_pair.specs.Grammars.{Pair, grammar_of}
+use Rattle.xs_gram.specs.Common.{Common}
+use Rattle.xs_outline.specs.Outline.{IsOutline}
 use Rattle.xs_wf.specs.Rules.{IsWell}
 use Rattle.xs_talk.specs.declared.outcome.Outcome.{Outcome}
-use Rattle.xs_talk.specs.declared.outcome.Outcome.TheVariants.{Done, Foreign, SheetLong, SheetBad, SheetIll, Heavy, Suspect, NotUtf8, NotXml, Usage, SheetFault, ReadFault, WriteFault, NoteFault, DocLong}
+use Rattle.xs_talk.specs.declared.outcome.Outcome.TheVariants.{Done, Foreign, SheetLong, SheetBad, SheetIll, Heavy, Suspect, NotUtf8, NotXml, Usage, SheetFault, ReadFault, WriteFault, NoteFault, DocLong, OutlineBad}
 use Rattle.xs_top.specs.declared.asking.Job.{Job}
-use Rattle.xs_top.specs.declared.asking.Job.TheVariants.{Check, Turn, Trees, Make, ToTree}
+use Rattle.xs_top.specs.declared.asking.Job.TheVariants.{Check, Turn, Trees, Make, ToTree, FromTree}
 use Rattle.xs_top.specs.Devices.{Run}
 use Rattle.xs_top.specs.Documents.{IsDocument}
 use Rattle.xs_top.specs.Sheets.{IsPairOfBytes}
@@ -29,6 +31,10 @@ PairsAgree = (bytes : List ℕ) (p q : Pair) → IsPairOfBytes bytes p → IsPai
 -- where bytes spell a well-formed sheet, each sheet that they spell is well formed
 abbrev pub SheetsAgree : Type 0
 SheetsAgree = (bytes : List ℕ) (s t : Sheet) → IsSheetOf bytes s → IsSheetOf bytes t → IsWell s → IsWell t
+
+-- by two pairs of grammars of the same bytes, an outline is of the same tree
+abbrev pub OutlinesAgree : Type 0
+OutlinesAgree = (bytes : List ℕ) (p q : Pair) → IsPairOfBytes bytes p → IsPairOfBytes bytes q → (w : List ℕ) (tree : Common) → IsOutline p w tree → IsOutline q w tree
 
 -- What a run wrote is turned back by the same sheet where it is read whole, unless out or notes fail or memory is wanting;
 -- and then out took the first document with each ignorable in its normal spelling.
@@ -94,6 +100,7 @@ IsChecked Check = ⊤
 IsChecked (Turn from to form) = ⊤
 IsChecked (Make seed lines) = ⊤
 IsChecked (ToTree from form) = ⊤
+IsChecked (FromTree to) = ⊤
 
 -- what an outcome tells of the sheet's bytes: none where they could not be had, or nothing was done with them
 abbrev pub verdict : Outcome → Option Verdict
@@ -106,6 +113,7 @@ verdict (Foreign viable) = Some accepted
 verdict (NotUtf8 at) = Some accepted
 verdict (NotXml at) = Some accepted
 verdict DocLong = Some accepted
+verdict (OutlineBad line) = Some accepted
 verdict ReadFault = Some accepted
 verdict (WriteFault written) = Some accepted
 verdict SheetLong = None

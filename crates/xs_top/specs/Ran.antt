@@ -17,9 +17,9 @@ use Rattle.xs_words.specs.Command.{Sheet as Named}
 use Rattle.xs_pair.specs.Grammars.{Pair, grammar_of}
 use Rattle.xs_talk.specs.Lines.{line}
 use Rattle.xs_talk.specs.declared.outcome.Outcome.{Outcome}
-use Rattle.xs_talk.specs.declared.outcome.Outcome.TheVariants.{Done, Foreign, SheetLong, SheetBad, SheetIll, Heavy, Suspect, NotUtf8, NotXml, Usage, SheetFault, ReadFault, WriteFault, NoteFault, DocLong}
+use Rattle.xs_talk.specs.declared.outcome.Outcome.TheVariants.{Done, Foreign, SheetLong, SheetBad, SheetIll, Heavy, Suspect, NotUtf8, NotXml, Usage, SheetFault, ReadFault, WriteFault, NoteFault, DocLong, OutlineBad}
 use Rattle.xs_top.specs.declared.asking.Job.{Job}
-use Rattle.xs_top.specs.declared.asking.Job.TheVariants.{Check, Turn, Trees, Make, ToTree}
+use Rattle.xs_top.specs.declared.asking.Job.TheVariants.{Check, Turn, Trees, Make, ToTree, FromTree}
 use Rattle.xs_top.specs.Asked.{Ask, shipped, by, asked}
 use Rattle.xs_top.specs.Devices.{Input, Output, Run, ReadNothing, TookNothing}
 use Rattle.xs_top.specs.Known.{HasBytes}
@@ -27,7 +27,7 @@ use Rattle.xs_top.specs.Sheets.{IsFailed, IsPairOfBytes, SpellsPair, IsUnpaired}
 use Rattle.xs_top.specs.Checks.{IsSure, IsUnsure}
 use Rattle.xs_talk.specs.Counts.{accepted_line}
 use Rattle.xs_top.specs.Documents.{IsWordOf}
-use Rattle.xs_top.specs.Answers.{IsTurnedInto, IsMade, IsListingOf, IsOutlined, IsUnread}
+use Rattle.xs_top.specs.Answers.{IsTurnedInto, IsMade, IsListingOf, IsOutlined, IsOutlineDocument, IsMadeOfOutline, IsUnread, IsNoOutline}
 
 -- the input was read to its end, and is these bytes
 abbrev pub Takes : Input → List ℕ → Type 0
@@ -40,6 +40,7 @@ IsAnswer p i (Turn from to form) answer = IsSure p × (bytes : List ℕ) × (tre
 IsAnswer p i (Trees max) answer = (bytes : List ℕ) × Takes i bytes × IsListingOf p max bytes answer
 IsAnswer p i (Make seed lines) answer = ReadNothing i × IsSure p × IsMade p seed lines answer
 IsAnswer p i (ToTree from form) answer = IsSure p × (bytes : List ℕ) × Takes i bytes × IsOutlined p from form bytes answer
+IsAnswer p i (FromTree to) answer = IsSure p × (bytes : List ℕ) × Takes i bytes × IsMadeOfOutline p to bytes answer
 
 -- why the input cannot be had
 abbrev pub IsUntaken : Input → Outcome → Type 0
@@ -50,6 +51,10 @@ IsUntaken i other = ⊥
 -- why a document is not answered: it cannot be had, or was read to its end and is none of the language
 abbrev pub IsUnanswered : Pair → Input → Side → Form → Outcome → Type 0
 IsUnanswered p i side form o = IsUntaken i o ⊎ ((bytes : List ℕ) × Takes i bytes × IsUnread p side form bytes o)
+
+-- why an outline is not answered: it cannot be had, or was read to its end and is none
+abbrev pub IsUnmade : Pair → Input → Outcome → Type 0
+IsUnmade p i o = IsUntaken i o ⊎ ((bytes : List ℕ) × Takes i bytes × IsNoOutline p bytes o)
 
 -- why the check of a sheet is not passed; nothing of the input was read
 abbrev pub IsUnchecked : Pair → Input → Outcome → Type 0
@@ -62,6 +67,7 @@ IsUndone p i (Turn from to form) o = IsUnchecked p i o ⊎ (IsSure p × IsUnansw
 IsUndone p i (Trees max) o = IsUnanswered p i Text AsIs o
 IsUndone p i (Make seed lines) o = IsUnchecked p i o ⊎ (ReadNothing i × IsSure p × IsUnread p Text AsIs (made_text seed lines) o)
 IsUndone p i (ToTree from form) o = IsUnchecked p i o ⊎ (IsSure p × IsUnanswered p i from form o)
+IsUndone p i (FromTree to) o = IsUnchecked p i o ⊎ (IsSure p × IsUnmade p i o)
 
 -- what out took of an answer, by the outcome
 abbrev pub Took : Output → List ℕ → Outcome → Type 0
@@ -96,6 +102,7 @@ status_of ReadFault = 6
 status_of (WriteFault written) = 6
 status_of (NoteFault of written) = 6
 status_of DocLong = 7
+status_of (OutlineBad line) = 11
 
 -- notes failed at the line of an outcome, of which it took `written` bytes
 pub record FailsAtNotes (notes : Output) (names : List (List ℕ)) (o : Outcome) (of written : ℕ) : Type 0 where
@@ -131,6 +138,15 @@ pub record IsReadable (p : Pair) (i : Input) (side : Side) (form : Form) : Type 
   pub is : IsOfLanguage p side form document
   pub sure : Rose i.faults_before i.faults_now → ⊥
 
+-- the input is known, within its limit, and an outline, and did not fail
+pub record IsReadableOutline (p : Pair) (i : Input) : Type 0 where
+  pub document : List ℕ
+  pub input : i.left_before ≡ Some document
+  pub limit : length document ≤ 1048576
+  pub tree : Common
+  pub is : IsOutlineDocument p document tree
+  pub sure : Rose i.faults_before i.faults_now → ⊥
+
 -- nothing stands against a job by these grammars
 abbrev pub IsDoable : Pair → Input → Job → Type 0
 IsDoable p i Check = IsAccepted p.text p.xml
@@ -138,6 +154,7 @@ IsDoable p i (Turn from to form) = IsAccepted p.text p.xml × IsReadable p i fro
 IsDoable p i (Trees max) = IsReadable p i Text AsIs
 IsDoable p i (Make seed lines) = IsAccepted p.text p.xml × IsOfLanguage p Text AsIs (made_text seed lines)
 IsDoable p i (ToTree from form) = IsAccepted p.text p.xml × IsReadable p i from form
+IsDoable p i (FromTree to) = IsAccepted p.text p.xml × IsReadableOutline p i
 
 -- The sheet did not fail, its bytes are known and spell two grammars, and nothing stands against the job by these.
 pub record IsClear (run : Run) (sheet : Named) (job : Job) : Type 0 where

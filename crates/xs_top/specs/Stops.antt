@@ -9,6 +9,8 @@ use Rattle.xs_wf.specs.declared.well.WfFault.{WfFault}
 use Rattle.xs_wf.specs.declared.well.WfFault.TheVariants as W
 use Rattle.xs_turn.specs.declared.fault.TurnFault.{TurnFault}
 use Rattle.xs_turn.specs.declared.fault.TurnFault.TheVariants as T
+use Rattle.xs_outline.specs.declared.fault.OutlineFault.{OutlineFault}
+use Rattle.xs_outline.specs.declared.fault.OutlineFault.TheVariants as L
 use Rattle.xs_talk.specs.declared.outcome.Outcome.{Outcome}
 use Rattle.xs_talk.specs.declared.outcome.Outcome.TheVariants as O
 use Rattle.xs_top.specs.declared.stop.Stop.{Stop}
@@ -38,3 +40,7 @@ stop_of_xml X.Memory = Memory
 abbrev pub stop_of_turn : TurnFault → Stop
 stop_of_turn (T.Foreign viable) = Refused (O.Foreign viable)
 stop_of_turn T.Memory = Memory
+
+abbrev pub stop_of_outline : OutlineFault → Stop
+stop_of_outline (L.OutlineBad line) = Refused (O.OutlineBad line)
+stop_of_outline L.Memory = Memory

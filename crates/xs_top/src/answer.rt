@@ -12,7 +12,7 @@ ghost use Rattle.xs_top.specs.Stops.{StopsBy};
 use crate::asking::Job;
 use crate::checked::checked;
 use crate::listed::listed;
-use crate::outlined::outlined;
+use crate::outlined::{made_of_outline, outlined};
 use crate::stop::Stop;
 use crate::turned::turned_into;
 use std::alloc::Global;
@@ -138,6 +138,20 @@ fn to_tree<S: Source>(
     outlined(alloc, two, from, form, bytes.as_slice())
 }
 
+/// The document on side `to` with the tree of the outline that is the input, once the sheet is
+/// accepted.
+fn from_tree<S: Source>(alloc: Global, two: &Two, to: Side, input: &mut S) -> Result<Bytes, Stop>
+    requires pair { IsPair two.now }
+    requires sound { IsSoundPair two.now }
+    requires writable { CanBeWritten two.now }
+    ensures answer { IfOk result (IsAnswer two.now (input_of S.left S.faults input.old input.new) (J.FromTree to)) }
+    ensures stop { IfErr result (StopsBy (IsUndone two.now (input_of S.left S.faults input.old input.new) (J.FromTree to))) }
+{
+    checked(alloc, two)?;
+    let bytes = taken(alloc, input)?;
+    made_of_outline(alloc, two, to, bytes.as_slice())
+}
+
 /// The answer of a job by the two grammars of a sheet.
 pub fn answer_of<S: Source>(
     alloc: Global,
@@ -158,5 +172,6 @@ pub fn answer_of<S: Source>(
         Job::Trees { max } => list(alloc, two, max, input),
         Job::Make { seed, lines } => make(alloc, two, seed, lines, input),
         Job::ToTree { from, form } => to_tree(alloc, two, from, form, input),
+        Job::FromTree { to } => from_tree(alloc, two, to, input),
     }
 }

@@ -14,7 +14,7 @@ use xs_form::read_xml;
 use xs_xml_out::{write_xml, xml_is_read_back};
 
 /// The characters of the bytes in a form.
-fn characters_of(alloc: Global, form: Form, bytes: &[u8]) -> Result<Word, Stop>
+pub fn characters_of(alloc: Global, form: Form, bytes: &[u8]) -> Result<Word, Stop>
     ensures text { IfOk result (λ w. IsDocument S.Text form [] bytes.now w) }
     ensures short { IfOk result (λ w. length w < 4294967295) }
     ensures stop { IfErr result (StopsBy (IsNoText bytes.now)) }

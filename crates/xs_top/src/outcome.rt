@@ -22,5 +22,6 @@ pub fn status(outcome: &Outcome) -> u8
         | Outcome::WriteFault { .. }
         | Outcome::NoteFault { .. } => 6,
         Outcome::DocLong => 7,
+        Outcome::OutlineBad { .. } => 11,
     }
 }

@@ -2,17 +2,22 @@ ghost use Rattle.std.specs.Prelude.{IfOk, IfErr};
 ghost use Rattle.xs_sheet.specs.declared.sheet.Sheet.{Sheet as AnySheet};
 ghost use Rattle.xs_pair.specs.Grammars.{IsPairOf};
 ghost use Rattle.xs_pair.specs.Sound.{IsSoundPair};
-ghost use Rattle.xs_top.specs.Answers.{IsOutlined, IsUnread};
+ghost use Rattle.xs_writing_laws.specs.Laws.{CanBeWritten};
+ghost use Rattle.xs_top.specs.Answers.{IsOutlined, IsMadeOfOutline, IsUnread, IsNoOutline};
+ghost use Rattle.xs_top.specs.Checks.{IsSure};
 ghost use Rattle.xs_top.specs.Stops.{StopsBy};
 
-use crate::documents::read_document;
+use crate::documents::{characters_of, read_document};
 use crate::stop::Stop;
+use crate::turned::written;
 use std::alloc::Global;
 use xs_chars::Form;
 use xs_class::{Bytes, Side};
-use xs_outline::write_outline;
+use xs_outline::{read_outline, write_outline};
 use xs_pair::Two;
+use xs_text_out::print_syms;
 use xs_turn::translate;
+use xs_xml::one_word;
 
 /// The outline of the tree of a document on side `from`.
 pub fn outlined(
@@ -31,4 +36,21 @@ pub fn outlined(
     let translated = translate(alloc, two, from, from, &doc)?;
     let outline = write_outline(alloc, two, &translated.tree)?;
     Ok(outline)
+}
+
+/// The document on side `to` that has the tree of an outline.
+pub fn made_of_outline(alloc: Global, two: &Two, to: Side, bytes: &[u8]) -> Result<Bytes, Stop>
+    requires pair { (s : AnySheet) × IsPairOf s two.now }
+    requires sound { IsSoundPair two.now }
+    requires writable { CanBeWritten two.now }
+    requires sure { IsSure two.now }
+    ensures answer { IfOk result (IsMadeOfOutline two.now to bytes.now) }
+    ensures stop { IfErr result (StopsBy (IsNoOutline two.now bytes.now)) }
+{
+    one_word();
+    let characters = characters_of(alloc, Form::AsIs, bytes)?;
+    let tree = read_outline(alloc, two, &characters)?;
+    let word = print_syms(alloc, two.gram(to), &tree)?;
+    let document = written(alloc, two, to, &tree, &word)?;
+    Ok(document)
 }

@@ -1,6 +1,7 @@
 use xs_chars::DecodeFault;
 use xs_class::Memory;
 use xs_form::XmlFault;
+use xs_outline::OutlineFault;
 use xs_sheet::SheetFault;
 use xs_talk::Outcome;
 use xs_turn::TurnFault;
@@ -92,6 +93,20 @@ impl From<TurnFault> for Stop {
         match fault {
             TurnFault::Foreign { viable } => Stop::Refused(Outcome::Foreign { viable }),
             TurnFault::Memory => Stop::Memory,
+        }
+    }
+}
+
+impl From<OutlineFault> for Stop {
+    ghost use Rattle.std.specs.Prelude.{◌≡◌};
+    ghost use Rattle.xs_top.specs.Stops.{stop_of_outline};
+
+    ghost from_gives = { λ fault e. e ≡ stop_of_outline fault };
+
+    fn from(fault: OutlineFault) -> Self {
+        match fault {
+            OutlineFault::OutlineBad { line } => Stop::Refused(Outcome::OutlineBad { line }),
+            OutlineFault::Memory => Stop::Memory,
         }
     }
 }

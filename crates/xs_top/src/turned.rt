@@ -19,7 +19,13 @@ use xs_tree::Tree;
 use xs_turn::{Translated, translate};
 
 /// The document of a tree's print.
-fn written(alloc: Global, two: &Two, to: Side, tree: &Tree, word: &Word) -> Result<Bytes, Memory>
+pub fn written(
+    alloc: Global,
+    two: &Two,
+    to: Side,
+    tree: &Tree,
+    word: &Word,
+) -> Result<Bytes, Memory>
     requires sound { IsSoundPair two.now }
     requires writable { CanBeWritten two.now }
     requires fits { FitsBoth two.now (common_of tree.now) }

@@ -25,6 +25,7 @@ pub data Command : Type 0 where
   print_sheet : Command
   make : ℕ → ℕ → Command
   to_tree : Sheet → Side → Form → Command
+  from_tree : Sheet → Side → Command
 
 abbrev pub sheet_of : List ℕ → Sheet
 sheet_of word = if bytes_eq word (codes "@leiden") then leiden else file word
@@ -54,9 +55,9 @@ abbrev pub to_tree_of : List ℕ → Option Side → Option Command
 to_tree_of sheet None = None
 to_tree_of sheet (Some side) = Some (to_tree (sheet_of sheet) side AsIs)
 
--- to-xml SHEET FORM, round SHEET SIDE, trees SHEET MAX, make SEED LINES, to-tree SHEET SIDE
+-- to-xml SHEET FORM, round SHEET SIDE, trees SHEET MAX, make SEED LINES, to-tree SHEET SIDE, from-tree SHEET SIDE
 abbrev pub command_of_three : List ℕ → List ℕ → List ℕ → Option Command
-command_of_three verb first second = if bytes_eq verb (codes "to-xml") then option_map (to_xml (sheet_of first)) (form_of second) else (if bytes_eq verb (codes "round") then round_of first second else (if bytes_eq verb (codes "trees") then option_map (trees (sheet_of first)) (number_within 1 1000 second) else (if bytes_eq verb (codes "make") then make_of (number_within 0 2147483647 first) (number_within 1 2000 second) else (if bytes_eq verb (codes "to-tree") then to_tree_of first (side_of second) else None))))
+command_of_three verb first second = if bytes_eq verb (codes "to-xml") then option_map (to_xml (sheet_of first)) (form_of second) else (if bytes_eq verb (codes "round") then round_of first second else (if bytes_eq verb (codes "trees") then option_map (trees (sheet_of first)) (number_within 1 1000 second) else (if bytes_eq verb (codes "make") then make_of (number_within 0 2147483647 first) (number_within 1 2000 second) else (if bytes_eq verb (codes "to-tree") then to_tree_of first (side_of second) else (if bytes_eq verb (codes "from-tree") then option_map (from_tree (sheet_of first)) (side_of second) else None)))))
 
 -- round SHEET text FORM, to-tree SHEET text FORM
 abbrev pub command_of_four : List ℕ → List ℕ → List ℕ → List ℕ → Option Command

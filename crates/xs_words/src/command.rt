@@ -54,4 +54,10 @@ pub enum Command<'w> {
         side: Side,
         form: Form,
     },
+    /// `from-tree SHEET text` or `from-tree SHEET xml`: the document on this side that has the tree
+    /// of the outline of the input.
+    FromTree {
+        sheet: SheetName<'w>,
+        side: Side,
+    },
 }

@@ -27,14 +27,14 @@ returns-in-Err-Refused-clause-told g c =
     (record { left = refl; faults = refl }) (record { taken = refl; faults = refl }) c.in_ok-none.ensures told
 
 pub returns-in-Err-Refused-clause-complete : goal.returns-in-Err-Refused-clause-complete
-returns-in-Err-Refused-clause-complete g c = complete_if c.one_word.ensures c.weights_are_exact.ensures.rule c.bytes_agree.ensures.pairs c.bytes_agree.ensures.sheets _ c.tell-in-Err-Refused.result (returns-in-Err-Refused-clause-told g c)
+returns-in-Err-Refused-clause-complete g c = complete_if c.one_word.ensures c.weights_are_exact.ensures.rule c.bytes_agree.ensures.pairs c.bytes_agree.ensures.sheets c.bytes_agree.ensures.outlines _ c.tell-in-Err-Refused.result (returns-in-Err-Refused-clause-told g c)
 
 pub returns-in-Ok-answer_of-clause-told : goal.returns-in-Ok-answer_of-clause-told
 returns-in-Ok-answer_of-clause-told g c =
     answered_told _ (sheet_meant c.in-Some-By.sheet) c.in-Some-By.job c.in-Ok.two c.in-Ok-answer_of.answer c.as_slice.result.now c.written-in-Ok-answer_of.result (sym c.asked.ensures.ask ∙ ap (λ o. option_map ask_meant o) c.in-Some-By.is ∙ ap (λ a. Some (ask_meant a)) c.in-Some-By.field-0-is) c.in-Ok.ensures.pair c.in-Ok-answer_of.ensures.answer c.as_slice.ensures c.written-in-Ok-answer_of.ensures
 
 pub returns-in-Ok-answer_of-clause-complete : goal.returns-in-Ok-answer_of-clause-complete
-returns-in-Ok-answer_of-clause-complete g c = complete c.one_word.ensures c.weights_are_exact.ensures.rule c.bytes_agree.ensures.pairs c.bytes_agree.ensures.sheets _ c.written-in-Ok-answer_of.result (returns-in-Ok-answer_of-clause-told g c)
+returns-in-Ok-answer_of-clause-complete g c = complete c.one_word.ensures c.weights_are_exact.ensures.rule c.bytes_agree.ensures.pairs c.bytes_agree.ensures.sheets c.bytes_agree.ensures.outlines _ c.written-in-Ok-answer_of.result (returns-in-Ok-answer_of-clause-told g c)
 
 pub returns-in-Err-Refused-answer_of-clause-told : goal.returns-in-Err-Refused-answer_of-clause-told
 returns-in-Err-Refused-answer_of-clause-told g c =
@@ -42,4 +42,4 @@ returns-in-Err-Refused-answer_of-clause-told g c =
     (record { taken = refl; faults = refl }) c.names.ensures c.tell-in-Err-Refused-answer_of.ensures.told
 
 pub returns-in-Err-Refused-answer_of-clause-complete : goal.returns-in-Err-Refused-answer_of-clause-complete
-returns-in-Err-Refused-answer_of-clause-complete g c = complete_if c.one_word.ensures c.weights_are_exact.ensures.rule c.bytes_agree.ensures.pairs c.bytes_agree.ensures.sheets _ c.tell-in-Err-Refused-answer_of.result (returns-in-Err-Refused-answer_of-clause-told g c)
+returns-in-Err-Refused-answer_of-clause-complete g c = complete_if c.one_word.ensures c.weights_are_exact.ensures.rule c.bytes_agree.ensures.pairs c.bytes_agree.ensures.sheets c.bytes_agree.ensures.outlines _ c.tell-in-Err-Refused-answer_of.result (returns-in-Err-Refused-answer_of-clause-told g c)
