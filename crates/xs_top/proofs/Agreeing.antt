@@ -11,7 +11,7 @@ use Rattle.xs_sheet_laws.specs.Laws.{OneSheet, AlikeSheetsMeanTheSame, OnePairOf
 use Rattle.xs_leiden.specs.Made.{made_text}
 use Rattle.xs_pair.specs.Grammars.{Pair, grammar_of}
 use Rattle.xs_top.specs.declared.asking.Job.{Job}
-use Rattle.xs_top.specs.declared.asking.Job.TheVariants.{Check, Turn, Trees, Make, ToTree}
+use Rattle.xs_top.specs.declared.asking.Job.TheVariants.{Check, Turn, Trees, Make, ToTree, Cover}
 use Rattle.xs_top.specs.Devices.{Input}
 use Rattle.xs_top.specs.Documents.{IsWordOf, IsDocument}
 use Rattle.xs_top.specs.Checks.{IsSure}
@@ -58,3 +58,4 @@ doable_kept p q same i (Turn from to form) doable = (same.checked.accepted.0 doa
 doable_kept p q same i (Trees max) doable = readable_kept p q same i Text AsIs doable
 doable_kept p q same i (Make seed lines) doable = (same.checked.accepted.0 doable.0, language_kept p q same Text AsIs (made_text seed lines) doable.1)
 doable_kept p q same i (ToTree from form) doable = (same.checked.accepted.0 doable.0, readable_kept p q same i from form doable.1)
+doable_kept p q same i Cover doable = doable

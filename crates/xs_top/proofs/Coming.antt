@@ -13,7 +13,7 @@ use Rattle.xs_pair.specs.Grammars.{Pair}
 use Rattle.xs_talk.specs.declared.outcome.Outcome.{Outcome}
 use Rattle.xs_talk.specs.declared.outcome.Outcome.TheVariants.{Done, NoteFault}
 use Rattle.xs_top.specs.declared.asking.Job.{Job}
-use Rattle.xs_top.specs.declared.asking.Job.TheVariants.{Check, Turn, Trees, Make, ToTree}
+use Rattle.xs_top.specs.declared.asking.Job.TheVariants.{Check, Turn, Trees, Make, ToTree, Cover}
 use Rattle.xs_top.specs.Asked.{Ask, shipped, by}
 use Rattle.xs_top.specs.Devices.{Run, Input}
 use Rattle.xs_top.specs.Known.{HasBytes}
@@ -74,6 +74,7 @@ undone_not_done p i (Make seed lines) (inl unchecked) = unchecked.1
 undone_not_done p i (Make seed lines) (inr (read, sure, unread)) = unread
 undone_not_done p i (ToTree from form) (inl unchecked) = unchecked.1
 undone_not_done p i (ToTree from form) (inr (sure, why)) = unanswered_not_done p i from form why
+undone_not_done p i Cover why = why
 
 pub record IsAnswered (run : Run) (sheet : List ℕ) (job : Job) : Type 0 where
   pub pair : Pair

@@ -10,3 +10,4 @@ mod Deciding
 mod Back
 mod Exactly
 mod Verdicts
+mod Showing

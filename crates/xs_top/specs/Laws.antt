@@ -14,7 +14,7 @@ use Rattle.xs_wf.specs.Rules.{IsWell}
 use Rattle.xs_talk.specs.declared.outcome.Outcome.{Outcome}
 use Rattle.xs_talk.specs.declared.outcome.Outcome.TheVariants.{Done, Foreign, SheetLong, SheetBad, SheetIll, Heavy, Suspect, NotUtf8, NotXml, Usage, SheetFault, ReadFault, WriteFault, NoteFault, DocLong}
 use Rattle.xs_top.specs.declared.asking.Job.{Job}
-use Rattle.xs_top.specs.declared.asking.Job.TheVariants.{Check, Turn, Trees, Make, ToTree}
+use Rattle.xs_top.specs.declared.asking.Job.TheVariants.{Check, Turn, Trees, Make, ToTree, Cover}
 use Rattle.xs_top.specs.Devices.{Run}
 use Rattle.xs_top.specs.Documents.{IsDocument}
 use Rattle.xs_top.specs.Sheets.{IsPairOfBytes}
@@ -94,6 +94,7 @@ IsChecked Check = ⊤
 IsChecked (Turn from to form) = ⊤
 IsChecked (Make seed lines) = ⊤
 IsChecked (ToTree from form) = ⊤
+IsChecked Cover = ⊥
 
 -- what an outcome tells of the sheet's bytes: none where they could not be had, or nothing was done with them
 abbrev pub verdict : Outcome → Option Verdict

@@ -23,6 +23,8 @@ pub enum Job {
     Make { seed: u32, lines: u32 },
     /// A document of one side is read, a text in this form, and the outline of its tree is written.
     ToTree { from: Side, form: Form },
+    /// A smallest document pair is shown for each production.
+    Cover,
 }
 
 /// What the words ask for.
@@ -55,6 +57,7 @@ fn ask_of(command: Command<'_>) -> Ask<'_>
         Command::PrintSheet => return Ask::Shipped,
         Command::Make { seed, lines } => (SheetName::Leiden, Job::Make { seed, lines }),
         Command::ToTree { sheet, side, form } => (sheet, Job::ToTree { from: side, form }),
+        Command::Cover { sheet } => (sheet, Job::Cover),
     };
     Ask::By { sheet, job }
 }

@@ -3,8 +3,8 @@ use Rattle.std.specs.Prelude.{◌≤◌}
 use Rattle.xs_words.specs.declared.command.SheetName.{SheetName}
 use Rattle.xs_words.specs.declared.command.SheetName.TheVariants.{Leiden, File}
 use Rattle.xs_words.specs.declared.command.Command.{Command as Asked}
-use Rattle.xs_words.specs.declared.command.Command.TheVariants.{Check, ToXml, ToText, RoundText, RoundXml, Trees, PrintSheet, Make, ToTree}
-use Rattle.xs_words.specs.Command.{Sheet, leiden, file, Command, check, to_xml, to_text, round_text, round_xml, trees, print_sheet, make, to_tree}
+use Rattle.xs_words.specs.declared.command.Command.TheVariants.{Check, ToXml, ToText, RoundText, RoundXml, Trees, PrintSheet, Make, ToTree, Cover}
+use Rattle.xs_words.specs.Command.{Sheet, leiden, file, Command, check, to_xml, to_text, round_text, round_xml, trees, print_sheet, make, to_tree, cover}
 
 abbrev pub sheet_meant : SheetName → Sheet
 sheet_meant Leiden = leiden
@@ -20,6 +20,7 @@ meant (Trees sheet max) = trees (sheet_meant sheet) max
 meant PrintSheet = print_sheet
 meant (Make seed lines) = make seed lines
 meant (ToTree sheet side form) = to_tree (sheet_meant sheet) side form
+meant (Cover sheet) = cover (sheet_meant sheet)
 
 -- a text that is made has 1 to 2,000 lines
 abbrev pub HasLines : Asked → Type 0

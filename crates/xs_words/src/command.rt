@@ -54,4 +54,8 @@ pub enum Command<'w> {
         side: Side,
         form: Form,
     },
+    /// `cover SHEET`: a smallest document pair for each production of the sheet.
+    Cover {
+        sheet: SheetName<'w>,
+    },
 }
