@@ -5,3 +5,4 @@ pub mod Counts
 pub mod Derivations
 pub mod Slots
 pub mod Walk
+pub mod Covers

@@ -8,10 +8,15 @@ use xs_class::{Bytes, Memory, Names, Side, Text, Word};
 use xs_pair::{Ill, IllRule};
 
 const USAGE: &[u8] =
-    b"usage: xsugar check S | to-xml S [F] | to-text S | round S text [F] | round S xml | trees S M | sheet | make SEED LINES | to-tree S text [F] | to-tree S xml | from-tree S text | from-tree S xml\n";
+    b"usage: xsugar check S | to-xml S [F] | to-text S | round S text [F] | round S xml | trees S M | sheet | make SEED LINES | to-tree S text [F] | to-tree S xml | from-tree S text | from-tree S xml | cover S\n";
 
 /// Appends a number between two texts.
-fn push_numbered(out: &mut Bytes, before: &[u8], number: u64, after: &[u8]) -> Result<(), Memory>
+pub fn push_numbered(
+    out: &mut Bytes,
+    before: &[u8],
+    number: u64,
+    after: &[u8],
+) -> Result<(), Memory>
     ensures { OnOk result (out.new ≡ out.old ++ numbered_as before.now number after.now) }
 {
     out.extend(before)?;

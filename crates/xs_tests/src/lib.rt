@@ -17,6 +17,8 @@ mod class;
 #[cfg(test)]
 mod clauses;
 #[cfg(test)]
+mod cover;
+#[cfg(test)]
 mod earley;
 #[cfg(test)]
 mod examples;

@@ -7,6 +7,7 @@ use xs_io::{MemShelf, MemSink, MemSource};
 use xs_top::{Outcome, run, status};
 
 mod checks;
+mod cover;
 mod cuts;
 mod faults;
 mod leiden;

@@ -62,7 +62,7 @@ fn lines_of_outcomes(rt: HostRuntime) -> Result<(), Memory> {
         (Outcome::NoteFault { of: 1, written: 5 }, ""),
         (
             Outcome::Usage,
-            "usage: xsugar check S | to-xml S [F] | to-text S | round S text [F] | round S xml | trees S M | sheet | make SEED LINES | to-tree S text [F] | to-tree S xml\n",
+            "usage: xsugar check S | to-xml S [F] | to-text S | round S text [F] | round S xml | trees S M | sheet | make SEED LINES | to-tree S text [F] | to-tree S xml | cover S\n",
         ),
     ];
     expect_told(&rt, rt.alloc(), &rows)

@@ -11,7 +11,7 @@ fn is_command(alloc: Global, words: &[&str]) -> Result<bool, Memory> {
     Ok(command_of(&list).is_some())
 }
 
-const ROWS: [(&[&str], bool); 19] = [
+const ROWS: [(&[&str], bool); 22] = [
     (&["check", "pair.xsugar"], true),
     (&["to-xml", "@leiden", "nfd"], true),
     (&["round", "pair.xsugar", "text", "asis"], true),
@@ -19,6 +19,9 @@ const ROWS: [(&[&str], bool); 19] = [
     (&["sheet"], true),
     (&["make", "0", "2000"], true),
     (&["make", "2147483647", "1"], true),
+    (&["cover", "@leiden"], true),
+    (&["cover"], false),
+    (&["cover", "a", "b"], false),
     (&[], false),
     (&["to-xml"], false),
     (&["check", "a", "b"], false),

@@ -14,7 +14,7 @@ use Rattle.xs_chars.specs.Text.{text_of}
 use Rattle.xs_outline.specs.Outline.{IsOutline}
 use Rattle.xs_pair.specs.Grammars.{Pair, grammar_of}
 use Rattle.xs_top.specs.declared.asking.Job.{Job}
-use Rattle.xs_top.specs.declared.asking.Job.TheVariants.{Check, Turn, Trees, Make, ToTree, FromTree}
+use Rattle.xs_top.specs.declared.asking.Job.TheVariants.{Check, Turn, Trees, Make, ToTree, FromTree, Cover}
 use Rattle.xs_top.specs.Devices.{Input}
 use Rattle.xs_top.specs.Documents.{IsWordOf, IsDocument}
 use Rattle.xs_top.specs.Checks.{IsSure}
@@ -81,3 +81,4 @@ doable_kept p q same keep i (Trees max) doable = readable_kept p q same i Text A
 doable_kept p q same keep i (Make seed lines) doable = (same.checked.accepted.0 doable.0, language_kept p q same Text AsIs (made_text seed lines) doable.1)
 doable_kept p q same keep i (ToTree from form) doable = (same.checked.accepted.0 doable.0, readable_kept p q same i from form doable.1)
 doable_kept p q same keep i (FromTree to) doable = (same.checked.accepted.0 doable.0, outline_readable p q keep i doable.1)
+doable_kept p q same keep i Cover doable = doable

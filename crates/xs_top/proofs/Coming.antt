@@ -13,7 +13,7 @@ use Rattle.xs_pair.specs.Grammars.{Pair}
 use Rattle.xs_talk.specs.declared.outcome.Outcome.{Outcome}
 use Rattle.xs_talk.specs.declared.outcome.Outcome.TheVariants.{Done, NoteFault}
 use Rattle.xs_top.specs.declared.asking.Job.{Job}
-use Rattle.xs_top.specs.declared.asking.Job.TheVariants.{Check, Turn, Trees, Make, ToTree, FromTree}
+use Rattle.xs_top.specs.declared.asking.Job.TheVariants.{Check, Turn, Trees, Make, ToTree, FromTree, Cover}
 use Rattle.xs_top.specs.Asked.{Ask, shipped, by}
 use Rattle.xs_top.specs.Devices.{Run, Input}
 use Rattle.xs_top.specs.Known.{HasBytes}
@@ -77,6 +77,7 @@ undone_not_done p i (ToTree from form) (inr (sure, why)) = unanswered_not_done p
 undone_not_done p i (FromTree to) (inl unchecked) = unchecked.1
 undone_not_done p i (FromTree to) (inr (sure, inl untaken)) = untaken
 undone_not_done p i (FromTree to) (inr (sure, inr (bytes, takes, none))) = none
+undone_not_done p i Cover why = why
 
 pub record IsAnswered (run : Run) (sheet : List ℕ) (job : Job) : Type 0 where
   pub pair : Pair

@@ -23,7 +23,7 @@ use Rattle.xs_pair.specs.Grammars.{Pair, grammar_of}
 use Rattle.xs_talk.specs.declared.outcome.Outcome.{Outcome}
 use Rattle.xs_talk.specs.declared.outcome.Outcome.TheVariants.{Done, Foreign, SheetLong, SheetBad, SheetIll, Heavy, Suspect, NotUtf8, NotXml, Usage, SheetFault, ReadFault, WriteFault, NoteFault, DocLong, OutlineBad}
 use Rattle.xs_top.specs.declared.asking.Job.{Job}
-use Rattle.xs_top.specs.declared.asking.Job.TheVariants.{Check, Turn, Trees, Make, ToTree, FromTree}
+use Rattle.xs_top.specs.declared.asking.Job.TheVariants.{Check, Turn, Trees, Make, ToTree, FromTree, Cover}
 use Rattle.xs_top.specs.Asked.{Ask, by, asked}
 use Rattle.xs_leiden.specs.Sheet.{leiden_core}
 use Rattle.xs_leiden.specs.Made.{made_text}
@@ -159,6 +159,7 @@ module _ (law : OneReading) (weigh : RuleWeighsOnce) (agree : PairsAgree) (well 
   not_undone p i (ToTree from form) doable o (inr unanswered) = not_unanswered p i from form doable.1 o unanswered.1
   not_undone p i (FromTree to) doable o (inl unchecked) = not_unsure p o doable.0 unchecked.1
   not_undone p i (FromTree to) doable o (inr unmade) = not_unmade p i doable.1 o unmade.1
+  not_undone p i Cover doable o why = why
 
   -- bytes that are known and spell two grammars are no reason
   module _ (run : Run) (sheet : Named) (known : List ℕ) (pair : Pair) (sure : IsFailed run.shelf sheet → ⊥) (has : HasBytes run.shelf.files sheet known) (spells : IsPairOfBytes known pair) where

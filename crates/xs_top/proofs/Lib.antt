@@ -12,3 +12,4 @@ mod Deciding
 mod Back
 mod Exactly
 mod Verdicts
+mod Showing

@@ -18,7 +18,7 @@ use Rattle.xs_talk.specs.declared.outcome.Report.{Report}
 use Rattle.xs_talk.specs.declared.outcome.Outcome.{Outcome}
 use Rattle.xs_talk.specs.declared.outcome.Outcome.TheVariants.{Done, Foreign, SheetLong, SheetBad, SheetIll, Heavy, Suspect, NotUtf8, NotXml, SheetFault, ReadFault, WriteFault, NoteFault, DocLong, OutlineBad}
 use Rattle.xs_top.specs.declared.asking.Job.{Job}
-use Rattle.xs_top.specs.declared.asking.Job.TheVariants.{Check, Turn, Trees, Make, ToTree, FromTree}
+use Rattle.xs_top.specs.declared.asking.Job.TheVariants.{Check, Turn, Trees, Make, ToTree, FromTree, Cover}
 use Rattle.xs_top.specs.Devices.{Run, Input}
 use Rattle.xs_top.specs.Known.{HasBytes}
 use Rattle.xs_top.specs.Sheets.{IsStopped, IsBadBytes, IsPairOfBytes, IsUnpaired}
@@ -113,6 +113,7 @@ undone_means sheet p i (ToTree from form) checked is_p o v (inl why) is = unsure
 undone_means sheet p i (ToTree from form) checked is_p o v (inr (sure, why)) is = sure_means sheet p is_p sure o v (unanswered_accepted p i from form o why) is
 undone_means sheet p i (FromTree to) checked is_p o v (inl why) is = unsure_means sheet p is_p o v why.1 is
 undone_means sheet p i (FromTree to) checked is_p o v (inr (sure, why)) is = sure_means sheet p is_p sure o v (unmade_accepted p i o why) is
+undone_means sheet p i Cover checked is_p o v why is = absurd checked
 
 answer_sure : (p : Pair) (i : Input) (job : Job) (answer : List ℕ) → IsChecked job → IsAnswer p i job answer → IsSure p
 answer_sure p i Check answer checked has = has.1
@@ -121,6 +122,7 @@ answer_sure p i (Trees max) answer checked has = absurd checked
 answer_sure p i (Make seed lines) answer checked has = has.1
 answer_sure p i (ToTree from form) answer checked has = has.0
 answer_sure p i (FromTree to) answer checked has = has.0
+answer_sure p i Cover answer checked has = absurd checked
 
 came_means : (run : Run) (sheet : List ℕ) (named : Named) (job : Job) → HasBytes run.shelf.files named sheet → IsChecked job → (o : Outcome) (v : Verdict) → Came run sheet named job o → verdict o ≡ Some v → Means sheet v
 came_means run sheet named job has checked o v (before why) is = unpaired_means run named sheet has o v why is
@@ -239,6 +241,7 @@ module _ (law : OneReading) (weigh : RuleWeighsOnce) (agree : PairsAgree) (well 
   undone_not p i (ToTree from form) is o (inr (sure, why)) refuses = accepted_not o (unanswered_accepted p i from form o why) refuses
   undone_not p i (FromTree to) is o (inl why) refuses = not_unsure law weigh agree well p o is why.1
   undone_not p i (FromTree to) is o (inr (sure, why)) refuses = accepted_not o (unmade_accepted p i o why) refuses
+  undone_not p i Cover is o why refuses = why
 
   came_not : (run : Run) (sheet : List ℕ) (named : Named) (job : Job) → HasBytes run.shelf.files named sheet → Means sheet accepted → (o : Outcome) → Came run sheet named job o → RefusesSheet o → ⊥
   came_not run sheet named job has (p, is_p, is) o (before why) refuses = unpaired_not run named sheet has p is_p o why refuses

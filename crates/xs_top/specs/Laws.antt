@@ -16,7 +16,7 @@ use Rattle.xs_wf.specs.Rules.{IsWell}
 use Rattle.xs_talk.specs.declared.outcome.Outcome.{Outcome}
 use Rattle.xs_talk.specs.declared.outcome.Outcome.TheVariants.{Done, Foreign, SheetLong, SheetBad, SheetIll, Heavy, Suspect, NotUtf8, NotXml, Usage, SheetFault, ReadFault, WriteFault, NoteFault, DocLong, OutlineBad}
 use Rattle.xs_top.specs.declared.asking.Job.{Job}
-use Rattle.xs_top.specs.declared.asking.Job.TheVariants.{Check, Turn, Trees, Make, ToTree, FromTree}
+use Rattle.xs_top.specs.declared.asking.Job.TheVariants.{Check, Turn, Trees, Make, ToTree, FromTree, Cover}
 use Rattle.xs_top.specs.Devices.{Run}
 use Rattle.xs_top.specs.Documents.{IsDocument}
 use Rattle.xs_top.specs.Sheets.{IsPairOfBytes}
@@ -101,6 +101,7 @@ IsChecked (Turn from to form) = ⊤
 IsChecked (Make seed lines) = ⊤
 IsChecked (ToTree from form) = ⊤
 IsChecked (FromTree to) = ⊤
+IsChecked Cover = ⊥
 
 -- what an outcome tells of the sheet's bytes: none where they could not be had, or nothing was done with them
 abbrev pub verdict : Outcome → Option Verdict

@@ -19,7 +19,7 @@ use Rattle.xs_talk.specs.Lines.{line}
 use Rattle.xs_talk.specs.declared.outcome.Outcome.{Outcome}
 use Rattle.xs_talk.specs.declared.outcome.Outcome.TheVariants.{Done, Foreign, SheetLong, SheetBad, SheetIll, Heavy, Suspect, NotUtf8, NotXml, Usage, SheetFault, ReadFault, WriteFault, NoteFault, DocLong, OutlineBad}
 use Rattle.xs_top.specs.declared.asking.Job.{Job}
-use Rattle.xs_top.specs.declared.asking.Job.TheVariants.{Check, Turn, Trees, Make, ToTree, FromTree}
+use Rattle.xs_top.specs.declared.asking.Job.TheVariants.{Check, Turn, Trees, Make, ToTree, FromTree, Cover}
 use Rattle.xs_top.specs.Asked.{Ask, shipped, by, asked}
 use Rattle.xs_top.specs.Devices.{Input, Output, Run, ReadNothing, TookNothing}
 use Rattle.xs_top.specs.Known.{HasBytes}
@@ -28,12 +28,14 @@ use Rattle.xs_top.specs.Checks.{IsSure, IsUnsure}
 use Rattle.xs_talk.specs.Counts.{accepted_line}
 use Rattle.xs_top.specs.Documents.{IsWordOf}
 use Rattle.xs_top.specs.Answers.{IsTurnedInto, IsMade, IsListingOf, IsOutlined, IsOutlineDocument, IsMadeOfOutline, IsUnread, IsNoOutline}
+use Rattle.xs_top.specs.Covering.{IsCovered}
 
 -- the input was read to its end, and is these bytes
 abbrev pub Takes : Input → List ℕ → Type 0
 Takes i bytes = Drains i.left_before i.left_now bytes 1048576
 
--- What a job answers. A sheet is checked before a document is turned by it, and before the input is read.
+-- What a job answers. A sheet is checked before a document is turned by it, and before the input is read; its productions
+-- are shown also where it is not accepted.
 abbrev pub IsAnswer : Pair → Input → Job → List ℕ → Type 0
 IsAnswer p i Check answer = ReadNothing i × IsSure p × (answer ≡ accepted_line p)
 IsAnswer p i (Turn from to form) answer = IsSure p × (bytes : List ℕ) × (tree : Common) × Takes i bytes × IsTurnedInto p from to form bytes tree answer
@@ -41,6 +43,7 @@ IsAnswer p i (Trees max) answer = (bytes : List ℕ) × Takes i bytes × IsListi
 IsAnswer p i (Make seed lines) answer = ReadNothing i × IsSure p × IsMade p seed lines answer
 IsAnswer p i (ToTree from form) answer = IsSure p × (bytes : List ℕ) × Takes i bytes × IsOutlined p from form bytes answer
 IsAnswer p i (FromTree to) answer = IsSure p × (bytes : List ℕ) × Takes i bytes × IsMadeOfOutline p to bytes answer
+IsAnswer p i Cover answer = ReadNothing i × IsCovered p answer
 
 -- why the input cannot be had
 abbrev pub IsUntaken : Input → Outcome → Type 0
@@ -68,6 +71,7 @@ IsUndone p i (Trees max) o = IsUnanswered p i Text AsIs o
 IsUndone p i (Make seed lines) o = IsUnchecked p i o ⊎ (ReadNothing i × IsSure p × IsUnread p Text AsIs (made_text seed lines) o)
 IsUndone p i (ToTree from form) o = IsUnchecked p i o ⊎ (IsSure p × IsUnanswered p i from form o)
 IsUndone p i (FromTree to) o = IsUnchecked p i o ⊎ (IsSure p × IsUnmade p i o)
+IsUndone p i Cover o = ⊥
 
 -- what out took of an answer, by the outcome
 abbrev pub Took : Output → List ℕ → Outcome → Type 0
@@ -155,6 +159,7 @@ IsDoable p i (Trees max) = IsReadable p i Text AsIs
 IsDoable p i (Make seed lines) = IsAccepted p.text p.xml × IsOfLanguage p Text AsIs (made_text seed lines)
 IsDoable p i (ToTree from form) = IsAccepted p.text p.xml × IsReadable p i from form
 IsDoable p i (FromTree to) = IsAccepted p.text p.xml × IsReadableOutline p i
+IsDoable p i Cover = Unit {0}
 
 -- The sheet did not fail, its bytes are known and spell two grammars, and nothing stands against the job by these.
 pub record IsClear (run : Run) (sheet : Named) (job : Job) : Type 0 where

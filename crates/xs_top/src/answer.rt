@@ -11,6 +11,7 @@ ghost use Rattle.xs_top.specs.Stops.{StopsBy};
 
 use crate::asking::Job;
 use crate::checked::checked;
+use crate::covered::covered;
 use crate::listed::listed;
 use crate::outlined::{made_of_outline, outlined};
 use crate::stop::Stop;
@@ -152,6 +153,16 @@ fn from_tree<S: Source>(alloc: Global, two: &Two, to: Side, input: &mut S) -> Re
     made_of_outline(alloc, two, to, bytes.as_slice())
 }
 
+/// A smallest document pair for each production of the sheet, which need not be accepted.
+fn show<S: Source>(alloc: Global, two: &Two, input: &mut S) -> Result<Bytes, Stop>
+    requires sound { IsSoundPair two.now }
+    ensures answer { IfOk result (IsAnswer two.now (input_of S.left S.faults input.old input.new) J.Cover) }
+    ensures stop { IfErr result (StopsBy (IsUndone two.now (input_of S.left S.faults input.old input.new) J.Cover)) }
+{
+    let lines = covered(alloc, two)?;
+    Ok(lines)
+}
+
 /// The answer of a job by the two grammars of a sheet.
 pub fn answer_of<S: Source>(
     alloc: Global,
@@ -173,5 +184,6 @@ pub fn answer_of<S: Source>(
         Job::Make { seed, lines } => make(alloc, two, seed, lines, input),
         Job::ToTree { from, form } => to_tree(alloc, two, from, form, input),
         Job::FromTree { to } => from_tree(alloc, two, to, input),
+        Job::Cover => show(alloc, two, input),
     }
 }

@@ -25,6 +25,8 @@ pub enum Job {
     ToTree { from: Side, form: Form },
     /// An outline is read, and the document of its tree on a side is written.
     FromTree { to: Side },
+    /// A smallest document pair is shown for each production.
+    Cover,
 }
 
 /// What the words ask for.
@@ -58,6 +60,7 @@ fn ask_of(command: Command<'_>) -> Ask<'_>
         Command::Make { seed, lines } => (SheetName::Leiden, Job::Make { seed, lines }),
         Command::ToTree { sheet, side, form } => (sheet, Job::ToTree { from: side, form }),
         Command::FromTree { sheet, side } => (sheet, Job::FromTree { to: side }),
+        Command::Cover { sheet } => (sheet, Job::Cover),
     };
     Ask::By { sheet, job }
 }

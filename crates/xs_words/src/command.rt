@@ -60,4 +60,8 @@ pub enum Command<'w> {
         sheet: SheetName<'w>,
         side: Side,
     },
+    /// `cover SHEET`: a smallest document pair for each production of the sheet.
+    Cover {
+        sheet: SheetName<'w>,
+    },
 }

@@ -1,0 +1,53 @@
+ghost use Rattle.std.specs.Prelude.{◌<◌, length, IfOk};
+ghost use Rattle.xs_cover.specs.Kept.{AreCoversOf};
+ghost use Rattle.xs_pair.specs.Sound.{IsSoundPair};
+ghost use Rattle.xs_top.specs.Covering.{IsShown, AreShown, IsCovered};
+
+use std::alloc::Global;
+use xs_class::{Bytes, Memory, Side};
+use xs_cover::{Covers, cover};
+use xs_pair::Two;
+use xs_talk::{Shown, cover_text};
+use xs_text_out::print_syms;
+
+/// What is shown of a production: a smallest document pair that uses it, if it is not too long.
+fn shown_of(alloc: Global, two: &Two, covers: &Covers, rule: u32) -> Result<Shown, Memory>
+    requires sound { IsSoundPair two.now }
+    requires covers { AreCoversOf two.now covers.now }
+    requires rule { rule < length two.now.text.rules }
+    ensures { IfOk result (IsShown two.now rule) }
+{
+    let Some(size) = covers.size(rule) else {
+        return Ok(Shown::Unreached);
+    };
+    let Some(tree) = covers.tree(alloc, two, rule)? else {
+        return Ok(Shown::Long { size });
+    };
+    let text = print_syms(alloc, two.gram(Side::Text), &tree)?;
+    let xml = print_syms(alloc, two.gram(Side::Xml), &tree)?;
+    Ok(Shown::Pair { size, text, xml })
+}
+
+/// What is shown of each production, in their order.
+fn all_shown(alloc: Global, two: &Two) -> Result<Vec<Shown>, Memory>
+    requires { IsSoundPair two.now }
+    ensures { IfOk result (λ all. AreShown two.now all.items) }
+{
+    let covers = cover(alloc, two)?;
+    let count = two.gram(Side::Text).rules();
+    let mut all = Vec::with_capacity(alloc, count as usize)?;
+    'rules: for rule in 0..count {
+        let shown = shown_of(alloc, two, &covers, rule)?;
+        all.push(shown)?;
+    }
+    Ok(all)
+}
+
+/// The lines of a smallest document pair for each production.
+pub fn covered(alloc: Global, two: &Two) -> Result<Bytes, Memory>
+    requires { IsSoundPair two.now }
+    ensures { IfOk result (IsCovered two.now) }
+{
+    let all = all_shown(alloc, two)?;
+    cover_text(alloc, two.names(), &all)
+}
