@@ -41,6 +41,7 @@ fn slot_counts(alloc: Global, g: &Gram) -> Result<Vec<usize>, Memory>
 
 /// Puts a new leaf with the word between two places at a slot; false where there are no such places
 /// or no such slot.
+#[inline(always)]
 fn place_leaf(
     doc: &[Sym],
     slot: u32,
@@ -60,6 +61,7 @@ fn place_leaf(
 }
 
 /// Puts the number of an earlier node's tree at a slot; the answer is where the node ends.
+#[inline(always)]
 fn place_node(
     nodes: &[Node],
     numbers: &[u64],
@@ -79,6 +81,7 @@ fn place_node(
 
 /// Puts the number of an item's tree at its slot, if it has one; the answer is where the item ends,
 /// None where its part is not right.
+#[inline(always)]
 fn place(
     doc: &[Sym],
     nodes: &[Node],
@@ -106,6 +109,7 @@ fn place(
 
 /// Puts the numbers of the trees of a node's children at their slots, with a new leaf for each word
 /// of a terminal; false where a part is not right.
+#[inline(always)]
 fn place_all(
     g: &Gram,
     doc: &[Sym],
@@ -142,8 +146,20 @@ fn place_all(
     Ok(true)
 }
 
+/// Gives the list this length, which it mostly has.
+#[inline(always)]
+fn set_length(kids: &mut Vec<u64>, count: usize) -> Result<(), Memory>
+    ensures { IfOk result (λ _. length kids.new.items ≡ count) }
+{
+    if kids.len() != count {
+        kids.resize(count, 0)?;
+    }
+    Ok(())
+}
+
 /// The number of a node's tree, a new part, where those of the nodes before it are given; None
 /// where a part of the node is not right.
+#[inline(always)]
 fn add_node(
     g: &Gram,
     doc: &[Sym],
@@ -164,7 +180,7 @@ fn add_node(
     if counts.len() <= production {
         return Ok(None);
     }
-    kids.resize(counts[production], 0)?;
+    set_length(kids, counts[production])?;
     if !place_all(g, doc, table, node, numbers, builder, kids)? {
         return Ok(None);
     }

@@ -12,7 +12,7 @@ node-requires c =
     let g = c.args.g.now in
     let b = c.place_all.new.builder in
     let ks = c.place_all.new.kids.items in
-    let sized : length c.resize.new.self.items ≡ length (slots (items c.args.g.now c.args.node.production)) = grind (arith, common_steps, c.requires.counts.1 c.args.node.production (omega arith)) in
+    let sized : length c.set_length.new.kids.items ≡ length (slots (items c.args.g.now c.args.node.production)) = grind (arith, common_steps, c.requires.counts.1 c.args.node.production (omega arith)) in
     let long = c.in_ok-place_all.ensures.long c.if-not-branch.false ∙ sized in
     let there = node_kids_there g c.args.doc.now c.args.table.now c.args.node (trees_of b) ks c.requires.built.slots long (c.in_ok-place_all.ensures.kids c.if-not-branch.false) in
     let below = subst (λ n. All (λ kid. kid < n) ks) (length-trees b) there in
@@ -24,7 +24,7 @@ returns-clause-made c =
     let b = c.place_all.new.builder in
     let ks = c.place_all.new.kids.items in
     let p = c.args.node.production in
-    let sized : length c.resize.new.self.items ≡ length (slots (items c.args.g.now c.args.node.production)) = grind (arith, common_steps, c.requires.counts.1 c.args.node.production (omega arith)) in
+    let sized : length c.set_length.new.kids.items ≡ length (slots (items c.args.g.now c.args.node.production)) = grind (arith, common_steps, c.requires.counts.1 c.args.node.production (omega arith)) in
     let long = c.in_ok-place_all.ensures.long c.if-not-branch.false ∙ sized in
     let new : trees_of c.node.new.self ≡ trees_of c.place_all.new.builder ++ made c.args.node.production (kids_at (trees_of c.place_all.new.builder) c.place_all.new.kids.items) ∷ [] =
     c.in_ok-number.ensures.means ∙ ap (λ (l : List ℕ). trees_of b ++ made p (kids_at (trees_of b) l) ∷ []) c.deref.ensures.value in
