@@ -47,6 +47,8 @@ mod nests;
 #[cfg(test)]
 mod order;
 #[cfg(test)]
+mod outlines;
+#[cfg(test)]
 mod pair;
 #[cfg(test)]
 mod parse_table;

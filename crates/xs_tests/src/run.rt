@@ -12,6 +12,7 @@ mod cuts;
 mod faults;
 mod leiden;
 mod limits;
+mod outlines;
 mod patterns;
 mod plain;
 mod refusals;

@@ -30,7 +30,8 @@ pub fn pair_of(alloc: Global, bytes: &[u8]) -> Result<Two, PairFault>
 
 /// The two grammars of a well-formed sheet.
 pub fn two_of(alloc: Global, bytes: &[u8]) -> Result<Two, WfFault>
-    ensures { IfOk result IsSoundPair }
+    ensures pair { IfOk result IsPair }
+    ensures sound { IfOk result IsSoundPair }
 {
     if bytes.len() > 65536 {
         return Err(WfFault::Memory);

@@ -11,7 +11,7 @@ fn is_command(alloc: Global, words: &[&str]) -> Result<bool, Memory> {
     Ok(command_of(&list).is_some())
 }
 
-const ROWS: [(&[&str], bool); 22] = [
+const ROWS: [(&[&str], bool); 27] = [
     (&["check", "pair.xsugar"], true),
     (&["to-xml", "@leiden", "nfd"], true),
     (&["round", "pair.xsugar", "text", "asis"], true),
@@ -34,6 +34,11 @@ const ROWS: [(&[&str], bool); 22] = [
     (&["make", "0", "2001"], false),
     (&["make", "0", "0"], false),
     (&["make", "0", "01"], false),
+    (&["to-tree", "a", "text", "nfc"], true),
+    (&["from-tree", "a", "text"], true),
+    (&["from-tree", "@leiden", "xml"], true),
+    (&["from-tree", "a"], false),
+    (&["from-tree", "a", "text", "nfc"], false),
 ];
 
 #[test]
