@@ -74,9 +74,10 @@ fn link(earlier: &mut Vec<u32>, heads: &mut Vec<u32>, item: Item) -> Result<(), 
     ensures err { OnErr result (earlier.new.items ≡ earlier.old.items) }
     ensures heads_err { OnErr result (heads.new.items ≡ heads.old.items) }
 {
-    let Ok(number) = u32::try_from(earlier.len() + 1) else {
+    if earlier.len() >= u32::MAX as usize {
         return Err(Memory);
-    };
+    }
+    let number = earlier.len() as u32 + 1;
     let place = slot(item, heads.len());
     earlier.push(heads[place].min(number - 1))?;
     heads[place] = number;
@@ -144,7 +145,8 @@ impl Table {
     /// Makes more slots where there are no more than items.
     #[inline(always)]
     fn spread(&mut self) -> Result<(), Memory>
-        ensures { self.new ≡ self.old }
+        ensures same { self.new ≡ self.old }
+        ensures different { AreDifferent self.new }
     {
         if self.items.len() < self.heads.len() {
             return Ok(());
@@ -157,7 +159,8 @@ impl Table {
     #[cold]
     #[inline(never)]
     fn widen(&mut self) -> Result<(), Memory>
-        ensures { self.new ≡ self.old }
+        ensures same { self.new ≡ self.old }
+        ensures different { AreDifferent self.new }
     {
         let Some(count) = self.heads.len().checked_mul(2) else {
             return Err(Memory);
@@ -176,11 +179,11 @@ impl Table {
         ensures different { AreDifferent self.new }
         ensures err { OnErr result (self.new ≡ self.old) }
     {
+        self.spread()?;
+        self.items.reserve(1)?;
         if self.has(item) {
             return Ok(false);
         }
-        self.spread()?;
-        self.items.reserve(1)?;
         link(&mut self.earlier, &mut self.heads, item)?;
         self.items.push_reserved(item);
         Ok(true)
