@@ -1,4 +1,4 @@
-ghost use Rattle.std.specs.Prelude.{◌≡◌, ◌<◌, ◌≤◌, ◌+◌, ◌↔◌, ◌≢◌, suc, ℕ, [], ◌∷◌, ◌++◌, length, true, slice_get, if◌then◌else◌, Contains, IsTrue, IfOk, OnOk, OnErr};
+ghost use Rattle.std.specs.Prelude.{◌≡◌, ◌<◌, ◌≤◌, ◌+◌, ◌↔◌, ◌≢◌, suc, ℕ, [], ◌∷◌, ◌++◌, length, true, false, slice_get, if◌then◌else◌, Contains, IsTrue, IfOk, OnOk, OnErr};
 ghost use Rattle.xs_chart.specs.Different.{AreDifferent};
 ghost use Rattle.xs_chart.specs.Kept.{opened, IsKept};
 
@@ -47,6 +47,7 @@ fn refill(last: &mut Table, items: &[Item]) -> Result<(), Memory>
 }
 
 /// Opens the last set again, where the sets after it were removed.
+#[inline(always)]
 fn reopen(
     is_open: &mut bool,
     items: &mut FlatLists<Item>,
@@ -64,6 +65,28 @@ fn reopen(
     if *is_open {
         return Ok(());
     }
+    open_last(is_open, items, waits, last, waiting)?;
+    Ok(())
+}
+
+/// Makes the last finished set the open one.
+#[cold]
+#[inline(never)]
+fn open_last(
+    is_open: &mut bool,
+    items: &mut FlatLists<Item>,
+    waits: &mut FlatLists<Waiter>,
+    last: &mut Table,
+    waiting: &mut Vec<Waiter>,
+) -> Result<(), Memory>
+    requires closed { is_open.old ≡ false }
+    requires kept { IsKept is_open.old items.old last.old waits.old }
+    requires some { 0 < length (opened is_open.old items.old last.old) }
+    ensures open { OnOk result (is_open.new ≡ true) }
+    ensures sets { opened is_open.new items.new last.new ≡ opened is_open.old items.old last.old }
+    ensures waits { opened is_open.new waits.new waiting.new.items ≡ opened is_open.old waits.old waiting.old.items }
+    ensures kept { IsKept is_open.new items.new last.new waits.new }
+{
     let set = items.len() - 1;
     refill(last, items.list(set))?;
     waiting.clear();
@@ -113,6 +136,7 @@ impl Chart {
     }
 
     /// Puts the item last in the last set, unless it is there; true exactly where it was not there.
+    #[inline(always)]
     pub fn add(&mut self, item: Item) -> Result<bool, Memory>
         requires { 0 < length self.old.sets }
         ensures added { IfOk result (λ added. IsTrue added ↔ (Contains (items_of self.old (last_set self.old)) item → ⊥)) }
@@ -132,6 +156,7 @@ impl Chart {
     }
 
     /// The items of a set, in the order in which they were added.
+    #[inline(always)]
     pub fn items(&self, set: u32) -> &[Item]
         requires { set < length self.now.sets }
         ensures { result.now ≡ items_of self.now set }
@@ -157,6 +182,7 @@ impl Chart {
     }
 
     /// The item at place k of the set.
+    #[inline(always)]
     pub fn item(&self, set: u32, k: u64) -> Item
         requires { k < length (items_of self.now set) }
         ensures { slice_get (items_of self.now set) k ≡ Some result }
@@ -165,6 +191,7 @@ impl Chart {
     }
 
     /// The number of the set's items.
+    #[inline(always)]
     pub fn len(&self, set: u32) -> u64
         requires { set < length self.now.sets }
         ensures { result ≡ length (items_of self.now set) }
@@ -182,6 +209,7 @@ impl Chart {
     }
 
     /// Puts the number k of an item of the last set last in the nonterminal's waiting list there.
+    #[inline(always)]
     pub fn wait(&mut self, non: u32, k: u64) -> Result<(), Memory>
         requires { k < length (items_of self.old (last_set self.old)) }
         ensures sets { OnOk result (self.new.sets ≡ self.old.sets) }
@@ -222,6 +250,7 @@ impl Chart {
 
     /// The nonterminal's waiting list in a set before the last one, in time logarithmic in the
     /// entries of the set's lists.
+    #[inline(always)]
     pub fn waiting(&self, set: u32, non: u32) -> Waiting
         requires { suc set < length self.now.sets }
         ensures set { result.set ≡ set }
@@ -238,6 +267,7 @@ impl Chart {
     }
 
     /// Entry n of a waiting list: a number of an item of the set.
+    #[inline(always)]
     pub fn waiter(&self, waiting: Waiting, n: usize) -> u64
         requires is { IsWaiting self.now waiting }
         requires n { n < waiting.count }

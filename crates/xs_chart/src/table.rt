@@ -36,6 +36,7 @@ impl Model for Table {
 }
 
 /// The slot of an item among that many.
+#[inline(always)]
 fn slot(item: Item, count: usize) -> usize
     requires { 0 < count }
     ensures is { result ≡ slot_of count item }
@@ -46,6 +47,7 @@ fn slot(item: Item, count: usize) -> usize
 }
 
 /// Whether the item is one of those on the chain from a number on.
+#[inline(always)]
 fn seek(items: &[Item], earlier: &[u32], start: u32, item: Item) -> bool
     requires long { length earlier.now ≡ length items.now }
     requires back { IsBackward earlier.now }
@@ -64,6 +66,7 @@ fn seek(items: &[Item], earlier: &[u32], start: u32, item: Item) -> bool
 }
 
 /// Puts an item's number last in the chain of its slot.
+#[inline(always)]
 fn link(earlier: &mut Vec<u32>, heads: &mut Vec<u32>, item: Item) -> Result<(), Memory>
     requires { 0 < length heads.old.items }
     ensures earlier { OnOk result (earlier.new.items ≡ earlier.old.items ++ min (slice_index_or heads.old.items (slot_of (length heads.old.items) item) 0) (length earlier.old.items) ∷ []) }
@@ -71,9 +74,10 @@ fn link(earlier: &mut Vec<u32>, heads: &mut Vec<u32>, item: Item) -> Result<(), 
     ensures err { OnErr result (earlier.new.items ≡ earlier.old.items) }
     ensures heads_err { OnErr result (heads.new.items ≡ heads.old.items) }
 {
-    let Ok(number) = u32::try_from(earlier.len() + 1) else {
+    if earlier.len() >= u32::MAX as usize {
         return Err(Memory);
-    };
+    }
+    let number = earlier.len() as u32 + 1;
     let place = slot(item, heads.len());
     earlier.push(heads[place].min(number - 1))?;
     heads[place] = number;
@@ -120,6 +124,7 @@ impl Table {
     }
 
     /// The items in order.
+    #[inline(always)]
     pub fn as_slice(&self) -> &[Item]
         ensures is { result.now ≡ self.now }
         ensures different { AreDifferent self.now }
@@ -128,6 +133,7 @@ impl Table {
     }
 
     /// Whether the item is there: in constant expected time.
+    #[inline(always)]
     pub fn has(&self, item: Item) -> bool
         ensures is { IsTrue result ↔ Contains self.now item }
         ensures different { AreDifferent self.now }
@@ -137,12 +143,25 @@ impl Table {
     }
 
     /// Makes more slots where there are no more than items.
+    #[inline(always)]
     fn spread(&mut self) -> Result<(), Memory>
-        ensures { self.new ≡ self.old }
+        ensures same { self.new ≡ self.old }
+        ensures different { AreDifferent self.new }
     {
         if self.items.len() < self.heads.len() {
             return Ok(());
         }
+        self.widen()?;
+        Ok(())
+    }
+
+    /// Doubles the slots.
+    #[cold]
+    #[inline(never)]
+    fn widen(&mut self) -> Result<(), Memory>
+        ensures same { self.new ≡ self.old }
+        ensures different { AreDifferent self.new }
+    {
         let Some(count) = self.heads.len().checked_mul(2) else {
             return Err(Memory);
         };
@@ -153,17 +172,18 @@ impl Table {
     }
 
     /// Puts the item last, unless it is there; true exactly where it was not there.
+    #[inline(always)]
     pub fn add(&mut self, item: Item) -> Result<bool, Memory>
         ensures added { IfOk result (λ added. IsTrue added ↔ (Contains self.old item → ⊥)) }
         ensures items { IfOk result (λ added. self.new ≡ (if added then self.old ++ item ∷ [] else self.old)) }
         ensures different { AreDifferent self.new }
         ensures err { OnErr result (self.new ≡ self.old) }
     {
+        self.spread()?;
+        self.items.reserve(1)?;
         if self.has(item) {
             return Ok(false);
         }
-        self.spread()?;
-        self.items.reserve(1)?;
         link(&mut self.earlier, &mut self.heads, item)?;
         self.items.push_reserved(item);
         Ok(true)

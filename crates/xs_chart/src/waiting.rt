@@ -57,6 +57,7 @@ pub(crate) fn keep(
 }
 
 /// Where the entries of a nonterminal begin among those that are grouped, and how many there are.
+#[inline(always)]
 pub(crate) fn find(waits: &[Waiter], non: u32) -> (usize, usize)
     requires { IsNonDecreasingBy non_of waits.now }
     ensures within { result.0 + result.1 ≤ length waits.now }

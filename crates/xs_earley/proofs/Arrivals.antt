@@ -1,6 +1,6 @@
 -- What is gathered by a symbol is what arrives by it.
 use Rattle.std.proofs.Common.{◌≡◌, ◌≢◌, ℕ, zero, suc, ◌+◌, ◌-◌, ◌<◌, ◌≤◌, ◌^◌, Bool, true, false, not, List, [], ◌∷◌, ◌++◌, length, take, drop, get_or, Option, Some, None, if◌then◌else◌, refl, sym, ◌∙◌, ap, subst, arith, ◌⊎◌, inl, inr, ◌↔◌, append_assoc, append-nil, length-drop}
-use Rattle.std.specs.Prelude.{Contains, slice_get, slice_index_or, slice_range, IsTrue, IsSomeAnd, nat_le, nat_eq, ◌&&◌, ◌||◌}
+use Rattle.std.specs.Prelude.{Contains, slice_get, slice_index_or, slice_range, IsTrue, IsSomeAnd, IfSome, nat_le, nat_eq, ◌&&◌, ◌||◌}
 use Rattle.std.proofs.lemmas.Bool.{cases_eq, cases_lt, eqb-true, eqb-false, eq-eqb, ne_eqb, leb-true, le-leb, and_parts, and_from, or_cases, or_left, or_right, false≢true, true≢false}
 use Rattle.std.proofs.lemmas.List.{take_more, take_all, get_or_past, length-take-le}
 use Rattle.std.proofs.lemmas.List.Elements.{Contains-append_left, Contains-append_right, Contains-append_cases}
@@ -18,6 +18,8 @@ use Rattle.xs_gram.specs.Sound.{IsBuilt}
 use Rattle.xs_gram.specs.Chart.{IsAutomatonOf, Stands}
 use Rattle.xs_gram.specs.Places.{at_dot, at_inside, all_places, IsPlace}
 use Rattle.xs_gram.proofs.Numbers.{place_once, number_inside, listed_is_place, as_dot}
+use Rattle.xs_atoms.specs.declared.atoms.Atoms.{Atoms}
+use Rattle.xs_atoms.specs.Alphabet.{AreAtoms, atom_of, class_has, term_classes, skip_classes}
 use Rattle.xs_chart_laws.specs.Steps.{next_of, HasAutomaton, GoesBy, Arrives}
 use Rattle.xs_chart_laws.specs.Reading.{Reads}
 use Rattle.xs_chart_laws.specs.Charts.{IsNumber, set_at, HasPlace, IsChartOf}
@@ -31,8 +33,8 @@ use Rattle.xs_earley.specs.declared.facts.Facts.{Facts}
 use Rattle.xs_earley.specs.declared.rows.Row.{Row}
 use Rattle.xs_earley.specs.declared.rows.Stand.{Stand}
 use Rattle.xs_earley.specs.declared.rows.Stand.TheVariants.{AtEnd, AtNon, AtWord, AtTerm, AtSkip}
-use Rattle.xs_earley.specs.Facts.{row_at, IsSpelt, IsStand, IsRow, AreFacts}
-use Rattle.xs_earley.specs.Arriving.{gathered, in_class, at_has, positions_at, entered, lex_due, is_letter, word_due, word_begun, due_at, begun_at, item_due, item_begun, rest_due, rest_begun, more_due, more_begun, AreBegun}
+use Rattle.xs_earley.specs.Facts.{row_at, IsSpelt, IsStand, IsRow, AreFacts, IsAtom}
+use Rattle.xs_earley.specs.Arriving.{gathered, in_class, at_has, IsTold, positions_at, entered, lex_due, is_letter, word_due, word_begun, due_at, begun_at, item_due, item_begun, rest_due, rest_begun, more_due, more_begun, AreBegun}
 use Rattle.xs_earley.specs.Stages.{AreDue}
 
 -- what is gathered
@@ -608,7 +610,14 @@ has_same a k s class b at h =
     let c = class_in class s in
     same_truth b (at_has a k s) (Has class s) h (subst (λ (l : List (ℕ × ℕ)). IsTrue (in_class l s) ↔ Has class s) (sym row) c)
 
--- a state's terminal or ignorable is there, and so are the numbers of its positions
+-- the class of a position has the symbol's atom exactly where the position has the symbol
+class_told : (atoms : Atoms) (a : Position) (classes row : List ℕ) (k s atom : ℕ) → classes ≡ row → atom ≡ atom_of atoms s → HasAt a k s ↔ IsTrue (class_has atoms (slice_index_or row k 0) (atom_of atoms s)) → class_has atoms (slice_index_or classes k 0) atom ≡ at_has a k s
+class_told atoms a classes row k s atom same is iff =
+    ap (λ (l : List ℕ). class_has atoms (slice_index_or l k 0) atom) same
+    ∙ ap (λ n. class_has atoms (slice_index_or row k 0) n) is
+    ∙ same_truth (class_has atoms (slice_index_or row k 0) (atom_of atoms s)) (at_has a k s) (HasAt a k s) ((λ h. iff.1 h), (λ h. iff.0 h)) (at_has_iff a k s)
+
+-- a state's terminal or ignorable is there, and so are the numbers of its positions, and whether they have a symbol
 module _ (g : Grammar) (f : Facts) (built : IsBuilt g) (facts : AreFacts g f) (state : ℕ) (lt : state < length (all_places g)) where
   there : (c : Place) × IsNumber g state c
   there = get_some (all_places g) state lt
@@ -616,17 +625,24 @@ module _ (g : Grammar) (f : Facts) (built : IsBuilt g) (facts : AreFacts g f) (s
   its : IsRow g f.letters.items there.0 (row_at f.rows.items state)
   its = facts.rows.each state there.0 lt there.1
 
+  -- a position to which the automaton may go is one of its own
+  below : (a : Position) → HasAutomaton g there.0 a → IsWellFormed a → (k : ℕ) → Contains (positions_at a state (row_at f.rows.items state).base) k → k < length a.classes
+  below a lex formed k h = by there.0.inside ((positions_iff g there.0 a state (row_at f.rows.items state).base there.1 its.base lex k).0 h)
+    where
+      by : (o : Option ℕ) → Next a o k → k < length a.classes
+      by None n = formed.first_in k n
+      by (Some j) n = formed.follow_in j k n
+
   room : (a : Position) → HasAutomaton g there.0 a → IsWellFormed a → (k : ℕ) → Contains (positions_at a state (row_at f.rows.items state).base) k → (row_at f.rows.items state).base + 1 + k < 2 ^ 32
   room a lex formed k h =
       let base = (row_at f.rows.items state).base in
-      let next = (positions_iff g there.0 a state base there.1 its.base lex k).0 h in
-      let n = get_lt (all_places g) (base + 1 + k) (at_inside there.0.rule there.0.dot k) (position_number g there.0 a state base there.1 its.base lex k (below there.0.inside next)) in
+      let n = get_lt (all_places g) (base + 1 + k) (at_inside there.0.rule there.0.dot k) (position_number g there.0 a state base there.1 its.base lex k (below a lex formed k h)) in
       let few = facts.few in
       omega (arith, n, few)
-    where
-      below : (o : Option ℕ) → Next a o k → k < length a.classes
-      below None n = formed.first_in k n
-      below (Some j) n = formed.follow_in j k n
+
+  -- the atoms are those of the grammar
+  exact : (atoms : Atoms) → f.atoms ≡ Some atoms → AreAtoms g atoms
+  exact atoms at = subst (λ o. IfSome o (AreAtoms g)) at facts.atoms
 
   pub term_there : (term : ℕ) → (row_at f.rows.items state).stand ≡ AtTerm term → term < length g.terms
   term_there term e = let k = subst (λ st. IsStand g f.letters.items there.0 st) e its.stand in built.range.terms there.0.rule there.0.dot term k.0 k.1
@@ -639,3 +655,19 @@ module _ (g : Grammar) (f : Facts) (built : IsBuilt g) (facts : AreFacts g f) (s
 
   pub skip_room : (skip : ℕ) → (row_at f.rows.items state).stand ≡ AtSkip skip → (k : ℕ) → Contains (positions_at (skip_of g skip).automaton state (row_at f.rows.items state).base) k → (row_at f.rows.items state).base + 1 + k < 2 ^ 32
   skip_room skip e = let k = subst (λ st. IsStand g f.letters.items there.0 st) e its.stand in room (skip_of g skip).automaton (Skip skip, k, refl) (built.automata.skips skip (skip_there skip e)).formed
+
+  pub term_told : (term s atom : ℕ) (classes : List ℕ) → (row_at f.rows.items state).stand ≡ AtTerm term → IsAtom f s atom → ((atoms : Atoms) → f.atoms ≡ Some atoms → classes ≡ term_classes atoms term) → (k : ℕ) → Contains (positions_at (term_of g term).automaton state (row_at f.rows.items state).base) k → IsTold f classes atom (term_of g term).automaton s k
+  term_told term s atom classes e is row k h atoms at =
+      let its_term = subst (λ st. IsStand g f.letters.items there.0 st) e its.stand in
+      let a = (term_of g term).automaton in
+      let lt = term_there term e in
+      let within = below a (Term term its_term.0, its_term.1, refl) (built.automata.terms term lt).formed k h in
+      class_told atoms a classes (term_classes atoms term) k s atom (row atoms at) (is atoms at) ((exact atoms at).terms term k s lt within)
+
+  pub skip_told : (skip s atom : ℕ) (classes : List ℕ) → (row_at f.rows.items state).stand ≡ AtSkip skip → IsAtom f s atom → ((atoms : Atoms) → f.atoms ≡ Some atoms → classes ≡ skip_classes atoms skip) → (k : ℕ) → Contains (positions_at (skip_of g skip).automaton state (row_at f.rows.items state).base) k → IsTold f classes atom (skip_of g skip).automaton s k
+  skip_told skip s atom classes e is row k h atoms at =
+      let its_skip = subst (λ st. IsStand g f.letters.items there.0 st) e its.stand in
+      let a = (skip_of g skip).automaton in
+      let lt = skip_there skip e in
+      let within = below a (Skip skip, its_skip, refl) (built.automata.skips skip lt).formed k h in
+      class_told atoms a classes (skip_classes atoms skip) k s atom (row atoms at) (is atoms at) ((exact atoms at).skips skip k s lt within)

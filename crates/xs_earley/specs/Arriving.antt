@@ -3,6 +3,8 @@ use Rattle.std.specs.Prelude.{◌≡◌, ℕ, ◌+◌, ◌-◌, ◌<◌, ◌&&�
 use Rattle.xs_chart.specs.declared.item.Item.{Item}
 use Rattle.xs_regex.specs.declared.position.Position.{Position}
 use Rattle.xs_gram.specs.Grammar.{Grammar, term_of, skip_of}
+use Rattle.xs_atoms.specs.declared.atoms.Atoms.{Atoms}
+use Rattle.xs_atoms.specs.Alphabet.{class_has}
 use Rattle.xs_chart_laws.specs.Next.{IsBegun}
 use Rattle.xs_earley.specs.declared.begun.Begun.{Begun}
 use Rattle.xs_earley.specs.declared.rows.Row.{Row}
@@ -24,6 +26,11 @@ in_class (r ∷ rs) s = (nat_le r.0 s && nat_le s r.1) || in_class rs s
 -- position k has the symbol in its class
 abbrev pub at_has : Position → ℕ → ℕ → Bool
 at_has a k s = in_class (slice_index_or a.classes k []) s
+
+-- where the grammar has atoms: of the classes with these numbers, that of position k has the atom exactly where
+-- the position has the symbol
+abbrev pub IsTold : Facts → List ℕ → ℕ → Position → ℕ → ℕ → Type 0
+IsTold f classes atom a s k = (atoms : Atoms) → f.atoms ≡ Some atoms → class_has atoms (slice_index_or classes k 0) atom ≡ at_has a k s
 
 -- the positions to which the automaton may go from a state, whose place before the automaton has number `base`
 abbrev pub positions_at : Position → ℕ → ℕ → List ℕ

@@ -1,11 +1,13 @@
 -- Facts of a grammar that its recogniser asks for: those of its nonterminals, and a row for each place.
-use Rattle.std.specs.Prelude.{◌≡◌, ℕ, ◌<◌, ◌≤◌, ◌^◌, ◌↔◌, Bool, false, List, [], length, Option, None, Some, slice_index_or, slice_range, Contains, IsTrue}
+use Rattle.std.specs.Prelude.{◌≡◌, ℕ, ◌<◌, ◌≤◌, ◌^◌, ◌↔◌, Bool, false, List, [], length, Option, None, Some, slice_index_or, slice_range, Contains, IsTrue, IfSome}
 use Rattle.xs_regex.specs.declared.position.Position.{Position}
 use Rattle.xs_gram.specs.declared.parts.GItem.{GItem}
 use Rattle.xs_gram.specs.declared.parts.GItem.TheVariants.{Fixed, Term, Non, Skip}
 use Rattle.xs_gram.specs.declared.places.Place.{Place}
 use Rattle.xs_gram.specs.Grammar.{Grammar, ItemAt}
 use Rattle.xs_gram.specs.Places.{at_dot, all_places}
+use Rattle.xs_atoms.specs.declared.atoms.Atoms.{Atoms}
+use Rattle.xs_atoms.specs.Alphabet.{AreAtoms, atom_of}
 use Rattle.xs_order.specs.Order.{AreNullable}
 use Rattle.xs_chart_laws.specs.Steps.{next_of, IsBefore, IsAtEnd, IsPassed}
 use Rattle.xs_chart_laws.specs.Charts.{IsNumber}
@@ -69,3 +71,8 @@ pub record AreFacts (g : Grammar) (facts : Facts) : Type 0 where
   pub rows : AreRows g facts.letters.items (length (all_places g)) facts.rows.items
   pub few : length (all_places g) < 2 ^ 32
   pub letters_few : length facts.letters.items < 2 ^ 32
+  pub atoms : IfSome facts.atoms (AreAtoms g)
+
+-- the symbol's atom, where the grammar has atoms
+abbrev pub IsAtom : Facts → ℕ → ℕ → Type 0
+IsAtom facts s atom = (atoms : Atoms) → facts.atoms ≡ Some atoms → atom ≡ atom_of atoms s

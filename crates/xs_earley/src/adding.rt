@@ -12,6 +12,7 @@ use xs_chart::{Chart, Item};
 use xs_class::Memory;
 
 /// Adds the item of a state and an origin to the last set, unless it is there.
+#[inline(always)]
 pub fn put(chart: &mut Chart, at: u32, state: u32, origin: u32) -> Result<(), Memory>
     requires last { length chart.old.sets ≡ suc at }
     ensures adds { IfOk result (λ _. (g : Grammar) (c : Place) → IsNumber g state c → Adds g at (Is c origin) chart.old.sets chart.new.sets) }
@@ -37,6 +38,7 @@ pub fn put_all(chart: &mut Chart, at: u32, items: &[Item]) -> Result<(), Memory>
 }
 
 /// Adds the item after the place of a row to the last set, where the place may be passed over.
+#[inline(always)]
 pub fn pass(chart: &mut Chart, at: u32, row: Row, origin: u32) -> Result<(), Memory>
     requires last { length chart.old.sets ≡ suc at }
     ensures adds { IfOk result (λ _. (g : Grammar) (letters : List ℕ) (c : Place) → IsRow g letters c row → Adds g at (Passes g c origin) chart.old.sets chart.new.sets) }

@@ -3,8 +3,8 @@ ghost use Rattle.xs_chart.specs.declared.item.Item.{Item as AnyItem};
 ghost use Rattle.xs_gram.specs.Sound.{IsBuilt};
 ghost use Rattle.xs_gram.specs.Places.{all_places};
 ghost use Rattle.xs_earley.specs.declared.begun.Begun.{Begun as AnyBegun};
-ghost use Rattle.xs_earley.specs.Facts.{AreFacts};
-ghost use Rattle.xs_earley.specs.Arriving.{gathered, at_has, positions_at, entered, lex_due, is_letter, word_due, word_begun, item_due, item_begun, more_due, more_begun};
+ghost use Rattle.xs_earley.specs.Facts.{AreFacts, IsAtom};
+ghost use Rattle.xs_earley.specs.Arriving.{gathered, at_has, positions_at, entered, lex_due, IsTold, is_letter, word_due, word_begun, item_due, item_begun, more_due, more_begun};
 
 use crate::begun::Begun;
 use crate::facts::Facts;
@@ -14,8 +14,9 @@ use xs_class::{Memory, Sym};
 use xs_gram::Gram;
 use xs_regex::Position;
 
-/// Whether the position's class has the symbol.
-fn has_at(automaton: &Position, position: u32, symbol: Sym) -> bool
+/// Whether the position's class has the symbol, by its ranges.
+#[inline(never)]
+fn has_in_ranges(automaton: &Position, position: u32, symbol: Sym) -> bool
     ensures { result ≡ at_has automaton.now position symbol }
 {
     match automaton.classes.as_slice().get(position as usize) {
@@ -24,7 +25,39 @@ fn has_at(automaton: &Position, position: u32, symbol: Sym) -> bool
     }
 }
 
+/// Whether the position's class has the symbol: by its atom and the numbers of the positions'
+/// classes, or by its ranges where the grammar has no atoms.
+#[inline(always)]
+fn has_at(
+    facts: &Facts,
+    automaton: &Position,
+    classes: &[u32],
+    position: u32,
+    symbol: Sym,
+    atom: u16,
+) -> bool
+    requires { IsTold facts.now classes.now atom automaton.now symbol position }
+    ensures { result ≡ at_has automaton.now position symbol }
+{
+    match &facts.atoms {
+        Some(atoms) => atoms.class_has(class_at(classes, position), atom),
+        None => has_in_ranges(automaton, position, symbol),
+    }
+}
+
+/// The number of the class at a position, 0 where there is none.
+#[inline(always)]
+fn class_at(classes: &[u32], position: u32) -> u32
+    ensures { result ≡ slice_index_or classes.now position 0 }
+{
+    match classes.get(position as usize) {
+        Some(class) => *class,
+        None => 0,
+    }
+}
+
 /// The row of positions at a place, none where there is no such row.
+#[inline(always)]
 fn row_at(automaton: &Position, place: usize) -> &[u32]
     ensures { result.now ≡ slice_index_or automaton.now.follow place [] }
 {
@@ -35,6 +68,7 @@ fn row_at(automaton: &Position, place: usize) -> &[u32]
 }
 
 /// The positions to which the automaton may go from a state, by the number of the place before it.
+#[inline(always)]
 fn next_positions(automaton: &Position, state: u32, base: u32) -> &[u32]
     ensures { result.now ≡ positions_at automaton.now state base }
 {
@@ -49,18 +83,23 @@ fn next_positions(automaton: &Position, state: u32, base: u32) -> &[u32]
 }
 
 /// Appends the item inside the automaton at a position, where that has the symbol.
+#[inline(always)]
 fn enter(
     due: &mut Vec<Item>,
+    facts: &Facts,
     automaton: &Position,
+    classes: &[u32],
     position: u32,
     symbol: Sym,
+    atom: u16,
     base: u32,
     origin: u32,
 ) -> Result<(), Memory>
-    requires { base + 1 + position < 2 ^ 32 }
+    requires room { base + 1 + position < 2 ^ 32 }
+    requires told { IsTold facts.now classes.now atom automaton.now symbol position }
     ensures { IfOk result (λ _. due.new.items ≡ due.old.items ++ entered automaton.now symbol base origin position) }
 {
-    if !has_at(automaton, position, symbol) {
+    if !has_at(facts, automaton, classes, position, symbol, atom) {
         return Ok(());
     }
     due.push(Item {
@@ -71,25 +110,33 @@ fn enter(
 }
 
 /// Appends the items to which the automaton goes by the symbol from a state.
+#[inline(always)]
 fn go_on(
     due: &mut Vec<Item>,
+    facts: &Facts,
     automaton: &Position,
+    classes: &[u32],
     symbol: Sym,
+    atom: u16,
     state: u32,
     base: u32,
     origin: u32,
 ) -> Result<(), Memory>
-    requires { (k : ℕ) → Contains (positions_at automaton.now state base) k → base + 1 + k < 2 ^ 32 }
+    requires room { (k : ℕ) → Contains (positions_at automaton.now state base) k → base + 1 + k < 2 ^ 32 }
+    requires told { (k : ℕ) → Contains (positions_at automaton.now state base) k → IsTold facts.now classes.now atom automaton.now symbol k }
     ensures { IfOk result (λ _. due.new.items ≡ due.old.items ++ lex_due automaton.now symbol state base origin) }
 {
     let positions = next_positions(automaton, state, base);
     'positions: for position in positions {
-        enter(due, automaton, *position, symbol, base, origin)?;
+        enter(
+            due, facts, automaton, classes, *position, symbol, atom, base, origin,
+        )?;
     }
     Ok(())
 }
 
 /// Whether the symbol stands at a place of the list.
+#[inline(always)]
 fn is_at(letters: &[Sym], place: usize, symbol: Sym) -> bool
     ensures { result ≡ is_letter (slice_get letters.now place) symbol }
 {
@@ -101,6 +148,7 @@ fn is_at(letters: &[Sym], place: usize, symbol: Sym) -> bool
 
 /// Reads the symbol as that at a place of a fixed word: appends the item after the word where it is
 /// the last one, and the begun word where it is not.
+#[inline(always)]
 fn read_letter(
     due: &mut Vec<Item>,
     fresh: &mut Vec<Begun>,
@@ -127,16 +175,19 @@ fn read_letter(
 }
 
 /// Appends what an item of the last set leads to by the symbol.
+#[inline(always)]
 fn arrive(
     due: &mut Vec<Item>,
     fresh: &mut Vec<Begun>,
     g: &Gram,
     facts: &Facts,
     symbol: Sym,
+    atom: u16,
     item: Item,
 ) -> Result<(), Memory>
     requires built { IsBuilt g.now }
     requires facts { AreFacts g.now facts.now }
+    requires atom { IsAtom facts.now symbol atom }
     requires state { item.state < length (all_places g.now) }
     ensures due { IfOk result (λ _. due.new.items ≡ due.old.items ++ item_due g.now facts.now symbol item) }
     ensures fresh { IfOk result (λ _. fresh.new.items ≡ fresh.old.items ++ item_begun facts.now symbol item) }
@@ -168,11 +219,31 @@ fn arrive(
             Ok(())
         }
         Stand::AtTerm(term) => {
-            go_on(due, g.term(term), symbol, item.state, row.base, item.origin)?;
+            go_on(
+                due,
+                facts,
+                g.term(term),
+                facts.term_classes(term),
+                symbol,
+                atom,
+                item.state,
+                row.base,
+                item.origin,
+            )?;
             Ok(())
         }
         Stand::AtSkip(skip) => {
-            go_on(due, g.skip(skip), symbol, item.state, row.base, item.origin)?;
+            go_on(
+                due,
+                facts,
+                g.skip(skip),
+                facts.skip_classes(skip),
+                symbol,
+                atom,
+                item.state,
+                row.base,
+                item.origin,
+            )?;
             Ok(())
         }
     }
@@ -193,13 +264,15 @@ pub fn arrive_all(
     ensures due { IfOk result (λ _. due.new.items ≡ due.old.items ++ gathered (item_due g.now facts.now symbol) items.now) }
     ensures fresh { IfOk result (λ _. fresh.new.items ≡ fresh.old.items ++ gathered (item_begun facts.now symbol) items.now) }
 {
+    let atom = facts.atom(symbol);
     'items: for item in items {
-        arrive(due, fresh, g, facts, symbol, *item)?;
+        arrive(due, fresh, g, facts, symbol, atom, *item)?;
     }
     Ok(())
 }
 
 /// Appends what a begun word leads to by the symbol.
+#[inline(always)]
 fn read_on(
     due: &mut Vec<Item>,
     fresh: &mut Vec<Begun>,

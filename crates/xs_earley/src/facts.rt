@@ -1,25 +1,29 @@
-ghost use Rattle.std.specs.Prelude.{◌≡◌, ◌<◌, ◌↔◌, ℕ, length, IfOk, Contains};
+ghost use Rattle.std.specs.Prelude.{◌≡◌, ◌<◌, ◌↔◌, ℕ, length, Some, IfOk, Contains};
+ghost use Rattle.xs_atoms.specs.Alphabet.{term_classes, skip_classes};
+ghost use Rattle.xs_atoms.specs.declared.atoms.Atoms.{Atoms as AnyAtoms};
 ghost use Rattle.xs_gram.specs.Grammar.{IsRuleOf};
 ghost use Rattle.xs_gram.specs.Sound.{IsBuilt};
 ghost use Rattle.xs_order.specs.Order.{AreNullable};
 ghost use Rattle.xs_earley.specs.Asked.{AreRules};
-ghost use Rattle.xs_earley.specs.Facts.{AreFacts, row_at};
+ghost use Rattle.xs_earley.specs.Facts.{AreFacts, IsAtom, row_at};
 
 use crate::rows::{Row, rows_of};
 use std::alloc::Global;
+use xs_atoms::Atoms;
 use xs_class::{Memory, Sym, empty_lists};
 use xs_gram::Gram;
 use xs_order::{Flags, nullable};
 use xs_regex::Numbers;
 
-/// Of each nonterminal, whether it derives the empty word, and its rules; of each place a row; and
-/// the symbols of all fixed words.
+/// Of each nonterminal, whether it derives the empty word, and its rules; of each place a row; the
+/// symbols of all fixed words; and the grammar's atoms, where it has few.
 #[derive(Drop)]
 pub struct Facts {
     pub nulls: Flags,
     pub rules: Vec<Numbers>,
     pub rows: Vec<Row>,
     pub letters: Vec<Sym>,
+    pub atoms: Option<Atoms>,
 }
 
 /// The rules of each nonterminal.
@@ -36,8 +40,8 @@ fn rules_of(alloc: Global, g: &Gram) -> Result<Vec<Numbers>, Memory>
 }
 
 impl Facts {
-    /// The facts of a grammar; linear in its nonterminals, rules, places and fixed words, beyond the
-    /// nonterminals that derive the empty word.
+    /// The facts of a grammar; linear in its nonterminals, rules, places and fixed words, beyond its
+    /// atoms and the nonterminals that derive the empty word.
     pub fn of(alloc: Global, g: &Gram) -> Result<Facts, Memory>
         requires built { IsBuilt g.now }
         ensures { IfOk result (AreFacts g.now) }
@@ -45,16 +49,19 @@ impl Facts {
         let nulls = nullable(alloc, g)?;
         let rules = rules_of(alloc, g)?;
         let (rows, letters) = rows_of(alloc, g, &nulls)?;
+        let atoms = Atoms::of(alloc, g)?;
         let _places = g.places();
         Ok(Facts {
             nulls,
             rules,
             rows,
             letters,
+            atoms,
         })
     }
 
     /// The rules of the nonterminal.
+    #[inline(always)]
     pub fn rules(&self, g: &Gram, non: u32) -> &[u32]
         requires facts { AreFacts g.now self.now }
         requires non { non < g.now.nons }
@@ -64,10 +71,44 @@ impl Facts {
     }
 
     /// The row of a place by its number.
+    #[inline(always)]
     pub fn row(&self, state: u32) -> Row
         requires { state < length self.now.rows.items }
         ensures { result ≡ row_at self.now.rows.items state }
     {
         self.rows[state as usize]
+    }
+
+    /// The atom of a symbol, where the grammar has atoms.
+    #[inline(always)]
+    pub fn atom(&self, symbol: Sym) -> u16
+        ensures { IsAtom self.now symbol result }
+    {
+        match &self.atoms {
+            Some(atoms) => atoms.of_symbol(symbol),
+            None => 0,
+        }
+    }
+
+    /// The numbers of the classes at the positions of a terminal, where the grammar has atoms.
+    #[inline(always)]
+    pub fn term_classes(&self, term: u32) -> &[u32]
+        ensures { (atoms : AnyAtoms) → self.now.atoms ≡ Some atoms → result.now ≡ term_classes atoms term }
+    {
+        match &self.atoms {
+            Some(atoms) => atoms.term_classes(term),
+            None => &[],
+        }
+    }
+
+    /// The numbers of the classes at the positions of an ignorable, where the grammar has atoms.
+    #[inline(always)]
+    pub fn skip_classes(&self, skip: u32) -> &[u32]
+        ensures { (atoms : AnyAtoms) → self.now.atoms ≡ Some atoms → result.now ≡ skip_classes atoms skip }
+    {
+        match &self.atoms {
+            Some(atoms) => atoms.skip_classes(skip),
+            None => &[],
+        }
     }
 }

@@ -21,6 +21,7 @@ use xs_class::{Memory, Sym};
 use xs_gram::Gram;
 
 /// At the end of a rule of a nonterminal that began in an earlier set, completes it there.
+#[inline(always)]
 fn end_rule(
     chart: &mut Chart,
     g: &Gram,
@@ -44,6 +45,7 @@ fn end_rule(
 }
 
 /// Begins the rules of a nonterminal, unless it is marked as one whose rules are begun, and marks it.
+#[inline(always)]
 fn call(
     chart: &mut Chart,
     called: &mut [bool],
@@ -71,6 +73,7 @@ fn call(
 }
 
 /// Adds what stands at a place leads to, beside what may be passed over.
+#[inline(always)]
 fn lead(
     chart: &mut Chart,
     called: &mut [bool],
@@ -107,6 +110,7 @@ fn lead(
 }
 
 /// Adds all that an item of the last set leads to there.
+#[inline(always)]
 fn settle_item(
     chart: &mut Chart,
     called: &mut [bool],
@@ -135,6 +139,7 @@ fn settle_item(
 }
 
 /// Adds all that item k of the last set leads to there.
+#[inline(always)]
 fn settle(
     chart: &mut Chart,
     called: &mut [bool],
@@ -163,6 +168,7 @@ fn settle(
 
 /// Puts item k of the last set in the waiting list of the nonterminal before which it stands, if it
 /// stands before one.
+#[inline(always)]
 fn enlist(chart: &mut Chart, g: &Gram, facts: &Facts, at: u32, k: u64) -> Result<(), Memory>
     requires facts { AreFacts g.now facts.now }
     requires last { length chart.old.sets ≡ suc at }

@@ -32,6 +32,7 @@ pub fn predict(chart: &mut Chart, g: &Gram, at: u32, rules: &[u32]) -> Result<()
 
 /// Adds to the last set what is after the nonterminal for each item that waits for it in an earlier
 /// set.
+#[inline(always)]
 pub fn complete(
     chart: &mut Chart,
     g: &Gram,

@@ -3,9 +3,15 @@ use Rattle.std.specs.Prelude.{slice_get}
 use Rattle.std.proofs.lemmas.Bool.{false≢true, not-true}
 use Rattle.std.proofs.lemmas.List.{take_all}
 use Rattle.std.proofs.lemmas.Option.{slice_get-get_or}
+use Rattle.std.proofs.lemmas.Result.{err_from_is_err_and}
 use Rattle.xs_gram.specs.Languages.{InLang, IsViable}
 use Rattle.xs_earley.proofs.Steppings.{fault_stop, fault_whole}
 use Rattle.xs_earley.proofs.recogniser.recognise.Goals as goal
+
+pub returns-in_err-step-clause-fault : goal.returns-in_err-step-clause-fault
+returns-in_err-step-clause-fault c =
+    let fault = err_from_is_err_and c.from_residual-in_err-step.result c.from_residual-in_err-step.ensures.1 in
+    rw (fault.1, fault.2) (record {})
 
 pub returns-then-not-branch-clause-fault : goal.returns-then-not-branch-clause-fault
 returns-then-not-branch-clause-fault c =

@@ -5,17 +5,11 @@ use Rattle.xs_chart.specs.declared.item.Item.{Item}
 use Rattle.xs_chart.proofs.Linking.{table_more}
 use Rattle.xs_chart.proofs.table.Table.add.Goals as goal
 
-pub invariant_of-self-2 : goal.invariant_of-self-2
-invariant_of-self-2 c =
+pub invariant_of-self-3 : goal.invariant_of-self-3
+invariant_of-self-3 c =
     let i = c.self.inside in
     rw (c.push_reserved.ensures.items, c.in_ok-reserve.ensures.items, c.in_ok-link.ensures.heads, c.in_ok-link.ensures.earlier)
-    (table_more i.items.items i.earlier.items i.heads.items c.args.item c.self.invariant (λ h. true≢false (sym (c.has.ensures.is.1 (subst (λ (l : List Item). Contains l c.args.item) (c.self.view_is ∙ c.spread.ensures) h)) ∙ c.if-has.false)))
-
-pub returns-then-has-clause-different : goal.returns-then-has-clause-different
-returns-then-has-clause-different c = c.has.ensures.different
-
-pub returns-in_err-spread-clause-different : goal.returns-in_err-spread-clause-different
-returns-in_err-spread-clause-different c = rw c.spread.ensures c.has.ensures.different
+    (table_more i.items.items i.earlier.items i.heads.items c.args.item c.self.invariant (λ h. true≢false (sym (c.has.ensures.is.1 (subst (λ (l : List Item). Contains l c.args.item) (sym c.in_ok-reserve.ensures.items) h)) ∙ c.if-has.false)))
 
 pub returns-clause-different : goal.returns-clause-different
-returns-clause-different c = (invariant_of-self-2 c).different
+returns-clause-different c = (invariant_of-self-3 c).different

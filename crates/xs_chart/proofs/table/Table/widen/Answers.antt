@@ -1,4 +1,4 @@
-use Rattle.xs_chart.proofs.table.Table.spread.Goals as goal
+use Rattle.xs_chart.proofs.table.Table.widen.Goals as goal
 
 pub invariant_of-self : goal.invariant_of-self
 invariant_of-self c =

@@ -2,7 +2,7 @@ use Rattle.std.proofs.Common.{◌≡◌, ℕ, List, Some, sym, ◌∙◌, ap, su
 use Rattle.std.specs.Prelude.{slice_get}
 use Rattle.std.proofs.lemmas.Option.{slice_get-get_or}
 use Rattle.xs_earley.proofs.Arrivals.{has_same}
-use Rattle.xs_earley.proofs.arrive.has_at.Goals as goal
+use Rattle.xs_earley.proofs.arrive.has_in_ranges.Goals as goal
 
 pub returns-in-Some : goal.returns-in-Some
 returns-in-Some c =
