@@ -73,7 +73,7 @@ gathered_has f xs x y there h = let at = get_of xs x there in gathered_at f xs a
 
 -- one element, where a test holds
 
-in_if : {A : Type 0} (b : Bool) (x y : A) → Contains (if b then x ∷ [] else []) y → IsTrue b × (y ≡ x)
+pub in_if : {A : Type 0} (b : Bool) (x y : A) → Contains (if b then x ∷ [] else []) y → IsTrue b × (y ≡ x)
 in_if true x y h = (refl, by h.0 h.1 h.2)
   where
     by : (k : ℕ) → k < 1 → get_or (x ∷ []) k y ≡ y → y ≡ x
@@ -81,7 +81,7 @@ in_if true x y h = (refl, by h.0 h.1 h.2)
     by (suc k) lt e = absurd (omega (arith, lt))
 in_if false x y h = absurd (omega (arith, h.1))
 
-if_in : {A : Type 0} (b : Bool) (x : A) → IsTrue b → Contains (if b then x ∷ [] else []) x
+pub if_in : {A : Type 0} (b : Bool) (x : A) → IsTrue b → Contains (if b then x ∷ [] else []) x
 if_in true x h = first_in x []
 if_in false x h = absurd (false≢true h)
 
@@ -115,7 +115,7 @@ has_in o class s e = subst (λ p. IsSomeAnd p (λ c. Has c s) ↔ Has class s) (
 has_none : (o : Option (List (ℕ × ℕ))) (s : ℕ) → o ≡ None → IsSomeAnd o (λ c. Has c s) → ⊥
 has_none o s e h = subst (λ p. IsSomeAnd p (λ c. Has c s)) e h
 
-get_none : {A : Type 0} (xs : List A) (k : ℕ) → length xs ≤ k → slice_get xs k ≡ None
+pub get_none : {A : Type 0} (xs : List A) (k : ℕ) → length xs ≤ k → slice_get xs k ≡ None
 get_none [] k le = refl
 get_none (x ∷ xs) zero le = absurd (omega (arith, le))
 get_none (x ∷ xs) (suc k) le = get_none xs k (omega (arith, le))
@@ -212,22 +212,22 @@ module _ (g : Grammar) (c : Place) (a : Position) (state base : ℕ) (num : IsNu
 
 -- fixed words
 
-word_in : (letters : List ℕ) (s at end : ℕ) (item x : Item) → Contains (word_due letters s at end item) x → (slice_get letters at ≡ Some s) × (at + 1 ≡ end) × (x ≡ item)
+pub word_in : (letters : List ℕ) (s at end : ℕ) (item x : Item) → Contains (word_due letters s at end item) x → (slice_get letters at ≡ Some s) × (at + 1 ≡ end) × (x ≡ item)
 word_in letters s at end item x h =
     let one = in_if (is_letter (slice_get letters at) s && nat_eq (at + 1) end) item x h in
     let both = and_parts (is_letter (slice_get letters at) s) (nat_eq (at + 1) end) one.0 in
     (letter_is (slice_get letters at) s both.0, eqb-true (at + 1) end both.1, one.1)
 
-word_has : (letters : List ℕ) (s at end : ℕ) (item : Item) → slice_get letters at ≡ Some s → at + 1 ≡ end → Contains (word_due letters s at end item) item
+pub word_has : (letters : List ℕ) (s at end : ℕ) (item : Item) → slice_get letters at ≡ Some s → at + 1 ≡ end → Contains (word_due letters s at end item) item
 word_has letters s at end item e last = if_in (is_letter (slice_get letters at) s && nat_eq (at + 1) end) item (and_from (is_letter (slice_get letters at) s) (nat_eq (at + 1) end) (is_letter_of (slice_get letters at) s e) (eq-eqb (at + 1) end last))
 
-begun_in : (letters : List ℕ) (s at end : ℕ) (b x : Begun) → Contains (word_begun letters s at end b) x → (slice_get letters at ≡ Some s) × (at + 1 ≢ end) × (x ≡ b)
+pub begun_in : (letters : List ℕ) (s at end : ℕ) (b x : Begun) → Contains (word_begun letters s at end b) x → (slice_get letters at ≡ Some s) × (at + 1 ≢ end) × (x ≡ b)
 begun_in letters s at end b x h =
     let one = in_if (is_letter (slice_get letters at) s && not (nat_eq (at + 1) end)) b x h in
     let both = and_parts (is_letter (slice_get letters at) s) (not (nat_eq (at + 1) end)) one.0 in
     (letter_is (slice_get letters at) s both.0, eqb-false (at + 1) end (not_true (nat_eq (at + 1) end) both.1), one.1)
 
-begun_has : (letters : List ℕ) (s at end : ℕ) (b : Begun) → slice_get letters at ≡ Some s → at + 1 ≢ end → Contains (word_begun letters s at end b) b
+pub begun_has : (letters : List ℕ) (s at end : ℕ) (b : Begun) → slice_get letters at ≡ Some s → at + 1 ≢ end → Contains (word_begun letters s at end b) b
 begun_has letters s at end b e other = if_in (is_letter (slice_get letters at) s && not (nat_eq (at + 1) end)) b (and_from (is_letter (slice_get letters at) s) (not (nat_eq (at + 1) end)) (is_letter_of (slice_get letters at) s e) (not_false (nat_eq (at + 1) end) (ne_eqb (at + 1) end other)))
 
 taken_get : {A : Type 0} (n : ℕ) (xs : List A) (k : ℕ) (x : A) → slice_get (take n xs) k ≡ Some x → slice_get xs k ≡ Some x
@@ -258,10 +258,10 @@ letter_spelt letters from end f k x h lt e =
 same_begun : (a b c d e f : ℕ) → a ≡ d → b ≡ e → c ≡ f → ◌≡◌ {A = Begun} (record { state = a; origin = b; count = c }) (record { state = d; origin = e; count = f })
 same_begun a b c d e f p q r = cc
 
-no_item : (x : Item) → Contains [] x → ⊥
+pub no_item : (x : Item) → Contains [] x → ⊥
 no_item x h = absurd (omega (arith, h.1))
 
-no_begun : (x : Begun) → Contains [] x → ⊥
+pub no_begun : (x : Begun) → Contains [] x → ⊥
 no_begun x h = absurd (omega (arith, h.1))
 
 -- a place whose item is a fixed word has a row of that word

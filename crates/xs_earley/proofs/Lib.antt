@@ -8,3 +8,4 @@ pub mod Wholes
 pub mod Rowings
 pub mod Arrivals
 pub mod Steppings
+pub mod Followings

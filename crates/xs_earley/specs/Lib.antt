@@ -2,6 +2,7 @@ pub mod Adding
 pub mod Arriving
 pub mod Asked
 pub mod Facts
+pub mod Following
 pub mod Growing
 pub mod Running
 pub mod Seen

@@ -69,7 +69,7 @@ fn row_at(automaton: &Position, place: usize) -> &[u32]
 
 /// The positions to which the automaton may go from a state, by the number of the place before it.
 #[inline(always)]
-fn next_positions(automaton: &Position, state: u32, base: u32) -> &[u32]
+pub fn next_positions(automaton: &Position, state: u32, base: u32) -> &[u32]
     ensures { result.now ≡ positions_at automaton.now state base }
 {
     if state == base {

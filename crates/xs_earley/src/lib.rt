@@ -16,6 +16,7 @@ mod arrive;
 mod begun;
 mod facts;
 mod fault;
+mod following;
 mod places;
 mod recogniser;
 mod rows;

@@ -1,4 +1,5 @@
 ghost use Rattle.std.specs.Prelude.{◌≡◌, ◌<◌, ◌≤◌, ◌+◌, ◌↔◌, suc, ℕ, false, [], ◌∷◌, ◌++◌, length, take, IsTrue, IfOk, OnErr};
+ghost use Rattle.xs_class.specs.Classes.{Has};
 ghost use Rattle.xs_chart.specs.Charted.{set_limit};
 ghost use Rattle.xs_gram.specs.Grammar.{Grammar, items};
 ghost use Rattle.xs_gram.specs.Languages.{InLang, IsFront};
@@ -10,11 +11,12 @@ ghost use Rattle.xs_earley.specs.Running.{IsRunOf};
 
 use crate::begun::Begun;
 use crate::facts::Facts;
+use crate::following::following;
 use crate::stage::{first_set, gather, next_set};
 use std::alloc::Global;
 use std::marker::Model;
 use xs_chart::{Chart, Item};
-use xs_class::{Memory, Sym};
+use xs_class::{Class, Memory, Sym};
 use xs_flat::FlatLists;
 use xs_gram::{Gram, Place};
 
@@ -165,6 +167,25 @@ impl Run {
         self.word.truncate(len as usize);
         self.chart.truncate(len + 1);
         self.begun.truncate(len as usize + 1);
+    }
+
+    /// The symbols by which the first `at` symbols of the word so far go on to begin a word of the
+    /// language. In time n log n of the ranges of the classes by which their set goes on.
+    pub fn next(&self, alloc: Global, g: &Gram, at: u32) -> Result<Class, Memory>
+        requires run { IsRunOf g.now self.now }
+        requires at { at ≤ length self.now.word }
+        ensures { IfOk result (λ class. (s : ℕ) → Has class s ↔ IsFront g.now (take at self.now.word ++ s ∷ [])) }
+    {
+        let class = following(
+            alloc,
+            g,
+            &self.facts,
+            &self.word,
+            &self.chart,
+            &self.begun,
+            at,
+        )?;
+        Ok(class)
     }
 
     /// The number of symbols so far.
