@@ -1,7 +1,7 @@
 -- Elements of lists, as data.
-use Rattle.std.proofs.Common.{◌≡◌, ◌⊎◌, inl, inr, ℕ, zero, suc, List, [], ◌∷◌, ◌++◌, refl, sym, ap, ◌∙◌, arith}
+use Rattle.std.proofs.Common.{◌≡◌, ◌⊎◌, inl, inr, zero, suc, List, [], ◌∷◌, ◌++◌, refl, arith}
 use Rattle.std.specs.List.{Contains}
-use Rattle.xs_class.proofs.Lists.{first_in, rest_in}
+use Rattle.xs_class.proofs.Lists.{rest_in}
 
 -- the element is one of the list
 pub data Among {X : Type 0} : List X → X → Type 0 where

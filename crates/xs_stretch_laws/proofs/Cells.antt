@@ -1,5 +1,5 @@
 -- Paths over states that are laid out in cells, one for each place, lead from place to place.
-use Rattle.std.proofs.Common.{◌≡◌, ◌⊎◌, inl, inr, ℕ, zero, suc, ◌<◌, ◌≤◌, List, [], ◌∷◌, ◌++◌, length, refl, sym, ap, subst, ◌∙◌, arith, append_assoc, append-nil}
+use Rattle.std.proofs.Common.{◌≡◌, ◌⊎◌, inl, inr, ℕ, suc, ◌<◌, ◌≤◌, List, [], ◌∷◌, ◌++◌, refl, sym, ap, subst, ◌∙◌, arith, append_assoc, append-nil}
 use Rattle.xs_gram.specs.Loose.{Spot}
 use Rattle.xs_stretch_laws.specs.Arcs.{Arc}
 use Rattle.xs_stretch_laws.proofs.Among.{Among, front, further, nothing}

@@ -6,3 +6,4 @@ pub mod Spelling
 pub mod Cells
 pub mod Pieces
 pub mod Reading
+pub mod Taming

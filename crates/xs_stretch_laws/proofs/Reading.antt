@@ -3,32 +3,32 @@
 use Rattle.std.proofs.Common.{◌≡◌, ◌⊎◌, ℕ, zero, suc, ◌+◌, ◌*◌, ◌<◌, ◌≤◌, List, [], ◌∷◌, ◌++◌, length, refl, sym, ap, subst, ◌∙◌, inl, inr, arith, append_assoc, append-nil, length-append, Some, slice_get}
 use Rattle.std.proofs.lemmas.Bool.{cases_lt}
 use Rattle.xs_auto.specs.Nets.{Graph}
-use Rattle.xs_auto.specs.Nests.{Group, IsGroup, AcceptsNested, Crossing, stands, drifts, takes, enters}
+use Rattle.xs_auto.specs.Nests.{Group, AcceptsNested, Crossing, stands, drifts, takes, enters}
 use Rattle.xs_gram.specs.declared.parts.GItem.{GItem}
-use Rattle.xs_gram.specs.declared.parts.GItem.TheVariants.{Fixed, Term, Non, Skip}
-use Rattle.xs_gram.specs.Grammar.{Grammar, rule_of, term_of, skip_of, IsRuleOf}
+use Rattle.xs_gram.specs.declared.parts.GItem.TheVariants.{Fixed, Non}
+use Rattle.xs_gram.specs.Grammar.{Grammar, rule_of, term_of, skip_of}
 use Rattle.xs_gram.specs.Sound.{IsBuilt}
 use Rattle.xs_gram.specs.Building.{NamesAreThere}
-use Rattle.xs_gram.specs.Fences.{spread, IsFence, IsPlain, IsLevel, level_none, level_then, level_group, grouped, OuterAt, GroupAt, OuterGroupAt}
+use Rattle.xs_gram.specs.Fences.{spread, IsLevel, level_none, level_then, level_group, grouped, OuterAt, GroupAt, OuterGroupAt}
 use Rattle.xs_gram.specs.Loose.{Spot, entry, exit, at}
 use Rattle.xs_gram.specs.Fenced.Loose as L
 use Rattle.xs_gram.specs.Fenced.Loose.{AreOne, IsMember, LooseItem, loose_fixed, loose_term, loose_skip, loose_non, IsLoose, loose_none, loose_then, loose_group, Step, Walk}
-use Rattle.xs_gram.proofs.Levels.{group_more, group_split, length_grouped, level_append, outer_at}
+use Rattle.xs_gram.proofs.Levels.{group_split, length_grouped, level_append, outer_at}
 use Rattle.xs_gram.proofs.Spreading.{spread_names}
 use Rattle.xs_check_laws.specs.Fenced.Weights.{Members, no_member, member_next, other_next}
 use Rattle.xs_check_laws.proofs.Fenced.Walks.{one_same}
-use Rattle.xs_stretch_laws.specs.Arcs.{Label, reads, passes, calls, Arc, read, pass, call, word_arcs, after_word, automaton_arcs, after_automaton}
+use Rattle.xs_stretch_laws.specs.Arcs.{Label, reads, passes, calls, Arc, read, pass, call}
 use Rattle.xs_stretch_laws.specs.Groups.{group_number}
 use Rattle.xs_stretch_laws.specs.Laying.{entry_state, exit_state, LaysItem, lays_fixed, lays_term, lays_skip, lays_non, LaysComponent, lays_component, LaysRules, lays_no_rule, lays_rule, lays_other_rule, LaysBody, lays_no_body, lays_member, lays_other, lays_group, LaysPart, part_none, part_then, part_group}
-use Rattle.xs_stretch_laws.specs.Nets.{IsNumbered, IsGroupOf, IsNestOf, IsStretch}
-use Rattle.xs_stretch_laws.specs.Laws.{AcceptedIsLoose, NetsAcceptLoose}
+use Rattle.xs_stretch_laws.specs.Nets.{IsNumbered, IsNestOf, IsStretch}
+use Rattle.xs_stretch_laws.specs.Laws.{NetsAcceptLoose}
 use Rattle.xs_stretch_laws.proofs.Among.{Among, front, further, nothing, first_or_rest, among_left, among_right, among_either, of_contains}
 use Rattle.xs_stretch_laws.proofs.Paths.{Path, stays, goes, path_one, path_map_within}
-use Rattle.xs_stretch_laws.proofs.Blocks.{Reads, Entering, Along}
+use Rattle.xs_stretch_laws.proofs.Blocks.{Reads, Along}
 use Rattle.xs_stretch_laws.proofs.Finding.{members_once, SameGroup, group_once}
 use Rattle.xs_stretch_laws.proofs.Spelling.{Stands, after_item, after_group, group_here, inside_stands, loose_is_accepted}
 use Rattle.xs_stretch_laws.proofs.Cells.{Cell, IsIn, point, Chain, chain_rises, chain_within, chain_once, chain_on, IsFine, point_fine, LaidArc, jumps, rests, CellBefore, AreCells, cells_reached}
-use Rattle.xs_stretch_laws.proofs.Pieces.{Short, FromTo, Leads, ends_lead, word_ends, after_in, Begins, first_arc, InTurn, in_turn, empty_path, word_read, automaton_ends, automaton_read}
+use Rattle.xs_stretch_laws.proofs.Pieces.{Short, Leads, ends_lead, word_ends, after_in, first_arc, in_turn, empty_path, word_read, automaton_ends, automaton_read}
 
 walk_of : {g : Grammar} {c : ℕ} {x y : Spot} {w : List ℕ} → Path (Step g c) x w y → Walk g c x w y
 walk_of stays = L.stays
@@ -589,7 +589,14 @@ sound_below g built nest nested (suc k) p j inside content stretch d u less acce
     let stands_at : Stands g p j inside = record { before = stretch.before; after = stretch.after; split = stretch.split; place = stretch.place } in
     (part_sound g built nest nested k (sound_below g built nest nested k) d.lays stretch.rule stands_at (omega arith)).read u path
 
-pub accepted_is_loose : AcceptedIsLoose
+-- each word that is accepted is loose
+abbrev AcceptedIsLoose : Type 0
+AcceptedIsLoose =
+    (g : Grammar) → IsBuilt g → (nest : List Group) → IsNestOf g nest
+    → (p k : ℕ) (is : List GItem) (n : Graph) → IsStretch g p k is → IsNumbered g p k is n
+    → (w : List ℕ) → AcceptsNested nest n w → IsLoose g is w
+
+accepted_is_loose : AcceptedIsLoose
 accepted_is_loose g built nest nested p j is n stretch d w accepts = sound_below g built nest nested (suc (length w)) p j is n stretch d w (omega arith) accepts
 
 pub nets_accept_loose : NetsAcceptLoose

@@ -1,13 +1,13 @@
 -- Each loose word is spelt by a path of the net: by recursion on how the word is loose.
-use Rattle.std.proofs.Common.{◌≡◌, ◌⊎◌, ℕ, zero, suc, ◌+◌, ◌<◌, ◌≤◌, List, [], ◌∷◌, ◌++◌, length, refl, sym, ap, subst, ◌∙◌, inl, inr, arith, append_assoc, append-nil, length-append, Some, slice_get}
+use Rattle.std.proofs.Common.{◌≡◌, ℕ, suc, ◌+◌, ◌<◌, ◌≤◌, List, [], ◌∷◌, ◌++◌, length, refl, sym, ap, subst, ◌∙◌, arith, append_assoc, append-nil, length-append, Some, slice_get}
 use Rattle.xs_auto.specs.Nets.{Graph}
-use Rattle.xs_auto.specs.Nests.{Group, IsGroup, AcceptsNested}
+use Rattle.xs_auto.specs.Nests.{Group, AcceptsNested}
 use Rattle.xs_gram.specs.declared.parts.GItem.{GItem}
-use Rattle.xs_gram.specs.declared.parts.GItem.TheVariants.{Fixed, Term, Non, Skip}
-use Rattle.xs_gram.specs.Grammar.{Grammar, rule_of, term_of, skip_of, IsRuleOf, IsTermWord, IsSkipWord}
+use Rattle.xs_gram.specs.declared.parts.GItem.TheVariants.{Fixed, Non}
+use Rattle.xs_gram.specs.Grammar.{Grammar, term_of, skip_of, IsRuleOf}
 use Rattle.xs_gram.specs.Sound.{IsBuilt}
 use Rattle.xs_gram.specs.Building.{NamesAreThere}
-use Rattle.xs_gram.specs.Fences.{spread, IsFence, IsPlain, IsLevel, grouped, OuterAt, GroupAt, OuterGroupAt}
+use Rattle.xs_gram.specs.Fences.{spread, IsFence, IsLevel, grouped, OuterAt, GroupAt}
 use Rattle.xs_gram.specs.Loose.{Spot, entry, exit, at}
 use Rattle.xs_gram.specs.Fenced.Loose.{AreOne, IsMember, LooseItem, loose_fixed, loose_term, loose_skip, loose_non, IsLoose, loose_none, loose_then, loose_group, Step, begins, passes, encloses, calls, ends, returns, Walk, stays, goes}
 use Rattle.xs_gram.proofs.Levels.{cons_parts, no_group, plain_not_group, group_more, group_split, length_grouped, level_once, outer_at}
@@ -17,9 +17,8 @@ use Rattle.xs_check_laws.proofs.Fenced.Words.{loose_level}
 use Rattle.xs_stretch_laws.specs.Arcs as A
 use Rattle.xs_stretch_laws.specs.Arcs.{Arc, pass, call, word_arcs, after_word, automaton_arcs, after_automaton}
 use Rattle.xs_stretch_laws.specs.Groups.{group_number}
-use Rattle.xs_stretch_laws.specs.Laying.{entry_state, exit_state, LaysItem, lays_fixed, lays_term, lays_skip, lays_non, LaysComponent, lays_component, LaysRules, LaysBody, LaysPart, part_none, part_then, part_group}
-use Rattle.xs_stretch_laws.specs.Nets.{IsNumbered, IsGroupOf, IsNestOf, IsStretch}
-use Rattle.xs_stretch_laws.specs.Laws.{LooseIsAccepted}
+use Rattle.xs_stretch_laws.specs.Laying.{entry_state, exit_state, LaysItem, lays_fixed, lays_term, lays_skip, lays_non, lays_component, LaysRules, LaysPart, part_none, part_then, part_group}
+use Rattle.xs_stretch_laws.specs.Nets.{IsNumbered, IsNestOf, IsStretch}
 use Rattle.xs_stretch_laws.proofs.Among.{Among}
 use Rattle.xs_stretch_laws.proofs.Paths as P
 use Rattle.xs_stretch_laws.proofs.Paths.{Path, path_on, path_one}
@@ -219,6 +218,13 @@ module _ (g : Grammar) (built : IsBuilt g) (nest : List Group) (nested : IsNestO
         let first : Path (Along nest all) before (l ∷ (u ++ r ∷ [])) (suc start) = group_path rule here (λ content numbered. content_accepts content numbered (part_path i refl numbered.lays rule (inside_stands here) within_all)) (within_first opened) (within_first (within_rest opened)) refl refl refl in
         let word : (l ∷ (u ++ r ∷ [])) ++ v ≡ l ∷ (u ++ r ∷ v) = ap (λ (x : List ℕ). l ∷ x) (append_assoc u (r ∷ []) v) in
         subst (λ (x : List ℕ). Path (Along nest all) before x after) (word ∙ sym h) (path_on first (part_path t same.after rest rule (after_group inner r' split' place) (within_rest (within_rest opened))))
+
+-- each loose word is accepted
+abbrev pub LooseIsAccepted : Type 0
+LooseIsAccepted =
+    (g : Grammar) → IsBuilt g → (nest : List Group) → IsNestOf g nest
+    → (p k : ℕ) (is : List GItem) (n : Graph) → IsStretch g p k is → IsNumbered g p k is n
+    → (w : List ℕ) → IsLoose g is w → AcceptsNested nest n w
 
 pub loose_is_accepted : LooseIsAccepted
 loose_is_accepted g built nest nested p k is n stretch d w loose =
