@@ -24,7 +24,7 @@ mod suspect;
 
 pub use components::Comps;
 pub use gram::Gram;
-pub use laws::{printed_has_tree, prints_normal};
+pub use laws::{cuts_are_one, printed_has_tree, prints_normal};
 pub use parts::{
     Fences, GItem, GItems, GramParts, Ignorable, Partners, Regexes, RulePart, Rules, SkipPart,
     Skips, Terminal,
