@@ -1,6 +1,8 @@
--- Each cut of a level stretch has one front and one rest.
-use Rattle.std.proofs.Common.{◌≡◌, ◌⊎◌, inl, inr, ℕ, zero, suc, ◌+◌, ◌-◌, ◌<◌, ◌≤◌, List, [], ◌∷◌, ◌++◌, length, take, drop, refl, sym, ap, subst, ◌∙◌, arith, append_assoc, append-nil, length-append}
+-- Each cut of a level stretch has one front and one rest, and the group round it is the last one that
+-- is open there.
+use Rattle.std.proofs.Common.{◌≡◌, ◌⊎◌, inl, inr, ℕ, zero, suc, ◌+◌, ◌-◌, ◌<◌, ◌≤◌, List, [], ◌∷◌, ◌++◌, length, take, drop, refl, sym, ap, subst, ◌∙◌, arith, append_assoc, append-nil, length-append, None, Some, IfSome, slice_index_or}
 use Rattle.std.proofs.lemmas.Bool.{cases_lt}
+use Rattle.std.specs.declared.option.Option.{Option}
 use Rattle.std.specs.List.{slice_range}
 use Rattle.std.proofs.Math.Seq.{take-append_seam, drop-append_seam}
 use Rattle.xs_gram.specs.declared.parts.GItem.{GItem}
@@ -9,9 +11,10 @@ use Rattle.xs_gram.specs.Grammar.{Grammar}
 use Rattle.xs_gram.specs.Laws.{IsDistinct}
 use Rattle.xs_gram.specs.Sound.{IsProper}
 use Rattle.xs_gram.specs.Fences.{fence_symbols, spread, IsFence, grouped, IsLevel, level_none, level_then, level_group, IsPartner, IsCut, cut_here, cut_inside}
-use Rattle.xs_gram.specs.Cuts.{CutsAt, HasOneCut, CutsAreOne}
+use Rattle.xs_gram.specs.Spreading.{partners}
+use Rattle.xs_gram.specs.Cuts.{ReachesTo, IsRound, HasNoRound, CutsAt, HasOneCut, CutsAreOne}
 use Rattle.xs_gram.proofs.Levels.{cons_parts, cons_same, group_split, level_append}
-use Rattle.xs_gram.proofs.Partners.{partner_once, partner_in}
+use Rattle.xs_gram.proofs.Partners.{partner_once, partner_listed, partner_in, partner_kept, partners_long}
 
 -- what stands before the front and after the rest: nothing, or all up to a left fence and all from
 -- its partner on
@@ -200,3 +203,87 @@ one_cut {fs} {is} {c} once h =
 
 pub cuts_are_one : CutsAreOne
 cuts_are_one g proper p c lt = one_cut proper.once (cut_there (proper.level p) c lt)
+
+-- what the list of partners says of the group round a cut
+module _ (g : Grammar) (proper : IsProper g) (p : ℕ) (list : List (Option ℕ)) (e : list ≡ partners g.fences 0 (spread g p)) (c : ℕ) (within : c ≤ length (spread g p)) where
+  listed : (k m : ℕ) → k < c → slice_index_or list k None ≡ Some m → IsPartner g.fences (spread g p) k m
+  listed k m lt is = subst (λ (o : Option ℕ). IfSome o (IsPartner g.fences (spread g p) k)) is (partner_kept g p k list proper e (omega arith)).1
+
+  moved : {front rest : List GItem} → IsCut g.fences (spread g p) c front rest → (a : Lies g.fences (spread g p) c front rest) → (start end : ℕ) → length a.head ≡ start → c + length rest ≡ end → CutsAt g.fences (spread g p) c start end
+  moved {rest = rest} cut a start end q r = subst (λ (n : ℕ). CutsAt g.fences (spread g p) c start n) r (subst (λ (n : ℕ). CutsAt g.fences (spread g p) c n (c + length rest)) q (cuts_at cut a))
+
+  pub cut_of_none : HasNoRound list c → CutsAt g.fences (spread g p) c 0 (length (spread g p))
+  cut_of_none none = by_pair (cut_there (proper.level p) c within)
+    where
+      by_pair : SomeCut g.fences (spread g p) c → CutsAt g.fences (spread g p) c 0 (length (spread g p))
+      by_pair h = by_edge (lies h.cut) (cut_level h.cut)
+        where
+          by_edge : Lies g.fences (spread g p) c h.front h.rest → IsLevel g.fences h.front × IsLevel g.fences h.rest → CutsAt g.fences (spread g p) c 0 (length (spread g p))
+          by_edge a l = elim (pair_of a.split l.0 l.1 a.edges) [
+            | inl q ↦ moved h.cut a 0 (length (spread g p)) (ap length q.0) (omega (arith, a.place, ap length q.0, ap length q.1, ap length a.split, length-append a.head (h.front ++ (h.rest ++ a.tail)), length-append h.front (h.rest ++ a.tail), length-append h.rest a.tail))
+            | inr q ↦ absurd (none q.k (omega (arith, q.left, a.place)) record { partner = q.m; is = partner_listed g.fences proper.once list e q.partner; far = omega (arith, q.right, a.place) })
+          ]
+
+  pub cut_of_round : (k m : ℕ) → IsRound list c k m → CutsAt g.fences (spread g p) c (suc k) m
+  cut_of_round k m round = by_pair (cut_there (proper.level p) c within)
+    where
+      pair : IsPartner g.fences (spread g p) k m
+      pair = listed k m round.before round.is
+
+      by_pair : SomeCut g.fences (spread g p) c → CutsAt g.fences (spread g p) c (suc k) m
+      by_pair h = by_edge (lies h.cut) (cut_level h.cut)
+        where
+          by_edge : (a : Lies g.fences (spread g p) c h.front h.rest) → IsLevel g.fences h.front × IsLevel g.fences h.rest → CutsAt g.fences (spread g p) c (suc k) m
+          by_edge a l = elim (pair_of a.split l.0 l.1 a.edges) [
+            | inl q ↦
+                let none : length a.head ≡ 0 = ap length q.0 in
+                let early = early_end (omega (arith, none)) in
+                absurd (omega (arith, early, round.far))
+            | inr q ↦ by_order q (cases_lt k q.k) (cases_lt q.k k)
+          ]
+            where
+              early_end : length a.head ≤ k → m < c
+              early_end low =
+                  let h' = in_front g.fences proper.once a.head h.front (h.rest ++ a.tail) a.split l.0 pair low (omega (arith, round.before, a.place)) in
+                  omega (arith, h', a.place)
+
+              by_order : (q : Pair g.fences (spread g p) a.head h.front h.rest) → (k < q.k) ⊎ (q.k ≤ k) → (q.k < k) ⊎ (k ≤ q.k) → CutsAt g.fences (spread g p) c (suc k) m
+              by_order q (inl less) other = absurd (round.last q.k less (omega (arith, q.left, a.place)) record { partner = q.m; is = partner_listed g.fences proper.once list e q.partner; far = omega (arith, q.right, a.place) })
+              by_order q (inr least) (inl more) = let early = early_end (omega (arith, q.left)) in absurd (omega (arith, early, round.far))
+              by_order q (inr least) (inr most) =
+                  let same : q.k ≡ k = omega arith in
+                  let ends : m ≡ q.m = partner_once g.fences proper.once pair (subst (λ (n : ℕ). IsPartner g.fences (spread g p) n q.m) same q.partner) in
+                  moved h.cut a (suc k) m (omega (arith, q.left, same)) (omega (arith, ends, q.right, a.place))
+
+-- how the group round a cut is found, from the last item before the cut on
+none_far : (list : List (Option ℕ)) (c left : ℕ) → ((x : ℕ) → slice_index_or list left None ≡ Some x → ⊥) → ¬ ReachesTo list c left
+none_far list c left none r = none r.partner r.is
+
+near_far : (list : List (Option ℕ)) (c left right : ℕ) → slice_index_or list left None ≡ Some right → right < c → ¬ ReachesTo list c left
+near_far list c left right e near r = let same : right ≡ r.partner = some_one (sym e ∙ r.is) in omega (arith, same, near, r.far)
+  where
+    some_one : {m n : ℕ} → Some m ≡ Some n → m ≡ n
+    some_one h = cc
+
+one_less : (list : List (Option ℕ)) (c done left : ℕ) → left ≡ c - 1 - done → done < c → ((j : ℕ) → c - done ≤ j → j < c → ¬ ReachesTo list c j) → ¬ ReachesTo list c left → (j : ℕ) → c - (done + 1) ≤ j → j < c → ¬ ReachesTo list c j
+one_less list c done left at lt later here j low high =
+    elim (cases_lt j (c - done)) [
+      | inl before ↦ let same : left ≡ j = omega arith in subst (λ (n : ℕ). ¬ ReachesTo list c n) same here
+      | inr after ↦ later j after high
+    ]
+
+pub none_step : (list : List (Option ℕ)) (c done left : ℕ) → left ≡ c - 1 - done → done < c → ((j : ℕ) → c - done ≤ j → j < c → ¬ ReachesTo list c j) → ((x : ℕ) → slice_index_or list left None ≡ Some x → ⊥) → (j : ℕ) → c - (done + 1) ≤ j → j < c → ¬ ReachesTo list c j
+none_step list c done left at lt later e = one_less list c done left at lt later (none_far list c left e)
+
+pub near_step : (list : List (Option ℕ)) (c done left right : ℕ) → left ≡ c - 1 - done → done < c → ((j : ℕ) → c - done ≤ j → j < c → ¬ ReachesTo list c j) → slice_index_or list left None ≡ Some right → right < c → (j : ℕ) → c - (done + 1) ≤ j → j < c → ¬ ReachesTo list c j
+near_step list c done left right at lt later e near = one_less list c done left at lt later (near_far list c left right e near)
+
+-- the same, as they are used
+pub round_cut : (g : Grammar) → IsProper g → (p : ℕ) (list : List (Option ℕ)) → list ≡ partners g.fences 0 (spread g p) → (c : ℕ) → c ≤ length (spread g p) → (k m : ℕ) → IsRound list c k m → CutsAt g.fences (spread g p) c (k + 1) m
+round_cut g proper p list e c within k m round = let same : suc k ≡ k + 1 = omega arith in subst (λ (n : ℕ). CutsAt g.fences (spread g p) c n m) same (cut_of_round g proper p list e c within k m round)
+
+pub whole_cut : (g : Grammar) → IsProper g → (p : ℕ) (list : List (Option ℕ)) → list ≡ partners g.fences 0 (spread g p) → (c : ℕ) → c ≤ length (spread g p) → HasNoRound list c → (items : List GItem) → items ≡ spread g p → CutsAt g.fences (spread g p) c 0 (length items)
+whole_cut g proper p list e c within none items same = subst (λ (x : List GItem). CutsAt g.fences (spread g p) c 0 (length x)) (sym same) (cut_of_none g proper p list e c within none)
+
+pub partners_within : (g : Grammar) (p c : ℕ) (list : List (Option ℕ)) → list ≡ partners g.fences 0 (spread g p) → c ≤ length (spread g p) → c ≤ length list
+partners_within g p c list e within = omega (arith, ap length e, partners_long g.fences 0 (spread g p), within)

@@ -171,7 +171,7 @@ module _ (fs : List (ℕ × ℕ)) (once : IsDistinct (fence_symbols fs)) where
           let e : o ≡ None = some_one (sym found ∙ none) in
           (subst (λ (x : Option ℕ). IfSome x (IsPartner fs is k)) (sym e) tt, (λ n left. not_left fs i left.symbol (some_one (sym at ∙ left.item)) other left.left, λ none. e))
 
-partners_long : (fs : List (ℕ × ℕ)) (place : ℕ) (is : List GItem) → length (partners fs place is) ≡ length is
+pub partners_long : (fs : List (ℕ × ℕ)) (place : ℕ) (is : List GItem) → length (partners fs place is) ≡ length is
 partners_long fs place [] = refl
 partners_long fs place (i ∷ is) = ap suc (partners_long fs (place + 1) is)
 
