@@ -11,5 +11,6 @@ pub mod Fences
 pub mod Levels
 pub mod Spreading
 pub mod Partners
+pub mod Cuts
 pub mod Unfenced
 pub mod Classes

@@ -1,7 +1,7 @@
 -- The partners that are found are the right fences that close the left ones.
-use Rattle.std.proofs.Common.{◌≡◌, ◌⊎◌, inl, inr, ◌↔◌, ℕ, zero, suc, ◌+◌, ◌<◌, List, [], ◌∷◌, ◌++◌, length, refl, sym, ap, subst, ◌∙◌, arith, append_assoc, append-nil, length-append, get_or, true, false, Bool, None, Some, IfSome, slice_get, slice_index_or}
+use Rattle.std.proofs.Common.{◌≡◌, ◌⊎◌, inl, inr, ◌↔◌, ℕ, zero, suc, ◌+◌, ◌<◌, ◌≤◌, List, [], ◌∷◌, ◌++◌, length, refl, sym, ap, subst, ◌∙◌, arith, append_assoc, append-nil, length-append, get_or, true, false, Bool, None, Some, IfSome, slice_get, slice_index_or}
 use Rattle.std.specs.declared.option.Option.{Option}
-use Rattle.std.proofs.lemmas.Option.{slice_get-get_or}
+use Rattle.std.proofs.lemmas.Option.{slice_get-get_or, slice_get_within, get_or_from_slice_get}
 use Rattle.xs_class.proofs.Truth.{or_false, if_true, if_false}
 use Rattle.xs_gram.specs.declared.parts.GItem.{GItem}
 use Rattle.xs_gram.specs.declared.parts.GItem.TheVariants.{Fixed, Term, Non, Skip}
@@ -11,7 +11,7 @@ use Rattle.xs_gram.specs.Sound.{IsProper}
 use Rattle.xs_gram.specs.Fences.{fence_symbols, is_left, is_right, spread, IsPlain, grouped, IsLevel, level_none, level_then, level_group, GroupAt, IsPartner, IsLeftFence}
 use Rattle.xs_gram.specs.Spreading.{opens, closes, first_of, after_first, waiting, waiting_from, partner_from, partners}
 use Rattle.xs_gram.proofs.Fences.{is_left_of, is_right_of, left_not_right, right_not_left}
-use Rattle.xs_gram.proofs.Levels.{group_more}
+use Rattle.xs_gram.proofs.Levels.{group_more, group_opened}
 
 -- a plain item is no fence
 plain_opens : (fs : List (ℕ × ℕ)) (i : GItem) → IsPlain fs i → opens fs i ≡ false
@@ -171,7 +171,7 @@ module _ (fs : List (ℕ × ℕ)) (once : IsDistinct (fence_symbols fs)) where
           let e : o ≡ None = some_one (sym found ∙ none) in
           (subst (λ (x : Option ℕ). IfSome x (IsPartner fs is k)) (sym e) tt, (λ n left. not_left fs i left.symbol (some_one (sym at ∙ left.item)) other left.left, λ none. e))
 
-partners_long : (fs : List (ℕ × ℕ)) (place : ℕ) (is : List GItem) → length (partners fs place is) ≡ length is
+pub partners_long : (fs : List (ℕ × ℕ)) (place : ℕ) (is : List GItem) → length (partners fs place is) ≡ length is
 partners_long fs place [] = refl
 partners_long fs place (i ∷ is) = ap suc (partners_long fs (place + 1) is)
 
@@ -182,3 +182,40 @@ partner_kept g p k list proper is lt =
     let here : slice_get (partners g.fences 0 (spread g p)) k ≡ Some (slice_index_or list k None) = ap (λ (l : List (Option ℕ)). slice_get l k) (sym is) ∙ slice_get-get_or list k None long in
     let found = partner_found g.fences proper.once (proper.level p) k (slice_index_or list k None) lt here in
     (long, found.0, found.1)
+
+seam_at : (before : List GItem) (i : GItem) (after : List GItem) → slice_get (before ++ i ∷ after) (length before) ≡ Some i
+seam_at [] i after = refl
+seam_at (x ∷ xs) i after = seam_at xs i after
+
+-- the item at a group's beginning is its left fence
+left_at : {fs : List (ℕ × ℕ)} {is : List GItem} {k m l : ℕ} {inside : List GItem} {r : ℕ} → GroupAt fs is k m l inside r → slice_get is k ≡ Some (Fixed (l ∷ []))
+left_at {k = k} {l = l} {inside = inside} {r = r} a = ap (λ (x : List GItem). slice_get x k) a.split ∙ ap (λ (n : ℕ). slice_get (a.before ++ grouped l inside r a.after) n) a.place ∙ seam_at a.before (Fixed (l ∷ [])) (inside ++ Fixed (r ∷ []) ∷ a.after)
+
+-- what stands in the middle of three lists
+at_middle : {A : Type 0} (xs ys zs : List A) (k : ℕ) (x : A) → slice_get (xs ++ (ys ++ zs)) k ≡ Some x → length xs ≤ k → k < length xs + length ys → (j : ℕ) × (k ≡ length xs + j) × (slice_get ys j ≡ Some x)
+at_middle xs ys zs k x at low high =
+    elim (get_of_two xs (ys ++ zs) k x at) [
+      | inl early ↦ let lt = slice_get_within xs k x early in absurd (omega arith)
+      | inr h ↦ elim (get_of_two ys zs h.0 x h.2) [
+        | inl here ↦ (h.0, h.1, here)
+        | inr late ↦ absurd (omega (arith, h.1, late.1))
+      ]
+    ]
+
+module _ (fs : List (ℕ × ℕ)) (once : IsDistinct (fence_symbols fs)) where
+  -- a left fence has one partner
+  pub partner_once : {is : List GItem} {k m n : ℕ} → IsPartner fs is k m → IsPartner fs is k n → m ≡ n
+  partner_once p q = some_one (some_one (sym (group_partner fs once p.group) ∙ group_partner fs once q.group))
+
+  -- it is listed
+  pub partner_listed : {is : List GItem} {k m : ℕ} (list : List (Option ℕ)) → list ≡ partners fs 0 is → IsPartner fs is k m → slice_index_or list k None ≡ Some m
+  partner_listed {is} {k} {m} list e p = ap (λ (l : List (Option ℕ)). slice_index_or l k None) e ∙ get_or_from_slice_get (partners fs 0 is) k (Some m) None (group_partner fs once p.group)
+
+  -- a left fence in a level part of a stretch has its partner in that part
+  pub partner_in : {is : List GItem} (head part more : List GItem) {k m : ℕ} → is ≡ head ++ (part ++ more) → IsLevel fs part → IsPartner fs is k m → length head ≤ k → k < length head + length part → (n : ℕ) × IsPartner fs is k n × (n < length head + length part)
+  partner_in {is} head part more {k} split level p low high =
+      let at : slice_get (head ++ (part ++ more)) k ≡ Some (Fixed (p.left ∷ [])) = sym (ap (λ (x : List GItem). slice_get x k) split) ∙ left_at p.group in
+      let place = at_middle head part more k (Fixed (p.left ∷ [])) at low high in
+      let h = has_partner fs once level place.0 (Fixed (p.left ∷ [])) place.2 (is_left_of p.group.fence) in
+      let within = (group_opened h.1.group).2 in
+      (length head + h.0, partner_moved split place.1 (partner_within head more h.1), omega (arith, within))

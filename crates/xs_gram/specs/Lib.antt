@@ -10,5 +10,6 @@ pub mod Loose
 pub mod Suspects
 pub mod Fenced
 pub mod Spreading
+pub mod Cuts
 pub mod Places
 pub mod Building

@@ -3,10 +3,12 @@ ghost use Rattle.xs_gram.specs.Grammar.{rule_of, term_of, skip_of, items, normal
 ghost use Rattle.xs_gram.specs.Building.{CanBuild, IsOf};
 ghost use Rattle.xs_gram.specs.Fences.{spread, IsPartner, IsLeftFence};
 ghost use Rattle.xs_gram.specs.Spreading.{partners};
+ghost use Rattle.xs_gram.specs.Cuts.{CutsAt};
 ghost use Rattle.xs_gram.specs.Sound.{IsInRange, IsSmall, IsProper, IsBuilt};
 ghost use Rattle.xs_gram.specs.Places.{all_places, at_dot, IsPlace};
 
 use crate::body::Body;
+use crate::cutting::{Cut, round};
 use crate::{GItem, GItems, GramParts, Ignorable, Partners, Place, RulePart, Terminal};
 use std::alloc::Global;
 use std::marker::Model;
@@ -187,6 +189,24 @@ impl Gram {
         ensures none { (result ≡ None) ↔ ¬ IsLeftFence self.now.fences (spread self.now rule) k }
     {
         self.partners_of(rule)[k as usize]
+    }
+
+    /// Where the front of a cut begins and where its rest ends, in time linear in `c`: after the left
+    /// fence and at the right fence of the group round the cut, or at the two ends of the rule where
+    /// there is none.
+    pub fn cut(&self, rule: u32, c: u32) -> Cut
+        requires rule { rule < length self.now.rules }
+        requires within { c ≤ length (spread self.now rule) }
+        ensures { CutsAt self.now.fences (spread self.now rule) c result.start result.end }
+    {
+        let end = self.spread(rule).len() as u32;
+        match round(self.partners_of(rule), c) {
+            Some((left, right)) => Cut {
+                start: left + 1,
+                end: right,
+            },
+            None => Cut { start: 0, end },
+        }
     }
 
     /// The number of places.

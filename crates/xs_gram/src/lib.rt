@@ -15,6 +15,7 @@
 mod automata;
 mod body;
 mod components;
+mod cutting;
 mod gram;
 mod laws;
 mod parts;
@@ -23,8 +24,9 @@ mod spread;
 mod suspect;
 
 pub use components::Comps;
+pub use cutting::Cut;
 pub use gram::Gram;
-pub use laws::{printed_has_tree, prints_normal};
+pub use laws::{cuts_are_one, printed_has_tree, prints_normal};
 pub use parts::{
     Fences, GItem, GItems, GramParts, Ignorable, Partners, Regexes, RulePart, Rules, SkipPart,
     Skips, Terminal,

@@ -1,0 +1,5 @@
+pub mod Arcs
+pub mod Groups
+pub mod Laying
+pub mod Nets
+pub mod Laws
