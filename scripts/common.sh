@@ -45,6 +45,20 @@ heaviest() {
   printf 'xsugar-1\nstart s\nterminal t = /([a-z]{50}){10}/\ns : %s"%s" = <s>%s</s>\n' "$items" "$(copies - 175)" "$items"
 }
 
+# longest: a sheet of 65,536 bytes, the most that are read, and light enough for a whole check. Each
+# of its 1,719 nonterminals but the last uses the next, so each smallest document uses all of them.
+longest() {
+  local sheet number
+  sheet=$(
+    printf 'xsugar-1\nstart s\ns : [c0 x] = <s>[c0 x]</s>\n'
+    for number in {0..1717}; do
+      printf 'c%d : "a" [c%d x] = "a" [c%d x]\n' "$number" $((number + 1)) $((number + 1))
+    done
+    printf 'c1718 : "b" = "b"\n#'
+  )
+  printf '%s%s\n' "$sheet" "$(copies - $((65535 - ${#sheet})))"
+}
+
 # Each check adds one to `passed` or to `failed`; counted reports both, and is false where one failed.
 passed=0 failed=0
 counted() {
