@@ -1,8 +1,9 @@
-//! Well-formed sheets: those in which none of twelve rules fails.
+//! Well-formed sheets: those in which none of fifteen rules fails.
 //!
-//! The first seven rules give a sheet its two grammars; here stand the other five. The definitions
-//! stand in specs/: Units (classes, characters, normal spellings), Nonterminals (words and loops),
-//! Rules (all twelve), Passing (what is known while the last five are tried).
+//! The first seven rules give a sheet its two grammars, and the last three are on fences; here stand
+//! the five between. The definitions stand in specs/: Units (classes, characters, normal spellings),
+//! Nonterminals (words and loops), Rules (all fifteen), Passing (what is known while the five are
+//! tried).
 #![tactic(auto)]
 
 mod least;
