@@ -10,6 +10,9 @@ use xs_class::Memory;
 /// How many slots the table of a new list has.
 const FIRST_SLOTS: usize = 32;
 
+/// As many slots as this are emptied together in the time of one by itself.
+const SLOTS_AT_ONCE: usize = 8;
+
 /// Different items in the order in which they were added, with a hash table by which one is found.
 ///
 /// A slot has the number of its last item, counted from 1, and beside each item stands that of an
@@ -98,11 +101,15 @@ fn linked(alloc: Global, items: &[Item], count: usize) -> Result<(Vec<u32>, Vec<
     Ok((earlier, heads))
 }
 
-/// Empties the slots of the items.
+/// Empties the slots of the items; all slots, where there are few for each item.
 fn clear_slots(heads: &mut [u32], items: &[Item])
     requires { 0 < length heads.old }
     ensures { length heads.new ≡ length heads.old }
 {
+    if heads.len() / SLOTS_AT_ONCE <= items.len() {
+        heads.fill(0);
+        return;
+    }
     'items: for item in items {
         let place = slot(*item, heads.len());
         heads[place] = 0;

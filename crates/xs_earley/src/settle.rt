@@ -1,5 +1,4 @@
 ghost use Rattle.std.specs.Prelude.{◌≡◌, ◌≢◌, ◌<◌, suc, ℕ, Some, length, slice_get, slice_index_or, IfOk};
-ghost use Rattle.xs_chart.specs.declared.item.Item.{Item as AnyItem};
 ghost use Rattle.xs_chart.specs.Charted.{items_of, waiting_of, before_last};
 ghost use Rattle.xs_gram.specs.declared.places.Place.{Place};
 ghost use Rattle.xs_gram.specs.Places.{all_places};
@@ -8,13 +7,13 @@ ghost use Rattle.xs_chart_laws.specs.Steps.{IsSettled};
 ghost use Rattle.xs_chart_laws.specs.Charts.{IsNumber, HasPlace, ItemStands};
 ghost use Rattle.xs_earley.specs.declared.rows.Stand.TheVariants.{AtNon};
 ghost use Rattle.xs_earley.specs.Adding.{Adds, Calls, Completes, Leads, AreCalled};
-ghost use Rattle.xs_earley.specs.Facts.{AreFacts};
+ghost use Rattle.xs_earley.specs.Facts.{AreFacts, row_at};
 ghost use Rattle.xs_earley.specs.Growing.{Grown, IsSettledAt, IsExact, IsOpen};
 ghost use Rattle.xs_earley.specs.Waiting.{Waited, WaitsBelow};
 
 use crate::adding::pass;
 use crate::facts::Facts;
-use crate::rows::Stand;
+use crate::rows::{Row, Stand};
 use crate::steps::{complete, predict};
 use xs_chart::{Chart, Item};
 use xs_class::{Memory, Sym};
@@ -119,6 +118,7 @@ fn settle_item(
     doc: &[Sym],
     at: u32,
     item: Item,
+    row: Row,
 ) -> Result<(), Memory>
     requires built { IsBuilt g.now }
     requires facts { AreFacts g.now facts.now }
@@ -126,60 +126,39 @@ fn settle_item(
     requires called { AreCalled g.now at chart.old.sets called.old }
     requires open { IsOpen g.now doc.now at chart.old }
     requires stands { ItemStands g.now doc.now item at }
+    requires row { row ≡ row_at facts.now.rows.items item.state }
     ensures grown { IfOk result (λ _. Grown g.now doc.now at chart.old.sets chart.new.sets) }
     ensures settled { IfOk result (λ _. (c : Place) → IsNumber g.now item.state c → IsSettled g.now (HasPlace g.now chart.new.sets) at c item.origin) }
     ensures called { IfOk result (λ _. AreCalled g.now at chart.new.sets called.new) }
     ensures waits { chart.new.waits ≡ chart.old.waits }
     ensures before { before_last chart.new ≡ before_last chart.old }
 {
-    let row = facts.row(item.state);
     pass(chart, at, row, item.origin)?;
     lead(chart, called, g, facts, at, row.stand, item.origin)?;
     Ok(())
 }
 
-/// Adds all that item k of the last set leads to there.
+/// Puts the number of an item of the last set in the waiting list of the nonterminal before which the
+/// item stands, if it stands before one.
 #[inline(always)]
-fn settle(
+fn enlist(
     chart: &mut Chart,
-    called: &mut [bool],
     g: &Gram,
     facts: &Facts,
-    doc: &[Sym],
     at: u32,
     k: u64,
+    item: Item,
+    row: Row,
 ) -> Result<(), Memory>
-    requires built { IsBuilt g.now }
-    requires facts { AreFacts g.now facts.now }
-    requires marks { length called.old ≡ g.now.nons }
-    requires called { AreCalled g.now at chart.old.sets called.old }
-    requires open { IsOpen g.now doc.now at chart.old }
-    requires item { k < length (items_of chart.old at) }
-    ensures grown { IfOk result (λ _. Grown g.now doc.now at chart.old.sets chart.new.sets) }
-    ensures settled { IfOk result (λ _. IsSettledAt g.now chart.new.sets at k) }
-    ensures called { IfOk result (λ _. AreCalled g.now at chart.new.sets called.new) }
-    ensures waits { chart.new.waits ≡ chart.old.waits }
-    ensures before { before_last chart.new ≡ before_last chart.old }
-{
-    let item = chart.item(at, k);
-    settle_item(chart, called, g, facts, doc, at, item)?;
-    Ok(())
-}
-
-/// Puts item k of the last set in the waiting list of the nonterminal before which it stands, if it
-/// stands before one.
-#[inline(always)]
-fn enlist(chart: &mut Chart, g: &Gram, facts: &Facts, at: u32, k: u64) -> Result<(), Memory>
     requires facts { AreFacts g.now facts.now }
     requires last { length chart.old.sets ≡ suc at }
-    requires item { k < length (items_of chart.old at) }
-    requires numbers { (item : AnyItem) → slice_get (items_of chart.old at) k ≡ Some item → item.state < length (all_places g.now) }
+    requires item { slice_get (items_of chart.old at) k ≡ Some item }
+    requires number { item.state < length (all_places g.now) }
+    requires row { row ≡ row_at facts.now.rows.items item.state }
     ensures sets { IfOk result (λ _. chart.new.sets ≡ chart.old.sets) }
-    ensures waited { IfOk result (λ _. (item : AnyItem) → slice_get (items_of chart.old at) k ≡ Some item → Waited g.now at k item.state chart.old chart.new) }
+    ensures waited { IfOk result (λ _. Waited g.now at k item.state chart.old chart.new) }
     ensures before { before_last chart.new ≡ before_last chart.old }
 {
-    let item = chart.item(at, k);
-    let row = facts.row(item.state);
     match row.stand {
         Stand::AtNon(non) => {
             chart.wait(non, k)?;
@@ -215,8 +194,10 @@ pub fn close(
 {
     let mut k = 0;
     'items: while k < chart.len(at) {
-        enlist(chart, g, facts, at, k)?;
-        settle(chart, called, g, facts, doc, at, k)?;
+        let item = chart.item(at, k);
+        let row = facts.row(item.state);
+        enlist(chart, g, facts, at, k, item, row)?;
+        settle_item(chart, called, g, facts, doc, at, item, row)?;
         k += 1;
     }
     Ok(())

@@ -93,6 +93,61 @@ fn grow_rows(
     Err(Memory)
 }
 
+/// What is read from a chart for a forest: the marks of which rows are made, and about how many rows
+/// there may be.
+#[derive(Drop)]
+struct Found {
+    wholes: Marks<SpanKey>,
+    splits: Marks<SpanKey>,
+    room: usize,
+}
+
+/// Reads the chart of a document.
+fn find(alloc: Global, g: &Gram, chart: &Chart, doc: &Word) -> Result<Found, Memory>
+    requires built { IsBuilt g.now }
+    requires chart { IsChartOf g.now doc.now chart.now.sets }
+    requires short { length doc.now < set_limit }
+    ensures wholes { IfOk result (λ found. HasAllOf (WholeCandidate g.now (stands_at g.now doc.now)) found.wholes) }
+    ensures splits { IfOk result (λ found. HasAllOf (FrontCandidate g.now doc.now (stands_at g.now doc.now)) found.splits) }
+{
+    let wholes = wholes_of(alloc, g, chart, doc)?;
+    let splits = splits_of(alloc, g, chart, doc, &wholes)?;
+    Ok(Found {
+        wholes,
+        splits,
+        room: room(chart),
+    })
+}
+
+/// The forest of a document by what was read from its chart.
+fn grow_found(alloc: Global, g: &Gram, doc: &Word, found: &Found) -> Result<Grown, Memory>
+    requires sound { IsSound g.now }
+    requires in_language { InLang g.now doc.now }
+    requires short { length doc.now < set_limit }
+    requires wholes { HasAllOf (WholeCandidate g.now (stands_at g.now doc.now)) found.now.wholes }
+    requires splits { HasAllOf (FrontCandidate g.now doc.now (stands_at g.now doc.now)) found.now.splits }
+    ensures forest { IfOk result (λ grown. IsForestOf g.now doc.now grown.forest grown.root) }
+    ensures exact { IfOk result (λ grown. IsExact g.now doc.now grown.forest grown.root) }
+{
+    let source = Source {
+        g,
+        doc,
+        wholes: &found.wholes,
+        splits: &found.splits,
+    };
+    let root = SpanKey {
+        what: What::Whole(g.start()),
+        start: 0,
+        end: doc.len() as u32,
+    };
+    let mut forest = Builder::new(alloc, found.room)?;
+    let row = grow_rows(alloc, &source, &mut forest, root)?;
+    Ok(Grown {
+        forest: forest.finish(),
+        root: u64::from(row),
+    })
+}
+
 /// The forest of a document of the grammar, from the document's chart, with its root: the
 /// unfoldings of the root are exactly the derivations of the document, each once.
 ///
@@ -111,23 +166,23 @@ pub fn grow(alloc: Global, g: &Gram, chart: &Chart, doc: &Word) -> Result<Grown,
     ensures forest { IfOk result (λ grown. IsForestOf g.now doc.now grown.forest grown.root) }
     ensures exact { IfOk result (λ grown. IsExact g.now doc.now grown.forest grown.root) }
 {
-    let wholes = wholes_of(alloc, g, chart, doc)?;
-    let splits = splits_of(alloc, g, chart, doc, &wholes)?;
-    let source = Source {
-        g,
-        doc,
-        wholes: &wholes,
-        splits: &splits,
-    };
-    let root = SpanKey {
-        what: What::Whole(g.start()),
-        start: 0,
-        end: doc.len() as u32,
-    };
-    let mut forest = Builder::new(alloc, room(chart))?;
-    let row = grow_rows(alloc, &source, &mut forest, root)?;
-    Ok(Grown {
-        forest: forest.finish(),
-        root: u64::from(row),
-    })
+    let found = find(alloc, g, chart, doc)?;
+    let grown = grow_found(alloc, g, doc, &found)?;
+    Ok(grown)
+}
+
+/// The same forest, from a chart that nobody needs after it: its memory is given back before rows are
+/// made.
+pub fn grow_last(alloc: Global, g: &Gram, chart: Chart, doc: &Word) -> Result<Grown, Memory>
+    requires sound { IsSound g.now }
+    requires in_language { InLang g.now doc.now }
+    requires chart { IsChartOf g.now doc.now chart.sets }
+    requires short { length doc.now < set_limit }
+    ensures forest { IfOk result (λ grown. IsForestOf g.now doc.now grown.forest grown.root) }
+    ensures exact { IfOk result (λ grown. IsExact g.now doc.now grown.forest grown.root) }
+{
+    let found = find(alloc, g, &chart, doc)?;
+    drop(chart);
+    let grown = grow_found(alloc, g, doc, &found)?;
+    Ok(grown)
 }

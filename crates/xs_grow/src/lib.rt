@@ -23,7 +23,7 @@ mod rows;
 mod runs;
 mod source;
 
-pub use forest::grow;
+pub use forest::{grow, grow_last};
 // A forest is read by the names that stand here too.
 pub use xs_forest_laws::{Grown, SpanKey, What};
 pub use xs_listing::{Kids, Listing, Spelt, SpeltPart, Spelts, list_trees, one_tree};

@@ -1,33 +1,26 @@
 use Rattle.std.proofs.Common.{◌≡◌, ◌≢◌, ◌<◌, ◌∙◌, ℕ, List, length, sym, ap, subst, arith}
 use Rattle.xs_chart.specs.declared.item.Item.{Item}
 use Rattle.xs_gram.specs.declared.places.Place.{Place}
-use Rattle.xs_gram.specs.Places.{all_places}
 use Rattle.xs_chart_laws.specs.Steps.{IsSettled}
 use Rattle.xs_chart_laws.specs.Charts.{HasPlace}
-use Rattle.xs_chart_laws.proofs.Words.{get_lt}
 use Rattle.xs_chart_laws.proofs.Numbers.{one_place}
 use Rattle.xs_earley.specs.Adding.{IsOf, Passes}
 use Rattle.xs_earley.proofs.Completing.{waiting_same}
 use Rattle.xs_earley.proofs.Growths.{exact_same}
-use Rattle.xs_earley.proofs.Settlings.{row_is, row_there, non_there, called_kept, row_grown, row_settled}
+use Rattle.xs_earley.proofs.Settlings.{row_is, non_there, called_kept, row_grown, row_settled}
 use Rattle.xs_earley.proofs.settle.settle_item.Goals as goal
-
-pub row-row-requires : goal.row-row-requires
-row-row-requires c =
-    let st = c.requires.stands in
-    row_there c.args.g.now c.args.facts.now c.requires.facts c.args.item.state (get_lt (all_places c.args.g.now) c.args.item.state st.0 st.1)
 
 pub lead-requires-clause-stand : goal.lead-requires-clause-stand
 lead-requires-clause-stand c non e =
     let st = c.requires.stands in
-    let is = row_is c.args.g.now c.args.facts.now c.requires.facts c.args.item.state st.0 st.1 c.row-row.result c.row-row.ensures in
-    non_there c.args.g.now c.args.facts.now.letters.items c.requires.built st.0 c.row-row.result.stand non is.stand e
+    let is = row_is c.args.g.now c.args.facts.now c.requires.facts c.args.item.state st.0 st.1 c.args.row c.requires.row in
+    non_there c.args.g.now c.args.facts.now.letters.items c.requires.built st.0 c.args.row.stand non is.stand e
 
 pub lead-requires-clause-called : goal.lead-requires-clause-called
 lead-requires-clause-called c =
     let st = c.requires.stands in
     let g = c.args.g.now in
-    let is = row_is g c.args.facts.now c.requires.facts c.args.item.state st.0 st.1 c.row-row.result c.row-row.ensures in
+    let is = row_is g c.args.facts.now c.requires.facts c.args.item.state st.0 st.1 c.args.row c.requires.row in
     let adds = c.in_ok-pass.ensures.adds g c.args.facts.now.letters.items st.0 is in
     called_kept g c.args.at (IsOf g (Passes g st.0 c.args.item.origin)) c.args.chart.now.sets c.pass.new.chart.sets c.args.called.now adds.puts c.requires.called
 
@@ -35,14 +28,14 @@ pub lead-requires-clause-last : goal.lead-requires-clause-last
 lead-requires-clause-last c =
     let st = c.requires.stands in
     let g = c.args.g.now in
-    let is = row_is g c.args.facts.now c.requires.facts c.args.item.state st.0 st.1 c.row-row.result c.row-row.ensures in
+    let is = row_is g c.args.facts.now c.requires.facts c.args.item.state st.0 st.1 c.args.row c.requires.row in
     (c.in_ok-pass.ensures.adds g c.args.facts.now.letters.items st.0 is).puts.counted ∙ c.requires.open.last
 
 pub lead-requires-clause-waiting : goal.lead-requires-clause-waiting
 lead-requires-clause-waiting c non lt =
     let st = c.requires.stands in
     let g = c.args.g.now in
-    let is = row_is g c.args.facts.now c.requires.facts c.args.item.state st.0 st.1 c.row-row.result c.row-row.ensures in
+    let is = row_is g c.args.facts.now c.requires.facts c.args.item.state st.0 st.1 c.args.row c.requires.row in
     let adds = c.in_ok-pass.ensures.adds g c.args.facts.now.letters.items st.0 is in
     let ne : c.args.item.origin ≢ c.args.at = omega arith in
     exact_same g c.args.chart.now c.pass.new.chart c.args.item.origin non (adds.puts.others c.args.item.origin ne) (waiting_same c.args.chart.now c.pass.new.chart c.args.item.origin non c.pass.ensures.waits) (c.requires.open.waiting c.args.item.origin non lt)
@@ -51,13 +44,13 @@ pub returns-clause-grown : goal.returns-clause-grown
 returns-clause-grown c =
     let st = c.requires.stands in
     let g = c.args.g.now in
-    let is = row_is g c.args.facts.now c.requires.facts c.args.item.state st.0 st.1 c.row-row.result c.row-row.ensures in
-    row_grown g c.args.doc.now c.requires.built c.args.facts.now.letters.items c.args.at st.0 c.args.item.origin st.2 c.row-row.result is c.args.chart.now.sets c.pass.new.chart.sets c.lead.new.chart.sets c.requires.open.stand (c.in_ok-pass.ensures.adds g c.args.facts.now.letters.items st.0 is) c.in_ok-lead.ensures.adds
+    let is = row_is g c.args.facts.now c.requires.facts c.args.item.state st.0 st.1 c.args.row c.requires.row in
+    row_grown g c.args.doc.now c.requires.built c.args.facts.now.letters.items c.args.at st.0 c.args.item.origin st.2 c.args.row is c.args.chart.now.sets c.pass.new.chart.sets c.lead.new.chart.sets c.requires.open.stand (c.in_ok-pass.ensures.adds g c.args.facts.now.letters.items st.0 is) c.in_ok-lead.ensures.adds
 
 pub returns-clause-settled : goal.returns-clause-settled
 returns-clause-settled c place num =
     let st = c.requires.stands in
     let g = c.args.g.now in
-    let is = row_is g c.args.facts.now c.requires.facts c.args.item.state st.0 st.1 c.row-row.result c.row-row.ensures in
-    let settled = row_settled g c.args.doc.now c.requires.built c.args.facts.now.letters.items c.args.at st.0 c.args.item.origin st.2 c.row-row.result is c.args.chart.now.sets c.pass.new.chart.sets c.lead.new.chart.sets c.requires.open.stand (c.in_ok-pass.ensures.adds g c.args.facts.now.letters.items st.0 is) c.in_ok-lead.ensures.adds in
+    let is = row_is g c.args.facts.now c.requires.facts c.args.item.state st.0 st.1 c.args.row c.requires.row in
+    let settled = row_settled g c.args.doc.now c.requires.built c.args.facts.now.letters.items c.args.at st.0 c.args.item.origin st.2 c.args.row is c.args.chart.now.sets c.pass.new.chart.sets c.lead.new.chart.sets c.requires.open.stand (c.in_ok-pass.ensures.adds g c.args.facts.now.letters.items st.0 is) c.in_ok-lead.ensures.adds in
     subst (λ (p : Place). IsSettled g (HasPlace g c.lead.new.chart.sets) c.args.at p c.args.item.origin) (one_place g c.args.item.state st.0 place st.1 num) settled

@@ -8,7 +8,7 @@ use Rattle.xs_gram.specs.Grammar.{Grammar}
 use Rattle.xs_grow.specs.Making.{stands_at, IsLabel}
 use Rattle.xs_grow.proofs.Charting.{start_label}
 use Rattle.xs_grow.proofs.Growing.{forest_of, exact_of}
-use Rattle.xs_grow.proofs.forest.grow.Goals as goal
+use Rattle.xs_grow.proofs.forest.grow_found.Goals as goal
 
 grown_of : (g : Grammar) (w : List ℕ) (f f' : Forest) (root row start len : ℕ) → f' ≡ f → root ≡ row → start ≡ g.start → len ≡ length w → IsGrown g w (stands_at g w) f → IsRow f row (Whole start) 0 len → IsForestOf g w f' root
 grown_of g w f f' root row start len e r s l grown is =
