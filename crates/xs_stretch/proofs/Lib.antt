@@ -6,3 +6,4 @@ pub mod Stretches
 pub mod Stepping
 pub mod Summing
 pub mod Laid
+pub mod Once

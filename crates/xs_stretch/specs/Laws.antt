@@ -37,3 +37,9 @@ LightIsLaid =
     (g : Grammar) → IsBuilt g → (p k : ℕ) (is : List GItem) → IsStretch g p k is
     → (w : ℕ) → PartWeighs g is w → w ≤ heaviest
     → (arcs : List Arc) × (last : ℕ) × LaysPart g p k is 0 1 arcs last (suc w)
+
+-- it is laid in one way
+abbrev pub IsLaidOnce : Type 0
+IsLaidOnce =
+    (g : Grammar) → IsBuilt g → (p k : ℕ) (is : List GItem) (xs ys : List Arc) (s t m n : ℕ)
+    → LaysPart g p k is 0 1 xs s m → LaysPart g p k is 0 1 ys t n → (xs ≡ ys) × (s ≡ t) × (m ≡ n)

@@ -18,7 +18,7 @@ mod part;
 mod weighing;
 
 pub use fault::LooseFault;
-pub use laws::light_is_laid;
+pub use laws::laid_in_one_way;
 pub use nest::nest_of;
 pub use net::{HEAVIEST, net_by, net_of};
 pub use part::Part;
