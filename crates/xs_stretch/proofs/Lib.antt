@@ -7,3 +7,5 @@ pub mod Stepping
 pub mod Summing
 pub mod Laid
 pub mod Once
+pub mod Growing
+pub mod Pushing

@@ -1,6 +1,7 @@
 pub mod Arcs
 pub mod Components
 pub mod Groups
+pub mod Growth
 pub mod Laws
 pub mod Laying
 pub mod Nets

@@ -8,8 +8,10 @@
 //! Each group of the grammar has a number, by which nets call it.
 #![tactic(auto)]
 
+mod blocks;
 mod components;
 mod fault;
+mod growth;
 mod laws;
 mod members;
 mod nest;
