@@ -1,9 +1,8 @@
 -- How nets grow, arc by arc.
-use Rattle.std.proofs.Common.{◌≡◌, ◌≢◌, ◌⊎◌, ℕ, ◌+◌, ◌<◌, List, [], ◌∷◌, ◌++◌, refl, sym, ap, subst, ◌∙◌, inl, inr, arith}
+use Rattle.std.proofs.Common.{◌≡◌, ◌⊎◌, ℕ, List, [], ◌∷◌, ◌++◌, refl, sym, subst, ◌∙◌, inl, inr, arith}
 use Rattle.std.specs.List.{Contains}
 use Rattle.std.proofs.lemmas.Bool.{cases_eq}
 use Rattle.std.proofs.lemmas.List.Elements.{Contains-append_left, Contains-append_right, Contains-append_cases, Contains-push, Contains-push_cases}
-use Rattle.xs_class.proofs.Lists.{nothing_in}
 use Rattle.xs_class.specs.Classes.{Has, HaveSame, IsClass}
 use Rattle.xs_auto.specs.declared.call.Call.{Call}
 use Rattle.xs_auto.specs.declared.edge.Edge.{Edge}

@@ -1,12 +1,12 @@
 -- Spread items of a grammar that is in range, and members of components by the components' numbers.
-use Rattle.std.proofs.Common.{◌≡◌, ℕ, suc, ◌+◌, ◌<◌, List, ◌∷◌, ◌++◌, length, get_or, refl, sym, ap, subst, ◌∙◌, arith, slice_get, Some}
+use Rattle.std.proofs.Common.{◌≡◌, ℕ, ◌+◌, ◌<◌, List, length, get_or, refl, sym, ap, subst, ◌∙◌, arith, Some}
 use Rattle.std.proofs.lemmas.Option.{slice_get-get_or}
 use Rattle.xs_gram.specs.declared.parts.GItem.{GItem}
 use Rattle.xs_gram.specs.declared.parts.GItem.TheVariants.{Fixed, Term, Non, Skip}
 use Rattle.xs_regex.specs.declared.position.Position.{Position}
 use Rattle.xs_gram.specs.Grammar.{Grammar, rule_of, term_of, skip_of}
 use Rattle.xs_gram.specs.Building.{NamesAreThere}
-use Rattle.xs_gram.specs.Fences.{spread, IsPlain, IsLevel, OuterAt}
+use Rattle.xs_gram.specs.Fences.{spread, OuterAt}
 use Rattle.xs_gram.specs.Fenced.Loose.{Uses, AreOne, IsMember, AreComponents}
 use Rattle.xs_gram.specs.Sound.{IsInRange, IsBuilt}
 use Rattle.xs_gram.proofs.Spreading.{spread_names}

@@ -1,5 +1,5 @@
 -- Each light stretch can be laid, and takes as many states as it weighs.
-use Rattle.std.proofs.Common.{◌≡◌, ℕ, zero, suc, ◌+◌, ◌*◌, ◌<◌, ◌≤◌, List, [], ◌∷◌, ◌++◌, length, refl, sym, ap, subst, ◌∙◌, inl, inr, arith, slice_get, Some}
+use Rattle.std.proofs.Common.{◌≡◌, ℕ, suc, ◌+◌, ◌*◌, ◌<◌, ◌≤◌, List, [], ◌∷◌, ◌++◌, length, refl, sym, ap, subst, ◌∙◌, inl, inr, arith, Some}
 use Rattle.std.specs.List.{Contains}
 use Rattle.std.proofs.lemmas.Bool.{cases_eq}
 use Rattle.std.proofs.lemmas.Option.{slice_get-get_or}
@@ -12,7 +12,7 @@ use Rattle.xs_gram.specs.Fences.{spread, grouped}
 use Rattle.xs_gram.specs.Fenced.Loose.{here, AreOne, IsMember}
 use Rattle.xs_gram.specs.Sound.{IsInRange, IsBuilt}
 use Rattle.xs_gram.proofs.Spreading.{spread_names}
-use Rattle.xs_check_laws.specs.Weights.{cap, capped}
+use Rattle.xs_check_laws.specs.Weights.{cap}
 use Rattle.xs_check_laws.specs.Fenced.Weights.{Members, no_member, member_next, other_next, ItemWeighs, fixed_weighs, term_weighs, skip_weighs, non_weighs, ComponentWeighs, component_weighs, RulesWeigh, no_rule_yet, rule_of_member, rule_of_other, BodyWeighs, no_body, member_then, other_then, group_then, PartWeighs, no_part, part_then as weighs_then, part_group as weighs_group}
 use Rattle.xs_stretch.specs.Arcs.{Arc, pass, call, word_arcs, after_word, automaton_arcs, after_automaton}
 use Rattle.xs_stretch.specs.Groups.{group_number}

@@ -1,15 +1,14 @@
 -- A stretch is laid in one way: the arcs, the state after it and the next free one are fixed.
 use Rattle.std.proofs.Common.{◌≡◌, ℕ, suc, ◌+◌, ◌*◌, List, [], ◌∷◌, ◌++◌, length, refl, sym, ap, subst, ◌∙◌}
 use Rattle.xs_gram.specs.declared.parts.GItem.{GItem}
-use Rattle.xs_gram.specs.declared.parts.GItem.TheVariants.{Fixed, Term, Non, Skip}
-use Rattle.xs_gram.specs.Grammar.{Grammar, rule_of}
+use Rattle.xs_gram.specs.declared.parts.GItem.TheVariants.{Fixed, Non}
+use Rattle.xs_gram.specs.Grammar.{Grammar}
 use Rattle.xs_gram.specs.Laws.{IsDistinct}
 use Rattle.xs_gram.specs.Fences.{fence_symbols, spread, IsFence, IsLevel, grouped}
-use Rattle.xs_gram.specs.Fenced.Loose.{AreOne, IsMember}
+use Rattle.xs_gram.specs.Fenced.Loose.{IsMember}
 use Rattle.xs_gram.proofs.Levels.{IsOnce, cons_parts, no_group, plain_not_group, level_once}
 use Rattle.xs_check_laws.specs.Fenced.Weights.{Members, no_member, member_next, other_next}
 use Rattle.xs_stretch.specs.Arcs.{Arc, pass, call}
-use Rattle.xs_stretch.specs.Groups.{group_number}
 use Rattle.xs_stretch.specs.Laying.{entry_state, exit_state, LaysItem, lays_fixed, lays_term, lays_skip, lays_non, LaysComponent, lays_component, LaysRules, lays_no_rule, lays_rule, lays_other_rule, LaysBody, lays_no_body, lays_member, lays_other, lays_group, LaysPart, part_none, part_then, part_group}
 
 -- the same arcs, state after and next state

@@ -1,6 +1,6 @@
 -- The arcs of words and of automata, one more at a time.
 use Rattle.std.proofs.Common.{◌≡◌, ℕ, zero, suc, ◌+◌, ◌<◌, ◌≤◌, List, [], ◌∷◌, ◌++◌, length, take, get_or, refl, sym, ap, subst, ◌∙◌, arith, append_assoc, append-nil, slice_get, Some}
-use Rattle.std.proofs.lemmas.List.{take_more, take_all}
+use Rattle.std.proofs.lemmas.List.{take_more}
 use Rattle.std.proofs.lemmas.Option.{same_Some}
 use Rattle.xs_auto.specs.Nets.{Graph}
 use Rattle.std.specs.List.{Contains}
@@ -8,7 +8,7 @@ use Rattle.xs_regex.specs.Automaton.{Leads}
 use Rattle.xs_regex.specs.declared.position.Position.{Position}
 use Rattle.xs_stretch.specs.Arcs.{Arc, read, pass, word_arcs, after_word, class_at, arcs_into, arcs_on, arcs_out}
 use Rattle.xs_stretch.specs.Growth.{NetGrows}
-use Rattle.xs_stretch.proofs.Growing.{grows_none, grows_then}
+use Rattle.xs_stretch.proofs.Growing.{grows_then}
 
 word_push : (u : List ℕ) (s before at : ℕ) → word_arcs (u ++ s ∷ []) before at ≡ word_arcs u before at ++ read (after_word u before at) ((s, s) ∷ []) (at + length u) ∷ []
 word_push [] s before at = ap (λ (n : ℕ). read before ((s, s) ∷ []) n ∷ []) (omega arith)

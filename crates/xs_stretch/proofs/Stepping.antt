@@ -1,11 +1,11 @@
 -- Weights of stretches and of rules' bodies, from an outer item or a group to the next one.
-use Rattle.std.proofs.Common.{◌≡◌, ℕ, suc, ◌+◌, ◌<◌, ◌≤◌, List, [], ◌∷◌, ◌++◌, length, drop, get_or, refl, sym, ap, subst, ◌∙◌, inl, inr, arith, append_assoc, append-nil, length-append, drop_at}
+use Rattle.std.proofs.Common.{◌≡◌, ℕ, ◌+◌, ◌<◌, ◌≤◌, List, [], ◌∷◌, ◌++◌, length, drop, get_or, refl, sym, ap, subst, ◌∙◌, inl, inr, arith, append_assoc, append-nil, length-append, drop_at}
 use Rattle.xs_gram.specs.declared.parts.GItem.{GItem}
 use Rattle.xs_gram.specs.Grammar.{Grammar}
 use Rattle.xs_gram.specs.Fences.{spread, IsPlain, IsLevel, level_none, level_then, level_group, grouped, OuterAt, IsPartner, IsLeftFence}
 use Rattle.xs_gram.specs.Sound.{IsProper}
 use Rattle.xs_gram.proofs.Levels.{group_more, length_grouped, level_append}
-use Rattle.xs_check_laws.specs.Weights.{cap, capped}
+use Rattle.xs_check_laws.specs.Weights.{capped}
 use Rattle.xs_check_laws.specs.Fenced.Weights.{ItemWeighs, BodyWeighs, no_body, member_then, other_then, group_then, PartWeighs, no_part, part_then, part_group}
 use Rattle.xs_check_laws.proofs.Fenced.Weights.{body_append, part_append}
 use Rattle.xs_stretch.specs.Components.{IsNonOf}

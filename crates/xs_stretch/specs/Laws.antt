@@ -1,5 +1,5 @@
--- The laws of nets of stretches: which words they accept over the nest, and that searches over pairs
--- of their states may go by the nest.
+-- The laws of nets of stretches: which words they accept over the nest, that searches over pairs of
+-- their states may go by the nest, and that a light stretch is laid in one way.
 use Rattle.std.specs.Prelude.{◌≡◌, ◌↔◌, ℕ, suc, ◌≤◌, List}
 use Rattle.xs_auto.specs.Nets.{Graph}
 use Rattle.xs_auto.specs.Nests.{Group, AcceptsNested, IsTame, IsFenced}

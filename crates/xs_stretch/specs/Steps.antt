@@ -1,13 +1,13 @@
 -- How a level stretch is gone through: from an outer item or a group to the next one.
-use Rattle.std.specs.Prelude.{◌≡◌, ℕ, suc, ◌+◌, ◌<◌, List, [], ◌∷◌, ◌++◌, length, drop}
+use Rattle.std.specs.Prelude.{◌≡◌, ℕ, ◌+◌, ◌<◌, List, ◌++◌, length, drop}
 use Rattle.xs_gram.specs.declared.parts.GItem.{GItem}
 use Rattle.xs_gram.specs.Grammar.{Grammar}
-use Rattle.xs_gram.specs.Fences.{spread, IsFence, IsPlain, IsLevel, grouped}
+use Rattle.xs_gram.specs.Fences.{spread, IsLevel}
 use Rattle.xs_check_laws.specs.Weights.{capped}
 use Rattle.xs_check_laws.specs.Fenced.Weights.{BodyWeighs, PartWeighs}
 use Rattle.xs_stretch.specs.Components.{IsNonOf}
 
--- the items `rest`, which are level, stand in rule p's spread items from item k on, and there are some
+-- the items `rest`, which are level and not none, stand in rule p's spread items from item k on
 pub record StandsAt (g : Grammar) (p k : ℕ) (rest : List GItem) : Type 0 where
   pub post : List GItem
   pub split : drop k (spread g p) ≡ rest ++ post

@@ -17,8 +17,8 @@ pub const HEAVIEST: u64 = 8_192;
 
 /// The net of a stretch, whose groups are called by their numbers in the nest of the grammar.
 ///
-/// It has one state more than the stretch weighs. Its body is still to be written: so far it answers
-/// want of memory.
+/// It has one state more than the stretch weighs. Its body is still to be written: so far it
+/// answers want of memory.
 pub fn net_of(alloc: Global, g: &Gram, comps: &Comps, part: &Part) -> Result<Net, LooseFault>
     requires built { IsBuilt g.now }
     requires few { HasFewGroups g.now }

@@ -1,4 +1,4 @@
-use Rattle.std.proofs.Common.{length, arith}
+use Rattle.std.proofs.Common.{arith}
 use Rattle.xs_stretch.proofs.Growing.{grows_then}
 use Rattle.xs_stretch.proofs.blocks.lay_automaton.Goals as goal
 

@@ -1,7 +1,5 @@
-use Rattle.std.proofs.Common.{◌≡◌, ℕ, length, take, refl, sym, ap, subst, ◌∙◌, arith}
+use Rattle.std.proofs.Common.{refl, sym, arith}
 use Rattle.std.proofs.lemmas.List.{get_or_read, take_all}
-use Rattle.xs_stretch.specs.Arcs.{Arc, read, word_arcs, after_word}
-use Rattle.xs_stretch.specs.Growth.{NetGrows}
 use Rattle.xs_stretch.proofs.Growing.{grows_none}
 use Rattle.xs_stretch.proofs.Pushing.{word_more, after_more}
 use Rattle.xs_stretch.proofs.blocks.lay_word.Goals as goal

@@ -1,4 +1,4 @@
-use Rattle.std.proofs.Common.{◌≡◌, ℕ, length, refl, subst, arith}
+use Rattle.std.proofs.Common.{arith}
 use Rattle.std.proofs.lemmas.List.{take_all}
 use Rattle.xs_stretch.proofs.Growing.{grows_none}
 use Rattle.xs_stretch.proofs.Pushing.{on_more, row_is, row_leads}

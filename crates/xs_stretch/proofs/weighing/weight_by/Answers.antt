@@ -1,4 +1,4 @@
-use Rattle.std.proofs.Common.{◌≡◌, length, arith}
+use Rattle.std.proofs.Common.{arith}
 use Rattle.xs_stretch.specs.Parts.{part_items}
 use Rattle.xs_stretch.proofs.Stretches.{part_stretch, part_long}
 use Rattle.xs_stretch.proofs.Stepping.{part_none, part_stepped, part_done}
