@@ -9,8 +9,8 @@ use Rattle.xs_auto.specs.Nets.{Graph}
 use Rattle.xs_auto.specs.Nests.{Group, IsGroup, Crossing, stands, drifts, takes, enters, AcceptsNested}
 use Rattle.xs_gram.specs.declared.parts.GItem.{GItem}
 use Rattle.xs_gram.specs.Grammar.{Grammar}
-use Rattle.xs_stretch_laws.specs.Arcs.{Label, reads, passes, calls, Arc, read, pass, word_arcs, after_word, class_at, arcs_into, arcs_on, arcs_out, arc_past, after_automaton, automaton_arcs}
-use Rattle.xs_stretch_laws.specs.Nets.{IsNumbered}
+use Rattle.xs_stretch.specs.Arcs.{Label, reads, passes, calls, Arc, read, pass, word_arcs, after_word, class_at, arcs_into, arcs_on, arcs_out, arc_past, after_automaton, automaton_arcs}
+use Rattle.xs_stretch.specs.Nets.{IsNumbered}
 use Rattle.xs_stretch_laws.proofs.Among.{Among, front, further, among_left, among_right, to_contains}
 use Rattle.xs_stretch_laws.proofs.Paths.{Path, stays, goes, path_one, path_snoc}
 

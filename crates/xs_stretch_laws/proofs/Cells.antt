@@ -1,7 +1,7 @@
 -- Paths over states that are laid out in cells, one for each place, lead from place to place.
 use Rattle.std.proofs.Common.{◌≡◌, ◌⊎◌, inl, inr, ℕ, suc, ◌<◌, ◌≤◌, List, [], ◌∷◌, ◌++◌, refl, sym, ap, subst, ◌∙◌, arith, append_assoc, append-nil}
 use Rattle.xs_gram.specs.Loose.{Spot}
-use Rattle.xs_stretch_laws.specs.Arcs.{Arc}
+use Rattle.xs_stretch.specs.Arcs.{Arc}
 use Rattle.xs_stretch_laws.proofs.Among.{Among, front, further, nothing}
 use Rattle.xs_stretch_laws.proofs.Paths.{Path, stays, goes, path_on, path_one, path_snoc}
 

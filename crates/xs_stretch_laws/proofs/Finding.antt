@@ -11,9 +11,9 @@ use Rattle.xs_gram.specs.Fences.{fence_symbols, spread, IsFence, IsPlain, IsLeve
 use Rattle.xs_gram.specs.Fenced.Loose.{AreOne, IsMember}
 use Rattle.xs_gram.proofs.Levels.{cons_parts, no_group, plain_not_group, group_more, level_tail, level_once, outer_none, outer_then, outer_group, group_opened}
 use Rattle.xs_check_laws.specs.Fenced.Weights.{Members, no_member, member_next, other_next}
-use Rattle.xs_stretch_laws.specs.Arcs.{Arc, pass, call}
-use Rattle.xs_stretch_laws.specs.Groups.{group_number}
-use Rattle.xs_stretch_laws.specs.Laying.{entry_state, exit_state, LaysItem, LaysRules, lays_no_rule, lays_rule, lays_other_rule, LaysBody, lays_no_body, lays_member, lays_other, lays_group}
+use Rattle.xs_stretch.specs.Arcs.{Arc, pass, call}
+use Rattle.xs_stretch.specs.Groups.{group_number}
+use Rattle.xs_stretch.specs.Laying.{entry_state, exit_state, LaysItem, LaysRules, lays_no_rule, lays_rule, lays_other_rule, LaysBody, lays_no_body, lays_member, lays_other, lays_group}
 use Rattle.xs_stretch_laws.proofs.Blocks.{Within, within_all, within_as, within_on, within_left, within_right, within_first, within_rest}
 
 -- members below a bound are counted in one way

@@ -6,7 +6,7 @@ use Rattle.xs_class.specs.Classes.{Has}
 use Rattle.xs_regex.specs.declared.position.Position.{Position}
 use Rattle.xs_regex.specs.Automaton as R
 use Rattle.xs_auto.specs.Nests.{Group}
-use Rattle.xs_stretch_laws.specs.Arcs.{Label, reads, passes, Arc, read, pass, word_arcs, after_word, class_at, arcs_into, arcs_on, arcs_out, arc_past, after_automaton, automaton_arcs}
+use Rattle.xs_stretch.specs.Arcs.{Label, reads, passes, Arc, read, pass, word_arcs, after_word, class_at, arcs_into, arcs_on, arcs_out, arc_past, after_automaton, automaton_arcs}
 use Rattle.xs_stretch_laws.proofs.Among.{Among, nothing, first_or_rest, among_either}
 use Rattle.xs_stretch_laws.proofs.Paths.{Path, stays, goes, path_kept}
 use Rattle.xs_stretch_laws.proofs.Blocks.{Reads, Along}

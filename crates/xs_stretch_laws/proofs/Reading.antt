@@ -17,10 +17,11 @@ use Rattle.xs_gram.proofs.Levels.{group_split, length_grouped, level_append, out
 use Rattle.xs_gram.proofs.Spreading.{spread_names}
 use Rattle.xs_check_laws.specs.Fenced.Weights.{Members, no_member, member_next, other_next}
 use Rattle.xs_check_laws.proofs.Fenced.Walks.{one_same}
-use Rattle.xs_stretch_laws.specs.Arcs.{Label, reads, passes, calls, Arc, read, pass, call}
-use Rattle.xs_stretch_laws.specs.Groups.{group_number}
-use Rattle.xs_stretch_laws.specs.Laying.{entry_state, exit_state, LaysItem, lays_fixed, lays_term, lays_skip, lays_non, LaysComponent, lays_component, LaysRules, lays_no_rule, lays_rule, lays_other_rule, LaysBody, lays_no_body, lays_member, lays_other, lays_group, LaysPart, part_none, part_then, part_group}
-use Rattle.xs_stretch_laws.specs.Nets.{IsNumbered, IsNestOf, IsStretch}
+use Rattle.xs_stretch.specs.Arcs.{Label, reads, passes, calls, Arc, read, pass, call}
+use Rattle.xs_stretch.specs.Groups.{group_number}
+use Rattle.xs_stretch.specs.Laying.{entry_state, exit_state, LaysItem, lays_fixed, lays_term, lays_skip, lays_non, LaysComponent, lays_component, LaysRules, lays_no_rule, lays_rule, lays_other_rule, LaysBody, lays_no_body, lays_member, lays_other, lays_group, LaysPart, part_none, part_then, part_group}
+use Rattle.xs_stretch.specs.Nets.{IsNumbered, IsNestOf}
+use Rattle.xs_stretch.specs.Parts.{IsStretch}
 use Rattle.xs_stretch_laws.specs.Laws.{NetsAcceptLoose}
 use Rattle.xs_stretch_laws.proofs.Among.{Among, front, further, nothing, first_or_rest, among_left, among_right, among_either, of_contains}
 use Rattle.xs_stretch_laws.proofs.Paths.{Path, stays, goes, path_one, path_map_within}

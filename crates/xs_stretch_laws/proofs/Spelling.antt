@@ -14,11 +14,12 @@ use Rattle.xs_gram.proofs.Levels.{cons_parts, no_group, plain_not_group, group_m
 use Rattle.xs_gram.proofs.Spreading.{spread_names}
 use Rattle.xs_check_laws.specs.Fenced.Weights.{Members}
 use Rattle.xs_check_laws.proofs.Fenced.Words.{loose_level}
-use Rattle.xs_stretch_laws.specs.Arcs as A
-use Rattle.xs_stretch_laws.specs.Arcs.{Arc, pass, call, word_arcs, after_word, automaton_arcs, after_automaton}
-use Rattle.xs_stretch_laws.specs.Groups.{group_number}
-use Rattle.xs_stretch_laws.specs.Laying.{entry_state, exit_state, LaysItem, lays_fixed, lays_term, lays_skip, lays_non, lays_component, LaysRules, LaysPart, part_none, part_then, part_group}
-use Rattle.xs_stretch_laws.specs.Nets.{IsNumbered, IsNestOf, IsStretch}
+use Rattle.xs_stretch.specs.Arcs as A
+use Rattle.xs_stretch.specs.Arcs.{Arc, pass, call, word_arcs, after_word, automaton_arcs, after_automaton}
+use Rattle.xs_stretch.specs.Groups.{group_number}
+use Rattle.xs_stretch.specs.Laying.{entry_state, exit_state, LaysItem, lays_fixed, lays_term, lays_skip, lays_non, lays_component, LaysRules, LaysPart, part_none, part_then, part_group}
+use Rattle.xs_stretch.specs.Nets.{IsNumbered, IsNestOf}
+use Rattle.xs_stretch.specs.Parts.{IsStretch}
 use Rattle.xs_stretch_laws.proofs.Among.{Among}
 use Rattle.xs_stretch_laws.proofs.Paths as P
 use Rattle.xs_stretch_laws.proofs.Paths.{Path, path_on, path_one}

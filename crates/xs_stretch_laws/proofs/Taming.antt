@@ -18,10 +18,10 @@ use Rattle.xs_gram.specs.Fences.{spread, is_left, is_right, is_fence, IsFence, I
 use Rattle.xs_gram.proofs.Fences.{is_left_of, is_right_of, one_right, one_left, sides_apart}
 use Rattle.xs_gram.proofs.Classes.{term_unfenced, skip_unfenced}
 use Rattle.xs_gram.proofs.Spreading.{spread_names}
-use Rattle.xs_stretch_laws.specs.Arcs.{Label, reads, passes, calls, Arc, read, pass, call, word_arcs, automaton_arcs}
-use Rattle.xs_stretch_laws.specs.Groups.{group_number}
-use Rattle.xs_stretch_laws.specs.Laying.{entry_state, exit_state, LaysItem, lays_fixed, lays_term, lays_skip, lays_non, lays_component, LaysRules, lays_no_rule, lays_rule, lays_other_rule, LaysBody, lays_no_body, lays_member, lays_other, lays_group, LaysPart, part_none, part_then, part_group}
-use Rattle.xs_stretch_laws.specs.Nets.{IsNumbered, IsNestOf}
+use Rattle.xs_stretch.specs.Arcs.{Label, reads, passes, calls, Arc, read, pass, call, word_arcs, automaton_arcs}
+use Rattle.xs_stretch.specs.Groups.{group_number}
+use Rattle.xs_stretch.specs.Laying.{entry_state, exit_state, LaysItem, lays_fixed, lays_term, lays_skip, lays_non, lays_component, LaysRules, lays_no_rule, lays_rule, lays_other_rule, LaysBody, lays_no_body, lays_member, lays_other, lays_group, LaysPart, part_none, part_then, part_group}
+use Rattle.xs_stretch.specs.Nets.{IsNumbered, IsNestOf}
 use Rattle.xs_stretch_laws.specs.Laws.{NestsAreFenced, NetsAreTame}
 use Rattle.xs_stretch_laws.proofs.Among.{Among, nothing, first_or_rest, among_either, of_contains}
 use Rattle.xs_stretch_laws.proofs.Spelling.{Stands, after_item, after_group, inside_stands}

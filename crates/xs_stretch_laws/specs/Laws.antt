@@ -7,7 +7,8 @@ use Rattle.xs_gram.specs.declared.parts.GItem.{GItem}
 use Rattle.xs_gram.specs.Grammar.{Grammar}
 use Rattle.xs_gram.specs.Sound.{IsBuilt}
 use Rattle.xs_gram.specs.Fenced.Loose.{IsLoose}
-use Rattle.xs_stretch_laws.specs.Nets.{IsNumbered, IsNestOf, IsStretch}
+use Rattle.xs_stretch.specs.Nets.{IsNumbered, IsNestOf}
+use Rattle.xs_stretch.specs.Parts.{IsStretch}
 
 -- over the nest of the grammar, the net of a stretch accepts exactly its loose words
 abbrev pub NetsAcceptLoose : Type 0

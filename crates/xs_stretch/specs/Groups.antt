@@ -1,4 +1,4 @@
--- The numbers of a grammar's groups: rule by rule, and in a rule by the places of their left fences.
+-- The numbers of a grammar's groups: by rule, and in a rule by the place of the left fence.
 use Rattle.std.specs.Prelude.{ℕ, zero, suc, ◌+◌, ◌-◌, ◌<◌, ◌^◌, List, [], ◌∷◌, length, take, true, false}
 use Rattle.xs_gram.specs.declared.parts.GItem.{GItem}
 use Rattle.xs_gram.specs.Grammar.{Grammar}

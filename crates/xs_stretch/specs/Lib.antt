@@ -1,0 +1,10 @@
+pub mod Arcs
+pub mod Components
+pub mod Groups
+pub mod Growth
+pub mod Laws
+pub mod Laying
+pub mod Nets
+pub mod Parts
+pub mod Steps
+pub mod Weighing

@@ -1,0 +1,39 @@
+-- Stretches of a rule's spread items: which they are, and when they are light.
+use Rattle.std.specs.Prelude.{◌≡◌, ℕ, ◌<◌, ◌≤◌, List, ◌++◌, length, slice_range}
+use Rattle.xs_gram.specs.declared.parts.GItem.{GItem}
+use Rattle.xs_gram.specs.Grammar.{Grammar}
+use Rattle.xs_gram.specs.Fences.{spread, IsLevel}
+use Rattle.xs_check_laws.specs.Weights.{heaviest}
+use Rattle.xs_check_laws.specs.Fenced.Weights.{PartWeighs}
+use Rattle.xs_stretch.specs.declared.part.Part.{Part}
+use Rattle.xs_stretch.specs.declared.fault.LooseFault.{LooseFault}
+use Rattle.xs_stretch.specs.declared.fault.LooseFault.TheVariants.{Heavy, Memory}
+
+-- the spread items of the part
+abbrev pub part_items : Grammar → Part → List GItem
+part_items g part = slice_range (spread g part.rule) part.start part.end
+
+-- the part stands in its rule, and is level
+pub record IsPart (g : Grammar) (part : Part) : Type 0 where
+  pub rule : part.rule < length g.rules
+  pub order : part.start ≤ part.end
+  pub within : part.end ≤ length (spread g part.rule)
+  pub level : IsLevel g.fences (part_items g part)
+
+-- the items are a level stretch of rule p's spread items, from item k on
+pub record IsStretch (g : Grammar) (p k : ℕ) (is : List GItem) : Type 0 where
+  pub rule : p < length g.rules
+  pub before : List GItem
+  pub after : List GItem
+  pub split : spread g p ≡ before ++ (is ++ after)
+  pub place : k ≡ length before
+  pub level : IsLevel g.fences is
+
+-- the items weigh no more than a stretch that has a net may
+abbrev pub AreLight : Grammar → List GItem → Type 0
+AreLight g is = (w : ℕ) × PartWeighs g is w × (w ≤ heaviest)
+
+-- where the fault speaks of a weight, it is that of the items, and more than a stretch may weigh
+abbrev pub IsCause : Grammar → List GItem → LooseFault → Type 0
+IsCause g is (Heavy weight) = PartWeighs g is weight × (heaviest < weight)
+IsCause g is Memory = Unit {0}
