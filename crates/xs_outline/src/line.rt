@@ -42,8 +42,8 @@ fn before(text: &[Sym], stop: u32) -> usize
     text.len()
 }
 
-/// What stands before the first space, and after it.
-fn cut(text: &[Sym]) -> Option<(&[Sym], &[Sym])>
+/// What stands before the first space, and after it, if there is a space.
+pub fn cut(text: &[Sym]) -> Option<(&[Sym], &[Sym])>
     ensures { MatchOption result (Lacks 32 text.now) (λ r. Lacks 32 r.0.now × (text.now ≡ r.0.now ++ 32 ∷ r.1.now)) }
 {
     let place = before(text, SPACE);

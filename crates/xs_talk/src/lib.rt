@@ -26,3 +26,4 @@ pub use line::{Line, fault_line, room};
 pub use outcome::{Outcome, Report};
 pub use telling::line_of;
 pub use walk::tree_line;
+pub use words::{push_decimal, push_symbol};

@@ -1,0 +1,4 @@
+pub mod Answered
+pub mod Playings
+pub mod Requests
+pub mod Words

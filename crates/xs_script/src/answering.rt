@@ -1,0 +1,162 @@
+// The lines that answer requests.
+ghost use Rattle.std.specs.Prelude.{◌≡◌, ◌++◌, ◌∷◌, [], List, ℕ, IfOk, OnOk, codes};
+ghost use Rattle.xs_talk.specs.Slots.{HasSlotNames};
+ghost use Rattle.xs_talk.specs.Words.{quoted};
+ghost use Rattle.xs_script.specs.Playing.{number_line, range_text, ranges_text, next_line, IsPutAnswer, IsTreeAnswer, IsNextAnswer, Answers};
+
+use crate::request::Request;
+use std::alloc::Global;
+use xs_class::{Bytes, Class, Memory, Names, Sym, Word};
+use xs_edit::{EditFault, Session};
+use xs_pair::Two;
+use xs_talk::{push_decimal, push_symbol, tree_line};
+
+/// Appends a word, a number and the end of the line.
+fn push_number(out: &mut Bytes, word: &[u8], number: u64) -> Result<(), Memory>
+    ensures { OnOk result (out.new ≡ out.old ++ number_line word.now number) }
+{
+    out.extend(word)?;
+    push_decimal(out, number)?;
+    out.push(b'\n')?;
+    Ok(())
+}
+
+/// Appends a symbol, between two quotes.
+fn push_one(alloc: Global, out: &mut Bytes, names: &Names, symbol: u32) -> Result<(), Memory>
+    ensures { OnOk result (out.new ≡ out.old ++ quoted names.now (symbol ∷ [])) }
+{
+    out.push(b'"')?;
+    push_symbol(alloc, out, names, Sym(symbol))?;
+    out.push(b'"')?;
+    Ok(())
+}
+
+/// Appends a range.
+fn push_range(
+    alloc: Global,
+    out: &mut Bytes,
+    names: &Names,
+    range: (u32, u32),
+) -> Result<(), Memory>
+    ensures { OnOk result (out.new ≡ out.old ++ range_text names.now range) }
+{
+    out.push(b' ')?;
+    push_one(alloc, out, names, range.0)?;
+    if range.0 != range.1 {
+        out.push(b'-')?;
+        push_one(alloc, out, names, range.1)?;
+    }
+    Ok(())
+}
+
+/// Appends the ranges.
+fn push_ranges(
+    alloc: Global,
+    out: &mut Bytes,
+    names: &Names,
+    ranges: &[(u32, u32)],
+) -> Result<(), Memory>
+    ensures { OnOk result (out.new ≡ out.old ++ ranges_text names.now ranges.now) }
+{
+    'ranges: for range in ranges {
+        push_range(alloc, out, names, *range)?;
+    }
+    Ok(())
+}
+
+/// Appends the line of a class.
+fn push_class(alloc: Global, out: &mut Bytes, names: &Names, class: &Class) -> Result<(), Memory>
+    ensures { OnOk result (out.new ≡ out.old ++ next_line names.now class.now) }
+{
+    out.extend(b"next")?;
+    push_ranges(alloc, out, names, class.ranges())?;
+    out.push(b'\n')?;
+    Ok(())
+}
+
+/// Edits the document, and appends the line that says how that went.
+fn put(
+    alloc: Global,
+    session: &mut Session<'_>,
+    at: u32,
+    cut: u32,
+    put: &Word,
+    out: &mut Bytes,
+) -> Result<(), Memory>
+    ensures answer { OnOk result ((line : List ℕ) × IsPutAnswer session.old.document at cut put.now line session.new.document × (out.new ≡ out.old ++ line)) }
+    ensures pair { session.new.pair ≡ session.old.pair }
+{
+    match session.edit(alloc, at, cut, put) {
+        Ok(()) => {
+            push_number(out, b"ok ", session.document().len() as u64)?;
+            Ok(())
+        }
+        Err(EditFault::Outside) => {
+            out.extend(b"no outside\n")?;
+            Ok(())
+        }
+        Err(EditFault::Long) => {
+            out.extend(b"no long\n")?;
+            Ok(())
+        }
+        Err(EditFault::Memory) => Err(Memory),
+    }
+}
+
+/// Appends the line of a derivation of the document, or how far it can be read.
+fn tree(alloc: Global, two: &Two, session: &Session<'_>, out: &mut Bytes) -> Result<(), Memory>
+    requires names { HasSlotNames two.now }
+    requires pair { session.now.pair ≡ two.now }
+    ensures { OnOk result ((line : List ℕ) × IsTreeAnswer two.now session.now.document line × (out.new ≡ out.old ++ line)) }
+{
+    match session.tree(alloc)? {
+        Some(spelt) => {
+            let line = tree_line(alloc, two, &spelt, session.document())?;
+            out.extend(line.as_slice())?;
+        }
+        None => push_number(out, b"foreign ", session.viable())?,
+    }
+    Ok(())
+}
+
+/// Appends the line of the symbols that may come after a prefix.
+fn next(
+    alloc: Global,
+    two: &Two,
+    session: &Session<'_>,
+    at: u32,
+    out: &mut Bytes,
+) -> Result<(), Memory>
+    requires { session.now.pair ≡ two.now }
+    ensures { OnOk result ((line : List ℕ) × IsNextAnswer two.now session.now.document at line × (out.new ≡ out.old ++ line)) }
+{
+    match session.next(alloc, at)? {
+        Some(class) => push_class(alloc, out, two.names(), &class)?,
+        None => out.extend(b"no beyond\n")?,
+    }
+    Ok(())
+}
+
+/// Does what is asked for, and appends the line that answers it.
+pub fn answer(
+    alloc: Global,
+    two: &Two,
+    session: &mut Session<'_>,
+    request: &Request,
+    out: &mut Bytes,
+) -> Result<(), Memory>
+    requires names { HasSlotNames two.now }
+    requires pair { session.old.pair ≡ two.now }
+    ensures answer { OnOk result ((line : List ℕ) × Answers two.now session.old.document request.now line session.new.document × (out.new ≡ out.old ++ line)) }
+    ensures pair { session.new.pair ≡ session.old.pair }
+{
+    match request {
+        Request::Put {
+            at,
+            cut,
+            put: symbols,
+        } => put(alloc, session, *at, *cut, symbols, out),
+        Request::Tree => tree(alloc, two, session, out),
+        Request::Next { at } => next(alloc, two, session, *at, out),
+    }
+}
