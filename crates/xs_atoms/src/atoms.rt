@@ -1,4 +1,5 @@
-ghost use Rattle.std.specs.Prelude.{◌≡◌, ◌<◌, [], slice_index_or, IfOk, IfSome};
+ghost use Rattle.std.specs.Prelude.{◌≡◌, ◌<◌, ◌/◌, ◌%◌, [], slice_get, slice_index_or, IfOk, IfSome};
+ghost use Rattle.xs_atoms.specs.Pages.{cell_of};
 
 use crate::distinct::Distinct;
 use crate::fault::AtomsFault;
@@ -26,6 +27,21 @@ pub struct Atoms {
     rows: Vec<bool>,
     terms: Vec<Numbers>,
     skips: Vec<Numbers>,
+}
+
+/// The atom of a symbol by a table of two levels.
+#[inline(always)]
+fn atom_at(pages: &[u32], cells: &[u16], rest: u16, s: Sym) -> u16
+    ensures { result ≡ cell_of cells.now rest (s % 256) (slice_get pages.now (s / 256)) }
+{
+    let number = s.number();
+    match pages.get((number / 256) as usize) {
+        None => rest,
+        Some(page) => match cells.get(*page as usize + (number % 256) as usize) {
+            None => rest,
+            Some(atom) => *atom,
+        },
+    }
 }
 
 impl Atoms {
@@ -88,14 +104,7 @@ impl Atoms {
     pub fn of_symbol(&self, s: Sym) -> u16
         ensures { result ≡ atom_of self.now s }
     {
-        let number = s.number();
-        match self.pages.get((number / 256) as usize) {
-            None => self.rest,
-            Some(page) => match self.cells.get(*page as usize + (number % 256) as usize) {
-                None => self.rest,
-                Some(atom) => *atom,
-            },
-        }
+        atom_at(&self.pages, &self.cells, self.rest, s)
     }
 
     /// The atoms of a document's symbols, and then that of its end as often as the padding says.
@@ -103,8 +112,11 @@ impl Atoms {
         ensures { IfOk result (λ word. word.items ≡ word_of self.now doc.now padding) }
     {
         let mut atoms = Vec::with_capacity(alloc, doc.len().saturating_add(padding))?;
+        let pages = self.pages.as_slice();
+        let cells = self.cells.as_slice();
+        let rest = self.rest;
         'symbols: for symbol in doc {
-            atoms.push(self.of_symbol(*symbol))?;
+            atoms.push(atom_at(pages, cells, rest, *symbol))?;
         }
         'ends: for _ in 0..padding {
             atoms.push(self.count)?;

@@ -1,7 +1,7 @@
 -- One more item of a node, and one more node of a table.
-use Rattle.std.proofs.Common.{◌≡◌, ◌∙◌, ℕ, suc, ◌+◌, ◌-◌, ◌<◌, ◌≤◌, List, ◌∷◌, length, drop, get_or, Some, refl, sym, ap, subst, arith, add-one, drop-cons, inl, inr}
+use Rattle.std.proofs.Common.{◌≡◌, ◌∙◌, ℕ, suc, ◌+◌, ◌-◌, ◌<◌, ◌≤◌, List, ◌∷◌, length, drop, get_or, Some, sym, ap, subst, arith, add-one, drop-cons, inl, inr}
 use Rattle.std.proofs.lemmas.Bool.{cases_eq}
-use Rattle.std.proofs.lemmas.Option.{slice_get_read, slice_get-get_or}
+use Rattle.std.proofs.lemmas.Option.{slice_get-get_or}
 use Rattle.std.specs.Prelude.{slice_get}
 use Rattle.xs_gram.specs.declared.parts.GItem.{GItem}
 use Rattle.xs_gram.specs.Grammar.{Grammar}
@@ -22,10 +22,6 @@ one_more g doc nodes parts v k n is item at part to end l i p h after =
   where
     there : get_or is n item ∷ drop (suc n) is ≡ item ∷ drop (n + 1) is
     there = rw add-one (ap (λ (x : GItem). x ∷ drop (suc n) is) (sym i))
-
--- a number that was read is there
-pub read_number : (xs ys : List ℕ) (i j x : ℕ) → xs ≡ ys → i ≡ j → i < length xs → x ≡ get_or xs i x → slice_get ys j ≡ Some x
-read_number xs ys i j x e f l r = subst (λ (zs : List ℕ). slice_get zs j ≡ Some x) e (subst (λ k. slice_get xs k ≡ Some x) f (slice_get_read xs (length xs) i x refl l r))
 
 pub next_node : (P : ℕ → Node → Type 0) (nodes : List Node) (v : ℕ) (node : Node) → slice_get nodes v ≡ Some node → P v node → ((u : ℕ) (n : Node) → u < v → slice_get nodes u ≡ Some n → P u n) → (u : ℕ) (n : Node) → u < v + 1 → slice_get nodes u ≡ Some n → P u n
 next_node P nodes v node there here before u n l e = elim (cases_eq u v) [

@@ -30,17 +30,16 @@ fn is_node(
         return false;
     }
     let items = g.items(node.production);
-    let mut at = node.from;
+    let begin = node.parts as usize;
     let nodes = table.nodes.as_slice();
     let parts = table.parts.as_slice();
+    if parts.len() < begin + items.len() {
+        return false;
+    }
+    let mut at = node.from;
     'items: for (dot, item) in items.iter().enumerate() {
-        let Some(place) = (node.parts as usize).checked_add(dot) else {
-            return false;
-        };
-        let Some(part) = parts.get(place) else {
-            return false;
-        };
-        let Some(end) = item_end(validator, g, doc, atoms, nodes, v, item, at, *part) else {
+        let part = parts[begin + dot];
+        let Some(end) = item_end(validator, g, doc, atoms, nodes, v, item, at, part) else {
             return false;
         };
         at = end;

@@ -21,6 +21,9 @@ fn are_same(a: &[Sym], b: &[Sym]) -> bool
     if a.len() != b.len() {
         return false;
     }
+    if let ([only], [other]) = (a, b) {
+        return only == other;
+    }
     'places: for place in 0..a.len() {
         if a[place] != b[place] {
             return false;
