@@ -11,7 +11,7 @@ use xs_class::Word;
 use xs_earley::recognise;
 use xs_forest_laws::Grown;
 use xs_gram::Gram;
-use xs_grow::grow;
+use xs_grow::grow_last;
 use xs_listing::one_tree;
 use xs_tree::Tree;
 
@@ -25,7 +25,7 @@ pub fn grown(alloc: Global, g: &Gram, doc: &Word) -> Result<Grown, TurnFault>
     ensures stop { IfErr result (IsStop g.now doc.now) }
 {
     let chart = recognise(alloc, g, doc)?;
-    let grown = grow(alloc, g, &chart, doc)?;
+    let grown = grow_last(alloc, g, chart, doc)?;
     Ok(grown)
 }
 
