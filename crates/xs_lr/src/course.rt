@@ -38,3 +38,10 @@ pub enum Stop {
     /// It took too many steps.
     Steps,
 }
+
+/// Where and why reading stopped.
+#[derive(Clone, Copy)]
+pub struct Halt {
+    pub course: Course,
+    pub stop: Stop,
+}

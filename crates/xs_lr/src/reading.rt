@@ -84,7 +84,7 @@ impl<'d> Reading<'d> {
             Stop::Fork => return self.fork(automaton),
             Stop::Unknown => self.fill(automaton)?,
             Stop::Goto { row, cell } => automaton.fill_goto(row, cell)?,
-            Stop::Entries => grow(&mut self.stack, entry(0))?,
+            Stop::Entries => grow(&mut self.stack, entry(self.course.row))?,
             Stop::Nodes => self.tree.grow_nodes()?,
             Stop::Parts => self.tree.grow_parts()?,
         }

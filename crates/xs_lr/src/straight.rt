@@ -2,7 +2,7 @@ ghost use Rattle.std.specs.Prelude.{◌≡◌, ◌+◌, ◌≤◌, length, vec_l
 
 use crate::action::{ACCEPT, CHAIN, FAIL, KIND, LOOK, REDUCE, SHIFT, TOKEN, UNKNOWN, to_row};
 use crate::automaton::MOST_LOOKAHEAD;
-use crate::course::{Course, Entry, Stop};
+use crate::course::{Course, Entry, Halt, Stop};
 use crate::grammar::MOST_ITEMS;
 use xs_parse_table::Node;
 
@@ -26,9 +26,9 @@ pub fn read_on(
         }
         match act(table, stack, nodes, parts, action, now) {
             Ok(next) => now = next,
-            Err(stop) => {
-                *course = now;
-                return stop;
+            Err(halt) => {
+                *course = halt.course;
+                return halt.stop;
             }
         }
     }
@@ -84,7 +84,7 @@ fn act(
     parts: &mut Vec<u32>,
     action: u32,
     course: Course,
-) -> Result<Course, Stop> {
+) -> Result<Course, Halt> {
     if action & REDUCE != 0 {
         reduce(table, stack, nodes, parts, action, course)
     } else if action & TOKEN != 0 {
@@ -96,8 +96,14 @@ fn act(
             depth: course.depth,
         })
     } else {
-        Err(stop_of(action))
+        halt(course, stop_of(action))
     }
+}
+
+/// The stop at a place, with nothing done.
+#[inline(always)]
+fn halt<T>(course: Course, stop: Stop) -> Result<T, Halt> {
+    Err(Halt { course, stop })
 }
 
 /// Why reading stops at an action that is not to be done.
@@ -112,25 +118,27 @@ fn stop_of(action: u32) -> Stop {
 
 /// Ends a token, and goes to the LR state after it.
 #[inline(always)]
-fn end_token(stack: &mut [Entry], action: u32, course: Course) -> Result<Course, Stop> {
+fn end_token(stack: &mut [Entry], action: u32, course: Course) -> Result<Course, Halt> {
     let row = action >> 3;
     let end = course.at.wrapping_add(action & SHIFT);
-    put_entry(
-        stack,
-        course.depth,
-        Entry {
-            row,
-            end,
-            part: end,
-        },
-    )
+    let entry = Entry {
+        row,
+        end,
+        part: end,
+    };
+    put_entry(stack, course.depth, entry, course)
 }
 
 /// Puts an entry at a place of the stack: what is read ends there.
 #[inline(always)]
-fn put_entry(stack: &mut [Entry], place: u32, entry: Entry) -> Result<Course, Stop> {
+fn put_entry(
+    stack: &mut [Entry],
+    place: u32,
+    entry: Entry,
+    course: Course,
+) -> Result<Course, Halt> {
     let Some(there) = stack.get_mut(place as usize) else {
-        return Err(Stop::Entries);
+        return halt(course, Stop::Entries);
     };
     *there = entry;
     Ok(Course {
@@ -149,46 +157,47 @@ fn reduce(
     parts: &mut Vec<u32>,
     action: u32,
     course: Course,
-) -> Result<Course, Stop> {
+) -> Result<Course, Halt> {
     let production = action >> 3;
     let Some(cell) = table.get(production as usize) else {
-        return Err(Stop::Fail);
+        return halt(course, Stop::Fail);
     };
     let token = (action & TOKEN) >> 1;
     let end = course.at.wrapping_add(action & SHIFT);
     let above = course.depth.wrapping_add(token);
     let down = above.wrapping_sub(*cell & MOST_ITEMS);
-    let below = (down as usize).wrapping_sub(1);
-    let Some([below, entries @ ..]) = stack.get(below..course.depth as usize) else {
-        return Err(Stop::Fail);
-    };
-    if stack.len() <= down as usize {
-        return Err(Stop::Entries);
+    let begin = down as usize;
+    let depth = course.depth as usize;
+    if begin == 0 || depth < begin || stack.len() < depth {
+        return halt(course, Stop::Fail);
     }
-    let below = *below;
-    let row = goto(table, below.row, *cell >> 10)?;
+    if stack.len() == begin {
+        return halt(course, Stop::Entries);
+    }
+    let below = stack[begin - 1];
+    let row = goto(table, below.row, *cell >> 10, course)?;
     let node = Node {
         production,
         parts: number_of(parts.len()),
         from: below.end,
         to: end,
     };
-    let part = push_node(nodes, parts, node, entries, token)?;
+    let part = push_node(nodes, parts, node, &stack[begin..depth], token, course)?;
     let entry = Entry { row, end, part };
     let last = if row & CHAIN == 0 {
         entry
     } else {
-        chain(table, nodes, parts, below, entry, node.parts)?
+        chain(table, nodes, parts, below, entry, node.parts, course)?
     };
-    put_entry(stack, down, last)
+    put_entry(stack, down, last, course)
 }
 
 /// Where a goto cell leads.
 #[inline(always)]
-fn goto(table: &[u32], row: u32, cell: u32) -> Result<u32, Stop> {
+fn goto(table: &[u32], row: u32, cell: u32, course: Course) -> Result<u32, Halt> {
     match table.get(row as usize + cell as usize) {
-        None => Err(Stop::Fail),
-        Some(0) => Err(Stop::Goto { row, cell }),
+        None => halt(course, Stop::Fail),
+        Some(0) => halt(course, Stop::Goto { row, cell }),
         Some(to) => Ok(*to),
     }
 }
@@ -209,12 +218,13 @@ fn push_node(
     node: Node,
     entries: &[Entry],
     token: u32,
-) -> Result<u32, Stop> {
+    course: Course,
+) -> Result<u32, Halt> {
     if nodes.len() >= nodes.capacity() {
-        return Err(Stop::Nodes);
+        return halt(course, Stop::Nodes);
     }
     if parts.capacity() - parts.len() <= entries.len() {
-        return Err(Stop::Parts);
+        return halt(course, Stop::Parts);
     }
     let number = number_of(nodes.len());
     nodes.push_reserved(node);
@@ -252,18 +262,19 @@ fn chain(
     below: Entry,
     made: Entry,
     from: u32,
-) -> Result<Entry, Stop> {
+    course: Course,
+) -> Result<Entry, Halt> {
     let mut last = made;
     'productions: for _ in 0..table.len() {
         if last.row & CHAIN == 0 {
             break;
         }
-        match link(table, nodes, parts, below, last) {
+        match link(table, nodes, parts, below, last, course) {
             Ok(next) => last = next,
-            Err(stop) => {
+            Err(halt) => {
                 nodes.truncate(made.part as usize);
                 parts.truncate(from as usize);
-                return Err(stop);
+                return Err(halt);
             }
         }
     }
@@ -278,19 +289,20 @@ fn link(
     parts: &mut Vec<u32>,
     below: Entry,
     last: Entry,
-) -> Result<Entry, Stop> {
+    course: Course,
+) -> Result<Entry, Halt> {
     let production = last.row & !CHAIN;
     let Some(cell) = table.get(production as usize) else {
-        return Err(Stop::Fail);
+        return halt(course, Stop::Fail);
     };
-    let row = goto(table, below.row, *cell >> 10)?;
+    let row = goto(table, below.row, *cell >> 10, course)?;
     let node = Node {
         production,
         parts: number_of(parts.len()),
         from: below.end,
         to: last.end,
     };
-    let part = push_node(nodes, parts, node, &[last], 0)?;
+    let part = push_node(nodes, parts, node, &[last], 0, course)?;
     Ok(Entry {
         row,
         end: last.end,

@@ -128,17 +128,16 @@ fn place_all(
     ensures kids { IfOk result (λ placed. IsTrue placed → AreNodeKids g.now doc.now table.now (trees_of builder.new) kids.new.items node) }
 {
     let items = g.items(node.production);
+    let begin = node.parts as usize;
     let nodes = table.nodes.as_slice();
     let parts = table.parts.as_slice();
+    if parts.len() < begin + items.len() {
+        return Ok(false);
+    }
     let mut at = node.from;
     'items: for (dot, item) in items.iter().enumerate() {
-        let Some(number) = (node.parts as usize).checked_add(dot) else {
-            return Ok(false);
-        };
-        let Some(part) = parts.get(number) else {
-            return Ok(false);
-        };
-        let Some(end) = place(doc, nodes, numbers, item, at, *part, builder, kids)? else {
+        let part = parts[begin + dot];
+        let Some(end) = place(doc, nodes, numbers, item, at, part, builder, kids)? else {
             return Ok(false);
         };
         at = end;

@@ -1,9 +1,9 @@
-use Rattle.std.proofs.Common.{◌≡◌, ◌+◌, ◌<◌, ◌≤◌, List, length, get_or, Some, refl, ◌∙◌, subst}
+use Rattle.std.proofs.Common.{◌≡◌, ℕ, ◌+◌, ◌<◌, ◌≤◌, List, length, get_or, Some, refl, ◌∙◌, subst, arith}
+use Rattle.std.proofs.lemmas.Option.{slice_get-get_or}
 use Rattle.std.specs.Prelude.{slice_get}
 use Rattle.xs_gram.specs.declared.parts.GItem.{GItem}
 use Rattle.xs_gram.specs.Grammar.{items}
 use Rattle.xs_parse_table.specs.declared.table.Node.{Node}
-use Rattle.xs_parse_table.proofs.Items.{read_number}
 use Rattle.xs_tree.specs.Flat.{trees_of}
 use Rattle.xs_turn.specs.Tables.{IsPlaced}
 use Rattle.xs_turn.proofs.Kids.{grows_none, grows_all}
@@ -26,16 +26,17 @@ items-preserved c =
     let node = c.args.node in
     let numbers = c.args.numbers.now in
     let item = c.index-items-dot.result in
-    let part = c.in-Some-get.part.now in
-    let to = c.in-Some-2.end in
+    let xs = c.as_slice-parts.result.now in
+    let at = node.parts + c.items.dot in
+    let part = get_or xs at 0 in
+    let to = c.in-Some.end in
     let a = trees_of c.items.builder in
     let b = trees_of c.place.new.builder in
     let ks = c.items.kids.items in
     let new = c.place.new.kids.items in
-    let read = c.in-Some-get.ensures.lookup in
-    let p : slice_get c.args.table.now.parts.items (c.args.node.parts + c.items.dot) ≡ Some c.in-Some-get.part.now =
-    read_number c.as_slice-parts.result.now c.args.table.now.parts.items c.in-Some.number (c.args.node.parts + c.items.dot) part c.as_slice-parts.ensures.value c.in-Some.ensures.1 read.3.0 read.1 in
-    let ended = rw c.in-Some-2.is at c.in_ok-end.ensures in
+    let p : slice_get table.parts.items at ≡ Some part =
+    subst (λ (ys : List ℕ). slice_get ys at ≡ Some part) c.as_slice-parts.ensures.value (slice_get-get_or xs at 0 (omega (arith, c.if-parts-begin.false, c.items-test.true))) in
+    let ended = rw c.in-Some.is at c.in_ok-end.ensures in
     let placed = subst (λ (ns : List Node). IsPlaced doc ns numbers item c.items.at part a ks b new to) c.as_slice-nodes.ensures.value ended in
     let lt : c.items.dot < length (items g node.production) = subst (λ (l : List GItem). c.items.dot < length l) c.items-items.ensures.items c.items-test.true in
     let is = subst (λ (l : List GItem). item ≡ get_or l c.items.dot item) c.items-items.ensures.items c.index-items-dot.is in

@@ -9,5 +9,5 @@ invariant-items l = record {
   long : length l.kids.items ≡ length l.fn.kids.items;
   grows : Grows (trees_of l.fn.builder) (trees_of l.builder);
   earlier : AreNodeTrees l.g l.doc l.table (trees_of l.builder) l.numbers;
-  gathers : Gathers l.g l.doc l.table l.node l.dot l.at (trees_of l.builder) l.kids.items;
+  gathers : Gathers l.g l.doc l.table l.fn.node l.dot l.at (trees_of l.builder) l.kids.items;
 }
