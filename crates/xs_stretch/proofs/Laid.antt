@@ -17,6 +17,7 @@ use Rattle.xs_check_laws.specs.Fenced.Weights.{Members, no_member, member_next, 
 use Rattle.xs_stretch.specs.Arcs.{Arc, pass, call, word_arcs, after_word, automaton_arcs, after_automaton}
 use Rattle.xs_stretch.specs.Groups.{group_number}
 use Rattle.xs_stretch.specs.Parts.{IsStretch}
+use Rattle.xs_stretch.specs.Walking.{AreNamed}
 use Rattle.xs_stretch.specs.Laying.{entry_state, exit_state, LaysItem, lays_fixed, lays_term, lays_skip, lays_non, LaysComponent, lays_component, LaysRules, lays_no_rule, lays_rule, lays_other_rule, LaysBody, lays_no_body, lays_member, lays_other, lays_group, LaysPart, part_none, part_then, part_group}
 
 -- how many members of the component of c are below its member n, of `count` in all
@@ -35,10 +36,6 @@ member_rank {g} {c} (other_next {n = m} a rest) n one low = elim (cases_eq n m) 
   | inl e ↦ absurd (a (subst (λ (x : ℕ). AreOne g c x) e one))
   | inr ne ↦ member_rank rest n one (omega (arith, low))
 ]
-
--- what items name is there
-abbrev pub AreNamed : Grammar → List GItem → Type 0
-AreNamed g is = (i : GItem) → Contains is i → NamesAreThere g i
 
 pub rule_named : (g : Grammar) → IsInRange g → (p : ℕ) → AreNamed g (spread g p)
 rule_named g range p i h = spread_names g range p h.0 i (slice_get-get_or (spread g p) h.0 i h.1 ∙ ap (λ (x : GItem). Some x) h.2)

@@ -9,3 +9,11 @@ pub mod Laid
 pub mod Once
 pub mod Growing
 pub mod Pushing
+pub mod Spans
+pub mod Gaining
+pub mod Leaving
+pub mod Inverting
+pub mod Moving
+pub mod Owning
+pub mod Going
+pub mod Numbering

@@ -24,10 +24,10 @@ rank_once (member_next a m) (other_next b l) = absurd (b a)
 rank_once (other_next a m) (member_next b l) = absurd (a b)
 rank_once (other_next a m) (other_next b l) = rank_once m l
 
-non_fixed : {n s l : ℕ} → Non n s ≡ Fixed (l ∷ []) → ⊥
+pub non_fixed : {n s l : ℕ} → Non n s ≡ Fixed (l ∷ []) → ⊥
 non_fixed e = cc
 
-non_named : {m n s t : ℕ} → Non m s ≡ Non n t → m ≡ n
+pub non_named : {m n s t : ℕ} → Non m s ≡ Non n t → m ≡ n
 non_named e = cc
 
 join : {xs ys us vs zs ws : List Arc} → zs ≡ xs ++ ys → ws ≡ us ++ vs → xs ≡ us → ys ≡ vs → zs ≡ ws
@@ -49,12 +49,12 @@ exits : (first : ℕ) {j k s t : ℕ} → s ≡ exit_state first j → t ≡ exi
 exits first e h p = cc
 
 -- two readings of one stretch as a group and what follows it
-groups_once : {fs : List (ℕ × ℕ)} {l r m s : ℕ} {a b x y js : List GItem} → IsDistinct (fence_symbols fs) → IsFence fs l r → IsFence fs m s → IsLevel fs a → IsLevel fs b → js ≡ grouped l a r x → js ≡ grouped m b s y → IsOnce a b r s x y
+pub groups_once : {fs : List (ℕ × ℕ)} {l r m s : ℕ} {a b x y js : List GItem} → IsDistinct (fence_symbols fs) → IsFence fs l r → IsFence fs m s → IsLevel fs a → IsLevel fs b → js ≡ grouped l a r x → js ≡ grouped m b s y → IsOnce a b r s x y
 groups_once {fs} once f h i j e k = level_once fs once i j f h (cons_parts (sym e ∙ k)).1
 
 module _ (g : Grammar) (once : IsDistinct (fence_symbols g.fences)) where
   mutual
-    item_once : {i : GItem} {b at t u m n : ℕ} {xs ys : List Arc} → LaysItem g i b at xs t m → LaysItem g i b at ys u n → AreSame xs ys t u m n
+    pub item_once : {i : GItem} {b at t u m n : ℕ} {xs ys : List Arc} → LaysItem g i b at xs t m → LaysItem g i b at ys u n → AreSame xs ys t u m n
     item_once (lays_fixed e p q) (lays_fixed h r s) = record { arcs = e ∙ sym h; after = p ∙ sym r; next = q ∙ sym s }
     item_once (lays_term e p q) (lays_term h r s) = record { arcs = e ∙ sym h; after = p ∙ sym r; next = q ∙ ap suc (p ∙ sym r) ∙ sym s }
     item_once (lays_skip e p q) (lays_skip h r s) = record { arcs = e ∙ sym h; after = p ∙ sym r; next = q ∙ ap suc (p ∙ sym r) ∙ sym s }

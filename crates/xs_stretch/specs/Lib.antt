@@ -7,4 +7,7 @@ pub mod Laying
 pub mod Nets
 pub mod Parts
 pub mod Steps
+pub mod Tables
+pub mod Walking
 pub mod Weighing
+pub mod Work

@@ -13,8 +13,11 @@ mod components;
 mod fault;
 mod growth;
 mod laws;
+mod laying;
 mod members;
 mod part;
+mod site;
+mod tables;
 mod weighing;
 
 pub use fault::LooseFault;

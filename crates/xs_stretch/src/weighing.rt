@@ -7,7 +7,7 @@ ghost use Rattle.xs_gram.specs.Fenced.Loose.{AreComponents};
 ghost use Rattle.xs_gram.specs.Sound.{IsBuilt};
 ghost use Rattle.xs_check_laws.specs.Weights.{cap, capped};
 ghost use Rattle.xs_check_laws.specs.Fenced.Weights.{ItemWeighs, BodyWeighs, ComponentWeighs, PartWeighs};
-ghost use Rattle.xs_stretch.specs.Components.{IsListOf, IsNonOf, IsRuleIn};
+ghost use Rattle.xs_stretch.specs.Components.{IsListOf, IsNonOf, IsRuleIn, AreComponentsOf};
 ghost use Rattle.xs_stretch.specs.Parts.{IsPart, part_items};
 ghost use Rattle.xs_stretch.specs.Steps.{StandsAt, StandsLast, PartStep, BodyStep};
 ghost use Rattle.xs_stretch.specs.Weighing.{AreWeights, AreWeightsBefore, HasWeight, IsUnder, Counts};
@@ -30,6 +30,21 @@ pub fn weights(alloc: Global, g: &Gram, comps: &Comps) -> Result<Weights, Memory
     ensures { IfOk result (AreWeights g.now) }
 {
     let lists = Components::of(alloc, g, comps)?;
+    weights_by(alloc, g, comps, &lists)
+}
+
+/// The same, by the lists of the components.
+pub(crate) fn weights_by(
+    alloc: Global,
+    g: &Gram,
+    comps: &Comps,
+    lists: &Components,
+) -> Result<Weights, Memory>
+    requires built { IsBuilt g.now }
+    requires comps { AreComponents g.now comps.now }
+    requires lists { AreComponentsOf g.now comps.now lists.now }
+    ensures { IfOk result (AreWeights g.now) }
+{
     let mut weights = vec![in alloc; 0u64; g.nons() as usize]?;
     'components: for component in 0..lists.members.len() {
         let members = lists.members[component].as_slice();

@@ -1,0 +1,39 @@
+use crate::tables::Tables;
+use xs_gram::{Comps, Gram};
+
+/// A grammar with its components and what is computed once of it, for nets of its stretches.
+#[derive(Drop)]
+pub struct Site<'s> {
+    pub g: &'s Gram,
+    pub comps: &'s Comps,
+    pub tables: &'s Tables,
+}
+
+/// A component that is still to be laid: that of a nonterminal, from a state on.
+#[derive(Clone, Copy, Debug)]
+pub struct Task {
+    pub non: u32,
+    pub at: u32,
+}
+
+/// The component, that of a nonterminal, in which the items of a rule are laid, and its first
+/// state.
+#[derive(Clone, Copy, Debug)]
+pub struct Home {
+    pub non: u32,
+    pub first: u32,
+}
+
+/// Where something is laid: after a state, and by states from another on.
+#[derive(Clone, Copy, Debug)]
+pub struct Spot {
+    pub before: u32,
+    pub at: u32,
+}
+
+/// A spot, and the place of the item that comes next.
+#[derive(Clone, Copy, Debug)]
+pub struct Next {
+    pub spot: Spot,
+    pub place: u32,
+}
