@@ -1,6 +1,10 @@
 pub mod Words
+pub mod Fewer
+pub mod Unspread
 pub mod Components
 pub mod Walks
+pub mod MoreFences
 pub mod Unique
+pub mod MoreClear
 pub mod Weights
 pub mod Unfenced

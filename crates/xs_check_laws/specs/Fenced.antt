@@ -4,3 +4,4 @@ pub mod Freedom
 pub mod Weights
 pub mod Acceptance
 pub mod Laws
+pub mod MoreFences

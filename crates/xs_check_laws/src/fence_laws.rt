@@ -1,4 +1,5 @@
 ghost use Rattle.xs_check_laws.specs.Fenced.Laws.{ComponentsAreDecided, WordsAreTheYield, YieldsAreLoose, NoSuspectIsUniqueAt, NoSuspectIsUnique, AcceptedIsUnique, PartWeighsOnce, RuleWeighsOnce, UnfencedIsSame};
+ghost use Rattle.xs_check_laws.specs.Fenced.MoreFences.{MoreFencesPartComponents, MoreFencesMakeFewerLoose, MoreFencesMakeFewerVertical, MoreFencesMakeNoHorizontal, MoreFencesMakeNoSuspect, AcceptedStaysAccepted};
 
 /// It is decided of each two nonterminals of a built grammar whether they are of one component.
 pub fn components_are_decided()
@@ -35,4 +36,19 @@ pub fn weights_are_exact()
 /// Without fences, loose words, suspects and weights are those where no groups are told apart.
 pub fn unfenced_is_same()
     ensures { UnfencedIsSame }
+{}
+
+/// With more fences components are parted further, fewer words are loose for a rule, each vertical
+/// suspect is one with fewer fences, and where there was no horizontal one there is none.
+pub fn more_fences_make_fewer_suspects()
+    ensures components { MoreFencesPartComponents }
+    ensures loose { MoreFencesMakeFewerLoose }
+    ensures vertical { MoreFencesMakeFewerVertical }
+    ensures horizontal { MoreFencesMakeNoHorizontal }
+    ensures neither { MoreFencesMakeNoSuspect }
+{}
+
+/// What is accepted stays accepted with more fences, where no rule is too heavy.
+pub fn accepted_stays_accepted()
+    ensures { AcceptedStaysAccepted }
 {}

@@ -13,6 +13,8 @@
 //! `fence_laws` has the same laws for grammars with fences, whose groups are called and returned from
 //! exactly. There they ask only for a built grammar: that it is decided which nonterminals are of one
 //! component is proved of it.
+//! Two laws there are on fences that are added: they take loose words and suspects away and bring
+//! none, so what is accepted stays accepted, where no rule becomes too heavy.
 #![tactic(auto)]
 
 pub mod fence_laws;

@@ -35,7 +35,7 @@ abbrev IsUncut : Grammar → List GItem → List GItem → Type 0
 IsUncut g front rest = 0 < length front → 0 < length rest → (x a y : List ℕ) → Overlaps g front rest x a y → ⊥
 
 -- so it is at each cut of the stretch
-abbrev IsClear : Grammar → List GItem → Type 0
+abbrev pub IsClear : Grammar → List GItem → Type 0
 IsClear g is = (c : ℕ) (front rest : List GItem) → IsCut g.fences is c front rest → IsUncut g front rest
 
 loose_empty : {g : Grammar} {w : List ℕ} → IsLoose g [] w → w ≡ []
@@ -80,7 +80,7 @@ group_parts : (l r : ℕ) {ms ns bs cs : List (List ℕ)} → ms ≡ ns → bs �
 group_parts l r p q = cc
 
 -- the words of a level stretch are fixed by what they spell, after a front whose word is known
-same_words : {g : Grammar} {is : List GItem} → IsLevel g.fences is → {ws vs : List (List ℕ)} → Words g is ws → Words g is vs → concat ws ≡ concat vs → (before : List GItem) (u : List ℕ) → IsLoose g before u → IsClear g (before ++ is) → ws ≡ vs
+pub same_words : {g : Grammar} {is : List GItem} → IsLevel g.fences is → {ws vs : List (List ℕ)} → Words g is ws → Words g is vs → concat ws ≡ concat vs → (before : List GItem) (u : List ℕ) → IsLoose g before u → IsClear g (before ++ is) → ws ≡ vs
 same_words level_none no_words no_words e before u lu clear = refl
 same_words {g} (level_then {i = i} {is = js} plain l) (word_then {w = a} {ws = ws} h t) (word_then {w = b} {ws = vs} k q) e before u lu clear =
     let la : IsLoose g (i ∷ []) a = loose_then plain h loose_none (sym (append-nil a)) in
@@ -131,6 +131,9 @@ skip_same e h = cc
 sub_same : {q p : ℕ} {qs rs ps ts : Parts} → q ≡ p → qs ≡ rs → ps ≡ ts → sub q qs ps ≡ sub p rs ts
 sub_same e h k = cc
 
+pub clear_rule : (g : Grammar) → HasNoHorizontal g → (p : ℕ) → p < length g.rules → IsClear g (spread g p)
+clear_rule g none p lt c front rest k lf lr x a y o = none p c x a y record { rule = lt; low = cut_low k lf; high = cut_high k lr; front = front; rest = rest; cut = k; overlap = o }
+
 module _ (g : Grammar) (built : IsBuilt g) (apart : HasNoVertical g) (none : HasNoHorizontal g) where
   same_rule : (n p q : ℕ) (w : List ℕ) → IsRuleOf g n p → IsRuleOf g n q → IsLoose g (spread g p) w → IsLoose g (spread g q) w → p ≡ q
   same_rule n p q w of of' l l' =
@@ -141,9 +144,6 @@ module _ (g : Grammar) (built : IsBuilt g) (apart : HasNoVertical g) (none : Has
           | inr ge ↦ omega arith
         ]
       ]
-
-  clear_rule : (p : ℕ) → p < length g.rules → IsClear g (spread g p)
-  clear_rule p lt c front rest k lf lr x a y o = none p c x a y record { rule = lt; low = cut_low k lf; high = cut_high k lr; front = front; rest = rest; cut = k; overlap = o }
 
   -- the words of a rule's parts, split, are loose and spell the yield
   split_loose : (q : ℕ) (qs : Parts) → FitsItems g (items g q) qs → Words g (spread g q) (split_words g.fences (items g q) (part_words qs))
@@ -162,7 +162,7 @@ module _ (g : Grammar) (built : IsBuilt g) (apart : HasNoVertical g) (none : Has
       let one : q ≡ p = same_rule n q p (parts_yield qs) of of' lw lv in
       let here : FitsItems g (items g q) rs = subst (λ (r : ℕ). FitsItems g (items g r) rs) (sym one) fit' in
       let both : concat (split_words g.fences (items g q) (part_words qs)) ≡ concat (split_words g.fences (items g q) (part_words rs)) = split_yield q qs fit ∙ e ∙ sym (split_yield q rs here) in
-      let split = same_words (built.proper.level q) (split_loose q qs fit) (split_loose q rs here) both [] [] loose_none (clear_rule q of.0) in
+      let split = same_words (built.proper.level q) (split_loose q qs fit) (split_loose q rs here) both [] [] loose_none (clear_rule g none q of.0) in
       let words : part_words qs ≡ part_words rs = spread_same g.fences (words_of g built (items g q) qs fit) (words_of g built (items g q) rs here) split in
       (one, inner rs here words)
 

@@ -9,7 +9,7 @@ use Rattle.xs_gram.specs.Sound.{IsBuilt}
 use Rattle.xs_gram.specs.Fences.{spread, IsLevel, level_none, level_then, level_group, grouped, OuterAt, OuterGroupAt}
 use Rattle.xs_gram.specs.Loose.{Spot, entry, exit, at}
 use Rattle.xs_gram.specs.Fenced.Loose.{Reaches, here, onward, AreOne, IsMember, LooseItem, loose_fixed, loose_term, loose_skip, loose_non, Step, begins, passes, encloses, calls, ends, returns, Walk, stays, goes}
-use Rattle.xs_gram.proofs.Levels.{level_append, group_split, length_grouped}
+use Rattle.xs_gram.proofs.Levels.{level_append, group_more, group_split, length_grouped}
 use Rattle.xs_check_laws.specs.Words.{part_words}
 use Rattle.xs_check_laws.specs.Fenced.Words.{split_words}
 use Rattle.xs_check_laws.specs.Fenced.Laws.{YieldsAreLoose, WordsAreTheYield}
@@ -68,31 +68,36 @@ module _ (g : Grammar) (built : IsBuilt g) where
         | no h ↦ stepped (passes {m = m} of one there h (loose_non walk))
       ]
 
-  -- through what is left of a rule
-  walk_level : {is : List GItem} {ws : List (List ℕ)} → IsLevel g.fences is → Words g is ws → (c m p : ℕ) (before : List GItem) → IsRuleOf g m p → AreOne g c m → spread g p ≡ before ++ is → IsLevel g.fences before → Walk g c (at p (length before)) (concat ws) (at p (length (spread g p)))
-  walk_level level_none no_words c m p before of one split level =
-      let e : length before ≡ length (spread g p) = sym (ap length (split ∙ append-nil before)) in
+  -- through a stretch of a rule
+  pub walk_level : {is : List GItem} {ws : List (List ℕ)} → IsLevel g.fences is → Words g is ws → (c m p : ℕ) (before rest : List GItem) → IsRuleOf g m p → AreOne g c m → spread g p ≡ before ++ (is ++ rest) → IsLevel g.fences before → Walk g c (at p (length before)) (concat ws) (at p (length (before ++ is)))
+  walk_level level_none no_words c m p before rest of one split level =
+      let e : length before ≡ length (before ++ []) = ap length (sym (append-nil before)) in
       subst (λ (n : ℕ). Walk g c (at p (length before)) [] (at p n)) e stays
-  walk_level (level_then {i = i} {is = js} plain l) (word_then {ws = ws} h t) c m p before of one split level =
-      let there : OuterAt g.fences (spread g p) (length before) i = record { before = before; after = js; split = split; level = level; plain = plain; place = refl } in
-      let on = walk_level l t c m p (before ++ i ∷ []) of one (split ∙ sym (append_assoc before (i ∷ []) js)) (level_append level (level_then plain level_none)) in
+  walk_level (level_then {i = i} {is = js} plain l) (word_then {ws = ws} h t) c m p before rest of one split level =
+      let there : OuterAt g.fences (spread g p) (length before) i = record { before = before; after = js ++ rest; split = split; level = level; plain = plain; place = refl } in
+      let on = walk_level l t c m p (before ++ i ∷ []) rest of one (split ∙ sym (append_assoc before (i ∷ []) (js ++ rest))) (level_append level (level_then plain level_none)) in
       let e : length (before ++ i ∷ []) ≡ suc (length before) = omega (arith, length-append before (i ∷ [])) in
-      let past : Walk g c (at p (suc (length before))) (concat ws) (at p (length (spread g p))) = subst (λ (n : ℕ). Walk g c (at p n) (concat ws) (at p (length (spread g p)))) e on in
-      joined (walk_item h c m p (length before) of one there) past
-  walk_level {ws = ws} (level_group {l = l} {r = r} {inside = inside} {after = after} f i t e) w c m p before of one split level =
+      let end : length ((before ++ i ∷ []) ++ js) ≡ length (before ++ i ∷ js) = ap length (append_assoc before (i ∷ []) js) in
+      let past : Walk g c (at p (suc (length before))) (concat ws) (at p (length ((before ++ i ∷ []) ++ js))) = subst (λ (n : ℕ). Walk g c (at p n) (concat ws) (at p (length ((before ++ i ∷ []) ++ js)))) e on in
+      joined (walk_item h c m p (length before) of one there) (subst (λ (n : ℕ). Walk g c (at p (suc (length before))) (concat ws) (at p n)) end past)
+  walk_level {is = is} {ws = ws} (level_group {l = l} {r = r} {inside = inside} {after = after} f i t e) w c m p before rest of one split level =
       let k = in_group (subst (λ (x : List GItem). Words g x ws) e w) in
       let n : ℕ = suc (length before + length inside) in
-      let opened : spread g p ≡ before ++ grouped l inside r after = split ∙ ap (λ (x : List GItem). before ++ x) e in
-      let there : OuterGroupAt g.fences (spread g p) (length before) n l inside r = record { group = record { before = before; after = after; split = opened; fence = f; within = i; place = refl; partner = refl }; level = level } in
-      let on = walk_level t k.of_back c m p (before ++ grouped l inside r []) of one (opened ∙ group_split before l inside r after) (level_append level (level_group f i level_none refl)) in
-      let past : Walk g c (at p (suc n)) (concat k.back) (at p (length (spread g p))) = subst (λ (x : ℕ). Walk g c (at p x) (concat k.back) (at p (length (spread g p)))) (length_grouped before l inside r) on in
+      let front : List GItem = before ++ grouped l inside r [] in
+      let opened : spread g p ≡ before ++ grouped l inside r (after ++ rest) = split ∙ ap (λ (x : List GItem). before ++ (x ++ rest)) e ∙ ap (λ (x : List GItem). before ++ x) (group_more l inside r after rest) in
+      let there : OuterGroupAt g.fences (spread g p) (length before) n l inside r = record { group = record { before = before; after = after ++ rest; split = opened; fence = f; within = i; place = refl; partner = refl }; level = level } in
+      let on = walk_level t k.of_back c m p front rest of one (opened ∙ group_split before l inside r (after ++ rest)) (level_append level (level_group f i level_none refl)) in
+      let end : length (front ++ after) ≡ length (before ++ is) = ap length (sym (group_split before l inside r after)) ∙ ap (λ (x : List GItem). length (before ++ x)) (sym e) in
+      let past : Walk g c (at p (suc n)) (concat k.back) (at p (length (front ++ after))) = subst (λ (x : ℕ). Walk g c (at p x) (concat k.back) (at p (length (front ++ after)))) (length_grouped before l inside r) on in
       let step : Step g c (at p (length before)) (l ∷ (concat k.middle ++ r ∷ [])) (at p (suc n)) = encloses {m = m} of one there (level_loose i k.of_middle) refl in
-      goes step past (ap concat k.split ∙ group_word l k.middle r k.back ∙ ap (λ (x : List ℕ). l ∷ x) (sym (append_assoc (concat k.middle) (r ∷ []) (concat k.back))))
+      let spelt = ap concat k.split ∙ group_word l k.middle r k.back ∙ ap (λ (x : List ℕ). l ∷ x) (sym (append_assoc (concat k.middle) (r ∷ []) (concat k.back))) in
+      goes step (subst (λ (x : ℕ). Walk g c (at p (suc n)) (concat k.back) (at p x)) end past) spelt
 
   -- from the entry of a nonterminal through a rule of it to its exit
   whole_walk : (n p : ℕ) (ws : List (List ℕ)) → IsRuleOf g n p → Words g (spread g p) ws → Walk g n (entry n) (concat ws) (exit n)
   whole_walk n p ws of w =
-      goes (begins of (one_same {m = n})) (joined (walk_level (built.proper.level p) w n n p [] of (one_same {m = n}) refl level_none) (stepped (ends of (one_same {m = n}) refl))) (sym (append-nil (concat ws)))
+      let through = walk_level (built.proper.level p) w n n p [] [] of (one_same {m = n}) (sym (append-nil (spread g p))) level_none in
+      goes (begins of (one_same {m = n})) (joined through (stepped (ends of (one_same {m = n}) refl))) (sym (append-nil (concat ws)))
 
   pub words_of : (is : List GItem) (ps : Parts) → FitsItems g is ps → Words g is (part_words ps)
   words_of [] done fit = no_words

@@ -23,7 +23,7 @@ words_take zero w = no_words
 words_take (suc k) no_words = no_words
 words_take (suc k) (word_then h t) = word_then h (words_take k t)
 
-concat_append : (us vs : List (List ℕ)) → concat (us ++ vs) ≡ concat us ++ concat vs
+pub concat_append : (us vs : List (List ℕ)) → concat (us ++ vs) ≡ concat us ++ concat vs
 concat_append [] vs = refl
 concat_append (u ∷ us) vs = ap (λ (w : List ℕ). u ++ w) (concat_append us vs) ∙ sym (append_assoc u (concat us) (concat vs))
 
@@ -35,7 +35,7 @@ pub record Halves (g : Grammar) (is js : List GItem) (ws : List (List ℕ)) : Ty
   pub of_front : Words g is front
   pub of_back : Words g js back
 
-halves : {g : Grammar} (is : List GItem) {js : List GItem} {ws : List (List ℕ)} → Words g (is ++ js) ws → Halves g is js ws
+pub halves : {g : Grammar} (is : List GItem) {js : List GItem} {ws : List (List ℕ)} → Words g (is ++ js) ws → Halves g is js ws
 halves [] {ws = ws} w = record { front = []; back = ws; split = refl; of_front = no_words; of_back = w }
 halves (i ∷ is) (word_then {w = u} h t) =
     let k = halves is t in
