@@ -5,12 +5,13 @@ use Rattle.xs_gram.specs.declared.parts.GItem.TheVariants.{Fixed, Term, Non, Ski
 use Rattle.xs_gram.specs.declared.parts.Terminal.{Terminal}
 use Rattle.xs_gram.specs.declared.parts.Ignorable.{Ignorable}
 use Rattle.xs_gram.specs.Grammar.{Grammar}
-use Rattle.xs_gram.specs.Loose.{Reaches, here, onward, AreOne, IsMember, Spot, LooseItem, loose_fixed, loose_term, loose_skip, loose_non, IsLoose, loose_none, loose_then, Step, begins, passes, calls, ends, returns, Walk, stays, goes}
-use Rattle.xs_gram.specs.Suspects.{IsVertical, IsHorizontal}
+use Rattle.xs_gram.specs.Loose.{Spot}
+use Rattle.xs_gram.specs.Fenced.Loose.{Reaches, here, onward, AreOne, IsMember, LooseItem, loose_fixed, loose_term, loose_skip, loose_non, IsLoose, loose_none, loose_then, loose_group, Step, begins, passes, encloses, calls, ends, returns, Walk, stays, goes}
+use Rattle.xs_gram.specs.Fenced.Suspects.{IsVertical, IsHorizontal}
 use Rattle.xs_sheet_laws.proofs.Other.{with_parts}
 use Rattle.xs_sheet_laws.proofs.Kept.{KeepsWords}
 
--- components go by rules alone
+-- components go by rules and fences alone
 module _ (g : Grammar) (ts : List Terminal) (ks : List Ignorable) where
   reaches : {m n : ℕ} → Reaches g m n → Reaches (with_parts g ts ks) m n
   reaches here = here
@@ -41,11 +42,13 @@ module _ (g : Grammar) (ts : List Terminal) (ks : List Ignorable) where
 
     pub loose_kept : {is : List GItem} {w : List ℕ} → KeepsWords g (with_parts g ts ks) → IsLoose g is w → IsLoose (with_parts g ts ks) is w
     loose_kept keeps loose_none = loose_none
-    loose_kept keeps (loose_then h r e) = loose_then (item_kept keeps h) (loose_kept keeps r) e
+    loose_kept keeps (loose_then p h r e) = loose_then p (item_kept keeps h) (loose_kept keeps r) e
+    loose_kept keeps (loose_group f i r e is) = loose_group f (loose_kept keeps i) (loose_kept keeps r) e is
 
     step_kept : {c : ℕ} {x y : Spot} {w : List ℕ} → KeepsWords g (with_parts g ts ks) → Step g c x w y → Step (with_parts g ts ks) c x w y
     step_kept keeps (begins {c = c} {m = m} of a) = begins of (one g ts ks c m a)
     step_kept keeps (passes {c = c} {m = m} {i = i} of a there apart l) = passes {m = m} {i = i} of (one g ts ks c m a) there (λ h. apart (member_back c i h)) (item_kept keeps l)
+    step_kept keeps (encloses {c = c} {m = m} of a there i e) = encloses {m = m} of (one g ts ks c m a) there (loose_kept keeps i) e
     step_kept keeps (calls {c = c} {m = m} {n = n} {s = s} of a there b) = calls {m = m} {n = n} {s = s} of (one g ts ks c m a) there (one g ts ks c n b)
     step_kept keeps (ends {c = c} {m = m} of a e) = ends of (one g ts ks c m a) e
     step_kept keeps (returns {c = c} {m = m} {n = n} {s = s} of a there b) = returns {m = m} {n = n} {s = s} of (one g ts ks c m a) there (one g ts ks c n b)
@@ -69,6 +72,9 @@ module _ (g : Grammar) (ts : List Terminal) (ks : List Ignorable) where
     rule = h.rule;
     low = h.low;
     high = h.high;
+    front = h.front;
+    rest = h.rest;
+    cut = h.cut;
     overlap = record {
       some = h.overlap.some;
       short_front = loose_kept keeps h.overlap.short_front;

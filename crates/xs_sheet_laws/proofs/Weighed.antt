@@ -5,7 +5,7 @@ use Rattle.xs_gram.specs.declared.parts.GItem.{GItem}
 use Rattle.xs_gram.specs.declared.parts.Terminal.{Terminal}
 use Rattle.xs_gram.specs.declared.parts.Ignorable.{Ignorable}
 use Rattle.xs_gram.specs.Grammar.{Grammar, rule_of, term_of, skip_of}
-use Rattle.xs_check_laws.specs.Weights.{Members, no_member, member_next, other_next, ItemWeighs, fixed_weighs, term_weighs, skip_weighs, non_weighs, ComponentWeighs, component_weighs, RulesWeigh, no_rule_yet, rule_of_member, rule_of_other, BodyWeighs, no_body, member_then, other_then, PartWeighs, no_part, part_then, RuleWeighs}
+use Rattle.xs_check_laws.specs.Fenced.Weights.{Members, no_member, member_next, other_next, ItemWeighs, fixed_weighs, term_weighs, skip_weighs, non_weighs, ComponentWeighs, component_weighs, RulesWeigh, no_rule_yet, rule_of_member, rule_of_other, BodyWeighs, no_body, member_then, other_then, group_then, PartWeighs, no_part, part_then, part_group, InsidesWeigh, no_inside, inside_later, inside_here, RuleWeighs}
 use Rattle.xs_sheet_laws.proofs.Other.{with_parts}
 use Rattle.xs_sheet_laws.proofs.LooseKept.{one, one_back, member, member_back}
 
@@ -38,11 +38,18 @@ module _ (g : Grammar) (ts : List Terminal) (ks : List Ignorable) where
     body_kept : {c w : ℕ} {is : List GItem} → KeepsSizes g (with_parts g ts ks) → BodyWeighs g c is w → BodyWeighs (with_parts g ts ks) c is w
     body_kept keeps no_body = no_body
     body_kept keeps (member_then {c = c} {i = i} a b e) = member_then {i = i} (member g ts ks c i a) (body_kept keeps b) e
-    body_kept keeps (other_then {c = c} {i = i} a j b e) = other_then {i = i} (λ h. a (member_back g ts ks c i h)) (item_kept keeps j) (body_kept keeps b) e
+    body_kept keeps (other_then {c = c} {i = i} p a j b e) = other_then {i = i} p (λ h. a (member_back g ts ks c i h)) (item_kept keeps j) (body_kept keeps b) e
+    body_kept keeps (group_then f i b is e) = group_then f i (body_kept keeps b) is e
 
   part_kept : {is : List GItem} {w : ℕ} → KeepsSizes g (with_parts g ts ks) → PartWeighs g is w → PartWeighs (with_parts g ts ks) is w
   part_kept keeps no_part = no_part
-  part_kept keeps (part_then i r e) = part_then (item_kept keeps i) (part_kept keeps r) e
+  part_kept keeps (part_then p i r e) = part_then p (item_kept keeps i) (part_kept keeps r) e
+  part_kept keeps (part_group f i r is e) = part_group f i (part_kept keeps r) is e
+
+  insides_kept : {is : List GItem} {w : ℕ} → KeepsSizes g (with_parts g ts ks) → InsidesWeigh g is w → InsidesWeigh (with_parts g ts ks) is w
+  insides_kept keeps no_inside = no_inside
+  insides_kept keeps (inside_later p r) = inside_later p (insides_kept keeps r)
+  insides_kept keeps (inside_here f own deeper later is e) = inside_here f (part_kept keeps own) (insides_kept keeps deeper) (insides_kept keeps later) is e
 
   pub weighs : KeepsSizes g (with_parts g ts ks) → (p w : ℕ) → RuleWeighs g p w → RuleWeighs (with_parts g ts ks) p w
-  weighs keeps p w (v, part, is) = (v, part_kept keeps part, is)
+  weighs keeps p w (whole, insides, part, inner, is) = (whole, insides, part_kept keeps part, insides_kept keeps inner, is)
