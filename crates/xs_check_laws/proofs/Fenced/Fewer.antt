@@ -1,5 +1,5 @@
--- A stretch that is level where there are more fences is level where there are fewer: read symbol by
--- symbol, it closes each fence that it opens.
+-- A stretch that is level where there are more fences is level where there are fewer: read symbol
+-- by symbol, it closes each fence that it opens.
 use Rattle.std.proofs.Common.{◌≡◌, ℕ, zero, suc, ◌<◌, List, [], ◌∷◌, ◌++◌, length, refl, sym, ap, subst, ◌∙◌, append_assoc, append-nil, arith, Bool, true, false, ◌||◌, slice_index_or}
 use Rattle.std.specs.List.{Contains}
 use Rattle.xs_class.proofs.Truth.{or_left, or_right}

@@ -3,6 +3,7 @@
 use Rattle.std.proofs.Common.{◌≡◌, ◌<◌, ℕ, suc, List, [], ◌∷◌, ◌++◌, length, refl, sym, ap, subst, ◌∙◌, append_assoc, append-nil, arith, length-append, slice_get, Some}
 use Rattle.std.specs.List.{concat}
 use Rattle.std.proofs.lemmas.List.{append_cancel_left, append_cancel_right}
+use Rattle.std.proofs.lemmas.List.Folds.{concat-append}
 use Rattle.xs_gram.specs.declared.parts.GItem.{GItem}
 use Rattle.xs_gram.specs.declared.parts.GItem.TheVariants.{Fixed}
 use Rattle.xs_gram.specs.declared.parts.RulePart.{RulePart}
@@ -17,7 +18,7 @@ use Rattle.xs_gram.specs.Fenced.Suspects.{IsVertical, Overlaps}
 use Rattle.xs_check_laws.specs.Fenced.Words.{split_words}
 use Rattle.xs_check_laws.specs.Fenced.Freedom.{HasNoHorizontal}
 use Rattle.xs_check_laws.specs.Fenced.MoreFences.{IsMoreFenced, EachItemDerives, GainsFences, MoreFencesPartComponents, MoreFencesMakeFewerLoose, MoreFencesMakeFewerVertical, MoreFencesMakeNoHorizontal, MoreFencesMakeNoSuspect, AcceptedStaysAccepted}
-use Rattle.xs_check_laws.proofs.Fenced.Words.{Words, no_words, word_then, concat_append, halves, spread_ok, spread_concat, spread_same}
+use Rattle.xs_check_laws.proofs.Fenced.Words.{Words, no_words, word_then, halves, spread_ok, spread_concat, spread_same}
 use Rattle.xs_check_laws.proofs.Fenced.Walks.{words_of}
 use Rattle.xs_check_laws.proofs.Fenced.Unique.{same_words, clear_rule}
 use Rattle.xs_check_laws.proofs.Fenced.Unspread.{unspread}
@@ -59,7 +60,7 @@ each_word g built (i ∷ is) derives =
     (w.0 ∷ t.0, word_then w.1 t.1)
 
 concat_round : (us vs ws xs : List (List ℕ)) → concat (us ++ ((vs ++ ws) ++ xs)) ≡ concat us ++ ((concat vs ++ concat ws) ++ concat xs)
-concat_round us vs ws xs = concat_append us ((vs ++ ws) ++ xs) ∙ ap (λ (x : List ℕ). concat us ++ x) (concat_append (vs ++ ws) xs ∙ ap (λ (x : List ℕ). x ++ concat xs) (concat_append vs ws))
+concat_round us vs ws xs = concat-append us ((vs ++ ws) ++ xs) ∙ ap (λ (x : List ℕ). concat us ++ x) (concat-append (vs ++ ws) xs ∙ ap (λ (x : List ℕ). x ++ concat xs) (concat-append vs ws))
 
 same_round : (p q r s x u y : List ℕ) → p ≡ x → q ≡ u ++ y → r ≡ x ++ u → s ≡ y → p ++ q ≡ r ++ s
 same_round p q r s x u y e f h k = rw (e, f, h, k) (sym (append_assoc x u y))

@@ -2,6 +2,7 @@
 -- whose groups are called and returned from exactly is a walk where fewer of them are.
 use Rattle.std.proofs.Common.{◌≡◌, ℕ, suc, ◌+◌, List, [], ◌∷◌, ◌++◌, length, refl, sym, ap, subst, ◌∙◌, append_assoc, append-nil, arith, length-append}
 use Rattle.std.specs.List.{concat}
+use Rattle.std.proofs.lemmas.List.Folds.{concat-append}
 use Rattle.xs_gram.specs.declared.parts.GItem.{GItem}
 use Rattle.xs_gram.specs.declared.parts.GItem.TheVariants.{Fixed, Non}
 use Rattle.xs_gram.specs.Grammar.{Grammar, items, IsRuleOf}
@@ -24,15 +25,13 @@ pub words_append : {g : Grammar} {is js : List GItem} {us vs : List (List ℕ)} 
 words_append no_words w = w
 words_append (word_then h t) w = word_then h (words_append t w)
 
-concat_more : (us : List (List ℕ)) (v w : List ℕ) → concat (us ++ v ∷ []) ++ w ≡ concat us ++ (v ++ w)
-concat_more [] v w = ap (λ (x : List ℕ). x ++ w) (append-nil v)
-concat_more (u ∷ us) v w = append_assoc u (concat (us ++ v ∷ [])) w ∙ ap (λ (x : List ℕ). u ++ x) (concat_more us v w) ∙ sym (append_assoc u (concat us) (v ++ w))
-
 concat_both : (us vs : List (List ℕ)) (w : List ℕ) → concat (us ++ vs) ++ w ≡ concat us ++ (concat vs ++ w)
-concat_both [] vs w = refl
-concat_both (u ∷ us) vs w = append_assoc u (concat (us ++ vs)) w ∙ ap (λ (x : List ℕ). u ++ x) (concat_both us vs w) ∙ sym (append_assoc u (concat us) (concat vs ++ w))
+concat_both us vs w = ap (λ (x : List ℕ). x ++ w) (concat-append us vs) ∙ append_assoc (concat us) (concat vs) w
 
--- what follows the same number of items is the same
+concat_more : (us : List (List ℕ)) (v w : List ℕ) → concat (us ++ v ∷ []) ++ w ≡ concat us ++ (v ++ w)
+concat_more us v w = concat_both us (v ∷ []) w ∙ ap (λ (x : List ℕ). concat us ++ (x ++ w)) (append-nil v)
+
+-- lists that are joined are the same, where the first ones are as long
 pub after_same : {A : Type 0} (front back before after : List A) → front ++ back ≡ before ++ after → length front ≡ length before → (front ≡ before) × (back ≡ after)
 after_same [] back [] after e h = (refl, e)
 after_same [] back (x ∷ before) after e h = absurd (omega (arith, h))

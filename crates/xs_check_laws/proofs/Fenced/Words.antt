@@ -1,6 +1,7 @@
 -- Loose words of spread items, one for each.
 use Rattle.std.proofs.Common.{◌≡◌, ℕ, zero, suc, List, [], ◌∷◌, ◌++◌, take, drop, refl, sym, ap, subst, ◌∙◌, append_assoc, true, false}
 use Rattle.std.specs.List.{concat}
+use Rattle.std.proofs.lemmas.List.Folds.{concat-append}
 use Rattle.xs_gram.specs.declared.parts.GItem.{GItem}
 use Rattle.xs_gram.specs.declared.parts.GItem.TheVariants.{Fixed, Term, Non, Skip}
 use Rattle.xs_gram.specs.Grammar.{Grammar}
@@ -22,10 +23,6 @@ pub words_take : {g : Grammar} (k : ℕ) {is : List GItem} {ws : List (List ℕ)
 words_take zero w = no_words
 words_take (suc k) no_words = no_words
 words_take (suc k) (word_then h t) = word_then h (words_take k t)
-
-pub concat_append : (us vs : List (List ℕ)) → concat (us ++ vs) ≡ concat us ++ concat vs
-concat_append [] vs = refl
-concat_append (u ∷ us) vs = ap (λ (w : List ℕ). u ++ w) (concat_append us vs) ∙ sym (append_assoc u (concat us) (concat vs))
 
 -- the words of two stretches
 pub record Halves (g : Grammar) (is js : List GItem) (ws : List (List ℕ)) : Type 0 where
@@ -58,7 +55,7 @@ in_group {inside = inside} (word_then {w = u} {ws = ws} loose_fixed t) =
     right_word k.front k.back (ap (λ (x : List (List ℕ)). u ∷ x) k.split) k.of_front k.of_back
 
 pub group_word : (l : ℕ) (ms : List (List ℕ)) (r : ℕ) (bs : List (List ℕ)) → concat ((l ∷ []) ∷ (ms ++ (r ∷ []) ∷ bs)) ≡ l ∷ (concat ms ++ r ∷ concat bs)
-group_word l ms r bs = ap (λ (x : List ℕ). l ∷ x) (concat_append ms ((r ∷ []) ∷ bs))
+group_word l ms r bs = ap (λ (x : List ℕ). l ∷ x) (concat-append ms ((r ∷ []) ∷ bs))
 
 -- what the items of a level stretch spell is loose
 pub level_loose : {g : Grammar} {is : List GItem} {ws : List (List ℕ)} → IsLevel g.fences is → Words g is ws → IsLoose g is (concat ws)
