@@ -1,8 +1,9 @@
 -- The first cut of the first rule that has one with an overlap is the first horizontal suspect.
 use Rattle.std.proofs.Common.{ℕ, ◌≤◌, length, sym, subst, arith}
-use Rattle.xs_gram.specs.Grammar.{Grammar, items}
-use Rattle.xs_check_laws.specs.Freedom.{HasNoHorizontal}
-use Rattle.xs_check_laws.specs.Acceptance.{ShowsHorizontal}
+use Rattle.xs_gram.specs.Grammar.{Grammar}
+use Rattle.xs_gram.specs.Fences.{spread}
+use Rattle.xs_check_laws.specs.Fenced.Freedom.{HasNoHorizontal}
+use Rattle.xs_check_laws.specs.Fenced.Acceptance.{ShowsHorizontal}
 use Rattle.xs_light.specs.First.{HasNoneInRow, HasNoneInRows}
 use Rattle.xs_light.proofs.First.{none_before}
 use Rattle.xs_horiz.specs.declared.search.Horiz.{Horiz}
@@ -16,5 +17,5 @@ first_shows g p h rows first =
 pub none_in_all : (g : Grammar) (n : ℕ) → length g.rules ≤ n → HasNoneInRows (OverlapsAt g) n → HasNoHorizontal g
 none_in_all g n all rows p c x a y h = rows p (omega (arith, h.rule)) c (x, a, y, h)
 
-pub none_in_row : (g : Grammar) (p n : ℕ) → length (items g p) ≤ n → HasNoneInRow (OverlapsAt g) p n → HasNoCut g p
+pub none_in_row : (g : Grammar) (p n : ℕ) → length (spread g p) ≤ n → HasNoneInRow (OverlapsAt g) p n → HasNoCut g p
 none_in_row g p n all row c h = row c (omega (arith, h.3.high)) h

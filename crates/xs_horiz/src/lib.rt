@@ -6,5 +6,5 @@
 
 mod search;
 
-pub use search::{Horiz, horizontal};
+pub use search::{Horiz, first_horizontal, horizontal};
 pub use xs_light::CheckFault;

@@ -1,22 +1,24 @@
 ghost use Rattle.std.specs.Prelude.{◌<◌, length, IfOk, IfErr, IfSome, IfNone, OnOk};
-ghost use Rattle.xs_gram.specs.Grammar.{items};
-ghost use Rattle.xs_gram.specs.Loose.{AreComponents};
+ghost use Rattle.xs_gram.specs.Fences.{spread};
+ghost use Rattle.xs_gram.specs.Fenced.Loose.{AreComponents};
 ghost use Rattle.xs_gram.specs.Sound.{IsBuilt};
-ghost use Rattle.xs_gram.specs.Suspects.{IsHorizontal};
-ghost use Rattle.xs_check_laws.specs.Freedom.{HasNoHorizontal};
-ghost use Rattle.xs_check_laws.specs.Acceptance.{IsLight, ShowsHorizontal};
+ghost use Rattle.xs_gram.specs.Fenced.Suspects.{IsHorizontal};
+ghost use Rattle.xs_check_laws.specs.Fenced.Freedom.{HasNoHorizontal};
+ghost use Rattle.xs_check_laws.specs.Fenced.Acceptance.{IsLight, ShowsHorizontal};
 ghost use Rattle.xs_light.specs.Causes.{IsCause};
+ghost use Rattle.xs_light.specs.Spaces.{IsSpace};
 ghost use Rattle.xs_horiz.specs.Cuts.{OverlapsAt, IsFirstCut, HasNoCut};
 
 use std::alloc::Global;
 use xs_class::{Memory, Word};
 use xs_gram::{Comps, Gram};
-use xs_light::{CheckFault, Maps, light, light_net};
-use xs_loose::Part;
+use xs_light::{CheckFault, Maps, SearchSpace, light};
 use xs_meet::Overlap;
+use xs_stretch::Tables;
 
-/// A cut of a rule, with words x, a and y, a not empty: x and xa are loose for the items before it,
-/// y and ay for those from it on. The cut is the number of items before it.
+/// A cut of a rule, with words x, a and y, a not empty: x and xa are loose for its front, y and ay
+/// for its rest. The cut is the number of spread items before it; front and rest go back and on to
+/// the fences of the group round it, or to the ends of the rule.
 #[derive(Debug, Drop)]
 pub struct Horiz {
     pub rule: u32,
@@ -30,8 +32,8 @@ pub struct Horiz {
 /// show it, or none where there is none.
 ///
 /// Fails with `Heavy` exactly where a rule weighs more than 8,192, with the weight of the first
-/// such rule. Builds two nets for each cut of a rule, and takes time linear in the pairs of their
-/// states, times the edges of each state.
+/// such rule. Builds the nest of the grammar's groups and two nets for each cut of a rule, and takes
+/// time linear in the pairs of their states, times the edges of each state.
 pub fn horizontal(alloc: Global, g: &Gram, comps: &Comps) -> Result<Option<Horiz>, CheckFault>
     requires built { IsBuilt g.now }
     requires comps { AreComponents g.now comps.now }
@@ -40,10 +42,23 @@ pub fn horizontal(alloc: Global, g: &Gram, comps: &Comps) -> Result<Option<Horiz
     ensures light { OnOk result (IsLight g.now) }
     ensures fault { IfErr result (IsCause g.now) }
 {
-    light(alloc, g, comps)?;
+    let tables = Tables::of(alloc, g, comps)?;
+    light(g, &tables.weights)?;
+    let space = SearchSpace::of(alloc, g, comps, &tables)?;
     let mut maps = Maps::new(alloc)?;
-    'rules: for rule in 0..g.rules() {
-        let found = first_cut(alloc, g, comps, rule, &mut maps)?;
+    let found = first_horizontal(&space, &mut maps)?;
+    Ok(found)
+}
+
+/// The first horizontal suspect of a grammar whose rules are light, or none where there is none, by
+/// what its searches share.
+pub fn first_horizontal(space: &SearchSpace<'_>, maps: &mut Maps) -> Result<Option<Horiz>, Memory>
+    requires space { IsSpace space.now }
+    ensures some { IfOk result (λ o. IfSome o (λ h. ShowsHorizontal space.now.g.now h.rule h.cut h.x h.a h.y)) }
+    ensures none { IfOk result (λ o. IfNone o (HasNoHorizontal space.now.g.now)) }
+{
+    'rules: for rule in 0..space.g.rules() {
+        let found = first_cut(space, rule, maps)?;
         if let Some(horiz) = found {
             return Ok(Some(horiz));
         }
@@ -52,23 +67,15 @@ pub fn horizontal(alloc: Global, g: &Gram, comps: &Comps) -> Result<Option<Horiz
 }
 
 /// The first cut of a rule at which front and rest overlap, where there is one.
-fn first_cut(
-    alloc: Global,
-    g: &Gram,
-    comps: &Comps,
-    rule: u32,
-    maps: &mut Maps,
-) -> Result<Option<Horiz>, Memory>
-    requires built { IsBuilt g.now }
-    requires comps { AreComponents g.now comps.now }
-    requires light { IsLight g.now }
-    requires rule { rule < length g.now.rules }
-    ensures some { IfOk result (λ o. IfSome o (IsFirstCut g.now rule)) }
-    ensures none { IfOk result (λ o. IfNone o (HasNoCut g.now rule)) }
+fn first_cut(space: &SearchSpace<'_>, rule: u32, maps: &mut Maps) -> Result<Option<Horiz>, Memory>
+    requires space { IsSpace space.now }
+    requires rule { rule < length space.now.g.now.rules }
+    ensures some { IfOk result (λ o. IfSome o (IsFirstCut space.now.g.now rule)) }
+    ensures none { IfOk result (λ o. IfNone o (HasNoCut space.now.g.now rule)) }
 {
-    let count = g.items(rule).len() as u32;
+    let count = space.g.spread(rule).len() as u32;
     'cuts: for cut in 1..count {
-        let found = overlap_at(alloc, g, comps, rule, cut, maps)?;
+        let found = overlap_at(space, rule, cut, maps)?;
         if let Some(Overlap { x, a, y }) = found {
             return Ok(Some(Horiz { rule, cut, x, a, y }));
         }
@@ -78,33 +85,18 @@ fn first_cut(
 
 /// Words by which the front and the rest of a rule overlap at a cut, where they do.
 fn overlap_at(
-    alloc: Global,
-    g: &Gram,
-    comps: &Comps,
+    space: &SearchSpace<'_>,
     rule: u32,
     cut: u32,
     maps: &mut Maps,
 ) -> Result<Option<Overlap>, Memory>
-    requires built { IsBuilt g.now }
-    requires comps { AreComponents g.now comps.now }
-    requires light { IsLight g.now }
-    requires rule { rule < length g.now.rules }
+    requires space { IsSpace space.now }
+    requires rule { rule < length space.now.g.now.rules }
     requires low { 0 < cut }
-    requires high { cut < length (items g.now rule) }
-    ensures some { IfOk result (λ o. IfSome o (λ w. IsHorizontal g.now rule cut w.x w.a w.y)) }
-    ensures none { IfOk result (λ o. IfNone o (OverlapsAt g.now rule cut → ⊥)) }
+    requires high { cut < length (spread space.now.g.now rule) }
+    ensures some { IfOk result (λ o. IfSome o (λ w. IsHorizontal space.now.g.now rule cut w.x w.a w.y)) }
+    ensures none { IfOk result (λ o. IfNone o (OverlapsAt space.now.g.now rule cut → ⊥)) }
 {
-    let before = Part {
-        rule,
-        start: 0,
-        end: cut,
-    };
-    let after = Part {
-        rule,
-        start: cut,
-        end: g.items(rule).len() as u32,
-    };
-    let front = light_net(alloc, g, comps, &before)?;
-    let rest = light_net(alloc, g, comps, &after)?;
-    maps.overlap_word(&front, &rest)
+    let nets = space.cut_nets(rule, cut)?;
+    maps.overlap(space, &nets.front, &nets.rest)
 }

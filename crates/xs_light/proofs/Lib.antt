@@ -1,2 +1,4 @@
 pub mod Lightness
 pub mod First
+pub mod Insides
+pub mod Cutting

@@ -1,2 +1,4 @@
 pub mod Causes
 pub mod First
+pub mod Insides
+pub mod Spaces

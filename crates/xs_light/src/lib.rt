@@ -1,15 +1,19 @@
 //! Grammars whose rules are light, and what searches for suspects in them share.
 //!
-//! A pass over the rules finds the first that weighs too much. Where there is none, each part of a
-//! rule has a net, and a search over two nets is lent maps that grow where the nets need more room.
+//! A pass over the rules finds the first that weighs too much, as a whole or by the inside of one of
+//! its groups. Where there is none, each rule has a net, and so has the front and the rest of each
+//! cut. Searches over two nets go by the nest of the grammar's groups, and are lent maps that grow
+//! where the nets need more room.
 #![tactic(auto)]
 
 mod fault;
 mod maps;
 mod nets;
+mod space;
 mod weights;
 
 pub use fault::CheckFault;
 pub use maps::Maps;
-pub use nets::{light_net, whole};
+pub use nets::CutNets;
+pub use space::SearchSpace;
 pub use weights::light;

@@ -1,42 +1,84 @@
-ghost use Rattle.std.specs.Prelude.{◌≡◌, ◌<◌, length, IsSome, IfOk};
-ghost use Rattle.xs_gram.specs.Grammar.{items};
-ghost use Rattle.xs_gram.specs.Loose.{AreComponents};
+ghost use Rattle.std.specs.Prelude.{◌≡◌, ◌<◌, length, IfOk};
+ghost use Rattle.xs_gram.specs.Fences.{spread};
 ghost use Rattle.xs_gram.specs.Sound.{IsBuilt};
-ghost use Rattle.xs_check_laws.specs.Acceptance.{IsLight};
-ghost use Rattle.xs_loose.specs.Accepting.{AcceptsLoose};
-ghost use Rattle.xs_loose.specs.Parts.{IsPart, part_items};
+ghost use Rattle.xs_stretch.specs.Parts.{IsPart, part_items, AreLight};
+ghost use Rattle.xs_light.specs.Spaces.{IsSpace, AcceptsLoose, AreCutNets};
 
-use std::alloc::Global;
+use crate::SearchSpace;
 use xs_auto::Net;
 use xs_class::Memory;
-use xs_gram::{Comps, Gram};
-use xs_loose::{LooseFault, Part, net_of};
+use xs_gram::{Gram, cuts_are_one};
+use xs_stretch::{LooseFault, Part, net_by};
+use xs_stretch_laws::{nets_accept_loose, nets_are_tame};
 
-/// The part with all items of a rule.
+/// The part with all spread items of a rule.
 pub fn whole(g: &Gram, rule: u32) -> Part
     requires { rule < length g.now.rules }
     ensures part { IsPart g.now result }
-    ensures items { part_items g.now result ≡ items g.now rule }
+    ensures items { part_items g.now result ≡ spread g.now rule }
 {
     Part {
         rule,
         start: 0,
-        end: g.items(rule).len() as u32,
+        end: g.spread(rule).len() as u32,
     }
 }
 
-/// A net with a start that accepts exactly the loose words of a part, where all rules are light.
-pub fn light_net(alloc: Global, g: &Gram, comps: &Comps, part: &Part) -> Result<Net, Memory>
-    requires built { IsBuilt g.now }
-    requires comps { AreComponents g.now comps.now }
-    requires light { IsLight g.now }
-    requires part { IsPart g.now part.now }
-    ensures start { IfOk result (λ n. IsSome n.start) }
-    ensures loose { IfOk result (AcceptsLoose g.now (part_items g.now part.now)) }
-{
-    match net_of(alloc, g, comps, part) {
-        Ok(net) => Ok(net),
-        Err(LooseFault::Memory) => Err(Memory),
-        Err(LooseFault::Heavy { .. }) => unreachable!(),
+/// Nets for the front and the rest of a cut.
+#[derive(Debug, Drop)]
+pub struct CutNets {
+    pub front: Net,
+    pub rest: Net,
+}
+
+impl<'g> SearchSpace<'g> {
+    /// A net for a part whose items are light.
+    fn light_net(&self, part: Part) -> Result<Net, Memory>
+        requires space { IsSpace self.now }
+        requires part { IsPart self.now.g.now part }
+        requires light { AreLight self.now.g.now (part_items self.now.g.now part) }
+        ensures { IfOk result (AcceptsLoose self.now.g.now self.now.nest (part_items self.now.g.now part)) }
+    {
+        nets_accept_loose();
+        nets_are_tame();
+        match net_by(self.alloc, self.g, self.comps, self.tables, &part) {
+            Ok(net) => Ok(net),
+            Err(LooseFault::Memory) => Err(Memory),
+            Err(LooseFault::Heavy { .. }) => unreachable!(),
+        }
+    }
+
+    /// A net for all spread items of a rule.
+    pub fn rule_net(&self, rule: u32) -> Result<Net, Memory>
+        requires space { IsSpace self.now }
+        requires rule { rule < length self.now.g.now.rules }
+        ensures { IfOk result (AcceptsLoose self.now.g.now self.now.nest (spread self.now.g.now rule)) }
+    {
+        let part = whole(self.g, rule);
+        self.light_net(part)
+    }
+
+    /// Nets for the front and the rest of a cut of a rule's spread items.
+    pub fn cut_nets(&self, rule: u32, place: u32) -> Result<CutNets, Memory>
+        requires space { IsSpace self.now }
+        requires rule { rule < length self.now.g.now.rules }
+        requires place { place < length (spread self.now.g.now rule) }
+        ensures { IfOk result (AreCutNets self.now.g.now self.now.nest rule place) }
+    {
+        cuts_are_one();
+        let cut = self.g.cut(rule, place);
+        let before = Part {
+            rule,
+            start: cut.start,
+            end: place,
+        };
+        let after = Part {
+            rule,
+            start: place,
+            end: cut.end,
+        };
+        let front = self.light_net(before)?;
+        let rest = self.light_net(after)?;
+        Ok(CutNets { front, rest })
     }
 }

@@ -1,29 +1,30 @@
 ghost use Rattle.std.specs.Prelude.{◌<◌, length, IfErr, OnOk};
-ghost use Rattle.xs_gram.specs.Loose.{AreComponents};
+ghost use Rattle.xs_gram.specs.Fences.{spread};
 ghost use Rattle.xs_gram.specs.Sound.{IsBuilt};
-ghost use Rattle.xs_check_laws.specs.Acceptance.{IsLight};
-ghost use Rattle.xs_check_laws.specs.Weights.{RuleWeighs};
-ghost use Rattle.xs_loose.specs.Weighing.{AreWeights};
+ghost use Rattle.xs_check_laws.specs.Fenced.Acceptance.{IsLight};
+ghost use Rattle.xs_check_laws.specs.Fenced.Weights.{RuleWeighs, InsidesWeigh};
+ghost use Rattle.xs_stretch.specs.Weighing.{AreWeights};
 ghost use Rattle.xs_light.specs.Causes.{IsCause};
+ghost use Rattle.xs_light.specs.Insides.{Counts};
 
 use crate::CheckFault;
 use crate::nets::whole;
-use std::alloc::Global;
-use xs_gram::{Comps, Gram};
-use xs_loose::{CAP, HEAVIEST, Weights, weight_by, weights};
+use xs_gram::Gram;
+use xs_stretch::{CAP, HEAVIEST, Part, Weights, weight_by};
 
-/// Makes sure that each rule of a grammar weighs at most 8,192, in time linear in the grammar.
+/// Makes sure that each rule of a grammar weighs at most 8,192, by the weights of its components.
+///
+/// Takes no memory, and time linear in the grammar and in the lengths of the insides of its groups.
 ///
 /// Fails with `Heavy` exactly where one weighs more, with the weight of the first such rule.
-pub fn light(alloc: Global, g: &Gram, comps: &Comps) -> Result<(), CheckFault>
+pub fn light(g: &Gram, weights: &Weights) -> Result<(), CheckFault>
     requires built { IsBuilt g.now }
-    requires comps { AreComponents g.now comps.now }
+    requires weights { AreWeights g.now weights.now }
     ensures light { OnOk result (IsLight g.now) }
     ensures fault { IfErr result (IsCause g.now) }
 {
-    let weights = weights(alloc, g, comps)?;
     'rules: for rule in 0..g.rules() {
-        let weight = rule_weight(g, &weights, rule);
+        let weight = rule_weight(g, weights, rule);
         if weight > HEAVIEST {
             return Err(CheckFault::Heavy { weight });
         }
@@ -31,7 +32,8 @@ pub fn light(alloc: Global, g: &Gram, comps: &Comps) -> Result<(), CheckFault>
     Ok(())
 }
 
-/// The weight of a rule: 1 more than that of all its items.
+/// The weight of a rule: the greatest of 1 more than that of all its items, and of 1 more than that
+/// of the inside of each of its groups.
 fn rule_weight(g: &Gram, weights: &Weights, rule: u32) -> u64
     requires built { IsBuilt g.now }
     requires weights { AreWeights g.now weights.now }
@@ -39,5 +41,43 @@ fn rule_weight(g: &Gram, weights: &Weights, rule: u32) -> u64
     ensures { RuleWeighs g.now rule result }
 {
     let items = weight_by(g, weights, &whole(g, rule));
-    (items + 1).min(CAP)
+    let insides = insides_weight(g, weights, rule);
+    (items + 1).min(CAP).max(insides)
+}
+
+/// The greatest of what the groups of a rule count.
+fn insides_weight(g: &Gram, weights: &Weights, rule: u32) -> u64
+    requires built { IsBuilt g.now }
+    requires weights { AreWeights g.now weights.now }
+    requires rule { rule < length g.now.rules }
+    ensures { InsidesWeigh g.now (spread g.now rule) result }
+{
+    let mut greatest = 0;
+    'places: for place in 0..g.spread(rule).len() as u32 {
+        let count = inside_count(g, weights, rule, place);
+        greatest = greatest.max(count);
+    }
+    greatest
+}
+
+/// What the group that begins at a place of a rule counts: 1 more than what its inside weighs, and 0
+/// where none begins there.
+fn inside_count(g: &Gram, weights: &Weights, rule: u32, place: u32) -> u64
+    requires built { IsBuilt g.now }
+    requires weights { AreWeights g.now weights.now }
+    requires rule { rule < length g.now.rules }
+    requires place { place < length (spread g.now rule) }
+    ensures { Counts g.now rule place result }
+{
+    match g.partner(rule, place) {
+        Some(partner) => {
+            let inside = Part {
+                rule,
+                start: place + 1,
+                end: partner,
+            };
+            (weight_by(g, weights, &inside) + 1).min(CAP)
+        }
+        None => 0,
+    }
 }

@@ -1,18 +1,19 @@
 ghost use Rattle.std.specs.Prelude.{◌≡◌, IfOk, IfErr, OnOk};
 ghost use Rattle.xs_gram.specs.Languages.{IsUnique};
 ghost use Rattle.xs_gram.specs.Sound.{IsBuilt, IsSound};
-ghost use Rattle.xs_check_laws.specs.Acceptance.{IsAccepted};
+ghost use Rattle.xs_check_laws.specs.Fenced.Acceptance.{IsAccepted};
 ghost use Rattle.xs_unique.specs.Reasons.{IsReason};
 
 use crate::suspects::clear;
 use crate::{AcceptFault, Accepted};
 use std::alloc::Global;
-use xs_check_laws::{accepted_is_unique, decided_in_range};
+use xs_check_laws::fence_laws::accepted_is_unique;
 use xs_class::Side;
 use xs_gram::Gram;
 use xs_light::light;
-use xs_order::components;
+use xs_order::fenced::components;
 use xs_pair::Two;
+use xs_stretch::Tables;
 
 /// Accepts the two grammars of a sheet where no rule weighs more than 8,192 and there is no
 /// suspect.
@@ -44,11 +45,12 @@ fn check(alloc: Global, text: &Gram, xml: &Gram) -> Result<(), AcceptFault>
 {
     let text_comps = components(alloc, text)?;
     let xml_comps = components(alloc, xml)?;
-    light(alloc, text, &text_comps)?;
-    light(alloc, xml, &xml_comps)?;
-    clear(alloc, Side::Text, text, &text_comps)?;
-    clear(alloc, Side::Xml, xml, &xml_comps)?;
-    decided_in_range();
+    let text_tables = Tables::of(alloc, text, &text_comps)?;
+    let xml_tables = Tables::of(alloc, xml, &xml_comps)?;
+    light(text, &text_tables.weights)?;
+    light(xml, &xml_tables.weights)?;
+    clear(alloc, Side::Text, text, &text_comps, &text_tables)?;
+    clear(alloc, Side::Xml, xml, &xml_comps, &xml_tables)?;
     accepted_is_unique();
     Ok(())
 }

@@ -6,5 +6,5 @@
 
 mod search;
 
-pub use search::{Vert, vertical};
+pub use search::{Vert, first_vertical, vertical};
 pub use xs_light::CheckFault;

@@ -1,19 +1,20 @@
-ghost use Rattle.std.specs.Prelude.{◌<◌, length, IsSome, IfOk, IfErr, IfSome, IfNone, OnOk};
-ghost use Rattle.xs_gram.specs.Grammar.{items};
-ghost use Rattle.xs_gram.specs.Loose.{AreComponents};
+ghost use Rattle.std.specs.Prelude.{◌<◌, length, IfOk, IfErr, IfSome, IfNone, OnOk};
+ghost use Rattle.xs_gram.specs.Fences.{spread};
+ghost use Rattle.xs_gram.specs.Fenced.Loose.{AreComponents};
 ghost use Rattle.xs_gram.specs.Sound.{IsBuilt};
-ghost use Rattle.xs_gram.specs.Suspects.{IsVertical};
-ghost use Rattle.xs_check_laws.specs.Freedom.{HasNoVertical};
-ghost use Rattle.xs_check_laws.specs.Acceptance.{IsLight, ShowsVertical};
-ghost use Rattle.xs_loose.specs.Accepting.{AcceptsLoose};
+ghost use Rattle.xs_gram.specs.Fenced.Suspects.{IsVertical};
+ghost use Rattle.xs_check_laws.specs.Fenced.Freedom.{HasNoVertical};
+ghost use Rattle.xs_check_laws.specs.Fenced.Acceptance.{IsLight, ShowsVertical};
 ghost use Rattle.xs_light.specs.Causes.{IsCause};
+ghost use Rattle.xs_light.specs.Spaces.{IsSpace, AcceptsLoose};
 ghost use Rattle.xs_vert.specs.Partners.{ArePartners, IsFirstPartner, HasNoPartner};
 
 use std::alloc::Global;
 use xs_auto::Net;
 use xs_class::{Memory, Word};
 use xs_gram::{Comps, Gram};
-use xs_light::{CheckFault, Maps, light, light_net, whole};
+use xs_light::{CheckFault, Maps, SearchSpace, light};
+use xs_stretch::Tables;
 
 /// Two rules of one nonterminal, the smaller one first, and a word that is loose for both.
 #[derive(Debug, Drop)]
@@ -27,8 +28,8 @@ pub struct Vert {
 /// that shows it, or none where there is none.
 ///
 /// Fails with `Heavy` exactly where a rule weighs more than 8,192, with the weight of the first
-/// such rule. Builds a net for each two rules of one nonterminal, and takes time linear in the
-/// pairs of their states, times the edges of each state.
+/// such rule. Builds the nest of the grammar's groups and a net for each two rules of one
+/// nonterminal, and takes time linear in the pairs of their states, times the edges of each state.
 pub fn vertical(alloc: Global, g: &Gram, comps: &Comps) -> Result<Option<Vert>, CheckFault>
     requires built { IsBuilt g.now }
     requires comps { AreComponents g.now comps.now }
@@ -37,10 +38,23 @@ pub fn vertical(alloc: Global, g: &Gram, comps: &Comps) -> Result<Option<Vert>, 
     ensures light { OnOk result (IsLight g.now) }
     ensures fault { IfErr result (IsCause g.now) }
 {
-    light(alloc, g, comps)?;
+    let tables = Tables::of(alloc, g, comps)?;
+    light(g, &tables.weights)?;
+    let space = SearchSpace::of(alloc, g, comps, &tables)?;
     let mut maps = Maps::new(alloc)?;
-    'rules: for rule in 0..g.rules() {
-        let found = first_partner(alloc, g, comps, rule, &mut maps)?;
+    let found = first_vertical(&space, &mut maps)?;
+    Ok(found)
+}
+
+/// The first vertical suspect of a grammar whose rules are light, or none where there is none, by
+/// what its searches share.
+pub fn first_vertical(space: &SearchSpace<'_>, maps: &mut Maps) -> Result<Option<Vert>, Memory>
+    requires space { IsSpace space.now }
+    ensures some { IfOk result (λ o. IfSome o (λ v. ShowsVertical space.now.g.now v.rule v.rule2 v.word)) }
+    ensures none { IfOk result (λ o. IfNone o (HasNoVertical space.now.g.now)) }
+{
+    'rules: for rule in 0..space.g.rules() {
+        let found = first_partner(space, rule, maps)?;
         if let Some(vert) = found {
             return Ok(Some(vert));
         }
@@ -50,22 +64,18 @@ pub fn vertical(alloc: Global, g: &Gram, comps: &Comps) -> Result<Option<Vert>, 
 
 /// The first rule after this one that shares a loose word with it, where there is one.
 fn first_partner(
-    alloc: Global,
-    g: &Gram,
-    comps: &Comps,
+    space: &SearchSpace<'_>,
     rule: u32,
     maps: &mut Maps,
 ) -> Result<Option<Vert>, Memory>
-    requires built { IsBuilt g.now }
-    requires comps { AreComponents g.now comps.now }
-    requires light { IsLight g.now }
-    requires rule { rule < length g.now.rules }
-    ensures some { IfOk result (λ o. IfSome o (IsFirstPartner g.now rule)) }
-    ensures none { IfOk result (λ o. IfNone o (HasNoPartner g.now rule)) }
+    requires space { IsSpace space.now }
+    requires rule { rule < length space.now.g.now.rules }
+    ensures some { IfOk result (λ o. IfSome o (IsFirstPartner space.now.g.now rule)) }
+    ensures none { IfOk result (λ o. IfNone o (HasNoPartner space.now.g.now rule)) }
 {
-    let net = light_net(alloc, g, comps, &whole(g, rule))?;
-    'partners: for rule2 in rule + 1..g.rules() {
-        let shared = shared_word(alloc, g, comps, rule, &net, rule2, maps)?;
+    let net = space.rule_net(rule)?;
+    'partners: for rule2 in rule + 1..space.g.rules() {
+        let shared = shared_word(space, rule, &net, rule2, maps)?;
         if let Some(word) = shared {
             return Ok(Some(Vert { rule, rule2, word }));
         }
@@ -76,27 +86,22 @@ fn first_partner(
 /// A word that is loose for a rule, whose net is at hand, and for another one, where both are of
 /// one nonterminal.
 fn shared_word(
-    alloc: Global,
-    g: &Gram,
-    comps: &Comps,
+    space: &SearchSpace<'_>,
     rule: u32,
     net: &Net,
     rule2: u32,
     maps: &mut Maps,
 ) -> Result<Option<Word>, Memory>
-    requires built { IsBuilt g.now }
-    requires comps { AreComponents g.now comps.now }
-    requires light { IsLight g.now }
-    requires start { IsSome net.now.start }
-    requires loose { AcceptsLoose g.now (items g.now rule) net.now }
+    requires space { IsSpace space.now }
+    requires net { AcceptsLoose space.now.g.now space.now.nest (spread space.now.g.now rule) net.now }
     requires order { rule < rule2 }
-    requires rule2 { rule2 < length g.now.rules }
-    ensures some { IfOk result (λ o. IfSome o (IsVertical g.now rule rule2)) }
-    ensures none { IfOk result (λ o. IfNone o (ArePartners g.now rule rule2 → ⊥)) }
+    requires rule2 { rule2 < length space.now.g.now.rules }
+    ensures some { IfOk result (λ o. IfSome o (IsVertical space.now.g.now rule rule2)) }
+    ensures none { IfOk result (λ o. IfNone o (ArePartners space.now.g.now rule rule2 → ⊥)) }
 {
-    if g.non_of(rule) != g.non_of(rule2) {
+    if space.g.non_of(rule) != space.g.non_of(rule2) {
         return Ok(None);
     }
-    let other = light_net(alloc, g, comps, &whole(g, rule2))?;
-    maps.meet_word(net, &other)
+    let other = space.rule_net(rule2)?;
+    maps.meet(space, net, &other)
 }

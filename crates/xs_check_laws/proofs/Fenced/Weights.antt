@@ -102,7 +102,7 @@ module _ (g : Grammar) (built : IsBuilt g) where
   part_once (part_group f l b split e) (part_then p i r h) s = absurd (plain_not_group f p (sym s ∙ split))
   part_once (part_group f i b split e) (part_group k j y split' h) s = two_once e h (part_once b y (groups_once built.proper.once f k i j split (s ∙ split')).after)
 
-  part_level : {is : List GItem} {v : ℕ} → PartWeighs g is v → IsLevel g.fences is
+  pub part_level : {is : List GItem} {v : ℕ} → PartWeighs g is v → IsLevel g.fences is
   part_level no_part = level_none
   part_level (part_then p i r e) = level_then p (part_level r)
   part_level (part_group f i b split e) = level_group f i (part_level b) split

@@ -1,13 +1,11 @@
-use Rattle.std.proofs.lemmas.Result.{err_from_is_err_and}
-use Rattle.xs_unique.proofs.Reasons.{light_cause}
+use Rattle.std.proofs.Common.{IfErr, OnOk, subst}
+use Rattle.xs_gram.specs.Grammar.{Grammar}
+use Rattle.xs_check_laws.specs.Fenced.Acceptance.{HasNoSuspect}
+use Rattle.xs_unique.specs.Reasons.{IsUnclear}
 use Rattle.xs_unique.proofs.suspects.clear.Goals as goal
 
-pub returns-in_err-found-clause-fault : goal.returns-in_err-found-clause-fault
-returns-in_err-found-clause-fault c =
-    let fault = err_from_is_err_and c.from_residual.result c.from_residual.ensures.1 in
-    rw (fault.1, fault.2) (light_cause c.args.side c.args.g.now c.in_err-found.field-0.0 c.requires.light c.in_err-found.ensures.fault)
+pub returns-clause-clear : goal.returns-clause-clear
+returns-clause-clear c = subst (λ (g : Grammar). OnOk c.search.result (HasNoSuspect g)) c.in_ok-space.ensures.grammar c.search.ensures.clear
 
-pub returns-in_err-found-2-clause-fault : goal.returns-in_err-found-2-clause-fault
-returns-in_err-found-2-clause-fault c =
-    let fault = err_from_is_err_and c.from_residual-in_err-found-2.result c.from_residual-in_err-found-2.ensures.1 in
-    rw (fault.1, fault.2) (light_cause c.args.side c.args.g.now c.in_err-found-2.field-0.0 c.requires.light c.in_err-found-2.ensures.fault)
+pub returns-clause-fault : goal.returns-clause-fault
+returns-clause-fault c = subst (λ (g : Grammar). IfErr c.search.result (IsUnclear c.args.side g)) c.in_ok-space.ensures.grammar c.search.ensures.fault

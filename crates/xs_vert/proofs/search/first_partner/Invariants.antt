@@ -3,4 +3,4 @@ use Rattle.xs_vert.specs.Partners.{ArePartners}
 use Rattle.xs_vert.proofs.search.first_partner.Given as goal
 
 abbrev pub invariant-partners : goal.invariant-partners
-invariant-partners l = HasNoneInRow (ArePartners l.g) l.rule l.rule2
+invariant-partners l = HasNoneInRow (ArePartners l.space.g.now) l.rule l.rule2

@@ -1,0 +1,43 @@
+-- The front and the rest of a cut are parts, with nets where all rules are light.
+use Rattle.std.proofs.Common.{◌≡◌, ℕ, ◌<◌, ◌≤◌, List, length, sym, ◌∙◌, arith}
+use Rattle.std.specs.List.{slice_range}
+use Rattle.xs_auto.specs.Nets.{Graph}
+use Rattle.xs_auto.specs.Nests.{Group}
+use Rattle.xs_gram.specs.Grammar.{Grammar}
+use Rattle.xs_gram.specs.Cuts.{CutsAt, CutsAreOne}
+use Rattle.xs_gram.specs.Fences.{spread}
+use Rattle.xs_gram.specs.Sound.{IsBuilt}
+use Rattle.xs_gram.proofs.Cuts.{cut_level}
+use Rattle.xs_check_laws.specs.Fenced.Acceptance.{IsLight}
+use Rattle.xs_stretch.specs.declared.part.Part.{Part}
+use Rattle.xs_stretch.specs.Parts.{IsPart, part_items, AreLight}
+use Rattle.xs_light.specs.Spaces.{AcceptsLoose, AreCutNets}
+use Rattle.xs_light.proofs.Lightness.{cut_light}
+
+module _ (g : Grammar) (built : IsBuilt g) (p c start end : ℕ) (lt : p < length g.rules) (at : CutsAt g.fences (spread g p) c start end) where
+  pub front_part : IsPart g (record { rule = p; start = start; end = c })
+  front_part = record { rule = lt; order = at.low; within = omega (arith, at.middle, at.high); level = (cut_level at.cut).0 }
+
+  pub rest_part : IsPart g (record { rule = p; start = c; end = end })
+  rest_part = record { rule = lt; order = at.middle; within = at.high; level = (cut_level at.cut).1 }
+
+  pub front_light : IsLight g → AreLight g (part_items g (record { rule = p; start = start; end = c }))
+  front_light light = (cut_light g built light p c (slice_range (spread g p) start c) (slice_range (spread g p) c end) lt at.cut).0
+
+  pub rest_light : IsLight g → AreLight g (part_items g (record { rule = p; start = c; end = end }))
+  rest_light light = (cut_light g built light p c (slice_range (spread g p) start c) (slice_range (spread g p) c end) lt at.cut).1
+
+  pub cut_nets_are : (nest : List Group) (front rest : Graph) → CutsAreOne → c ≤ length (spread g p)
+      → AcceptsLoose g nest (part_items g (record { rule = p; start = start; end = c })) front → AcceptsLoose g nest (part_items g (record { rule = p; start = c; end = end })) rest
+      → AreCutNets g nest p c (record { front = front; rest = rest })
+  cut_nets_are nest front rest law within accepts_front accepts_rest =
+      let one = law g built.proper p c within in
+      let own = one.only (slice_range (spread g p) start c) (slice_range (spread g p) c end) at.cut in
+      record {
+        front_items = slice_range (spread g p) start c;
+        rest_items = slice_range (spread g p) c end;
+        cut = at.cut;
+        only = λ f r k. (let q = one.only f r k in (q.0 ∙ sym own.0, q.1 ∙ sym own.1));
+        front = accepts_front;
+        rest = accepts_rest;
+      }

@@ -1,0 +1,103 @@
+ghost use Rattle.std.specs.Prelude.{◌≡◌, ◌<◌, ◌≤◌, ℕ, length, IfOk, OnOk};
+ghost use Rattle.xs_auto.specs.Nets.{states};
+ghost use Rattle.xs_auto.specs.Nests.{group_at, IsFenced};
+ghost use Rattle.xs_gram.specs.Fenced.Loose.{AreComponents};
+ghost use Rattle.xs_gram.specs.Sound.{IsBuilt};
+ghost use Rattle.xs_check_laws.specs.Fenced.Acceptance.{IsLight};
+ghost use Rattle.xs_meet.specs.Sharing.{IsSharedOf};
+ghost use Rattle.xs_stretch.specs.Groups.{HasFewGroups};
+ghost use Rattle.xs_stretch.specs.Nets.{IsNestOf};
+ghost use Rattle.xs_stretch.specs.Tables.{AreTables};
+ghost use Rattle.xs_light.specs.Spaces.{IsSpace};
+
+use std::alloc::Global;
+use xs_auto::{Nest, Pairs};
+use xs_class::Memory;
+use xs_gram::{Comps, Gram};
+use xs_meet::Shared;
+use xs_stretch::{LooseFault, Tables, nest_by};
+use xs_stretch_laws::nests_are_fenced;
+
+/// A grammar whose rules are light, with what the searches for its suspects share: its components
+/// and tables, the nest of its groups, and which two groups share a word.
+#[derive(Drop)]
+pub struct SearchSpace<'g> {
+    pub alloc: Global,
+    pub g: &'g Gram,
+    pub comps: &'g Comps,
+    pub tables: &'g Tables,
+    pub nest: Nest,
+    pub shared: Shared,
+}
+
+impl<'g> SearchSpace<'g> {
+    /// Computes the nest of a grammar whose rules are light, and which of its groups share a word.
+    ///
+    /// Takes time linear in the pairs of states of each two groups that have one fence, times the
+    /// rounds in which some are found to share a word.
+    pub fn of(
+        alloc: Global,
+        g: &'g Gram,
+        comps: &'g Comps,
+        tables: &'g Tables,
+    ) -> Result<SearchSpace<'g>, Memory>
+        requires built { IsBuilt g.now }
+        requires comps { AreComponents g.now comps.now }
+        requires tables { AreTables g.now comps.now tables.now }
+        requires few { HasFewGroups g.now }
+        requires light { IsLight g.now }
+        ensures space { IfOk result IsSpace }
+        ensures grammar { IfOk result (λ s. s.g.now ≡ g.now) }
+    {
+        let nest = light_nest(alloc, g, comps, tables)?;
+        let shared = shared_groups(alloc, g, &nest)?;
+        Ok(SearchSpace {
+            alloc,
+            g,
+            comps,
+            tables,
+            nest,
+            shared,
+        })
+    }
+}
+
+/// The nest of a grammar whose rules are light.
+fn light_nest(alloc: Global, g: &Gram, comps: &Comps, tables: &Tables) -> Result<Nest, Memory>
+    requires built { IsBuilt g.now }
+    requires comps { AreComponents g.now comps.now }
+    requires tables { AreTables g.now comps.now tables.now }
+    requires few { HasFewGroups g.now }
+    requires light { IsLight g.now }
+    ensures { IfOk result (IsNestOf g.now) }
+{
+    match nest_by(alloc, g, comps, tables) {
+        Ok(nest) => Ok(nest),
+        Err(LooseFault::Memory) => Err(Memory),
+        Err(LooseFault::Heavy { .. }) => unreachable!(),
+    }
+}
+
+/// Which two groups of a grammar's nest share a word.
+fn shared_groups(alloc: Global, g: &Gram, nest: &Nest) -> Result<Shared, Memory>
+    requires built { IsBuilt g.now }
+    requires nest { IsNestOf g.now nest.now }
+    ensures fenced { OnOk result (IsFenced nest.now) }
+    ensures shared { IfOk result (IsSharedOf nest.now) }
+{
+    nests_are_fenced();
+    let most = most_states(nest) as u64;
+    let mut pairs = Pairs::with_room(alloc, most * most)?;
+    Shared::of(alloc, nest, &mut pairs)
+}
+
+/// The greatest number of states of a group's content.
+fn most_states(nest: &Nest) -> u32
+    ensures { (h : ℕ) → h < length nest.now → states (group_at nest.now h).content ≤ result }
+{
+    let mut most = 0;
+    'groups: for group in 0..nest.len() {
+        most = nest.states(group).max(most);
+    }
+    most
+}
