@@ -17,3 +17,7 @@ pub mod Moving
 pub mod Owning
 pub mod Going
 pub mod Numbering
+pub mod Ranking
+pub mod Placing
+pub mod Finishing
+pub mod Nesting

@@ -58,6 +58,9 @@ members_moved (other_next a m) o = other_next (λ h. a (one_on (one_back o) h)) 
 pub rank_in : (g : Grammar) (ranks : List ℕ) (c n rank : ℕ) → AreRanks g g.nons ranks → n < g.nons → slice_get ranks n ≡ Some rank → AreOne g c n → Members g c n rank
 rank_in g ranks c n rank are there e one = members_moved (subst (λ (k : ℕ). Members g n n k) (sym (element_is ranks n rank 0 e)) (are.each n there)) one
 
+pub home_wider : (g : Grammar) (low high : ℕ) (h : Home) → low ≤ high → IsHome g low (Some h) → IsHome g high (Some h)
+home_wider g low high h le home = (home.0, home.1, home.2, omega (arith, home.3, le))
+
 -- the states of a member are there
 pub member_room : (g : Grammar) → IsBuilt g → (bound : ℕ) (h : Home) (n rank : ℕ) → IsHome g bound (Some h) → n < g.nons → AreOne g h.non n → Members g h.non n rank → exit_state h.first rank < bound
 member_room g built bound h n rank home there one members = omega (arith, rank_less g built home.2 members one there, home.3)
@@ -129,8 +132,8 @@ module _ (g : Grammar) (built : IsBuilt g) (weights : List ℕ) where
       let lays : LaysItem g i s.before s.at (automaton_arcs a s.before s.at) t.before t.at = subst (λ (x : GItem). LaysItem g x s.before s.at (automaton_arcs a s.before s.at) t.before t.at) (sym e) (lays_skip {k = k} (ap (λ (x : Position). automaton_arcs x s.before s.at) same) after at) in
       laid_by ts lays there low (omega (arith, at, after, fits)) grows
 
-pub member_grows : (first rank j : ℕ) (s : Spot) (l m n : Graph) → j ≡ rank → NetGrows (pass s.before (first + 2 * rank) ∷ []) l m → NetGrows (pass (first + 2 * rank + 1) s.at ∷ []) m n → NetGrows (pass s.before (entry_state first j) ∷ pass (exit_state first j) s.at ∷ []) l n
-member_grows first rank j s l m n e a b = rw e (grows_two a b (pass_from (omega arith)))
+pub member_grows : (first entry j : ℕ) (s : Spot) (l m n : Graph) → entry ≡ entry_state first j → NetGrows (pass s.before entry ∷ []) l m → NetGrows (pass (entry + 1) s.at ∷ []) m n → NetGrows (pass s.before (entry_state first j) ∷ pass (exit_state first j) s.at ∷ []) l n
+member_grows first entry j s l m n e a b = grows_two (subst (λ (x : ℕ). NetGrows (pass s.before x ∷ []) l m) e a) b (pass_from (omega (arith, e)))
 
 module _ (g : Grammar) (built : IsBuilt g) (weights : List ℕ) where
   -- a member was laid, before others that are laid

@@ -44,11 +44,11 @@ left_is_one fs i e = ap (λ (b : Bool). one_if b 0) e
 other_is_none : (fs : List (ℕ × ℕ)) (i : GItem) → opens fs i ≡ false → left_one fs i ≡ 0
 other_is_none fs i e = ap (λ (b : Bool). one_if b 0) e
 
-item_at : (before after : List GItem) (i : GItem) → slice_get (before ++ i ∷ after) (length before) ≡ Some i
+pub item_at : (before after : List GItem) (i : GItem) → slice_get (before ++ i ∷ after) (length before) ≡ Some i
 item_at [] after i = refl
 item_at (x ∷ before) after i = item_at before after i
 
-long_before : (before after : List GItem) (i : GItem) → length before < length (before ++ i ∷ after)
+pub long_before : (before after : List GItem) (i : GItem) → length before < length (before ++ i ∷ after)
 long_before [] after i = omega arith
 long_before (x ∷ before) after i = omega (arith, long_before before after i)
 

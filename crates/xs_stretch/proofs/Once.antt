@@ -68,7 +68,7 @@ module _ (g : Grammar) (once : IsDistinct (fence_symbols g.fences)) where
         let at = ap (λ (k : ℕ). first + 2 * k) (rank_once ms ls) in
         rules_once own (subst (λ (s : ℕ). LaysRules g c first (length g.rules) s ys n) (sym at) other)
 
-    rules_once : {c first p at m n : ℕ} {xs ys : List Arc} → LaysRules g c first p at xs m → LaysRules g c first p at ys n → (xs ≡ ys) × (m ≡ n)
+    pub rules_once : {c first p at m n : ℕ} {xs ys : List Arc} → LaysRules g c first p at xs m → LaysRules g c first p at ys n → (xs ≡ ys) × (m ≡ n)
     rules_once lays_no_rule lays_no_rule = (refl, refl)
     rules_once {c} {first} {n = n} (lays_rule {p = p} {place = place} one k prev own e) (lays_rule {place = place'} {last = last'} {own = arcs'} one' k' prev' own' e') =
         let before = rules_once prev prev' in

@@ -28,13 +28,23 @@ abbrev pub AreSummed : Grammar → List ℕ → ℕ → ℕ → ℕ → Type 0
 AreSummed g rules i c sum = (r : ℕ) → r ≤ length g.rules → IsUpTo rules i r → RulesWeigh g c r sum
 
 module _ (g : Grammar) (comps : List ℕ) (range : IsInRange g) (are : AreComponents g comps) (component : ℕ) (rules : List ℕ) (list : IsListOf (IsRuleIn g comps component) rules) (c : ℕ) (of : IsNonOf g comps component c) where
-  passed : (i r : ℕ) → r ≤ length g.rules → IsUpTo rules i r → (q : ℕ) → q < r → AreOne g c (rule_of g q).non → (j : ℕ) × (j < i) × (j < length rules) × (get_or rules j 0 ≡ q)
+  pub passed : (i r : ℕ) → r ≤ length g.rules → IsUpTo rules i r → (q : ℕ) → q < r → AreOne g c (rule_of g q).non → (j : ℕ) × (j < i) × (j < length rules) × (get_or rules j 0 ≡ q)
   passed i r low up q l one =
       let rule : q < length g.rules = omega arith in
       none_between rules list i r up q (rule, one_only g comps are component c of (rule_of g q).non (range.rules q rule) one) l
 
   pub rules_none : AreSummed g rules 0 c 0
   rules_none r low up = others no_rule_yet r (omega arith) (λ q l h one. let at = passed 0 r low up q h one in absurd (omega (arith, at.1)))
+
+  -- no rule of the component lies between the one after the first i and the bound
+  pub not_passed : (i p r : ℕ) → i < length rules → p ≡ get_or rules i 0 → r ≤ length g.rules → IsUpTo rules (i + 1) r → (q : ℕ) → suc p ≤ q → q < r → AreOne g c (rule_of g q).non → ⊥
+  not_passed i p r l e low up q m h one = by_place (passed (i + 1) r low up q h one)
+    where
+      by_place : (j : ℕ) × (j < i + 1) × (j < length rules) × (get_or rules j 0 ≡ q) → ⊥
+      by_place at = elim (cases_eq at.0 i) [
+        | inl same ↦ let f : get_or rules at.0 0 ≡ get_or rules i 0 = ap (λ (k : ℕ). get_or rules k 0) same in omega (arith, at.3)
+        | inr ne ↦ let k = list.rising at.0 i (omega (arith, at.1)) l in omega (arith, at.3)
+      ]
 
   pub rules_more : (i p body sum new : ℕ) → i < length rules → p ≡ get_or rules i 0 → BodyWeighs g c (spread g p) body → new ≡ capped (sum + body + 1) → AreSummed g rules i c sum → AreSummed g rules (i + 1) c new
   rules_more i p body sum new l e weighs is summed r low up =
@@ -43,13 +53,7 @@ module _ (g : Grammar) (comps : List ℕ) (range : IsInRange g) (are : AreCompon
       let first : RulesWeigh g c p sum = summed p (omega arith) (subst (λ (x : ℕ). IsUpTo rules i x) (sym e) (up_to_own rules list i l)) in
       let one : AreOne g c (rule_of g p).non = one_there g comps are component c of (rule_of g p).non (range.rules p own.0) own.1 in
       let second : RulesWeigh g c (suc p) new = rule_of_member one weighs first (omega arith) in
-      others second r (omega arith) (λ q m h same. not_passed q m (passed (i + 1) r low up q h same))
-    where
-      not_passed : (q : ℕ) → suc p ≤ q → (j : ℕ) × (j < i + 1) × (j < length rules) × (get_or rules j 0 ≡ q) → ⊥
-      not_passed q m at = elim (cases_eq at.0 i) [
-        | inl same ↦ let f : get_or rules at.0 0 ≡ get_or rules i 0 = ap (λ (k : ℕ). get_or rules k 0) same in omega (arith, at.3)
-        | inr ne ↦ let k = list.rising at.0 i (omega (arith, at.1)) l in omega (arith, at.3)
-      ]
+      others second r (omega arith) (λ q m h same. not_passed i p r l e low up q m h same)
 
   pub rules_all : (i sum : ℕ) → i ≡ length rules → AreSummed g rules i c sum → RulesWeigh g c (length g.rules) sum
   rules_all i sum e summed = summed (length g.rules) (omega arith) (subst (λ (k : ℕ). IsUpTo rules k (length g.rules)) (sym e) (up_to_all rules list (length g.rules) (λ p h. h.0)))

@@ -4,6 +4,8 @@ pub mod Groups
 pub mod Growth
 pub mod Laws
 pub mod Laying
+pub mod Making
+pub mod Nesting
 pub mod Nets
 pub mod Parts
 pub mod Steps

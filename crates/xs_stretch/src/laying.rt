@@ -191,14 +191,26 @@ fn lay_member(
     ensures at { IfOk result (λ t. t.at ≡ suc spot.at) }
     ensures grows { OnOk result ((j : ℕ) → Members site.now.g.now home.non member j → NetGrows (pass_arc spot.before (entry_state home.first j) ∷ pass_arc (exit_state home.first j) spot.at ∷ []) net.old net.new) }
 {
-    let rank = *site.tables.ranks.at(member as usize);
-    let entry = home.first + 2 * rank;
+    let entry = entry_of(site, home, member);
     pass(net, spot.before, entry)?;
     pass(net, entry + 1, spot.at)?;
     Ok(Spot {
         before: spot.at,
         at: spot.at + 1,
     })
+}
+
+/// The entry of a member of the component of its home, which is before the exit.
+pub fn entry_of(site: &Site<'_>, home: Home, member: u32) -> u32
+    requires site { IsSite site.now }
+    requires there { member < site.now.g.now.nons }
+    requires member { AreOne site.now.g.now home.non member }
+    requires home { IsHome site.now.g.now (suc heaviest) (Some home) }
+    ensures entry { (j : ℕ) → Members site.now.g.now home.non member j → result ≡ entry_state home.first j }
+    ensures exit { (bound : ℕ) → IsHome site.now.g.now bound (Some home) → suc result < bound }
+{
+    let rank = *site.tables.ranks.at(member as usize);
+    home.first + 2 * rank
 }
 
 /// Lays an item whole; a nonterminal's component is left to a task.

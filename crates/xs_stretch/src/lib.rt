@@ -15,12 +15,18 @@ mod growth;
 mod laws;
 mod laying;
 mod members;
+mod nest;
+mod net;
 mod part;
 mod site;
 mod tables;
+mod tasks;
 mod weighing;
 
 pub use fault::LooseFault;
 pub use laws::laid_in_one_way;
+pub use nest::{nest_by, nest_of};
+pub use net::{HEAVIEST, net_by, net_of};
 pub use part::Part;
+pub use tables::Tables;
 pub use weighing::{CAP, Weights, weight_by, weight_of, weights};

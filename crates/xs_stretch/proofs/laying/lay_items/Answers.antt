@@ -5,6 +5,7 @@ use Rattle.xs_stretch.specs.Parts.{part_items}
 use Rattle.xs_stretch.specs.Walking.{IsHome, HasRoom}
 use Rattle.xs_stretch.specs.Steps.{StandsAt}
 use Rattle.xs_stretch.proofs.Going.{Gone, gone_none, gone_room, gone_more, gone_done, gone_at}
+use Rattle.xs_stretch.proofs.Numbering.{number_low}
 use Rattle.xs_stretch.proofs.Pushing.{element_is}
 use Rattle.xs_stretch.proofs.Stretches.{part_stretch, part_long}
 use Rattle.xs_stretch.proofs.laying.lay_items.Goals as goal
@@ -20,6 +21,9 @@ items-init c =
       low = c.requires.before;
       gone = gone_none g c.args.site.now.tables.now.weights c.args.home part.rule part.start (part_items g part) c.args.spot (states c.args.net.now) c.args.net.now c.args.tasks.now.items c.requires.part.level c.requires.room;
     }
+
+pub after_place-number-requires-clause-low : goal.after_place-number-requires-clause-low
+after_place-number-requires-clause-low c = omega (arith, c.items.invariant.number, c.requires.site.few, number_low c.args.site.now.g.now c.args.part.rule c.items.place c.requires.part.rule)
 
 pub lay_next-requires-clause-room : goal.lay_next-requires-clause-room
 lay_next-requires-clause-room c =

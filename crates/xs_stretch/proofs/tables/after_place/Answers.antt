@@ -1,10 +1,7 @@
 use Rattle.std.proofs.Common.{arith}
 use Rattle.xs_gram.specs.Fences.{spread}
-use Rattle.xs_stretch.proofs.Numbering.{left_counts, other_counts, number_low}
+use Rattle.xs_stretch.proofs.Numbering.{left_counts, other_counts}
 use Rattle.xs_stretch.proofs.tables.after_place.Goals as goal
-
-pub overflow_add-result : goal.overflow_add-result
-overflow_add-result c = omega (arith, c.requires.number, c.requires.few, number_low c.args.g.now c.args.rule c.args.place c.requires.rule)
 
 pub returns-in-Some : goal.returns-in-Some
 returns-in-Some c = omega (arith, c.requires.number, left_counts c.args.g.now.fences (spread c.args.g.now c.args.rule) c.args.place c.in-Some.field-0 c.in-Some.ensures.some)

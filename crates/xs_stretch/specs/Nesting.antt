@@ -1,0 +1,15 @@
+-- How far the nest of a grammar's groups was made.
+use Rattle.std.specs.Prelude.{◌≡◌, ℕ, ◌<◌, List, length}
+use Rattle.xs_auto.specs.Nests.{Group, IsGroup}
+use Rattle.xs_gram.specs.declared.parts.GItem.{GItem}
+use Rattle.xs_gram.specs.Grammar.{Grammar}
+use Rattle.xs_gram.specs.Fences.{spread, GroupAt}
+use Rattle.xs_check_laws.specs.Fenced.Acceptance.{IsBefore}
+use Rattle.xs_stretch.specs.Groups.{group_number}
+use Rattle.xs_stretch.specs.Nets.{IsGroupOf}
+
+-- the nest has the groups before spread item k of rule p, each under its number, and no others
+pub record IsNestBefore (g : Grammar) (p k : ℕ) (nest : List Group) : Type 0 where
+  pub counted : length nest ≡ group_number g p k
+  pub there : (q j m l r : ℕ) (inside : List GItem) → IsBefore q j p k → q < length g.rules → GroupAt g.fences (spread g q) j m l inside r → (group : Group) × IsGroup nest (group_number g q j) group × IsGroupOf g q j group
+  pub only : (h : ℕ) (group : Group) → IsGroup nest h group → (q : ℕ) × (j : ℕ) × (h ≡ group_number g q j) × IsGroupOf g q j group

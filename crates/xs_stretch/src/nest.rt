@@ -1,0 +1,105 @@
+ghost use Rattle.std.specs.Prelude.{◌≡◌, ℕ, ◌+◌, ◌∷◌, [], ◌<◌, length, IfOk, IfErr, OnOk};
+ghost use Rattle.xs_gram.specs.declared.parts.GItem.TheVariants.{Fixed};
+ghost use Rattle.xs_gram.specs.Fences.{spread};
+ghost use Rattle.xs_gram.specs.Fenced.Loose.{AreComponents};
+ghost use Rattle.xs_gram.specs.Sound.{IsBuilt};
+ghost use Rattle.xs_stretch.specs.Groups.{HasFewGroups};
+ghost use Rattle.xs_stretch.specs.Nesting.{IsNestBefore};
+ghost use Rattle.xs_stretch.specs.Nets.{IsNestOf, IsNestCause};
+ghost use Rattle.xs_stretch.specs.Tables.{AreTables};
+ghost use Rattle.xs_stretch.specs.Work.{IsSite};
+
+use crate::net::net_by;
+use crate::site::Site;
+use crate::{LooseFault, Part, Tables};
+use std::alloc::Global;
+use xs_auto::Nest;
+use xs_class::Sym;
+use xs_gram::{Comps, GItem, Gram};
+
+/// The nest of a grammar's groups, each with the net of the stretch inside; by rule, and in a rule by
+/// the place of the left fence, as their numbers go.
+///
+/// The fault is that of the first group whose inside is too heavy.
+pub fn nest_of(alloc: Global, g: &Gram, comps: &Comps) -> Result<Nest, LooseFault>
+    requires built { IsBuilt g.now }
+    requires comps { AreComponents g.now comps.now }
+    ensures nest { IfOk result (IsNestOf g.now) }
+    ensures fault { IfErr result (IsNestCause g.now) }
+{
+    let tables = Tables::of(alloc, g, comps)?;
+    nest_by(alloc, g, comps, &tables)
+}
+
+/// The same, by the tables of the grammar.
+pub fn nest_by(alloc: Global, g: &Gram, comps: &Comps, tables: &Tables) -> Result<Nest, LooseFault>
+    requires built { IsBuilt g.now }
+    requires comps { AreComponents g.now comps.now }
+    requires tables { AreTables g.now comps.now tables.now }
+    requires few { HasFewGroups g.now }
+    ensures nest { IfOk result (IsNestOf g.now) }
+    ensures fault { IfErr result (IsNestCause g.now) }
+{
+    let site = Site { g, comps, tables };
+    let mut nest = Nest::new(alloc)?;
+    'rules: for rule in 0..g.rules() {
+        add_groups(&mut nest, alloc, &site, rule)?;
+    }
+    Ok(nest)
+}
+
+/// Adds the groups of a rule.
+fn add_groups(nest: &mut Nest, alloc: Global, site: &Site<'_>, rule: u32) -> Result<(), LooseFault>
+    requires site { IsSite site.now }
+    requires rule { rule < length site.now.g.now.rules }
+    requires nest { IsNestBefore site.now.g.now rule 0 nest.old }
+    ensures nest { OnOk result (IsNestBefore site.now.g.now (rule + 1) 0 nest.new) }
+    ensures fault { IfErr result (IsNestCause site.now.g.now) }
+{
+    'items: for place in 0..site.g.spread(rule).len() as u32 {
+        add_group(nest, alloc, site, rule, place)?;
+    }
+    Ok(())
+}
+
+/// Adds the group whose left fence is a rule's spread item, if it is one.
+fn add_group(
+    nest: &mut Nest,
+    alloc: Global,
+    site: &Site<'_>,
+    rule: u32,
+    place: u32,
+) -> Result<(), LooseFault>
+    requires site { IsSite site.now }
+    requires rule { rule < length site.now.g.now.rules }
+    requires place { place < length (spread site.now.g.now rule) }
+    requires nest { IsNestBefore site.now.g.now rule place nest.old }
+    ensures nest { OnOk result (IsNestBefore site.now.g.now rule (place + 1) nest.new) }
+    ensures fault { IfErr result (IsNestCause site.now.g.now) }
+{
+    let Some(partner) = site.g.partner(rule, place) else {
+        return Ok(());
+    };
+    let items = site.g.spread(rule);
+    let left = fence_symbol(&items[place as usize]);
+    let right = fence_symbol(&items[partner as usize]);
+    let inside = Part {
+        rule,
+        start: place + 1,
+        end: partner,
+    };
+    let content = net_by(alloc, site.g, site.comps, site.tables, &inside)?;
+    nest.group(left, right, content)?;
+    Ok(())
+}
+
+/// The symbol of an item that is a fixed word of one symbol.
+fn fence_symbol(item: &GItem) -> Sym
+    requires { (s : ℕ) × (item.now ≡ Fixed (s ∷ [])) }
+    ensures { item.now ≡ Fixed (result ∷ []) }
+{
+    match item {
+        GItem::Fixed(word) => word.at(0),
+        _ => unreachable!(),
+    }
+}
