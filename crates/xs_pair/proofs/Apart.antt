@@ -1,9 +1,11 @@
 -- Where each fence has two new characters, no character is of two pairs, nor of both sides of one.
-use Rattle.std.proofs.Common.{◌≡◌, ◌∙◌, ◌<◌, ◌+◌, inl, inr, ap, sym, refl, subst, ℕ, suc, List, [], ◌∷◌, ◌++◌, append_assoc, append-nil, length, get_or, take, Some, None, slice_get, Bool, true, false, not, ◌&&◌, ◌||◌, ◌==◌, if◌then◌else◌, eqb-true}
+use Rattle.std.proofs.Common.{◌≡◌, ◌≢◌, ◌∙◌, ◌<◌, ◌+◌, inl, inr, ap, sym, refl, subst, ℕ, suc, List, [], ◌∷◌, ◌++◌, append_assoc, append-nil, length, get_or, take, Some, None, slice_get, Bool, true, false, not, ◌&&◌, ◌||◌, ◌==◌, if◌then◌else◌, eqb-true}
 use Rattle.std.specs.Bool.{⊤}
 use Rattle.std.specs.declared.option.Option.{Option}
 use Rattle.xs_class.proofs.Lists.{take_next}
-use Rattle.xs_class.proofs.Truth.{and_true, not_true, eq_self, or_false}
+use Rattle.xs_class.proofs.Truth.{and_true, not_true, eq_self, or_false, false_true, neither}
+use Rattle.xs_gram.specs.Fences.{fence_symbols, is_left, is_right, is_fence}
+use Rattle.xs_gram.specs.Laws.{Every, IsDistinct}
 use Rattle.xs_sheet.specs.declared.unit.Unit.{Unit}
 use Rattle.xs_sheet.specs.declared.unit.Unit.TheVariants as V
 use Rattle.xs_pair.specs.declared.ill.IllRule.TheVariants as L
@@ -121,3 +123,72 @@ pairs_apart us passed = (fresh us [] (all_new [] us (λ k u at used. passed (uni
 -- the characters of the fences up to the next unit
 pub letters_next : (us : List Unit) (i : ℕ) (u : Unit) (old new : List ℕ) → i < length us → u ≡ get_or us i u → old ≡ fence_letters (take i us) → new ≡ old ++ letters_in u → new ≡ fence_letters (take (i + 1) us)
 letters_next us i u old new lt at before is = is ∙ ap (λ (z : List ℕ). z ++ letters_in u) before ∙ sym (ap fence_letters (take_next us i u lt at) ∙ letters_push (take i us) u)
+
+-- symbols of which none stands twice, and none is an earlier one
+record AreOnce (earlier ss : List ℕ) : Type 0 where
+  once : IsDistinct ss
+  new : Every (λ c. is_one_of earlier c ≡ false) ss
+
+every_weaker : (P Q : ℕ → Type 0) (ns : List ℕ) → ((n : ℕ) → P n → Q n) → Every P ns → Every Q ns
+every_weaker P Q [] f each = tt
+every_weaker P Q (n ∷ ns) f each = (f n each.0, every_weaker P Q ns f each.1)
+
+differs : (a b : ℕ) → (a == b) ≡ false → b ≡ a → ⊥
+differs a b other e = false_true (sym other ∙ ap (λ (z : ℕ). a == z) e ∙ eq_self a)
+
+once_more : (l r : ℕ) (ss earlier : List ℕ) → (l == r) ≡ false → is_one_of earlier l ≡ false → is_one_of earlier r ≡ false → AreOnce (earlier ++ l ∷ r ∷ []) ss → AreOnce earlier (l ∷ r ∷ ss)
+once_more l r ss earlier differ new_l new_r rest = record {
+  once = ((differs l r differ, every_weaker New (λ m. m ≢ l) ss (λ m new. differs l m (both m new).1.0) rest.new), (every_weaker New (λ m. m ≢ r) ss (λ m new. differs r m (both m new).1.1) rest.new, rest.once));
+  new = (new_l, (new_r, every_weaker New (λ m. is_one_of earlier m ≡ false) ss (λ m new. (both m new).0) rest.new));
+}
+  where
+    New : ℕ → Type 0
+    New c = is_one_of (earlier ++ l ∷ r ∷ []) c ≡ false
+
+    both : (m : ℕ) → is_one_of (earlier ++ l ∷ r ∷ []) m ≡ false → (is_one_of earlier m ≡ false) × (((l == m) ≡ false) × ((r == m) ≡ false))
+    both m new =
+        let q = one_of_parts earlier (l ∷ r ∷ []) m new in
+        let s = or_false (l == m) ((r == m) || false) q.1 in
+        (q.0, (s.0, (or_false (r == m) false s.1).0))
+
+fence_once : (earlier left right : List ℕ) (fs : List (ℕ × ℕ)) (o p : Option ℕ) → only left ≡ o → only right ≡ p → (are_new earlier o p ≡ false → ⊥) → AreOnce (earlier ++ (left ++ right)) (fence_symbols fs) → AreOnce earlier (fence_symbols (pair_of o p ++ fs))
+fence_once earlier left right fs None p l r new rest = absurd (new refl)
+fence_once earlier left right fs (Some c) None l r new rest = absurd (new refl)
+fence_once earlier left right fs (Some c) (Some d) l r new rest =
+    let test = and_true (not (c == d)) (not (is_one_of earlier c) && not (is_one_of earlier d)) (so_true _ new) in
+    let both = and_true (not (is_one_of earlier c)) (not (is_one_of earlier d)) test.1 in
+    once_more c d (fence_symbols fs) earlier (not_true (c == d) test.0) (not_true (is_one_of earlier c) both.0) (not_true (is_one_of earlier d) both.1)
+    (subst (λ (z : List ℕ). AreOnce (earlier ++ z) (fence_symbols fs)) (ap (λ (z : List ℕ). z ++ right) (only_is left c l) ∙ ap (λ (z : List ℕ). c ∷ z) (only_is right d r)) rest)
+
+symbols_once : (us : List Unit) (earlier : List ℕ) → AllNew earlier us → AreOnce earlier (fence_symbols (fence_pairs us))
+symbols_once [] earlier all = record { once = tt; new = tt }
+symbols_once (V.Terminal name pattern regex line ∷ us) earlier all = symbols_once us earlier (no_letters earlier us all.1)
+symbols_once (V.Ignorable name pattern regex normal line ∷ us) earlier all = symbols_once us earlier (no_letters earlier us all.1)
+symbols_once (V.Production name left right line ∷ us) earlier all = symbols_once us earlier (no_letters earlier us all.1)
+symbols_once (V.Fence left right line ∷ us) earlier all = fence_once earlier left right (fence_pairs us) (only left) (only right) refl refl all.0 (symbols_once us (earlier ++ (left ++ right)) all.1)
+
+pub pairs_once : (us : List Unit) → ((line : ℕ) → FenceFails us L.FenceChar line → ⊥) → IsDistinct (fence_symbols (fence_pairs us))
+pairs_once us passed = (symbols_once us [] (all_new [] us (λ k u at used. passed (unit_line u) (k, u, at, used, refl)))).once
+
+-- what is no character of the fences is a symbol of no pair
+pair_clear : (left right : List ℕ) (s : ℕ) (o p : Option ℕ) → only left ≡ o → only right ≡ p → is_one_of (left ++ right) s ≡ false → (fs : List (ℕ × ℕ)) → is_left fs s ≡ false → is_right fs s ≡ false → (is_left (pair_of o p ++ fs) s ≡ false) × (is_right (pair_of o p ++ fs) s ≡ false)
+pair_clear left right s None p l r none fs in_left in_right = (in_left, in_right)
+pair_clear left right s (Some c) None l r none fs in_left in_right = (in_left, in_right)
+pair_clear left right s (Some c) (Some d) l r none fs in_left in_right =
+    let parts = one_of_parts left right s none in
+    let first = or_false (c == s) false (ap (λ (z : List ℕ). is_one_of z s) (sym (only_is left c l)) ∙ parts.0) in
+    let second = or_false (d == s) false (ap (λ (z : List ℕ). is_one_of z s) (sym (only_is right d r)) ∙ parts.1) in
+    (ap (λ (t : Bool). t || is_left fs s) first.0 ∙ in_left, ap (λ (t : Bool). t || is_right fs s) second.0 ∙ in_right)
+
+pairs_clear : (us : List Unit) (s : ℕ) → is_one_of (fence_letters us) s ≡ false → (is_left (fence_pairs us) s ≡ false) × (is_right (fence_pairs us) s ≡ false)
+pairs_clear [] s none = (refl, refl)
+pairs_clear (V.Terminal name pattern regex line ∷ us) s none = pairs_clear us s none
+pairs_clear (V.Ignorable name pattern regex normal line ∷ us) s none = pairs_clear us s none
+pairs_clear (V.Production name left right line ∷ us) s none = pairs_clear us s none
+pairs_clear (V.Fence left right line ∷ us) s none =
+    let parts = one_of_parts (left ++ right) (fence_letters us) s none in
+    let rest = pairs_clear us s parts.1 in
+    pair_clear left right s (only left) (only right) refl refl parts.0 (fence_pairs us) rest.0 rest.1
+
+pub no_fence : (us : List Unit) (s : ℕ) → is_one_of (fence_letters us) s ≡ false → is_fence (fence_pairs us) s ≡ false
+no_fence us s none = let both = pairs_clear us s none in neither (is_left (fence_pairs us) s) (is_right (fence_pairs us) s) both.0 both.1

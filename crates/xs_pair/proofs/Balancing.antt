@@ -4,7 +4,8 @@ use Rattle.std.specs.Prelude.{IsTrue, ◌↔◌}
 use Rattle.std.specs.declared.option.Option.{Option}
 use Rattle.std.proofs.lemmas.List.{reverse-append}
 use Rattle.xs_class.proofs.Truth.{eq_self, or_false}
-use Rattle.xs_pair.specs.Fences.{is_left, is_right, is_fence, IsPair, IsBalanced, balanced_none, balanced_then, balanced_group}
+use Rattle.xs_gram.specs.Fences.{is_left, is_right, is_fence}
+use Rattle.xs_pair.specs.Fences.{IsPair, IsBalanced, balanced_none, balanced_then, balanced_group}
 use Rattle.xs_pair.specs.Balance.{right_of, closed, stepped, step, goes_on, closes, AreApart}
 use Rattle.xs_pair.proofs.Decided.{yes, no}
 
@@ -24,7 +25,7 @@ pair_found (f ∷ fs) c r e = by (f.0 == c) refl e (λ rest. pair_found fs c r r
         same a b e = cc
     by false is e later = inr (later e)
 
-no_left : (fs : List (ℕ × ℕ)) (c : ℕ) → right_of fs c ≡ None → is_left fs c ≡ false
+pub no_left : (fs : List (ℕ × ℕ)) (c : ℕ) → right_of fs c ≡ None → is_left fs c ≡ false
 no_left [] c e = refl
 no_left (f ∷ fs) c e = by (f.0 == c) e (λ rest. no_left fs c rest)
   where
@@ -92,10 +93,10 @@ closes_sound fs (c ∷ w) awaited e = by awaited (right_of fs c) (is_right fs c)
     by awaited None false is right h again = ends_other fs c awaited w (ap (λ (t : Bool). t || is_right fs c) (no_left fs c is) ∙ right) (again awaited h)
 
 -- after a balanced word the same is awaited as before it
-next_is : (fs : List (ℕ × ℕ)) (w awaited more : List ℕ) (c : ℕ) → step fs awaited c ≡ Some more → closes fs (c ∷ w) awaited ≡ closes fs w more
+pub next_is : (fs : List (ℕ × ℕ)) (w awaited more : List ℕ) (c : ℕ) → step fs awaited c ≡ Some more → closes fs (c ∷ w) awaited ≡ closes fs w more
 next_is fs w awaited more c is = ap (λ (o : Option (List ℕ)). goes_on o (λ more. closes fs w more)) is
 
-plain_step : (fs : List (ℕ × ℕ)) (awaited : List ℕ) (c : ℕ) → is_fence fs c ≡ false → step fs awaited c ≡ Some awaited
+pub plain_step : (fs : List (ℕ × ℕ)) (awaited : List ℕ) (c : ℕ) → is_fence fs c ≡ false → step fs awaited c ≡ Some awaited
 plain_step fs awaited c plain =
     let both = or_false (is_left fs c) (is_right fs c) plain in
     ap (λ (o : Option ℕ). stepped awaited c o (is_right fs c)) (none_right fs c both.0) ∙ ap (λ (t : Bool). stepped awaited c None t) both.1
@@ -116,7 +117,7 @@ closes_on fs u apart (balanced_then {c} {w = rest} plain b) w awaited = next_is 
 closes_on fs u apart (balanced_group l r {inside = inside} {after = after} pair b d is) w awaited =
     ap (λ (z : List ℕ). closes fs z awaited) (regroup l r inside after u w is) ∙ next_is fs (inside ++ r ∷ (after ++ w)) awaited (r ∷ awaited) l (left_step fs awaited l r apart pair) ∙ closes_on fs inside apart b (r ∷ (after ++ w)) (r ∷ awaited) ∙ next_is fs (after ++ w) (r ∷ awaited) awaited r (right_step fs awaited l r apart pair) ∙ closes_on fs after apart d w awaited
 
-balanced_closes : (fs : List (ℕ × ℕ)) (w : List ℕ) → AreApart fs → IsBalanced fs w → closes fs w [] ≡ true
+pub balanced_closes : (fs : List (ℕ × ℕ)) (w : List ℕ) → AreApart fs → IsBalanced fs w → closes fs w [] ≡ true
 balanced_closes fs w apart b = ap (λ (z : List ℕ). closes fs z []) (sym (append-nil w)) ∙ closes_on fs w apart b [] []
 
 -- what the test says

@@ -21,3 +21,13 @@ pub mod Balancing
 pub mod Apart
 pub mod Regexes
 pub mod FenceOrders
+pub mod Lists
+pub mod Nested
+pub mod Strings
+pub mod Known
+pub mod FlatElements
+pub mod LowMarks
+pub mod Levels
+pub mod TextFences
+pub mod XmlFences
+pub mod MarkPairs

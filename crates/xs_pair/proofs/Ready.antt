@@ -2,12 +2,14 @@
 use Rattle.std.proofs.Common.{◌≡◌, ◌⊎◌, ◌∙◌, ◌<◌, ◌≤◌, inl, inr, ap, sym, refl, subst, ℕ, suc, zero, List, [], ◌∷◌, length, map, Some, arith, slice_get, length-append}
 use Rattle.std.proofs.lemmas.List.{length-map}
 use Rattle.std.proofs.lemmas.Option.{none-some, same_Some}
+use Rattle.xs_class.specs.Ordered.{AreNamesOf}
 use Rattle.xs_class.specs.declared.side.Side.{Side}
 use Rattle.xs_class.specs.declared.side.Side.TheVariants.{Text, Xml}
 use Rattle.xs_regex.specs.declared.regex.Regex.{Regex}
 use Rattle.xs_sheet.specs.declared.sheet.Sheet.{Sheet}
 use Rattle.xs_sheet.specs.declared.unit.Unit.{Unit}
 use Rattle.xs_sheet.specs.declared.unit.Unit.TheVariants as V
+use Rattle.xs_sheet.specs.Grammar.{IsSheetOf}
 use Rattle.xs_gram.specs.declared.parts.SkipPart.{SkipPart}
 use Rattle.xs_gram.specs.declared.parts.GramParts.{GramParts}
 use Rattle.xs_gram.specs.Grammar.{slots}
@@ -21,6 +23,7 @@ use Rattle.xs_pair.specs.declared.mark.Mark.{Mark}
 use Rattle.xs_pair.specs.declared.mark.Mark.TheVariants.{Opening, Attribute, AttributeEnd, Closing, Value, Content}
 use Rattle.xs_pair.specs.declared.names.Sort.TheVariants as S
 use Rattle.xs_pair.specs.declared.production.Rule.{Rule}
+use Rattle.xs_pair.specs.Fences.{AreFences}
 use Rattle.xs_pair.specs.Grammars.{numbering, rule_part, rule_parts, flat_marks, side_of, AreTermsOf, AreSkipsOf, ArePartsOf, IsGramOf}
 use Rattle.xs_pair.specs.Listing.{rule_of, rules_of, names_in}
 use Rattle.xs_pair.specs.Marks.{mark_names, slot_names}
@@ -32,6 +35,8 @@ use Rattle.xs_pair.proofs.Places.{among_or_absent}
 use Rattle.xs_pair.proofs.Numbering.{number_bound, among_at, firsts_have, rule_is_named}
 use Rattle.xs_pair.proofs.Once.{once_left, once_right, once_back, once_forth}
 use Rattle.xs_pair.proofs.Shorter.{names_short}
+use Rattle.xs_pair.proofs.TextFences.{text_proper}
+use Rattle.xs_pair.proofs.XmlFences.{xml_proper}
 use Rattle.xs_pair.proofs.Buildable.{marks_there, flat_slots, are_numbered, marks_short}
 
 each_map : {A B : Type 0} (P : B → Type 0) (f : A → B) (xs : List A) → ((k : ℕ) (x : A) → slice_get xs k ≡ Some x → P (f x)) → EachOf P (map f xs)
@@ -168,8 +173,15 @@ unfenced parts none = record {
   each_rule = subst (λ fs. EachOf (λ r. IsLevel fs (spread_items fs r.items)) parts.rules) (sym none) (each_of (λ r. IsLevel [] (spread_items [] r.items)) parts.rules (λ r. level_unfenced (spread_items [] r.items)));
 }
 
-pub can_build : (s : Sheet) (names : List (List ℕ)) (side : Side) (parts : GramParts) → ArePartsOf s names side parts → EachOf IsFit parts.terms → EachOf (λ k. IsFit k.regex) parts.skips → NoneFails (FailsAt s) → weight s.units < 65536 → CanBuild parts
-can_build s names side parts are terms skips none light =
+-- the fences of either side are proper
+proper : (bytes : List ℕ) (s : Sheet) (names : List (List ℕ)) (side : Side) (parts : GramParts) → IsSheetOf bytes s → AreNamesOf (names_in (rules_of s.units)) names → ArePartsOf s names side parts → AreFences s names side parts.fences → HasProperFences parts
+proper bytes s names Text parts of named are (inl (none, is)) = text_proper s names parts are none is
+proper bytes s names Text parts of named are (inr (some, is)) = unfenced parts is
+proper bytes s names Xml parts of named are (inl (two, is)) = xml_proper bytes s names parts of named are is
+proper bytes s names Xml parts of named are (inr (one, is)) = unfenced parts is
+
+pub can_build : (bytes : List ℕ) (s : Sheet) (names : List (List ℕ)) (side : Side) (parts : GramParts) → IsSheetOf bytes s → AreNamesOf (names_in (rules_of s.units)) names → ArePartsOf s names side parts → EachOf IsFit parts.terms → EachOf (λ k. IsFit k.regex) parts.skips → NoneFails (FailsAt s) → weight s.units < 65536 → CanBuild parts
+can_build bytes s names side parts of named are terms skips none light =
     let us = s.units in
     let n_is : parts.nons ≡ length (nons_of us) = are.nons in
     let t_is : length parts.terms ≡ length (terms_of us) = terms_long us parts.terms are.terms in
@@ -185,7 +197,7 @@ can_build s names side parts are terms skips none light =
       skips = omega (arith, k_is, names_short S.Ignorable us, short, light);
       items = rw are.rules (omega (arith, counts.0, light));
       symbols = rw are.rules (omega (arith, counts.1, light));
-      fences = unfenced parts are.fences;
+      fences = proper bytes s names side parts of named are are.fences;
     }
 
 -- the grammar of the parts of a side is the grammar of that side
@@ -196,5 +208,5 @@ gram_is s names side parts g are of = record {
   rules = of.rules ∙ are.rules;
   terms = subst (λ rs. AreTermsOf s.units rs) (sym of.terms) are.terms;
   skips = subst (λ ks. AreSkipsOf s.units ks) (sym of.skips) are.skips;
-  fences = of.fences ∙ are.fences;
+  fences = subst (AreFences s names side) (sym of.fences) are.fences;
 }

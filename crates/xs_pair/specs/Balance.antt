@@ -2,7 +2,8 @@
 -- innermost first.
 use Rattle.std.specs.Prelude.{◌≡◌, ℕ, ◌==◌, Bool, true, false, List, [], ◌∷◌, None, Some, if◌then◌else◌}
 use Rattle.std.specs.declared.option.Option.{Option}
-use Rattle.xs_pair.specs.Fences.{is_right, IsPair}
+use Rattle.xs_gram.specs.Fences.{is_right}
+use Rattle.xs_pair.specs.Fences.{IsPair}
 
 -- the right character of the first pair with this left one
 abbrev pub right_of : List (ℕ × ℕ) → ℕ → Option ℕ

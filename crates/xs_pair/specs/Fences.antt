@@ -6,6 +6,7 @@ use Rattle.xs_class.specs.Classes.{Has}
 use Rattle.xs_class.specs.Marks.{opening_mark, closing_mark}
 use Rattle.xs_class.specs.declared.side.Side.{Side}
 use Rattle.xs_class.specs.declared.side.Side.TheVariants.{Text, Xml}
+use Rattle.xs_gram.specs.Fences.{is_fence}
 use Rattle.xs_regex.specs.declared.regex.Regex.{Regex}
 use Rattle.xs_regex.specs.declared.regex.Regex.TheVariants as R
 use Rattle.xs_regex.specs.Meaning.{IsPatternOf}
@@ -62,18 +63,6 @@ pair_in (Fence left right line) = pair_of (only left) (only right)
 
 abbrev pub fence_pairs : List Unit → List (ℕ × ℕ)
 fence_pairs us = flat_map pair_in us
-
--- whether the character is a left one, a right one, or any of the pairs
-abbrev pub is_left : List (ℕ × ℕ) → ℕ → Bool
-is_left [] c = false
-is_left (f ∷ fs) c = (f.0 == c) || is_left fs c
-
-abbrev pub is_right : List (ℕ × ℕ) → ℕ → Bool
-is_right [] c = false
-is_right (f ∷ fs) c = (f.1 == c) || is_right fs c
-
-abbrev pub is_fence : List (ℕ × ℕ) → ℕ → Bool
-is_fence fs c = is_left fs c || is_right fs c
 
 -- the two characters are one of the pairs
 abbrev pub IsPair : List (ℕ × ℕ) → ℕ → ℕ → Type 0
@@ -158,9 +147,13 @@ abbrev pub mark_pairs : ℕ → ℕ → List (ℕ × ℕ)
 mark_pairs k zero = []
 mark_pairs k (suc count) = (opening_mark k, closing_mark k) ∷ mark_pairs (k + 1) count
 
--- The fences of a side, where the names of elements and attributes are given. A sheet of version 1 has
--- none. In version 2 the text side has those of the units, unless one of the three rules fails, and then
--- none; the XML side has the opening and the closing of each name.
+-- all of these where the condition holds, and none where it does not
+abbrev pub AreAllIf : Type 0 → List (ℕ × ℕ) → List (ℕ × ℕ) → Type 0
+AreAllIf Condition all fs = (Condition × (fs ≡ all)) ⊎ ((Condition → ⊥) × (fs ≡ []))
+
+-- The fences of a side, where the names of elements and attributes are given. The text side has those of
+-- the units, unless one of the three rules fails, and then none; in version 1 there are no such units. The
+-- XML side has the opening and the closing of each name in version 2, and none in version 1.
 abbrev pub AreFences : Sheet → List (List ℕ) → Side → List (ℕ × ℕ) → Type 0
-AreFences s names Text fs = (NoneFails (FenceFails s.units) → fs ≡ fence_pairs s.units) × ((NoneFails (FenceFails s.units) → ⊥) → fs ≡ [])
-AreFences s names Xml fs = (s.version ≡ 1 → fs ≡ []) × (s.version ≡ 2 → fs ≡ mark_pairs 0 (length names))
+AreFences s names Text fs = AreAllIf (NoneFails (FenceFails s.units)) (fence_pairs s.units) fs
+AreFences s names Xml fs = AreAllIf (s.version ≡ 2) (mark_pairs 0 (length names)) fs

@@ -27,6 +27,7 @@ use Rattle.xs_pair.specs.declared.mark.Mark.TheVariants.{Opening, Attribute, Att
 use Rattle.xs_pair.specs.declared.outline.Outline.{Outline}
 use Rattle.xs_pair.specs.declared.production.Rule.{Rule}
 use Rattle.xs_pair.specs.Units.{nons_of, terms_of, skips_of, number_of}
+use Rattle.xs_pair.specs.Fences.{AreFences}
 use Rattle.xs_pair.specs.Marks.{slot_names}
 use Rattle.xs_pair.specs.Listing.{rules_of, names_in}
 
@@ -126,16 +127,16 @@ pub record ArePartsOf (s : Sheet) (names : List (List ℕ)) (side : Side) (parts
   pub rules : parts.rules ≡ rule_parts (numbering s.units names) side (rules_of s.units)
   pub terms : AreTermsOf s.units parts.terms
   pub skips : AreSkipsOf s.units parts.skips
-  pub fences : parts.fences ≡ []
+  pub fences : AreFences s names side parts.fences
 
--- the grammar of one side, which has no fences
+-- the grammar of one side
 pub record IsGramOf (s : Sheet) (names : List (List ℕ)) (side : Side) (g : Grammar) : Type 0 where
   pub start : g.start ≡ number_of (nons_of s.units) s.start
   pub nons : g.nons ≡ length (nons_of s.units)
   pub rules : g.rules ≡ rule_parts (numbering s.units names) side (rules_of s.units)
   pub terms : AreTermsOf s.units (map (λ (t : GTerminal). t.regex) g.terms)
   pub skips : AreSkipsOf s.units (map skip_part g.skips)
-  pub fences : g.fences ≡ []
+  pub fences : AreFences s names side g.fences
 
 -- two grammars, with the names that their numbers stand for
 pub record Pair : Type 0 where

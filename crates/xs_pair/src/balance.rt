@@ -1,4 +1,5 @@
 ghost use Rattle.std.specs.Prelude.{◌≡◌, ◌↔◌, ◌++◌, [], IfOk, OnOk, IsTrue, None, Some, reverse, if◌then◌else◌};
+ghost use Rattle.xs_gram.specs.Fences as G;
 ghost use Rattle.xs_pair.specs.Balance as B;
 ghost use Rattle.xs_pair.specs.Fences as F;
 ghost use Rattle.xs_pair.specs.Units as U;
@@ -25,7 +26,7 @@ fn right_of(pairs: &[(char, char)], letter: char) -> Option<char>
 
 /// Whether the character is the right one of a pair.
 fn is_right(pairs: &[(char, char)], letter: char) -> bool
-    ensures { result ≡ F.is_right pairs.now letter }
+    ensures { result ≡ G.is_right pairs.now letter }
 {
     'pairs: for pair in pairs {
         if pair.1 == letter {

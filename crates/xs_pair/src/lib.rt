@@ -9,6 +9,7 @@
 
 mod balance;
 mod directory;
+mod enclosing;
 mod fault;
 mod fence_rules;
 mod fences;

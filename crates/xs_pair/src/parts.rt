@@ -10,12 +10,13 @@ ghost use Rattle.xs_pair.specs.Verdict.{IsOutlineOf};
 ghost use Rattle.xs_pair.specs.Weights.{rule_weight, AreLight};
 ghost use Rattle.xs_pair.specs.Grammars.{flat_item, flat_mark, flat_marks, named_item, rule_part, rule_parts, numbering_in, AreTermsOf, AreSkipsOf, IsTermAdded, IsSkipAdded, ArePartsOf};
 
+use crate::enclosing::fences_of;
 use crate::outline::Outline;
 use crate::slots::slot_directory;
 use crate::{Directory, Mark, Rule};
 use std::alloc::Global;
 use xs_class::{ATTR_END, Memory, Names, Side, Sym, Text, Word, word_of};
-use xs_gram::{Fences, GItem, GItems, GramParts, Regexes, RulePart, Rules, SkipPart, Skips};
+use xs_gram::{GItem, GItems, GramParts, Regexes, RulePart, Rules, SkipPart, Skips};
 use xs_regex::{Regex, RegexFault, read_regex};
 use xs_sheet::{Item, Sheet, Unit};
 
@@ -261,13 +262,14 @@ impl Outline {
         let rules = self.rule_parts(alloc, names, side)?;
         let terms = regexes(alloc, sheet.units.as_slice())?;
         let skips = skip_parts(alloc, sheet.units.as_slice())?;
+        let fences = fences_of(alloc, sheet, names, side)?;
         Ok(GramParts {
             start: number(&self.nons, &self.start),
             nons: self.nons.as_slice().len() as u32,
             rules: Rules::from_vec(rules),
             terms: Regexes::from_vec(terms),
             skips: Skips::from_vec(skips),
-            fences: Fences::new(alloc),
+            fences,
         })
     }
 }

@@ -1,7 +1,6 @@
 ghost use Rattle.std.specs.Prelude.{◌≡◌, ◌<◌, [], length, map, slice_get, slice_index_or, IfOk, OnOk, IfErr};
 ghost use Rattle.std.specs.Str.{chars};
 ghost use Rattle.xs_gram.specs.Sound.{IsBuilt};
-ghost use Rattle.xs_sheet.specs.Grammar.{HaveRegexes};
 ghost use Rattle.xs_pair.specs.declared.production.Rule.{Rule as AnyRule};
 ghost use Rattle.xs_pair.specs.Grammars.{Pair, IsPairOf, IsGramOf, HaveSameTrees, grammar_of};
 ghost use Rattle.xs_class.specs.Ordered.{AreNamesOf};
@@ -155,7 +154,8 @@ impl Outline {
         requires passed { NoneFails (FailsAt sheet.now) }
         requires light { AreLight self.now.rules.items }
         requires small { weight sheet.now.units < 65536 }
-        requires regexes { HaveRegexes sheet.now.units }
+        requires bytes { IsOfBytes sheet.now }
+        requires named { AreNamesOf (listed_names (rules_of sheet.now.units)) names.now }
         ensures of { IfOk result (IsGramOf sheet.now names.now side) }
         ensures built { IfOk result IsBuilt }
     {
@@ -190,7 +190,7 @@ impl Outline {
         requires passed { NoneFails (FailsAt sheet.now) }
         requires light { AreLight self.now.rules.items }
         requires small { weight sheet.now.units < 65536 }
-        requires regexes { HaveRegexes sheet.now.units }
+        requires bytes { IsOfBytes sheet.now }
         ensures of { IfOk result (IsPairOf sheet.now) }
         ensures text { IfOk result (λ p. IsBuilt p.text) }
         ensures xml { IfOk result (λ p. IsBuilt p.xml) }
@@ -214,7 +214,7 @@ impl Outline {
         requires light { AreLight self.now.rules.items }
         requires few { length sheet.now.units < 65536 }
         requires small { weight sheet.now.units < 65536 }
-        requires regexes { HaveRegexes sheet.now.units }
+        requires bytes { IsOfBytes sheet.now }
         ensures two { IfOk result (IsPairOf sheet.now) }
         ensures text { IfOk result (λ p. IsBuilt p.text) }
         ensures xml { IfOk result (λ p. IsBuilt p.xml) }

@@ -13,7 +13,7 @@ use Rattle.xs_pair.specs.declared.mark.Mark.TheVariants.{Closing, Content as Con
 use Rattle.xs_pair.specs.Marks.{marks_of, all_marks, opening_marks, opens, is_element}
 use Rattle.xs_pair.specs.Listing.{rule_of}
 use Rattle.xs_pair.proofs.Marks.{marks_plain, marks_element}
-use Rattle.xs_writing_laws.proofs.Nested.{item_induction}
+use Rattle.xs_pair.proofs.Nested.{item_induction}
 
 abbrev element_in : List Mark → List ℕ → List Attr → List Mark → List Mark
 element_in before tag attrs inner = before ++ (opening_marks tag attrs ++ (inner ++ Closing tag ∷ []))

@@ -1,7 +1,6 @@
 -- Sheets that are alike fail the same rules at the same lines.
 use Rattle.std.proofs.Common.{◌≡◌, ◌∙◌, ℕ, List, [], ◌∷◌, ◌++◌, inl, inr, take, false, refl, sym, ap, subst}
 use Rattle.xs_sheet.specs.declared.sheet.Sheet.{Sheet}
-use Rattle.xs_sheet.specs.declared.item.Item.{Item}
 use Rattle.xs_sheet.specs.declared.unit.Unit.{Unit}
 use Rattle.xs_sheet.specs.declared.unit.Unit.TheVariants.{Terminal, Ignorable, Production, Fence}
 use Rattle.xs_pair.specs.declared.ill.Ill.{Ill}
@@ -13,7 +12,6 @@ use Rattle.xs_pair.specs.Units.{unit_line, names_of}
 use Rattle.xs_pair.specs.Rules.{IsAmong, IsTwice, IsAbsent}
 use Rattle.xs_pair.specs.Listing.{rules_of}
 use Rattle.xs_pair.specs.Verdict.{Tables, tables_of, FailsAmong, IsLineWhere, FailsAt}
-use Rattle.xs_pair.specs.Fences.{letters_in, fence_letters, only, are_new, pair_in, fence_pairs, IsBalanced, HasInside, side_letters, IsUsed, IsInside, IsOpen}
 use Rattle.xs_pair.specs.Grammars.{Pair}
 use Rattle.xs_wf.specs.Units.{HasEmptyClass, IsUnmatched, HasStrange, IsEmptyUnit, IsStrangeUnit, IsUnmatchedUnit, IsStrangeRule}
 use Rattle.xs_wf.specs.Nonterminals.{FailsAmongNons}
@@ -22,6 +20,7 @@ use Rattle.xs_sheet_laws.specs.Sheets.{AreAlikeUnits, AllAlike, AreAlike}
 use Rattle.xs_sheet_laws.specs.Laws.{AlikeSheetsMeanTheSame}
 use Rattle.xs_sheet_laws.proofs.Twins.{twins, twin_at, fronts, names_same, rules_same}
 use Rattle.xs_sheet_laws.proofs.Sheets.{alike_back}
+use Rattle.xs_sheet_laws.proofs.Fencing.{line_kept, fence_kept}
 use Rattle.xs_sheet_laws.proofs.Pairs.{pair_kept}
 
 -- a name among names, where both are the same
@@ -56,58 +55,6 @@ unmatched_kept (Production n x y l) (Production n' x' y' l') a h = absurd h
 unmatched_kept (Fence x y l) (Fence x' y' l') a h = absurd h
 unmatched_kept u v a h = absurd a
 
--- fences that are alike have the same texts
-letters_alike : (u v : Unit) → AreAlikeUnits u v → letters_in u ≡ letters_in v
-letters_alike (Terminal n p r l) (Terminal n' p' r' l') a = refl
-letters_alike (Ignorable n p r m l) (Ignorable n' p' r' m' l') a = refl
-letters_alike (Production n x y l) (Production n' x' y' l') a = refl
-letters_alike (Fence x y l) (Fence x' y' l') a = rw (a.0, a.1) refl
-letters_alike u v a = absurd a
-
-letters_same : (us vs : List Unit) → AllAlike us vs → fence_letters us ≡ fence_letters vs
-letters_same [] [] a = refl
-letters_same (u ∷ us) (v ∷ vs) a = ap (λ (z : List ℕ). z ++ fence_letters us) (letters_alike u v a.0) ∙ ap (λ (z : List ℕ). letters_in v ++ z) (letters_same us vs a.1)
-letters_same us vs a = absurd a
-
-pair_alike : (u v : Unit) → AreAlikeUnits u v → pair_in u ≡ pair_in v
-pair_alike (Terminal n p r l) (Terminal n' p' r' l') a = refl
-pair_alike (Ignorable n p r m l) (Ignorable n' p' r' m' l') a = refl
-pair_alike (Production n x y l) (Production n' x' y' l') a = refl
-pair_alike (Fence x y l) (Fence x' y' l') a = rw (a.0, a.1) refl
-pair_alike u v a = absurd a
-
-pairs_same : (us vs : List Unit) → AllAlike us vs → fence_pairs us ≡ fence_pairs vs
-pairs_same [] [] a = refl
-pairs_same (u ∷ us) (v ∷ vs) a = ap (λ (z : List (ℕ × ℕ)). z ++ fence_pairs us) (pair_alike u v a.0) ∙ ap (λ (z : List (ℕ × ℕ)). pair_in v ++ z) (pairs_same us vs a.1)
-pairs_same us vs a = absurd a
-
-used_kept : (earlier : List ℕ) (u v : Unit) → AreAlikeUnits u v → IsUsed earlier u → IsUsed earlier v
-used_kept earlier (Terminal n p r l) (Terminal n' p' r' l') a h = absurd h
-used_kept earlier (Ignorable n p r m l) (Ignorable n' p' r' m' l') a h = absurd h
-used_kept earlier (Production n x y l) (Production n' x' y' l') a h = absurd h
-used_kept earlier (Fence x y l) (Fence x' y' l') a h = subst (λ (z : List ℕ). are_new earlier (only x') (only z) ≡ false) a.1 (subst (λ (z : List ℕ). are_new earlier (only z) (only y) ≡ false) a.0 h)
-used_kept earlier u v a h = absurd a
-
-inside_kept : (letters : List ℕ) (u v : Unit) → AreAlikeUnits u v → IsInside letters u → IsInside letters v
-inside_kept letters (Terminal n p r l) (Terminal n' p' r' l') a h = subst (λ x. HasInside letters x) a.1 h
-inside_kept letters (Ignorable n p r m l) (Ignorable n' p' r' m' l') a h = subst (λ x. HasInside letters x) a.1 h
-inside_kept letters (Production n x y l) (Production n' x' y' l') a h = absurd h
-inside_kept letters (Fence x y l) (Fence x' y' l') a h = absurd h
-inside_kept letters u v a h = absurd a
-
-open_kept : (fs : List (ℕ × ℕ)) (u v : Unit) → AreAlikeUnits u v → IsOpen fs u → IsOpen fs v
-open_kept fs (Terminal n p r l) (Terminal n' p' r' l') a h = absurd h
-open_kept fs (Ignorable n p r m l) (Ignorable n' p' r' m' l') a h = absurd h
-open_kept fs (Production n x y l) (Production n' x' y' l') a h = subst (λ (is : List Item). IsBalanced fs (side_letters is) → ⊥) a.1 h
-open_kept fs (Fence x y l) (Fence x' y' l') a h = absurd h
-open_kept fs u v a h = absurd a
-
--- a line of a unit is one of its twin
-line_kept : (us vs : List Unit) (P Q : ℕ → Unit → Type 0) → AllAlike us vs → ((k : ℕ) (u v : Unit) → AreAlikeUnits u v → P k u → Q k v) → (line : ℕ) → IsLineWhere P unit_line us line → IsLineWhere Q unit_line vs line
-line_kept us vs P Q all kept line (k, u, at, holds, is) =
-    let (v, there, alike) = twin_at us vs all k u at in
-    (k, v, there, kept k u v alike holds, sym (twins u v alike).line ∙ is)
-
 tables_same : (s t : Sheet) → AreAlike s t → tables_of s ≡ tables_of t
 tables_same s t alike = rw (names_same S.Any s.units t.units alike.units, names_same S.Terminal s.units t.units alike.units, names_same S.Ignorable s.units t.units alike.units, alike.start) refl
 
@@ -139,9 +86,9 @@ fails_kept s t alike I.NotChar line h = strange s t alike line h
 fails_kept s t alike I.Normal line h = line_kept s.units t.units (λ k u. IsUnmatchedUnit u) (λ k u. IsUnmatchedUnit u) alike.units (λ k u v. unmatched_kept u v) line h
 fails_kept s t alike I.Unproductive line h = nons_kept _ s t alike line h
 fails_kept s t alike I.Loop line h = nons_kept _ s t alike line h
-fails_kept s t alike I.FenceChar line h = line_kept s.units t.units (λ k u. IsUsed (fence_letters (take k s.units)) u) (λ k u. IsUsed (fence_letters (take k t.units)) u) alike.units (λ k u v a used. used_kept (fence_letters (take k t.units)) u v a (subst (λ (cs : List ℕ). IsUsed cs u) (letters_same (take k s.units) (take k t.units) (fronts k s.units t.units alike.units)) used)) line h
-fails_kept s t alike I.FenceInside line h = line_kept s.units t.units (λ k u. IsInside (fence_letters s.units) u) (λ k u. IsInside (fence_letters t.units) u) alike.units (λ k u v a inside. inside_kept (fence_letters t.units) u v a (subst (λ (cs : List ℕ). IsInside cs u) (letters_same s.units t.units alike.units) inside)) line h
-fails_kept s t alike I.FenceOpen line h = line_kept s.units t.units (λ k u. IsOpen (fence_pairs s.units) u) (λ k u. IsOpen (fence_pairs t.units) u) alike.units (λ k u v a open_. open_kept (fence_pairs t.units) u v a (subst (λ (fs : List (ℕ × ℕ)). IsOpen fs u) (pairs_same s.units t.units alike.units) open_)) line h
+fails_kept s t alike I.FenceChar line h = fence_kept s.units t.units alike.units I.FenceChar line h
+fails_kept s t alike I.FenceInside line h = fence_kept s.units t.units alike.units I.FenceInside line h
+fails_kept s t alike I.FenceOpen line h = fence_kept s.units t.units alike.units I.FenceOpen line h
 
 well_kept : (s t : Sheet) → AreAlike s t → IsWell s → IsWell t
 well_kept s t alike well rule line h = well rule line (fails_kept t s (alike_back s t alike) rule line h)

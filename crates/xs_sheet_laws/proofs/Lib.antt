@@ -7,6 +7,7 @@ pub mod Alike
 pub mod Contents
 pub mod Twins
 pub mod Sheets
+pub mod Fencing
 pub mod Pairs
 pub mod Failing
 pub mod Meant

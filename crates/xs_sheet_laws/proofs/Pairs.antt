@@ -19,6 +19,7 @@ use Rattle.xs_pair.specs.declared.production.Rule.{Rule}
 use Rattle.xs_pair.specs.Units.{firsts, nons_of, terms_of, skips_of, number_of}
 use Rattle.xs_pair.specs.Marks.{slot_names}
 use Rattle.xs_pair.specs.Listing.{rules_of, names_in}
+use Rattle.xs_pair.specs.Fences.{AreFences}
 use Rattle.xs_pair.specs.Grammars.{Numbering, numbering, rule_parts, AreTermsOf, AreSkipsOf, IsGramOf, Pair, IsPairOf}
 use Rattle.xs_wf.proofs.Agreement as A
 use Rattle.xs_sheet_laws.specs.Regexes as R
@@ -27,6 +28,7 @@ use Rattle.xs_sheet_laws.specs.Sheets.{AllAlike, AreAlike}
 use Rattle.xs_sheet_laws.specs.Laws.{OnePair}
 use Rattle.xs_sheet_laws.proofs.Twins.{names_same, rules_same}
 use Rattle.xs_sheet_laws.proofs.Sheets.{regexes_alike}
+use Rattle.xs_sheet_laws.proofs.Fencing.{fences_kept, fences_same}
 use Rattle.xs_pair.proofs.Alike.{regex_at}
 
 -- what a pair of grammars takes of units
@@ -100,7 +102,7 @@ gram_kept s t names side g alike of =
       rules = of.rules ∙ ap (λ (n : Numbering). rule_parts n side (rules_of s.units)) (numbered_same s.units t.units names same) ∙ ap (λ (rs : List Rule). rule_parts (numbering t.units names) side rs) same.rules;
       terms = terms_kept s.units t.units (map (λ (x : Terminal). x.regex) g.terms) alike.units of.terms;
       skips = skips_kept s.units t.units (map skip_part g.skips) alike.units of.skips;
-      fences = of.fences;
+      fences = fences_kept s t names side g.fences alike of.fences;
     }
 
 -- sheets that are alike have the same pairs
@@ -181,7 +183,7 @@ grams_alike s ms ns side g h same one two =
     let skips = skips_like s.units (map skip_part g.skips) (map skip_part h.skips) (skip_part no_ignorable) one.skips two.skips in record {
       start = one.start ∙ sym two.start;
       nons = one.nons ∙ sym two.nons;
-      fences = one.fences ∙ sym two.fences;
+      fences = fences_same s ns side g.fences h.fences (subst (λ names. AreFences s names side g.fences) same one.fences) two.fences;
       rules = one.rules ∙ ap (λ names. rule_parts (numbering s.units names) side (rules_of s.units)) same ∙ sym two.rules;
       terms = sym (length-map g.terms regex_of) ∙ terms.long ∙ length-map h.terms regex_of;
       skips = sym (length-map g.skips skip_part) ∙ skips.long ∙ length-map h.skips skip_part;

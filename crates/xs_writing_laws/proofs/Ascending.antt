@@ -1,5 +1,5 @@
 -- Attributes in ascending order of their names' numbers.
-use Rattle.std.proofs.Common.{◌≡◌, ◌≢◌, ◌∙◌, ◌⊎◌, ◌<◌, ◌≤◌, ℕ, suc, List, [], ◌∷◌, map, take, drop, get_or, Bool, true, false, cond, ltb, Some, refl, sym, ap, subst, inl, inr, arith, encode_utf8_all, if◌then◌else◌}
+use Rattle.std.proofs.Common.{◌≡◌, ◌≢◌, ◌∙◌, ◌⊎◌, ◌<◌, ◌≤◌, ℕ, suc, List, [], ◌∷◌, map, get_or, Bool, true, false, cond, ltb, Some, refl, sym, ap, subst, inl, inr, arith, encode_utf8_all, if◌then◌else◌}
 use Rattle.std.specs.Prelude.{slice_get}
 use Rattle.std.specs.List.{insert}
 use Rattle.std.specs.Ordering.{nat_cmp, is_lt}
@@ -16,10 +16,9 @@ use Rattle.xs_pair.specs.Rules.{IsAmong, HasRepeat}
 use Rattle.xs_pair.specs.Units.{number_of, or_zero}
 use Rattle.xs_pair.specs.Marks.{is_before, place_before, placed, by_name, attr_names}
 use Rattle.xs_pair.proofs.Places.{found_there}
-use Rattle.xs_writing_laws.proofs.Lists.{each_inserted, each_take, each_drop}
+use Rattle.xs_pair.proofs.Lists.{each_inserted, each_insert}
 use Rattle.xs_class.proofs.Places.{not_lower}
 use Rattle.xs_pair.proofs.Buildable.{same_number, repeat_later}
-use Rattle.xs_gram.proofs.Each.{each_append}
 
 -- a number put before the first one above it
 abbrev put : ℕ → List ℕ → List ℕ
@@ -116,9 +115,6 @@ put_insert names up a (b ∷ bs) at are =
     by : (t : Bool) → numbers names (insert bs (place_before (encode_utf8_all a.name) bs) a) ≡ put (attr_number names a) (numbers names bs) → numbers names (insert (b ∷ bs) (if t then 0 else suc (place_before (encode_utf8_all a.name) bs)) a) ≡ cond t (attr_number names a ∷ attr_number names b ∷ numbers names bs) (attr_number names b ∷ put (attr_number names a) (numbers names bs))
     by true rest = refl
     by false rest = ap (λ ns. attr_number names b ∷ ns) rest
-
-pub each_insert : {A : Type 0} (P : A → Type 0) (xs : List A) (k : ℕ) (x : A) → P x → EachOf P xs → EachOf P (insert xs k x)
-each_insert P xs k x p q = each_append P (take k xs) (x ∷ drop k xs) (each_take P xs k q) (p, each_drop P xs k q)
 
 placed_numbers : (names : List (List ℕ)) → IsOrdered names → (sorted attrs : List Attr) → AreAmong names sorted → AreAmong names attrs → numbers names (placed sorted attrs) ≡ put_all (numbers names sorted) (numbers names attrs)
 placed_numbers names up sorted [] there are = refl

@@ -25,10 +25,10 @@ use Rattle.xs_pair.specs.Units.{names_of, nons_of, number_of}
 use Rattle.xs_pair.specs.Grammars.{Numbering, numbering, flat_marks, rule_part, Pair, IsPairOf}
 use Rattle.xs_pair.proofs.Places.{found_there, among_or_absent}
 use Rattle.xs_writing_laws.specs.Laws.{IsWritable, DocumentsAreBalanced}
-use Rattle.xs_writing_laws.proofs.Lists.{each_at, each_in}
+use Rattle.xs_pair.proofs.Lists.{each_at, each_in}
 use Rattle.xs_writing_laws.proofs.Spelling.{IsSpelt, gram_spelt}
-use Rattle.xs_writing_laws.proofs.Nested as N
-use Rattle.xs_writing_laws.proofs.Nested.{IsNested, IsElement, all_nested, root_element}
+use Rattle.xs_pair.proofs.Nested as N
+use Rattle.xs_pair.proofs.Nested.{IsNested, IsElement, all_nested, root_element}
 use Rattle.xs_writing_laws.proofs.Cuts.{HasContent}
 use Rattle.xs_writing_laws.proofs.Elements.{IsGood, nested_content, element_balanced}
 use Rattle.xs_writing_laws.proofs.Heads.{heads_among, head_among}

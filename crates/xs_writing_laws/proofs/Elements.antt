@@ -19,16 +19,17 @@ use Rattle.xs_xml_out.specs.Balanced.{IsContent, nothing, element, attributes_wo
 use Rattle.xs_xml_out.specs.Balanced.{Attribute as XAttribute}
 use Rattle.xs_pair.specs.declared.mark.Mark.{Mark}
 use Rattle.xs_pair.specs.declared.mark.Mark.TheVariants.{Opening, Attribute, AttributeEnd, Closing, Value, Content}
-use Rattle.xs_pair.specs.Marks.{attr_marks, attrs_marks, by_name, opening_marks}
+use Rattle.xs_pair.specs.Marks.{attr_marks, attrs_marks, by_name}
 use Rattle.xs_pair.specs.Units.{number_of}
 use Rattle.xs_pair.specs.Rules.{IsAmong, HasRepeat}
 use Rattle.xs_pair.specs.Grammars.{Numbering, named_item, fixed_item, flat_item, flat_mark, flat_marks}
 use Rattle.xs_writing_laws.specs.Laws.{AreChars, HasChars}
-use Rattle.xs_writing_laws.proofs.Lists.{each_front, each_back}
+use Rattle.xs_pair.proofs.Lists.{each_front, each_back}
 use Rattle.xs_writing_laws.proofs.Spelling.{IsSpelt}
 use Rattle.xs_writing_laws.proofs.Texts.{text_item}
-use Rattle.xs_writing_laws.proofs.Nested as N
-use Rattle.xs_writing_laws.proofs.Nested.{IsNested, IsElement}
+use Rattle.xs_pair.proofs.Nested as N
+use Rattle.xs_pair.proofs.Nested.{IsNested, IsElement}
+use Rattle.xs_pair.proofs.FlatElements.{opened, flat_element}
 use Rattle.xs_writing_laws.proofs.Ascending.{Rises, numbers, attr_number, AreAmong, sorted_rise}
 use Rattle.xs_writing_laws.proofs.Cuts.{HasContent, cut, after, attributes_more, content_append, IsValueItem, value_word, content_word}
 
@@ -124,13 +125,6 @@ record HasElement (g : Grammar) (n : Numbering) (slots : List (List ℕ)) (inner
   good_inner : EachOf (IsGood n) inner
   good_rest : EachOf (IsGood n) rest
   is : word ≡ element_word name attributes (parts_yield front) (parts_yield back)
-
-abbrev opened : List ℕ → List Attr → List Mark → List Mark → List Mark
-opened tag attrs inner rest = opening_marks tag attrs ++ (inner ++ Closing tag ∷ rest)
-
-flat_element : (n : Numbering) (slots : List (List ℕ)) (tag : List ℕ) (attrs : List Attr) (inner rest : List Mark) → flat_marks n slots (opened tag attrs inner rest) ≡ Fixed (opening_mark (number_of n.names tag) ∷ []) ∷ (flat_marks n slots (attrs_marks (by_name attrs)) ++ (flat_marks n slots inner ++ Fixed (closing_mark (number_of n.names tag) ∷ []) ∷ flat_marks n slots rest))
-flat_element n slots tag attrs inner rest =
-    ap (λ (is : List GItem). Fixed (opening_mark (number_of n.names tag) ∷ []) ∷ is) (flat_map-append (flat_mark n slots) (attrs_marks (by_name attrs)) (inner ++ Closing tag ∷ rest) ∙ ap (λ (is : List GItem). flat_marks n slots (attrs_marks (by_name attrs)) ++ is) (flat_map-append (flat_mark n slots) inner (Closing tag ∷ rest)))
 
 whole_word : (o c : ℕ) (all : List XAttribute) (w w1 a w2 i w3 r : List ℕ) → w ≡ o ∷ w1 → w1 ≡ a ++ w2 → a ≡ attributes_word all [] → w2 ≡ i ++ w3 → w3 ≡ c ∷ r → w ≡ o ∷ attributes_word all (i ++ c ∷ r)
 whole_word o c all w w1 a w2 i w3 r p q s t u =

@@ -1,10 +1,7 @@
 -- What the rules of a well-formed sheet say of the marks of its XML sides.
-use Rattle.std.proofs.Common.{◌≡◌, ◌∙◌, ℕ, List, [], ◌∷◌, Some, Bool, true, false, ap, inl, inr, refl}
+use Rattle.std.proofs.Common.{◌≡◌, ℕ, List, [], ◌∷◌, Some, Bool, true, false, inl, inr, refl}
 use Rattle.std.specs.Prelude.{slice_get}
-use Rattle.std.specs.List.{Contains}
-use Rattle.std.proofs.lemmas.Option.{get_or_from_slice_get, slice_get_within, slice_get-get_or}
 use Rattle.xs_class.specs.Ordered.{AreNamesOf}
-use Rattle.xs_gram.proofs.Each.{each_weaker}
 use Rattle.xs_sheet.specs.declared.item.Item.{Item}
 use Rattle.xs_sheet.specs.declared.item.Item.TheVariants as I
 use Rattle.xs_sheet.specs.declared.sheet.Sheet.{Sheet}
@@ -12,32 +9,19 @@ use Rattle.xs_gram.specs.Building.{EachOf}
 use Rattle.xs_pair.specs.declared.mark.Mark.{Mark}
 use Rattle.xs_pair.specs.declared.mark.Mark.TheVariants.{Opening, Attribute, AttributeEnd, Closing, Value, Content}
 use Rattle.xs_pair.specs.declared.production.Rule.{Rule}
-use Rattle.xs_pair.specs.Rules.{SomeOf, IsAmong, IsMiskinded, RepeatsAttribute}
+use Rattle.xs_pair.specs.Rules.{SomeOf, IsMiskinded, RepeatsAttribute}
 use Rattle.xs_pair.specs.Listing.{rules_of, names_in}
-use Rattle.xs_pair.specs.Marks.{mark_name, mark_names}
 use Rattle.xs_pair.specs.Grammars.{Numbering, numbering}
-use Rattle.xs_pair.proofs.Places.{first_before, among_or_absent}
+use Rattle.xs_pair.proofs.Places.{among_or_absent}
+use Rattle.xs_pair.proofs.Known.{AreKnown, known_names}
 use Rattle.xs_writing_laws.specs.Laws.{HasChars, IsOfChars, IsWritable}
-use Rattle.xs_writing_laws.proofs.Lists.{each_get, each_of_flat_map}
+use Rattle.xs_pair.proofs.Lists.{each_get}
 use Rattle.xs_writing_laws.proofs.Elements.{IsValue, IsGood}
 
 -- what holds of no element does not hold of each
 pub none_of : {A : Type 0} (P : A → Type 0) (xs : List A) → (SomeOf P xs → ⊥) → EachOf (λ x. P x → ⊥) xs
 none_of P [] never = tt
 none_of P (x ∷ xs) never = (λ p. never (inl p), none_of P xs (λ p. never (inr p)))
-
-abbrev AreKnown : List (List ℕ) → Mark → Type 0
-AreKnown names m = EachOf (IsAmong names) (mark_name m)
-
-contained : (names : List (List ℕ)) (name : List ℕ) → Contains names name → IsAmong names name
-contained names name has =
-    let found = first_before names name has.0 (slice_get-get_or names has.0 name has.1 ∙ ap Some has.2) in (found.0, found.2)
-
--- the names of the elements and attributes in the productions are among the names
-known_names : (rules : List Rule) (names : List (List ℕ)) → AreNamesOf (names_in rules) names → EachOf (λ (r : Rule). EachOf (AreKnown names) r.right) rules
-known_names rules names are =
-    let each : EachOf (IsAmong names) (names_in rules) = each_get (IsAmong names) (names_in rules) (λ k name at. contained names name ((are.same name).1 (k, slice_get_within (names_in rules) k name at, get_or_from_slice_get (names_in rules) k name name at))) in
-    each_weaker (λ (r : Rule). EachOf (IsAmong names) (mark_names r.right)) (λ (r : Rule). EachOf (AreKnown names) r.right) (λ r known. each_of_flat_map (IsAmong names) mark_name r.right known) rules (each_of_flat_map (IsAmong names) (λ (r : Rule). mark_names r.right) rules each)
 
 is_value : (terms skips : List (List ℕ)) (i : Item) → (IsMiskinded terms skips (Value i) → ⊥) → HasChars i → IsValue terms i
 is_value terms skips (I.Fixed text) kind chars = chars

@@ -19,9 +19,8 @@ use Rattle.xs_pair.specs.Listing.{rules_of, names_in}
 use Rattle.xs_pair.specs.Marks.{marks_of, all_marks, mark_name, mark_names, attr_marks, attrs_marks, by_name, placed, place_before, opening_marks}
 use Rattle.xs_pair.proofs.Marks.{marks_plain, marks_element}
 use Rattle.xs_writing_laws.specs.Laws.{NamesAreNames}
-use Rattle.xs_writing_laws.proofs.Lists.{each_flat_map, each_in}
-use Rattle.xs_writing_laws.proofs.Nested.{item_induction}
-use Rattle.xs_writing_laws.proofs.Ascending.{each_insert}
+use Rattle.xs_pair.proofs.Lists.{each_flat_map, each_in, each_insert}
+use Rattle.xs_pair.proofs.Nested.{item_induction}
 use Rattle.xs_writing_laws.proofs.NamesRead.{IsXmlName, IsNamed, HasNames, UnitHasNames, sheet_read}
 
 -- the name that a mark has is a Name

@@ -12,7 +12,7 @@ use Rattle.xs_lex.specs.declared.kind.Kind.{Kind}
 use Rattle.xs_lex.specs.declared.kind.Kind.TheVariants.{SlashEnd, AngleEnd, Equals}
 use Rattle.xs_gram.specs.Building.{EachOf}
 use Rattle.xs_xml.specs.Piece.{is_name}
-use Rattle.xs_writing_laws.proofs.Lists.{each_of_map}
+use Rattle.xs_pair.proofs.Lists.{each_of_map}
 use Rattle.xs_writing_laws.proofs.NameWords.{IsNamePiece, file_named}
 
 abbrev pub IsXmlName : List ℕ → Type 0

@@ -17,7 +17,7 @@ use Rattle.xs_gram.specs.Building.{EachOf, skip_part}
 use Rattle.xs_xml.specs.Tables.{is_char}
 use Rattle.xs_pair.specs.Grammars.{AreTermsOf, AreSkipsOf, IsGramOf}
 use Rattle.xs_writing_laws.specs.Laws.{AreChars}
-use Rattle.xs_writing_laws.proofs.Lists.{each_of_map, each_at}
+use Rattle.xs_pair.proofs.Lists.{each_of_map, each_at}
 use Rattle.xs_writing_laws.proofs.Characters.{chars_append, char_tested}
 use Rattle.xs_class.proofs.Truth.{both_true}
 

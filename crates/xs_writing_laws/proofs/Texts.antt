@@ -23,7 +23,7 @@ use Rattle.xs_pair.specs.Marks.{slot_names}
 use Rattle.xs_pair.specs.Units.{number_of}
 use Rattle.xs_pair.specs.Grammars.{Numbering, numbering, named_item, fixed_item, flat_item, flat_marks, rule_part, IsGramOf}
 use Rattle.xs_writing_laws.specs.Laws.{AreChars, HasChars, IsOfChars, HasCharStrings, TextsAreCharacters}
-use Rattle.xs_writing_laws.proofs.Lists.{each_at, each_get}
+use Rattle.xs_pair.proofs.Lists.{each_at, each_get}
 use Rattle.xs_writing_laws.proofs.Characters.{chars_append, chars_are_characters}
 use Rattle.xs_writing_laws.proofs.Spelling.{IsSpelt, gram_spelt}
 

@@ -1,5 +1,5 @@
 use Rattle.std.proofs.Common.{◌≡◌, drop}
-use Rattle.xs_pair.specs.Fences.{is_right}
+use Rattle.xs_gram.specs.Fences.{is_right}
 use Rattle.xs_pair.proofs.balance.is_right.Given as goal
 
 abbrev pub invariant-pairs : goal.invariant-pairs

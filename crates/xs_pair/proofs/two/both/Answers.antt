@@ -15,6 +15,3 @@ checked-requires-clause-few c = omega (arith, units_light c.args.sheet.now.units
 
 pub checked-requires-clause-small : goal.checked-requires-clause-small
 checked-requires-clause-small c = are_light c.requires.0 c.args.sheet.now c.requires.1 c.requires.2
-
-pub checked-requires-clause-regexes : goal.checked-requires-clause-regexes
-checked-requires-clause-regexes c = c.requires.2.regexes

@@ -65,3 +65,6 @@ pub each_in : {A : Type 0} (P : A → Type 0) (xs : List A) (k : ℕ) (d : A) �
 each_in P [] k d lt p = absurd (omega arith)
 each_in P (x ∷ xs) zero d lt p = p.0
 each_in P (x ∷ xs) (suc k) d lt p = each_in P xs k d (omega arith) p.1
+
+pub each_insert : {A : Type 0} (P : A → Type 0) (xs : List A) (k : ℕ) (x : A) → P x → EachOf P xs → EachOf P (insert xs k x)
+each_insert P xs k x p q = each_append P (take k xs) (x ∷ drop k xs) (each_take P xs k q) (p, each_drop P xs k q)
