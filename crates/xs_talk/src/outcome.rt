@@ -60,6 +60,8 @@ pub enum Outcome {
     NoteFault { of: u8, written: u64 },
     /// The input has more than 1,048,576 bytes.
     DocLong,
+    /// The input is no edit script: `line`, counted from 1, is the first line that spells no request.
+    ScriptBad { line: u64 },
     /// The input is no outline: `line`, counted from 1, is the first line such that the lines up to
     /// it begin none, or one more than the number of lines where the outline ends too early.
     OutlineBad { line: u64 },

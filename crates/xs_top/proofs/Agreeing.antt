@@ -14,14 +14,15 @@ use Rattle.xs_chars.specs.Text.{text_of}
 use Rattle.xs_outline.specs.Outline.{IsOutline}
 use Rattle.xs_pair.specs.Grammars.{Pair, grammar_of}
 use Rattle.xs_top.specs.declared.asking.Job.{Job}
-use Rattle.xs_top.specs.declared.asking.Job.TheVariants.{Check, Turn, Trees, Make, ToTree, FromTree, Cover}
+use Rattle.xs_top.specs.declared.asking.Job.TheVariants.{Check, Turn, Trees, Make, Session, ToTree, FromTree, Cover}
 use Rattle.xs_top.specs.Devices.{Input}
 use Rattle.xs_top.specs.Documents.{IsWordOf, IsDocument}
 use Rattle.xs_top.specs.Checks.{IsSure}
 use Rattle.xs_top.specs.Answers.{IsOutlineDocument}
 use Rattle.xs_top.specs.Ran.{IsOfLanguage, IsReadable, IsReadableOutline, IsDoable}
-use Rattle.xs_top.specs.Laws.{PairsAgree, SheetsAgree, OutlinesAgree}
+use Rattle.xs_top.specs.Laws.{PairsAgree, SheetsAgree, OutlinesAgree, ScriptsAgree}
 use Rattle.xs_top.proofs.Outlines.{outline_kept}
+use Rattle.xs_top.proofs.Playing.{played_kept}
 
 pub pairs_agree_lem : OnePairOfBytes → AlikePairsMeanTheSame → PairsAgree
 pairs_agree_lem one mean bytes p q is_p is_q = mean p q (one bytes is_p.sheet is_q.sheet p q is_p.spelled is_q.spelled is_p.pair is_q.pair)
@@ -31,6 +32,11 @@ sheets_agree_lem one mean bytes s t is_s is_t well = (mean s t (one bytes s t is
 
 pub outlines_agree_lem : OnePairOfBytes → OutlinesAgree
 outlines_agree_lem one bytes p q is_p is_q w tree is = outline_kept p q (one bytes is_p.sheet is_q.sheet p q is_p.spelled is_q.spelled is_p.pair is_q.pair) w tree is
+
+pub scripts_agree_lem : OnePairOfBytes → AlikePairsMeanTheSame → ScriptsAgree
+scripts_agree_lem one mean bytes p q is_p is_q script answer is =
+    let alike = one bytes is_p.sheet is_q.sheet p q is_p.spelled is_q.spelled is_p.pair is_q.pair in
+    played_kept p q alike (mean p q alike) script answer is
 
 -- one side of two pairs
 pub on_side : (p q : Pair) → P.MeanTheSame p q → (side : Side) → M.MeanTheSame (grammar_of p side) (grammar_of q side)
@@ -79,6 +85,7 @@ doable_kept p q same keep i Check doable = same.checked.accepted.0 doable
 doable_kept p q same keep i (Turn from to form) doable = (same.checked.accepted.0 doable.0, readable_kept p q same i from form doable.1)
 doable_kept p q same keep i (Trees max) doable = readable_kept p q same i Text AsIs doable
 doable_kept p q same keep i (Make seed lines) doable = (same.checked.accepted.0 doable.0, language_kept p q same Text AsIs (made_text seed lines) doable.1)
+doable_kept p q same keep i Session doable = (same.checked.accepted.0 doable.0, doable.1)
 doable_kept p q same keep i (ToTree from form) doable = (same.checked.accepted.0 doable.0, readable_kept p q same i from form doable.1)
 doable_kept p q same keep i (FromTree to) doable = (same.checked.accepted.0 doable.0, outline_readable p q keep i doable.1)
 doable_kept p q same keep i Cover doable = doable

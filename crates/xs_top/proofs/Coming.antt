@@ -13,7 +13,7 @@ use Rattle.xs_pair.specs.Grammars.{Pair}
 use Rattle.xs_talk.specs.declared.outcome.Outcome.{Outcome}
 use Rattle.xs_talk.specs.declared.outcome.Outcome.TheVariants.{Done, NoteFault}
 use Rattle.xs_top.specs.declared.asking.Job.{Job}
-use Rattle.xs_top.specs.declared.asking.Job.TheVariants.{Check, Turn, Trees, Make, ToTree, FromTree, Cover}
+use Rattle.xs_top.specs.declared.asking.Job.TheVariants.{Check, Turn, Trees, Make, Session, ToTree, FromTree, Cover}
 use Rattle.xs_top.specs.Asked.{Ask, shipped, by}
 use Rattle.xs_top.specs.Devices.{Run, Input}
 use Rattle.xs_top.specs.Known.{HasBytes}
@@ -72,6 +72,9 @@ undone_not_done p i (Turn from to form) (inr (sure, why)) = unanswered_not_done 
 undone_not_done p i (Trees max) why = unanswered_not_done p i Text AsIs why
 undone_not_done p i (Make seed lines) (inl unchecked) = unchecked.1
 undone_not_done p i (Make seed lines) (inr (read, sure, unread)) = unread
+undone_not_done p i Session (inl unchecked) = unchecked.1
+undone_not_done p i Session (inr (sure, inl untaken)) = untaken
+undone_not_done p i Session (inr (sure, inr (bytes, takes, none))) = none
 undone_not_done p i (ToTree from form) (inl unchecked) = unchecked.1
 undone_not_done p i (ToTree from form) (inr (sure, why)) = unanswered_not_done p i from form why
 undone_not_done p i (FromTree to) (inl unchecked) = unchecked.1

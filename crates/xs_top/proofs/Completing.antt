@@ -21,9 +21,9 @@ use Rattle.xs_check_laws.specs.Laws.{RuleWeighsOnce}
 use Rattle.xs_unique.specs.Reasons.{shown}
 use Rattle.xs_pair.specs.Grammars.{Pair, grammar_of}
 use Rattle.xs_talk.specs.declared.outcome.Outcome.{Outcome}
-use Rattle.xs_talk.specs.declared.outcome.Outcome.TheVariants.{Done, Foreign, SheetLong, SheetBad, SheetIll, Heavy, Suspect, NotUtf8, NotXml, Usage, SheetFault, ReadFault, WriteFault, NoteFault, DocLong, OutlineBad}
+use Rattle.xs_talk.specs.declared.outcome.Outcome.TheVariants.{Done, Foreign, SheetLong, SheetBad, SheetIll, Heavy, Suspect, NotUtf8, NotXml, Usage, SheetFault, ReadFault, WriteFault, NoteFault, DocLong, ScriptBad, OutlineBad}
 use Rattle.xs_top.specs.declared.asking.Job.{Job}
-use Rattle.xs_top.specs.declared.asking.Job.TheVariants.{Check, Turn, Trees, Make, ToTree, FromTree, Cover}
+use Rattle.xs_top.specs.declared.asking.Job.TheVariants.{Check, Turn, Trees, Make, Session, ToTree, FromTree, Cover}
 use Rattle.xs_top.specs.Asked.{Ask, by, asked}
 use Rattle.xs_leiden.specs.Sheet.{leiden_core}
 use Rattle.xs_leiden.specs.Made.{made_text}
@@ -35,10 +35,12 @@ use Rattle.xs_top.specs.Sheets.{IsFailed, IsPairOfBytes, IsUnpaired}
 use Rattle.xs_top.specs.Laws.{PairsAgree, SheetsAgree, OutlinesAgree}
 use Rattle.xs_top.proofs.Known.{has_only, has_short, spelled_pair}
 use Rattle.xs_top.proofs.Agreeing.{doable_kept}
+use Rattle.xs_top.proofs.Scripts.{not_bad_script}
 use Rattle.xs_top.specs.Checks.{IsUnsure}
 use Rattle.xs_top.specs.Documents.{IsWordOf}
 use Rattle.xs_top.specs.Answers.{IsOutlineDocument, IsUnread, IsNoOutline}
-use Rattle.xs_top.specs.Ran.{IsUntaken, IsUnanswered, IsUnmade, IsUndone, Took, Went, no_command, shipped_written, unpaired, undone, answered, Tells, Told, IsOfLanguage, IsReadable, IsReadableOutline, IsDoable, IsClear, IsFree, IsHonest, IsComplete}
+use Rattle.xs_top.specs.Scripts.{IsScript, IsNoScript}
+use Rattle.xs_top.specs.Ran.{IsUntaken, IsUnanswered, IsUnplayed, IsUnmade, IsUndone, Took, Went, no_command, shipped_written, unpaired, undone, answered, Tells, Told, IsOfLanguage, IsReadable, IsReadableScript, IsReadableOutline, IsDoable, IsClear, IsFree, IsHonest, IsComplete}
 
 same_ask : (a b : Ask) → Some a ≡ Some b → a ≡ b
 same_ask a b e = cc
@@ -102,6 +104,7 @@ module _ (law : OneReading) (weigh : RuleWeighsOnce) (agree : PairsAgree) (well 
   not_unsure p (WriteFault written) accepted unsure = absurd unsure
   not_unsure p (NoteFault of written) accepted unsure = absurd unsure
   not_unsure p DocLong accepted unsure = absurd unsure
+  not_unsure p (ScriptBad bad) accepted unsure = absurd unsure
   not_unsure p (OutlineBad bad) accepted unsure = absurd unsure
 
   -- a document of the language is not refused
@@ -123,7 +126,14 @@ module _ (law : OneReading) (weigh : RuleWeighsOnce) (agree : PairsAgree) (well 
   not_unread p side form bytes is (WriteFault written) unread = absurd unread
   not_unread p side form bytes is (NoteFault of written) unread = absurd unread
   not_unread p side form bytes is DocLong unread = absurd unread
+  not_unread p side form bytes is (ScriptBad bad) unread = absurd unread
   not_unread p side form bytes is (OutlineBad bad) unread = absurd unread
+
+  -- nor is a script
+  not_no_script : (bytes : List ℕ) → IsScript bytes → (o : Outcome) → IsNoScript bytes o → ⊥
+  not_no_script bytes is (NotUtf8 at) why = why.bad is.utf8
+  not_no_script bytes is (ScriptBad line) why = not_bad_script (text_of bytes AsIs) line is.requests is.spelt why.bad
+  not_no_script bytes is o why = why
 
   -- nor is an outline
   not_no_outline : (p : Pair) (bytes : List ℕ) (tree : Common) → IsOutlineDocument p bytes tree → (o : Outcome) → IsNoOutline p bytes o → ⊥
@@ -142,6 +152,12 @@ module _ (law : OneReading) (weigh : RuleWeighsOnce) (agree : PairsAgree) (well 
       let same : bytes ≡ readable.document = read_is i.left_before i.left_now readable.document bytes 1048576 readable.input takes in
       not_unread p side form readable.document readable.is o (subst (λ (b : List ℕ). IsUnread p side form b o) same unread)
 
+  not_unplayed : (i : Input) → IsReadableScript i → (o : Outcome) → IsUnplayed i o → ⊥
+  not_unplayed i readable o (inl untaken) = not_untaken i readable.document readable.input readable.limit readable.sure o untaken
+  not_unplayed i readable o (inr (bytes, takes, why)) =
+      let same : bytes ≡ readable.document = read_is i.left_before i.left_now readable.document bytes 1048576 readable.input takes in
+      not_no_script readable.document readable.is o (subst (λ (b : List ℕ). IsNoScript b o) same why)
+
   not_unmade : (p : Pair) (i : Input) → IsReadableOutline p i → (o : Outcome) → IsUnmade p i o → ⊥
   not_unmade p i readable o (inl untaken) = not_untaken i readable.document readable.input readable.limit readable.sure o untaken
   not_unmade p i readable o (inr (bytes, takes, why)) =
@@ -155,6 +171,8 @@ module _ (law : OneReading) (weigh : RuleWeighsOnce) (agree : PairsAgree) (well 
   not_undone p i (Trees max) doable o why = not_unanswered p i Text AsIs doable o why
   not_undone p i (Make seed lines) doable o (inl unchecked) = not_unsure p o doable.0 unchecked.1
   not_undone p i (Make seed lines) doable o (inr unread) = not_unread p Text AsIs (made_text seed lines) doable.1 o unread.2
+  not_undone p i Session doable o (inl unchecked) = not_unsure p o doable.0 unchecked.1
+  not_undone p i Session doable o (inr unplayed) = not_unplayed i doable.1 o unplayed.1
   not_undone p i (ToTree from form) doable o (inl unchecked) = not_unsure p o doable.0 unchecked.1
   not_undone p i (ToTree from form) doable o (inr unanswered) = not_unanswered p i from form doable.1 o unanswered.1
   not_undone p i (FromTree to) doable o (inl unchecked) = not_unsure p o doable.0 unchecked.1
@@ -197,6 +215,8 @@ module _ (law : OneReading) (weigh : RuleWeighsOnce) (agree : PairsAgree) (well 
     not_unpaired (NoteFault of written) (inr (bytes, are, bad)) = absurd bad
     not_unpaired DocLong (inl stopped) = absurd stopped
     not_unpaired DocLong (inr (bytes, are, bad)) = absurd bad
+    not_unpaired (ScriptBad bad) (inl stopped) = absurd stopped
+    not_unpaired (ScriptBad bad) (inr (bytes, are, why)) = absurd why
     not_unpaired (OutlineBad bad) (inl stopped) = absurd stopped
     not_unpaired (OutlineBad bad) (inr (bytes, are, why)) = absurd why
 
@@ -220,6 +240,7 @@ module _ (law : OneReading) (weigh : RuleWeighsOnce) (agree : PairsAgree) (well 
     took_done answer ReadFault took = absurd took
     took_done answer (NoteFault of written) took = absurd took
     took_done answer DocLong took = absurd took
+    took_done answer (ScriptBad bad) took = absurd took
     took_done answer (OutlineBad bad) took = absurd took
 
     went_done : (o : Outcome) (names : List (List ℕ)) → Went run o names → o ≡ Done

@@ -4,6 +4,8 @@ mod Writable
 mod Going
 mod Known
 mod Outlines
+mod Scripts
+mod Playing
 mod Agreeing
 mod Completing
 mod Only

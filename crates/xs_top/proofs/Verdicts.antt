@@ -16,15 +16,16 @@ use Rattle.xs_pair.specs.Grammars.{Pair}
 use Rattle.xs_wf.specs.Rules.{IsWell}
 use Rattle.xs_talk.specs.declared.outcome.Report.{Report}
 use Rattle.xs_talk.specs.declared.outcome.Outcome.{Outcome}
-use Rattle.xs_talk.specs.declared.outcome.Outcome.TheVariants.{Done, Foreign, SheetLong, SheetBad, SheetIll, Heavy, Suspect, NotUtf8, NotXml, SheetFault, ReadFault, WriteFault, NoteFault, DocLong, OutlineBad}
+use Rattle.xs_talk.specs.declared.outcome.Outcome.TheVariants.{Done, Foreign, SheetLong, SheetBad, SheetIll, Heavy, Suspect, NotUtf8, NotXml, SheetFault, ReadFault, WriteFault, NoteFault, DocLong, ScriptBad, OutlineBad}
 use Rattle.xs_top.specs.declared.asking.Job.{Job}
-use Rattle.xs_top.specs.declared.asking.Job.TheVariants.{Check, Turn, Trees, Make, ToTree, FromTree, Cover}
+use Rattle.xs_top.specs.declared.asking.Job.TheVariants.{Check, Turn, Trees, Make, Session, ToTree, FromTree, Cover}
 use Rattle.xs_top.specs.Devices.{Run, Input}
 use Rattle.xs_top.specs.Known.{HasBytes}
 use Rattle.xs_top.specs.Sheets.{IsStopped, IsBadBytes, IsPairOfBytes, IsUnpaired}
 use Rattle.xs_top.specs.Checks.{IsReported, IsUnsure, IsSure}
 use Rattle.xs_top.specs.Answers.{IsUnread, IsNoOutline}
-use Rattle.xs_top.specs.Ran.{IsUntaken, IsUnanswered, IsUnmade, IsUndone, IsAnswer, Took, Told}
+use Rattle.xs_top.specs.Scripts.{IsNoScript}
+use Rattle.xs_top.specs.Ran.{IsUntaken, IsUnanswered, IsUnplayed, IsUnmade, IsUndone, IsAnswer, Took, Told}
 use Rattle.xs_top.specs.Runs.{AsksFor, Verdict, bad, ill, heavy, suspect, accepted}
 use Rattle.xs_top.specs.Laws.{PairsAgree, SheetsAgree, IsChecked, verdict, OneVerdict, RefusesSheet, CheckDecides, CheckAccepts}
 use Rattle.xs_top.proofs.Known.{has_only, has_short}
@@ -85,6 +86,15 @@ unanswered_accepted : (p : Pair) (i : Input) (side : Side) (form : Form) (o : Ou
 unanswered_accepted p i side form o (inl untaken) = untaken_accepted i o untaken
 unanswered_accepted p i side form o (inr (bytes, takes, unread)) = unread_accepted p side form bytes o unread
 
+no_script_accepted : (bytes : List ℕ) (o : Outcome) → IsNoScript bytes o → verdict o ≡ Some accepted
+no_script_accepted bytes (NotUtf8 at) why = refl
+no_script_accepted bytes (ScriptBad line) why = refl
+no_script_accepted bytes o why = absurd why
+
+unplayed_accepted : (i : Input) (o : Outcome) → IsUnplayed i o → verdict o ≡ Some accepted
+unplayed_accepted i o (inl untaken) = untaken_accepted i o untaken
+unplayed_accepted i o (inr (bytes, takes, why)) = no_script_accepted bytes o why
+
 no_outline_accepted : (p : Pair) (bytes : List ℕ) (o : Outcome) → IsNoOutline p bytes o → verdict o ≡ Some accepted
 no_outline_accepted p bytes (NotUtf8 at) why = refl
 no_outline_accepted p bytes (OutlineBad line) why = refl
@@ -109,6 +119,8 @@ undone_means sheet p i (Turn from to form) checked is_p o v (inr (sure, why)) is
 undone_means sheet p i (Trees max) checked is_p o v why is = absurd checked
 undone_means sheet p i (Make seed lines) checked is_p o v (inl why) is = unsure_means sheet p is_p o v why.1 is
 undone_means sheet p i (Make seed lines) checked is_p o v (inr (read, sure, why)) is = sure_means sheet p is_p sure o v (unread_accepted p Text AsIs (made_text seed lines) o why) is
+undone_means sheet p i Session checked is_p o v (inl why) is = unsure_means sheet p is_p o v why.1 is
+undone_means sheet p i Session checked is_p o v (inr (sure, why)) is = sure_means sheet p is_p sure o v (unplayed_accepted i o why) is
 undone_means sheet p i (ToTree from form) checked is_p o v (inl why) is = unsure_means sheet p is_p o v why.1 is
 undone_means sheet p i (ToTree from form) checked is_p o v (inr (sure, why)) is = sure_means sheet p is_p sure o v (unanswered_accepted p i from form o why) is
 undone_means sheet p i (FromTree to) checked is_p o v (inl why) is = unsure_means sheet p is_p o v why.1 is
@@ -120,6 +132,7 @@ answer_sure p i Check answer checked has = has.1
 answer_sure p i (Turn from to form) answer checked has = has.0
 answer_sure p i (Trees max) answer checked has = absurd checked
 answer_sure p i (Make seed lines) answer checked has = has.1
+answer_sure p i Session answer checked has = has.0
 answer_sure p i (ToTree from form) answer checked has = has.0
 answer_sure p i (FromTree to) answer checked has = has.0
 answer_sure p i Cover answer checked has = absurd checked
@@ -237,6 +250,8 @@ module _ (law : OneReading) (weigh : RuleWeighsOnce) (agree : PairsAgree) (well 
   undone_not p i (Trees max) is o why refuses = accepted_not o (unanswered_accepted p i Text AsIs o why) refuses
   undone_not p i (Make seed lines) is o (inl why) refuses = not_unsure law weigh agree well p o is why.1
   undone_not p i (Make seed lines) is o (inr (read, sure, why)) refuses = accepted_not o (unread_accepted p Text AsIs (made_text seed lines) o why) refuses
+  undone_not p i Session is o (inl why) refuses = not_unsure law weigh agree well p o is why.1
+  undone_not p i Session is o (inr (sure, why)) refuses = accepted_not o (unplayed_accepted i o why) refuses
   undone_not p i (ToTree from form) is o (inl why) refuses = not_unsure law weigh agree well p o is why.1
   undone_not p i (ToTree from form) is o (inr (sure, why)) refuses = accepted_not o (unanswered_accepted p i from form o why) refuses
   undone_not p i (FromTree to) is o (inl why) refuses = not_unsure law weigh agree well p o is why.1

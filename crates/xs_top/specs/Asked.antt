@@ -4,9 +4,9 @@ use Rattle.std.specs.declared.option.Option.{Option}
 use Rattle.std.specs.Option.{option_map}
 use Rattle.xs_class.specs.declared.side.Side.TheVariants.{Text, Xml}
 use Rattle.xs_chars.specs.declared.form.Form.TheVariants.{AsIs}
-use Rattle.xs_words.specs.Command.{Sheet, leiden, Command, check, to_xml, to_text, round_text, round_xml, trees, print_sheet, make, to_tree, from_tree, cover, command_of}
+use Rattle.xs_words.specs.Command.{Sheet, leiden, Command, check, to_xml, to_text, round_text, round_xml, trees, print_sheet, make, session, to_tree, from_tree, cover, command_of}
 use Rattle.xs_top.specs.declared.asking.Job.{Job}
-use Rattle.xs_top.specs.declared.asking.Job.TheVariants.{Check, Turn, Trees, Make, ToTree, FromTree, Cover}
+use Rattle.xs_top.specs.declared.asking.Job.TheVariants.{Check, Turn, Trees, Make, Session, ToTree, FromTree, Cover}
 
 -- the shipped sheet, as it is; or a job by a sheet
 pub data Ask : Type 0 where
@@ -24,6 +24,7 @@ ask_of (round_xml sheet) = by sheet (Turn Xml Xml AsIs)
 ask_of (trees sheet max) = by sheet (Trees max)
 ask_of print_sheet = shipped
 ask_of (make seed lines) = by leiden (Make seed lines)
+ask_of (session sheet) = by sheet Session
 ask_of (to_tree sheet side form) = by sheet (ToTree side form)
 ask_of (from_tree sheet side) = by sheet (FromTree side)
 ask_of (cover sheet) = by sheet Cover

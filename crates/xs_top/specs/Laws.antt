@@ -12,11 +12,12 @@ use Rattle.xs_sheet_laws.specs.Pairs as P
 use Rattle.xs_pair.specs.Grammars.{Pair, grammar_of}
 use Rattle.xs_gram.specs.Common.{Common}
 use Rattle.xs_outline.specs.Outline.{IsOutline}
+use Rattle.xs_script.specs.Playing.{IsPlayed}
 use Rattle.xs_wf.specs.Rules.{IsWell}
 use Rattle.xs_talk.specs.declared.outcome.Outcome.{Outcome}
-use Rattle.xs_talk.specs.declared.outcome.Outcome.TheVariants.{Done, Foreign, SheetLong, SheetBad, SheetIll, Heavy, Suspect, NotUtf8, NotXml, Usage, SheetFault, ReadFault, WriteFault, NoteFault, DocLong, OutlineBad}
+use Rattle.xs_talk.specs.declared.outcome.Outcome.TheVariants.{Done, Foreign, SheetLong, SheetBad, SheetIll, Heavy, Suspect, NotUtf8, NotXml, Usage, SheetFault, ReadFault, WriteFault, NoteFault, DocLong, ScriptBad, OutlineBad}
 use Rattle.xs_top.specs.declared.asking.Job.{Job}
-use Rattle.xs_top.specs.declared.asking.Job.TheVariants.{Check, Turn, Trees, Make, ToTree, FromTree, Cover}
+use Rattle.xs_top.specs.declared.asking.Job.TheVariants.{Check, Turn, Trees, Make, Session, ToTree, FromTree, Cover}
 use Rattle.xs_top.specs.Devices.{Run}
 use Rattle.xs_top.specs.Documents.{IsDocument}
 use Rattle.xs_top.specs.Sheets.{IsPairOfBytes}
@@ -35,6 +36,10 @@ SheetsAgree = (bytes : List ℕ) (s t : Sheet) → IsSheetOf bytes s → IsSheet
 -- by two pairs of grammars of the same bytes, an outline is of the same tree
 abbrev pub OutlinesAgree : Type 0
 OutlinesAgree = (bytes : List ℕ) (p q : Pair) → IsPairOfBytes bytes p → IsPairOfBytes bytes q → (w : List ℕ) (tree : Common) → IsOutline p w tree → IsOutline q w tree
+
+-- by two pairs of grammars of the same bytes, a script is answered the same
+abbrev pub ScriptsAgree : Type 0
+ScriptsAgree = (bytes : List ℕ) (p q : Pair) → IsPairOfBytes bytes p → IsPairOfBytes bytes q → (script answer : List ℕ) → IsPlayed p script answer → IsPlayed q script answer
 
 -- What a run wrote is turned back by the same sheet where it is read whole, unless out or notes fail or memory is wanting;
 -- and then out took the first document with each ignorable in its normal spelling.
@@ -99,6 +104,7 @@ IsChecked (Trees max) = ⊥
 IsChecked Check = ⊤
 IsChecked (Turn from to form) = ⊤
 IsChecked (Make seed lines) = ⊤
+IsChecked Session = ⊤
 IsChecked (ToTree from form) = ⊤
 IsChecked (FromTree to) = ⊤
 IsChecked Cover = ⊥
@@ -114,6 +120,7 @@ verdict (Foreign viable) = Some accepted
 verdict (NotUtf8 at) = Some accepted
 verdict (NotXml at) = Some accepted
 verdict DocLong = Some accepted
+verdict (ScriptBad line) = Some accepted
 verdict (OutlineBad line) = Some accepted
 verdict ReadFault = Some accepted
 verdict (WriteFault written) = Some accepted

@@ -7,6 +7,7 @@ pub mod Known
 pub mod Checks
 pub mod Documents
 pub mod Answers
+pub mod Scripts
 pub mod Covering
 pub mod Ran
 pub mod Runs

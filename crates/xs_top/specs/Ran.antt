@@ -17,9 +17,9 @@ use Rattle.xs_words.specs.Command.{Sheet as Named}
 use Rattle.xs_pair.specs.Grammars.{Pair, grammar_of}
 use Rattle.xs_talk.specs.Lines.{line}
 use Rattle.xs_talk.specs.declared.outcome.Outcome.{Outcome}
-use Rattle.xs_talk.specs.declared.outcome.Outcome.TheVariants.{Done, Foreign, SheetLong, SheetBad, SheetIll, Heavy, Suspect, NotUtf8, NotXml, Usage, SheetFault, ReadFault, WriteFault, NoteFault, DocLong, OutlineBad}
+use Rattle.xs_talk.specs.declared.outcome.Outcome.TheVariants.{Done, Foreign, SheetLong, SheetBad, SheetIll, Heavy, Suspect, NotUtf8, NotXml, Usage, SheetFault, ReadFault, WriteFault, NoteFault, DocLong, ScriptBad, OutlineBad}
 use Rattle.xs_top.specs.declared.asking.Job.{Job}
-use Rattle.xs_top.specs.declared.asking.Job.TheVariants.{Check, Turn, Trees, Make, ToTree, FromTree, Cover}
+use Rattle.xs_top.specs.declared.asking.Job.TheVariants.{Check, Turn, Trees, Make, Session, ToTree, FromTree, Cover}
 use Rattle.xs_top.specs.Asked.{Ask, shipped, by, asked}
 use Rattle.xs_top.specs.Devices.{Input, Output, Run, ReadNothing, TookNothing}
 use Rattle.xs_top.specs.Known.{HasBytes}
@@ -28,6 +28,7 @@ use Rattle.xs_top.specs.Checks.{IsSure, IsUnsure}
 use Rattle.xs_talk.specs.Counts.{accepted_line}
 use Rattle.xs_top.specs.Documents.{IsWordOf}
 use Rattle.xs_top.specs.Answers.{IsTurnedInto, IsMade, IsListingOf, IsOutlined, IsOutlineDocument, IsMadeOfOutline, IsUnread, IsNoOutline}
+use Rattle.xs_top.specs.Scripts.{IsScript, IsScriptPlayed, IsNoScript}
 use Rattle.xs_top.specs.Covering.{IsCovered}
 
 -- the input was read to its end, and is these bytes
@@ -41,6 +42,7 @@ IsAnswer p i Check answer = ReadNothing i × IsSure p × (answer ≡ accepted_li
 IsAnswer p i (Turn from to form) answer = IsSure p × (bytes : List ℕ) × (tree : Common) × Takes i bytes × IsTurnedInto p from to form bytes tree answer
 IsAnswer p i (Trees max) answer = (bytes : List ℕ) × Takes i bytes × IsListingOf p max bytes answer
 IsAnswer p i (Make seed lines) answer = ReadNothing i × IsSure p × IsMade p seed lines answer
+IsAnswer p i Session answer = IsSure p × (bytes : List ℕ) × Takes i bytes × IsScriptPlayed p bytes answer
 IsAnswer p i (ToTree from form) answer = IsSure p × (bytes : List ℕ) × Takes i bytes × IsOutlined p from form bytes answer
 IsAnswer p i (FromTree to) answer = IsSure p × (bytes : List ℕ) × Takes i bytes × IsMadeOfOutline p to bytes answer
 IsAnswer p i Cover answer = ReadNothing i × IsCovered p answer
@@ -54,6 +56,10 @@ IsUntaken i other = ⊥
 -- why a document is not answered: it cannot be had, or was read to its end and is none of the language
 abbrev pub IsUnanswered : Pair → Input → Side → Form → Outcome → Type 0
 IsUnanswered p i side form o = IsUntaken i o ⊎ ((bytes : List ℕ) × Takes i bytes × IsUnread p side form bytes o)
+
+-- why a script is not answered: it cannot be had, or was read to its end and is none
+abbrev pub IsUnplayed : Input → Outcome → Type 0
+IsUnplayed i o = IsUntaken i o ⊎ ((bytes : List ℕ) × Takes i bytes × IsNoScript bytes o)
 
 -- why an outline is not answered: it cannot be had, or was read to its end and is none
 abbrev pub IsUnmade : Pair → Input → Outcome → Type 0
@@ -69,6 +75,7 @@ IsUndone p i Check o = IsUnchecked p i o
 IsUndone p i (Turn from to form) o = IsUnchecked p i o ⊎ (IsSure p × IsUnanswered p i from form o)
 IsUndone p i (Trees max) o = IsUnanswered p i Text AsIs o
 IsUndone p i (Make seed lines) o = IsUnchecked p i o ⊎ (ReadNothing i × IsSure p × IsUnread p Text AsIs (made_text seed lines) o)
+IsUndone p i Session o = IsUnchecked p i o ⊎ (IsSure p × IsUnplayed i o)
 IsUndone p i (ToTree from form) o = IsUnchecked p i o ⊎ (IsSure p × IsUnanswered p i from form o)
 IsUndone p i (FromTree to) o = IsUnchecked p i o ⊎ (IsSure p × IsUnmade p i o)
 IsUndone p i Cover o = ⊥
@@ -106,6 +113,7 @@ status_of ReadFault = 6
 status_of (WriteFault written) = 6
 status_of (NoteFault of written) = 6
 status_of DocLong = 7
+status_of (ScriptBad line) = 10
 status_of (OutlineBad line) = 11
 
 -- notes failed at the line of an outcome, of which it took `written` bytes
@@ -142,6 +150,14 @@ pub record IsReadable (p : Pair) (i : Input) (side : Side) (form : Form) : Type 
   pub is : IsOfLanguage p side form document
   pub sure : Rose i.faults_before i.faults_now → ⊥
 
+-- the input is known, within its limit, and an edit script, and did not fail
+pub record IsReadableScript (i : Input) : Type 0 where
+  pub document : List ℕ
+  pub input : i.left_before ≡ Some document
+  pub limit : length document ≤ 1048576
+  pub is : IsScript document
+  pub sure : Rose i.faults_before i.faults_now → ⊥
+
 -- the input is known, within its limit, and an outline, and did not fail
 pub record IsReadableOutline (p : Pair) (i : Input) : Type 0 where
   pub document : List ℕ
@@ -157,6 +173,7 @@ IsDoable p i Check = IsAccepted p.text p.xml
 IsDoable p i (Turn from to form) = IsAccepted p.text p.xml × IsReadable p i from form
 IsDoable p i (Trees max) = IsReadable p i Text AsIs
 IsDoable p i (Make seed lines) = IsAccepted p.text p.xml × IsOfLanguage p Text AsIs (made_text seed lines)
+IsDoable p i Session = IsAccepted p.text p.xml × IsReadableScript i
 IsDoable p i (ToTree from form) = IsAccepted p.text p.xml × IsReadable p i from form
 IsDoable p i (FromTree to) = IsAccepted p.text p.xml × IsReadableOutline p i
 IsDoable p i Cover = Unit {0}

@@ -11,6 +11,8 @@ use Rattle.xs_turn.specs.declared.fault.TurnFault.{TurnFault}
 use Rattle.xs_turn.specs.declared.fault.TurnFault.TheVariants as T
 use Rattle.xs_outline.specs.declared.fault.OutlineFault.{OutlineFault}
 use Rattle.xs_outline.specs.declared.fault.OutlineFault.TheVariants as L
+use Rattle.xs_script.specs.declared.fault.ScriptFault.{ScriptFault}
+use Rattle.xs_script.specs.declared.fault.ScriptFault.TheVariants as S
 use Rattle.xs_talk.specs.declared.outcome.Outcome.{Outcome}
 use Rattle.xs_talk.specs.declared.outcome.Outcome.TheVariants as O
 use Rattle.xs_top.specs.declared.stop.Stop.{Stop}
@@ -44,3 +46,7 @@ stop_of_turn T.Memory = Memory
 abbrev pub stop_of_outline : OutlineFault → Stop
 stop_of_outline (L.OutlineBad line) = Refused (O.OutlineBad line)
 stop_of_outline L.Memory = Memory
+
+abbrev pub stop_of_script : ScriptFault → Stop
+stop_of_script (S.ScriptBad line) = Refused (O.ScriptBad line)
+stop_of_script S.Memory = Memory

@@ -14,6 +14,7 @@ use crate::checked::checked;
 use crate::covered::covered;
 use crate::listed::listed;
 use crate::outlined::{made_of_outline, outlined};
+use crate::played::played;
 use crate::stop::Stop;
 use crate::turned::turned_into;
 use std::alloc::Global;
@@ -121,6 +122,18 @@ fn make<S: Source>(
     Ok(line)
 }
 
+/// The answers of the edit script that is the input, once the sheet is accepted.
+fn session<S: Source>(alloc: Global, two: &Two, input: &mut S) -> Result<Bytes, Stop>
+    requires pair { IsPair two.now }
+    requires sound { IsSoundPair two.now }
+    ensures answer { IfOk result (IsAnswer two.now (input_of S.left S.faults input.old input.new) J.Session) }
+    ensures stop { IfErr result (StopsBy (IsUndone two.now (input_of S.left S.faults input.old input.new) J.Session)) }
+{
+    checked(alloc, two)?;
+    let bytes = taken(alloc, input)?;
+    played(alloc, two, bytes.as_slice())
+}
+
 /// The outline of the tree of the input, once the sheet is accepted.
 fn to_tree<S: Source>(
     alloc: Global,
@@ -182,6 +195,7 @@ pub fn answer_of<S: Source>(
         Job::Turn { from, to, form } => turn(alloc, two, from, to, form, input),
         Job::Trees { max } => list(alloc, two, max, input),
         Job::Make { seed, lines } => make(alloc, two, seed, lines, input),
+        Job::Session => session(alloc, two, input),
         Job::ToTree { from, form } => to_tree(alloc, two, from, form, input),
         Job::FromTree { to } => from_tree(alloc, two, to, input),
         Job::Cover => show(alloc, two, input),

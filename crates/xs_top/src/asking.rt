@@ -21,6 +21,8 @@ pub enum Job {
     Trees { max: u32 },
     /// A text of `lines` lines is made of a seed and turned to XML, and a summary of it is written.
     Make { seed: u32, lines: u32 },
+    /// An edit script is read, played and answered.
+    Session,
     /// A document of one side is read, a text in this form, and the outline of its tree is written.
     ToTree { from: Side, form: Form },
     /// An outline is read, and the document of its tree on a side is written.
@@ -58,6 +60,7 @@ fn ask_of(command: Command<'_>) -> Ask<'_>
         Command::Trees { sheet, max } => (sheet, Job::Trees { max }),
         Command::PrintSheet => return Ask::Shipped,
         Command::Make { seed, lines } => (SheetName::Leiden, Job::Make { seed, lines }),
+        Command::Session { sheet } => (sheet, Job::Session),
         Command::ToTree { sheet, side, form } => (sheet, Job::ToTree { from: side, form }),
         Command::FromTree { sheet, side } => (sheet, Job::FromTree { to: side }),
         Command::Cover { sheet } => (sheet, Job::Cover),

@@ -1,15 +1,16 @@
-ghost use Rattle.xs_top.specs.Laws.{PairsAgree, SheetsAgree, OutlinesAgree, OneAnswer, TranslatesBack, RoundIsIdempotent, TranslatesAgain, RefusesExactly, OneVerdict, CheckDecides, CheckAccepts};
+ghost use Rattle.xs_top.specs.Laws.{PairsAgree, SheetsAgree, OutlinesAgree, ScriptsAgree, OneAnswer, TranslatesBack, RoundIsIdempotent, TranslatesAgain, RefusesExactly, OneVerdict, CheckDecides, CheckAccepts};
 
 use xs_check_laws::weights_are_exact;
 use xs_sheet_laws::{alike_pairs_mean_the_same, alike_sheets_mean_the_same, one_pair, one_sheet};
 use xs_xml::one_word;
 
-/// Two pairs of grammars of the same bytes mean the same, and so do two sheets; and an outline is of
-/// the same tree by either pair.
+/// Two pairs of grammars of the same bytes mean the same, and so do two sheets; an outline is of the
+/// same tree by either pair, and a script has the same answers.
 pub fn bytes_agree()
     ensures pairs { PairsAgree }
     ensures sheets { SheetsAgree }
     ensures outlines { OutlinesAgree }
+    ensures scripts { ScriptsAgree }
 {
     one_sheet();
     alike_sheets_mean_the_same();

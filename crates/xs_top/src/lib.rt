@@ -21,6 +21,7 @@ mod listed;
 mod notes;
 mod outcome;
 mod outlined;
+mod played;
 mod sheets;
 mod stop;
 mod turned;
@@ -51,11 +52,11 @@ use xs_xml::one_word;
 ///
 /// A document of one side of a sheet is read from `input` and written to `out` as a document of the
 /// other side, or of the same side, with the same tree; or the outline of its tree is written; or an
-/// outline is read, and the document of its tree is written; or the derivations of a text are
-/// listed; or the sheet is checked; or a smallest document pair is shown for each of its
-/// productions. The sheet is a file of the shelf, or the one that the program includes, which can be
-/// written too, and of which a text can be made and turned. All memory is taken before the first
-/// write.
+/// outline is read, and the document of its tree is written; or an edit script is read and played,
+/// and its answers are written; or the derivations of a text are listed; or the sheet is checked; or
+/// a smallest document pair is shown for each of its productions. The sheet is a file of the shelf,
+/// or the one that the program includes, which can be written too, and of which a text can be made
+/// and turned. All memory is taken before the first write.
 pub fn run<S: Source, H: Shelf, K: Sink, N: Sink>(
     alloc: Global,
     words: &[String],

@@ -22,6 +22,7 @@ pub fn status(outcome: &Outcome) -> u8
         | Outcome::WriteFault { .. }
         | Outcome::NoteFault { .. } => 6,
         Outcome::DocLong => 7,
+        Outcome::ScriptBad { .. } => 10,
         Outcome::OutlineBad { .. } => 11,
     }
 }

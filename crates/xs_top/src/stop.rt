@@ -2,6 +2,7 @@ use xs_chars::DecodeFault;
 use xs_class::Memory;
 use xs_form::XmlFault;
 use xs_outline::OutlineFault;
+use xs_script::ScriptFault;
 use xs_sheet::SheetFault;
 use xs_talk::Outcome;
 use xs_turn::TurnFault;
@@ -107,6 +108,20 @@ impl From<OutlineFault> for Stop {
         match fault {
             OutlineFault::OutlineBad { line } => Stop::Refused(Outcome::OutlineBad { line }),
             OutlineFault::Memory => Stop::Memory,
+        }
+    }
+}
+
+impl From<ScriptFault> for Stop {
+    ghost use Rattle.std.specs.Prelude.{◌≡◌};
+    ghost use Rattle.xs_top.specs.Stops.{stop_of_script};
+
+    ghost from_gives = { λ fault e. e ≡ stop_of_script fault };
+
+    fn from(fault: ScriptFault) -> Self {
+        match fault {
+            ScriptFault::ScriptBad { line } => Stop::Refused(Outcome::ScriptBad { line }),
+            ScriptFault::Memory => Stop::Memory,
         }
     }
 }

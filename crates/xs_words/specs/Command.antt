@@ -24,6 +24,7 @@ pub data Command : Type 0 where
   trees : Sheet → ℕ → Command
   print_sheet : Command
   make : ℕ → ℕ → Command
+  session : Sheet → Command
   to_tree : Sheet → Side → Form → Command
   from_tree : Sheet → Side → Command
   cover : Sheet → Command
@@ -37,9 +38,9 @@ form_of word = if bytes_eq word (codes "asis") then Some AsIs else (if bytes_eq 
 abbrev pub side_of : List ℕ → Option Side
 side_of word = if bytes_eq word (codes "text") then Some Text else (if bytes_eq word (codes "xml") then Some Xml else None)
 
--- check SHEET, to-xml SHEET, to-text SHEET, cover SHEET
+-- check SHEET, to-xml SHEET, to-text SHEET, session SHEET, cover SHEET
 abbrev pub command_of_two : List ℕ → List ℕ → Option Command
-command_of_two verb sheet = if bytes_eq verb (codes "check") then Some (check (sheet_of sheet)) else (if bytes_eq verb (codes "to-xml") then Some (to_xml (sheet_of sheet) AsIs) else (if bytes_eq verb (codes "to-text") then Some (to_text (sheet_of sheet)) else (if bytes_eq verb (codes "cover") then Some (cover (sheet_of sheet)) else None)))
+command_of_two verb sheet = if bytes_eq verb (codes "check") then Some (check (sheet_of sheet)) else (if bytes_eq verb (codes "to-xml") then Some (to_xml (sheet_of sheet) AsIs) else (if bytes_eq verb (codes "to-text") then Some (to_text (sheet_of sheet)) else (if bytes_eq verb (codes "session") then Some (session (sheet_of sheet)) else (if bytes_eq verb (codes "cover") then Some (cover (sheet_of sheet)) else None))))
 
 -- round SHEET text, round SHEET xml
 abbrev pub round_of : List ℕ → List ℕ → Option Command

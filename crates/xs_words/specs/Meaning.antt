@@ -3,8 +3,8 @@ use Rattle.std.specs.Prelude.{◌≤◌}
 use Rattle.xs_words.specs.declared.command.SheetName.{SheetName}
 use Rattle.xs_words.specs.declared.command.SheetName.TheVariants.{Leiden, File}
 use Rattle.xs_words.specs.declared.command.Command.{Command as Asked}
-use Rattle.xs_words.specs.declared.command.Command.TheVariants.{Check, ToXml, ToText, RoundText, RoundXml, Trees, PrintSheet, Make, ToTree, FromTree, Cover}
-use Rattle.xs_words.specs.Command.{Sheet, leiden, file, Command, check, to_xml, to_text, round_text, round_xml, trees, print_sheet, make, to_tree, from_tree, cover}
+use Rattle.xs_words.specs.declared.command.Command.TheVariants.{Check, ToXml, ToText, RoundText, RoundXml, Trees, PrintSheet, Make, Session, ToTree, FromTree, Cover}
+use Rattle.xs_words.specs.Command.{Sheet, leiden, file, Command, check, to_xml, to_text, round_text, round_xml, trees, print_sheet, make, session, to_tree, from_tree, cover}
 
 abbrev pub sheet_meant : SheetName → Sheet
 sheet_meant Leiden = leiden
@@ -19,6 +19,7 @@ meant (RoundXml sheet) = round_xml (sheet_meant sheet)
 meant (Trees sheet max) = trees (sheet_meant sheet) max
 meant PrintSheet = print_sheet
 meant (Make seed lines) = make seed lines
+meant (Session sheet) = session (sheet_meant sheet)
 meant (ToTree sheet side form) = to_tree (sheet_meant sheet) side form
 meant (FromTree sheet side) = from_tree (sheet_meant sheet) side
 meant (Cover sheet) = cover (sheet_meant sheet)

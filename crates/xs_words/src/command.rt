@@ -47,6 +47,10 @@ pub enum Command<'w> {
         seed: u32,
         lines: u32,
     },
+    /// `session SHEET`: the edit script of the input, played and answered line by line.
+    Session {
+        sheet: SheetName<'w>,
+    },
     /// `to-tree SHEET text`, `to-tree SHEET text FORM` or `to-tree SHEET xml`: the outline of the
     /// tree of the input, a text in this form, or XML as it is.
     ToTree {
