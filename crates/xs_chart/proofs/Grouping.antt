@@ -1,12 +1,12 @@
 -- Entries of waiting lists that are grouped by their nonterminals.
-use Rattle.std.proofs.Common.{◌≡◌, ℕ, zero, suc, ◌-◌, ◌<◌, ◌≤◌, Bool, true, false, cond, List, [], ◌∷◌, ◌++◌, length, map, filter, take, drop, get_or, slice_range, inl, inr, refl, sym, ◌∙◌, ap, arith}
-use Rattle.std.specs.Prelude.{nat_eq, nat_lt, nat_le, not, ◌&&◌}
-use Rattle.std.specs.List.Sorted.{ties, IsStableByKey, IsPartitionPoint}
+use Rattle.std.proofs.Common.{◌≡◌, ◌≢◌, ℕ, zero, suc, ◌-◌, ◌<◌, ◌≤◌, Bool, true, false, cond, List, [], ◌∷◌, ◌++◌, length, map, filter, take, drop, get_or, slice_range, refl, sym, ◌∙◌, ap, arith}
+use Rattle.std.specs.Prelude.{nat_eq, nat_lt, not, ◌&&◌}
+use Rattle.std.specs.List.Sorted.{ties, IsStableByKey, IsPartitionPoint, IsNonDecreasingBy}
 use Rattle.std.specs.declared.cmp.Ordering.{Ordering}
 use Rattle.std.specs.declared.cmp.Ordering.TheVariants.{Less, Equal, Greater}
 use Rattle.std.specs.Ordering.{is_lt, nat_cmp, MatchOrdering}
 use Rattle.std.specs.Cmp.{ranks}
-use Rattle.std.proofs.lemmas.Bool.{cases_lt, eq-eqb, ne_eqb, leb-true, leb-false, ltb-true, ltb-false}
+use Rattle.std.proofs.lemmas.Bool.{eq-eqb, ne_eqb, ltb-true, ltb-false}
 use Rattle.std.proofs.lemmas.List.{map-append}
 use Rattle.std.proofs.lemmas.List.Elements.{filter-append}
 use Rattle.xs_chart.specs.declared.waiting.Waiter.{Waiter}
@@ -74,27 +74,15 @@ filter_stretch p (x ∷ xs) (suc from) (suc end) le below inside above within =
 abbrev Below : List Waiter → ℕ → ℕ → Type 0
 Below waits non from = IsPartitionPoint (λ (y : Waiter). nat_lt (non_of y) non ≡ true) (λ (y : Waiter). nat_lt (non_of y) non ≡ false) waits from
 
-abbrev UpTo : List Waiter → ℕ → ℕ → Type 0
-UpTo waits non end = IsPartitionPoint (λ (y : Waiter). nat_le (non_of y) non ≡ true) (λ (y : Waiter). nat_le (non_of y) non ≡ false) waits end
-
--- the entries that are less come before those that are not more
-pub up : (waits : List Waiter) (non from end : ℕ) → from ≤ length waits → Below waits non from → UpTo waits non end → from ≤ end
-up waits non from end within first second = elim (cases_lt end from) [
-  | inr h ↦ h
-  | inl gt ↦
-      let d : Waiter = record { non = 0; number = 0 } in
-      let less = ltb-true (non_of (get_or waits end d)) non (first.0 end d (omega arith) gt) in
-      let more = leb-false (non_of (get_or waits end d)) non (second.1 end d (omega arith) (omega (arith, gt, within))) in
-      absurd (omega (arith, less, more))
-]
-
--- the entries of the nonterminal are those between
-pub stretch_of : (waits : List Waiter) (non from end : ℕ) → from ≤ length waits → end ≤ length waits → Below waits non from → UpTo waits non end → filter (λ w. nat_eq non w.non) waits ≡ slice_range waits from end
-stretch_of waits non from end low high first second = filter_stretch (λ w. nat_eq non w.non) waits from end (up waits non from end low first second)
+-- the entries of the nonterminal are those from the first that is not less up to the next of another one
+pub stretch_of : (waits : List Waiter) (non from end : ℕ) → from ≤ end → end ≤ length waits → IsNonDecreasingBy non_of waits → Below waits non from
+    → ((k : ℕ) (d : Waiter) → from ≤ k → k < end → non_of (get_or waits k d) ≡ non) → ((d : Waiter) → end < length waits → non_of (get_or waits end d) ≢ non) → filter (λ w. nat_eq non w.non) waits ≡ slice_range waits from end
+stretch_of waits non from end le within grouped first same other = filter_stretch (λ w. nat_eq non w.non) waits from end le
     (λ k d lt. let h = ltb-true (non_of (get_or waits k d)) non (first.0 k d (omega arith) lt) in ne_eqb non (non_of (get_or waits k d)) (λ e. omega (arith, h, e)))
-    (λ k d le lt.
-    let h = ltb-false (non_of (get_or waits k d)) non (first.1 k d le (omega (arith, lt, high))) in
-    let m = leb-true (non_of (get_or waits k d)) non (second.0 k d (omega arith) lt) in
-    eq-eqb non (non_of (get_or waits k d)) (omega (arith, h, m)))
-    (λ k d le lt. let m = leb-false (non_of (get_or waits k d)) non (second.1 k d le lt) in ne_eqb non (non_of (get_or waits k d)) (λ e. omega (arith, m, e)))
-    high
+    (λ k d low lt. let e = same k d low lt in eq-eqb non (non_of (get_or waits k d)) (omega (arith, e)))
+    (λ k d high lt.
+    let ne : non_of (get_or waits end d) ≢ non = other d (omega (arith, high, lt)) in
+    let least = ltb-false (non_of (get_or waits end d)) non (first.1 end d le (omega (arith, high, lt))) in
+    let more = grouped end k d high lt in
+    ne_eqb non (non_of (get_or waits k d)) (λ e. ne (omega (arith, least, more, e))))
+    within

@@ -115,6 +115,7 @@ impl Chart {
     }
 
     /// A new last set, which is empty. The waiting lists of the one before it are finished.
+    #[inline(always)]
     pub fn push_set(&mut self) -> Result<(), Memory>
         requires { length self.old.sets < set_limit }
         ensures sets { OnOk result (self.new.sets ≡ self.old.sets ++ [] ∷ []) }
@@ -248,8 +249,8 @@ impl Chart {
         }
     }
 
-    /// The nonterminal's waiting list in a set before the last one, in time logarithmic in the
-    /// entries of the set's lists.
+    /// The nonterminal's waiting list in a set before the last one, in time linear in it and
+    /// logarithmic in the entries of the set's lists.
     #[inline(always)]
     pub fn waiting(&self, set: u32, non: u32) -> Waiting
         requires { suc set < length self.now.sets }

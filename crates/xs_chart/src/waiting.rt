@@ -1,7 +1,8 @@
-ghost use Rattle.std.specs.Prelude.{◌≡◌, ◌≤◌, ◌+◌, ◌++◌, ℕ, [], ◌∷◌, map, length, slice_range, IfOk, OnOk, OnErr};
+ghost use Rattle.std.specs.Prelude.{◌≡◌, ◌≢◌, ◌<◌, ◌≤◌, ◌+◌, ◌++◌, ℕ, [], ◌∷◌, map, length, slice_index_or, slice_range, IfOk, OnOk, OnErr};
 ghost use Rattle.std.specs.List.Sorted.{IsNonDecreasingBy};
 ghost use Rattle.xs_chart.specs.Charted.{waiting_for, number_of, non_of};
 ghost use Rattle.xs_chart.specs.Kept.{KeepsWaiting};
+ghost use Rattle.xs_chart.specs.declared.waiting.Waiter.{Waiter as AnyWaiter};
 
 use crate::Item;
 use xs_class::Memory;
@@ -56,6 +57,22 @@ pub(crate) fn keep(
     }
 }
 
+/// Where the entries of a nonterminal end that stand from one on; there may be none.
+#[inline(always)]
+fn group_end(waits: &[Waiter], from: usize, non: u32) -> usize
+    requires { from ≤ length waits.now }
+    ensures from { from ≤ result }
+    ensures within { result ≤ length waits.now }
+    ensures same { (k : ℕ) (d : AnyWaiter) → from ≤ k → k < result → non_of (slice_index_or waits.now k d) ≡ non }
+    ensures other { (d : AnyWaiter) → result < length waits.now → non_of (slice_index_or waits.now result d) ≢ non }
+{
+    let mut end = from;
+    'entries: while end < waits.len() && waits[end].non == non {
+        end += 1;
+    }
+    end
+}
+
 /// Where the entries of a nonterminal begin among those that are grouped, and how many there are.
 #[inline(always)]
 pub(crate) fn find(waits: &[Waiter], non: u32) -> (usize, usize)
@@ -64,6 +81,6 @@ pub(crate) fn find(waits: &[Waiter], non: u32) -> (usize, usize)
     ensures is { waiting_for waits.now non ≡ map number_of (slice_range waits.now result.0 (result.0 + result.1)) }
 {
     let from = waits.partition_point(|waiter| waiter.non < non);
-    let end = waits.partition_point(|waiter| waiter.non <= non);
+    let end = group_end(waits, from, non);
     (from, end - from)
 }

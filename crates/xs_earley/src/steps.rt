@@ -11,6 +11,7 @@ use xs_class::Memory;
 use xs_gram::{Gram, Place};
 
 /// Adds the beginnings of these rules to the last set, with its number as their origin.
+#[inline(always)]
 pub fn predict(chart: &mut Chart, g: &Gram, at: u32, rules: &[u32]) -> Result<(), Memory>
     requires rules { (q : ℕ) → Contains rules.now q → q < length g.now.rules }
     requires last { length chart.old.sets ≡ suc at }

@@ -5,7 +5,10 @@
 ghost use Rattle.std.specs.Prelude.{◌≡◌, ◌<◌, length, IfOk};
 ghost use Rattle.xs_gram.specs.Sound.{IsSound};
 
+mod runs;
+
 use crate::sheets::{push_item, two_of};
+use runs::retraces_all;
 use std::alloc::Global;
 use std::process::Abort;
 use std::test::Fail;
@@ -73,13 +76,24 @@ fn viable_of(alloc: Global, gram: &Gram, letters: &[u8]) -> Result<Option<u64>, 
     }
 }
 
-/// The document is of the language, or as many of its symbols as this begin a word of it.
+/// Whether runs over the document retrace their charts.
+fn is_retraced(alloc: Global, gram: &Gram, letters: &[u8]) -> Result<bool, Memory>
+    requires { IsSound gram.now }
+{
+    let doc = word_of(alloc, letters)?;
+    retraces_all(alloc, gram, doc.as_slice())
+}
+
+/// The document is of the language, or as many of its symbols as this begin a word of it; runs over
+/// it retrace their charts.
 fn expect(rt: &impl Abort, alloc: Global, gram: &Gram, letters: &[u8], viable: Option<u64>)
     requires { IsSound gram.now }
 {
     assert!(rt; letters.len() < 1000);
     let found = viable_of(alloc, gram, letters);
     assert_eq!(rt; found, Ok(viable), "at {letters:?}");
+    let is_retraced = is_retraced(alloc, gram, letters);
+    assert_eq!(rt; is_retraced, Ok(true), "at {letters:?}");
 }
 
 /// The number of symbols of the longest words that are read by the definitions alone.
