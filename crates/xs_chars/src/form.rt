@@ -4,7 +4,7 @@ ghost use Rattle.xs_chars.specs.Forms.{in_form};
 ghost use Rattle.xs_chars.specs.Text.{symbol_limit, AreCharacters};
 ghost use Rattle.unicode_normalization.specs.Forms.{nfc, nfd};
 
-use crate::strings::{utf8_of, word_of};
+use crate::strings::{ascii_word, utf8_of, word_of};
 use std::alloc::Global;
 use std::str;
 use unicode_normalization::{QuickCheck, is_nfc_quick, is_nfd_quick, to_nfc, to_nfd};
@@ -49,11 +49,14 @@ fn decomposed(alloc: Global, text: &str) -> Result<Word, Memory>
     }
 }
 
-/// The text's characters in the form, however many.
+/// The text's characters in the form, however many. A text of ASCII is in each form.
 fn changed(alloc: Global, text: &str, form: Form) -> Result<Word, Memory>
     ensures form { IfOk result (λ w. w ≡ in_form form (chars text.now)) }
     ensures characters { IfOk result AreCharacters }
 {
+    if text.is_ascii() {
+        return ascii_word(alloc, text);
+    }
     match form {
         Form::AsIs => word_of(alloc, text),
         Form::Nfc => composed(alloc, text),

@@ -1,5 +1,5 @@
 // Texts as words, and words of characters as UTF-8.
-ghost use Rattle.std.specs.Prelude.{◌≡◌, ◌+◌, ◌%◌, ◌++◌, IfOk, OnOk, encode_utf8, encode_utf8_all};
+ghost use Rattle.std.specs.Prelude.{◌≡◌, ◌+◌, ◌%◌, ◌++◌, IfOk, OnOk, IsAscii, encode_utf8, encode_utf8_all};
 ghost use Rattle.std.specs.Char.{IsScalar};
 ghost use Rattle.std.specs.Str.{chars};
 ghost use Rattle.xs_chars.specs.Text.{AreCharacters};
@@ -15,6 +15,20 @@ pub fn word_of(alloc: Global, text: &str) -> Result<Word, Memory>
 {
     let mut symbols = Vec::with_capacity(alloc, symbols_room(text.as_bytes()))?;
     symbols.extend(text.chars().map(Sym::of_char))?;
+    Ok(Word::from_vec(symbols))
+}
+
+/// The word of a text of ASCII, whose bytes are its characters.
+pub fn ascii_word(alloc: Global, text: &str) -> Result<Word, Memory>
+    requires { IsAscii text.now }
+    ensures word { IfOk result (λ w. w ≡ chars text.now) }
+    ensures characters { IfOk result AreCharacters }
+{
+    let bytes = text.as_bytes();
+    let mut symbols = Vec::with_capacity(alloc, bytes.len())?;
+    'bytes: for byte in bytes {
+        symbols.push_reserved(Sym(*byte as u32));
+    }
     Ok(Word::from_vec(symbols))
 }
 

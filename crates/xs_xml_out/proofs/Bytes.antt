@@ -10,10 +10,6 @@ use Rattle.xs_xml_out.specs.Written.{symbol_kind, put, next, written}
 abbrev pub rest_bytes : List (List ℕ) → Mode → List ℕ → List ℕ
 rest_bytes names mode word = encode_utf8_all (written names mode word ++ codes "\n")
 
--- a name between two texts of ASCII
-pub framed : (front name back : List ℕ) → encode_utf8_all front ≡ front → encode_utf8_all back ≡ back → encode_utf8_all (front ++ name ++ back) ≡ front ++ encode_utf8_all name ++ back
-framed front name back f b = encodes-append (front ++ name) back ∙ rw (encodes-append front name, f, b) refl
-
 pub rest_bytes-cons : (names : List (List ℕ)) (mode : Mode) (symbol : ℕ) (word : List ℕ) → rest_bytes names mode (symbol ∷ word) ≡ encode_utf8_all (put names mode (symbol_kind symbol)) ++ rest_bytes names (next mode (symbol_kind symbol)) word
 rest_bytes-cons names mode symbol word =
     let here = put names mode (symbol_kind symbol) in

@@ -9,5 +9,6 @@ mod SymbolKinds
 mod Places
 mod ReadBack
 mod Scalars
+mod Tagged
 mod Tests
 mod Values

@@ -1,4 +1,5 @@
 pub mod Balanced
 pub mod Written
+pub mod Tags
 pub mod Spelling
 pub mod Laws

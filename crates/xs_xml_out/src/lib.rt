@@ -11,6 +11,7 @@ mod kind;
 mod law;
 mod mode;
 mod spelling;
+mod tags;
 mod write;
 
 pub use law::xml_is_read_back;

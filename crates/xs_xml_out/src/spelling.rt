@@ -1,10 +1,11 @@
 ghost use Rattle.std.specs.Prelude.{◌≡◌, [], ◌++◌, ◌<◌, length, OnOk, encode_utf8, encode_utf8_all, string_bytes};
-ghost use Rattle.xs_xml_out.specs.Written.{put, name_at, content_char, value_char};
+ghost use Rattle.xs_xml_out.specs.Written.{put, content_char, value_char};
 ghost use Rattle.xs_xml_out.specs.Spelling.{IsKnown, body_bytes};
 
 use crate::kind::SymbolKind;
 use crate::mode::Mode;
-use xs_class::{Memory, Names};
+use crate::tags::Tags;
+use xs_class::Memory;
 
 /// What is written for a character.
 #[derive(Clone, Copy)]
@@ -86,49 +87,37 @@ fn put_symbol_char(out: &mut String, mode: Mode, c: char) -> Result<(), Memory>
     Ok(())
 }
 
-/// Appends a name between two texts.
-#[inline(always)]
-fn put_name(out: &mut String, front: &str, names: &Names, k: u32, back: &str) -> Result<(), Memory>
-    requires { k < length names.now }
-    ensures { OnOk result (string_bytes out.new ≡ string_bytes out.old ++ (front.now ++ encode_utf8_all (name_at names.now k) ++ back.now)) }
-{
-    put_text(out, front)?;
-    put_text(out, names.name(k))?;
-    put_text(out, back)?;
-    Ok(())
-}
-
 /// Appends what is written for the opening of an element.
-fn put_opening(out: &mut String, names: &Names, mode: Mode, k: u32) -> Result<(), Memory>
-    requires { k < length names.now }
-    ensures { OnOk result (string_bytes out.new ≡ string_bytes out.old ++ encode_utf8_all (put names.now mode (SymbolKind.Opening k))) }
+fn put_opening(out: &mut String, tags: &Tags, mode: Mode, k: u32) -> Result<(), Memory>
+    requires { k < length tags.now }
+    ensures { OnOk result (string_bytes out.new ≡ string_bytes out.old ++ encode_utf8_all (put tags.now mode (SymbolKind.Opening k))) }
 {
     match mode {
-        Mode::Content => put_name(out, "<", names, k, ""),
-        Mode::Tag => put_name(out, "><", names, k, ""),
+        Mode::Content => put_text(out, tags.opening(k)),
+        Mode::Tag => put_text(out, tags.nested(k)),
         Mode::Value => Ok(()),
     }
 }
 
 /// Appends what is written for the beginning of an attribute.
-fn put_attribute(out: &mut String, names: &Names, mode: Mode, k: u32) -> Result<(), Memory>
-    requires { k < length names.now }
-    ensures { OnOk result (string_bytes out.new ≡ string_bytes out.old ++ encode_utf8_all (put names.now mode (SymbolKind.Attribute k))) }
+fn put_attribute(out: &mut String, tags: &Tags, mode: Mode, k: u32) -> Result<(), Memory>
+    requires { k < length tags.now }
+    ensures { OnOk result (string_bytes out.new ≡ string_bytes out.old ++ encode_utf8_all (put tags.now mode (SymbolKind.Attribute k))) }
 {
     match mode {
-        Mode::Tag => put_name(out, " ", names, k, "=\""),
+        Mode::Tag => put_text(out, tags.attribute(k)),
         Mode::Content => Ok(()),
         Mode::Value => Ok(()),
     }
 }
 
 /// Appends what is written for the closing of an element.
-fn put_closing(out: &mut String, names: &Names, mode: Mode, k: u32) -> Result<(), Memory>
-    requires { k < length names.now }
-    ensures { OnOk result (string_bytes out.new ≡ string_bytes out.old ++ encode_utf8_all (put names.now mode (SymbolKind.Closing k))) }
+fn put_closing(out: &mut String, tags: &Tags, mode: Mode, k: u32) -> Result<(), Memory>
+    requires { k < length tags.now }
+    ensures { OnOk result (string_bytes out.new ≡ string_bytes out.old ++ encode_utf8_all (put tags.now mode (SymbolKind.Closing k))) }
 {
     match mode {
-        Mode::Content => put_name(out, "</", names, k, ">"),
+        Mode::Content => put_text(out, tags.closing(k)),
         Mode::Tag => put_text(out, "/>"),
         Mode::Value => Ok(()),
     }
@@ -147,20 +136,15 @@ fn put_value_end(out: &mut String, mode: Mode) -> Result<(), Memory>
 
 /// Appends what is written for a symbol.
 #[inline(always)]
-pub fn put_symbol(
-    out: &mut String,
-    names: &Names,
-    mode: Mode,
-    kind: SymbolKind,
-) -> Result<(), Memory>
-    requires { IsKnown names.now kind }
-    ensures { OnOk result (string_bytes out.new ≡ string_bytes out.old ++ encode_utf8_all (put names.now mode kind)) }
+pub fn put_symbol(out: &mut String, tags: &Tags, mode: Mode, kind: SymbolKind) -> Result<(), Memory>
+    requires { IsKnown tags.now kind }
+    ensures { OnOk result (string_bytes out.new ≡ string_bytes out.old ++ encode_utf8_all (put tags.now mode kind)) }
 {
     match kind {
         SymbolKind::Char(code) => put_symbol_char(out, mode, char::from_u32(code).unwrap()),
-        SymbolKind::Opening(k) => put_opening(out, names, mode, k),
-        SymbolKind::Attribute(k) => put_attribute(out, names, mode, k),
-        SymbolKind::Closing(k) => put_closing(out, names, mode, k),
+        SymbolKind::Opening(k) => put_opening(out, tags, mode, k),
+        SymbolKind::Attribute(k) => put_attribute(out, tags, mode, k),
+        SymbolKind::Closing(k) => put_closing(out, tags, mode, k),
         SymbolKind::ValueEnd => put_value_end(out, mode),
         SymbolKind::Strange => Ok(()),
     }

@@ -7,18 +7,19 @@ ghost use Rattle.xs_xml_out.specs.Spelling.{AreKnown};
 use crate::kind::symbol_kind;
 use crate::mode::{Mode, after};
 use crate::spelling::{put_symbol, put_text};
+use crate::tags::Tags;
 use std::alloc::Global;
 use xs_class::{Bytes, Memory, Names, Sym, Word};
 
 /// Appends the document.
-fn put_all(names: &Names, symbols: &[Sym], out: &mut String) -> Result<(), Memory>
-    requires { AreKnown names.now symbols.now }
-    ensures { OnOk result (string_bytes out.new ≡ string_bytes out.old ++ xml_bytes names.now symbols.now) }
+fn put_all(tags: &Tags, symbols: &[Sym], out: &mut String) -> Result<(), Memory>
+    requires { AreKnown tags.now symbols.now }
+    ensures { OnOk result (string_bytes out.new ≡ string_bytes out.old ++ xml_bytes tags.now symbols.now) }
 {
     let mut mode = Mode::Content;
     'symbols: for symbol in symbols {
         let kind = symbol_kind(*symbol);
-        put_symbol(out, names, mode, kind)?;
+        put_symbol(out, tags, mode, kind)?;
         mode = after(mode, kind);
     }
     put_text(out, "\n")?;
@@ -27,7 +28,7 @@ fn put_all(names: &Names, symbols: &[Sym], out: &mut String) -> Result<(), Memor
 
 /// The document of a balanced word, as UTF-8.
 ///
-/// Takes time linear in the word and the document. Two bytes a symbol are reserved at first, and
+/// Takes time linear in the word, the names and the document. Two bytes a symbol are reserved at first, and
 /// more where the document needs more.
 pub fn write_xml(alloc: Global, names: &Names, word: &Word) -> Result<Bytes, Memory>
     requires { IsBalanced names.now word.now }
@@ -36,6 +37,7 @@ pub fn write_xml(alloc: Global, names: &Names, word: &Word) -> Result<Bytes, Mem
 {
     let symbols = word.as_slice();
     let mut out = String::with_capacity(alloc, symbols.len().saturating_mul(2))?;
-    put_all(names, symbols, &mut out)?;
+    let tags = Tags::of(alloc, names)?;
+    put_all(&tags, symbols, &mut out)?;
     Ok(Bytes::from_vec(out.into_bytes()))
 }
