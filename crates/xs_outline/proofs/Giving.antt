@@ -1,6 +1,7 @@
 -- A tree is given to the innermost node, of what the reader keeps.
 use Rattle.std.proofs.Common.{◌≡◌, false, replicate, ℕ, suc, ◌<◌, ◌≤◌, List, [], ◌∷◌, ◌++◌, length, length-append, Some, None, refl, sym, ap, ◌∙◌, subst, arith}
 use Rattle.std.specs.Prelude.{slice_get, IsSome}
+use Rattle.std.specs.declared.option.Option.{Option}
 use Rattle.std.proofs.lemmas.Option.{none-some, same_Some}
 use Rattle.xs_gram.specs.Common.{Common, made, no_kid}
 use Rattle.xs_tree.specs.Flat.{TreePart, Node, tree_at, tree_of, trees_of, kids_at}
@@ -11,58 +12,73 @@ use Rattle.xs_outline.specs.Shapes.{slot_count, is_full, empty_cells}
 use Rattle.xs_outline.specs.Machine.{Frame, frame, frame_tree, within, complete, give, settle, enter}
 use Rattle.xs_outline.specs.declared.reader.Open.{Open}
 use Rattle.xs_outline.specs.declared.reader.Reader.{Reader}
-use Rattle.xs_outline.specs.Reader.{child_at, missing, cells_of, frame_of, frames_onto, frames, state, state_at, state_within, less, IsFree, IsOpen, AreOpen, AreChildren, IsKept, IsClosed}
+use Rattle.xs_outline.specs.Reader.{child_at, missing, cells_of, frame_of, frames_onto, frames, state, state_at, state_within, less, with_child, IsFree, IsOpen, AreOpen, AreChildren, IsKept, IsClosed}
 use Rattle.xs_outline.proofs.Fitting.{missing_none}
-use Rattle.xs_outline.proofs.Keeping.{Popped, open_pop, open_push, open_wider, frames_push, put_back, closed, all_children, children_now, cells_none, tree_kept, parts_keep, stay_open, not_full_yet, last_part, Closed}
+use Rattle.xs_outline.proofs.Keeping.{Popped, open_pop, open_push, open_wider, frames_push, put_back, closed, all_children, children_now, cells_none, with_last, with_own, with_here, with_others, tree_kept, parts_keep, stay_open, not_full_yet, last_part, Closed}
 use Rattle.xs_class.proofs.Truth.{if_false}
 
 no_root : (p : Pair) (bound : ℕ) (r : Reader) → r.root ≡ None → (part : ℕ) → r.root ≡ Some part → (part < length r.parts) × (r.open.items ≡ [])
 no_root p bound r root part is = absurd (none-some part (sym root ∙ is))
 
 -- the innermost node has one child more
-module _ (p : Pair) (r s : Reader) (os : List Open) (o : Open) (slot part : ℕ) (are : r.open.items ≡ os ++ o ∷ []) (here : child_at s.children o.node slot ≡ Some part) (others : (n k : ℕ) → (n ≡ o.node → k ≡ slot → ⊥) → child_at s.children n k ≡ child_at r.children n k) (parts : s.parts ≡ r.parts) (root : r.root ≡ None) (stays : s.root ≡ r.root) (own : part < length r.parts) (free : IsFree (frames p r) slot) where
+module _ (p : Pair) (r : Reader) (os : List Open) (o : Open) (slot part : ℕ) (are : r.open.items ≡ os ++ o ∷ []) (root : r.root ≡ None) (own : part < length r.parts) (free : IsFree (frames p r) slot) where
   abbrev trees : List Common
   trees = trees_of r.parts
 
-  frames_are : frames p r ≡ frame_of p trees (child_at r.children) o ∷ frames_onto p trees (child_at r.children) [] os
-  frames_are = ap (frames_onto p trees (child_at r.children) []) are ∙ frames_push p trees (child_at r.children) [] os o
+  abbrev look : ℕ → ℕ → Option ℕ
+  look = child_at r.children
 
-  free_here : slice_get (cells_of p trees (child_at r.children) o) slot ≡ Some None
+  frames_are : frames p r ≡ frame_of p trees look o ∷ frames_onto p trees look [] os
+  frames_are = ap (frames_onto p trees look []) are ∙ frames_push p trees look [] os o
+
+  free_here : slice_get (cells_of p trees look o) slot ≡ Some None
   free_here = subst (λ fs. IsFree fs slot) frames_are free
 
-  popped : (bound : ℕ) → IsKept p bound r → Popped p trees (child_at r.children) [] 0 bound os o
-  popped bound kept = open_pop p trees (child_at r.children) [] 0 bound os o (subst (λ z. AreOpen p trees (child_at r.children) [] 0 bound z) are kept.open_)
+  popped : (bound : ℕ) → IsKept p bound r → Popped p trees look [] 0 bound os o
+  popped bound kept = open_pop p trees look [] 0 bound os o (subst (λ z. AreOpen p trees look [] 0 bound z) are kept.open_)
 
-  pub filled_kept : (bound : ℕ) → IsKept p bound r → 1 < o.missing → s.open.items ≡ os ++ less o ∷ [] → IsKept p bound s
-  filled_kept bound kept some is =
-      let back = put_back p trees r.parts (child_at r.children) (child_at s.children) os o slot part bound (length-trees r.parts) kept.children (popped bound kept) free_here own here others s.open.items some is in
-      record {
-        children = subst (λ z. AreChildren z (child_at s.children) bound) (sym parts) (children_now p trees r.parts (child_at r.children) (child_at s.children) os o slot part bound (length-trees r.parts) kept.children (popped bound kept) free_here own here others);
-        open_ = subst (λ z. AreOpen p (trees_of z) (child_at s.children) [] 0 bound s.open.items) (sym parts) back.0;
-        whole = no_root p bound s (stays ∙ root);
-      }
+  pub given_rule : (bound : ℕ) → IsKept p bound r → o.rule < length p.text.rules
+  given_rule bound kept = (popped bound kept).own.rule
 
-  pub filled_state : (bound : ℕ) → IsKept p bound r → 1 < o.missing → s.open.items ≡ os ++ less o ∷ [] → state p s ≡ give (frames p r) slot (tree_at trees part)
-  filled_state bound kept some is =
-      let back = put_back p trees r.parts (child_at r.children) (child_at s.children) os o slot part bound (length-trees r.parts) kept.children (popped bound kept) free_here own here others s.open.items some is in
-      ap (state_at (trees_of s.parts) (frames p s)) (stays ∙ root)
-      ∙ ap (λ z. state_within (frames_onto p (trees_of z) (child_at s.children) [] s.open.items)) parts
-      ∙ ap state_within back.2 ∙ sym back.1 ∙ ap (λ fs. give fs slot (tree_at trees part)) (sym frames_are)
+  -- it lacks more
+  module _ (s : Reader) (here : child_at s.children o.node slot ≡ Some part) (others : (n k : ℕ) → (n ≡ o.node → k ≡ slot → ⊥) → child_at s.children n k ≡ look n k) (parts : s.parts ≡ r.parts) (stays : s.root ≡ r.root) where
+    pub filled_kept : (bound : ℕ) → IsKept p bound r → 1 < o.missing → s.open.items ≡ os ++ less o ∷ [] → IsKept p bound s
+    filled_kept bound kept some is =
+        let back = put_back p trees r.parts look (child_at s.children) os o slot part bound (length-trees r.parts) kept.children (popped bound kept) free_here own here others s.open.items some is in
+        record {
+          children = subst (λ z. AreChildren z (child_at s.children) bound) (sym parts) (children_now p trees r.parts look (child_at s.children) os o slot part bound (length-trees r.parts) kept.children (popped bound kept) free_here own here others);
+          open_ = subst (λ z. AreOpen p (trees_of z) (child_at s.children) [] 0 bound s.open.items) (sym parts) back.0;
+          whole = no_root p bound s (stays ∙ root);
+        }
 
-  pub filled_all : (bound : ℕ) → IsKept p bound r → o.missing ≤ 1 → (k : ℕ) → k < slot_count p o.rule → IsSome (child_at s.children o.node k)
-  filled_all bound kept few k lt =
-      let at = all_children p trees r.parts (child_at r.children) (child_at s.children) os o slot part bound (length-trees r.parts) kept.children (popped bound kept) free_here own here others few k lt in
-      subst IsSome (sym at.1) refl
+    pub filled_state : (bound : ℕ) → IsKept p bound r → 1 < o.missing → s.open.items ≡ os ++ less o ∷ [] → state p s ≡ give (frames p r) slot (tree_at trees part)
+    filled_state bound kept some is =
+        let back = put_back p trees r.parts look (child_at s.children) os o slot part bound (length-trees r.parts) kept.children (popped bound kept) free_here own here others s.open.items some is in
+        ap (state_at (trees_of s.parts) (frames p s)) (stays ∙ root)
+        ∙ ap (λ z. state_within (frames_onto p (trees_of z) (child_at s.children) [] s.open.items)) parts
+        ∙ ap state_within back.2 ∙ sym back.1 ∙ ap (λ fs. give fs slot (tree_at trees part)) (sym frames_are)
 
-  pub filled_below : (bound : ℕ) → IsKept p bound r → (k n : ℕ) → child_at s.children o.node k ≡ Some n → n < length s.parts
-  filled_below bound kept k n is =
-      subst (λ z. n < length z) (sym parts) ((children_now p trees r.parts (child_at r.children) (child_at s.children) os o slot part bound (length-trees r.parts) kept.children (popped bound kept) free_here own here others).below o.node k n is)
+  -- it has all its children
+  abbrev look_last : ℕ → ℕ → Option ℕ
+  look_last = with_last look o.node slot part
 
-  pub filled_rule : (bound : ℕ) → IsKept p bound r → o.rule < length p.text.rules
-  filled_rule bound kept = (popped bound kept).own.rule
+  last_here : look_last o.node slot ≡ Some part
+  last_here = with_here look o.node slot part
 
-  -- the node is closed
-  module _ (t : Reader) (count number : ℕ) (few : o.missing ≤ 1) (all : s.open.items ≡ os) (long : count ≡ slot_count p o.rule) (c : IsClosed s t o.node o.rule count number) where
+  last_others : (n k : ℕ) → (n ≡ o.node → k ≡ slot → ⊥) → look_last n k ≡ look n k
+  last_others n k apart = with_others look o.node slot part n k apart
+
+  pub last_all : (bound : ℕ) → IsKept p bound r → o.missing ≤ 1 → (k : ℕ) → k < slot_count p o.rule → IsSome (with_child (look o.node) slot part k)
+  last_all bound kept few k lt =
+      let at = all_children p trees r.parts look look_last os o slot part bound (length-trees r.parts) kept.children (popped bound kept) free_here own last_here last_others few k lt in
+      subst IsSome (sym (sym (with_own look o.node slot part k) ∙ at.1)) refl
+
+  pub last_below : (bound : ℕ) → IsKept p bound r → (k n : ℕ) → with_child (look o.node) slot part k ≡ Some n → n < length r.parts
+  last_below bound kept k n is =
+      (children_now p trees r.parts look look_last os o slot part bound (length-trees r.parts) kept.children (popped bound kept) free_here own last_here last_others).below o.node k n (with_own look o.node slot part k ∙ is)
+
+  -- and is closed
+  module _ (s t : Reader) (count number : ℕ) (few : o.missing ≤ 1) (parts : s.parts ≡ r.parts) (children : s.children ≡ r.children) (stays : s.root ≡ r.root) (all : s.open.items ≡ os) (long : count ≡ slot_count p o.rule) (c : IsClosed s t o.node o.rule count slot part number) where
     more_is : trees_of t.parts ≡ trees ++ made o.rule (kids_at trees c.kids) ∷ []
     more_is = c.means ∙ ap (λ z. trees_of z ++ tree_of (trees_of z) (Node o.rule c.kids) ∷ []) parts
 
@@ -72,18 +88,21 @@ module _ (p : Pair) (r s : Reader) (os : List Open) (o : Open) (slot part : ℕ)
     open_is : t.open.items ≡ os
     open_is = ap (λ v. v.items) c.open_ ∙ all
 
-    closing : (bound : ℕ) (kept : IsKept p bound r) → Closed p trees r.parts (child_at r.children) (child_at s.children) os o slot part bound (length-trees r.parts) kept.children (popped bound kept) free_here own here others (trees_of t.parts) c.kids
-    closing bound kept =
-        closed p trees r.parts (child_at r.children) (child_at s.children) os o slot part bound (length-trees r.parts) kept.children (popped bound kept) free_here own here others (trees_of t.parts) c.kids few more_is (c.long ∙ long) (λ k lt. c.each k (subst (λ n. k < n) (sym long) lt))
+    each_is : (k : ℕ) → k < slot_count p o.rule → slice_get c.kids k ≡ look_last o.node k
+    each_is k lt = c.each k (subst (λ n. k < n) (sym long) lt) ∙ ap (λ m. with_child (child_at m o.node) slot part k) children ∙ sym (with_own look o.node slot part k)
 
-    look_is : child_at t.children ≡ child_at s.children
-    look_is = ap (λ m. child_at m) c.children
+    closing : (bound : ℕ) (kept : IsKept p bound r) → Closed p trees r.parts look look_last os o slot part bound (length-trees r.parts) kept.children (popped bound kept) free_here own last_here last_others (trees_of t.parts) c.kids
+    closing bound kept =
+        closed p trees r.parts look look_last os o slot part bound (length-trees r.parts) kept.children (popped bound kept) free_here own last_here last_others (trees_of t.parts) c.kids few more_is (c.long ∙ long) each_is
+
+    look_is : child_at t.children ≡ look
+    look_is = ap (λ m. child_at m) (c.children ∙ children)
 
     pub closed_part : number < length t.parts
     closed_part = let n = ap (λ (z : List TreePart). length z) c.parts in omega (arith, c.number, n, length-append s.parts (Node o.rule c.kids ∷ []))
 
-    frames_now : frames p t ≡ frames_onto p (trees_of t.parts) (child_at s.children) [] os
-    frames_now = ap (λ look. frames_onto p (trees_of t.parts) look [] t.open.items) look_is ∙ ap (frames_onto p (trees_of t.parts) (child_at s.children) []) open_is
+    frames_now : frames p t ≡ frames_onto p (trees_of t.parts) look [] os
+    frames_now = ap (λ f. frames_onto p (trees_of t.parts) f [] t.open.items) look_is ∙ ap (frames_onto p (trees_of t.parts) look []) open_is
 
     pub closed_free : (bound : ℕ) → IsKept p bound r → IsFree (frames p t) o.slot
     closed_free bound kept = subst (λ fs. IsFree fs o.slot) (sym frames_now) (closing bound kept).wanted
@@ -91,23 +110,21 @@ module _ (p : Pair) (r s : Reader) (os : List Open) (o : Open) (slot part : ℕ)
     pub closed_same : (bound : ℕ) → IsKept p bound r → give (frames p t) o.slot (tree_at (trees_of t.parts) number) ≡ give (frames p r) slot (tree_at trees part)
     closed_same bound kept =
         ap (λ fs. give fs o.slot (tree_at (trees_of t.parts) number)) frames_now
-        ∙ ap (λ n. give (frames_onto p (trees_of t.parts) (child_at s.children) [] os) o.slot (tree_at (trees_of t.parts) n)) number_is
+        ∙ ap (λ n. give (frames_onto p (trees_of t.parts) look [] os) o.slot (tree_at (trees_of t.parts) n)) number_is
         ∙ sym (closing bound kept).goes ∙ ap (λ fs. give fs slot (tree_at trees part)) (sym frames_are)
 
     pub closed_root : t.root ≡ None
     closed_root = c.root ∙ stays ∙ root
 
     pub closed_kept : (bound : ℕ) → IsKept p bound r → IsKept p bound t
-    closed_kept bound kept =
-        let now = children_now p trees r.parts (child_at r.children) (child_at s.children) os o slot part bound (length-trees r.parts) kept.children (popped bound kept) free_here own here others in
-        record {
-          children = subst (λ look. AreChildren t.parts look bound) (sym look_is) (record {
-            below = λ n k m is. let lt = now.below n k m is in let long_ = ap (λ (z : List TreePart). length z) c.parts in let same = ap (λ (z : List TreePart). length z) parts in omega (arith, lt, long_, same, length-append s.parts (Node o.rule c.kids ∷ []));
-            fresh = now.fresh;
-          });
-          open_ = subst (λ look. AreOpen p (trees_of t.parts) look [] 0 bound t.open.items) (sym look_is) (subst (λ z. AreOpen p (trees_of t.parts) (child_at s.children) [] 0 bound z) (sym open_is) (closing bound kept).open_);
-          whole = no_root p bound t closed_root;
-        }
+    closed_kept bound kept = record {
+      children = subst (λ f. AreChildren t.parts f bound) (sym look_is) (record {
+        below = λ n k m is. let lt = kept.children.below n k m is in let longer = ap (λ (z : List TreePart). length z) c.parts in let same = ap (λ (z : List TreePart). length z) parts in omega (arith, lt, longer, same, length-append s.parts (Node o.rule c.kids ∷ []));
+        fresh = kept.children.fresh;
+      });
+      open_ = subst (λ f. AreOpen p (trees_of t.parts) f [] 0 bound t.open.items) (sym look_is) (subst (λ z. AreOpen p (trees_of t.parts) look [] 0 bound z) (sym open_is) (closing bound kept).open_);
+      whole = no_root p bound t closed_root;
+    }
 
 -- no node is open: the tree is whole
 pub given_state : (p : Pair) (r s : Reader) (slot part : ℕ) → r.open.items ≡ [] → s.parts ≡ r.parts → s.root ≡ Some part → state p s ≡ give (frames p r) slot (tree_at (trees_of r.parts) part)

@@ -1,5 +1,5 @@
 -- What the reader keeps, from one line to the next.
-use Rattle.std.proofs.Common.{◌≡◌, ◌⊎◌, inl, inr, ℕ, zero, suc, ◌+◌, ◌-◌, ◌<◌, ◌≤◌, Bool, true, false, nat_eq, ◌&&◌, List, [], ◌∷◌, ◌++◌, length, set, replicate, Some, None, refl, sym, ap, ◌∙◌, subst, arith}
+use Rattle.std.proofs.Common.{◌≡◌, ◌⊎◌, inl, inr, ℕ, zero, suc, ◌+◌, ◌-◌, ◌<◌, ◌≤◌, Bool, true, false, nat_eq, ◌&&◌, ◌==◌, if◌then◌else◌, eqb-true, List, [], ◌∷◌, ◌++◌, length, set, replicate, Some, None, refl, sym, ap, ◌∙◌, subst, arith}
 use Rattle.std.specs.Prelude.{slice_get}
 use Rattle.std.specs.declared.option.Option.{Option}
 use Rattle.std.proofs.lemmas.Bool.Decides.{nat_tests}
@@ -8,10 +8,10 @@ use Rattle.xs_gram.specs.Common.{Common, made, kid, child_of}
 use Rattle.xs_tree.specs.Flat.{TreePart, tree_at, kids_at}
 use Rattle.xs_pair.specs.Grammars.{Pair}
 use Rattle.xs_outline.specs.Shapes.{slot_count, is_full, kids_in}
-use Rattle.xs_class.proofs.Truth.{if_true, if_false}
+use Rattle.xs_class.proofs.Truth.{eq_self, if_true, if_false}
 use Rattle.xs_outline.specs.Machine.{Frame, frame, frame_tree, within, give}
 use Rattle.xs_outline.specs.declared.reader.Open.{Open}
-use Rattle.xs_outline.specs.Reader.{tree_in, cells_from, missing, cells_of, frame_of, frames_onto, less, IsFree, IsOpen, AreOpen, AreChildren}
+use Rattle.xs_outline.specs.Reader.{tree_in, cells_from, missing, cells_of, frame_of, frames_onto, less, with_child, IsFree, IsOpen, AreOpen, AreChildren}
 use Rattle.xs_outline.proofs.Viable.{none_missing}
 use Rattle.xs_outline.proofs.Fitting.{missing_set}
 
@@ -185,6 +185,26 @@ kids_are trees f (x ∷ ks) s (suc n) long each =
     moved : (m j : ℕ) → suc m + j ≡ m + suc j
     moved m j = omega arith
 
+-- the children of all nodes, where a node has one more
+abbrev pub with_last : (ℕ → ℕ → Option ℕ) → ℕ → ℕ → ℕ → ℕ → ℕ → Option ℕ
+with_last look node slot part n s = if n == node then with_child (look n) slot part s else look n s
+
+pub with_own : (look : ℕ → ℕ → Option ℕ) (node slot part s : ℕ) → with_last look node slot part node s ≡ with_child (look node) slot part s
+with_own look node slot part s = if_true (node == node) (with_child (look node) slot part s) (look node s) (eq_self node)
+
+pub with_here : (look : ℕ → ℕ → Option ℕ) (node slot part : ℕ) → with_last look node slot part node slot ≡ Some part
+unfolding with_child
+with_here look node slot part = with_own look node slot part slot ∙ if_true (slot == slot) (Some part) (look node slot) (eq_self slot)
+
+pub with_others : (look : ℕ → ℕ → Option ℕ) (node slot part n s : ℕ) → (n ≡ node → s ≡ slot → ⊥) → with_last look node slot part n s ≡ look n s
+unfolding with_child
+with_others look node slot part n s apart = by (n == node) (s == slot) refl refl
+  where
+    by : (a b : Bool) → (n == node) ≡ a → (s == slot) ≡ b → (if a then (if b then Some part else look n s) else look n s) ≡ look n s
+    by false b e f = refl
+    by true false e f = refl
+    by true true e f = absurd (apart (eqb-true n node e) (eqb-true s slot f))
+
 -- a child is put at a free slot of the innermost node, and what comes of it
 module _ (p : Pair) (trees : List Common) (parts : List TreePart) (look new : ℕ → ℕ → Option ℕ) (os : List Open) (o : Open) (slot part bound : ℕ) (sized : length trees ≡ length parts) (children : AreChildren parts look bound) (popped : Popped p trees look [] 0 bound os o) (free : slice_get (cells_of p trees look o) slot ≡ Some None) (own : part < length parts) (here : new o.node slot ≡ Some part) (others : (n s : ℕ) → (n ≡ o.node → s ≡ slot → ⊥) → new n s ≡ look n s) where
   slot_below : slot < slot_count p o.rule
@@ -234,7 +254,7 @@ module _ (p : Pair) (trees : List Common) (parts : List TreePart) (look new : �
         ap (frames_onto p trees new []) is ∙ frames_push p trees new [] os (less o) ∙ ap (λ z. frame o.rule o.slot z ∷ frames_onto p trees new [] os) cells_now ∙ ap (λ z. frame o.rule o.slot cells ∷ z) stay.frames,
       )
 
-  -- it has all its children, and a part is made of them
+  -- it has all its children, and a part is made of them; those of the others stay
   pub all_children : o.missing ≤ 1 → (s : ℕ) → s < slot_count p o.rule → (k : ℕ) × (new o.node s ≡ Some k)
   all_children few s lt =
       let none : missing (cells_of p trees new o) ≡ 0 = omega (arith, missing_now, few) in
@@ -242,15 +262,15 @@ module _ (p : Pair) (trees : List Common) (parts : List TreePart) (look new : �
       (at.0, ap (new o.node) (let P : s ≡ 0 + s = omega arith in P) ∙ at.1)
 
   pub record Closed (more : List Common) (kids : List ℕ) : Type 0 where
-    pub open_ : AreOpen p more new [] 0 bound os
-    pub wanted : IsFree (frames_onto p more new [] os) o.slot
-    pub goes : give (frame_of p trees look o ∷ frames_onto p trees look [] os) slot (tree_at trees part) ≡ give (frames_onto p more new [] os) o.slot (tree_at more (length trees))
+    pub open_ : AreOpen p more look [] 0 bound os
+    pub wanted : IsFree (frames_onto p more look [] os) o.slot
+    pub goes : give (frame_of p trees look o ∷ frames_onto p trees look [] os) slot (tree_at trees part) ≡ give (frames_onto p more look [] os) o.slot (tree_at more (length trees))
 
   pub closed : (more : List Common) (kids : List ℕ) → o.missing ≤ 1 → more ≡ trees ++ made o.rule (kids_at trees kids) ∷ [] → length kids ≡ slot_count p o.rule → ((s : ℕ) → s < slot_count p o.rule → slice_get kids s ≡ new o.node s) → Closed more kids
   closed more kids few is long each =
       let same : (k : ℕ) → k < length trees → tree_at more k ≡ tree_at trees k = λ k lt. ap (λ z. tree_at z k) is ∙ parts_keep trees (made o.rule (kids_at trees kids) ∷ []) k lt in
-      let kept : (n s : ℕ) → tree_in more (new n s) ≡ tree_in trees (new n s) = λ n s. tree_kept trees more (length trees) (new n s) same (λ k e. subst (λ m. k < m) (sym sized) (children_now.below n s k e)) in
-      let stay = stay_open p trees look more new [] 0 o.node os (agree_more kept) popped.front in
+      let kept : (n s : ℕ) → tree_in more (look n s) ≡ tree_in trees (look n s) = λ n s. tree_kept trees more (length trees) (look n s) same (λ k e. subst (λ m. k < m) (sym sized) (children.below n s k e)) in
+      let stay = stay_open p trees look more look [] 0 o.node os (λ n s lt. kept n s) popped.front in
       let cells = set (cells_of p trees look o) slot (Some (tree_at trees part)) in
       let full : is_full cells ≡ true = none_missing cells (let m = ap missing cells_now in omega (arith, missing_now, m, few)) in
       let none_before : (k : ℕ) → 0 + k ≡ k = λ k. omega arith in
@@ -258,11 +278,8 @@ module _ (p : Pair) (trees : List Common) (parts : List TreePart) (look new : �
       ap (λ z. frame_tree o.rule z) (sym cells_now) ∙ ap (λ z. made o.rule z) (kids_are trees (new o.node) kids 0 (slot_count p o.rule) long (λ k lt. each k lt ∙ ap (new o.node) (sym (none_before k))))
       ∙ sym (ap (λ z. tree_at z (length trees)) is ∙ last_part trees (made o.rule (kids_at trees kids))) in
       record {
-        open_ = open_wider p more new [] 0 o.node bound os stay.open_ (let b = popped.below in omega (arith, b));
+        open_ = open_wider p more look [] 0 o.node bound os stay.open_ (let b = popped.below in omega (arith, b));
         wanted = subst (λ z. IsFree z o.slot) (sym stay.frames) popped.free;
         goes = if_true (is_full cells) (give (frames_onto p trees look [] os) o.slot (frame_tree o.rule cells)) (within (frame o.rule o.slot cells) (frames_onto p trees look [] os)) full
             ∙ ap (λ t. give (frames_onto p trees look [] os) o.slot t) tree ∙ ap (λ z. give z o.slot (tree_at more (length trees))) (sym stay.frames);
       }
-    where
-      agree_more : ((n s : ℕ) → tree_in more (new n s) ≡ tree_in trees (new n s)) → AgreeBelow o.node trees look more new
-      agree_more kept node s lt = kept node s ∙ ap (tree_in trees) (others node s (λ e f. let P : ⊥ = omega (arith, e, lt) in P))

@@ -2,14 +2,17 @@
 use Rattle.std.proofs.Common.{refl, sym, subst}
 use Rattle.xs_outline.specs.Lines.{text_lines}
 use Rattle.xs_outline.specs.Order.{shape_of}
+use Rattle.xs_outline.specs.Shapes.{lines, root_name}
 use Rattle.xs_outline.specs.Outline.{AreLinesOf}
-use Rattle.xs_outline.specs.Laws.{HasOneTree, WrittenHasTree, LeadsToTree, BeginsTree}
+use Rattle.xs_outline.specs.Laws.{HasOneTree, WrittenHasTree, WrittenIsOutline, LeadsToTree, BeginsTree}
 use Rattle.xs_outline.proofs.Machine.{one_tree, lines_pass, passed_lines}
 use Rattle.xs_outline.proofs.Viable.{may_begin, begun_may}
 use Rattle.xs_outline.proofs.Fitting.{tree_shape_fits, tree_shape_means}
 use Rattle.xs_outline.proofs.Filling.{sound_can_fill}
 use Rattle.xs_outline.proofs.Pairs.{pair_has_slot_names, pair_has_distinct_slots}
 use Rattle.xs_outline.proofs.Spelling.{same_lines}
+use Rattle.xs_outline.proofs.SlotNames.{slots_lack}
+use Rattle.xs_outline.proofs.Written.{root_lacks, shape_named, lines_spelt}
 
 pub one_tree_lem : HasOneTree
 one_tree_lem s p pair numbers w t u a b =
@@ -20,6 +23,11 @@ pub written_lem : WrittenHasTree
 written_lem s p pair t fits =
     let names = pair_has_slot_names s p pair in
     record { shape = shape_of p t; fits = tree_shape_fits p names t fits; are = refl; means = sym (tree_shape_means p names t fits) }
+
+pub outline_lem : WrittenIsOutline
+outline_lem bytes s p read pair t fits =
+    let named = shape_named p (slots_lack bytes s p read pair) 0 root_name (shape_of p t) root_lacks in
+    record { lines = lines p 0 root_name (shape_of p t); spelt = lines_spelt (lines p 0 root_name (shape_of p t)) named; tree = written_lem s p pair t fits }
 
 pub leads_lem : LeadsToTree
 leads_lem s p pair numbers ls t =

@@ -6,6 +6,11 @@ pub mod Viable
 pub mod Spelling
 pub mod Fitting
 pub mod Filling
+pub mod Decimals
+pub mod TextLines
+pub mod Quoting
+pub mod SlotNames
+pub mod Written
 pub mod LawProofs
 pub mod Pages
 pub mod Units

@@ -56,6 +56,27 @@ position_is_place test name [] same = refl
 position_is_place test name (k ∷ keys) same =
     position_next test k keys ∙ ap (λ b. cond b (Some 0) (option_map suc (position test keys))) (same k) ∙ ap (λ o. cond (bytes_eq k.items name) (Some 0) (option_map suc o)) (position_is_place test name keys same)
 
+-- the names of a list of keys
+pub name_at : (keys : List (Vec ℕ)) (k : ℕ) (own : Vec ℕ) → k < length keys → own ≡ get_or keys k own → slice_get (name_list keys) k ≡ Some own.items
+name_at [] k own lt is = absurd (omega (arith, lt))
+name_at (key ∷ keys) zero own lt is = ap (λ (v : Vec ℕ). Some v.items) (sym is)
+name_at (key ∷ keys) (suc k) own lt is = name_at keys k own (omega (arith, lt)) is
+
+pub name_below : (keys : List (Vec ℕ)) (k : ℕ) (name : List ℕ) → slice_get (name_list keys) k ≡ Some name → k < length keys
+name_below [] k name at = absurd (none-some name at)
+name_below (key ∷ keys) zero name at = omega arith
+name_below (key ∷ keys) (suc k) name at = let lt = name_below keys k name at in omega (arith, lt)
+
+-- where a key is another name too
+pub no_name_more : (keys : List (Vec ℕ)) (k : ℕ) (own : Vec ℕ) (name : List ℕ) → k < length keys → own ≡ get_or keys k own → (own.items ≡ name → ⊥) → ((j : ℕ) → j < k → slice_get (name_list keys) j ≡ Some name → ⊥) → (j : ℕ) → j < k + 1 → slice_get (name_list keys) j ≡ Some name → ⊥
+no_name_more keys k own name lt is other before j less_ at = by (nat_lt j k) refl
+  where
+    by : (b : Bool) → nat_lt j k ≡ b → ⊥
+    by true e = before j (let P : j < k = grind (arith, nat_tests) in P) at
+    by false e =
+        let same : j ≡ k = grind (arith, nat_tests) in
+        other (same_Some own.items name (sym (name_at keys k own lt is) ∙ ap (slice_get (name_list keys)) (sym same) ∙ at))
+
 first_names : (m n : List ℕ) (ms ns : List (List ℕ)) → m ∷ ms ≡ n ∷ ns → (m ≡ n) × (ms ≡ ns)
 first_names m n ms ns e = (cc, cc)
 

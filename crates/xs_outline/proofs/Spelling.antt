@@ -9,15 +9,16 @@ use Rattle.xs_lex.specs.Scan.{value_at}
 use Rattle.xs_lex.proofs.QuotedLaws.{value_read}
 use Rattle.xs_outline.specs.Lines.{Entry, production, leaf_word, Line, line, Lacks, IsNumeral, SpellsEntry, SpellsLine, AreSpelt}
 
-digit_no_space : (c : ℕ) → digit_value c < 10 → c ≢ 32
-digit_no_space c lt e = let bad : digit_value 32 < 10 = subst (λ z. digit_value z < 10) e lt in absurd (high bad)
-  where
-    high : 36 < 10 → ⊥
-    high h = omega (arith, h)
+-- a character that is no digit is not among digits
+digit_other : (c d : ℕ) → digit_value c ≡ 36 → digit_value d < 10 → d ≢ c
+digit_other c d none lt e = let bad : digit_value c < 10 = subst (λ z. digit_value z < 10) e lt in absurd (omega (arith, none, bad))
+
+pub digits_lack_other : (c : ℕ) → digit_value c ≡ 36 → (ds : List ℕ) → AllDigits 10 ds → Lacks c ds
+digits_lack_other c none [] all = tt
+digits_lack_other c none (d ∷ ds) all = (digit_other c d none all.0, digits_lack_other c none ds all.1)
 
 pub digits_lack : (ds : List ℕ) → AllDigits 10 ds → Lacks 32 ds
-digits_lack [] all = tt
-digits_lack (d ∷ ds) all = (digit_no_space d all.0, digits_lack ds all.1)
+digits_lack ds all = digits_lack_other 32 refl ds all
 
 pub first_same : (x y : ℕ) (xs ys : List ℕ) → x ∷ xs ≡ y ∷ ys → (x ≡ y) × (xs ≡ ys)
 first_same x y xs ys e = (cc, cc)

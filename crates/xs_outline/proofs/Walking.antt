@@ -1,5 +1,5 @@
 -- What a step of the walk over a flat tree writes.
-use Rattle.std.proofs.Common.{◌≡◌, ℕ, zero, suc, ◌+◌, ◌*◌, ◌-◌, ◌<◌, ◌≤◌, List, [], ◌∷◌, ◌++◌, length, drop, get_or, refl, sym, ◌∙◌, ap, subst, arith, Some, None, append_assoc, append-nil, drop-cons, true, decimal, length-append}
+use Rattle.std.proofs.Common.{◌≡◌, ℕ, zero, suc, ◌+◌, ◌*◌, ◌-◌, ◌<◌, ◌≤◌, List, [], ◌∷◌, ◌++◌, length, drop, get_or, refl, sym, ◌∙◌, ap, subst, arith, Some, None, append_assoc, append-nil, drop-cons, true, length-append}
 use Rattle.std.specs.Prelude.{slice_get}
 use Rattle.std.specs.Str.{all_scalars}
 use Rattle.std.specs.declared.option.Option.{Option}
@@ -15,7 +15,7 @@ use Rattle.xs_pair.specs.Grammars.{Pair, IsPairOf}
 use Rattle.xs_class.specs.declared.side.Side.TheVariants.{Text}
 use Rattle.xs_writing_laws.proofs.Characters.{chars_are_characters}
 use Rattle.xs_writing_laws.proofs.Spelling.{gram_spelt}
-use Rattle.xs_outline.specs.Lines.{Line, line, production, leaf_word, entry_text, line_text, lines_text}
+use Rattle.xs_outline.specs.Lines.{Line, line, production, leaf_word, number_text, entry_text, line_text, lines_text}
 use Rattle.xs_outline.specs.Shapes.{leaf, names_of, slot_count, slot_name, lines, branch_lines, root_name}
 use Rattle.xs_outline.specs.Order.{order_of, branches_at, shape_of, shapes_of, outline_of}
 use Rattle.xs_outline.proofs.Ordering.{order_below}
@@ -151,7 +151,7 @@ rest_none p f part q dot depth flat lt is le =
 -- a page with one more line is longer
 pub line_grows : (page new : List ℕ) (l : Line) → new ≡ page ++ line_text l → length page < length new
 line_grows page new l is =
-    let front = length-append (decimal l.depth) (32 ∷ (l.name ++ 32 ∷ (entry_text l.entry ++ 10 ∷ []))) in
+    let front = length-append (number_text l.depth) (32 ∷ (l.name ++ 32 ∷ (entry_text l.entry ++ 10 ∷ []))) in
     subst (λ (z : List ℕ). length page < length z) (sym is) (omega (arith, length-append page (line_text l), front))
 
 -- a leaf is written whole

@@ -1,5 +1,5 @@
 -- The lines of an outline, and how each is spelt.
-use Rattle.std.specs.Prelude.{◌≡◌, ◌≢◌, ℕ, suc, List, [], ◌∷◌, ◌++◌, length, decimal, ◌==◌, if◌then◌else◌, get_or}
+use Rattle.std.specs.Prelude.{◌≡◌, ◌≢◌, ℕ, zero, suc, ◌+◌, ◌/◌, ◌%◌, List, [], ◌∷◌, ◌++◌, length, ◌==◌, nat_lt, if◌then◌else◌, get_or}
 use Rattle.std.specs.Str.Parse.{AllDigits, digits_value}
 use Rattle.xs_lex.specs.Spelling.{IsQuoted}
 use Rattle.xs_sheet.specs.Layout.{quoted}
@@ -61,13 +61,22 @@ abbrev pub text_lines : List ℕ → List (List ℕ)
 text_lines [] = []
 text_lines (c ∷ cs) = if c == 10 then [] ∷ text_lines cs else with_first c (text_lines cs)
 
+-- the digits of a number, as far as it has that many: those of its tenth, then the last one
+abbrev pub digits_within : ℕ → ℕ → List ℕ
+digits_within zero n = []
+digits_within (suc k) n = if nat_lt n 10 then (48 + n) ∷ [] else digits_within k (n / 10) ++ (48 + n % 10) ∷ []
+
+-- how a number is written
+unfoldable pub number_text : ℕ → List ℕ
+number_text n = digits_within (suc n) n
+
 -- how an entry and a line are written, the line with its LF
 abbrev pub entry_text : Entry → List ℕ
-entry_text (production q) = decimal (suc q)
+entry_text (production q) = number_text (suc q)
 entry_text (leaf_word w) = quoted w
 
 abbrev pub line_text : Line → List ℕ
-line_text l = decimal l.depth ++ 32 ∷ (l.name ++ 32 ∷ (entry_text l.entry ++ 10 ∷ []))
+line_text l = number_text l.depth ++ 32 ∷ (l.name ++ 32 ∷ (entry_text l.entry ++ 10 ∷ []))
 
 abbrev pub lines_text : List Line → List ℕ
 lines_text [] = []

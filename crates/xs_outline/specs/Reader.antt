@@ -1,5 +1,5 @@
 -- What the reader of lines keeps, and the state that it stands for.
-use Rattle.std.specs.Prelude.{◌≡◌, ℕ, zero, suc, ◌<◌, ◌≤◌, ◌+◌, ◌-◌, List, [], ◌∷◌, ◌++◌, length, None, Some, nat_eq, ◌&&◌, slice_get}
+use Rattle.std.specs.Prelude.{◌≡◌, ℕ, zero, suc, ◌<◌, ◌≤◌, ◌+◌, ◌-◌, List, [], ◌∷◌, ◌++◌, length, None, Some, nat_eq, ◌&&◌, ◌==◌, if◌then◌else◌, slice_get}
 use Rattle.std.specs.declared.option.Option.{Option}
 use Rattle.std.specs.HashMap.{HashMap, get}
 use Rattle.xs_gram.specs.Common.{Common, Kind, of_term, of_non}
@@ -93,11 +93,15 @@ pub record IsKept (p : Pair) (bound : ℕ) (r : Reader) : Type 0 where
   pub open_ : AreOpen p (trees_of r.parts) (child_at r.children) [] 0 bound r.open.items
   pub whole : (part : ℕ) → r.root ≡ Some part → (part < length r.parts) × (r.open.items ≡ [])
 
--- a node was closed, whose children are those at its slots
-pub record IsClosed (old new : Reader) (node rule count part : ℕ) : Type 0 where
+-- the children at a node's slots, where there is one more
+unfoldable pub with_child : (ℕ → Option ℕ) → ℕ → ℕ → ℕ → Option ℕ
+with_child look slot part s = if s == slot then Some part else look s
+
+-- a node was closed, whose children are those that it had, and a last one at a slot
+pub record IsClosed (old new : Reader) (node rule count slot last part : ℕ) : Type 0 where
   pub kids : List ℕ
   pub long : length kids ≡ count
-  pub each : (s : ℕ) → s < count → slice_get kids s ≡ child_at old.children node s
+  pub each : (s : ℕ) → s < count → slice_get kids s ≡ with_child (child_at old.children node) slot last s
   pub number : part ≡ length old.parts
   pub parts : new.parts ≡ old.parts ++ Node rule kids ∷ []
   pub means : trees_of new.parts ≡ trees_of old.parts ++ tree_of (trees_of old.parts) (Node rule kids) ∷ []

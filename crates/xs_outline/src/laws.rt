@@ -1,4 +1,4 @@
-ghost use Rattle.xs_outline.specs.Laws.{HasOneTree, WrittenHasTree, LeadsToTree, BeginsTree};
+ghost use Rattle.xs_outline.specs.Laws.{HasOneTree, WrittenHasTree, WrittenIsOutline, LeadsToTree, BeginsTree};
 
 /// An outline is of one tree.
 pub fn one_tree()
@@ -8,6 +8,11 @@ pub fn one_tree()
 /// The lines that are written of a tree are lines of it.
 pub fn written_has_tree()
     ensures { WrittenHasTree }
+{}
+
+/// What is written of a tree is an outline of it, where the sheet was read.
+pub fn written_is_outline()
+    ensures { WrittenIsOutline }
 {}
 
 /// The lines of a tree are those that lead to it one by one.

@@ -27,7 +27,7 @@ mod slot_table;
 mod writer;
 
 pub use fault::OutlineFault;
-pub use laws::{begins_tree, leads_to_tree, one_tree, written_has_tree};
+pub use laws::{begins_tree, leads_to_tree, one_tree, written_has_tree, written_is_outline};
 pub use line::{cut as cut_at_space, first_line};
 pub use numeral::numeral as read_numeral;
 pub use quoted::quoted as read_quoted;

@@ -1,7 +1,8 @@
-ghost use Rattle.std.specs.Prelude.{◌≡◌, ◌++◌, true, decimal, OnOk};
+ghost use Rattle.std.specs.Prelude.{◌≡◌, ◌++◌, true, OnOk};
 ghost use Rattle.std.specs.Char.{IsScalar};
 ghost use Rattle.std.specs.Str.{all_scalars};
 ghost use Rattle.xs_sheet.specs.Layout.{quoted};
+ghost use Rattle.xs_outline.specs.Lines.{number_text};
 
 use itoa::Buffer;
 use xs_class::{Memory, Sym, Text};
@@ -9,7 +10,7 @@ use xs_sheet::push_quoted_character;
 
 /// Appends a number in decimal digits.
 pub fn push_decimal(page: &mut Text, number: u64) -> Result<(), Memory>
-    ensures { OnOk result (page.new ≡ page.old ++ decimal number) }
+    ensures { OnOk result (page.new ≡ page.old ++ number_text number) }
 {
     let mut digits = Buffer::new();
     page.push_str(digits.format(number))

@@ -5,7 +5,7 @@ ghost use Rattle.xs_outline.specs.Lines.{line, production};
 ghost use Rattle.xs_outline.specs.Machine.{EntryFits, MayCome, enter, give, next};
 ghost use Rattle.xs_outline.specs.Parsed.{entry_meant};
 ghost use Rattle.xs_outline.specs.Tables.{AreTables, kind_meant};
-ghost use Rattle.xs_outline.specs.Reader.{child_at, frames, state, less, Goes, HasRule, IsThere, IsClosed, IsFree, IsKept, IsNew, IsPlaceFor, IsStuck, NoPlaceFor};
+ghost use Rattle.xs_outline.specs.Reader.{child_at, frames, state, less, with_child, Goes, HasRule, IsThere, IsClosed, IsFree, IsKept, IsNew, IsPlaceFor, IsStuck, NoPlaceFor};
 ghost use Rattle.xs_outline.specs.declared.reader.Open.{Open as AnyOpen};
 
 use crate::children::{Children, child, put};
@@ -147,56 +147,80 @@ impl Reader {
         }
     }
 
-    /// The innermost node, which is taken out, has a child from now on; it is put back unless it was
-    /// the last child that it lacked.
-    fn fill(&mut self, top: Open, slot: usize, part: u64) -> Result<bool, Memory>
+    /// The innermost node, which is taken out, has a child from now on, and is put back: it lacks more.
+    fn fill(&mut self, top: Open, slot: usize, part: u64) -> Result<(), Memory>
+        requires { 1 < top.missing }
         ensures here { OnOk result (child_at self.new.children top.node slot ≡ Some part) }
         ensures others { OnOk result ((n s : ℕ) → (n ≡ top.node → s ≡ slot → ⊥) → child_at self.new.children n s ≡ child_at self.old.children n s) }
         ensures parts { OnOk result (self.new.parts ≡ self.old.parts) }
         ensures root { OnOk result (self.new.root ≡ self.old.root) }
-        ensures open { IfOk result (λ full. MatchBool full ((top.missing ≤ 1) × (self.new.open.items ≡ self.old.open.items))
-            ((1 < top.missing) × (self.new.open.items ≡ self.old.open.items ++ less top ∷ []))) }
+        ensures open { OnOk result (self.new.open.items ≡ self.old.open.items ++ less top ∷ []) }
     {
         put(&mut self.children, top.node, slot, part)?;
-        if top.missing <= 1 {
-            return Ok(true);
-        }
         self.open.push(Open {
             node: top.node,
             rule: top.rule,
             slot: top.slot,
             missing: top.missing - 1,
         })?;
-        Ok(false)
+        Ok(())
     }
 
-    /// The children of a node at that many slots.
-    fn kids(&self, alloc: Global, node: u64, count: usize) -> Result<Vec<u64>, Memory>
-        requires { (s : ℕ) → s < count → IsSome (child_at self.now.children node s) }
+    /// The child of a node at a slot, where the one at `last` is given.
+    #[tactic(auto, unfolding(crate::specs::Reader::with_child))]
+    fn kid(&self, node: u64, slot: usize, last: usize, part: u64) -> Option<u64>
+        ensures { result ≡ with_child (child_at self.now.children node) last part slot }
+    {
+        if slot == last {
+            Some(part)
+        } else {
+            child(&self.children, node, slot)
+        }
+    }
+
+    /// The children of a node at that many slots, where the one at `last` is given.
+    fn kids(
+        &self,
+        alloc: Global,
+        node: u64,
+        count: usize,
+        last: usize,
+        part: u64,
+    ) -> Result<Vec<u64>, Memory>
+        requires { (s : ℕ) → s < count → IsSome (with_child (child_at self.now.children node) last part s) }
         ensures length { IfOk result (λ kids. length kids.items ≡ count) }
-        ensures kids { IfOk result (λ kids. (s : ℕ) → s < count → slice_get kids.items s ≡ child_at self.now.children node s) }
+        ensures kids { IfOk result (λ kids. (s : ℕ) → s < count → slice_get kids.items s ≡ with_child (child_at self.now.children node) last part s) }
     {
         let mut kids = Vec::with_capacity(alloc, count)?;
         'slots: for slot in 0..count {
-            match child(&self.children, node, slot) {
-                Some(part) => kids.push(part)?,
+            match self.kid(node, slot, last, part) {
+                Some(kid) => kids.push(kid)?,
                 None => unreachable!(),
             }
         }
         Ok(kids)
     }
 
-    /// Closes a node that has all its children, and is taken out; the answer is its part.
-    fn close(&mut self, alloc: Global, node: u64, rule: u32, count: usize) -> Result<u64, Memory>
-        requires below { (slot part : ℕ) → child_at self.old.children node slot ≡ Some part → part < length self.old.parts }
-        requires full { (s : ℕ) → s < count → IsSome (child_at self.old.children node s) }
-        ensures { IfOk result (IsClosed self.old self.new node rule count) }
+    /// Closes a node that lacks the child at `last` alone, which is given, and is taken out; the
+    /// answer is its part.
+    fn close(
+        &mut self,
+        alloc: Global,
+        top: Open,
+        count: usize,
+        last: usize,
+        part: u64,
+    ) -> Result<u64, Memory>
+        requires below { (s kid : ℕ) → with_child (child_at self.old.children top.node) last part s ≡ Some kid → kid < length self.old.parts }
+        requires full { (s : ℕ) → s < count → IsSome (with_child (child_at self.old.children top.node) last part s) }
+        ensures { IfOk result (IsClosed self.old self.new top.node top.rule count last part) }
     {
-        let kids = self.kids(alloc, node, count)?;
-        self.parts.node(rule, &kids)
+        let kids = self.kids(alloc, top.node, count, last, part)?;
+        self.parts.node(top.rule, &kids)
     }
 
     /// Gives a tree to the innermost node, and closes the nodes that have all their children now.
+    /// The last child of a node goes straight into its part.
     fn give(
         &mut self,
         alloc: Global,
@@ -216,11 +240,12 @@ impl Reader {
         let mut part = part;
         let mut slot = slot;
         'nodes: while let Some(top) = self.open.pop() {
-            if !self.fill(top, slot, part)? {
+            if top.missing > 1 {
+                self.fill(top, slot, part)?;
                 return Ok(());
             }
             let count = tables[top.rule as usize].kinds.len();
-            part = self.close(alloc, top.node, top.rule, count)?;
+            part = self.close(alloc, top, count, slot, part)?;
             slot = top.slot;
         }
         self.root = Some(part);

@@ -122,11 +122,30 @@ pub fn tables(alloc: Global, two: &Two) -> Result<Vec<SlotTable>, Memory>
     Ok(rows)
 }
 
+/// Up to that many names are compared one by one, which costs less than to hash one.
+const FEW: usize = 4;
+
+/// The place of a name among others, each compared with it.
+fn place_among(names: &[Vec<Sym>], name: &[Sym]) -> Option<usize>
+    ensures { result ≡ place_of (name_list names.now) name.now }
+{
+    'names: for place in 0..names.len() {
+        if names[place].as_slice() == name {
+            return Some(place);
+        }
+    }
+    None
+}
+
 impl SlotTable {
     /// The slot of this name, in constant expected time.
     pub fn place(&self, name: &[Sym]) -> Option<usize>
         ensures { result ≡ place_of (name_list self.now.names.keys) name.now }
     {
-        self.names.get_index_of(name)
+        if self.names.len() <= FEW {
+            place_among(self.names.as_slice(), name)
+        } else {
+            self.names.get_index_of(name)
+        }
     }
 }

@@ -1,11 +1,11 @@
-ghost use Rattle.std.specs.Prelude.{◌≡◌, ◌<◌, ◌≤◌, ◌+◌, ◌*◌, ◌∷◌, ◌++◌, [], ℕ, suc, true, codes, decimal, length, encode_utf8_all, slice_get, None, Some, IfOk, OnOk, MatchOption};
+ghost use Rattle.std.specs.Prelude.{◌≡◌, ◌<◌, ◌≤◌, ◌+◌, ◌*◌, ◌∷◌, ◌++◌, [], ℕ, suc, true, codes, length, encode_utf8_all, slice_get, None, Some, IfOk, OnOk, MatchOption};
 ghost use Rattle.std.specs.Str.{all_scalars, chars};
 ghost use Rattle.xs_sheet.specs.declared.sheet.Sheet.{Sheet as AnySheet};
 ghost use Rattle.xs_gram.specs.Common.{Common, word, made, TreeFits};
 ghost use Rattle.xs_gram.specs.Sound.{IsBuilt};
 ghost use Rattle.xs_pair.specs.Grammars.{IsPairOf};
 ghost use Rattle.xs_tree.specs.Flat.{IsFlat, common_at, common_of, production_of, word_of};
-ghost use Rattle.xs_outline.specs.Lines.{Entry, production, leaf_word, line, line_text};
+ghost use Rattle.xs_outline.specs.Lines.{Entry, production, leaf_word, line, line_text, number_text};
 ghost use Rattle.xs_outline.specs.Order.{outline_of};
 ghost use Rattle.xs_outline.specs.Shapes.{HasSlotNames};
 ghost use Rattle.xs_outline.specs.Walk.{AreOpen, AreOrders, CanWrite, IsNode, pending, rest_text, task_at, tree_text};
@@ -35,7 +35,7 @@ struct Child<'t> {
 
 /// Appends the beginning of a line.
 fn push_head(page: &mut Text, depth: usize, name: &str) -> Result<(), Memory>
-    ensures { OnOk result (page.new ≡ page.old ++ (decimal depth ++ 32 ∷ (chars name.now ++ 32 ∷ []))) }
+    ensures { OnOk result (page.new ≡ page.old ++ (number_text depth ++ 32 ∷ (chars name.now ++ 32 ∷ []))) }
 {
     push_decimal(page, depth as u64)?;
     page.push(' ')?;
