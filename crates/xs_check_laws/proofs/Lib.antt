@@ -1,6 +1,9 @@
 pub mod Words
+pub mod Components
 pub mod Walks
 pub mod Unique
 pub mod Weights
-pub mod Components
-pub mod Fenced
+pub mod Unspread
+pub mod Fewer
+pub mod MoreFences
+pub mod MoreClear

@@ -6,7 +6,7 @@ use Rattle.xs_class.specs.declared.side.Side.TheVariants.{Text, Xml}
 use Rattle.xs_gram.specs.Grammar.{Grammar}
 use Rattle.xs_gram.specs.Suspects.{IsVertical, IsHorizontal}
 use Rattle.xs_check_laws.specs.Freedom.{HasNoVertical, HasNoHorizontal}
-use Rattle.xs_check_laws.specs.Weights.{RuleWeighs, heaviest}
+use Rattle.xs_check_laws.specs.Weights.{heaviest, RuleWeighs}
 
 -- a rule that weighs no more than it may
 abbrev pub IsLightRule : Grammar → ℕ → Type 0

@@ -3,4 +3,4 @@ pub mod Freedom
 pub mod Weights
 pub mod Acceptance
 pub mod Laws
-pub mod Fenced
+pub mod MoreFences

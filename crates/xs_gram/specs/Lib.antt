@@ -8,7 +8,6 @@ pub mod Laws
 pub mod Sound
 pub mod Loose
 pub mod Suspects
-pub mod Fenced
 pub mod Spreading
 pub mod Cuts
 pub mod Places

@@ -2,8 +2,8 @@
 use Rattle.std.proofs.Common.{ℕ, ◌≤◌, length, sym, subst, arith}
 use Rattle.xs_gram.specs.Grammar.{Grammar}
 use Rattle.xs_gram.specs.Fences.{spread}
-use Rattle.xs_check_laws.specs.Fenced.Freedom.{HasNoHorizontal}
-use Rattle.xs_check_laws.specs.Fenced.Acceptance.{ShowsHorizontal}
+use Rattle.xs_check_laws.specs.Freedom.{HasNoHorizontal}
+use Rattle.xs_check_laws.specs.Acceptance.{ShowsHorizontal}
 use Rattle.xs_light.specs.First.{HasNoneInRow, HasNoneInRows}
 use Rattle.xs_light.proofs.First.{none_before}
 use Rattle.xs_horiz.specs.declared.search.Horiz.{Horiz}

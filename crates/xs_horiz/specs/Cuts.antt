@@ -1,7 +1,7 @@
 -- Cuts of rules at which front and rest overlap.
 use Rattle.std.specs.Prelude.{◌≡◌, ℕ, List}
 use Rattle.xs_gram.specs.Grammar.{Grammar}
-use Rattle.xs_gram.specs.Fenced.Suspects.{IsHorizontal}
+use Rattle.xs_gram.specs.Suspects.{IsHorizontal}
 use Rattle.xs_light.specs.First.{HasNoneInRow}
 use Rattle.xs_horiz.specs.declared.search.Horiz.{Horiz}
 

@@ -1,10 +1,10 @@
 ghost use Rattle.std.specs.Prelude.{◌<◌, length, IfOk, IfErr, IfSome, IfNone, OnOk};
 ghost use Rattle.xs_gram.specs.Fences.{spread};
-ghost use Rattle.xs_gram.specs.Fenced.Loose.{AreComponents};
+ghost use Rattle.xs_gram.specs.Loose.{AreComponents};
 ghost use Rattle.xs_gram.specs.Sound.{IsBuilt};
-ghost use Rattle.xs_gram.specs.Fenced.Suspects.{IsHorizontal};
-ghost use Rattle.xs_check_laws.specs.Fenced.Freedom.{HasNoHorizontal};
-ghost use Rattle.xs_check_laws.specs.Fenced.Acceptance.{IsLight, ShowsHorizontal};
+ghost use Rattle.xs_gram.specs.Suspects.{IsHorizontal};
+ghost use Rattle.xs_check_laws.specs.Freedom.{HasNoHorizontal};
+ghost use Rattle.xs_check_laws.specs.Acceptance.{IsLight, ShowsHorizontal};
 ghost use Rattle.xs_light.specs.Causes.{IsCause};
 ghost use Rattle.xs_light.specs.Spaces.{IsSpace};
 ghost use Rattle.xs_horiz.specs.Cuts.{OverlapsAt, IsFirstCut, HasNoCut};

@@ -8,7 +8,7 @@ use Rattle.xs_gram.specs.Cuts.{CutsAt, CutsAreOne}
 use Rattle.xs_gram.specs.Fences.{spread}
 use Rattle.xs_gram.specs.Sound.{IsBuilt}
 use Rattle.xs_gram.proofs.Cuts.{cut_level}
-use Rattle.xs_check_laws.specs.Fenced.Acceptance.{IsLight}
+use Rattle.xs_check_laws.specs.Acceptance.{IsLight}
 use Rattle.xs_stretch.specs.declared.part.Part.{Part}
 use Rattle.xs_stretch.specs.Parts.{IsPart, part_items, AreLight}
 use Rattle.xs_light.specs.Spaces.{AcceptsLoose, AreCutNets}

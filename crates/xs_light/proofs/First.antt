@@ -1,6 +1,6 @@
 -- What stands in no row before p, and in row p in no column before q, stands nowhere before p and q.
 use Rattle.std.proofs.Common.{◌≡◌, ℕ, Option, None, Some, IfNone, refl, inl, inr, subst}
-use Rattle.xs_check_laws.specs.Fenced.Acceptance.{IsBefore}
+use Rattle.xs_check_laws.specs.Acceptance.{IsBefore}
 use Rattle.xs_light.specs.First.{HasNoneInRow, HasNoneInRows}
 
 pub none_before : (P : ℕ → ℕ → Type 0) (p q : ℕ) → HasNoneInRows P p → HasNoneInRow P p q → (r s : ℕ) → P r s → IsBefore r s p q → ⊥

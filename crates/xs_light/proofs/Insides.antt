@@ -15,8 +15,7 @@ use Rattle.xs_gram.specs.Fences.{is_left, spread, IsFence, IsPlain, IsLevel, lev
 use Rattle.xs_gram.specs.Sound.{IsBuilt}
 use Rattle.xs_gram.proofs.Fences.{is_left_of, left_not_plain, right_not_left, some_right}
 use Rattle.xs_gram.proofs.Levels.{group_opened}
-use Rattle.xs_check_laws.specs.Weights.{capped}
-use Rattle.xs_check_laws.specs.Fenced.Weights.{PartWeighs, InsidesWeigh, no_inside, inside_later, inside_here}
+use Rattle.xs_check_laws.specs.Weights.{capped, PartWeighs, InsidesWeigh, no_inside, inside_later, inside_here}
 use Rattle.xs_stretch.specs.declared.part.Part.{Part}
 use Rattle.xs_stretch.specs.Parts.{IsPart, part_items}
 use Rattle.xs_stretch_laws.proofs.Finding.{group_once}

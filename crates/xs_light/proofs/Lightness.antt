@@ -11,10 +11,9 @@ use Rattle.xs_gram.proofs.Fences.{is_left_of, sides_apart}
 use Rattle.xs_gram.proofs.Levels.{cons_parts, cons_same, fixed_one, no_group, plain_not_group, group_more, group_opened, level_append, level_once}
 use Rattle.xs_gram.proofs.Partners.{has_partner}
 use Rattle.xs_gram.proofs.Cuts.{cut_level}
-use Rattle.xs_check_laws.specs.Weights.{heaviest, capped}
-use Rattle.xs_check_laws.specs.Fenced.Weights.{PartWeighs, no_part, part_then, part_group, ItemWeighs, InsidesWeigh, no_inside, inside_later, inside_here}
-use Rattle.xs_check_laws.specs.Fenced.Acceptance.{IsLightRule, IsLight, IsHeaviness}
-use Rattle.xs_check_laws.proofs.Fenced.Weights.{part_level, part_within, part_weighs_once, rule_weighs_once}
+use Rattle.xs_check_laws.specs.Weights.{heaviest, capped, PartWeighs, no_part, part_then, part_group, ItemWeighs, InsidesWeigh, no_inside, inside_later, inside_here}
+use Rattle.xs_check_laws.specs.Acceptance.{IsLightRule, IsLight, IsHeaviness}
+use Rattle.xs_check_laws.proofs.Weights.{part_level, part_within, part_weighs_once, rule_weighs_once}
 use Rattle.xs_stretch.specs.Nets.{HasInside, IsFirstHeavy}
 use Rattle.xs_stretch.specs.Parts.{AreLight}
 

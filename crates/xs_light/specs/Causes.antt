@@ -1,6 +1,6 @@
 -- Why a grammar is not searched for suspects.
 use Rattle.xs_gram.specs.Grammar.{Grammar}
-use Rattle.xs_check_laws.specs.Fenced.Acceptance.{IsHeaviness}
+use Rattle.xs_check_laws.specs.Acceptance.{IsHeaviness}
 use Rattle.xs_light.specs.declared.fault.CheckFault.{CheckFault}
 use Rattle.xs_light.specs.declared.fault.CheckFault.TheVariants.{Heavy, Memory}
 

@@ -3,8 +3,7 @@ use Rattle.std.specs.Prelude.{◌≡◌, ℕ, zero, suc, max, ◌<◌, List}
 use Rattle.xs_gram.specs.declared.parts.GItem.{GItem}
 use Rattle.xs_gram.specs.Grammar.{Grammar}
 use Rattle.xs_gram.specs.Fences.{spread, GroupAt, IsLeftFence}
-use Rattle.xs_check_laws.specs.Weights.{capped}
-use Rattle.xs_check_laws.specs.Fenced.Weights.{PartWeighs}
+use Rattle.xs_check_laws.specs.Weights.{capped, PartWeighs}
 
 -- the number is 1 more than what these items weigh
 pub record IsInsideCount (g : Grammar) (inside : List GItem) (count : ℕ) : Type 0 where

@@ -6,8 +6,8 @@ use Rattle.xs_gram.specs.declared.parts.GItem.{GItem}
 use Rattle.xs_gram.specs.Grammar.{Grammar}
 use Rattle.xs_gram.specs.Sound.{IsBuilt}
 use Rattle.xs_gram.specs.Fences.{spread, IsCut}
-use Rattle.xs_gram.specs.Fenced.Loose.{AreComponents, IsLoose}
-use Rattle.xs_check_laws.specs.Fenced.Acceptance.{IsLight}
+use Rattle.xs_gram.specs.Loose.{AreComponents, IsLoose}
+use Rattle.xs_check_laws.specs.Acceptance.{IsLight}
 use Rattle.xs_meet.specs.Sharing.{IsSharedOf}
 use Rattle.xs_stretch.specs.Groups.{HasFewGroups}
 use Rattle.xs_stretch.specs.Nets.{IsNestOf}

@@ -1,9 +1,9 @@
 ghost use Rattle.std.specs.Prelude.{◌≡◌, ◌<◌, ◌≤◌, ℕ, length, IfOk, OnOk};
 ghost use Rattle.xs_auto.specs.Nets.{states};
 ghost use Rattle.xs_auto.specs.Nests.{group_at, IsFenced};
-ghost use Rattle.xs_gram.specs.Fenced.Loose.{AreComponents};
+ghost use Rattle.xs_gram.specs.Loose.{AreComponents};
 ghost use Rattle.xs_gram.specs.Sound.{IsBuilt};
-ghost use Rattle.xs_check_laws.specs.Fenced.Acceptance.{IsLight};
+ghost use Rattle.xs_check_laws.specs.Acceptance.{IsLight};
 ghost use Rattle.xs_meet.specs.Sharing.{IsSharedOf};
 ghost use Rattle.xs_stretch.specs.Groups.{HasFewGroups};
 ghost use Rattle.xs_stretch.specs.Nets.{IsNestOf};

@@ -1,8 +1,8 @@
 ghost use Rattle.std.specs.Prelude.{◌<◌, length, IfErr, OnOk};
 ghost use Rattle.xs_gram.specs.Fences.{spread};
 ghost use Rattle.xs_gram.specs.Sound.{IsBuilt};
-ghost use Rattle.xs_check_laws.specs.Fenced.Acceptance.{IsLight};
-ghost use Rattle.xs_check_laws.specs.Fenced.Weights.{RuleWeighs, InsidesWeigh};
+ghost use Rattle.xs_check_laws.specs.Acceptance.{IsLight};
+ghost use Rattle.xs_check_laws.specs.Weights.{RuleWeighs, InsidesWeigh};
 ghost use Rattle.xs_stretch.specs.Weighing.{AreWeights};
 ghost use Rattle.xs_light.specs.Causes.{IsCause};
 ghost use Rattle.xs_light.specs.Insides.{Counts};

@@ -10,7 +10,7 @@ use Rattle.xs_gram.specs.Grammar.{Grammar}
 use Rattle.xs_gram.specs.Laws.{IsDistinct}
 use Rattle.xs_gram.specs.Sound.{IsInRange}
 use Rattle.xs_gram.specs.Fences.{fence_symbols, spread, IsFence, IsLevel, OuterAt, IsPartner, IsLeftFence}
-use Rattle.xs_gram.specs.Fenced.Loose.{Uses, Reaches, here, onward, AreComponents}
+use Rattle.xs_gram.specs.Loose.{Uses, Reaches, here, onward, AreComponents}
 use Rattle.xs_gram.proofs.Fences.{is_left_of}
 use Rattle.xs_gram.proofs.Spreading.{spread_names}
 use Rattle.xs_gram.proofs.Levels.{level_first, group_opened, after_group, outer_at, outer_none, outer_here, outer_later, outer_then, outer_after, outer_group}

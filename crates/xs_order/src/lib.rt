@@ -10,7 +10,6 @@
 mod component;
 mod derived;
 mod fault;
-pub mod fenced;
 mod graphs;
 mod leading;
 mod leaves;

@@ -2,8 +2,8 @@
 use Rattle.std.proofs.Common.{◌≡◌, ℕ, ◌<◌, length, inl, inr, subst, sym}
 use Rattle.xs_class.specs.declared.side.Side.TheVariants.{Text, Xml}
 use Rattle.xs_gram.specs.Grammar.{Grammar}
-use Rattle.xs_check_laws.specs.Fenced.Freedom.{HasNoVertical, HasNoHorizontal}
-use Rattle.xs_check_laws.specs.Fenced.Acceptance.{IsLightRule, IsLight, HasNoSuspect, IsAccepted, IsHeaviness, IsFirstHeavy, IsFirstVertical, IsFirstHorizontal, Suspect, vertical, horizontal, Shows}
+use Rattle.xs_check_laws.specs.Freedom.{HasNoVertical, HasNoHorizontal}
+use Rattle.xs_check_laws.specs.Acceptance.{IsLightRule, IsLight, HasNoSuspect, IsAccepted, IsHeaviness, IsFirstHeavy, IsFirstVertical, IsFirstHorizontal, Suspect, vertical, horizontal, Shows}
 use Rattle.xs_sheet_laws.specs.Meanings.{HaveSameSuspects}
 
 light_rule : (g h : Grammar) → HaveSameSuspects g h → (p : ℕ) → IsLightRule g p → IsLightRule h p

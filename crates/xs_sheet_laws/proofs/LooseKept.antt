@@ -5,9 +5,8 @@ use Rattle.xs_gram.specs.declared.parts.GItem.TheVariants.{Fixed, Term, Non, Ski
 use Rattle.xs_gram.specs.declared.parts.Terminal.{Terminal}
 use Rattle.xs_gram.specs.declared.parts.Ignorable.{Ignorable}
 use Rattle.xs_gram.specs.Grammar.{Grammar}
-use Rattle.xs_gram.specs.Loose.{Spot}
-use Rattle.xs_gram.specs.Fenced.Loose.{Reaches, here, onward, AreOne, IsMember, LooseItem, loose_fixed, loose_term, loose_skip, loose_non, IsLoose, loose_none, loose_then, loose_group, Step, begins, passes, encloses, calls, ends, returns, Walk, stays, goes}
-use Rattle.xs_gram.specs.Fenced.Suspects.{IsVertical, IsHorizontal}
+use Rattle.xs_gram.specs.Loose.{Spot, Reaches, here, onward, AreOne, IsMember, LooseItem, loose_fixed, loose_term, loose_skip, loose_non, IsLoose, loose_none, loose_then, loose_group, Step, begins, passes, encloses, calls, ends, returns, Walk, stays, goes}
+use Rattle.xs_gram.specs.Suspects.{IsVertical, IsHorizontal}
 use Rattle.xs_sheet_laws.proofs.Other.{with_parts}
 use Rattle.xs_sheet_laws.proofs.Kept.{KeepsWords}
 

@@ -5,7 +5,7 @@ use Rattle.xs_gram.specs.declared.parts.GItem.{GItem}
 use Rattle.xs_gram.specs.declared.parts.Terminal.{Terminal}
 use Rattle.xs_gram.specs.declared.parts.Ignorable.{Ignorable}
 use Rattle.xs_gram.specs.Grammar.{Grammar, rule_of, term_of, skip_of}
-use Rattle.xs_check_laws.specs.Fenced.Weights.{Members, no_member, member_next, other_next, ItemWeighs, fixed_weighs, term_weighs, skip_weighs, non_weighs, ComponentWeighs, component_weighs, RulesWeigh, no_rule_yet, rule_of_member, rule_of_other, BodyWeighs, no_body, member_then, other_then, group_then, PartWeighs, no_part, part_then, part_group, InsidesWeigh, no_inside, inside_later, inside_here, RuleWeighs}
+use Rattle.xs_check_laws.specs.Weights.{Members, no_member, member_next, other_next, ItemWeighs, fixed_weighs, term_weighs, skip_weighs, non_weighs, ComponentWeighs, component_weighs, RulesWeigh, no_rule_yet, rule_of_member, rule_of_other, BodyWeighs, no_body, member_then, other_then, group_then, PartWeighs, no_part, part_then, part_group, InsidesWeigh, no_inside, inside_later, inside_here, RuleWeighs}
 use Rattle.xs_sheet_laws.proofs.Other.{with_parts}
 use Rattle.xs_sheet_laws.proofs.LooseKept.{one, one_back, member, member_back}
 

@@ -4,9 +4,9 @@ use Rattle.xs_gram.specs.Grammar.{Grammar}
 use Rattle.xs_gram.specs.Derivations.{Derivation, Fits, normal}
 use Rattle.xs_gram.specs.Common.{Common, TreeFits, strip, print}
 use Rattle.xs_gram.specs.Languages.{Derives, InLang, HasTree, IsUnique, IsViable}
-use Rattle.xs_gram.specs.Fenced.Suspects.{IsVertical, IsHorizontal}
-use Rattle.xs_check_laws.specs.Fenced.Weights.{RuleWeighs}
-use Rattle.xs_check_laws.specs.Fenced.Acceptance.{IsAccepted, IsFirstHeavy, Suspect, Shows}
+use Rattle.xs_gram.specs.Suspects.{IsVertical, IsHorizontal}
+use Rattle.xs_check_laws.specs.Weights.{RuleWeighs}
+use Rattle.xs_check_laws.specs.Acceptance.{IsAccepted, IsFirstHeavy, Suspect, Shows}
 use Rattle.xs_sheet_laws.specs.Grammars.{AreAlike}
 
 -- the same derivations, of each nonterminal and of each word

@@ -11,9 +11,8 @@ use Rattle.xs_gram.specs.Grammar.{Grammar}
 use Rattle.xs_gram.specs.Laws.{IsDistinct}
 use Rattle.xs_gram.specs.Fences.{fence_symbols}
 use Rattle.xs_gram.specs.Sound.{IsBuilt}
-use Rattle.xs_check_laws.specs.Weights.{cap, capped, heaviest}
-use Rattle.xs_check_laws.specs.Fenced.Weights.{PartWeighs}
-use Rattle.xs_check_laws.proofs.Fenced.Weights.{part_weighs_once}
+use Rattle.xs_check_laws.specs.Weights.{cap, capped, heaviest, PartWeighs}
+use Rattle.xs_check_laws.proofs.Weights.{part_weighs_once}
 use Rattle.xs_stretch.specs.declared.part.Part.{Part}
 use Rattle.xs_stretch.specs.declared.site.Spot.{Spot}
 use Rattle.xs_stretch.specs.declared.site.Task.{Task}

@@ -6,10 +6,10 @@ use Rattle.xs_gram.specs.Grammar.{Grammar, term_of, skip_of}
 use Rattle.xs_gram.specs.Building.{NamesAreThere}
 use Rattle.xs_gram.specs.Laws.{IsDistinct}
 use Rattle.xs_gram.specs.Fences.{fence_symbols, IsFence, IsPlain, IsLevel, grouped}
-use Rattle.xs_gram.specs.Fenced.Loose.{AreOne, IsMember}
+use Rattle.xs_gram.specs.Loose.{AreOne, IsMember}
 use Rattle.xs_gram.specs.Sound.{IsBuilt}
 use Rattle.xs_gram.proofs.Levels.{cons_parts, no_group, plain_not_group}
-use Rattle.xs_check_laws.specs.Fenced.Weights.{Members}
+use Rattle.xs_check_laws.specs.Weights.{Members}
 use Rattle.xs_stretch.specs.declared.site.Home.{Home}
 use Rattle.xs_stretch.specs.declared.site.Spot.{Spot}
 use Rattle.xs_stretch.specs.Arcs.{Arc, pass, call}

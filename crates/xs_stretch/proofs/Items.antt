@@ -7,10 +7,10 @@ use Rattle.xs_regex.specs.declared.position.Position.{Position}
 use Rattle.xs_gram.specs.Grammar.{Grammar, rule_of, term_of, skip_of}
 use Rattle.xs_gram.specs.Building.{NamesAreThere}
 use Rattle.xs_gram.specs.Fences.{spread, OuterAt}
-use Rattle.xs_gram.specs.Fenced.Loose.{Uses, AreOne, IsMember, AreComponents}
+use Rattle.xs_gram.specs.Loose.{Uses, AreOne, IsMember, AreComponents}
 use Rattle.xs_gram.specs.Sound.{IsInRange, IsBuilt}
 use Rattle.xs_gram.proofs.Spreading.{spread_names}
-use Rattle.xs_check_laws.specs.Fenced.Weights.{ItemWeighs, fixed_weighs, term_weighs, skip_weighs, non_weighs}
+use Rattle.xs_check_laws.specs.Weights.{ItemWeighs, fixed_weighs, term_weighs, skip_weighs, non_weighs}
 use Rattle.xs_stretch.specs.Components.{IsNonOf, IsRuleIn}
 use Rattle.xs_stretch.specs.Weighing.{AreWeights, AreWeightsBefore, HasWeight, IsUnder, IsOneOf}
 

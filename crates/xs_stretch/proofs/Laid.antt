@@ -9,11 +9,10 @@ use Rattle.xs_gram.specs.declared.parts.GItem.TheVariants.{Fixed, Term, Non, Ski
 use Rattle.xs_gram.specs.Grammar.{Grammar, rule_of, term_of, skip_of}
 use Rattle.xs_gram.specs.Building.{NamesAreThere}
 use Rattle.xs_gram.specs.Fences.{spread, grouped}
-use Rattle.xs_gram.specs.Fenced.Loose.{here, AreOne, IsMember}
+use Rattle.xs_gram.specs.Loose.{here, AreOne, IsMember}
 use Rattle.xs_gram.specs.Sound.{IsInRange, IsBuilt}
 use Rattle.xs_gram.proofs.Spreading.{spread_names}
-use Rattle.xs_check_laws.specs.Weights.{cap}
-use Rattle.xs_check_laws.specs.Fenced.Weights.{Members, no_member, member_next, other_next, ItemWeighs, fixed_weighs, term_weighs, skip_weighs, non_weighs, ComponentWeighs, component_weighs, RulesWeigh, no_rule_yet, rule_of_member, rule_of_other, BodyWeighs, no_body, member_then, other_then, group_then, PartWeighs, no_part, part_then as weighs_then, part_group as weighs_group}
+use Rattle.xs_check_laws.specs.Weights.{cap, Members, no_member, member_next, other_next, ItemWeighs, fixed_weighs, term_weighs, skip_weighs, non_weighs, ComponentWeighs, component_weighs, RulesWeigh, no_rule_yet, rule_of_member, rule_of_other, BodyWeighs, no_body, member_then, other_then, group_then, PartWeighs, no_part, part_then as weighs_then, part_group as weighs_group}
 use Rattle.xs_stretch.specs.Arcs.{Arc, pass, call, word_arcs, after_word, automaton_arcs, after_automaton}
 use Rattle.xs_stretch.specs.Groups.{group_number}
 use Rattle.xs_stretch.specs.Parts.{IsStretch}

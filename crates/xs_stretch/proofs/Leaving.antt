@@ -3,11 +3,10 @@ use Rattle.std.proofs.Common.{◌≡◌, ℕ, suc, ◌+◌, ◌<◌, ◌≤◌, 
 use Rattle.xs_auto.specs.Nets.{Graph, states}
 use Rattle.xs_gram.specs.declared.parts.GItem.TheVariants.{Non}
 use Rattle.xs_gram.specs.Grammar.{Grammar}
-use Rattle.xs_gram.specs.Fenced.Loose.{here}
+use Rattle.xs_gram.specs.Loose.{here}
 use Rattle.xs_gram.specs.Sound.{IsBuilt}
-use Rattle.xs_check_laws.specs.Weights.{heaviest, capped}
-use Rattle.xs_check_laws.specs.Fenced.Weights.{Members}
-use Rattle.xs_check_laws.proofs.Fenced.Weights.{component_once}
+use Rattle.xs_check_laws.specs.Weights.{heaviest, capped, Members}
+use Rattle.xs_check_laws.proofs.Weights.{component_once}
 use Rattle.xs_stretch.specs.declared.site.Spot.{Spot}
 use Rattle.xs_stretch.specs.declared.site.Task.{Task}
 use Rattle.xs_stretch.specs.Arcs.{Arc, pass}

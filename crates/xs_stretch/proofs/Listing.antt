@@ -7,7 +7,7 @@ use Rattle.std.proofs.lemmas.List.Elements.{Contains-get_or, Contains-append_lef
 use Rattle.xs_class.proofs.Lists.{nothing_in}
 use Rattle.xs_gram.specs.Grammar.{Grammar, rule_of}
 use Rattle.xs_gram.specs.Sound.{IsInRange}
-use Rattle.xs_gram.specs.Fenced.Loose.{AreComponents}
+use Rattle.xs_gram.specs.Loose.{AreComponents}
 use Rattle.xs_stretch.specs.Components.{IsListOf, HasKey, AreListed, AreRuleKeys, IsNonOf, IsRuleIn}
 
 pub list_as : {P Q : ℕ → Type 0} (xs : List ℕ) → ((i : ℕ) → P i → Q i) → ((i : ℕ) → Q i → P i) → IsListOf P xs → IsListOf Q xs

@@ -10,11 +10,10 @@ use Rattle.xs_gram.specs.declared.parts.GItem.TheVariants.{Fixed, Term, Non, Ski
 use Rattle.xs_gram.specs.Grammar.{Grammar, term_of, skip_of}
 use Rattle.xs_gram.specs.Building.{NamesAreThere}
 use Rattle.xs_gram.specs.Fences.{IsPlain}
-use Rattle.xs_gram.specs.Fenced.Loose.{here, AreOne, AreComponents}
+use Rattle.xs_gram.specs.Loose.{here, AreOne, AreComponents}
 use Rattle.xs_gram.specs.Sound.{IsBuilt}
-use Rattle.xs_check_laws.specs.Weights.{heaviest}
-use Rattle.xs_check_laws.specs.Fenced.Weights.{Members, no_member, member_next, other_next}
-use Rattle.xs_check_laws.proofs.Fenced.Walks.{one_on, one_back}
+use Rattle.xs_check_laws.specs.Weights.{heaviest, Members, no_member, member_next, other_next}
+use Rattle.xs_check_laws.proofs.Walks.{one_on, one_back}
 use Rattle.xs_stretch.specs.declared.site.Home.{Home}
 use Rattle.xs_stretch.specs.declared.site.Spot.{Spot}
 use Rattle.xs_stretch.specs.declared.site.Site.{Site}

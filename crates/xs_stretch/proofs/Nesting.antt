@@ -13,9 +13,8 @@ use Rattle.xs_gram.specs.Fences.{fence_symbols, spread, grouped, IsLevel, GroupA
 use Rattle.xs_gram.specs.Sound.{IsBuilt}
 use Rattle.xs_gram.proofs.Fences.{is_left_of}
 use Rattle.xs_gram.proofs.Levels.{cons_parts, fixed_one, level_once, group_opened}
-use Rattle.xs_check_laws.specs.Weights.{heaviest}
-use Rattle.xs_check_laws.specs.Fenced.Acceptance.{IsBefore}
-use Rattle.xs_check_laws.specs.Fenced.Weights.{PartWeighs}
+use Rattle.xs_check_laws.specs.Weights.{heaviest, PartWeighs}
+use Rattle.xs_check_laws.specs.Acceptance.{IsBefore}
 use Rattle.xs_stretch.specs.declared.part.Part.{Part}
 use Rattle.xs_stretch.specs.declared.fault.LooseFault.{LooseFault}
 use Rattle.xs_stretch.specs.declared.fault.LooseFault.TheVariants.{Heavy, Memory}

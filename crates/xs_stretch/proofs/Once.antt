@@ -5,9 +5,9 @@ use Rattle.xs_gram.specs.declared.parts.GItem.TheVariants.{Fixed, Non}
 use Rattle.xs_gram.specs.Grammar.{Grammar}
 use Rattle.xs_gram.specs.Laws.{IsDistinct}
 use Rattle.xs_gram.specs.Fences.{fence_symbols, spread, IsFence, IsLevel, grouped}
-use Rattle.xs_gram.specs.Fenced.Loose.{IsMember}
+use Rattle.xs_gram.specs.Loose.{IsMember}
 use Rattle.xs_gram.proofs.Levels.{IsOnce, cons_parts, no_group, plain_not_group, level_once}
-use Rattle.xs_check_laws.specs.Fenced.Weights.{Members, no_member, member_next, other_next}
+use Rattle.xs_check_laws.specs.Weights.{Members, no_member, member_next, other_next}
 use Rattle.xs_stretch.specs.Arcs.{Arc, pass, call}
 use Rattle.xs_stretch.specs.Laying.{entry_state, exit_state, LaysItem, lays_fixed, lays_term, lays_skip, lays_non, LaysComponent, lays_component, LaysRules, lays_no_rule, lays_rule, lays_other_rule, LaysBody, lays_no_body, lays_member, lays_other, lays_group, LaysPart, part_none, part_then, part_group}
 

@@ -4,7 +4,7 @@ use Rattle.xs_gram.specs.declared.parts.GItem.{GItem}
 use Rattle.xs_gram.specs.declared.parts.GItem.TheVariants.{Fixed, Term, Non, Skip}
 use Rattle.xs_gram.specs.Grammar.{Grammar}
 use Rattle.xs_gram.specs.Building.{NamesAreThere}
-use Rattle.xs_gram.specs.Fenced.Loose.{AreOne, IsMember, AreComponents}
+use Rattle.xs_gram.specs.Loose.{AreOne, IsMember, AreComponents}
 use Rattle.xs_stretch.specs.declared.site.Home.{Home}
 use Rattle.xs_stretch.specs.Components.{IsNonOf}
 use Rattle.xs_stretch.specs.Weighing.{IsOneOf}

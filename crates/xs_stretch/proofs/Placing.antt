@@ -8,10 +8,9 @@ use Rattle.xs_auto.specs.Nets.{Graph, states}
 use Rattle.xs_gram.specs.declared.parts.GItem.{GItem}
 use Rattle.xs_gram.specs.Grammar.{Grammar, rule_of}
 use Rattle.xs_gram.specs.Fences.{spread, IsLevel}
-use Rattle.xs_gram.specs.Fenced.Loose.{here, AreOne, AreComponents}
+use Rattle.xs_gram.specs.Loose.{here, AreOne, AreComponents}
 use Rattle.xs_gram.specs.Sound.{IsInRange, IsBuilt}
-use Rattle.xs_check_laws.specs.Weights.{cap, heaviest}
-use Rattle.xs_check_laws.specs.Fenced.Weights.{Members, ComponentWeighs}
+use Rattle.xs_check_laws.specs.Weights.{cap, heaviest, Members, ComponentWeighs}
 use Rattle.xs_stretch.specs.declared.components.Components.{Components}
 use Rattle.xs_stretch.specs.declared.site.Home.{Home}
 use Rattle.xs_stretch.specs.declared.site.Spot.{Spot}

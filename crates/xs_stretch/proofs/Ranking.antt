@@ -3,8 +3,8 @@ use Rattle.std.proofs.Common.{◌≡◌, ℕ, suc, ◌+◌, ◌<◌, ◌≤◌, 
 use Rattle.std.proofs.lemmas.Bool.{cases_lt, cases_eq}
 use Rattle.std.proofs.lemmas.List.{get_or_append_left, get_or_push, get_or_past, get_or-replicate, length-replicate, length_push}
 use Rattle.xs_gram.specs.Grammar.{Grammar}
-use Rattle.xs_gram.specs.Fenced.Loose.{AreComponents}
-use Rattle.xs_check_laws.specs.Fenced.Weights.{Members, no_member, member_next, other_next}
+use Rattle.xs_gram.specs.Loose.{AreComponents}
+use Rattle.xs_check_laws.specs.Weights.{Members, no_member, member_next, other_next}
 use Rattle.xs_stretch.specs.Groups.{groups_before}
 use Rattle.xs_stretch.specs.Tables.{AreRanks, AreNumbersBefore}
 

@@ -5,9 +5,8 @@ use Rattle.xs_gram.specs.Grammar.{Grammar}
 use Rattle.xs_gram.specs.Fences.{spread, IsPlain, IsLevel, level_none, level_then, level_group, grouped, OuterAt, IsPartner, IsLeftFence}
 use Rattle.xs_gram.specs.Sound.{IsProper}
 use Rattle.xs_gram.proofs.Levels.{group_more, length_grouped, level_append}
-use Rattle.xs_check_laws.specs.Weights.{capped}
-use Rattle.xs_check_laws.specs.Fenced.Weights.{ItemWeighs, BodyWeighs, no_body, member_then, other_then, group_then, PartWeighs, no_part, part_then, part_group}
-use Rattle.xs_check_laws.proofs.Fenced.Weights.{body_append, part_append}
+use Rattle.xs_check_laws.specs.Weights.{capped, ItemWeighs, BodyWeighs, no_body, member_then, other_then, group_then, PartWeighs, no_part, part_then, part_group}
+use Rattle.xs_check_laws.proofs.Weights.{body_append, part_append}
 use Rattle.xs_stretch.specs.Components.{IsNonOf}
 use Rattle.xs_stretch.specs.Steps.{StandsAt, StandsLast, IsPiece, PartStep, BodyStep}
 use Rattle.xs_stretch.specs.Weighing.{Counts}

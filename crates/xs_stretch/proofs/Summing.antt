@@ -6,10 +6,9 @@ use Rattle.std.proofs.lemmas.List.{take_more}
 use Rattle.std.proofs.lemmas.List.Elements.{Contains-get_or, Contains-append_left, Contains-push, Contains-push_cases}
 use Rattle.xs_gram.specs.Grammar.{Grammar, rule_of}
 use Rattle.xs_gram.specs.Fences.{spread}
-use Rattle.xs_gram.specs.Fenced.Loose.{AreOne, AreComponents}
+use Rattle.xs_gram.specs.Loose.{AreOne, AreComponents}
 use Rattle.xs_gram.specs.Sound.{IsInRange}
-use Rattle.xs_check_laws.specs.Weights.{capped}
-use Rattle.xs_check_laws.specs.Fenced.Weights.{Members, no_member, member_next, other_next, ComponentWeighs, component_weighs, RulesWeigh, no_rule_yet, rule_of_member, rule_of_other, BodyWeighs}
+use Rattle.xs_check_laws.specs.Weights.{capped, Members, no_member, member_next, other_next, ComponentWeighs, component_weighs, RulesWeigh, no_rule_yet, rule_of_member, rule_of_other, BodyWeighs}
 use Rattle.xs_stretch.specs.Components.{IsListOf, IsNonOf, IsRuleIn}
 use Rattle.xs_stretch.specs.Weighing.{AreWeights, AreWeightsBefore}
 use Rattle.xs_stretch.proofs.Bounds.{IsUpTo, up_to_own, up_to_all, none_between}

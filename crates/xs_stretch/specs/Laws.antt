@@ -3,8 +3,7 @@ use Rattle.std.specs.Prelude.{◌≡◌, ℕ, suc, ◌≤◌, List}
 use Rattle.xs_gram.specs.declared.parts.GItem.{GItem}
 use Rattle.xs_gram.specs.Grammar.{Grammar}
 use Rattle.xs_gram.specs.Sound.{IsBuilt}
-use Rattle.xs_check_laws.specs.Weights.{heaviest}
-use Rattle.xs_check_laws.specs.Fenced.Weights.{PartWeighs}
+use Rattle.xs_check_laws.specs.Weights.{heaviest, PartWeighs}
 use Rattle.xs_stretch.specs.Arcs.{Arc}
 use Rattle.xs_stretch.specs.Laying.{LaysPart}
 use Rattle.xs_stretch.specs.Parts.{IsStretch}

@@ -7,8 +7,8 @@ use Rattle.xs_gram.specs.declared.parts.GItem.{GItem}
 use Rattle.xs_gram.specs.declared.parts.GItem.TheVariants.{Fixed, Term, Non, Skip}
 use Rattle.xs_gram.specs.Grammar.{Grammar, rule_of, term_of, skip_of}
 use Rattle.xs_gram.specs.Fences.{spread, IsFence, IsPlain, IsLevel, grouped}
-use Rattle.xs_gram.specs.Fenced.Loose.{AreOne, IsMember}
-use Rattle.xs_check_laws.specs.Fenced.Weights.{Members}
+use Rattle.xs_gram.specs.Loose.{AreOne, IsMember}
+use Rattle.xs_check_laws.specs.Weights.{Members}
 use Rattle.xs_stretch.specs.Arcs.{Arc, pass, call, word_arcs, after_word, automaton_arcs, after_automaton}
 use Rattle.xs_stretch.specs.Groups.{group_number}
 

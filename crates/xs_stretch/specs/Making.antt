@@ -5,7 +5,7 @@ use Rattle.xs_auto.specs.declared.edge.Edge.{Edge}
 use Rattle.xs_auto.specs.Nets.{Graph, states, final_at, edges_of, moves_of, calls_of}
 use Rattle.xs_gram.specs.Grammar.{Grammar, rule_of}
 use Rattle.xs_gram.specs.Fences.{spread}
-use Rattle.xs_check_laws.specs.Fenced.Weights.{Members}
+use Rattle.xs_check_laws.specs.Weights.{Members}
 use Rattle.xs_stretch.specs.declared.site.Home.{Home}
 use Rattle.xs_stretch.specs.declared.site.Task.{Task}
 use Rattle.xs_stretch.specs.Arcs.{Arc, pass}

@@ -4,7 +4,7 @@ use Rattle.xs_auto.specs.Nests.{Group, IsGroup}
 use Rattle.xs_gram.specs.declared.parts.GItem.{GItem}
 use Rattle.xs_gram.specs.Grammar.{Grammar}
 use Rattle.xs_gram.specs.Fences.{spread, GroupAt}
-use Rattle.xs_check_laws.specs.Fenced.Acceptance.{IsBefore}
+use Rattle.xs_check_laws.specs.Acceptance.{IsBefore}
 use Rattle.xs_stretch.specs.Groups.{group_number}
 use Rattle.xs_stretch.specs.Nets.{IsGroupOf}
 

@@ -8,9 +8,8 @@ use Rattle.xs_auto.specs.Nests.{Group, IsGroup}
 use Rattle.xs_gram.specs.declared.parts.GItem.{GItem}
 use Rattle.xs_gram.specs.Grammar.{Grammar}
 use Rattle.xs_gram.specs.Fences.{spread, GroupAt}
-use Rattle.xs_check_laws.specs.Weights.{heaviest}
-use Rattle.xs_check_laws.specs.Fenced.Weights.{PartWeighs}
-use Rattle.xs_check_laws.specs.Fenced.Acceptance.{IsBefore}
+use Rattle.xs_check_laws.specs.Weights.{heaviest, PartWeighs}
+use Rattle.xs_check_laws.specs.Acceptance.{IsBefore}
 use Rattle.xs_stretch.specs.declared.part.Part.{Part}
 use Rattle.xs_stretch.specs.declared.fault.LooseFault.{LooseFault}
 use Rattle.xs_stretch.specs.declared.fault.LooseFault.TheVariants.{Heavy, Memory}

@@ -3,8 +3,7 @@ use Rattle.std.specs.Prelude.{◌≡◌, ℕ, ◌<◌, ◌≤◌, List, ◌++◌
 use Rattle.xs_gram.specs.declared.parts.GItem.{GItem}
 use Rattle.xs_gram.specs.Grammar.{Grammar}
 use Rattle.xs_gram.specs.Fences.{spread, IsLevel}
-use Rattle.xs_check_laws.specs.Weights.{heaviest}
-use Rattle.xs_check_laws.specs.Fenced.Weights.{PartWeighs}
+use Rattle.xs_check_laws.specs.Weights.{heaviest, PartWeighs}
 use Rattle.xs_stretch.specs.declared.part.Part.{Part}
 use Rattle.xs_stretch.specs.declared.fault.LooseFault.{LooseFault}
 use Rattle.xs_stretch.specs.declared.fault.LooseFault.TheVariants.{Heavy, Memory}

@@ -3,8 +3,7 @@ use Rattle.std.specs.Prelude.{◌≡◌, ℕ, ◌+◌, ◌<◌, List, ◌++◌, 
 use Rattle.xs_gram.specs.declared.parts.GItem.{GItem}
 use Rattle.xs_gram.specs.Grammar.{Grammar}
 use Rattle.xs_gram.specs.Fences.{spread, IsLevel}
-use Rattle.xs_check_laws.specs.Weights.{capped}
-use Rattle.xs_check_laws.specs.Fenced.Weights.{BodyWeighs, PartWeighs}
+use Rattle.xs_check_laws.specs.Weights.{capped, BodyWeighs, PartWeighs}
 use Rattle.xs_stretch.specs.Components.{IsNonOf}
 
 -- the items `rest`, which are level and not none, stand in rule p's spread items from item k on

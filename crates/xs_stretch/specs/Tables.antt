@@ -1,7 +1,7 @@
 -- What is computed once of a grammar for the nets of its stretches.
 use Rattle.std.specs.Prelude.{◌≡◌, ℕ, ◌<◌, List, length, slice_index_or}
 use Rattle.xs_gram.specs.Grammar.{Grammar}
-use Rattle.xs_check_laws.specs.Fenced.Weights.{Members}
+use Rattle.xs_check_laws.specs.Weights.{Members}
 use Rattle.xs_stretch.specs.declared.tables.Tables.{Tables}
 use Rattle.xs_stretch.specs.Components.{AreComponentsOf}
 use Rattle.xs_stretch.specs.Groups.{groups_before}

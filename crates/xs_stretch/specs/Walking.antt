@@ -5,7 +5,7 @@ use Rattle.xs_auto.specs.Nets.{Graph, states}
 use Rattle.xs_gram.specs.declared.parts.GItem.{GItem}
 use Rattle.xs_gram.specs.Grammar.{Grammar}
 use Rattle.xs_gram.specs.Building.{NamesAreThere}
-use Rattle.xs_check_laws.specs.Fenced.Weights.{Members}
+use Rattle.xs_check_laws.specs.Weights.{Members}
 use Rattle.xs_stretch.specs.declared.site.Home.{Home}
 use Rattle.xs_stretch.specs.declared.site.Spot.{Spot}
 use Rattle.xs_stretch.specs.declared.site.Next.{Next}

@@ -3,8 +3,8 @@ use Rattle.std.specs.Prelude.{◌≡◌, ◌⊎◌, ℕ, ◌<◌, ◌≤◌, Lis
 use Rattle.xs_gram.specs.declared.parts.GItem.{GItem}
 use Rattle.xs_gram.specs.declared.parts.GItem.TheVariants.{Fixed, Term, Non, Skip}
 use Rattle.xs_gram.specs.Grammar.{Grammar}
-use Rattle.xs_gram.specs.Fenced.Loose.{IsMember}
-use Rattle.xs_check_laws.specs.Fenced.Weights.{ItemWeighs, ComponentWeighs}
+use Rattle.xs_gram.specs.Loose.{IsMember}
+use Rattle.xs_check_laws.specs.Weights.{ItemWeighs, ComponentWeighs}
 
 -- each nonterminal has the weight of its component
 pub record AreWeights (g : Grammar) (weights : List ℕ) : Type 0 where

@@ -3,7 +3,7 @@ use Rattle.std.specs.Prelude.{◌≡◌, ◌⊎◌, ℕ, ◌+◌, ◌<◌, ◌�
 use Rattle.std.specs.List.{Contains}
 use Rattle.xs_auto.specs.Nets.{Graph, states, final_at}
 use Rattle.xs_gram.specs.Grammar.{Grammar}
-use Rattle.xs_gram.specs.Fenced.Loose.{AreComponents}
+use Rattle.xs_gram.specs.Loose.{AreComponents}
 use Rattle.xs_gram.specs.Sound.{IsBuilt}
 use Rattle.xs_stretch.specs.declared.site.Site.{Site}
 use Rattle.xs_stretch.specs.declared.site.Task.{Task}

@@ -1,7 +1,7 @@
 ghost use Rattle.std.specs.Prelude.{◌≡◌, ℕ, ◌+◌, ◌∷◌, [], ◌<◌, length, IfOk, IfErr, OnOk};
 ghost use Rattle.xs_gram.specs.declared.parts.GItem.TheVariants.{Fixed};
 ghost use Rattle.xs_gram.specs.Fences.{spread};
-ghost use Rattle.xs_gram.specs.Fenced.Loose.{AreComponents};
+ghost use Rattle.xs_gram.specs.Loose.{AreComponents};
 ghost use Rattle.xs_gram.specs.Sound.{IsBuilt};
 ghost use Rattle.xs_stretch.specs.Groups.{HasFewGroups};
 ghost use Rattle.xs_stretch.specs.Nesting.{IsNestBefore};

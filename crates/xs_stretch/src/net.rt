@@ -1,9 +1,8 @@
 ghost use Rattle.std.specs.Prelude.{◌≡◌, suc, ◌<◌, ◌≤◌, IfOk, IfErr, Some};
 ghost use Rattle.xs_auto.specs.Nets.{states};
-ghost use Rattle.xs_gram.specs.Fenced.Loose.{AreComponents};
+ghost use Rattle.xs_gram.specs.Loose.{AreComponents};
 ghost use Rattle.xs_gram.specs.Sound.{IsBuilt};
-ghost use Rattle.xs_check_laws.specs.Weights.{heaviest};
-ghost use Rattle.xs_check_laws.specs.Fenced.Weights.{PartWeighs};
+ghost use Rattle.xs_check_laws.specs.Weights.{heaviest, PartWeighs};
 ghost use Rattle.xs_stretch.specs.Groups.{HasFewGroups};
 ghost use Rattle.xs_stretch.specs.Making.{IsBlank};
 ghost use Rattle.xs_stretch.specs.Nets.{IsNetOf, HasItsWeight};

@@ -2,7 +2,7 @@ ghost use Rattle.std.specs.Prelude.{◌≡◌, suc, ◌+◌, ◌<◌, ◌≤◌,
 ghost use Rattle.xs_auto.specs.Nets.{states};
 ghost use Rattle.xs_gram.specs.Grammar.{rule_of};
 ghost use Rattle.xs_gram.specs.Fences.{spread};
-ghost use Rattle.xs_gram.specs.Fenced.Loose.{AreOne};
+ghost use Rattle.xs_gram.specs.Loose.{AreOne};
 ghost use Rattle.xs_check_laws.specs.Weights.{heaviest};
 ghost use Rattle.xs_stretch.specs.Making.{IsRuleLaid, IsTaskDone};
 ghost use Rattle.xs_stretch.specs.Walking.{IsHome, HasRoom};

@@ -8,9 +8,9 @@ use Rattle.xs_gram.specs.declared.parts.GItem.TheVariants.{Fixed, Non}
 use Rattle.xs_gram.specs.Grammar.{Grammar, rule_of}
 use Rattle.xs_gram.specs.Laws.{IsDistinct}
 use Rattle.xs_gram.specs.Fences.{fence_symbols, spread, IsFence, IsPlain, IsLevel, level_none, level_then, level_group, grouped, OuterAt, GroupAt, OuterGroupAt}
-use Rattle.xs_gram.specs.Fenced.Loose.{AreOne, IsMember}
+use Rattle.xs_gram.specs.Loose.{AreOne, IsMember}
 use Rattle.xs_gram.proofs.Levels.{cons_parts, no_group, plain_not_group, group_more, level_tail, level_once, outer_none, outer_then, outer_group, group_opened}
-use Rattle.xs_check_laws.specs.Fenced.Weights.{Members, no_member, member_next, other_next}
+use Rattle.xs_check_laws.specs.Weights.{Members, no_member, member_next, other_next}
 use Rattle.xs_stretch.specs.Arcs.{Arc, pass, call}
 use Rattle.xs_stretch.specs.Groups.{group_number}
 use Rattle.xs_stretch.specs.Laying.{entry_state, exit_state, LaysItem, LaysRules, lays_no_rule, lays_rule, lays_other_rule, LaysBody, lays_no_body, lays_member, lays_other, lays_group}

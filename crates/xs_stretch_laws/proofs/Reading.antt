@@ -10,13 +10,12 @@ use Rattle.xs_gram.specs.Grammar.{Grammar, rule_of, term_of, skip_of}
 use Rattle.xs_gram.specs.Sound.{IsBuilt}
 use Rattle.xs_gram.specs.Building.{NamesAreThere}
 use Rattle.xs_gram.specs.Fences.{spread, IsLevel, level_none, level_then, level_group, grouped, OuterAt, GroupAt, OuterGroupAt}
-use Rattle.xs_gram.specs.Loose.{Spot, entry, exit, at}
-use Rattle.xs_gram.specs.Fenced.Loose as L
-use Rattle.xs_gram.specs.Fenced.Loose.{AreOne, IsMember, LooseItem, loose_fixed, loose_term, loose_skip, loose_non, IsLoose, loose_none, loose_then, loose_group, Step, Walk}
+use Rattle.xs_gram.specs.Loose.{Spot, entry, exit, at, AreOne, IsMember, LooseItem, loose_fixed, loose_term, loose_skip, loose_non, IsLoose, loose_none, loose_then, loose_group, Step, Walk}
+use Rattle.xs_gram.specs.Loose as L
 use Rattle.xs_gram.proofs.Levels.{group_split, length_grouped, level_append, outer_at}
 use Rattle.xs_gram.proofs.Spreading.{spread_names}
-use Rattle.xs_check_laws.specs.Fenced.Weights.{Members, no_member, member_next, other_next}
-use Rattle.xs_check_laws.proofs.Fenced.Walks.{one_same}
+use Rattle.xs_check_laws.specs.Weights.{Members, no_member, member_next, other_next}
+use Rattle.xs_check_laws.proofs.Walks.{one_same}
 use Rattle.xs_stretch.specs.Arcs.{Label, reads, passes, calls, Arc, read, pass, call}
 use Rattle.xs_stretch.specs.Groups.{group_number}
 use Rattle.xs_stretch.specs.Laying.{entry_state, exit_state, LaysItem, lays_fixed, lays_term, lays_skip, lays_non, LaysComponent, lays_component, LaysRules, lays_no_rule, lays_rule, lays_other_rule, LaysBody, lays_no_body, lays_member, lays_other, lays_group, LaysPart, part_none, part_then, part_group}

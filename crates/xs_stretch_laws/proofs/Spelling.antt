@@ -8,12 +8,11 @@ use Rattle.xs_gram.specs.Grammar.{Grammar, term_of, skip_of, IsRuleOf}
 use Rattle.xs_gram.specs.Sound.{IsBuilt}
 use Rattle.xs_gram.specs.Building.{NamesAreThere}
 use Rattle.xs_gram.specs.Fences.{spread, IsFence, IsLevel, grouped, OuterAt, GroupAt}
-use Rattle.xs_gram.specs.Loose.{Spot, entry, exit, at}
-use Rattle.xs_gram.specs.Fenced.Loose.{AreOne, IsMember, LooseItem, loose_fixed, loose_term, loose_skip, loose_non, IsLoose, loose_none, loose_then, loose_group, Step, begins, passes, encloses, calls, ends, returns, Walk, stays, goes}
+use Rattle.xs_gram.specs.Loose.{Spot, entry, exit, at, AreOne, IsMember, LooseItem, loose_fixed, loose_term, loose_skip, loose_non, IsLoose, loose_none, loose_then, loose_group, Step, begins, passes, encloses, calls, ends, returns, Walk, stays, goes}
 use Rattle.xs_gram.proofs.Levels.{cons_parts, no_group, plain_not_group, group_more, group_split, length_grouped, level_once, outer_at}
 use Rattle.xs_gram.proofs.Spreading.{spread_names}
-use Rattle.xs_check_laws.specs.Fenced.Weights.{Members}
-use Rattle.xs_check_laws.proofs.Fenced.Words.{loose_level}
+use Rattle.xs_check_laws.specs.Weights.{Members}
+use Rattle.xs_check_laws.proofs.Words.{loose_level}
 use Rattle.xs_stretch.specs.Arcs as A
 use Rattle.xs_stretch.specs.Arcs.{Arc, pass, call, word_arcs, after_word, automaton_arcs, after_automaton}
 use Rattle.xs_stretch.specs.Groups.{group_number}

@@ -6,7 +6,7 @@ use Rattle.xs_auto.specs.Nests.{Group, AcceptsNested, IsTame, IsFenced}
 use Rattle.xs_gram.specs.declared.parts.GItem.{GItem}
 use Rattle.xs_gram.specs.Grammar.{Grammar}
 use Rattle.xs_gram.specs.Sound.{IsBuilt}
-use Rattle.xs_gram.specs.Fenced.Loose.{IsLoose}
+use Rattle.xs_gram.specs.Loose.{IsLoose}
 use Rattle.xs_stretch.specs.Nets.{IsNumbered, IsNestOf}
 use Rattle.xs_stretch.specs.Parts.{IsStretch}
 

@@ -4,8 +4,8 @@ use Rattle.xs_class.specs.declared.side.Side.{Side}
 use Rattle.xs_gram.specs.declared.suspect.Suspect.{Suspect as Found}
 use Rattle.xs_gram.specs.declared.suspect.Suspect.TheVariants.{Vertical, Horizontal}
 use Rattle.xs_gram.specs.Grammar.{Grammar}
-use Rattle.xs_check_laws.specs.Fenced.Freedom.{HasNoVertical}
-use Rattle.xs_check_laws.specs.Fenced.Acceptance.{IsLight, IsFirstHeavy, ShowsVertical, ShowsHorizontal, Suspect, vertical, horizontal, Shows}
+use Rattle.xs_check_laws.specs.Freedom.{HasNoVertical}
+use Rattle.xs_check_laws.specs.Acceptance.{IsLight, IsFirstHeavy, ShowsVertical, ShowsHorizontal, Suspect, vertical, horizontal, Shows}
 use Rattle.xs_light.specs.declared.fault.CheckFault.{CheckFault}
 use Rattle.xs_light.specs.declared.fault.CheckFault.TheVariants as C
 use Rattle.xs_unique.specs.declared.fault.AcceptFault.{AcceptFault}

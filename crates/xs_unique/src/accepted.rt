@@ -1,6 +1,6 @@
 ghost use Rattle.std.specs.Prelude.{◌≡◌};
 ghost use Rattle.xs_gram.specs.Languages.{IsUnique};
-ghost use Rattle.xs_check_laws.specs.Fenced.Acceptance.{IsAccepted};
+ghost use Rattle.xs_check_laws.specs.Acceptance.{IsAccepted};
 
 use std::marker::Model;
 use xs_pair::Two;

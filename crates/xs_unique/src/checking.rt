@@ -1,17 +1,17 @@
 ghost use Rattle.std.specs.Prelude.{◌≡◌, IfOk, IfErr, OnOk};
 ghost use Rattle.xs_gram.specs.Languages.{IsUnique};
 ghost use Rattle.xs_gram.specs.Sound.{IsBuilt, IsSound};
-ghost use Rattle.xs_check_laws.specs.Fenced.Acceptance.{IsAccepted};
+ghost use Rattle.xs_check_laws.specs.Acceptance.{IsAccepted};
 ghost use Rattle.xs_unique.specs.Reasons.{IsReason};
 
 use crate::suspects::clear;
 use crate::{AcceptFault, Accepted};
 use std::alloc::Global;
-use xs_check_laws::fence_laws::accepted_is_unique;
+use xs_check_laws::accepted_is_unique;
 use xs_class::Side;
 use xs_gram::Gram;
 use xs_light::light;
-use xs_order::fenced::components;
+use xs_order::components;
 use xs_pair::Two;
 use xs_stretch::Tables;
 

@@ -1,7 +1,7 @@
 ghost use Rattle.std.specs.Prelude.{IfErr, OnOk};
-ghost use Rattle.xs_gram.specs.Fenced.Loose.{AreComponents};
+ghost use Rattle.xs_gram.specs.Loose.{AreComponents};
 ghost use Rattle.xs_gram.specs.Sound.{IsBuilt};
-ghost use Rattle.xs_check_laws.specs.Fenced.Acceptance.{IsLight, HasNoSuspect};
+ghost use Rattle.xs_check_laws.specs.Acceptance.{IsLight, HasNoSuspect};
 ghost use Rattle.xs_light.specs.Spaces.{IsSpace};
 ghost use Rattle.xs_stretch.specs.Groups.{HasFewGroups};
 ghost use Rattle.xs_stretch.specs.Tables.{AreTables};

@@ -1,8 +1,8 @@
 -- The first partner of the first rule that has one is the first vertical suspect.
 use Rattle.std.proofs.Common.{ℕ, ◌≤◌, length, sym, subst, arith}
 use Rattle.xs_gram.specs.Grammar.{Grammar}
-use Rattle.xs_check_laws.specs.Fenced.Freedom.{HasNoVertical}
-use Rattle.xs_check_laws.specs.Fenced.Acceptance.{ShowsVertical}
+use Rattle.xs_check_laws.specs.Freedom.{HasNoVertical}
+use Rattle.xs_check_laws.specs.Acceptance.{ShowsVertical}
 use Rattle.xs_light.specs.First.{HasNoneInRow, HasNoneInRows}
 use Rattle.xs_light.proofs.First.{none_before}
 use Rattle.xs_vert.specs.declared.search.Vert.{Vert}

@@ -1,7 +1,7 @@
 -- Rules that share a loose word.
 use Rattle.std.specs.Prelude.{◌≡◌, ℕ, List}
 use Rattle.xs_gram.specs.Grammar.{Grammar}
-use Rattle.xs_gram.specs.Fenced.Suspects.{IsVertical}
+use Rattle.xs_gram.specs.Suspects.{IsVertical}
 use Rattle.xs_light.specs.First.{HasNoneInRow}
 use Rattle.xs_vert.specs.declared.search.Vert.{Vert}
 

@@ -1,10 +1,10 @@
 ghost use Rattle.std.specs.Prelude.{◌<◌, length, IfOk, IfErr, IfSome, IfNone, OnOk};
 ghost use Rattle.xs_gram.specs.Fences.{spread};
-ghost use Rattle.xs_gram.specs.Fenced.Loose.{AreComponents};
+ghost use Rattle.xs_gram.specs.Loose.{AreComponents};
 ghost use Rattle.xs_gram.specs.Sound.{IsBuilt};
-ghost use Rattle.xs_gram.specs.Fenced.Suspects.{IsVertical};
-ghost use Rattle.xs_check_laws.specs.Fenced.Freedom.{HasNoVertical};
-ghost use Rattle.xs_check_laws.specs.Fenced.Acceptance.{IsLight, ShowsVertical};
+ghost use Rattle.xs_gram.specs.Suspects.{IsVertical};
+ghost use Rattle.xs_check_laws.specs.Freedom.{HasNoVertical};
+ghost use Rattle.xs_check_laws.specs.Acceptance.{IsLight, ShowsVertical};
 ghost use Rattle.xs_light.specs.Causes.{IsCause};
 ghost use Rattle.xs_light.specs.Spaces.{IsSpace, AcceptsLoose};
 ghost use Rattle.xs_vert.specs.Partners.{ArePartners, IsFirstPartner, HasNoPartner};

@@ -1,5 +1,5 @@
-use Rattle.xs_check_laws.proofs.Unique.{accepted_is_unique_lem}
+use Rattle.xs_check_laws.proofs.Unique.{accepted_is_unique}
 use Rattle.xs_check_laws.proofs.laws.accepted_is_unique.Goals as goal
 
 pub returns : goal.returns
-returns c = accepted_is_unique_lem
+returns c = accepted_is_unique

@@ -1,5 +1,5 @@
-use Rattle.xs_check_laws.proofs.Walks.{yields_are_loose_lem}
+use Rattle.xs_check_laws.proofs.Walks.{yields_are_loose}
 use Rattle.xs_check_laws.proofs.laws.yields_are_loose.Goals as goal
 
 pub returns : goal.returns
-returns c = yields_are_loose_lem
+returns c = yields_are_loose

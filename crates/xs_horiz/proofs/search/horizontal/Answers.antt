@@ -1,6 +1,6 @@
 use Rattle.std.proofs.Common.{IfNone, subst}
 use Rattle.xs_gram.specs.Grammar.{Grammar}
-use Rattle.xs_check_laws.specs.Fenced.Freedom.{HasNoHorizontal}
+use Rattle.xs_check_laws.specs.Freedom.{HasNoHorizontal}
 use Rattle.xs_horiz.proofs.search.horizontal.Goals as goal
 
 pub returns-clause-none : goal.returns-clause-none

@@ -1,5 +1,5 @@
 use Rattle.std.proofs.Common.{below_more}
-use Rattle.xs_check_laws.specs.Fenced.Acceptance.{IsLightRule}
+use Rattle.xs_check_laws.specs.Acceptance.{IsLightRule}
 use Rattle.xs_light.proofs.weights.light.Goals as goal
 
 pub rules-preserved : goal.rules-preserved

@@ -1,5 +1,5 @@
 use Rattle.std.proofs.Common.{ℕ, ◌<◌}
-use Rattle.xs_check_laws.specs.Fenced.Acceptance.{IsLightRule}
+use Rattle.xs_check_laws.specs.Acceptance.{IsLightRule}
 use Rattle.xs_light.proofs.weights.light.Given as goal
 
 abbrev pub invariant-rules : goal.invariant-rules

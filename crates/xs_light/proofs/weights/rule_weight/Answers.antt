@@ -1,5 +1,5 @@
 use Rattle.std.proofs.Common.{arith}
-use Rattle.xs_check_laws.proofs.Fenced.Weights.{part_within}
+use Rattle.xs_check_laws.proofs.Weights.{part_within}
 use Rattle.xs_light.proofs.weights.rule_weight.Goals as goal
 
 pub overflow_add-items : goal.overflow_add-items

@@ -1,6 +1,6 @@
 use Rattle.std.proofs.Common.{arith, refl}
 use Rattle.xs_auto.specs.Nets.{states}
-use Rattle.xs_gram.specs.Fenced.Loose.{here}
+use Rattle.xs_gram.specs.Loose.{here}
 use Rattle.xs_stretch.proofs.Pushing.{element_is}
 use Rattle.xs_stretch.proofs.Leaving.{left_room, left_laid, other_slot}
 use Rattle.xs_stretch.proofs.Moving.{rank_in}

@@ -1,6 +1,6 @@
 use Rattle.std.proofs.Common.{ℕ, ap, length, subst, sym, arith}
 use Rattle.xs_auto.specs.Nets.{states}
-use Rattle.xs_check_laws.specs.Fenced.Weights.{Members}
+use Rattle.xs_check_laws.specs.Weights.{Members}
 use Rattle.xs_stretch.proofs.Placing.{place_low, rule_laid}
 use Rattle.xs_stretch.proofs.tasks.lay_rule.Goals as goal
 

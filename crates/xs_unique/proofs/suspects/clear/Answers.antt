@@ -1,6 +1,6 @@
 use Rattle.std.proofs.Common.{IfErr, OnOk, subst}
 use Rattle.xs_gram.specs.Grammar.{Grammar}
-use Rattle.xs_check_laws.specs.Fenced.Acceptance.{HasNoSuspect}
+use Rattle.xs_check_laws.specs.Acceptance.{HasNoSuspect}
 use Rattle.xs_unique.specs.Reasons.{IsUnclear}
 use Rattle.xs_unique.proofs.suspects.clear.Goals as goal
 

@@ -1,6 +1,6 @@
 use Rattle.std.proofs.Common.{IfNone, subst}
 use Rattle.xs_gram.specs.Grammar.{Grammar}
-use Rattle.xs_check_laws.specs.Fenced.Freedom.{HasNoVertical}
+use Rattle.xs_check_laws.specs.Freedom.{HasNoVertical}
 use Rattle.xs_vert.proofs.search.vertical.Goals as goal
 
 pub returns-clause-none : goal.returns-clause-none

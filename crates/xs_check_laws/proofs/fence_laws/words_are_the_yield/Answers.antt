@@ -1,5 +1,0 @@
-use Rattle.xs_check_laws.proofs.Fenced.Walks.{words_are_the_yield}
-use Rattle.xs_check_laws.proofs.fence_laws.words_are_the_yield.Goals as goal
-
-pub returns : goal.returns
-returns c = words_are_the_yield

@@ -1,5 +1,0 @@
-use Rattle.xs_loose.specs.Weighing.{AreWeightsBefore}
-use Rattle.xs_loose.proofs.weighing.weights.Given as goal
-
-abbrev pub invariant-components : goal.invariant-components
-invariant-components l = AreWeightsBefore l.g l.comps l.component l.weights.items
