@@ -11,12 +11,16 @@ fn is_command(alloc: Global, words: &[&str]) -> Result<bool, Memory> {
     Ok(command_of(&list).is_some())
 }
 
-const ROWS: [(&[&str], bool); 27] = [
+const ROWS: [(&[&str], bool); 31] = [
     (&["check", "pair.xsugar"], true),
     (&["to-xml", "@leiden", "nfd"], true),
     (&["round", "pair.xsugar", "text", "asis"], true),
     (&["trees", "pair.xsugar", "1000"], true),
     (&["sheet"], true),
+    (&["sheet", "2"], true),
+    (&["sheet", "1"], false),
+    (&["sheet", "02"], false),
+    (&["to-xml", "@leiden2", "nfd"], true),
     (&["make", "0", "2000"], true),
     (&["make", "2147483647", "1"], true),
     (&["cover", "@leiden"], true),

@@ -12,6 +12,7 @@ use Rattle.xs_words.specs.Command.{Sheet as Named}
 use Rattle.xs_pair.specs.Grammars.{Pair}
 use Rattle.xs_talk.specs.declared.outcome.Outcome.{Outcome}
 use Rattle.xs_talk.specs.declared.outcome.Outcome.TheVariants.{Done, NoteFault}
+use Rattle.xs_top.specs.declared.asking.Core.{Core}
 use Rattle.xs_top.specs.declared.asking.Job.{Job}
 use Rattle.xs_top.specs.declared.asking.Job.TheVariants.{Check, Turn, Trees, Make, Session, ToTree, FromTree, Cover}
 use Rattle.xs_top.specs.Asked.{Ask, shipped, by}
@@ -37,12 +38,12 @@ some_ask a b e = cc
 none_asked : (a : Ask) → Some a ≡ None → ⊥
 none_asked a e = cc
 
-not_shipped : (n : Named) (j : Job) → Some shipped ≡ Some (by n j) → ⊥
-not_shipped n j e = cc
+not_shipped : (core : Core) (n : Named) (j : Job) → Some (shipped core) ≡ Some (by n j) → ⊥
+not_shipped core n j e = cc
 
 went_came : (run : Run) (sheet : List ℕ) (job : Job) (asks : AsksFor run job sheet) (o : Outcome) (names : List (List ℕ)) → Went run o names → Came run sheet asks.named job o
 went_came run sheet job asks o names (no_command none read took) = absurd (none_asked (by asks.named job) (sym asks.is ∙ none))
-went_came run sheet job asks o names (shipped_written is read took) = absurd (not_shipped asks.named job (sym is ∙ asks.is))
+went_came run sheet job asks o names (shipped_written core is read took) = absurd (not_shipped core asks.named job (sym is ∙ asks.is))
 went_came run sheet job asks o names (unpaired named' job' is why read took) =
     let same = one_ask named' asks.named job' job (some_ask (by named' job') (by asks.named job) (sym is ∙ asks.is)) in
     before (subst (λ (n : Named). IsUnpaired run.shelf n o) same.0 why)

@@ -25,13 +25,12 @@ use Rattle.xs_talk.specs.declared.outcome.Outcome.TheVariants.{Done, Foreign, Sh
 use Rattle.xs_top.specs.declared.asking.Job.{Job}
 use Rattle.xs_top.specs.declared.asking.Job.TheVariants.{Check, Turn, Trees, Make, Session, ToTree, FromTree, Cover}
 use Rattle.xs_top.specs.Asked.{Ask, by, asked}
-use Rattle.xs_leiden.specs.Sheet.{leiden_core}
 use Rattle.xs_leiden.specs.Made.{made_text}
 use Rattle.xs_words.specs.Command.{Sheet as Named}
 use Rattle.xs_top.specs.Devices.{Run, Input}
 use Rattle.xs_sheet.specs.Grammar.{IsSheetOf}
 use Rattle.xs_top.specs.Known.{HasBytes}
-use Rattle.xs_top.specs.Sheets.{IsFailed, IsPairOfBytes, IsUnpaired}
+use Rattle.xs_top.specs.Sheets.{core_bytes, IsFailed, IsPairOfBytes, IsUnpaired}
 use Rattle.xs_top.specs.Laws.{PairsAgree, SheetsAgree, OutlinesAgree}
 use Rattle.xs_top.proofs.Known.{has_only, has_short, spelled_pair}
 use Rattle.xs_top.proofs.Agreeing.{doable_kept}
@@ -245,7 +244,7 @@ module _ (law : OneReading) (weigh : RuleWeighsOnce) (agree : PairsAgree) (well 
 
     went_done : (o : Outcome) (names : List (List ℕ)) → Went run o names → o ≡ Done
     went_done o names (no_command none read took) = absurd (not_none honest.ask (asked run.words) none honest.is)
-    went_done o names (shipped_written is read took) = took_done leiden_core o took
+    went_done o names (shipped_written core is read took) = took_done (core_bytes core) o took
     went_done o names (unpaired sheet job is why read took) = let clear = its_clear sheet job is in absurd (not_unpaired run sheet clear.bytes clear.pair clear.sheet_sure clear.has clear.spelled o why)
     went_done o names (undone sheet job p is spells why took) =
         let clear = its_clear sheet job is in

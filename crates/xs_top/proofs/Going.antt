@@ -10,12 +10,12 @@ use Rattle.xs_talk.specs.Lines.{line}
 use Rattle.xs_pair.specs.Grammars.{Pair}
 use Rattle.xs_talk.specs.declared.outcome.Outcome.{Outcome}
 use Rattle.xs_talk.specs.declared.outcome.Outcome.TheVariants.{NoteFault}
-use Rattle.xs_leiden.specs.Sheet.{leiden_core}
 use Rattle.xs_words.specs.Command.{Sheet as Named}
+use Rattle.xs_top.specs.declared.asking.Core.{Core}
 use Rattle.xs_top.specs.declared.asking.Job.{Job}
 use Rattle.xs_top.specs.Asked.{shipped, by, asked}
 use Rattle.xs_top.specs.Devices.{Output, Run, ReadNothing, TookNothing}
-use Rattle.xs_top.specs.Sheets.{SpellsPair, IsUnpaired}
+use Rattle.xs_top.specs.Sheets.{core_bytes, SpellsPair, IsUnpaired}
 use Rattle.xs_top.specs.declared.stop.Stop.{Stop}
 use Rattle.xs_top.specs.declared.stop.Stop.TheVariants.{Refused, Memory}
 use Rattle.xs_top.specs.Stops.{StopsBy}
@@ -64,9 +64,9 @@ undone_told run sheet job p stop o names r is spells stops same took theirs tell
 pub answered_told : (run : Run) (sheet : Named) (job : Job) (p : Pair) (answer bytes : List ℕ) (result : Outcome) → asked run.words ≡ Some (by sheet job) → SpellsPair run.shelf.files sheet p → IsAnswer p run.input job answer → bytes ≡ answer → IsWritten run.out run.notes bytes result → Told run result
 answered_told run sheet job p answer bytes result is spells has same (o, took, tells) = (o, [], answered sheet job p answer is spells has (subst (λ (b : List ℕ). Took run.out b o) same took), tells)
 
--- the shipped sheet that was written, and reported where out failed
-pub shipped_told : (run : Run) (bytes : List ℕ) (result : Outcome) → asked run.words ≡ Some shipped → ReadNothing run.input → bytes ≡ leiden_core → IsWritten run.out run.notes bytes result → Told run result
-shipped_told run bytes result is read same (o, took, tells) = (o, [], shipped_written is read (subst (λ (b : List ℕ). Took run.out b o) same took), tells)
+-- a shipped sheet that was written, and reported where out failed
+pub shipped_told : (run : Run) (core : Core) (bytes : List ℕ) (result : Outcome) → asked run.words ≡ Some (shipped core) → ReadNothing run.input → bytes ≡ core_bytes core → IsWritten run.out run.notes bytes result → Told run result
+shipped_told run core bytes result is read same (o, took, tells) = (o, [], shipped_written core is read (subst (λ (b : List ℕ). Took run.out b o) same took), tells)
 
 -- what notes took
 pub told_all : (notes : Output) (names : List (List ℕ)) (o : Outcome) (bytes : List ℕ) → bytes ≡ line names o → Appends notes.taken_before notes.taken_now bytes → Tells notes names o o

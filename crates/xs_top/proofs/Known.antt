@@ -2,18 +2,20 @@
 use Rattle.std.proofs.Common.{◌≡◌, ◌∙◌, ℕ, List, length, None, Some, sym, subst, ap, arith}
 use Rattle.std.proofs.lemmas.Option.{same_Some}
 use Rattle.xs_io.specs.Shown.{Files}
-use Rattle.xs_words.specs.Command.{Sheet as Named, leiden, file}
+use Rattle.xs_words.specs.Command.{Sheet as Named, leiden, leiden2, file}
 use Rattle.xs_pair.specs.Grammars.{Pair}
 use Rattle.xs_top.specs.Known.{HasBytes}
 use Rattle.xs_top.specs.Sheets.{AreBytesOf, IsLong, IsPairOfBytes, SpellsPair}
 
 pub has_only : (files : Files) (named : Named) (bytes other : List ℕ) → HasBytes files named bytes → AreBytesOf files named other → other ≡ bytes
 has_only files leiden bytes other has are = are ∙ sym has
+has_only files leiden2 bytes other has are = are ∙ sym has
 has_only None (file name) bytes other has are = absurd has
 has_only (Some files) (file name) bytes other has are = same_Some other bytes (sym are.0 ∙ has.0)
 
 pub has_short : (files : Files) (named : Named) (bytes : List ℕ) → HasBytes files named bytes → IsLong files named → ⊥
 has_short files leiden bytes has long = long
+has_short files leiden2 bytes has long = long
 has_short None (file name) bytes has long = has
 has_short (Some files) (file name) bytes has (other, is, long) =
     let same : length other ≡ length bytes = ap (λ (xs : List ℕ). length xs) (same_Some other bytes (sym is ∙ has.0)) in

@@ -1,20 +1,22 @@
--- What the words ask for: the shipped sheet, or what is to be done by a sheet.
+-- What the words ask for: a shipped sheet, or what is to be done by a sheet.
 use Rattle.std.specs.Prelude.{ℕ, List}
 use Rattle.std.specs.declared.option.Option.{Option}
 use Rattle.std.specs.Option.{option_map}
 use Rattle.xs_class.specs.declared.side.Side.TheVariants.{Text, Xml}
 use Rattle.xs_chars.specs.declared.form.Form.TheVariants.{AsIs}
-use Rattle.xs_words.specs.Command.{Sheet, leiden, Command, check, to_xml, to_text, round_text, round_xml, trees, print_sheet, make, session, to_tree, from_tree, cover, command_of}
+use Rattle.xs_words.specs.Command.{Sheet, leiden, Command, check, to_xml, to_text, round_text, round_xml, trees, print_sheet, make, session, to_tree, from_tree, cover, command_of, print_sheet2}
+use Rattle.xs_top.specs.declared.asking.Core.{Core}
+use Rattle.xs_top.specs.declared.asking.Core.TheVariants.{One, Two}
 use Rattle.xs_top.specs.declared.asking.Job.{Job}
 use Rattle.xs_top.specs.declared.asking.Job.TheVariants.{Check, Turn, Trees, Make, Session, ToTree, FromTree, Cover}
 
--- the shipped sheet, as it is; or a job by a sheet
+-- a shipped sheet, as it is; or a job by a sheet
 pub data Ask : Type 0 where
-  shipped : Ask
+  shipped : Core → Ask
   by : Sheet → Job → Ask
 
 -- what a command asks for: a document of one side is read, and one of a side is written; a text is made for the
--- shipped sheet
+-- first shipped sheet
 abbrev pub ask_of : Command → Ask
 ask_of (check sheet) = by sheet Check
 ask_of (to_xml sheet form) = by sheet (Turn Text Xml form)
@@ -22,7 +24,8 @@ ask_of (to_text sheet) = by sheet (Turn Xml Text AsIs)
 ask_of (round_text sheet form) = by sheet (Turn Text Text form)
 ask_of (round_xml sheet) = by sheet (Turn Xml Xml AsIs)
 ask_of (trees sheet max) = by sheet (Trees max)
-ask_of print_sheet = shipped
+ask_of print_sheet = shipped One
+ask_of print_sheet2 = shipped Two
 ask_of (make seed lines) = by leiden (Make seed lines)
 ask_of (session sheet) = by sheet Session
 ask_of (to_tree sheet side form) = by sheet (ToTree side form)

@@ -8,7 +8,7 @@ use Rattle.xs_top.specs.declared.asking.Job.{Job}
 use Rattle.xs_top.specs.declared.asking.Job.TheVariants.{Make}
 
 abbrev pub ask_meant : Asking → Ask
-ask_meant A.Shipped = shipped
+ask_meant (A.Shipped core) = shipped core
 ask_meant (A.By sheet job) = by (sheet_meant sheet) job
 
 -- a text that is made has 1 to 2,000 lines
@@ -17,5 +17,5 @@ HasLines (Make seed lines) = (1 ≤ lines) × (lines ≤ 2000)
 HasLines other = Unit {0}
 
 abbrev pub AsksForLines : Asking → Type 0
-AsksForLines A.Shipped = Unit {0}
+AsksForLines (A.Shipped core) = Unit {0}
 AsksForLines (A.By sheet job) = HasLines job

@@ -11,19 +11,19 @@ use Rattle.xs_chars.specs.declared.form.Form.TheVariants.{AsIs}
 use Rattle.xs_gram.specs.Common.{Common}
 use Rattle.xs_gram.specs.Languages.{InLang}
 use Rattle.xs_check_laws.specs.Acceptance.{IsAccepted}
-use Rattle.xs_leiden.specs.Sheet.{leiden_core}
 use Rattle.xs_leiden.specs.Made.{made_text}
 use Rattle.xs_words.specs.Command.{Sheet as Named}
 use Rattle.xs_pair.specs.Grammars.{Pair, grammar_of}
 use Rattle.xs_talk.specs.Lines.{line}
 use Rattle.xs_talk.specs.declared.outcome.Outcome.{Outcome}
 use Rattle.xs_talk.specs.declared.outcome.Outcome.TheVariants.{Done, Foreign, SheetLong, SheetBad, SheetIll, Heavy, Suspect, NotUtf8, NotXml, Usage, SheetFault, ReadFault, WriteFault, NoteFault, DocLong, ScriptBad, OutlineBad}
+use Rattle.xs_top.specs.declared.asking.Core.{Core}
 use Rattle.xs_top.specs.declared.asking.Job.{Job}
 use Rattle.xs_top.specs.declared.asking.Job.TheVariants.{Check, Turn, Trees, Make, Session, ToTree, FromTree, Cover}
 use Rattle.xs_top.specs.Asked.{Ask, shipped, by, asked}
 use Rattle.xs_top.specs.Devices.{Input, Output, Run, ReadNothing, TookNothing}
 use Rattle.xs_top.specs.Known.{HasBytes}
-use Rattle.xs_top.specs.Sheets.{IsFailed, IsPairOfBytes, SpellsPair, IsUnpaired}
+use Rattle.xs_top.specs.Sheets.{core_bytes, IsFailed, IsPairOfBytes, SpellsPair, IsUnpaired}
 use Rattle.xs_top.specs.Checks.{IsSure, IsUnsure}
 use Rattle.xs_talk.specs.Counts.{accepted_line}
 use Rattle.xs_top.specs.Documents.{IsWordOf}
@@ -86,12 +86,12 @@ Took out answer Done = Appends out.taken_before out.taken_now answer
 Took out answer (WriteFault written) = Appends out.taken_before out.taken_now (take written answer) × (written < length answer) × Rose out.faults_before out.faults_now
 Took out answer other = ⊥
 
--- The outcome to which a run went, with the names by which it is reported: the words are no command; or the shipped
+-- The outcome to which a run went, with the names by which it is reported: the words are no command; or a shipped
 -- sheet is written; or the sheet that is asked for spells no grammars; or the job is not done by them; or it is
 -- answered.
 pub data Went (run : Run) : Outcome → List (List ℕ) → Type 0 where
   no_command : asked run.words ≡ None → ReadNothing run.input → TookNothing run.out → Went run Usage []
-  shipped_written : {o : Outcome} → asked run.words ≡ Some shipped → ReadNothing run.input → Took run.out leiden_core o → Went run o []
+  shipped_written : (core : Core) {o : Outcome} → asked run.words ≡ Some (shipped core) → ReadNothing run.input → Took run.out (core_bytes core) o → Went run o []
   unpaired : (sheet : Named) (job : Job) {o : Outcome} → asked run.words ≡ Some (by sheet job) → IsUnpaired run.shelf sheet o → ReadNothing run.input → TookNothing run.out → Went run o []
   undone : (sheet : Named) (job : Job) (p : Pair) {o : Outcome} → asked run.words ≡ Some (by sheet job) → SpellsPair run.shelf.files sheet p → IsUndone p run.input job o → TookNothing run.out → Went run o p.names
   answered : (sheet : Named) (job : Job) (p : Pair) (answer : List ℕ) {o : Outcome} → asked run.words ≡ Some (by sheet job) → SpellsPair run.shelf.files sheet p → IsAnswer p run.input job answer → Took run.out answer o → Went run o []
@@ -187,9 +187,9 @@ pub record IsClear (run : Run) (sheet : Named) (job : Job) : Type 0 where
   pub spelled : IsPairOfBytes bytes pair
   pub doable : IsDoable pair run.input job
 
--- nothing stands against what is asked for; never against the shipped sheet
+-- nothing stands against what is asked for; never against a shipped sheet
 abbrev pub IsFree : Run → Ask → Type 0
-IsFree run shipped = Unit {0}
+IsFree run (shipped core) = Unit {0}
 IsFree run (by sheet job) = IsClear run sheet job
 
 -- The words ask for something; nothing stands against it; and no count of out and notes rose.

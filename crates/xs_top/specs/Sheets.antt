@@ -1,8 +1,8 @@
 -- The sheet of a command, and why there is none.
 use Rattle.std.specs.Prelude.{◌≡◌, ◌⊎◌, ℕ, List}
 use Rattle.xs_io.specs.Shown.{Files, IsFile, IsLongFile, NameFailed}
-use Rattle.xs_leiden.specs.Sheet.{leiden_core}
-use Rattle.xs_words.specs.Command.{Sheet as Named, leiden, file}
+use Rattle.xs_leiden.specs.Sheet.{leiden_core, leiden_core_2}
+use Rattle.xs_words.specs.Command.{Sheet as Named, leiden, leiden2, file}
 use Rattle.xs_sheet.specs.declared.sheet.Sheet.{Sheet}
 use Rattle.xs_sheet.specs.Grammar.{IsSheetOf, IsSheetBrokenAt}
 use Rattle.xs_pair.specs.declared.ill.Ill.{Ill}
@@ -10,21 +10,31 @@ use Rattle.xs_pair.specs.Grammars.{Pair, IsPairOf}
 use Rattle.xs_wf.specs.Rules.{IsWell, IsIll}
 use Rattle.xs_talk.specs.declared.outcome.Outcome.{Outcome}
 use Rattle.xs_talk.specs.declared.outcome.Outcome.TheVariants.{SheetFault, SheetLong, SheetBad, SheetIll}
+use Rattle.xs_top.specs.declared.asking.Core.{Core}
+use Rattle.xs_top.specs.declared.asking.Core.TheVariants.{One, Two}
 use Rattle.xs_top.specs.Devices.{Shelves}
+
+-- the bytes of a sheet that the program includes
+abbrev pub core_bytes : Core → List ℕ
+core_bytes One = leiden_core
+core_bytes Two = leiden_core_2
 
 -- the sheet's bytes, by what is known of a shelf's files; there are at most 65,536
 abbrev pub AreBytesOf : Files → Named → List ℕ → Type 0
 AreBytesOf files leiden bytes = bytes ≡ leiden_core
+AreBytesOf files leiden2 bytes = bytes ≡ leiden_core_2
 AreBytesOf files (file name) bytes = IsFile files name bytes 65536
 
 -- the sheet is a file that failed: the count of the shelf rose, and that of the name where the file is known
 abbrev pub IsFailed : Shelves → Named → Type 0
 IsFailed shelf leiden = ⊥
+IsFailed shelf leiden2 = ⊥
 IsFailed shelf (file name) = NameFailed shelf.files name shelf.faults_before shelf.faults_now (shelf.name_before name) (shelf.name_now name)
 
 -- the sheet is a file of more than 65,536 bytes
 abbrev pub IsLong : Files → Named → Type 0
 IsLong files leiden = ⊥
+IsLong files leiden2 = ⊥
 IsLong files (file name) = IsLongFile files name 65536
 
 -- why the bytes cannot be had

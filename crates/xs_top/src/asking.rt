@@ -31,11 +31,18 @@ pub enum Job {
     Cover,
 }
 
+/// A sheet that the program includes.
+#[derive(Clone, Copy)]
+pub enum Core {
+    One,
+    Two,
+}
+
 /// What the words ask for.
 #[derive(Clone, Copy)]
 pub enum Ask<'w> {
-    /// The shipped sheet, as it is.
-    Shipped,
+    /// A shipped sheet, as it is.
+    Shipped(Core),
     /// A job by a sheet.
     By { sheet: SheetName<'w>, job: Job },
 }
@@ -58,7 +65,8 @@ fn ask_of(command: Command<'_>) -> Ask<'_>
         Command::RoundText { sheet, form } => (sheet, turning(Side::Text, Side::Text, form)),
         Command::RoundXml { sheet } => (sheet, turning(Side::Xml, Side::Xml, Form::AsIs)),
         Command::Trees { sheet, max } => (sheet, Job::Trees { max }),
-        Command::PrintSheet => return Ask::Shipped,
+        Command::PrintSheet => return Ask::Shipped(Core::One),
+        Command::PrintSheet2 => return Ask::Shipped(Core::Two),
         Command::Make { seed, lines } => (SheetName::Leiden, Job::Make { seed, lines }),
         Command::Session { sheet } => (sheet, Job::Session),
         Command::ToTree { sheet, side, form } => (sheet, Job::ToTree { from: side, form }),

@@ -30,7 +30,7 @@ mod written;
 use crate::answer::answer_of;
 use crate::asking::{Ask, asked};
 use crate::notes::{no_names, tell};
-use crate::sheets::pair_for;
+use crate::sheets::{pair_for, shipped_bytes};
 use crate::stop::Stop;
 use crate::written::written;
 pub use answer::DOCUMENT_LIMIT;
@@ -43,7 +43,6 @@ use std::alloc::Global;
 use xs_check_laws::weights_are_exact;
 use xs_class::Memory;
 use xs_io::{Shelf, Sink, Source};
-use xs_leiden::leiden_sheet;
 pub use xs_talk::Outcome;
 use xs_talk::room;
 use xs_xml::one_word;
@@ -55,8 +54,8 @@ use xs_xml::one_word;
 /// outline is read, and the document of its tree is written; or an edit script is read and played,
 /// and its answers are written; or the derivations of a text are listed; or the sheet is checked; or
 /// a smallest document pair is shown for each of its productions. The sheet is a file of the shelf,
-/// or the one that the program includes, which can be written too, and of which a text can be made
-/// and turned. All memory is taken before the first write.
+/// or one that the program includes, which can be written too; of the first of these a text can be
+/// made and turned. All memory is taken before the first write.
 pub fn run<S: Source, H: Shelf, K: Sink, N: Sink>(
     alloc: Global,
     words: &[String],
@@ -82,7 +81,9 @@ pub fn run<S: Source, H: Shelf, K: Sink, N: Sink>(
     let none = no_names(alloc)?;
     let (sheet, job) = match asked(words) {
         Some(Ask::By { sheet, job }) => (sheet, job),
-        Some(Ask::Shipped) => return Ok(written(out, notes, &none, room, leiden_sheet())),
+        Some(Ask::Shipped(core)) => {
+            return Ok(written(out, notes, &none, room, shipped_bytes(core)));
+        }
         None => return tell(alloc, notes, &none, Outcome::Usage),
     };
     let two = match pair_for(alloc, shelf, sheet) {

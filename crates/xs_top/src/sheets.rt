@@ -3,14 +3,15 @@ ghost use Rattle.xs_pair.specs.Sound.{IsSoundPair};
 ghost use Rattle.xs_words.specs.Meaning.{sheet_meant};
 ghost use Rattle.xs_writing_laws.specs.Laws.{CanBeWritten};
 ghost use Rattle.xs_top.specs.Devices.{shelves_of};
-ghost use Rattle.xs_top.specs.Sheets.{AreBytesOf, IsStopped, IsPairOfBytes, IsBadBytes, SpellsPair, IsUnpaired};
+ghost use Rattle.xs_top.specs.Sheets.{core_bytes, AreBytesOf, IsStopped, IsPairOfBytes, IsBadBytes, SpellsPair, IsUnpaired};
 ghost use Rattle.xs_top.specs.Stops.{StopsBy};
 
+use crate::asking::Core;
 use crate::stop::Stop;
 use std::alloc::Global;
 use xs_class::Bytes;
 use xs_io::{ReadStop, Shelf, read_file};
-use xs_leiden::leiden_sheet;
+use xs_leiden::{leiden_sheet, leiden2_sheet};
 use xs_pair::Two;
 use xs_sheet::read_sheet;
 use xs_talk::Outcome;
@@ -20,6 +21,16 @@ use xs_writing_laws::words_can_be_written;
 
 /// How many bytes a sheet may have.
 pub const SHEET_LIMIT: usize = 65_536;
+
+/// The bytes of a sheet that the program includes.
+pub fn shipped_bytes(core: Core) -> &'static [u8]
+    ensures { result.now ≡ core_bytes core }
+{
+    match core {
+        Core::One => leiden_sheet(),
+        Core::Two => leiden2_sheet(),
+    }
+}
 
 /// The bytes of a sheet.
 fn sheet_bytes<H: Shelf>(alloc: Global, shelf: &mut H, sheet: SheetName<'_>) -> Result<Bytes, Stop>
@@ -31,6 +42,10 @@ fn sheet_bytes<H: Shelf>(alloc: Global, shelf: &mut H, sheet: SheetName<'_>) -> 
     match sheet {
         SheetName::Leiden => {
             let bytes = Bytes::of(alloc, leiden_sheet())?;
+            Ok(bytes)
+        }
+        SheetName::Leiden2 => {
+            let bytes = Bytes::of(alloc, leiden2_sheet())?;
             Ok(bytes)
         }
         SheetName::File(name) => match read_file(alloc, shelf, name, SHEET_LIMIT) {

@@ -9,9 +9,10 @@ use Rattle.xs_chars.specs.declared.form.Form.{Form}
 use Rattle.xs_chars.specs.declared.form.Form.TheVariants.{AsIs, Nfc, Nfd}
 use Rattle.xs_words.specs.Number.{number_within}
 
--- a sheet: the one that the program includes, or that of a file of this name
+-- a sheet: one of the two that the program includes, or that of a file of this name
 pub data Sheet : Type 0 where
   leiden : Sheet
+  leiden2 : Sheet
   file : List ℕ → Sheet
 
 -- a command, with its sheet, its side, its form and its numbers: a greatest number of trees, a seed and a number of lines
@@ -23,6 +24,7 @@ pub data Command : Type 0 where
   round_xml : Sheet → Command
   trees : Sheet → ℕ → Command
   print_sheet : Command
+  print_sheet2 : Command
   make : ℕ → ℕ → Command
   session : Sheet → Command
   to_tree : Sheet → Side → Form → Command
@@ -30,7 +32,7 @@ pub data Command : Type 0 where
   cover : Sheet → Command
 
 abbrev pub sheet_of : List ℕ → Sheet
-sheet_of word = if bytes_eq word (codes "@leiden") then leiden else file word
+sheet_of word = if bytes_eq word (codes "@leiden") then leiden else (if bytes_eq word (codes "@leiden2") then leiden2 else file word)
 
 abbrev pub form_of : List ℕ → Option Form
 form_of word = if bytes_eq word (codes "asis") then Some AsIs else (if bytes_eq word (codes "nfc") then Some Nfc else (if bytes_eq word (codes "nfd") then Some Nfd else None))
@@ -38,9 +40,13 @@ form_of word = if bytes_eq word (codes "asis") then Some AsIs else (if bytes_eq 
 abbrev pub side_of : List ℕ → Option Side
 side_of word = if bytes_eq word (codes "text") then Some Text else (if bytes_eq word (codes "xml") then Some Xml else None)
 
--- check SHEET, to-xml SHEET, to-text SHEET, session SHEET, cover SHEET
+-- sheet 2
+abbrev pub printed_of : List ℕ → Option Command
+printed_of number = if bytes_eq number (codes "2") then Some print_sheet2 else None
+
+-- check SHEET, to-xml SHEET, to-text SHEET, session SHEET, cover SHEET, sheet 2
 abbrev pub command_of_two : List ℕ → List ℕ → Option Command
-command_of_two verb sheet = if bytes_eq verb (codes "check") then Some (check (sheet_of sheet)) else (if bytes_eq verb (codes "to-xml") then Some (to_xml (sheet_of sheet) AsIs) else (if bytes_eq verb (codes "to-text") then Some (to_text (sheet_of sheet)) else (if bytes_eq verb (codes "session") then Some (session (sheet_of sheet)) else (if bytes_eq verb (codes "cover") then Some (cover (sheet_of sheet)) else None))))
+command_of_two verb sheet = if bytes_eq verb (codes "check") then Some (check (sheet_of sheet)) else (if bytes_eq verb (codes "to-xml") then Some (to_xml (sheet_of sheet) AsIs) else (if bytes_eq verb (codes "to-text") then Some (to_text (sheet_of sheet)) else (if bytes_eq verb (codes "session") then Some (session (sheet_of sheet)) else (if bytes_eq verb (codes "cover") then Some (cover (sheet_of sheet)) else (if bytes_eq verb (codes "sheet") then printed_of sheet else None)))))
 
 -- round SHEET text, round SHEET xml
 abbrev pub round_of : List ℕ → List ℕ → Option Command

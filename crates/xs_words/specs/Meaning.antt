@@ -1,13 +1,14 @@
 -- What a command of the program means: the words that it borrows, read.
 use Rattle.std.specs.Prelude.{◌≤◌}
 use Rattle.xs_words.specs.declared.command.SheetName.{SheetName}
-use Rattle.xs_words.specs.declared.command.SheetName.TheVariants.{Leiden, File}
+use Rattle.xs_words.specs.declared.command.SheetName.TheVariants.{Leiden, Leiden2, File}
 use Rattle.xs_words.specs.declared.command.Command.{Command as Asked}
-use Rattle.xs_words.specs.declared.command.Command.TheVariants.{Check, ToXml, ToText, RoundText, RoundXml, Trees, PrintSheet, Make, Session, ToTree, FromTree, Cover}
-use Rattle.xs_words.specs.Command.{Sheet, leiden, file, Command, check, to_xml, to_text, round_text, round_xml, trees, print_sheet, make, session, to_tree, from_tree, cover}
+use Rattle.xs_words.specs.declared.command.Command.TheVariants.{Check, ToXml, ToText, RoundText, RoundXml, Trees, PrintSheet, Make, Session, ToTree, FromTree, Cover, PrintSheet2}
+use Rattle.xs_words.specs.Command.{Sheet, leiden, file, Command, check, to_xml, to_text, round_text, round_xml, trees, print_sheet, make, session, to_tree, from_tree, cover, leiden2, print_sheet2}
 
 abbrev pub sheet_meant : SheetName → Sheet
 sheet_meant Leiden = leiden
+sheet_meant Leiden2 = leiden2
 sheet_meant (File name) = file name.now
 
 abbrev pub meant : Asked → Command
@@ -18,6 +19,7 @@ meant (RoundText sheet form) = round_text (sheet_meant sheet) form
 meant (RoundXml sheet) = round_xml (sheet_meant sheet)
 meant (Trees sheet max) = trees (sheet_meant sheet) max
 meant PrintSheet = print_sheet
+meant PrintSheet2 = print_sheet2
 meant (Make seed lines) = make seed lines
 meant (Session sheet) = session (sheet_meant sheet)
 meant (ToTree sheet side form) = to_tree (sheet_meant sheet) side form

@@ -1,11 +1,12 @@
 use xs_chars::Form;
 use xs_class::Side;
 
-/// The sheet that a word names: `@leiden` names the one that the program includes, and any other
-/// word a file.
+/// The sheet that a word names: `@leiden` and `@leiden2` name those that the program includes, and
+/// any other word a file.
 #[derive(Clone, Copy)]
 pub enum SheetName<'w> {
     Leiden,
+    Leiden2,
     File(&'w str),
 }
 
@@ -39,8 +40,10 @@ pub enum Command<'w> {
         sheet: SheetName<'w>,
         max: u32,
     },
-    /// `sheet`: the sheet that the program includes.
+    /// `sheet`: the first sheet that the program includes.
     PrintSheet,
+    /// `sheet 2`: the second one, with marks inside marks.
+    PrintSheet2,
     /// `make SEED LINES`: a text of 1 to 2,000 lines that is made from a seed of at most
     /// 2,147,483,647.
     Make {

@@ -1,6 +1,6 @@
 ghost use Rattle.std.specs.Prelude.{◌≡◌, ◌≤◌, IfSome, map, string_bytes};
 ghost use Rattle.std.specs.Option.{option_map};
-ghost use Rattle.xs_words.specs.Command.{command_of as meant_by, command_of_two, command_of_three, command_of_four, form_of, side_of, sheet_of, round_of, make_of};
+ghost use Rattle.xs_words.specs.Command.{command_of as meant_by, command_of_two, command_of_three, command_of_four, printed_of, form_of, side_of, sheet_of, round_of, make_of};
 ghost use Rattle.xs_words.specs.Meaning.{meant, sheet_meant, HasLines};
 
 use crate::number::number;
@@ -20,6 +20,8 @@ fn sheet_name(word: &str) -> SheetName<'_>
 {
     if word == "@leiden" {
         SheetName::Leiden
+    } else if word == "@leiden2" {
+        SheetName::Leiden2
     } else {
         SheetName::File(word)
     }
@@ -48,12 +50,23 @@ fn side_named(word: &str) -> Option<Side>
     }
 }
 
-/// A command of two words.
-fn of_two<'w>(verb: &str, sheet: &'w str) -> Option<Command<'w>>
-    ensures command { option_map meant result ≡ command_of_two verb.now sheet.now }
+/// The command `sheet` with the number of a sheet.
+fn printed<'w>(number: &'w str) -> Option<Command<'w>>
+    ensures command { option_map meant result ≡ printed_of number.now }
     ensures lines { IfSome result HasLines }
 {
-    let sheet = sheet_name(sheet);
+    if number == "2" {
+        return Some(Command::PrintSheet2);
+    }
+    None
+}
+
+/// A command of two words.
+fn of_two<'w>(verb: &str, second: &'w str) -> Option<Command<'w>>
+    ensures command { option_map meant result ≡ command_of_two verb.now second.now }
+    ensures lines { IfSome result HasLines }
+{
+    let sheet = sheet_name(second);
     match verb {
         "check" => Some(Command::Check { sheet }),
         "to-xml" => Some(Command::ToXml {
@@ -63,6 +76,7 @@ fn of_two<'w>(verb: &str, sheet: &'w str) -> Option<Command<'w>>
         "to-text" => Some(Command::ToText { sheet }),
         "session" => Some(Command::Session { sheet }),
         "cover" => Some(Command::Cover { sheet }),
+        "sheet" => printed(second),
         _ => None,
     }
 }
@@ -160,12 +174,12 @@ fn of_four<'w>(verb: &str, sheet: &'w str, side: &str, form: &str) -> Option<Com
 ///
 /// The forms are `check SHEET`, `to-xml SHEET`, `to-xml SHEET FORM`, `to-text SHEET`,
 /// `round SHEET text`, `round SHEET text FORM`, `round SHEET xml`, `trees SHEET MAX`, `sheet`,
-/// `make SEED LINES`, `session SHEET`, `to-tree SHEET text`, `to-tree SHEET text FORM`,
+/// `sheet 2`, `make SEED LINES`, `session SHEET`, `to-tree SHEET text`, `to-tree SHEET text FORM`,
 /// `to-tree SHEET xml`, `from-tree SHEET text`, `from-tree SHEET xml` and `cover SHEET`. SHEET is
-/// `@leiden` or a file's name, and FORM `asis`, which is meant where it is left out, `nfc` or `nfd`.
-/// MAX is 1 to 1,000, SEED 0 to 2,147,483,647 and LINES 1 to 2,000, each in decimal digits without a
-/// sign, and without a leading zero but for `0` itself. Takes no memory; time is linear in the
-/// words.
+/// `@leiden`, `@leiden2` or a file's name, and FORM `asis`, which is meant where it is left out, `nfc`
+/// or `nfd`. MAX is 1 to 1,000, SEED 0 to 2,147,483,647 and LINES 1 to 2,000, each in decimal digits
+/// without a sign, and without a leading zero but for `0` itself. Takes no memory; time is linear in
+/// the words.
 pub fn command_of(words: &[String]) -> Option<Command<'_>>
     ensures command { option_map meant result ≡ meant_by (map string_bytes words.now) }
     ensures lines { IfSome result HasLines }

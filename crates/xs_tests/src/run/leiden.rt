@@ -8,7 +8,7 @@ use std::process::Abort;
 use std::test::Fail;
 use xs_class::{Memory, Side};
 use xs_gram::Gram;
-use xs_leiden::leiden_sheet;
+use xs_leiden::{leiden_sheet, leiden2_sheet};
 use xs_loose::{Part, weight_of};
 use xs_order::components;
 use xs_pair::Two;
@@ -118,8 +118,10 @@ fn the_first_production_weighs_less_as_text(rt: HostRuntime) -> Result<(), Fail>
 }
 
 #[test]
-fn the_shipped_sheet_is_written(rt: HostRuntime) -> Result<(), Fail> {
-    expect(&rt, rt.alloc(), &["sheet"], b"", b"", done(leiden_sheet()))
+fn the_shipped_sheets_are_written(rt: HostRuntime) -> Result<(), Fail> {
+    expect(&rt, rt.alloc(), &["sheet"], b"", b"", done(leiden_sheet()))?;
+    let words = &["sheet", "2"];
+    expect(&rt, rt.alloc(), words, b"", b"", done(leiden2_sheet()))
 }
 
 const MAKE: &[&str] = &["make", "5", "2000"];

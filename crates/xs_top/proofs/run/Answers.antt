@@ -15,7 +15,7 @@ returns-in-None-clause-told g c =
 
 pub returns-in-Some-Shipped-clause-told : goal.returns-in-Some-Shipped-clause-told
 returns-in-Some-Shipped-clause-told g c =
-    shipped_told _ c.leiden_sheet.result.now c.written.result (sym c.asked.ensures.ask ∙ ap (λ o. option_map ask_meant o) c.in-Some-Shipped.is ∙ ap (λ a. Some (ask_meant a)) c.in-Some-Shipped.field-0-is) (record { left = refl; faults = refl }) c.leiden_sheet.ensures c.written.ensures
+    shipped_told _ c.in-Some-Shipped.core c.shipped_bytes.result.now c.written.result (sym c.asked.ensures.ask ∙ ap (λ o. option_map ask_meant o) c.in-Some-Shipped.is ∙ ap (λ a. Some (ask_meant a)) c.in-Some-Shipped.field-0-is) (record { left = refl; faults = refl }) c.shipped_bytes.ensures c.written.ensures
 
 pub returns-in-Err-Refused-clause-told : goal.returns-in-Err-Refused-clause-told
 returns-in-Err-Refused-clause-told g c =
