@@ -57,6 +57,8 @@ mod regex;
 #[cfg(test)]
 mod run;
 #[cfg(test)]
+mod script;
+#[cfg(test)]
 mod sheet;
 #[cfg(test)]
 mod sheets;
