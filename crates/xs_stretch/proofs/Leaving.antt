@@ -5,7 +5,7 @@ use Rattle.xs_gram.specs.declared.parts.GItem.TheVariants.{Non}
 use Rattle.xs_gram.specs.Grammar.{Grammar}
 use Rattle.xs_gram.specs.Fenced.Loose.{here}
 use Rattle.xs_gram.specs.Sound.{IsBuilt}
-use Rattle.xs_check_laws.specs.Weights.{heaviest, capped}
+use Rattle.xs_check_laws.specs.Weights.{heaviest}
 use Rattle.xs_check_laws.specs.Fenced.Weights.{Members}
 use Rattle.xs_check_laws.proofs.Fenced.Weights.{component_once}
 use Rattle.xs_stretch.specs.declared.site.Spot.{Spot}
@@ -16,7 +16,6 @@ use Rattle.xs_stretch.specs.Laying.{entry_state, exit_state, LaysItem, lays_non,
 use Rattle.xs_stretch.specs.Walking.{HasItemRoom, IsItemLaid}
 use Rattle.xs_stretch.specs.Weighing.{AreWeights}
 use Rattle.xs_stretch.specs.Work.{IsDone}
-use Rattle.xs_stretch.proofs.Once.{rank_once}
 use Rattle.xs_stretch.proofs.Spans.{component_span, exit_within}
 use Rattle.xs_stretch.proofs.Gaining.{done_grows, done_then, done_task}
 
