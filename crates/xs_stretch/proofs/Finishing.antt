@@ -1,8 +1,7 @@
 -- Nets that are finished: from bare states, by doing one task after another, to the net of a part.
-use Rattle.std.proofs.Common.{◌≡◌, ◌⊎◌, ◌↔◌, ℕ, suc, ◌+◌, ◌<◌, ◌≤◌, Bool, true, false, List, [], ◌∷◌, ◌++◌, get_or, refl, sym, ap, subst, ◌∙◌, inl, inr, arith, append-nil, None, Some}
+use Rattle.std.proofs.Common.{◌≡◌, ◌⊎◌, ℕ, suc, ◌+◌, ◌<◌, ◌≤◌, true, false, List, [], ◌∷◌, ◌++◌, refl, sym, subst, ◌∙◌, inl, inr, arith, append-nil, None, Some}
 use Rattle.std.specs.List.{Contains}
 use Rattle.std.proofs.lemmas.Bool.{cases_eq}
-use Rattle.std.proofs.lemmas.List.Elements.{Contains-append_cases}
 use Rattle.xs_auto.specs.declared.call.Call.{Call}
 use Rattle.xs_auto.specs.declared.edge.Edge.{Edge}
 use Rattle.xs_auto.specs.Nets.{Graph, states, final_at, edges_of, moves_of, calls_of, AddsState, SetsFinal}
@@ -11,19 +10,19 @@ use Rattle.xs_gram.specs.Grammar.{Grammar}
 use Rattle.xs_gram.specs.Laws.{IsDistinct}
 use Rattle.xs_gram.specs.Fences.{fence_symbols}
 use Rattle.xs_gram.specs.Sound.{IsBuilt}
-use Rattle.xs_check_laws.specs.Weights.{cap, capped, heaviest, PartWeighs}
+use Rattle.xs_check_laws.specs.Weights.{heaviest, PartWeighs}
 use Rattle.xs_check_laws.proofs.Weights.{part_weighs_once}
 use Rattle.xs_stretch.specs.declared.part.Part.{Part}
 use Rattle.xs_stretch.specs.declared.site.Spot.{Spot}
 use Rattle.xs_stretch.specs.declared.site.Task.{Task}
 use Rattle.xs_stretch.specs.Arcs.{Label, reads, passes, calls, Arc, read, pass, call}
 use Rattle.xs_stretch.specs.Growth.{HasLabel, HasArc}
-use Rattle.xs_stretch.specs.Laying.{LaysComponent, LaysPart}
+use Rattle.xs_stretch.specs.Laying.{LaysPart}
 use Rattle.xs_stretch.specs.Making.{IsBlank, IsTaskDone}
-use Rattle.xs_stretch.specs.Nets.{IsNumbered, IsNetOf, HasItsWeight}
+use Rattle.xs_stretch.specs.Nets.{IsNetOf, HasItsWeight}
 use Rattle.xs_stretch.specs.Parts.{part_items, IsPart}
 use Rattle.xs_stretch.specs.Walking.{HasRoom, AreAllLaid}
-use Rattle.xs_stretch.specs.Work.{IsOfTask, Holds, Gains, work, IsTask, AreTasks}
+use Rattle.xs_stretch.specs.Work.{IsOfTask, Holds, Gains, work}
 use Rattle.xs_stretch.proofs.Gaining.{of_more, of_last, of_cases, gains_then, work_pop}
 use Rattle.xs_stretch.proofs.Laid.{PartLaid, part_laid, stretch_named}
 use Rattle.xs_stretch.proofs.Spans.{part_span}

@@ -8,9 +8,9 @@ use Rattle.xs_gram.specs.Laws.{IsDistinct}
 use Rattle.xs_gram.specs.Fences.{fence_symbols}
 use Rattle.xs_stretch.specs.declared.site.Task.{Task}
 use Rattle.xs_stretch.specs.Arcs.{Arc}
-use Rattle.xs_stretch.specs.Growth.{HasArc, NetGrows}
+use Rattle.xs_stretch.specs.Growth.{NetGrows}
 use Rattle.xs_stretch.specs.Laying.{LaysComponent}
-use Rattle.xs_stretch.specs.Work.{IsOfTask, Holds, Gains, work, IsTask, AreTasks, IsDone}
+use Rattle.xs_stretch.specs.Work.{IsOfTask, Gains, work, IsTask, AreTasks, IsDone}
 use Rattle.xs_stretch.proofs.Once.{component_once}
 
 pub gains_grows : (g : Grammar) {arcs : List Arc} {n m : Graph} (ts : List Task) → NetGrows arcs n m → Gains g arcs n ts m ts

@@ -6,8 +6,8 @@ use Rattle.std.proofs.lemmas.List.Elements.{Contains-append_left, Contains-appen
 use Rattle.xs_auto.specs.Nets.{Graph, states}
 use Rattle.xs_gram.specs.declared.parts.GItem.{GItem}
 use Rattle.xs_gram.specs.Grammar.{Grammar}
-use Rattle.xs_gram.specs.Fences.{spread, grouped, IsFence, IsPlain, IsLevel, IsPartner, IsLeftFence}
-use Rattle.xs_gram.specs.Sound.{IsInRange, IsProper, IsBuilt}
+use Rattle.xs_gram.specs.Fences.{spread, grouped, IsPlain, IsLevel, IsPartner, IsLeftFence}
+use Rattle.xs_gram.specs.Sound.{IsInRange, IsBuilt}
 use Rattle.xs_gram.proofs.Levels.{no_group}
 use Rattle.xs_stretch.specs.declared.site.Home.{Home}
 use Rattle.xs_stretch.specs.declared.site.Spot.{Spot}
@@ -18,17 +18,17 @@ use Rattle.xs_stretch.specs.Groups.{group_number}
 use Rattle.xs_stretch.specs.Growth.{NetGrows}
 use Rattle.xs_stretch.specs.Laying.{LaysBody, lays_no_body, lays_member, lays_other, lays_group, LaysPart, part_none, part_then, part_group}
 use Rattle.xs_stretch.specs.Parts.{IsStretch}
-use Rattle.xs_stretch.specs.Steps.{StandsAt, IsPiece}
+use Rattle.xs_stretch.specs.Steps.{StandsAt}
 use Rattle.xs_stretch.specs.Walking.{AreNamed, Lays, HasRoom, IsOnward, IsStepped, AreAllLaid}
 use Rattle.xs_stretch.specs.Work.{IsDone}
 use Rattle.xs_stretch.proofs.Gaining.{done_grows, done_then}
 use Rattle.xs_stretch.proofs.Growing.{grows_none}
-use Rattle.xs_stretch.proofs.Inverting.{GroupOff, group_off}
+use Rattle.xs_stretch.proofs.Inverting.{group_off}
 use Rattle.xs_stretch.proofs.Laid.{rule_named, later_named, after_named}
 use Rattle.xs_stretch.proofs.Opening.{GroupFirst, ItemFirst, group_first, item_first}
 use Rattle.xs_stretch.proofs.Spans.{lays_rises}
 use Rattle.xs_stretch.proofs.Stepping.{group_piece, item_piece}
-use Rattle.xs_stretch.proofs.Stretches.{stretch_rest, nothing_left}
+use Rattle.xs_stretch.proofs.Stretches.{stretch_rest}
 
 -- what items that stand in a rule name is there
 pub stands_named : (g : Grammar) → IsInRange g → (p k : ℕ) (items : List GItem) → StandsAt g p k items → AreNamed g items

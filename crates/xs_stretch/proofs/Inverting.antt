@@ -1,20 +1,18 @@
 -- Laid items, taken apart at their front.
-use Rattle.std.proofs.Common.{◌≡◌, ℕ, suc, ◌+◌, ◌*◌, ◌<◌, ◌≤◌, List, [], ◌∷◌, ◌++◌, length, get_or, slice_get, refl, sym, ap, subst, ◌∙◌, arith, None, Some, Option}
+use Rattle.std.proofs.Common.{◌≡◌, ℕ, suc, ◌+◌, List, ◌∷◌, ◌++◌, length, refl, sym, subst, ◌∙◌, None, Some, Option}
 use Rattle.xs_gram.specs.declared.parts.GItem.{GItem}
-use Rattle.xs_gram.specs.declared.parts.GItem.TheVariants.{Fixed, Term, Non, Skip}
-use Rattle.xs_gram.specs.Grammar.{Grammar, term_of, skip_of}
-use Rattle.xs_gram.specs.Building.{NamesAreThere}
+use Rattle.xs_gram.specs.declared.parts.GItem.TheVariants.{Non}
+use Rattle.xs_gram.specs.Grammar.{Grammar}
 use Rattle.xs_gram.specs.Laws.{IsDistinct}
 use Rattle.xs_gram.specs.Fences.{fence_symbols, IsFence, IsPlain, IsLevel, grouped}
 use Rattle.xs_gram.specs.Loose.{AreOne, IsMember}
-use Rattle.xs_gram.specs.Sound.{IsBuilt}
 use Rattle.xs_gram.proofs.Levels.{cons_parts, no_group, plain_not_group}
 use Rattle.xs_check_laws.specs.Weights.{Members}
 use Rattle.xs_stretch.specs.declared.site.Home.{Home}
 use Rattle.xs_stretch.specs.declared.site.Spot.{Spot}
 use Rattle.xs_stretch.specs.Arcs.{Arc, pass, call}
 use Rattle.xs_stretch.specs.Groups.{group_number}
-use Rattle.xs_stretch.specs.Laying.{entry_state, exit_state, LaysItem, lays_fixed, lays_term, lays_skip, lays_non, LaysBody, lays_no_body, lays_member, lays_other, lays_group, LaysPart, part_none, part_then, part_group}
+use Rattle.xs_stretch.specs.Laying.{entry_state, exit_state, LaysItem, LaysBody, lays_no_body, lays_member, lays_other, lays_group, LaysPart, part_none, part_then, part_group}
 use Rattle.xs_stretch.specs.Walking.{Lays}
 use Rattle.xs_stretch.proofs.Once.{groups_once, non_fixed, non_named}
 

@@ -5,7 +5,7 @@ use Rattle.xs_gram.specs.declared.parts.GItem.TheVariants.{Non}
 use Rattle.xs_gram.specs.Grammar.{Grammar}
 use Rattle.xs_gram.specs.Loose.{here}
 use Rattle.xs_gram.specs.Sound.{IsBuilt}
-use Rattle.xs_check_laws.specs.Weights.{heaviest, capped, Members}
+use Rattle.xs_check_laws.specs.Weights.{heaviest, Members}
 use Rattle.xs_check_laws.proofs.Weights.{component_once}
 use Rattle.xs_stretch.specs.declared.site.Spot.{Spot}
 use Rattle.xs_stretch.specs.declared.site.Task.{Task}
@@ -15,7 +15,6 @@ use Rattle.xs_stretch.specs.Laying.{entry_state, exit_state, LaysItem, lays_non,
 use Rattle.xs_stretch.specs.Walking.{HasItemRoom, IsItemLaid}
 use Rattle.xs_stretch.specs.Weighing.{AreWeights}
 use Rattle.xs_stretch.specs.Work.{IsDone}
-use Rattle.xs_stretch.proofs.Once.{rank_once}
 use Rattle.xs_stretch.proofs.Spans.{component_span, exit_within}
 use Rattle.xs_stretch.proofs.Gaining.{done_grows, done_then, done_task}
 

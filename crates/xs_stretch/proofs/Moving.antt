@@ -1,5 +1,5 @@
 -- What the functions that lay items need and give.
-use Rattle.std.proofs.Common.{◌≡◌, ℕ, suc, ◌+◌, ◌*◌, ◌<◌, ◌≤◌, List, [], ◌∷◌, ◌++◌, length, get_or, slice_get, refl, sym, ap, subst, ◌∙◌, arith, None, Some, Option}
+use Rattle.std.proofs.Common.{◌≡◌, ℕ, suc, ◌+◌, ◌<◌, ◌≤◌, List, [], ◌∷◌, ◌++◌, length, slice_get, refl, sym, ap, subst, ◌∙◌, arith, Some, Option}
 use Rattle.std.specs.declared.result.Result.{Result}
 use Rattle.std.specs.declared.result.Result.TheVariants.{Ok, Err}
 use Rattle.std.specs.Result.{IfOk}
@@ -10,28 +10,24 @@ use Rattle.xs_gram.specs.declared.parts.GItem.TheVariants.{Fixed, Term, Non, Ski
 use Rattle.xs_gram.specs.Grammar.{Grammar, term_of, skip_of}
 use Rattle.xs_gram.specs.Building.{NamesAreThere}
 use Rattle.xs_gram.specs.Fences.{IsPlain}
-use Rattle.xs_gram.specs.Loose.{here, AreOne, AreComponents}
+use Rattle.xs_gram.specs.Loose.{AreOne}
 use Rattle.xs_gram.specs.Sound.{IsBuilt}
-use Rattle.xs_check_laws.specs.Weights.{heaviest, Members, no_member, member_next, other_next}
+use Rattle.xs_check_laws.specs.Weights.{Members, no_member, member_next, other_next}
 use Rattle.xs_check_laws.proofs.Walks.{one_on, one_back}
 use Rattle.xs_stretch.specs.declared.site.Home.{Home}
 use Rattle.xs_stretch.specs.declared.site.Spot.{Spot}
-use Rattle.xs_stretch.specs.declared.site.Site.{Site}
 use Rattle.xs_stretch.specs.declared.site.Task.{Task}
-use Rattle.xs_stretch.specs.Arcs.{Arc, pass, call, word_arcs, after_word, automaton_arcs, after_automaton}
+use Rattle.xs_stretch.specs.Arcs.{Arc, pass, word_arcs, after_word, automaton_arcs, after_automaton}
 use Rattle.xs_stretch.specs.Growth.{NetGrows}
-use Rattle.xs_stretch.specs.Laying.{entry_state, exit_state, LaysItem, lays_fixed, lays_term, lays_skip, lays_non, LaysBody}
+use Rattle.xs_stretch.specs.Laying.{entry_state, exit_state, LaysItem, lays_fixed, lays_term, lays_skip, LaysBody}
 use Rattle.xs_stretch.specs.Tables.{AreRanks}
 use Rattle.xs_stretch.specs.Walking.{AreNamed, Lays, IsHome, HasItemRoom, HasRoom, IsItemLaid, IsOnward}
-use Rattle.xs_stretch.specs.Weighing.{IsOneOf}
-use Rattle.xs_stretch.specs.Work.{IsSite, IsDone}
 use Rattle.xs_stretch.proofs.Gaining.{done_grows}
 use Rattle.xs_stretch.proofs.Growing.{grows_then}
-use Rattle.xs_stretch.proofs.Inverting.{IsOwn, ItemOff, item_off, MemberOff, member_off}
-use Rattle.xs_stretch.proofs.Once.{item_once, rank_once}
+use Rattle.xs_stretch.proofs.Inverting.{IsOwn, item_off, member_off}
+use Rattle.xs_stretch.proofs.Once.{item_once}
 use Rattle.xs_stretch.proofs.Pushing.{element_is}
-use Rattle.xs_stretch.proofs.Leaving.{IsLeft, left_room}
-use Rattle.xs_stretch.proofs.Spans.{item_span, item_rises, rank_less, after_low, lays_rises}
+use Rattle.xs_stretch.proofs.Spans.{item_rises, rank_less, after_low, lays_rises}
 
 -- what holds where there is a value
 pub on_ok : {T E : Type 0} {Q : T → Type 0} (r : Result T E) → ((t : T) → r ≡ Ok t → Q t) → IfOk r Q

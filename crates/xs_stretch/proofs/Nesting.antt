@@ -1,9 +1,8 @@
 -- The nest of a grammar's groups, one more at a time.
-use Rattle.std.proofs.Common.{◌≡◌, ◌⊎◌, ℕ, zero, suc, ◌+◌, ◌-◌, ◌<◌, ◌≤◌, ◌^◌, List, [], ◌∷◌, ◌++◌, length, take, drop, get_or, slice_get, slice_range, refl, sym, ap, subst, ◌∙◌, inl, inr, arith, append_assoc, length-append, Some}
-use Rattle.std.proofs.lemmas.Bool.{cases_lt, cases_eq}
+use Rattle.std.proofs.Common.{◌≡◌, ◌⊎◌, ℕ, zero, suc, ◌+◌, ◌-◌, ◌<◌, ◌≤◌, ◌^◌, List, [], ◌∷◌, ◌++◌, length, take, get_or, slice_get, slice_range, refl, sym, ap, subst, ◌∙◌, inl, inr, arith, append_assoc, length-append, Some}
+use Rattle.std.proofs.lemmas.Bool.{cases_eq}
 use Rattle.std.proofs.lemmas.List.{drop_at, take_at, take_all}
 use Rattle.std.proofs.lemmas.Option.{slice_get-get_or, get_or_from_slice_get, same_Some}
-use Rattle.xs_auto.specs.Nets.{Graph}
 use Rattle.xs_auto.specs.Nests.{Group, IsGroup}
 use Rattle.xs_gram.specs.declared.parts.GItem.{GItem}
 use Rattle.xs_gram.specs.declared.parts.GItem.TheVariants.{Fixed}
@@ -13,14 +12,14 @@ use Rattle.xs_gram.specs.Fences.{fence_symbols, spread, grouped, IsLevel, GroupA
 use Rattle.xs_gram.specs.Sound.{IsBuilt}
 use Rattle.xs_gram.proofs.Fences.{is_left_of}
 use Rattle.xs_gram.proofs.Levels.{cons_parts, fixed_one, level_once, group_opened}
-use Rattle.xs_check_laws.specs.Weights.{heaviest, PartWeighs}
 use Rattle.xs_check_laws.specs.Acceptance.{IsBefore}
+use Rattle.xs_check_laws.specs.Weights.{PartWeighs}
 use Rattle.xs_stretch.specs.declared.part.Part.{Part}
 use Rattle.xs_stretch.specs.declared.fault.LooseFault.{LooseFault}
 use Rattle.xs_stretch.specs.declared.fault.LooseFault.TheVariants.{Heavy, Memory}
 use Rattle.xs_stretch.specs.Groups.{lefts, groups_before, group_number, HasFewGroups}
 use Rattle.xs_stretch.specs.Nesting.{IsNestBefore}
-use Rattle.xs_stretch.specs.Nets.{IsNumbered, IsNetOf, HasItsWeight, IsGroupOf, IsNestOf, HasInside, IsFirstHeavy, IsNestCause}
+use Rattle.xs_stretch.specs.Nets.{IsNumbered, IsNetOf, HasItsWeight, IsGroupOf, IsNestOf, HasInside, IsNestCause}
 use Rattle.xs_stretch.specs.Parts.{part_items, IsPart, AreLight, IsCause}
 use Rattle.xs_stretch.proofs.Numbering.{item_at, left_counts, other_counts, number_low}
 

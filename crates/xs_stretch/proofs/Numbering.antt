@@ -1,15 +1,15 @@
 -- The numbers of groups, from a place to the next one.
-use Rattle.std.proofs.Common.{◌≡◌, ℕ, zero, suc, ◌+◌, ◌-◌, ◌<◌, ◌≤◌, ◌^◌, Bool, true, false, List, [], ◌∷◌, ◌++◌, length, take, drop, get_or, slice_get, refl, sym, ap, subst, ◌∙◌, inl, inr, arith, Some}
+use Rattle.std.proofs.Common.{◌≡◌, ℕ, zero, suc, ◌+◌, ◌<◌, ◌≤◌, Bool, true, false, List, [], ◌∷◌, ◌++◌, length, take, drop, get_or, slice_get, refl, sym, ap, subst, ◌∙◌, inl, inr, arith, Some}
 use Rattle.std.proofs.lemmas.Bool.{cases_eq}
-use Rattle.std.proofs.lemmas.List.{take_more, take-append-drop, take_all}
+use Rattle.std.proofs.lemmas.List.{take_more, take-append-drop}
 use Rattle.std.proofs.lemmas.Option.{slice_get-get_or, same_Some}
 use Rattle.xs_gram.specs.declared.parts.GItem.{GItem}
 use Rattle.xs_gram.specs.declared.parts.GItem.TheVariants.{Fixed, Term, Non, Skip}
 use Rattle.xs_gram.specs.Grammar.{Grammar}
-use Rattle.xs_gram.specs.Fences.{spread, is_left, grouped, IsPartner, IsLeftFence}
+use Rattle.xs_gram.specs.Fences.{spread, is_left, IsPartner, IsLeftFence}
 use Rattle.xs_gram.specs.Spreading.{opens}
 use Rattle.xs_gram.proofs.Fences.{is_left_of}
-use Rattle.xs_stretch.specs.Groups.{lefts, groups_before, groups_count, HasFewGroups}
+use Rattle.xs_stretch.specs.Groups.{lefts, groups_before, groups_count}
 
 -- one more where the test holds
 abbrev one_if : Bool → ℕ → ℕ

@@ -1,5 +1,5 @@
 -- Members of a home's component, by the components' numbers.
-use Rattle.std.proofs.Common.{◌≡◌, ℕ, ◌<◌, List, slice_get, refl, sym, ap, ◌∙◌, Some}
+use Rattle.std.proofs.Common.{◌≡◌, ℕ, ◌<◌, List, slice_get, sym, ap, Some}
 use Rattle.xs_gram.specs.declared.parts.GItem.{GItem}
 use Rattle.xs_gram.specs.declared.parts.GItem.TheVariants.{Fixed, Term, Non, Skip}
 use Rattle.xs_gram.specs.Grammar.{Grammar}

@@ -1,16 +1,16 @@
 -- The rules of a component, laid one after another.
-use Rattle.std.proofs.Common.{◌≡◌, ℕ, zero, suc, ◌+◌, ◌*◌, ◌-◌, ◌<◌, ◌≤◌, List, [], ◌∷◌, ◌++◌, length, take, get_or, slice_get, refl, sym, ap, subst, ◌∙◌, inl, inr, arith, None, Some}
+use Rattle.std.proofs.Common.{◌≡◌, ℕ, zero, suc, ◌+◌, ◌*◌, ◌-◌, ◌<◌, ◌≤◌, List, [], ◌∷◌, ◌++◌, length, take, get_or, slice_get, refl, sym, ap, subst, ◌∙◌, inl, inr, arith, Some}
 use Rattle.std.specs.List.{Contains}
 use Rattle.std.proofs.lemmas.Bool.{cases_eq}
 use Rattle.std.proofs.lemmas.List.{take_all}
 use Rattle.std.proofs.lemmas.List.Elements.{Contains-get_or}
-use Rattle.xs_auto.specs.Nets.{Graph, states}
+use Rattle.xs_auto.specs.Nets.{Graph}
 use Rattle.xs_gram.specs.declared.parts.GItem.{GItem}
 use Rattle.xs_gram.specs.Grammar.{Grammar, rule_of}
 use Rattle.xs_gram.specs.Fences.{spread, IsLevel}
 use Rattle.xs_gram.specs.Loose.{here, AreOne, AreComponents}
-use Rattle.xs_gram.specs.Sound.{IsInRange, IsBuilt}
-use Rattle.xs_check_laws.specs.Weights.{cap, heaviest, Members, ComponentWeighs}
+use Rattle.xs_gram.specs.Sound.{IsBuilt}
+use Rattle.xs_check_laws.specs.Weights.{heaviest, Members}
 use Rattle.xs_stretch.specs.declared.components.Components.{Components}
 use Rattle.xs_stretch.specs.declared.site.Home.{Home}
 use Rattle.xs_stretch.specs.declared.site.Spot.{Spot}
@@ -26,7 +26,7 @@ use Rattle.xs_stretch.specs.Tables.{AreTables}
 use Rattle.xs_stretch.specs.Walking.{IsHome, HasRoom, AreAllLaid}
 use Rattle.xs_stretch.specs.Weighing.{AreWeights}
 use Rattle.xs_stretch.specs.Work.{IsDone, IsTask}
-use Rattle.xs_stretch.proofs.Bounds.{IsUpTo, up_to_own, up_to_all}
+use Rattle.xs_stretch.proofs.Bounds.{IsUpTo, up_to_own}
 use Rattle.xs_stretch.proofs.Gaining.{done_grows, done_then}
 use Rattle.xs_stretch.proofs.Growing.{grows_none}
 use Rattle.xs_stretch.proofs.Items.{one_there}

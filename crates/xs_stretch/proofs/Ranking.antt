@@ -1,12 +1,11 @@
 -- Ranks of members, and numbers of groups before rules, one more at a time.
-use Rattle.std.proofs.Common.{◌≡◌, ℕ, suc, ◌+◌, ◌<◌, ◌≤◌, List, [], ◌∷◌, ◌++◌, length, get_or, set, replicate, refl, sym, subst, ◌∙◌, inl, inr, arith, get_or-set_same, get_or-set_other}
+use Rattle.std.proofs.Common.{◌≡◌, ℕ, suc, ◌+◌, ◌<◌, ◌≤◌, List, [], ◌∷◌, ◌++◌, length, get_or, set, replicate, refl, sym, subst, inl, inr, arith, get_or-set_same, get_or-set_other}
 use Rattle.std.proofs.lemmas.Bool.{cases_lt, cases_eq}
 use Rattle.std.proofs.lemmas.List.{get_or_append_left, get_or_push, get_or_past, get_or-replicate, length-replicate, length_push}
 use Rattle.xs_gram.specs.Grammar.{Grammar}
 use Rattle.xs_gram.specs.Loose.{AreComponents}
 use Rattle.xs_check_laws.specs.Weights.{Members, no_member, member_next, other_next}
-use Rattle.xs_stretch.specs.Groups.{groups_before}
-use Rattle.xs_stretch.specs.Tables.{AreRanks, AreNumbersBefore}
+use Rattle.xs_stretch.specs.Tables.{AreRanks}
 
 -- for each nonterminal how many members of its component are below the bound, by the component
 pub record AreCounts (g : Grammar) (comps : List ℕ) (bound : ℕ) (counts : List ℕ) : Type 0 where

@@ -1,11 +1,10 @@
 -- How many states laid items take: as many as they weigh.
-use Rattle.std.proofs.Common.{◌≡◌, ℕ, suc, ◌+◌, ◌*◌, ◌<◌, ◌≤◌, List, [], ◌∷◌, length, refl, sym, subst, ap, arith, None, Some, Option}
+use Rattle.std.proofs.Common.{◌≡◌, ℕ, suc, ◌+◌, ◌*◌, ◌<◌, ◌≤◌, List, [], ◌∷◌, length, refl, arith, None, Some, Option}
 use Rattle.xs_gram.specs.declared.parts.GItem.{GItem}
-use Rattle.xs_gram.specs.declared.parts.GItem.TheVariants.{Fixed, Term, Non, Skip}
-use Rattle.xs_gram.specs.Grammar.{Grammar, rule_of, term_of, skip_of}
+use Rattle.xs_gram.specs.declared.parts.GItem.TheVariants.{Non}
+use Rattle.xs_gram.specs.Grammar.{Grammar, term_of, skip_of}
 use Rattle.xs_gram.specs.Building.{NamesAreThere}
-use Rattle.xs_gram.specs.Fences.{spread, IsFence, IsLevel, grouped}
-use Rattle.xs_gram.specs.Loose.{here, AreOne, IsMember}
+use Rattle.xs_gram.specs.Loose.{here, AreOne}
 use Rattle.xs_gram.specs.Sound.{IsBuilt}
 use Rattle.xs_regex.specs.Size.{size}
 use Rattle.xs_check_laws.specs.Weights.{capped, Members, ItemWeighs, fixed_weighs, term_weighs, skip_weighs, non_weighs, ComponentWeighs, component_weighs, RulesWeigh, no_rule_yet, rule_of_member, rule_of_other, BodyWeighs, no_body, member_then, other_then, group_then, PartWeighs, no_part, part_then as weighs_then, part_group as weighs_group}

@@ -1,5 +1,5 @@
 -- How the items of a stretch, or of a rule in its component, are laid one after another.
-use Rattle.std.specs.Prelude.{◌≡◌, ℕ, suc, ◌+◌, ◌*◌, ◌<◌, ◌≤◌, List, ◌++◌, Option, None, Some}
+use Rattle.std.specs.Prelude.{◌≡◌, ℕ, ◌+◌, ◌*◌, ◌<◌, ◌≤◌, List, ◌++◌, Option, None, Some}
 use Rattle.std.specs.List.{Contains}
 use Rattle.xs_auto.specs.Nets.{Graph, states}
 use Rattle.xs_gram.specs.declared.parts.GItem.{GItem}

@@ -6,6 +6,10 @@
 //! and for each outer item or group a block of as many states as it weighs, the last of which is
 //! after it, or the exit of a nonterminal's component. So a net has one state more than its stretch
 //! weighs. Each group of the grammar has a number, by which nets call it.
+//!
+//! What is computed once of a grammar is in its `Tables`. By them `net_by` makes the net of a part that
+//! weighs at most 8,192, and `nest_by` the nest of all groups, each with the net of the stretch inside.
+//! The component of a nonterminal is left to a list of tasks, so no function calls itself.
 #![tactic(auto)]
 
 mod blocks;

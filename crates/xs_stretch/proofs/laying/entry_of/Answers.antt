@@ -1,4 +1,4 @@
-use Rattle.std.proofs.Common.{ℕ, suc, arith}
+use Rattle.std.proofs.Common.{suc, arith}
 use Rattle.xs_check_laws.specs.Weights.{heaviest}
 use Rattle.xs_stretch.proofs.Once.{rank_once}
 use Rattle.xs_stretch.proofs.Moving.{rank_in, member_room}

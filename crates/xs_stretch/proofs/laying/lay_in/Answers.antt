@@ -1,4 +1,4 @@
-use Rattle.std.proofs.Common.{ℕ, ◌<◌, ◌∷◌, length, sym, subst, arith, Some}
+use Rattle.std.proofs.Common.{ℕ, length, sym, subst, arith, Some}
 use Rattle.xs_gram.specs.Building.{NamesThere}
 use Rattle.xs_stretch.proofs.Items.{one_low}
 use Rattle.xs_stretch.proofs.Owning.{own_is, own_one, not_own}

@@ -1,4 +1,3 @@
-use Rattle.std.proofs.Common.{arith}
 use Rattle.xs_stretch.proofs.Moving.{on_ok, fixed_laid, term_laid, skip_laid}
 use Rattle.xs_stretch.proofs.laying.lay_item.Goals as goal
 

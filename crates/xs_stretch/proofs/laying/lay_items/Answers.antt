@@ -1,10 +1,7 @@
-use Rattle.std.proofs.Common.{◌≡◌, ℕ, ◌+◌, ◌<◌, length, Option, refl, sym, subst, arith}
+use Rattle.std.proofs.Common.{◌≡◌, ℕ, subst, arith}
 use Rattle.xs_auto.specs.Nets.{states}
-use Rattle.xs_gram.specs.declared.parts.GItem.{GItem}
 use Rattle.xs_stretch.specs.Parts.{part_items}
-use Rattle.xs_stretch.specs.Walking.{IsHome, HasRoom}
-use Rattle.xs_stretch.specs.Steps.{StandsAt}
-use Rattle.xs_stretch.proofs.Going.{Gone, gone_none, gone_room, gone_more, gone_done, gone_at}
+use Rattle.xs_stretch.proofs.Going.{Gone, gone_none, gone_more, gone_done, gone_at}
 use Rattle.xs_stretch.proofs.Numbering.{number_low}
 use Rattle.xs_stretch.proofs.Pushing.{element_is}
 use Rattle.xs_stretch.proofs.Stretches.{part_stretch, part_long}

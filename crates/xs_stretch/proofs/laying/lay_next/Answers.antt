@@ -1,4 +1,4 @@
-use Rattle.std.proofs.Common.{◌≡◌, get_or, arith}
+use Rattle.std.proofs.Common.{arith}
 use Rattle.xs_auto.specs.Nets.{states}
 use Rattle.xs_gram.specs.Fences.{spread}
 use Rattle.xs_stretch.proofs.Going.{group_room, group_stepped, item_room, item_stepped}

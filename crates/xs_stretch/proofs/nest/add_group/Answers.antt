@@ -1,5 +1,5 @@
 use Rattle.std.proofs.lemmas.Result.{err_from_is_err_and}
-use Rattle.std.proofs.Common.{◌≡◌, ℕ, ◌+◌, ◌<◌, List, length, refl, arith}
+use Rattle.std.proofs.Common.{◌+◌, length, refl, arith}
 use Rattle.xs_auto.specs.Nests.{Group}
 use Rattle.xs_gram.specs.Fences.{spread}
 use Rattle.xs_stretch.specs.declared.part.Part.{Part}

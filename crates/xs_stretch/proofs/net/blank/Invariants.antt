@@ -1,4 +1,3 @@
-use Rattle.std.proofs.Common.{◌≡◌, None}
 use Rattle.xs_stretch.specs.Making.{IsBlank}
 use Rattle.xs_stretch.proofs.net.blank.Given as goal
 

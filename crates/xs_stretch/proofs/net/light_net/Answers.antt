@@ -1,4 +1,4 @@
-use Rattle.std.proofs.Common.{◌≡◌, ℕ, suc, ◌+◌, [], List, subst, sym, arith, None}
+use Rattle.std.proofs.Common.{◌≡◌, ℕ, suc, ◌+◌, List, subst, sym, arith, None}
 use Rattle.xs_auto.specs.Nets.{states}
 use Rattle.xs_stretch.specs.declared.site.Task.{Task}
 use Rattle.xs_stretch.specs.Making.{IsBlank}

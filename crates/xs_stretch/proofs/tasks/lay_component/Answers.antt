@@ -1,11 +1,10 @@
-use Rattle.std.proofs.Common.{◌≡◌, ℕ, suc, ◌+◌, ◌*◌, ◌<◌, List, [], length, get_or, refl, sym, ap, subst, ◌∙◌, arith, Some}
+use Rattle.std.proofs.Common.{◌≡◌, ℕ, suc, ◌+◌, ◌*◌, ◌<◌, [], length, get_or, refl, sym, subst, ◌∙◌, arith, Some}
 use Rattle.std.proofs.lemmas.List.{get_or_read}
-use Rattle.xs_auto.specs.Nets.{Graph, states}
+use Rattle.xs_auto.specs.Nets.{states}
 use Rattle.xs_gram.specs.Fences.{spread}
-use Rattle.xs_stretch.specs.Making.{IsTaskDone}
 use Rattle.xs_stretch.specs.Walking.{IsHome, HasRoom}
 use Rattle.xs_stretch.proofs.Bounds.{IsUpTo, up_to_all}
-use Rattle.xs_stretch.proofs.Placing.{RulesPlaced, task_facts, lists_low, placed_none, own_rule, own_member, placed_room, placed_more, task_done}
+use Rattle.xs_stretch.proofs.Placing.{task_facts, lists_low, placed_none, own_rule, own_member, placed_room, placed_more, task_done}
 use Rattle.xs_stretch.proofs.tasks.lay_component.Goals as goal
 
 pub overflow_cast-members : goal.overflow_cast-members

@@ -1,9 +1,7 @@
-use Rattle.std.proofs.Common.{◌≡◌, ℕ, [], List, refl, subst, sym, ◌∙◌, arith}
-use Rattle.std.proofs.lemmas.List.{nil_from_length}
+use Rattle.std.proofs.Common.{ℕ, subst, sym, ◌∙◌}
 use Rattle.xs_auto.specs.Nets.{states}
-use Rattle.xs_stretch.specs.declared.site.Task.{Task}
-use Rattle.xs_stretch.specs.Work.{Gains, AreTasks}
-use Rattle.xs_stretch.proofs.Finishing.{gains_nothing, gains_popped, less_work}
+use Rattle.xs_stretch.specs.Work.{AreTasks}
+use Rattle.xs_stretch.proofs.Finishing.{gains_popped, less_work}
 use Rattle.xs_stretch.proofs.Gaining.{gains_then, tasks_before}
 use Rattle.xs_stretch.proofs.tasks.lay_tasks.Goals as goal
 
