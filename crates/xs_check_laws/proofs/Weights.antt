@@ -6,7 +6,6 @@ use Rattle.xs_gram.specs.declared.parts.GItem.{GItem}
 use Rattle.xs_gram.specs.declared.parts.GItem.TheVariants.{Fixed, Term, Non, Skip}
 use Rattle.xs_gram.specs.Grammar.{Grammar}
 use Rattle.xs_gram.specs.Laws.{IsDistinct}
-use Rattle.xs_gram.specs.Sound.{IsBuilt}
 use Rattle.xs_gram.specs.Fences.{fence_symbols, IsFence, IsLevel, level_none, level_then, level_group, grouped}
 use Rattle.xs_gram.specs.Loose.{AreOne, IsMember}
 use Rattle.xs_gram.proofs.Levels.{IsOnce, cons_parts, no_group, plain_not_group, group_more, level_once}
@@ -55,7 +54,7 @@ member_not_fixed g c l (Skip k) m e = m
 groups_once : {fs : List (ℕ × ℕ)} {l r m s : ℕ} {a b x y is : List GItem} → IsDistinct (fence_symbols fs) → IsFence fs l r → IsFence fs m s → IsLevel fs a → IsLevel fs b → is ≡ grouped l a r x → is ≡ grouped m b s y → IsOnce a b r s x y
 groups_once {fs} once f h i j e k = level_once fs once i j f h (cons_parts (sym e ∙ k)).1
 
-module _ (g : Grammar) (built : IsBuilt g) where
+module _ (g : Grammar) (once : IsDistinct (fence_symbols g.fences)) where
   mutual
     item_once : {i : GItem} {v w : ℕ} → ItemWeighs g i v → ItemWeighs g i w → v ≡ w
     item_once (fixed_weighs e) (fixed_weighs h) = e ∙ sym h
@@ -89,7 +88,7 @@ module _ (g : Grammar) (built : IsBuilt g) where
     body_once (group_then f l b split e) no_body s = absurd (no_group (sym s ∙ split))
     body_once {c} (group_then f l b split e) (member_then {i = j} x y h) s = absurd (member_not_fixed g c _ j x (cons_parts (sym s ∙ split)).0)
     body_once (group_then f l b split e) (other_then p x i y h) s = absurd (plain_not_group f p (sym s ∙ split))
-    body_once (group_then f i b split e) (group_then k j y split' h) s = two_once e h (body_once b y (groups_once built.proper.once f k i j split (s ∙ split')).after)
+    body_once (group_then f i b split e) (group_then k j y split' h) s = two_once e h (body_once b y (groups_once once f k i j split (s ∙ split')).after)
 
   part_once : {is js : List GItem} {v w : ℕ} → PartWeighs g is v → PartWeighs g js w → is ≡ js → v ≡ w
   part_once no_part no_part s = refl
@@ -100,7 +99,7 @@ module _ (g : Grammar) (built : IsBuilt g) where
   part_once (part_then p i r e) (part_group f l y split h) s = absurd (plain_not_group f p (s ∙ split))
   part_once (part_group f l b split e) no_part s = absurd (no_group (sym s ∙ split))
   part_once (part_group f l b split e) (part_then p i r h) s = absurd (plain_not_group f p (sym s ∙ split))
-  part_once (part_group f i b split e) (part_group k j y split' h) s = two_once e h (part_once b y (groups_once built.proper.once f k i j split (s ∙ split')).after)
+  part_once (part_group f i b split e) (part_group k j y split' h) s = two_once e h (part_once b y (groups_once once f k i j split (s ∙ split')).after)
 
   pub part_level : {is : List GItem} {v : ℕ} → PartWeighs g is v → IsLevel g.fences is
   part_level no_part = level_none
@@ -117,14 +116,14 @@ module _ (g : Grammar) (built : IsBuilt g) where
   insides_once (inside_here f b d t split e) no_inside s = absurd (no_group (sym s ∙ split))
   insides_once (inside_here f b d t split e) (inside_later p r) s = absurd (plain_not_group f p (sym s ∙ split))
   insides_once (inside_here f b d t split e) (inside_here k y z u split' h) s =
-      let o = groups_once built.proper.once f k (part_level b) (part_level y) split (s ∙ split') in
+      let o = groups_once once f k (part_level b) (part_level y) split (s ∙ split') in
       deepest_once e h (part_once b y o.inside) (insides_once d z o.inside) (insides_once t u o.after)
 
 pub part_weighs_once : PartWeighsOnce
-part_weighs_once g built is v w a b = part_once g built a b refl
+part_weighs_once g once is v w a b = part_once g once a b refl
 
 pub rule_weighs_once : RuleWeighsOnce
-rule_weighs_once g built p v w a b = greatest_once a.4 b.4 (part_once g built a.2 b.2 refl) (insides_once g built a.3 b.3 refl)
+rule_weighs_once g once p v w a b = greatest_once a.4 b.4 (part_once g once a.2 b.2 refl) (insides_once g once a.3 b.3 refl)
 
 -- a component is named by any of its members
 members_moved : {g : Grammar} {c d n k : ℕ} → Members g d n k → AreOne g c d → Members g c n k

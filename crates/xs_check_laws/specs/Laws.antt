@@ -8,7 +8,8 @@ use Rattle.xs_gram.specs.Grammar.{Grammar}
 use Rattle.xs_gram.specs.Derivations.{Derivation, Fits, yield}
 use Rattle.xs_gram.specs.Languages.{IsUnique}
 use Rattle.xs_gram.specs.Sound.{IsBuilt}
-use Rattle.xs_gram.specs.Fences.{spread, IsLevel}
+use Rattle.xs_gram.specs.Fences.{fence_symbols, spread, IsLevel}
+use Rattle.xs_gram.specs.Laws.{IsDistinct}
 use Rattle.xs_gram.specs.Loose.{AreOne, IsLoose}
 use Rattle.xs_gram.specs.Suspects.{IsVertical, IsHorizontal}
 use Rattle.xs_check_laws.specs.Words.{spread_words}
@@ -47,10 +48,10 @@ NoSuspectIsUnique = (g : Grammar) → IsBuilt g → HasNoVertical g → HasNoHor
 abbrev pub AcceptedIsUnique : Type 0
 AcceptedIsUnique = (text xml : Grammar) → IsBuilt text → IsBuilt xml → IsAccepted text xml → IsUnique text × IsUnique xml
 
--- a level stretch has one weight
+-- where no symbol stands twice in the fences, a level stretch has one weight
 abbrev pub PartWeighsOnce : Type 0
-PartWeighsOnce = (g : Grammar) → IsBuilt g → (is : List GItem) (v w : ℕ) → PartWeighs g is v → PartWeighs g is w → v ≡ w
+PartWeighsOnce = (g : Grammar) → IsDistinct (fence_symbols g.fences) → (is : List GItem) (v w : ℕ) → PartWeighs g is v → PartWeighs g is w → v ≡ w
 
 -- a rule has one weight
 abbrev pub RuleWeighsOnce : Type 0
-RuleWeighsOnce = (g : Grammar) → IsBuilt g → (p v w : ℕ) → RuleWeighs g p v → RuleWeighs g p w → v ≡ w
+RuleWeighsOnce = (g : Grammar) → IsDistinct (fence_symbols g.fences) → (p v w : ℕ) → RuleWeighs g p v → RuleWeighs g p w → v ≡ w

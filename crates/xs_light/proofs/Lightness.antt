@@ -69,13 +69,13 @@ module _ (g : Grammar) (built : IsBuilt g) where
   inside_counts (inside_later p w) [] after f i e = absurd (plain_not_group f p e)
   inside_counts (inside_later p w) (x ∷ before) after f i e = inside_counts w before after f i (cons_parts e).1
   inside_counts (inside_here {own = own} k b d t split h) [] after f i e =
-      let o = level_once g.fences built.proper.once (part_level g built b) i k f (cons_parts (sym split ∙ e)).1 in
+      let o = level_once g.fences built.proper.once (part_level g built.proper.once b) i k f (cons_parts (sym split ∙ e)).1 in
       record { own = own; weighs = subst (λ (x : List GItem). PartWeighs g x own) o.inside b; low = omega (arith, h) }
   inside_counts {inside = inside} {l = l} {r = r} {v = v} (inside_here {r = right} {deeper = deeper} {later = later} {inside = own} {after = rest} k b d t split h) (x ∷ before) after f i e =
       by_place (stands before (Fixed (l ∷ [])) (inside ++ Fixed (r ∷ []) ∷ after) own (Fixed (right ∷ [])) rest (cons_parts (sym e ∙ split)).1) (λ more q. inside_counts d before more f i q) (λ cs q. inside_counts t cs after f i q)
     where
       by_place : Stands before (Fixed (l ∷ [])) (inside ++ Fixed (r ∷ []) ∷ after) own (Fixed (right ∷ [])) rest → ((more : List GItem) → own ≡ before ++ grouped l inside r more → CountsWithin g inside deeper) → ((cs : List GItem) → rest ≡ cs ++ grouped l inside r after → CountsWithin g inside later) → CountsWithin g inside v
-      by_place (in_front cs p q) within past = let s = ends_there before inside cs right after rest (part_level g built b) f i p q in counts_more (within s.0 s.1) (omega (arith, h))
+      by_place (in_front cs p q) within past = let s = ends_there before inside cs right after rest (part_level g built.proper.once b) f i p q in counts_more (within s.0 s.1) (omega (arith, h))
       by_place (there p) within past = absurd (sides_apart built.proper.once f k (fixed_one p))
       by_place (behind cs p) within past = counts_more (past cs p) (omega (arith, h))
 
@@ -89,18 +89,18 @@ module _ (g : Grammar) (built : IsBuilt g) where
   pub nest_not_heavy : (weight : ℕ) → IsLight g → IsFirstHeavy g weight → ⊥
   nest_not_heavy weight light h =
       let inside = inside_light light h.rule h.place h.inside h.is in
-      let same : inside.0 ≡ weight = part_weighs_once g built h.inside inside.0 weight inside.1 h.weighs in
+      let same : inside.0 ≡ weight = part_weighs_once g built.proper.once h.inside inside.0 weight inside.1 h.weighs in
       omega (arith, same, inside.2, h.heavy)
 
   pub part_not_heavy : (is : List GItem) (weight : ℕ) → AreLight g is → PartWeighs g is weight → heaviest < weight → ⊥
   part_not_heavy is weight light h heavy =
-      let same : light.0 ≡ weight = part_weighs_once g built is light.0 weight light.1 h in
+      let same : light.0 ≡ weight = part_weighs_once g built.proper.once is light.0 weight light.1 h in
       omega (arith, same, light.2, heavy)
 
   pub not_heavy : (weight : ℕ) → IsLight g → IsHeaviness g weight → ⊥
   not_heavy weight light h =
       let rule = light h.0 h.1.rule in
-      let same : rule.0 ≡ weight = rule_weighs_once g built h.0 rule.0 weight rule.1 h.1.weighs in
+      let same : rule.0 ≡ weight = rule_weighs_once g built.proper.once h.0 rule.0 weight rule.1 h.1.weighs in
       omega (arith, same, rule.2, h.1.heavy)
 
   -- two level stretches weigh no more than both together

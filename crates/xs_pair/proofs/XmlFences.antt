@@ -59,7 +59,7 @@ every_weaker P Q (n ∷ ns) f each = (f n each.0, every_weaker P Q ns f each.1)
 above : (m n : ℕ) → suc n ≤ m → m ≡ n → ⊥
 above m n le e = omega arith
 
-marks_once : (k count : ℕ) → IsDistinct (fence_symbols (mark_pairs k count))
+pub marks_once : (k count : ℕ) → IsDistinct (fence_symbols (mark_pairs k count))
 marks_once k zero = tt
 marks_once k (suc count) =
     let later = fence_symbols (mark_pairs (k + 1) count) in (

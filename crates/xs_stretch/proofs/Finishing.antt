@@ -138,7 +138,7 @@ module _ (g : Grammar) (built : IsBuilt g) (weights : List ℕ) (part : Part) (i
   ends : spot.at ≡ suc weight
   ends =
       let span = part_span g built all.lays (stretch_named g built.range part.rule part.start (part_items g part) (part_stretch g part is)) in
-      let same : span.weight ≡ weight = part_weighs_once g built (part_items g part) span.weight weight span.weighs weighs in
+      let same : span.weight ≡ weight = part_weighs_once g built.proper.once (part_items g part) span.weight weight span.weighs weighs in
       omega (arith, span.is, span.same, same, light)
 
   final_only : (a : ℕ) → final_at net a ≡ true → a ≡ spot.before

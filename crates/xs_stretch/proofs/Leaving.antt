@@ -30,7 +30,7 @@ pub record IsLeft (g : Grammar) (bound n slot : ℕ) (s : Spot) (rank w : ℕ) :
 pub component_ends : (g : Grammar) → IsBuilt g → (weights : List ℕ) → AreWeights g weights → (n first next : ℕ) {own : List Arc} → n < g.nons → LaysComponent g n first own next → next ≤ suc heaviest → next ≡ first + get_or weights n 0
 component_ends g built weights are n first next there lays few =
     let span = component_span g built lays in
-    let once = component_once g built (are.each n there) span.weighs in
+    let once = component_once g built.proper.once (are.each n there) span.weighs in
     omega (arith, span.is, span.same, once)
 
 pub left_room : (g : Grammar) → IsBuilt g → (weights : List ℕ) → AreWeights g weights → (bound n slot rank w : ℕ) (s : Spot) → bound ≤ suc heaviest → n < g.nons → Members g n n rank → w ≡ get_or weights n 0 → HasItemRoom g bound (Non n slot) s → IsLeft g bound n slot s rank w

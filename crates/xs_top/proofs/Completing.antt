@@ -13,6 +13,8 @@ use Rattle.xs_chars.specs.Text.{text_of}
 use Rattle.xs_xml.specs.Laws.{OneReading}
 use Rattle.xs_gram.specs.Languages.{InLang}
 use Rattle.xs_gram.specs.Grammar.{Grammar}
+use Rattle.xs_gram.specs.Fences.{fence_symbols}
+use Rattle.xs_gram.specs.Laws.{IsDistinct}
 use Rattle.xs_gram.specs.Common.{Common}
 use Rattle.xs_gram.specs.declared.suspect.Suspect.{Suspect as Found}
 use Rattle.xs_gram.specs.declared.suspect.Suspect.TheVariants.{Vertical, Horizontal}
@@ -32,6 +34,7 @@ use Rattle.xs_sheet.specs.Grammar.{IsSheetOf}
 use Rattle.xs_top.specs.Known.{HasBytes}
 use Rattle.xs_top.specs.Sheets.{core_bytes, IsFailed, IsPairOfBytes, IsUnpaired}
 use Rattle.xs_top.specs.Laws.{PairsAgree, SheetsAgree, OutlinesAgree}
+use Rattle.xs_top.proofs.FencesOnce.{once_in_text, once_in_xml}
 use Rattle.xs_top.proofs.Known.{has_only, has_short, spelled_pair}
 use Rattle.xs_top.proofs.Agreeing.{doable_kept}
 use Rattle.xs_top.proofs.Scripts.{not_bad_script}
@@ -69,15 +72,15 @@ one_word law Text form names bytes v w is_v is_w = is_v ∙ sym is_w
 one_word law Xml form names bytes v w is_v is_w = law names (text_of bytes AsIs) v w is_v is_w
 
 -- a rule that is light is not heavy
-pub not_heavy_rule : RuleWeighsOnce → (g : Grammar) (w : ℕ) → IsLight g → IsHeaviness g w → ⊥
-not_heavy_rule law g w light (p, at) =
+pub not_heavy_rule : RuleWeighsOnce → (g : Grammar) → IsDistinct (fence_symbols g.fences) → (w : ℕ) → IsLight g → IsHeaviness g w → ⊥
+not_heavy_rule law g once w light (p, at) =
     let (v, weighs, few) = light p at.rule in
-    let same : v ≡ w = law g p v w weighs at.weighs in
+    let same : v ≡ w = law g once p v w weighs at.weighs in
     omega (arith, few, same, at.heavy)
 
-pub not_heavy : RuleWeighsOnce → (p : Pair) (w : ℕ) → IsAccepted p.text p.xml → IsFirstHeavy p.text p.xml w → ⊥
-not_heavy law p w accepted (inl heavy) = not_heavy_rule law p.text w accepted.light_text heavy
-not_heavy law p w accepted (inr heavy) = not_heavy_rule law p.xml w accepted.light_xml heavy.1
+pub not_heavy : RuleWeighsOnce → (bytes : List ℕ) (p : Pair) → IsPairOfBytes bytes p → (w : ℕ) → IsAccepted p.text p.xml → IsFirstHeavy p.text p.xml w → ⊥
+not_heavy law bytes p is w accepted (inl heavy) = not_heavy_rule law p.text (once_in_text bytes p is) w accepted.light_text heavy
+not_heavy law bytes p is w accepted (inr heavy) = not_heavy_rule law p.xml (once_in_xml bytes p is) w accepted.light_xml heavy.1
 
 pub not_shown : (text xml : Grammar) (found : Found) → IsAccepted text xml → IsSuspect text xml (shown found) → ⊥
 not_shown text xml (Vertical Text rule rule2 word) accepted is = accepted.clear_text.0 rule rule2 word is
@@ -87,24 +90,24 @@ not_shown text xml (Horizontal Xml rule cut x a y) accepted is = accepted.clear_
 
 module _ (law : OneReading) (weigh : RuleWeighsOnce) (agree : PairsAgree) (well : SheetsAgree) where
   -- an accepted sheet is not refused by its check
-  pub not_unsure : (p : Pair) (o : Outcome) → IsAccepted p.text p.xml → IsUnsure p o → ⊥
-  not_unsure p (Heavy weight) accepted unsure = not_heavy weigh p weight accepted unsure
-  not_unsure p (Suspect report) accepted unsure = not_shown p.text p.xml unsure.found accepted unsure.shows.1
-  not_unsure p Done accepted unsure = absurd unsure
-  not_unsure p (Foreign viable) accepted unsure = absurd unsure
-  not_unsure p SheetLong accepted unsure = absurd unsure
-  not_unsure p (SheetBad at) accepted unsure = absurd unsure
-  not_unsure p (SheetIll ill) accepted unsure = absurd unsure
-  not_unsure p (NotUtf8 at) accepted unsure = absurd unsure
-  not_unsure p (NotXml at) accepted unsure = absurd unsure
-  not_unsure p Usage accepted unsure = absurd unsure
-  not_unsure p SheetFault accepted unsure = absurd unsure
-  not_unsure p ReadFault accepted unsure = absurd unsure
-  not_unsure p (WriteFault written) accepted unsure = absurd unsure
-  not_unsure p (NoteFault of written) accepted unsure = absurd unsure
-  not_unsure p DocLong accepted unsure = absurd unsure
-  not_unsure p (ScriptBad bad) accepted unsure = absurd unsure
-  not_unsure p (OutlineBad bad) accepted unsure = absurd unsure
+  pub not_unsure : (bytes : List ℕ) (p : Pair) → IsPairOfBytes bytes p → (o : Outcome) → IsAccepted p.text p.xml → IsUnsure p o → ⊥
+  not_unsure bytes p is (Heavy weight) accepted unsure = not_heavy weigh bytes p is weight accepted unsure
+  not_unsure bytes p is (Suspect report) accepted unsure = not_shown p.text p.xml unsure.found accepted unsure.shows.1
+  not_unsure bytes p is Done accepted unsure = absurd unsure
+  not_unsure bytes p is (Foreign viable) accepted unsure = absurd unsure
+  not_unsure bytes p is SheetLong accepted unsure = absurd unsure
+  not_unsure bytes p is (SheetBad at) accepted unsure = absurd unsure
+  not_unsure bytes p is (SheetIll ill) accepted unsure = absurd unsure
+  not_unsure bytes p is (NotUtf8 at) accepted unsure = absurd unsure
+  not_unsure bytes p is (NotXml at) accepted unsure = absurd unsure
+  not_unsure bytes p is Usage accepted unsure = absurd unsure
+  not_unsure bytes p is SheetFault accepted unsure = absurd unsure
+  not_unsure bytes p is ReadFault accepted unsure = absurd unsure
+  not_unsure bytes p is (WriteFault written) accepted unsure = absurd unsure
+  not_unsure bytes p is (NoteFault of written) accepted unsure = absurd unsure
+  not_unsure bytes p is DocLong accepted unsure = absurd unsure
+  not_unsure bytes p is (ScriptBad bad) accepted unsure = absurd unsure
+  not_unsure bytes p is (OutlineBad bad) accepted unsure = absurd unsure
 
   -- a document of the language is not refused
   not_unread : (p : Pair) (side : Side) (form : Form) (bytes : List ℕ) (is : IsOfLanguage p side form bytes) (o : Outcome) → IsUnread p side form bytes o → ⊥
@@ -163,20 +166,20 @@ module _ (law : OneReading) (weigh : RuleWeighsOnce) (agree : PairsAgree) (well 
       let same : bytes ≡ readable.document = read_is i.left_before i.left_now readable.document bytes 1048576 readable.input takes in
       not_no_outline p readable.document readable.tree readable.is o (subst (λ (b : List ℕ). IsNoOutline p b o) same why)
 
-  not_undone : (p : Pair) (i : Input) (job : Job) → IsDoable p i job → (o : Outcome) → IsUndone p i job o → ⊥
-  not_undone p i Check doable o why = not_unsure p o doable why.1
-  not_undone p i (Turn from to form) doable o (inl unchecked) = not_unsure p o doable.0 unchecked.1
-  not_undone p i (Turn from to form) doable o (inr unanswered) = not_unanswered p i from form doable.1 o unanswered.1
-  not_undone p i (Trees max) doable o why = not_unanswered p i Text AsIs doable o why
-  not_undone p i (Make seed lines) doable o (inl unchecked) = not_unsure p o doable.0 unchecked.1
-  not_undone p i (Make seed lines) doable o (inr unread) = not_unread p Text AsIs (made_text seed lines) doable.1 o unread.2
-  not_undone p i Session doable o (inl unchecked) = not_unsure p o doable.0 unchecked.1
-  not_undone p i Session doable o (inr unplayed) = not_unplayed i doable.1 o unplayed.1
-  not_undone p i (ToTree from form) doable o (inl unchecked) = not_unsure p o doable.0 unchecked.1
-  not_undone p i (ToTree from form) doable o (inr unanswered) = not_unanswered p i from form doable.1 o unanswered.1
-  not_undone p i (FromTree to) doable o (inl unchecked) = not_unsure p o doable.0 unchecked.1
-  not_undone p i (FromTree to) doable o (inr unmade) = not_unmade p i doable.1 o unmade.1
-  not_undone p i Cover doable o why = why
+  not_undone : (bytes : List ℕ) (p : Pair) → IsPairOfBytes bytes p → (i : Input) (job : Job) → IsDoable p i job → (o : Outcome) → IsUndone p i job o → ⊥
+  not_undone bytes p is i Check doable o why = not_unsure bytes p is o doable why.1
+  not_undone bytes p is i (Turn from to form) doable o (inl unchecked) = not_unsure bytes p is o doable.0 unchecked.1
+  not_undone bytes p is i (Turn from to form) doable o (inr unanswered) = not_unanswered p i from form doable.1 o unanswered.1
+  not_undone bytes p is i (Trees max) doable o why = not_unanswered p i Text AsIs doable o why
+  not_undone bytes p is i (Make seed lines) doable o (inl unchecked) = not_unsure bytes p is o doable.0 unchecked.1
+  not_undone bytes p is i (Make seed lines) doable o (inr unread) = not_unread p Text AsIs (made_text seed lines) doable.1 o unread.2
+  not_undone bytes p is i Session doable o (inl unchecked) = not_unsure bytes p is o doable.0 unchecked.1
+  not_undone bytes p is i Session doable o (inr unplayed) = not_unplayed i doable.1 o unplayed.1
+  not_undone bytes p is i (ToTree from form) doable o (inl unchecked) = not_unsure bytes p is o doable.0 unchecked.1
+  not_undone bytes p is i (ToTree from form) doable o (inr unanswered) = not_unanswered p i from form doable.1 o unanswered.1
+  not_undone bytes p is i (FromTree to) doable o (inl unchecked) = not_unsure bytes p is o doable.0 unchecked.1
+  not_undone bytes p is i (FromTree to) doable o (inr unmade) = not_unmade p i doable.1 o unmade.1
+  not_undone bytes p is i Cover doable o why = why
 
   -- bytes that are known and spell two grammars are no reason
   module _ (run : Run) (sheet : Named) (known : List ℕ) (pair : Pair) (sure : IsFailed run.shelf sheet → ⊥) (has : HasBytes run.shelf.files sheet known) (spells : IsPairOfBytes known pair) where
@@ -250,7 +253,7 @@ module _ (law : OneReading) (weigh : RuleWeighsOnce) (agree : PairsAgree) (well 
         let clear = its_clear sheet job is in
         let spelled : IsPairOfBytes clear.bytes p = spelled_pair run.shelf.files sheet clear.bytes p clear.has spells in
         let same = agree clear.bytes clear.pair p clear.spelled spelled in
-        absurd (not_undone p run.input job (doable_kept clear.pair p same (outlines clear.bytes clear.pair p clear.spelled spelled) run.input job clear.doable) o why)
+        absurd (not_undone clear.bytes p spelled run.input job (doable_kept clear.pair p same (outlines clear.bytes clear.pair p clear.spelled spelled) run.input job clear.doable) o why)
     went_done o names (answered sheet job p answer is spells has took) = took_done answer o took
 
     told_done : (o result : Outcome) (names : List (List ℕ)) → Went run o names → Tells run.notes names o result → result ≡ Done

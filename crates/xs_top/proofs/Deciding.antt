@@ -77,13 +77,13 @@ module _ (run : Run) (from to : Side) (form : Form) (sheet document : List ℕ) 
         let one : bytes ≡ document = read_is run.input.left_before run.input.left_now document bytes 1048576 job.input takes in
         unread_refused law p q same from form document word is o (subst (λ (b : List ℕ). IsUnread q from form b o) one unread)
 
-    undone_refused : (q : Pair) → P.MeanTheSame p q → (o : Outcome) → IsUndone q run.input (Turn from to form) o → IsRefused p from word o
-    undone_refused q same o (inl unchecked) = absurd (not_unsure law weigh agree well q o (same.checked.accepted.0 accepted) unchecked.1)
-    undone_refused q same o (inr (sure, why)) = unanswered_refused q same o why
+    undone_refused : (q : Pair) → IsPairOfBytes sheet q → P.MeanTheSame p q → (o : Outcome) → IsUndone q run.input (Turn from to form) o → IsRefused p from word o
+    undone_refused q is_q same o (inl unchecked) = absurd (not_unsure law weigh agree well sheet q is_q o (same.checked.accepted.0 accepted) unchecked.1)
+    undone_refused q is_q same o (inr (sure, why)) = unanswered_refused q same o why
 
     came_ended : (o : Outcome) → Came run sheet job.asks.named (Turn from to form) o → Ended run p from word o
     came_ended o (before why) = absurd (not_unpaired law weigh agree well run job.asks.named sheet p whole.sheet job.asks.has is_pair o why)
-    came_ended o (of_job q is_q why) = as_foreign (undone_refused q (agree sheet p q is_pair is_q) o why)
+    came_ended o (of_job q is_q why) = as_foreign (undone_refused q is_q (agree sheet p q is_pair is_q) o why)
     came_ended o (with_answer q is_q answer has took) = took_ended run p from word answer o took
 
     pub told_ended : (o : Outcome) → Told run o → Ended run p from word o

@@ -7,6 +7,7 @@ mod Outlines
 mod Scripts
 mod Playing
 mod Agreeing
+mod FencesOnce
 mod Completing
 mod Only
 mod Coming

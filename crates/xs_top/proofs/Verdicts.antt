@@ -30,6 +30,7 @@ use Rattle.xs_top.specs.Runs.{AsksFor, Verdict, bad, ill, heavy, suspect, accept
 use Rattle.xs_top.specs.Laws.{PairsAgree, SheetsAgree, IsChecked, verdict, OneVerdict, RefusesSheet, CheckDecides, CheckAccepts}
 use Rattle.xs_top.proofs.Known.{has_only, has_short}
 use Rattle.xs_top.proofs.Agreeing.{sure_kept}
+use Rattle.xs_top.proofs.FencesOnce.{once_in_text, once_in_xml}
 use Rattle.xs_top.proofs.Completing.{not_heavy_rule, not_heavy, not_shown, not_unsure}
 use Rattle.xs_top.proofs.Coming.{Came, before, of_job, with_answer, told_came, done_answered}
 
@@ -164,11 +165,11 @@ module _ (law : OneReading) (weigh : RuleWeighsOnce) (agree : PairsAgree) (well 
   heavy_not_suspect sheet (p, is_p, weight, is_heavy) (q, is_q, report, is) = by_case (((agree sheet p q is_p is_q).checked.heavy weight).0 is_heavy)
     where
       by_case : IsFirstHeavy q.text q.xml weight → ⊥
-      by_case (inl one) = not_heavy_rule weigh q.text weight is.light_text one
-      by_case (inr two) = not_heavy_rule weigh q.xml weight is.light_xml two.1
+      by_case (inl one) = not_heavy_rule weigh q.text (once_in_text sheet q is_q) weight is.light_text one
+      by_case (inr two) = not_heavy_rule weigh q.xml (once_in_xml sheet q is_q) weight is.light_xml two.1
 
   heavy_not_accepted : (sheet : List ℕ) → Means sheet heavy → Means sheet accepted → ⊥
-  heavy_not_accepted sheet (p, is_p, weight, is_heavy) (q, is_q, is) = not_heavy weigh q weight is (((agree sheet p q is_p is_q).checked.heavy weight).0 is_heavy)
+  heavy_not_accepted sheet (p, is_p, weight, is_heavy) (q, is_q, is) = not_heavy weigh sheet q is_q weight is (((agree sheet p q is_p is_q).checked.heavy weight).0 is_heavy)
 
   suspect_not_accepted : (sheet : List ℕ) → Means sheet suspect → Means sheet accepted → ⊥
   suspect_not_accepted sheet (p, is_p, report, is_suspect) (q, is_q, is) = not_shown p.text p.xml is_suspect.found ((agree sheet q p is_q is_p).checked.accepted.0 is) is_suspect.shows.1
@@ -243,24 +244,24 @@ module _ (law : OneReading) (weigh : RuleWeighsOnce) (agree : PairsAgree) (well 
   accepted_not SheetLong is refuses = none_verdict accepted is
   accepted_not o is refuses = refuses
 
-  undone_not : (p : Pair) (i : Input) (job : Job) → IsAccepted p.text p.xml → (o : Outcome) → IsUndone p i job o → RefusesSheet o → ⊥
-  undone_not p i Check is o why refuses = not_unsure law weigh agree well p o is why.1
-  undone_not p i (Turn from to form) is o (inl why) refuses = not_unsure law weigh agree well p o is why.1
-  undone_not p i (Turn from to form) is o (inr (sure, why)) refuses = accepted_not o (unanswered_accepted p i from form o why) refuses
-  undone_not p i (Trees max) is o why refuses = accepted_not o (unanswered_accepted p i Text AsIs o why) refuses
-  undone_not p i (Make seed lines) is o (inl why) refuses = not_unsure law weigh agree well p o is why.1
-  undone_not p i (Make seed lines) is o (inr (read, sure, why)) refuses = accepted_not o (unread_accepted p Text AsIs (made_text seed lines) o why) refuses
-  undone_not p i Session is o (inl why) refuses = not_unsure law weigh agree well p o is why.1
-  undone_not p i Session is o (inr (sure, why)) refuses = accepted_not o (unplayed_accepted i o why) refuses
-  undone_not p i (ToTree from form) is o (inl why) refuses = not_unsure law weigh agree well p o is why.1
-  undone_not p i (ToTree from form) is o (inr (sure, why)) refuses = accepted_not o (unanswered_accepted p i from form o why) refuses
-  undone_not p i (FromTree to) is o (inl why) refuses = not_unsure law weigh agree well p o is why.1
-  undone_not p i (FromTree to) is o (inr (sure, why)) refuses = accepted_not o (unmade_accepted p i o why) refuses
-  undone_not p i Cover is o why refuses = why
+  undone_not : (sheet : List ℕ) (p : Pair) → IsPairOfBytes sheet p → (i : Input) (job : Job) → IsAccepted p.text p.xml → (o : Outcome) → IsUndone p i job o → RefusesSheet o → ⊥
+  undone_not sheet p is_p i Check is o why refuses = not_unsure law weigh agree well sheet p is_p o is why.1
+  undone_not sheet p is_p i (Turn from to form) is o (inl why) refuses = not_unsure law weigh agree well sheet p is_p o is why.1
+  undone_not sheet p is_p i (Turn from to form) is o (inr (sure, why)) refuses = accepted_not o (unanswered_accepted p i from form o why) refuses
+  undone_not sheet p is_p i (Trees max) is o why refuses = accepted_not o (unanswered_accepted p i Text AsIs o why) refuses
+  undone_not sheet p is_p i (Make seed lines) is o (inl why) refuses = not_unsure law weigh agree well sheet p is_p o is why.1
+  undone_not sheet p is_p i (Make seed lines) is o (inr (read, sure, why)) refuses = accepted_not o (unread_accepted p Text AsIs (made_text seed lines) o why) refuses
+  undone_not sheet p is_p i Session is o (inl why) refuses = not_unsure law weigh agree well sheet p is_p o is why.1
+  undone_not sheet p is_p i Session is o (inr (sure, why)) refuses = accepted_not o (unplayed_accepted i o why) refuses
+  undone_not sheet p is_p i (ToTree from form) is o (inl why) refuses = not_unsure law weigh agree well sheet p is_p o is why.1
+  undone_not sheet p is_p i (ToTree from form) is o (inr (sure, why)) refuses = accepted_not o (unanswered_accepted p i from form o why) refuses
+  undone_not sheet p is_p i (FromTree to) is o (inl why) refuses = not_unsure law weigh agree well sheet p is_p o is why.1
+  undone_not sheet p is_p i (FromTree to) is o (inr (sure, why)) refuses = accepted_not o (unmade_accepted p i o why) refuses
+  undone_not sheet p is_p i Cover is o why refuses = why
 
   came_not : (run : Run) (sheet : List ℕ) (named : Named) (job : Job) → HasBytes run.shelf.files named sheet → Means sheet accepted → (o : Outcome) → Came run sheet named job o → RefusesSheet o → ⊥
   came_not run sheet named job has (p, is_p, is) o (before why) refuses = unpaired_not run named sheet has p is_p o why refuses
-  came_not run sheet named job has (p, is_p, is) o (of_job q is_q why) refuses = undone_not q run.input job ((agree sheet p q is_p is_q).checked.accepted.0 is) o why refuses
+  came_not run sheet named job has (p, is_p, is) o (of_job q is_q why) refuses = undone_not sheet q is_q run.input job ((agree sheet p q is_p is_q).checked.accepted.0 is) o why refuses
   came_not run sheet named job has (p, is_p, is) o (with_answer q is_q answer has_answer took) refuses = accepted_not o (took_accepted run answer o took) refuses
 
   pub check_decides_lem : CheckDecides
