@@ -37,8 +37,6 @@ mod leiden;
 #[cfg(test)]
 mod lex;
 #[cfg(test)]
-mod loose;
-#[cfg(test)]
 mod lr;
 #[cfg(test)]
 mod names;
@@ -62,6 +60,8 @@ mod script;
 mod sheet;
 #[cfg(test)]
 mod sheets;
+#[cfg(test)]
+mod stretch;
 #[cfg(test)]
 mod suspects;
 #[cfg(test)]

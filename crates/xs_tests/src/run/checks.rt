@@ -1,5 +1,5 @@
 ghost use Rattle.std.specs.Prelude.{IfSome};
-ghost use Rattle.xs_loose.specs.Parts.{IsPart};
+ghost use Rattle.xs_stretch.specs.Parts.{IsPart};
 ghost use Rattle.xs_pair.specs.Sound.{IsSoundPair};
 
 use super::{
@@ -12,9 +12,9 @@ use std::process::Abort;
 use std::test::Fail;
 use xs_class::{Bytes, Memory, Side};
 use xs_gram::Gram;
-use xs_loose::{LooseFault, Part, net_of, weight_of};
 use xs_order::components;
 use xs_pair::Two;
+use xs_stretch::{LooseFault, Part, net_of, weight_of};
 
 const TWO_WORDS: &str =
     "xsugar-1\nstart s\nterminal w = /[a-z]+/\ns : [w a] [w b] = <s a=[w a]>[w b]</s>\n";
@@ -146,7 +146,7 @@ fn all_items(gram: &Gram, rule: u32) -> Option<Part>
     if rule >= gram.rules() {
         return None;
     }
-    let end = gram.items(rule).len() as u32;
+    let end = gram.spread(rule).len() as u32;
     Some(Part {
         rule,
         start: 0,

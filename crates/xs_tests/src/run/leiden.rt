@@ -9,9 +9,9 @@ use std::test::Fail;
 use xs_class::{Memory, Side};
 use xs_gram::Gram;
 use xs_leiden::{leiden_sheet, leiden2_sheet};
-use xs_loose::{Part, weight_of};
 use xs_order::components;
 use xs_pair::Two;
+use xs_stretch::{Part, weight_of};
 
 /// A text of the shipped sheet; the dots below stand after their letters.
 pub(super) const TEXT: &str = "<=\n1. (ἔτ(ους)) γ [.3] το[ῦ] .2\n\
@@ -91,7 +91,7 @@ fn first_weight(alloc: Global, g: &Gram) -> Result<u64, Memory>
         return Ok(0);
     }
     let comps = components(alloc, g)?;
-    let end = g.items(0).len() as u32;
+    let end = g.spread(0).len() as u32;
     let part = Part {
         rule: 0,
         start: 0,

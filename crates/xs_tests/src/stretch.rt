@@ -1,6 +1,6 @@
 ghost use Rattle.std.specs.Prelude.{IsSome, IfOk, IfSome};
 ghost use Rattle.xs_gram.specs.Sound.{IsBuilt};
-ghost use Rattle.xs_loose.specs.Parts.{IsPart};
+ghost use Rattle.xs_stretch.specs.Parts.{IsPart};
 
 use crate::sheets::pair_of;
 use std::alloc::Global;
@@ -8,9 +8,9 @@ use std::test::Fail;
 use xs_auto::{Net, Pairs};
 use xs_class::{Class, Memory, Side};
 use xs_gram::Gram;
-use xs_loose::{LooseFault, Part, net_of, weight_by, weight_of, weights};
 use xs_meet::meet_word;
 use xs_order::components;
+use xs_stretch::{LooseFault, Part, net_of, weight_by, weight_of, weights};
 
 /// Digits with commas between them, in brackets: the rule of the brackets, of one digit, and of a
 /// list, a comma and a digit.
@@ -54,14 +54,15 @@ fn net_of_word(alloc: Global, word: &[u8]) -> Result<Net, Memory>
     Ok(net)
 }
 
-/// This part of the rule, if there is one.
+/// This part of the rule, if there is one and the grammar has no fences.
+#[tactic(auto, using(crate::proofs::Unfenced::part_unfenced))]
 fn part(gram: &Gram, rule: u32, start: u32, end: u32) -> Option<Part>
     ensures { IfSome result (IsPart gram.now) }
 {
-    if rule >= gram.rules() {
+    if rule >= gram.rules() || gram.fences().len() > 0 {
         return None;
     }
-    if start > end || end as usize > gram.items(rule).len() {
+    if start > end || end as usize > gram.spread(rule).len() {
         return None;
     }
     Some(Part { rule, start, end })
