@@ -16,6 +16,7 @@ mod outlines;
 mod patterns;
 mod plain;
 mod refusals;
+mod sessions;
 mod sheets;
 mod translations;
 mod trees;

@@ -39,7 +39,7 @@ fn lines_of_outcomes(rt: HostRuntime) -> Result<(), Memory> {
         rule: IllRule::NameOnce,
         line: 4,
     });
-    let rows: [(Outcome, &str); 10] = [
+    let rows: [(Outcome, &str); 11] = [
         (Outcome::Done, ""),
         (
             Outcome::Foreign { viable: 4 },
@@ -61,12 +61,16 @@ fn lines_of_outcomes(rt: HostRuntime) -> Result<(), Memory> {
         ),
         (Outcome::NoteFault { of: 1, written: 5 }, ""),
         (
+            Outcome::ScriptBad { line: 2 },
+            "script: line 2: not expected here\n",
+        ),
+        (
             Outcome::OutlineBad { line: 3 },
             "outline: line 3: not expected here\n",
         ),
         (
             Outcome::Usage,
-            "usage: xsugar check S | to-xml S [F] | to-text S | round S text [F] | round S xml | trees S M | sheet | sheet 2 | make SEED LINES | to-tree S text [F] | to-tree S xml | from-tree S text | from-tree S xml | cover S\n",
+            "usage: xsugar check S | to-xml S [F] | to-text S | round S text [F] | round S xml | trees S M | sheet | sheet 2 | make SEED LINES | session S | to-tree S text [F] | to-tree S xml | from-tree S text | from-tree S xml | cover S\n",
         ),
     ];
     expect_told(&rt, rt.alloc(), &rows)

@@ -11,7 +11,7 @@ fn is_command(alloc: Global, words: &[&str]) -> Result<bool, Memory> {
     Ok(command_of(&list).is_some())
 }
 
-const ROWS: [(&[&str], bool); 31] = [
+const ROWS: [(&[&str], bool); 34] = [
     (&["check", "pair.xsugar"], true),
     (&["to-xml", "@leiden", "nfd"], true),
     (&["round", "pair.xsugar", "text", "asis"], true),
@@ -41,6 +41,9 @@ const ROWS: [(&[&str], bool); 31] = [
     (&["to-tree", "a", "text", "nfc"], true),
     (&["from-tree", "a", "text"], true),
     (&["from-tree", "@leiden", "xml"], true),
+    (&["session", "@leiden"], true),
+    (&["session"], false),
+    (&["session", "a", "text"], false),
     (&["from-tree", "a"], false),
     (&["from-tree", "a", "text", "nfc"], false),
 ];
