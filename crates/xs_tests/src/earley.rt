@@ -16,7 +16,7 @@ use xs_class::{Bytes, Memory, Side, Sym, Word};
 use xs_earley::{SeeFault, recognise};
 use xs_gram::Gram;
 
-const UNITS: &[u8] =
+pub const UNITS: &[u8] =
     b"xsugar-1\nstart s\nterminal x = /[ab]/\nterminal y = /a*/\nterminal z = /a{1,2}/\n\
     ignorable k = /b*/ \"\"\nignorable l = /(ab)?/ \"\"\n";
 
@@ -32,7 +32,7 @@ pub fn word_of(alloc: Global, letters: &[u8]) -> Result<Word, Memory>
 }
 
 /// Appends the items of a rule, without ignorables if it is that of XML.
-fn push_items(sheet: &mut Bytes, side: Side, letters: &[u8]) -> Result<(), Memory> {
+pub fn push_items(sheet: &mut Bytes, side: Side, letters: &[u8]) -> Result<(), Memory> {
     let mut name = b'a';
     for letter in letters {
         let is_left_out = side == Side::Xml && (*letter == b'k' || *letter == b'l');

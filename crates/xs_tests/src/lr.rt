@@ -4,7 +4,9 @@ ghost use Rattle.xs_gram.specs.Sound.{IsBuilt, IsSound};
 ghost use Rattle.xs_pair.specs.Sound.{IsSoundPair};
 
 mod giving_up;
+mod kinds;
 mod languages;
+mod random;
 
 use crate::examples::EXAMPLES;
 use crate::parse_table::passes;
@@ -77,7 +79,7 @@ pub fn agree(alloc: Global, g: &Gram, doc: &Word) -> Result<bool, Memory>
 }
 
 /// The tree of the document's derivation by the exact recogniser and its forest.
-fn exact_tree(alloc: Global, g: &Gram, doc: &Word) -> Result<Tree, TurnFault>
+pub fn exact_tree(alloc: Global, g: &Gram, doc: &Word) -> Result<Tree, TurnFault>
     requires sound { IsSound g.now }
     requires short { length doc.now < 4294967295 }
 {
@@ -127,7 +129,12 @@ fn tables_of_made_texts(rt: HostRuntime) -> Result<(), Fail> {
 }
 
 /// The document with another symbol at a place, and without the one there.
-fn changed(alloc: Global, doc: &[Sym], place: usize, other: Option<Sym>) -> Result<Word, Memory> {
+pub fn changed(
+    alloc: Global,
+    doc: &[Sym],
+    place: usize,
+    other: Option<Sym>,
+) -> Result<Word, Memory> {
     let mut word = Word::new(alloc);
     for (at, symbol) in doc.iter().enumerate() {
         if at != place {
