@@ -14,6 +14,6 @@ mod weights;
 
 pub use fault::CheckFault;
 pub use maps::Maps;
-pub use nets::CutNets;
+pub use nets::{CutNets, whole};
 pub use space::SearchSpace;
 pub use weights::light;

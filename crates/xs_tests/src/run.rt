@@ -10,6 +10,7 @@ mod checks;
 mod cover;
 mod cuts;
 mod faults;
+mod fences;
 mod leiden;
 mod limits;
 mod outlines;

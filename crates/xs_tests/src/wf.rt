@@ -1,3 +1,4 @@
+mod fences;
 mod nonterminals;
 mod well;
 

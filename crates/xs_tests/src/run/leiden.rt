@@ -9,9 +9,10 @@ use std::test::Fail;
 use xs_class::{Memory, Side};
 use xs_gram::Gram;
 use xs_leiden::{leiden_sheet, leiden2_sheet};
+use xs_light::whole;
 use xs_order::components;
 use xs_pair::Two;
-use xs_stretch::{Part, weight_of};
+use xs_stretch::weight_of;
 
 /// A text of the shipped sheet; the dots below stand after their letters.
 pub(super) const TEXT: &str = "<=\n1. (ἔτ(ους)) γ [.3] το[ῦ] .2\n\
@@ -91,13 +92,7 @@ fn first_weight(alloc: Global, g: &Gram) -> Result<u64, Memory>
         return Ok(0);
     }
     let comps = components(alloc, g)?;
-    let end = g.spread(0).len() as u32;
-    let part = Part {
-        rule: 0,
-        start: 0,
-        end,
-    };
-    Ok(weight_of(alloc, g, &comps, &part)?.saturating_add(1))
+    Ok(weight_of(alloc, g, &comps, &whole(g, 0))?.saturating_add(1))
 }
 
 /// What the first productions weigh: as text, and as XML.
@@ -114,6 +109,16 @@ fn the_first_production_weighs_less_as_text(rt: HostRuntime) -> Result<(), Fail>
     let two = two_of(rt.alloc(), leiden_sheet())?;
     let weights = first_weights(rt.alloc(), &two)?;
     assert_eq!(rt; weights, (2_196, 4_944));
+    Ok(())
+}
+
+#[test]
+fn the_first_production_of_core_2_weighs_less_than_that_of_core_1(
+    rt: HostRuntime,
+) -> Result<(), Fail> {
+    let two = two_of(rt.alloc(), leiden2_sheet())?;
+    let weights = first_weights(rt.alloc(), &two)?;
+    assert_eq!(rt; weights, (1_592, 1_156));
     Ok(())
 }
 
