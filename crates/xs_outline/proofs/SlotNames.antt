@@ -25,7 +25,7 @@ use Rattle.xs_pair.specs.declared.production.Rule.{Rule}
 use Rattle.xs_pair.specs.Grammars.{Pair, IsPairOf}
 use Rattle.xs_pair.specs.Listing.{rules_of}
 use Rattle.xs_pair.specs.Marks.{slot_names}
-use Rattle.xs_writing_laws.proofs.Lists.{each_of_map, each_at}
+use Rattle.xs_pair.proofs.Lists.{each_of_map, each_at}
 use Rattle.xs_outline.specs.Lines.{Lacks}
 use Rattle.xs_outline.specs.Shapes.{slot_name}
 
