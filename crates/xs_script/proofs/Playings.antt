@@ -4,7 +4,7 @@ use Rattle.std.specs.Prelude.{slice_get}
 use Rattle.xs_pair.specs.Grammars.{Pair}
 use Rattle.xs_outline.specs.Lines.{text_lines}
 use Rattle.xs_outline.specs.Reading.{IsFirstLine}
-use Rattle.xs_outline.proofs.Whole.{first_then}
+use Rattle.xs_outline.proofs.TextLines.{first_then}
 use Rattle.xs_script.specs.declared.request.Request.{Request}
 use Rattle.xs_script.specs.Requests.{Spells, NoRequest, AreSpelt, IsBadAt}
 use Rattle.xs_script.specs.Playing.{Answers, Plays, IsPlayed, IsPlaying}
