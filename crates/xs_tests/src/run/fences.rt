@@ -26,7 +26,14 @@ const ROWS: &[(&str, &[u8])] = &[
 #[test]
 fn a_rule_on_fences_that_fails_is_told(rt: HostRuntime) -> Result<(), Fail> {
     for (sheet, line) in ROWS {
-        expect(&rt, rt.alloc(), CHECK, sheet.as_bytes(), b"", refused(2, line))?;
+        expect(
+            &rt,
+            rt.alloc(),
+            CHECK,
+            sheet.as_bytes(),
+            b"",
+            refused(2, line),
+        )?;
     }
     Ok(())
 }
@@ -43,8 +50,7 @@ fn core_1_has_no_marks_inside_marks(rt: HostRuntime) -> Result<(), Fail> {
 /// How core 2 begins, up to its version, and how it ends.
 const HEAD: &str = "# Leiden core 2: marks inside marks\nxsugar-2\n";
 
-const FENCES: &str =
-    "fence \"(\" \")\"\nfence \"[\" \"]\"\nfence \"{\" \"}\"\nfence \"<\" \">\"\n";
+const FENCES: &str = "fence \"(\" \")\"\nfence \"[\" \"]\"\nfence \"{\" \"}\"\nfence \"<\" \">\"\n";
 
 /// Core 2 in version 1, which has no fences.
 fn core_2_unfenced(alloc: Global) -> Result<Bytes, Memory> {
@@ -66,7 +72,14 @@ fn core_2_without_its_fences_is_too_heavy(rt: HostRuntime) -> Result<(), Fail> {
 #[test]
 fn core_2_is_accepted(rt: HostRuntime) -> Result<(), Fail> {
     let line = b"accepted: 6 terminals, 2 ignorables, 16 nonterminals, 55 productions\n";
-    expect(&rt, rt.alloc(), &["check", "@leiden2"], b"", b"", done(line))
+    expect(
+        &rt,
+        rt.alloc(),
+        &["check", "@leiden2"],
+        b"",
+        b"",
+        done(line),
+    )
 }
 
 /// Marks inside marks, as text and as XML.
@@ -101,7 +114,14 @@ const FENCED: &str = "xsugar-2\nstart doc\nterminal c = /[a-z]/\n\
 #[test]
 fn brackets_inside_brackets_are_translated(rt: HostRuntime) -> Result<(), Fail> {
     let end = done(b"<d>a<b>b<b/></b>c</d>\n");
-    expect(&rt, rt.alloc(), TO_XML, FENCED.as_bytes(), b"<a[b[]]c>", end)
+    expect(
+        &rt,
+        rt.alloc(),
+        TO_XML,
+        FENCED.as_bytes(),
+        b"<a[b[]]c>",
+        end,
+    )
 }
 
 /// Two words side by side inside a group: the cut between them is in the group.

@@ -154,7 +154,8 @@ fn fences(two: &Two, side: Side) -> &[(Sym, Sym)] {
 
 #[test]
 fn both_sides_of_version_2_have_their_fences(rt: HostRuntime) -> Result<(), Fail> {
-    let sheet = b"xsugar-2\nstart s\nfence \"(\" \")\"\ns : \"()\" = <s a=\"b\"><t/></s>\nfence \"<\" \">\"\n";
+    let sheet =
+        b"xsugar-2\nstart s\nfence \"(\" \")\"\ns : \"()\" = <s a=\"b\"><t/></s>\nfence \"<\" \">\"\n";
     let two = pair_of(rt.alloc(), sheet)?;
     let text = [(Sym(40), Sym(41)), (Sym(60), Sym(62))];
     assert!(rt; fences(&two, Side::Text) == &text);
