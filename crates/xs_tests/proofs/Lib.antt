@@ -1,2 +1,3 @@
+pub mod FirstInside
 pub mod SmallLemmas
 pub mod Unfenced

@@ -1,4 +1,6 @@
+ghost use Rattle.std.specs.Prelude.{◌<◌, length, IfSome};
 ghost use Rattle.xs_gram.specs.Sound.{IsBuilt};
+ghost use Rattle.xs_stretch.specs.Parts.{IsPart};
 ghost use Rattle.xs_pair.specs.Sound.{IsSoundPair};
 
 use super::{Ended, NONE, done, end_of, expect, ran, refused};
@@ -12,7 +14,7 @@ use xs_leiden::{leiden_sheet, leiden2_sheet};
 use xs_light::whole;
 use xs_order::components;
 use xs_pair::Two;
-use xs_stretch::weight_of;
+use xs_stretch::{Part, weight_of};
 
 /// A text of the shipped sheet; the dots below stand after their letters.
 pub(super) const TEXT: &str = "<=\n1. (ἔτ(ους)) γ [.3] το[ῦ] .2\n\
@@ -84,7 +86,27 @@ fn a_dot_below_is_a_character_of_its_own(rt: HostRuntime) -> Result<(), Fail> {
     expect(&rt, rt.alloc(), TO_XML, b"", COMPOSED.as_bytes(), end)
 }
 
-/// What the first production of a side weighs.
+/// What the group that the first production begins with encloses, if it begins with one.
+#[tactic(auto, using(crate::proofs::FirstInside::first_inside_part))]
+fn first_inside(g: &Gram) -> Option<Part>
+    requires { 0 < length g.now.rules }
+    ensures { IfSome result (IsPart g.now) }
+{
+    if g.spread(0).len() == 0 {
+        return None;
+    }
+    match g.partner(0, 0) {
+        Some(end) => Some(Part {
+            rule: 0,
+            start: 1,
+            end,
+        }),
+        None => None,
+    }
+}
+
+/// What the first production of a side weighs: 1 more than all its items, or than those inside the
+/// group that it begins with, whichever is more.
 fn first_weight(alloc: Global, g: &Gram) -> Result<u64, Memory>
     requires { IsBuilt g.now }
 {
@@ -92,7 +114,12 @@ fn first_weight(alloc: Global, g: &Gram) -> Result<u64, Memory>
         return Ok(0);
     }
     let comps = components(alloc, g)?;
-    Ok(weight_of(alloc, g, &comps, &whole(g, 0))?.saturating_add(1))
+    let all = weight_of(alloc, g, &comps, &whole(g, 0))?;
+    let inside = match first_inside(g) {
+        None => 0,
+        Some(inside) => weight_of(alloc, g, &comps, &inside)?,
+    };
+    Ok(all.max(inside).saturating_add(1))
 }
 
 /// What the first productions weigh: as text, and as XML.

@@ -158,13 +158,13 @@ fn both_sides_of_version_2_have_their_fences(rt: HostRuntime) -> Result<(), Fail
         b"xsugar-2\nstart s\nfence \"(\" \")\"\ns : \"()\" = <s a=\"b\"><t/></s>\nfence \"<\" \">\"\n";
     let two = pair_of(rt.alloc(), sheet)?;
     let text = [(Sym(40), Sym(41)), (Sym(60), Sym(62))];
-    assert!(rt; fences(&two, Side::Text) == &text);
+    assert!(rt; fences(&two, Side::Text) == text.as_slice());
     let xml = [
         (Sym::opening(0), Sym::closing(0)),
         (Sym::opening(1), Sym::closing(1)),
         (Sym::opening(2), Sym::closing(2)),
     ];
-    assert!(rt; fences(&two, Side::Xml) == &xml);
+    assert!(rt; fences(&two, Side::Xml) == xml.as_slice());
     Ok(())
 }
 
