@@ -1,2 +1,0 @@
-pub mod Coarse
-pub mod Covers
