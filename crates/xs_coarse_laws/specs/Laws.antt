@@ -1,0 +1,52 @@
+-- The laws of covers: they accept at least the loose words, and sets of pairs of their states that are
+-- closed show that there is no suspect.
+use Rattle.std.specs.Prelude.{◌≡◌, ℕ, List, slice_range}
+use Rattle.xs_auto.specs.Nets.{Graph}
+use Rattle.xs_auto.specs.Nests.{Group, Crossing, IsFenced}
+use Rattle.xs_gram.specs.declared.parts.GItem.{GItem}
+use Rattle.xs_gram.specs.Grammar.{Grammar}
+use Rattle.xs_gram.specs.Fences.{spread}
+use Rattle.xs_gram.specs.Sound.{IsBuilt}
+use Rattle.xs_gram.specs.Loose.{Spot, IsLoose}
+use Rattle.xs_gram.specs.Suspects.{Overlaps}
+use Rattle.xs_stretch.specs.Parts.{IsStretch}
+use Rattle.xs_meet.specs.Closed.{IsApart, IsClear, IsSettled}
+use Rattle.xs_coarse.specs.Coarse.{Table, Net, view}
+use Rattle.xs_coarse.specs.Covers.{CoversGrammar, CoversPart, CoversCut, CoversGroups, AreUnfenced}
+
+-- a grammar that was built, a net that covers it, and a nest that covers its groups
+pub record Covering (g : Grammar) (whole : Graph) (state : Spot → ℕ) (nest : List Group) : Type 0 where
+  pub built : IsBuilt g
+  pub grammar : CoversGrammar g whole state
+  pub groups : CoversGroups g whole state nest
+
+-- a net that covers a stretch goes by each of its loose words from the one state to the other
+abbrev pub CoversAcceptLoose : Type 0
+CoversAcceptLoose =
+    (g : Grammar) (whole : Graph) (state : Spot → ℕ) (nest : List Group) → Covering g whole state nest
+    → (n : Graph) (p k : ℕ) (is : List GItem) (a b : ℕ) → IsStretch g p k is → CoversPart g whole state n p k is a b
+    → (w : List ℕ) → IsLoose g is w → Crossing nest n a w b
+
+-- the nest may be searched
+abbrev pub CoverNestsAreFenced : Type 0
+CoverNestsAreFenced = (g : Grammar) (whole : Graph) (state : Spot → ℕ) (nest : List Group) → Covering g whole state nest → IsFenced nest
+
+-- where marks show that two nets are apart, the stretches that they cover have no loose word in common
+abbrev pub ApartSharesNone : Type 0
+ApartSharesNone =
+    (g : Grammar) (whole : Graph) (state : Spot → ℕ) (nest : List Group) → Covering g whole state nest
+    → (R : ℕ → ℕ → Type 0) → IsSettled nest R → (t : Table) → AreUnfenced g t
+    → (m n : Net) (p k q j : ℕ) (is js : List GItem) (a b c d : ℕ) → IsStretch g p k is → IsStretch g q j js
+    → CoversPart g whole state (view t m a b) p k is a b → CoversPart g whole state (view t n c d) q j js c d
+    → (Z : ℕ → ℕ → Type 0) → IsApart R (view t m a b) (view t n c d) Z
+    → (w : List ℕ) → IsLoose g is w → IsLoose g js w → ⊥
+
+-- where marks show that a net is clear at the state of a cut, nothing overlaps there
+abbrev pub ClearOverlapsNot : Type 0
+ClearOverlapsNot =
+    (g : Grammar) (whole : Graph) (state : Spot → ℕ) (nest : List Group) → Covering g whole state nest
+    → (R : ℕ → ℕ → Type 0) → IsSettled nest R → (t : Table) → AreUnfenced g t
+    → (n : Net) (p start place end here last : ℕ) → IsStretch g p start (slice_range (spread g p) start end)
+    → CoversCut g whole state (view t n 0 last) p start place end here last
+    → (Z1 Z0 Z2 Z3 : ℕ → ℕ → Type 0) → IsClear R (view t n 0 here) (view t n here last) Z1 Z0 Z2 Z3
+    → (x a y : List ℕ) → Overlaps g (slice_range (spread g p) start place) (slice_range (spread g p) place end) x a y → ⊥
