@@ -1,6 +1,6 @@
 -- The laws of covers: they accept at least the loose words, and sets of pairs of their states that are
 -- closed show that there is no suspect.
-use Rattle.std.specs.Prelude.{◌≡◌, ℕ, List, slice_range}
+use Rattle.std.specs.Prelude.{ℕ, ◌<◌, Bool, List, slice_range}
 use Rattle.xs_auto.specs.Nets.{Graph}
 use Rattle.xs_auto.specs.Nests.{Group, Crossing, IsFenced}
 use Rattle.xs_gram.specs.declared.parts.GItem.{GItem}
@@ -10,8 +10,8 @@ use Rattle.xs_gram.specs.Sound.{IsBuilt}
 use Rattle.xs_gram.specs.Loose.{Spot, IsLoose}
 use Rattle.xs_gram.specs.Suspects.{Overlaps}
 use Rattle.xs_stretch.specs.Parts.{IsStretch}
-use Rattle.xs_meet.specs.Closed.{IsApart, IsClear, IsSettled}
-use Rattle.xs_coarse.specs.Coarse.{Table, Net, view}
+use Rattle.xs_meet.specs.Closed.{IsClear, Marked, AreApart, IsSettled}
+use Rattle.xs_coarse.specs.Coarse.{Table, MayCall, Net, view}
 use Rattle.xs_coarse.specs.Covers.{CoversGrammar, CoversPart, CoversCut, CoversGroups, AreUnfenced}
 
 -- a grammar that was built, a net that covers it, and a nest that covers its groups
@@ -35,18 +35,18 @@ CoverNestsAreFenced = (g : Grammar) (whole : Graph) (state : Spot → ℕ) (nest
 abbrev pub ApartSharesNone : Type 0
 ApartSharesNone =
     (g : Grammar) (whole : Graph) (state : Spot → ℕ) (nest : List Group) → Covering g whole state nest
-    → (R : ℕ → ℕ → Type 0) → IsSettled nest R → (t : Table) → AreUnfenced g t
+    → (t : Table) → AreUnfenced g t → IsSettled nest (MayCall t)
     → (m n : Net) (p k q j : ℕ) (is js : List GItem) (a b c d : ℕ) → IsStretch g p k is → IsStretch g q j js
-    → CoversPart g whole state (view t m a b) p k is a b → CoversPart g whole state (view t n c d) q j js c d
-    → (Z : ℕ → ℕ → Type 0) → IsApart R (view t m a b) (view t n c d) Z
+    → CoversPart g whole state (view t m a b) p k is a b → CoversPart g whole state (view t n c d) q j js c d → b < m.states → d < n.states
+    → AreApart (MayCall t) (view t m a b) (view t n c d)
     → (w : List ℕ) → IsLoose g is w → IsLoose g js w → ⊥
 
 -- where marks show that a net is clear at the state of a cut, nothing overlaps there
 abbrev pub ClearOverlapsNot : Type 0
 ClearOverlapsNot =
     (g : Grammar) (whole : Graph) (state : Spot → ℕ) (nest : List Group) → Covering g whole state nest
-    → (R : ℕ → ℕ → Type 0) → IsSettled nest R → (t : Table) → AreUnfenced g t
+    → (t : Table) → AreUnfenced g t → IsSettled nest (MayCall t)
     → (n : Net) (p start place end here last : ℕ) → IsStretch g p start (slice_range (spread g p) start end)
-    → CoversCut g whole state (view t n 0 last) p start place end here last
-    → (Z1 Z0 Z2 Z3 : ℕ → ℕ → Type 0) → IsClear R (view t n 0 here) (view t n here last) Z1 Z0 Z2 Z3
+    → CoversCut g whole state (view t n 0 last) p start place end here last → here < n.states → last < n.states
+    → (z1 z0 z2 z3 : ℕ → ℕ → Bool) → IsClear (MayCall t) (view t n 0 here) (view t n here last) (Marked z1) (Marked z0) (Marked z2) (Marked z3)
     → (x a y : List ℕ) → Overlaps g (slice_range (spread g p) start place) (slice_range (spread g p) place end) x a y → ⊥
