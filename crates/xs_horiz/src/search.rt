@@ -1,9 +1,13 @@
 ghost use Rattle.std.specs.Prelude.{◌≡◌, ◌<◌, length, IfOk, IfErr, IfSome, IfNone, OnOk};
+ghost use Rattle.xs_gram.specs.Fences.{spread};
 ghost use Rattle.xs_gram.specs.Loose.{AreComponents};
 ghost use Rattle.xs_gram.specs.Sound.{IsBuilt};
+ghost use Rattle.xs_gram.specs.Suspects.{IsHorizontal};
 ghost use Rattle.xs_check_laws.specs.Freedom.{HasNoHorizontal};
 ghost use Rattle.xs_check_laws.specs.Acceptance.{IsLight, ShowsHorizontal};
 ghost use Rattle.xs_light.specs.Causes.{IsCause};
+ghost use Rattle.xs_light.specs.Searching.{OverlapsAt};
+ghost use Rattle.xs_screen.specs.Screens.{AreDoubts};
 ghost use Rattle.xs_horiz.specs.Cuts.{IsFirstCut, HasNoCut};
 
 use std::alloc::Global;
@@ -71,11 +75,34 @@ fn first_cut(searches: &mut Searches<'_>, rule: u32) -> Result<Option<Horiz>, Me
 {
     let g = searches.grammar();
     let count = g.spread(rule).len() as u32;
+    let doubts = searches.doubts(rule)?;
     'cuts: for cut in 1..count {
-        let found = searches.overlap_at(rule, cut)?;
+        let found = overlap_at(searches, &doubts, rule, cut)?;
         if let Some(Overlap { x, a, y }) = found {
             return Ok(Some(Horiz { rule, cut, x, a, y }));
         }
     }
     Ok(None)
+}
+
+/// Words by which the front and the rest of a rule overlap at a cut, where they do; at a cut that is
+/// not in doubt they do not.
+fn overlap_at(
+    searches: &mut Searches<'_>,
+    doubts: &[bool],
+    rule: u32,
+    cut: u32,
+) -> Result<Option<Overlap>, Memory>
+    requires doubts { AreDoubts searches.old rule doubts.now }
+    requires rule { rule < length searches.old.rules }
+    requires low { 0 < cut }
+    requires high { cut < length (spread searches.old rule) }
+    ensures same { searches.new ≡ searches.old }
+    ensures some { IfOk result (λ o. IfSome o (λ w. IsHorizontal searches.old rule cut w.x w.a w.y)) }
+    ensures none { IfOk result (λ o. IfNone o (OverlapsAt searches.old rule cut → ⊥)) }
+{
+    if let Some(false) = doubts.get(cut as usize) {
+        return Ok(None);
+    }
+    searches.overlap_at(rule, cut)
 }

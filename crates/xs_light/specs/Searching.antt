@@ -11,6 +11,8 @@ use Rattle.xs_check_laws.specs.Acceptance.{IsLight}
 use Rattle.xs_stretch.specs.declared.tables.Tables.{Tables}
 use Rattle.xs_stretch.specs.Groups.{HasFewGroups}
 use Rattle.xs_stretch.specs.Tables.{AreTables}
+use Rattle.xs_screen.specs.declared.screen.Screen.{Screen}
+use Rattle.xs_screen.specs.Screens.{IsScreen}
 use Rattle.xs_light.specs.declared.exact.Exact.{Exact}
 use Rattle.xs_light.specs.Spaces.{IsSpace}
 
@@ -28,12 +30,13 @@ pub record IsExactFor (g : Grammar) (e : Exact) : Type 0 where
   pub space : IsSpace e.space
   pub grammar : e.space.g.now ≡ g
 
--- a grammar that was built and whose rules are light, with its components and its tables, and the
--- exact searches where they were made
-pub record IsReady (g : Grammar) (cs : List ℕ) (ts : Tables) (searches : Option Exact) : Type 0 where
+-- a grammar that was built and whose rules are light, with its components and its tables, its screen
+-- where there is one, and the exact searches where they were made
+pub record IsReady (g : Grammar) (cs : List ℕ) (ts : Tables) (quick : Option Screen) (searches : Option Exact) : Type 0 where
   pub built : IsBuilt g
   pub comps : AreComponents g cs
   pub tables : AreTables g cs ts
   pub few : HasFewGroups g
   pub light : IsLight g
+  pub screen : IfSome quick (IsScreen g)
   pub exact : IfSome searches (IsExactFor g)

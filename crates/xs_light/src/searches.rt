@@ -1,4 +1,4 @@
-ghost use Rattle.std.specs.Prelude.{ℕ, ◌≡◌, ◌<◌, List, length, IfOk, IfSome, IfNone};
+ghost use Rattle.std.specs.Prelude.{ℕ, ◌≡◌, ◌<◌, true, List, length, IfOk, IfSome, IfNone};
 ghost use Rattle.xs_gram.specs.Fences.{spread};
 ghost use Rattle.xs_gram.specs.Loose.{AreComponents};
 ghost use Rattle.xs_gram.specs.Sound.{IsBuilt};
@@ -6,6 +6,7 @@ ghost use Rattle.xs_gram.specs.Suspects.{IsHorizontal};
 ghost use Rattle.xs_check_laws.specs.Acceptance.{IsLight};
 ghost use Rattle.xs_stretch.specs.Groups.{HasFewGroups};
 ghost use Rattle.xs_stretch.specs.Tables.{AreTables};
+ghost use Rattle.xs_screen.specs.Screens.{ShareNone, AreDoubts};
 ghost use Rattle.xs_light.specs.Searching.{AreBothLoose, OverlapsAt, IsExactFor};
 
 use crate::exact::Exact;
@@ -14,17 +15,21 @@ use std::marker::Model;
 use xs_class::{Memory, Word};
 use xs_gram::{Comps, Gram};
 use xs_meet::Overlap;
+use xs_screen::Screen;
 use xs_stretch::Tables;
 
 /// The searches for suspects of a grammar whose rules are light, which contracts see as the grammar.
 ///
-/// What the exact searches share is made when one is first asked for.
+/// A screen sees of most pairs of rules and of most cuts that they have no suspect; an exact search
+/// decides of the others, and alone finds words. What the exact searches share is made when one is
+/// first needed.
 #[derive(Drop)]
 pub struct Searches<'g> {
     alloc: Global,
     g: &'g Gram,
     comps: &'g Comps,
     tables: &'g Tables,
+    screen: Option<Screen>,
     exact: Option<Exact<'g>>,
 }
 
@@ -40,12 +45,32 @@ impl<'g> Model for Searches<'g> {
 
     ghost view = { λ s. s.g.now };
 
-    ghost invariant = { λ s. IsReady s.g.now s.comps.now s.tables.now s.exact };
+    ghost invariant = { λ s. IsReady s.g.now s.comps.now s.tables.now s.screen s.exact };
 }
 
 impl<'g> Searches<'g> {
-    /// The searches for suspects of a grammar whose rules are light.
+    /// The searches for suspects of a grammar whose rules are light, with a screen where its coarse nets
+    /// are not too large.
     pub fn of(
+        alloc: Global,
+        g: &'g Gram,
+        comps: &'g Comps,
+        tables: &'g Tables,
+    ) -> Result<Searches<'g>, Memory>
+        requires built { IsBuilt g.now }
+        requires comps { AreComponents g.now comps.now }
+        requires tables { AreTables g.now comps.now tables.now }
+        requires few { HasFewGroups g.now }
+        requires light { IsLight g.now }
+        ensures { IfOk result (λ s. s ≡ g.now) }
+    {
+        let mut searches = Searches::exact(alloc, g, comps, tables)?;
+        searches.screen = Screen::of(alloc, g, &tables.groups)?;
+        Ok(searches)
+    }
+
+    /// The same without a screen: an exact search decides each time.
+    pub fn exact(
         alloc: Global,
         g: &'g Gram,
         comps: &'g Comps,
@@ -63,6 +88,7 @@ impl<'g> Searches<'g> {
             g,
             comps,
             tables,
+            screen: None,
             exact: None,
         })
     }
@@ -83,14 +109,52 @@ impl<'g> Searches<'g> {
         ensures some { IfOk result (λ o. IfSome o (AreBothLoose self.old rule rule2)) }
         ensures none { IfOk result (λ o. IfNone o ((w : List ℕ) → AreBothLoose self.old rule rule2 w → ⊥)) }
     {
+        if self.are_seen_apart(rule, rule2)? {
+            return Ok(None);
+        }
         let mut exact = self.take_exact()?;
         let word = exact.shared_word(rule, rule2)?;
         self.exact = Some(exact);
         Ok(word)
     }
 
+    /// Whether the screen sees that no word is loose for both rules.
+    fn are_seen_apart(&mut self, rule: u32, rule2: u32) -> Result<bool, Memory>
+        requires rule { rule < length self.old.rules }
+        requires rule2 { rule2 < length self.old.rules }
+        ensures same { self.new ≡ self.old }
+        ensures apart { IfOk result (λ b. b ≡ true → ShareNone self.old rule rule2) }
+    {
+        match self.screen.take() {
+            None => Ok(false),
+            Some(mut screen) => {
+                let groups = &self.tables.groups;
+                let apart = screen.are_apart(self.alloc, self.g, groups, rule, rule2)?;
+                self.screen = Some(screen);
+                Ok(apart)
+            }
+        }
+    }
+
+    /// For each place of a rule's spread items whether its cut is in doubt, as those beyond the list
+    /// are: at the others the screen sees that front and rest do not overlap.
+    pub fn doubts(&mut self, rule: u32) -> Result<Vec<bool>, Memory>
+        requires rule { rule < length self.old.rules }
+        ensures same { self.new ≡ self.old }
+        ensures doubts { IfOk result (λ ds. AreDoubts self.old rule ds.items) }
+    {
+        match self.screen.take() {
+            None => Ok(Vec::new(self.alloc)),
+            Some(mut screen) => {
+                let doubts = screen.doubts(self.alloc, self.g, &self.tables.groups, rule)?;
+                self.screen = Some(screen);
+                Ok(doubts)
+            }
+        }
+    }
+
     /// Words by which the front and the rest of a rule overlap at a cut, or none where there are
-    /// none.
+    /// none, by an exact search.
     pub fn overlap_at(&mut self, rule: u32, cut: u32) -> Result<Option<Overlap>, Memory>
         requires rule { rule < length self.old.rules }
         requires low { 0 < cut }

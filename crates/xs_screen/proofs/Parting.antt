@@ -1,0 +1,94 @@
+-- Groups that are settled stay so where other groups are parted.
+use Rattle.std.proofs.Common.{◌≡◌, ◌≢◌, ℕ, zero, suc, ◌+◌, ◌*◌, ◌/◌, ◌<◌, ◌≤◌, Bool, true, false, List, [], ◌∷◌, length, get_or, set, refl, sym, ap, ◌∙◌, arith, inl, inr, length-map}
+use Rattle.std.proofs.lemmas.Bool.{cases_lt}
+use Rattle.std.proofs.lemmas.Nat.{div-mul-add}
+use Rattle.std.proofs.lemmas.List.{get_or-set_other}
+use Rattle.std.proofs.lemmas.Option.{slice_get_within}
+use Rattle.xs_auto.specs.Nests.{Group, IsGroup}
+use Rattle.xs_meet.specs.Closed.{AreSettled, IsSettled, Marked}
+use Rattle.xs_coarse.specs.Coarse.{Table, MayCall, may_meet, group_label, label_count}
+use Rattle.xs_coarse.specs.Labels.{parted, cell}
+use Rattle.xs_coarse_net.specs.declared.contents.Content.{Content}
+use Rattle.xs_coarse_net.specs.Contents.{nest_of}
+use Rattle.xs_apart.proofs.PartLemmas.{apart_fewer, call_part}
+use Rattle.xs_screen.specs.Parting.{Parts, IsRowSettled, StaySettled, AreTheTwo}
+
+-- cells of a table of rows of one width are told apart by their row and their place in it
+pub cells_once : (w l k m j : ℕ) → k < w → j < w → l * w + k ≡ m * w + j → (l ≡ m) × (k ≡ j)
+cells_once w l k m j low_k low_j e =
+    let rows : l ≡ m = sym (div-mul-add l w k low_k) ∙ ap (λ (x : ℕ). x / w) e ∙ div-mul-add m w j low_j in
+    let same : l * w ≡ m * w = ap (λ (x : ℕ). x * w) rows in
+    (rows, omega (arith, e, same))
+
+module _ (t : Table) (f s : ℕ) (low_f : f < t.groups) (low_s : s < t.groups) where
+  low : (h : ℕ) → h < t.groups → group_label t h < label_count t
+  low h below = omega (arith, below)
+
+  same_group : {h k : ℕ} → group_label t h ≡ group_label t k → h ≡ k
+  same_group e = omega (arith, e)
+
+  -- other groups may call as before
+  call_other : (h k : ℕ) → h < t.groups → k < t.groups → (AreTheTwo f s h k → ⊥) → (AreTheTwo s f h k → ⊥) → may_meet (parted t f s) (group_label t h) (group_label t k) ≡ may_meet t (group_label t h) (group_label t k)
+  call_other h k low_h low_k not_these nor_those =
+      let w = label_count t in
+      let here = cell t (group_label t h) (group_label t k) in
+      let one = cell t (group_label t f) (group_label t s) in
+      let two = cell t (group_label t s) (group_label t f) in
+      let beside_one : here ≢ one = λ e. let p = cells_once w (group_label t h) (group_label t k) (group_label t f) (group_label t s) (low k low_k) (low s low_s) e in not_these (same_group p.0, same_group p.1) in
+      let beside_two : here ≢ two = λ e. let p = cells_once w (group_label t h) (group_label t k) (group_label t s) (group_label t f) (low k low_k) (low f low_f) e in nor_those (same_group p.0, same_group p.1) in
+      get_or-set_other (set t.bits one false) two here false false beside_two ∙ get_or-set_other t.bits one here false false beside_one
+
+-- a bit that is set was set before another was taken away
+unset : (bits : List Bool) (i j : ℕ) → get_or (set bits i false) j false ≡ true → get_or bits j false ≡ true
+unset [] i j e = e
+unset (b ∷ bits) zero zero e = cc
+unset (b ∷ bits) zero (suc j) e = e
+unset (b ∷ bits) (suc i) zero e = e
+unset (b ∷ bits) (suc i) (suc j) e = unset bits i j e
+
+pub parts : (t : Table) (f s : ℕ) → Parts t (parted t f s)
+parts t f s = record {
+  parted = record {
+    classes = refl;
+    fewer = λ l k e. unset t.bits (cell t (group_label t f) (group_label t s)) (cell t l k) (unset (set t.bits (cell t (group_label t f) (group_label t s)) false) (cell t (group_label t s) (group_label t f)) (cell t l k) e);
+  };
+  groups = refl;
+}
+
+pub parts_none : (t : Table) → Parts t t
+parts_none t = record { parted = record { classes = refl; fewer = λ l k e. e }; groups = refl }
+
+pub parts_on : {s t u : Table} → Parts s t → Parts t u → Parts s u
+parts_on p q = record { parted = record { classes = q.parted.classes ∙ p.parted.classes; fewer = λ l k e. p.parted.fewer l k (q.parted.fewer l k e) }; groups = q.groups ∙ p.groups }
+
+-- there is no group beyond the contents
+pub group_low : (contents : List Content) (t : Table) (h : ℕ) (a : Group) → IsGroup (nest_of t contents) h a → h < length contents
+group_low contents t h a is = omega (arith, slice_get_within (nest_of t contents) h a is, length-map contents)
+
+settled_other : (contents : List Content) (t : Table) (f s h k : ℕ) → length contents ≡ t.groups → f < t.groups → s < t.groups → (AreTheTwo f s h k → ⊥) → (AreTheTwo s f h k → ⊥) → AreSettled (nest_of t contents) (MayCall t) h k → AreSettled (nest_of (parted t f s) contents) (MayCall (parted t f s)) h k
+settled_other contents t f s h k counted low_f low_s no nor settled a b is_a is_b fence =
+    let low_h : h < t.groups = omega (arith, counted, group_low contents t h a is_a) in
+    let low_k : k < t.groups = omega (arith, counted, group_low contents t k b is_b) in
+    elim (settled a b is_a is_b fence) [
+      | inl r ↦ inl (call_other t f s low_f low_s h k low_h low_k no nor ∙ r)
+      | inr z ↦ inr (z.0, apart_fewer (MayCall t) (MayCall (parted t f s)) a.content b.content (Marked z.0) (λ x y. call_part x y (parts t f s).parted) z.1)
+    ]
+
+-- other groups stay settled
+pub stay_parted : (contents : List Content) (t : Table) (f s : ℕ) → length contents ≡ t.groups → f < s → s < t.groups → StaySettled contents t (parted t f s) (AreTheTwo f s)
+stay_parted contents t f s counted order low_s h k ordered other both =
+    let low_f : f < t.groups = omega (arith, order, low_s) in
+    record {
+      one = settled_other contents t f s h k counted low_f low_s other (λ e. omega (arith, order, ordered, e.0, e.1)) both.one;
+      other = settled_other contents t f s k h counted low_f low_s (λ e. omega (arith, order, ordered, e.0, e.1)) (λ e. other (e.1, e.0)) both.other;
+    }
+
+-- rows of settled groups are all groups
+pub rows_settled : (contents : List Content) (t : Table) → ((h : ℕ) → h < length contents → IsRowSettled contents t h (length contents)) → IsSettled (nest_of t contents) (MayCall t)
+rows_settled contents t rows h k a b is_a is_b fence =
+    let low_h = group_low contents t h a is_a in
+    let low_k = group_low contents t k b is_b in
+    elim (cases_lt k h) [
+      | inl less ↦ (rows k low_k h (omega (arith, less)) low_h).other a b is_a is_b fence
+      | inr more ↦ (rows h low_h k more low_k).one a b is_a is_b fence
+    ]
