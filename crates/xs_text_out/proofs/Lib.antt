@@ -1,4 +1,5 @@
 pub mod Sharing
 pub mod Words
 mod Counting
+mod Laying
 mod Walking

@@ -1,6 +1,6 @@
 -- What a node prints is what its production prints by itself, and what is printed at its slots.
-use Rattle.std.proofs.Common.{◌≡◌, ℕ, ◌+◌, ◌-◌, ◌<◌, ◌≤◌, ◌⊎◌, List, [], ◌∷◌, ◌++◌, length, take, drop, Some, slice_get, slice_range, refl, sym, ◌∙◌, ap, subst, inl, inr, arith, append_assoc, length-append}
-use Rattle.std.proofs.lemmas.List.{append-nil, drop_at, drop-append-le, length-drop, take-append-le, take_all}
+use Rattle.std.proofs.Common.{◌≡◌, ℕ, ◌+◌, ◌-◌, ◌≤◌, List, [], ◌∷◌, ◌++◌, length, take, drop, Some, slice_get, slice_range, refl, sym, ◌∙◌, ap, subst, inl, inr, arith, length-append}
+use Rattle.std.proofs.lemmas.List.{drop_at, drop-append-le, length-drop, take-append-le, take_all}
 use Rattle.xs_class.proofs.Lists.{get_push}
 use Rattle.xs_gram.specs.declared.parts.GItem.{GItem}
 use Rattle.xs_gram.specs.declared.parts.GItem.TheVariants.{Fixed, Term, Non, Skip}
@@ -8,7 +8,7 @@ use Rattle.xs_gram.specs.Grammar.{Grammar, items, normal_word, slots}
 use Rattle.xs_gram.specs.Common.{spelling}
 use Rattle.xs_tree.specs.Counts.{capped}
 use Rattle.xs_text_out.specs.declared.shares.Share.{Share}
-use Rattle.xs_text_out.specs.Shares.{own_length, own_lengths, slots_length, IsShare, AreRows}
+use Rattle.xs_text_out.specs.Shares.{own_lengths, slots_length, IsShare, AreRows}
 
 -- the slots of one item, and of the others
 pub slots_first : (item : GItem) (is : List GItem) → slots (item ∷ is) ≡ slots (item ∷ []) ++ slots is
@@ -41,7 +41,7 @@ node_counted_by g is at own number list own_is list_is counted =
     omega (arith, own_is, counted, long, same)
 
 -- a stretch of a list that goes on
-between_append : (all more : List ℕ) (begin end : ℕ) → begin ≤ end → end ≤ length all → slice_range (all ++ more) begin end ≡ slice_range all begin end
+pub between_append : (all more : List ℕ) (begin end : ℕ) → begin ≤ end → end ≤ length all → slice_range (all ++ more) begin end ≡ slice_range all begin end
 between_append all more begin end le within =
     let short : end - begin ≤ length (drop begin all) = rw length-drop (omega arith) in
     ap (take (end - begin)) (drop-append-le begin all more (omega arith)) ∙ take-append-le (end - begin) (drop begin all) more short

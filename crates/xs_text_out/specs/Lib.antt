@@ -1,3 +1,4 @@
+pub mod Pieces
 pub mod Printed
 pub mod Shares
 pub mod Walk

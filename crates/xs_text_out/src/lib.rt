@@ -9,6 +9,7 @@
 
 mod items;
 mod lengths;
+mod pieces;
 mod printing;
 mod shares;
 mod walk;

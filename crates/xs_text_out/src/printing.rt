@@ -3,6 +3,7 @@ ghost use Rattle.xs_gram.specs.Common.{print};
 ghost use Rattle.xs_tree.specs.Flat.{common_of};
 
 use crate::lengths::lengths_of;
+use crate::pieces::pieces_of;
 use crate::walk::walk;
 use std::alloc::Global;
 use xs_class::{Memory, Word};
@@ -22,5 +23,6 @@ pub fn print_syms(alloc: Global, g: &Gram, t: &Tree) -> Result<Word, Memory>
     let length = lengths[t.root() as usize];
     let symbols = Vec::with_capacity(alloc, length as usize)?;
     let tasks = Vec::with_capacity(alloc, lengths.len())?;
-    Ok(Word::from_vec(walk(g, t, &lengths, tasks, symbols)))
+    let pieces = pieces_of(alloc, g)?;
+    Ok(Word::from_vec(walk(g, &pieces, t, &lengths, tasks, symbols)))
 }
