@@ -1,2 +1,3 @@
 pub mod Coarse
 pub mod Covers
+pub mod Rows

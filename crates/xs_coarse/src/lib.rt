@@ -9,8 +9,6 @@
 
 mod arc;
 mod coarse;
-mod labels;
 
 pub use arc::Arc;
 pub use coarse::Coarse;
-pub use labels::Labels;
