@@ -8,7 +8,13 @@
 #![tactic(auto)]
 
 mod arc;
+mod bits;
 mod coarse;
+mod fault;
+mod known;
+mod labels;
+mod lefts;
 
 pub use arc::Arc;
 pub use coarse::Coarse;
+pub use labels::Labels;
