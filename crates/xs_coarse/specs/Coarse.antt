@@ -1,6 +1,6 @@
 -- Coarse nets, the labels of their arcs, and a coarse net as searches over pairs of states see it.
-use Rattle.std.specs.Prelude.{◌≡◌, ℕ, suc, ◌+◌, ◌-◌, ◌*◌, ◌<◌, ◌≤◌, ◌&&◌, ◌==◌, nat_lt, nat_eq, Bool, true, false, List, [], ◌∷◌, length, map, get_or, Some}
-use Rattle.std.specs.List.{Contains, range_with_len}
+use Rattle.std.specs.Prelude.{◌≡◌, ℕ, suc, ◌+◌, ◌-◌, ◌*◌, ◌<◌, ◌&&◌, nat_lt, nat_eq, Bool, true, false, List, [], ◌++◌, ◌↔◌, length, map, get_or, Some}
+use Rattle.std.specs.List.{Contains, filter, range_with_len}
 use Rattle.xs_class.specs.Classes.{Has}
 use Rattle.xs_auto.specs.declared.call.Call.{Call}
 use Rattle.xs_auto.specs.declared.edge.Edge.{Edge}
@@ -56,6 +56,18 @@ pub record IsWithin (states : ℕ) (x : Arc) : Type 0 where
 abbrev pub HasArc : Net → ℕ → ℕ → ℕ → Type 0
 HasArc n a label b = Contains n.arcs (record { from = a; label = label; to = b })
 
+-- the lists have the same arcs
+abbrev pub HaveSameArcs : List Arc → List Arc → Type 0
+HaveSameArcs xs ys = (x : Arc) → Contains xs x ↔ Contains ys x
+
+-- the arc of a net whose states are numbered that much higher
+abbrev pub shifted : ℕ → Arc → Arc
+shifted by x = record { from = by + x.from; label = x.label; to = by + x.to }
+
+-- two nets one after the other: state 0 of the second one is the last state of the first one
+abbrev pub joined : Net → Net → Net
+joined m n = record { states = m.states + n.states - 1; arcs = m.arcs ++ map (shifted (m.states - 1)) n.arcs }
+
 -- whether an arc leads from a state and reads nothing, a symbol, a group
 abbrev pub is_move : ℕ → Arc → Bool
 is_move a x = nat_eq x.from a && nat_eq x.label 0
@@ -68,25 +80,19 @@ is_call t a x = nat_eq x.from a && nat_lt (length t.classes) x.label
 
 -- the empty moves, the edges and the calls of a state
 abbrev pub moves_from : List Arc → ℕ → List ℕ
-moves_from [] a = []
-moves_from (x ∷ xs) a = elim (is_move a x) [
-  | true ↦ x.to ∷ moves_from xs a
-  | false ↦ moves_from xs a
-]
+moves_from xs a = map (λ (x : Arc). x.to) (filter (is_move a) xs)
+
+abbrev pub edge_of : Table → Arc → Edge
+edge_of t x = record { class = class_at t (x.label - 1); to = x.to }
 
 abbrev pub edges_from : Table → List Arc → ℕ → List Edge
-edges_from t [] a = []
-edges_from t (x ∷ xs) a = elim (is_edge t a x) [
-  | true ↦ (record { class = class_at t (x.label - 1); to = x.to }) ∷ edges_from t xs a
-  | false ↦ edges_from t xs a
-]
+edges_from t xs a = map (edge_of t) (filter (is_edge t a) xs)
+
+abbrev pub call_from : Table → Arc → Call
+call_from t x = record { group = x.label - suc (length t.classes); to = x.to }
 
 abbrev pub calls_from : Table → List Arc → ℕ → List Call
-calls_from t [] a = []
-calls_from t (x ∷ xs) a = elim (is_call t a x) [
-  | true ↦ (record { group = x.label - suc (length t.classes); to = x.to }) ∷ calls_from t xs a
-  | false ↦ calls_from t xs a
-]
+calls_from t xs a = map (call_from t) (filter (is_call t a) xs)
 
 -- a state of the net; one of them is final
 abbrev pub node_of : Table → Net → ℕ → ℕ → Node

@@ -8,8 +8,12 @@
 #![tactic(auto)]
 
 mod arc;
+mod bits;
 mod coarse;
+mod fault;
+mod known;
 mod labels;
+mod lefts;
 
 pub use arc::Arc;
 pub use coarse::Coarse;
