@@ -17,7 +17,7 @@ use Rattle.xs_gram.specs.Fences.{spread, is_left, is_right, IsUnfenced}
 use Rattle.xs_gram.specs.Spreading.{opens}
 use Rattle.xs_stretch.specs.Groups.{lefts, groups_before, group_number}
 use Rattle.xs_coarse.specs.Coarse.{Table, group_label, label_count}
-use Rattle.xs_coarse.specs.Labels.{first_symbol, lefts_of, lefts_before, AllUnfenced, IsCell, IsLabelsOf, AreKept, cell, parted}
+use Rattle.xs_coarse.specs.Labels.{first_symbol, lefts_of, lefts_before, AllUnfenced, IsCell, AreNewLabels, AreKept, cell, parted}
 
 -- as many left fence symbols as left fences
 lefts_long : (fs : List (ℕ × ℕ)) (is : List GItem) → length (lefts_of fs is) ≡ lefts fs is
@@ -106,10 +106,9 @@ labels_kept classes lefts w bits e small long cells = record {
   };
 }
 
-pub labels_of : (g : Grammar) (classes : List (List (ℕ × ℕ))) (w : ℕ) (bits : List Bool) (all : List ℕ) → all ≡ lefts_before g (length g.rules) → w ≡ suc (length classes + length all) → AllUnfenced g.fences classes → AreCells classes all w bits → IsLabelsOf g (record { classes = classes; groups = length all; bits = bits })
+pub labels_of : (g : Grammar) (classes : List (List (ℕ × ℕ))) (w : ℕ) (bits : List Bool) (all : List ℕ) → all ≡ lefts_before g (length g.rules) → w ≡ suc (length classes + length all) → AllUnfenced g.fences classes → AreCells classes all w bits → AreNewLabels g (record { classes = classes; groups = length all; bits = bits })
 labels_of g classes w bits all is e unfenced cells = record {
-  unfenced = unfenced;
-  groups = ap (λ (xs : List ℕ). length xs) is ∙ before_long g (length g.rules);
+  labels = record { unfenced = unfenced; groups = ap (λ (xs : List ℕ). length xs) is ∙ before_long g (length g.rules) };
   calls = λ p q j k l a b x y t.
       let first = rw (← is) at (group_left g (length g.rules) p j l a x t) in
       let second = rw (← is) at (group_left g (length g.rules) q k l b y t) in

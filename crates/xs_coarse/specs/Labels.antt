@@ -17,11 +17,14 @@ pub record IsClassLabel (classes : List (List (ℕ × ℕ))) (class : List (ℕ 
   pub is : label ≡ class_label number
   pub there : slice_get classes number ≡ Some class
 
--- The labels are those of the grammar: no class has a fence symbol, and groups with one left fence
--- symbol may read a common word.
+-- the labels are those of the grammar: no class has a fence symbol, and each group has a label
 pub record IsLabelsOf (g : Grammar) (t : Table) : Type 0 where
   pub unfenced : AreUnfenced g t
   pub groups : t.groups ≡ groups_count g
+
+-- so they are, and groups with one left fence symbol may read a common word
+pub record AreNewLabels (g : Grammar) (t : Table) : Type 0 where
+  pub labels : IsLabelsOf g t
   pub calls : (p q j k l : ℕ) → p < length g.rules → q < length g.rules → slice_get (spread g p) j ≡ Some (Fixed (l ∷ [])) → slice_get (spread g q) k ≡ Some (Fixed (l ∷ [])) → is_left g.fences l ≡ true → MayCall t (group_number g p j) (group_number g q k)
 
 -- the place of the bit of two labels

@@ -1,6 +1,6 @@
 ghost use Rattle.std.specs.Prelude.{◌≡◌, ◌<◌, ◌∷◌, [], IfOk, IfSome};
-ghost use Rattle.xs_coarse.specs.Coarse.{group_label, label_count, may_meet, IsTable};
-ghost use Rattle.xs_coarse.specs.Labels.{IsClassLabel, IsLabelsOf, parted};
+ghost use Rattle.xs_coarse.specs.Coarse.{group_label, may_meet, IsTable};
+ghost use Rattle.xs_coarse.specs.Labels.{IsClassLabel, AreNewLabels, parted};
 
 use crate::bits::bits_of;
 use crate::fault::LabelsFault;
@@ -39,7 +39,7 @@ impl Labels {
     ///
     /// Two groups may read a common word where they have the same left fence symbol.
     pub fn of(alloc: Global, g: &Gram) -> Result<Option<Labels>, Memory>
-        ensures { IfOk result (λ o. IfSome o (IsLabelsOf g.now)) }
+        ensures { IfOk result (λ o. IfSome o (AreNewLabels g.now)) }
     {
         match Labels::made(alloc, g) {
             Ok(labels) => Ok(Some(labels)),
@@ -50,7 +50,7 @@ impl Labels {
 
     /// The same, with a cause where there are none.
     fn made(alloc: Global, g: &Gram) -> Result<Labels, LabelsFault>
-        ensures { IfOk result (IsLabelsOf g.now) }
+        ensures { IfOk result (AreNewLabels g.now) }
     {
         let known = Known::of(alloc, g)?;
         let lefts = lefts(alloc, g)?;
@@ -92,15 +92,16 @@ impl Labels {
         1 + self.known.classes.len() as u32 + h
     }
 
-    /// Whether two labels may read a common word, in constant time.
+    /// Whether two labels may read a common word, in constant time; numbers of no label do not.
     #[inline(always)]
     pub fn meet(&self, l: u32, k: u32) -> bool
-        requires first { l < label_count self.now }
-        requires second { k < label_count self.now }
         ensures meets { result ≡ may_meet self.now l k }
         ensures table { IsTable self.now }
     {
-        self.bits[l as usize * self.width + k as usize]
+        match self.bits.get(l as usize * self.width + k as usize) {
+            Some(bit) => *bit,
+            None => false,
+        }
     }
 
     /// Notes that two groups read no common word.

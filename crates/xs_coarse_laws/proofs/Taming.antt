@@ -7,7 +7,6 @@ use Rattle.xs_auto.specs.Nets.{Graph}
 use Rattle.xs_auto.specs.Nests.{Group, IsGroup, IsTame, IsFenced}
 use Rattle.xs_gram.specs.Grammar.{Grammar}
 use Rattle.xs_gram.specs.Fences.{is_left, is_right, is_fence, IsFence}
-use Rattle.xs_gram.specs.Loose.{Spot}
 use Rattle.xs_gram.proofs.Fences.{is_left_of, is_right_of, one_right, one_left, sides_apart}
 use Rattle.xs_coarse.specs.Coarse.{Table, Net, view}
 use Rattle.xs_coarse.proofs.Views.{view_edge_arc}
@@ -20,7 +19,7 @@ not_of {fs} {l} {r} {s} f plain =
     let sides = or_false (is_left fs s) (is_right fs s) plain in
     (λ e. false_true (sym sides.0 ∙ ap (λ (n : ℕ). is_left fs n) e ∙ is_left_of f), λ e. false_true (sym sides.1 ∙ ap (λ (n : ℕ). is_right fs n) e ∙ is_right_of f))
 
-module _ (g : Grammar) (whole : Graph) (state : Spot → ℕ) (nest : List Group) (c : Covering g whole state nest) where
+module _ (g : Grammar) (nest : List Group) (c : Covering g nest) where
   fence_of : (h : ℕ) (group : Group) → IsGroup nest h group → IsFence g.fences group.left group.right
   fence_of h group is = c.groups.fences h group is
 
@@ -36,8 +35,8 @@ module _ (g : Grammar) (whole : Graph) (state : Spot → ℕ) (nest : List Group
   }
 
 -- the class of an edge of a coarse net is one of the table
-pub tame_view : (g : Grammar) (whole : Graph) (state : Spot → ℕ) (nest : List Group) → Covering g whole state nest → (t : Table) → AreUnfenced g t → (n : Net) (a b : ℕ) → IsTame nest (view t n a b)
-tame_view g whole state nest c t unfenced n a b = tame g whole state nest c refl plain
+pub tame_view : (g : Grammar) (nest : List Group) → Covering g nest → (t : Table) → AreUnfenced g t → (n : Net) (a b : ℕ) → IsTame nest (view t n a b)
+tame_view g nest c t unfenced n a b = tame g nest c refl plain
   where
     plain : IsUnfencedNet g (view t n a b)
     plain x s e there has =
@@ -45,4 +44,4 @@ tame_view g whole state nest c t unfenced n a b = tame g whole state nest c refl
         unfenced arc.number s (subst (λ (class : List (ℕ × ℕ)). Has class s) arc.class has)
 
 pub cover_nests_are_fenced : CoverNestsAreFenced
-cover_nests_are_fenced g whole state nest c = fenced g whole state nest c
+cover_nests_are_fenced g nest c = fenced g nest c
