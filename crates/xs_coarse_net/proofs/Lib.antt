@@ -1,0 +1,11 @@
+pub mod Contenting
+pub mod Covering
+pub mod Going
+pub mod Labelling
+pub mod Laying
+pub mod Extending
+pub mod Places
+pub mod Rows
+pub mod Tracing
+pub mod Viewing
+pub mod Wholes

@@ -1,0 +1,54 @@
+-- A place of a rule is laid where its group is called, or its item leads on.
+use Rattle.std.proofs.Common.{◌≡◌, ℕ, suc, ◌+◌, ◌<◌, List, [], ◌∷◌, length, get_or, slice_get, Some, refl, sym, ap, subst, ◌∙◌, arith}
+use Rattle.std.proofs.lemmas.Option.{same_Some, slice_get-get_or}
+use Rattle.xs_gram.specs.declared.parts.GItem.{GItem}
+use Rattle.xs_gram.specs.declared.parts.GItem.TheVariants.{Fixed, Term, Non, Skip}
+use Rattle.xs_gram.specs.Grammar.{Grammar}
+use Rattle.xs_gram.specs.Fences.{spread, IsPlain, OuterAt, GroupAt, OuterGroupAt, IsPartner, IsLeftFence}
+use Rattle.xs_gram.specs.Sound.{IsProper}
+use Rattle.xs_gram.proofs.Fences.{left_not_plain}
+use Rattle.xs_gram.proofs.Levels.{outer_at}
+use Rattle.xs_stretch.specs.Groups.{group_number}
+use Rattle.xs_stretch.proofs.Nesting.{left_at, left_opens, inside_once}
+use Rattle.xs_coarse.specs.Coarse.{Table, Net, HasArc, group_label}
+use Rattle.xs_coarse.specs.Covers.{IsLeaf}
+use Rattle.xs_coarse_net.specs.Going.{LeafGoes}
+use Rattle.xs_coarse_net.specs.Whole.{entry_state, exit_state, place_state, ItemLaid, PlaceLaid}
+
+-- no outer item is a left fence
+outer_not_left : (g : Grammar) (p k m : ℕ) (i : GItem) → IsPartner g.fences (spread g p) k m → OuterAt g.fences (spread g p) k i → ⊥
+outer_not_left g p k m i partner at = left_not_plain partner.group.fence (subst (λ (x : GItem). IsPlain g.fences x) (same_Some _ _ (sym (outer_at at) ∙ left_at partner.group)) at.plain)
+
+pub place_group : (g : Grammar) (t : Table) (n : Net) (p k m from to : ℕ) → IsProper g → IsPartner g.fences (spread g p) k m → from ≡ place_state g p k → to ≡ place_state g p (m + 1) → HasArc n from (group_label t (group_number g p k)) to → PlaceLaid g t n p k
+place_group g t n p k m from to proper partner a b arc = record {
+  leaves = λ i at leaf. absurd (outer_not_left g p k m i partner at);
+  enters = λ j s at. absurd (outer_not_left g p k m (Non j s) partner at);
+  returns = λ j s at. absurd (outer_not_left g p k m (Non j s) partner at);
+  groups = λ j l r inside at.
+    let same : partner.inside ≡ inside = inside_once g.fences proper.once (spread g p) k m j partner.left partner.right l r partner.inside inside partner.group at.group in
+    let next : m + 1 ≡ suc j = omega (arith, partner.group.partner, at.group.partner, ap length same) in
+    subst (λ (x : ℕ). HasArc n (place_state g p k) (group_label t (group_number g p k)) (place_state g p x)) next (subst (λ (x : ℕ). HasArc n (place_state g p k) (group_label t (group_number g p k)) x) b (subst (λ (x : ℕ). HasArc n x (group_label t (group_number g p k)) to) a arc));
+}
+
+leaf_laid : (g : Grammar) (t : Table) (n : Net) (i : GItem) (a b : ℕ) → IsPlain g.fences i → IsLeaf i → ItemLaid g t n i a b → LeafGoes g t n i a b
+leaf_laid g t n (Fixed f) a b plain leaf h = h plain
+leaf_laid g t n (Term k s) a b plain leaf h = h
+leaf_laid g t n (Non m s) a b plain leaf h = absurd leaf
+leaf_laid g t n (Skip k) a b plain leaf h = h
+
+pub place_item : (g : Grammar) (t : Table) (n : Net) (p k from to : ℕ) (i : GItem) → k < length (spread g p) → i ≡ get_or (spread g p) k i → (IsLeftFence g.fences (spread g p) k → ⊥) → from ≡ place_state g p k → to ≡ place_state g p (k + 1) → ItemLaid g t n i from to → PlaceLaid g t n p k
+place_item g t n p k from to i low is none a b h = record {
+  leaves = λ j at leaf. leaf_laid g t n j (place_state g p k) (place_state g p (suc k)) at.plain leaf (laid j at);
+  enters = λ m s at. (laid (Non m s) at).0;
+  returns = λ m s at. (laid (Non m s) at).1;
+  groups = λ j l r inside at. absurd (none (left_opens at.group));
+}
+  where
+    next : k + 1 ≡ suc k
+    next = omega arith
+
+    here : ItemLaid g t n i (place_state g p k) (place_state g p (suc k))
+    here = subst (λ (x : ℕ). ItemLaid g t n i (place_state g p k) (place_state g p x)) next (subst (λ (x : ℕ). ItemLaid g t n i (place_state g p k) x) b (subst (λ (x : ℕ). ItemLaid g t n i x to) a h))
+
+    laid : (j : GItem) → OuterAt g.fences (spread g p) k j → ItemLaid g t n j (place_state g p k) (place_state g p (suc k))
+    laid j at = subst (λ (x : GItem). ItemLaid g t n x (place_state g p k) (place_state g p (suc k))) (same_Some _ _ (sym (slice_get-get_or (spread g p) k i low ∙ ap (λ (x : GItem). Some x) (sym is)) ∙ outer_at at)) here

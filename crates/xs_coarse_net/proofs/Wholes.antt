@@ -1,0 +1,104 @@
+-- The net of a whole grammar: what is laid stays laid, and where all rules are laid, it covers the grammar.
+use Rattle.std.proofs.Common.{◌≡◌, ◌≢◌, ℕ, zero, suc, ◌+◌, ◌*◌, ◌<◌, ◌≤◌, List, [], ◌∷◌, length, refl, sym, ap, subst, ◌∙◌, inl, inr, arith, length-append}
+use Rattle.std.proofs.lemmas.Bool.{cases_eq, eq-eqb, ne_eqb}
+use Rattle.std.specs.Prelude.{nat_eq, if◌then◌else◌}
+use Rattle.std.specs.List.{All}
+use Rattle.xs_auto.specs.Nets.{Graph, Walks, rests, passes}
+use Rattle.xs_gram.specs.declared.parts.GItem.{GItem}
+use Rattle.xs_gram.specs.declared.parts.GItem.TheVariants.{Fixed, Term, Non, Skip}
+use Rattle.xs_gram.specs.Grammar.{Grammar, rule_of}
+use Rattle.xs_gram.specs.Fences.{spread, OuterAt, OuterGroupAt}
+use Rattle.xs_gram.proofs.Levels.{group_opened}
+use Rattle.xs_stretch.proofs.Numbering.{long_before}
+use Rattle.xs_coarse.specs.Coarse.{Table, Net, IsWithin, HasArc, view}
+use Rattle.xs_coarse.specs.Covers.{CoversGrammar, CoversLeaf, IsLeaf}
+use Rattle.xs_coarse.proofs.Views.{view_move, view_call}
+use Rattle.xs_coarse_net.specs.Going.{Goes, Grows, LeafGoes}
+use Rattle.xs_coarse_net.specs.Whole.{entry_state, exit_state, rule_base, place_state, spot_state, PlaceLaid, RuleLaid, RulesLaid}
+use Rattle.xs_coarse_net.proofs.Going.{goes_grown}
+use Rattle.xs_coarse_net.proofs.Viewing.{from_low, goes_walks}
+
+pub leaf_grown : (g : Grammar) (t : Table) {m n : Net} (i : GItem) (a b : ℕ) → Grows m n → LeafGoes g t m i a b → LeafGoes g t n i a b
+leaf_grown g t (Fixed f) a b h p = goes_grown h p
+leaf_grown g t (Term i s) a b h p = λ w word. goes_grown h (p w word)
+leaf_grown g t (Non m s) a b h p = absurd p
+leaf_grown g t (Skip k) a b h p = λ w word. goes_grown h (p w word)
+
+pub place_grown : {g : Grammar} {t : Table} {m n : Net} {p k : ℕ} → Grows m n → PlaceLaid g t m p k → PlaceLaid g t n p k
+place_grown {g} {t} {m} {n} {p} {k} h was = record {
+  leaves = λ i at leaf. leaf_grown g t i (place_state g p k) (place_state g p (suc k)) h (was.leaves i at leaf);
+  enters = λ j s at. h.kept _ (was.enters j s at);
+  returns = λ j s at. h.kept _ (was.returns j s at);
+  groups = λ j l r inside at. h.kept _ (was.groups j l r inside at);
+}
+
+pub rule_grown : {g : Grammar} {t : Table} {m n : Net} {p : ℕ} → Grows m n → RuleLaid g t m p → RuleLaid g t n p
+rule_grown h was = record { places = λ k low. place_grown h (was.places k low); passes = λ none. h.kept _ (was.passes none) }
+
+-- one more place, and one more rule
+pub places_more : {g : Grammar} {t : Table} {m n : Net} {p : ℕ} (k : ℕ) → Grows m n → ((j : ℕ) → j < k → PlaceLaid g t m p j) → PlaceLaid g t n p k → (j : ℕ) → j < k + 1 → PlaceLaid g t n p j
+places_more {g} {t} {m} {n} {p} k h was here j low = elim (cases_eq j k) [
+  | inl e ↦ subst (λ (x : ℕ). PlaceLaid g t n p x) (sym e) here
+  | inr ne ↦ place_grown h (was j (omega arith))
+]
+
+pub rules_more : {g : Grammar} {t : Table} {m n : Net} (p : ℕ) → Grows m n → RulesLaid g t m p → RuleLaid g t n p → RulesLaid g t n (p + 1)
+rules_more {g} {t} {m} {n} p h was here q low = elim (cases_eq q p) [
+  | inl e ↦ subst (λ (x : ℕ). RuleLaid g t n x) (sym e) here
+  | inr ne ↦ rule_grown h (was q (omega arith))
+]
+
+-- which state a place has
+first_if : (k n a b c : ℕ) → k ≡ 0 → (if nat_eq k 0 then a else (if nat_eq k n then b else c)) ≡ a
+first_if k n a b c e = rw (eq-eqb k 0 e) refl
+
+last_if : (k n a b c : ℕ) → k ≢ 0 → k ≡ n → (if nat_eq k 0 then a else (if nat_eq k n then b else c)) ≡ b
+last_if k n a b c ne e = rw (ne_eqb k 0 ne, eq-eqb k n e) refl
+
+between_if : (k n a b c : ℕ) → k ≢ 0 → k ≢ n → (if nat_eq k 0 then a else (if nat_eq k n then b else c)) ≡ c
+between_if k n a b c ne other = rw (ne_eqb k 0 ne, ne_eqb k n other) refl
+
+pub state_first : (g : Grammar) (p k : ℕ) → k ≡ 0 → place_state g p k ≡ entry_state (rule_of g p).non
+state_first g p k e = first_if k (length (spread g p)) (entry_state (rule_of g p).non) (exit_state (rule_of g p).non) (rule_base g p + k) e
+
+pub state_last : (g : Grammar) (p k : ℕ) → k ≢ 0 → k ≡ length (spread g p) → place_state g p k ≡ exit_state (rule_of g p).non
+state_last g p k ne e = last_if k (length (spread g p)) (entry_state (rule_of g p).non) (exit_state (rule_of g p).non) (rule_base g p + k) ne e
+
+pub state_between : (g : Grammar) (p k : ℕ) → k ≢ 0 → k ≢ length (spread g p) → place_state g p k ≡ rule_base g p + k
+state_between g p k ne other = between_if k (length (spread g p)) (entry_state (rule_of g p).non) (exit_state (rule_of g p).non) (rule_base g p + k) ne other
+
+-- where the places of the next rule begin
+pub base_next : (g : Grammar) (p : ℕ) → rule_base g (p + 1) ≡ rule_base g p + length (spread g p)
+base_next g p = let e : p + 1 ≡ suc p = omega arith in rw e refl
+
+outer_low : (g : Grammar) (p k : ℕ) (i : GItem) → OuterAt g.fences (spread g p) k i → k < length (spread g p)
+outer_low g p k i at = subst (λ (xs : List GItem). k < length xs) (sym at.split) (omega (arith, long_before at.before at.after i, at.place))
+
+module _ {g : Grammar} {t : Table} {n : Net} (within : All (IsWithin n.states) n.arcs) (laid : RulesLaid g t n (length g.rules)) where
+  moved : (a b : ℕ) → HasArc n a 0 b → Walks (view t n 0 0) a [] b
+  moved a b h = passes (view_move t n 0 0 a b (from_low n a 0 b within h) h) rests
+
+  leaf_walks : (i : GItem) (a b : ℕ) → IsLeaf i → LeafGoes g t n i a b → CoversLeaf g (view t n 0 0) i a b
+  leaf_walks (Fixed f) a b leaf h = goes_walks 0 0 within h
+  leaf_walks (Term j s) a b leaf h = λ w word. goes_walks 0 0 within (h w word)
+  leaf_walks (Non m s) a b leaf h = absurd leaf
+  leaf_walks (Skip k) a b leaf h = λ w word. goes_walks 0 0 within (h w word)
+
+  ends : (p : ℕ) → p < length g.rules → Walks (view t n 0 0) (place_state g p (length (spread g p))) [] (exit_state (rule_of g p).non)
+  ends p low = elim (cases_eq (length (spread g p)) 0) [
+    | inl none ↦ subst (λ (k : ℕ). Walks (view t n 0 0) (place_state g p k) [] (exit_state (rule_of g p).non)) (sym none) (moved (entry_state (rule_of g p).non) (exit_state (rule_of g p).non) ((laid p low).passes none))
+    | inr some ↦ subst (λ (a : ℕ). Walks (view t n 0 0) a [] (exit_state (rule_of g p).non)) (sym (state_last g p (length (spread g p)) some refl)) rests
+  ]
+
+  pub covers_grammar : CoversGrammar g (view t n 0 0) (spot_state g)
+  covers_grammar = record {
+    begins = λ p low. subst (λ (b : ℕ). Walks (view t n 0 0) (entry_state (rule_of g p).non) [] b) (sym (state_first g p 0 refl)) rests;
+    ends = ends;
+    leaves = λ p k i low at leaf. leaf_walks i (place_state g p k) (place_state g p (suc k)) leaf (((laid p low).places k (outer_low g p k i at)).leaves i at leaf);
+    enters = λ p k m s low at. moved (place_state g p k) (entry_state m) (((laid p low).places k (outer_low g p k (Non m s) at)).enters m s at);
+    returns = λ p k m s low at. moved (exit_state m) (place_state g p (suc k)) (((laid p low).places k (outer_low g p k (Non m s) at)).returns m s at);
+    groups = λ p k m l r inside low at.
+        let here : k < length (spread g p) = omega (arith, (group_opened at.group).2, at.group.partner) in
+        let arc = ((laid p low).places k here).groups m l r inside at in
+        view_call t n 0 0 (place_state g p k) _ (place_state g p (suc m)) (from_low n (place_state g p k) _ (place_state g p (suc m)) within arc) arc;
+  }

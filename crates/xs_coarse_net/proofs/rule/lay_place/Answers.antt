@@ -1,0 +1,24 @@
+use Rattle.std.proofs.Common.{◌+◌, arith}
+use Rattle.xs_gram.specs.Fences.{spread}
+use Rattle.xs_stretch.proofs.Items.{item_there}
+use Rattle.xs_stretch.proofs.Numbering.{left_counts, number_low}
+use Rattle.xs_stretch.proofs.Stepping.{read_there}
+use Rattle.xs_coarse_net.proofs.Places.{place_group, place_item}
+use Rattle.xs_coarse_net.proofs.rule.lay_place.Goals as goal
+
+pub lay_item-requires-clause-there : goal.lay_item-requires-clause-there
+lay_item-requires-clause-there c = item_there c.args.site.now.g.now c.requires.site.built.range c.args.rule c.args.place c.spread.result.now c.index-spread-place.result c.spread.ensures.items c.requires.place c.index-spread-place.is
+
+pub label_of_group-requires-clause-there : goal.label_of_group-requires-clause-there
+label_of_group-requires-clause-there c =
+    let g = c.args.site.now.g.now in
+    omega (arith, c.requires.number, left_counts g.fences (spread g c.args.rule) c.args.place c.in-Some.partner c.in-Some.ensures.some, number_low g c.args.rule (c.args.place + 1) c.requires.rule)
+
+pub returns-in_ok-add-in-Some-clause-laid : goal.returns-in_ok-add-in-Some-clause-laid
+returns-in_ok-add-in-Some-clause-laid c = place_group c.args.site.now.g.now c.args.site.now.labels.now _ c.args.rule c.args.place c.in-Some.partner c.in_ok-from.from c.in_ok-to-in-Some.to c.spread.ensures.proper c.in-Some.ensures.some c.in_ok-from.ensures c.in_ok-to-in-Some.ensures (rw (c.label_of_group.ensures, c.requires.number) at c.in_ok-add-in-Some.ensures.there)
+
+pub returns-in_ok-lay_item-in-None-clause-laid : goal.returns-in_ok-lay_item-in-None-clause-laid
+returns-in_ok-lay_item-in-None-clause-laid c =
+    let g = c.args.site.now.g.now in
+    let is = read_there (spread g c.args.rule) c.spread.result.now c.args.place c.index-spread-place.result c.spread.ensures.items c.index-spread-place.is in
+    place_item g c.args.site.now.labels.now _ c.args.rule c.args.place c.in_ok-from.from c.in_ok-to-in-None.to c.index-spread-place.result c.requires.place is (c.partner.ensures.none.0 c.in-None.is) c.in_ok-from.ensures c.in_ok-to-in-None.ensures c.in_ok-lay_item-in-None.ensures.laid

@@ -1,0 +1,10 @@
+pub mod Contents
+pub mod Covers
+pub mod Fragments
+pub mod Going
+pub mod Having
+pub mod Joining
+pub mod Placing
+pub mod Sites
+pub mod Stretches
+pub mod Whole

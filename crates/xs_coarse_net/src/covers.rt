@@ -1,0 +1,109 @@
+ghost use Rattle.std.specs.Prelude.{◌≡◌, ℕ, ◌<◌, length, slice_get, Some, IfOk, IfSome};
+ghost use Rattle.xs_gram.specs.Sound.{IsBuilt};
+ghost use Rattle.xs_stretch.specs.Parts.{IsPart};
+ghost use Rattle.xs_stretch.specs.Tables.{AreNumbersBefore};
+ghost use Rattle.xs_coarse.specs.Coarse.{Net};
+ghost use Rattle.xs_coarse.specs.Labels.{IsLabelsOf};
+ghost use Rattle.xs_coarse_net.specs.Covers.{IsCoverOf};
+ghost use Rattle.xs_coarse_net.specs.Having.{IsCovers};
+ghost use Rattle.xs_coarse_net.specs.Sites.{IsSite};
+ghost use Rattle.xs_coarse_net.specs.Stretches.{open_view};
+ghost use Rattle.xs_coarse_net.specs.Whole.{spot_state};
+
+use crate::contents::contents_of;
+use crate::site::Site;
+use crate::stop::Stop;
+use crate::stretch::cover_part;
+use crate::whole::whole_net;
+use crate::{Content, Cover};
+use std::alloc::Global;
+use xs_class::Memory;
+use xs_coarse::{Coarse, Labels};
+use xs_gram::Gram;
+use xs_regex::Numbers;
+use xs_stretch::Part;
+
+/// The net that covers all rules of a grammar, the fragments of it that were made, by nonterminal, and
+/// the contents of the grammar's groups, by their numbers.
+#[derive(Debug, Drop)]
+pub struct Covers {
+    pub whole: Coarse,
+    pub kept: Vec<Option<Coarse>>,
+    pub contents: Vec<Content>,
+}
+
+impl Covers {
+    /// The covers of a grammar whose groups are numbered, or none where one would be too large.
+    pub fn of(
+        alloc: Global,
+        g: &Gram,
+        labels: &Labels,
+        groups: &Numbers,
+    ) -> Result<Option<Covers>, Memory>
+        requires built { IsBuilt g.now }
+        requires labels { IsLabelsOf g.now labels.now }
+        requires groups { AreNumbersBefore g.now (length g.now.rules) groups.now }
+        ensures { IfOk result (λ found. IfSome found (IsCovers g.now labels.now)) }
+    {
+        let site = Site { g, labels, groups };
+        match covers_of(alloc, &site) {
+            Ok(covers) => Ok(Some(covers)),
+            Err(Stop::Wide) => Ok(None),
+            Err(Stop::Memory) => Err(Memory),
+        }
+    }
+
+    /// The cover of a level stretch, or none where it would be too large. Fragments that it needs are
+    /// kept; else the covers stay the same.
+    pub fn cover(
+        &mut self,
+        alloc: Global,
+        g: &Gram,
+        labels: &Labels,
+        groups: &Numbers,
+        part: &Part,
+    ) -> Result<Option<Cover>, Memory>
+        requires built { IsBuilt g.now }
+        requires labels { IsLabelsOf g.now labels.now }
+        requires groups { AreNumbersBefore g.now (length g.now.rules) groups.now }
+        requires covers { IsCovers g.now labels.now self.old }
+        requires part { IsPart g.now part.now }
+        ensures covers { IsCovers g.now labels.now self.new }
+        ensures whole { self.new.whole ≡ self.old.whole }
+        ensures contents { self.new.contents.items ≡ self.old.contents.items }
+        ensures cover { IfOk result (λ found. IfSome found (IsCoverOf g.now labels.now (open_view labels.now self.old.whole) (spot_state g.now) part.now)) }
+    {
+        let site = Site { g, labels, groups };
+        match cover_part(&mut self.kept, alloc, &site, &self.whole, *part) {
+            Ok(cover) => Ok(Some(cover)),
+            Err(Stop::Wide) => Ok(None),
+            Err(Stop::Memory) => Err(Memory),
+        }
+    }
+}
+
+/// The covers of a grammar.
+fn covers_of(alloc: Global, site: &Site<'_>) -> Result<Covers, Stop>
+    requires { IsSite site.now }
+    ensures { IfOk result (IsCovers site.now.g.now site.now.labels.now) }
+{
+    let whole = whole_net(alloc, site)?;
+    let mut kept = no_fragments(alloc, site.g.nons())?;
+    let contents = contents_of(&mut kept, alloc, site, &whole)?;
+    Ok(Covers {
+        whole,
+        kept,
+        contents,
+    })
+}
+
+/// No fragment yet, for that many nonterminals.
+fn no_fragments(alloc: Global, nons: u32) -> Result<Vec<Option<Coarse>>, Memory>
+    ensures { IfOk result (λ kept. (non : ℕ) (n : Net) → slice_get kept.items non ≡ Some (Some n) → ⊥) }
+{
+    let mut kept = Vec::with_capacity(alloc, nons as usize)?;
+    'nons: for _ in 0..nons {
+        kept.push(None)?;
+    }
+    Ok(kept)
+}

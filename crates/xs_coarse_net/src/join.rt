@@ -1,0 +1,18 @@
+ghost use Rattle.std.specs.Prelude.{OnOk};
+ghost use Rattle.xs_coarse_net.specs.Joining.{Joins};
+
+use crate::draft::MOST;
+use crate::stop::Stop;
+use xs_coarse::Coarse;
+
+/// Goes on with another net from the last state, unless the net would be too large.
+pub(crate) fn join_net(net: &mut Coarse, other: &Coarse) -> Result<(), Stop>
+    ensures { OnOk result (Joins net.old other.now net.new) }
+{
+    if net.len() > MOST || other.len() > MOST {
+        return Err(Stop::Wide);
+    }
+    net.join(other)?;
+    let _states = net.len();
+    Ok(())
+}

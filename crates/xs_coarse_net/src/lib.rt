@@ -1,0 +1,29 @@
+//! Covers: coarse nets of a grammar's stretches, which accept at least their loose words.
+//!
+//! One net covers all rules of the grammar: each nonterminal has one entry and one exit, and rules
+//! lead from the one to the other by their outer items. What is reached of it from a nonterminal's
+//! entry is its fragment. The cover of a level stretch joins a small net for each outer item, and a
+//! fragment for each nonterminal; the covers of all groups' insides stand under the groups' numbers.
+//!
+//! Where a net would be too large, there is none: covers only spare exact searches.
+#![tactic(auto)]
+
+mod automaton;
+mod contents;
+mod cover;
+mod covers;
+mod draft;
+mod fragment;
+mod join;
+mod labelled;
+mod leaf;
+mod pieces;
+mod rule;
+mod site;
+mod stop;
+mod stretch;
+mod whole;
+
+pub use contents::Content;
+pub use cover::{Cover, Outer};
+pub use covers::Covers;

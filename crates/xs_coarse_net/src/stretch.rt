@@ -1,0 +1,56 @@
+ghost use Rattle.std.specs.Prelude.{◌≡◌, ℕ, ◌+◌, ◌<◌, length, IfOk};
+ghost use Rattle.xs_stretch.specs.Parts.{IsPart};
+ghost use Rattle.xs_coarse_net.specs.Covers.{IsCoverOf};
+ghost use Rattle.xs_coarse_net.specs.Joining.{AreFragments};
+ghost use Rattle.xs_coarse_net.specs.Sites.{IsSite};
+ghost use Rattle.xs_coarse_net.specs.Stretches.{open_view};
+ghost use Rattle.xs_coarse_net.specs.Whole.{spot_state};
+
+use crate::pieces::add_piece;
+use crate::rule::number_after;
+use crate::site::Site;
+use crate::stop::Stop;
+use crate::{Cover, Outer};
+use std::alloc::Global;
+use xs_coarse::Coarse;
+use xs_stretch::Part;
+
+/// The cover of a level stretch, in time linear in its rule's places and the cover.
+pub(crate) fn cover_part(
+    kept: &mut Vec<Option<Coarse>>,
+    alloc: Global,
+    site: &Site<'_>,
+    whole: &Coarse,
+    part: Part,
+) -> Result<Cover, Stop>
+    requires site { IsSite site.now }
+    requires part { IsPart site.now.g.now part }
+    requires kept { AreFragments site.now.labels.now whole.now kept.old.items }
+    ensures kept { AreFragments site.now.labels.now whole.now kept.new.items }
+    ensures cover { IfOk result (IsCoverOf site.now.g.now site.now.labels.now (open_view site.now.labels.now whole.now) (spot_state site.now.g.now) part) }
+{
+    let mut net = Coarse::new(alloc)?;
+    let mut places = Vec::new(alloc);
+    let mut number = *site.groups.at(part.rule as usize);
+    let mut next = part.start;
+    'items: for place in 0..part.end {
+        let here = number;
+        number = number_after(site, part.rule, place, here)?;
+        if place < next {
+            continue;
+        }
+        places.push(Outer {
+            place,
+            state: net.len() - 1,
+        })?;
+        next = add_piece(
+            &mut net, kept, alloc, site, whole, part.rule, place, here,
+        )?;
+    }
+    let last = net.len() - 1;
+    places.push(Outer {
+        place: part.end,
+        state: last,
+    })?;
+    Ok(Cover { net, places, last })
+}

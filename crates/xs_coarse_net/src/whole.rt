@@ -1,0 +1,75 @@
+ghost use Rattle.std.specs.Prelude.{◌≡◌, ◌+◌, ◌*◌, ◌<◌, length, IfOk};
+ghost use Rattle.xs_gram.specs.Fences.{spread};
+ghost use Rattle.xs_coarse.specs.Coarse.{view};
+ghost use Rattle.xs_coarse.specs.Covers.{CoversGrammar};
+ghost use Rattle.xs_coarse_net.specs.Sites.{IsSite};
+ghost use Rattle.xs_coarse_net.specs.Whole.{rule_base, spot_state};
+
+use crate::draft::{Draft, MOST};
+use crate::leaf::states_inside;
+use crate::rule::lay_rule;
+use crate::site::Site;
+use crate::stop::Stop;
+use std::alloc::Global;
+use xs_coarse::Coarse;
+
+/// The net that covers all rules of a grammar, in time linear in its spread items and automata.
+pub(crate) fn whole_net(alloc: Global, site: &Site<'_>) -> Result<Coarse, Stop>
+    requires { IsSite site.now }
+    ensures { IfOk result (λ n. CoversGrammar site.now.g.now (view site.now.labels.now n 0 0) (spot_state site.now.g.now)) }
+{
+    if site.g.nons() > MOST {
+        return Err(Stop::Wide);
+    }
+    let first = 2 * site.g.nons();
+    let (places, states) = counts(site, first)?;
+    let mut draft = Draft::new(alloc, states, places);
+    let mut base = first;
+    'rules: for rule in 0..site.g.rules() {
+        lay_rule(&mut draft, alloc, site, rule, base)?;
+        base = base_after(site, rule, base)?;
+    }
+    let net = draft.into_net(alloc)?;
+    let _states = net.len();
+    Ok(net)
+}
+
+/// Where the places of the next rule begin.
+fn base_after(site: &Site<'_>, rule: u32, base: u32) -> Result<u32, Stop>
+    requires { rule < length site.now.g.now.rules }
+    ensures { IfOk result (λ b. b ≡ base + length (spread site.now.g.now rule)) }
+{
+    let count = site.g.spread(rule).len();
+    if base > MOST || count > MOST as usize {
+        return Err(Stop::Wide);
+    }
+    Ok(base + count as u32)
+}
+
+/// The number after the last state of a place, and after the last state of all, as far as they can be
+/// counted.
+fn counts(site: &Site<'_>, first: u32) -> Result<(u32, u32), Stop>
+    requires { IsSite site.now }
+{
+    let mut places = first;
+    let mut inside: u32 = 0;
+    'rules: for rule in 0..site.g.rules() {
+        places = base_after(site, rule, places)?;
+        inside = inside.saturating_add(inside_rule(site, rule));
+    }
+    Ok((places, places.saturating_add(inside)))
+}
+
+/// How many states the items of a rule take between their ends.
+fn inside_rule(site: &Site<'_>, rule: u32) -> u32
+    requires site { IsSite site.now }
+    requires rule { rule < length site.now.g.now.rules }
+{
+    let mut inside: u32 = 0;
+    let items = site.g.spread(rule);
+    'places: for place in 0..items.len() {
+        let item = &items[place];
+        inside = inside.saturating_add(states_inside(site, item));
+    }
+    inside
+}
