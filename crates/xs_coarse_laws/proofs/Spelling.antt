@@ -8,7 +8,7 @@ use Rattle.xs_gram.specs.declared.parts.GItem.{GItem}
 use Rattle.xs_gram.specs.declared.parts.GItem.TheVariants.{Fixed, Term, Non, Skip}
 use Rattle.xs_gram.specs.Grammar.{Grammar, IsRuleOf, rule_of}
 use Rattle.xs_gram.specs.Fences.{spread, IsLevel, OuterAt, GroupAt}
-use Rattle.xs_gram.specs.Loose.{Spot, entry, exit, at, Reaches, here, onward, AreOne, LooseItem, loose_fixed, loose_term, loose_skip, loose_non, IsLoose, loose_none, loose_then, loose_group, Step, begins, passes, encloses, calls, ends, returns, Walk, stays, goes}
+use Rattle.xs_gram.specs.Loose.{Spot, entry, exit, at, Reaches, here as at_once, onward, AreOne, LooseItem, loose_fixed, loose_term, loose_skip, loose_non, IsLoose, loose_none, loose_then, loose_group, Step, begins, passes, encloses, calls, ends, returns, Walk, stays, goes}
 use Rattle.xs_gram.proofs.Levels.{cons_parts, no_group, plain_not_group, level_once}
 use Rattle.xs_check_laws.proofs.Words.{loose_level}
 use Rattle.xs_stretch.specs.Parts.{IsStretch}
@@ -19,7 +19,7 @@ use Rattle.xs_coarse_laws.proofs.Stretches.{past_item, past_group, its_group, it
 module _ (g : Grammar) (nest : List Group) (c : Covering g nest) where
   -- the set has what one of its nonterminals reaches
   reached_has : {n : Graph} {state : Spot → ℕ} {has : ℕ → Bool} {r d m : ℕ} → CoversFrom g n state has r → Reaches g d m → has d ≡ true → has m ≡ true
-  reached_has covers here h = h
+  reached_has covers at_once h = h
   reached_has covers (onward {m = d} {n = k} u t) h = reached_has covers t (covers.uses d k h u)
 
   -- and the nonterminal of a rule of a member
