@@ -18,6 +18,7 @@ mod join;
 mod labelled;
 mod leaf;
 mod pieces;
+mod reach;
 mod rule;
 mod site;
 mod stop;
