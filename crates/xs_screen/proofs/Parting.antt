@@ -1,9 +1,9 @@
 -- Groups that are settled stay so where other groups are parted.
-use Rattle.std.proofs.Common.{◌≡◌, ◌≢◌, ℕ, zero, suc, ◌+◌, ◌*◌, ◌/◌, ◌<◌, ◌≤◌, Bool, true, false, List, [], ◌∷◌, length, get_or, set, refl, sym, ap, ◌∙◌, arith, inl, inr, length-map}
+use Rattle.std.proofs.Common.{◌≡◌, ◌≢◌, ℕ, zero, suc, ◌+◌, ◌*◌, ◌<◌, ◌≤◌, Bool, true, false, List, [], ◌∷◌, length, get_or, set, refl, sym, ap, ◌∙◌, arith, inl, inr, length-map}
 use Rattle.std.proofs.lemmas.Bool.{cases_lt}
-use Rattle.std.proofs.lemmas.Nat.{div-mul-add}
 use Rattle.std.proofs.lemmas.List.{get_or-set_other}
 use Rattle.std.proofs.lemmas.Option.{slice_get_within}
+use Rattle.xs_class.proofs.Lists.{one_cell}
 use Rattle.xs_auto.specs.Nests.{Group, IsGroup}
 use Rattle.xs_meet.specs.Closed.{AreSettled, IsSettled, Marked}
 use Rattle.xs_coarse.specs.Coarse.{Table, MayCall, may_meet, group_label, label_count}
@@ -12,13 +12,6 @@ use Rattle.xs_coarse_net.specs.declared.contents.Content.{Content}
 use Rattle.xs_coarse_net.specs.Contents.{nest_of}
 use Rattle.xs_apart.proofs.PartLemmas.{apart_fewer, call_part}
 use Rattle.xs_screen.specs.Parting.{Parts, IsRowSettled, StaySettled, AreTheTwo}
-
--- cells of a table of rows of one width are told apart by their row and their place in it
-pub cells_once : (w l k m j : ℕ) → k < w → j < w → l * w + k ≡ m * w + j → (l ≡ m) × (k ≡ j)
-cells_once w l k m j low_k low_j e =
-    let rows : l ≡ m = sym (div-mul-add l w k low_k) ∙ ap (λ (x : ℕ). x / w) e ∙ div-mul-add m w j low_j in
-    let same : l * w ≡ m * w = ap (λ (x : ℕ). x * w) rows in
-    (rows, omega (arith, e, same))
 
 module _ (t : Table) (f s : ℕ) (low_f : f < t.groups) (low_s : s < t.groups) where
   low : (h : ℕ) → h < t.groups → group_label t h < label_count t
@@ -34,8 +27,8 @@ module _ (t : Table) (f s : ℕ) (low_f : f < t.groups) (low_s : s < t.groups) w
       let here = cell t (group_label t h) (group_label t k) in
       let one = cell t (group_label t f) (group_label t s) in
       let two = cell t (group_label t s) (group_label t f) in
-      let beside_one : here ≢ one = λ e. let p = cells_once w (group_label t h) (group_label t k) (group_label t f) (group_label t s) (low k low_k) (low s low_s) e in not_these (same_group p.0, same_group p.1) in
-      let beside_two : here ≢ two = λ e. let p = cells_once w (group_label t h) (group_label t k) (group_label t s) (group_label t f) (low k low_k) (low f low_f) e in nor_those (same_group p.0, same_group p.1) in
+      let beside_one : here ≢ one = λ e. let p = one_cell w (group_label t h) (group_label t k) (group_label t f) (group_label t s) (low k low_k) (low s low_s) e in not_these (same_group p.0, same_group p.1) in
+      let beside_two : here ≢ two = λ e. let p = one_cell w (group_label t h) (group_label t k) (group_label t s) (group_label t f) (low k low_k) (low f low_f) e in nor_those (same_group p.0, same_group p.1) in
       get_or-set_other (set t.bits one false) two here false false beside_two ∙ get_or-set_other t.bits one here false false beside_one
 
 -- a bit that is set was set before another was taken away

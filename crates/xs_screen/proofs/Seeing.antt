@@ -21,8 +21,6 @@ use Rattle.xs_coarse_laws.specs.Laws.{Covering, ApartSharesNone, ClearOverlapsNo
 use Rattle.xs_coarse_net.specs.declared.cover.Cover.{Cover}
 use Rattle.xs_coarse_net.specs.Contents.{nest_of}
 use Rattle.xs_coarse_net.specs.Covers.{IsCoverOf, cover_view}
-use Rattle.xs_coarse_net.specs.Stretches.{open_view}
-use Rattle.xs_coarse_net.specs.Whole.{spot_state}
 use Rattle.xs_apart.specs.Sets.{AreClear}
 use Rattle.xs_screen.specs.declared.screen.Screen.{Screen}
 use Rattle.xs_screen.specs.Screens.{IsScreen, ShareNone, OverlapNowhere, AreDoubts, whole_part}
@@ -34,23 +32,23 @@ pub whole_is_part : (g : Grammar) → IsBuilt g → (p : ℕ) → p < length g.r
 whole_is_part g built p rule = record { rule = rule; order = omega arith; within = omega arith; level = subst (λ (is : List GItem). IsLevel g.fences is) (sym (whole_items g p)) (built.proper.level p) }
 
 module _ (g : Grammar) (built : IsBuilt g) (s : Screen) (screen : IsScreen g s) where
-  covering : Covering g (open_view s.labels s.covers.whole) (spot_state g) (nest_of s.labels s.covers.contents.items)
-  covering = record { built = built; grammar = screen.covers.grammar; groups = screen.covers.groups }
+  covering : Covering g (nest_of s.labels s.covers.contents.items)
+  covering = record { built = built; groups = screen.covers.groups }
 
-  pub apart_shares : ApartSharesNone → (p q : ℕ) → p < length g.rules → q < length g.rules → (one other : Cover) → IsCoverOf g s.labels (open_view s.labels s.covers.whole) (spot_state g) (whole_part g p) one → IsCoverOf g s.labels (open_view s.labels s.covers.whole) (spot_state g) (whole_part g q) other → AreApart (MayCall s.labels) (cover_view s.labels one) (cover_view s.labels other) → ShareNone g p q
+  pub apart_shares : ApartSharesNone → (p q : ℕ) → p < length g.rules → q < length g.rules → (one other : Cover) → IsCoverOf g s.labels (whole_part g p) one → IsCoverOf g s.labels (whole_part g q) other → AreApart (MayCall s.labels) (cover_view s.labels one) (cover_view s.labels other) → ShareNone g p q
   apart_shares law p q rule rule2 one other covers covers2 apart w loose loose2 =
-      law g (open_view s.labels s.covers.whole) (spot_state g) (nest_of s.labels s.covers.contents.items) covering s.labels screen.labels.unfenced screen.settled one.net other.net p 0 q 0 (part_items g (whole_part g p)) (part_items g (whole_part g q)) 0 one.last 0 other.last
+      law g (nest_of s.labels s.covers.contents.items) covering s.labels screen.labels.unfenced screen.settled one.net other.net p 0 q 0 (part_items g (whole_part g p)) (part_items g (whole_part g q)) 0 one.last 0 other.last
         (part_stretch g (whole_part g p) (whole_is_part g built p rule)) (part_stretch g (whole_part g q) (whole_is_part g built q rule2)) covers.covers covers2.covers covers.last covers2.last apart w
         (subst (λ (is : List GItem). IsLoose g is w) (sym (whole_items g p)) loose) (subst (λ (is : List GItem). IsLoose g is w) (sym (whole_items g q)) loose2)
 
-  pub clear_overlaps : ClearOverlapsNot → CutsAreOne → (part : Part) (c : Cover) (place here : ℕ) → IsPart g part → IsCoverOf g s.labels (open_view s.labels s.covers.whole) (spot_state g) part c → CoversCut g (open_view s.labels s.covers.whole) (spot_state g) (cover_view s.labels c) part.rule part.start place part.end here c.last → here < c.net.states → CutsAt g.fences (spread g part.rule) place part.start part.end → AreClear (MayCall s.labels) (view s.labels c.net 0 here) (view s.labels c.net here c.last) → OverlapNowhere g part.rule place
+  pub clear_overlaps : ClearOverlapsNot → CutsAreOne → (part : Part) (c : Cover) (place here : ℕ) → IsPart g part → IsCoverOf g s.labels part c → CoversCut g (cover_view s.labels c) part.rule part.start place part.end here c.last → here < c.net.states → CutsAt g.fences (spread g part.rule) place part.start part.end → AreClear (MayCall s.labels) (view s.labels c.net 0 here) (view s.labels c.net here c.last) → OverlapNowhere g part.rule place
   clear_overlaps law once part c place here is_part cover covers low cuts clear x a y h =
       let one = once g built.proper part.rule place (omega (arith, cuts.middle, cuts.high)) in
       let own = one.only _ _ cuts.cut in
       let theirs = one.only h.front h.rest h.cut in
       let front : h.front ≡ slice_range (spread g part.rule) part.start place = theirs.0 ∙ sym own.0 in
       let rest : h.rest ≡ slice_range (spread g part.rule) place part.end = theirs.1 ∙ sym own.1 in
-      law g (open_view s.labels s.covers.whole) (spot_state g) (nest_of s.labels s.covers.contents.items) covering s.labels screen.labels.unfenced screen.settled c.net part.rule part.start place part.end here c.last
+      law g (nest_of s.labels s.covers.contents.items) covering s.labels screen.labels.unfenced screen.settled c.net part.rule part.start place part.end here c.last
         (part_stretch g part is_part) covers low cover.last clear.0 clear.1 clear.2 clear.3 clear.4 x a y (rw (front, rest) at h.overlap)
 
 -- a doubt is taken away where nothing overlaps

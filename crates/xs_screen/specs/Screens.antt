@@ -13,8 +13,6 @@ use Rattle.xs_coarse_net.specs.declared.cover.Outer.{Outer}
 use Rattle.xs_coarse_net.specs.Contents.{nest_of}
 use Rattle.xs_coarse_net.specs.Covers.{IsCoverOf}
 use Rattle.xs_coarse_net.specs.Having.{IsCovers}
-use Rattle.xs_coarse_net.specs.Stretches.{open_view}
-use Rattle.xs_coarse_net.specs.Whole.{spot_state}
 use Rattle.xs_screen.specs.declared.screen.Screen.{Screen}
 
 -- all spread items of rule p
@@ -23,7 +21,7 @@ whole_part g p = record { rule = p; start = 0; end = length (spread g p) }
 
 -- each cover that was made of a rule is one
 abbrev pub AreRuleCovers : Grammar → Screen → Type 0
-AreRuleCovers g s = (p : ℕ) (c : Cover) → slice_get s.rules.items p ≡ Some (Some c) → IsCoverOf g s.labels (open_view s.labels s.covers.whole) (spot_state g) (whole_part g p) c
+AreRuleCovers g s = (p : ℕ) (c : Cover) → slice_get s.rules.items p ≡ Some (Some c) → IsCoverOf g s.labels (whole_part g p) c
 
 -- the labels and the covers are those of the grammar, groups that the labels keep apart read no common
 -- word, and there is room for a cover of each rule

@@ -5,8 +5,6 @@ ghost use Rattle.xs_stretch.specs.Parts.{IsPart};
 ghost use Rattle.xs_stretch.specs.Tables.{AreNumbersBefore};
 ghost use Rattle.xs_apart.specs.Sets.{AreDoubles};
 ghost use Rattle.xs_coarse_net.specs.Covers.{IsCoverOf};
-ghost use Rattle.xs_coarse_net.specs.Stretches.{open_view};
-ghost use Rattle.xs_coarse_net.specs.Whole.{spot_state};
 ghost use Rattle.xs_screen.specs.Screens.{IsScreen, AreDoubts, OverlapNowhere, outer_at};
 
 use crate::Screen;
@@ -99,7 +97,7 @@ impl Screen {
         requires built { IsBuilt g.now }
         requires screen { IsScreen g.now self.old }
         requires part { IsPart g.now part.now }
-        requires cover { IsCoverOf g.now self.old.labels (open_view self.old.labels self.old.covers.whole) (spot_state g.now) part.now cover.now }
+        requires cover { IsCoverOf g.now self.old.labels part.now cover.now }
         requires doubles { AreDoubles self.old.labels cover.now.net doubles.now.pairs.items }
         requires index { index < length cover.now.places.items }
         ensures same { (self.new.labels ≡ self.old.labels) × (self.new.covers ≡ self.old.covers) }
