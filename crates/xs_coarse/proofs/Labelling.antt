@@ -106,9 +106,9 @@ labels_kept classes lefts w bits e small long cells = record {
   };
 }
 
-pub labels_of : (g : Grammar) (classes : List (List (ℕ × ℕ))) (w : ℕ) (bits : List Bool) (all : List ℕ) → all ≡ lefts_before g (length g.rules) → w ≡ suc (length classes + length all) → AllUnfenced g.fences classes → AreCells classes all w bits → AreNewLabels g (record { classes = classes; groups = length all; bits = bits })
-labels_of g classes w bits all is e unfenced cells = record {
-  labels = record { unfenced = unfenced; groups = ap (λ (xs : List ℕ). length xs) is ∙ before_long g (length g.rules) };
+pub labels_of : (g : Grammar) (classes : List (List (ℕ × ℕ))) (w : ℕ) (bits : List Bool) (all : List ℕ) → all ≡ lefts_before g (length g.rules) → w ≡ suc (length classes + length all) → AllUnfenced g.fences classes → AreCells classes all w bits → w < 65536 → AreNewLabels g (record { classes = classes; groups = length all; bits = bits })
+labels_of g classes w bits all is e unfenced cells low = record {
+  labels = record { unfenced = unfenced; groups = ap (λ (xs : List ℕ). length xs) is ∙ before_long g (length g.rules); few = omega (arith, e, low) };
   calls = λ p q j k l a b x y t.
       let first = rw (← is) at (group_left g (length g.rules) p j l a x t) in
       let second = rw (← is) at (group_left g (length g.rules) q k l b y t) in

@@ -17,10 +17,12 @@ pub record IsClassLabel (classes : List (List (ℕ × ℕ))) (class : List (ℕ 
   pub is : label ≡ class_label number
   pub there : slice_get classes number ≡ Some class
 
--- the labels are those of the grammar: no class has a fence symbol, and each group has a label
+-- the labels are those of the grammar: no class has a fence symbol, each group has a label, and 16 bits
+-- count them
 pub record IsLabelsOf (g : Grammar) (t : Table) : Type 0 where
   pub unfenced : AreUnfenced g t
   pub groups : t.groups ≡ groups_count g
+  pub few : label_count t < 65536
 
 -- so they are, and groups with one left fence symbol may read a common word
 pub record AreNewLabels (g : Grammar) (t : Table) : Type 0 where

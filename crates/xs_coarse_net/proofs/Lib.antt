@@ -5,6 +5,7 @@ pub mod Labelling
 pub mod Laying
 pub mod Extending
 pub mod Places
+pub mod Reaching
 pub mod Rows
 pub mod Tracing
 pub mod Viewing

@@ -3,7 +3,7 @@ use Rattle.std.proofs.Common.{◌≡◌, ℕ, suc, ◌+◌, ◌<◌, List, [], �
 use Rattle.std.proofs.lemmas.Option.{same_Some, slice_get-get_or}
 use Rattle.xs_gram.specs.declared.parts.GItem.{GItem}
 use Rattle.xs_gram.specs.declared.parts.GItem.TheVariants.{Fixed, Term, Non, Skip}
-use Rattle.xs_gram.specs.Grammar.{Grammar}
+use Rattle.xs_gram.specs.Grammar.{Grammar, rule_of}
 use Rattle.xs_gram.specs.Fences.{spread, IsPlain, OuterAt, GroupAt, OuterGroupAt, IsPartner, IsLeftFence}
 use Rattle.xs_gram.specs.Sound.{IsProper}
 use Rattle.xs_gram.proofs.Fences.{left_not_plain}
@@ -30,15 +30,15 @@ place_group g t n p k m from to proper partner a b arc = record {
     subst (λ (x : ℕ). HasArc n (place_state g p k) (group_label t (group_number g p k)) (place_state g p x)) next (subst (λ (x : ℕ). HasArc n (place_state g p k) (group_label t (group_number g p k)) x) b (subst (λ (x : ℕ). HasArc n x (group_label t (group_number g p k)) to) a arc));
 }
 
-leaf_laid : (g : Grammar) (t : Table) (n : Net) (i : GItem) (a b : ℕ) → IsPlain g.fences i → IsLeaf i → ItemLaid g t n i a b → LeafGoes g t n i a b
-leaf_laid g t n (Fixed f) a b plain leaf h = h plain
-leaf_laid g t n (Term k s) a b plain leaf h = h
-leaf_laid g t n (Non m s) a b plain leaf h = absurd leaf
-leaf_laid g t n (Skip k) a b plain leaf h = h
+leaf_laid : (g : Grammar) (t : Table) (n : Net) (own : ℕ) (i : GItem) (a b : ℕ) → IsPlain g.fences i → IsLeaf i → ItemLaid g t n own i a b → LeafGoes g t n i a b
+leaf_laid g t n own (Fixed f) a b plain leaf h = h plain
+leaf_laid g t n own (Term k s) a b plain leaf h = h
+leaf_laid g t n own (Non m s) a b plain leaf h = absurd leaf
+leaf_laid g t n own (Skip k) a b plain leaf h = h
 
-pub place_item : (g : Grammar) (t : Table) (n : Net) (p k from to : ℕ) (i : GItem) → k < length (spread g p) → i ≡ get_or (spread g p) k i → (IsLeftFence g.fences (spread g p) k → ⊥) → from ≡ place_state g p k → to ≡ place_state g p (k + 1) → ItemLaid g t n i from to → PlaceLaid g t n p k
+pub place_item : (g : Grammar) (t : Table) (n : Net) (p k from to : ℕ) (i : GItem) → k < length (spread g p) → i ≡ get_or (spread g p) k i → (IsLeftFence g.fences (spread g p) k → ⊥) → from ≡ place_state g p k → to ≡ place_state g p (k + 1) → ItemLaid g t n (rule_of g p).non i from to → PlaceLaid g t n p k
 place_item g t n p k from to i low is none a b h = record {
-  leaves = λ j at leaf. leaf_laid g t n j (place_state g p k) (place_state g p (suc k)) at.plain leaf (laid j at);
+  leaves = λ j at leaf. leaf_laid g t n (rule_of g p).non j (place_state g p k) (place_state g p (suc k)) at.plain leaf (laid j at);
   enters = λ m s at. (laid (Non m s) at).0;
   returns = λ m s at. (laid (Non m s) at).1;
   groups = λ j l r inside at. absurd (none (left_opens at.group));
@@ -47,8 +47,8 @@ place_item g t n p k from to i low is none a b h = record {
     next : k + 1 ≡ suc k
     next = omega arith
 
-    here : ItemLaid g t n i (place_state g p k) (place_state g p (suc k))
-    here = subst (λ (x : ℕ). ItemLaid g t n i (place_state g p k) (place_state g p x)) next (subst (λ (x : ℕ). ItemLaid g t n i (place_state g p k) x) b (subst (λ (x : ℕ). ItemLaid g t n i x to) a h))
+    here : ItemLaid g t n (rule_of g p).non i (place_state g p k) (place_state g p (suc k))
+    here = subst (λ (x : ℕ). ItemLaid g t n (rule_of g p).non i (place_state g p k) (place_state g p x)) next (subst (λ (x : ℕ). ItemLaid g t n (rule_of g p).non i (place_state g p k) x) b (subst (λ (x : ℕ). ItemLaid g t n (rule_of g p).non i x to) a h))
 
-    laid : (j : GItem) → OuterAt g.fences (spread g p) k j → ItemLaid g t n j (place_state g p k) (place_state g p (suc k))
-    laid j at = subst (λ (x : GItem). ItemLaid g t n x (place_state g p k) (place_state g p (suc k))) (same_Some _ _ (sym (slice_get-get_or (spread g p) k i low ∙ ap (λ (x : GItem). Some x) (sym is)) ∙ outer_at at)) here
+    laid : (j : GItem) → OuterAt g.fences (spread g p) k j → ItemLaid g t n (rule_of g p).non j (place_state g p k) (place_state g p (suc k))
+    laid j at = subst (λ (x : GItem). ItemLaid g t n (rule_of g p).non x (place_state g p k) (place_state g p (suc k))) (same_Some _ _ (sym (slice_get-get_or (spread g p) k i low ∙ ap (λ (x : GItem). Some x) (sym is)) ∙ outer_at at)) here

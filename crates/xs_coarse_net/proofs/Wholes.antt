@@ -1,20 +1,24 @@
 -- The net of a whole grammar: what is laid stays laid, and where all rules are laid, it covers the grammar.
-use Rattle.std.proofs.Common.{◌≡◌, ◌≢◌, ℕ, zero, suc, ◌+◌, ◌*◌, ◌<◌, ◌≤◌, List, [], ◌∷◌, length, refl, sym, ap, subst, ◌∙◌, inl, inr, arith, length-append}
+use Rattle.std.proofs.Common.{◌≡◌, ◌≢◌, ℕ, zero, suc, ◌+◌, ◌*◌, ◌-◌, ◌/◌, ◌<◌, Bool, false, get_or, ◌≤◌, List, [], ◌∷◌, length, refl, sym, ap, subst, ◌∙◌, inl, inr, arith, length-append}
 use Rattle.std.proofs.lemmas.Bool.{cases_eq, eq-eqb, ne_eqb}
 use Rattle.std.specs.Prelude.{nat_eq, if◌then◌else◌}
-use Rattle.std.specs.List.{All}
-use Rattle.xs_auto.specs.Nets.{Graph, Walks, rests, passes}
+use Rattle.std.specs.List.{All, Contains}
+use Rattle.xs_auto.specs.Nets.{Walks, rests, passes, calls_of}
 use Rattle.xs_gram.specs.declared.parts.GItem.{GItem}
 use Rattle.xs_gram.specs.declared.parts.GItem.TheVariants.{Fixed, Term, Non, Skip}
 use Rattle.xs_gram.specs.Grammar.{Grammar, rule_of}
 use Rattle.xs_gram.specs.Fences.{spread, OuterAt, OuterGroupAt}
+use Rattle.xs_gram.specs.Loose.{Uses}
 use Rattle.xs_gram.proofs.Levels.{group_opened}
-use Rattle.xs_stretch.proofs.Numbering.{long_before}
-use Rattle.xs_coarse.specs.Coarse.{Table, Net, IsWithin, HasArc, view}
-use Rattle.xs_coarse.specs.Covers.{CoversGrammar, CoversLeaf, IsLeaf}
+use Rattle.xs_stretch.specs.Groups.{group_number}
+use Rattle.xs_stretch.proofs.Numbering.{long_before, left_counts, number_low}
+use Rattle.xs_coarse.specs.Coarse.{Table, Net, IsWithin, HasArc, label_count, view}
+use Rattle.xs_coarse.specs.Covers.{CoversFrom, CoversLeaf, IsLeaf, call_of}
+use Rattle.xs_coarse.specs.Labels.{IsLabelsOf}
 use Rattle.xs_coarse.proofs.Views.{view_move, view_call}
-use Rattle.xs_coarse_net.specs.Going.{Goes, Grows, LeafGoes}
-use Rattle.xs_coarse_net.specs.Whole.{entry_state, exit_state, rule_base, place_state, spot_state, PlaceLaid, RuleLaid, RulesLaid}
+use Rattle.xs_coarse_net.specs.Going.{Goes, goes_none, goes_move, goes_read, Grows, LeafGoes}
+use Rattle.xs_coarse_net.specs.Reaching.{IsIn, IsClosedIn, IsRestricted}
+use Rattle.xs_coarse_net.specs.Whole.{entry_state, exit_state, return_label, rule_base, place_state, spot_state, PlaceLaid, RuleLaid, RulesLaid}
 use Rattle.xs_coarse_net.proofs.Going.{goes_grown}
 use Rattle.xs_coarse_net.proofs.Viewing.{from_low, goes_walks}
 
@@ -74,31 +78,67 @@ base_next g p = let e : p + 1 ≡ suc p = omega arith in rw e refl
 outer_low : (g : Grammar) (p k : ℕ) (i : GItem) → OuterAt g.fences (spread g p) k i → k < length (spread g p)
 outer_low g p k i at = subst (λ (xs : List GItem). k < length xs) (sym at.split) (omega (arith, long_before at.before at.after i, at.place))
 
-module _ {g : Grammar} {t : Table} {n : Net} (within : All (IsWithin n.states) n.arcs) (laid : RulesLaid g t n (length g.rules)) where
+-- paths by labels of the grammar are kept
+goes_kept : {t : Table} {m n : Net} {has : List Bool} {a b : ℕ} {w : List ℕ} → label_count t < 65536 → IsRestricted has m n → Goes t m a w b → Goes t n a w b
+goes_kept few kept goes_none = goes_none
+goes_kept few kept (goes_move x p) = goes_move ((kept.kept _ x).plain (omega arith)) (goes_kept few kept p)
+goes_kept few kept (goes_read x r p) = goes_read ((kept.kept _ x).plain (omega (arith, few, r.is, r.below))) r (goes_kept few kept p)
+
+leaf_kept : (g : Grammar) (t : Table) {m n : Net} {has : List Bool} (i : GItem) (a b : ℕ) → label_count t < 65536 → IsRestricted has m n → LeafGoes g t m i a b → LeafGoes g t n i a b
+leaf_kept g t (Fixed f) a b few kept p = goes_kept few kept p
+leaf_kept g t (Term i s) a b few kept p = λ w word. goes_kept few kept (p w word)
+leaf_kept g t (Non m s) a b few kept p = absurd p
+leaf_kept g t (Skip k) a b few kept p = λ w word. goes_kept few kept (p w word)
+
+module _ {g : Grammar} {t : Table} {m n : Net} {has : List Bool} (labels : IsLabelsOf g t) (laid : RulesLaid g t m (length g.rules)) (kept : IsRestricted has m n) (within : All (IsWithin n.states) n.arcs) where
   moved : (a b : ℕ) → HasArc n a 0 b → Walks (view t n 0 0) a [] b
   moved a b h = passes (view_move t n 0 0 a b (from_low n a 0 b within h) h) rests
+
+  move_kept : (a b : ℕ) → HasArc m a 0 b → Walks (view t n 0 0) a [] b
+  move_kept a b h = moved a b ((kept.kept _ h).plain (omega arith))
 
   leaf_walks : (i : GItem) (a b : ℕ) → IsLeaf i → LeafGoes g t n i a b → CoversLeaf g (view t n 0 0) i a b
   leaf_walks (Fixed f) a b leaf h = goes_walks 0 0 within h
   leaf_walks (Term j s) a b leaf h = λ w word. goes_walks 0 0 within (h w word)
-  leaf_walks (Non m s) a b leaf h = absurd leaf
+  leaf_walks (Non k s) a b leaf h = absurd leaf
   leaf_walks (Skip k) a b leaf h = λ w word. goes_walks 0 0 within (h w word)
 
   ends : (p : ℕ) → p < length g.rules → Walks (view t n 0 0) (place_state g p (length (spread g p))) [] (exit_state (rule_of g p).non)
   ends p low = elim (cases_eq (length (spread g p)) 0) [
-    | inl none ↦ subst (λ (k : ℕ). Walks (view t n 0 0) (place_state g p k) [] (exit_state (rule_of g p).non)) (sym none) (moved (entry_state (rule_of g p).non) (exit_state (rule_of g p).non) ((laid p low).passes none))
+    | inl none ↦ subst (λ (k : ℕ). Walks (view t n 0 0) (place_state g p k) [] (exit_state (rule_of g p).non)) (sym none) (move_kept (entry_state (rule_of g p).non) (exit_state (rule_of g p).non) ((laid p low).passes none))
     | inr some ↦ subst (λ (a : ℕ). Walks (view t n 0 0) a [] (exit_state (rule_of g p).non)) (sym (state_last g p (length (spread g p)) some refl)) rests
   ]
 
-  pub covers_grammar : CoversGrammar g (view t n 0 0) (spot_state g)
-  covers_grammar = record {
-    begins = λ p low. subst (λ (b : ℕ). Walks (view t n 0 0) (entry_state (rule_of g p).non) [] b) (sym (state_first g p 0 refl)) rests;
-    ends = ends;
-    leaves = λ p k i low at leaf. leaf_walks i (place_state g p k) (place_state g p (suc k)) leaf (((laid p low).places k (outer_low g p k i at)).leaves i at leaf);
-    enters = λ p k m s low at. moved (place_state g p k) (entry_state m) (((laid p low).places k (outer_low g p k (Non m s) at)).enters m s at);
-    returns = λ p k m s low at. moved (exit_state m) (place_state g p (suc k)) (((laid p low).places k (outer_low g p k (Non m s) at)).returns m s at);
-    groups = λ p k m l r inside low at.
-        let here : k < length (spread g p) = omega (arith, (group_opened at.group).2, at.group.partner) in
-        let arc = ((laid p low).places k here).groups m l r inside at in
-        view_call t n 0 0 (place_state g p k) _ (place_state g p (suc m)) (from_low n (place_state g p k) _ (place_state g p (suc m)) within arc) arc;
+  returned : (p k j s : ℕ) → p < length g.rules → IsIn has (rule_of g p).non → OuterAt g.fences (spread g p) k (Non j s) → Walks (view t n 0 0) (exit_state j) [] (place_state g p (suc k))
+  returned p k j s low own at =
+      let arc = ((laid p low).places k (outer_low g p k (Non j s) at)).returns j s at in
+      let same : return_label (rule_of g p).non - 65536 ≡ (rule_of g p).non = omega arith in
+      moved (exit_state j) (place_state g p (suc k)) ((kept.kept _ arc).returns (omega arith) (subst (λ (x : ℕ). IsIn has x) (sym same) own))
+
+  called : (p k j l r : ℕ) (inside : List GItem) → p < length g.rules → OuterGroupAt g.fences (spread g p) k j l inside r → Contains (calls_of (view t n 0 0) (place_state g p k)) (call_of g p k (place_state g p (suc j)))
+  called p k j l r inside low at =
+      let here : k < length (spread g p) = omega (arith, (group_opened at.group).2, at.group.partner) in
+      let arc = ((laid p low).places k here).groups j l r inside at in
+      let number : group_number g p k < t.groups = omega (arith, labels.groups, left_counts g.fences (spread g p) k j (record { left = l; inside = inside; right = r; group = at.group }), number_low g p (k + 1) low) in
+      let own = (kept.kept _ arc).plain (omega (arith, labels.few, number)) in
+      view_call t n 0 0 (place_state g p k) _ (place_state g p (suc j)) (from_low n (place_state g p k) _ (place_state g p (suc j)) within own) own
+
+  used : IsClosedIn m has → (a b : ℕ) → IsIn has a → Uses g a b → IsIn has b
+  used closed a b own u =
+      let p = u.rule in
+      let arc = ((laid p u.of.0).places u.dot (outer_low g p u.dot (Non b u.slot) u.item)).returns b u.slot u.item in
+      let same : return_label (rule_of g p).non - 65536 ≡ a = omega (arith, u.of.1) in
+      let half : exit_state b / 2 ≡ b = omega arith in
+      subst (λ (x : ℕ). IsIn has x) half (closed _ arc (omega arith) (subst (λ (x : ℕ). IsIn has x) (sym same) own))
+
+  pub covers_from : (c : ℕ) → IsIn has c → IsClosedIn m has → CoversFrom g (view t n 0 0) (spot_state g) (λ a. get_or has a false) c
+  covers_from c own closed = record {
+    own = own;
+    uses = used closed;
+    begins = λ p low own. subst (λ (b : ℕ). Walks (view t n 0 0) (entry_state (rule_of g p).non) [] b) (sym (state_first g p 0 refl)) rests;
+    ends = λ p low own. ends p low;
+    leaves = λ p k i low own at leaf. leaf_walks i (place_state g p k) (place_state g p (suc k)) leaf (leaf_kept g t i (place_state g p k) (place_state g p (suc k)) labels.few kept (((laid p low).places k (outer_low g p k i at)).leaves i at leaf));
+    enters = λ p k j s low own at. move_kept (place_state g p k) (entry_state j) (((laid p low).places k (outer_low g p k (Non j s) at)).enters j s at);
+    returns = returned;
+    groups = λ p k j l r inside low own at. called p k j l r inside low at;
   }

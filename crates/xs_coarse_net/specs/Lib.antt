@@ -5,6 +5,7 @@ pub mod Going
 pub mod Having
 pub mod Joining
 pub mod Placing
+pub mod Reaching
 pub mod Sites
 pub mod Stretches
 pub mod Whole

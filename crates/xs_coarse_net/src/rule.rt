@@ -6,7 +6,7 @@ ghost use Rattle.xs_stretch.specs.Groups.{group_number, groups_before, lefts};
 ghost use Rattle.xs_coarse.specs.Coarse.{HasArc};
 ghost use Rattle.xs_coarse_net.specs.Going.{Grows};
 ghost use Rattle.xs_coarse_net.specs.Sites.{IsSite};
-ghost use Rattle.xs_coarse_net.specs.Whole.{entry_state, exit_state, rule_base, place_state, ItemLaid, PlaceLaid, RuleLaid};
+ghost use Rattle.xs_coarse_net.specs.Whole.{entry_state, exit_state, rule_base, place_state, return_label, ItemLaid, PlaceLaid, RuleLaid};
 
 use crate::draft::{Draft, MOST};
 use crate::labelled::label_of_group;
@@ -15,6 +15,10 @@ use crate::site::Site;
 use crate::stop::Stop;
 use std::alloc::Global;
 use xs_gram::GItem;
+
+/// The least label of an arc back from the exit of a nonterminal; the number of the nonterminal into
+/// whose rule it leads is added to it.
+pub(crate) const RETURNS: u32 = 65536;
 
 /// Lays the outer items and groups of a rule, whose places begin at a number.
 pub(crate) fn lay_rule(
@@ -130,17 +134,20 @@ fn lay_place(
         }
         None => {
             let to = state_at(site, rule, base, place + 1)?;
-            lay_item(draft, alloc, site, item, from, to)?;
+            let own = site.g.non_of(rule);
+            lay_item(draft, alloc, site, own, item, from, to)?;
             Ok(())
         }
     }
 }
 
-/// Leads from a state to another by an item; by a nonterminal, to its entry and from its exit.
+/// Leads from a state to another by an item of a rule of a nonterminal; by a nonterminal, to its entry
+/// and back from its exit.
 fn lay_item(
     draft: &mut Draft,
     alloc: Global,
     site: &Site<'_>,
+    own: u32,
     item: &GItem,
     from: u32,
     to: u32,
@@ -148,22 +155,26 @@ fn lay_item(
     requires site { IsSite site.now }
     requires there { NamesAreThere site.now.g.now item.now }
     ensures grows { OnOk result (Grows draft.old draft.new) }
-    ensures laid { OnOk result (ItemLaid site.now.g.now site.now.labels.now draft.new item.now from to) }
+    ensures laid { OnOk result (ItemLaid site.now.g.now site.now.labels.now draft.new own item.now from to) }
 {
     match item {
-        GItem::Non { non, .. } => lay_call(draft, *non, from, to),
+        GItem::Non { non, .. } => lay_call(draft, own, *non, from, to),
         _ => lay_leaf(draft, alloc, site, item, from, to),
     }
 }
 
-/// Leads from a state to the entry of a nonterminal, and from its exit to another state.
-fn lay_call(draft: &mut Draft, non: u32, from: u32, to: u32) -> Result<(), Stop>
+/// Leads from a state to the entry of a nonterminal, and back from its exit to another state, into a
+/// rule of a nonterminal.
+fn lay_call(draft: &mut Draft, own: u32, non: u32, from: u32, to: u32) -> Result<(), Stop>
     ensures grows { OnOk result (Grows draft.old draft.new) }
     ensures enters { OnOk result (HasArc draft.new from 0 (entry_state non)) }
-    ensures returns { OnOk result (HasArc draft.new (exit_state non) 0 to) }
+    ensures returns { OnOk result (HasArc draft.new (exit_state non) (return_label own) to) }
 {
+    if own > MOST {
+        return Err(Stop::Wide);
+    }
     let (entry, exit) = states_of(non)?;
     draft.add(from, 0, entry)?;
-    draft.add(exit, 0, to)?;
+    draft.add(exit, RETURNS + own, to)?;
     Ok(())
 }

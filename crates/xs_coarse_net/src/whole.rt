@@ -1,22 +1,28 @@
 ghost use Rattle.std.specs.Prelude.{◌≡◌, ◌+◌, ◌*◌, ◌<◌, length, IfOk};
 ghost use Rattle.xs_gram.specs.Fences.{spread};
-ghost use Rattle.xs_coarse.specs.Coarse.{view};
-ghost use Rattle.xs_coarse.specs.Covers.{CoversGrammar};
 ghost use Rattle.xs_coarse_net.specs.Sites.{IsSite};
-ghost use Rattle.xs_coarse_net.specs.Whole.{rule_base, spot_state};
+ghost use Rattle.xs_coarse_net.specs.Whole.{rule_base, IsWhole};
 
-use crate::draft::{Draft, MOST};
+use crate::draft::{Draft, MOST, net_of};
 use crate::leaf::states_inside;
-use crate::rule::lay_rule;
+use crate::rule::{RETURNS, lay_rule};
 use crate::site::Site;
 use crate::stop::Stop;
 use std::alloc::Global;
-use xs_coarse::Coarse;
+use xs_coarse::{Arc, Coarse};
 
-/// The net that covers all rules of a grammar, in time linear in its spread items and automata.
-pub(crate) fn whole_net(alloc: Global, site: &Site<'_>) -> Result<Coarse, Stop>
+/// The net that covers all rules of a grammar, whose arcs back from the exit of a nonterminal tell into
+/// a rule of which nonterminal they lead; and, as a net too, which nonterminals the rules of each use.
+#[derive(Debug, Drop)]
+pub struct Whole {
+    pub net: Coarse,
+    pub uses: Coarse,
+}
+
+/// The net of a whole grammar, in time linear in its spread items and automata.
+pub(crate) fn whole_net(alloc: Global, site: &Site<'_>) -> Result<Whole, Stop>
     requires { IsSite site.now }
-    ensures { IfOk result (λ n. CoversGrammar site.now.g.now (view site.now.labels.now n 0 0) (spot_state site.now.g.now)) }
+    ensures { IfOk result (IsWhole site.now.g.now site.now.labels.now) }
 {
     if site.g.nons() > MOST {
         return Err(Stop::Wide);
@@ -30,8 +36,25 @@ pub(crate) fn whole_net(alloc: Global, site: &Site<'_>) -> Result<Coarse, Stop>
         base = base_after(site, rule, base)?;
     }
     let net = draft.into_net(alloc)?;
+    let uses = uses_of(alloc, site.g.nons(), &net)?;
     let _states = net.len();
-    Ok(net)
+    Ok(Whole { net, uses })
+}
+
+/// Which nonterminals the rules of each use, by the arcs back into them.
+fn uses_of(alloc: Global, nons: u32, net: &Coarse) -> Result<Coarse, Stop> {
+    let mut arcs = Vec::new(alloc);
+    'arcs: for x in net.arcs() {
+        if x.label >= RETURNS {
+            arcs.push(Arc {
+                from: x.label - RETURNS,
+                label: 0,
+                to: x.from / 2,
+            })?;
+        }
+    }
+    let uses = net_of(alloc, nons, arcs)?;
+    Ok(uses)
 }
 
 /// Where the places of the next rule begin.

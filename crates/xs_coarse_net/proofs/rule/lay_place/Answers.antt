@@ -1,8 +1,9 @@
-use Rattle.std.proofs.Common.{◌+◌, arith}
+use Rattle.std.proofs.Common.{ℕ, ◌+◌, subst, arith}
 use Rattle.xs_gram.specs.Fences.{spread}
 use Rattle.xs_stretch.proofs.Items.{item_there}
 use Rattle.xs_stretch.proofs.Numbering.{left_counts, number_low}
 use Rattle.xs_stretch.proofs.Stepping.{read_there}
+use Rattle.xs_coarse_net.specs.Whole.{ItemLaid}
 use Rattle.xs_coarse_net.proofs.Places.{place_group, place_item}
 use Rattle.xs_coarse_net.proofs.rule.lay_place.Goals as goal
 
@@ -21,4 +22,5 @@ pub returns-in_ok-lay_item-in-None-clause-laid : goal.returns-in_ok-lay_item-in-
 returns-in_ok-lay_item-in-None-clause-laid c =
     let g = c.args.site.now.g.now in
     let is = read_there (spread g c.args.rule) c.spread.result.now c.args.place c.index-spread-place.result c.spread.ensures.items c.index-spread-place.is in
-    place_item g c.args.site.now.labels.now _ c.args.rule c.args.place c.in_ok-from.from c.in_ok-to-in-None.to c.index-spread-place.result c.requires.place is (c.partner.ensures.none.0 c.in-None.is) c.in_ok-from.ensures c.in_ok-to-in-None.ensures c.in_ok-lay_item-in-None.ensures.laid
+    let laid = subst (λ (own : ℕ). ItemLaid g c.args.site.now.labels.now c.lay_item.new.draft own c.index-spread-place.result c.in_ok-from.from c.in_ok-to-in-None.to) c.non_of-own.ensures c.in_ok-lay_item-in-None.ensures.laid in
+    place_item g c.args.site.now.labels.now _ c.args.rule c.args.place c.in_ok-from.from c.in_ok-to-in-None.to c.index-spread-place.result c.requires.place is (c.partner.ensures.none.0 c.in-None.is) c.in_ok-from.ensures c.in_ok-to-in-None.ensures laid

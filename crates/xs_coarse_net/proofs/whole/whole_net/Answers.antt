@@ -1,5 +1,5 @@
 use Rattle.std.proofs.Common.{refl, ◌∙◌, sym, arith}
-use Rattle.xs_coarse_net.proofs.Wholes.{rules_more, rule_grown, covers_grammar, base_next}
+use Rattle.xs_coarse_net.proofs.Wholes.{rules_more, rule_grown, base_next}
 use Rattle.xs_coarse_net.proofs.whole.whole_net.Goals as goal
 
 pub rules-init : goal.rules-init
@@ -12,4 +12,7 @@ rules-preserved c = record {
 }
 
 pub returns : goal.returns
-returns c = covers_grammar c.len-states.ensures.within (λ q low. rule_grown c.in_ok-net.ensures (c.rules.invariant.laid q (omega (arith, low, c.rules-test.false, c.rules.auto.rule-end, c.rules-rule-end.ensures))))
+returns c = record {
+  within = c.len-states.ensures.within;
+  laid = λ q low. rule_grown c.in_ok-net.ensures (c.rules.invariant.laid q (omega (arith, low, c.rules-test.false, c.rules.auto.rule-end, c.rules-rule-end.ensures)));
+}

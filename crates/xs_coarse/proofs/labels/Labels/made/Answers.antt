@@ -1,4 +1,4 @@
-use Rattle.std.proofs.Common.{◌≡◌, ℕ, suc, ◌+◌, List, length, subst, ap, arith, rules}
+use Rattle.std.proofs.Common.{◌≡◌, ℕ, suc, ◌+◌, ◌<◌, List, length, subst, ap, arith, rules}
 use Rattle.xs_coarse.specs.Labels.{AllUnfenced, AreNewLabels}
 use Rattle.xs_coarse.proofs.Labelling.{AreCells, labels_of}
 use Rattle.xs_coarse.proofs.labels.Labels.made.Goals as goal
@@ -19,5 +19,6 @@ returns c =
     let groups : length all ≡ c.len-3.result = omega (arith, c.len-3.ensures, c.in_ok-lefts.lefts.ok) in
     let long : length given ≡ length classes = ap (λ (xs : List (List (ℕ × ℕ))). length xs) same in
     let wide : width ≡ suc (length classes + length all) = omega (arith, long, count) in
+    let low : width < 65536 = search rules in
     subst (λ n. AreNewLabels c.args.g.now (record { classes = classes; groups = n; bits = bits })) groups
-    (labels_of c.args.g.now classes width bits all c.in_ok-lefts.ensures wide unfenced cells)
+    (labels_of c.args.g.now classes width bits all c.in_ok-lefts.ensures wide unfenced cells low)
