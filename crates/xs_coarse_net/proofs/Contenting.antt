@@ -7,14 +7,13 @@ use Rattle.std.proofs.lemmas.List.{take_all, map-append}
 use Rattle.std.proofs.lemmas.Option.{same_Some}
 use Rattle.xs_class.specs.Classes.{Has}
 use Rattle.xs_auto.specs.declared.edge.Edge.{Edge}
-use Rattle.xs_auto.specs.Nets.{Graph, edges_of, final_at}
+use Rattle.xs_auto.specs.Nets.{edges_of, final_at}
 use Rattle.xs_auto.specs.Nests.{Group, IsGroup}
 use Rattle.xs_gram.specs.declared.parts.GItem.{GItem}
 use Rattle.xs_gram.specs.declared.parts.GItem.TheVariants.{Fixed}
 use Rattle.xs_gram.specs.Grammar.{Grammar}
 use Rattle.xs_gram.specs.Fences.{fence_symbols, spread, IsFence, is_fence, GroupAt, IsPartner, IsLeftFence}
 use Rattle.xs_gram.specs.Sound.{IsProper}
-use Rattle.xs_gram.specs.Loose.{Spot}
 use Rattle.xs_gram.proofs.Levels.{fixed_one}
 use Rattle.xs_check_laws.specs.Acceptance.{IsBefore}
 use Rattle.xs_stretch.specs.declared.part.Part.{Part}
@@ -61,8 +60,8 @@ before_next q j p k h = elim h [
 ]
 
 -- what was read at the two fences of a group and the cover of its inside are its content
-pub content_is : (g : Grammar) (t : Table) (whole : Graph) (state : Spot → ℕ) → AreUnfenced g t → (p k m : ℕ) → p < length g.rules → (partner : IsPartner g.fences (spread g p) k m) → (c : Content) (part : Part) (i j : GItem) → slice_get (spread g p) k ≡ Some i → slice_get (spread g p) m ≡ Some j → i ≡ Fixed (c.left ∷ []) → j ≡ Fixed (c.right ∷ []) → part.rule ≡ p → part.start ≡ k + 1 → part_items g part ≡ partner.inside → IsCoverOf g t whole state part c.cover → IsContentOf g whole state p k (group_of t c)
-content_is g t whole state un p k m rule partner c part i j first second left right a b inside is = record {
+pub content_is : (g : Grammar) (t : Table) → AreUnfenced g t → (p k m : ℕ) → p < length g.rules → (partner : IsPartner g.fences (spread g p) k m) → (c : Content) (part : Part) (i j : GItem) → slice_get (spread g p) k ≡ Some i → slice_get (spread g p) m ≡ Some j → i ≡ Fixed (c.left ∷ []) → j ≡ Fixed (c.right ∷ []) → part.rule ≡ p → part.start ≡ k + 1 → part_items g part ≡ partner.inside → IsCoverOf g t part c.cover → IsContentOf g p k (group_of t c)
+content_is g t un p k m rule partner c part i j first second left right a b inside is = record {
   rule = rule;
   inside = partner.inside;
   partner = m;
@@ -74,7 +73,7 @@ content_is g t whole state un p k m rule partner c part i j first second left ri
     last = c.cover.last;
     starts = refl;
     final = view_final t c.cover.net 0 c.cover.last is.last;
-    content = subst (λ (xs : List GItem). CoversPart g whole state (cover_view t c.cover) p (suc k) xs 0 c.cover.last) inside (subst (λ (s : ℕ). CoversPart g whole state (cover_view t c.cover) p s (part_items g part) 0 c.cover.last) (b ∙ omega arith) (subst (λ (q : ℕ). CoversPart g whole state (cover_view t c.cover) q part.start (part_items g part) 0 c.cover.last) a is.covers));
+    content = subst (λ (xs : List GItem). CoversPart g (cover_view t c.cover) p (suc k) xs 0 c.cover.last) inside (subst (λ (s : ℕ). CoversPart g (cover_view t c.cover) p s (part_items g part) 0 c.cover.last) (b ∙ omega arith) (subst (λ (q : ℕ). CoversPart g (cover_view t c.cover) q part.start (part_items g part) 0 c.cover.last) a is.covers));
   };
   plain = view_unfenced g t c.cover.net 0 c.cover.last un;
 }
@@ -88,8 +87,8 @@ content_is g t whole state un p k m rule partner c part i j first second left ri
     there : GroupAt g.fences (spread g p) k m c.left partner.inside c.right
     there = subst (λ (s : ℕ). GroupAt g.fences (spread g p) k m c.left partner.inside s) rights_same (subst (λ (s : ℕ). GroupAt g.fences (spread g p) k m s partner.inside partner.right) lefts_same partner.group)
 
-module _ (g : Grammar) (whole : Graph) (state : Spot → ℕ) where
-  pub contents_none : HasContentsBefore g whole state 0 0 []
+module _ (g : Grammar) where
+  pub contents_none : HasContentsBefore g 0 0 []
   contents_none = record {
     counted = refl;
     there = λ q j m l r inside before low at. elim before [ inl h ↦ absurd (omega arith) | inr h ↦ absurd (omega (arith, h.1)) ];
@@ -97,7 +96,7 @@ module _ (g : Grammar) (whole : Graph) (state : Spot → ℕ) where
   }
 
   -- the place has no group
-  pub contents_past : (p k : ℕ) (nest : List Group) → k < length (spread g p) → (IsLeftFence g.fences (spread g p) k → ⊥) → HasContentsBefore g whole state p k nest → HasContentsBefore g whole state p (k + 1) nest
+  pub contents_past : (p k : ℕ) (nest : List Group) → k < length (spread g p) → (IsLeftFence g.fences (spread g p) k → ⊥) → HasContentsBefore g p k nest → HasContentsBefore g p (k + 1) nest
   contents_past p k nest low none was = record {
     counted = omega (arith, was.counted, other_counts g.fences (spread g p) k low none);
     there = λ q j m l r inside before rule at. elim (before_next q j p k before) [
@@ -108,8 +107,8 @@ module _ (g : Grammar) (whole : Graph) (state : Spot → ℕ) where
   }
 
   -- the place has a group
-  pub contents_more : (p k m : ℕ) → p < length g.rules → IsPartner g.fences (spread g p) k m → (nest new : List Group) (group : Group) → IsContentOf g whole state p k group → new ≡ nest ++ group ∷ [] → HasContentsBefore g whole state p k nest → HasContentsBefore g whole state p (k + 1) new
-  contents_more p k m rule partner nest new group is e was = subst (λ (xs : List Group). HasContentsBefore g whole state p (k + 1) xs) (sym e) (record {
+  pub contents_more : (p k m : ℕ) → p < length g.rules → IsPartner g.fences (spread g p) k m → (nest new : List Group) (group : Group) → IsContentOf g p k group → new ≡ nest ++ group ∷ [] → HasContentsBefore g p k nest → HasContentsBefore g p (k + 1) new
+  contents_more p k m rule partner nest new group is e was = subst (λ (xs : List Group). HasContentsBefore g p (k + 1) xs) (sym e) (record {
     counted = omega (arith, length-append nest (group ∷ []), was.counted, left_counts g.fences (spread g p) k m partner);
     there = λ q j n l r inside before low at. elim (before_next q j p k before) [
       | inl h ↦ let found = was.there q j n l r inside h low at in (found.0, kept_at nest (group_number g q j) found.0 group found.1, found.2)
@@ -117,19 +116,19 @@ module _ (g : Grammar) (whole : Graph) (state : Spot → ℕ) where
     ];
     only = λ h other there. elim (cases_at nest h other group there) [
       | inl before ↦ was.only h other before
-      | inr last ↦ (p, k, last.0 ∙ was.counted, subst (λ (x : Group). IsContentOf g whole state p k x) last.1 is)
+      | inr last ↦ (p, k, last.0 ∙ was.counted, subst (λ (x : Group). IsContentOf g p k x) last.1 is)
     ];
   })
     where
-      here : (q j : ℕ) → q ≡ p → j ≡ k → (found : Group) × IsGroup (nest ++ group ∷ []) (group_number g q j) found × IsContentOf g whole state q j found
+      here : (q j : ℕ) → q ≡ p → j ≡ k → (found : Group) × IsGroup (nest ++ group ∷ []) (group_number g q j) found × IsContentOf g q j found
       here q j a b = rw (a, b) (group, subst (λ (h : ℕ). IsGroup (nest ++ group ∷ []) h group) was.counted (last_at nest group), is)
 
-  pub contents_push : (t : Table) (p k m : ℕ) → p < length g.rules → IsPartner g.fences (spread g p) k m → (old new : List Content) (c : Content) → IsContentOf g whole state p k (group_of t c) → new ≡ old ++ c ∷ [] → HasContentsBefore g whole state p k (nest_of t old) → HasContentsBefore g whole state p (k + 1) (nest_of t new)
+  pub contents_push : (t : Table) (p k m : ℕ) → p < length g.rules → IsPartner g.fences (spread g p) k m → (old new : List Content) (c : Content) → IsContentOf g p k (group_of t c) → new ≡ old ++ c ∷ [] → HasContentsBefore g p k (nest_of t old) → HasContentsBefore g p (k + 1) (nest_of t new)
   contents_push t p k m rule partner old new c is e was = contents_more p k m rule partner (nest_of t old) (nest_of t new) (group_of t c) is (ap (λ (xs : List Content). nest_of t xs) e ∙ map-append (group_of t) old (c ∷ [])) was
 
   -- the groups of a rule are those of its places
-  pub contents_next : (p k : ℕ) (nest : List Group) → length (spread g p) ≤ k → HasContentsBefore g whole state p k nest → HasContentsBefore g whole state (p + 1) 0 nest
-  contents_next p k nest end was = subst (λ (q : ℕ). HasContentsBefore g whole state q 0 nest) next (record {
+  pub contents_next : (p k : ℕ) (nest : List Group) → length (spread g p) ≤ k → HasContentsBefore g p k nest → HasContentsBefore g (p + 1) 0 nest
+  contents_next p k nest end was = subst (λ (q : ℕ). HasContentsBefore g q 0 nest) next (record {
     counted = was.counted ∙ ap (λ (xs : List GItem). groups_before g p + lefts g.fences xs) (take_all k (spread g p) end) ∙ omega arith;
     there = λ q j m l r inside before low at. was.there q j m l r inside (of_rule q j m l r inside before at) low at;
     only = was.only;
@@ -151,7 +150,7 @@ module _ (g : Grammar) (whole : Graph) (state : Spot → ℕ) where
       ]
 
   -- a group is the one that was found at its place
-  content_same : IsProper g → (p k m l r : ℕ) (inside : List GItem) (group : Group) → GroupAt g.fences (spread g p) k m l inside r → IsContentOf g whole state p k group → CoversGroup g whole state p k m l inside r group
+  content_same : IsProper g → (p k m l r : ℕ) (inside : List GItem) (group : Group) → GroupAt g.fences (spread g p) k m l inside r → IsContentOf g p k group → CoversGroup g p k m l inside r group
   content_same proper p k m l r inside group at is =
       let same : is.inside ≡ inside = inside_once g.fences proper.once (spread g p) k is.partner m group.left group.right l r is.inside inside is.at at in
       let left : group.left ≡ l = fixed_one (same_Some _ _ (sym (left_at is.at) ∙ left_at at)) in
@@ -164,11 +163,11 @@ module _ (g : Grammar) (whole : Graph) (state : Spot → ℕ) where
         last = is.covers.last;
         starts = is.covers.starts;
         final = is.covers.final;
-        content = subst (λ (xs : List GItem). CoversPart g whole state group.content p (suc k) xs is.covers.first is.covers.last) same is.covers.content;
+        content = subst (λ (xs : List GItem). CoversPart g group.content p (suc k) xs is.covers.first is.covers.last) same is.covers.content;
       }
 
   -- all groups have their contents
-  pub contents_all : IsProper g → (p : ℕ) (nest : List Group) → p ≡ length g.rules → HasContentsBefore g whole state p 0 nest → CoversGroups g whole state nest
+  pub contents_all : IsProper g → (p : ℕ) (nest : List Group) → p ≡ length g.rules → HasContentsBefore g p 0 nest → CoversGroups g nest
   contents_all proper p nest end was = record {
     there = λ q k m l r inside low at.
       let found = was.there q k m l r inside (inl (omega (arith, low, end))) low at in

@@ -10,7 +10,6 @@ use Rattle.xs_gram.specs.declared.parts.GItem.TheVariants.{Fixed, Term, Non, Ski
 use Rattle.xs_gram.specs.Grammar.{Grammar}
 use Rattle.xs_gram.specs.Fences.{spread, IsPlain, grouped, IsPartner, IsLeftFence}
 use Rattle.xs_gram.specs.Sound.{IsProper}
-use Rattle.xs_gram.specs.Loose.{Spot}
 use Rattle.xs_stretch.specs.Groups.{group_number}
 use Rattle.xs_stretch.specs.Steps.{StandsAt}
 use Rattle.xs_stretch.proofs.Opening.{group_first, item_first}
@@ -28,8 +27,8 @@ use Rattle.xs_coarse_net.proofs.Viewing.{from_low, goes_walks}
 pub joins_kept : (m n o : Net) → Joins m n o → Placed m o (λ x. x)
 joins_kept m n o j = joined_kept m n o j.is j.within
 
-pub joins_item : (g : Grammar) (t : Table) (whole : Graph) (state : Spot → ℕ) (m n o : Net) (x : GItem) → Joins m n o → CoversItem g whole state (open_view t n) x 0 (last_state n) → CoversItem g whole state (open_view t o) x (last_state m) (last_state o)
-joins_item g t whole state m n o x j c = joined_item g t whole state m n o 0 0 x j.is j.some j.more j.within c
+pub joins_item : (g : Grammar) (t : Table) (m n o : Net) (x : GItem) → Joins m n o → CoversItem g (open_view t n) x 0 (last_state n) → CoversItem g (open_view t o) x (last_state m) (last_state o)
+joins_item g t m n o x j c = joined_item g t m n o 0 0 x j.is j.some j.more j.within c
 
 -- an arc from state 0 to state 1 of a net of two states
 pub joins_arc : (m n o : Net) (l : ℕ) → Joins m n o → n.states ≡ 2 → HasArc n 0 l 1 → HasArc o (last_state m) l (last_state o)
@@ -49,14 +48,21 @@ leaf_walks g t n (Term j s) a b within leaf h = λ w word. goes_walks 0 0 within
 leaf_walks g t n (Non m s) a b within leaf h = absurd leaf
 leaf_walks g t n (Skip k) a b within leaf h = λ w word. goes_walks 0 0 within (h w word)
 
-pub leaf_item : (g : Grammar) (whole : Graph) (state : Spot → ℕ) (n : Graph) (i : GItem) (a b : ℕ) → IsLeaf i → CoversLeaf g n i a b → CoversItem g whole state n i a b
-leaf_item g whole state n (Fixed f) a b leaf h = h
-leaf_item g whole state n (Term j s) a b leaf h = h
-leaf_item g whole state n (Non m s) a b leaf h = absurd leaf
-leaf_item g whole state n (Skip k) a b leaf h = h
+-- what is no nonterminal
+pub other_leaf : (i : GItem) → ((m s : ℕ) → i ≡ Non m s → ⊥) → IsLeaf i
+other_leaf (Fixed f) h = tt
+other_leaf (Term j s) h = tt
+other_leaf (Non m s) h = absurd (h m s refl)
+other_leaf (Skip k) h = tt
 
-module _ (g : Grammar) (t : Table) (whole : Graph) (state : Spot → ℕ) (p k : ℕ) (rest : List GItem) (old new : Net) (placed : Placed old new (λ x. x)) (at : StandsAt g p k rest) where
-  pub extends_group : (m : ℕ) → IsProper g → IsPartner g.fences (spread g p) k m → HasArc new (last_state old) (group_label t (group_number g p k)) (last_state new) → Extends g t whole state p k rest (m + 1) old new
+pub leaf_item : (g : Grammar) (n : Graph) (i : GItem) (a b : ℕ) → IsLeaf i → CoversLeaf g n i a b → CoversItem g n i a b
+leaf_item g n (Fixed f) a b leaf h = h
+leaf_item g n (Term j s) a b leaf h = h
+leaf_item g n (Non m s) a b leaf h = absurd leaf
+leaf_item g n (Skip k) a b leaf h = h
+
+module _ (g : Grammar) (t : Table) (p k : ℕ) (rest : List GItem) (old new : Net) (placed : Placed old new (λ x. x)) (at : StandsAt g p k rest) where
+  pub extends_group : (m : ℕ) → IsProper g → IsPartner g.fences (spread g p) k m → HasArc new (last_state old) (group_label t (group_number g p k)) (last_state new) → Extends g t p k rest (m + 1) old new
   extends_group m proper partner arc =
       let f = group_first g.fences proper.once (spread g p) rest at.post k m partner at.split at.level at.some in record {
         piece = grouped f.left f.inside f.right [];
@@ -66,7 +72,7 @@ module _ (g : Grammar) (t : Table) (whole : Graph) (state : Spot → ℕ) (p k :
         placed = placed;
       }
 
-  pub extends_item : (i : GItem) → k < length (spread g p) → i ≡ get_or (spread g p) k i → (IsLeftFence g.fences (spread g p) k → ⊥) → (IsPlain g.fences i → CoversItem g whole state (open_view t new) i (last_state old) (last_state new)) → Extends g t whole state p k rest (k + 1) old new
+  pub extends_item : (i : GItem) → k < length (spread g p) → i ≡ get_or (spread g p) k i → (IsLeftFence g.fences (spread g p) k → ⊥) → (IsPlain g.fences i → CoversItem g (open_view t new) i (last_state old) (last_state new)) → Extends g t p k rest (k + 1) old new
   extends_item i low is other h =
       let f = item_first g.fences (spread g p) rest at.post k i low is other at.split at.level at.some in record {
         piece = i ∷ [];
@@ -90,8 +96,8 @@ some_same : {A : Type 0} {x y : A} → Some x ≡ Some y → x ≡ y
 some_same e = same_Some _ _ e
 
 -- one more fragment is kept
-pub kept_more : (t : Table) (whole : Net) (kept : List (Option Net)) (non : ℕ) (n : Net) → IsFragment t whole non n → AreFragments t whole kept → AreFragments t whole (set kept non (Some n))
-kept_more t whole kept non n is was m o e = elim (set_cases kept non m (Some n) (Some o) e) [
-  | inl h ↦ subst (λ (x : Net). IsFragment t whole m x) (some_same h.1) (subst (λ (k : ℕ). IsFragment t whole k n) (sym h.0) is)
+pub kept_more : (g : Grammar) (t : Table) (kept : List (Option Net)) (non : ℕ) (n : Net) → IsFragment g t non n → AreFragments g t kept → AreFragments g t (set kept non (Some n))
+kept_more g t kept non n is was m o e = elim (set_cases kept non m (Some n) (Some o) e) [
+  | inl h ↦ subst (λ (x : Net). IsFragment g t m x) (some_same h.1) (subst (λ (k : ℕ). IsFragment g t k n) (sym h.0) is)
   | inr h ↦ was m o h
 ]

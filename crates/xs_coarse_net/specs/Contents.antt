@@ -1,11 +1,9 @@
 -- The covers of the insides of a grammar's groups.
 use Rattle.std.specs.Prelude.{◌≡◌, ℕ, ◌<◌, List, length, map}
-use Rattle.xs_auto.specs.Nets.{Graph}
 use Rattle.xs_auto.specs.Nests.{Group, IsGroup}
 use Rattle.xs_gram.specs.declared.parts.GItem.{GItem}
 use Rattle.xs_gram.specs.Grammar.{Grammar}
 use Rattle.xs_gram.specs.Fences.{spread, GroupAt}
-use Rattle.xs_gram.specs.Loose.{Spot}
 use Rattle.xs_check_laws.specs.Acceptance.{IsBefore}
 use Rattle.xs_stretch.specs.Groups.{group_number}
 use Rattle.xs_coarse.specs.Coarse.{Table}
@@ -22,16 +20,16 @@ abbrev pub nest_of : Table → List Content → List Group
 nest_of t contents = map (group_of t) contents
 
 -- the group whose left fence is spread item k of rule p
-pub record IsContentOf (g : Grammar) (whole : Graph) (state : Spot → ℕ) (p k : ℕ) (group : Group) : Type 0 where
+pub record IsContentOf (g : Grammar) (p k : ℕ) (group : Group) : Type 0 where
   pub rule : p < length g.rules
   pub inside : List GItem
   pub partner : ℕ
   pub at : GroupAt g.fences (spread g p) k partner group.left inside group.right
-  pub covers : CoversGroup g whole state p k partner group.left inside group.right group
+  pub covers : CoversGroup g p k partner group.left inside group.right group
   pub plain : IsUnfencedNet g group.content
 
 -- the nest has the groups before spread item k of rule p, each under its number, and no others
-pub record HasContentsBefore (g : Grammar) (whole : Graph) (state : Spot → ℕ) (p k : ℕ) (nest : List Group) : Type 0 where
+pub record HasContentsBefore (g : Grammar) (p k : ℕ) (nest : List Group) : Type 0 where
   pub counted : length nest ≡ group_number g p k
-  pub there : (q j m l r : ℕ) (inside : List GItem) → IsBefore q j p k → q < length g.rules → GroupAt g.fences (spread g q) j m l inside r → (group : Group) × IsGroup nest (group_number g q j) group × IsContentOf g whole state q j group
-  pub only : (h : ℕ) (group : Group) → IsGroup nest h group → (q : ℕ) × (j : ℕ) × (h ≡ group_number g q j) × IsContentOf g whole state q j group
+  pub there : (q j m l r : ℕ) (inside : List GItem) → IsBefore q j p k → q < length g.rules → GroupAt g.fences (spread g q) j m l inside r → (group : Group) × IsGroup nest (group_number g q j) group × IsContentOf g q j group
+  pub only : (h : ℕ) (group : Group) → IsGroup nest h group → (q : ℕ) × (j : ℕ) × (h ≡ group_number g q j) × IsContentOf g q j group

@@ -14,7 +14,7 @@ pub record Joins (old other new : Net) : Type 0 where
   pub more : 0 < other.states
   pub within : All (IsWithin new.states) new.arcs
 
--- the net stands for a nonterminal, from state 0 to its last state
+-- the net goes from its first to its last state by each word of a nonterminal
 abbrev pub IsFragment : Grammar → Table → ℕ → Net → Type 0
 IsFragment g t non n = CoversNon g (open_view t n) non 0 (last_state n)
 

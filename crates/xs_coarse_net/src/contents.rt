@@ -5,13 +5,13 @@ ghost use Rattle.xs_coarse.specs.Covers.{CoversGroups};
 ghost use Rattle.xs_coarse_net.specs.Contents.{nest_of, HasContentsBefore};
 ghost use Rattle.xs_coarse_net.specs.Joining.{AreFragments};
 ghost use Rattle.xs_coarse_net.specs.Sites.{IsSite};
-ghost use Rattle.xs_coarse_net.specs.Stretches.{open_view};
-ghost use Rattle.xs_coarse_net.specs.Whole.{spot_state};
+ghost use Rattle.xs_coarse_net.specs.Whole.{IsWhole};
 
 use crate::Cover;
 use crate::site::Site;
 use crate::stop::Stop;
 use crate::stretch::cover_part;
+use crate::whole::Whole;
 use std::alloc::Global;
 use xs_class::Sym;
 use xs_coarse::Coarse;
@@ -31,12 +31,13 @@ pub(crate) fn contents_of(
     kept: &mut Vec<Option<Coarse>>,
     alloc: Global,
     site: &Site<'_>,
-    whole: &Coarse,
+    whole: &Whole,
 ) -> Result<Vec<Content>, Stop>
     requires site { IsSite site.now }
-    requires kept { AreFragments site.now.labels.now whole.now kept.old.items }
-    ensures kept { AreFragments site.now.labels.now whole.now kept.new.items }
-    ensures contents { IfOk result (λ cs. CoversGroups site.now.g.now (open_view site.now.labels.now whole.now) (spot_state site.now.g.now) (nest_of site.now.labels.now cs.items)) }
+    requires whole { IsWhole site.now.g.now site.now.labels.now whole.now }
+    requires kept { AreFragments site.now.g.now site.now.labels.now kept.old.items }
+    ensures kept { AreFragments site.now.g.now site.now.labels.now kept.new.items }
+    ensures contents { IfOk result (λ cs. CoversGroups site.now.g.now (nest_of site.now.labels.now cs.items)) }
 {
     let mut contents = Vec::new(alloc);
     'rules: for rule in 0..site.g.rules() {
@@ -51,15 +52,16 @@ fn add_contents(
     kept: &mut Vec<Option<Coarse>>,
     alloc: Global,
     site: &Site<'_>,
-    whole: &Coarse,
+    whole: &Whole,
     rule: u32,
 ) -> Result<(), Stop>
     requires site { IsSite site.now }
+    requires whole { IsWhole site.now.g.now site.now.labels.now whole.now }
     requires rule { rule < length site.now.g.now.rules }
-    requires kept { AreFragments site.now.labels.now whole.now kept.old.items }
-    requires contents { HasContentsBefore site.now.g.now (open_view site.now.labels.now whole.now) (spot_state site.now.g.now) rule 0 (nest_of site.now.labels.now contents.old.items) }
-    ensures kept { AreFragments site.now.labels.now whole.now kept.new.items }
-    ensures contents { OnOk result (HasContentsBefore site.now.g.now (open_view site.now.labels.now whole.now) (spot_state site.now.g.now) (rule + 1) 0 (nest_of site.now.labels.now contents.new.items)) }
+    requires kept { AreFragments site.now.g.now site.now.labels.now kept.old.items }
+    requires contents { HasContentsBefore site.now.g.now rule 0 (nest_of site.now.labels.now contents.old.items) }
+    ensures kept { AreFragments site.now.g.now site.now.labels.now kept.new.items }
+    ensures contents { OnOk result (HasContentsBefore site.now.g.now (rule + 1) 0 (nest_of site.now.labels.now contents.new.items)) }
 {
     'items: for place in 0..site.g.spread(rule).len() as u32 {
         add_content(contents, kept, alloc, site, whole, rule, place)?;
@@ -73,17 +75,18 @@ fn add_content(
     kept: &mut Vec<Option<Coarse>>,
     alloc: Global,
     site: &Site<'_>,
-    whole: &Coarse,
+    whole: &Whole,
     rule: u32,
     place: u32,
 ) -> Result<(), Stop>
     requires site { IsSite site.now }
+    requires whole { IsWhole site.now.g.now site.now.labels.now whole.now }
     requires rule { rule < length site.now.g.now.rules }
     requires place { place < length (spread site.now.g.now rule) }
-    requires kept { AreFragments site.now.labels.now whole.now kept.old.items }
-    requires contents { HasContentsBefore site.now.g.now (open_view site.now.labels.now whole.now) (spot_state site.now.g.now) rule place (nest_of site.now.labels.now contents.old.items) }
-    ensures kept { AreFragments site.now.labels.now whole.now kept.new.items }
-    ensures contents { OnOk result (HasContentsBefore site.now.g.now (open_view site.now.labels.now whole.now) (spot_state site.now.g.now) rule (place + 1) (nest_of site.now.labels.now contents.new.items)) }
+    requires kept { AreFragments site.now.g.now site.now.labels.now kept.old.items }
+    requires contents { HasContentsBefore site.now.g.now rule place (nest_of site.now.labels.now contents.old.items) }
+    ensures kept { AreFragments site.now.g.now site.now.labels.now kept.new.items }
+    ensures contents { OnOk result (HasContentsBefore site.now.g.now rule (place + 1) (nest_of site.now.labels.now contents.new.items)) }
 {
     let Some(partner) = site.g.partner(rule, place) else {
         return Ok(());

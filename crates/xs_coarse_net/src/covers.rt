@@ -7,14 +7,12 @@ ghost use Rattle.xs_coarse.specs.Labels.{IsLabelsOf};
 ghost use Rattle.xs_coarse_net.specs.Covers.{IsCoverOf};
 ghost use Rattle.xs_coarse_net.specs.Having.{IsCovers};
 ghost use Rattle.xs_coarse_net.specs.Sites.{IsSite};
-ghost use Rattle.xs_coarse_net.specs.Stretches.{open_view};
-ghost use Rattle.xs_coarse_net.specs.Whole.{spot_state};
 
 use crate::contents::contents_of;
 use crate::site::Site;
 use crate::stop::Stop;
 use crate::stretch::cover_part;
-use crate::whole::whole_net;
+use crate::whole::{Whole, whole_net};
 use crate::{Content, Cover};
 use std::alloc::Global;
 use xs_class::Memory;
@@ -27,7 +25,7 @@ use xs_stretch::Part;
 /// the contents of the grammar's groups, by their numbers.
 #[derive(Debug, Drop)]
 pub struct Covers {
-    pub whole: Coarse,
+    pub whole: Whole,
     pub kept: Vec<Option<Coarse>>,
     pub contents: Vec<Content>,
 }
@@ -71,7 +69,7 @@ impl Covers {
         ensures covers { IsCovers g.now labels.now self.new }
         ensures whole { self.new.whole ≡ self.old.whole }
         ensures contents { self.new.contents.items ≡ self.old.contents.items }
-        ensures cover { IfOk result (λ found. IfSome found (IsCoverOf g.now labels.now (open_view labels.now self.old.whole) (spot_state g.now) part.now)) }
+        ensures cover { IfOk result (λ found. IfSome found (IsCoverOf g.now labels.now part.now)) }
     {
         let site = Site { g, labels, groups };
         match cover_part(&mut self.kept, alloc, &site, &self.whole, *part) {

@@ -28,3 +28,4 @@ mod whole;
 pub use contents::Content;
 pub use cover::{Cover, Outer};
 pub use covers::Covers;
+pub use whole::Whole;

@@ -4,22 +4,22 @@ ghost use Rattle.xs_gram.specs.Building.{NamesAreThere};
 ghost use Rattle.xs_gram.specs.Fences.{spread, IsPlain};
 ghost use Rattle.xs_stretch.specs.Groups.{group_number, groups_count};
 ghost use Rattle.xs_stretch.specs.Steps.{StandsAt};
-ghost use Rattle.xs_coarse.specs.Coarse.{Table, Net, HasArc, group_label};
+ghost use Rattle.xs_coarse.specs.Coarse.{Net, HasArc, group_label};
 ghost use Rattle.xs_coarse.specs.Covers.{CoversLeaf, CoversItem, IsLeaf};
 ghost use Rattle.xs_coarse_net.specs.Joining.{Joins, IsFragment, AreFragments};
 ghost use Rattle.xs_coarse_net.specs.Placing.{Placed};
 ghost use Rattle.xs_coarse_net.specs.Sites.{IsSite};
 ghost use Rattle.xs_coarse_net.specs.Stretches.{open_view, last_state, Extends};
-ghost use Rattle.xs_coarse_net.specs.Whole.{spot_state};
+ghost use Rattle.xs_coarse_net.specs.Whole.{IsWhole};
 
 use crate::draft::Draft;
-use crate::fragment::fragment;
 use crate::join::join_net;
 use crate::labelled::label_of_group;
 use crate::leaf::{lay_leaf, states_inside};
-use crate::rule::states_of;
+use crate::reach::block;
 use crate::site::Site;
 use crate::stop::Stop;
+use crate::whole::Whole;
 use std::alloc::Global;
 use xs_coarse::Coarse;
 use xs_gram::GItem;
@@ -30,18 +30,19 @@ pub(crate) fn add_piece(
     kept: &mut Vec<Option<Coarse>>,
     alloc: Global,
     site: &Site<'_>,
-    whole: &Coarse,
+    whole: &Whole,
     rule: u32,
     place: u32,
     number: u32,
 ) -> Result<u32, Stop>
     requires site { IsSite site.now }
+    requires whole { IsWhole site.now.g.now site.now.labels.now whole.now }
     requires rule { rule < length site.now.g.now.rules }
     requires place { place < length (spread site.now.g.now rule) }
     requires number { number ≡ group_number site.now.g.now rule place }
-    requires kept { AreFragments site.now.labels.now whole.now kept.old.items }
-    ensures kept { AreFragments site.now.labels.now whole.now kept.new.items }
-    ensures extends { IfOk result (λ next. (rest : List Item) → StandsAt site.now.g.now rule place rest → Extends site.now.g.now site.now.labels.now (open_view site.now.labels.now whole.now) (spot_state site.now.g.now) rule place rest next net.old net.new) }
+    requires kept { AreFragments site.now.g.now site.now.labels.now kept.old.items }
+    ensures kept { AreFragments site.now.g.now site.now.labels.now kept.new.items }
+    ensures extends { IfOk result (λ next. (rest : List Item) → StandsAt site.now.g.now rule place rest → Extends site.now.g.now site.now.labels.now rule place rest next net.old net.new) }
 {
     let item = &site.g.spread(rule)[place as usize];
     match site.g.partner(rule, place) {
@@ -76,19 +77,20 @@ fn add_item(
     kept: &mut Vec<Option<Coarse>>,
     alloc: Global,
     site: &Site<'_>,
-    whole: &Coarse,
+    whole: &Whole,
     item: &GItem,
 ) -> Result<(), Stop>
     requires site { IsSite site.now }
+    requires whole { IsWhole site.now.g.now site.now.labels.now whole.now }
     requires there { NamesAreThere site.now.g.now item.now }
-    requires kept { AreFragments site.now.labels.now whole.now kept.old.items }
-    ensures kept { AreFragments site.now.labels.now whole.now kept.new.items }
+    requires kept { AreFragments site.now.g.now site.now.labels.now kept.old.items }
+    ensures kept { AreFragments site.now.g.now site.now.labels.now kept.new.items }
     ensures placed { OnOk result (Placed net.old net.new (λ x. x)) }
-    ensures covers { OnOk result (IsPlain site.now.g.now.fences item.now → CoversItem site.now.g.now (open_view site.now.labels.now whole.now) (spot_state site.now.g.now) (open_view site.now.labels.now net.new) item.now (last_state net.old) (last_state net.new)) }
+    ensures covers { OnOk result (IsPlain site.now.g.now.fences item.now → CoversItem site.now.g.now (open_view site.now.labels.now net.new) item.now (last_state net.old) (last_state net.new)) }
 {
     match item {
         GItem::Non { non, .. } => {
-            add_non(net, kept, alloc, whole, *non)?;
+            add_non(net, kept, alloc, site, whole, *non)?;
             Ok(())
         }
         _ => {
@@ -118,13 +120,17 @@ fn add_non(
     net: &mut Coarse,
     kept: &mut Vec<Option<Coarse>>,
     alloc: Global,
-    whole: &Coarse,
+    site: &Site<'_>,
+    whole: &Whole,
     non: u32,
 ) -> Result<(), Stop>
-    ensures kept { (t : Table) → AreFragments t whole.now kept.old.items → AreFragments t whole.now kept.new.items }
-    ensures joins { OnOk result ((other : Net) × Joins net.old other net.new × ((t : Table) → AreFragments t whole.now kept.old.items → IsFragment t whole.now non other)) }
+    requires site { IsSite site.now }
+    requires whole { IsWhole site.now.g.now site.now.labels.now whole.now }
+    requires kept { AreFragments site.now.g.now site.now.labels.now kept.old.items }
+    ensures kept { AreFragments site.now.g.now site.now.labels.now kept.new.items }
+    ensures joins { OnOk result ((other : Net) × Joins net.old other net.new × IsFragment site.now.g.now site.now.labels.now non other) }
 {
-    keep_fragment(kept, alloc, whole, non)?;
+    keep_fragment(kept, alloc, site, whole, non)?;
     match &kept[non as usize] {
         Some(fragment) => join_net(net, fragment),
         None => Err(Stop::Wide),
@@ -135,21 +141,21 @@ fn add_non(
 fn keep_fragment(
     kept: &mut Vec<Option<Coarse>>,
     alloc: Global,
-    whole: &Coarse,
+    site: &Site<'_>,
+    whole: &Whole,
     non: u32,
 ) -> Result<(), Stop>
+    requires site { IsSite site.now }
+    requires whole { IsWhole site.now.g.now site.now.labels.now whole.now }
+    requires kept { AreFragments site.now.g.now site.now.labels.now kept.old.items }
     ensures long { OnOk result (non < length kept.new.items) }
-    ensures kept { (t : Table) → AreFragments t whole.now kept.old.items → AreFragments t whole.now kept.new.items }
+    ensures kept { AreFragments site.now.g.now site.now.labels.now kept.new.items }
 {
     if non as usize >= kept.len() {
         return Err(Stop::Wide);
     }
     if kept[non as usize].is_none() {
-        let (entry, exit) = states_of(non)?;
-        if exit >= whole.len() {
-            return Err(Stop::Wide);
-        }
-        let made = fragment(alloc, whole, entry, exit)?;
+        let made = block(alloc, site, whole, non)?;
         kept[non as usize] = Some(made);
     }
     Ok(())

@@ -3,13 +3,13 @@ ghost use Rattle.xs_stretch.specs.Parts.{IsPart};
 ghost use Rattle.xs_coarse_net.specs.Covers.{IsCoverOf};
 ghost use Rattle.xs_coarse_net.specs.Joining.{AreFragments};
 ghost use Rattle.xs_coarse_net.specs.Sites.{IsSite};
-ghost use Rattle.xs_coarse_net.specs.Stretches.{open_view};
-ghost use Rattle.xs_coarse_net.specs.Whole.{spot_state};
+ghost use Rattle.xs_coarse_net.specs.Whole.{IsWhole};
 
 use crate::pieces::add_piece;
 use crate::rule::number_after;
 use crate::site::Site;
 use crate::stop::Stop;
+use crate::whole::Whole;
 use crate::{Cover, Outer};
 use std::alloc::Global;
 use xs_coarse::Coarse;
@@ -20,14 +20,15 @@ pub(crate) fn cover_part(
     kept: &mut Vec<Option<Coarse>>,
     alloc: Global,
     site: &Site<'_>,
-    whole: &Coarse,
+    whole: &Whole,
     part: Part,
 ) -> Result<Cover, Stop>
     requires site { IsSite site.now }
+    requires whole { IsWhole site.now.g.now site.now.labels.now whole.now }
     requires part { IsPart site.now.g.now part }
-    requires kept { AreFragments site.now.labels.now whole.now kept.old.items }
-    ensures kept { AreFragments site.now.labels.now whole.now kept.new.items }
-    ensures cover { IfOk result (IsCoverOf site.now.g.now site.now.labels.now (open_view site.now.labels.now whole.now) (spot_state site.now.g.now) part) }
+    requires kept { AreFragments site.now.g.now site.now.labels.now kept.old.items }
+    ensures kept { AreFragments site.now.g.now site.now.labels.now kept.new.items }
+    ensures cover { IfOk result (IsCoverOf site.now.g.now site.now.labels.now part) }
 {
     let mut net = Coarse::new(alloc)?;
     let mut places = Vec::new(alloc);

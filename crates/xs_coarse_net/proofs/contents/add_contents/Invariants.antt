@@ -1,11 +1,9 @@
 use Rattle.xs_coarse_net.specs.Contents.{nest_of, HasContentsBefore}
 use Rattle.xs_coarse_net.specs.Joining.{AreFragments}
-use Rattle.xs_coarse_net.specs.Stretches.{open_view}
-use Rattle.xs_coarse_net.specs.Whole.{spot_state}
 use Rattle.xs_coarse_net.proofs.contents.add_contents.Given as goal
 
 abbrev pub invariant-items : goal.invariant-items
 invariant-items l = record {
-  kept : AreFragments l.site.labels.now l.whole l.kept.items;
-  contents : HasContentsBefore l.site.g.now (open_view l.site.labels.now l.whole) (spot_state l.site.g.now) l.rule l.place (nest_of l.site.labels.now l.contents.items);
+  kept : AreFragments l.site.g.now l.site.labels.now l.kept.items;
+  contents : HasContentsBefore l.site.g.now l.rule l.place (nest_of l.site.labels.now l.contents.items);
 }

@@ -1,16 +1,14 @@
 use Rattle.std.proofs.Common.{arith}
 use Rattle.xs_coarse_net.specs.Contents.{nest_of}
-use Rattle.xs_coarse_net.specs.Stretches.{open_view}
-use Rattle.xs_coarse_net.specs.Whole.{spot_state}
 use Rattle.xs_coarse_net.proofs.Contenting.{contents_none, contents_all}
 use Rattle.xs_coarse_net.proofs.contents.contents_of.Goals as goal
 
 pub rules-init : goal.rules-init
 rules-init c =
     let t = c.args.site.now.labels.now in
-    record { kept = c.requires.kept; contents = rw c.new-contents.ensures.items (contents_none c.args.site.now.g.now (open_view t c.args.whole.now) (spot_state c.args.site.now.g.now)) }
+    record { kept = c.requires.kept; contents = rw c.new-contents.ensures.items (contents_none c.args.site.now.g.now) }
 
 pub returns-clause-contents : goal.returns-clause-contents
 returns-clause-contents c =
     let t = c.args.site.now.labels.now in
-    contents_all c.args.site.now.g.now (open_view t c.args.whole.now) (spot_state c.args.site.now.g.now) c.requires.site.built.proper c.rules.rule (nest_of t c.rules.contents.items) (omega (arith, c.rules-test.false, c.rules.auto.rule-end, c.rules-rule-end.ensures)) c.rules.invariant.contents
+    contents_all c.args.site.now.g.now c.requires.site.built.proper c.rules.rule (nest_of t c.rules.contents.items) (omega (arith, c.rules-test.false, c.rules.auto.rule-end, c.rules-rule-end.ensures)) c.rules.invariant.contents

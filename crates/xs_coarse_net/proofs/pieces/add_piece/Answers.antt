@@ -3,8 +3,6 @@ use Rattle.xs_gram.specs.Fences.{spread}
 use Rattle.xs_stretch.proofs.Items.{item_there}
 use Rattle.xs_stretch.proofs.Numbering.{left_counts, number_low}
 use Rattle.xs_stretch.proofs.Stepping.{read_there}
-use Rattle.xs_coarse_net.specs.Stretches.{open_view}
-use Rattle.xs_coarse_net.specs.Whole.{spot_state}
 use Rattle.xs_coarse_net.proofs.Extending.{extends_group, extends_item}
 use Rattle.xs_coarse_net.proofs.pieces.add_piece.Goals as goal
 
@@ -20,11 +18,11 @@ pub returns-in_ok-add_group-in-Some-clause-extends : goal.returns-in_ok-add_grou
 returns-in_ok-add_group-in-Some-clause-extends c = λ rest at.
     let g = c.args.site.now.g.now in
     let t = c.args.site.now.labels.now in
-    extends_group g t (open_view t c.args.whole.now) (spot_state g) c.args.rule c.args.place rest c.args.net.now _ c.in_ok-add_group-in-Some.ensures.placed at c.in-Some.partner c.spread.ensures.proper c.in-Some.ensures.some (rw c.requires.number at c.in_ok-add_group-in-Some.ensures.call)
+    extends_group g t c.args.rule c.args.place rest c.args.net.now _ c.in_ok-add_group-in-Some.ensures.placed at c.in-Some.partner c.spread.ensures.proper c.in-Some.ensures.some (rw c.requires.number at c.in_ok-add_group-in-Some.ensures.call)
 
 pub returns-in_ok-add_item-in-None-clause-extends : goal.returns-in_ok-add_item-in-None-clause-extends
 returns-in_ok-add_item-in-None-clause-extends c = λ rest at.
     let g = c.args.site.now.g.now in
     let t = c.args.site.now.labels.now in
     let is = read_there (spread g c.args.rule) c.spread.result.now c.args.place c.index-spread-place.result c.spread.ensures.items c.index-spread-place.is in
-    extends_item g t (open_view t c.args.whole.now) (spot_state g) c.args.rule c.args.place rest c.args.net.now _ c.in_ok-add_item-in-None.ensures.placed at c.index-spread-place.result c.requires.place is (c.partner.ensures.none.0 c.in-None.is) c.in_ok-add_item-in-None.ensures.covers
+    extends_item g t c.args.rule c.args.place rest c.args.net.now _ c.in_ok-add_item-in-None.ensures.placed at c.index-spread-place.result c.requires.place is (c.partner.ensures.none.0 c.in-None.is) c.in_ok-add_item-in-None.ensures.covers

@@ -4,8 +4,7 @@ use Rattle.xs_stretch.proofs.Pushing.{element_is}
 use Rattle.xs_stretch.proofs.Stretches.{part_stretch, part_long}
 use Rattle.xs_coarse_net.specs.declared.cover.Outer.{Outer}
 use Rattle.xs_coarse_net.specs.declared.cover.Cover.{Cover}
-use Rattle.xs_coarse_net.specs.Stretches.{open_view, IsCovered}
-use Rattle.xs_coarse_net.specs.Whole.{spot_state}
+use Rattle.xs_coarse_net.specs.Stretches.{IsCovered}
 use Rattle.xs_coarse_net.proofs.Covering.{covered_none, covered_more, covered_stands, covered_done}
 use Rattle.xs_coarse_net.proofs.stretch.cover_part.Goals as goal
 
@@ -19,23 +18,22 @@ items-init c =
       within = c.requires.part.order;
       number = omega (arith, element_is c.args.site.now.groups.now part.rule c.at-number.result.now 0 c.at-number.ensures, c.requires.site.groups.each part.rule c.requires.part.rule);
       kept = c.requires.kept;
-      covered = rw c.new-places.ensures.items (covered_none g t (open_view t c.args.whole.now) (spot_state g) _ part.rule part.start (part_items g part) c.in_ok-net.ensures.states c.requires.part.level);
+      covered = rw c.new-places.ensures.items (covered_none g t _ part.rule part.start (part_items g part) c.in_ok-net.ensures.states c.requires.part.level);
     }
 
 pub items-preserved : goal.items-preserved
 items-preserved c =
     let g = c.args.site.now.g.now in
     let t = c.args.site.now.labels.now in
-    let whole = open_view t c.args.whole.now in
     let part = c.args.part in
     let is = part_items g part in
     let place : c.items.next ≡ c.items.place = omega (arith, c.items.invariant.later, c.if-place-next.false) in
     let long = part_long g part c.requires.part in
-    let was : IsCovered g t whole (spot_state g) c.items.net part.rule part.start is c.items.place c.items.places.items = subst (λ (x : ℕ). IsCovered g t whole (spot_state g) c.items.net part.rule part.start is x c.items.places.items) place c.items.invariant.covered in
-    let stands = covered_stands g t whole (spot_state g) c.items.net part.rule part.start c.items.place is c.items.places.items (part_stretch g part c.requires.part) (omega (arith, long, c.items-test.true)) was in
+    let was : IsCovered g t c.items.net part.rule part.start is c.items.place c.items.places.items = subst (λ (x : ℕ). IsCovered g t c.items.net part.rule part.start is x c.items.places.items) place c.items.invariant.covered in
+    let stands = covered_stands g t c.items.net part.rule part.start c.items.place is c.items.places.items (part_stretch g part c.requires.part) (omega (arith, long, c.items-test.true)) was in
     let more = c.in_ok-next.ensures.extends was.rest stands in
     let o : Outer = record { place = c.items.place; state = c.len.result - 1 } in
-    let new = covered_more g t whole (spot_state g) c.items.net c.add_piece.new.net part.rule part.start c.items.place c.in_ok-next.next is c.items.places.items o refl (omega (arith, c.len.ensures.states)) was more in
+    let new = covered_more g t c.items.net c.add_piece.new.net part.rule part.start c.items.place c.in_ok-next.next is c.items.places.items o refl (omega (arith, c.len.ensures.states)) was more in
     record {
       later = omega (arith, more.is.place, more.is.some);
       within = omega (arith, new.place, ap length new.split, length-append new.front new.rest, long);
@@ -52,4 +50,4 @@ returns-clause-cover c =
     let cover : Cover = record { net = c.items.net; places = c.push-2.new.self; last = c.len-last.result - 1 } in
     let next : c.args.part.end ≡ c.items.next = omega (arith, c.items.invariant.later, c.items.invariant.within, c.items-test.false) in
     let last : c.len-last.result - 1 ≡ c.items.net.states - 1 = omega (arith, c.len-last.ensures.states) in
-    covered_done g t (open_view t c.args.whole.now) (spot_state g) c.items.net c.args.part c.requires.part c.len-last.ensures.within c.len-last.ensures.some c.items.next c.items.places.items o cover (omega (arith, next)) next last refl last c.in_ok-push-2.ensures.items c.items.invariant.covered
+    covered_done g t c.items.net c.args.part c.requires.part c.len-last.ensures.within c.len-last.ensures.some c.items.next c.items.places.items o cover (omega (arith, next)) next last refl last c.in_ok-push-2.ensures.items c.items.invariant.covered

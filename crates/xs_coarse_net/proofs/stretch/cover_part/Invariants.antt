@@ -3,8 +3,7 @@ use Rattle.xs_gram.specs.Fences.{spread}
 use Rattle.xs_stretch.specs.Groups.{groups_before, lefts}
 use Rattle.xs_stretch.specs.Parts.{part_items}
 use Rattle.xs_coarse_net.specs.Joining.{AreFragments}
-use Rattle.xs_coarse_net.specs.Stretches.{open_view, IsCovered}
-use Rattle.xs_coarse_net.specs.Whole.{spot_state}
+use Rattle.xs_coarse_net.specs.Stretches.{IsCovered}
 use Rattle.xs_coarse_net.proofs.stretch.cover_part.Given as goal
 
 abbrev pub invariant-items : goal.invariant-items
@@ -12,6 +11,6 @@ invariant-items l = record {
   later : l.place ≤ l.next;
   within : l.next ≤ l.part.end;
   number : l.number ≡ groups_before l.site.g.now l.part.rule + lefts l.site.g.now.fences (take l.place (spread l.site.g.now l.part.rule));
-  kept : AreFragments l.site.labels.now l.whole l.kept.items;
-  covered : IsCovered l.site.g.now l.site.labels.now (open_view l.site.labels.now l.whole) (spot_state l.site.g.now) l.net l.part.rule l.part.start (part_items l.site.g.now l.part) l.next l.places.items;
+  kept : AreFragments l.site.g.now l.site.labels.now l.kept.items;
+  covered : IsCovered l.site.g.now l.site.labels.now l.net l.part.rule l.part.start (part_items l.site.g.now l.part) l.next l.places.items;
 }
