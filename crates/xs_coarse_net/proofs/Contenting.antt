@@ -1,27 +1,23 @@
 -- The contents of a grammar's groups, one more at a time.
-use Rattle.std.proofs.Common.{◌≡◌, ◌⊎◌, ℕ, zero, suc, ◌+◌, ◌<◌, ◌≤◌, List, [], ◌∷◌, ◌++◌, length, take, map, slice_get, refl, sym, ap, subst, ◌∙◌, inl, inr, arith, length-append, Some}
-use Rattle.std.specs.Prelude.{true, IsSome, IsTrue}
-use Rattle.std.specs.List.{Contains}
+use Rattle.std.proofs.Common.{◌≡◌, ◌⊎◌, ℕ, zero, suc, ◌+◌, ◌<◌, ◌≤◌, List, [], ◌∷◌, ◌++◌, length, slice_get, refl, sym, ap, subst, ◌∙◌, inl, inr, arith, length-append, Some}
 use Rattle.std.proofs.lemmas.Bool.{cases_eq}
 use Rattle.std.proofs.lemmas.List.{take_all, map-append}
 use Rattle.std.proofs.lemmas.Option.{same_Some}
 use Rattle.xs_class.specs.Classes.{Has}
-use Rattle.xs_auto.specs.declared.edge.Edge.{Edge}
-use Rattle.xs_auto.specs.Nets.{edges_of, final_at}
 use Rattle.xs_auto.specs.Nests.{Group, IsGroup}
 use Rattle.xs_gram.specs.declared.parts.GItem.{GItem}
 use Rattle.xs_gram.specs.declared.parts.GItem.TheVariants.{Fixed}
 use Rattle.xs_gram.specs.Grammar.{Grammar}
-use Rattle.xs_gram.specs.Fences.{fence_symbols, spread, IsFence, is_fence, GroupAt, IsPartner, IsLeftFence}
+use Rattle.xs_gram.specs.Fences.{spread, GroupAt, IsPartner, IsLeftFence}
 use Rattle.xs_gram.specs.Sound.{IsProper}
 use Rattle.xs_gram.proofs.Levels.{fixed_one}
 use Rattle.xs_check_laws.specs.Acceptance.{IsBefore}
 use Rattle.xs_stretch.specs.declared.part.Part.{Part}
 use Rattle.xs_stretch.specs.Groups.{lefts, groups_before, group_number}
 use Rattle.xs_stretch.specs.Parts.{part_items}
-use Rattle.xs_stretch.proofs.Nesting.{left_at, left_opens, right_at, inside_is, inside_once, partner_low}
+use Rattle.xs_stretch.proofs.Nesting.{left_at, left_opens, right_at, inside_once, partner_low}
 use Rattle.xs_stretch.proofs.Numbering.{left_counts, other_counts}
-use Rattle.xs_coarse.specs.Coarse.{Table, Net, class_at, view}
+use Rattle.xs_coarse.specs.Coarse.{Table, Net, view}
 use Rattle.xs_coarse.specs.Covers.{CoversPart, CoversGroup, CoversGroups, IsUnfencedNet, AreUnfenced}
 use Rattle.xs_coarse.proofs.Views.{view_edge_arc, view_final}
 use Rattle.xs_coarse_net.specs.declared.contents.Content.{Content}
@@ -170,8 +166,8 @@ module _ (g : Grammar) where
   pub contents_all : IsProper g → (p : ℕ) (nest : List Group) → p ≡ length g.rules → HasContentsBefore g p 0 nest → CoversGroups g nest
   contents_all proper p nest end was = record {
     there = λ q k m l r inside low at.
-      let found = was.there q k m l r inside (inl (omega (arith, low, end))) low at in
-      (found.0, found.1, content_same proper q k m l r inside found.0 at found.2);
+        let found = was.there q k m l r inside (inl (omega (arith, low, end))) low at in
+        (found.0, found.1, content_same proper q k m l r inside found.0 at found.2);
     fences = λ h group is. (was.only h group is).3.at.fence;
     starts = λ h group is. grind (arith, (was.only h group is).3.covers.starts);
     plain = λ h group is. (was.only h group is).3.plain;

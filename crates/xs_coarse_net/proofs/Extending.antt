@@ -1,8 +1,7 @@
 -- A net goes on by a group or by an item.
-use Rattle.std.proofs.Common.{◌≡◌, ◌⊎◌, inl, inr, ℕ, zero, suc, ◌+◌, ◌-◌, ◌<◌, List, [], ◌∷◌, length, get_or, set, slice_get, Some, refl, sym, ap, subst, ◌∙◌, arith}
+use Rattle.std.proofs.Common.{◌≡◌, ◌⊎◌, inl, inr, ℕ, zero, suc, ◌+◌, ◌<◌, List, [], ◌∷◌, length, get_or, set, slice_get, Some, refl, sym, ap, subst, arith}
 use Rattle.std.specs.declared.option.Option.{Option}
-use Rattle.std.proofs.lemmas.Bool.{cases_eq}
-use Rattle.std.proofs.lemmas.Option.{same_Some, slice_get-get_or}
+use Rattle.std.proofs.lemmas.Option.{same_Some}
 use Rattle.std.specs.List.{All}
 use Rattle.xs_auto.specs.Nets.{Graph}
 use Rattle.xs_gram.specs.declared.parts.GItem.{GItem}
@@ -14,7 +13,7 @@ use Rattle.xs_stretch.specs.Groups.{group_number}
 use Rattle.xs_stretch.specs.Steps.{StandsAt}
 use Rattle.xs_stretch.proofs.Opening.{group_first, item_first}
 use Rattle.xs_stretch.proofs.Stepping.{group_piece, item_piece}
-use Rattle.xs_coarse.specs.Coarse.{Table, Net, IsWithin, HasArc, group_label, joined, view}
+use Rattle.xs_coarse.specs.Coarse.{Table, Net, IsWithin, HasArc, group_label, joined}
 use Rattle.xs_coarse.specs.Covers.{CoversLeaf, CoversItem, IsLeaf, covers_none, covers_then, covers_group}
 use Rattle.xs_coarse.proofs.Views.{view_call}
 use Rattle.xs_coarse_net.specs.Going.{LeafGoes}

@@ -1,5 +1,5 @@
 -- Covers by one table of labels are covers by another with the same classes.
-use Rattle.std.proofs.Common.{◌≡◌, ℕ, suc, ◌+◌, ◌<◌, List, [], length, get_or, refl, sym, ap, subst, arith}
+use Rattle.std.proofs.Common.{◌≡◌, ℕ, suc, ◌+◌, List, [], length, get_or, sym, ap, subst, arith}
 use Rattle.std.specs.List.{All}
 use Rattle.xs_class.specs.Classes.{Has}
 use Rattle.xs_auto.specs.Nets.{Graph}
@@ -21,7 +21,7 @@ use Rattle.xs_coarse_net.specs.Covers.{IsCoverOf}
 use Rattle.xs_coarse_net.specs.Going.{LabelReads, Goes, goes_none, goes_move, goes_read, LeafGoes}
 use Rattle.xs_coarse_net.specs.Having.{IsCovers}
 use Rattle.xs_coarse_net.specs.Stretches.{last_state}
-use Rattle.xs_coarse_net.specs.Whole.{place_state, PlaceLaid, RuleLaid, IsWhole}
+use Rattle.xs_coarse_net.specs.Whole.{place_state, PlaceLaid, IsWhole}
 
 module _ (old new : Table) (same : new.classes ≡ old.classes) where
   view_same : (n : Net) (s e : ℕ) → view new n s e ≡ view old n s e

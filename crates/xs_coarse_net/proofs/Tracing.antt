@@ -1,5 +1,5 @@
 -- A copy of the part of a net that is reached from a state follows the net.
-use Rattle.std.proofs.Common.{◌≡◌, ◌≢◌, ◌⊎◌, ℕ, zero, suc, ◌+◌, ◌-◌, ◌<◌, ◌≤◌, List, [], ◌∷◌, ◌++◌, length, get_or, set, slice_get, replicate, take, refl, sym, ap, subst, ◌∙◌, inl, inr, arith, Some, length-append, length-set, get_or-set_other, get_or-set_same, append-nil}
+use Rattle.std.proofs.Common.{◌≡◌, ◌≢◌, ◌⊎◌, ℕ, zero, suc, ◌+◌, ◌-◌, ◌<◌, List, [], ◌∷◌, ◌++◌, length, get_or, set, slice_get, replicate, take, refl, sym, ap, subst, ◌∙◌, inl, inr, arith, Some, length-set, get_or-set_other, get_or-set_same}
 use Rattle.std.proofs.lemmas.Bool.{cases_eq}
 use Rattle.std.proofs.lemmas.Option.{same_Some, slice_get-get_or}
 use Rattle.std.specs.List.{All, Contains}
@@ -98,8 +98,8 @@ reached_more old new x low none names order arcs = record {
   named = λ h. rw (names, order) (named_more old.names.items old.order.items x low none h);
   long = ap length names ∙ length-set old.names.items x (suc (length old.order.items));
   kept = λ y u e.
-    let ne : y ≢ x = λ same. absurd (omega (arith, none, sym (ap (λ (z : ℕ). get_or old.names.items z 0) same) ∙ e)) in
-    ap (λ (l : List ℕ). get_or l y 0) names ∙ set_other old.names.items x y (suc (length old.order.items)) ne ∙ e;
+      let ne : y ≢ x = λ same. absurd (omega (arith, none, sym (ap (λ (z : ℕ). get_or old.names.items z 0) same) ∙ e)) in
+      ap (λ (l : List ℕ). get_or l y 0) names ∙ set_other old.names.items x y (suc (length old.order.items)) ne ∙ e;
   order = λ u y e. ap (λ (l : List ℕ). slice_get l u) order ∙ get_kept old.order.items x u y e;
   arcs = λ y c. subst (λ (l : List Arc). Contains l y) (sym arcs) c;
 }
@@ -159,8 +159,8 @@ copy_follows t whole n trace start end last first named copied begun within arcs
     stand = record {
       within = within;
       arc = λ x u l y h has.
-        let one = copied x h.0 l y h.1 (get_low trace.order.items h.0 x (named.place x h.0 h.1)) has in
-        (suc one.name, (one.name, one.is, refl), subst (λ (v : ℕ). HasArc n v l (suc one.name)) (sym h.2) (arcs _ one.arc));
+          let one = copied x h.0 l y h.1 (get_low trace.order.items h.0 x (named.place x h.0 h.1)) has in
+          (suc one.name, (one.name, one.is, refl), subst (λ (v : ℕ). HasArc n v l (suc one.name)) (sym h.2) (arcs _ one.arc));
     }
 
 -- an arc that was copied

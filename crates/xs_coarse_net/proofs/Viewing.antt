@@ -1,16 +1,13 @@
 -- From paths by arcs to walks over the view of a net, and nets that stand in other nets.
-use Rattle.std.proofs.Common.{◌≡◌, ℕ, ◌+◌, ◌<◌, List, [], ◌∷◌, ◌++◌, refl, sym, ap, subst, ◌∙◌, arith}
+use Rattle.std.proofs.Common.{◌≡◌, ℕ, ◌<◌, List, refl, sym, subst}
 use Rattle.std.specs.List.{All, Contains}
 use Rattle.std.proofs.lemmas.List.Elements.{All-contains}
 use Rattle.xs_class.specs.Classes.{Has}
-use Rattle.xs_auto.specs.declared.call.Call.{Call}
-use Rattle.xs_auto.specs.declared.edge.Edge.{Edge}
-use Rattle.xs_auto.specs.Nets.{Graph, Walks, rests, passes, reads, calls_of}
+use Rattle.xs_auto.specs.Nets.{Walks, rests, passes, reads, calls_of}
 use Rattle.xs_auto.specs.Nests.{Group, Crossing, stands, drifts, takes, enters}
-use Rattle.xs_coarse.specs.declared.arc.Arc.{Arc}
 use Rattle.xs_coarse.specs.Coarse.{Table, Net, IsWithin, HasArc, class_label, group_label, class_at, view}
 use Rattle.xs_coarse.proofs.Views.{view_move, view_move_arc, view_edge, view_edge_arc, view_call, view_call_arc}
-use Rattle.xs_coarse_net.specs.Going.{LabelReads, Goes, goes_none, goes_move, goes_read}
+use Rattle.xs_coarse_net.specs.Going.{Goes, goes_none, goes_move, goes_read}
 use Rattle.xs_coarse_net.specs.Placing.{Placed}
 
 -- an arc of a net leads from one of its states
