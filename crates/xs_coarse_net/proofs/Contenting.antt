@@ -1,9 +1,10 @@
 -- The contents of a grammar's groups, one more at a time.
-use Rattle.std.proofs.Common.{◌≡◌, ◌⊎◌, ℕ, zero, suc, ◌+◌, ◌<◌, ◌≤◌, List, [], ◌∷◌, ◌++◌, length, slice_get, refl, sym, ap, subst, ◌∙◌, inl, inr, arith, length-append, Some}
+use Rattle.std.proofs.Common.{◌≡◌, ◌⊎◌, ℕ, suc, ◌+◌, ◌<◌, ◌≤◌, List, [], ◌∷◌, ◌++◌, length, slice_get, refl, sym, ap, subst, ◌∙◌, inl, inr, arith, length-append, Some}
 use Rattle.std.proofs.lemmas.Bool.{cases_eq}
 use Rattle.std.proofs.lemmas.List.{take_all, map-append}
 use Rattle.std.proofs.lemmas.Option.{same_Some}
 use Rattle.xs_class.specs.Classes.{Has}
+use Rattle.xs_class.proofs.Lists.{get_push, get_last, get_left}
 use Rattle.xs_auto.specs.Nests.{Group, IsGroup}
 use Rattle.xs_gram.specs.declared.parts.GItem.{GItem}
 use Rattle.xs_gram.specs.declared.parts.GItem.TheVariants.{Fixed}
@@ -27,24 +28,6 @@ use Rattle.xs_coarse_net.specs.Contents.{group_of, nest_of, IsContentOf, HasCont
 -- a net whose edges read classes of the table reads no fence symbol
 pub view_unfenced : (g : Grammar) (t : Table) (n : Net) (s e : ℕ) → AreUnfenced g t → IsUnfencedNet g (view t n s e)
 view_unfenced g t n s e un = λ a z x c has. let arc = view_edge_arc t n s e a x c in un arc.number z (subst (λ (l : List (ℕ × ℕ)). Has l z) arc.class has)
-
-kept_at : {A : Type 0} (xs : List A) (h : ℕ) (x more : A) → slice_get xs h ≡ Some x → slice_get (xs ++ more ∷ []) h ≡ Some x
-kept_at [] h x more is = absurd cc
-kept_at (y ∷ xs) zero x more is = is
-kept_at (y ∷ xs) (suc h) x more is = kept_at xs h x more is
-
-cases_at : {A : Type 0} (xs : List A) (h : ℕ) (x more : A) → slice_get (xs ++ more ∷ []) h ≡ Some x → (slice_get xs h ≡ Some x) ⊎ ((h ≡ length xs) × (more ≡ x))
-cases_at [] zero x more is = inr (refl, same_Some _ _ is)
-cases_at [] (suc h) x more is = absurd cc
-cases_at (y ∷ xs) zero x more is = inl is
-cases_at (y ∷ xs) (suc h) x more is = elim (cases_at xs h x more is) [
-  | inl before ↦ inl before
-  | inr last ↦ inr (ap suc last.0, last.1)
-]
-
-last_at : {A : Type 0} (xs : List A) (x : A) → slice_get (xs ++ x ∷ []) (length xs) ≡ Some x
-last_at [] x = refl
-last_at (y ∷ xs) x = last_at xs x
 
 before_next : (q j p k : ℕ) → IsBefore q j p (k + 1) → IsBefore q j p k ⊎ ((q ≡ p) × (j ≡ k))
 before_next q j p k h = elim h [
@@ -107,17 +90,17 @@ module _ (g : Grammar) where
   contents_more p k m rule partner nest new group is e was = subst (λ (xs : List Group). HasContentsBefore g p (k + 1) xs) (sym e) (record {
     counted = omega (arith, length-append nest (group ∷ []), was.counted, left_counts g.fences (spread g p) k m partner);
     there = λ q j n l r inside before low at. elim (before_next q j p k before) [
-      | inl h ↦ let found = was.there q j n l r inside h low at in (found.0, kept_at nest (group_number g q j) found.0 group found.1, found.2)
+      | inl h ↦ let found = was.there q j n l r inside h low at in (found.0, get_left nest (group ∷ []) (group_number g q j) found.0 found.1, found.2)
       | inr same ↦ here q j same.0 same.1
     ];
-    only = λ h other there. elim (cases_at nest h other group there) [
+    only = λ h other there. elim (get_push nest group other h there) [
       | inl before ↦ was.only h other before
       | inr last ↦ (p, k, last.0 ∙ was.counted, subst (λ (x : Group). IsContentOf g p k x) last.1 is)
     ];
   })
     where
       here : (q j : ℕ) → q ≡ p → j ≡ k → (found : Group) × IsGroup (nest ++ group ∷ []) (group_number g q j) found × IsContentOf g q j found
-      here q j a b = rw (a, b) (group, subst (λ (h : ℕ). IsGroup (nest ++ group ∷ []) h group) was.counted (last_at nest group), is)
+      here q j a b = rw (a, b) (group, subst (λ (h : ℕ). IsGroup (nest ++ group ∷ []) h group) was.counted (get_last nest group), is)
 
   pub contents_push : (t : Table) (p k m : ℕ) → p < length g.rules → IsPartner g.fences (spread g p) k m → (old new : List Content) (c : Content) → IsContentOf g p k (group_of t c) → new ≡ old ++ c ∷ [] → HasContentsBefore g p k (nest_of t old) → HasContentsBefore g p (k + 1) (nest_of t new)
   contents_push t p k m rule partner old new c is e was = contents_more p k m rule partner (nest_of t old) (nest_of t new) (group_of t c) is (ap (λ (xs : List Content). nest_of t xs) e ∙ map-append (group_of t) old (c ∷ [])) was
