@@ -1,27 +1,24 @@
 -- The contents of a grammar's groups, one more at a time.
-use Rattle.std.proofs.Common.{◌≡◌, ◌⊎◌, ℕ, zero, suc, ◌+◌, ◌<◌, ◌≤◌, List, [], ◌∷◌, ◌++◌, length, take, map, slice_get, refl, sym, ap, subst, ◌∙◌, inl, inr, arith, length-append, Some}
-use Rattle.std.specs.Prelude.{true, IsSome, IsTrue}
-use Rattle.std.specs.List.{Contains}
+use Rattle.std.proofs.Common.{◌≡◌, ◌⊎◌, ℕ, suc, ◌+◌, ◌<◌, ◌≤◌, List, [], ◌∷◌, ◌++◌, length, slice_get, refl, sym, ap, subst, ◌∙◌, inl, inr, arith, length-append, Some}
 use Rattle.std.proofs.lemmas.Bool.{cases_eq}
 use Rattle.std.proofs.lemmas.List.{take_all, map-append}
 use Rattle.std.proofs.lemmas.Option.{same_Some}
 use Rattle.xs_class.specs.Classes.{Has}
-use Rattle.xs_auto.specs.declared.edge.Edge.{Edge}
-use Rattle.xs_auto.specs.Nets.{edges_of, final_at}
+use Rattle.xs_class.proofs.Lists.{get_push, get_last, get_left}
 use Rattle.xs_auto.specs.Nests.{Group, IsGroup}
 use Rattle.xs_gram.specs.declared.parts.GItem.{GItem}
 use Rattle.xs_gram.specs.declared.parts.GItem.TheVariants.{Fixed}
 use Rattle.xs_gram.specs.Grammar.{Grammar}
-use Rattle.xs_gram.specs.Fences.{fence_symbols, spread, IsFence, is_fence, GroupAt, IsPartner, IsLeftFence}
+use Rattle.xs_gram.specs.Fences.{spread, GroupAt, IsPartner, IsLeftFence}
 use Rattle.xs_gram.specs.Sound.{IsProper}
 use Rattle.xs_gram.proofs.Levels.{fixed_one}
 use Rattle.xs_check_laws.specs.Acceptance.{IsBefore}
 use Rattle.xs_stretch.specs.declared.part.Part.{Part}
 use Rattle.xs_stretch.specs.Groups.{lefts, groups_before, group_number}
 use Rattle.xs_stretch.specs.Parts.{part_items}
-use Rattle.xs_stretch.proofs.Nesting.{left_at, left_opens, right_at, inside_is, inside_once, partner_low}
+use Rattle.xs_stretch.proofs.Nesting.{left_at, left_opens, right_at, inside_once, partner_low}
 use Rattle.xs_stretch.proofs.Numbering.{left_counts, other_counts}
-use Rattle.xs_coarse.specs.Coarse.{Table, Net, class_at, view}
+use Rattle.xs_coarse.specs.Coarse.{Table, Net, view}
 use Rattle.xs_coarse.specs.Covers.{CoversPart, CoversGroup, CoversGroups, IsUnfencedNet, AreUnfenced}
 use Rattle.xs_coarse.proofs.Views.{view_edge_arc, view_final}
 use Rattle.xs_coarse_net.specs.declared.contents.Content.{Content}
@@ -31,24 +28,6 @@ use Rattle.xs_coarse_net.specs.Contents.{group_of, nest_of, IsContentOf, HasCont
 -- a net whose edges read classes of the table reads no fence symbol
 pub view_unfenced : (g : Grammar) (t : Table) (n : Net) (s e : ℕ) → AreUnfenced g t → IsUnfencedNet g (view t n s e)
 view_unfenced g t n s e un = λ a z x c has. let arc = view_edge_arc t n s e a x c in un arc.number z (subst (λ (l : List (ℕ × ℕ)). Has l z) arc.class has)
-
-kept_at : {A : Type 0} (xs : List A) (h : ℕ) (x more : A) → slice_get xs h ≡ Some x → slice_get (xs ++ more ∷ []) h ≡ Some x
-kept_at [] h x more is = absurd cc
-kept_at (y ∷ xs) zero x more is = is
-kept_at (y ∷ xs) (suc h) x more is = kept_at xs h x more is
-
-cases_at : {A : Type 0} (xs : List A) (h : ℕ) (x more : A) → slice_get (xs ++ more ∷ []) h ≡ Some x → (slice_get xs h ≡ Some x) ⊎ ((h ≡ length xs) × (more ≡ x))
-cases_at [] zero x more is = inr (refl, same_Some _ _ is)
-cases_at [] (suc h) x more is = absurd cc
-cases_at (y ∷ xs) zero x more is = inl is
-cases_at (y ∷ xs) (suc h) x more is = elim (cases_at xs h x more is) [
-  | inl before ↦ inl before
-  | inr last ↦ inr (ap suc last.0, last.1)
-]
-
-last_at : {A : Type 0} (xs : List A) (x : A) → slice_get (xs ++ x ∷ []) (length xs) ≡ Some x
-last_at [] x = refl
-last_at (y ∷ xs) x = last_at xs x
 
 before_next : (q j p k : ℕ) → IsBefore q j p (k + 1) → IsBefore q j p k ⊎ ((q ≡ p) × (j ≡ k))
 before_next q j p k h = elim h [
@@ -111,17 +90,17 @@ module _ (g : Grammar) where
   contents_more p k m rule partner nest new group is e was = subst (λ (xs : List Group). HasContentsBefore g p (k + 1) xs) (sym e) (record {
     counted = omega (arith, length-append nest (group ∷ []), was.counted, left_counts g.fences (spread g p) k m partner);
     there = λ q j n l r inside before low at. elim (before_next q j p k before) [
-      | inl h ↦ let found = was.there q j n l r inside h low at in (found.0, kept_at nest (group_number g q j) found.0 group found.1, found.2)
+      | inl h ↦ let found = was.there q j n l r inside h low at in (found.0, get_left nest (group ∷ []) (group_number g q j) found.0 found.1, found.2)
       | inr same ↦ here q j same.0 same.1
     ];
-    only = λ h other there. elim (cases_at nest h other group there) [
+    only = λ h other there. elim (get_push nest group other h there) [
       | inl before ↦ was.only h other before
       | inr last ↦ (p, k, last.0 ∙ was.counted, subst (λ (x : Group). IsContentOf g p k x) last.1 is)
     ];
   })
     where
       here : (q j : ℕ) → q ≡ p → j ≡ k → (found : Group) × IsGroup (nest ++ group ∷ []) (group_number g q j) found × IsContentOf g q j found
-      here q j a b = rw (a, b) (group, subst (λ (h : ℕ). IsGroup (nest ++ group ∷ []) h group) was.counted (last_at nest group), is)
+      here q j a b = rw (a, b) (group, subst (λ (h : ℕ). IsGroup (nest ++ group ∷ []) h group) was.counted (get_last nest group), is)
 
   pub contents_push : (t : Table) (p k m : ℕ) → p < length g.rules → IsPartner g.fences (spread g p) k m → (old new : List Content) (c : Content) → IsContentOf g p k (group_of t c) → new ≡ old ++ c ∷ [] → HasContentsBefore g p k (nest_of t old) → HasContentsBefore g p (k + 1) (nest_of t new)
   contents_push t p k m rule partner old new c is e was = contents_more p k m rule partner (nest_of t old) (nest_of t new) (group_of t c) is (ap (λ (xs : List Content). nest_of t xs) e ∙ map-append (group_of t) old (c ∷ [])) was
@@ -170,8 +149,8 @@ module _ (g : Grammar) where
   pub contents_all : IsProper g → (p : ℕ) (nest : List Group) → p ≡ length g.rules → HasContentsBefore g p 0 nest → CoversGroups g nest
   contents_all proper p nest end was = record {
     there = λ q k m l r inside low at.
-      let found = was.there q k m l r inside (inl (omega (arith, low, end))) low at in
-      (found.0, found.1, content_same proper q k m l r inside found.0 at found.2);
+        let found = was.there q k m l r inside (inl (omega (arith, low, end))) low at in
+        (found.0, found.1, content_same proper q k m l r inside found.0 at found.2);
     fences = λ h group is. (was.only h group is).3.at.fence;
     starts = λ h group is. grind (arith, (was.only h group is).3.covers.starts);
     plain = λ h group is. (was.only h group is).3.plain;

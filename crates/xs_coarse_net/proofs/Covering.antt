@@ -4,20 +4,20 @@ use Rattle.std.proofs.lemmas.List.{take_at}
 use Rattle.std.specs.List.{All, Contains}
 use Rattle.std.proofs.lemmas.List.Elements.{Contains-append_left, Contains-append_right, All-nil, All-push, All-weaker}
 use Rattle.xs_class.proofs.Lists.{rest_in}
-use Rattle.xs_auto.specs.Nets.{Graph, calls_of}
+use Rattle.xs_auto.specs.Nets.{Graph}
 use Rattle.xs_gram.specs.declared.parts.GItem.{GItem}
 use Rattle.xs_gram.specs.declared.parts.GItem.TheVariants.{Fixed, Term, Non, Skip}
 use Rattle.xs_gram.specs.Grammar.{Grammar}
-use Rattle.xs_gram.specs.Fences.{spread, IsPlain, IsLevel, grouped}
-use Rattle.xs_gram.proofs.Levels.{group_more, length_grouped}
+use Rattle.xs_gram.specs.Fences.{spread, IsLevel}
+use Rattle.xs_gram.proofs.Levels.{group_more}
 use Rattle.xs_stretch.specs.Groups.{group_number}
-use Rattle.xs_stretch.specs.Steps.{StandsAt, IsPiece}
+use Rattle.xs_stretch.specs.Steps.{StandsAt}
 use Rattle.xs_stretch.specs.declared.part.Part.{Part}
 use Rattle.xs_stretch.specs.Parts.{part_items, IsPart, IsStretch}
 use Rattle.xs_stretch.proofs.Stretches.{part_stretch, part_long, stretch_rest, nothing_left}
 use Rattle.xs_coarse.specs.declared.arc.Arc.{Arc}
-use Rattle.xs_coarse.specs.Coarse.{Table, Net, IsWithin, HasArc, shifted, joined, view}
-use Rattle.xs_coarse.specs.Covers.{CoversLeaf, CoversItem, CoversPart, covers_none, covers_then, covers_group, CoversCut}
+use Rattle.xs_coarse.specs.Coarse.{Table, Net, IsWithin, shifted, joined, view}
+use Rattle.xs_coarse.specs.Covers.{CoversItem, CoversPart, covers_none, covers_then, covers_group, CoversCut}
 use Rattle.xs_coarse_net.specs.declared.cover.Outer.{Outer}
 use Rattle.xs_coarse_net.specs.declared.cover.Cover.{Cover}
 use Rattle.xs_coarse_net.specs.Covers.{IsCoverOf}

@@ -1,8 +1,7 @@
 -- A net goes on by a group or by an item.
-use Rattle.std.proofs.Common.{◌≡◌, ◌⊎◌, inl, inr, ℕ, zero, suc, ◌+◌, ◌-◌, ◌<◌, List, [], ◌∷◌, length, get_or, set, slice_get, Some, refl, sym, ap, subst, ◌∙◌, arith}
+use Rattle.std.proofs.Common.{◌≡◌, ◌⊎◌, inl, inr, ℕ, zero, suc, ◌+◌, ◌<◌, List, [], ◌∷◌, length, get_or, set, slice_get, Some, refl, sym, ap, subst, arith}
 use Rattle.std.specs.declared.option.Option.{Option}
-use Rattle.std.proofs.lemmas.Bool.{cases_eq}
-use Rattle.std.proofs.lemmas.Option.{same_Some, slice_get-get_or}
+use Rattle.std.proofs.lemmas.Option.{same_Some}
 use Rattle.std.specs.List.{All}
 use Rattle.xs_auto.specs.Nets.{Graph}
 use Rattle.xs_gram.specs.declared.parts.GItem.{GItem}
@@ -14,15 +13,14 @@ use Rattle.xs_stretch.specs.Groups.{group_number}
 use Rattle.xs_stretch.specs.Steps.{StandsAt}
 use Rattle.xs_stretch.proofs.Opening.{group_first, item_first}
 use Rattle.xs_stretch.proofs.Stepping.{group_piece, item_piece}
-use Rattle.xs_coarse.specs.Coarse.{Table, Net, IsWithin, HasArc, group_label, joined, view}
+use Rattle.xs_coarse.specs.Coarse.{Table, Net, IsWithin, HasArc, group_label, joined}
 use Rattle.xs_coarse.specs.Covers.{CoversLeaf, CoversItem, IsLeaf, covers_none, covers_then, covers_group}
 use Rattle.xs_coarse.proofs.Views.{view_call}
-use Rattle.xs_coarse_net.specs.Going.{LeafGoes}
 use Rattle.xs_coarse_net.specs.Joining.{Joins, IsFragment, AreFragments}
 use Rattle.xs_coarse_net.specs.Placing.{Placed}
 use Rattle.xs_coarse_net.specs.Stretches.{open_view, last_state, Extends}
 use Rattle.xs_coarse_net.proofs.Covering.{joined_second, joined_item, joined_kept}
-use Rattle.xs_coarse_net.proofs.Viewing.{from_low, goes_walks}
+use Rattle.xs_coarse_net.proofs.Viewing.{from_low}
 
 pub joins_kept : (m n o : Net) → Joins m n o → Placed m o (λ x. x)
 joins_kept m n o j = joined_kept m n o j.is j.within
@@ -41,12 +39,6 @@ joins_arc m n o l j two arc = at_joined o j.is j.within
         let from : last_state m + 0 ≡ last_state m = omega arith in
         let to : last_state m + 1 ≡ last_state (joined m n) = omega (arith, j.some, two) in
         subst (λ (z : Net). HasArc z (last_state m) l (last_state z)) (sym is) (subst (λ (a : ℕ). HasArc (joined m n) a l (last_state (joined m n))) from (subst (λ (b : ℕ). HasArc (joined m n) (last_state m + 0) l b) to there))
-
-pub leaf_walks : (g : Grammar) (t : Table) (n : Net) (i : GItem) (a b : ℕ) → All (IsWithin n.states) n.arcs → IsLeaf i → LeafGoes g t n i a b → CoversLeaf g (open_view t n) i a b
-leaf_walks g t n (Fixed f) a b within leaf h = goes_walks 0 0 within h
-leaf_walks g t n (Term j s) a b within leaf h = λ w word. goes_walks 0 0 within (h w word)
-leaf_walks g t n (Non m s) a b within leaf h = absurd leaf
-leaf_walks g t n (Skip k) a b within leaf h = λ w word. goes_walks 0 0 within (h w word)
 
 -- what is no nonterminal
 pub other_leaf : (i : GItem) → ((m s : ℕ) → i ≡ Non m s → ⊥) → IsLeaf i

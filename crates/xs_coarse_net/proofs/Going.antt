@@ -1,12 +1,11 @@
 -- Paths by arcs: one after another, in a net that gained arcs, and through an automaton.
-use Rattle.std.proofs.Common.{◌≡◌, ◌≢◌, ℕ, List, [], ◌∷◌, ◌++◌, get_or, refl, sym, ap, subst, ◌∙◌, inl, inr, arith, append-nil}
+use Rattle.std.proofs.Common.{◌≡◌, ℕ, List, [], ◌++◌, get_or, refl, sym, subst, ◌∙◌, inl, inr, append-nil}
 use Rattle.std.proofs.lemmas.Bool.{cases_eq}
 use Rattle.std.specs.List.{Contains}
 use Rattle.xs_regex.specs.declared.position.Position.{Position}
 use Rattle.xs_regex.specs.Automaton as A
-use Rattle.xs_coarse.specs.declared.arc.Arc.{Arc}
-use Rattle.xs_coarse.specs.Coarse.{Table, Net, HasArc}
-use Rattle.xs_coarse_net.specs.Going.{LabelReads, Goes, goes_none, goes_move, goes_read, Grows, AreLabelsOf, IsLaidIn}
+use Rattle.xs_coarse.specs.Coarse.{Table, Net}
+use Rattle.xs_coarse_net.specs.Going.{Goes, goes_none, goes_move, goes_read, Grows, AreLabelsOf, IsLaidIn}
 
 pub goes_on : {t : Table} {n : Net} {a b c : ℕ} {u v : List ℕ} → Goes t n a u b → Goes t n b v c → Goes t n a (u ++ v) c
 goes_on goes_none q = q

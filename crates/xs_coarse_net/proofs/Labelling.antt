@@ -1,5 +1,8 @@
 -- The label of a class reads its symbols.
-use Rattle.std.proofs.Common.{◌≡◌, ℕ, ◌+◌, ◌<◌, zero, suc, List, [], ◌∷◌, ◌++◌, length, get_or, slice_get, None, Some, inl, inr, refl, sym, ap, subst, ◌∙◌, arith}
+use Rattle.std.proofs.Common.{◌≡◌, ℕ, ◌+◌, ◌<◌, List, [], ◌∷◌, ◌++◌, length, get_or, slice_get, None, Some, inl, inr, sym, ap, subst, ◌∙◌, arith}
+use Rattle.std.proofs.Math.Seq.{get_or-append_seam}
+use Rattle.std.proofs.lemmas.List.{get_or_append_left}
+use Rattle.std.proofs.lemmas.Option.{slice_get_within}
 use Rattle.std.specs.Prelude.{IfSome}
 use Rattle.std.specs.declared.option.Option.{Option}
 use Rattle.std.proofs.lemmas.Bool.{cases_eq}
@@ -11,15 +14,10 @@ use Rattle.xs_coarse.specs.Coarse.{Table}
 use Rattle.xs_coarse.specs.Labels.{IsClassLabel}
 use Rattle.xs_coarse_net.specs.Going.{LabelReads}
 
-there_low : {A : Type 0} (xs : List A) (k : ℕ) (x : A) → slice_get xs k ≡ Some x → k < length xs
-there_low [] k x e = absurd cc
-there_low (y ∷ xs) zero x e = omega arith
-there_low (y ∷ xs) (suc k) x e = omega (arith, there_low xs k x e)
-
 pub class_reads : (t : Table) (class : List (ℕ × ℕ)) (label s : ℕ) → IsClassLabel t.classes class label → Has class s → LabelReads t label s
 class_reads t class label s is has = record {
   class = is.number;
-  below = there_low t.classes is.number class is.there;
+  below = slice_get_within t.classes is.number class is.there;
   is = is.is;
   has = subst (λ (c : List (ℕ × ℕ)). Has c s) (element_is t.classes is.number class [] is.there) has;
 }
@@ -32,17 +30,8 @@ symbol_reads t s (Some label) h = class_reads t ((s, s) ∷ []) label s h (inl (
 pub positions_more : (t : Table) (p : Position) (labels : List ℕ) (j label : ℕ) (class : List (ℕ × ℕ)) → length labels ≡ j → slice_get p.classes j ≡ Some class → IsClassLabel t.classes class label → ((k s : ℕ) → k < j → HasAt p k s → LabelReads t (get_or labels k 0) s) → (k s : ℕ) → k < j + 1 → HasAt p k s → LabelReads t (get_or (labels ++ label ∷ []) k 0) s
 positions_more t p labels j label class long at is was k s low has = elim (cases_eq k j) [
   | inl e ↦
-      let here : get_or (labels ++ label ∷ []) k 0 ≡ label = ap (λ (n : ℕ). get_or (labels ++ label ∷ []) n 0) (e ∙ sym long) ∙ get_last labels label in
+      let here : get_or (labels ++ label ∷ []) k 0 ≡ label = ap (λ (n : ℕ). get_or (labels ++ label ∷ []) n 0) (e ∙ sym long) ∙ get_or-append_seam labels label [] 0 in
       let symbol : Has class s = rw at at (subst (λ (n : ℕ). HasAt p n s) e has) in
       subst (λ (l : ℕ). LabelReads t l s) (sym here) (class_reads t class label s is symbol)
-  | inr ne ↦ subst (λ (l : ℕ). LabelReads t l s) (sym (get_before labels label k (omega (arith, low, long)))) (was k s (omega (arith, low)) has)
+  | inr ne ↦ subst (λ (l : ℕ). LabelReads t l s) (sym (get_or_append_left labels (label ∷ []) 0 k (omega (arith, low, long)))) (was k s (omega (arith, low)) has)
 ]
-  where
-    get_last : (xs : List ℕ) (x : ℕ) → get_or (xs ++ x ∷ []) (length xs) 0 ≡ x
-    get_last [] x = refl
-    get_last (y ∷ xs) x = get_last xs x
-
-    get_before : (xs : List ℕ) (x k : ℕ) → k < length xs → get_or (xs ++ x ∷ []) k 0 ≡ get_or xs k 0
-    get_before [] x k lt = absurd (omega arith)
-    get_before (y ∷ xs) x zero lt = refl
-    get_before (y ∷ xs) x (suc k) lt = get_before xs x k (omega arith)

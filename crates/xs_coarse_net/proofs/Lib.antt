@@ -1,6 +1,7 @@
 pub mod Contenting
 pub mod Covering
 pub mod Going
+pub mod Keeping
 pub mod Labelling
 pub mod Laying
 pub mod Extending

@@ -1,10 +1,10 @@
 -- A place of a rule is laid where its group is called, or its item leads on.
-use Rattle.std.proofs.Common.{◌≡◌, ℕ, suc, ◌+◌, ◌<◌, List, [], ◌∷◌, length, get_or, slice_get, Some, refl, sym, ap, subst, ◌∙◌, arith}
+use Rattle.std.proofs.Common.{◌≡◌, ℕ, suc, ◌+◌, ◌<◌, length, get_or, Some, sym, ap, subst, ◌∙◌, arith}
 use Rattle.std.proofs.lemmas.Option.{same_Some, slice_get-get_or}
 use Rattle.xs_gram.specs.declared.parts.GItem.{GItem}
 use Rattle.xs_gram.specs.declared.parts.GItem.TheVariants.{Fixed, Term, Non, Skip}
 use Rattle.xs_gram.specs.Grammar.{Grammar, rule_of}
-use Rattle.xs_gram.specs.Fences.{spread, IsPlain, OuterAt, GroupAt, OuterGroupAt, IsPartner, IsLeftFence}
+use Rattle.xs_gram.specs.Fences.{spread, IsPlain, OuterAt, IsPartner, IsLeftFence}
 use Rattle.xs_gram.specs.Sound.{IsProper}
 use Rattle.xs_gram.proofs.Fences.{left_not_plain}
 use Rattle.xs_gram.proofs.Levels.{outer_at}
@@ -13,7 +13,7 @@ use Rattle.xs_stretch.proofs.Nesting.{left_at, left_opens, inside_once}
 use Rattle.xs_coarse.specs.Coarse.{Table, Net, HasArc, group_label}
 use Rattle.xs_coarse.specs.Covers.{IsLeaf}
 use Rattle.xs_coarse_net.specs.Going.{LeafGoes}
-use Rattle.xs_coarse_net.specs.Whole.{entry_state, exit_state, place_state, ItemLaid, PlaceLaid}
+use Rattle.xs_coarse_net.specs.Whole.{place_state, ItemLaid, PlaceLaid}
 
 -- no outer item is a left fence
 outer_not_left : (g : Grammar) (p k m : ℕ) (i : GItem) → IsPartner g.fences (spread g p) k m → OuterAt g.fences (spread g p) k i → ⊥
@@ -25,9 +25,9 @@ place_group g t n p k m from to proper partner a b arc = record {
   enters = λ j s at. absurd (outer_not_left g p k m (Non j s) partner at);
   returns = λ j s at. absurd (outer_not_left g p k m (Non j s) partner at);
   groups = λ j l r inside at.
-    let same : partner.inside ≡ inside = inside_once g.fences proper.once (spread g p) k m j partner.left partner.right l r partner.inside inside partner.group at.group in
-    let next : m + 1 ≡ suc j = omega (arith, partner.group.partner, at.group.partner, ap length same) in
-    subst (λ (x : ℕ). HasArc n (place_state g p k) (group_label t (group_number g p k)) (place_state g p x)) next (subst (λ (x : ℕ). HasArc n (place_state g p k) (group_label t (group_number g p k)) x) b (subst (λ (x : ℕ). HasArc n x (group_label t (group_number g p k)) to) a arc));
+      let same : partner.inside ≡ inside = inside_once g.fences proper.once (spread g p) k m j partner.left partner.right l r partner.inside inside partner.group at.group in
+      let next : m + 1 ≡ suc j = omega (arith, partner.group.partner, at.group.partner, ap length same) in
+      subst (λ (x : ℕ). HasArc n (place_state g p k) (group_label t (group_number g p k)) (place_state g p x)) next (subst (λ (x : ℕ). HasArc n (place_state g p k) (group_label t (group_number g p k)) x) b (subst (λ (x : ℕ). HasArc n x (group_label t (group_number g p k)) to) a arc));
 }
 
 leaf_laid : (g : Grammar) (t : Table) (n : Net) (own : ℕ) (i : GItem) (a b : ℕ) → IsPlain g.fences i → IsLeaf i → ItemLaid g t n own i a b → LeafGoes g t n i a b

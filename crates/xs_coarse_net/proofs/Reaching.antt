@@ -1,6 +1,6 @@
 -- Arcs that are kept stay kept where more are added.
 use Rattle.std.specs.List.{Contains}
-use Rattle.std.proofs.Common.{ℕ, List, Bool}
+use Rattle.std.proofs.Common.{List, Bool}
 use Rattle.xs_coarse.specs.declared.arc.Arc.{Arc}
 use Rattle.xs_coarse_net.specs.Reaching.{IsKept}
 

@@ -1,10 +1,10 @@
 -- A copy of the part of a net that is reached from a state follows the net.
-use Rattle.std.proofs.Common.{◌≡◌, ◌≢◌, ◌⊎◌, ℕ, zero, suc, ◌+◌, ◌-◌, ◌<◌, ◌≤◌, List, [], ◌∷◌, ◌++◌, length, get_or, set, slice_get, replicate, take, refl, sym, ap, subst, ◌∙◌, inl, inr, arith, Some, length-append, length-set, get_or-set_other, get_or-set_same, append-nil}
+use Rattle.std.proofs.Common.{◌≡◌, ◌≢◌, ℕ, zero, suc, ◌+◌, ◌-◌, ◌<◌, List, [], ◌∷◌, ◌++◌, length, get_or, set, slice_get, replicate, take, refl, sym, ap, subst, ◌∙◌, inl, inr, arith, Some, length-set, get_or-set_other, get_or-set_same}
 use Rattle.std.proofs.lemmas.Bool.{cases_eq}
-use Rattle.std.proofs.lemmas.Option.{same_Some, slice_get-get_or}
+use Rattle.std.proofs.lemmas.Option.{same_Some, slice_get-get_or, slice_get_within}
 use Rattle.std.specs.List.{All, Contains}
 use Rattle.std.proofs.lemmas.List.Elements.{Contains-append_left, Contains-append_right}
-use Rattle.xs_class.proofs.Lists.{first_in}
+use Rattle.xs_class.proofs.Lists.{first_in, get_push, get_last, get_left}
 use Rattle.xs_auto.specs.Nets.{Graph, moves_of}
 use Rattle.xs_auto.specs.Nests.{Group, Crossing, stands, drifts, takes, enters}
 use Rattle.xs_coarse.specs.declared.arc.Arc.{Arc}
@@ -31,20 +31,6 @@ reaches_on f g = record {
 pub copied_on : {old new : Tracer} {from : ℕ} {x : Arc} → Reaches old new → IsCopied old from x → IsCopied new from x
 copied_on {old} {new} {from} {x} r h = record { name = h.name; is = r.kept x.to h.name h.is; arc = r.arcs _ h.arc }
 
-get_kept : (xs : List ℕ) (y u x : ℕ) → slice_get xs u ≡ Some x → slice_get (xs ++ y ∷ []) u ≡ Some x
-get_kept [] y u x e = absurd cc
-get_kept (z ∷ xs) y zero x e = e
-get_kept (z ∷ xs) y (suc u) x e = get_kept xs y u x e
-
-get_last : (xs : List ℕ) (y : ℕ) → slice_get (xs ++ y ∷ []) (length xs) ≡ Some y
-get_last [] y = refl
-get_last (z ∷ xs) y = get_last xs y
-
-pub get_low : (xs : List ℕ) (u x : ℕ) → slice_get xs u ≡ Some x → u < length xs
-get_low [] u x e = absurd cc
-get_low (z ∷ xs) zero x e = omega arith
-get_low (z ∷ xs) (suc u) x e = omega (arith, get_low xs u x e)
-
 -- no state is named at first
 zeros : (n x z : ℕ) → get_or (replicate n z) x z ≡ z
 zeros zero x z = refl
@@ -53,15 +39,6 @@ zeros (suc n) (suc x) z = zeros n x z
 
 pub named_none : (n : ℕ) → AreNamed (replicate n 0) []
 named_none n = record { place = λ x u e. absurd (omega (arith, zeros n x 0, e)); name = λ x u e. absurd cc }
-
-push_cases : (xs : List ℕ) (x u y : ℕ) → slice_get (xs ++ x ∷ []) u ≡ Some y → (slice_get xs u ≡ Some y) ⊎ ((u ≡ length xs) × (y ≡ x))
-push_cases [] x zero y e = inr (refl, sym (same_Some _ _ e))
-push_cases [] x (suc u) y e = absurd cc
-push_cases (z ∷ xs) x zero y e = inl e
-push_cases (z ∷ xs) x (suc u) y e = elim (push_cases xs x u y e) [
-  | inl h ↦ inl h
-  | inr h ↦ inr (ap suc h.0, h.1)
-]
 
 -- a state that had no name takes the next one
 pub named_more : (names order : List ℕ) (x : ℕ) → x < length names → get_or names x 0 ≡ 0 → AreNamed names order → AreNamed (set names x (suc (length order))) (order ++ x ∷ [])
@@ -79,15 +56,15 @@ named_more names order x low none was = record { place = place; name = name }
           let both : suc (length order) ≡ suc u = sym here ∙ ap (λ (z : ℕ). get_or (set names x (suc (length order))) z 0) (sym same) ∙ e in
           let at : u ≡ length order = omega (arith, both) in
           subst (λ (v : ℕ). slice_get (order ++ x ∷ []) v ≡ Some y) (sym at) (get_last order x ∙ ap (λ (z : ℕ). Some z) (sym same))
-      | inr ne ↦ get_kept order x u y (was.place y u (sym (other y ne) ∙ e))
+      | inr ne ↦ get_left order (x ∷ []) u y (was.place y u (sym (other y ne) ∙ e))
     ]
 
     name : (y u : ℕ) → slice_get (order ++ x ∷ []) u ≡ Some y → get_or (set names x (suc (length order))) y 0 ≡ suc u
-    name y u e = elim (push_cases order x u y e) [
+    name y u e = elim (get_push order x y u e) [
       | inl h ↦
           let ne : y ≢ x = λ same. absurd (omega (arith, none, sym (ap (λ (z : ℕ). get_or names z 0) same) ∙ was.name y u h)) in
           other y ne ∙ was.name y u h
-      | inr h ↦ ap (λ (z : ℕ). get_or (set names x (suc (length order))) z 0) h.1 ∙ here ∙ ap suc (sym h.0)
+      | inr h ↦ ap (λ (z : ℕ). get_or (set names x (suc (length order))) z 0) (sym h.1) ∙ here ∙ ap suc (sym h.0)
     ]
 
 set_other : (names : List ℕ) (x y n : ℕ) → y ≢ x → get_or (set names x n) y 0 ≡ get_or names y 0
@@ -98,9 +75,9 @@ reached_more old new x low none names order arcs = record {
   named = λ h. rw (names, order) (named_more old.names.items old.order.items x low none h);
   long = ap length names ∙ length-set old.names.items x (suc (length old.order.items));
   kept = λ y u e.
-    let ne : y ≢ x = λ same. absurd (omega (arith, none, sym (ap (λ (z : ℕ). get_or old.names.items z 0) same) ∙ e)) in
-    ap (λ (l : List ℕ). get_or l y 0) names ∙ set_other old.names.items x y (suc (length old.order.items)) ne ∙ e;
-  order = λ u y e. ap (λ (l : List ℕ). slice_get l u) order ∙ get_kept old.order.items x u y e;
+      let ne : y ≢ x = λ same. absurd (omega (arith, none, sym (ap (λ (z : ℕ). get_or old.names.items z 0) same) ∙ e)) in
+      ap (λ (l : List ℕ). get_or l y 0) names ∙ set_other old.names.items x y (suc (length old.order.items)) ne ∙ e;
+  order = λ u y e. ap (λ (l : List ℕ). slice_get l u) order ∙ get_left old.order.items (x ∷ []) u y e;
   arcs = λ y c. subst (λ (l : List Arc). Contains l y) (sym arcs) c;
 }
 
@@ -131,7 +108,7 @@ copied_more whole old new done x from is was named at r copied row y u label z e
       record { name = one.name; is = one.is; arc = subst (λ (v : ℕ). Contains new.arcs.items (record { from = v; label = label; to = suc one.name })) (is ∙ ap suc (sym same)) one.arc }
   | inr ne ↦
       let lower : u < done = omega (arith, low) in
-      let long = get_low old.order.items done x at in
+      let long = slice_get_within old.order.items done x at in
       copied_on r (copied y u label z (name_back old new y u was named r (omega (arith, lower, long)) e) lower has)
 ]
 
@@ -159,8 +136,8 @@ copy_follows t whole n trace start end last first named copied begun within arcs
     stand = record {
       within = within;
       arc = λ x u l y h has.
-        let one = copied x h.0 l y h.1 (get_low trace.order.items h.0 x (named.place x h.0 h.1)) has in
-        (suc one.name, (one.name, one.is, refl), subst (λ (v : ℕ). HasArc n v l (suc one.name)) (sym h.2) (arcs _ one.arc));
+          let one = copied x h.0 l y h.1 (slice_get_within trace.order.items h.0 x (named.place x h.0 h.1)) has in
+          (suc one.name, (one.name, one.is, refl), subst (λ (v : ℕ). HasArc n v l (suc one.name)) (sym h.2) (arcs _ one.arc));
     }
 
 -- an arc that was copied

@@ -1,16 +1,17 @@
 -- From paths by arcs to walks over the view of a net, and nets that stand in other nets.
-use Rattle.std.proofs.Common.{◌≡◌, ℕ, ◌+◌, ◌<◌, List, [], ◌∷◌, ◌++◌, refl, sym, ap, subst, ◌∙◌, arith}
+use Rattle.std.proofs.Common.{◌≡◌, ℕ, ◌<◌, List, refl, sym, subst}
 use Rattle.std.specs.List.{All, Contains}
 use Rattle.std.proofs.lemmas.List.Elements.{All-contains}
 use Rattle.xs_class.specs.Classes.{Has}
-use Rattle.xs_auto.specs.declared.call.Call.{Call}
-use Rattle.xs_auto.specs.declared.edge.Edge.{Edge}
-use Rattle.xs_auto.specs.Nets.{Graph, Walks, rests, passes, reads, calls_of}
+use Rattle.xs_auto.specs.Nets.{Walks, rests, passes, reads, calls_of}
 use Rattle.xs_auto.specs.Nests.{Group, Crossing, stands, drifts, takes, enters}
-use Rattle.xs_coarse.specs.declared.arc.Arc.{Arc}
+use Rattle.xs_gram.specs.declared.parts.GItem.{GItem}
+use Rattle.xs_gram.specs.declared.parts.GItem.TheVariants.{Fixed, Term, Non, Skip}
+use Rattle.xs_gram.specs.Grammar.{Grammar}
 use Rattle.xs_coarse.specs.Coarse.{Table, Net, IsWithin, HasArc, class_label, group_label, class_at, view}
+use Rattle.xs_coarse.specs.Covers.{CoversLeaf, IsLeaf}
 use Rattle.xs_coarse.proofs.Views.{view_move, view_move_arc, view_edge, view_edge_arc, view_call, view_call_arc}
-use Rattle.xs_coarse_net.specs.Going.{LabelReads, Goes, goes_none, goes_move, goes_read}
+use Rattle.xs_coarse_net.specs.Going.{Goes, goes_none, goes_move, goes_read, LeafGoes}
 use Rattle.xs_coarse_net.specs.Placing.{Placed}
 
 -- an arc of a net leads from one of its states
@@ -22,6 +23,12 @@ goes_walks s e all goes_none = rests
 goes_walks {t} {n} s e all (goes_move {a = a} {b = b} x p) = passes (view_move t n s e a b (from_low n a 0 b all x) x) (goes_walks s e all p)
 goes_walks {t} {n} s e all (goes_read {a = a} {b = b} {label = label} x r p) =
     reads (record { class = class_at t r.class; to = b }) (view_edge t n s e a r.class b (from_low n a label b all x) r.below (subst (λ (l : ℕ). HasArc n a l b) r.is x)) r.has (goes_walks s e all p)
+
+pub leaf_walks : (g : Grammar) (t : Table) (n : Net) (i : GItem) (a b : ℕ) → All (IsWithin n.states) n.arcs → IsLeaf i → LeafGoes g t n i a b → CoversLeaf g (view t n 0 0) i a b
+leaf_walks g t n (Fixed f) a b within leaf h = goes_walks 0 0 within h
+leaf_walks g t n (Term j s) a b within leaf h = λ w word. goes_walks 0 0 within (h w word)
+leaf_walks g t n (Non m s) a b within leaf h = absurd leaf
+leaf_walks g t n (Skip k) a b within leaf h = λ w word. goes_walks 0 0 within (h w word)
 
 -- States of a net stand for states of another: where one stands for another, each arc of the first leads
 -- to a state that stands for one to which an arc with its label leads.

@@ -1,5 +1,5 @@
 -- The net of a whole grammar: what is laid stays laid, and where all rules are laid, it covers the grammar.
-use Rattle.std.proofs.Common.{◌≡◌, ◌≢◌, ℕ, zero, suc, ◌+◌, ◌*◌, ◌-◌, ◌/◌, ◌<◌, Bool, false, get_or, ◌≤◌, List, [], ◌∷◌, length, refl, sym, ap, subst, ◌∙◌, inl, inr, arith, length-append}
+use Rattle.std.proofs.Common.{◌≡◌, ◌≢◌, ℕ, suc, ◌+◌, ◌-◌, ◌/◌, ◌<◌, Bool, false, get_or, List, [], length, refl, sym, subst, inl, inr, arith}
 use Rattle.std.proofs.lemmas.Bool.{cases_eq, eq-eqb, ne_eqb}
 use Rattle.std.specs.Prelude.{nat_eq, if◌then◌else◌}
 use Rattle.std.specs.List.{All, Contains}
@@ -13,14 +13,14 @@ use Rattle.xs_gram.proofs.Levels.{group_opened}
 use Rattle.xs_stretch.specs.Groups.{group_number}
 use Rattle.xs_stretch.proofs.Numbering.{long_before, left_counts, number_low}
 use Rattle.xs_coarse.specs.Coarse.{Table, Net, IsWithin, HasArc, label_count, view}
-use Rattle.xs_coarse.specs.Covers.{CoversFrom, CoversLeaf, IsLeaf, call_of}
+use Rattle.xs_coarse.specs.Covers.{CoversFrom, call_of}
 use Rattle.xs_coarse.specs.Labels.{IsLabelsOf}
 use Rattle.xs_coarse.proofs.Views.{view_move, view_call}
 use Rattle.xs_coarse_net.specs.Going.{Goes, goes_none, goes_move, goes_read, Grows, LeafGoes}
 use Rattle.xs_coarse_net.specs.Reaching.{IsIn, IsClosedIn, IsRestricted}
 use Rattle.xs_coarse_net.specs.Whole.{entry_state, exit_state, return_label, rule_base, place_state, spot_state, PlaceLaid, RuleLaid, RulesLaid}
 use Rattle.xs_coarse_net.proofs.Going.{goes_grown}
-use Rattle.xs_coarse_net.proofs.Viewing.{from_low, goes_walks}
+use Rattle.xs_coarse_net.proofs.Viewing.{from_low, leaf_walks}
 
 pub leaf_grown : (g : Grammar) (t : Table) {m n : Net} (i : GItem) (a b : ℕ) → Grows m n → LeafGoes g t m i a b → LeafGoes g t n i a b
 leaf_grown g t (Fixed f) a b h p = goes_grown h p
@@ -97,12 +97,6 @@ module _ {g : Grammar} {t : Table} {m n : Net} {has : List Bool} (labels : IsLab
   move_kept : (a b : ℕ) → HasArc m a 0 b → Walks (view t n 0 0) a [] b
   move_kept a b h = moved a b ((kept.kept _ h).plain (omega arith))
 
-  leaf_walks : (i : GItem) (a b : ℕ) → IsLeaf i → LeafGoes g t n i a b → CoversLeaf g (view t n 0 0) i a b
-  leaf_walks (Fixed f) a b leaf h = goes_walks 0 0 within h
-  leaf_walks (Term j s) a b leaf h = λ w word. goes_walks 0 0 within (h w word)
-  leaf_walks (Non k s) a b leaf h = absurd leaf
-  leaf_walks (Skip k) a b leaf h = λ w word. goes_walks 0 0 within (h w word)
-
   ends : (p : ℕ) → p < length g.rules → Walks (view t n 0 0) (place_state g p (length (spread g p))) [] (exit_state (rule_of g p).non)
   ends p low = elim (cases_eq (length (spread g p)) 0) [
     | inl none ↦ subst (λ (k : ℕ). Walks (view t n 0 0) (place_state g p k) [] (exit_state (rule_of g p).non)) (sym none) (move_kept (entry_state (rule_of g p).non) (exit_state (rule_of g p).non) ((laid p low).passes none))
@@ -137,7 +131,7 @@ module _ {g : Grammar} {t : Table} {m n : Net} {has : List Bool} (labels : IsLab
     uses = used closed;
     begins = λ p low own. subst (λ (b : ℕ). Walks (view t n 0 0) (entry_state (rule_of g p).non) [] b) (sym (state_first g p 0 refl)) rests;
     ends = λ p low own. ends p low;
-    leaves = λ p k i low own at leaf. leaf_walks i (place_state g p k) (place_state g p (suc k)) leaf (leaf_kept g t i (place_state g p k) (place_state g p (suc k)) labels.few kept (((laid p low).places k (outer_low g p k i at)).leaves i at leaf));
+    leaves = λ p k i low own at leaf. leaf_walks g t n i (place_state g p k) (place_state g p (suc k)) within leaf (leaf_kept g t i (place_state g p k) (place_state g p (suc k)) labels.few kept (((laid p low).places k (outer_low g p k i at)).leaves i at leaf));
     enters = λ p k j s low own at. move_kept (place_state g p k) (entry_state j) (((laid p low).places k (outer_low g p k (Non j s) at)).enters j s at);
     returns = returned;
     groups = λ p k j l r inside low own at. called p k j l r inside low at;

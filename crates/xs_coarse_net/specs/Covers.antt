@@ -1,8 +1,7 @@
 -- What the covers of a grammar are.
-use Rattle.std.specs.Prelude.{◌≡◌, ℕ, ◌-◌, ◌<◌, List, length, map, slice_get, Some}
+use Rattle.std.specs.Prelude.{◌<◌}
 use Rattle.std.specs.List.{All}
 use Rattle.xs_auto.specs.Nets.{Graph}
-use Rattle.xs_auto.specs.Nests.{Group}
 use Rattle.xs_gram.specs.Grammar.{Grammar}
 use Rattle.xs_stretch.specs.declared.part.Part.{Part}
 use Rattle.xs_stretch.specs.Parts.{part_items}

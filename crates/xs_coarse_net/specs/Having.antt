@@ -1,6 +1,4 @@
 -- What the covers of a grammar are.
-use Rattle.std.specs.Prelude.{List}
-use Rattle.std.specs.List.{All}
 use Rattle.xs_gram.specs.Grammar.{Grammar}
 use Rattle.xs_coarse.specs.Coarse.{Table}
 use Rattle.xs_coarse.specs.Covers.{CoversGroups}

@@ -1,5 +1,5 @@
 -- A grammar with its labels, and how it is numbered.
-use Rattle.std.specs.Prelude.{ℕ, List, length}
+use Rattle.std.specs.Prelude.{length}
 use Rattle.xs_gram.specs.Sound.{IsBuilt}
 use Rattle.xs_stretch.specs.Tables.{AreNumbersBefore}
 use Rattle.xs_coarse.specs.Labels.{IsLabelsOf}

@@ -18,12 +18,7 @@ use xs_coarse::{Arc, Coarse};
 
 /// A net for a nonterminal, which covers what it reaches: the part of the grammar's net that is reached
 /// from its entry, where no arc leads back into a rule of a nonterminal that it does not reach.
-pub(crate) fn block(
-    alloc: Global,
-    site: &Site<'_>,
-    whole: &Whole,
-    non: u32,
-) -> Result<Coarse, Stop>
+pub(crate) fn block(alloc: Global, site: &Site<'_>, whole: &Whole, non: u32) -> Result<Coarse, Stop>
     requires site { IsSite site.now }
     requires whole { IsWhole site.now.g.now site.now.labels.now whole.now }
     ensures { IfOk result (IsFragment site.now.g.now site.now.labels.now non) }

@@ -44,9 +44,7 @@ pub(crate) fn cover_part(
             place,
             state: net.len() - 1,
         })?;
-        next = add_piece(
-            &mut net, kept, alloc, site, whole, part.rule, place, here,
-        )?;
+        next = add_piece(&mut net, kept, alloc, site, whole, part.rule, place, here)?;
     }
     let last = net.len() - 1;
     places.push(Outer {

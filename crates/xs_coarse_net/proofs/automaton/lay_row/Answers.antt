@@ -1,4 +1,4 @@
-use Rattle.std.proofs.Common.{ℕ, get_or, refl, arith}
+use Rattle.std.proofs.Common.{ℕ, get_or}
 use Rattle.std.proofs.lemmas.List.Elements.{Contains-get_or}
 use Rattle.xs_coarse.specs.Coarse.{HasArc}
 use Rattle.xs_coarse_net.proofs.Going.{grows_none, grows_on}

@@ -1,8 +1,7 @@
-use Rattle.std.proofs.Common.{◌+◌, List, length, slice_get, refl, sym, ap, ◌∙◌, arith}
+use Rattle.std.proofs.Common.{◌+◌, List, slice_get, refl, sym, ap, ◌∙◌, arith}
 use Rattle.xs_gram.specs.declared.parts.GItem.{GItem}
 use Rattle.xs_gram.specs.Fences.{spread}
 use Rattle.xs_stretch.specs.declared.part.Part.{Part}
-use Rattle.xs_stretch.specs.Parts.{part_items}
 use Rattle.xs_stretch.proofs.Nesting.{inside_is, inside_part, partner_low, item_read, right_read}
 use Rattle.xs_coarse_net.specs.declared.contents.Content.{Content}
 use Rattle.xs_coarse_net.specs.Contents.{nest_of}

@@ -1,4 +1,3 @@
-use Rattle.std.proofs.Common.{arith}
 use Rattle.xs_coarse_net.proofs.Labelling.{symbol_reads}
 use Rattle.xs_coarse_net.proofs.labelled.symbol_label.Goals as goal
 

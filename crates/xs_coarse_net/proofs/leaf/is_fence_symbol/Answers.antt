@@ -1,4 +1,4 @@
-use Rattle.std.proofs.Common.{ℕ, ◌≡◌, sym, ap, ◌∙◌}
+use Rattle.std.proofs.Common.{ℕ, sym, ap, ◌∙◌}
 use Rattle.xs_coarse_net.proofs.Laying.{left_is_fence, right_is_fence}
 use Rattle.xs_coarse_net.proofs.leaf.is_fence_symbol.Goals as goal
 

@@ -1,4 +1,4 @@
-use Rattle.std.proofs.Common.{◌+◌, get_or, refl, arith, eq-eqb}
+use Rattle.std.proofs.Common.{◌+◌, arith, eq-eqb}
 use Rattle.std.proofs.lemmas.List.{get_or_read}
 use Rattle.xs_coarse_net.specs.Going.{goes_none}
 use Rattle.xs_coarse_net.proofs.Going.{grows_none, grows_on}

@@ -1,4 +1,3 @@
-use Rattle.std.proofs.Common.{◌-◌}
 use Rattle.xs_gram.specs.declared.parts.GItem.TheVariants.{Non}
 use Rattle.xs_coarse_net.specs.Stretches.{open_view, last_state}
 use Rattle.xs_coarse_net.proofs.Extending.{joins_kept, joins_item, leaf_item, other_leaf}

@@ -1,7 +1,7 @@
 use Rattle.std.proofs.Common.{ℕ, ◌-◌, ap, sym, subst, ◌∙◌}
 use Rattle.xs_coarse_net.specs.Going.{LeafGoes}
 use Rattle.xs_coarse_net.specs.Stretches.{last_state}
-use Rattle.xs_coarse_net.proofs.Extending.{leaf_walks}
+use Rattle.xs_coarse_net.proofs.Viewing.{leaf_walks}
 use Rattle.xs_coarse_net.proofs.Wholes.{leaf_grown}
 use Rattle.xs_coarse_net.proofs.pieces.add_leaf.Goals as goal
 

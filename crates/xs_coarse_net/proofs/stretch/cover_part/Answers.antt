@@ -1,4 +1,4 @@
-use Rattle.std.proofs.Common.{◌≡◌, ℕ, ◌-◌, length, ap, subst, refl, arith, length-append}
+use Rattle.std.proofs.Common.{◌≡◌, ℕ, ◌-◌, ◌++◌, length, ap, subst, refl, arith, length-append}
 use Rattle.xs_stretch.specs.Parts.{part_items}
 use Rattle.xs_stretch.proofs.Pushing.{element_is}
 use Rattle.xs_stretch.proofs.Stretches.{part_stretch, part_long}
@@ -36,7 +36,7 @@ items-preserved c =
     let new = covered_more g t c.items.net c.add_piece.new.net part.rule part.start c.items.place c.in_ok-next.next is c.items.places.items o refl (omega (arith, c.len.ensures.states)) was more in
     record {
       later = omega (arith, more.is.place, more.is.some);
-      within = omega (arith, new.place, ap length new.split, length-append new.front new.rest, long);
+      within = omega (arith, new.place, ap length {y = new.front ++ new.rest} new.split, length-append new.front new.rest, long);
       number = c.in_ok-number.ensures;
       kept = c.in_ok-next.ensures.kept;
       covered = rw c.in_ok-push.ensures.items new;

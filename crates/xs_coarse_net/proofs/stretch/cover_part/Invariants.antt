@@ -1,4 +1,4 @@
-use Rattle.std.proofs.Common.{◌≡◌, ◌+◌, ◌<◌, ◌≤◌, take}
+use Rattle.std.proofs.Common.{◌≡◌, ◌+◌, ◌≤◌, take}
 use Rattle.xs_gram.specs.Fences.{spread}
 use Rattle.xs_stretch.specs.Groups.{groups_before, lefts}
 use Rattle.xs_stretch.specs.Parts.{part_items}

@@ -1,4 +1,4 @@
-use Rattle.std.proofs.Common.{refl, ◌∙◌, sym, arith}
+use Rattle.std.proofs.Common.{arith}
 use Rattle.xs_coarse_net.proofs.Wholes.{rules_more, rule_grown, base_next}
 use Rattle.xs_coarse_net.proofs.whole.whole_net.Goals as goal
 

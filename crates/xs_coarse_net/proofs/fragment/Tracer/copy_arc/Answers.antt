@@ -1,4 +1,4 @@
-use Rattle.std.proofs.Common.{refl, arith}
+use Rattle.std.proofs.Common.{refl}
 use Rattle.xs_coarse_net.proofs.Tracing.{reaches_on, arc_more, copied_here}
 use Rattle.xs_coarse_net.proofs.fragment.Tracer.copy_arc.Goals as goal
 

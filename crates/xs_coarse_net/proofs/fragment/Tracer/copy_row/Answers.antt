@@ -1,4 +1,4 @@
-use Rattle.std.proofs.Common.{ℕ, ◌+◌, get_or, refl, arith}
+use Rattle.std.proofs.Common.{◌+◌}
 use Rattle.xs_coarse.specs.declared.arc.Arc.{Arc}
 use Rattle.std.proofs.lemmas.List.{get_or_read}
 use Rattle.xs_coarse_net.specs.Fragments.{IsCopied}

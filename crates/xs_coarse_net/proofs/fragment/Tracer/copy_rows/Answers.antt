@@ -1,4 +1,4 @@
-use Rattle.std.proofs.Common.{ℕ, ◌+◌, get_or, refl, sym, subst, arith}
+use Rattle.std.proofs.Common.{ℕ, ◌+◌, get_or, refl, subst, arith}
 use Rattle.std.proofs.lemmas.Option.{slice_get-get_or}
 use Rattle.xs_coarse_net.specs.Fragments.{AreCopied}
 use Rattle.xs_coarse_net.proofs.Tracing.{reaches_none, reaches_on, copied_more}
