@@ -84,6 +84,13 @@ impl Labels {
         Some(number + 1)
     }
 
+    /// How many groups have labels.
+    pub fn groups(&self) -> u32
+        ensures { result ≡ self.now.groups }
+    {
+        self.groups
+    }
+
     /// The label of a group.
     pub fn group(&self, h: u32) -> u32
         requires { h < self.now.groups }

@@ -1,6 +1,5 @@
 -- How it is seen which groups read no common word.
-use Rattle.std.specs.Prelude.{◌≡◌, ℕ, ◌<◌, ◌≤◌, List, length}
-use Rattle.xs_auto.specs.Nests.{Group}
+use Rattle.std.specs.Prelude.{◌≡◌, ℕ, ◌<◌, ◌≤◌, List}
 use Rattle.xs_meet.specs.Closed.{AreSettled}
 use Rattle.xs_coarse.specs.Coarse.{Table, MayCall}
 use Rattle.xs_coarse_net.specs.declared.contents.Content.{Content}

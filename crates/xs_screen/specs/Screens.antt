@@ -1,5 +1,6 @@
 -- What a screen stands on, and what it sees.
 use Rattle.std.specs.Prelude.{◌≡◌, ℕ, Bool, true, false, List, length, get_or, slice_get, Some}
+use Rattle.std.specs.declared.option.Option.{Option}
 use Rattle.xs_gram.specs.Grammar.{Grammar}
 use Rattle.xs_gram.specs.Fences.{spread}
 use Rattle.xs_gram.specs.Loose.{IsLoose}
@@ -9,7 +10,6 @@ use Rattle.xs_stretch.specs.declared.part.Part.{Part}
 use Rattle.xs_coarse.specs.Coarse.{MayCall}
 use Rattle.xs_coarse.specs.Labels.{IsLabelsOf}
 use Rattle.xs_coarse_net.specs.declared.cover.Cover.{Cover}
-use Rattle.xs_coarse_net.specs.declared.cover.Outer.{Outer}
 use Rattle.xs_coarse_net.specs.Contents.{nest_of}
 use Rattle.xs_coarse_net.specs.Covers.{IsCoverOf}
 use Rattle.xs_coarse_net.specs.Having.{IsCovers}
@@ -18,6 +18,10 @@ use Rattle.xs_screen.specs.declared.screen.Screen.{Screen}
 -- all spread items of rule p
 abbrev pub whole_part : Grammar → ℕ → Part
 whole_part g p = record { rule = p; start = 0; end = length (spread g p) }
+
+-- no cover was made
+abbrev pub AreNone : List (Option Cover) → Type 0
+AreNone kept = (p : ℕ) (c : Cover) → slice_get kept p ≡ Some (Some c) → ⊥
 
 -- each cover that was made of a rule is one
 abbrev pub AreRuleCovers : Grammar → Screen → Type 0
@@ -31,10 +35,6 @@ pub record IsScreen (g : Grammar) (s : Screen) : Type 0 where
   pub settled : IsSettled (nest_of s.labels s.covers.contents.items) (MayCall s.labels)
   pub counted : length s.rules.items ≡ length g.rules
   pub rules : AreRuleCovers g s
-
--- an outer place of a cover
-abbrev pub outer_at : Cover → ℕ → Outer
-outer_at c k = get_or c.places.items k (record { place = 0; state = 0 })
 
 -- no word is loose for both rules
 abbrev pub ShareNone : Grammar → ℕ → ℕ → Type 0

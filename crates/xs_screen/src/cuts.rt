@@ -1,11 +1,11 @@
 ghost use Rattle.std.specs.Prelude.{◌≡◌, ◌<◌, true, false, set, length, IfOk};
-ghost use Rattle.xs_gram.specs.Fences.{spread};
+ghost use Rattle.std.specs.List.{Contains};
 ghost use Rattle.xs_gram.specs.Sound.{IsBuilt};
 ghost use Rattle.xs_stretch.specs.Parts.{IsPart};
 ghost use Rattle.xs_stretch.specs.Tables.{AreNumbersBefore};
 ghost use Rattle.xs_apart.specs.Sets.{AreDoubles};
 ghost use Rattle.xs_coarse_net.specs.Covers.{IsCoverOf};
-ghost use Rattle.xs_screen.specs.Screens.{IsScreen, AreDoubts, OverlapNowhere, outer_at};
+ghost use Rattle.xs_screen.specs.Screens.{IsScreen, AreDoubts, OverlapNowhere};
 
 use crate::Screen;
 use crate::rules::whole;
@@ -13,7 +13,7 @@ use std::alloc::Global;
 use xs_apart::Doubles;
 use xs_class::Memory;
 use xs_coarse_laws::closed_sets_show_none;
-use xs_coarse_net::Cover;
+use xs_coarse_net::{Cover, Outer};
 use xs_gram::{Gram, cuts_are_one};
 use xs_regex::Numbers;
 use xs_stretch::Part;
@@ -39,14 +39,15 @@ impl Screen {
         let mut doubts = vec![in alloc; true; g.spread(rule).len() + 1]?;
         self.clear_part(alloc, g, groups, &part, &mut doubts)?;
         'items: for place in 0..part.end {
-            if let Some(partner) = g.partner(rule, place) {
-                let inside = Part {
-                    rule,
-                    start: place + 1,
-                    end: partner,
-                };
-                self.clear_part(alloc, g, groups, &inside, &mut doubts)?;
-            }
+            let Some(partner) = g.partner(rule, place) else {
+                continue;
+            };
+            let inside = Part {
+                rule,
+                start: place + 1,
+                end: partner,
+            };
+            self.clear_part(alloc, g, groups, &inside, &mut doubts)?;
         }
         Ok(doubts)
     }
@@ -78,9 +79,11 @@ impl Screen {
             return Ok(());
         };
         'places: for index in 0..cover.places.len() {
-            if self.is_clear(g, part, &cover, &doubles, index)? {
-                clear_doubt(doubts, cover.places[index].place);
+            let outer = cover.places[index];
+            if !self.is_clear(g, part, &cover, &doubles, outer)? {
+                continue;
             }
+            clear_doubt(doubts, outer.place);
         }
         Ok(())
     }
@@ -92,19 +95,18 @@ impl Screen {
         part: &Part,
         cover: &Cover,
         doubles: &Doubles,
-        index: usize,
+        outer: Outer,
     ) -> Result<bool, Memory>
         requires built { IsBuilt g.now }
         requires screen { IsScreen g.now self.old }
         requires part { IsPart g.now part.now }
         requires cover { IsCoverOf g.now self.old.labels part.now cover.now }
         requires doubles { AreDoubles self.old.labels cover.now.net doubles.now.pairs.items }
-        requires index { index < length cover.now.places.items }
-        ensures same { (self.new.labels ≡ self.old.labels) × (self.new.covers ≡ self.old.covers) }
+        requires outer { Contains cover.now.places.items outer }
+        ensures labels { self.new.labels ≡ self.old.labels }
         ensures screen { IsScreen g.now self.new }
-        ensures clear { IfOk result (λ b. b ≡ true → OverlapNowhere g.now part.now.rule (outer_at cover.now index).place) }
+        ensures clear { IfOk result (λ b. b ≡ true → OverlapNowhere g.now part.now.rule outer.place) }
     {
-        let outer = cover.places[index];
         if outer.place <= part.start || outer.place >= part.end || outer.state >= cover.net.len() {
             return Ok(false);
         }
@@ -114,8 +116,10 @@ impl Screen {
         }
         cuts_are_one();
         closed_sets_show_none();
-        self.search
-            .clear(&self.labels, &cover.net, doubles, outer.state, cover.last)
+        let clear = self
+            .search
+            .clear(&self.labels, &cover.net, doubles, outer.state, cover.last)?;
+        Ok(clear)
     }
 }
 

@@ -21,8 +21,11 @@ pub fn part_groups(
     ensures parts { Parts labels.old labels.new }
     ensures settled { IfOk result (λ b. b ≡ true → IsSettled (nest_of labels.new contents.now) (MayCall labels.new)) }
 {
-    'firsts: for first in 0..contents.len() as u32 {
-        if !part_row(labels, search, contents, first)? {
+    let Ok(count) = u32::try_from(contents.len()) else {
+        return Ok(false);
+    };
+    'firsts: for first in 0..count {
+        if !part_row(labels, search, contents, first, count)? {
             return Ok(false);
         }
     }
@@ -35,9 +38,11 @@ fn part_row(
     search: &mut Search,
     contents: &[Content],
     first: u32,
+    count: u32,
 ) -> Result<bool, Memory>
     requires numbered { length contents.now ≡ labels.old.groups }
-    requires first { first < length contents.now }
+    requires first { first < count }
+    requires count { count ≡ length contents.now }
     ensures parts { Parts labels.old labels.new }
     ensures stay { StaySettled contents.now labels.old labels.new (IsOfRow first) }
     ensures settled { IfOk result (λ b. b ≡ true → IsRowSettled contents.now labels.new first (length contents.now)) }
@@ -46,7 +51,7 @@ fn part_row(
     if !labels.meet(own, own) {
         return Ok(false);
     }
-    'seconds: for second in first + 1..contents.len() as u32 {
+    'seconds: for second in first + 1..count {
         if !part_pair(labels, search, contents, first, second)? {
             return Ok(false);
         }
@@ -74,15 +79,29 @@ fn part_pair(
     if one.left.number() != other.left.number() {
         return Ok(true);
     }
-    if are_apart(labels, search, &one.cover, &other.cover)?
-        && are_apart(labels, search, &other.cover, &one.cover)?
-    {
+    if are_both_apart(labels, search, &one.cover, &other.cover)? {
         labels.part(first, second);
         return Ok(true);
     }
     let a = labels.group(first);
     let b = labels.group(second);
     Ok(labels.meet(a, b) && labels.meet(b, a))
+}
+
+/// Whether two covers are seen to accept no common word, in either order.
+fn are_both_apart(
+    labels: &Labels,
+    search: &mut Search,
+    one: &Cover,
+    other: &Cover,
+) -> Result<bool, Memory>
+    ensures one { IfOk result (λ b. b ≡ true → AreApart (MayCall labels.now) (cover_view labels.now one.now) (cover_view labels.now other.now)) }
+    ensures other { IfOk result (λ b. b ≡ true → AreApart (MayCall labels.now) (cover_view labels.now other.now) (cover_view labels.now one.now)) }
+{
+    if !are_apart(labels, search, one, other)? {
+        return Ok(false);
+    }
+    are_apart(labels, search, other, one)
 }
 
 /// Whether two covers are seen to accept no common word.

@@ -1,4 +1,4 @@
-ghost use Rattle.std.specs.Prelude.{◌≡◌, ◌<◌, true, length, slice_get, Some, IfOk};
+ghost use Rattle.std.specs.Prelude.{◌≡◌, ◌<◌, true, set, length, slice_get, Some, IfOk, IfSome};
 ghost use Rattle.xs_gram.specs.Fences.{spread};
 ghost use Rattle.xs_gram.specs.Sound.{IsBuilt};
 ghost use Rattle.xs_stretch.specs.Parts.{IsPart, part_items};
@@ -10,6 +10,7 @@ use crate::groups::are_apart;
 use std::alloc::Global;
 use xs_class::Memory;
 use xs_coarse_laws::closed_sets_show_none;
+use xs_coarse_net::Cover;
 use xs_gram::Gram;
 use xs_regex::Numbers;
 use xs_stretch::Part;
@@ -37,14 +38,15 @@ impl Screen {
     {
         self.keep_cover(alloc, g, groups, rule)?;
         self.keep_cover(alloc, g, groups, rule2)?;
-        let Some(one) = &self.rules[rule as usize] else {
+        let Some(one) = cover_of(&self.rules, rule) else {
             return Ok(false);
         };
-        let Some(other) = &self.rules[rule2 as usize] else {
+        let Some(other) = cover_of(&self.rules, rule2) else {
             return Ok(false);
         };
         closed_sets_show_none();
-        are_apart(&self.labels, &mut self.search, one, other)
+        let apart = are_apart(&self.labels, &mut self.search, one, other)?;
+        Ok(apart)
     }
 
     /// Makes the cover of a rule, unless it was made, or would be too large.
@@ -61,14 +63,32 @@ impl Screen {
         requires rule { rule < length g.now.rules }
         ensures { IsScreen g.now self.new }
     {
-        if self.rules[rule as usize].is_some() {
+        if cover_of(&self.rules, rule).is_some() {
             return Ok(());
         }
         let part = whole(g, rule);
         let cover = self.covers.cover(alloc, g, &self.labels, groups, &part)?;
-        self.rules[rule as usize] = cover;
+        keep(&mut self.rules, rule, cover);
         Ok(())
     }
+}
+
+/// The cover that was made of a rule, if there is one.
+fn cover_of(rules: &[Option<Cover>], rule: u32) -> Option<&Cover>
+    ensures { IfSome result (λ c. slice_get rules.now rule ≡ Some (Some c.now)) }
+{
+    match rules.get(rule as usize) {
+        Some(Some(cover)) => Some(cover),
+        _ => None,
+    }
+}
+
+/// Keeps what was made of a rule.
+fn keep(rules: &mut Vec<Option<Cover>>, rule: u32, cover: Option<Cover>)
+    requires { rule < length rules.old.items }
+    ensures { rules.new.items ≡ set rules.old.items rule cover }
+{
+    rules[rule as usize] = cover;
 }
 
 /// The part with all spread items of a rule.

@@ -1,7 +1,7 @@
 ghost use Rattle.std.specs.Prelude.{◌≡◌, length, IfOk, IfSome};
 ghost use Rattle.xs_gram.specs.Sound.{IsBuilt};
 ghost use Rattle.xs_stretch.specs.Tables.{AreNumbersBefore};
-ghost use Rattle.xs_screen.specs.Screens.{IsScreen};
+ghost use Rattle.xs_screen.specs.Screens.{IsScreen, AreNone};
 
 use crate::groups::part_groups;
 use std::alloc::Global;
@@ -38,6 +38,9 @@ impl Screen {
         let Some(covers) = Covers::of(alloc, g, &labels, groups)? else {
             return Ok(None);
         };
+        if covers.contents.len() != labels.groups() as usize {
+            return Ok(None);
+        }
         let mut search = Search::new(alloc);
         if !part_groups(&mut labels, &mut search, &covers.contents)? {
             return Ok(None);
