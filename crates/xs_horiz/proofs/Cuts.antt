@@ -5,9 +5,10 @@ use Rattle.xs_gram.specs.Fences.{spread}
 use Rattle.xs_check_laws.specs.Freedom.{HasNoHorizontal}
 use Rattle.xs_check_laws.specs.Acceptance.{ShowsHorizontal}
 use Rattle.xs_light.specs.First.{HasNoneInRow, HasNoneInRows}
+use Rattle.xs_light.specs.Searching.{OverlapsAt}
 use Rattle.xs_light.proofs.First.{none_before}
 use Rattle.xs_horiz.specs.declared.search.Horiz.{Horiz}
-use Rattle.xs_horiz.specs.Cuts.{OverlapsAt, HasNoCut, IsFirstCut}
+use Rattle.xs_horiz.specs.Cuts.{HasNoCut, IsFirstCut}
 
 pub first_shows : (g : Grammar) (p : ℕ) (h : Horiz) → HasNoneInRows (OverlapsAt g) p → IsFirstCut g p h → ShowsHorizontal g h.rule h.cut h.x h.a h.y
 first_shows g p h rows first =

@@ -1,13 +1,10 @@
 -- Cuts of rules at which front and rest overlap.
-use Rattle.std.specs.Prelude.{◌≡◌, ℕ, List}
+use Rattle.std.specs.Prelude.{◌≡◌, ℕ}
 use Rattle.xs_gram.specs.Grammar.{Grammar}
 use Rattle.xs_gram.specs.Suspects.{IsHorizontal}
 use Rattle.xs_light.specs.First.{HasNoneInRow}
+use Rattle.xs_light.specs.Searching.{OverlapsAt}
 use Rattle.xs_horiz.specs.declared.search.Horiz.{Horiz}
-
--- words overlap at cut c of rule p
-abbrev pub OverlapsAt : Grammar → ℕ → ℕ → Type 0
-OverlapsAt g p c = (x : List ℕ) × (a : List ℕ) × (y : List ℕ) × IsHorizontal g p c x a y
 
 -- none do at any cut of rule p
 abbrev pub HasNoCut : Grammar → ℕ → Type 0

@@ -1,4 +1,5 @@
 pub mod Causes
 pub mod First
 pub mod Insides
+pub mod Searching
 pub mod Spaces

@@ -6,14 +6,17 @@
 //! where the nets need more room.
 #![tactic(auto)]
 
+mod exact;
 mod fault;
 mod maps;
 mod nets;
+mod searches;
 mod space;
 mod weights;
 
 pub use fault::CheckFault;
 pub use maps::Maps;
 pub use nets::{CutNets, whole};
+pub use searches::Searches;
 pub use space::SearchSpace;
 pub use weights::light;

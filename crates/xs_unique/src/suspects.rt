@@ -2,7 +2,6 @@ ghost use Rattle.std.specs.Prelude.{IfErr, OnOk};
 ghost use Rattle.xs_gram.specs.Loose.{AreComponents};
 ghost use Rattle.xs_gram.specs.Sound.{IsBuilt};
 ghost use Rattle.xs_check_laws.specs.Acceptance.{IsLight, HasNoSuspect};
-ghost use Rattle.xs_light.specs.Spaces.{IsSpace};
 ghost use Rattle.xs_stretch.specs.Groups.{HasFewGroups};
 ghost use Rattle.xs_stretch.specs.Tables.{AreTables};
 ghost use Rattle.xs_unique.specs.Reasons.{IsUnclear};
@@ -12,7 +11,7 @@ use std::alloc::Global;
 use xs_class::Side;
 use xs_gram::{Comps, Gram, Suspect};
 use xs_horiz::{Horiz, first_horizontal};
-use xs_light::{Maps, SearchSpace};
+use xs_light::Searches;
 use xs_stretch::Tables;
 use xs_vert::{Vert, first_vertical};
 
@@ -34,18 +33,16 @@ pub fn clear(
     ensures clear { OnOk result (HasNoSuspect g.now) }
     ensures fault { IfErr result (IsUnclear side g.now) }
 {
-    let space = SearchSpace::of(alloc, g, comps, tables)?;
-    let mut maps = Maps::new(alloc)?;
-    search(side, &space, &mut maps)
+    let mut searches = Searches::of(alloc, g, comps, tables)?;
+    search(side, &mut searches)
 }
 
-/// Makes sure that the grammar of a space has no suspect.
-fn search(side: Side, space: &SearchSpace<'_>, maps: &mut Maps) -> Result<(), AcceptFault>
-    requires space { IsSpace space.now }
-    ensures clear { OnOk result (HasNoSuspect space.now.g.now) }
-    ensures fault { IfErr result (IsUnclear side space.now.g.now) }
+/// Makes sure that the grammar of the searches has no suspect.
+fn search(side: Side, searches: &mut Searches<'_>) -> Result<(), AcceptFault>
+    ensures clear { OnOk result (HasNoSuspect searches.old) }
+    ensures fault { IfErr result (IsUnclear side searches.old) }
 {
-    let found = first_vertical(space, maps)?;
+    let found = first_vertical(searches)?;
     if let Some(Vert { rule, rule2, word }) = found {
         return Err(AcceptFault::Suspect(Suspect::Vertical {
             side,
@@ -54,7 +51,7 @@ fn search(side: Side, space: &SearchSpace<'_>, maps: &mut Maps) -> Result<(), Ac
             word,
         }));
     }
-    let found = first_horizontal(space, maps)?;
+    let found = first_horizontal(searches)?;
     if let Some(Horiz { rule, cut, x, a, y }) = found {
         return Err(AcceptFault::Suspect(Suspect::Horizontal {
             side,

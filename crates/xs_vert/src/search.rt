@@ -1,19 +1,16 @@
-ghost use Rattle.std.specs.Prelude.{◌<◌, length, IfOk, IfErr, IfSome, IfNone, OnOk};
-ghost use Rattle.xs_gram.specs.Fences.{spread};
+ghost use Rattle.std.specs.Prelude.{◌≡◌, ◌<◌, length, IfOk, IfErr, IfSome, IfNone, OnOk};
 ghost use Rattle.xs_gram.specs.Loose.{AreComponents};
 ghost use Rattle.xs_gram.specs.Sound.{IsBuilt};
 ghost use Rattle.xs_gram.specs.Suspects.{IsVertical};
 ghost use Rattle.xs_check_laws.specs.Freedom.{HasNoVertical};
 ghost use Rattle.xs_check_laws.specs.Acceptance.{IsLight, ShowsVertical};
 ghost use Rattle.xs_light.specs.Causes.{IsCause};
-ghost use Rattle.xs_light.specs.Spaces.{IsSpace, AcceptsLoose};
 ghost use Rattle.xs_vert.specs.Partners.{ArePartners, IsFirstPartner, HasNoPartner};
 
 use std::alloc::Global;
-use xs_auto::Net;
 use xs_class::{Memory, Word};
 use xs_gram::{Comps, Gram};
-use xs_light::{CheckFault, Maps, SearchSpace, light};
+use xs_light::{CheckFault, Searches, light};
 use xs_stretch::Tables;
 
 /// Two rules of one nonterminal, the smaller one first, and a word that is loose for both.
@@ -28,8 +25,8 @@ pub struct Vert {
 /// that shows it, or none where there is none.
 ///
 /// Fails with `Heavy` exactly where a rule weighs more than 8,192, with the weight of the first
-/// such rule. Builds the nest of the grammar's groups and a net for each two rules of one
-/// nonterminal, and takes time linear in the pairs of their states, times the edges of each state.
+/// such rule. Takes time linear in the pairs of states of the nets of each two rules of one
+/// nonterminal, times the edges of each state.
 pub fn vertical(alloc: Global, g: &Gram, comps: &Comps) -> Result<Option<Vert>, CheckFault>
     requires built { IsBuilt g.now }
     requires comps { AreComponents g.now comps.now }
@@ -40,21 +37,20 @@ pub fn vertical(alloc: Global, g: &Gram, comps: &Comps) -> Result<Option<Vert>, 
 {
     let tables = Tables::of(alloc, g, comps)?;
     light(g, &tables.weights)?;
-    let space = SearchSpace::of(alloc, g, comps, &tables)?;
-    let mut maps = Maps::new(alloc)?;
-    let found = first_vertical(&space, &mut maps)?;
+    let mut searches = Searches::of(alloc, g, comps, &tables)?;
+    let found = first_vertical(&mut searches)?;
     Ok(found)
 }
 
-/// The first vertical suspect of a grammar whose rules are light, or none where there is none, by
-/// what its searches share.
-pub fn first_vertical(space: &SearchSpace<'_>, maps: &mut Maps) -> Result<Option<Vert>, Memory>
-    requires space { IsSpace space.now }
-    ensures some { IfOk result (λ o. IfSome o (λ v. ShowsVertical space.now.g.now v.rule v.rule2 v.word)) }
-    ensures none { IfOk result (λ o. IfNone o (HasNoVertical space.now.g.now)) }
+/// The first vertical suspect of a grammar whose rules are light, or none where there is none.
+pub fn first_vertical(searches: &mut Searches<'_>) -> Result<Option<Vert>, Memory>
+    ensures same { searches.new ≡ searches.old }
+    ensures some { IfOk result (λ o. IfSome o (λ v. ShowsVertical searches.old v.rule v.rule2 v.word)) }
+    ensures none { IfOk result (λ o. IfNone o (HasNoVertical searches.old)) }
 {
-    'rules: for rule in 0..space.g.rules() {
-        let found = first_partner(space, rule, maps)?;
+    let g = searches.grammar();
+    'rules: for rule in 0..g.rules() {
+        let found = first_partner(searches, rule)?;
         if let Some(vert) = found {
             return Ok(Some(vert));
         }
@@ -63,19 +59,15 @@ pub fn first_vertical(space: &SearchSpace<'_>, maps: &mut Maps) -> Result<Option
 }
 
 /// The first rule after this one that shares a loose word with it, where there is one.
-fn first_partner(
-    space: &SearchSpace<'_>,
-    rule: u32,
-    maps: &mut Maps,
-) -> Result<Option<Vert>, Memory>
-    requires space { IsSpace space.now }
-    requires rule { rule < length space.now.g.now.rules }
-    ensures some { IfOk result (λ o. IfSome o (IsFirstPartner space.now.g.now rule)) }
-    ensures none { IfOk result (λ o. IfNone o (HasNoPartner space.now.g.now rule)) }
+fn first_partner(searches: &mut Searches<'_>, rule: u32) -> Result<Option<Vert>, Memory>
+    requires rule { rule < length searches.old.rules }
+    ensures same { searches.new ≡ searches.old }
+    ensures some { IfOk result (λ o. IfSome o (IsFirstPartner searches.old rule)) }
+    ensures none { IfOk result (λ o. IfNone o (HasNoPartner searches.old rule)) }
 {
-    let net = space.rule_net(rule)?;
-    'partners: for rule2 in rule + 1..space.g.rules() {
-        let shared = shared_word(space, rule, &net, rule2, maps)?;
+    let g = searches.grammar();
+    'partners: for rule2 in rule + 1..g.rules() {
+        let shared = shared_word(searches, rule, rule2)?;
         if let Some(word) = shared {
             return Ok(Some(Vert { rule, rule2, word }));
         }
@@ -83,25 +75,17 @@ fn first_partner(
     Ok(None)
 }
 
-/// A word that is loose for a rule, whose net is at hand, and for another one, where both are of
-/// one nonterminal.
-fn shared_word(
-    space: &SearchSpace<'_>,
-    rule: u32,
-    net: &Net,
-    rule2: u32,
-    maps: &mut Maps,
-) -> Result<Option<Word>, Memory>
-    requires space { IsSpace space.now }
-    requires net { AcceptsLoose space.now.g.now space.now.nest (spread space.now.g.now rule) net.now }
+/// A word that is loose for two rules, where both are of one nonterminal.
+fn shared_word(searches: &mut Searches<'_>, rule: u32, rule2: u32) -> Result<Option<Word>, Memory>
     requires order { rule < rule2 }
-    requires rule2 { rule2 < length space.now.g.now.rules }
-    ensures some { IfOk result (λ o. IfSome o (IsVertical space.now.g.now rule rule2)) }
-    ensures none { IfOk result (λ o. IfNone o (ArePartners space.now.g.now rule rule2 → ⊥)) }
+    requires rule2 { rule2 < length searches.old.rules }
+    ensures same { searches.new ≡ searches.old }
+    ensures some { IfOk result (λ o. IfSome o (IsVertical searches.old rule rule2)) }
+    ensures none { IfOk result (λ o. IfNone o (ArePartners searches.old rule rule2 → ⊥)) }
 {
-    if space.g.non_of(rule) != space.g.non_of(rule2) {
+    let g = searches.grammar();
+    if g.non_of(rule) != g.non_of(rule2) {
         return Ok(None);
     }
-    let other = space.rule_net(rule2)?;
-    maps.meet(space, net, &other)
+    searches.shared_word(rule, rule2)
 }

@@ -1,6 +1,10 @@
+use Rattle.std.proofs.Common.{◌≡◌}
 use Rattle.xs_light.specs.First.{HasNoneInRow}
-use Rattle.xs_horiz.specs.Cuts.{OverlapsAt}
+use Rattle.xs_light.specs.Searching.{OverlapsAt}
 use Rattle.xs_horiz.proofs.search.first_cut.Given as goal
 
 abbrev pub invariant-cuts : goal.invariant-cuts
-invariant-cuts l = HasNoneInRow (OverlapsAt l.space.g.now) l.rule l.cut
+invariant-cuts l = record {
+  same : l.searches ≡ l.initial.searches;
+  none : HasNoneInRow (OverlapsAt l.initial.searches) l.rule l.cut;
+}

@@ -1,6 +1,10 @@
+use Rattle.std.proofs.Common.{◌≡◌}
 use Rattle.xs_light.specs.First.{HasNoneInRows}
-use Rattle.xs_horiz.specs.Cuts.{OverlapsAt}
+use Rattle.xs_light.specs.Searching.{OverlapsAt}
 use Rattle.xs_horiz.proofs.search.first_horizontal.Given as goal
 
 abbrev pub invariant-rules : goal.invariant-rules
-invariant-rules l = HasNoneInRows (OverlapsAt l.space.g.now) l.rule
+invariant-rules l = record {
+  same : l.searches ≡ l.initial.searches;
+  none : HasNoneInRows (OverlapsAt l.initial.searches) l.rule;
+}

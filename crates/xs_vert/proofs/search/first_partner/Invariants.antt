@@ -1,6 +1,10 @@
+use Rattle.std.proofs.Common.{◌≡◌}
 use Rattle.xs_light.specs.First.{HasNoneInRow}
 use Rattle.xs_vert.specs.Partners.{ArePartners}
 use Rattle.xs_vert.proofs.search.first_partner.Given as goal
 
 abbrev pub invariant-partners : goal.invariant-partners
-invariant-partners l = HasNoneInRow (ArePartners l.space.g.now) l.rule l.rule2
+invariant-partners l = record {
+  same : l.searches ≡ l.initial.searches;
+  none : HasNoneInRow (ArePartners l.initial.searches) l.rule l.rule2;
+}

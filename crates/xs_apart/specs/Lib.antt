@@ -1,0 +1,4 @@
+pub mod Arcs
+pub mod Found
+pub mod Parts
+pub mod Sets

@@ -1,0 +1,91 @@
+ghost use Rattle.std.specs.Prelude.{◌≡◌, ℕ, ◌*◌, ◌<◌, ◌≤◌, [], true, false, length, IfOk, OnOk};
+ghost use Rattle.xs_auto.specs.Bits.{bit_of};
+ghost use Rattle.xs_apart.specs.Found.{Fits, HasPair, IsMore, IsEmpty};
+
+use crate::pair::Pair;
+use std::alloc::Global;
+use xs_class::Memory;
+
+/// The greatest number of pairs of states for which a map of marks is kept: 32 megabytes.
+const MOST_PAIRS: u64 = 1 << 28;
+
+/// The pairs of states that a search has found, in the order in which it found them, and the map in
+/// which they are marked, one bit a pair.
+///
+/// The first net has `height` states, and the second `width`.
+#[derive(Debug, Drop)]
+pub struct Found {
+    pub words: Vec<u64>,
+    pub pairs: Vec<Pair>,
+    pub height: u32,
+    pub width: u32,
+}
+
+impl Found {
+    /// No pairs, of no states.
+    pub fn new(alloc: Global) -> Self
+        ensures { Fits result }
+    {
+        Found {
+            words: Vec::new(alloc),
+            pairs: Vec::new(alloc),
+            height: 0,
+            width: 0,
+        }
+    }
+
+    /// Adds a pair, unless it is marked already.
+    pub fn visit(&mut self, first: u32, second: u32) -> Result<(), Memory>
+        requires fits { Fits self.old }
+        requires first { first < self.old.height }
+        requires second { second < self.old.width }
+        ensures fits { Fits self.new }
+        ensures more { IsMore self.old self.new }
+        ensures ok { OnOk result (HasPair self.new.pairs.items first second) }
+    {
+        let cell = first as u64 * self.width as u64 + second as u64;
+        let place = (cell / 64) as usize;
+        let bit = cell % 64;
+        let word = self.words[place];
+        if (word >> bit) & 1 == 0 {
+            self.pairs.push(Pair { first, second })?;
+            self.words[place] = word | (1 << bit);
+        }
+        Ok(())
+    }
+
+    /// Forgets all pairs, in time linear in them.
+    fn wipe(&mut self)
+        requires { Fits self.old }
+        ensures { IsEmpty self.old self.new }
+    {
+        'places: for place in 0..self.pairs.len() {
+            let pair = self.pairs[place];
+            let cell = pair.first as u64 * self.width as u64 + pair.second as u64;
+            self.words[(cell / 64) as usize] = 0;
+        }
+        self.pairs.clear();
+    }
+
+    /// Forgets all pairs, and makes room for those of that many states of a first net and of a
+    /// second one; answers false where they are too many.
+    pub fn begin(&mut self, alloc: Global, height: u32, width: u32) -> Result<bool, Memory>
+        requires { Fits self.old }
+        ensures fits { Fits self.new }
+        ensures ok { IfOk result (λ room. room ≡ true → (self.new.height ≡ height) × (self.new.width ≡ width) × (self.new.pairs.items ≡ [])) }
+    {
+        self.wipe();
+        let cells = height as u64 * width as u64;
+        if cells > MOST_PAIRS {
+            return Ok(false);
+        }
+        let count = (cells / 64 + 1) as usize;
+        if count > self.words.len() {
+            let words = vec![in alloc; 0; count]?;
+            self.words = words;
+        }
+        self.height = height;
+        self.width = width;
+        Ok(true)
+    }
+}

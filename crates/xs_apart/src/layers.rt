@@ -1,0 +1,112 @@
+ghost use Rattle.std.specs.Prelude.{◌≡◌, ◌<◌, true, IfOk};
+ghost use Rattle.std.specs.List.{All};
+ghost use Rattle.xs_apart.specs.Found.{Fits, IsInside};
+ghost use Rattle.xs_apart.specs.Sets.{AreDoubles, AreTurns, AreMiddles, AreRests};
+
+use crate::found::Found;
+use crate::pair::Pair;
+use std::alloc::Global;
+use xs_class::Memory;
+use xs_coarse::{Coarse, Labels};
+
+impl Found {
+    /// The pairs that the first state of a net leads to, in the product of the net with itself.
+    pub fn find_doubles(
+        &mut self,
+        alloc: Global,
+        labels: &Labels,
+        net: &Coarse,
+    ) -> Result<bool, Memory>
+        requires { Fits self.old }
+        ensures fits { Fits self.new }
+        ensures ok { IfOk result (λ found. found ≡ true → AreDoubles labels.now net.now self.new.pairs.items) }
+    {
+        let states = net.len();
+        if !self.begin(alloc, states, states)? {
+            return Ok(false);
+        }
+        self.visit(0, 0)?;
+        let nowhere = Pair {
+            first: states,
+            second: states,
+        };
+        self.close(labels, net, net, nowhere)
+    }
+
+    /// From doubles of front states: where the first one is that of the cut, the second one beside
+    /// it, and where arcs that read nothing lead from there.
+    pub fn find_turns(
+        &mut self,
+        alloc: Global,
+        net: &Coarse,
+        doubles: &[Pair],
+        here: u32,
+    ) -> Result<bool, Memory>
+        requires fits { Fits self.old }
+        requires inside { All (IsInside net.now.states net.now.states) doubles.now }
+        requires here { here < net.now.states }
+        ensures fits { Fits self.new }
+        ensures ok { IfOk result (λ found. found ≡ true → AreTurns net.now here doubles.now self.new.pairs.items) }
+    {
+        let states = net.len();
+        if !self.begin(alloc, states, states)? {
+            return Ok(false);
+        }
+        self.seed_turns(doubles, here)?;
+        self.close_slips(net, net)
+    }
+
+    /// The pairs that are reached from the turns by one arc or more that reads something.
+    pub fn find_middles(
+        &mut self,
+        alloc: Global,
+        labels: &Labels,
+        net: &Coarse,
+        turns: &[Pair],
+    ) -> Result<bool, Memory>
+        requires fits { Fits self.old }
+        requires inside { All (IsInside net.now.states net.now.states) turns.now }
+        ensures fits { Fits self.new }
+        ensures ok { IfOk result (λ found. found ≡ true → AreMiddles labels.now net.now turns.now self.new.pairs.items) }
+    {
+        let states = net.len();
+        if !self.begin(alloc, states, states)? {
+            return Ok(false);
+        }
+        self.seed_steps(labels, net, turns)?;
+        let nowhere = Pair {
+            first: states,
+            second: states,
+        };
+        self.close(labels, net, net, nowhere)
+    }
+
+    /// From the middles: where the front state is that of the cut, that one beside the rest state,
+    /// and all pairs that are reached from there, if that of the two last states is not.
+    pub fn find_rests(
+        &mut self,
+        alloc: Global,
+        labels: &Labels,
+        net: &Coarse,
+        middles: &[Pair],
+        here: u32,
+        last: u32,
+    ) -> Result<bool, Memory>
+        requires fits { Fits self.old }
+        requires inside { All (IsInside net.now.states net.now.states) middles.now }
+        requires here { here < net.now.states }
+        ensures fits { Fits self.new }
+        ensures ok { IfOk result (λ none. none ≡ true → AreRests labels.now net.now here last middles.now self.new.pairs.items) }
+    {
+        let states = net.len();
+        if !self.begin(alloc, states, states)? {
+            return Ok(false);
+        }
+        self.seed_returns(middles, here)?;
+        let end = Pair {
+            first: last,
+            second: last,
+        };
+        self.close(labels, net, net, end)
+    }
+}

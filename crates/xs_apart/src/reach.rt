@@ -1,0 +1,183 @@
+ghost use Rattle.std.specs.Prelude.{◌≡◌, ◌<◌, true, IfOk, OnOk};
+ghost use Rattle.std.specs.List.{All};
+ghost use Rattle.xs_coarse.specs.declared.arc.Arc.{Arc as AnyArc};
+ghost use Rattle.xs_apart.specs.Arcs.{Slips, Steps, Goes, MovesFirst, MovesSecond, Joins, HasAll, IsFor};
+ghost use Rattle.xs_apart.specs.Found.{Fits, HasPair, IsMore};
+ghost use Rattle.xs_meet.specs.Closed.{IsClosed};
+ghost use Rattle.xs_apart.specs.Sets.{IsShut};
+
+use crate::found::Found;
+use crate::pair::Pair;
+use xs_class::Memory;
+use xs_coarse::{Arc, Coarse, Labels};
+
+impl Found {
+    /// Visits the targets of the arcs that read nothing, beside a state of the second net.
+    fn visit_firsts(&mut self, arcs: &[Arc], second: u32) -> Result<(), Memory>
+        requires fits { Fits self.old }
+        requires first { All (λ (x : AnyArc). x.to < self.old.height) arcs.now }
+        requires second { second < self.old.width }
+        ensures fits { Fits self.new }
+        ensures more { IsMore self.old self.new }
+        ensures ok { OnOk result (All (MovesFirst self.new.pairs.items second) arcs.now) }
+    {
+        'arcs: for arc in arcs {
+            if arc.label == 0 {
+                self.visit(arc.to, second)?;
+            }
+        }
+        Ok(())
+    }
+
+    /// Visits a state of the first net beside the targets of the arcs that read nothing.
+    fn visit_seconds(&mut self, first: u32, arcs: &[Arc]) -> Result<(), Memory>
+        requires fits { Fits self.old }
+        requires first { first < self.old.height }
+        requires second { All (λ (y : AnyArc). y.to < self.old.width) arcs.now }
+        ensures fits { Fits self.new }
+        ensures more { IsMore self.old self.new }
+        ensures ok { OnOk result (All (MovesSecond self.new.pairs.items first) arcs.now) }
+    {
+        'arcs: for arc in arcs {
+            if arc.label == 0 {
+                self.visit(first, arc.to)?;
+            }
+        }
+        Ok(())
+    }
+
+    /// Visits the targets of an arc and of each other arc with which it may read a common word.
+    fn visit_partners(&mut self, labels: &Labels, arc: Arc, others: &[Arc]) -> Result<(), Memory>
+        requires fits { Fits self.old }
+        requires first { arc.to < self.old.height }
+        requires second { All (λ (y : AnyArc). y.to < self.old.width) others.now }
+        ensures fits { Fits self.new }
+        ensures more { IsMore self.old self.new }
+        ensures ok { OnOk result (All (Joins labels.now self.new.pairs.items arc) others.now) }
+    {
+        'others: for other in others {
+            if labels.meet(arc.label, other.label) {
+                self.visit(arc.to, other.to)?;
+            }
+        }
+        Ok(())
+    }
+
+    /// Visits the targets of each two arcs that may read a common word.
+    fn visit_boths(&mut self, labels: &Labels, arcs: &[Arc], others: &[Arc]) -> Result<(), Memory>
+        requires fits { Fits self.old }
+        requires first { All (λ (x : AnyArc). x.to < self.old.height) arcs.now }
+        requires second { All (λ (y : AnyArc). y.to < self.old.width) others.now }
+        ensures fits { Fits self.new }
+        ensures more { IsMore self.old self.new }
+        ensures ok { OnOk result (All (λ (x : AnyArc). All (Joins labels.now self.new.pairs.items x) others.now) arcs.now) }
+    {
+        'arcs: for arc in arcs {
+            if arc.label != 0 {
+                self.visit_partners(labels, *arc, others)?;
+            }
+        }
+        Ok(())
+    }
+
+    /// Visits the pairs to which an arc of either net that reads nothing leads from a pair.
+    fn slip(&mut self, first: &Coarse, second: &Coarse, at: Pair) -> Result<(), Memory>
+        requires nets { IsFor first.now second.now self.old }
+        requires fits { Fits self.old }
+        requires first { at.first < first.now.states }
+        requires second { at.second < second.now.states }
+        ensures fits { Fits self.new }
+        ensures more { IsMore self.old self.new }
+        ensures ok { OnOk result (HasAll (Slips first.now second.now) at.first at.second self.new.pairs.items) }
+    {
+        self.visit_firsts(first.row(at.first), at.second)?;
+        self.visit_seconds(at.first, second.row(at.second))?;
+        Ok(())
+    }
+
+    /// Visits the pairs to which arcs of both nets that may read a common word lead from a pair.
+    pub fn step(
+        &mut self,
+        labels: &Labels,
+        first: &Coarse,
+        second: &Coarse,
+        at: Pair,
+    ) -> Result<(), Memory>
+        requires nets { IsFor first.now second.now self.old }
+        requires fits { Fits self.old }
+        requires first { at.first < first.now.states }
+        requires second { at.second < second.now.states }
+        ensures fits { Fits self.new }
+        ensures more { IsMore self.old self.new }
+        ensures ok { OnOk result (HasAll (Steps labels.now first.now second.now) at.first at.second self.new.pairs.items) }
+    {
+        self.visit_boths(labels, first.row(at.first), second.row(at.second))?;
+        Ok(())
+    }
+
+    /// Visits all pairs to which a pair leads.
+    fn go(
+        &mut self,
+        labels: &Labels,
+        first: &Coarse,
+        second: &Coarse,
+        at: Pair,
+    ) -> Result<(), Memory>
+        requires nets { IsFor first.now second.now self.old }
+        requires fits { Fits self.old }
+        requires first { at.first < first.now.states }
+        requires second { at.second < second.now.states }
+        ensures fits { Fits self.new }
+        ensures more { IsMore self.old self.new }
+        ensures ok { OnOk result (HasAll (Goes labels.now first.now second.now) at.first at.second self.new.pairs.items) }
+    {
+        self.slip(first, second, at)?;
+        self.step(labels, first, second, at)?;
+        Ok(())
+    }
+
+    /// Adds all pairs to which the pairs lead. Answers false as soon as it comes to the goal.
+    pub fn close(
+        &mut self,
+        labels: &Labels,
+        first: &Coarse,
+        second: &Coarse,
+        goal: Pair,
+    ) -> Result<bool, Memory>
+        requires nets { IsFor first.now second.now self.old }
+        requires fits { Fits self.old }
+        ensures fits { Fits self.new }
+        ensures more { IsMore self.old self.new }
+        ensures ok { IfOk result (λ closed. closed ≡ true → IsShut (Goes labels.now first.now second.now) goal self.new.pairs.items) }
+    {
+        'places: for place in 0..usize::MAX {
+            if place >= self.pairs.len() {
+                return Ok(true);
+            }
+            let at = self.pairs[place];
+            if at == goal {
+                return Ok(false);
+            }
+            self.go(labels, first, second, at)?;
+        }
+        Ok(false)
+    }
+
+    /// Adds all pairs to which the pairs lead by arcs that read nothing.
+    pub fn close_slips(&mut self, first: &Coarse, second: &Coarse) -> Result<bool, Memory>
+        requires nets { IsFor first.now second.now self.old }
+        requires fits { Fits self.old }
+        ensures fits { Fits self.new }
+        ensures more { IsMore self.old self.new }
+        ensures ok { IfOk result (λ closed. closed ≡ true → IsClosed (Slips first.now second.now) (HasPair self.new.pairs.items)) }
+    {
+        'places: for place in 0..usize::MAX {
+            if place >= self.pairs.len() {
+                return Ok(true);
+            }
+            let at = self.pairs[place];
+            self.slip(first, second, at)?;
+        }
+        Ok(false)
+    }
+}

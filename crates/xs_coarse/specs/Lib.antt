@@ -1,0 +1,4 @@
+pub mod Coarse
+pub mod Covers
+pub mod Labels
+pub mod Rows
