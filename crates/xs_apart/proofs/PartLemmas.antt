@@ -12,7 +12,7 @@ view_part : {old new : Table} (n : Net) (s e : ℕ) → IsParted old new → vie
 view_part {old} {new} n s e p =
     λ i. view (record { classes = p.classes i; groups = new.groups; bits = new.bits }) n s e
 
-call_part : {old new : Table} (h k : ℕ) → IsParted old new → MayCall new h k → MayCall old h k
+pub call_part : {old new : Table} (h k : ℕ) → IsParted old new → MayCall new h k → MayCall old h k
 call_part {old} {new} h k p m = rw p.classes at (p.fewer (group_label new h) (group_label new k) m)
 
 -- a smaller relation of groups leads to fewer pairs
@@ -23,7 +23,7 @@ leads_fewer R S m n a b c d to (inr (inr x)) =
     let y = x.2 in
     inr (inr (x.0, x.1, record { first = y.first; second = y.second; of_first = y.of_first; of_second = y.of_second; over_first = y.over_first; over_second = y.over_second; related = to x.0 x.1 y.related; to_first = y.to_first; to_second = y.to_second }))
 
-apart_fewer : (R S : ℕ → ℕ → Type 0) (m n : Graph) (Z : ℕ → ℕ → Type 0) → ((h k : ℕ) → S h k → R h k) → IsApart R m n Z → IsApart S m n Z
+pub apart_fewer : (R S : ℕ → ℕ → Type 0) (m n : Graph) (Z : ℕ → ℕ → Type 0) → ((h k : ℕ) → S h k → R h k) → IsApart R m n Z → IsApart S m n Z
 apart_fewer R S m n Z to apart = record {
   starts = apart.starts;
   closed = λ a b c d z leads. apart.closed a b c d z (leads_fewer R S m n a b c d to leads);
