@@ -2,7 +2,7 @@
 use Rattle.std.proofs.Common.{◌≡◌, false, replicate, ℕ, suc, ◌<◌, ◌≤◌, List, [], ◌∷◌, ◌++◌, length, length-append, Some, None, refl, sym, ap, ◌∙◌, subst, arith}
 use Rattle.std.specs.Prelude.{slice_get, IsSome}
 use Rattle.std.specs.declared.option.Option.{Option}
-use Rattle.std.proofs.lemmas.Option.{none-some, same_Some}
+use Rattle.std.proofs.lemmas.Option.{none-some, same_Some, slice_get_within}
 use Rattle.xs_gram.specs.Common.{Common, made, no_kid}
 use Rattle.xs_tree.specs.Flat.{TreePart, Node, tree_at, tree_of, trees_of, kids_at}
 use Rattle.xs_tree.proofs.Trees.{length-trees}
@@ -14,7 +14,7 @@ use Rattle.xs_outline.specs.declared.reader.Open.{Open}
 use Rattle.xs_outline.specs.declared.reader.Reader.{Reader}
 use Rattle.xs_outline.specs.Reader.{child_at, missing, cells_of, frame_of, frames_onto, frames, state, state_at, state_within, less, with_child, IsFree, IsOpen, AreOpen, AreChildren, IsKept, IsClosed}
 use Rattle.xs_outline.proofs.Fitting.{missing_none}
-use Rattle.xs_outline.proofs.Keeping.{Popped, open_pop, open_push, open_wider, frames_push, put_back, closed, all_children, children_now, cells_none, with_last, with_own, with_here, with_others, tree_kept, parts_keep, stay_open, not_full_yet, last_part, Closed}
+use Rattle.xs_outline.proofs.Keeping.{Popped, open_pop, open_push, open_wider, frames_push, put_back, closed, all_children, children_now, cells_none, cells_long, with_last, with_own, with_here, with_others, tree_kept, parts_keep, stay_open, not_full_yet, last_part, Closed}
 use Rattle.xs_class.proofs.Truth.{if_false}
 
 no_root : (p : Pair) (bound : ℕ) (r : Reader) → r.root ≡ None → (part : ℕ) → r.root ≡ Some part → (part < length r.parts) × (r.open.items ≡ [])
@@ -33,6 +33,9 @@ module _ (p : Pair) (r : Reader) (os : List Open) (o : Open) (slot part : ℕ) (
 
   free_here : slice_get (cells_of p trees look o) slot ≡ Some None
   free_here = subst (λ fs. IsFree fs slot) frames_are free
+
+  pub given_below : slot < slot_count p o.rule
+  given_below = subst (λ n. slot < n) (cells_long trees (look o.node) 0 (slot_count p o.rule)) (slice_get_within (cells_of p trees look o) slot None free_here)
 
   popped : (bound : ℕ) → IsKept p bound r → Popped p trees look [] 0 bound os o
   popped bound kept = open_pop p trees look [] 0 bound os o (subst (λ z. AreOpen p trees look [] 0 bound z) are kept.open_)

@@ -1,6 +1,6 @@
 -- What the reader keeps, from one line to the next.
 use Rattle.std.proofs.Common.{◌≡◌, ◌⊎◌, inl, inr, ℕ, zero, suc, ◌+◌, ◌-◌, ◌<◌, ◌≤◌, Bool, true, false, nat_eq, ◌&&◌, ◌==◌, if◌then◌else◌, eqb-true, List, [], ◌∷◌, ◌++◌, length, set, replicate, Some, None, refl, sym, ap, ◌∙◌, subst, arith}
-use Rattle.std.specs.Prelude.{slice_get}
+use Rattle.std.specs.Prelude.{slice_get, slice_index_or}
 use Rattle.std.specs.declared.option.Option.{Option}
 use Rattle.std.proofs.lemmas.Bool.Decides.{nat_tests}
 use Rattle.std.proofs.lemmas.Option.{same_Some, slice_get_within}
@@ -169,6 +169,33 @@ all_there trees f s (suc n) none k lt = by (f s) refl none k lt (λ j less_ rest
         let rest = again j (omega (arith, lt)) lack in
         (rest.0, ap f (sym (moved s j)) ∙ rest.1)
 
+-- a node lacks at most as many as it has slots, and where it lacks them all no slot has a child
+missing_most : (trees : List Common) (f : ℕ → Option ℕ) (s n : ℕ) → missing (cells_from trees f s n) ≤ n
+missing_most trees f s zero = omega arith
+missing_most trees f s (suc n) = by (f s) (missing_most trees f (suc s) n)
+  where
+    by : (o : Option ℕ) → missing (cells_from trees f (suc s) n) ≤ n → missing (tree_in trees o ∷ cells_from trees f (suc s) n) ≤ suc n
+    by None most = omega (arith, most)
+    by (Some part) most = omega (arith, most)
+
+none_after : (trees : List Common) (f : ℕ → Option ℕ) (s n : ℕ) → missing (cells_from trees f s n) ≡ n → (k : ℕ) → k < n → f (s + k) ≡ None
+none_after trees f s zero all k lt = absurd (omega (arith, lt))
+none_after trees f s (suc n) all k lt = by (f s) refl all k lt (missing_most trees f (suc s) n) (λ lack j less_. none_after trees f (suc s) n lack j less_)
+  where
+    moved : (m j : ℕ) → suc m + j ≡ m + suc j
+    moved m j = omega arith
+
+    none_more : (m : ℕ) → m + 0 ≡ m
+    none_more m = omega arith
+
+    by : (o : Option ℕ) → f s ≡ o → missing (tree_in trees o ∷ cells_from trees f (suc s) n) ≡ suc n → (k : ℕ) → k < suc n → missing (cells_from trees f (suc s) n) ≤ n → (missing (cells_from trees f (suc s) n) ≡ n → (j : ℕ) → j < n → f (suc s + j) ≡ None) → f (s + k) ≡ None
+    by (Some part) e lack k lt most again = absurd (omega (arith, lack, most))
+    by None e lack zero lt most again = ap f (none_more s) ∙ e
+    by None e lack (suc j) lt most again = ap f (sym (moved s j)) ∙ again (omega (arith, lack)) j (omega (arith, lt))
+
+pub none_there : (trees : List Common) (f : ℕ → Option ℕ) (n : ℕ) → missing (cells_from trees f 0 n) ≡ n → (k : ℕ) → k < n → f k ≡ None
+none_there trees f n all k lt = ap f (let P : k ≡ 0 + k = omega arith in P) ∙ none_after trees f 0 n all k lt
+
 -- the children of a full node
 kids_are : (trees : List Common) (f : ℕ → Option ℕ) (ks : List ℕ) (s n : ℕ) → length ks ≡ n → ((k : ℕ) → k < n → slice_get ks k ≡ f (s + k)) → kids_in (cells_from trees f s n) ≡ kids_at trees ks
 kids_are trees f [] s zero long each = refl
@@ -204,6 +231,21 @@ with_others look node slot part n s apart = by (n == node) (s == slot) refl refl
     by false b e f = refl
     by true false e f = refl
     by true true e f = absurd (apart (eqb-true n node e) (eqb-true s slot f))
+
+-- the child of a single slot is the one that is given
+pub one_child : (look : ℕ → Option ℕ) (slot part count : ℕ) → count ≡ 1 → slot < count → (s : ℕ) → s < count → slice_get (part ∷ []) s ≡ with_child look slot part s
+unfolding with_child
+one_child look zero part count one lt zero below = refl
+one_child look zero part count one lt (suc s) below = absurd (omega (arith, one, below))
+one_child look (suc slot) part count one lt s below = absurd (omega (arith, one, lt))
+
+pub given_child : (look : ℕ → Option ℕ) (slot part : ℕ) → with_child look slot part slot ≡ Some part
+unfolding with_child
+given_child look slot part = if_true (slot == slot) (Some part) (look slot) (eq_self slot)
+
+pub one_below : (part n : ℕ) → part < n → (k d : ℕ) → k < 1 → slice_index_or (part ∷ []) k d < n
+one_below part n lt zero d below = lt
+one_below part n lt (suc k) d below = absurd (omega (arith, below))
 
 -- a child is put at a free slot of the innermost node, and what comes of it
 module _ (p : Pair) (trees : List Common) (parts : List TreePart) (look new : ℕ → ℕ → Option ℕ) (os : List Open) (o : Open) (slot part bound : ℕ) (sized : length trees ≡ length parts) (children : AreChildren parts look bound) (popped : Popped p trees look [] 0 bound os o) (free : slice_get (cells_of p trees look o) slot ≡ Some None) (own : part < length parts) (here : new o.node slot ≡ Some part) (others : (n s : ℕ) → (n ≡ o.node → s ≡ slot → ⊥) → new n s ≡ look n s) where

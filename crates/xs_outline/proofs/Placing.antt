@@ -1,6 +1,6 @@
 -- Where a line leads.
 use Rattle.std.proofs.Common.{◌≡◌, ℕ, suc, ◌+◌, ◌<◌, true, false, List, [], ◌∷◌, ◌++◌, length, length-append, get_or, Some, None, refl, sym, ap, ◌∙◌, subst, arith, Bool, ◌==◌, if◌then◌else◌}
-use Rattle.std.specs.Prelude.{slice_get}
+use Rattle.std.specs.Prelude.{slice_get, IsSome}
 use Rattle.std.specs.declared.option.Option.{Option}
 use Rattle.std.proofs.lemmas.Option.{none-some, same_Some, slice_get_within, slice_get-get_or, get_or_from_slice_get}
 use Rattle.xs_class.specs.Ordered.{place_of}
@@ -22,7 +22,7 @@ use Rattle.xs_outline.specs.Shapes.{names_of, slot_count, kind_at, root_name}
 use Rattle.xs_outline.specs.Machine.{Frame, at_start, within, enter, EntryFits, IsWelcome, MayCome}
 use Rattle.xs_outline.specs.Tables.{known, name_list, IsTable}
 use Rattle.xs_outline.specs.Reader.{child_at, tree_in, frame_of, frames_onto, frames, IsThere, state, state_at, state_within, AreOpen, IsKept, IsPlaceFor, NoPlaceFor}
-use Rattle.xs_outline.proofs.Keeping.{frames_push, open_pop, cell_at}
+use Rattle.xs_outline.proofs.Keeping.{frames_push, open_pop, cell_at, none_there}
 
 pub frames_long : (p : Pair) (trees : List Common) (look : ℕ → ℕ → Option ℕ) (fs : List Frame) (os : List Open) → length (frames_onto p trees look fs os) ≡ length fs + length os
 frames_long p trees look fs [] = omega arith
@@ -89,14 +89,21 @@ module _ (p : Pair) (r : Reader) (front : List Open) (top : Open) (root : r.root
   cell_is : (slot : ℕ) (name : List ℕ) → place_of (names_of p top.rule) name ≡ Some slot → slice_get inner.cells slot ≡ Some (tree_in (trees_of r.parts) (child_at r.children top.node slot))
   cell_is slot name named = cell_at (trees_of r.parts) (child_at r.children top.node) (slot_count p top.rule) slot (slot_below slot name named)
 
-  pub inner_taken : (depth slot part : ℕ) (name : List ℕ) → place_of (names_of p top.rule) name ≡ Some slot → child_at r.children top.node slot ≡ Some part → NoPlaceFor p (state p r) depth name
-  inner_taken depth slot part name named taken e may =
+  pub inner_taken : (depth slot : ℕ) (name : List ℕ) → place_of (names_of p top.rule) name ≡ Some slot → IsSome (child_at r.children top.node slot) → NoPlaceFor p (state p r) depth name
+  inner_taken depth slot name named taken e may =
       let at = (may_here depth name e may).1 in
       let free : slice_get inner.cells slot ≡ Some None = subst (λ s. slice_get inner.cells s ≡ Some None) (slot_same depth slot name e named may) at.free in
-      not_free _ (same_Some _ None (sym (cell_is slot name named ∙ ap (λ o. Some (tree_in (trees_of r.parts) o)) taken) ∙ free))
+      not_free (child_at r.children top.node slot) taken (same_Some _ None (sym (cell_is slot name named) ∙ free))
     where
-      not_free : (t : Common) → ◌≡◌ {A = Option Common} (Some t) None → ⊥
-      not_free t e = cc
+      not_free : (o : Option ℕ) → IsSome o → tree_in (trees_of r.parts) o ≡ None → ⊥
+      not_free None some none = cc
+      not_free (Some part) some none = cc
+
+  -- a node that lacks all its children has none
+  pub inner_free : (bound slot : ℕ) (name : List ℕ) → IsKept p bound r → place_of (names_of p top.rule) name ≡ Some slot → top.missing ≡ slot_count p top.rule → child_at r.children top.node slot ≡ None
+  inner_free bound slot name kept named all =
+      let own = (open_pop p (trees_of r.parts) (child_at r.children) [] 0 bound front top (subst (λ os. AreOpen p (trees_of r.parts) (child_at r.children) [] 0 bound os) are kept.open_)).own in
+      none_there (trees_of r.parts) (child_at r.children top.node) (slot_count p top.rule) (sym own.missing ∙ all) slot (slot_below slot name named)
 
   pub inner_strange : (depth slot : ℕ) (name : List ℕ) → place_of (names_of p top.rule) name ≡ Some slot → kind_at p top.rule slot ≡ None → NoPlaceFor p (state p r) depth name
   inner_strange depth slot name named none e may =

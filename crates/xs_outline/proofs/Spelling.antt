@@ -38,7 +38,7 @@ same_value cs v w a b =
     let inner : spelt_quoted a.units (34 ∷ []) ≡ spelt_quoted b.units (34 ∷ []) = (first_same 34 34 _ _ (sym a.is ∙ b.is)).1 in
     a.means ∙ sym (value_read a.units [] a.each) ∙ ap (λ z. value_at (Some Between) z) inner ∙ value_read b.units [] b.each ∙ sym b.means
 
-quote_no_digit : (ds : List ℕ) (n : ℕ) (v : List ℕ) → IsNumeral ds n → IsQuoted ds v → ⊥
+pub quote_no_digit : (ds : List ℕ) (n : ℕ) (v : List ℕ) → IsNumeral ds n → IsQuoted ds v → ⊥
 quote_no_digit [] n v num quoted = num.some refl
 quote_no_digit (d ∷ ds) n v num quoted =
     let first : d ≡ 34 = (first_same d 34 ds _ quoted.is).0 in

@@ -4,7 +4,7 @@ ghost use Rattle.xs_outline.specs.Lines.{line, Lacks, SpellsLine, SpellsEntry};
 ghost use Rattle.xs_outline.specs.Reading.{IsFirstLine};
 ghost use Rattle.xs_outline.specs.Parsed.{entry_meant, NoLine, NoEntry};
 
-use crate::numeral::numeral;
+use crate::numeral::{numeral, numeral_to_space};
 use crate::quoted::quoted;
 use std::alloc::Global;
 use xs_class::{Memory, Sym, Word};
@@ -72,16 +72,16 @@ pub fn first_line(text: &[Sym]) -> (&[Sym], &[Sym])
 fn read_entry(alloc: Global, text: &[Sym]) -> Result<Option<Entry>, Memory>
     ensures { IfOk result (λ entry. MatchOption entry (NoEntry text.now) (λ e. SpellsEntry (entry_meant e) text.now)) }
 {
-    if let Some(word) = quoted(alloc, text)? {
-        return Ok(Some(Entry::Leaf(word)));
-    }
     match numeral(text) {
         Some(number) => if number == 0 {
             Ok(None)
         } else {
             Ok(Some(Entry::Production(number - 1)))
         },
-        None => Ok(None),
+        None => match quoted(alloc, text)? {
+            Some(word) => Ok(Some(Entry::Leaf(word))),
+            None => Ok(None),
+        },
     }
 }
 
@@ -89,13 +89,10 @@ fn read_entry(alloc: Global, text: &[Sym]) -> Result<Option<Entry>, Memory>
 pub fn read_line(alloc: Global, text: &[Sym]) -> Result<Option<Parsed<'_>>, Memory>
     ensures { IfOk result (λ parsed. MatchOption parsed (NoLine text.now) (λ p. SpellsLine (line p.depth p.name.now (entry_meant p.entry)) text.now)) }
 {
-    let Some((digits, rest)) = cut(text) else {
+    let Some((depth, rest)) = numeral_to_space(text) else {
         return Ok(None);
     };
     let Some((name, rest)) = cut(rest) else {
-        return Ok(None);
-    };
-    let Some(depth) = numeral(digits) else {
         return Ok(None);
     };
     match read_entry(alloc, rest)? {

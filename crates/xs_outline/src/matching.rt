@@ -77,14 +77,31 @@ fn goes(p: &Position, word: &[Sym], may: &mut [bool], reached: &mut [bool]) -> b
     ends(p, word.is_empty(), reached)
 }
 
-/// Whether the automaton accepts the word, in time at most the product of the word's length and the
-/// square of the number of positions.
-pub fn accepts(alloc: Global, p: &Position, word: &[Sym]) -> Result<bool, Memory>
-    requires { IsWellFormed p.now }
-    ensures { IfOk result (λ b. IsTrue b ↔ Accepts p.now word.now) }
-{
-    let count = p.classes.len();
-    let mut may = vec![in alloc; false; count]?;
-    let mut reached = vec![in alloc; false; count]?;
-    Ok(goes(p, word, &mut may, &mut reached))
+/// Flags for the positions of an automaton, whose memory serves one word after another.
+#[derive(Drop)]
+pub struct Flags {
+    may: Vec<bool>,
+    reached: Vec<bool>,
+}
+
+impl Flags {
+    /// No flags, without memory.
+    pub fn new(alloc: Global) -> Self {
+        Flags {
+            may: Vec::new(alloc),
+            reached: Vec::new(alloc),
+        }
+    }
+
+    /// Whether the automaton accepts the word, in time at most the product of the word's length and
+    /// the square of the number of positions.
+    pub fn accepts(&mut self, p: &Position, word: &[Sym]) -> Result<bool, Memory>
+        requires { IsWellFormed p.now }
+        ensures { IfOk result (λ b. IsTrue b ↔ Accepts p.now word.now) }
+    {
+        let count = p.classes.len();
+        self.may.resize(count, false)?;
+        self.reached.resize(count, false)?;
+        Ok(goes(p, word, &mut self.may, &mut self.reached))
+    }
 }

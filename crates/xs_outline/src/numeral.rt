@@ -1,18 +1,23 @@
 // Numbers in decimal digits.
-ghost use Rattle.std.specs.Prelude.{◌≡◌, ◌≤◌};
-ghost use Rattle.xs_outline.specs.Reading.{digit_in, with_digit, number_after, numeral_at};
+ghost use Rattle.std.specs.Prelude.{◌≡◌};
+ghost use Rattle.std.specs.Option.{option_map};
+ghost use Rattle.xs_outline.specs.Reading.{digit_in, with_digit, number_after, numeral_at, spaced_after, spaced_at};
 
 use xs_class::Sym;
 
-/// The value of a digit, if the symbol is one.
-pub fn digit(symbol: Sym, radix: u32) -> Option<u32>
-    requires some { 2 ≤ radix }
-    requires few { radix ≤ 36 }
-    ensures { result ≡ digit_in radix symbol }
+const SPACE: u32 = 0x20;
+
+const ZERO: u32 = 0x30;
+
+/// The value of a decimal digit, if the symbol is one.
+fn digit(symbol: Sym) -> Option<u32>
+    ensures { result ≡ digit_in 10 symbol }
 {
-    match char::from_u32(symbol.number()) {
-        Some(c) => c.to_digit(radix),
-        None => None,
+    let number = symbol.number();
+    if ZERO <= number && number <= 0x39 {
+        Some(number - ZERO)
+    } else {
+        None
     }
 }
 
@@ -29,7 +34,7 @@ fn number(text: &[Sym]) -> Option<u64>
 {
     let mut number: u64 = 0;
     'digits: for symbol in text {
-        let digit = digit(*symbol, 10)?;
+        let digit = digit(*symbol)?;
         number = longer(number, digit)?;
     }
     Some(number)
@@ -42,10 +47,43 @@ pub fn numeral(text: &[Sym]) -> Option<u64>
     match text {
         [] => None,
         [_] => number(text),
-        [first, _, ..] => if first.number() == 0x30 {
+        [first, _, ..] => if first.number() == ZERO {
             None
         } else {
             number(text)
         },
+    }
+}
+
+/// The number that the digits up to a space spell, and what follows the space.
+fn number_to_space(text: &[Sym]) -> Option<(u64, &[Sym])>
+    ensures { option_map (λ r. (r.0, r.1.now)) result ≡ spaced_after 0 text.now }
+{
+    let mut number: u64 = 0;
+    'digits: for (place, symbol) in text.iter().enumerate() {
+        if symbol.number() == SPACE {
+            return Some((number, &text[place + 1..]));
+        }
+        let digit = digit(*symbol)?;
+        number = longer(number, digit)?;
+    }
+    None
+}
+
+/// The number that the text up to its first space is, as `numeral` has it, and what follows the
+/// space.
+pub fn numeral_to_space(text: &[Sym]) -> Option<(u64, &[Sym])>
+    ensures { option_map (λ r. (r.0, r.1.now)) result ≡ spaced_at text.now }
+{
+    match text {
+        [] => None,
+        [_] => None,
+        [first, second, ..] => {
+            if first.number() == SPACE || (first.number() == ZERO && second.number() != SPACE) {
+                None
+            } else {
+                number_to_space(text)
+            }
+        }
     }
 }

@@ -3,9 +3,8 @@ ghost use Rattle.std.specs.Prelude.{◌≡◌, ◌<◌, length, IfOk, IfSome, Ma
 ghost use Rattle.std.specs.Option.{option_map};
 ghost use Rattle.xs_lex.specs.Spelling.{IsQuoted};
 ghost use Rattle.xs_lex.specs.Units.{is_scalar};
-ghost use Rattle.xs_outline.specs.Reading.{digits_at, coded_at, escaped_at, unit_at, ends_at, NoQuoted};
+ghost use Rattle.xs_outline.specs.Reading.{digit_in, digits_at, coded_at, escaped_at, unit_at, ends_at, NoQuoted};
 
-use crate::numeral::digit;
 use std::alloc::Global;
 use xs_class::{Memory, Sym, Word};
 
@@ -20,6 +19,16 @@ fn is_character(number: u32) -> bool
     ensures { result ≡ is_scalar number }
 {
     number < 0xD800 || (0xE000 <= number && number < 0x110000)
+}
+
+/// The value of a hexadecimal digit, if the symbol is one.
+fn digit(symbol: Sym) -> Option<u32>
+    ensures { result ≡ digit_in 16 symbol }
+{
+    match char::from_u32(symbol.number()) {
+        Some(c) => c.to_digit(16),
+        None => None,
+    }
 }
 
 /// The character that the hexadecimal digits up to a brace stand for, and what follows.
@@ -38,7 +47,7 @@ fn digits(text: &[Sym]) -> Option<(Sym, &[Sym])>
         if count >= 6 {
             return None;
         }
-        let digit = digit(*symbol, 16)?;
+        let digit = digit(*symbol)?;
         number = number * 16 + digit;
         if number >= 0x110000 {
             return None;
@@ -109,7 +118,6 @@ fn ends(text: &[Sym]) -> bool
 pub fn quoted(alloc: Global, text: &[Sym]) -> Result<Option<Word>, Memory>
     ensures { IfOk result (λ word. MatchOption word (NoQuoted text.now) (λ w. IsQuoted text.now w)) }
 {
-    let mut word = Word::new(alloc);
     let mut rest = match text {
         [] => return Ok(None),
         [first, rest @ ..] => if first.number() == QUOTE {
@@ -118,6 +126,7 @@ pub fn quoted(alloc: Global, text: &[Sym]) -> Result<Option<Word>, Memory>
             return Ok(None)
         },
     };
+    let mut word = Word::from_vec(Vec::with_capacity(alloc, rest.len())?);
     'units: while !ends(rest) {
         let Some(read) = unit(rest) else {
             return Ok(None);

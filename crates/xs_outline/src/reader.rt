@@ -8,9 +8,9 @@ ghost use Rattle.xs_outline.specs.Tables.{AreTables, kind_meant};
 ghost use Rattle.xs_outline.specs.Reader.{child_at, frames, state, less, with_child, Goes, HasRule, IsThere, IsClosed, IsFree, IsKept, IsNew, IsPlaceFor, IsStuck, NoPlaceFor};
 ghost use Rattle.xs_outline.specs.declared.reader.Open.{Open as AnyOpen};
 
-use crate::children::{Children, child, put};
+use crate::children::{Children, child, gather, put};
 use crate::line::{Entry, Parsed, read_line};
-use crate::matching::accepts;
+use crate::matching::Flags;
 use crate::slot_table::{Kind, SlotTable};
 use std::alloc::Global;
 use xs_class::{Memory, Side, Sym};
@@ -28,12 +28,14 @@ pub struct Open {
 }
 
 /// What was read of an outline: the parts of its tree so far, the nodes that are open, the
-/// innermost last, the children that nodes have, and the root, once the tree is whole.
+/// innermost last, the children that nodes have, those of the node that was closed last, and the
+/// root, once the tree is whole.
 #[derive(Drop)]
 pub struct Reader {
     pub parts: Builder,
     pub open: Vec<Open>,
     pub children: Children,
+    pub kids: Vec<u64>,
     pub root: Option<u64>,
 }
 
@@ -41,7 +43,7 @@ pub struct Reader {
 const ROOT: [Sym; 4] = [Sym(0x74), Sym(0x72), Sym(0x65), Sym(0x65)];
 
 /// Whether the entry may stand where something of this kind may.
-fn fits(alloc: Global, two: &Two, kind: Kind, entry: &Entry) -> Result<bool, Memory>
+fn fits(flags: &mut Flags, two: &Two, kind: Kind, entry: &Entry) -> Result<bool, Memory>
     requires built { IsBuilt two.now.text }
     requires there { IsThere two.now (kind_meant kind) }
     ensures { IfOk result (λ b. MatchBool b (EntryFits two.now (Some (kind_meant kind)) (entry_meant entry.now))
@@ -49,9 +51,7 @@ fn fits(alloc: Global, two: &Two, kind: Kind, entry: &Entry) -> Result<bool, Mem
 {
     let text = two.gram(Side::Text);
     match (kind, entry) {
-        (Kind::Term(term), Entry::Leaf(word)) => {
-            accepts(alloc, text.term(term), word.as_slice())
-        }
+        (Kind::Term(term), Entry::Leaf(word)) => flags.accepts(text.term(term), word.as_slice()),
         (Kind::Non(non), Entry::Production(number)) => {
             Ok(*number < u64::from(text.rules()) && text.non_of(*number as u32) == non)
         }
@@ -69,6 +69,7 @@ impl Reader {
             parts: Builder::new(alloc)?,
             open: Vec::new(alloc),
             children: Children::new(alloc),
+            kids: Vec::new(alloc),
             root: None,
         })
     }
@@ -86,6 +87,15 @@ impl Reader {
         } else {
             None
         }
+    }
+
+    /// Whether a node of that many slots has a child at one of them: not where it lacks all, which
+    /// is told without a look into the map.
+    fn has_child(&self, top: Open, count: usize, slot: usize) -> bool
+        requires { top.missing ≡ count → child_at self.now.children top.node slot ≡ None }
+        ensures { MatchBool result (IsSome (child_at self.now.children top.node slot)) (child_at self.now.children top.node slot ≡ None) }
+    {
+        top.missing != count && child(&self.children, top.node, slot).is_some()
     }
 
     /// Where a line with this depth and name leads in the innermost node.
@@ -113,7 +123,8 @@ impl Reader {
         let Some(slot) = table.place(name) else {
             return None;
         };
-        if let Some(_) = child(&self.children, top.node, slot) {
+        let count = table.kinds.len();
+        if self.has_child(top, count, slot) {
             return None;
         }
         match table.kinds[slot] {
@@ -166,64 +177,26 @@ impl Reader {
         Ok(())
     }
 
-    /// The child of a node at a slot, where the one at `last` is given.
-    #[tactic(auto, unfolding(crate::specs::Reader::with_child))]
-    fn kid(&self, node: u64, slot: usize, last: usize, part: u64) -> Option<u64>
-        ensures { result ≡ with_child (child_at self.now.children node) last part slot }
-    {
-        if slot == last {
-            Some(part)
-        } else {
-            child(&self.children, node, slot)
-        }
-    }
-
-    /// The children of a node at that many slots, where the one at `last` is given.
-    fn kids(
-        &self,
-        alloc: Global,
-        node: u64,
-        count: usize,
-        last: usize,
-        part: u64,
-    ) -> Result<Vec<u64>, Memory>
-        requires { (s : ℕ) → s < count → IsSome (with_child (child_at self.now.children node) last part s) }
-        ensures length { IfOk result (λ kids. length kids.items ≡ count) }
-        ensures kids { IfOk result (λ kids. (s : ℕ) → s < count → slice_get kids.items s ≡ with_child (child_at self.now.children node) last part s) }
-    {
-        let mut kids = Vec::with_capacity(alloc, count)?;
-        'slots: for slot in 0..count {
-            match self.kid(node, slot, last, part) {
-                Some(kid) => kids.push(kid)?,
-                None => unreachable!(),
-            }
-        }
-        Ok(kids)
-    }
-
     /// Closes a node that lacks the child at `last` alone, which is given, and is taken out; the
-    /// answer is its part.
-    fn close(
-        &mut self,
-        alloc: Global,
-        top: Open,
-        count: usize,
-        last: usize,
-        part: u64,
-    ) -> Result<u64, Memory>
+    /// answer is its part. One of a single slot has that child alone.
+    fn close(&mut self, top: Open, count: usize, last: usize, part: u64) -> Result<u64, Memory>
         requires below { (s kid : ℕ) → with_child (child_at self.old.children top.node) last part s ≡ Some kid → kid < length self.old.parts }
         requires full { (s : ℕ) → s < count → IsSome (with_child (child_at self.old.children top.node) last part s) }
+        requires last { last < count }
         ensures { IfOk result (IsClosed self.old self.new top.node top.rule count last part) }
     {
-        let kids = self.kids(alloc, top.node, count, last, part)?;
-        self.parts.node(top.rule, &kids)
+        if count == 1 {
+            let number = self.parts.node(top.rule, &[part])?;
+            return Ok(number);
+        }
+        gather(&self.children, top.node, count, last, part, &mut self.kids)?;
+        self.parts.node(top.rule, &self.kids)
     }
 
     /// Gives a tree to the innermost node, and closes the nodes that have all their children now.
     /// The last child of a node goes straight into its part.
     fn give(
         &mut self,
-        alloc: Global,
         two: &Two,
         tables: &[SlotTable],
         part: u64,
@@ -245,7 +218,7 @@ impl Reader {
                 return Ok(());
             }
             let count = tables[top.rule as usize].kinds.len();
-            part = self.close(alloc, top, count, slot, part)?;
+            part = self.close(top, count, slot, part)?;
             slot = top.slot;
         }
         self.root = Some(part);
@@ -256,7 +229,6 @@ impl Reader {
     /// production has no slots.
     fn open_node(
         &mut self,
-        alloc: Global,
         two: &Two,
         tables: &[SlotTable],
         number: u64,
@@ -282,13 +254,12 @@ impl Reader {
             return Ok(());
         }
         let part = self.parts.node(rule, &[])?;
-        self.give(alloc, two, tables, part, slot)
+        self.give(two, tables, part, slot)
     }
 
     /// The entry stands at a slot of the innermost node.
     fn enter(
         &mut self,
-        alloc: Global,
         two: &Two,
         tables: &[SlotTable],
         number: u64,
@@ -307,11 +278,9 @@ impl Reader {
         match entry {
             Entry::Leaf(word) => {
                 let part = self.parts.leaf(word.as_slice())?;
-                self.give(alloc, two, tables, part, slot)
+                self.give(two, tables, part, slot)
             }
-            Entry::Production(rule) => {
-                self.open_node(alloc, two, tables, number, *rule as u32, slot)
-            }
+            Entry::Production(rule) => self.open_node(two, tables, number, *rule as u32, slot),
         }
     }
 
@@ -319,7 +288,7 @@ impl Reader {
     /// not opened yet.
     fn take(
         &mut self,
-        alloc: Global,
+        flags: &mut Flags,
         two: &Two,
         tables: &[SlotTable],
         number: u64,
@@ -337,10 +306,10 @@ impl Reader {
         let Some(place) = self.place(two, tables, parsed.depth, parsed.name) else {
             return Ok(false);
         };
-        if !fits(alloc, two, place.0, &parsed.entry)? {
+        if !fits(flags, two, place.0, &parsed.entry)? {
             return Ok(false);
         }
-        self.enter(alloc, two, tables, number, place.1, &parsed.entry)?;
+        self.enter(two, tables, number, place.1, &parsed.entry)?;
         Ok(true)
     }
 
@@ -348,6 +317,7 @@ impl Reader {
     pub fn read(
         &mut self,
         alloc: Global,
+        flags: &mut Flags,
         two: &Two,
         tables: &[SlotTable],
         number: u64,
@@ -363,7 +333,7 @@ impl Reader {
         let Some(parsed) = read_line(alloc, text)? else {
             return Ok(false);
         };
-        let taken = self.take(alloc, two, tables, number, parsed)?;
+        let taken = self.take(flags, two, tables, number, parsed)?;
         Ok(taken)
     }
 }

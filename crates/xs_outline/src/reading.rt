@@ -9,6 +9,7 @@ ghost use Rattle.xs_outline.specs.Refusal.{IsRefusal};
 
 use crate::OutlineFault;
 use crate::line::first_line;
+use crate::matching::Flags;
 use crate::reader::Reader;
 use crate::slot_table::tables;
 use std::alloc::Global;
@@ -31,11 +32,12 @@ pub fn read_outline(alloc: Global, two: &Two, doc: &Word) -> Result<Tree, Outlin
 {
     let tables = tables(alloc, two)?;
     let mut reader = Reader::new(alloc)?;
+    let mut flags = Flags::new(alloc);
     let mut rest = doc.as_slice();
     let mut number: u64 = 0;
     'lines: while !rest.is_empty() {
         let (text, more) = first_line(rest);
-        if !reader.read(alloc, two, &tables, number, text)? {
+        if !reader.read(alloc, &mut flags, two, &tables, number, text)? {
             return Err(OutlineFault::OutlineBad { line: number + 1 });
         }
         number += 1;

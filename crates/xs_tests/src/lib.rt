@@ -19,6 +19,8 @@ mod clauses;
 #[cfg(test)]
 mod cover;
 #[cfg(test)]
+mod draws;
+#[cfg(test)]
 mod earley;
 #[cfg(test)]
 mod examples;

@@ -1,5 +1,12 @@
 ghost use Rattle.xs_gram.specs.Sound.{IsBuilt};
 
+mod drawn;
+mod pieces;
+mod random;
+mod slow;
+mod weighed;
+mod words;
+
 use crate::sheets::pair_of;
 use std::alloc::Global;
 use std::process::Abort;

@@ -6,6 +6,7 @@ ghost use Rattle.xs_gram.specs.Sound.{IsSound};
 ghost use Rattle.xs_pair.specs.Sound.{IsSoundPair};
 
 use super::{Found, agree, changed, exact_tree, found_for};
+use crate::draws::Draws;
 use crate::earley::{UNITS, push_items};
 use crate::names::add_characters;
 use crate::sheets::{push_all, two_of};
@@ -32,19 +33,7 @@ const TERMS: [[&str; 3]; 3] = [["a", "b", "a"], ["", "a", "aaa"], ["a", "aa", "a
 
 const SKIPS: [[&str; 3]; 2] = [["", "b", "bb"], ["", "ab", "ab"]];
 
-/// Numbers drawn by a linear congruential generator.
-#[derive(Drop)]
-struct Draws {
-    state: u32,
-}
-
 impl Draws {
-    /// A number below the count.
-    fn below(&mut self, count: u32) -> u32 {
-        self.state = self.state.wrapping_mul(1_103_515_245).wrapping_add(12_345);
-        (self.state >> 16).checked_rem(count).unwrap_or(0)
-    }
-
     /// A place in the symbols.
     fn place(&mut self, symbols: &[Sym]) -> usize {
         self.below((symbols.len() % 65_536) as u32) as usize

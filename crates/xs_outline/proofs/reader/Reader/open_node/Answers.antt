@@ -17,7 +17,7 @@ returns-then-missing-gt0-clause-state c =
     let lt : c.args.rule < length c.args.tables.now = omega (arith, c.requires.rule, c.requires.tables.long) in
     let table = c.requires.tables.each c.args.rule c.index-tables-rule.result (row_at c.args.tables.now c.args.rule c.index-tables-rule.result lt c.index-tables-rule.is) in
     let count : c.len-missing.result ≡ slot_count c.args.two.now c.args.rule = omega (arith, c.len-missing.ensures, c.index-tables-rule.result.kinds.ok.0, table.long, ap (λ (row : SlotTable). vec_len row.kinds) c.index-tables-rule.is) in
-    let now : Reader = record { parts = c.args.self.now.parts; «open» = c.push.new.self; children = c.args.self.now.children; root = c.args.self.now.root } in
+    let now : Reader = record { parts = c.args.self.now.parts; «open» = c.push.new.self; children = c.args.self.now.children; kids = c.args.self.now.kids; root = c.args.self.now.root } in
     let own : Open = record { node = c.args.number; rule = c.args.rule; slot = c.args.slot; missing = c.len-missing.result } in
     opened_state c.args.two.now c.args.self.now now own c.args.number refl refl c.requires.root refl c.in_ok-push.ensures.items c.requires.kept refl c.requires.rule count c.if-missing-gt0.true c.requires.free
 
@@ -26,7 +26,7 @@ returns-then-missing-gt0-clause-kept c =
     let lt : c.args.rule < length c.args.tables.now = omega (arith, c.requires.rule, c.requires.tables.long) in
     let table = c.requires.tables.each c.args.rule c.index-tables-rule.result (row_at c.args.tables.now c.args.rule c.index-tables-rule.result lt c.index-tables-rule.is) in
     let count : c.len-missing.result ≡ slot_count c.args.two.now c.args.rule = omega (arith, c.len-missing.ensures, c.index-tables-rule.result.kinds.ok.0, table.long, ap (λ (row : SlotTable). vec_len row.kinds) c.index-tables-rule.is) in
-    let now : Reader = record { parts = c.args.self.now.parts; «open» = c.push.new.self; children = c.args.self.now.children; root = c.args.self.now.root } in
+    let now : Reader = record { parts = c.args.self.now.parts; «open» = c.push.new.self; children = c.args.self.now.children; kids = c.args.self.now.kids; root = c.args.self.now.root } in
     let own : Open = record { node = c.args.number; rule = c.args.rule; slot = c.args.slot; missing = c.len-missing.result } in
     opened_kept c.args.two.now c.args.self.now now own c.args.number refl refl c.requires.root refl c.in_ok-push.ensures.items c.requires.kept refl c.requires.rule count c.if-missing-gt0.true c.requires.free
 
