@@ -1,6 +1,5 @@
 -- A line that is read, by what the reader keeps.
-use Rattle.std.proofs.Common.{◌≡◌, ℕ, suc, ◌+◌, ◌^◌, ◌<◌, ◌≤◌, Bool, true, false, List, [], ◌∷◌, length, Some, None, sym, ap, ◌∙◌, subst, arith}
-use Rattle.std.specs.Prelude.{MatchBool}
+use Rattle.std.proofs.Common.{◌≡◌, ℕ, suc, ◌+◌, ◌^◌, ◌<◌, ◌≤◌, List, [], ◌∷◌, length, Some, None, sym, ap, ◌∙◌, subst, arith}
 use Rattle.std.specs.declared.option.Option.{Option}
 use Rattle.std.proofs.lemmas.Option.{none-some}
 use Rattle.xs_gram.specs.Common.{Common, Kind, of_term, of_non}
@@ -11,15 +10,17 @@ use Rattle.xs_outline.specs.declared.reader.Open.{Open}
 use Rattle.xs_outline.specs.declared.reader.Reader.{Reader}
 use Rattle.xs_outline.specs.Lines.{Entry, production, leaf_word, Line, SpellsLine}
 use Rattle.xs_outline.specs.Shapes.{kind_at, root_kind}
-use Rattle.xs_outline.specs.Machine.{Frame, at_start, within, complete, next, EntryFits, MayCome}
-use Rattle.xs_outline.specs.Parsed.{IsLowEntry, NoLine}
-use Rattle.xs_outline.specs.Reader.{child_at, frame_of, frames, state, state_at, state_within, AreOpen, IsKept, IsNew, Goes, IsStuck}
+use Rattle.xs_outline.specs.Machine.{Frame, at_start, within, complete, EntryFits, MayCome}
+use Rattle.xs_outline.specs.Parsed.{IsLowEntry, NoFirst, SpellsFirst}
+use Rattle.xs_outline.specs.Reader.{child_at, frame_of, frames, state, state_at, state_within, AreOpen, IsKept, IsNew, IsStuckFirst}
 use Rattle.xs_outline.proofs.Spelling.{same_line}
+use Rattle.xs_outline.proofs.TextLines.{same_first}
 use Rattle.xs_outline.proofs.Placing.{root_state, frames_long}
 
-pub taken_goes : (p : Pair) (r s : Reader) (text : List ℕ) (l : Line) (number : ℕ) (b : Bool) → SpellsLine l text → MatchBool b (MayCome p (state p r) l × (state p s ≡ next p (state p r) l) × IsKept p (suc number) s) (MayCome p (state p r) l → ⊥) → MatchBool b (Goes p (state p r) text (state p s) × IsKept p (suc number) s) (IsStuck p (state p r) text)
-taken_goes p r s text l number true spells taken = (record { line = l; spells = spells; may = taken.0; is = taken.1 }, taken.2)
-taken_goes p r s text l number false spells taken = λ m spells_m may. taken (subst (MayCome p (state p r)) (same_line m l text spells_m spells) may)
+pub first_stuck : (p : Pair) (r : Reader) (text more : List ℕ) (l : Line) → SpellsFirst l text more → (MayCome p (state p r) l → ⊥) → IsStuckFirst p (state p r) text
+first_stuck p r text more l at not front rest first m spells may =
+    let same = same_first text front at.front rest more first at.first in
+    not (subst (MayCome p (state p r)) (same_line m l at.front (subst (SpellsLine m) same spells) at.spells) may)
 
 open_count : (p : Pair) (trees : List Common) (look : ℕ → ℕ → Option ℕ) (fs : List Frame) (low bound : ℕ) (os : List Open) → AreOpen p trees look fs low bound os → low + length os ≤ bound
 open_count p trees look fs low bound [] open_ = omega (arith, open_)
@@ -37,13 +38,13 @@ state_low p trees [] None l small may = (let deep = may.0 in omega (arith, deep)
 state_low p trees (f ∷ fs) None l small may = (let deep = may.0 in omega (arith, deep), fits_low p (kind_at p f.rule may.1.slot) l.entry small may.1.fits)
 state_low p trees fs (Some part) l small may = absurd may
 
-pub stuck_unread : (p : Pair) (r : Reader) (text : List ℕ) (number : ℕ) → IsBuilt p.text → IsKept p number r → number < 2 ^ 64 → NoLine text → IsStuck p (state p r) text
-stuck_unread p r text number built kept low none l spells may =
+pub stuck_unread : (p : Pair) (r : Reader) (text : List ℕ) (number : ℕ) → IsBuilt p.text → IsKept p number r → number < 2 ^ 64 → NoFirst text → IsStuckFirst p (state p r) text
+stuck_unread p r text number built kept low none front rest first l spells may =
     let is_low = state_low p (trees_of r.parts) (frames p r) r.root l built.small.rules may in
     let count = open_count p (trees_of r.parts) (child_at r.children) [] 0 number r.open.items kept.open_ in
     let long = frames_long p (trees_of r.parts) (child_at r.children) [] r.open.items in
     let deep = is_low.0 in
-    none l (omega (arith, deep, count, long, low)) is_low.1 spells
+    none front rest first l (omega (arith, deep, count, long, low)) is_low.1 spells
 
 -- nothing was read
 pub new_state : (p : Pair) (r : Reader) → IsNew r → state p r ≡ at_start

@@ -1,5 +1,5 @@
 -- The slots of a sheet that was read have plain names, so there is no space and no LF in them.
-use Rattle.std.proofs.Common.{◌≡◌, ◌⊎◌, inl, inr, ℕ, ◌+◌, List, [], ◌∷◌, map, get_or, Bool, true, false, if◌then◌else◌, refl, sym, ap, ◌∙◌, subst}
+use Rattle.std.proofs.Common.{◌≡◌, ◌⊎◌, inl, inr, ℕ, ◌+◌, List, [], ◌∷◌, map, get_or, Bool, true, false, if◌then◌else◌, refl, sym, ◌∙◌, subst}
 use Rattle.std.specs.List.{list_all}
 use Rattle.xs_class.specs.Tables.{is_name_start}
 use Rattle.xs_class.proofs.Truth.{and_true, false_true}
@@ -19,7 +19,6 @@ use Rattle.xs_sheet.specs.declared.sheet.Sheet.{Sheet}
 use Rattle.xs_sheet.specs.Outline.{Content, nothing, item, element, UnitOutline, terminal, ignorable, production, fence, unit_outline}
 use Rattle.xs_sheet.specs.Pieces.{IsTextOf, IsPiece, ArePieces}
 use Rattle.xs_sheet.specs.Grammar.{IsUnitName, ReadsItem, ReadsItems, ReadsAttr, ReadsAttrs, ReadsOpening, ReadsClosing, ReadsSign, ReadsContent, ReadsUnit, ReadsUnits, IsSheetOf}
-use Rattle.xs_pair.specs.declared.mark.Mark.{Mark}
 use Rattle.xs_pair.specs.declared.mark.Mark.TheVariants.{Content as OfContent}
 use Rattle.xs_pair.specs.declared.production.Rule.{Rule}
 use Rattle.xs_pair.specs.Grammars.{Pair, IsPairOf}

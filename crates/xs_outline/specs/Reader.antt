@@ -6,6 +6,7 @@ use Rattle.xs_gram.specs.Common.{Common, Kind, of_term, of_non}
 use Rattle.xs_tree.specs.Flat.{TreePart, Node, tree_at, tree_of, trees_of}
 use Rattle.xs_pair.specs.Grammars.{Pair}
 use Rattle.xs_outline.specs.Lines.{Entry, production, leaf_word, Line, line, SpellsLine, AreSpelt, text_lines}
+use Rattle.xs_outline.specs.Reading.{IsFirstLine}
 use Rattle.xs_outline.specs.Shapes.{slot_count}
 use Rattle.xs_outline.specs.Machine.{Frame, frame, State, at_start, within, complete, enter, next, after, EntryFits, MayCome, MayAllCome}
 use Rattle.xs_outline.specs.declared.reader.Open.{Open}
@@ -139,6 +140,15 @@ pub record Goes (p : Pair) (from : State) (text : List ℕ) (to : State) : Type 
 -- it spells no line that may come
 abbrev pub IsStuck : Pair → State → List ℕ → Type 0
 IsStuck p from text = (l : Line) → SpellsLine l text → MayCome p from l → ⊥
+
+-- the same of the first line of a text, where rest follows it
+pub record GoesFirst (p : Pair) (from : State) (text rest : List ℕ) (to : State) : Type 0 where
+  pub front : List ℕ
+  pub first : IsFirstLine text front rest
+  pub goes : Goes p from front to
+
+abbrev pub IsStuckFirst : Pair → State → List ℕ → Type 0
+IsStuckFirst p from text = (front rest : List ℕ) → IsFirstLine text front rest → IsStuck p from front
 
 -- That many lines of the document were read, and rest is what follows them; they may come one by one, and lead to
 -- this state.

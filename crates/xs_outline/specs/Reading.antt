@@ -70,3 +70,7 @@ NoQuoted text = (value : List ℕ) → IsQuoted text value → ⊥
 -- the text is a line and its LF, then the rest; or one line without LF
 abbrev pub IsFirstLine : List ℕ → List ℕ → List ℕ → Type 0
 IsFirstLine text line rest = Lacks 10 line × ((text ≡ line ++ 10 ∷ rest) ⊎ ((text ≡ line) × (line ≢ []) × (rest ≡ [])))
+
+-- the first line of the text has no space
+abbrev pub NoName : List ℕ → Type 0
+NoName text = (name rest : List ℕ) → Lacks 10 name → text ≡ name ++ 32 ∷ rest → ⊥

@@ -1,8 +1,8 @@
 // Lines, and their three parts.
 ghost use Rattle.std.specs.Prelude.{◌≡◌, ◌<◌, ◌≤◌, ◌∷◌, ◌++◌, Some, length, take, slice_get, IfOk, MatchOption};
-ghost use Rattle.xs_outline.specs.Lines.{line, Lacks, SpellsLine, SpellsEntry};
-ghost use Rattle.xs_outline.specs.Reading.{IsFirstLine};
-ghost use Rattle.xs_outline.specs.Parsed.{entry_meant, NoLine, NoEntry};
+ghost use Rattle.xs_outline.specs.Lines.{line, Lacks, SpellsEntry};
+ghost use Rattle.xs_outline.specs.Reading.{IsFirstLine, NoName};
+ghost use Rattle.xs_outline.specs.Parsed.{entry_meant, NoEntry, NoFirst, SpellsFirst};
 
 use crate::numeral::{numeral, numeral_to_space};
 use crate::quoted::quoted;
@@ -85,18 +85,39 @@ fn read_entry(alloc: Global, text: &[Sym]) -> Result<Option<Entry>, Memory>
     }
 }
 
-/// The line that a text spells, if it spells one whose numbers are below 2^64.
-pub fn read_line(alloc: Global, text: &[Sym]) -> Result<Option<Parsed<'_>>, Memory>
-    ensures { IfOk result (λ parsed. MatchOption parsed (NoLine text.now) (λ p. SpellsLine (line p.depth p.name.now (entry_meant p.entry)) text.now)) }
+/// What stands before the first space of a text's first line, and after it, if that line has a space.
+fn cut_line(text: &[Sym]) -> Option<(&[Sym], &[Sym])>
+    ensures { MatchOption result (NoName text.now) (λ r. Lacks 32 r.0.now × Lacks 10 r.0.now × (text.now ≡ r.0.now ++ 32 ∷ r.1.now)) }
 {
-    let Some((depth, rest)) = numeral_to_space(text) else {
+    'symbols: for (place, symbol) in text.iter().enumerate() {
+        let number = symbol.number();
+        if number == SPACE {
+            return Some((&text[..place], &text[place + 1..]));
+        }
+        if number == LINE_FEED {
+            return None;
+        }
+    }
+    None
+}
+
+/// The line that the first of a text spells, if it spells one whose numbers are below 2^64, and what
+/// follows it. Its end is looked for behind the name alone.
+pub fn read_line(alloc: Global, text: &[Sym]) -> Result<Option<(Parsed<'_>, &[Sym])>, Memory>
+    ensures { IfOk result (λ read. MatchOption read (NoFirst text.now) (λ r. SpellsFirst (line r.0.depth r.0.name.now (entry_meant r.0.entry)) text.now r.1.now)) }
+{
+    let Some((depth, named)) = numeral_to_space(text) else {
         return Ok(None);
     };
-    let Some((name, rest)) = cut(rest) else {
+    let Some((name, meant)) = cut_line(named) else {
         return Ok(None);
     };
-    match read_entry(alloc, rest)? {
-        Some(entry) => Ok(Some(Parsed { depth, name, entry })),
+    if meant.is_empty() {
+        return Ok(None);
+    }
+    let (entry, more) = first_line(meant);
+    match read_entry(alloc, entry)? {
+        Some(entry) => Ok(Some((Parsed { depth, name, entry }, more))),
         None => Ok(None),
     }
 }

@@ -60,12 +60,14 @@ fn number_to_space(text: &[Sym]) -> Option<(u64, &[Sym])>
     ensures { option_map (λ r. (r.0, r.1.now)) result ≡ spaced_after 0 text.now }
 {
     let mut number: u64 = 0;
-    'digits: for (place, symbol) in text.iter().enumerate() {
-        if symbol.number() == SPACE {
-            return Some((number, &text[place + 1..]));
+    let mut rest = text;
+    'digits: while let [first, more @ ..] = rest {
+        if first.number() == SPACE {
+            return Some((number, more));
         }
-        let digit = digit(*symbol)?;
+        let digit = digit(*first)?;
         number = longer(number, digit)?;
+        rest = more;
     }
     None
 }

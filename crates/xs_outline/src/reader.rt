@@ -5,7 +5,7 @@ ghost use Rattle.xs_outline.specs.Lines.{line, production};
 ghost use Rattle.xs_outline.specs.Machine.{EntryFits, MayCome, enter, give, next};
 ghost use Rattle.xs_outline.specs.Parsed.{entry_meant};
 ghost use Rattle.xs_outline.specs.Tables.{AreTables, kind_meant};
-ghost use Rattle.xs_outline.specs.Reader.{child_at, frames, state, less, with_child, Goes, HasRule, IsThere, IsClosed, IsFree, IsKept, IsNew, IsPlaceFor, IsStuck, NoPlaceFor};
+ghost use Rattle.xs_outline.specs.Reader.{child_at, frames, state, less, with_child, GoesFirst, HasRule, IsThere, IsClosed, IsFree, IsKept, IsNew, IsPlaceFor, IsStuckFirst, NoPlaceFor};
 ghost use Rattle.xs_outline.specs.declared.reader.Open.{Open as AnyOpen};
 
 use crate::children::{Children, child, gather, put};
@@ -313,27 +313,29 @@ impl Reader {
         Ok(true)
     }
 
-    /// Reads a line, if its text spells one that may come next.
-    pub fn read(
+    /// Reads the first line of a text, if it spells one that may come next; the answer is what follows it.
+    pub fn read<'d>(
         &mut self,
         alloc: Global,
         flags: &mut Flags,
         two: &Two,
         tables: &[SlotTable],
         number: u64,
-        text: &[Sym],
-    ) -> Result<bool, Memory>
+        text: &'d [Sym],
+    ) -> Result<Option<&'d [Sym]>, Memory>
         requires tables { AreTables two.now tables.now }
         requires built { IsBuilt two.now.text }
         requires kept { IsKept two.now number self.old }
-        ensures { IfOk result (λ b. MatchBool b
-            (Goes two.now (state two.now self.old) text.now (state two.now self.new) × IsKept two.now (suc number) self.new)
-            (IsStuck two.now (state two.now self.old) text.now)) }
+        ensures { IfOk result (λ read. MatchOption read (IsStuckFirst two.now (state two.now self.old) text.now)
+            (λ more. GoesFirst two.now (state two.now self.old) text.now more.now (state two.now self.new) × IsKept two.now (suc number) self.new)) }
     {
-        let Some(parsed) = read_line(alloc, text)? else {
-            return Ok(false);
+        let Some((parsed, more)) = read_line(alloc, text)? else {
+            return Ok(None);
         };
-        let taken = self.take(flags, two, tables, number, parsed)?;
-        Ok(taken)
+        if self.take(flags, two, tables, number, parsed)? {
+            Ok(Some(more))
+        } else {
+            Ok(None)
+        }
     }
 }

@@ -8,7 +8,6 @@ ghost use Rattle.xs_outline.specs.Outline.{IsOutline};
 ghost use Rattle.xs_outline.specs.Refusal.{IsRefusal};
 
 use crate::OutlineFault;
-use crate::line::first_line;
 use crate::matching::Flags;
 use crate::reader::Reader;
 use crate::slot_table::tables;
@@ -36,10 +35,9 @@ pub fn read_outline(alloc: Global, two: &Two, doc: &Word) -> Result<Tree, Outlin
     let mut rest = doc.as_slice();
     let mut number: u64 = 0;
     'lines: while !rest.is_empty() {
-        let (text, more) = first_line(rest);
-        if !reader.read(alloc, &mut flags, two, &tables, number, text)? {
+        let Some(more) = reader.read(alloc, &mut flags, two, &tables, number, rest)? else {
             return Err(OutlineFault::OutlineBad { line: number + 1 });
-        }
+        };
         number += 1;
         rest = more;
     }

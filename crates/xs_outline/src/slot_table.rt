@@ -1,4 +1,4 @@
-ghost use Rattle.std.specs.Prelude.{◌≡◌, ◌<◌, ◌∷◌, [], ℕ, None, length, IfOk};
+ghost use Rattle.std.specs.Prelude.{◌≡◌, ◌<◌, ◌∷◌, [], ℕ, None, length, IfOk, MatchBool};
 ghost use Rattle.std.specs.Str.{chars};
 ghost use Rattle.xs_class.specs.Ordered.{place_of};
 ghost use Rattle.xs_gram.specs.Common.{kinds as all_kinds, lookup};
@@ -125,12 +125,27 @@ pub fn tables(alloc: Global, two: &Two) -> Result<Vec<SlotTable>, Memory>
 /// Up to that many names are compared one by one, which costs less than to hash one.
 const FEW: usize = 4;
 
+/// Whether two names are the same. Names are short, so they are compared here symbol by symbol.
+fn is_same(one: &[Sym], other: &[Sym]) -> bool
+    ensures { MatchBool result (one.now ≡ other.now) (one.now ≡ other.now → ⊥) }
+{
+    if one.len() != other.len() {
+        return false;
+    }
+    'symbols: for place in 0..one.len() {
+        if one[place].number() != other[place].number() {
+            return false;
+        }
+    }
+    true
+}
+
 /// The place of a name among others, each compared with it.
 fn place_among(names: &[Vec<Sym>], name: &[Sym]) -> Option<usize>
     ensures { result ≡ place_of (name_list names.now) name.now }
 {
     'names: for place in 0..names.len() {
-        if names[place].as_slice() == name {
+        if is_same(names[place].as_slice(), name) {
             return Some(place);
         }
     }

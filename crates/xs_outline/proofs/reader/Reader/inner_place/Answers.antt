@@ -1,4 +1,4 @@
-use Rattle.std.proofs.Common.{◌<◌, ◌∙◌, sym, ap, length, arith}
+use Rattle.std.proofs.Common.{◌<◌, ◌∙◌, ap, length, arith}
 use Rattle.xs_outline.specs.Tables.{known}
 use Rattle.xs_outline.proofs.Placing.{top_rule, row_at, named_by, kind_by, slot_below, inner_deep, inner_unnamed, inner_taken, inner_free, inner_strange, inner_found, kind_there}
 use Rattle.xs_outline.proofs.reader.Reader.inner_place.Goals as goal
