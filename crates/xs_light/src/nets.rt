@@ -7,22 +7,10 @@ ghost use Rattle.xs_light.specs.Spaces.{IsSpace, AcceptsLoose, AreCutNets};
 use crate::SearchSpace;
 use xs_auto::Net;
 use xs_class::Memory;
-use xs_gram::{Gram, cuts_are_one};
+use xs_gram::cuts_are_one;
+use xs_screen::whole;
 use xs_stretch::{LooseFault, Part, net_by};
 use xs_stretch_laws::{nets_accept_loose, nets_are_tame};
-
-/// The part with all spread items of a rule.
-pub fn whole(g: &Gram, rule: u32) -> Part
-    requires { rule < length g.now.rules }
-    ensures part { IsPart g.now result }
-    ensures items { part_items g.now result ≡ spread g.now rule }
-{
-    Part {
-        rule,
-        start: 0,
-        end: g.spread(rule).len() as u32,
-    }
-}
 
 /// Nets for the front and the rest of a cut.
 #[derive(Debug, Drop)]

@@ -8,8 +8,8 @@ ghost use Rattle.xs_light.specs.Causes.{IsCause};
 ghost use Rattle.xs_light.specs.Insides.{Counts};
 
 use crate::CheckFault;
-use crate::nets::whole;
 use xs_gram::Gram;
+use xs_screen::whole;
 use xs_stretch::{CAP, HEAVIEST, Part, Weights, weight_by};
 
 /// Makes sure that each rule of a grammar weighs at most 8,192, by the weights of its components.

@@ -10,4 +10,5 @@ mod groups;
 mod rules;
 mod screen;
 
+pub use rules::whole;
 pub use screen::Screen;

@@ -11,7 +11,7 @@ use super::pieces::is_left;
 use std::alloc::Global;
 use xs_class::Memory;
 use xs_gram::{Comps, Gram};
-use xs_light::whole;
+use xs_screen::whole;
 use xs_stretch::{Part, Weights, weight_by, weights};
 
 /// The weights of nonterminals.
