@@ -31,3 +31,5 @@ pub mod Levels
 pub mod TextFences
 pub mod XmlFences
 pub mod MarkPairs
+pub mod CopiedUnits
+pub mod Gaining

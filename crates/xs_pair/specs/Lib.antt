@@ -8,4 +8,5 @@ pub mod Grammars
 pub mod Directories
 pub mod Sound
 pub mod Fences
+pub mod Upgrades
 pub mod Balance

@@ -83,7 +83,7 @@ fn push_item(alloc: Global, item: &Item, out: &mut Vec<char>) -> Result<(), Memo
 }
 
 /// The characters of the strings of a text side, in order.
-fn side_letters(alloc: Global, items: &[Item]) -> Result<Vec<char>, Memory>
+pub fn side_letters(alloc: Global, items: &[Item]) -> Result<Vec<char>, Memory>
     ensures { IfOk result (λ v. v.items ≡ F.side_letters items.now) }
 {
     let mut letters = Vec::new(alloc);

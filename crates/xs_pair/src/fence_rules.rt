@@ -45,7 +45,8 @@ fn ill_of_inside(alloc: Global, units: &[Unit]) -> Result<Option<Ill>, Memory>
     }
 }
 
-fn ill_of(alloc: Global, units: &[Unit]) -> Result<Option<Ill>, Memory>
+/// The first of the three rules on fences that fails of the units, or None.
+pub fn ill_of(alloc: Global, units: &[Unit]) -> Result<Option<Ill>, Memory>
     requires { HaveRegexes units.now }
     ensures { IfOk result (IsFenceIll units.now) }
 {

@@ -10,7 +10,7 @@ use xs_class::{Memory, Text, letters};
 use xs_sheet::Unit;
 
 /// Whether the character is one of these.
-fn is_one_of(letters: &[char], letter: char) -> bool
+pub fn is_one_of(letters: &[char], letter: char) -> bool
     ensures { result ≡ F.is_one_of letters.now letter }
 {
     'letters: for other in letters {

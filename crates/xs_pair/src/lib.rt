@@ -4,10 +4,12 @@
 //! A sheet has dual grammars where the first seven rules of a well-formed sheet hold. All fifteen
 //! rules are named here, and the last three, on fences, are decided here too. The definitions stand
 //! in specs/: Units (names and numbers), Marks and Listing (a side laid out flat), Rules, Verdict
-//! and Fences (what fails where), Grammars (the flat items of each rule).
+//! and Fences (what fails where), Grammars (the flat items of each rule), Upgrades (the fences that a
+//! sheet of version 1 can have).
 #![tactic(auto)]
 
 mod balance;
+mod copying;
 mod directory;
 mod enclosing;
 mod fault;
@@ -25,6 +27,7 @@ mod production;
 mod rules;
 mod slots;
 mod two;
+mod upgrading;
 
 pub use directory::Directory;
 pub use fault::PairFault;
@@ -37,3 +40,4 @@ pub use outline::Outline;
 pub use production::{Rule, names_in, rules_of};
 pub use slots::{slot_directory, slots_of};
 pub use two::{Two, both};
+pub use upgrading::upgrade;

@@ -52,7 +52,7 @@ fn push_symbol(alloc: Global, symbol: Sym, out: &mut Vec<GItem>) -> Result<(), M
 }
 
 /// The regex of a pattern that has one.
-fn regex_of(alloc: Global, pattern: &Text) -> Result<Regex, Memory>
+pub fn regex_of(alloc: Global, pattern: &Text) -> Result<Regex, Memory>
     requires { (r : AnyRegex) × IsPatternOf pattern.now r }
     ensures of { IfOk result (IsPatternOf pattern.now) }
     ensures fit { IfOk result IsFit }

@@ -13,4 +13,5 @@ mod Lexed
 mod Sources
 mod Renewed
 mod ReadBack
+pub mod Gained
 pub mod Readable

@@ -5,6 +5,8 @@ use Rattle.std.specs.Str.Lossy.{utf8_valid_len, valid_len_up_to}
 use Rattle.std.proofs.lemmas.List.{take_all}
 use Rattle.std.proofs.lemmas.Str.{chars-encodes, utf8_valid_len-IsUtf8, scalars-chars, IsUtf8-nil, IsUtf8-from_is_utf8}
 use Rattle.xs_class.proofs.Truth.{eq_self}
+use Rattle.xs_class.specs.Tables.{is_name_start}
+use Rattle.xs_lex.specs.Classes.{is_name_char, is_plain, is_plain_start, is_plain_char}
 use Rattle.xs_lex.specs.declared.kind.Kind.TheVariants.{End}
 use Rattle.xs_lex.specs.Reading.{Lexeme, Extent, AreTokensFrom, AreTokens, extent_of, after_mark, valid, size_of, line_ends}
 use Rattle.xs_sheet.specs.declared.piece.Piece.{Piece}
@@ -12,7 +14,8 @@ use Rattle.xs_sheet.specs.declared.unit.Unit.{Unit}
 use Rattle.xs_sheet.specs.declared.unit.Unit.TheVariants.{Terminal, Ignorable, Production, Fence}
 use Rattle.xs_sheet.specs.declared.sheet.Sheet.{Sheet}
 use Rattle.xs_sheet.specs.Outline.{UnitOutline, terminal, ignorable, production, fence, unit_outline, outline_of}
-use Rattle.xs_sheet.specs.Grammar.{ReadsSign, ReadsUnits, HaveRegexes, version_word, MayStand, AllMayStand, IsSheetOf}
+use Rattle.xs_sheet.specs.Grammar.{ReadsSign, ReadsUnits, HaveRegexes, IsVersion, version_word, MayStand, AllMayStand, IsSheetOf}
+use Rattle.xs_sheet.specs.Pieces.{is_reserved}
 use Rattle.xs_sheet.specs.Layout.{Written, as_is, unit_words, spaced, spelling, lines_text, sheet_lines, sheet_bytes}
 use Rattle.xs_sheet.specs.Lines.{at_line, in_lines, laid_out, without_lines, AreSameButLines, IsReadable, IsReadAgain}
 use Rattle.xs_sheet.proofs.Lexed.{IsGood, AreGood, AreLines, text_lexemes, text_lexed, whole_extent, lines_scalars}
@@ -121,27 +124,70 @@ mark_scalars (c ∷ cs) is = by (c == 0xFEFF)
 file_scalars : (bytes : List ℕ) → all_scalars (after_mark (chars (valid bytes))) ≡ true
 file_scalars bytes = mark_scalars (chars (valid bytes)) (scalars-chars (valid bytes) (valid_utf8 bytes))
 
--- a sheet of some bytes is the sheet, but for lines, of those that are written
-pub written_is_read : (bytes : List ℕ) (s : Sheet) → IsSheetOf bytes s → IsSheetOf (sheet_bytes s) (laid_out s)
-written_is_read bytes s sheet =
+-- the words of the head are names
+plain_if : (t : Bool) → is_plain (if t then codes "xsugar-2" else codes "xsugar-1") ≡ true
+unfolding is_plain_start is_plain_char is_name_start is_name_char
+plain_if true = refl
+plain_if false = refl
+
+version_plain : (version : ℕ) → is_plain (version_word version) ≡ true
+version_plain version = plain_if (version == 2)
+
+scalars_if : (t : Bool) → all_scalars (if t then codes "xsugar-2" else codes "xsugar-1") ≡ true
+scalars_if true = refl
+scalars_if false = refl
+
+version_scalars : (version : ℕ) → all_scalars (version_word version) ≡ true
+version_scalars version = scalars_if (version == 2)
+
+start_plain : is_plain (codes "start") ≡ true
+unfolding is_plain_start is_plain_char is_name_start is_name_char
+start_plain = refl
+
+-- what makes a sheet one that the bytes that it is written as spell
+pub record CanBeSpelled (s : Sheet) : Type 0 where
+  pub version : IsVersion s.version
+  pub start : is_plain s.start ≡ true
+  pub free : is_reserved s.start ≡ false
+  pub scalars : all_scalars s.start ≡ true
+  pub units : UnitsAgain (map unit_outline s.units)
+  pub may : AllMayStand s.version (map unit_outline s.units)
+  pub regexes : HaveRegexes s.units
+
+-- a sheet of some bytes is one
+pub can_be_spelled : (bytes : List ℕ) (s : Sheet) → IsSheetOf bytes s → CanBeSpelled s
+can_be_spelled bytes s sheet =
     let r = sheet.reads in
     let good = tokens_good (extent_of bytes) (after_mark (chars (valid bytes))) sheet.tokens sheet.pieces (file_scalars bytes) sheet.tokens_are sheet.pieces_are in
     let g = subst (λ (z : List Piece). GoodPieces z) r.is good in
+    record {
+      version = r.version_is;
+      start = plain_good r.name_piece s.start r.name_is.plain r.name_is.name_is g.1.1.0;
+      free = ap is_reserved (sym r.name_is.name_is) ∙ r.name_is.free;
+      scalars = (name_good r.name_piece s.start (inl r.name_is.plain) r.name_is.name_is g.1.1.0).1;
+      units = units_again (map unit_outline s.units) r.next r.mid r.units_are g.1.1.1;
+      may = r.units_may;
+      regexes = sheet.regexes;
+    }
+
+-- and the bytes that such a sheet is written as spell it, but for lines
+pub spelled_is_read : (s : Sheet) → CanBeSpelled s → IsSheetOf (sheet_bytes s) (laid_out s)
+spelled_is_read s can =
     let version = version_word s.version in
     let word : Written = as_is version in
     let us = map unit_outline s.units in
-    let again = units_again us r.next r.mid r.units_are g.1.1.1 in
-    let word_good : IsGood word = name_good r.word version (inl r.word_is.plain) r.word_is.word_is g.0 in
-    let start_good = name_good r.start_word (codes "start") (inl r.start_is.plain) r.start_is.word_is g.1.0 in
-    let named = name_good r.name_piece s.start (inl r.name_is.plain) r.name_is.name_is g.1.1.0 in
+    let word_good : IsGood word = (inl (version_plain s.version), version_scalars s.version) in
+    let start_good : IsGood (as_is (codes "start")) = (inl start_plain, refl) in
+    let named : IsGood (as_is s.start) = (inl can.start, can.scalars) in
     let ls : List (List Written) = (as_is (codes "start") ∷ as_is s.start ∷ []) ∷ map unit_words us in
-    let lines : AreLines ls = ((start_good, (named, tt)), lines_good us again) in
+    let lines : AreLines ls = ((start_good, (named, tt)), lines_good us can.units) in
     let text = lines_text (sheet_lines (outline_of s)) in
     let mark : after_mark text ≡ text = ap after_mark (append_assoc version (10 ∷ []) (lines_text ls)) ∙ no_mark (s.version == 2) (10 ∷ lines_text ls) ∙ sym (append_assoc version (10 ∷ []) (lines_text ls)) in
     let scalars : all_scalars text ≡ true = lines_scalars ((word ∷ []) ∷ ls) ((word_good, tt), lines) in
     let at = size_of (spelling word) in
     let begun = at + size_of (spaced (as_is (codes "start") ∷ as_is s.start ∷ [])) in
-    let read = units_read us again begun 2 in
+    let read = units_read us can.units begun 2 in
+    let name : Piece = piece (as_is s.start) (at + 1 + size_of (codes "start") + 1) 2 in
     record {
       tokens = text_lexemes word ls;
       tokens_are = bytes_lexed text (text_lexemes word ls) scalars mark (text_lexed word ls word_good lines);
@@ -150,21 +196,25 @@ written_is_read bytes s sheet =
       reads = record {
         word = piece word 0 1;
         start_word = piece (as_is (codes "start")) (at + 1) 2;
-        name_piece = piece (as_is s.start) (at + 1 + size_of (codes "start") + 1) 2;
+        name_piece = name;
         next = lines_pieces begun 2 (map unit_words us);
         is = refl;
-        word_is = word_of 1 (piece word 0 1) version (piece_of word 0 1) (plain_good r.word version r.word_is.plain r.word_is.word_is g.0);
-        version_is = r.version_is;
-        start_is = word_of 2 (piece (as_is (codes "start")) (at + 1) 2) (codes "start") (piece_of (as_is (codes "start")) (at + 1) 2) (plain_good r.start_word (codes "start") r.start_is.plain r.start_is.word_is g.1.0);
-        name_is = unit_name_of 2 r.name_piece (piece (as_is s.start) (at + 1 + size_of (codes "start") + 1) 2) s.start (piece_of (as_is s.start) (at + 1 + size_of (codes "start") + 1) 2) r.name_is g.1.1.0;
+        word_is = word_of 1 (piece word 0 1) version (piece_of word 0 1) (version_plain s.version);
+        version_is = can.version;
+        start_is = word_of 2 (piece (as_is (codes "start")) (at + 1) 2) (codes "start") (piece_of (as_is (codes "start")) (at + 1) 2) start_plain;
+        name_is = record { plain = (word_of 2 name s.start (piece_of (as_is s.start) (at + 1 + size_of (codes "start") + 1) 2) can.start).plain; free = can.free; name_is = refl };
         line_is = refl;
         mid = read.0;
         units_are = subst (λ (z : List UnitOutline). ReadsUnits z (lines_pieces begun 2 (map unit_words us)) read.0) (sym (outlines_in 3 s.units)) read.1;
-        units_may = subst (λ (z : List UnitOutline). AllMayStand s.version z) (sym (outlines_in 3 s.units)) (all_may_lined s.version 3 us r.units_may);
+        units_may = subst (λ (z : List UnitOutline). AllMayStand s.version z) (sym (outlines_in 3 s.units)) (all_may_lined s.version 3 us can.may);
         end_is = read.2;
       };
-      regexes = regexes_in 3 s.units sheet.regexes;
+      regexes = regexes_in 3 s.units can.regexes;
     }
+
+-- a sheet of some bytes is the sheet, but for lines, of those that are written
+pub written_is_read : (bytes : List ℕ) (s : Sheet) → IsSheetOf bytes s → IsSheetOf (sheet_bytes s) (laid_out s)
+written_is_read bytes s sheet = spelled_is_read s (can_be_spelled bytes s sheet)
 
 -- a sheet that some bytes have, lines aside
 no_line : (line : ℕ) (u : Unit) → at_line 0 (at_line line u) ≡ at_line 0 u

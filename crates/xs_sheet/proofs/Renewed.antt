@@ -4,7 +4,8 @@ use Rattle.std.specs.Bool.{⊤}
 use Rattle.std.specs.Str.{all_scalars}
 use Rattle.xs_lex.specs.declared.kind.Kind.{Kind}
 use Rattle.xs_lex.specs.declared.kind.Kind.TheVariants.{Plain, Qual, Quoted, Pattern, Colon, Equals, SquareIn, SquareOut, Angle, AngleSlash, AngleEnd, SlashEnd, End}
-use Rattle.xs_lex.specs.Classes.{is_plain}
+use Rattle.xs_class.specs.Tables.{is_name_start}
+use Rattle.xs_lex.specs.Classes.{is_name_char, is_plain, is_plain_start, is_plain_char}
 use Rattle.xs_lex.specs.Spelling.{IsQual, IsPattern}
 use Rattle.xs_lex.specs.Reading.{Lexeme, size_of}
 use Rattle.xs_regex.specs.declared.regex.Regex.{Regex}
@@ -372,3 +373,24 @@ units_again [] ps rest r good = tt
 units_again (u ∷ us) ps rest r good =
     let one = unit_again u ps r.0 r.1 good in
     ((one.words, one.again), units_again us r.0 rest r.2 one.left)
+
+-- a fence of any two texts is one
+plain_fence : is_plain (codes "fence") ≡ true
+unfolding is_plain_start is_plain_char is_name_start is_name_char
+plain_fence = refl
+
+pub fence_again : (left right : List ℕ) (old : ℕ) → all_scalars left ≡ true → all_scalars right ≡ true → UnitsAgain (fence left right old ∷ [])
+fence_again left right old first second = (
+  (
+    ((inl plain_fence, refl), (first, (second, tt))),
+    λ line qs more f.
+        let a = f.4 in
+        let b = a.4 in
+        record { word = f.0; left_piece = a.0; right_piece = b.0; is = on qs f.1 (a.0 ∷ b.0 ∷ more) f.0 f.2 (on f.1 a.1 (b.0 ∷ more) a.0 a.2 (on a.1 b.1 more b.0 b.2 b.4)); word_is = word_of line f.0 (codes "fence") f.3 plain_fence; left_is = string_of line a.0 left a.3; right_is = string_of line b.0 right b.3; line_is = f.3.line_is },
+  ),
+  tt,
+)
+
+pub again-append : (us vs : List UnitOutline) → UnitsAgain us → UnitsAgain vs → UnitsAgain (us ++ vs)
+again-append [] vs one two = two
+again-append (u ∷ us) vs one two = (one.0, again-append us vs one.1 two)

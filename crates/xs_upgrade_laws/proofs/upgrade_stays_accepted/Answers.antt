@@ -1,0 +1,5 @@
+use Rattle.xs_upgrade_laws.proofs.Upgraded.{accepted_lem}
+use Rattle.xs_upgrade_laws.proofs.upgrade_stays_accepted.Goals as goal
+
+pub returns : goal.returns
+returns c = accepted_lem c.one_sheet.ensures c.alike_sheets_mean_the_same.ensures c.one_pair.ensures.sheet c.alike_pairs_mean_the_same.ensures c.accepted_stays_accepted.ensures
