@@ -1,4 +1,4 @@
-ghost use Rattle.std.specs.Prelude.{◌≡◌, ◌<◌, length, IfOk, IfErr, IfSome, IfNone, OnOk};
+ghost use Rattle.std.specs.Prelude.{◌≡◌, ◌<◌, true, get_or, length, IfOk, IfErr, IfSome, IfNone, OnOk};
 ghost use Rattle.xs_gram.specs.Fences.{spread};
 ghost use Rattle.xs_gram.specs.Loose.{AreComponents};
 ghost use Rattle.xs_gram.specs.Sound.{IsBuilt};
@@ -101,8 +101,18 @@ fn overlap_at(
     ensures some { IfOk result (λ o. IfSome o (λ w. IsHorizontal searches.old rule cut w.x w.a w.y)) }
     ensures none { IfOk result (λ o. IfNone o (OverlapsAt searches.old rule cut → ⊥)) }
 {
-    if let Some(false) = doubts.get(cut as usize) {
-        return Ok(None);
+    if is_doubted(doubts, cut) {
+        return searches.overlap_at(rule, cut);
     }
-    searches.overlap_at(rule, cut)
+    Ok(None)
+}
+
+/// Whether a cut is in doubt, as those beyond the list are.
+fn is_doubted(doubts: &[bool], cut: u32) -> bool
+    ensures { result ≡ get_or doubts.now cut true }
+{
+    match doubts.get(cut as usize) {
+        Some(doubt) => *doubt,
+        None => true,
+    }
 }

@@ -1,5 +1,5 @@
 -- The front and the rest of a cut are parts, with nets where all rules are light.
-use Rattle.std.proofs.Common.{◌≡◌, ℕ, ◌<◌, ◌≤◌, List, length, sym, ◌∙◌, arith}
+use Rattle.std.proofs.Common.{ℕ, ◌<◌, ◌≤◌, List, length, sym, ◌∙◌, arith}
 use Rattle.std.specs.List.{slice_range}
 use Rattle.xs_auto.specs.Nets.{Graph}
 use Rattle.xs_auto.specs.Nests.{Group}
@@ -9,7 +9,6 @@ use Rattle.xs_gram.specs.Fences.{spread}
 use Rattle.xs_gram.specs.Sound.{IsBuilt}
 use Rattle.xs_gram.proofs.Cuts.{cut_level}
 use Rattle.xs_check_laws.specs.Acceptance.{IsLight}
-use Rattle.xs_stretch.specs.declared.part.Part.{Part}
 use Rattle.xs_stretch.specs.Parts.{IsPart, part_items, AreLight}
 use Rattle.xs_light.specs.Spaces.{AcceptsLoose, AreCutNets}
 use Rattle.xs_light.proofs.Lightness.{cut_light}

@@ -16,10 +16,9 @@ use Rattle.xs_gram.specs.Sound.{IsBuilt}
 use Rattle.xs_gram.proofs.Fences.{is_left_of, left_not_plain, right_not_left, some_right}
 use Rattle.xs_gram.proofs.Levels.{group_opened}
 use Rattle.xs_check_laws.specs.Weights.{capped, PartWeighs, InsidesWeigh, no_inside, inside_later, inside_here}
-use Rattle.xs_stretch.specs.declared.part.Part.{Part}
 use Rattle.xs_stretch.specs.Parts.{IsPart, part_items}
 use Rattle.xs_stretch_laws.proofs.Finding.{group_once}
-use Rattle.xs_light.specs.Insides.{IsInsideCount, Counts, greatest, IsGreatest}
+use Rattle.xs_light.specs.Insides.{Counts, greatest, IsGreatest}
 use Rattle.xs_light.proofs.Lightness.{item_at}
 
 -- the greater of two numbers, as std has it

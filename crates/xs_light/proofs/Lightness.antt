@@ -1,6 +1,6 @@
 -- Light rules have light insides of groups, and light fronts and rests of cuts; a grammar whose rules
 -- are light has no heavy one.
-use Rattle.std.proofs.Common.{◌≡◌, ◌⊎◌, inl, inr, ℕ, zero, suc, ◌+◌, ◌<◌, ◌≤◌, max, List, [], ◌∷◌, ◌++◌, length, drop, refl, sym, ap, subst, ◌∙◌, arith, append_assoc, Some, slice_get}
+use Rattle.std.proofs.Common.{◌≡◌, ℕ, suc, ◌+◌, ◌<◌, ◌≤◌, List, [], ◌∷◌, ◌++◌, length, drop, refl, sym, ap, subst, ◌∙◌, arith, append_assoc, Some, slice_get}
 use Rattle.std.proofs.Math.Seq.{drop-append_seam}
 use Rattle.xs_gram.specs.declared.parts.GItem.{GItem}
 use Rattle.xs_gram.specs.declared.parts.GItem.TheVariants.{Fixed}

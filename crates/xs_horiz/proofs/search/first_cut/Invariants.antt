@@ -5,6 +5,6 @@ use Rattle.xs_horiz.proofs.search.first_cut.Given as goal
 
 abbrev pub invariant-cuts : goal.invariant-cuts
 invariant-cuts l = record {
-  same : l.searches ≡ l.initial.searches;
-  none : HasNoneInRow (OverlapsAt l.initial.searches) l.rule l.cut;
+  same : l.searches ≡ l.fn.searches;
+  none : HasNoneInRow (OverlapsAt l.fn.searches) l.rule l.cut;
 }

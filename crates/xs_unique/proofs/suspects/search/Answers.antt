@@ -7,5 +7,5 @@ use Rattle.xs_unique.proofs.suspects.search.Goals as goal
 pub returns-clause-clear : goal.returns-clause-clear
 returns-clause-clear c = (
   at_none c.in_ok-found.found c.in_default.not-Some c.in_ok-found.ensures.none,
-  subst (λ (g : Grammar). HasNoHorizontal g) c.in_ok-found.ensures.same (at_none c.in_ok-found-2.found c.in_default-found.not-Some c.in_ok-found-2.ensures.none)
+  subst (λ (g : Grammar). HasNoHorizontal g) c.in_ok-found.ensures.same (at_none c.in_ok-found-2.found c.in_default-found.not-Some c.in_ok-found-2.ensures.none),
 )
