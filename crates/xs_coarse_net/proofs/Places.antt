@@ -1,19 +1,21 @@
 -- A place of a rule is laid where its group is called, or its item leads on.
-use Rattle.std.proofs.Common.{◌≡◌, ℕ, suc, ◌+◌, ◌<◌, length, get_or, Some, sym, ap, subst, ◌∙◌, arith}
+use Rattle.std.specs.Prelude.{slice_range}
+use Rattle.std.proofs.Common.{List, ◌≤◌, ◌≢◌, ◌-◌, drop, length-append, length-take-le, length-drop, ◌≡◌, ℕ, suc, ◌+◌, ◌<◌, length, get_or, Some, sym, ap, subst, ◌∙◌, arith}
 use Rattle.std.proofs.lemmas.Option.{same_Some, slice_get-get_or}
 use Rattle.xs_gram.specs.declared.parts.GItem.{GItem}
 use Rattle.xs_gram.specs.declared.parts.GItem.TheVariants.{Fixed, Term, Non, Skip}
 use Rattle.xs_gram.specs.Grammar.{Grammar, rule_of}
-use Rattle.xs_gram.specs.Fences.{spread, IsPlain, OuterAt, IsPartner, IsLeftFence}
+use Rattle.xs_gram.specs.Fences.{spread, IsPlain, IsLevel, IsCut, cut_here, OuterAt, IsPartner, IsLeftFence}
+use Rattle.xs_gram.specs.Cuts.{CutsAt, CutsAreOne}
 use Rattle.xs_gram.specs.Sound.{IsProper}
 use Rattle.xs_gram.proofs.Fences.{left_not_plain}
-use Rattle.xs_gram.proofs.Levels.{outer_at}
+use Rattle.xs_gram.proofs.Levels.{outer_at, level_rest}
 use Rattle.xs_stretch.specs.Groups.{group_number}
 use Rattle.xs_stretch.proofs.Nesting.{left_at, left_opens, inside_once}
 use Rattle.xs_coarse.specs.Coarse.{Table, Net, HasArc, group_label}
 use Rattle.xs_coarse.specs.Covers.{IsLeaf}
 use Rattle.xs_coarse_net.specs.Going.{LeafGoes}
-use Rattle.xs_coarse_net.specs.Whole.{place_state, ItemLaid, PlaceLaid}
+use Rattle.xs_coarse_net.specs.Whole.{place_state, ItemLaid, PlaceLaid, IsEnclosed}
 
 -- no outer item is a left fence
 outer_not_left : (g : Grammar) (p k m : ℕ) (i : GItem) → IsPartner g.fences (spread g p) k m → OuterAt g.fences (spread g p) k i → ⊥
@@ -52,3 +54,23 @@ place_item g t n p k from to i low is none a b h = record {
 
     laid : (j : GItem) → OuterAt g.fences (spread g p) k j → ItemLaid g t n (rule_of g p).non j (place_state g p k) (place_state g p (suc k))
     laid j at = subst (λ (x : GItem). ItemLaid g t n (rule_of g p).non x (place_state g p k) (place_state g p (suc k))) (same_Some _ _ (sym (slice_get-get_or (spread g p) k i low ∙ ap (λ (x : GItem). Some x) (sym is)) ∙ outer_at at)) here
+
+-- at a place whose cut does not begin with the rule, the items before are not level
+pub cut_enclosed : CutsAreOne → (g : Grammar) → IsProper g → (p k start end : ℕ) → CutsAt g.fences (spread g p) k start end → start ≢ 0 → IsEnclosed g p k
+cut_enclosed law g proper p k start end cut ne before rest split place level =
+    let within : k ≤ length (spread g p) = omega (arith, place, ap length split, length-append before rest) in
+    let one = law g proper p k within in
+    let own : IsCut g.fences (spread g p) k before rest = cut_here level (level_rest g.fences proper.once rest level (subst (λ (is : List GItem). IsLevel g.fences is) split (proper.level p))) split place in
+    let first = (one.only before rest own).0 in
+    let second = (one.only _ _ cut.cut).0 in
+    let same : slice_range (spread g p) start k ≡ before = second ∙ sym first in
+    let long : length (slice_range (spread g p) start k) ≡ k - start = length-take-le (k - start) (drop start (spread g p)) (omega (arith, within, length-drop start (spread g p))) in
+    ne (omega (arith, cut.low, place, ap length same, long))
+
+pub place_enclosed : (g : Grammar) (t : Table) (n : Net) (p k : ℕ) → IsEnclosed g p k → PlaceLaid g t n p k
+place_enclosed g t n p k none = record {
+  leaves = λ i at leaf. absurd (none at.before _ at.split at.place at.level);
+  enters = λ m s at. absurd (none at.before _ at.split at.place at.level);
+  returns = λ m s at. absurd (none at.before _ at.split at.place at.level);
+  groups = λ m l r inside at. absurd (none at.group.before _ at.group.split at.group.place at.level);
+}

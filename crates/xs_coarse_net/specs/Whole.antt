@@ -1,9 +1,9 @@
 -- The states of the net that covers a whole grammar, and what its rules owe.
-use Rattle.std.specs.Prelude.{◌≡◌, ℕ, zero, suc, ◌+◌, ◌*◌, ◌<◌, nat_eq, List, length, if◌then◌else◌}
+use Rattle.std.specs.Prelude.{◌≡◌, ℕ, zero, suc, ◌+◌, ◌*◌, ◌<◌, nat_eq, List, ◌++◌, length, if◌then◌else◌}
 use Rattle.xs_gram.specs.declared.parts.GItem.{GItem}
 use Rattle.xs_gram.specs.declared.parts.GItem.TheVariants.{Fixed, Term, Non, Skip}
 use Rattle.xs_gram.specs.Grammar.{Grammar, rule_of}
-use Rattle.xs_gram.specs.Fences.{spread, IsPlain, OuterAt, OuterGroupAt}
+use Rattle.xs_gram.specs.Fences.{spread, IsPlain, IsLevel, OuterAt, OuterGroupAt}
 use Rattle.xs_gram.specs.Loose.{Spot, entry, exit, at}
 use Rattle.xs_stretch.specs.Groups.{group_number}
 use Rattle.std.specs.List.{All}
@@ -55,6 +55,10 @@ pub record PlaceLaid (g : Grammar) (t : Table) (n : Net) (p k : ℕ) : Type 0 wh
   pub enters : (m s : ℕ) → OuterAt g.fences (spread g p) k (Non m s) → HasArc n (place_state g p k) 0 (entry_state m)
   pub returns : (m s : ℕ) → OuterAt g.fences (spread g p) k (Non m s) → HasArc n (exit_state m) (return_label (rule_of g p).non) (place_state g p (suc k))
   pub groups : (m l r : ℕ) (inside : List GItem) → OuterGroupAt g.fences (spread g p) k m l inside r → HasArc n (place_state g p k) (group_label t (group_number g p k)) (place_state g p (suc m))
+
+-- the items of rule p before place k are no level stretch: the place is inside a group
+abbrev pub IsEnclosed : Grammar → ℕ → ℕ → Type 0
+IsEnclosed g p k = (before rest : List GItem) → spread g p ≡ before ++ rest → k ≡ length before → IsLevel g.fences before → ⊥
 
 -- so does each place of the rule before the end, and a rule without items leads to the exit
 pub record RuleLaid (g : Grammar) (t : Table) (n : Net) (p : ℕ) : Type 0 where

@@ -1,4 +1,4 @@
-ghost use Rattle.std.specs.Prelude.{◌≡◌, ℕ, suc, ◌+◌, ◌<◌, ◌≤◌, ◌^◌, length, take, IfOk, OnOk};
+ghost use Rattle.std.specs.Prelude.{◌≡◌, true, ℕ, suc, ◌+◌, ◌<◌, ◌≤◌, ◌^◌, length, take, IfOk, OnOk};
 ghost use Rattle.xs_gram.specs.Grammar.{rule_of};
 ghost use Rattle.xs_gram.specs.Building.{NamesAreThere};
 ghost use Rattle.xs_gram.specs.Fences.{spread};
@@ -6,7 +6,7 @@ ghost use Rattle.xs_stretch.specs.Groups.{group_number, groups_before, lefts};
 ghost use Rattle.xs_coarse.specs.Coarse.{HasArc};
 ghost use Rattle.xs_coarse_net.specs.Going.{Grows};
 ghost use Rattle.xs_coarse_net.specs.Sites.{IsSite};
-ghost use Rattle.xs_coarse_net.specs.Whole.{entry_state, exit_state, rule_base, place_state, return_label, ItemLaid, PlaceLaid, RuleLaid};
+ghost use Rattle.xs_coarse_net.specs.Whole.{entry_state, exit_state, rule_base, place_state, return_label, ItemLaid, PlaceLaid, RuleLaid, IsEnclosed};
 
 use crate::draft::{Draft, MOST};
 use crate::labelled::label_of_group;
@@ -14,7 +14,7 @@ use crate::leaf::lay_leaf;
 use crate::site::Site;
 use crate::stop::Stop;
 use std::alloc::Global;
-use xs_gram::GItem;
+use xs_gram::{GItem, cuts_are_one};
 
 /// The least label of an arc back from the exit of a nonterminal; the number of the nonterminal into
 /// whose rule it leads is added to it.
@@ -39,7 +39,7 @@ pub(crate) fn lay_rule(
     'places: for place in 0..end {
         let here = number;
         number = number_after(site, rule, place, here)?;
-        lay_place(draft, alloc, site, rule, base, place, here)?;
+        lay_outer(draft, alloc, site, rule, base, place, here)?;
     }
     lay_ends(draft, site, rule, end)?;
     Ok(())
@@ -104,6 +104,48 @@ fn state_at(site: &Site<'_>, rule: u32, base: u32, place: u32) -> Result<u32, St
         return Err(Stop::Wide);
     }
     Ok(base + place)
+}
+
+/// Lays what stands at a place of a rule, unless that is inside a group.
+fn lay_outer(
+    draft: &mut Draft,
+    alloc: Global,
+    site: &Site<'_>,
+    rule: u32,
+    base: u32,
+    place: u32,
+    number: u32,
+) -> Result<(), Stop>
+    requires site { IsSite site.now }
+    requires rule { rule < length site.now.g.now.rules }
+    requires base { base ≡ rule_base site.now.g.now rule }
+    requires place { place < length (spread site.now.g.now rule) }
+    requires number { number ≡ group_number site.now.g.now rule place }
+    ensures grows { OnOk result (Grows draft.old draft.new) }
+    ensures laid { OnOk result (PlaceLaid site.now.g.now site.now.labels.now draft.new rule place) }
+{
+    if is_enclosed(site, rule, place) {
+        return Ok(());
+    }
+    lay_place(draft, alloc, site, rule, base, place, number)
+}
+
+/// Whether a place of a rule is inside a group.
+fn is_enclosed(site: &Site<'_>, rule: u32, place: u32) -> bool
+    requires site { IsSite site.now }
+    requires rule { rule < length site.now.g.now.rules }
+    requires place { place < length (spread site.now.g.now rule) }
+    ensures { result ≡ true → IsEnclosed site.now.g.now rule place }
+{
+    if site.g.fences().is_empty() {
+        return false;
+    }
+    cuts_are_one();
+    let cut = site.g.cut(rule, place);
+    if cut.start == 0 {
+        return false;
+    }
+    true
 }
 
 /// Lays the outer item or the group at a place of a rule.

@@ -14,8 +14,8 @@ places-init c = record {
 pub places-preserved : goal.places-preserved
 places-preserved c = record {
   number = c.in_ok-number.ensures;
-  grows = grows_on c.places.invariant.grows c.in_ok-lay_place.ensures.grows;
-  laid = places_more c.places.place c.in_ok-lay_place.ensures.grows c.places.invariant.laid c.in_ok-lay_place.ensures.laid;
+  grows = grows_on c.places.invariant.grows c.in_ok-lay_outer.ensures.grows;
+  laid = places_more c.places.place c.in_ok-lay_outer.ensures.grows c.places.invariant.laid c.in_ok-lay_outer.ensures.laid;
 }
 
 pub returns-clause-grows : goal.returns-clause-grows
