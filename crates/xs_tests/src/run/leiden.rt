@@ -11,9 +11,9 @@ use std::test::Fail;
 use xs_class::{Memory, Side};
 use xs_gram::Gram;
 use xs_leiden::{leiden_sheet, leiden2_sheet};
-use xs_screen::whole;
 use xs_order::components;
 use xs_pair::Two;
+use xs_screen::whole;
 use xs_stretch::{Part, weight_of};
 
 /// A text of the shipped sheet; the dots below stand after their letters.
