@@ -1,15 +1,14 @@
 -- How the arcs that two states have lead from their pair, and how the views of the nets do.
-use Rattle.std.proofs.Common.{◌≡◌, ℕ, ◌<◌, List, refl, ap, subst, ◌∙◌, inl, inr, arith}
+use Rattle.std.proofs.Common.{◌≡◌, ℕ, List, refl, ap, subst, ◌∙◌, inl, inr, arith}
 use Rattle.std.specs.List.{All, Contains}
-use Rattle.std.proofs.lemmas.List.Elements.{All-contains, All-weaker}
+use Rattle.std.proofs.lemmas.List.Elements.{All-contains}
 use Rattle.xs_class.specs.Classes.{Has}
 use Rattle.xs_meet.specs.Closed.{Drifts, Strides, Leads}
 use Rattle.xs_coarse.specs.declared.arc.Arc.{Arc}
-use Rattle.xs_coarse.specs.Coarse.{Table, Net, IsTable, IsWithin, MayCall, HasArc, class_label, group_label, may_meet, view}
+use Rattle.xs_coarse.specs.Coarse.{Table, Net, IsTable, MayCall, HasArc, class_label, group_label, may_meet, view}
 use Rattle.xs_coarse.proofs.Views.{view_move_arc, view_edge_arc, view_call_arc}
-use Rattle.xs_apart.specs.declared.pair.Pair.{Pair}
-use Rattle.xs_apart.specs.Arcs.{Slips, Steps, Goes, MovesFirst, MovesSecond, Joins, HasAll}
-use Rattle.xs_apart.specs.Found.{HasPair}
+use Rattle.xs_apart.specs.declared.found.Found.{Found}
+use Rattle.xs_apart.specs.Arcs.{Slips, Steps, Goes, HasFound, MovesFirst, MovesSecond, Joins, HasAll}
 
 -- an arc of a net
 abbrev pub arc : ℕ → ℕ → ℕ → Arc
@@ -20,16 +19,16 @@ abbrev pub HasRow : Net → ℕ → List Arc → Type 0
 HasRow n a row = (label b : ℕ) → HasArc n a label b → Contains row (arc a label b)
 
 -- the targets of arcs that read nothing were visited beside the other state
-pub slips_on : (m n : Net) (a b : ℕ) (ps qs : List Pair) (row other : List Arc) → HasRow m a row → HasRow n b other → ((c d : ℕ) → HasPair ps c d → HasPair qs c d) → All (MovesFirst ps b) row → All (MovesSecond qs a) other → HasAll (Slips m n) a b qs
-slips_on m n a b ps qs row other rows others more firsts seconds c d (inl x) =
-    rw x.still (more c b (All-contains (MovesFirst ps b) row (arc a 0 c) firsts (rows 0 c x.arc) refl))
-slips_on m n a b ps qs row other rows others more firsts seconds c d (inr y) =
-    rw y.still (All-contains (MovesSecond qs a) other (arc b 0 d) seconds (others 0 d y.arc) refl)
+pub slips_on : (m n : Net) (a b : ℕ) (f g : Found) (row other : List Arc) → HasRow m a row → HasRow n b other → ((c d : ℕ) → HasFound f c d → HasFound g c d) → All (MovesFirst f b) row → All (MovesSecond g a) other → HasAll (Slips m n) a b g
+slips_on m n a b f g row other rows others more firsts seconds c d (inl x) =
+    rw x.still (more c b (All-contains (MovesFirst f b) row (arc a 0 c) firsts (rows 0 c x.arc) refl))
+slips_on m n a b f g row other rows others more firsts seconds c d (inr y) =
+    rw y.still (All-contains (MovesSecond g a) other (arc b 0 d) seconds (others 0 d y.arc) refl)
 
 -- the targets of each two arcs that may read a common word were visited
-pub steps_on : (t : Table) (m n : Net) (a b : ℕ) (ps : List Pair) (row other : List Arc) → HasRow m a row → HasRow n b other → All (λ x. All (Joins t ps x) other) row → HasAll (Steps t m n) a b ps
-steps_on t m n a b ps row other rows others boths c d s =
-    All-contains (Joins t ps (arc a s.label c)) other (arc b s.other d) (All-contains (λ x. All (Joins t ps x) other) row (arc a s.label c) boths (rows s.label c s.first)) (others s.other d s.second) s.reads_first s.reads_second s.meet
+pub steps_on : (t : Table) (m n : Net) (a b : ℕ) (f : Found) (row other : List Arc) → HasRow m a row → HasRow n b other → All (λ x. All (Joins t f x) other) row → HasAll (Steps t m n) a b f
+steps_on t m n a b f row other rows others boths c d s =
+    All-contains (Joins t f (arc a s.label c)) other (arc b s.other d) (All-contains (λ x. All (Joins t f x) other) row (arc a s.label c) boths (rows s.label c s.first)) (others s.other d s.second) s.reads_first s.reads_second s.meet
 
 -- an empty move of a view is an arc that reads nothing
 pub slips_of : (t : Table) (m n : Net) (s e u f a b c d : ℕ) → Drifts (view t m s e) (view t n u f) a b c d → Slips m n a b c d
@@ -69,15 +68,11 @@ pub goes_of : (t : Table) (m n : Net) (s e u f a b c d : ℕ) → IsTable t → 
 goes_of t m n s e u f a b c d table (inl x) = inl (slips_of t m n s e u f a b c d x)
 goes_of t m n s e u f a b c d table (inr y) = inr (steps_of t m n s e u f a b c d table y)
 
--- the targets of arcs between states are below the number of states
-pub targets_within : (bound states : ℕ) (row : List Arc) → bound ≡ states → All (IsWithin states) row → All (λ x. x.to < bound) row
-targets_within bound states row e h = All-weaker (IsWithin states) (λ x. x.to < bound) (λ x w. rw e w.to) row h
-
 -- and so on by both
-pub goes_on : (t : Table) (m n : Net) (a b : ℕ) (ps qs : List Pair) → ((c d : ℕ) → HasPair ps c d → HasPair qs c d) → HasAll (Slips m n) a b ps → HasAll (Steps t m n) a b qs → HasAll (Goes t m n) a b qs
-goes_on t m n a b ps qs more slips steps c d (inl x) = more c d (slips c d x)
-goes_on t m n a b ps qs more slips steps c d (inr s) = steps c d s
+pub goes_on : (t : Table) (m n : Net) (a b : ℕ) (f g : Found) → ((c d : ℕ) → HasFound f c d → HasFound g c d) → HasAll (Slips m n) a b f → HasAll (Steps t m n) a b g → HasAll (Goes t m n) a b g
+goes_on t m n a b f g more slips steps c d (inl x) = more c d (slips c d x)
+goes_on t m n a b f g more slips steps c d (inr s) = steps c d s
 
 -- an arc that reads nothing reads no word with another
-pub none_reads : (t : Table) (ps : List Pair) (x : Arc) (others : List Arc) → x.label ≡ 0 → All (Joins t ps x) others
-none_reads t ps x others e = λ k d l low some meet. absurd (omega arith)
+pub none_reads : (t : Table) (f : Found) (x : Arc) (others : List Arc) → x.label ≡ 0 → All (Joins t f x) others
+none_reads t f x others e = λ k d l low some meet. absurd (omega arith)

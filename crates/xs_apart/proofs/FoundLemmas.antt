@@ -122,7 +122,7 @@ fits_none f room none blank = record {
 pub found_inside : (m n : Net) (f g : Found) (k : ℕ) (p : Pair) → IsFor m n f → IsMore f g → Fits g → k < length g.pairs.items → p ≡ get_or g.pairs.items k p → IsInside m.states n.states p
 found_inside m n f g k p nets more fits l e =
     let i = subst (λ (q : Pair). IsInside g.height g.width q) (sym e) (fits.inside k p l) in
-    record { first = rw (← nets.height, ← more.height) i.first; second = rw (← nets.width, ← more.width) i.second }
+    record { first = omega (arith, i.first, more.height, nets.height); second = omega (arith, i.second, more.width, nets.width) }
 
 -- the word of a pair that was found
 pub found_word : (f : Found) (p : Pair) → Fits f → Contains f.pairs.items p → cell f.width p / 64 < length f.words.items
@@ -139,8 +139,8 @@ pub fits_room : (f : Found) (height width : ℕ) → height * width / 64 + 1 ≤
 fits_room f height width l eh ew none blank = fits_none f (rw (eh, ew) (omega arith)) none blank
 
 -- where a search began
-pub begun : (m n : Net) (f : Found) (h w : ℕ) (b : Bool) → b ≡ true → (b ≡ true → (f.height ≡ h) × (f.width ≡ w) × (f.pairs.items ≡ [])) → h ≡ m.states → w ≡ n.states → IsFor m n f
-begun m n f h w b e ok eh ew = let k = ok e in record { height = k.0 ∙ eh; width = k.1 ∙ ew }
+pub begun : (m n : Net) (f : Found) (h w : ℕ) (b : Bool) → b ≡ true → (b ≡ true → (f.height ≡ h) × (f.width ≡ w) × (f.pairs.items ≡ [])) → h ≤ m.states → w ≤ n.states → IsFor m n f
+begun m n f h w b e ok eh ew = let k = ok e in record { height = omega (arith, k.0, eh); width = omega (arith, k.1, ew) }
 
 pub more_for : (m n : Net) (f g : Found) → IsFor m n f → IsMore f g → IsFor m n g
-more_for m n f g nets more = record { height = more.height ∙ nets.height; width = more.width ∙ nets.width }
+more_for m n f g nets more = record { height = omega (arith, more.height, nets.height); width = omega (arith, more.width, nets.width) }

@@ -1,5 +1,11 @@
 pub mod ArcLemmas
 pub mod FoundLemmas
 pub mod GrowthLemmas
+pub mod LayerLemmas
+pub mod Marks
 pub mod PartLemmas
 pub mod SetLemmas
+pub mod ShapeLemmas
+pub mod TailArcs
+pub mod TailLemmas
+pub mod Windows

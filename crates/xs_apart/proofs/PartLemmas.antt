@@ -1,11 +1,9 @@
 -- What closed sets show stays where bits of the table are taken away.
-use Rattle.std.proofs.Common.{◌≡◌, ℕ, List, inl, inr}
+use Rattle.std.proofs.Common.{◌≡◌, ℕ, inl, inr}
 use Rattle.xs_auto.specs.Nets.{Graph}
 use Rattle.xs_meet.specs.Closed.{IsApart, Leads, AreApart, Marked}
 use Rattle.xs_coarse.specs.Coarse.{Table, Net, MayCall, group_label, view}
-use Rattle.xs_apart.specs.declared.pair.Pair.{Pair}
 use Rattle.xs_apart.specs.Parts.{IsParted}
-use Rattle.xs_apart.specs.Sets.{AreDoubles}
 
 -- a view reads nothing of the table but its classes
 view_part : {old new : Table} (n : Net) (s e : ℕ) → IsParted old new → view new n s e ≡ view old n s e
@@ -36,14 +34,3 @@ apart_part {old} {new} m n a b c d p apart = rw (view_part m a b p, view_part n 
   apart.0,
   apart_fewer (MayCall old) (MayCall new) (view old m a b) (view old n c d) (Marked apart.0) (λ h k. call_part h k p) apart.1,
 )
-
--- doubles stay doubles
-pub doubles_part : {old new : Table} (n : Net) (ps : List Pair) → IsParted old new → AreDoubles old n ps → AreDoubles new n ps
-doubles_part n ps p d = record {
-  inside = d.inside;
-  starts = d.starts;
-  closed = λ a b c e z goes. d.closed a b c e z (elim goes [
-    | inl x ↦ inl x
-    | inr s ↦ inr (record { label = s.label; other = s.other; first = s.first; second = s.second; reads_first = s.reads_first; reads_second = s.reads_second; meet = p.fewer s.label s.other s.meet })
-  ]);
-}

@@ -1,5 +1,5 @@
 -- How the arcs of two coarse nets lead from a pair of states to others.
-use Rattle.std.specs.Prelude.{◌≡◌, ℕ, ◌<◌, ◌⊎◌, true, List}
+use Rattle.std.specs.Prelude.{◌≡◌, ℕ, ◌<◌, ◌≤◌, ◌⊎◌, true, List, slice_get, Some}
 use Rattle.xs_coarse.specs.declared.arc.Arc.{Arc}
 use Rattle.xs_coarse.specs.Coarse.{Table, Net, HasArc, may_meet}
 use Rattle.xs_apart.specs.declared.pair.Pair.{Pair}
@@ -34,22 +34,50 @@ pub record Steps (t : Table) (m n : Net) (a b c d : ℕ) : Type 0 where
 abbrev pub Goes : Table → Net → Net → ℕ → ℕ → ℕ → ℕ → Type 0
 Goes t m n a b c d = Slips m n a b c d ⊎ Steps t m n a b c d
 
--- where the arc reads nothing, the pairs have its target beside that state
-abbrev pub MovesFirst : List Pair → ℕ → Arc → Type 0
-MovesFirst ps b x = x.label ≡ 0 → HasPair ps x.to b
+-- the pairs have this one, if its states are below those numbers
+abbrev pub HasWithin : ℕ → ℕ → List Pair → ℕ → ℕ → Type 0
+HasWithin height width ps a b = a < height → b < width → HasPair ps a b
 
-abbrev pub MovesSecond : List Pair → ℕ → Arc → Type 0
-MovesSecond ps a y = y.label ≡ 0 → HasPair ps a y.to
+-- the same of what was found, and of the states that are looked at
+abbrev pub HasFound : Found → ℕ → ℕ → Type 0
+HasFound f a b = HasWithin f.height f.width f.pairs.items a b
 
--- where both arcs read something, and may read a common word, the pairs have their two targets
-abbrev pub Joins : Table → List Pair → Arc → Arc → Type 0
-Joins t ps x y = 0 < x.label → 0 < y.label → may_meet t x.label y.label ≡ true → HasPair ps x.to y.to
+-- where the arc reads nothing, its target beside that state was found
+abbrev pub MovesFirst : Found → ℕ → Arc → Type 0
+MovesFirst f b x = x.label ≡ 0 → HasFound f x.to b
 
--- each pair to which L leads from the pair of a and b is among the pairs
-abbrev pub HasAll : (ℕ → ℕ → ℕ → ℕ → Type 0) → ℕ → ℕ → List Pair → Type 0
-HasAll L a b ps = (c d : ℕ) → L a b c d → HasPair ps c d
+abbrev pub MovesSecond : Found → ℕ → Arc → Type 0
+MovesSecond f a y = y.label ≡ 0 → HasFound f a y.to
 
--- what was found is of states of the two nets
+-- where both arcs read something, and may read a common word, their two targets were found
+abbrev pub Joins : Table → Found → Arc → Arc → Type 0
+Joins t f x y = 0 < x.label → 0 < y.label → may_meet t x.label y.label ≡ true → HasFound f x.to y.to
+
+-- each pair to which L leads from the pair of a and b was found
+abbrev pub HasAll : (ℕ → ℕ → ℕ → ℕ → Type 0) → ℕ → ℕ → Found → Type 0
+HasAll L a b f = (c d : ℕ) → L a b c d → HasFound f c d
+
+-- each pair before place k that leads to another has it among those that were found
+abbrev pub IsClosedBelow : (ℕ → ℕ → ℕ → ℕ → Type 0) → ℕ → Found → Type 0
+IsClosedBelow L k f = (i : ℕ) (p : Pair) → i < k → slice_get f.pairs.items i ≡ Some p → HasAll L p.first p.second f
+
+-- with a pair, the pairs have each to which L leads from it, and whose states are below those numbers
+abbrev pub IsClosedWithin : (ℕ → ℕ → ℕ → ℕ → Type 0) → ℕ → ℕ → List Pair → Type 0
+IsClosedWithin L height width ps = (a b c d : ℕ) → HasPair ps a b → L a b c d → HasWithin height width ps c d
+
+-- the states that are looked at are those of the two nets below some numbers
 pub record IsFor (m n : Net) (f : Found) : Type 0 where
-  pub height : f.height ≡ m.states
-  pub width : f.width ≡ n.states
+  pub height : f.height ≤ m.states
+  pub width : f.width ≤ n.states
+
+-- no arc leads back from a state k, or those after it, to one before
+abbrev pub NeverReturns : Net → ℕ → Type 0
+NeverReturns n k = (a label b : ℕ) → HasArc n a label b → k ≤ a → k ≤ b
+
+-- each arc from state k, or those after it, leads to one after it
+abbrev pub IsSource : Net → ℕ → Type 0
+IsSource n k = (a label b : ℕ) → HasArc n a label b → k ≤ a → k < b
+
+-- no arc leads over state k
+abbrev pub IsGate : Net → ℕ → Type 0
+IsGate n k = (a label b : ℕ) → HasArc n a label b → a < k → b ≤ k

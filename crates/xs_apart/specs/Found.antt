@@ -53,10 +53,6 @@ pub record IsEmpty (old new : Found) : Type 0 where
   pub pairs : new.pairs.items ≡ []
   pub blank : (c : ℕ) → bit_of new.words.items c ≡ false
 
--- each pair before place k that leads to another has it among the pairs
-abbrev pub IsClosedBelow : (ℕ → ℕ → ℕ → ℕ → Type 0) → ℕ → List Pair → Type 0
-IsClosedBelow L k ps = (i : ℕ) (p : Pair) → i < k → slice_get ps i ≡ Some p → (c d : ℕ) → L p.first p.second c d → HasPair ps c d
-
 -- a pair is not among those before place k
 abbrev pub IsNotBelow : Pair → ℕ → List Pair → Type 0
 IsNotBelow goal k ps = (i : ℕ) → i < k → slice_get ps i ≡ Some goal → ⊥

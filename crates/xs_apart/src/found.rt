@@ -1,6 +1,7 @@
 ghost use Rattle.std.specs.Prelude.{◌≡◌, ℕ, ◌*◌, ◌<◌, ◌≤◌, [], true, false, length, IfOk, OnOk};
 ghost use Rattle.xs_auto.specs.Bits.{bit_of};
-ghost use Rattle.xs_apart.specs.Found.{Fits, HasPair, IsMore, IsEmpty};
+ghost use Rattle.xs_apart.specs.Arcs.{HasFound};
+ghost use Rattle.xs_apart.specs.Found.{Fits, IsMore, IsEmpty};
 
 use crate::pair::Pair;
 use std::alloc::Global;
@@ -12,7 +13,7 @@ const MOST_PAIRS: u64 = 1 << 28;
 /// The pairs of states that a search has found, in the order in which it found them, and the map in
 /// which they are marked, one bit a pair.
 ///
-/// The first net has `height` states, and the second `width`.
+/// The states below `height` of the first net are looked at, and those below `width` of the second.
 #[derive(Debug, Drop)]
 pub struct Found {
     pub words: Vec<u64>,
@@ -34,15 +35,16 @@ impl Found {
         }
     }
 
-    /// Adds a pair, unless it is marked already.
+    /// Adds a pair, unless it is marked already, or is of a state that is not looked at.
     pub fn visit(&mut self, first: u32, second: u32) -> Result<(), Memory>
         requires fits { Fits self.old }
-        requires first { first < self.old.height }
-        requires second { second < self.old.width }
         ensures fits { Fits self.new }
         ensures more { IsMore self.old self.new }
-        ensures ok { OnOk result (HasPair self.new.pairs.items first second) }
+        ensures ok { OnOk result (HasFound self.new first second) }
     {
+        if first >= self.height || second >= self.width {
+            return Ok(());
+        }
         let cell = first as u64 * self.width as u64 + second as u64;
         let place = (cell / 64) as usize;
         let bit = cell % 64;
@@ -67,8 +69,8 @@ impl Found {
         self.pairs.clear();
     }
 
-    /// Forgets all pairs, and makes room for those of that many states of a first net and of a
-    /// second one; answers false where they are too many.
+    /// Forgets all pairs, and makes room for those of the states of a first net and of a second one
+    /// below these numbers; answers false where they are too many.
     pub fn begin(&mut self, alloc: Global, height: u32, width: u32) -> Result<bool, Memory>
         requires { Fits self.old }
         ensures fits { Fits self.new }

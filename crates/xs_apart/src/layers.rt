@@ -1,34 +1,40 @@
-ghost use Rattle.std.specs.Prelude.{◌≡◌, ◌<◌, true, IfOk};
+ghost use Rattle.std.specs.Prelude.{◌≡◌, ◌+◌, ◌<◌, ◌≤◌, ℕ, true, IfOk};
 ghost use Rattle.std.specs.List.{All};
 ghost use Rattle.xs_apart.specs.Found.{Fits, IsInside};
-ghost use Rattle.xs_apart.specs.Sets.{AreDoubles, AreTurns, AreMiddles, AreRests};
+ghost use Rattle.xs_apart.specs.Sets.{AreDoubles, AreTurns, AreMiddles, AreLastMiddles, AreRests, AreEndPairs};
 
 use crate::found::Found;
 use crate::pair::Pair;
+use crate::shape::never_returns;
 use std::alloc::Global;
 use xs_class::Memory;
 use xs_coarse::{Coarse, Labels};
 
 impl Found {
-    /// The pairs that the first state of a net leads to, in the product of the net with itself.
+    /// The pairs of states up to the top that the first state of a net leads to, in the product of the
+    /// net with itself.
     pub fn find_doubles(
         &mut self,
         alloc: Global,
         labels: &Labels,
         net: &Coarse,
+        top: u32,
     ) -> Result<bool, Memory>
         requires { Fits self.old }
         ensures fits { Fits self.new }
-        ensures ok { IfOk result (λ found. found ≡ true → AreDoubles labels.now net.now self.new.pairs.items) }
+        ensures ok { IfOk result (λ found. found ≡ true → AreDoubles labels.now net.now top self.new.pairs.items) }
     {
-        let states = net.len();
-        if !self.begin(alloc, states, states)? {
+        if top >= net.len() || !never_returns(net, top) {
+            return Ok(false);
+        }
+        let end = top + 1;
+        if !self.begin(alloc, end, end)? {
             return Ok(false);
         }
         self.visit(0, 0)?;
         let nowhere = Pair {
-            first: states,
-            second: states,
+            first: end,
+            second: end,
         };
         self.close(labels, net, net, nowhere)
     }
@@ -43,13 +49,12 @@ impl Found {
         here: u32,
     ) -> Result<bool, Memory>
         requires fits { Fits self.old }
-        requires inside { All (IsInside net.now.states net.now.states) doubles.now }
         requires here { here < net.now.states }
         ensures fits { Fits self.new }
         ensures ok { IfOk result (λ found. found ≡ true → AreTurns net.now here doubles.now self.new.pairs.items) }
     {
         let states = net.len();
-        if !self.begin(alloc, states, states)? {
+        if !self.begin(alloc, here + 1, states)? {
             return Ok(false);
         }
         self.seed_turns(doubles, here)?;
@@ -62,18 +67,54 @@ impl Found {
         alloc: Global,
         labels: &Labels,
         net: &Coarse,
+        here: u32,
         turns: &[Pair],
     ) -> Result<bool, Memory>
         requires fits { Fits self.old }
         requires inside { All (IsInside net.now.states net.now.states) turns.now }
+        requires here { here < net.now.states }
         ensures fits { Fits self.new }
-        ensures ok { IfOk result (λ found. found ≡ true → AreMiddles labels.now net.now turns.now self.new.pairs.items) }
+        ensures ok { IfOk result (λ found. found ≡ true → AreMiddles labels.now net.now here turns.now self.new.pairs.items) }
     {
         let states = net.len();
-        if !self.begin(alloc, states, states)? {
+        if !self.begin(alloc, here + 1, states)? {
             return Ok(false);
         }
         self.seed_steps(labels, net, turns)?;
+        let nowhere = Pair {
+            first: states,
+            second: states,
+        };
+        self.close(labels, net, net, nowhere)
+    }
+
+    /// The same from all pairs of a state of the front's end and one of the rest; the end may be entered
+    /// at its gate, beside each state after that of the cut.
+    pub fn find_last_middles(
+        &mut self,
+        alloc: Global,
+        labels: &Labels,
+        net: &Coarse,
+        gate: u32,
+        here: u32,
+        pairs: &[Pair],
+    ) -> Result<bool, Memory>
+        requires fits { Fits self.old }
+        requires inside { All (IsInside net.now.states net.now.states) pairs.now }
+        requires pairs { AreEndPairs net.now gate here pairs.now }
+        requires gate { gate ≤ here }
+        requires here { here < net.now.states }
+        ensures fits { Fits self.new }
+        ensures ok { IfOk result (λ found. found ≡ true → AreLastMiddles labels.now net.now gate here self.new.pairs.items) }
+    {
+        let states = net.len();
+        if !self.begin(alloc, here + 1, states)? {
+            return Ok(false);
+        }
+        self.seed_steps(labels, net, pairs)?;
+        if gate > 0 {
+            self.seed_firsts(gate, here + 1, states)?;
+        }
         let nowhere = Pair {
             first: states,
             second: states,

@@ -14,6 +14,9 @@ mod pair;
 mod reach;
 mod search;
 mod seeds;
+mod shape;
+mod tail;
 
 pub use pair::Pair;
 pub use search::{Doubles, Search};
+pub use tail::Tail;

@@ -1,9 +1,8 @@
 ghost use Rattle.std.specs.Prelude.{◌≡◌, ◌<◌, true, IfOk, OnOk};
 ghost use Rattle.std.specs.List.{All};
+ghost use Rattle.xs_apart.specs.Arcs.{Slips, Steps, Goes, MovesFirst, MovesSecond, Joins, HasAll, IsClosedWithin, IsFor};
 ghost use Rattle.xs_coarse.specs.declared.arc.Arc.{Arc as AnyArc};
-ghost use Rattle.xs_apart.specs.Arcs.{Slips, Steps, Goes, MovesFirst, MovesSecond, Joins, HasAll, IsFor};
-ghost use Rattle.xs_apart.specs.Found.{Fits, HasPair, IsMore};
-ghost use Rattle.xs_meet.specs.Closed.{IsClosed};
+ghost use Rattle.xs_apart.specs.Found.{Fits, IsMore};
 ghost use Rattle.xs_apart.specs.Sets.{IsShut};
 
 use crate::found::Found;
@@ -14,12 +13,10 @@ use xs_coarse::{Arc, Coarse, Labels};
 impl Found {
     /// Visits the targets of the arcs that read nothing, beside a state of the second net.
     fn visit_firsts(&mut self, arcs: &[Arc], second: u32) -> Result<(), Memory>
-        requires fits { Fits self.old }
-        requires first { All (λ (x : AnyArc). x.to < self.old.height) arcs.now }
-        requires second { second < self.old.width }
+        requires { Fits self.old }
         ensures fits { Fits self.new }
         ensures more { IsMore self.old self.new }
-        ensures ok { OnOk result (All (MovesFirst self.new.pairs.items second) arcs.now) }
+        ensures ok { OnOk result (All (MovesFirst self.new second) arcs.now) }
     {
         'arcs: for arc in arcs {
             if arc.label == 0 {
@@ -31,12 +28,10 @@ impl Found {
 
     /// Visits a state of the first net beside the targets of the arcs that read nothing.
     fn visit_seconds(&mut self, first: u32, arcs: &[Arc]) -> Result<(), Memory>
-        requires fits { Fits self.old }
-        requires first { first < self.old.height }
-        requires second { All (λ (y : AnyArc). y.to < self.old.width) arcs.now }
+        requires { Fits self.old }
         ensures fits { Fits self.new }
         ensures more { IsMore self.old self.new }
-        ensures ok { OnOk result (All (MovesSecond self.new.pairs.items first) arcs.now) }
+        ensures ok { OnOk result (All (MovesSecond self.new first) arcs.now) }
     {
         'arcs: for arc in arcs {
             if arc.label == 0 {
@@ -48,12 +43,10 @@ impl Found {
 
     /// Visits the targets of an arc and of each other arc with which it may read a common word.
     fn visit_partners(&mut self, labels: &Labels, arc: Arc, others: &[Arc]) -> Result<(), Memory>
-        requires fits { Fits self.old }
-        requires first { arc.to < self.old.height }
-        requires second { All (λ (y : AnyArc). y.to < self.old.width) others.now }
+        requires { Fits self.old }
         ensures fits { Fits self.new }
         ensures more { IsMore self.old self.new }
-        ensures ok { OnOk result (All (Joins labels.now self.new.pairs.items arc) others.now) }
+        ensures ok { OnOk result (All (Joins labels.now self.new arc) others.now) }
     {
         'others: for other in others {
             if labels.meet(arc.label, other.label) {
@@ -65,12 +58,10 @@ impl Found {
 
     /// Visits the targets of each two arcs that may read a common word.
     fn visit_boths(&mut self, labels: &Labels, arcs: &[Arc], others: &[Arc]) -> Result<(), Memory>
-        requires fits { Fits self.old }
-        requires first { All (λ (x : AnyArc). x.to < self.old.height) arcs.now }
-        requires second { All (λ (y : AnyArc). y.to < self.old.width) others.now }
+        requires { Fits self.old }
         ensures fits { Fits self.new }
         ensures more { IsMore self.old self.new }
-        ensures ok { OnOk result (All (λ (x : AnyArc). All (Joins labels.now self.new.pairs.items x) others.now) arcs.now) }
+        ensures ok { OnOk result (All (λ (x : AnyArc). All (Joins labels.now self.new x) others.now) arcs.now) }
     {
         'arcs: for arc in arcs {
             if arc.label != 0 {
@@ -82,13 +73,12 @@ impl Found {
 
     /// Visits the pairs to which an arc of either net that reads nothing leads from a pair.
     fn slip(&mut self, first: &Coarse, second: &Coarse, at: Pair) -> Result<(), Memory>
-        requires nets { IsFor first.now second.now self.old }
         requires fits { Fits self.old }
         requires first { at.first < first.now.states }
         requires second { at.second < second.now.states }
         ensures fits { Fits self.new }
         ensures more { IsMore self.old self.new }
-        ensures ok { OnOk result (HasAll (Slips first.now second.now) at.first at.second self.new.pairs.items) }
+        ensures ok { OnOk result (HasAll (Slips first.now second.now) at.first at.second self.new) }
     {
         self.visit_firsts(first.row(at.first), at.second)?;
         self.visit_seconds(at.first, second.row(at.second))?;
@@ -103,13 +93,12 @@ impl Found {
         second: &Coarse,
         at: Pair,
     ) -> Result<(), Memory>
-        requires nets { IsFor first.now second.now self.old }
         requires fits { Fits self.old }
         requires first { at.first < first.now.states }
         requires second { at.second < second.now.states }
         ensures fits { Fits self.new }
         ensures more { IsMore self.old self.new }
-        ensures ok { OnOk result (HasAll (Steps labels.now first.now second.now) at.first at.second self.new.pairs.items) }
+        ensures ok { OnOk result (HasAll (Steps labels.now first.now second.now) at.first at.second self.new) }
     {
         self.visit_boths(labels, first.row(at.first), second.row(at.second))?;
         Ok(())
@@ -123,13 +112,12 @@ impl Found {
         second: &Coarse,
         at: Pair,
     ) -> Result<(), Memory>
-        requires nets { IsFor first.now second.now self.old }
         requires fits { Fits self.old }
         requires first { at.first < first.now.states }
         requires second { at.second < second.now.states }
         ensures fits { Fits self.new }
         ensures more { IsMore self.old self.new }
-        ensures ok { OnOk result (HasAll (Goes labels.now first.now second.now) at.first at.second self.new.pairs.items) }
+        ensures ok { OnOk result (HasAll (Goes labels.now first.now second.now) at.first at.second self.new) }
     {
         self.slip(first, second, at)?;
         self.step(labels, first, second, at)?;
@@ -148,7 +136,7 @@ impl Found {
         requires fits { Fits self.old }
         ensures fits { Fits self.new }
         ensures more { IsMore self.old self.new }
-        ensures ok { IfOk result (λ closed. closed ≡ true → IsShut (Goes labels.now first.now second.now) goal self.new.pairs.items) }
+        ensures ok { IfOk result (λ closed. closed ≡ true → IsShut (Goes labels.now first.now second.now) goal self.new.height self.new.width self.new.pairs.items) }
     {
         'places: for place in 0..usize::MAX {
             if place >= self.pairs.len() {
@@ -169,7 +157,7 @@ impl Found {
         requires fits { Fits self.old }
         ensures fits { Fits self.new }
         ensures more { IsMore self.old self.new }
-        ensures ok { IfOk result (λ closed. closed ≡ true → IsClosed (Slips first.now second.now) (HasPair self.new.pairs.items)) }
+        ensures ok { IfOk result (λ closed. closed ≡ true → IsClosedWithin (Slips first.now second.now) self.new.height self.new.width self.new.pairs.items) }
     {
         'places: for place in 0..usize::MAX {
             if place >= self.pairs.len() {

@@ -1,8 +1,9 @@
-ghost use Rattle.std.specs.Prelude.{◌≡◌, ◌<◌, OnOk};
+ghost use Rattle.std.specs.Prelude.{◌≡◌, ℕ, ◌+◌, ◌<◌, ◌≤◌, OnOk};
 ghost use Rattle.std.specs.List.{All};
-ghost use Rattle.xs_apart.specs.Arcs.{IsFor};
+ghost use Rattle.xs_apart.specs.declared.pair.Pair.{Pair as AnyPair};
+ghost use Rattle.xs_apart.specs.Arcs.{HasFound, HasAll, Steps};
 ghost use Rattle.xs_apart.specs.Found.{Fits, IsInside, IsMore};
-ghost use Rattle.xs_apart.specs.Sets.{Turns, Leaves, Returns};
+ghost use Rattle.xs_apart.specs.Sets.{Turns, Returns};
 
 use crate::found::Found;
 use crate::pair::Pair;
@@ -13,8 +14,8 @@ impl Found {
     /// Visits, for each pair with that first state, its second state beside that one.
     pub fn seed_turns(&mut self, pairs: &[Pair], here: u32) -> Result<(), Memory>
         requires fits { Fits self.old }
-        requires inside { All (IsInside self.old.width self.old.height) pairs.now }
-        requires here { here < self.old.width }
+        requires height { self.old.height ≡ here + 1 }
+        requires width { here < self.old.width }
         ensures fits { Fits self.new }
         ensures more { IsMore self.old self.new }
         ensures ok { OnOk result (All (Turns self.new.pairs.items here) pairs.now) }
@@ -30,7 +31,7 @@ impl Found {
     /// Visits, for each pair with that first state, that one beside its second state.
     pub fn seed_returns(&mut self, pairs: &[Pair], here: u32) -> Result<(), Memory>
         requires fits { Fits self.old }
-        requires inside { All (IsInside self.old.height self.old.width) pairs.now }
+        requires inside { All (λ (p : AnyPair). p.second < self.old.width) pairs.now }
         requires here { here < self.old.height }
         ensures fits { Fits self.new }
         ensures more { IsMore self.old self.new }
@@ -51,15 +52,40 @@ impl Found {
         net: &Coarse,
         pairs: &[Pair],
     ) -> Result<(), Memory>
-        requires nets { IsFor net.now net.now self.old }
         requires fits { Fits self.old }
         requires inside { All (IsInside net.now.states net.now.states) pairs.now }
         ensures fits { Fits self.new }
         ensures more { IsMore self.old self.new }
-        ensures ok { OnOk result (All (Leaves labels.now net.now self.new.pairs.items) pairs.now) }
+        ensures ok { OnOk result (All (λ (p : AnyPair). HasAll (Steps labels.now net.now net.now) p.first p.second self.new) pairs.now) }
     {
         'pairs: for pair in pairs {
             self.step(labels, net, net, *pair)?;
+        }
+        Ok(())
+    }
+
+    /// Visits that first state beside each second one from one on, before an end.
+    pub fn seed_firsts(&mut self, first: u32, begin: u32, end: u32) -> Result<(), Memory>
+        requires { Fits self.old }
+        ensures fits { Fits self.new }
+        ensures more { IsMore self.old self.new }
+        ensures ok { OnOk result ((b : ℕ) → begin ≤ b → b < end → HasFound self.new first b) }
+    {
+        'states: for second in begin..end {
+            self.visit(first, second)?;
+        }
+        Ok(())
+    }
+
+    /// Visits each first state before an end beside that second one.
+    pub fn seed_seconds(&mut self, end: u32, second: u32) -> Result<(), Memory>
+        requires { Fits self.old }
+        ensures fits { Fits self.new }
+        ensures more { IsMore self.old self.new }
+        ensures ok { OnOk result ((a : ℕ) → a < end → HasFound self.new a second) }
+    {
+        'states: for first in 0..end {
+            self.visit(first, second)?;
         }
         Ok(())
     }

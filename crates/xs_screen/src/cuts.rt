@@ -1,4 +1,4 @@
-ghost use Rattle.std.specs.Prelude.{◌≡◌, ◌<◌, true, false, set, length, IfOk};
+ghost use Rattle.std.specs.Prelude.{◌≡◌, ◌<◌, ◌⊎◌, true, false, set, length, IfOk, IfSome};
 ghost use Rattle.std.specs.List.{Contains};
 ghost use Rattle.xs_gram.specs.Sound.{IsBuilt};
 ghost use Rattle.xs_stretch.specs.Parts.{IsPart};
@@ -8,6 +8,7 @@ ghost use Rattle.xs_coarse_net.specs.Covers.{IsCoverOf};
 ghost use Rattle.xs_screen.specs.Screens.{IsScreen, AreDoubts, OverlapNowhere};
 
 use crate::Screen;
+use crate::places::{follows_non, is_cut_of};
 use crate::rules::whole;
 use std::alloc::Global;
 use xs_apart::Doubles;
@@ -18,9 +19,13 @@ use xs_gram::{Gram, cuts_are_one};
 use xs_regex::Numbers;
 use xs_stretch::Part;
 
+/// The most states of an end of a front, or of a rest, that are looked at without what stands
+/// before.
+const LONGEST_END: u32 = 64;
+
 impl Screen {
-    /// For each place of a rule's spread items whether its cut is in doubt: of the others it is seen
-    /// that front and rest do not overlap.
+    /// For each place of a rule's spread items whether its cut is in doubt: of the others it is
+    /// seen that front and rest do not overlap.
     pub fn doubts(
         &mut self,
         alloc: Global,
@@ -69,18 +74,44 @@ impl Screen {
         ensures screen { IsScreen g.now self.new }
         ensures doubts { AreDoubts g.now part.now.rule doubts.new.items }
     {
+        clear_edge(g, part, part.start, doubts);
+        clear_edge(g, part, part.end, doubts);
         if part.end - part.start < 2 {
             return Ok(());
         }
         let Some(cover) = self.covers.cover(alloc, g, &self.labels, groups, part)? else {
             return Ok(());
         };
-        let Some(doubles) = self.search.doubles(&self.labels, &cover.net)? else {
-            return Ok(());
-        };
+        self.clear_by_ends(g, part, &cover, doubts)?;
+        self.clear_by_layers(g, part, &cover, doubts)?;
+        Ok(())
+    }
+
+    /// Takes away the doubt of those cuts of a part at which the rest and the end of the front show
+    /// that nothing overlaps.
+    fn clear_by_ends(
+        &mut self,
+        g: &Gram,
+        part: &Part,
+        cover: &Cover,
+        doubts: &mut Vec<bool>,
+    ) -> Result<(), Memory>
+        requires built { IsBuilt g.now }
+        requires screen { IsScreen g.now self.old }
+        requires part { IsPart g.now part.now }
+        requires cover { IsCoverOf g.now self.old.labels part.now cover.now }
+        requires doubts { AreDoubts g.now part.now.rule doubts.old.items }
+        ensures labels { self.new.labels ≡ self.old.labels }
+        ensures screen { IsScreen g.now self.new }
+        ensures doubts { AreDoubts g.now part.now.rule doubts.new.items }
+    {
+        let mut gate = 0;
         'places: for index in 0..cover.places.len() {
             let outer = cover.places[index];
-            if !self.is_clear(g, part, &cover, &doubles, outer)? {
+            if follows_non(g, part.rule, cover, index) {
+                gate = outer.state;
+            }
+            if !self.is_clear_by_ends(g, part, cover, gate, outer)? {
                 continue;
             }
             clear_doubt(doubts, outer.place);
@@ -88,7 +119,77 @@ impl Screen {
         Ok(())
     }
 
-    /// Whether it is seen that nothing overlaps at a place of a part.
+    /// Whether it is seen at a place of a part by the rest, and by the front from a gate on, that
+    /// nothing overlaps. Looks at short ends alone.
+    fn is_clear_by_ends(
+        &mut self,
+        g: &Gram,
+        part: &Part,
+        cover: &Cover,
+        gate: u32,
+        outer: Outer,
+    ) -> Result<bool, Memory>
+        requires built { IsBuilt g.now }
+        requires screen { IsScreen g.now self.old }
+        requires part { IsPart g.now part.now }
+        requires cover { IsCoverOf g.now self.old.labels part.now cover.now }
+        requires outer { Contains cover.now.places.items outer }
+        ensures labels { self.new.labels ≡ self.old.labels }
+        ensures screen { IsScreen g.now self.new }
+        ensures clear { IfOk result (λ b. b ≡ true → OverlapNowhere g.now part.now.rule outer.place) }
+    {
+        if !is_inner(part, cover, outer) || !is_cut_of(g, part, outer.place) {
+            return Ok(false);
+        }
+        let rest = cover.net.len() - outer.state;
+        if rest > LONGEST_END || outer.state.saturating_sub(gate) > LONGEST_END {
+            return Ok(false);
+        }
+        cuts_are_one();
+        closed_sets_show_none();
+        let clear = self
+            .search
+            .clear_ends(&self.labels, &cover.net, gate, outer.state, cover.last)?;
+        Ok(clear)
+    }
+
+    /// Takes away the doubt of those cuts of a part that are still in doubt, and at which the whole
+    /// front and the rest show that nothing overlaps.
+    fn clear_by_layers(
+        &mut self,
+        g: &Gram,
+        part: &Part,
+        cover: &Cover,
+        doubts: &mut Vec<bool>,
+    ) -> Result<(), Memory>
+        requires built { IsBuilt g.now }
+        requires screen { IsScreen g.now self.old }
+        requires part { IsPart g.now part.now }
+        requires cover { IsCoverOf g.now self.old.labels part.now cover.now }
+        requires doubts { AreDoubts g.now part.now.rule doubts.old.items }
+        ensures screen { IsScreen g.now self.new }
+        ensures doubts { AreDoubts g.now part.now.rule doubts.new.items }
+    {
+        let Some(top) = last_doubted(doubts, part, cover) else {
+            return Ok(());
+        };
+        let Some(doubles) = self.search.doubles(&self.labels, &cover.net, top)? else {
+            return Ok(());
+        };
+        'places: for index in 0..cover.places.len() {
+            let outer = cover.places[index];
+            if !is_doubted(doubts, outer.place) {
+                continue;
+            }
+            if !self.is_clear(g, part, cover, &doubles, outer)? {
+                continue;
+            }
+            clear_doubt(doubts, outer.place);
+        }
+        Ok(())
+    }
+
+    /// Whether it is seen at a place of a part that nothing overlaps.
     fn is_clear(
         &mut self,
         g: &Gram,
@@ -101,17 +202,13 @@ impl Screen {
         requires screen { IsScreen g.now self.old }
         requires part { IsPart g.now part.now }
         requires cover { IsCoverOf g.now self.old.labels part.now cover.now }
-        requires doubles { AreDoubles self.old.labels cover.now.net doubles.now.pairs.items }
+        requires doubles { AreDoubles self.old.labels cover.now.net doubles.now.top doubles.now.pairs.items }
         requires outer { Contains cover.now.places.items outer }
         ensures labels { self.new.labels ≡ self.old.labels }
         ensures screen { IsScreen g.now self.new }
         ensures clear { IfOk result (λ b. b ≡ true → OverlapNowhere g.now part.now.rule outer.place) }
     {
-        if outer.place <= part.start || outer.place >= part.end || outer.state >= cover.net.len() {
-            return Ok(false);
-        }
-        let cut = g.cut(part.rule, outer.place);
-        if cut.start != part.start || cut.end != part.end {
+        if !is_inner(part, cover, outer) || !is_cut_of(g, part, outer.place) {
             return Ok(false);
         }
         cuts_are_one();
@@ -120,6 +217,49 @@ impl Screen {
             .search
             .clear(&self.labels, &cover.net, doubles, outer.state, cover.last)?;
         Ok(clear)
+    }
+}
+
+/// Whether an outer place stands inside a part, and its state in the net of the part's cover.
+fn is_inner(part: &Part, cover: &Cover, outer: Outer) -> bool
+    ensures { result ≡ true → outer.state < cover.now.net.states }
+{
+    outer.place > part.start && outer.place < part.end && outer.state < cover.net.len()
+}
+
+/// The state of the last place inside a part that is still in doubt.
+fn last_doubted(doubts: &[bool], part: &Part, cover: &Cover) -> Option<u32>
+    ensures { IfSome result (λ top. top < cover.now.net.states) }
+{
+    let mut last = None;
+    'places: for outer in &cover.places {
+        if is_inner(part, cover, *outer) && is_doubted(doubts, outer.place) {
+            last = Some(outer.state);
+        }
+    }
+    last
+}
+
+/// Whether a cut is in doubt.
+fn is_doubted(doubts: &[bool], cut: u32) -> bool {
+    match doubts.get(cut as usize) {
+        Some(doubt) => *doubt,
+        None => true,
+    }
+}
+
+/// Takes away the doubt of the cut at the start or the end of a part, where it is one of the part:
+/// its front or its rest is empty, and has no other word than the empty one.
+fn clear_edge(g: &Gram, part: &Part, edge: u32, doubts: &mut Vec<bool>)
+    requires built { IsBuilt g.now }
+    requires part { IsPart g.now part.now }
+    requires edge { (edge ≡ part.now.start) ⊎ (edge ≡ part.now.end) }
+    requires doubts { AreDoubts g.now part.now.rule doubts.old.items }
+    ensures { AreDoubts g.now part.now.rule doubts.new.items }
+{
+    if is_cut_of(g, part, edge) {
+        cuts_are_one();
+        clear_doubt(doubts, edge);
     }
 }
 

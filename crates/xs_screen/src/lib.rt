@@ -1,14 +1,17 @@
 //! Screens: quick searches over coarse nets, which see of most pairs of rules and of most cuts that
 //! they have no suspect. What a screen does not see is left to the exact searches.
 //!
-//! Each rule has one net, which covers its loose words, for all its partners and all its cuts. First it
-//! is seen which two groups read no common word, though they have one fence.
+//! Each rule has one net, which covers its loose words, for all its partners and all its cuts.
+//! First it is seen which two groups read no common word, though they have one fence.
 #![tactic(auto)]
 
 mod cuts;
 mod groups;
+mod places;
+mod ready;
 mod rules;
 mod screen;
 
+pub use ready::Ready;
 pub use rules::whole;
 pub use screen::Screen;

@@ -4,29 +4,35 @@ ghost use Rattle.xs_stretch.specs.Tables.{AreNumbersBefore};
 ghost use Rattle.xs_screen.specs.Screens.{IsScreen, AreNone};
 
 use crate::groups::part_groups;
+use crate::ready::Ready;
 use std::alloc::Global;
 use xs_apart::Search;
 use xs_class::Memory;
 use xs_coarse::Labels;
-use xs_coarse_net::{Cover, Covers};
+use xs_coarse_net::Covers;
 use xs_gram::Gram;
 use xs_regex::Numbers;
 
-/// The coarse nets of a grammar, with the search over them, and the covers of rules that were made.
+/// How many states the covers that are kept may have together.
+const MOST_KEPT: u32 = 1 << 18;
+
+/// The coarse nets of a grammar, with the search over them, what is ready of each rule, and how
+/// many states of covers may still be kept: a cover for which there is no room is made again.
 #[derive(Drop)]
 pub struct Screen {
     pub labels: Labels,
     pub covers: Covers,
     pub search: Search,
-    pub rules: Vec<Option<Cover>>,
+    pub rules: Vec<Option<Ready>>,
+    pub room: u32,
 }
 
 impl Screen {
-    /// The screen of a grammar whose groups are numbered, or none where its coarse nets would be too
-    /// large.
+    /// The screen of a grammar whose groups are numbered, or none where its coarse nets would be
+    /// too large.
     ///
-    /// Takes time linear in the nets of its groups, and for each two groups of one fence in the pairs
-    /// of states that are reached.
+    /// Takes time linear in the nets of its groups, and for each two groups of one fence in the
+    /// pairs of states that are reached.
     pub fn of(alloc: Global, g: &Gram, groups: &Numbers) -> Result<Option<Screen>, Memory>
         requires built { IsBuilt g.now }
         requires groups { AreNumbersBefore g.now (length g.now.rules) groups.now }
@@ -45,18 +51,19 @@ impl Screen {
         if !part_groups(&mut labels, &mut search, &covers.contents)? {
             return Ok(None);
         }
-        let rules = no_covers(alloc, g.rules())?;
+        let rules = none_ready(alloc, g.rules())?;
         Ok(Some(Screen {
             labels,
             covers,
             search,
             rules,
+            room: MOST_KEPT,
         }))
     }
 }
 
-/// No cover yet, for that many rules.
-fn no_covers(alloc: Global, rules: u32) -> Result<Vec<Option<Cover>>, Memory>
+/// Nothing ready yet, of that many rules.
+fn none_ready(alloc: Global, rules: u32) -> Result<Vec<Option<Ready>>, Memory>
     ensures counted { IfOk result (λ kept. length kept.items ≡ rules) }
     ensures none { IfOk result (λ kept. AreNone kept.items) }
 {

@@ -1,6 +1,6 @@
 use Rattle.std.proofs.Common.{arith}
 use Rattle.xs_apart.specs.Arcs.{Goes}
-use Rattle.xs_apart.proofs.FoundLemmas.{found_inside, more_for}
+use Rattle.xs_apart.proofs.FoundLemmas.{found_inside}
 use Rattle.xs_apart.proofs.GrowthLemmas.{more_same, more_then, closed_more, without_more, shut_all, read_at, other_pair}
 use Rattle.xs_apart.proofs.found.Found.close.Goals as goal
 
@@ -11,9 +11,6 @@ places-init c = record {
   closed = λ i p l. absurd (omega arith);
   without = λ i l. absurd (omega arith);
 }
-
-pub go-requires-clause-nets : goal.go-requires-clause-nets
-go-requires-clause-nets c = more_for c.args.first.now c.args.second.now c.args.self.now c.places.self c.requires.nets c.places.invariant.more
 
 pub go-requires-clause-first : goal.go-requires-clause-first
 go-requires-clause-first c = (found_inside c.args.first.now c.args.second.now c.args.self.now c.places.self c.places.place c.index.result.now c.requires.nets c.places.invariant.more c.places.invariant.fits (omega (arith, c.if-place-len.false, c.len.ensures, c.places.self.pairs.ok)) c.index.ensures).first
@@ -35,4 +32,4 @@ places-preserved c =
     }
 
 pub returns-then-place-len-clause-ok : goal.returns-then-place-len-clause-ok
-returns-then-place-len-clause-ok c = λ _. shut_all (Goes c.args.labels.now c.args.first.now c.args.second.now) c.args.goal c.places.place c.places.self.pairs.items (omega (arith, c.if-place-len.true, c.len.ensures, c.places.self.pairs.ok)) c.places.invariant.closed c.places.invariant.without
+returns-then-place-len-clause-ok c = λ _. shut_all (Goes c.args.labels.now c.args.first.now c.args.second.now) c.args.goal c.places.place c.places.self c.places.invariant.fits (omega (arith, c.if-place-len.true, c.len.ensures, c.places.self.pairs.ok)) c.places.invariant.closed c.places.invariant.without

@@ -1,6 +1,6 @@
 use Rattle.std.proofs.Common.{arith}
 use Rattle.xs_apart.specs.Arcs.{Slips}
-use Rattle.xs_apart.proofs.FoundLemmas.{found_inside, more_for}
+use Rattle.xs_apart.proofs.FoundLemmas.{found_inside}
 use Rattle.xs_apart.proofs.GrowthLemmas.{more_same, more_then, closed_more, closed_all, read_at}
 use Rattle.xs_apart.proofs.found.Found.close_slips.Goals as goal
 
@@ -10,9 +10,6 @@ places-init c = record {
   more = more_same c.args.self.now;
   closed = λ i p l. absurd (omega arith);
 }
-
-pub slip-requires-clause-nets : goal.slip-requires-clause-nets
-slip-requires-clause-nets c = more_for c.args.first.now c.args.second.now c.args.self.now c.places.self c.requires.nets c.places.invariant.more
 
 pub slip-requires-clause-first : goal.slip-requires-clause-first
 slip-requires-clause-first c = (found_inside c.args.first.now c.args.second.now c.args.self.now c.places.self c.places.place c.index-at.result.now c.requires.nets c.places.invariant.more c.places.invariant.fits (omega (arith, c.if-place-len.false, c.len.ensures, c.places.self.pairs.ok)) c.index-at.ensures).first
@@ -32,4 +29,4 @@ places-preserved c =
     }
 
 pub returns-then-place-len-clause-ok : goal.returns-then-place-len-clause-ok
-returns-then-place-len-clause-ok c = λ _. closed_all (Slips c.args.first.now c.args.second.now) c.places.place c.places.self.pairs.items (omega (arith, c.if-place-len.true, c.len.ensures, c.places.self.pairs.ok)) c.places.invariant.closed
+returns-then-place-len-clause-ok c = λ _. closed_all (Slips c.args.first.now c.args.second.now) c.places.place c.places.self (omega (arith, c.if-place-len.true, c.len.ensures, c.places.self.pairs.ok)) c.places.invariant.closed

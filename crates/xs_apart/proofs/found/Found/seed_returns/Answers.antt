@@ -1,4 +1,6 @@
+use Rattle.std.proofs.Common.{arith}
 use Rattle.std.proofs.lemmas.List.Elements.{All-nil}
+use Rattle.xs_apart.specs.Found.{pair}
 use Rattle.xs_apart.specs.Sets.{Returns}
 use Rattle.xs_apart.proofs.GrowthLemmas.{more_same, more_then, more_has, each_next, each_all}
 use Rattle.xs_apart.proofs.found.Found.seed_returns.Goals as goal
@@ -7,9 +9,6 @@ use Rattle.xs_apart.proofs.found.Found.seed_returns.Goals.{then-pair-here+in_ok-
 pub pairs-init : goal.pairs-init
 pairs-init c = record { fits = c.requires.fits; more = more_same c.args.self.now; there = All-nil (Returns c.args.self.now.pairs.items c.args.here) }
 
-pub visit-requires-clause-second : goal.visit-requires-clause-second
-visit-requires-clause-second c = rw c.pairs.invariant.more.width (c.requires.inside c.pairs.pair-index _ c.pairs-test.true).second
-
 pub pairs-preserved : goal.pairs-preserved
 pairs-preserved c =
     let known = c.pairs.invariant in
@@ -17,7 +16,7 @@ pairs-preserved c =
       | then-pair-here+in_ok-visit w ↦ rw w.self-is (record {
         fits = w.visit.ensures.fits;
         more = more_then known.more w.visit.ensures.more;
-        there = each_next (Returns c.pairs.self.pairs.items c.args.here) (Returns w.visit.new.self.pairs.items c.args.here) c.args.pairs.now c.pairs.pair-index _ c.pairs-test.true (λ y h e. more_has w.visit.ensures.more c.args.here y.second (h e)) known.there (λ _. w.in_ok-visit.ensures.ok);
+        there = each_next (Returns c.pairs.self.pairs.items c.args.here) (Returns w.visit.new.self.pairs.items c.args.here) c.args.pairs.now c.pairs.pair-index _ c.pairs-test.true (λ y h e. more_has w.visit.ensures.more c.args.here y.second (h e)) known.there (λ _. w.in_ok-visit.ensures.ok (omega (arith, w.visit.ensures.more.height, known.more.height, c.requires.here)) (omega (arith, w.visit.ensures.more.width, known.more.width, c.requires.inside c.pairs.pair-index (pair 0 0) c.pairs-test.true)));
       })
       | else-pair-here w ↦ rw w.self-is (record {
         fits = known.fits;

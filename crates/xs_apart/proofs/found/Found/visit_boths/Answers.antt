@@ -3,18 +3,12 @@ use Rattle.std.specs.List.{All}
 use Rattle.std.proofs.lemmas.List.Elements.{All-nil, All-weaker}
 use Rattle.xs_apart.specs.Arcs.{Joins}
 use Rattle.xs_apart.proofs.ArcLemmas.{arc, none_reads}
-use Rattle.xs_apart.proofs.GrowthLemmas.{more_same, more_then, more_has, each_next, each_all}
+use Rattle.xs_apart.proofs.GrowthLemmas.{more_same, more_then, more_found, each_next, each_all}
 use Rattle.xs_apart.proofs.found.Found.visit_boths.Goals as goal
 use Rattle.xs_apart.proofs.found.Found.visit_boths.Goals.{then-arc-ne0+in_ok-visit_partners, else-arc-ne0}
 
 pub arcs-init : goal.arcs-init
-arcs-init c = record { fits = c.requires.fits; more = more_same c.args.self.now; there = All-nil (λ x. All (Joins c.args.labels.now c.args.self.now.pairs.items x) c.args.others.now) }
-
-pub visit_partners-requires-clause-first : goal.visit_partners-requires-clause-first
-visit_partners-requires-clause-first c = rw c.arcs.invariant.more.height (c.requires.first c.arcs.arc-index _ c.arcs-test.true)
-
-pub visit_partners-requires-clause-second : goal.visit_partners-requires-clause-second
-visit_partners-requires-clause-second c = rw c.arcs.invariant.more.width c.requires.second
+arcs-init c = record { fits = c.requires; more = more_same c.args.self.now; there = All-nil (λ x. All (Joins c.args.labels.now c.args.self.now x) c.args.others.now) }
 
 pub arcs-preserved : goal.arcs-preserved
 arcs-preserved c =
@@ -23,14 +17,14 @@ arcs-preserved c =
       | then-arc-ne0+in_ok-visit_partners w ↦ rw w.self-is (record {
         fits = w.visit_partners.ensures.fits;
         more = more_then known.more w.visit_partners.ensures.more;
-        there = each_next (λ x. All (Joins c.args.labels.now c.arcs.self.pairs.items x) c.args.others.now) (λ x. All (Joins c.args.labels.now w.visit_partners.new.self.pairs.items x) c.args.others.now) c.args.arcs.now c.arcs.arc-index _ c.arcs-test.true (λ z. All-weaker (Joins c.args.labels.now c.arcs.self.pairs.items z) (Joins c.args.labels.now w.visit_partners.new.self.pairs.items z) (λ y h a b m. more_has w.visit_partners.ensures.more z.to y.to (h a b m)) c.args.others.now) known.there w.in_ok-visit_partners.ensures.ok;
+        there = each_next (λ x. All (Joins c.args.labels.now c.arcs.self x) c.args.others.now) (λ x. All (Joins c.args.labels.now w.visit_partners.new.self x) c.args.others.now) c.args.arcs.now c.arcs.arc-index _ c.arcs-test.true (λ z. All-weaker (Joins c.args.labels.now c.arcs.self z) (Joins c.args.labels.now w.visit_partners.new.self z) (λ y h a b m. more_found w.visit_partners.ensures.more z.to y.to (h a b m)) c.args.others.now) known.there w.in_ok-visit_partners.ensures.ok;
       })
       | else-arc-ne0 w ↦ rw w.self-is (record {
         fits = known.fits;
         more = known.more;
-        there = each_next (λ x. All (Joins c.args.labels.now c.arcs.self.pairs.items x) c.args.others.now) (λ x. All (Joins c.args.labels.now c.arcs.self.pairs.items x) c.args.others.now) c.args.arcs.now c.arcs.arc-index (arc 0 0 0) c.arcs-test.true (λ z h. h) known.there (none_reads c.args.labels.now c.arcs.self.pairs.items (get_or c.args.arcs.now c.arcs.arc-index (arc 0 0 0)) c.args.others.now w.if-arc-ne0.false);
+        there = each_next (λ x. All (Joins c.args.labels.now c.arcs.self x) c.args.others.now) (λ x. All (Joins c.args.labels.now c.arcs.self x) c.args.others.now) c.args.arcs.now c.arcs.arc-index (arc 0 0 0) c.arcs-test.true (λ z h. h) known.there (none_reads c.args.labels.now c.arcs.self (get_or c.args.arcs.now c.arcs.arc-index (arc 0 0 0)) c.args.others.now w.if-arc-ne0.false);
       })
     ]
 
 pub returns-clause-ok : goal.returns-clause-ok
-returns-clause-ok c = each_all (λ x. All (Joins c.args.labels.now c.arcs.self.pairs.items x) c.args.others.now) c.args.arcs.now c.arcs.arc-index c.arcs-test.false c.arcs.invariant.there
+returns-clause-ok c = each_all (λ x. All (Joins c.args.labels.now c.arcs.self x) c.args.others.now) c.args.arcs.now c.arcs.arc-index c.arcs-test.false c.arcs.invariant.there

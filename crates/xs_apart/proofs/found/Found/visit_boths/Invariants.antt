@@ -8,5 +8,5 @@ abbrev pub invariant-arcs : goal.invariant-arcs
 invariant-arcs l = record {
   fits : Fits l.self;
   more : IsMore l.initial.self l.self;
-  there : All (λ x. All (Joins l.labels l.self.pairs.items x) l.others) (take l.arc-index l.arcs);
+  there : All (λ x. All (Joins l.labels l.self x) l.others) (take l.arc-index l.arcs);
 }

@@ -8,5 +8,5 @@ abbrev pub invariant-arcs : goal.invariant-arcs
 invariant-arcs l = record {
   fits : Fits l.self;
   more : IsMore l.initial.self l.self;
-  there : All (MovesFirst l.self.pairs.items l.second) (take l.arc-index l.arcs);
+  there : All (MovesFirst l.self l.second) (take l.arc-index l.arcs);
 }

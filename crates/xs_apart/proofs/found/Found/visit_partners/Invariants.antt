@@ -8,5 +8,5 @@ abbrev pub invariant-others : goal.invariant-others
 invariant-others l = record {
   fits : Fits l.self;
   more : IsMore l.initial.self l.self;
-  there : All (Joins l.labels l.self.pairs.items l.arc) (take l.other-index l.others);
+  there : All (Joins l.labels l.self l.arc) (take l.other-index l.others);
 }

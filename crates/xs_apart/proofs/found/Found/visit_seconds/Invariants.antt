@@ -8,5 +8,5 @@ abbrev pub invariant-arcs : goal.invariant-arcs
 invariant-arcs l = record {
   fits : Fits l.self;
   more : IsMore l.initial.self l.self;
-  there : All (MovesSecond l.self.pairs.items l.first) (take l.arc-index l.arcs);
+  there : All (MovesSecond l.self l.first) (take l.arc-index l.arcs);
 }

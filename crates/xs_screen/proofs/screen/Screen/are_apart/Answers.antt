@@ -1,18 +1,23 @@
-use Rattle.std.proofs.Common.{List, ap, sym, ◌∙◌}
-use Rattle.std.specs.Prelude.{slice_get}
-use Rattle.std.specs.declared.option.Option.{Option}
-use Rattle.xs_coarse_net.specs.declared.cover.Cover.{Cover}
-use Rattle.xs_screen.proofs.Seeing.{apart_shares}
+use Rattle.std.proofs.Common.{sym, subst}
+use Rattle.xs_coarse.specs.Coarse.{Table}
+use Rattle.xs_screen.specs.Screens.{IsReady}
+use Rattle.xs_screen.proofs.Seeing.{screen_keeps}
 use Rattle.xs_screen.proofs.screen.Screen.are_apart.Goals as goal
 
-pub returns-clause-apart : goal.returns-clause-apart
-returns-clause-apart c =
-    let s = c.keep_cover-2.new.self in
-    let screen = c.keep_cover-2.ensures in
-    let p = c.args.rule in
-    let q = c.args.rule2 in
-    let one = c.in-Some.one.now in
-    let other = c.in-Some-cover_of.other.now in
-    let first = ap (λ (kept : List (Option Cover)). slice_get kept p) (sym c.deref.ensures.value) ∙ c.in-Some.ensures in
-    let second = ap (λ (kept : List (Option Cover)). slice_get kept q) (sym c.deref-2.ensures.value) ∙ c.in-Some-cover_of.ensures in
-    λ e. apart_shares c.args.g.now c.requires.built s screen c.closed_sets_show_none.ensures.apart p q c.requires.rule c.requires.rule2 one other (screen.rules p one first) (screen.rules q other second) (c.in_ok-apart.ensures e)
+pub returns-in_default-2-clause-screen : goal.returns-in_default-2-clause-screen
+returns-in_default-2-clause-screen c =
+    let g = c.args.g.now in
+    let one = c.in-Some.one in
+    let made = rw c.in-Some.is at c.in_ok-one.ensures.ready in
+    let ready = subst (λ (t : Table). IsReady g t c.args.rule one) (sym c.take-2.ensures.labels) made in
+    screen_keeps g c.take-2.new.self c.keep.new.self c.args.rule one c.take-2.ensures.screen ready c.keep.ensures.labels c.keep.ensures.covers c.keep.ensures.kept
+
+pub returns-clause-screen : goal.returns-clause-screen
+returns-clause-screen c =
+    let g = c.args.g.now in
+    let seen = c.are_seen_apart.ensures in
+    let one = c.are_seen_apart.new.one in
+    let other = c.are_seen_apart.new.other in
+    let screen = screen_keeps g c.are_seen_apart.new.self c.keep-2.new.self c.args.rule one seen.screen seen.one c.keep-2.ensures.labels c.keep-2.ensures.covers c.keep-2.ensures.kept in
+    let ready = subst (λ (t : Table). IsReady g t c.args.rule2 other) (sym c.keep-2.ensures.labels) seen.other in
+    screen_keeps g c.keep-2.new.self c.keep-3.new.self c.args.rule2 other screen ready c.keep-3.ensures.labels c.keep-3.ensures.covers c.keep-3.ensures.kept

@@ -1,6 +1,6 @@
 use Rattle.std.proofs.Common.{◌≡◌, length}
 use Rattle.xs_screen.specs.Screens.{AreNone}
-use Rattle.xs_screen.proofs.screen.no_covers.Given as goal
+use Rattle.xs_screen.proofs.screen.none_ready.Given as goal
 
 abbrev pub invariant-rules : goal.invariant-rules
 invariant-rules l = record {

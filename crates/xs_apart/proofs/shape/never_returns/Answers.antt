@@ -1,0 +1,24 @@
+use Rattle.std.proofs.Common.{◌+◌, List, arith, subst, sym, take}
+use Rattle.std.specs.List.{All}
+use Rattle.xs_coarse.specs.declared.arc.Arc.{Arc}
+use Rattle.xs_apart.proofs.ArcLemmas.{arc}
+use Rattle.xs_apart.proofs.GrowthLemmas.{each_next, each_all}
+use Rattle.xs_apart.proofs.ShapeLemmas.{StaysFrom, never_returns}
+use Rattle.xs_apart.proofs.shape.never_returns.Goals as goal
+use Rattle.xs_apart.proofs.shape.never_returns.Goals.{else-x-state-via-then-x-state+else-x-state-2, else-x-state-via-else-x-state}
+
+pub arcs-preserved : goal.arcs-preserved
+arcs-preserved c =
+    let same = c.arcs-x-items.ensures in
+    let before = subst (λ (xs : List Arc). All (StaysFrom (c.args.state + 1)) (take c.arcs.x-index xs)) (sym same) c.arcs.invariant.so_far in
+    let after = each_next (StaysFrom (c.args.state + 1)) (StaysFrom (c.args.state + 1)) c.arcs-x-items.result.now c.arcs.x-index (arc 0 0 0) c.arcs-test.true (λ x h. h) before (λ from. elim c.else-x-state.branch [
+      | else-x-state-via-then-x-state+else-x-state-2 w ↦ omega (arith, w.if-x-state-2.false)
+      | else-x-state-via-else-x-state w ↦ absurd (omega (arith, from, w.if-x-state.false))
+    ]) in
+    record { so_far = subst (λ (xs : List Arc). All (StaysFrom (c.args.state + 1)) (take (c.arcs.x-index + 1) xs)) same after }
+
+pub returns : goal.returns
+returns c =
+    let same = c.arcs-x-items.ensures in
+    let before = subst (λ (xs : List Arc). All (StaysFrom (c.args.state + 1)) (take c.arcs.x-index xs)) (sym same) c.arcs.invariant.so_far in
+    λ _. never_returns c.args.net.now (c.args.state + 1) (subst (λ (xs : List Arc). All (StaysFrom (c.args.state + 1)) xs) same (each_all (StaysFrom (c.args.state + 1)) c.arcs-x-items.result.now c.arcs.x-index c.arcs-test.false before))
