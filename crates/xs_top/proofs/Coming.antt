@@ -15,11 +15,11 @@ use Rattle.xs_talk.specs.declared.outcome.Outcome.TheVariants.{Done, NoteFault}
 use Rattle.xs_top.specs.declared.asking.Core.{Core}
 use Rattle.xs_top.specs.declared.asking.Job.{Job}
 use Rattle.xs_top.specs.declared.asking.Job.TheVariants.{Check, Turn, Trees, Make, Session, ToTree, FromTree, Cover}
-use Rattle.xs_top.specs.Asked.{Ask, shipped, by}
+use Rattle.xs_top.specs.Asked.{Ask, shipped, upgrading, by}
 use Rattle.xs_top.specs.Devices.{Run, Input}
 use Rattle.xs_top.specs.Known.{HasBytes}
 use Rattle.xs_top.specs.Sheets.{IsPairOfBytes, IsUnpaired}
-use Rattle.xs_top.specs.Ran.{IsUnanswered, IsUndone, IsAnswer, Took, Went, no_command, shipped_written, unpaired, undone, answered, Told}
+use Rattle.xs_top.specs.Ran.{IsUnanswered, IsUndone, IsAnswer, Took, Went, no_command, shipped_written, not_upgraded, upgrade_written, unpaired, undone, answered, Told}
 use Rattle.xs_top.specs.Runs.{AsksFor}
 use Rattle.xs_top.proofs.Known.{spelled_pair}
 
@@ -41,9 +41,14 @@ none_asked a e = cc
 not_shipped : (core : Core) (n : Named) (j : Job) → Some (shipped core) ≡ Some (by n j) → ⊥
 not_shipped core n j e = cc
 
+not_upgrading : (s n : Named) (j : Job) → Some (upgrading s) ≡ Some (by n j) → ⊥
+not_upgrading s n j e = cc
+
 went_came : (run : Run) (sheet : List ℕ) (job : Job) (asks : AsksFor run job sheet) (o : Outcome) (names : List (List ℕ)) → Went run o names → Came run sheet asks.named job o
 went_came run sheet job asks o names (no_command none read took) = absurd (none_asked (by asks.named job) (sym asks.is ∙ none))
 went_came run sheet job asks o names (shipped_written core is read took) = absurd (not_shipped core asks.named job (sym is ∙ asks.is))
+went_came run sheet job asks o names (not_upgraded named' is why read took) = absurd (not_upgrading named' asks.named job (sym is ∙ asks.is))
+went_came run sheet job asks o names (upgrade_written named' answer is spells read took) = absurd (not_upgrading named' asks.named job (sym is ∙ asks.is))
 went_came run sheet job asks o names (unpaired named' job' is why read took) =
     let same = one_ask named' asks.named job' job (some_ask (by named' job') (by asks.named job) (sym is ∙ asks.is)) in
     before (subst (λ (n : Named). IsUnpaired run.shelf n o) same.0 why)
