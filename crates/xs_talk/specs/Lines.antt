@@ -62,7 +62,7 @@ report_line names (Vertical side name line line2 word) = report_begin side name 
 report_line names (Horizontal side name line cut x a y) = report_begin side name ++ cut_at line cut ++ cut_words names x a y
 
 abbrev pub usage_line : List ℕ
-usage_line = codes "usage: xsugar check S | to-xml S [F] | to-text S | round S text [F] | round S xml | trees S M | sheet | sheet 2 | make SEED LINES | session S | to-tree S text [F] | to-tree S xml | from-tree S text | from-tree S xml | cover S\n"
+usage_line = codes "usage: xsugar check S | to-xml S [F] | to-text S | round S text [F] | round S xml | trees S M | sheet | sheet 2 | make SEED LINES | upgrade S | session S | to-tree S text [F] | to-tree S xml | from-tree S text | from-tree S xml | cover S\n"
 
 -- nothing is said of a run that is done, and of one whose notes failed
 abbrev pub line : List (List ℕ) → Outcome → List ℕ

@@ -8,7 +8,7 @@ use xs_class::{Bytes, Memory, Names, Side, Text, Word};
 use xs_pair::{Ill, IllRule};
 
 const USAGE: &[u8] =
-    b"usage: xsugar check S | to-xml S [F] | to-text S | round S text [F] | round S xml | trees S M | sheet | sheet 2 | make SEED LINES | session S | to-tree S text [F] | to-tree S xml | from-tree S text | from-tree S xml | cover S\n";
+    b"usage: xsugar check S | to-xml S [F] | to-text S | round S text [F] | round S xml | trees S M | sheet | sheet 2 | make SEED LINES | upgrade S | session S | to-tree S text [F] | to-tree S xml | from-tree S text | from-tree S xml | cover S\n";
 
 /// Appends a number between two texts.
 pub fn push_numbered(

@@ -15,12 +15,12 @@ use Rattle.xs_talk.specs.declared.outcome.Outcome.TheVariants.{Done, NoteFault}
 use Rattle.xs_top.specs.declared.asking.Core.{Core}
 use Rattle.xs_top.specs.declared.asking.Job.{Job}
 use Rattle.xs_top.specs.declared.asking.Job.TheVariants.{Check, Turn, Trees, Make, Session, ToTree, FromTree, Cover}
-use Rattle.xs_top.specs.Asked.{Ask, shipped, by}
+use Rattle.xs_top.specs.Asked.{Ask, shipped, upgrading, by}
 use Rattle.xs_top.specs.Devices.{Run, Input}
 use Rattle.xs_top.specs.Known.{HasBytes}
 use Rattle.xs_top.specs.Sheets.{IsPairOfBytes, IsUnpaired}
-use Rattle.xs_top.specs.Ran.{IsUnanswered, IsUndone, IsAnswer, Took, Went, no_command, shipped_written, unpaired, undone, answered, Told}
-use Rattle.xs_top.specs.Runs.{AsksFor}
+use Rattle.xs_top.specs.Ran.{IsUnanswered, IsUndone, IsAnswer, Took, Went, no_command, shipped_written, not_upgraded, upgrade_written, unpaired, undone, answered, Told}
+use Rattle.xs_top.specs.Runs.{AsksFor, AsksToUpgrade}
 use Rattle.xs_top.proofs.Known.{spelled_pair}
 
 -- before the job, of the job, or with an answer to it
@@ -41,9 +41,14 @@ none_asked a e = cc
 not_shipped : (core : Core) (n : Named) (j : Job) → Some (shipped core) ≡ Some (by n j) → ⊥
 not_shipped core n j e = cc
 
+not_upgrading : (s n : Named) (j : Job) → Some (upgrading s) ≡ Some (by n j) → ⊥
+not_upgrading s n j e = cc
+
 went_came : (run : Run) (sheet : List ℕ) (job : Job) (asks : AsksFor run job sheet) (o : Outcome) (names : List (List ℕ)) → Went run o names → Came run sheet asks.named job o
 went_came run sheet job asks o names (no_command none read took) = absurd (none_asked (by asks.named job) (sym asks.is ∙ none))
 went_came run sheet job asks o names (shipped_written core is read took) = absurd (not_shipped core asks.named job (sym is ∙ asks.is))
+went_came run sheet job asks o names (not_upgraded named' is why read took) = absurd (not_upgrading named' asks.named job (sym is ∙ asks.is))
+went_came run sheet job asks o names (upgrade_written named' answer is spells read took) = absurd (not_upgrading named' asks.named job (sym is ∙ asks.is))
 went_came run sheet job asks o names (unpaired named' job' is why read took) =
     let same = one_ask named' asks.named job' job (some_ask (by named' job') (by asks.named job) (sym is ∙ asks.is)) in
     before (subst (λ (n : Named). IsUnpaired run.shelf n o) same.0 why)
@@ -55,6 +60,23 @@ went_came run sheet job asks o names (answered named' job' p answer is spells ha
     let same = one_ask named' asks.named job' job (some_ask (by named' job') (by asks.named job) (sym is ∙ asks.is)) in
     let has : HasBytes run.shelf.files named' sheet = subst (λ (n : Named). HasBytes run.shelf.files n sheet) (sym same.0) asks.has in
     with_answer p (spelled_pair run.shelf.files named' sheet p has spells) answer (subst (λ (j : Job). IsAnswer p run.input j answer) same.1 has_answer) took
+
+one_upgrading : (n m : Named) → upgrading n ≡ upgrading m → n ≡ m
+one_upgrading n m e = cc
+
+not_shipped_upgrading : (core : Core) (s : Named) → Some (shipped core) ≡ Some (upgrading s) → ⊥
+not_shipped_upgrading core s e = cc
+
+-- the outcome of an upgrade: the sheet spells no grammars, or an answer was written
+pub went_upgraded : (run : Run) (sheet : List ℕ) (asks : AsksToUpgrade run sheet) (o : Outcome) (names : List (List ℕ)) → Went run o names → IsUnpaired run.shelf asks.named o ⊎ ((answer : List ℕ) × Took run.out answer o)
+went_upgraded run sheet asks o names (no_command none read took) = absurd (none_asked (upgrading asks.named) (sym asks.is ∙ none))
+went_upgraded run sheet asks o names (shipped_written core is read took) = absurd (not_shipped_upgrading core asks.named (sym is ∙ asks.is))
+went_upgraded run sheet asks o names (not_upgraded named' is why read took) =
+    inl (subst (λ (n : Named). IsUnpaired run.shelf n o) (one_upgrading named' asks.named (some_ask (upgrading named') (upgrading asks.named) (sym is ∙ asks.is))) why)
+went_upgraded run sheet asks o names (upgrade_written named' answer is spells read took) = inr (answer, took)
+went_upgraded run sheet asks o names (unpaired named' job' is why read took) = absurd (not_upgrading asks.named named' job' (sym asks.is ∙ is))
+went_upgraded run sheet asks o names (undone named' job' p is spells why took) = absurd (not_upgrading asks.named named' job' (sym asks.is ∙ is))
+went_upgraded run sheet asks o names (answered named' job' p answer is spells has_answer took) = absurd (not_upgrading asks.named named' job' (sym asks.is ∙ is))
 
 -- the outcome came so, or notes failed
 pub told_came : (run : Run) (sheet : List ℕ) (job : Job) (asks : AsksFor run job sheet) (o : Outcome) → Told run o → Came run sheet asks.named job o ⊎ ((of : ℕ) × (written : ℕ) × (o ≡ NoteFault of written) × Rose run.notes.faults_before run.notes.faults_now)

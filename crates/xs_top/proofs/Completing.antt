@@ -26,7 +26,7 @@ use Rattle.xs_talk.specs.declared.outcome.Outcome.{Outcome}
 use Rattle.xs_talk.specs.declared.outcome.Outcome.TheVariants.{Done, Foreign, SheetLong, SheetBad, SheetIll, Heavy, Suspect, NotUtf8, NotXml, Usage, SheetFault, ReadFault, WriteFault, NoteFault, DocLong, ScriptBad, OutlineBad}
 use Rattle.xs_top.specs.declared.asking.Job.{Job}
 use Rattle.xs_top.specs.declared.asking.Job.TheVariants.{Check, Turn, Trees, Make, Session, ToTree, FromTree, Cover}
-use Rattle.xs_top.specs.Asked.{Ask, by, asked}
+use Rattle.xs_top.specs.Asked.{Ask, upgrading, by, asked}
 use Rattle.xs_leiden.specs.Made.{made_text}
 use Rattle.xs_words.specs.Command.{Sheet as Named}
 use Rattle.xs_top.specs.Devices.{Run, Input}
@@ -42,7 +42,7 @@ use Rattle.xs_top.specs.Checks.{IsUnsure}
 use Rattle.xs_top.specs.Documents.{IsWordOf}
 use Rattle.xs_top.specs.Answers.{IsOutlineDocument, IsUnread, IsNoOutline}
 use Rattle.xs_top.specs.Scripts.{IsScript, IsNoScript}
-use Rattle.xs_top.specs.Ran.{IsUntaken, IsUnanswered, IsUnplayed, IsUnmade, IsUndone, Took, Went, no_command, shipped_written, unpaired, undone, answered, Tells, Told, IsOfLanguage, IsReadable, IsReadableScript, IsReadableOutline, IsDoable, IsClear, IsFree, IsHonest, IsComplete}
+use Rattle.xs_top.specs.Ran.{IsUntaken, IsUnanswered, IsUnplayed, IsUnmade, IsUndone, Took, Went, no_command, shipped_written, not_upgraded, upgrade_written, unpaired, undone, answered, Tells, Told, IsOfLanguage, IsReadable, IsReadableScript, IsReadableOutline, IsDoable, IsClear, IsKnown, IsFree, IsHonest, IsComplete}
 
 same_ask : (a b : Ask) → Some a ≡ Some b → a ≡ b
 same_ask a b e = cc
@@ -226,6 +226,9 @@ module _ (law : OneReading) (weigh : RuleWeighsOnce) (agree : PairsAgree) (well 
     its_clear : (sheet : Named) (job : Job) → asked run.words ≡ Some (by sheet job) → IsClear run sheet job
     its_clear sheet job is = subst (λ (a : Ask). IsFree run a) (same_ask honest.ask (by sheet job) (sym honest.is ∙ is)) honest.free
 
+    its_sheet : (sheet : Named) → asked run.words ≡ Some (upgrading sheet) → IsKnown run sheet
+    its_sheet sheet is = subst (λ (a : Ask). IsFree run a) (same_ask honest.ask (upgrading sheet) (sym honest.is ∙ is)) honest.free
+
     took_done : (answer : List ℕ) (o : Outcome) → Took run.out answer o → o ≡ Done
     took_done answer Done took = refl
     took_done answer (WriteFault written) took = absurd (honest.out_sure took.2)
@@ -248,6 +251,8 @@ module _ (law : OneReading) (weigh : RuleWeighsOnce) (agree : PairsAgree) (well 
     went_done : (o : Outcome) (names : List (List ℕ)) → Went run o names → o ≡ Done
     went_done o names (no_command none read took) = absurd (not_none honest.ask (asked run.words) none honest.is)
     went_done o names (shipped_written core is read took) = took_done (core_bytes core) o took
+    went_done o names (not_upgraded sheet is why read took) = let known = its_sheet sheet is in absurd (not_unpaired run sheet known.bytes known.pair known.sheet_sure known.has known.spelled o why)
+    went_done o names (upgrade_written sheet answer is spells read took) = took_done answer o took
     went_done o names (unpaired sheet job is why read took) = let clear = its_clear sheet job is in absurd (not_unpaired run sheet clear.bytes clear.pair clear.sheet_sure clear.has clear.spelled o why)
     went_done o names (undone sheet job p is spells why took) =
         let clear = its_clear sheet job is in

@@ -13,13 +13,13 @@ use Rattle.xs_talk.specs.declared.outcome.Outcome.TheVariants.{NoteFault}
 use Rattle.xs_words.specs.Command.{Sheet as Named}
 use Rattle.xs_top.specs.declared.asking.Core.{Core}
 use Rattle.xs_top.specs.declared.asking.Job.{Job}
-use Rattle.xs_top.specs.Asked.{shipped, by, asked}
+use Rattle.xs_top.specs.Asked.{shipped, upgrading, by, asked}
 use Rattle.xs_top.specs.Devices.{Output, Run, ReadNothing, TookNothing}
-use Rattle.xs_top.specs.Sheets.{core_bytes, SpellsPair, IsUnpaired}
+use Rattle.xs_top.specs.Sheets.{core_bytes, SpellsPair, SpellsUpgrade, IsUnpaired}
 use Rattle.xs_top.specs.declared.stop.Stop.{Stop}
 use Rattle.xs_top.specs.declared.stop.Stop.TheVariants.{Refused, Memory}
 use Rattle.xs_top.specs.Stops.{StopsBy}
-use Rattle.xs_top.specs.Ran.{IsAnswer, IsUndone, Went, shipped_written, unpaired, undone, answered, Took, IsWritten, Told, Tells, status_of}
+use Rattle.xs_top.specs.Ran.{IsAnswer, IsUndone, Went, shipped_written, not_upgraded, upgrade_written, unpaired, undone, answered, Took, IsWritten, Told, Tells, status_of}
 
 -- a stop by another cause
 pub stops_as : {P Q : Outcome → Type 0} → ((o : Outcome) → P o → Q o) → (stop : Stop) → StopsBy P stop → StopsBy Q stop
@@ -49,6 +49,15 @@ stop_is P stop o stops is = subst (StopsBy P) is stops
 -- words that are no command
 pub usage_told : (run : Run) (names : List (List ℕ)) (o : Outcome) (r : Result Outcome Refusal) → names ≡ [] → Went run o [] → IfOk r (Tells run.notes names o) → IfOk r (Told run)
 usage_told run names o r none went tells = told_as run o [] r went (subst (λ (ns : List (List ℕ)). IfOk r (Tells run.notes ns o)) none tells)
+
+-- a sheet that spells no grammars, whose upgrade is asked for
+pub not_upgraded_told : (run : Run) (sheet : Named) (stop : Stop) (o : Outcome) (names : List (List ℕ)) (r : Result Outcome Refusal) → asked run.words ≡ Some (upgrading sheet) → StopsBy (IsUnpaired run.shelf sheet) stop → stop ≡ Refused o → ReadNothing run.input → TookNothing run.out → names ≡ [] → IfOk r (Tells run.notes names o) → IfOk r (Told run)
+not_upgraded_told run sheet stop o names r is stops same read took none tells =
+    usage_told run names o r none (not_upgraded sheet is (stop_is (IsUnpaired run.shelf sheet) stop o stops same) read took) tells
+
+-- an upgrade that was written, and reported where out failed
+pub upgraded_told : (run : Run) (sheet : Named) (answer bytes : List ℕ) (result : Outcome) → asked run.words ≡ Some (upgrading sheet) → SpellsUpgrade run.shelf.files sheet answer → ReadNothing run.input → bytes ≡ answer → IsWritten run.out run.notes bytes result → Told run result
+upgraded_told run sheet answer bytes result is spells read same (o, took, tells) = (o, [], upgrade_written sheet answer is spells read (subst (λ (b : List ℕ). Took run.out b o) same took), tells)
 
 -- a sheet that spells no grammars
 pub unpaired_told : (run : Run) (sheet : Named) (job : Job) (stop : Stop) (o : Outcome) (names : List (List ℕ)) (r : Result Outcome Refusal) → asked run.words ≡ Some (by sheet job) → StopsBy (IsUnpaired run.shelf sheet) stop → stop ≡ Refused o → ReadNothing run.input → TookNothing run.out → names ≡ [] → IfOk r (Tells run.notes names o) → IfOk r (Told run)

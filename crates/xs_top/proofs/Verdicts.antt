@@ -26,13 +26,13 @@ use Rattle.xs_top.specs.Checks.{IsReported, IsUnsure, IsSure}
 use Rattle.xs_top.specs.Answers.{IsUnread, IsNoOutline}
 use Rattle.xs_top.specs.Scripts.{IsNoScript}
 use Rattle.xs_top.specs.Ran.{IsUntaken, IsUnanswered, IsUnplayed, IsUnmade, IsUndone, IsAnswer, Took, Told}
-use Rattle.xs_top.specs.Runs.{AsksFor, Verdict, bad, ill, heavy, suspect, accepted}
-use Rattle.xs_top.specs.Laws.{PairsAgree, SheetsAgree, IsChecked, verdict, OneVerdict, RefusesSheet, CheckDecides, CheckAccepts}
+use Rattle.xs_top.specs.Runs.{AsksFor, AsksToUpgrade, Verdict, bad, ill, heavy, suspect, accepted}
+use Rattle.xs_top.specs.Laws.{PairsAgree, SheetsAgree, IsChecked, verdict, OneVerdict, RefusesSheet, CheckDecides, CheckDecidesUpgrades, CheckAccepts}
 use Rattle.xs_top.proofs.Known.{has_only, has_short}
 use Rattle.xs_top.proofs.Agreeing.{sure_kept}
 use Rattle.xs_top.proofs.FencesOnce.{once_in_text, once_in_xml}
 use Rattle.xs_top.proofs.Completing.{not_heavy_rule, not_heavy, not_shown, not_unsure}
-use Rattle.xs_top.proofs.Coming.{Came, before, of_job, with_answer, told_came, done_answered}
+use Rattle.xs_top.proofs.Coming.{Came, before, of_job, with_answer, went_upgraded, told_came, done_answered}
 
 -- what a verdict means of the bytes
 abbrev Means : List ℕ → Verdict → Type 0
@@ -272,6 +272,21 @@ module _ (law : OneReading) (weigh : RuleWeighsOnce) (agree : PairsAgree) (well 
           let a = done_answered one sheet Check asks is_done in
           came_not two sheet also.named job also.has (a.pair, a.is_pair, a.is_answer.1.accepted) o came refuses
       by_case (inr (of, written, note, rose)) = subst (λ (x : Outcome). RefusesSheet x) note refuses
+
+  -- an upgrade of a sheet that is accepted does not refuse it
+  upgrade_not : (run : Run) (sheet : List ℕ) (named : Named) → HasBytes run.shelf.files named sheet → (p : Pair) → IsPairOfBytes sheet p → (o : Outcome) → IsUnpaired run.shelf named o ⊎ ((answer : List ℕ) × Took run.out answer o) → RefusesSheet o → ⊥
+  upgrade_not run sheet named has p is_p o (inl why) refuses = unpaired_not run named sheet has p is_p o why refuses
+  upgrade_not run sheet named has p is_p o (inr (answer, took)) refuses = accepted_not o (took_accepted run answer o took) refuses
+
+  told_upgrade_not : (run : Run) (sheet : List ℕ) → AsksToUpgrade run sheet → (p : Pair) → IsPairOfBytes sheet p → (o : Outcome) → Told run o → RefusesSheet o → ⊥
+  told_upgrade_not run sheet asks p is_p o (other, names, went, inl (is, line)) refuses =
+      upgrade_not run sheet asks.named asks.has p is_p other (went_upgraded run sheet asks other names went) (subst (λ (x : Outcome). RefusesSheet x) is refuses)
+  told_upgrade_not run sheet asks p is_p o (other, names, went, inr (of, written, note, fails)) refuses = subst (λ (x : Outcome). RefusesSheet x) note refuses
+
+  pub check_decides_upgrades_lem : CheckDecidesUpgrades
+  check_decides_upgrades_lem one two sheet asks also is_done o told refuses =
+      let a = done_answered one sheet Check asks is_done in
+      told_upgrade_not two sheet also a.pair a.is_pair o told refuses
 
 pub check_accepts_lem : PairsAgree → CheckAccepts
 check_accepts_lem agree run sheet asks told =

@@ -23,7 +23,7 @@ use Rattle.xs_top.specs.Documents.{IsDocument}
 use Rattle.xs_top.specs.Sheets.{IsPairOfBytes}
 use Rattle.xs_top.specs.Checks.{IsSure}
 use Rattle.xs_top.specs.Ran.{Told}
-use Rattle.xs_top.specs.Runs.{AsksFor, IsToTurn, IsReadWhole, IsUnwritten, Answers, Turned, IsNormalOf, Verdict, bad, ill, heavy, suspect, accepted}
+use Rattle.xs_top.specs.Runs.{AsksFor, AsksToUpgrade, IsToTurn, IsReadWhole, IsUnwritten, Answers, Turned, IsNormalOf, Verdict, bad, ill, heavy, suspect, accepted}
 
 -- two pairs of grammars of the same bytes mean the same
 abbrev pub PairsAgree : Type 0
@@ -160,6 +160,18 @@ CheckDecides =
     (one two : Run) (job : Job) (sheet : List ℕ)
     → AsksFor one Check sheet
     → AsksFor two job sheet
+    → Told one Done
+    → (o : Outcome)
+    → Told two o
+    → RefusesSheet o
+    → ⊥
+
+-- once `check` was done, no run that upgrades the same sheet refuses it
+abbrev pub CheckDecidesUpgrades : Type 0
+CheckDecidesUpgrades =
+    (one two : Run) (sheet : List ℕ)
+    → AsksFor one Check sheet
+    → AsksToUpgrade two sheet
     → Told one Done
     → (o : Outcome)
     → Told two o

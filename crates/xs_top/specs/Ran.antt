@@ -20,10 +20,10 @@ use Rattle.xs_talk.specs.declared.outcome.Outcome.TheVariants.{Done, Foreign, Sh
 use Rattle.xs_top.specs.declared.asking.Core.{Core}
 use Rattle.xs_top.specs.declared.asking.Job.{Job}
 use Rattle.xs_top.specs.declared.asking.Job.TheVariants.{Check, Turn, Trees, Make, Session, ToTree, FromTree, Cover}
-use Rattle.xs_top.specs.Asked.{Ask, shipped, by, asked}
+use Rattle.xs_top.specs.Asked.{Ask, shipped, upgrading, by, asked}
 use Rattle.xs_top.specs.Devices.{Input, Output, Run, ReadNothing, TookNothing}
 use Rattle.xs_top.specs.Known.{HasBytes}
-use Rattle.xs_top.specs.Sheets.{core_bytes, IsFailed, IsPairOfBytes, SpellsPair, IsUnpaired}
+use Rattle.xs_top.specs.Sheets.{core_bytes, IsFailed, IsPairOfBytes, SpellsPair, SpellsUpgrade, IsUnpaired}
 use Rattle.xs_top.specs.Checks.{IsSure, IsUnsure}
 use Rattle.xs_talk.specs.Counts.{accepted_line}
 use Rattle.xs_top.specs.Documents.{IsWordOf}
@@ -87,11 +87,13 @@ Took out answer (WriteFault written) = Appends out.taken_before out.taken_now (t
 Took out answer other = ⊥
 
 -- The outcome to which a run went, with the names by which it is reported: the words are no command; or a shipped
--- sheet is written; or the sheet that is asked for spells no grammars; or the job is not done by them; or it is
--- answered.
+-- sheet is written; or the sheet whose upgrade is asked for spells no grammars, or its upgrade is written; or the
+-- sheet that is asked for spells no grammars; or the job is not done by them; or it is answered.
 pub data Went (run : Run) : Outcome → List (List ℕ) → Type 0 where
   no_command : asked run.words ≡ None → ReadNothing run.input → TookNothing run.out → Went run Usage []
   shipped_written : (core : Core) {o : Outcome} → asked run.words ≡ Some (shipped core) → ReadNothing run.input → Took run.out (core_bytes core) o → Went run o []
+  not_upgraded : (sheet : Named) {o : Outcome} → asked run.words ≡ Some (upgrading sheet) → IsUnpaired run.shelf sheet o → ReadNothing run.input → TookNothing run.out → Went run o []
+  upgrade_written : (sheet : Named) (answer : List ℕ) {o : Outcome} → asked run.words ≡ Some (upgrading sheet) → SpellsUpgrade run.shelf.files sheet answer → ReadNothing run.input → Took run.out answer o → Went run o []
   unpaired : (sheet : Named) (job : Job) {o : Outcome} → asked run.words ≡ Some (by sheet job) → IsUnpaired run.shelf sheet o → ReadNothing run.input → TookNothing run.out → Went run o []
   undone : (sheet : Named) (job : Job) (p : Pair) {o : Outcome} → asked run.words ≡ Some (by sheet job) → SpellsPair run.shelf.files sheet p → IsUndone p run.input job o → TookNothing run.out → Went run o p.names
   answered : (sheet : Named) (job : Job) (p : Pair) (answer : List ℕ) {o : Outcome} → asked run.words ≡ Some (by sheet job) → SpellsPair run.shelf.files sheet p → IsAnswer p run.input job answer → Took run.out answer o → Went run o []
@@ -187,9 +189,18 @@ pub record IsClear (run : Run) (sheet : Named) (job : Job) : Type 0 where
   pub spelled : IsPairOfBytes bytes pair
   pub doable : IsDoable pair run.input job
 
+-- The sheet did not fail, and its bytes are known and spell two grammars.
+pub record IsKnown (run : Run) (sheet : Named) : Type 0 where
+  pub sheet_sure : IsFailed run.shelf sheet → ⊥
+  pub bytes : List ℕ
+  pub has : HasBytes run.shelf.files sheet bytes
+  pub pair : Pair
+  pub spelled : IsPairOfBytes bytes pair
+
 -- nothing stands against what is asked for; never against a shipped sheet
 abbrev pub IsFree : Run → Ask → Type 0
 IsFree run (shipped core) = Unit {0}
+IsFree run (upgrading sheet) = IsKnown run sheet
 IsFree run (by sheet job) = IsClear run sheet job
 
 -- The words ask for something; nothing stands against it; and no count of out and notes rose.

@@ -12,7 +12,7 @@ use Rattle.xs_talk.specs.declared.outcome.Outcome.{Outcome}
 use Rattle.xs_talk.specs.declared.outcome.Outcome.TheVariants.{Done, WriteFault, NoteFault}
 use Rattle.xs_top.specs.declared.asking.Job.{Job}
 use Rattle.xs_top.specs.declared.asking.Job.TheVariants.{Turn}
-use Rattle.xs_top.specs.Asked.{by, asked}
+use Rattle.xs_top.specs.Asked.{upgrading, by, asked}
 use Rattle.xs_top.specs.Devices.{Run}
 use Rattle.xs_top.specs.Documents.{IsDocument, document_bytes}
 use Rattle.xs_top.specs.Known.{HasBytes}
@@ -23,6 +23,12 @@ use Rattle.xs_top.specs.Ran.{Told}
 pub record AsksFor (run : Run) (job : Job) (sheet : List ℕ) : Type 0 where
   pub named : Named
   pub is : asked run.words ≡ Some (by named job)
+  pub has : HasBytes run.shelf.files named sheet
+
+-- the words ask for the upgrade of a sheet of these bytes
+pub record AsksToUpgrade (run : Run) (sheet : List ℕ) : Type 0 where
+  pub named : Named
+  pub is : asked run.words ≡ Some (upgrading named)
   pub has : HasBytes run.shelf.files named sheet
 
 -- the run is to turn this document from one side to the other by a sheet of these bytes

@@ -5,8 +5,11 @@ use Rattle.xs_leiden.specs.Sheet.{leiden_core, leiden_core_2}
 use Rattle.xs_words.specs.Command.{Sheet as Named, leiden, leiden2, file}
 use Rattle.xs_sheet.specs.declared.sheet.Sheet.{Sheet}
 use Rattle.xs_sheet.specs.Grammar.{IsSheetOf, IsSheetBrokenAt}
+use Rattle.xs_sheet.specs.Layout.{sheet_bytes}
+use Rattle.xs_sheet.specs.Lines.{IsReadAgain}
 use Rattle.xs_pair.specs.declared.ill.Ill.{Ill}
 use Rattle.xs_pair.specs.Grammars.{Pair, IsPairOf}
+use Rattle.xs_pair.specs.Upgrades.{IsUpgrade}
 use Rattle.xs_wf.specs.Rules.{IsWell, IsIll}
 use Rattle.xs_talk.specs.declared.outcome.Outcome.{Outcome}
 use Rattle.xs_talk.specs.declared.outcome.Outcome.TheVariants.{SheetFault, SheetLong, SheetBad, SheetIll}
@@ -61,6 +64,16 @@ pub record IsPairOfBytes (bytes : List ℕ) (p : Pair) : Type 0 where
   pub well : IsWell sheet
   pub pair : IsPairOf sheet p
 
+-- the bytes spell a well-formed sheet, and the answer is its upgrade as it is written, which reads as that
+pub record IsUpgradeOfBytes (bytes answer : List ℕ) : Type 0 where
+  pub sheet : Sheet
+  pub spelled : IsSheetOf bytes sheet
+  pub well : IsWell sheet
+  pub upgraded : Sheet
+  pub upgrade : IsUpgrade sheet upgraded
+  pub written : answer ≡ sheet_bytes upgraded
+  pub read_again : IsReadAgain answer upgraded
+
 -- why the bytes spell no well-formed sheet
 abbrev pub IsBadBytes : List ℕ → Outcome → Type 0
 IsBadBytes bytes (SheetBad at) = IsBadSheet bytes at
@@ -73,6 +86,12 @@ pub record SpellsPair (files : Files) (sheet : Named) (p : Pair) : Type 0 where
   pub are : AreBytesOf files sheet bytes
   pub is : IsPairOfBytes bytes p
 
--- why it spells none: its bytes cannot be had, or are no well-formed sheet
+-- the answer is the upgrade of the sheet that is asked for
+pub record SpellsUpgrade (files : Files) (sheet : Named) (answer : List ℕ) : Type 0 where
+  pub bytes : List ℕ
+  pub are : AreBytesOf files sheet bytes
+  pub is : IsUpgradeOfBytes bytes answer
+
+-- why it spells no grammars: its bytes cannot be had, or are no well-formed sheet
 abbrev pub IsUnpaired : Shelves → Named → Outcome → Type 0
 IsUnpaired shelf sheet o = IsStopped shelf sheet o ⊎ ((bytes : List ℕ) × AreBytesOf shelf.files sheet bytes × IsBadBytes bytes o)

@@ -43,6 +43,8 @@ pub enum Core {
 pub enum Ask<'w> {
     /// A shipped sheet, as it is.
     Shipped(Core),
+    /// The upgrade of a sheet.
+    Upgrade { sheet: SheetName<'w> },
     /// A job by a sheet.
     By { sheet: SheetName<'w>, job: Job },
 }
@@ -67,6 +69,7 @@ fn ask_of(command: Command<'_>) -> Ask<'_>
         Command::Trees { sheet, max } => (sheet, Job::Trees { max }),
         Command::PrintSheet => return Ask::Shipped(Core::One),
         Command::PrintSheet2 => return Ask::Shipped(Core::Two),
+        Command::Upgrade { sheet } => return Ask::Upgrade { sheet },
         Command::Make { seed, lines } => (SheetName::Leiden, Job::Make { seed, lines }),
         Command::Session { sheet } => (sheet, Job::Session),
         Command::ToTree { sheet, side, form } => (sheet, Job::ToTree { from: side, form }),

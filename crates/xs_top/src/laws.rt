@@ -1,4 +1,4 @@
-ghost use Rattle.xs_top.specs.Laws.{PairsAgree, SheetsAgree, OutlinesAgree, ScriptsAgree, OneAnswer, TranslatesBack, RoundIsIdempotent, TranslatesAgain, RefusesExactly, OneVerdict, CheckDecides, CheckAccepts};
+ghost use Rattle.xs_top.specs.Laws.{PairsAgree, SheetsAgree, OutlinesAgree, ScriptsAgree, OneAnswer, TranslatesBack, RoundIsIdempotent, TranslatesAgain, RefusesExactly, OneVerdict, CheckDecides, CheckDecidesUpgrades, CheckAccepts};
 
 use xs_check_laws::weights_are_exact;
 use xs_sheet_laws::{alike_pairs_mean_the_same, alike_sheets_mean_the_same, one_pair, one_sheet};
@@ -62,6 +62,7 @@ pub fn refuses_exactly()
 pub fn check_decides()
     ensures one { OneVerdict }
     ensures decides { CheckDecides }
+    ensures upgrades { CheckDecidesUpgrades }
     ensures accepts { CheckAccepts }
 {
     one_word();

@@ -3,7 +3,7 @@ ghost use Rattle.xs_pair.specs.Sound.{IsSoundPair};
 ghost use Rattle.xs_words.specs.Meaning.{sheet_meant};
 ghost use Rattle.xs_writing_laws.specs.Laws.{CanBeWritten};
 ghost use Rattle.xs_top.specs.Devices.{shelves_of};
-ghost use Rattle.xs_top.specs.Sheets.{core_bytes, AreBytesOf, IsStopped, IsPairOfBytes, IsBadBytes, SpellsPair, IsUnpaired};
+ghost use Rattle.xs_top.specs.Sheets.{core_bytes, AreBytesOf, IsStopped, IsPairOfBytes, IsUpgradeOfBytes, IsBadBytes, SpellsPair, SpellsUpgrade, IsUnpaired};
 ghost use Rattle.xs_top.specs.Stops.{StopsBy};
 
 use crate::asking::Core;
@@ -12,8 +12,8 @@ use std::alloc::Global;
 use xs_class::Bytes;
 use xs_io::{ReadStop, Shelf, read_file};
 use xs_leiden::{leiden_sheet, leiden2_sheet};
-use xs_pair::Two;
-use xs_sheet::read_sheet;
+use xs_pair::{Two, upgrade};
+use xs_sheet::{read_sheet, write_sheet};
 use xs_talk::Outcome;
 use xs_wf::well_formed;
 use xs_words::SheetName;
@@ -81,4 +81,32 @@ pub fn pair_for<H: Shelf>(alloc: Global, shelf: &mut H, sheet: SheetName<'_>) ->
     words_can_be_written();
     let bytes = sheet_bytes(alloc, shelf, sheet)?;
     pair_of(alloc, bytes.as_slice())
+}
+
+/// The upgrade of the well-formed sheet that the bytes spell, as it is written.
+fn upgrade_of(alloc: Global, bytes: &[u8]) -> Result<Bytes, Stop>
+    requires { length bytes.now ≤ 65536 }
+    ensures upgrade { IfOk result (IsUpgradeOfBytes bytes.now) }
+    ensures stop { IfErr result (StopsBy (IsBadBytes bytes.now)) }
+{
+    let sheet = read_sheet(alloc, bytes)?;
+    well_formed(alloc, &sheet)?;
+    let upgraded = upgrade(alloc, &sheet)?;
+    let written = write_sheet(alloc, &upgraded)?;
+    Ok(written)
+}
+
+/// The upgrade of a sheet, as it is written.
+pub fn upgrade_for<H: Shelf>(
+    alloc: Global,
+    shelf: &mut H,
+    sheet: SheetName<'_>,
+) -> Result<Bytes, Stop>
+    ensures upgrade { IfOk result (SpellsUpgrade (H.files shelf.old) (sheet_meant sheet.entry)) }
+    ensures files { H.files shelf.new ≡ H.files shelf.old }
+    ensures stop { IfErr result (StopsBy (IsUnpaired (shelves_of H.files H.faults H.name_faults shelf.old shelf.new)
+        (sheet_meant sheet.entry))) }
+{
+    let bytes = sheet_bytes(alloc, shelf, sheet)?;
+    upgrade_of(alloc, bytes.as_slice())
 }

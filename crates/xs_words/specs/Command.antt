@@ -26,6 +26,7 @@ pub data Command : Type 0 where
   print_sheet : Command
   print_sheet2 : Command
   make : ℕ → ℕ → Command
+  upgrade : Sheet → Command
   session : Sheet → Command
   to_tree : Sheet → Side → Form → Command
   from_tree : Sheet → Side → Command
@@ -44,9 +45,9 @@ side_of word = if bytes_eq word (codes "text") then Some Text else (if bytes_eq 
 abbrev pub printed_of : List ℕ → Option Command
 printed_of number = if bytes_eq number (codes "2") then Some print_sheet2 else None
 
--- check SHEET, to-xml SHEET, to-text SHEET, session SHEET, cover SHEET, sheet 2
+-- check SHEET, to-xml SHEET, to-text SHEET, session SHEET, cover SHEET, upgrade SHEET, sheet 2
 abbrev pub command_of_two : List ℕ → List ℕ → Option Command
-command_of_two verb sheet = if bytes_eq verb (codes "check") then Some (check (sheet_of sheet)) else (if bytes_eq verb (codes "to-xml") then Some (to_xml (sheet_of sheet) AsIs) else (if bytes_eq verb (codes "to-text") then Some (to_text (sheet_of sheet)) else (if bytes_eq verb (codes "session") then Some (session (sheet_of sheet)) else (if bytes_eq verb (codes "cover") then Some (cover (sheet_of sheet)) else (if bytes_eq verb (codes "sheet") then printed_of sheet else None)))))
+command_of_two verb sheet = if bytes_eq verb (codes "check") then Some (check (sheet_of sheet)) else (if bytes_eq verb (codes "to-xml") then Some (to_xml (sheet_of sheet) AsIs) else (if bytes_eq verb (codes "to-text") then Some (to_text (sheet_of sheet)) else (if bytes_eq verb (codes "session") then Some (session (sheet_of sheet)) else (if bytes_eq verb (codes "cover") then Some (cover (sheet_of sheet)) else (if bytes_eq verb (codes "upgrade") then Some (upgrade (sheet_of sheet)) else (if bytes_eq verb (codes "sheet") then printed_of sheet else None))))))
 
 -- round SHEET text, round SHEET xml
 abbrev pub round_of : List ℕ → List ℕ → Option Command

@@ -50,6 +50,10 @@ pub enum Command<'w> {
         seed: u32,
         lines: u32,
     },
+    /// `upgrade SHEET`: the sheet as one of version 2, with the fences that it can have.
+    Upgrade {
+        sheet: SheetName<'w>,
+    },
     /// `session SHEET`: the edit script of the input, played and answered line by line.
     Session {
         sheet: SheetName<'w>,

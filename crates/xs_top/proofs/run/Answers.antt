@@ -5,40 +5,58 @@ use Rattle.xs_words.specs.Meaning.{sheet_meant}
 use Rattle.xs_top.specs.Meaning.{ask_meant}
 use Rattle.xs_top.specs.Devices.{shelves_of, input_of, output_of, run_of}
 use Rattle.xs_top.specs.Ran.{no_command}
-use Rattle.xs_top.proofs.Going.{usage_told, shipped_told, unpaired_told, undone_told, answered_told}
+use Rattle.xs_top.proofs.Going.{usage_told, shipped_told, not_upgraded_told, upgraded_told, unpaired_told, undone_told, answered_told}
 use Rattle.xs_top.proofs.Completing.{complete, complete_if}
 use Rattle.xs_top.proofs.run.Goals as goal
 
 pub returns-in-None-clause-told : goal.returns-in-None-clause-told
 returns-in-None-clause-told g c =
-    usage_told _ c.in_ok-none.none Usage c.tell.result c.in_ok-none.ensures (no_command (sym c.asked.ensures.ask ∙ ap (λ o. option_map ask_meant o) c.in-None.is) (record { left = refl; faults = refl }) (record { taken = refl; faults = refl })) c.tell.ensures.told
+    usage_told _ c.in_ok-none.none Usage c.tell-in-None.result c.in_ok-none.ensures (no_command (sym c.asked.ensures.ask ∙ ap (λ o. option_map ask_meant o) c.in-None.is) (record { left = refl; faults = refl }) (record { taken = refl; faults = refl })) c.tell-in-None.ensures.told
 
 pub returns-in-Some-Shipped-clause-told : goal.returns-in-Some-Shipped-clause-told
 returns-in-Some-Shipped-clause-told g c =
     shipped_told _ c.in-Some-Shipped.core c.shipped_bytes.result.now c.written.result (sym c.asked.ensures.ask ∙ ap (λ o. option_map ask_meant o) c.in-Some-Shipped.is ∙ ap (λ a. Some (ask_meant a)) c.in-Some-Shipped.field-0-is) (record { left = refl; faults = refl }) c.shipped_bytes.ensures c.written.ensures
 
+pub returns-in-Ok-clause-told : goal.returns-in-Ok-clause-told
+returns-in-Ok-clause-told g c =
+    upgraded_told _ (sheet_meant c.in-Some-Upgrade.sheet) c.in-Ok.answer c.as_slice.result.now c.written-in-Ok.result (sym c.asked.ensures.ask ∙ ap (λ o. option_map ask_meant o) c.in-Some-Upgrade.is ∙ ap (λ a. Some (ask_meant a)) c.in-Some-Upgrade.field-0-is) c.in-Ok.ensures.upgrade (record { left = refl; faults = refl }) c.as_slice.ensures c.written-in-Ok.ensures
+
+pub returns-in-Ok-clause-complete : goal.returns-in-Ok-clause-complete
+returns-in-Ok-clause-complete g c = complete c.one_word.ensures c.weights_are_exact.ensures.rule c.bytes_agree.ensures.pairs c.bytes_agree.ensures.sheets c.bytes_agree.ensures.outlines _ c.written-in-Ok.result (returns-in-Ok-clause-told g c)
+
 pub returns-in-Err-Refused-clause-told : goal.returns-in-Err-Refused-clause-told
 returns-in-Err-Refused-clause-told g c =
-    let told = rw c.in-Err-Refused.field-0-is at c.tell-in-Err-Refused.ensures.told in
-    unpaired_told
-    (run_of (map string_bytes c.args.words.now) (shelves_of g.H.Shelf.files g.H.Shelf.faults g.H.Shelf.name_faults c.args.shelf.now c.pair_for.new.shelf) (input_of g.S.Source.left g.S.Source.faults c.args.input.now c.args.input.now)
-    (output_of g.K.Sink.taken g.K.Sink.faults c.args.out.now c.args.out.now) (output_of g.N.Sink.taken g.N.Sink.faults c.args.notes.now c.tell-in-Err-Refused.new.notes))
-    (sheet_meant c.in-Some-By.sheet) c.in-Some-By.job c.in-Err-Refused.field-0 c.in-Err-Refused.outcome c.in_ok-none.none c.tell-in-Err-Refused.result (sym c.asked.ensures.ask ∙ ap (λ o. option_map ask_meant o) c.in-Some-By.is ∙ ap (λ a. Some (ask_meant a)) c.in-Some-By.field-0-is) c.in-Err-Refused.ensures.stop c.in-Err-Refused.field-0-is
-    (record { left = refl; faults = refl }) (record { taken = refl; faults = refl }) c.in_ok-none.ensures told
+    not_upgraded_told
+    (run_of (map string_bytes c.args.words.now) (shelves_of g.H.Shelf.files g.H.Shelf.faults g.H.Shelf.name_faults c.args.shelf.now c.upgrade_for.new.shelf) (input_of g.S.Source.left g.S.Source.faults c.args.input.now c.args.input.now)
+    (output_of g.K.Sink.taken g.K.Sink.faults c.args.out.now c.args.out.now) (output_of g.N.Sink.taken g.N.Sink.faults c.args.notes.now c.tell.new.notes))
+    (sheet_meant c.in-Some-Upgrade.sheet) c.in-Err-Refused.field-0 c.in-Err-Refused.outcome c.in_ok-none.none c.tell.result (sym c.asked.ensures.ask ∙ ap (λ o. option_map ask_meant o) c.in-Some-Upgrade.is ∙ ap (λ a. Some (ask_meant a)) c.in-Some-Upgrade.field-0-is) c.in-Err-Refused.ensures.stop c.in-Err-Refused.field-0-is
+    (record { left = refl; faults = refl }) (record { taken = refl; faults = refl }) c.in_ok-none.ensures c.tell.ensures.told
 
 pub returns-in-Err-Refused-clause-complete : goal.returns-in-Err-Refused-clause-complete
-returns-in-Err-Refused-clause-complete g c = complete_if c.one_word.ensures c.weights_are_exact.ensures.rule c.bytes_agree.ensures.pairs c.bytes_agree.ensures.sheets c.bytes_agree.ensures.outlines _ c.tell-in-Err-Refused.result (returns-in-Err-Refused-clause-told g c)
+returns-in-Err-Refused-clause-complete g c = complete_if c.one_word.ensures c.weights_are_exact.ensures.rule c.bytes_agree.ensures.pairs c.bytes_agree.ensures.sheets c.bytes_agree.ensures.outlines _ c.tell.result (returns-in-Err-Refused-clause-told g c)
+
+pub returns-in-Err-Refused-pair_for-clause-told : goal.returns-in-Err-Refused-pair_for-clause-told
+returns-in-Err-Refused-pair_for-clause-told g c =
+    let told = rw c.in-Err-Refused-pair_for.field-0-is at c.tell-in-Err-Refused-pair_for.ensures.told in
+    unpaired_told
+    (run_of (map string_bytes c.args.words.now) (shelves_of g.H.Shelf.files g.H.Shelf.faults g.H.Shelf.name_faults c.args.shelf.now c.pair_for.new.shelf) (input_of g.S.Source.left g.S.Source.faults c.args.input.now c.args.input.now)
+    (output_of g.K.Sink.taken g.K.Sink.faults c.args.out.now c.args.out.now) (output_of g.N.Sink.taken g.N.Sink.faults c.args.notes.now c.tell-in-Err-Refused-pair_for.new.notes))
+    (sheet_meant c.in-Some-By.sheet) c.in-Some-By.job c.in-Err-Refused-pair_for.field-0 c.in-Err-Refused-pair_for.outcome c.in_ok-none.none c.tell-in-Err-Refused-pair_for.result (sym c.asked.ensures.ask ∙ ap (λ o. option_map ask_meant o) c.in-Some-By.is ∙ ap (λ a. Some (ask_meant a)) c.in-Some-By.field-0-is) c.in-Err-Refused-pair_for.ensures.stop c.in-Err-Refused-pair_for.field-0-is
+    (record { left = refl; faults = refl }) (record { taken = refl; faults = refl }) c.in_ok-none.ensures told
+
+pub returns-in-Err-Refused-pair_for-clause-complete : goal.returns-in-Err-Refused-pair_for-clause-complete
+returns-in-Err-Refused-pair_for-clause-complete g c = complete_if c.one_word.ensures c.weights_are_exact.ensures.rule c.bytes_agree.ensures.pairs c.bytes_agree.ensures.sheets c.bytes_agree.ensures.outlines _ c.tell-in-Err-Refused-pair_for.result (returns-in-Err-Refused-pair_for-clause-told g c)
 
 pub returns-in-Ok-answer_of-clause-told : goal.returns-in-Ok-answer_of-clause-told
 returns-in-Ok-answer_of-clause-told g c =
-    answered_told _ (sheet_meant c.in-Some-By.sheet) c.in-Some-By.job c.in-Ok.two c.in-Ok-answer_of.answer c.as_slice.result.now c.written-in-Ok-answer_of.result (sym c.asked.ensures.ask ∙ ap (λ o. option_map ask_meant o) c.in-Some-By.is ∙ ap (λ a. Some (ask_meant a)) c.in-Some-By.field-0-is) c.in-Ok.ensures.pair c.in-Ok-answer_of.ensures.answer c.as_slice.ensures c.written-in-Ok-answer_of.ensures
+    answered_told _ (sheet_meant c.in-Some-By.sheet) c.in-Some-By.job c.in-Ok-pair_for.two c.in-Ok-answer_of.answer c.as_slice-in-Ok-answer_of.result.now c.written-in-Ok-answer_of.result (sym c.asked.ensures.ask ∙ ap (λ o. option_map ask_meant o) c.in-Some-By.is ∙ ap (λ a. Some (ask_meant a)) c.in-Some-By.field-0-is) c.in-Ok-pair_for.ensures.pair c.in-Ok-answer_of.ensures.answer c.as_slice-in-Ok-answer_of.ensures c.written-in-Ok-answer_of.ensures
 
 pub returns-in-Ok-answer_of-clause-complete : goal.returns-in-Ok-answer_of-clause-complete
 returns-in-Ok-answer_of-clause-complete g c = complete c.one_word.ensures c.weights_are_exact.ensures.rule c.bytes_agree.ensures.pairs c.bytes_agree.ensures.sheets c.bytes_agree.ensures.outlines _ c.written-in-Ok-answer_of.result (returns-in-Ok-answer_of-clause-told g c)
 
 pub returns-in-Err-Refused-answer_of-clause-told : goal.returns-in-Err-Refused-answer_of-clause-told
 returns-in-Err-Refused-answer_of-clause-told g c =
-    undone_told _ (sheet_meant c.in-Some-By.sheet) c.in-Some-By.job c.in-Ok.two c.in-Err-Refused-answer_of.field-0 c.in-Err-Refused-answer_of.outcome c.names.result.now c.tell-in-Err-Refused-answer_of.result (sym c.asked.ensures.ask ∙ ap (λ o. option_map ask_meant o) c.in-Some-By.is ∙ ap (λ a. Some (ask_meant a)) c.in-Some-By.field-0-is) c.in-Ok.ensures.pair c.in-Err-Refused-answer_of.ensures.stop c.in-Err-Refused-answer_of.field-0-is
+    undone_told _ (sheet_meant c.in-Some-By.sheet) c.in-Some-By.job c.in-Ok-pair_for.two c.in-Err-Refused-answer_of.field-0 c.in-Err-Refused-answer_of.outcome c.names.result.now c.tell-in-Err-Refused-answer_of.result (sym c.asked.ensures.ask ∙ ap (λ o. option_map ask_meant o) c.in-Some-By.is ∙ ap (λ a. Some (ask_meant a)) c.in-Some-By.field-0-is) c.in-Ok-pair_for.ensures.pair c.in-Err-Refused-answer_of.ensures.stop c.in-Err-Refused-answer_of.field-0-is
     (record { taken = refl; faults = refl }) c.names.ensures c.tell-in-Err-Refused-answer_of.ensures.told
 
 pub returns-in-Err-Refused-answer_of-clause-complete : goal.returns-in-Err-Refused-answer_of-clause-complete
