@@ -21,6 +21,7 @@ mod sessions;
 mod sheets;
 mod translations;
 mod trees;
+mod upgrades;
 
 /// The name of the file that has the sheet.
 const SHEET: &str = "sheet";

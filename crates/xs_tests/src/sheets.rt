@@ -6,7 +6,7 @@ ghost use Rattle.xs_wf.specs.Nonterminals.{IsPair, HaveOrderedLines};
 use std::alloc::Global;
 use xs_class::{Bytes, Memory};
 use xs_pair::{PairFault, Two, both};
-use xs_sheet::read_sheet;
+use xs_sheet::{read_sheet, write_sheet};
 use xs_wf::{WfFault, well_formed};
 
 /// The two grammars of a sheet for which the first seven rules hold.
@@ -39,6 +39,17 @@ pub fn two_of(alloc: Global, bytes: &[u8]) -> Result<Two, WfFault>
     match read_sheet(alloc, bytes) {
         Ok(sheet) => well_formed(alloc, &sheet),
         Err(_) => Err(WfFault::Memory),
+    }
+}
+
+/// The sheet of the bytes in the one layout.
+pub fn laid_out(alloc: Global, bytes: &[u8]) -> Result<Bytes, Memory> {
+    if bytes.len() > 65536 {
+        return Err(Memory);
+    }
+    match read_sheet(alloc, bytes) {
+        Ok(sheet) => write_sheet(alloc, &sheet),
+        Err(_) => Err(Memory),
     }
 }
 

@@ -70,7 +70,7 @@ fn lines_of_outcomes(rt: HostRuntime) -> Result<(), Memory> {
         ),
         (
             Outcome::Usage,
-            "usage: xsugar check S | to-xml S [F] | to-text S | round S text [F] | round S xml | trees S M | sheet | sheet 2 | make SEED LINES | session S | to-tree S text [F] | to-tree S xml | from-tree S text | from-tree S xml | cover S\n",
+            "usage: xsugar check S | to-xml S [F] | to-text S | round S text [F] | round S xml | trees S M | sheet | sheet 2 | make SEED LINES | upgrade S | session S | to-tree S text [F] | to-tree S xml | from-tree S text | from-tree S xml | cover S\n",
         ),
     ];
     expect_told(&rt, rt.alloc(), &rows)

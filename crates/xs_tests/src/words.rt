@@ -11,7 +11,7 @@ fn is_command(alloc: Global, words: &[&str]) -> Result<bool, Memory> {
     Ok(command_of(&list).is_some())
 }
 
-const ROWS: [(&[&str], bool); 34] = [
+const ROWS: [(&[&str], bool); 36] = [
     (&["check", "pair.xsugar"], true),
     (&["to-xml", "@leiden", "nfd"], true),
     (&["round", "pair.xsugar", "text", "asis"], true),
@@ -26,6 +26,8 @@ const ROWS: [(&[&str], bool); 34] = [
     (&["cover", "@leiden"], true),
     (&["cover"], false),
     (&["cover", "a", "b"], false),
+    (&["upgrade", "@leiden2"], true),
+    (&["upgrade"], false),
     (&[], false),
     (&["to-xml"], false),
     (&["check", "a", "b"], false),

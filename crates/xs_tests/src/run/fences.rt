@@ -50,7 +50,8 @@ fn core_1_has_no_marks_inside_marks(rt: HostRuntime) -> Result<(), Fail> {
 /// How core 2 begins, up to its version, and how it ends.
 const HEAD: &str = "# Leiden core 2: marks inside marks\nxsugar-2\n";
 
-const FENCES: &str = "fence \"(\" \")\"\nfence \"[\" \"]\"\nfence \"{\" \"}\"\nfence \"<\" \">\"\n";
+pub(super) const FENCES: &str =
+    "fence \"(\" \")\"\nfence \"[\" \"]\"\nfence \"{\" \"}\"\nfence \"<\" \">\"\n";
 
 /// Core 2 in version 1, which has no fences.
 fn core_2_unfenced(alloc: Global) -> Result<Bytes, Memory> {
@@ -106,7 +107,7 @@ fn marks_inside_marks_are_translated_both_ways(rt: HostRuntime) -> Result<(), Fa
 }
 
 /// Nested brackets with their fences.
-const FENCED: &str = "xsugar-2\nstart doc\nterminal c = /[a-z]/\n\
+pub(super) const FENCED: &str = "xsugar-2\nstart doc\nterminal c = /[a-z]/\n\
     doc : \"<\" [ list l ] \">\" = < d > [ list l ] </ d >\nlist : =\n\
     list : [ list p ] [ item i ] = [ list p ] [ item i ]\nitem : [ c x ] = [ c x ]\n\
     item : \"[\" [ list l ] \"]\" = < b > [ list l ] </ b >\nfence \"[\" \"]\"\nfence \"<\" \">\"\n";
