@@ -1,8 +1,10 @@
 ghost use Rattle.xs_gram.specs.Sound.{IsBuilt};
 
+mod doubtful;
 mod drawn;
 mod pieces;
 mod random;
+mod screened;
 mod slow;
 mod weighed;
 mod words;
