@@ -1,11 +1,13 @@
 -- The test of balance says exactly whether fence characters are balanced.
-use Rattle.std.proofs.Common.{◌≡◌, ◌∙◌, ap, sym, refl, ℕ, List, [], ◌∷◌, ◌++◌, append-nil, append_assoc, Some, None, Bool, true, false, not, ◌||◌, ◌==◌, if◌then◌else◌, reverse, eqb-true, inl, inr, ◌⊎◌}
+use Rattle.std.proofs.Common.{◌≡◌, ◌∙◌, ap, sym, refl, arith, length, ℕ, List, [], ◌∷◌, ◌++◌, append-nil, append_assoc, Some, None, Bool, true, false, not, ◌||◌, ◌==◌, if◌then◌else◌, reverse, eqb-true, inl, inr, ◌⊎◌}
 use Rattle.std.specs.Prelude.{IsTrue, ◌↔◌}
 use Rattle.std.specs.declared.option.Option.{Option}
 use Rattle.std.proofs.lemmas.List.{reverse-append}
 use Rattle.xs_class.proofs.Truth.{eq_self, or_false}
 use Rattle.xs_gram.specs.Fences.{is_left, is_right, is_fence}
-use Rattle.xs_pair.specs.Fences.{IsPair, IsBalanced, balanced_none, balanced_then, balanced_group}
+use Rattle.xs_sheet.specs.declared.unit.Unit.{Unit}
+use Rattle.xs_sheet.specs.declared.unit.Unit.TheVariants.{Terminal, Ignorable, Production, Fence}
+use Rattle.xs_pair.specs.Fences.{IsPair, IsBalanced, balanced_none, balanced_then, balanced_group, IsOpen, side_letters}
 use Rattle.xs_pair.specs.Balance.{right_of, closed, stepped, step, goes_on, closes, AreApart}
 use Rattle.xs_pair.proofs.Decided.{yes, no}
 
@@ -127,3 +129,15 @@ balance_test false fs w apart is = yes (λ b. bad (is ∙ balanced_closes fs w a
   where
     bad : false ≡ true → ⊥
     bad e = cc
+
+-- without fences all words are balanced, and no text side is open
+all_balanced : (w : List ℕ) → IsBalanced [] w
+all_balanced [] = balanced_none
+all_balanced (c ∷ w) = balanced_then refl (all_balanced w)
+
+pub none_open : (fs : List (ℕ × ℕ)) (u : Unit) → length fs ≡ 0 → IsOpen fs u → ⊥
+none_open [] (Terminal name pattern regex line) none ill = ill
+none_open [] (Ignorable name pattern regex normal line) none ill = ill
+none_open [] (Production name left right line) none ill = ill (all_balanced (side_letters left))
+none_open [] (Fence left right line) none ill = ill
+none_open (f ∷ fs) u none ill = absurd (omega (arith, none))

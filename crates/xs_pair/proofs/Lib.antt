@@ -20,6 +20,7 @@ pub mod MarksLight
 pub mod Balancing
 pub mod Apart
 pub mod Regexes
+pub mod RegexCopies
 pub mod FenceOrders
 pub mod Lists
 pub mod Nested

@@ -1,5 +1,7 @@
 -- The marks of an XML side, item by item.
-use Rattle.std.proofs.Common.{◌≡◌, ◌∙◌, refl, sym, ap, List, [], ◌∷◌, ◌++◌, ℕ, map, append_assoc}
+use Rattle.std.proofs.Common.{◌≡◌, ◌∙◌, ◌<◌, ◌+◌, refl, sym, ap, List, [], ◌∷◌, ◌++◌, ℕ, map, take, drop, insert, length, get_or, encode_utf8_all, append_assoc}
+use Rattle.std.specs.Borrow.{Bor}
+use Rattle.std.proofs.lemmas.List.{map-append, take-map, drop-map}
 use Rattle.std.specs.List.{flat_map}
 use Rattle.xs_sheet.specs.declared.item.Item.{Item}
 use Rattle.xs_sheet.specs.declared.x_item.Attr.{Attr}
@@ -8,9 +10,10 @@ use Rattle.xs_sheet.specs.declared.x_item.XItem.TheVariants.{rolls-Plain, rolls-
 use Rattle.xs_sheet.specs.declared.x_item.XItem.TheOpen as O
 use Rattle.xs_sheet.specs.declared.x_item.XItem.TheFolds.{fold-roll-XItem, fold_out-XItems}
 use Rattle.xs_sheet.specs.declared.x_item.XItems.{XItems}
+use Rattle.xs_gram.proofs.Building.{drop_next}
 use Rattle.xs_pair.specs.declared.mark.Mark.{Mark}
 use Rattle.xs_pair.specs.declared.mark.Mark.TheVariants.{Closing, Content}
-use Rattle.xs_pair.specs.Marks.{marks_of, all_marks, item_marks, items_marks, joined, element_marks, opening_marks}
+use Rattle.xs_pair.specs.Marks.{place_before, placed, marks_of, all_marks, item_marks, items_marks, joined, element_marks, opening_marks}
 
 joined_map : (f : XItem → List Mark) (items : List XItem) → joined (map f items) ≡ flat_map f items
 joined_map f [] = refl
@@ -24,6 +27,16 @@ pub marks_element : (tag : List ℕ) (attrs : List Attr) (content : XItems) → 
 unfolding marks_of
 marks_element tag attrs content =
     ap (λ (x : XItem). marks_of x) (sym (rolls-Element tag attrs content)) ∙ fold-roll-XItem (List Mark) (List Mark) item_marks items_marks (O.Element tag attrs content) ∙ ap (λ (z : List Mark). element_marks tag attrs z) (fold_out-XItems (List Mark) (List Mark) item_marks items_marks content ∙ joined_map marks_of content.all.items)
+
+-- one more attribute is put in its place among those that the code has by reference
+map_insert : {A B : Type 0} (f : A → B) (xs : List A) (k : ℕ) (x : A) → map f (insert xs k x) ≡ insert (map f xs) k (f x)
+map_insert f xs k x = map-append f (take k xs) (x ∷ drop k xs) ∙ ap (λ l. l ++ f x ∷ map f (drop k xs)) (sym (take-map f k xs)) ∙ ap (λ l. take k (map f xs) ++ f x ∷ l) (sym (drop-map f k xs))
+
+pub placed_next : (sorted new : List (Bor Attr)) (attrs whole : List Attr) (i place : ℕ) (a : Bor Attr) → i < length attrs → a.now ≡ get_or attrs i a.now → place ≡ place_before (encode_utf8_all a.now.name) (map (λ (b : Bor Attr). b.now) sorted) → new ≡ insert sorted place a → placed (map (λ (b : Bor Attr). b.now) sorted) (drop i attrs) ≡ whole → placed (map (λ (b : Bor Attr). b.now) new) (drop (i + 1) attrs) ≡ whole
+placed_next sorted new attrs whole i place a lt at place_is new_is before =
+    let shown : map (λ (b : Bor Attr). b.now) new ≡ insert (map (λ (b : Bor Attr). b.now) sorted) (place_before (encode_utf8_all a.now.name) (map (λ (b : Bor Attr). b.now) sorted)) a.now =
+    ap (map (λ (b : Bor Attr). b.now)) new_is ∙ map_insert (λ (b : Bor Attr). b.now) sorted place a ∙ ap (λ k. insert (map (λ (b : Bor Attr). b.now) sorted) k a.now) place_is in
+    ap (λ (l : List Attr). placed l (drop (i + 1) attrs)) shown ∙ ap (λ (l : List Attr). placed (map (λ (b : Bor Attr). b.now) sorted) l) (sym (drop_next attrs i a.now lt at)) ∙ before
 
 -- the opening, the content, the closing
 pub closes : (out a b c start kids : List Mark) (last : Mark) → a ≡ out ++ start → b ≡ a ++ kids → c ≡ b ++ last ∷ [] → c ≡ out ++ (start ++ (kids ++ last ∷ []))

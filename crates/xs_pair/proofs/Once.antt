@@ -1,5 +1,5 @@
 -- Slots that stand exactly once on either side.
-use Rattle.std.proofs.Common.{◌≡◌, ◌⊎◌, ◌∙◌, ◌<◌, ◌≤◌, inl, inr, ap, sym, ℕ, suc, zero, List, [], ◌∷◌, map, Some, arith, slice_get}
+use Rattle.std.proofs.Common.{◌≡◌, ◌⊎◌, ◌∙◌, ◌<◌, ◌≤◌, inl, inr, ap, sym, subst, ℕ, suc, zero, List, [], ◌∷◌, map, Some, arith, slice_get}
 use Rattle.std.proofs.lemmas.Bool.{cases_lt}
 use Rattle.std.proofs.lemmas.Option.{none-some, same_Some}
 use Rattle.xs_class.specs.Ordered.{place_of}
@@ -33,6 +33,11 @@ once_is left right one two back forth ill = by_case ill.there
     by_case : IsAmong left ill.slot ⊎ IsAmong right ill.slot → ⊥
     by_case (inl (k, is)) = ill.not_once (once_of left ill.slot one (k, is)) (once_of right ill.slot two (forth k ill.slot (found_there left ill.slot k is)))
     by_case (inr (k, is)) = ill.not_once (once_of left ill.slot one (back k ill.slot (found_there right ill.slot k is))) (once_of right ill.slot two (k, is))
+
+-- the same names in the same order, each once
+pub in_order : (left right : List (List ℕ)) → IsDistinct left → right ≡ left → IsNotOnce left right → ⊥
+in_order left right once same ill =
+    once_is left left once once (λ k name at. (k, once k name at)) (λ k name at. (k, once k name at)) (subst (λ (ns : List (List ℕ)). IsNotOnce left ns) same ill)
 
 repeat_among : (ns : List (List ℕ)) (r : HasRepeat ns) → IsAmong ns r.name
 repeat_among ns r = let (k, le, is) = first_before ns r.name r.j r.first_at in (k, is)

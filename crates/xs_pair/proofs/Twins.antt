@@ -2,15 +2,25 @@
 use Rattle.std.proofs.Common.{◌≡◌, ◌⊎◌, ◌∙◌, ◌<◌, ◌≤◌, ◌+◌, inl, inr, ap, sym, subst, ℕ, List, length, map, Some, None, arith, slice_get}
 use Rattle.std.proofs.lemmas.Bool.{cases_lt}
 use Rattle.std.proofs.lemmas.List.{length-map}
-use Rattle.std.proofs.lemmas.Option.{same_Some, slice_get_within}
+use Rattle.std.proofs.lemmas.Option.{same_Some, slice_get-map, slice_get_within}
+use Rattle.std.specs.Borrow.{Bor}
+use Rattle.std.specs.Option.{option_map}
 use Rattle.xs_class.specs.Ordered.{place_of}
 use Rattle.xs_pair.specs.Directories.{IsDistinct}
+use Rattle.xs_pair.specs.Marks.{shown}
 use Rattle.xs_pair.specs.Rules.{HasTwoNames}
 use Rattle.xs_pair.proofs.Places.{found_there, stands_nowhere}
 use Rattle.xs_pair.proofs.Once.{slot_at}
 
 abbrev pub Slots : Type 0
 Slots = List (List ℕ × List ℕ)
+
+-- slots that the code has by reference
+pub shown_at : (ss : List (Bor (List ℕ) × Bor (List ℕ))) (k : ℕ) (s : Bor (List ℕ) × Bor (List ℕ)) → slice_get ss k ≡ Some s → slice_get (shown ss) k ≡ Some (s.0.now, s.1.now)
+shown_at ss k s at = slice_get-map (λ (s : Bor (List ℕ) × Bor (List ℕ)). (s.0.now, s.1.now)) ss k ∙ ap (option_map (λ (s : Bor (List ℕ) × Bor (List ℕ)). (s.0.now, s.1.now))) at
+
+pub length_shown : (ss : List (Bor (List ℕ) × Bor (List ℕ))) → length (shown ss) ≡ length ss
+length_shown ss = length-map ss (λ (s : Bor (List ℕ) × Bor (List ℕ)). (s.0.now, s.1.now))
 
 abbrev pub firsts_of : Slots → List (List ℕ)
 firsts_of ss = map (λ (s : List ℕ × List ℕ). s.0) ss

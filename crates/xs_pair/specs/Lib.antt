@@ -2,6 +2,7 @@ pub mod Units
 pub mod Marks
 pub mod Listing
 pub mod Weights
+pub mod Regexes
 pub mod Rules
 pub mod Verdict
 pub mod Grammars

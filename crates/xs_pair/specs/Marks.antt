@@ -1,5 +1,6 @@
 -- An XML side as a list of marks and items, its elements laid out flat.
 use Rattle.std.specs.Prelude.{ℕ, Bool, true, false, List, [], ◌∷◌, ◌++◌, map, suc, if◌then◌else◌, insert, encode_utf8_all}
+use Rattle.std.specs.Borrow.{Bor}
 use Rattle.std.specs.List.{flat_map}
 use Rattle.std.specs.Ordering.{nat_cmp, is_lt}
 use Rattle.std.specs.Cmp.Lexicographic.{slice_cmp}
@@ -114,3 +115,7 @@ slots_of ms = flat_map mark_slots ms
 
 abbrev pub slot_names : List Mark → List (List ℕ)
 slot_names ms = map (λ (s : List ℕ × List ℕ). s.0) (slots_of ms)
+
+-- slots with the names of their units, where the code has both by reference
+abbrev pub shown : List (Bor (List ℕ) × Bor (List ℕ)) → List (List ℕ × List ℕ)
+shown ss = map (λ s. (s.0.now, s.1.now)) ss

@@ -117,6 +117,9 @@ pub fn least_open(
     requires { B.AreApart pairs.now }
     ensures { IfOk result (IsFirstLine (IsLineWhere (λ k u. F.IsOpen pairs.now u) U.unit_line units.now)) }
 {
+    if pairs.is_empty() {
+        return Ok(None);
+    }
     let mut least = None;
     'units: for unit in units {
         let fails = is_open(alloc, pairs, unit)?;

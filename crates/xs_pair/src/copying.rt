@@ -1,14 +1,14 @@
 ghost use Rattle.std.specs.Prelude.{◌≡◌, IfOk};
-ghost use Rattle.xs_regex.specs.declared.regex.Regex.{Regex as AnyRegex};
 ghost use Rattle.xs_regex.specs.Meaning.{IsPatternOf};
 ghost use Rattle.xs_sheet.specs.Grammar.{HasRegex, HaveRegexes};
 ghost use Rattle.xs_sheet.specs.Outline.{Content, with_item, content_of, unit_outline, terminal, ignorable, production, fence};
 ghost use Rattle.xs_pair.specs.Upgrades.{AreCopies};
 
 use crate::flat::{copied, copied_attr, copied_items};
-use crate::parts::regex_of;
+use crate::regex::copied_regex;
 use std::alloc::Global;
 use xs_class::{Memory, Text};
+use xs_regex::Regex;
 use xs_sheet::{Attr, Attrs, Item, Unit, XItem, XItems};
 
 fn copied_attrs(alloc: Global, attrs: &[Attr]) -> Result<Attrs, Memory>
@@ -63,14 +63,19 @@ fn copied_content(alloc: Global, items: &[XItem]) -> Result<XItems, Memory>
     Ok(content)
 }
 
-/// A terminal once more, with the regex read again from its pattern.
-fn copied_terminal(alloc: Global, name: &Text, pattern: &Text, line: u32) -> Result<Unit, Memory>
-    requires { (r : AnyRegex) × IsPatternOf pattern.now r }
+fn copied_terminal(
+    alloc: Global,
+    name: &Text,
+    pattern: &Text,
+    regex: &Regex,
+    line: u32,
+) -> Result<Unit, Memory>
+    requires { IsPatternOf pattern.now regex.now }
     ensures outline { IfOk result (λ u. unit_outline u ≡ terminal name.now pattern.now line) }
     ensures regex { IfOk result HasRegex }
 {
     let name = name.copy()?;
-    let regex = regex_of(alloc, pattern)?;
+    let regex = copied_regex(alloc, regex)?;
     let pattern = pattern.copy()?;
     Ok(Unit::Terminal {
         name,
@@ -80,20 +85,20 @@ fn copied_terminal(alloc: Global, name: &Text, pattern: &Text, line: u32) -> Res
     })
 }
 
-/// An ignorable once more, with the regex read again from its pattern.
 fn copied_ignorable(
     alloc: Global,
     name: &Text,
     pattern: &Text,
+    regex: &Regex,
     normal: &Text,
     line: u32,
 ) -> Result<Unit, Memory>
-    requires { (r : AnyRegex) × IsPatternOf pattern.now r }
+    requires { IsPatternOf pattern.now regex.now }
     ensures outline { IfOk result (λ u. unit_outline u ≡ ignorable name.now pattern.now normal.now line) }
     ensures regex { IfOk result HasRegex }
 {
     let name = name.copy()?;
-    let regex = regex_of(alloc, pattern)?;
+    let regex = copied_regex(alloc, regex)?;
     let pattern = pattern.copy()?;
     let normal = normal.copy()?;
     Ok(Unit::Ignorable {
@@ -144,16 +149,16 @@ fn copied_unit(alloc: Global, unit: &Unit) -> Result<Unit, Memory>
         Unit::Terminal {
             name,
             pattern,
+            regex,
             line,
-            ..
-        } => copied_terminal(alloc, name, pattern, *line),
+        } => copied_terminal(alloc, name, pattern, regex, *line),
         Unit::Ignorable {
             name,
             pattern,
+            regex,
             normal,
             line,
-            ..
-        } => copied_ignorable(alloc, name, pattern, normal, *line),
+        } => copied_ignorable(alloc, name, pattern, regex, normal, *line),
         Unit::Production {
             name,
             left,
@@ -164,7 +169,7 @@ fn copied_unit(alloc: Global, unit: &Unit) -> Result<Unit, Memory>
     }
 }
 
-/// The same units once more, in time linear in them but for the reading of their regexes.
+/// The same units once more, in time linear in them and in their regexes.
 pub fn copied_units(alloc: Global, units: &[Unit]) -> Result<Vec<Unit>, Memory>
     requires { HaveRegexes units.now }
     ensures { IfOk result (λ v. AreCopies units.now v.items) }

@@ -51,6 +51,13 @@ impl Directory {
         &self.list
     }
 
+    /// The vector of the list, without memory.
+    pub fn into_list(self) -> Vec<Text>
+        ensures { result.items ≡ self }
+    {
+        self.list
+    }
+
     /// The first place of a name in the list: a binary search.
     pub fn place(&self, name: &str) -> Option<u32>
         ensures { result ≡ place_of self.now (chars name.now) }

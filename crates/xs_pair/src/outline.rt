@@ -3,10 +3,11 @@ ghost use Rattle.xs_pair.specs.declared.names.Sort.TheVariants as S;
 ghost use Rattle.xs_pair.specs.Listing as L;
 ghost use Rattle.xs_pair.specs.Units as U;
 ghost use Rattle.xs_pair.specs.Verdict.{IsOutlineOf};
+ghost use Rattle.xs_pair.specs.Weights.{AreLight};
 
 use crate::names::{firsts, names_of};
-use crate::production::rules_of;
-use crate::{Directory, Rule, Sort};
+use crate::slotted::{Slotted, slotted_rules};
+use crate::{Directory, Sort};
 use std::alloc::Global;
 use xs_class::{Memory, Text};
 use xs_sheet::{Sheet, Unit};
@@ -24,7 +25,7 @@ pub struct Outline {
     pub heads: Directory,
     /// The nonterminals, in the order of their first productions.
     pub nons: Directory,
-    pub rules: Vec<Rule>,
+    pub rules: Vec<Slotted>,
     pub start: Text,
     pub start_line: u32,
 }
@@ -77,18 +78,19 @@ fn unit_names(alloc: Global, units: &[Unit]) -> Result<UnitNames, Memory>
 /// The productions, their names, and the nonterminals.
 #[derive(Drop)]
 struct Productions {
-    rules: Vec<Rule>,
+    rules: Vec<Slotted>,
     heads: Directory,
     nons: Directory,
 }
 
 fn productions_of(alloc: Global, units: &[Unit]) -> Result<Productions, Memory>
-    requires { length units.now < 65536 }
+    requires few { length units.now < 65536 }
+    requires light { AreLight (L.rules_of units.now) }
     ensures rules { IfOk result (λ p. p.rules.items ≡ L.rules_of units.now) }
     ensures heads { IfOk result (λ p. p.heads ≡ U.names_of S.Production units.now) }
     ensures nons { IfOk result (λ p. p.nons ≡ U.nons_of units.now) }
 {
-    let rules = rules_of(alloc, units)?;
+    let rules = slotted_rules(alloc, units)?;
     let heads = directory(alloc, Sort::Production, units)?;
     let nons = distinct(alloc, &heads)?;
     Ok(Productions { rules, heads, nons })
@@ -97,7 +99,8 @@ fn productions_of(alloc: Global, units: &[Unit]) -> Result<Productions, Memory>
 impl Outline {
     /// The outline of a sheet, in time n log n of its length.
     pub fn of(alloc: Global, sheet: &Sheet) -> Result<Self, Memory>
-        requires { length sheet.now.units < 65536 }
+        requires few { length sheet.now.units < 65536 }
+        requires light { AreLight (L.rules_of sheet.now.units) }
         ensures { IfOk result (IsOutlineOf sheet.now) }
     {
         let units = sheet.units.as_slice();

@@ -1,23 +1,21 @@
 ghost use Rattle.std.specs.Prelude.{◌≡◌, ◌++◌, ◌∷◌, ◌<◌, [], IfOk, OnOk};
 ghost use Rattle.xs_gram.specs.declared.parts.GItem.TheVariants as G;
 ghost use Rattle.xs_gram.specs.Building.{EachOf, IsFit};
-ghost use Rattle.xs_regex.specs.declared.regex.Regex.{Regex as AnyRegex};
-ghost use Rattle.xs_regex.specs.Meaning.{IsPatternOf};
 ghost use Rattle.xs_sheet.specs.Grammar.{HasRegex, HaveRegexes};
 ghost use Rattle.xs_class.specs.Ordered.{place_of};
 ghost use Rattle.xs_pair.specs.Units.{number_of};
 ghost use Rattle.xs_pair.specs.Verdict.{IsOutlineOf};
-ghost use Rattle.xs_pair.specs.Weights.{rule_weight, AreLight};
 ghost use Rattle.xs_pair.specs.Grammars.{flat_item, flat_mark, flat_marks, named_item, rule_part, rule_parts, numbering_in, AreTermsOf, AreSkipsOf, IsTermAdded, IsSkipAdded, ArePartsOf};
 
 use crate::enclosing::fences_of;
 use crate::outline::Outline;
-use crate::slots::slot_directory;
-use crate::{Directory, Mark, Rule};
+use crate::regex::copied_regex;
+use crate::slotted::Slotted;
+use crate::{Directory, Mark};
 use std::alloc::Global;
 use xs_class::{ATTR_END, Memory, Names, Side, Sym, Text, Word, word_of};
 use xs_gram::{GItem, GItems, GramParts, Regexes, RulePart, Rules, SkipPart, Skips};
-use xs_regex::{Regex, RegexFault, read_regex};
+use xs_regex::Regex;
 use xs_sheet::{Item, Sheet, Unit};
 
 /// The number of a name that is in the directory.
@@ -51,27 +49,14 @@ fn push_symbol(alloc: Global, symbol: Sym, out: &mut Vec<GItem>) -> Result<(), M
     Ok(())
 }
 
-/// The regex of a pattern that has one.
-pub fn regex_of(alloc: Global, pattern: &Text) -> Result<Regex, Memory>
-    requires { (r : AnyRegex) × IsPatternOf pattern.now r }
-    ensures of { IfOk result (IsPatternOf pattern.now) }
-    ensures fit { IfOk result IsFit }
-{
-    match read_regex(alloc, pattern.as_str()) {
-        Ok(regex) => Ok(regex),
-        Err(RegexFault::BadRegex) => unreachable!(),
-        Err(RegexFault::Memory) => Err(Memory),
-    }
-}
-
-/// The regex of a terminal, read from its pattern.
+/// The regex of a terminal, once more.
 fn push_regex(alloc: Global, unit: &Unit, regexes: &mut Vec<Regex>) -> Result<(), Memory>
     requires { HasRegex unit.now }
     ensures { OnOk result (IsTermAdded unit.now regexes.old.items regexes.new.items) }
 {
     match unit {
-        Unit::Terminal { pattern, .. } => {
-            let regex = regex_of(alloc, pattern)?;
+        Unit::Terminal { regex, .. } => {
+            let regex = copied_regex(alloc, regex)?;
             regexes.push(regex)?;
             Ok(())
         }
@@ -93,18 +78,14 @@ fn regexes(alloc: Global, units: &[Unit]) -> Result<Vec<Regex>, Memory>
     Ok(regexes)
 }
 
-/// The regex of an ignorable, read from its pattern, and its normal spelling.
+/// The regex of an ignorable, once more, and its normal spelling.
 fn push_skip(alloc: Global, unit: &Unit, parts: &mut Vec<SkipPart>) -> Result<(), Memory>
     requires { HasRegex unit.now }
     ensures { OnOk result (IsSkipAdded unit.now parts.old.items parts.new.items) }
 {
     match unit {
-        Unit::Ignorable {
-            pattern,
-            normal,
-            ..
-        } => {
-            let regex = regex_of(alloc, pattern)?;
+        Unit::Ignorable { regex, normal, .. } => {
+            let regex = copied_regex(alloc, regex)?;
             let normal = word_of(alloc, normal)?;
             parts.push(SkipPart { regex, normal })?;
             Ok(())
@@ -214,17 +195,16 @@ impl Outline {
         alloc: Global,
         names: &Names,
         side: Side,
-        rule: &Rule,
+        slotted: &Slotted,
     ) -> Result<RulePart, Memory>
-        requires { rule_weight rule.now < 65536 }
-        ensures { IfOk result (λ r. r ≡ rule_part (numbering_in self.now names.now) side rule.now) }
+        ensures { IfOk result (λ r. r ≡ rule_part (numbering_in self.now names.now) side slotted.now) }
     {
-        let slots = slot_directory(alloc, rule.left.as_slice())?;
+        let rule = slotted.rule();
         let marks = match side {
             Side::Text => rule.left.as_slice(),
             Side::Xml => rule.right.as_slice(),
         };
-        let items = self.flat_items(alloc, names, &slots, marks)?;
+        let items = self.flat_items(alloc, names, slotted.slots(), marks)?;
         Ok(RulePart {
             non: number(&self.nons, &rule.name),
             items: GItems::from_vec(items),
@@ -232,7 +212,6 @@ impl Outline {
     }
 
     fn rule_parts(&self, alloc: Global, names: &Names, side: Side) -> Result<Vec<RulePart>, Memory>
-        requires { AreLight self.now.rules.items }
         ensures { IfOk result (λ v. v.items ≡ rule_parts (numbering_in self.now names.now) side self.now.rules.items) }
     {
         let rules = self.rules.as_slice();
@@ -253,7 +232,6 @@ impl Outline {
         side: Side,
     ) -> Result<GramParts, Memory>
         requires outline { IsOutlineOf sheet.now self.now }
-        requires light { AreLight self.now.rules.items }
         requires regexes { HaveRegexes sheet.now.units }
         ensures of { IfOk result (ArePartsOf sheet.now names.now side) }
         ensures terms { IfOk result (λ p. EachOf IsFit p.terms) }

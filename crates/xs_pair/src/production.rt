@@ -4,6 +4,7 @@ ghost use Rattle.xs_pair.specs.Marks as M;
 
 use crate::flat::{all_marks, is_element, text_marks};
 use crate::mark::{Mark, Marks};
+use crate::slotted::Slotted;
 use std::alloc::Global;
 use xs_class::{Memory, Text};
 use xs_sheet::{Items, Unit, XItems};
@@ -81,12 +82,12 @@ fn push_names(marks: &[Mark], names: &mut Vec<Text>) -> Result<(), Memory>
 }
 
 /// The names of elements and attributes in all productions, as often as they stand there.
-pub fn names_in(alloc: Global, rules: &[Rule]) -> Result<Vec<Text>, Memory>
+pub fn names_in(alloc: Global, rules: &[Slotted]) -> Result<Vec<Text>, Memory>
     ensures { IfOk result (λ v. v.items ≡ L.names_in rules.now) }
 {
     let mut names = Vec::new(alloc);
     'rules: for rule in rules {
-        push_names(rule.right.as_slice(), &mut names)?;
+        push_names(rule.rule().right.as_slice(), &mut names)?;
     }
     Ok(names)
 }

@@ -9,7 +9,8 @@ ghost use Rattle.xs_pair.specs.Verdict.{IsIllMark, FailsIn, FailsAmong, FailsAt,
 use crate::least::with_line;
 use crate::names::copies;
 use crate::outline::Outline;
-use crate::slots::{has_two_names, is_not_once, slot_directory};
+use crate::slots::{are_once_in_order, has_two_names, is_not_once, slot_directory};
+use crate::slotted::Slotted;
 use crate::{Directory, Ill, IllRule, Mark, PairFault, Rule, Sort, is_of, unit_line};
 use std::alloc::Global;
 use xs_class::{Memory, Text};
@@ -138,23 +139,29 @@ impl Outline {
 
     /// Whether an item is of another kind than its form, its place, or its slot on the other side
     /// asks for.
-    fn fails_kind(&self, alloc: Global, rule: &Rule) -> Result<bool, Memory>
-        requires light { rule_weight rule.now < 65536 }
-        requires once { FailsIn R.NameOnce (tables_in self.now) rule.now → ⊥ }
-        ensures { IfOk result (λ b. IsTrue b ↔ FailsIn R.Kind (tables_in self.now) rule.now) }
+    fn fails_kind(&self, alloc: Global, slotted: &Slotted) -> Result<bool, Memory>
+        requires light { rule_weight slotted.now < 65536 }
+        requires once { FailsIn R.NameOnce (tables_in self.now) slotted.now → ⊥ }
+        ensures { IfOk result (λ b. IsTrue b ↔ FailsIn R.Kind (tables_in self.now) slotted.now) }
     {
+        let rule = slotted.rule();
+        let slots = slotted.slots();
         let on_a_side = self.some_ill_on_a_side(alloc, IllRule::Kind, rule)?;
-        let between = has_two_names(alloc, rule.left.as_slice(), rule.right.as_slice())?;
+        let between = has_two_names(alloc, slots, rule.left.as_slice(), rule.right.as_slice())?;
         Ok(on_a_side || between)
     }
 
-    fn fails_once(&self, alloc: Global, rule: &Rule) -> Result<bool, Memory>
-        requires { rule_weight rule.now < 65536 }
-        ensures { IfOk result (λ b. IsTrue b ↔ FailsIn R.NameOnce (tables_in self.now) rule.now) }
+    fn fails_once(&self, alloc: Global, slotted: &Slotted) -> Result<bool, Memory>
+        requires { rule_weight slotted.now < 65536 }
+        ensures { IfOk result (λ b. IsTrue b ↔ FailsIn R.NameOnce (tables_in self.now) slotted.now) }
     {
-        let left = slot_directory(alloc, rule.left.as_slice())?;
-        let right = slot_directory(alloc, rule.right.as_slice())?;
-        Ok(is_not_once(&left, &right))
+        let slots = slotted.slots();
+        let right = slotted.rule().right.as_slice();
+        if are_once_in_order(slots, right) {
+            return Ok(false);
+        }
+        let right_slots = slot_directory(alloc, right)?;
+        Ok(is_not_once(slots, &right_slots))
     }
 
     /// Whether the XML side of a production of the start is no single element.
@@ -165,15 +172,16 @@ impl Outline {
     }
 
     /// Whether a rule that speaks of productions fails in this one.
-    fn fails_in(&self, alloc: Global, kind: IllRule, rule: &Rule) -> Result<bool, Memory>
-        requires light { rule_weight rule.now < 65536 }
-        requires once { kind ≡ R.Kind → FailsIn R.NameOnce (tables_in self.now) rule.now → ⊥ }
-        ensures { IfOk result (λ b. IsTrue b ↔ FailsIn kind (tables_in self.now) rule.now) }
+    fn fails_in(&self, alloc: Global, kind: IllRule, slotted: &Slotted) -> Result<bool, Memory>
+        requires light { rule_weight slotted.now < 65536 }
+        requires once { kind ≡ R.Kind → FailsIn R.NameOnce (tables_in self.now) slotted.now → ⊥ }
+        ensures { IfOk result (λ b. IsTrue b ↔ FailsIn kind (tables_in self.now) slotted.now) }
     {
+        let rule = slotted.rule();
         match kind {
             IllRule::Undefined => self.some_ill_on_a_side(alloc, IllRule::Undefined, rule),
-            IllRule::NameOnce => self.fails_once(alloc, rule),
-            IllRule::Kind => self.fails_kind(alloc, rule),
+            IllRule::NameOnce => self.fails_once(alloc, slotted),
+            IllRule::Kind => self.fails_kind(alloc, slotted),
             IllRule::AttrTwice => self.some_ill(alloc, IllRule::AttrTwice, rule.right.as_slice()),
             IllRule::RootShape => Ok(self.has_no_root(rule)),
             IllRule::Twice | IllRule::NoStart => Ok(false),
@@ -193,7 +201,7 @@ impl Outline {
         let rules = self.rules.as_slice();
         'rules: for rule in rules {
             let fails = self.fails_in(alloc, kind, rule)?;
-            least = with_line(least, rule.line, fails);
+            least = with_line(least, rule.rule().line, fails);
         }
         Ok(least)
     }

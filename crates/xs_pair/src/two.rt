@@ -8,13 +8,12 @@ ghost use Rattle.xs_pair.specs.Listing.{rules_of, names_in as listed_names};
 ghost use Rattle.xs_pair.specs.Marks.{slot_names};
 ghost use Rattle.xs_pair.specs.Units.{nons_of};
 ghost use Rattle.xs_pair.specs.Verdict.{FailsAt, NoneFails, IsRefusal, IsOutlineOf};
-ghost use Rattle.xs_pair.specs.Weights.{weight, rule_weight, AreLight, IsOfBytes};
+ghost use Rattle.xs_pair.specs.Weights.{weight, AreLight, IsOfBytes};
 
-use crate::names::copies;
+use crate::PairFault;
 use crate::outline::Outline;
 use crate::production::names_in;
-use crate::slots::slot_directory;
-use crate::{PairFault, Rule};
+use crate::slotted::Slotted;
 use std::alloc::Global;
 use std::marker::Model;
 use xs_class::{Listed, Memory, Names, Side, Text};
@@ -89,40 +88,29 @@ impl Two {
 }
 
 /// The lines of the productions.
-fn lines_of(alloc: Global, rules: &[Rule]) -> Result<Vec<u32>, Memory>
+fn lines_of(alloc: Global, rules: &[Slotted]) -> Result<Vec<u32>, Memory>
     ensures { IfOk result (λ v. v.items ≡ map (λ (r : AnyRule). r.line) rules.now) }
 {
     let mut lines = Vec::with_capacity(alloc, rules.len())?;
     'rules: for rule in rules {
-        lines.push(rule.line)?;
+        lines.push(rule.rule().line)?;
     }
     Ok(lines)
 }
 
-/// The slots of a production, in the order of its text side.
-fn slot_list(alloc: Global, rule: &Rule) -> Result<Listed<Text>, Memory>
-    requires { rule_weight rule.now < 65536 }
-    ensures { IfOk result (λ l. l ≡ slot_names rule.now.left) }
-{
-    let directory = slot_directory(alloc, rule.left.as_slice())?;
-    let names = copies(alloc, directory.as_slice())?;
-    Ok(Listed::from_vec(names))
-}
-
-fn slot_lists(alloc: Global, rules: &[Rule]) -> Result<Vec<Listed<Text>>, Memory>
-    requires { AreLight rules.now }
-    ensures { IfOk result (λ v. v.items ≡ map (λ (r : AnyRule). slot_names r.left) rules.now) }
+/// The slots of each production, in the order of its text side.
+fn slot_lists(alloc: Global, rules: Vec<Slotted>) -> Result<Vec<Listed<Text>>, Memory>
+    ensures { IfOk result (λ v. v.items ≡ map (λ (r : AnyRule). slot_names r.left) rules.items) }
 {
     let mut lists = Vec::with_capacity(alloc, rules.len())?;
     'rules: for rule in rules {
-        let list = slot_list(alloc, rule)?;
-        lists.push(list)?;
+        lists.push(Listed::from_vec(rule.into_slots()))?;
     }
     Ok(lists)
 }
 
 /// The names of elements and attributes, in order.
-fn names_of_marks(alloc: Global, sheet: &Sheet, rules: &[Rule]) -> Result<Names, Memory>
+fn names_of_marks(alloc: Global, sheet: &Sheet, rules: &[Slotted]) -> Result<Names, Memory>
     requires rules { rules.now ≡ rules_of sheet.now.units }
     requires small { weight sheet.now.units < 65536 }
     ensures { IfOk result (AreNamesOf (listed_names rules.now)) }
@@ -130,15 +118,6 @@ fn names_of_marks(alloc: Global, sheet: &Sheet, rules: &[Rule]) -> Result<Names,
     let list = names_in(alloc, rules)?;
     let names = Names::of(alloc, &list)?;
     Ok(names)
-}
-
-/// What the numbers of the two grammars stand for.
-#[derive(Drop)]
-struct Legend {
-    names: Names,
-    lines: Vec<u32>,
-    nons: Vec<Text>,
-    slots: Vec<Listed<Text>>,
 }
 
 impl Outline {
@@ -152,7 +131,6 @@ impl Outline {
     ) -> Result<Gram, Memory>
         requires outline { IsOutlineOf sheet.now self.now }
         requires passed { NoneFails (FailsAt sheet.now) }
-        requires light { AreLight self.now.rules.items }
         requires small { weight sheet.now.units < 65536 }
         requires bytes { IsOfBytes sheet.now }
         requires named { AreNamesOf (listed_names (rules_of sheet.now.units)) names.now }
@@ -164,54 +142,34 @@ impl Outline {
         Ok(gram)
     }
 
-    fn legend(&self, alloc: Global, sheet: &Sheet) -> Result<Legend, Memory>
-        requires outline { IsOutlineOf sheet.now self.now }
-        requires light { AreLight self.now.rules.items }
-        requires small { weight sheet.now.units < 65536 }
-        ensures names { IfOk result (λ l. AreNamesOf (listed_names (rules_of sheet.now.units)) l.names) }
-        ensures lines { IfOk result (λ l. l.lines.items ≡ map (λ (r : AnyRule). r.line) (rules_of sheet.now.units)) }
-        ensures nons { IfOk result (λ l. l.nons.items ≡ nons_of sheet.now.units) }
-        ensures slots { IfOk result (λ l. l.slots.items ≡ map (λ (r : AnyRule). slot_names r.left) (rules_of sheet.now.units)) }
-    {
-        let names = names_of_marks(alloc, sheet, &self.rules)?;
-        let lines = lines_of(alloc, &self.rules)?;
-        let nons = copies(alloc, self.nons.as_slice())?;
-        let slots = slot_lists(alloc, &self.rules)?;
-        Ok(Legend {
-            names,
-            lines,
-            nons,
-            slots,
-        })
-    }
-
-    fn two(&self, alloc: Global, sheet: &Sheet) -> Result<Two, Memory>
-        requires outline { IsOutlineOf sheet.now self.now }
+    fn two(self, alloc: Global, sheet: &Sheet) -> Result<Two, Memory>
+        requires outline { IsOutlineOf sheet.now self }
         requires passed { NoneFails (FailsAt sheet.now) }
-        requires light { AreLight self.now.rules.items }
         requires small { weight sheet.now.units < 65536 }
         requires bytes { IsOfBytes sheet.now }
         ensures of { IfOk result (IsPairOf sheet.now) }
         ensures text { IfOk result (λ p. IsBuilt p.text) }
         ensures xml { IfOk result (λ p. IsBuilt p.xml) }
     {
-        let legend = self.legend(alloc, sheet)?;
-        let text = self.grammar(alloc, sheet, &legend.names, Side::Text)?;
-        let xml = self.grammar(alloc, sheet, &legend.names, Side::Xml)?;
+        let names = names_of_marks(alloc, sheet, &self.rules)?;
+        let text = self.grammar(alloc, sheet, &names, Side::Text)?;
+        let xml = self.grammar(alloc, sheet, &names, Side::Xml)?;
+        let lines = lines_of(alloc, &self.rules)?;
+        let slots = slot_lists(alloc, self.rules)?;
         Ok(Two {
             text,
             xml,
-            names: legend.names,
-            lines: legend.lines,
-            nons: legend.nons,
-            slots: legend.slots,
+            names,
+            lines,
+            nons: self.nons.into_list(),
+            slots,
         })
     }
 
     /// The two grammars, where no rule fails.
-    fn checked(&self, alloc: Global, sheet: &Sheet) -> Result<Two, PairFault>
-        requires outline { IsOutlineOf sheet.now self.now }
-        requires light { AreLight self.now.rules.items }
+    fn checked(self, alloc: Global, sheet: &Sheet) -> Result<Two, PairFault>
+        requires outline { IsOutlineOf sheet.now self }
+        requires light { AreLight self.rules.items }
         requires few { length sheet.now.units < 65536 }
         requires small { weight sheet.now.units < 65536 }
         requires bytes { IsOfBytes sheet.now }

@@ -127,10 +127,9 @@ fn fenced_units(alloc: Global, sheet: &Sheet) -> Result<Vec<Unit>, Memory>
 /// A sheet of version 2 is itself. One of version 1 becomes one of version 2 with its units in order
 /// and fences after them: the pairs `( )`, `[ ]`, `{ }` and `< >` are tried in this order, and one is
 /// added where one of its characters stands in a text side and the three rules on fences hold of the
-/// sheet with it and the pairs added before. Each has the line of the start. The regular expressions
-/// are read again from their patterns. The sheet is one that some bytes, at most 65,536 of them,
-/// spell; the upgrade can be written, and may then be longer. Takes time and memory linear in the
-/// sheet, but for the reading of its regexes.
+/// sheet with it and the pairs added before. Each has the line of the start. The sheet is one that
+/// some bytes, at most 65,536 of them, spell; the upgrade can be written, and may then be longer.
+/// Takes time and memory linear in the sheet and in its regexes.
 pub fn upgrade(alloc: Global, sheet: &Sheet) -> Result<Sheet, Memory>
     requires { IsOfBytes sheet.now }
     ensures upgrade { IfOk result (IsUpgrade sheet.now) }

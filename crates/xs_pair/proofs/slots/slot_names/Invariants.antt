@@ -1,5 +1,6 @@
-use Rattle.std.proofs.Common.{◌≡◌, take, map, List, ℕ}
+use Rattle.std.proofs.Common.{◌≡◌, take}
+use Rattle.xs_pair.specs.Marks as M
 use Rattle.xs_pair.proofs.slots.slot_names.Given as goal
 
-abbrev pub invariant-slots : goal.invariant-slots
-invariant-slots l = l.names.items ≡ map (λ (s : List ℕ × List ℕ). s.0) (take l.slot-index l.slots)
+abbrev pub invariant-marks : goal.invariant-marks
+invariant-marks l = l.names.items ≡ M.slot_names (take l.mark-index l.marks)

@@ -4,8 +4,11 @@ use Rattle.xs_pair.proofs.Ready.{units_light, all_light}
 use Rattle.xs_pair.proofs.MarksLight.{are_light}
 use Rattle.xs_pair.proofs.two.both.Goals as goal
 
-pub of-requires : goal.of-requires
-of-requires c = omega (arith, units_light c.args.sheet.now.units, are_light c.requires.0 c.args.sheet.now c.requires.1 c.requires.2)
+pub of-requires-clause-few : goal.of-requires-clause-few
+of-requires-clause-few c = omega (arith, units_light c.args.sheet.now.units, are_light c.requires.0 c.args.sheet.now c.requires.1 c.requires.2)
+
+pub of-requires-clause-light : goal.of-requires-clause-light
+of-requires-clause-light c = all_light c.args.sheet.now.units (are_light c.requires.0 c.args.sheet.now c.requires.1 c.requires.2)
 
 pub checked-requires-clause-light : goal.checked-requires-clause-light
 checked-requires-clause-light c = subst (λ rs. AreLight rs) (sym c.in_ok-outline.ensures.rules) (all_light c.args.sheet.now.units (are_light c.requires.0 c.args.sheet.now c.requires.1 c.requires.2))

@@ -1,4 +1,4 @@
-use Rattle.std.proofs.Common.{◌≡◌, ◌∙◌, subst, refl, Some, ℕ, slice_get}
+use Rattle.std.proofs.Common.{◌≡◌, ◌∙◌, ap, subst, refl, Some, ℕ, slice_get}
 use Rattle.std.proofs.Common.{take}
 use Rattle.std.proofs.lemmas.List.{take_all}
 use Rattle.xs_pair.specs.declared.production.Rule.{Rule}
@@ -13,7 +13,7 @@ fails_in-requires-clause-once c = λ is once. c.requires.once is c.rule-item.res
 
 pub rules-preserved : goal.rules-preserved
 rules-preserved c =
-    take_tested (λ (k : ℕ) (r : Rule). FailsIn c.args.kind (tables_in c.args.self.now) r) (λ (r : Rule). r.line) c.as_slice-rules.result.now c.rules.rule-index c.rule-item.result c.rules.least c.with_line-least.result c.rule-item.result.line c.in_ok-fails.fails c.rules-test.true c.rule-item.is refl c.in_ok-fails.ensures c.with_line-least.ensures c.rules.invariant
+    take_tested (λ (k : ℕ) (r : Rule). FailsIn c.args.kind (tables_in c.args.self.now) r) (λ (r : Rule). r.line) c.as_slice-rules.result.now c.rules.rule-index c.rule-item.result c.rules.least c.with_line-least.result c.rule.result.now.line c.in_ok-fails.fails c.rules-test.true c.rule-item.is (ap (λ (r : Rule). r.line) c.rule.ensures) c.in_ok-fails.ensures c.with_line-least.ensures c.rules.invariant
 
 pub returns : goal.returns
 returns c =
