@@ -1,5 +1,5 @@
 -- Coarse nets, the labels of their arcs, and a coarse net as searches over pairs of states see it.
-use Rattle.std.specs.Prelude.{◌≡◌, ℕ, suc, ◌+◌, ◌-◌, ◌*◌, ◌<◌, ◌&&◌, nat_lt, nat_eq, Bool, true, false, List, [], ◌++◌, ◌↔◌, length, map, get_or, Some}
+use Rattle.std.specs.Prelude.{◌≡◌, ℕ, suc, ◌+◌, ◌-◌, ◌*◌, ◌<◌, ◌&&◌, nat_lt, nat_eq, Bool, true, false, List, [], ◌∷◌, ◌++◌, ◌↔◌, length, map, get_or, Some}
 use Rattle.std.specs.List.{Contains, filter, range_with_len}
 use Rattle.xs_class.specs.Classes.{Has}
 use Rattle.xs_auto.specs.declared.call.Call.{Call}
@@ -67,6 +67,10 @@ shifted by x = record { from = by + x.from; label = x.label; to = by + x.to }
 -- two nets one after the other: state 0 of the second one is the last state of the first one
 abbrev pub joined : Net → Net → Net
 joined m n = record { states = m.states + n.states - 1; arcs = m.arcs ++ map (shifted (m.states - 1)) n.arcs }
+
+-- an arc with a label between two states
+abbrev pub one_arc : ℕ → Net
+one_arc label = record { states = 2; arcs = record { from = 0; label = label; to = 1 } ∷ [] }
 
 -- whether an arc leads from a state and reads nothing, a symbol, a group
 abbrev pub is_move : ℕ → Arc → Bool

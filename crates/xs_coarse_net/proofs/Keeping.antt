@@ -77,6 +77,10 @@ module _ (old new : Table) (same : new.classes ≡ old.classes) where
   pub covers_same : (g : Grammar) (c : Covers) → IsCovers g old c → IsCovers g new c
   covers_same g c h = record {
     whole = whole_same g c.whole h.whole;
+    leaves = record {
+      terms = λ i n at w word. goes_same (h.leaves.terms i n at w word);
+      skips = λ k n at w word. goes_same (h.leaves.skips k n at w word);
+    };
     groups = subst (λ (nest : List Group). CoversGroups g nest) (sym (nest_same c.contents.items)) h.groups;
     fragments = λ non n at. subst (λ (v : Graph). CoversNon g v non 0 (last_state n)) (sym (view_same n 0 0)) (h.fragments non n at);
   }

@@ -4,6 +4,7 @@ pub mod Going
 pub mod Keeping
 pub mod Labelling
 pub mod Laying
+pub mod Leaving
 pub mod Extending
 pub mod Places
 pub mod Reaching

@@ -4,6 +4,7 @@ pub mod Fragments
 pub mod Going
 pub mod Having
 pub mod Joining
+pub mod Leaves
 pub mod Placing
 pub mod Reaching
 pub mod Sites

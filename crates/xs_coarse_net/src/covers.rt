@@ -6,14 +6,14 @@ ghost use Rattle.xs_coarse.specs.Coarse.{Net};
 ghost use Rattle.xs_coarse.specs.Labels.{IsLabelsOf};
 ghost use Rattle.xs_coarse_net.specs.Covers.{IsCoverOf};
 ghost use Rattle.xs_coarse_net.specs.Having.{IsCovers};
-ghost use Rattle.xs_coarse_net.specs.Sites.{IsSite};
 
 use crate::contents::contents_of;
+use crate::leaves::leaves_of;
 use crate::site::Site;
 use crate::stop::Stop;
 use crate::stretch::cover_part;
 use crate::whole::{Whole, whole_net};
-use crate::{Content, Cover};
+use crate::{Content, Cover, Leaves};
 use std::alloc::Global;
 use xs_class::Memory;
 use xs_coarse::{Coarse, Labels};
@@ -21,11 +21,12 @@ use xs_gram::Gram;
 use xs_regex::Numbers;
 use xs_stretch::Part;
 
-/// The net that covers all rules of a grammar, the fragments of it that were made, by nonterminal, and
-/// the contents of the grammar's groups, by their numbers.
+/// The net that covers all rules of a grammar, the nets of its terminals and ignorables, the fragments
+/// that were made, by nonterminal, and the contents of the grammar's groups, by their numbers.
 #[derive(Debug, Drop)]
 pub struct Covers {
     pub whole: Whole,
+    pub leaves: Leaves,
     pub kept: Vec<Option<Coarse>>,
     pub contents: Vec<Content>,
 }
@@ -43,8 +44,7 @@ impl Covers {
         requires groups { AreNumbersBefore g.now (length g.now.rules) groups.now }
         ensures { IfOk result (λ found. IfSome found (IsCovers g.now labels.now)) }
     {
-        let site = Site { g, labels, groups };
-        match covers_of(alloc, &site) {
+        match covers_of(alloc, g, labels, groups) {
             Ok(covers) => Ok(Some(covers)),
             Err(Stop::Wide) => Ok(None),
             Err(Stop::Memory) => Err(Memory),
@@ -71,7 +71,12 @@ impl Covers {
         ensures contents { self.new.contents.items ≡ self.old.contents.items }
         ensures cover { IfOk result (λ found. IfSome found (IsCoverOf g.now labels.now part.now)) }
     {
-        let site = Site { g, labels, groups };
+        let site = Site {
+            g,
+            labels,
+            leaves: &self.leaves,
+            groups,
+        };
         match cover_part(&mut self.kept, alloc, &site, &self.whole, *part) {
             Ok(cover) => Ok(Some(cover)),
             Err(Stop::Wide) => Ok(None),
@@ -81,15 +86,25 @@ impl Covers {
 }
 
 /// The covers of a grammar.
-fn covers_of(alloc: Global, site: &Site<'_>) -> Result<Covers, Stop>
-    requires { IsSite site.now }
-    ensures { IfOk result (IsCovers site.now.g.now site.now.labels.now) }
+fn covers_of(alloc: Global, g: &Gram, labels: &Labels, groups: &Numbers) -> Result<Covers, Stop>
+    requires built { IsBuilt g.now }
+    requires labels { IsLabelsOf g.now labels.now }
+    requires groups { AreNumbersBefore g.now (length g.now.rules) groups.now }
+    ensures { IfOk result (IsCovers g.now labels.now) }
 {
-    let whole = whole_net(alloc, site)?;
-    let mut kept = no_fragments(alloc, site.g.nons())?;
-    let contents = contents_of(&mut kept, alloc, site, &whole)?;
+    let leaves = leaves_of(alloc, g, labels)?;
+    let site = Site {
+        g,
+        labels,
+        leaves: &leaves,
+        groups,
+    };
+    let whole = whole_net(alloc, &site)?;
+    let mut kept = no_fragments(alloc, g.nons())?;
+    let contents = contents_of(&mut kept, alloc, &site, &whole)?;
     Ok(Covers {
         whole,
+        leaves,
         kept,
         contents,
     })

@@ -1,4 +1,4 @@
-ghost use Rattle.std.specs.Prelude.{◌≡◌, ◌↔◌, [], true, IsTrue, IfOk, OnOk};
+ghost use Rattle.std.specs.Prelude.{◌≡◌, ◌+◌, ◌<◌, ◌^◌, ◌↔◌, [], true, IsTrue, IfOk, OnOk};
 ghost use Rattle.std.specs.List.{All};
 ghost use Rattle.xs_coarse.specs.Coarse.{IsWithin};
 ghost use Rattle.xs_coarse_net.specs.Going.{Grows, Adds};
@@ -52,6 +52,19 @@ impl Draft {
         let state = self.next;
         self.next = state + 1;
         Ok(state)
+    }
+
+    /// Takes that many states, and gives the first one.
+    pub fn take(&mut self, count: u32) -> Result<u32, Stop>
+        ensures same { self.new ≡ self.old }
+        ensures small { IfOk result (λ first. first + count < 2 ^ 32) }
+    {
+        if count > self.states || self.next > self.states - count {
+            return Err(Stop::Wide);
+        }
+        let first = self.next;
+        self.next = first + count;
+        Ok(first)
     }
 
     /// The last state where it is to be that, else a state that is taken.

@@ -46,7 +46,7 @@ impl Tracer {
     {
         Ok(Tracer {
             names: vec![in alloc; 0u32; states as usize]?,
-            order: Vec::new(alloc),
+            order: Vec::with_capacity(alloc, states as usize)?,
             arcs: Vec::new(alloc),
         })
     }

@@ -1,4 +1,5 @@
 ghost use Rattle.std.specs.Prelude.{OnOk};
+ghost use Rattle.xs_coarse.specs.Coarse.{one_arc};
 ghost use Rattle.xs_coarse_net.specs.Joining.{Joins};
 
 use crate::draft::MOST;
@@ -13,6 +14,18 @@ pub(crate) fn join_net(net: &mut Coarse, other: &Coarse) -> Result<(), Stop>
         return Err(Stop::Wide);
     }
     net.join(other)?;
+    let _states = net.len();
+    Ok(())
+}
+
+/// Goes on with an arc from the last state to a new one, unless the net would be too large.
+pub(crate) fn step_net(net: &mut Coarse, label: u32) -> Result<(), Stop>
+    ensures { OnOk result (Joins net.old (one_arc label) net.new) }
+{
+    if net.len() > MOST {
+        return Err(Stop::Wide);
+    }
+    net.step(label)?;
     let _states = net.len();
     Ok(())
 }

@@ -8,6 +8,7 @@ use crate::site::Site;
 use crate::stop::Stop;
 use std::alloc::Global;
 use xs_class::Sym;
+use xs_coarse::Labels;
 use xs_regex::Position;
 
 /// The label of a symbol, if it has one.
@@ -29,19 +30,19 @@ pub(crate) fn label_of_group(site: &Site<'_>, group: u32) -> u32
 /// The labels of an automaton's positions, if all have one.
 pub(crate) fn position_labels(
     alloc: Global,
-    site: &Site<'_>,
+    labels: &Labels,
     automaton: &Position,
 ) -> Result<Vec<u32>, Stop>
-    ensures long { IfOk result (λ labels. length labels.items ≡ length automaton.now.classes) }
-    ensures labels { IfOk result (λ labels. AreLabelsOf site.now.labels.now automaton.now labels.items) }
+    ensures long { IfOk result (λ names. length names.items ≡ length automaton.now.classes) }
+    ensures labels { IfOk result (λ names. AreLabelsOf labels.now automaton.now names.items) }
 {
     let count = automaton.classes.len();
-    let mut labels = Vec::with_capacity(alloc, count)?;
+    let mut names = Vec::with_capacity(alloc, count)?;
     'positions: for position in 0..count {
-        match site.labels.class(automaton.classes.at(position)) {
-            Some(label) => labels.push(label)?,
+        match labels.class(automaton.classes.at(position)) {
+            Some(label) => names.push(label)?,
             None => return Err(Stop::Wide),
         }
     }
-    Ok(labels)
+    Ok(names)
 }

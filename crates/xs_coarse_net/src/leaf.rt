@@ -1,27 +1,26 @@
-ghost use Rattle.std.specs.Prelude.{◌≡◌, ℕ, ◌<◌, List, false, true, length, OnOk};
+ghost use Rattle.std.specs.Prelude.{◌≡◌, ℕ, ◌+◌, ◌<◌, ◌≤◌, ◌^◌, List, false, true, length, OnOk};
 ghost use Rattle.xs_gram.specs.declared.parts.GItem.TheVariants.{Fixed as FixedItem};
 ghost use Rattle.xs_gram.specs.Grammar.{IsTermWord, IsSkipWord};
 ghost use Rattle.xs_gram.specs.Building.{NamesAreThere};
 ghost use Rattle.xs_gram.specs.Fences.{is_fence, IsPlain};
-ghost use Rattle.xs_coarse.specs.Coarse.{HasArc};
+ghost use Rattle.xs_coarse.specs.Coarse.{Table, HasArc};
 ghost use Rattle.xs_coarse.specs.Covers.{IsLeaf};
 ghost use Rattle.xs_coarse_net.specs.Going.{Goes, Grows, LabelReads, LeafGoes};
+ghost use Rattle.xs_coarse_net.specs.Placing.{inner_state};
 ghost use Rattle.xs_coarse_net.specs.Sites.{IsSite};
+ghost use Rattle.xs_coarse_net.specs.Stretches.{last_state};
 
-use crate::automaton::lay_automaton;
 use crate::draft::{Draft, MOST};
-use crate::labelled::{position_labels, symbol_label};
+use crate::labelled::symbol_label;
 use crate::site::Site;
 use crate::stop::Stop;
-use std::alloc::Global;
 use xs_class::Sym;
+use xs_coarse::Coarse;
 use xs_gram::GItem;
-use xs_regex::Position;
 
 /// Leads from a state to another by an item that is no nonterminal; a right fence leads nowhere.
 pub(crate) fn lay_leaf(
     draft: &mut Draft,
-    alloc: Global,
     site: &Site<'_>,
     item: &GItem,
     from: u32,
@@ -37,33 +36,28 @@ pub(crate) fn lay_leaf(
             lay_word(draft, site, word.as_slice(), from, to)?;
             Ok(())
         }
-        GItem::Term { term, .. } => lay_term(draft, alloc, site, *term, from, to),
-        GItem::Skip { skip } => lay_skip(draft, alloc, site, *skip, from, to),
+        GItem::Term { term, .. } => lay_term(draft, site, *term, from, to),
+        GItem::Skip { skip } => lay_skip(draft, site, *skip, from, to),
         GItem::Non { .. } => Ok(()),
     }
 }
 
 /// How many states between its ends an item takes that is no nonterminal, as far as they can be counted.
-pub(crate) fn states_inside(site: &Site<'_>, item: &GItem) -> u32
-    requires { NamesAreThere site.now.g.now item.now }
-{
+pub(crate) fn states_inside(site: &Site<'_>, item: &GItem) -> u32 {
     match item {
         GItem::Fixed(word) => (word.len().min(MOST as usize) as u32).saturating_sub(1),
-        GItem::Term { term, .. } => followed(site.g.term(*term)),
-        GItem::Skip { skip } => followed(site.g.skip(*skip)),
+        GItem::Term { term, .. } => inner_states(site.leaves.terms.get(*term as usize)),
+        GItem::Skip { skip } => inner_states(site.leaves.skips.get(*skip as usize)),
         GItem::Non { .. } => 0,
     }
 }
 
-/// How many positions are followed by others.
-fn followed(automaton: &Position) -> u32 {
-    let mut count: u32 = 0;
-    'positions: for row in automaton.follow.as_slice() {
-        if !row.is_empty() {
-            count = count.saturating_add(1);
-        }
+/// How many states a net has between its first and its last one, if there is a net.
+fn inner_states(net: Option<&Coarse>) -> u32 {
+    match net {
+        Some(net) => net.len().saturating_sub(2),
+        None => 0,
     }
-    count
 }
 
 /// A fixed word, by a state between each two symbols.
@@ -131,41 +125,65 @@ fn is_fence_symbol(fences: &[(Sym, Sym)], symbol: Sym) -> bool
 }
 
 /// The words of a terminal.
-fn lay_term(
-    draft: &mut Draft,
-    alloc: Global,
-    site: &Site<'_>,
-    term: u32,
-    from: u32,
-    to: u32,
-) -> Result<(), Stop>
+fn lay_term(draft: &mut Draft, site: &Site<'_>, term: u32, from: u32, to: u32) -> Result<(), Stop>
     requires site { IsSite site.now }
-    requires there { term < length site.now.g.now.terms }
     ensures grows { OnOk result (Grows draft.old draft.new) }
     ensures goes { OnOk result ((w : List ℕ) → IsTermWord site.now.g.now term w → Goes site.now.labels.now draft.new from w to) }
 {
-    let automaton = site.g.term(term);
-    let labels = position_labels(alloc, site, automaton)?;
-    lay_automaton(draft, alloc, &labels, automaton, from, to)?;
-    Ok(())
+    match site.leaves.terms.get(term as usize) {
+        Some(leaf) => {
+            lay_net(draft, leaf, from, to)?;
+            Ok(())
+        }
+        None => Err(Stop::Wide),
+    }
 }
 
 /// The words of an ignorable.
-fn lay_skip(
-    draft: &mut Draft,
-    alloc: Global,
-    site: &Site<'_>,
-    skip: u32,
-    from: u32,
-    to: u32,
-) -> Result<(), Stop>
+fn lay_skip(draft: &mut Draft, site: &Site<'_>, skip: u32, from: u32, to: u32) -> Result<(), Stop>
     requires site { IsSite site.now }
-    requires there { skip < length site.now.g.now.skips }
     ensures grows { OnOk result (Grows draft.old draft.new) }
     ensures goes { OnOk result ((w : List ℕ) → IsSkipWord site.now.g.now skip w → Goes site.now.labels.now draft.new from w to) }
 {
-    let automaton = site.g.skip(skip);
-    let labels = position_labels(alloc, site, automaton)?;
-    lay_automaton(draft, alloc, &labels, automaton, from, to)?;
+    match site.leaves.skips.get(skip as usize) {
+        Some(leaf) => {
+            lay_net(draft, leaf, from, to)?;
+            Ok(())
+        }
+        None => Err(Stop::Wide),
+    }
+}
+
+/// Leads from a state to another as a net does from its first to its last state.
+fn lay_net(draft: &mut Draft, net: &Coarse, from: u32, to: u32) -> Result<(), Stop>
+    ensures grows { OnOk result (Grows draft.old draft.new) }
+    ensures goes { OnOk result ((t : Table) (w : List ℕ) → Goes t net.now 0 w (last_state net.now) → Goes t draft.new from w to) }
+{
+    let last = net.len() - 1;
+    if last == 0 {
+        return Err(Stop::Wide);
+    }
+    let base = draft.take(last - 1)?;
+    'arcs: for x in net.arcs() {
+        let start = state_for(x.from, last, base, from, to);
+        let end = state_for(x.to, last, base, from, to);
+        draft.add(start, x.label, end)?;
+    }
     Ok(())
+}
+
+/// The state for one of a net that is laid from a state to another: its first and its last state are
+/// those, and the others follow each other from a number on.
+fn state_for(state: u32, last: u32, base: u32, from: u32, to: u32) -> u32
+    requires within { state ≤ last }
+    requires small { base + last ≤ 2 ^ 32 }
+    ensures { result ≡ inner_state last base from to state }
+{
+    if state == 0 {
+        return from;
+    }
+    if state == last {
+        return to;
+    }
+    base + (state - 1)
 }

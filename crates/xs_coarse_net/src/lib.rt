@@ -2,8 +2,9 @@
 //!
 //! One net covers all rules of the grammar: each nonterminal has one entry and one exit, and rules
 //! lead from the one to the other by their outer items. What is reached of it from a nonterminal's
-//! entry is its fragment. The cover of a level stretch joins a small net for each outer item, and a
-//! fragment for each nonterminal; the covers of all groups' insides stand under the groups' numbers.
+//! entry is its fragment. The cover of a level stretch joins a net for each outer item: a terminal or
+//! an ignorable has one that is made once, and a nonterminal its fragment. The covers of all groups'
+//! insides stand under the groups' numbers.
 //!
 //! Where a net would be too large, there is none: covers only spare exact searches.
 #![tactic(auto)]
@@ -17,8 +18,10 @@ mod fragment;
 mod join;
 mod labelled;
 mod leaf;
+mod leaves;
 mod pieces;
 mod reach;
+mod room;
 mod rule;
 mod site;
 mod stop;
@@ -28,4 +31,5 @@ mod whole;
 pub use contents::Content;
 pub use cover::{Cover, Outer};
 pub use covers::Covers;
+pub use leaves::Leaves;
 pub use whole::Whole;

@@ -13,7 +13,6 @@ use crate::labelled::label_of_group;
 use crate::leaf::lay_leaf;
 use crate::site::Site;
 use crate::stop::Stop;
-use std::alloc::Global;
 use xs_gram::{GItem, cuts_are_one};
 
 /// The least label of an arc back from the exit of a nonterminal; the number of the nonterminal into
@@ -21,13 +20,7 @@ use xs_gram::{GItem, cuts_are_one};
 pub(crate) const RETURNS: u32 = 65536;
 
 /// Lays the outer items and groups of a rule, whose places begin at a number.
-pub(crate) fn lay_rule(
-    draft: &mut Draft,
-    alloc: Global,
-    site: &Site<'_>,
-    rule: u32,
-    base: u32,
-) -> Result<(), Stop>
+pub(crate) fn lay_rule(draft: &mut Draft, site: &Site<'_>, rule: u32, base: u32) -> Result<(), Stop>
     requires site { IsSite site.now }
     requires rule { rule < length site.now.g.now.rules }
     requires base { base ≡ rule_base site.now.g.now rule }
@@ -39,7 +32,7 @@ pub(crate) fn lay_rule(
     'places: for place in 0..end {
         let here = number;
         number = number_after(site, rule, place, here)?;
-        lay_outer(draft, alloc, site, rule, base, place, here)?;
+        lay_outer(draft, site, rule, base, place, here)?;
     }
     lay_ends(draft, site, rule, end)?;
     Ok(())
@@ -109,7 +102,6 @@ fn state_at(site: &Site<'_>, rule: u32, base: u32, place: u32) -> Result<u32, St
 /// Lays what stands at a place of a rule, unless that is inside a group.
 fn lay_outer(
     draft: &mut Draft,
-    alloc: Global,
     site: &Site<'_>,
     rule: u32,
     base: u32,
@@ -127,7 +119,7 @@ fn lay_outer(
     if is_enclosed(site, rule, place) {
         return Ok(());
     }
-    lay_place(draft, alloc, site, rule, base, place, number)
+    lay_place(draft, site, rule, base, place, number)
 }
 
 /// Whether a place of a rule is inside a group.
@@ -151,7 +143,6 @@ fn is_enclosed(site: &Site<'_>, rule: u32, place: u32) -> bool
 /// Lays the outer item or the group at a place of a rule.
 fn lay_place(
     draft: &mut Draft,
-    alloc: Global,
     site: &Site<'_>,
     rule: u32,
     base: u32,
@@ -177,7 +168,7 @@ fn lay_place(
         None => {
             let to = state_at(site, rule, base, place + 1)?;
             let own = site.g.non_of(rule);
-            lay_item(draft, alloc, site, own, item, from, to)?;
+            lay_item(draft, site, own, item, from, to)?;
             Ok(())
         }
     }
@@ -187,7 +178,6 @@ fn lay_place(
 /// and back from its exit.
 fn lay_item(
     draft: &mut Draft,
-    alloc: Global,
     site: &Site<'_>,
     own: u32,
     item: &GItem,
@@ -201,7 +191,7 @@ fn lay_item(
 {
     match item {
         GItem::Non { non, .. } => lay_call(draft, own, *non, from, to),
-        _ => lay_leaf(draft, alloc, site, item, from, to),
+        _ => lay_leaf(draft, site, item, from, to),
     }
 }
 

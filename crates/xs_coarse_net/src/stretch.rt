@@ -6,6 +6,7 @@ ghost use Rattle.xs_coarse_net.specs.Sites.{IsSite};
 ghost use Rattle.xs_coarse_net.specs.Whole.{IsWhole};
 
 use crate::pieces::add_piece;
+use crate::room::{Room, room_for};
 use crate::rule::number_after;
 use crate::site::Site;
 use crate::stop::Stop;
@@ -15,7 +16,8 @@ use std::alloc::Global;
 use xs_coarse::Coarse;
 use xs_stretch::Part;
 
-/// The cover of a level stretch, in time linear in its rule's places and the cover.
+/// The cover of a level stretch, in time linear in its rule's places and the cover. Fragments that it
+/// needs are kept.
 pub(crate) fn cover_part(
     kept: &mut Vec<Option<Coarse>>,
     alloc: Global,
@@ -30,8 +32,26 @@ pub(crate) fn cover_part(
     ensures kept { AreFragments site.now.g.now site.now.labels.now kept.new.items }
     ensures cover { IfOk result (IsCoverOf site.now.g.now site.now.labels.now part) }
 {
-    let mut net = Coarse::new(alloc)?;
-    let mut places = Vec::new(alloc);
+    let room = room_for(kept, alloc, site, whole, part)?;
+    let cover = cover_of(kept.as_slice(), alloc, site, part, room)?;
+    Ok(cover)
+}
+
+/// The same, where the fragments that it needs are kept, with room for it asked for at once.
+fn cover_of(
+    kept: &[Option<Coarse>],
+    alloc: Global,
+    site: &Site<'_>,
+    part: Part,
+    room: Room,
+) -> Result<Cover, Stop>
+    requires site { IsSite site.now }
+    requires part { IsPart site.now.g.now part }
+    requires kept { AreFragments site.now.g.now site.now.labels.now kept.now }
+    ensures { IfOk result (IsCoverOf site.now.g.now site.now.labels.now part) }
+{
+    let mut net = Coarse::with_capacity(alloc, room.states, room.arcs)?;
+    let mut places = Vec::with_capacity(alloc, room.places)?;
     let mut number = *site.groups.at(part.rule as usize);
     let mut next = part.start;
     'items: for place in 0..part.end {
@@ -44,7 +64,7 @@ pub(crate) fn cover_part(
             place,
             state: net.len() - 1,
         })?;
-        next = add_piece(&mut net, kept, alloc, site, whole, part.rule, place, here)?;
+        next = add_piece(&mut net, kept, site, part.rule, place, here)?;
     }
     let last = net.len() - 1;
     places.push(Outer {

@@ -32,7 +32,7 @@ pub(crate) fn whole_net(alloc: Global, site: &Site<'_>) -> Result<Whole, Stop>
     let mut draft = Draft::new(alloc, states, places);
     let mut base = first;
     'rules: for rule in 0..site.g.rules() {
-        lay_rule(&mut draft, alloc, site, rule, base)?;
+        lay_rule(&mut draft, site, rule, base)?;
         base = base_after(site, rule, base)?;
     }
     let net = draft.into_net(alloc)?;

@@ -5,6 +5,6 @@ use Rattle.xs_coarse_net.proofs.labelled.position_labels.Given as goal
 
 abbrev pub invariant-positions : goal.invariant-positions
 invariant-positions l = record {
-  long : length l.labels.items ≡ l.position;
-  labels : (k s : ℕ) → k < l.position → HasAt l.automaton k s → LabelReads l.site.labels.now (get_or l.labels.items k 0) s;
+  long : length l.names.items ≡ l.position;
+  labels : (k s : ℕ) → k < l.position → HasAt l.automaton k s → LabelReads l.labels (get_or l.names.items k 0) s;
 }

@@ -1,6 +1,5 @@
 use Rattle.std.proofs.Common.{◌+◌, arith}
 use Rattle.xs_gram.specs.Fences.{spread}
-use Rattle.xs_stretch.proofs.Items.{item_there}
 use Rattle.xs_stretch.proofs.Numbering.{left_counts, number_low}
 use Rattle.xs_stretch.proofs.Stepping.{read_there}
 use Rattle.xs_coarse_net.proofs.Extending.{extends_group, extends_item}
@@ -11,18 +10,19 @@ add_group-requires-clause-there c =
     let g = c.args.site.now.g.now in
     omega (arith, c.requires.number, left_counts g.fences (spread g c.args.rule) c.args.place c.in-Some.partner c.in-Some.ensures.some, number_low g c.args.rule (c.args.place + 1) c.requires.rule)
 
-pub add_item-requires-clause-there : goal.add_item-requires-clause-there
-add_item-requires-clause-there c = item_there c.args.site.now.g.now c.requires.site.built.range c.args.rule c.args.place c.spread.result.now c.index-spread-place.result c.spread.ensures.items c.requires.place c.index-spread-place.is
+pub returns-in_ok-add_group-in-Some : goal.returns-in_ok-add_group-in-Some
+returns-in_ok-add_group-in-Some c = record {
+  extends = λ rest at.
+      let g = c.args.site.now.g.now in
+      let t = c.args.site.now.labels.now in
+      extends_group g t c.args.rule c.args.place rest c.args.net.now _ c.in_ok-add_group-in-Some.ensures.placed at c.in-Some.partner c.spread.ensures.proper c.in-Some.ensures.some (rw c.requires.number at c.in_ok-add_group-in-Some.ensures.call);
+}
 
-pub returns-in_ok-add_group-in-Some-clause-extends : goal.returns-in_ok-add_group-in-Some-clause-extends
-returns-in_ok-add_group-in-Some-clause-extends c = λ rest at.
-    let g = c.args.site.now.g.now in
-    let t = c.args.site.now.labels.now in
-    extends_group g t c.args.rule c.args.place rest c.args.net.now _ c.in_ok-add_group-in-Some.ensures.placed at c.in-Some.partner c.spread.ensures.proper c.in-Some.ensures.some (rw c.requires.number at c.in_ok-add_group-in-Some.ensures.call)
-
-pub returns-in_ok-add_item-in-None-clause-extends : goal.returns-in_ok-add_item-in-None-clause-extends
-returns-in_ok-add_item-in-None-clause-extends c = λ rest at.
-    let g = c.args.site.now.g.now in
-    let t = c.args.site.now.labels.now in
-    let is = read_there (spread g c.args.rule) c.spread.result.now c.args.place c.index-spread-place.result c.spread.ensures.items c.index-spread-place.is in
-    extends_item g t c.args.rule c.args.place rest c.args.net.now _ c.in_ok-add_item-in-None.ensures.placed at c.index-spread-place.result c.requires.place is (c.partner.ensures.none.0 c.in-None.is) c.in_ok-add_item-in-None.ensures.covers
+pub returns-in_ok-add_item-in-None : goal.returns-in_ok-add_item-in-None
+returns-in_ok-add_item-in-None c = record {
+  extends = λ rest at.
+      let g = c.args.site.now.g.now in
+      let t = c.args.site.now.labels.now in
+      let is = read_there (spread g c.args.rule) c.spread.result.now c.args.place c.index-spread-place.result c.spread.ensures.items c.index-spread-place.is in
+      extends_item g t c.args.rule c.args.place rest c.args.net.now _ c.in_ok-add_item-in-None.ensures.placed at c.index-spread-place.result c.requires.place is (c.partner.ensures.none.0 c.in-None.is) (λ plain. c.in_ok-add_item-in-None.ensures.covers);
+}

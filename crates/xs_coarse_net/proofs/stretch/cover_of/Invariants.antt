@@ -2,15 +2,13 @@ use Rattle.std.proofs.Common.{◌≡◌, ◌+◌, ◌≤◌, take}
 use Rattle.xs_gram.specs.Fences.{spread}
 use Rattle.xs_stretch.specs.Groups.{groups_before, lefts}
 use Rattle.xs_stretch.specs.Parts.{part_items}
-use Rattle.xs_coarse_net.specs.Joining.{AreFragments}
 use Rattle.xs_coarse_net.specs.Stretches.{IsCovered}
-use Rattle.xs_coarse_net.proofs.stretch.cover_part.Given as goal
+use Rattle.xs_coarse_net.proofs.stretch.cover_of.Given as goal
 
 abbrev pub invariant-items : goal.invariant-items
 invariant-items l = record {
   later : l.place ≤ l.next;
   within : l.next ≤ l.part.end;
   number : l.number ≡ groups_before l.site.g.now l.part.rule + lefts l.site.g.now.fences (take l.place (spread l.site.g.now l.part.rule));
-  kept : AreFragments l.site.g.now l.site.labels.now l.kept.items;
   covered : IsCovered l.site.g.now l.site.labels.now l.net l.part.rule l.part.start (part_items l.site.g.now l.part) l.next l.places.items;
 }

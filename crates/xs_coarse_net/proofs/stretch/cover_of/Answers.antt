@@ -6,7 +6,7 @@ use Rattle.xs_coarse_net.specs.declared.cover.Outer.{Outer}
 use Rattle.xs_coarse_net.specs.declared.cover.Cover.{Cover}
 use Rattle.xs_coarse_net.specs.Stretches.{IsCovered}
 use Rattle.xs_coarse_net.proofs.Covering.{covered_none, covered_more, covered_stands, covered_done}
-use Rattle.xs_coarse_net.proofs.stretch.cover_part.Goals as goal
+use Rattle.xs_coarse_net.proofs.stretch.cover_of.Goals as goal
 
 pub items-init : goal.items-init
 items-init c =
@@ -17,8 +17,7 @@ items-init c =
       later = omega arith;
       within = c.requires.part.order;
       number = omega (arith, element_is c.args.site.now.groups.now part.rule c.at-number.result.now 0 c.at-number.ensures, c.requires.site.groups.each part.rule c.requires.part.rule);
-      kept = c.requires.kept;
-      covered = rw c.new-places.ensures.items (covered_none g t _ part.rule part.start (part_items g part) c.in_ok-net.ensures.states c.requires.part.level);
+      covered = rw c.in_ok-places.ensures.items (covered_none g t _ part.rule part.start (part_items g part) c.in_ok-net.ensures.states c.requires.part.level);
     }
 
 pub items-preserved : goal.items-preserved
@@ -38,12 +37,11 @@ items-preserved c =
       later = omega (arith, more.is.place, more.is.some);
       within = omega (arith, new.place, ap length {y = new.front ++ new.rest} new.split, length-append new.front new.rest, long);
       number = c.in_ok-number.ensures;
-      kept = c.in_ok-next.ensures.kept;
       covered = rw c.in_ok-push.ensures.items new;
     }
 
-pub returns-clause-cover : goal.returns-clause-cover
-returns-clause-cover c =
+pub returns : goal.returns
+returns c =
     let g = c.args.site.now.g.now in
     let t = c.args.site.now.labels.now in
     let o : Outer = record { place = c.args.part.end; state = c.len-last.result - 1 } in
