@@ -14,13 +14,11 @@ mod fences;
 mod leiden;
 mod limits;
 mod outlines;
-mod patterns;
 mod plain;
 mod refusals;
 mod sessions;
 mod sheets;
 mod translations;
-mod trees;
 mod upgrades;
 
 /// The name of the file that has the sheet.
@@ -32,30 +30,13 @@ const TO_XML: &[&str] = &["to-xml", SHEET];
 
 const TO_TEXT: &[&str] = &["to-text", SHEET];
 
-const PAIR: &str = "xsugar-1\nstart s\nterminal d = /[0-9]/\n\
-    s : \"(\" [d a] \",\" [d b] \")\" = <p><y>[d b]</y><x>[d a]</x></p>\n";
-
-const EMPTY: &str = "xsugar-1\nstart s\ns : = <s/>\n";
-
 const LETTERS: &str = "xsugar-1\nstart s\nterminal v = /a*/\ns : [v x] = <s>[v x]</s>\n";
 
 const IN_VALUE: &str = "xsugar-1\nstart s\nterminal v = /.*/\ns : [v x] = <s a=[v x]/>\n";
 
 const IN_CONTENT: &str = "xsugar-1\nstart s\nterminal v = /.*/\ns : [v x] = <s>[v x]</s>\n";
 
-const NESTED: &str = "xsugar-1\nstart s\ns : \"a\" = <a/>\ns : \"(\" [s x] \")\" = <s>[s x]</s>\n";
-
-const LEFT: &str =
-    "xsugar-1\nstart s\ns : [l x] = <s>[l x]</s>\nl : =\nl : [l x] \"a\" = [l x] <a/>\n";
-
-const RIGHT: &str =
-    "xsugar-1\nstart s\ns : [l x] = <s>[l x]</s>\nl : =\nl : \"a\" [l x] = <a/> [l x]\n";
-
 const TWINS: &str = "xsugar-1\nstart s\ns : [s a] [s b] = <s>[s a][s b]</s>\ns : \"a\" = <a/>\n";
-
-/// Pairs with spaces, which carry nothing, round each part.
-const SPACED: &str = "xsugar-1\nstart s\nterminal d = /[0-9]/\nignorable w = / */ \"\"\n\
-    s : \"(\" [w] [d a] [w] \",\" [w] [d b] [w] \")\" = <p><y>[d b]</y><x>[d a]</x></p>\n";
 
 /// The calls at which devices fail, numbered from 1, where 0 is no call; each call moves at most
 /// `step` bytes.

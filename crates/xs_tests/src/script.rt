@@ -3,9 +3,6 @@
 ghost use Rattle.xs_pair.specs.Sound.{IsSoundPair};
 ghost use Rattle.xs_wf.specs.Nonterminals.{IsPair};
 
-use crate::names::add_characters;
-use crate::pair::PAIR;
-use crate::sheets::two_of;
 use std::alloc::Global;
 use std::process::Abort;
 use std::test::Fail;
@@ -14,6 +11,7 @@ use xs_class::{Bytes, Memory, Sym, Word};
 use xs_pair::Two;
 use xs_script::{ScriptFault, play};
 use xs_talk::push_decimal;
+use xs_test_tools::{LEFT, PAIR, add_characters, two_of};
 
 mod slow;
 
@@ -232,7 +230,7 @@ const PAIRS: &[&[Ask<'static>]] = &[
 
 #[test]
 fn pairs_that_are_edited(rt: HostRuntime) -> Result<(), Fail> {
-    expect_slow(&rt, rt.alloc(), PAIR, 0x80, PAIRS)
+    expect_slow(&rt, rt.alloc(), PAIR.as_bytes(), 0x80, PAIRS)
 }
 
 /// Edits of a pair at a place, of that many symbols.
@@ -271,7 +269,7 @@ fn expect_places(rt: &impl Abort, alloc: Global, two: &Two) -> Result<(), Fail>
 
 #[test]
 fn a_pair_is_edited_at_each_place(rt: HostRuntime) -> Result<(), Fail> {
-    let two = two_of(rt.alloc(), PAIR)?;
+    let two = two_of(rt.alloc(), PAIR.as_bytes())?;
     expect_places(&rt, rt.alloc(), &two)
 }
 
@@ -385,10 +383,6 @@ fn lists_that_are_edited(rt: HostRuntime) -> Result<(), Fail> {
     expect_slow(&rt, rt.alloc(), LISTS, 0x400, NESTS)
 }
 
-/// Letters that follow each other in no or one element.
-const LEFT: &[u8] =
-    b"xsugar-1\nstart s\ns : [l x] = <s>[l x]</s>\nl : =\nl : [l x] \"a\" = [l x] <a/>\n";
-
 /// Scripts over left lists.
 const LETTERS: &[&[Ask<'static>]] = &[
     &[Tree, Next(0), Put(0, 0, "aaa"), Tree, Next(3), Next(4)],
@@ -413,7 +407,7 @@ const LETTERS: &[&[Ask<'static>]] = &[
 
 #[test]
 fn letters_that_are_edited(rt: HostRuntime) -> Result<(), Fail> {
-    expect_slow(&rt, rt.alloc(), LEFT, 0x80, LETTERS)
+    expect_slow(&rt, rt.alloc(), LEFT.as_bytes(), 0x80, LETTERS)
 }
 
 /// The line at which a script is refused, or 0 where it is not.
@@ -517,7 +511,7 @@ fn are_bad(rt: &impl Abort, alloc: Global, two: &Two) -> Result<(), Fail>
 
 #[test]
 fn scripts_that_are_refused_at_a_line(rt: HostRuntime) -> Result<(), Fail> {
-    let two = two_of(rt.alloc(), PAIR)?;
+    let two = two_of(rt.alloc(), PAIR.as_bytes())?;
     are_bad(&rt, rt.alloc(), &two)
 }
 
@@ -557,7 +551,7 @@ fn are_answered(rt: &impl Abort, alloc: Global, two: &Two) -> Result<(), Fail>
 
 #[test]
 fn texts_with_escapes_are_put(rt: HostRuntime) -> Result<(), Fail> {
-    let two = two_of(rt.alloc(), PAIR)?;
+    let two = two_of(rt.alloc(), PAIR.as_bytes())?;
     are_answered(&rt, rt.alloc(), &two)
 }
 
@@ -596,7 +590,7 @@ fn is_at_the_limit(alloc: Global, two: &Two) -> Result<bool, ScriptFault>
 
 #[test]
 fn a_document_has_at_most_so_many_symbols(rt: HostRuntime) -> Result<(), Fail> {
-    let two = two_of(rt.alloc(), PAIR)?;
+    let two = two_of(rt.alloc(), PAIR.as_bytes())?;
     assert!(rt; is_at_the_limit(rt.alloc(), &two) == Ok(true));
     Ok(())
 }

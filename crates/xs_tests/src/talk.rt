@@ -1,9 +1,9 @@
-use crate::names::names_of;
 use std::alloc::Global;
 use std::process::Abort;
 use xs_class::{Memory, Names, Side, Sym, Text, Word};
 use xs_pair::{Ill, IllRule};
 use xs_talk::{Outcome, Report, fault_line, line_of, room};
+use xs_test_tools::names_of;
 
 fn is_reported(
     alloc: Global,

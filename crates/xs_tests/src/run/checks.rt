@@ -2,11 +2,7 @@ ghost use Rattle.std.specs.Prelude.{IfSome};
 ghost use Rattle.xs_stretch.specs.Parts.{IsPart};
 ghost use Rattle.xs_pair.specs.Sound.{IsSoundPair};
 
-use super::{
-    CHECK, EMPTY, End, LEFT, LETTERS, NESTED, PAIR, RIGHT, SPACED, TO_TEXT, TO_XML, TWINS, done,
-    expect, refused, reported,
-};
-use crate::sheets::{push_all, two_of};
+use super::{CHECK, End, LETTERS, TO_TEXT, TO_XML, TWINS, done, expect, refused, reported};
 use std::alloc::Global;
 use std::process::Abort;
 use std::test::Fail;
@@ -15,6 +11,7 @@ use xs_gram::Gram;
 use xs_order::components;
 use xs_pair::Two;
 use xs_stretch::{LooseFault, Part, net_of, weight_of};
+use xs_test_tools::{EMPTY, LEFT, NESTED, PAIR, RIGHT, SPACED, push_all, two_of};
 
 const TWO_WORDS: &str =
     "xsugar-1\nstart s\nterminal w = /[a-z]+/\ns : [w a] [w b] = <s a=[w a]>[w b]</s>\n";

@@ -1,8 +1,9 @@
-use super::{LEFT, NESTED, SHEET, TWINS, done, expect};
+use super::{SHEET, TWINS, done, expect};
 use std::alloc::Global;
 use std::process::Abort;
 use std::test::Fail;
 use xs_class::{Bytes, Memory};
+use xs_test_tools::{LEFT, NESTED};
 
 const COVER: &[&str] = &["cover", SHEET];
 

@@ -5,8 +5,6 @@ ghost use Rattle.xs_pair.specs.Weights.{IsOfBytes};
 
 use super::leiden::{TEXT, XML, XML_OTHERWISE};
 use super::{LETTERS, TO_TEXT, done, expect, refused};
-use crate::sheets::two_of;
-use crate::turn::other_side;
 use std::alloc::Global;
 use std::process::Abort;
 use std::test::Fail;
@@ -16,6 +14,7 @@ use xs_form::{XmlFault, read_xml};
 use xs_leiden::leiden_sheet;
 use xs_pair::{Ill, IllRule, Two};
 use xs_sheet::{Sheet, SheetFault, read_sheet};
+use xs_test_tools::{other_side, two_of};
 use xs_top::SHEET_LIMIT;
 use xs_turn::{TurnFault, translate};
 use xs_wf::{WfFault, well_formed};

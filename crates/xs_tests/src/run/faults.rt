@@ -1,7 +1,8 @@
-use super::{End, Failures, NONE, PAIR, Run, TO_XML, done, expect_broken, refused};
+use super::{End, Failures, NONE, Run, TO_XML, done, expect_broken, refused};
 use std::alloc::Global;
 use std::process::Abort;
 use std::test::Fail;
+use xs_test_tools::PAIR;
 
 /// Words, an input, the calls of `input`, `out` and `notes` that fail, how many bytes a call moves,
 /// what `out` and `notes` take, and how the run breaks off.

@@ -1,11 +1,11 @@
 //! Sheets of version 2: what is said of their fences.
 use super::leiden::{TEXT, XML};
 use super::{CHECK, TO_XML, done, expect, refused};
-use crate::sheets::push_all;
 use std::alloc::Global;
 use std::test::Fail;
 use xs_class::{Bytes, Memory};
 use xs_leiden::leiden2_sheet;
+use xs_test_tools::push_all;
 
 /// A sheet, and what is said of it.
 const ROWS: &[(&str, &[u8])] = &[

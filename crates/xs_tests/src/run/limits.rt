@@ -1,10 +1,9 @@
-use super::{
-    End, LEFT, LETTERS, NESTED, NONE, RIGHT, Run, TO_TEXT, TO_XML, expect_broken, refused,
-};
+use super::{End, LETTERS, NONE, Run, TO_TEXT, TO_XML, expect_broken, refused};
 use std::alloc::Global;
 use std::process::Abort;
 use std::test::Fail;
 use xs_class::{Bytes, Memory};
+use xs_test_tools::{LEFT, NESTED, RIGHT};
 use xs_top::DOCUMENT_LIMIT;
 
 /// Bytes by their pieces, and how often each stands after the one before.

@@ -1,11 +1,11 @@
 //! Outlines, and the documents that are made of them.
 use super::leiden::TEXT;
-use super::{NESTED, NONE, PAIR, SHEET, SPACED, done, expect, ran, refused};
-use crate::examples::EXAMPLES;
+use super::{NONE, SHEET, done, expect, ran, refused};
 use std::alloc::Global;
 use std::process::Abort;
 use std::test::Fail;
 use xs_class::Bytes;
+use xs_test_tools::{EXAMPLES, NESTED, PAIR, SPACED};
 use xs_top::status;
 
 const OUTLINE_OF_TEXT: &[&str] = &["to-tree", SHEET, "text"];

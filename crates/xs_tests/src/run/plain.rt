@@ -1,11 +1,11 @@
 //! The check beside a plain search: tiny sheets are drawn, and the words of six letters at most
 //! that have two derivations are sought by counting.
 use super::{CHECK, reported};
-use crate::sheets::push_item;
 use std::alloc::Global;
 use std::process::Abort;
 use std::test::Fail;
 use xs_class::{Bytes, Memory};
+use xs_test_tools::{Draws, push_item};
 
 mod ways;
 
@@ -33,14 +33,8 @@ struct Tiny {
     others: Vec<Body>,
 }
 
-/// The next number of a sequence, below ten.
-fn drawn(seed: &mut u32) -> u32 {
-    *seed = seed.wrapping_mul(1_103_515_245).wrapping_add(12_345);
-    (*seed >> 16) % 10
-}
-
-fn drawn_item(seed: &mut u32) -> Item {
-    match drawn(seed) {
+fn drawn_item(draws: &mut Draws) -> Item {
+    match draws.below(10) {
         0 | 1 => Item::Nothing,
         2 | 3 => Item::Letter(b'a'),
         4 | 5 => Item::Letter(b'b'),
@@ -51,22 +45,22 @@ fn drawn_item(seed: &mut u32) -> Item {
     }
 }
 
-fn drawn_bodies(alloc: Global, seed: &mut u32, count: u32) -> Result<Vec<Body>, Memory> {
+fn drawn_bodies(alloc: Global, draws: &mut Draws, count: u32) -> Result<Vec<Body>, Memory> {
     let mut bodies = Vec::new(alloc);
     for _ in 0..count {
-        let body = [drawn_item(seed), drawn_item(seed), drawn_item(seed)];
+        let body = [drawn_item(draws), drawn_item(draws), drawn_item(draws)];
         bodies.push(body)?;
     }
     Ok(bodies)
 }
 
 /// Two or three productions of the start, and one or two of the other nonterminal.
-fn drawn_tiny(alloc: Global, seed: &mut u32) -> Result<Tiny, Memory> {
-    let starts = 2 + drawn(seed) % 2;
-    let others = 1 + drawn(seed) % 2;
+fn drawn_tiny(alloc: Global, draws: &mut Draws) -> Result<Tiny, Memory> {
+    let starts = 2 + draws.below(10) % 2;
+    let others = 1 + draws.below(10) % 2;
     Ok(Tiny {
-        starts: drawn_bodies(alloc, seed, starts)?,
-        others: drawn_bodies(alloc, seed, others)?,
+        starts: drawn_bodies(alloc, draws, starts)?,
+        others: drawn_bodies(alloc, draws, others)?,
     })
 }
 
@@ -142,19 +136,19 @@ fn drawn_and_compared(
     rt: &impl Abort,
     alloc: Global,
     number: u32,
-    seed: &mut u32,
+    draws: &mut Draws,
 ) -> Result<Option<bool>, Fail> {
-    let tiny = drawn_tiny(alloc, seed)?;
+    let tiny = drawn_tiny(alloc, draws)?;
     compared(rt, alloc, number, &tiny)
 }
 
 #[test]
 fn where_a_word_has_two_derivations_there_is_a_suspect(rt: HostRuntime) -> Result<(), Fail> {
-    let mut seed: u32 = 7;
+    let mut draws = Draws { state: 7 };
     let mut once: u32 = 0;
     let mut twice: u32 = 0;
     for number in 0..SHEETS {
-        match drawn_and_compared(&rt, rt.alloc(), number, &mut seed)? {
+        match drawn_and_compared(&rt, rt.alloc(), number, &mut draws)? {
             None => {}
             Some(false) => once = once.saturating_add(1),
             Some(true) => twice = twice.saturating_add(1),

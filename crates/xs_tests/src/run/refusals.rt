@@ -1,7 +1,8 @@
-use super::{LETTERS, NESTED, PAIR, SHEET, TO_TEXT, TO_XML, TWINS, expect, refused};
+use super::{LETTERS, SHEET, TO_TEXT, TO_XML, TWINS, expect, refused};
 use std::alloc::Global;
 use std::process::Abort;
 use std::test::Fail;
+use xs_test_tools::{NESTED, PAIR};
 
 /// Runs that are refused: the words, the sheet, the input, the status, and what `notes` takes.
 type Row<'t> = (&'t [&'t str], &'t str, &'t [u8], u8, &'t [u8]);

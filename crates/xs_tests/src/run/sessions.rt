@@ -1,12 +1,12 @@
 //! Edit scripts that are played by a run.
 use super::{
-    EMPTY, Failures, LETTERS, NONE, PAIR, Run, SHEET, done, end_of, expect, expect_broken, ran,
-    refused,
+    Failures, LETTERS, NONE, Run, SHEET, done, end_of, expect, expect_broken, ran, refused,
 };
 use std::alloc::Global;
 use std::process::Abort;
 use std::test::Fail;
 use xs_class::{Bytes, Memory};
+use xs_test_tools::{EMPTY, PAIR};
 
 const SESSION: &[&str] = &["session", SHEET];
 

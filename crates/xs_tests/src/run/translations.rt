@@ -1,10 +1,11 @@
 use super::{
-    EMPTY, End, IN_CONTENT, IN_VALUE, LEFT, LETTERS, NESTED, NONE, PAIR, RIGHT, SHEET, SPACED,
-    TO_TEXT, TO_XML, TWINS, done, end_of, expect, ran,
+    End, IN_CONTENT, IN_VALUE, LETTERS, NONE, SHEET, TO_TEXT, TO_XML, TWINS, done, end_of, expect,
+    ran,
 };
 use std::alloc::Global;
 use std::process::Abort;
 use std::test::Fail;
+use xs_test_tools::{EMPTY, LEFT, NESTED, PAIR, RIGHT, SPACED};
 
 /// A sheet, a text and the XML document with the same tree.
 type Row<'t> = (&'t str, &'t [u8], &'t [u8]);

@@ -1,13 +1,13 @@
 //! Sheets and their upgrades to version 2.
 use super::fences::{FENCED, FENCES};
-use super::{CHECK, EMPTY, NONE, PAIR, SHEET, TO_XML, done, end_of, expect, ran, refused};
-use crate::examples::EXAMPLES;
-use crate::sheets::{laid_out, push_all};
+use super::{CHECK, NONE, SHEET, TO_XML, done, end_of, expect, ran, refused};
 use std::alloc::Global;
 use std::process::Abort;
 use std::test::Fail;
 use xs_class::{Bytes, Memory};
 use xs_leiden::{leiden_sheet, leiden2_sheet};
+use xs_sheet::{read_sheet, write_sheet};
+use xs_test_tools::{EMPTY, EXAMPLES, PAIR, push_all};
 
 const UPGRADE: &[&str] = &["upgrade", SHEET];
 
@@ -81,6 +81,17 @@ fn brackets_that_can_be_fences_become_fences(rt: HostRuntime) -> Result<(), Fail
 }
 
 const HEAD: &str = "xsugar-1\n";
+
+/// The sheet of the bytes in the one layout.
+fn laid_out(alloc: Global, bytes: &[u8]) -> Result<Bytes, Memory> {
+    if bytes.len() > 65536 {
+        return Err(Memory);
+    }
+    match read_sheet(alloc, bytes) {
+        Ok(sheet) => write_sheet(alloc, &sheet),
+        Err(_) => Err(Memory),
+    }
+}
 
 /// A sheet of version 1 as one of version 2, in the one layout, with these fences at its end.
 fn with_fences(alloc: Global, sheet: &[u8], fences: &str) -> Result<Bytes, Memory> {

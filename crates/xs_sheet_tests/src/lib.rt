@@ -1,0 +1,38 @@
+//! Tests of the crates that read a stylesheet and check it, one module for each: classes and regular
+//! expressions, lexing and grammars, the rules of a sheet, components, automata and suspects. That of
+//! `xs_vert` and `xs_horiz` is `suspects`, and `xs_meet` has `auto` for nets alone and `nests` for
+//! nets that call groups.
+//!
+//! They stand apart from the crates that they try, so that each of those is proved once: a crate
+//! with tests is proved a second time with them; and apart from the tests of the whole run, which
+//! each change of `xs_top` proves again.
+#![tactic(auto)]
+
+#[cfg(test)]
+mod auto;
+#[cfg(test)]
+mod class;
+#[cfg(test)]
+mod clauses;
+#[cfg(test)]
+mod gram;
+#[cfg(test)]
+mod graph;
+#[cfg(test)]
+mod lex;
+#[cfg(test)]
+mod nests;
+#[cfg(test)]
+mod order;
+#[cfg(test)]
+mod pair;
+#[cfg(test)]
+mod regex;
+#[cfg(test)]
+mod sheet;
+#[cfg(test)]
+mod stretch;
+#[cfg(test)]
+mod suspects;
+#[cfg(test)]
+mod wf;

@@ -1,0 +1,18 @@
+//! What several crates of tests need: the grammars of a sheet that is given as bytes, the items of a
+//! sheet by letters, small sheets and those of examples/, names and words of texts, and numbers that
+//! are drawn.
+#![tactic(auto)]
+
+mod draws;
+mod examples;
+mod items;
+mod names;
+mod sheets;
+mod small;
+
+pub use draws::Draws;
+pub use examples::EXAMPLES;
+pub use items::{push_all, push_item, push_items};
+pub use names::{add_characters, names_of, word_of};
+pub use sheets::{other_side, pair_of, two_of};
+pub use small::{EMPTY, LEFT, NESTED, PAIR, RIGHT, SPACED};
