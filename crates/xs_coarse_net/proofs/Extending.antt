@@ -3,9 +3,7 @@ use Rattle.std.proofs.Common.{◌≡◌, ◌⊎◌, inl, inr, ℕ, zero, suc, �
 use Rattle.std.specs.declared.option.Option.{Option}
 use Rattle.std.proofs.lemmas.Option.{same_Some}
 use Rattle.std.specs.List.{All}
-use Rattle.xs_auto.specs.Nets.{Graph}
 use Rattle.xs_gram.specs.declared.parts.GItem.{GItem}
-use Rattle.xs_gram.specs.declared.parts.GItem.TheVariants.{Fixed, Term, Non, Skip}
 use Rattle.xs_gram.specs.Grammar.{Grammar}
 use Rattle.xs_gram.specs.Fences.{spread, IsPlain, grouped, IsPartner, IsLeftFence}
 use Rattle.xs_gram.specs.Sound.{IsProper}
@@ -14,7 +12,7 @@ use Rattle.xs_stretch.specs.Steps.{StandsAt}
 use Rattle.xs_stretch.proofs.Opening.{group_first, item_first}
 use Rattle.xs_stretch.proofs.Stepping.{group_piece, item_piece}
 use Rattle.xs_coarse.specs.Coarse.{Table, Net, IsWithin, HasArc, group_label, joined}
-use Rattle.xs_coarse.specs.Covers.{CoversLeaf, CoversItem, IsLeaf, covers_none, covers_then, covers_group}
+use Rattle.xs_coarse.specs.Covers.{CoversItem, covers_none, covers_then, covers_group}
 use Rattle.xs_coarse.proofs.Views.{view_call}
 use Rattle.xs_coarse_net.specs.Joining.{Joins, IsFragment, AreFragments}
 use Rattle.xs_coarse_net.specs.Placing.{Placed}
@@ -39,19 +37,6 @@ joins_arc m n o l j two arc = at_joined o j.is j.within
         let from : last_state m + 0 ≡ last_state m = omega arith in
         let to : last_state m + 1 ≡ last_state (joined m n) = omega (arith, j.some, two) in
         subst (λ (z : Net). HasArc z (last_state m) l (last_state z)) (sym is) (subst (λ (a : ℕ). HasArc (joined m n) a l (last_state (joined m n))) from (subst (λ (b : ℕ). HasArc (joined m n) (last_state m + 0) l b) to there))
-
--- what is no nonterminal
-pub other_leaf : (i : GItem) → ((m s : ℕ) → i ≡ Non m s → ⊥) → IsLeaf i
-other_leaf (Fixed f) h = tt
-other_leaf (Term j s) h = tt
-other_leaf (Non m s) h = absurd (h m s refl)
-other_leaf (Skip k) h = tt
-
-pub leaf_item : (g : Grammar) (n : Graph) (i : GItem) (a b : ℕ) → IsLeaf i → CoversLeaf g n i a b → CoversItem g n i a b
-leaf_item g n (Fixed f) a b leaf h = h
-leaf_item g n (Term j s) a b leaf h = h
-leaf_item g n (Non m s) a b leaf h = absurd leaf
-leaf_item g n (Skip k) a b leaf h = h
 
 module _ (g : Grammar) (t : Table) (p k : ℕ) (rest : List GItem) (old new : Net) (placed : Placed old new (λ x. x)) (at : StandsAt g p k rest) where
   pub extends_group : (m : ℕ) → IsProper g → IsPartner g.fences (spread g p) k m → HasArc new (last_state old) (group_label t (group_number g p k)) (last_state new) → Extends g t p k rest (m + 1) old new

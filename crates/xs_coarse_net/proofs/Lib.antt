@@ -5,9 +5,9 @@ pub mod Keeping
 pub mod Labelling
 pub mod Laying
 pub mod Leaving
+pub mod Leftover
 pub mod Extending
 pub mod Places
-pub mod Reaching
 pub mod Rows
 pub mod Tracing
 pub mod Viewing

@@ -8,10 +8,10 @@ use Rattle.xs_class.specs.Classes.{Has}
 use Rattle.xs_regex.specs.declared.position.Position.{Position}
 use Rattle.xs_regex.specs.Automaton.{HasAt, Leads}
 
-none_in : {A : Type 0} (x : A) → Contains [] x → ⊥
+pub none_in : {A : Type 0} (x : A) → Contains [] x → ⊥
 none_in x (n, lt, e) = absurd (omega arith)
 
-one_in : {A : Type 0} (x y : A) → Contains (x ∷ []) y → y ≡ x
+pub one_in : {A : Type 0} (x y : A) → Contains (x ∷ []) y → y ≡ x
 one_in x y (zero, lt, e) = sym e
 one_in x y (suc n, lt, e) = absurd (omega arith)
 

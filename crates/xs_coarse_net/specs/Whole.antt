@@ -11,6 +11,7 @@ use Rattle.xs_coarse.specs.Coarse.{Table, Net, IsWithin, HasArc, group_label}
 use Rattle.xs_coarse_net.specs.declared.whole.Whole.{Whole}
 use Rattle.xs_coarse.specs.Covers.{IsLeaf}
 use Rattle.xs_coarse_net.specs.Going.{LeafGoes}
+use Rattle.xs_coarse_net.specs.Reaching.{AreUses}
 
 -- the states of a nonterminal's entry and exit
 abbrev pub entry_state : ℕ → ℕ
@@ -73,3 +74,4 @@ RulesLaid g t n p = (q : ℕ) → q < p → RuleLaid g t n q
 pub record IsWhole (g : Grammar) (t : Table) (w : Whole) : Type 0 where
   pub within : All (IsWithin w.net.states) w.net.arcs
   pub laid : RulesLaid g t w.net (length g.rules)
+  pub uses : AreUses w.net w.uses

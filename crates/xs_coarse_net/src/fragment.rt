@@ -4,9 +4,12 @@ ghost use Rattle.xs_coarse.specs.declared.arc.Arc.{Arc as AnyArc};
 ghost use Rattle.xs_coarse.specs.Coarse.{Table, HasArc};
 ghost use Rattle.xs_coarse.specs.Covers.{Follows};
 ghost use Rattle.xs_coarse_net.specs.Stretches.{open_view, last_state};
+ghost use Rattle.xs_coarse_net.specs.Reaching.{left_arc, left_net};
 ghost use Rattle.xs_coarse_net.specs.Fragments.{AreNamed, Reaches, IsCopied, AreCopied};
 
 use crate::draft::{MOST, net_of};
+use crate::reach::has_at;
+use crate::rule::RETURNS;
 use crate::stop::Stop;
 use std::alloc::Global;
 use xs_class::Memory;
@@ -21,16 +24,23 @@ pub(crate) struct Tracer {
     arcs: Vec<Arc>,
 }
 
-/// The part of a net that is reached from a state, as a net from state 0, which nothing enters, to its
-/// last state, which nothing leaves. In time linear in the states of the net and the arcs copied.
-pub(crate) fn fragment(alloc: Global, whole: &Coarse, start: u32, end: u32) -> Result<Coarse, Stop>
+/// The part of what is left of a net for a set of nonterminals that is reached from a state, as a net from
+/// state 0, which nothing enters, to its last state, which nothing leaves. In time linear in the states of
+/// the net and the arcs of the states reached.
+pub(crate) fn fragment(
+    alloc: Global,
+    whole: &Coarse,
+    has: &[bool],
+    start: u32,
+    end: u32,
+) -> Result<Coarse, Stop>
     requires start { start < whole.now.states }
     requires end { end < whole.now.states }
-    ensures { IfOk result (λ n. (t : Table) → Follows (open_view t whole.now) start end (open_view t n) 0 (last_state n)) }
+    ensures { IfOk result (λ n. (t : Table) → Follows (open_view t (left_net has.now whole.now)) start end (open_view t n) 0 (last_state n)) }
 {
     let mut tracer = Tracer::new(alloc, whole.len())?;
     let first = tracer.name(start)?;
-    let done = tracer.copy_rows(whole)?;
+    let done = tracer.copy_rows(whole, has)?;
     if done < tracer.order.len() {
         return Err(Stop::Wide);
     }
@@ -86,13 +96,32 @@ impl Tracer {
         Ok(())
     }
 
-    /// Copies the arcs of a state that was reached.
-    fn copy_row(&mut self, whole: &Coarse, place: u32) -> Result<(), Stop>
+    /// Copies what is left of an arc, which leads from the state with that number.
+    fn copy_left(&mut self, from: u32, x: Arc, has: &[bool]) -> Result<(), Stop>
+        requires { x.to < length self.old.names.items }
+        ensures reaches { OnOk result (Reaches self.old self.new) }
+        ensures copied { OnOk result ((y : AnyArc) → Contains (left_arc has.now x) y → IsCopied self.new from y) }
+    {
+        if x.label < RETURNS {
+            self.copy_arc(from, x)?;
+        } else if has_at(has, x.label - RETURNS) {
+            let back = Arc {
+                from: x.from,
+                label: 0,
+                to: x.to,
+            };
+            self.copy_arc(from, back)?;
+        }
+        Ok(())
+    }
+
+    /// Copies what is left of the arcs of a state that was reached.
+    fn copy_row(&mut self, whole: &Coarse, has: &[bool], place: u32) -> Result<(), Stop>
         requires named { AreNamed self.old.names.items self.old.order.items }
         requires place { place < length self.old.order.items }
         requires long { length self.old.names.items ≡ whole.now.states }
         ensures reaches { OnOk result (Reaches self.old self.new) }
-        ensures copied { OnOk result ((x label y : ℕ) → slice_get self.old.order.items place ≡ Some x → HasArc whole.now x label y → IsCopied self.new (place + 1) (record { from = x; label = label; to = y })) }
+        ensures copied { OnOk result ((x label y : ℕ) → slice_get self.old.order.items place ≡ Some x → HasArc (left_net has.now whole.now) x label y → IsCopied self.new (place + 1) (record { from = x; label = label; to = y })) }
     {
         let state = self.order[place as usize];
         if state >= whole.len() || place >= MOST {
@@ -100,24 +129,24 @@ impl Tracer {
         }
         let row = whole.row(state);
         'arcs: for x in row {
-            self.copy_arc(place + 1, *x)?;
+            self.copy_left(place + 1, *x, has)?;
         }
         Ok(())
     }
 
-    /// Copies the arcs of all states that are reached, and gives how many states they were.
-    fn copy_rows(&mut self, whole: &Coarse) -> Result<usize, Stop>
+    /// Copies what is left of the arcs of all states that are reached, and gives how many states they were.
+    fn copy_rows(&mut self, whole: &Coarse, has: &[bool]) -> Result<usize, Stop>
         requires named { AreNamed self.old.names.items self.old.order.items }
         requires long { length self.old.names.items ≡ whole.now.states }
         ensures reaches { OnOk result (Reaches self.old self.new) }
-        ensures copied { IfOk result (AreCopied whole.now self.new) }
+        ensures copied { IfOk result (AreCopied (left_net has.now whole.now) self.new) }
     {
         let mut done = 0;
         'states: for place in 0..whole.len() {
             if place as usize >= self.order.len() {
                 break;
             }
-            self.copy_row(whole, place)?;
+            self.copy_row(whole, has, place)?;
             done = place as usize + 1;
         }
         Ok(done)

@@ -2,13 +2,12 @@ ghost use Rattle.std.specs.Prelude.{◌≡◌, ℕ, false, get_or, IsTrue, IfOk,
 ghost use Rattle.std.specs.List.{Contains};
 ghost use Rattle.xs_coarse.specs.declared.arc.Arc.{Arc as AnyArc};
 ghost use Rattle.xs_coarse_net.specs.Joining.{IsFragment};
-ghost use Rattle.xs_coarse_net.specs.Reaching.{IsIn, StaysIn, IsClosedIn, IsKept, IsRestricted};
+ghost use Rattle.xs_coarse_net.specs.Reaching.{IsIn, IsClosedIn, AreUses, HasUse, HasUses};
 ghost use Rattle.xs_coarse_net.specs.Sites.{IsSite};
 ghost use Rattle.xs_coarse_net.specs.Whole.{IsWhole};
 
-use crate::draft::net_of;
 use crate::fragment::fragment;
-use crate::rule::{RETURNS, states_of};
+use crate::rule::states_of;
 use crate::site::Site;
 use crate::stop::Stop;
 use crate::whole::Whole;
@@ -25,21 +24,21 @@ pub(crate) fn block(alloc: Global, site: &Site<'_>, whole: &Whole, non: u32) -> 
 {
     let (entry, exit) = states_of(non)?;
     let has = reached(alloc, whole, non)?;
-    let net = restricted(alloc, &whole.net, &has)?;
-    if exit >= net.len() {
+    if exit >= whole.net.len() {
         return Err(Stop::Wide);
     }
-    let made = fragment(alloc, &net, entry, exit)?;
+    let made = fragment(alloc, &whole.net, &has, entry, exit)?;
     Ok(made)
 }
 
 /// The nonterminals that one reaches: a guess, which is checked.
 fn reached(alloc: Global, whole: &Whole, non: u32) -> Result<Vec<bool>, Stop>
+    requires { AreUses whole.now.net whole.now.uses }
     ensures own { IfOk result (λ has. IsIn has.items non) }
     ensures closed { IfOk result (λ has. IsClosedIn whole.now.net has.items) }
 {
     let has = guess(alloc, &whole.uses, non)?;
-    if !has_at(&has, non) || !is_closed(whole.net.arcs(), &has) {
+    if !has_at(&has, non) || !is_closed(&whole.uses, &has) {
         return Err(Stop::Wide);
     }
     Ok(has)
@@ -81,7 +80,7 @@ fn find_all(has: &mut Vec<bool>, order: &mut Vec<u32>, row: &[Arc]) -> Result<()
 }
 
 /// Whether a nonterminal is of the set.
-fn has_at(has: &[bool], non: u32) -> bool
+pub(crate) fn has_at(has: &[bool], non: u32) -> bool
     ensures { result ≡ get_or has.now non false }
 {
     match has.get(non as usize) {
@@ -90,12 +89,12 @@ fn has_at(has: &[bool], non: u32) -> bool
     }
 }
 
-/// Whether the set has what a rule of one of it uses.
-fn is_closed(arcs: &[Arc], has: &[bool]) -> bool
-    ensures { IsTrue result → (x : AnyArc) → Contains arcs.now x → StaysIn has.now x }
+/// Whether the set has what the rules of each of it use.
+fn is_closed(uses: &Coarse, has: &[bool]) -> bool
+    ensures { IsTrue result → HasUses uses.now has.now }
 {
-    'arcs: for x in arcs {
-        if stays(has, *x) {
+    'nons: for non in 0..uses.len() {
+        if has_row(uses.row(non), has) {
             continue;
         }
         return false;
@@ -103,46 +102,14 @@ fn is_closed(arcs: &[Arc], has: &[bool]) -> bool
     true
 }
 
-/// Whether an arc shows nothing that a rule of one of the set uses and that is not of it.
-fn stays(has: &[bool], x: Arc) -> bool
-    ensures { IsTrue result → StaysIn has.now x }
+/// Whether the set has what a nonterminal's rules use, if that nonterminal is of it.
+fn has_row(row: &[Arc], has: &[bool]) -> bool
+    ensures { IsTrue result → (x : AnyArc) → Contains row.now x → HasUse has.now x }
 {
-    x.label < RETURNS || !has_at(has, x.label - RETURNS) || has_at(has, x.from / 2)
-}
-
-/// The net without the arcs that lead back into rules of nonterminals that are not of the set.
-fn restricted(alloc: Global, net: &Coarse, has: &[bool]) -> Result<Coarse, Stop>
-    ensures { IfOk result (IsRestricted has.now net.now) }
-{
-    let arcs = kept_arcs(alloc, net.arcs(), has)?;
-    let made = net_of(alloc, net.len(), arcs)?;
-    Ok(made)
-}
-
-/// The arcs that are kept.
-fn kept_arcs(alloc: Global, all: &[Arc], has: &[bool]) -> Result<Vec<Arc>, Memory>
-    ensures { IfOk result (λ arcs. (x : AnyArc) → Contains all.now x → IsKept has.now arcs.items x) }
-{
-    let mut arcs = Vec::with_capacity(alloc, all.len())?;
-    'arcs: for x in all {
-        keep_arc(&mut arcs, *x, has)?;
+    'arcs: for x in row {
+        if has_at(has, x.from) && !has_at(has, x.to) {
+            return false;
+        }
     }
-    Ok(arcs)
-}
-
-/// Keeps an arc, if it is to be kept.
-fn keep_arc(arcs: &mut Vec<Arc>, x: Arc, has: &[bool]) -> Result<(), Memory>
-    ensures others { OnOk result ((y : AnyArc) → Contains arcs.old.items y → Contains arcs.new.items y) }
-    ensures here { OnOk result (IsKept has.now arcs.new.items x) }
-{
-    if x.label < RETURNS {
-        arcs.push(x)?;
-    } else if has_at(has, x.label - RETURNS) {
-        arcs.push(Arc {
-            from: x.from,
-            label: 0,
-            to: x.to,
-        })?;
-    }
-    Ok(())
+    true
 }

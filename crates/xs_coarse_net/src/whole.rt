@@ -1,5 +1,8 @@
-ghost use Rattle.std.specs.Prelude.{◌≡◌, ◌+◌, ◌*◌, ◌<◌, length, IfOk};
+ghost use Rattle.std.specs.Prelude.{◌≡◌, ◌+◌, ◌*◌, ◌<◌, length, IfOk, OnOk};
+ghost use Rattle.std.specs.List.{Contains};
 ghost use Rattle.xs_gram.specs.Fences.{spread};
+ghost use Rattle.xs_coarse.specs.declared.arc.Arc.{Arc as AnyArc};
+ghost use Rattle.xs_coarse_net.specs.Reaching.{AreUses, IsUsed};
 ghost use Rattle.xs_coarse_net.specs.Sites.{IsSite};
 ghost use Rattle.xs_coarse_net.specs.Whole.{rule_base, IsWhole};
 
@@ -9,6 +12,7 @@ use crate::rule::{RETURNS, lay_rule};
 use crate::site::Site;
 use crate::stop::Stop;
 use std::alloc::Global;
+use xs_class::Memory;
 use xs_coarse::{Arc, Coarse};
 
 /// The net that covers all rules of a grammar, whose arcs back from the exit of a nonterminal tell into
@@ -42,19 +46,30 @@ pub(crate) fn whole_net(alloc: Global, site: &Site<'_>) -> Result<Whole, Stop>
 }
 
 /// Which nonterminals the rules of each use, by the arcs back into them.
-fn uses_of(alloc: Global, nons: u32, net: &Coarse) -> Result<Coarse, Stop> {
+fn uses_of(alloc: Global, nons: u32, net: &Coarse) -> Result<Coarse, Stop>
+    ensures { IfOk result (AreUses net.now) }
+{
     let mut arcs = Vec::new(alloc);
     'arcs: for x in net.arcs() {
-        if x.label >= RETURNS {
-            arcs.push(Arc {
-                from: x.label - RETURNS,
-                label: 0,
-                to: x.from / 2,
-            })?;
-        }
+        push_use(&mut arcs, *x)?;
     }
     let uses = net_of(alloc, nons, arcs)?;
     Ok(uses)
+}
+
+/// Adds what an arc shows of which nonterminal a rule uses, if it leads back into a rule.
+fn push_use(arcs: &mut Vec<Arc>, x: Arc) -> Result<(), Memory>
+    ensures others { OnOk result ((y : AnyArc) → Contains arcs.old.items y → Contains arcs.new.items y) }
+    ensures here { OnOk result (IsUsed arcs.new.items x) }
+{
+    if x.label >= RETURNS {
+        arcs.push(Arc {
+            from: x.label - RETURNS,
+            label: 0,
+            to: x.from / 2,
+        })?;
+    }
+    Ok(())
 }
 
 /// Where the places of the next rule begin.

@@ -1,8 +1,9 @@
 use Rattle.std.proofs.Common.{ℕ, Bool, List, false, get_or, sym, subst}
 use Rattle.xs_coarse.specs.Covers.{Follows}
-use Rattle.xs_coarse_net.specs.Reaching.{IsIn, IsClosedIn}
+use Rattle.xs_coarse_net.specs.Reaching.{IsIn, IsClosedIn, left_net}
 use Rattle.xs_coarse_net.specs.Stretches.{open_view, last_state}
 use Rattle.xs_coarse_net.specs.Whole.{exit_state, spot_state}
+use Rattle.xs_coarse_net.proofs.Leftover.{left_restricted, left_within}
 use Rattle.xs_coarse_net.proofs.Wholes.{covers_from}
 use Rattle.xs_coarse_net.proofs.reach.block.Goals as goal
 
@@ -10,7 +11,7 @@ pub returns : goal.returns
 returns c =
     let t = c.args.site.now.labels.now in
     let has = c.deref.result.now in
-    let net = c.in_ok-net.net in
+    let net = left_net has c.args.whole.now.net in
     let made = c.in_ok-made.made in
     let from = open_view t net in
     let to = open_view t made in
@@ -22,6 +23,6 @@ returns c =
       block = from;
       state = spot_state c.args.site.now.g.now;
       has = λ m. get_or has m false;
-      covers = covers_from c.requires.site.labels c.requires.whole.laid c.in_ok-net.ensures c.len.ensures.within c.args.non own closed;
+      covers = covers_from c.requires.site.labels c.requires.whole.laid (left_restricted has c.args.whole.now.net) (left_within has c.args.whole.now.net c.requires.whole.within) c.args.non own closed;
       follows = subst (λ (a : ℕ). Follows from a (exit_state c.args.non) to 0 (last_state made)) c.in_ok-entry.ensures.entry (subst (λ (b : ℕ). Follows from c.in_ok-entry.entry b to 0 (last_state made)) c.in_ok-entry.ensures.exit follows);
     }

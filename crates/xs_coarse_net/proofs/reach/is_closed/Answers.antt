@@ -1,13 +1,10 @@
-use Rattle.xs_coarse.specs.declared.arc.Arc.{Arc}
-use Rattle.xs_coarse_net.specs.Reaching.{StaysIn}
-use Rattle.xs_coarse_net.proofs.Rows.{take_none, take_each, take_whole}
+use Rattle.std.proofs.Common.{inl, inr, arith}
+use Rattle.std.proofs.lemmas.Bool.{cases_eq}
+use Rattle.xs_coarse_net.proofs.Leftover.{row_there}
 use Rattle.xs_coarse_net.proofs.reach.is_closed.Goals as goal
 
-pub arcs-init : goal.arcs-init
-arcs-init c = take_none (λ (x : Arc). StaysIn c.args.has.now x) c.args.arcs.now
-
-pub arcs-preserved : goal.arcs-preserved
-arcs-preserved c = take_each (λ (x : Arc). StaysIn c.args.has.now x) c.args.arcs.now c.arcs.x-index _ c.arcs-test.true c.arcs.invariant (c.stays.ensures c.if-stays.true)
-
-pub returns : goal.returns
-returns c = λ yes x h. c.arcs.invariant x (take_whole c.args.arcs.now c.arcs.x-index x c.arcs-test.false h)
+pub nons-preserved : goal.nons-preserved
+nons-preserved c = λ x h low. elim (cases_eq x.from c.nons.non) [
+  | inl e ↦ c.has_row.ensures c.if-has_row.true x (row_there c.args.uses.now c.nons.non c.row.result.now c.row.ensures.complete x e h)
+  | inr ne ↦ c.nons.invariant x h (omega (arith, low, ne))
+]

@@ -1,8 +1,8 @@
-use Rattle.std.proofs.Common.{take}
+use Rattle.std.proofs.Common.{◌<◌}
 use Rattle.std.specs.List.{Contains}
 use Rattle.xs_coarse.specs.declared.arc.Arc.{Arc}
-use Rattle.xs_coarse_net.specs.Reaching.{StaysIn}
+use Rattle.xs_coarse_net.specs.Reaching.{HasUse}
 use Rattle.xs_coarse_net.proofs.reach.is_closed.Given as goal
 
-abbrev pub invariant-arcs : goal.invariant-arcs
-invariant-arcs l = (x : Arc) → Contains (take l.x-index l.arcs) x → StaysIn l.has x
+abbrev pub invariant-nons : goal.invariant-nons
+invariant-nons l = (x : Arc) → Contains l.uses.arcs x → x.from < l.non → HasUse l.has x

@@ -14,5 +14,6 @@ rules-preserved c = record {
 pub returns : goal.returns
 returns c = record {
   within = c.len-states.ensures.within;
+  uses = c.in_ok-uses.ensures;
   laid = λ q low. rule_grown c.in_ok-net.ensures (c.rules.invariant.laid q (omega (arith, low, c.rules-test.false, c.rules.auto.rule-end, c.rules-rule-end.ensures)));
 }

@@ -1,8 +1,0 @@
-use Rattle.std.proofs.Common.{take}
-use Rattle.std.specs.List.{Contains}
-use Rattle.xs_coarse.specs.declared.arc.Arc.{Arc}
-use Rattle.xs_coarse_net.specs.Reaching.{IsKept}
-use Rattle.xs_coarse_net.proofs.reach.kept_arcs.Given as goal
-
-abbrev pub invariant-arcs : goal.invariant-arcs
-invariant-arcs l = (x : Arc) → Contains (take l.x-index l.all) x → IsKept l.has l.arcs.items x
