@@ -1,7 +1,7 @@
 -- The laws of tables and of least sets.
-use Rattle.std.specs.Prelude.{◌≡◌, ℕ, ◌<◌, true, List}
+use Rattle.std.specs.Prelude.{◌≡◌, ℕ, Bool, true, List}
 use Rattle.xs_auto.specs.Nets.{Graph, final_at}
-use Rattle.xs_auto.specs.Nests.{Group, AreShared, IsFenced, IsTame}
+use Rattle.xs_auto.specs.Nests.{Group, AreShared}
 use Rattle.xs_meet.specs.Closed.{Marked, IsApart, IsClear}
 use Rattle.xs_meet.specs.Shared.{IsSharedOver, AreOverlapOver}
 use Rattle.xs_closed.specs.Rows.{Grid, Row, IsSized, IsSet, marked, rows_of, holds}
@@ -22,9 +22,9 @@ IsWithin Y Z = (a b : ℕ) → Y a b → Z a b
 -- what is reached is right where it has no pair of two final states, and within all that is right
 abbrev pub LeastIsApart : Type 0
 LeastIsApart =
-    (R : ℕ → ℕ → Type 0) (m n : Graph)
-    → (((a b : ℕ) → Meeting R m n a b → final_at m a ≡ true → final_at n b ≡ true → ⊥) → IsApart R m n (Meeting R m n))
-    × ((Z : ℕ → ℕ → Type 0) → IsApart R m n Z → IsWithin (Meeting R m n) Z)
+    (related : ℕ → ℕ → Bool) (m n : Graph)
+    → (((a b : ℕ) → Meeting (Marked related) m n a b → final_at m a ≡ true → final_at n b ≡ true → ⊥) → IsApart (Marked related) m n (Meeting (Marked related) m n))
+    × ((z : ℕ → ℕ → Bool) → IsApart (Marked related) m n (Marked z) → IsWithin (Meeting (Marked related) m n) (Marked z))
 
 -- four sets within four others
 pub record AreWithin (R : ℕ → ℕ → Type 0) (front rest : Graph) (Z1 Z0 Z2 Z3 : ℕ → ℕ → Type 0) : Type 0 where
@@ -33,23 +33,24 @@ pub record AreWithin (R : ℕ → ℕ → Type 0) (front rest : Graph) (Z1 Z0 Z2
   pub middles : IsWithin (Middles R front rest) Z2
   pub rests : IsWithin (Rests R front rest) Z3
 
+-- the same of the four sets of a cut
 abbrev pub LeastIsClear : Type 0
 LeastIsClear =
-    (R : ℕ → ℕ → Type 0) (front rest : Graph)
-    → (((a b : ℕ) → Rests R front rest a b → final_at rest a ≡ true → final_at rest b ≡ true → ⊥) → IsClear R front rest (Fronts R front) (Pauses R front rest) (Middles R front rest) (Rests R front rest))
-    × ((Z1 Z0 Z2 Z3 : ℕ → ℕ → Type 0) → IsClear R front rest Z1 Z0 Z2 Z3 → AreWithin R front rest Z1 Z0 Z2 Z3)
+    (related : ℕ → ℕ → Bool) (front rest : Graph)
+    → (((a b : ℕ) → Rests (Marked related) front rest a b → final_at rest a ≡ true → final_at rest b ≡ true → ⊥) → IsClear (Marked related) front rest (Fronts (Marked related) front) (Pauses (Marked related) front rest) (Middles (Marked related) front rest) (Rests (Marked related) front rest))
+    × ((z1 z0 z2 z3 : ℕ → ℕ → Bool) → IsClear (Marked related) front rest (Marked z1) (Marked z0) (Marked z2) (Marked z3) → AreWithin (Marked related) front rest (Marked z1) (Marked z0) (Marked z2) (Marked z3))
 
--- where R relates only groups that share a word, two final states that are reached show a word that
+-- where only groups that share a word are related, two final states that are reached show a word that
 -- both nets accept
 abbrev pub ReachedIsShared : Type 0
 ReachedIsShared =
-    (nest : List Group) (R : ℕ → ℕ → Type 0) → ((h k : ℕ) → R h k → AreShared nest h k)
-    → (m n : Graph) (a b : ℕ) → Meeting R m n a b → final_at m a ≡ true → final_at n b ≡ true
+    (nest : List Group) (related : ℕ → ℕ → Bool) → ((h k : ℕ) → Marked related h k → AreShared nest h k)
+    → (m n : Graph) (a b : ℕ) → Meeting (Marked related) m n a b → final_at m a ≡ true → final_at n b ≡ true
     → (w : List ℕ) × IsSharedOver nest m n w
 
 -- and of a cut, words that overlap
 abbrev pub ReachedIsOverlap : Type 0
 ReachedIsOverlap =
-    (nest : List Group) (R : ℕ → ℕ → Type 0) → ((h k : ℕ) → R h k → AreShared nest h k)
-    → (front rest : Graph) (a b : ℕ) → Rests R front rest a b → final_at rest a ≡ true → final_at rest b ≡ true
+    (nest : List Group) (related : ℕ → ℕ → Bool) → ((h k : ℕ) → Marked related h k → AreShared nest h k)
+    → (front rest : Graph) (a b : ℕ) → Rests (Marked related) front rest a b → final_at rest a ≡ true → final_at rest b ≡ true
     → (x : List ℕ) × (u : List ℕ) × (y : List ℕ) × AreOverlapOver nest front rest x u y

@@ -1,8 +1,8 @@
 -- How many leading rows of a set are right, at most.
-use Rattle.std.specs.Prelude.{◌≡◌, ℕ, ◌≤◌, List, length, take, Option, None, Some}
+use Rattle.std.specs.Prelude.{ℕ, ◌≤◌, take, Option, None, Some}
 use Rattle.xs_auto.specs.Nets.{Graph, states}
 use Rattle.xs_meet.specs.Closed.{Marked, IsApart, IsClear}
-use Rattle.xs_closed.specs.Rows.{Grid, Row, IsSized, rows_of, holds}
+use Rattle.xs_closed.specs.Rows.{Grid, IsSized, rows_of, holds}
 use Rattle.xs_closed.specs.declared.sets.CutSets.{CutSets}
 
 -- the pairs of the first rows of the table

@@ -9,8 +9,10 @@
 //! its partners.
 #![tactic(auto)]
 
+mod least_laws;
 mod pair_set;
 mod sets;
 
+pub use least_laws::{least_sets_are_right, reached_shows};
 pub use pair_set::PairSet;
 pub use sets::CutSets;
