@@ -19,38 +19,38 @@ RowsAreOne = (high wide : ℕ) (rs ss : List Row) → IsSet high wide rs → IsS
 abbrev pub IsWithin : (ℕ → ℕ → Type 0) → (ℕ → ℕ → Type 0) → Type 0
 IsWithin Y Z = (a b : ℕ) → Y a b → Z a b
 
--- what is reached is right where it has no pair of two final states, and within all that is right
+-- what is reached is right where it has no pair of two final states, and within all that is right;
+-- r says which groups may share a word
 abbrev pub LeastIsApart : Type 0
 LeastIsApart =
-    (related : ℕ → ℕ → Bool) (m n : Graph)
-    → (((a b : ℕ) → Meeting (Marked related) m n a b → final_at m a ≡ true → final_at n b ≡ true → ⊥) → IsApart (Marked related) m n (Meeting (Marked related) m n))
-    × ((z : ℕ → ℕ → Bool) → IsApart (Marked related) m n (Marked z) → IsWithin (Meeting (Marked related) m n) (Marked z))
+    (r : ℕ → ℕ → Bool) (m n : Graph)
+    → (((a b : ℕ) → Meeting (Marked r) m n a b → final_at m a ≡ true → final_at n b ≡ true → ⊥) → IsApart (Marked r) m n (Meeting (Marked r) m n))
+    × ((z : ℕ → ℕ → Bool) → IsApart (Marked r) m n (Marked z) → IsWithin (Meeting (Marked r) m n) (Marked z))
 
--- four sets within four others
-pub record AreWithin (R : ℕ → ℕ → Type 0) (front rest : Graph) (Z1 Z0 Z2 Z3 : ℕ → ℕ → Type 0) : Type 0 where
-  pub fronts : IsWithin (Fronts R front) Z1
-  pub pauses : IsWithin (Pauses R front rest) Z0
-  pub middles : IsWithin (Middles R front rest) Z2
-  pub rests : IsWithin (Rests R front rest) Z3
+-- the four least sets of a cut are within four others
+pub record AreWithin (R : ℕ → ℕ → Type 0) (front rest : Graph) (z1 z0 z2 z3 : ℕ → ℕ → Bool) : Type 0 where
+  pub fronts : IsWithin (Fronts R front) (Marked z1)
+  pub pauses : IsWithin (Pauses R front rest) (Marked z0)
+  pub middles : IsWithin (Middles R front rest) (Marked z2)
+  pub rests : IsWithin (Rests R front rest) (Marked z3)
 
--- the same of the four sets of a cut
 abbrev pub LeastIsClear : Type 0
 LeastIsClear =
-    (related : ℕ → ℕ → Bool) (front rest : Graph)
-    → (((a b : ℕ) → Rests (Marked related) front rest a b → final_at rest a ≡ true → final_at rest b ≡ true → ⊥) → IsClear (Marked related) front rest (Fronts (Marked related) front) (Pauses (Marked related) front rest) (Middles (Marked related) front rest) (Rests (Marked related) front rest))
-    × ((z1 z0 z2 z3 : ℕ → ℕ → Bool) → IsClear (Marked related) front rest (Marked z1) (Marked z0) (Marked z2) (Marked z3) → AreWithin (Marked related) front rest (Marked z1) (Marked z0) (Marked z2) (Marked z3))
+    (r : ℕ → ℕ → Bool) (front rest : Graph)
+    → (((a b : ℕ) → Rests (Marked r) front rest a b → final_at rest a ≡ true → final_at rest b ≡ true → ⊥) → IsClear (Marked r) front rest (Fronts (Marked r) front) (Pauses (Marked r) front rest) (Middles (Marked r) front rest) (Rests (Marked r) front rest))
+    × ((z1 z0 z2 z3 : ℕ → ℕ → Bool) → IsClear (Marked r) front rest (Marked z1) (Marked z0) (Marked z2) (Marked z3) → AreWithin (Marked r) front rest z1 z0 z2 z3)
 
--- where only groups that share a word are related, two final states that are reached show a word that
+-- where only groups that share a word are said to, two final states that are reached show a word that
 -- both nets accept
 abbrev pub ReachedIsShared : Type 0
 ReachedIsShared =
-    (nest : List Group) (related : ℕ → ℕ → Bool) → ((h k : ℕ) → Marked related h k → AreShared nest h k)
-    → (m n : Graph) (a b : ℕ) → Meeting (Marked related) m n a b → final_at m a ≡ true → final_at n b ≡ true
+    (nest : List Group) (r : ℕ → ℕ → Bool) → ((h k : ℕ) → r h k ≡ true → AreShared nest h k)
+    → (m n : Graph) (a b : ℕ) → Meeting (Marked r) m n a b → final_at m a ≡ true → final_at n b ≡ true
     → (w : List ℕ) × IsSharedOver nest m n w
 
 -- and of a cut, words that overlap
 abbrev pub ReachedIsOverlap : Type 0
 ReachedIsOverlap =
-    (nest : List Group) (related : ℕ → ℕ → Bool) → ((h k : ℕ) → Marked related h k → AreShared nest h k)
-    → (front rest : Graph) (a b : ℕ) → Rests (Marked related) front rest a b → final_at rest a ≡ true → final_at rest b ≡ true
+    (nest : List Group) (r : ℕ → ℕ → Bool) → ((h k : ℕ) → r h k ≡ true → AreShared nest h k)
+    → (front rest : Graph) (a b : ℕ) → Rests (Marked r) front rest a b → final_at rest a ≡ true → final_at rest b ≡ true
     → (x : List ℕ) × (u : List ℕ) × (y : List ℕ) × AreOverlapOver nest front rest x u y
