@@ -1,5 +1,5 @@
 -- The least sets are closed, and within each closed set.
-use Rattle.std.proofs.Common.{◌≡◌, ℕ, true}
+use Rattle.std.proofs.Common.{◌≡◌, ℕ, Bool, true}
 use Rattle.xs_auto.specs.Nets.{Graph, final_at}
 use Rattle.xs_meet.specs.Closed.{Marked, Leads, IsClosed, IsApart, IsClear}
 use Rattle.xs_closed.specs.Least.{Reach, begun, led, AreStarts, Meeting, Fronts, Pauses, Middles, Rests}
@@ -40,13 +40,13 @@ is_clear R front rest none = record {
   none = none;
 }
 
-within_clear : (R : ℕ → ℕ → Type 0) (front rest : Graph) (Z1 Z0 Z2 Z3 : ℕ → ℕ → Type 0) → IsClear R front rest Z1 Z0 Z2 Z3 → AreWithin R front rest Z1 Z0 Z2 Z3
-within_clear R front rest Z1 Z0 Z2 Z3 z =
-    let fronts : IsWithin (Fronts R front) Z1 = λ a b. reach_within Z1 (λ a b s. z.starts a b s.first s.second) z.closed1 in
-    let pauses : IsWithin (Pauses R front rest) Z0 = λ a b. reach_within Z0 (λ b r s. z.to0 s.state b r (fronts s.state b s.within) s.final s.starts) z.drifts0 in
-    let middles : IsWithin (Middles R front rest) Z2 = λ a b. reach_within Z2 (λ c d s. z.to2 s.front_state s.rest_state c d (pauses s.front_state s.rest_state s.within) s.stride) z.closed2 in
-    let rests : IsWithin (Rests R front rest) Z3 = λ a b. reach_within Z3 (λ s r p. z.to3 p.state r s (middles p.state r p.within) p.final p.starts) z.closed3 in
+within_clear : (R : ℕ → ℕ → Type 0) (front rest : Graph) (z1 z0 z2 z3 : ℕ → ℕ → Bool) → IsClear R front rest (Marked z1) (Marked z0) (Marked z2) (Marked z3) → AreWithin R front rest z1 z0 z2 z3
+within_clear R front rest z1 z0 z2 z3 z =
+    let fronts : IsWithin (Fronts R front) (Marked z1) = λ a b. reach_within (Marked z1) (λ a b s. z.starts a b s.first s.second) z.closed1 in
+    let pauses : IsWithin (Pauses R front rest) (Marked z0) = λ a b. reach_within (Marked z0) (λ b r s. z.to0 s.state b r (fronts s.state b s.within) s.final s.starts) z.drifts0 in
+    let middles : IsWithin (Middles R front rest) (Marked z2) = λ a b. reach_within (Marked z2) (λ c d s. z.to2 s.front_state s.rest_state c d (pauses s.front_state s.rest_state s.within) s.stride) z.closed2 in
+    let rests : IsWithin (Rests R front rest) (Marked z3) = λ a b. reach_within (Marked z3) (λ s r p. z.to3 p.state r s (middles p.state r p.within) p.final p.starts) z.closed3 in
     record { fronts = fronts; pauses = pauses; middles = middles; rests = rests }
 
 pub least_is_clear : LeastIsClear
-least_is_clear related front rest = (is_clear (Marked related) front rest, λ z1 z0 z2 z3. within_clear (Marked related) front rest (Marked z1) (Marked z0) (Marked z2) (Marked z3))
+least_is_clear related front rest = (is_clear (Marked related) front rest, within_clear (Marked related) front rest)

@@ -16,10 +16,10 @@ abbrev pub marked : Grid → ℕ → ℕ → Bool
 marked z a b = get_or (get_or z.rows a []) b false
 
 -- the table has that many rows and columns
-pub record IsSized (height width : ℕ) (z : Grid) : Type 0 where
-  pub high : length z.rows ≡ height
-  pub wide : z.wide ≡ width
-  pub even : (a : ℕ) → a < height → length (get_or z.rows a []) ≡ width
+pub record IsSized (count columns : ℕ) (z : Grid) : Type 0 where
+  pub high : length z.rows ≡ count
+  pub wide : z.wide ≡ columns
+  pub even : (a : ℕ) → a < count → length (get_or z.rows a []) ≡ columns
 
 -- one pair more is marked
 pub record Marks (old new : Grid) (a b : ℕ) : Type 0 where
