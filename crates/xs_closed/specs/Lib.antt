@@ -1,4 +1,5 @@
 pub mod Rows
+pub mod Words
 pub mod Least
 pub mod Longest
 pub mod Laws
