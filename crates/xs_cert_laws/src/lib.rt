@@ -7,3 +7,10 @@
 //! where its sets are closed, have the starts, and have no pair of two final states: a test of each
 //! pair by itself, without a search.
 #![tactic(auto)]
+
+ghost use Rattle.xs_cert_laws.specs.Laws.{CertifiedIsAccepted};
+
+/// Two grammars whose rules are light and that have a certificate are accepted.
+pub fn certified_is_accepted()
+    ensures { CertifiedIsAccepted }
+{}
