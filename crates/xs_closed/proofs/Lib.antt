@@ -1,3 +1,4 @@
 pub mod Least
 pub mod Reached
+pub mod RowLemmas
 pub mod WordLemmas

@@ -9,10 +9,12 @@
 //! its partners.
 #![tactic(auto)]
 
+mod laws;
 mod least_laws;
 mod pair_set;
 mod sets;
 
+pub use laws::rows_are_marks;
 pub use least_laws::{least_sets_are_right, reached_shows};
 pub use pair_set::PairSet;
 pub use sets::CutSets;
