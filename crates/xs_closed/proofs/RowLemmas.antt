@@ -59,7 +59,7 @@ holds_below a [] c b l = refl
 holds_below a (r ∷ rs) c b l = skip_row a (places 0 r) (rows_from (suc a) rs) c b (λ e. absurd (omega arith)) ∙ holds_below (suc a) rs c b (omega arith)
 
 -- the rows of a table have a pair where the table says true there
-holds_rows : (a : ℕ) (rs : List (List Bool)) (c b n : ℕ) → n ≡ a + c → holds (rows_from a rs) n b ≡ get_or (get_or rs c []) b false
+pub holds_rows : (a : ℕ) (rs : List (List Bool)) (c b n : ℕ) → n ≡ a + c → holds (rows_from a rs) n b ≡ get_or (get_or rs c []) b false
 holds_rows a [] c b n e = refl
 holds_rows a (r ∷ rs) zero b n e =
     let f : n ≡ a = omega arith in

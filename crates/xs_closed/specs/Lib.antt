@@ -3,3 +3,4 @@ pub mod Words
 pub mod Least
 pub mod Longest
 pub mod Laws
+pub mod Testing

@@ -13,8 +13,10 @@ mod laws;
 mod least_laws;
 mod pair_set;
 mod sets;
+mod testing;
 
 pub use laws::rows_are_marks;
 pub use least_laws::{least_sets_are_right, reached_shows};
 pub use pair_set::PairSet;
 pub use sets::CutSets;
+pub use testing::{longest_apart, longest_clear};
