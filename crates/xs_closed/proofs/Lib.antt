@@ -1,4 +1,9 @@
-pub mod Least
-pub mod Reached
+pub mod AddLemmas
+pub mod CloseLemmas
+pub mod FoundLemmas
+pub mod LeadLemmas
+pub mod LeastLemmas
+pub mod ReachedLemmas
 pub mod RowLemmas
+pub mod SeedLemmas
 pub mod WordLemmas

@@ -1,5 +1,6 @@
 pub mod Rows
 pub mod Words
 pub mod Least
+pub mod Search
 pub mod Longest
 pub mod Laws
