@@ -9,6 +9,7 @@
 mod certified;
 mod certify;
 mod fault;
+mod heads;
 mod prove;
 mod weigh;
 
