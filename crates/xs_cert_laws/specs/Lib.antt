@@ -1,0 +1,4 @@
+pub mod Blocks
+pub mod Certificates
+pub mod Exact
+pub mod Laws

@@ -1,0 +1,159 @@
+-- A table of marks in words: reading, setting and finding bits.
+use Rattle.std.proofs.Common.{◌≡◌, ◌≢◌, ℕ, zero, suc, ◌+◌, ◌-◌, ◌*◌, ◌/◌, ◌%◌, ◌^◌, ◌<◌, ◌≤◌, Bool, true, false, not, nat_eq, List, [], ◌∷◌, ◌++◌, length, get_or, set, take, replicate, max, bit_and, bit_or, w64, refl, sym, ap, ◌∙◌, inl, inr, arith, length-set, get_or-set_same, get_or-set_other}
+use Rattle.std.specs.Int.{bit_at, trailing_zeros}
+use Rattle.std.proofs.lemmas.Bool.{cases_eq, cases_lt}
+use Rattle.std.proofs.lemmas.List.{get_or-replicate, length-replicate, get_or_past}
+use Rattle.std.proofs.lemmas.List.FromFn.{length-map-range_with_len, get_or-map-range_with_len, fill_by_all}
+use Rattle.std.proofs.lemmas.Nat.{mul-add-lt, same_from_place, shr-shr, shr_le}
+use Rattle.std.proofs.lemmas.Nat.Bits.{bit_at-zero, bit_at-lt, bit_at_set_same, bit_at_set_other, shr_and_one, bit_at-trailing_zeros, bit_at_above}
+use Rattle.xs_closed.specs.Rows.{Grid, blank, marked, IsSized, Marks}
+use Rattle.xs_closed.specs.Words.{bit_in, row_in, grid_of, IsPacked, IsFirstBit}
+
+-- a row of the table
+row_read : (high wide step : ℕ) (words : List ℕ) (a : ℕ) → a < high → get_or (grid_of high wide step words).rows a [] ≡ row_in wide step words a
+row_read high wide step words a l = get_or-map-range_with_len (row_in wide step words) 0 high a a [] l (omega arith)
+
+pub rows_length : (high wide step : ℕ) (words : List ℕ) → length (grid_of high wide step words).rows ≡ high
+rows_length high wide step words = length-map-range_with_len (row_in wide step words) 0 high
+
+row_length : (wide step : ℕ) (words : List ℕ) (a : ℕ) → length (row_in wide step words a) ≡ wide
+row_length wide step words a = length-map-range_with_len (bit_in step words a) 0 wide
+
+-- a pair inside the table is marked where its bit is set
+pub pair_read : (high wide step : ℕ) (words : List ℕ) (a b : ℕ) → a < high → b < wide → marked (grid_of high wide step words) a b ≡ bit_in step words a b
+pair_read high wide step words a b l m = ap (λ r. get_or r b false) (row_read high wide step words a l) ∙ get_or-map-range_with_len (bit_in step words a) 0 wide b b false m (omega arith)
+
+-- a pair outside is not
+pub past_high : (high wide step : ℕ) (words : List ℕ) (a b : ℕ) → high ≤ a → marked (grid_of high wide step words) a b ≡ false
+past_high high wide step words a b l = ap (λ r. get_or r b false) (get_or_past (grid_of high wide step words).rows a [] (rw rows_length l))
+
+pub past_wide : (high wide step : ℕ) (words : List ℕ) (a b : ℕ) → wide ≤ b → marked (grid_of high wide step words) a b ≡ false
+past_wide high wide step words a b l = elim (cases_lt a high) [
+  | inl m ↦ ap (λ r. get_or r b false) (row_read high wide step words a m) ∙ get_or_past (row_in wide step words a) b false (rw row_length l)
+  | inr m ↦ past_high high wide step words a b m
+]
+
+-- a pair whose bit is not set is not marked, wherever it is
+pub pair_blank : (high wide step : ℕ) (words : List ℕ) (a b : ℕ) → (b < wide → bit_in step words a b ≡ false) → marked (grid_of high wide step words) a b ≡ false
+pair_blank high wide step words a b h = elim (cases_lt a high) [
+  | inr o ↦ past_high high wide step words a b o
+  | inl o ↦ elim (cases_lt b wide) [
+    | inr p ↦ past_wide high wide step words a b p
+    | inl p ↦ pair_read high wide step words a b o p ∙ h p
+  ]
+]
+
+-- each row is as wide as the table
+pub grid_sized : (high wide step : ℕ) (words : List ℕ) → IsSized high wide (grid_of high wide step words)
+grid_sized high wide step words = record {
+  high = rows_length high wide step words;
+  wide = refl;
+  even = λ a l. ap length (row_read high wide step words a l) ∙ row_length wide step words a;
+}
+
+-- words of zeros mark no pair
+pub blank_grid : (high wide step : ℕ) (words : List ℕ) → ((k : ℕ) → get_or words k 0 ≡ 0) → grid_of high wide step words ≡ blank high wide
+blank_grid high wide step words h = let f : List (List Bool) → Grid = (λ rs. record { wide = wide; rows = rs }) in ap f (sym (fill_by_all (row_in wide step words) (replicate high (replicate wide false)) high [] (length-replicate high (replicate wide false)) (λ k l. get_or-replicate high k (replicate wide false) [] l ∙ row k)))
+  where
+    clear : (a b : ℕ) → bit_in step words a b ≡ false
+    clear a b = rw (h (a * step + b / 64), bit_at-zero (b % 64)) refl
+
+    row : (a : ℕ) → replicate wide false ≡ row_in wide step words a
+    row a = fill_by_all (bit_in step words a) (replicate wide false) wide false (length-replicate wide false) (λ k l. get_or-replicate wide k false false l ∙ sym (clear a k))
+
+-- the word of a pair is there
+pub word_within : (high wide step used : ℕ) (words : List ℕ) (a b : ℕ) → IsPacked high wide step used words → a < high → b < wide → a * step + b / 64 < length words
+word_within high wide step used words a b h l m = let k : b / 64 < step = omega (arith, h.columns) in omega (arith, h.room, mul-add-lt a step (b / 64) high l k)
+
+-- the words with the bit of a pair set
+abbrev pub with_pair : ℕ → List ℕ → ℕ → ℕ → List ℕ
+with_pair step words a b = set words (a * step + b / 64) (bit_or (get_or words (a * step + b / 64) 0) (1 * 2 ^ (b % 64) % 2 ^ 64))
+
+bit_here : (step : ℕ) (words : List ℕ) (a b : ℕ) → a * step + b / 64 < length words → bit_in step (with_pair step words a b) a b ≡ true
+bit_here step words a b within = ap (λ w. nat_eq (bit_at w (b % 64)) 1) (get_or-set_same words (a * step + b / 64) _ 0 within) ∙ ap (λ x. nat_eq x 1) (bit_at_set_same w64 (get_or words (a * step + b / 64) 0) (b % 64) (omega arith))
+
+bit_there : (step : ℕ) (words : List ℕ) (a b c d : ℕ) → a * step + b / 64 < length words → b / 64 < step → d / 64 < step → (c ≡ a → d ≡ b → ⊥) → bit_in step (with_pair step words a b) c d ≡ bit_in step words c d
+bit_there step words a b c d within l m ne = elim (cases_eq (c * step + d / 64) (a * step + b / 64)) [
+  | inl e ↦
+      let one = same_from_place c (d / 64) a (b / 64) step m l e in
+      let other : d % 64 ≢ b % 64 = λ f. ne one.0 (omega (arith, one.1)) in
+      ap (λ q. nat_eq (bit_at (get_or (with_pair step words a b) q 0) (d % 64)) 1) e ∙ ap (λ w. nat_eq (bit_at w (d % 64)) 1) (get_or-set_same words (a * step + b / 64) _ 0 within) ∙ ap (λ x. nat_eq x 1) (bit_at_set_other w64 (get_or words (a * step + b / 64) 0) (b % 64) (omega arith) (d % 64) other) ∙ ap (λ q. nat_eq (bit_at (get_or words q 0) (d % 64)) 1) (sym e)
+  | inr o ↦ ap (λ w. nat_eq (bit_at w (d % 64)) 1) (get_or-set_other words (a * step + b / 64) (c * step + d / 64) _ 0 o)
+]
+
+-- a pair whose bit is set now is marked, and all others are as they were
+pub pair_marks : (high wide step used : ℕ) (words : List ℕ) (a b : ℕ) → IsPacked high wide step used words → a < high → b < wide → Marks (grid_of high wide step words) (grid_of high wide step (with_pair step words a b)) a b
+pair_marks high wide step used words a b h l m = record {
+  wide = refl;
+  high = rows_length high wide step _ ∙ sym (rows_length high wide step words);
+  there = pair_read high wide step _ a b l m ∙ bit_here step words a b (word_within high wide step used words a b h l m);
+  others = λ c d ne. elim (cases_lt c high) [
+    | inr o ↦ past_high high wide step _ c d o ∙ sym (past_high high wide step words c d o)
+    | inl o ↦ elim (cases_lt d wide) [
+      | inr p ↦ past_wide high wide step _ c d p ∙ sym (past_wide high wide step words c d p)
+      | inl p ↦ pair_read high wide step _ c d o p ∙ bit_there step words a b c d (word_within high wide step used words a b h l m) (omega (arith, h.columns)) (omega (arith, h.columns)) ne ∙ sym (pair_read high wide step words c d o p)
+    ]
+  ];
+}
+
+-- one more word is used, up to the greatest that ever was
+pub word_packed : (high wide step used last word place : ℕ) (words : List ℕ) → IsPacked high wide step used words → place < length words → last ≡ max used (place + 1) → IsPacked high wide step last (set words place word)
+word_packed high wide step used last word place words h l e = record {
+  room = rw length-set h.room;
+  columns = h.columns;
+  within = rw length-set (omega (arith, h.within));
+  unused = λ k m. let ne : k ≢ place = (λ f. absurd (omega arith)) in get_or-set_other words place k word 0 ne ∙ h.unused k (omega arith);
+}
+
+-- the test of a bit that the code makes
+pub fresh_bit : (word r : ℕ) → nat_eq (bit_and (word / 2 ^ r) 1) 0 ≡ not (nat_eq (bit_at word r) 1)
+fresh_bit word r = rw (shr_and_one word r) (one_of (bit_at word r) (bit_at-lt word r))
+  where
+    one_of : (b : ℕ) → b < 2 → nat_eq b 0 ≡ not (nat_eq b 1)
+    one_of zero l = refl
+    one_of (suc zero) l = refl
+    one_of (suc (suc b)) l = absurd (omega arith)
+
+pub held_bit : (word r : ℕ) → nat_eq (bit_and (word / 2 ^ r) 1) 1 ≡ nat_eq (bit_at word r) 1
+held_bit word r = rw (shr_and_one word r) refl
+
+copies : (m k : ℕ) → get_or {A = ℕ} (replicate {A = ℕ} m zero) k zero ≡ zero
+copies zero k = refl
+copies (suc m) zero = refl
+copies (suc m) (suc k) = copies m k
+
+-- zeros, and zeros after them
+pub zeros_more : (n m : ℕ) (xs : List ℕ) → ((k : ℕ) → get_or xs k zero ≡ zero) → (k : ℕ) → get_or (take n xs ++ replicate m zero) k zero ≡ zero
+zeros_more zero m xs h k = copies m k
+zeros_more (suc n) m [] h k = copies m k
+zeros_more (suc n) m (x ∷ xs) h zero = h zero
+zeros_more (suc n) m (x ∷ xs) h (suc k) = zeros_more n m xs (λ i. h (suc i)) k
+
+-- a bit of a word from another on
+shifted : (word r i : ℕ) → bit_at (word / 2 ^ r) i ≡ bit_at word (r + i)
+shifted word r i = ap (λ q. q % 2) (shr-shr word r i)
+
+pub no_bit : (word r : ℕ) → word / 2 ^ r ≡ 0 → (i : ℕ) → r ≤ i → bit_at word i ≡ 0
+no_bit word r e i l =
+    let f : r + (i - r) ≡ i = omega arith in
+    ap (bit_at word) (sym f) ∙ sym (shifted word r (i - r)) ∙ rw (e, bit_at-zero (i - r)) refl
+
+pub low_bit : (word r : ℕ) → word < 2 ^ 64 → 0 < word / 2 ^ r → IsFirstBit word r (r + trailing_zeros w64 (word / 2 ^ r))
+low_bit word r fits some =
+    let left = word / 2 ^ r in
+    let zeros = trailing_zeros w64 left in
+    let low = bit_at-trailing_zeros w64 left some (omega (arith, shr_le word r)) in
+    let there : bit_at word (r + zeros) ≡ 1 = sym (shifted word r zeros) ∙ low.1 in
+    record {
+      there = there;
+      order = omega arith;
+      within = elim (cases_lt (r + zeros) 64) [
+        | inl l ↦ l
+        | inr l ↦ let none = bit_at_above word 64 (r + zeros) fits l in absurd (omega (arith, none, there))
+      ];
+      least = λ j l m. let f : r + (j - r) ≡ j = omega arith in ap (bit_at word) (sym f) ∙ sym (shifted word r (j - r)) ∙ low.2 (j - r) (omega arith);
+    }
+
+-- the columns of one word: what a bit of it says of a pair
+pub lane_bit : (step : ℕ) (words : List ℕ) (a at b x : ℕ) → b / 64 ≡ at / 64 → bit_at (get_or words (a * step + at / 64) 0) (b % 64) ≡ x → bit_in step words a b ≡ nat_eq x 1
+lane_bit step words a at b x e f = rw (e, f) refl

@@ -1,0 +1,32 @@
+-- A table of marks that is kept in words of 64 bits, each row in a whole number of words.
+use Rattle.std.specs.Prelude.{◌≡◌, ℕ, ◌+◌, ◌*◌, ◌/◌, ◌%◌, ◌≤◌, ◌<◌, Bool, nat_eq, List, map, length, get_or}
+use Rattle.std.specs.List.{range_with_len}
+use Rattle.std.specs.Int.{bit_at}
+use Rattle.xs_closed.specs.Rows.{Grid}
+
+-- whether the bit of b is set in row a, where a row has that many words
+abbrev pub bit_in : ℕ → List ℕ → ℕ → ℕ → Bool
+bit_in step words a b = nat_eq (bit_at (get_or words (a * step + b / 64) 0) (b % 64)) 1
+
+-- the first columns of row a
+abbrev pub row_in : ℕ → ℕ → List ℕ → ℕ → List Bool
+row_in wide step words a = map (bit_in step words a) (range_with_len 0 wide)
+
+-- the table of the first rows and columns
+abbrev pub grid_of : ℕ → ℕ → ℕ → List ℕ → Grid
+grid_of high wide step words = record { wide = wide; rows = map (row_in wide step words) (range_with_len 0 high) }
+
+-- there are words for each row, a row's have a bit for each column, and none is used from some word
+-- on
+pub record IsPacked (high wide step used : ℕ) (words : List ℕ) : Type 0 where
+  pub room : step * high ≤ length words
+  pub columns : wide ≤ step * 64
+  pub within : used ≤ length words
+  pub unused : (k : ℕ) → used ≤ k → get_or words k 0 ≡ 0
+
+-- bit i is the lowest that is set in the word from one on
+pub record IsFirstBit (word from i : ℕ) : Type 0 where
+  pub there : bit_at word i ≡ 1
+  pub order : from ≤ i
+  pub within : i < 64
+  pub least : (j : ℕ) → from ≤ j → j < i → bit_at word j ≡ 0
