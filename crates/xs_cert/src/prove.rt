@@ -1,4 +1,5 @@
 ghost use Rattle.std.specs.Prelude.{◌≡◌, IfOk, OnOk, IfErr};
+ghost use Rattle.xs_gram.specs.Languages.{IsUnique};
 ghost use Rattle.xs_gram.specs.Sound.{IsSound};
 ghost use Rattle.xs_check_laws.specs.Acceptance.{IsAccepted};
 ghost use Rattle.xs_unique.specs.Reasons.{IsReason};
@@ -22,6 +23,8 @@ pub fn prove(alloc: Global, two: &Two) -> Result<Bytes, AcceptFault>
     requires text { IsSound two.now.text }
     requires xml { IsSound two.now.xml }
     ensures accepted { OnOk result (IsAccepted two.now.text two.now.xml) }
+    ensures unique_text { OnOk result (IsUnique two.now.text) }
+    ensures unique_xml { OnOk result (IsUnique two.now.xml) }
     ensures proof { IfOk result (IsProof two.now) }
     ensures reason { IfErr result (IsReason two.now.text two.now.xml) }
 {

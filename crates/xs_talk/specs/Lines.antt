@@ -8,7 +8,7 @@ use Rattle.xs_pair.specs.declared.ill.IllRule.TheVariants.{Twice, Undefined, NoS
 use Rattle.xs_talk.specs.declared.outcome.Report.{Report}
 use Rattle.xs_talk.specs.declared.outcome.Report.TheVariants.{Vertical, Horizontal}
 use Rattle.xs_talk.specs.declared.outcome.Outcome.{Outcome}
-use Rattle.xs_talk.specs.declared.outcome.Outcome.TheVariants.{Done, Foreign, SheetLong, SheetBad, SheetIll, Heavy, Suspect, NotUtf8, NotXml, Usage, SheetFault, ReadFault, WriteFault, NoteFault, DocLong, ScriptBad, OutlineBad}
+use Rattle.xs_talk.specs.declared.outcome.Outcome.TheVariants.{Done, Foreign, SheetLong, SheetBad, SheetIll, Heavy, Suspect, NotUtf8, NotXml, Usage, SheetFault, ReadFault, WriteFault, NoteFault, DocLong, ScriptBad, OutlineBad, CertFault, CertLong, CertBad}
 use Rattle.xs_talk.specs.Words.{quoted}
 use Rattle.xs_talk.specs.Room.{write_fault_line}
 
@@ -62,7 +62,7 @@ report_line names (Vertical side name line line2 word) = report_begin side name 
 report_line names (Horizontal side name line cut x a y) = report_begin side name ++ cut_at line cut ++ cut_words names x a y
 
 abbrev pub usage_line : List ℕ
-usage_line = codes "usage: xsugar check S | to-xml S [F] | to-text S | round S text [F] | round S xml | trees S M | sheet | sheet 2 | make SEED LINES | upgrade S | session S | to-tree S text [F] | to-tree S xml | from-tree S text | from-tree S xml | cover S\n"
+usage_line = codes "usage: xsugar check S | to-xml S [F] | to-text S | round S text [F] | round S xml | trees S M | sheet | sheet 2 | make SEED LINES | upgrade S | prove S | check S cert C | session S | to-tree S text [F] | to-tree S xml | from-tree S text | from-tree S xml | cover S\n"
 
 -- nothing is said of a run that is done, and of one whose notes failed
 abbrev pub line : List (List ℕ) → Outcome → List ℕ
@@ -83,3 +83,6 @@ line names (NoteFault of written) = []
 line names DocLong = codes "input: more than 1048576 bytes\n"
 line names (ScriptBad bad) = numbered (codes "script: line ") bad (codes ": not expected here\n")
 line names (OutlineBad bad) = numbered (codes "outline: line ") bad (codes ": not expected here\n")
+line names CertFault = codes "certificate: cannot be read\n"
+line names CertLong = codes "certificate: more than 268435456 bytes\n"
+line names (CertBad bad) = numbered (codes "certificate: line ") bad (codes ": not expected here\n")

@@ -62,6 +62,13 @@ pub enum Outcome {
     DocLong,
     /// The input is no edit script: `line`, counted from 1, is the first line that spells no request.
     ScriptBad { line: u64 },
+    /// The certificate's file failed.
+    CertFault,
+    /// The certificate's file has more than 268,435,456 bytes.
+    CertLong,
+    /// The file is no certificate of the sheet: `line`, counted from 1, is the first line that a
+    /// certificate does not go on with.
+    CertBad { line: u64 },
     /// The input is no outline: `line`, counted from 1, is the first line such that the lines up to
     /// it begin none, or one more than the number of lines where the outline ends too early.
     OutlineBad { line: u64 },

@@ -8,7 +8,7 @@ use xs_class::{Bytes, Memory, Names, Side, Text, Word};
 use xs_pair::{Ill, IllRule};
 
 const USAGE: &[u8] =
-    b"usage: xsugar check S | to-xml S [F] | to-text S | round S text [F] | round S xml | trees S M | sheet | sheet 2 | make SEED LINES | upgrade S | session S | to-tree S text [F] | to-tree S xml | from-tree S text | from-tree S xml | cover S\n";
+    b"usage: xsugar check S | to-xml S [F] | to-text S | round S text [F] | round S xml | trees S M | sheet | sheet 2 | make SEED LINES | upgrade S | prove S | check S cert C | session S | to-tree S text [F] | to-tree S xml | from-tree S text | from-tree S xml | cover S\n";
 
 /// Appends a number between two texts.
 pub fn push_numbered(
@@ -197,6 +197,16 @@ pub fn line_of(alloc: Global, outcome: &Outcome, names: &Names) -> Result<Bytes,
         Outcome::DocLong => Bytes::of(alloc, b"input: more than 1048576 bytes\n"),
         Outcome::ScriptBad { line } => {
             numbered(alloc, b"script: line ", *line, b": not expected here\n")
+        }
+        Outcome::CertFault => Bytes::of(alloc, b"certificate: cannot be read\n"),
+        Outcome::CertLong => Bytes::of(alloc, b"certificate: more than 268435456 bytes\n"),
+        Outcome::CertBad { line } => {
+            numbered(
+                alloc,
+                b"certificate: line ",
+                *line,
+                b": not expected here\n",
+            )
         }
         Outcome::OutlineBad { line } => {
             numbered(alloc, b"outline: line ", *line, b": not expected here\n")

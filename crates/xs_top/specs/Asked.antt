@@ -1,19 +1,22 @@
--- What the words ask for: a shipped sheet, the upgrade of a sheet, or what is to be done by a sheet.
+-- What the words ask for: a shipped sheet, the upgrade of a sheet, a check by a certificate, or what is to be done by
+-- a sheet.
 use Rattle.std.specs.Prelude.{ℕ, List}
 use Rattle.std.specs.declared.option.Option.{Option}
 use Rattle.std.specs.Option.{option_map}
 use Rattle.xs_class.specs.declared.side.Side.TheVariants.{Text, Xml}
 use Rattle.xs_chars.specs.declared.form.Form.TheVariants.{AsIs}
-use Rattle.xs_words.specs.Command.{Sheet, leiden, Command, check, to_xml, to_text, round_text, round_xml, trees, print_sheet, make, session, to_tree, from_tree, cover, command_of, print_sheet2, upgrade}
+use Rattle.xs_words.specs.Command.{Sheet, leiden, Command, check, to_xml, to_text, round_text, round_xml, trees, print_sheet, make, session, to_tree, from_tree, cover, command_of, print_sheet2, upgrade, prove, check_cert}
 use Rattle.xs_top.specs.declared.asking.Core.{Core}
 use Rattle.xs_top.specs.declared.asking.Core.TheVariants.{One, Two}
 use Rattle.xs_top.specs.declared.asking.Job.{Job}
-use Rattle.xs_top.specs.declared.asking.Job.TheVariants.{Check, Turn, Trees, Make, Session, ToTree, FromTree, Cover}
+use Rattle.xs_top.specs.declared.asking.Job.TheVariants.{Check, Turn, Trees, Make, Session, ToTree, FromTree, Cover, Prove}
 
--- a shipped sheet, as it is; the upgrade of a sheet; or a job by a sheet
+-- a shipped sheet, as it is; the upgrade of a sheet; the check of a sheet by the certificate in a file; or a job by a
+-- sheet
 pub data Ask : Type 0 where
   shipped : Core → Ask
   upgrading : Sheet → Ask
+  certifying : Sheet → List ℕ → Ask
   by : Sheet → Job → Ask
 
 -- what a command asks for: a document of one side is read, and one of a side is written; a text is made for the
@@ -29,6 +32,8 @@ ask_of print_sheet = shipped One
 ask_of print_sheet2 = shipped Two
 ask_of (upgrade sheet) = upgrading sheet
 ask_of (make seed lines) = by leiden (Make seed lines)
+ask_of (prove sheet) = by sheet Prove
+ask_of (check_cert sheet cert) = certifying sheet cert
 ask_of (session sheet) = by sheet Session
 ask_of (to_tree sheet side form) = by sheet (ToTree side form)
 ask_of (from_tree sheet side) = by sheet (FromTree side)

@@ -15,15 +15,15 @@ use Rattle.xs_outline.specs.Outline.{IsOutline}
 use Rattle.xs_script.specs.Playing.{IsPlayed}
 use Rattle.xs_wf.specs.Rules.{IsWell}
 use Rattle.xs_talk.specs.declared.outcome.Outcome.{Outcome}
-use Rattle.xs_talk.specs.declared.outcome.Outcome.TheVariants.{Done, Foreign, SheetLong, SheetBad, SheetIll, Heavy, Suspect, NotUtf8, NotXml, Usage, SheetFault, ReadFault, WriteFault, NoteFault, DocLong, ScriptBad, OutlineBad}
+use Rattle.xs_talk.specs.declared.outcome.Outcome.TheVariants.{Done, Foreign, SheetLong, SheetBad, SheetIll, Heavy, Suspect, NotUtf8, NotXml, Usage, SheetFault, ReadFault, WriteFault, NoteFault, DocLong, ScriptBad, OutlineBad, CertFault, CertLong, CertBad}
 use Rattle.xs_top.specs.declared.asking.Job.{Job}
-use Rattle.xs_top.specs.declared.asking.Job.TheVariants.{Check, Turn, Trees, Make, Session, ToTree, FromTree, Cover}
+use Rattle.xs_top.specs.declared.asking.Job.TheVariants.{Check, Turn, Trees, Make, Session, ToTree, FromTree, Cover, Prove}
 use Rattle.xs_top.specs.Devices.{Run}
 use Rattle.xs_top.specs.Documents.{IsDocument}
 use Rattle.xs_top.specs.Sheets.{IsPairOfBytes}
 use Rattle.xs_top.specs.Checks.{IsSure}
 use Rattle.xs_top.specs.Ran.{Told}
-use Rattle.xs_top.specs.Runs.{AsksFor, AsksToUpgrade, IsToTurn, IsReadWhole, IsUnwritten, Answers, Turned, IsNormalOf, Verdict, bad, ill, heavy, suspect, accepted}
+use Rattle.xs_top.specs.Runs.{AsksFor, AsksToUpgrade, AsksToCertify, AsksWhether, IsToTurn, IsReadWhole, IsUnwritten, Answers, Turned, IsNormalOf, Verdict, bad, ill, heavy, suspect, accepted}
 
 -- two pairs of grammars of the same bytes mean the same
 abbrev pub PairsAgree : Type 0
@@ -108,6 +108,7 @@ IsChecked Session = ⊤
 IsChecked (ToTree from form) = ⊤
 IsChecked (FromTree to) = ⊤
 IsChecked Cover = ⊥
+IsChecked Prove = ⊤
 
 -- what an outcome tells of the sheet's bytes: none where they could not be had, or nothing was done with them
 abbrev pub verdict : Outcome → Option Verdict
@@ -128,6 +129,9 @@ verdict SheetLong = None
 verdict Usage = None
 verdict SheetFault = None
 verdict (NoteFault of written) = None
+verdict CertFault = None
+verdict CertLong = None
+verdict (CertBad line) = None
 
 -- two runs that check the same sheet tell the same of it
 abbrev pub OneVerdict : Type 0
@@ -154,11 +158,11 @@ RefusesSheet (Suspect report) = ⊤
 RefusesSheet SheetLong = ⊤
 RefusesSheet o = ⊥
 
--- once `check` was done, no run by the same sheet refuses it
+-- once a check, with a certificate or without, or `prove` was done, no run by the same sheet refuses it
 abbrev pub CheckDecides : Type 0
 CheckDecides =
     (one two : Run) (job : Job) (sheet : List ℕ)
-    → AsksFor one Check sheet
+    → AsksWhether one sheet
     → AsksFor two job sheet
     → Told one Done
     → (o : Outcome)
@@ -166,11 +170,11 @@ CheckDecides =
     → RefusesSheet o
     → ⊥
 
--- once `check` was done, no run that upgrades the same sheet refuses it
+-- nor does a run that upgrades the same sheet
 abbrev pub CheckDecidesUpgrades : Type 0
 CheckDecidesUpgrades =
     (one two : Run) (sheet : List ℕ)
-    → AsksFor one Check sheet
+    → AsksWhether one sheet
     → AsksToUpgrade two sheet
     → Told one Done
     → (o : Outcome)
@@ -178,11 +182,24 @@ CheckDecidesUpgrades =
     → RefusesSheet o
     → ⊥
 
--- once `check` was done, the bytes spell two grammars, and any two that they spell are accepted
+-- nor does one that checks it by a certificate
+abbrev pub CheckDecidesCertificates : Type 0
+CheckDecidesCertificates =
+    (one two : Run) (sheet : List ℕ)
+    → AsksWhether one sheet
+    → AsksToCertify two sheet
+    → Told one Done
+    → (o : Outcome)
+    → Told two o
+    → RefusesSheet o
+    → ⊥
+
+-- the bytes spell two grammars, and any two that they spell are accepted
 pub record AreAccepted (sheet : List ℕ) : Type 0 where
   pub pair : Pair
   pub is_pair : IsPairOfBytes sheet pair
   pub sure : (p : Pair) → IsPairOfBytes sheet p → IsSure p
 
+-- which holds once a check, with a certificate or without, or `prove` was done
 abbrev pub CheckAccepts : Type 0
-CheckAccepts = (run : Run) (sheet : List ℕ) → AsksFor run Check sheet → Told run Done → AreAccepted sheet
+CheckAccepts = (run : Run) (sheet : List ℕ) → AsksWhether run sheet → Told run Done → AreAccepted sheet

@@ -5,6 +5,7 @@ pub mod Stops
 pub mod Sheets
 pub mod Known
 pub mod Checks
+pub mod Certifying
 pub mod Documents
 pub mod Answers
 pub mod Scripts

@@ -16,11 +16,11 @@ use Rattle.xs_words.specs.Command.{Sheet as Named}
 use Rattle.xs_pair.specs.Grammars.{Pair, grammar_of}
 use Rattle.xs_talk.specs.Lines.{line}
 use Rattle.xs_talk.specs.declared.outcome.Outcome.{Outcome}
-use Rattle.xs_talk.specs.declared.outcome.Outcome.TheVariants.{Done, Foreign, SheetLong, SheetBad, SheetIll, Heavy, Suspect, NotUtf8, NotXml, Usage, SheetFault, ReadFault, WriteFault, NoteFault, DocLong, ScriptBad, OutlineBad}
+use Rattle.xs_talk.specs.declared.outcome.Outcome.TheVariants.{Done, Foreign, SheetLong, SheetBad, SheetIll, Heavy, Suspect, NotUtf8, NotXml, Usage, SheetFault, ReadFault, WriteFault, NoteFault, DocLong, ScriptBad, OutlineBad, CertFault, CertLong, CertBad}
 use Rattle.xs_top.specs.declared.asking.Core.{Core}
 use Rattle.xs_top.specs.declared.asking.Job.{Job}
-use Rattle.xs_top.specs.declared.asking.Job.TheVariants.{Check, Turn, Trees, Make, Session, ToTree, FromTree, Cover}
-use Rattle.xs_top.specs.Asked.{Ask, shipped, upgrading, by, asked}
+use Rattle.xs_top.specs.declared.asking.Job.TheVariants.{Check, Turn, Trees, Make, Session, ToTree, FromTree, Cover, Prove}
+use Rattle.xs_top.specs.Asked.{Ask, shipped, upgrading, certifying, by, asked}
 use Rattle.xs_top.specs.Devices.{Input, Output, Run, ReadNothing, TookNothing}
 use Rattle.xs_top.specs.Known.{HasBytes}
 use Rattle.xs_top.specs.Sheets.{core_bytes, IsFailed, IsPairOfBytes, SpellsPair, SpellsUpgrade, IsUnpaired}
@@ -30,6 +30,10 @@ use Rattle.xs_top.specs.Documents.{IsWordOf}
 use Rattle.xs_top.specs.Answers.{IsTurnedInto, IsMade, IsListingOf, IsOutlined, IsOutlineDocument, IsMadeOfOutline, IsUnread, IsNoOutline}
 use Rattle.xs_top.specs.Scripts.{IsScript, IsScriptPlayed, IsNoScript}
 use Rattle.xs_top.specs.Covering.{IsCovered}
+use Rattle.xs_io.specs.Shown.{NameFailed}
+use Rattle.xs_cert_laws.specs.Certificates.{IsCertificate}
+use Rattle.xs_cert_laws.specs.Exact.{IsProof}
+use Rattle.xs_top.specs.Certifying.{IsCertified, IsUncertified, HasFile}
 
 -- the input was read to its end, and is these bytes
 abbrev pub Takes : Input → List ℕ → Type 0
@@ -46,6 +50,7 @@ IsAnswer p i Session answer = IsSure p × (bytes : List ℕ) × Takes i bytes ×
 IsAnswer p i (ToTree from form) answer = IsSure p × (bytes : List ℕ) × Takes i bytes × IsOutlined p from form bytes answer
 IsAnswer p i (FromTree to) answer = IsSure p × (bytes : List ℕ) × Takes i bytes × IsMadeOfOutline p to bytes answer
 IsAnswer p i Cover answer = ReadNothing i × IsCovered p answer
+IsAnswer p i Prove answer = ReadNothing i × IsSure p × IsProof p answer
 
 -- why the input cannot be had
 abbrev pub IsUntaken : Input → Outcome → Type 0
@@ -79,6 +84,7 @@ IsUndone p i Session o = IsUnchecked p i o ⊎ (IsSure p × IsUnplayed i o)
 IsUndone p i (ToTree from form) o = IsUnchecked p i o ⊎ (IsSure p × IsUnanswered p i from form o)
 IsUndone p i (FromTree to) o = IsUnchecked p i o ⊎ (IsSure p × IsUnmade p i o)
 IsUndone p i Cover o = ⊥
+IsUndone p i Prove o = IsUnchecked p i o
 
 -- what out took of an answer, by the outcome
 abbrev pub Took : Output → List ℕ → Outcome → Type 0
@@ -87,13 +93,16 @@ Took out answer (WriteFault written) = Appends out.taken_before out.taken_now (t
 Took out answer other = ⊥
 
 -- The outcome to which a run went, with the names by which it is reported: the words are no command; or a shipped
--- sheet is written; or the sheet whose upgrade is asked for spells no grammars, or its upgrade is written; or the
+-- sheet is written; or the sheet whose upgrade is asked for spells no grammars, or its upgrade is written; or the sheet
+-- that is to be checked by a certificate is not accepted by it, or what is said of it is written; or the
 -- sheet that is asked for spells no grammars; or the job is not done by them; or it is answered.
 pub data Went (run : Run) : Outcome → List (List ℕ) → Type 0 where
   no_command : asked run.words ≡ None → ReadNothing run.input → TookNothing run.out → Went run Usage []
   shipped_written : (core : Core) {o : Outcome} → asked run.words ≡ Some (shipped core) → ReadNothing run.input → Took run.out (core_bytes core) o → Went run o []
   not_upgraded : (sheet : Named) {o : Outcome} → asked run.words ≡ Some (upgrading sheet) → IsUnpaired run.shelf sheet o → ReadNothing run.input → TookNothing run.out → Went run o []
   upgrade_written : (sheet : Named) (answer : List ℕ) {o : Outcome} → asked run.words ≡ Some (upgrading sheet) → SpellsUpgrade run.shelf.files sheet answer → ReadNothing run.input → Took run.out answer o → Went run o []
+  uncertified : (sheet : Named) (cert : List ℕ) {o : Outcome} → asked run.words ≡ Some (certifying sheet cert) → IsUncertified run.shelf sheet cert o → ReadNothing run.input → TookNothing run.out → Went run o []
+  certified : (sheet : Named) (cert answer : List ℕ) {o : Outcome} → asked run.words ≡ Some (certifying sheet cert) → IsCertified run.shelf.files sheet cert answer → ReadNothing run.input → Took run.out answer o → Went run o []
   unpaired : (sheet : Named) (job : Job) {o : Outcome} → asked run.words ≡ Some (by sheet job) → IsUnpaired run.shelf sheet o → ReadNothing run.input → TookNothing run.out → Went run o []
   undone : (sheet : Named) (job : Job) (p : Pair) {o : Outcome} → asked run.words ≡ Some (by sheet job) → SpellsPair run.shelf.files sheet p → IsUndone p run.input job o → TookNothing run.out → Went run o p.names
   answered : (sheet : Named) (job : Job) (p : Pair) (answer : List ℕ) {o : Outcome} → asked run.words ≡ Some (by sheet job) → SpellsPair run.shelf.files sheet p → IsAnswer p run.input job answer → Took run.out answer o → Went run o []
@@ -117,6 +126,9 @@ status_of (NoteFault of written) = 6
 status_of DocLong = 7
 status_of (ScriptBad line) = 10
 status_of (OutlineBad line) = 11
+status_of CertFault = 6
+status_of CertLong = 7
+status_of (CertBad line) = 9
 
 -- notes failed at the line of an outcome, of which it took `written` bytes
 pub record FailsAtNotes (notes : Output) (names : List (List ℕ)) (o : Outcome) (of written : ℕ) : Type 0 where
@@ -179,6 +191,7 @@ IsDoable p i Session = IsAccepted p.text p.xml × IsReadableScript i
 IsDoable p i (ToTree from form) = IsAccepted p.text p.xml × IsReadable p i from form
 IsDoable p i (FromTree to) = IsAccepted p.text p.xml × IsReadableOutline p i
 IsDoable p i Cover = Unit {0}
+IsDoable p i Prove = IsAccepted p.text p.xml
 
 -- The sheet did not fail, its bytes are known and spell two grammars, and nothing stands against the job by these.
 pub record IsClear (run : Run) (sheet : Named) (job : Job) : Type 0 where
@@ -197,10 +210,21 @@ pub record IsKnown (run : Run) (sheet : Named) : Type 0 where
   pub pair : Pair
   pub spelled : IsPairOfBytes bytes pair
 
+-- The sheet is known and accepted, and the file of this name, which did not fail, is known to be a certificate of any
+-- two grammars that the sheet spells.
+pub record IsCertifiable (run : Run) (sheet : Named) (cert : List ℕ) : Type 0 where
+  pub known : IsKnown run sheet
+  pub accepted : IsAccepted known.pair.text known.pair.xml
+  pub cert_sure : NameFailed run.shelf.files cert run.shelf.faults_before run.shelf.faults_now (run.shelf.name_before cert) (run.shelf.name_now cert) → ⊥
+  pub certificate : List ℕ
+  pub has : HasFile run.shelf.files cert certificate
+  pub shows : (p : Pair) → IsPairOfBytes known.bytes p → IsCertificate p certificate
+
 -- nothing stands against what is asked for; never against a shipped sheet
 abbrev pub IsFree : Run → Ask → Type 0
 IsFree run (shipped core) = Unit {0}
 IsFree run (upgrading sheet) = IsKnown run sheet
+IsFree run (certifying sheet cert) = IsCertifiable run sheet cert
 IsFree run (by sheet job) = IsClear run sheet job
 
 -- The words ask for something; nothing stands against it; and no count of out and notes rose.

@@ -11,8 +11,8 @@ use Rattle.xs_pair.specs.Grammars.{Pair, grammar_of}
 use Rattle.xs_talk.specs.declared.outcome.Outcome.{Outcome}
 use Rattle.xs_talk.specs.declared.outcome.Outcome.TheVariants.{Done, WriteFault, NoteFault}
 use Rattle.xs_top.specs.declared.asking.Job.{Job}
-use Rattle.xs_top.specs.declared.asking.Job.TheVariants.{Turn}
-use Rattle.xs_top.specs.Asked.{upgrading, by, asked}
+use Rattle.xs_top.specs.declared.asking.Job.TheVariants.{Check, Turn, Prove}
+use Rattle.xs_top.specs.Asked.{upgrading, certifying, by, asked}
 use Rattle.xs_top.specs.Devices.{Run}
 use Rattle.xs_top.specs.Documents.{IsDocument, document_bytes}
 use Rattle.xs_top.specs.Known.{HasBytes}
@@ -30,6 +30,19 @@ pub record AsksToUpgrade (run : Run) (sheet : List ℕ) : Type 0 where
   pub named : Named
   pub is : asked run.words ≡ Some (upgrading named)
   pub has : HasBytes run.shelf.files named sheet
+
+-- the words ask for the check of a sheet of these bytes by a certificate
+pub record AsksToCertify (run : Run) (sheet : List ℕ) : Type 0 where
+  pub named : Named
+  pub cert : List ℕ
+  pub is : asked run.words ≡ Some (certifying named cert)
+  pub has : HasBytes run.shelf.files named sheet
+
+-- the words ask whether a sheet of these bytes is accepted: by the search, for a certificate, or by one
+pub data AsksWhether (run : Run) (sheet : List ℕ) : Type 0 where
+  checks : AsksFor run Check sheet → AsksWhether run sheet
+  proves : AsksFor run Prove sheet → AsksWhether run sheet
+  certifies : AsksToCertify run sheet → AsksWhether run sheet
 
 -- the run is to turn this document from one side to the other by a sheet of these bytes
 pub record IsToTurn (run : Run) (from to : Side) (form : Form) (sheet document : List ℕ) : Type 0 where

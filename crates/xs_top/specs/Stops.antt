@@ -13,6 +13,10 @@ use Rattle.xs_outline.specs.declared.fault.OutlineFault.{OutlineFault}
 use Rattle.xs_outline.specs.declared.fault.OutlineFault.TheVariants as L
 use Rattle.xs_script.specs.declared.fault.ScriptFault.{ScriptFault}
 use Rattle.xs_script.specs.declared.fault.ScriptFault.TheVariants as S
+use Rattle.xs_light.specs.declared.fault.CheckFault.{CheckFault}
+use Rattle.xs_light.specs.declared.fault.CheckFault.TheVariants as K
+use Rattle.xs_cert.specs.declared.fault.CertFault.{CertFault}
+use Rattle.xs_cert.specs.declared.fault.CertFault.TheVariants as C
 use Rattle.xs_talk.specs.declared.outcome.Outcome.{Outcome}
 use Rattle.xs_talk.specs.declared.outcome.Outcome.TheVariants as O
 use Rattle.xs_top.specs.declared.stop.Stop.{Stop}
@@ -50,3 +54,12 @@ stop_of_outline L.Memory = Memory
 abbrev pub stop_of_script : ScriptFault → Stop
 stop_of_script (S.ScriptBad line) = Refused (O.ScriptBad line)
 stop_of_script S.Memory = Memory
+
+abbrev pub stop_of_check : CheckFault → Stop
+stop_of_check (K.Heavy weight) = Refused (O.Heavy weight)
+stop_of_check K.Memory = Memory
+
+abbrev pub stop_of_certificate : CertFault → Stop
+stop_of_certificate (C.Heavy weight) = Refused (O.Heavy weight)
+stop_of_certificate (C.CertBad line) = Refused (O.CertBad line)
+stop_of_certificate C.Memory = Memory

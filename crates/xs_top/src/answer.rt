@@ -10,7 +10,7 @@ ghost use Rattle.xs_top.specs.Ran.{IsAnswer, IsUndone, IsUntaken, Takes};
 ghost use Rattle.xs_top.specs.Stops.{StopsBy};
 
 use crate::asking::Job;
-use crate::checked::checked;
+use crate::checked::{checked, refused};
 use crate::covered::covered;
 use crate::listed::listed;
 use crate::outlined::{made_of_outline, outlined};
@@ -18,6 +18,7 @@ use crate::played::played;
 use crate::stop::Stop;
 use crate::turned::turned_into;
 use std::alloc::Global;
+use xs_cert::prove;
 use xs_chars::Form;
 use xs_class::{Bytes, Side};
 use xs_io::{ReadStop, Source, read_all};
@@ -176,6 +177,19 @@ fn show<S: Source>(alloc: Global, two: &Two, input: &mut S) -> Result<Bytes, Sto
     Ok(lines)
 }
 
+/// The certificate that the sheet is accepted.
+fn proved<S: Source>(alloc: Global, two: &Two, input: &mut S) -> Result<Bytes, Stop>
+    requires pair { IsPair two.now }
+    requires sound { IsSoundPair two.now }
+    ensures answer { IfOk result (IsAnswer two.now (input_of S.left S.faults input.old input.new) J.Prove) }
+    ensures stop { IfErr result (StopsBy (IsUndone two.now (input_of S.left S.faults input.old input.new) J.Prove)) }
+{
+    match prove(alloc, two) {
+        Ok(certificate) => Ok(certificate),
+        Err(fault) => Err(refused(alloc, two, fault)?),
+    }
+}
+
 /// The answer of a job by the two grammars of a sheet.
 pub fn answer_of<S: Source>(
     alloc: Global,
@@ -199,5 +213,6 @@ pub fn answer_of<S: Source>(
         Job::ToTree { from, form } => to_tree(alloc, two, from, form, input),
         Job::FromTree { to } => from_tree(alloc, two, to, input),
         Job::Cover => show(alloc, two, input),
+        Job::Prove => proved(alloc, two, input),
     }
 }

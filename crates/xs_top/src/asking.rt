@@ -29,6 +29,8 @@ pub enum Job {
     FromTree { to: Side },
     /// A smallest document pair is shown for each production.
     Cover,
+    /// A certificate that the sheet is accepted is written.
+    Prove,
 }
 
 /// A sheet that the program includes.
@@ -45,6 +47,8 @@ pub enum Ask<'w> {
     Shipped(Core),
     /// The upgrade of a sheet.
     Upgrade { sheet: SheetName<'w> },
+    /// The check of a sheet by the certificate in the file of this name.
+    Certify { sheet: SheetName<'w>, cert: &'w str },
     /// A job by a sheet.
     By { sheet: SheetName<'w>, job: Job },
 }
@@ -70,6 +74,8 @@ fn ask_of(command: Command<'_>) -> Ask<'_>
         Command::PrintSheet => return Ask::Shipped(Core::One),
         Command::PrintSheet2 => return Ask::Shipped(Core::Two),
         Command::Upgrade { sheet } => return Ask::Upgrade { sheet },
+        Command::Prove { sheet } => (sheet, Job::Prove),
+        Command::CheckCert { sheet, cert } => return Ask::Certify { sheet, cert },
         Command::Make { seed, lines } => (SheetName::Leiden, Job::Make { seed, lines }),
         Command::Session { sheet } => (sheet, Job::Session),
         Command::ToTree { sheet, side, form } => (sheet, Job::ToTree { from: side, form }),

@@ -2,6 +2,7 @@ ghost use Rattle.std.specs.Prelude.{◌≡◌, ◌<◌, length, IfOk, IfErr, OnO
 ghost use Rattle.xs_gram.specs.Sound.{IsBuilt};
 ghost use Rattle.xs_pair.specs.Grammars.{grammar_of};
 ghost use Rattle.xs_pair.specs.Sound.{IsSoundPair};
+ghost use Rattle.xs_unique.specs.Reasons.{IsReason};
 ghost use Rattle.xs_wf.specs.Nonterminals.{IsPair};
 ghost use Rattle.xs_top.specs.Checks.{IsSure, IsUnsure, HasRules, name_at, line_at, report_at};
 ghost use Rattle.xs_top.specs.Stops.{StopsBy};
@@ -82,6 +83,23 @@ fn report(alloc: Global, two: &Two, suspect: Suspect) -> Result<Report, Memory>
     }
 }
 
+/// How a run ends whose sheet is not accepted.
+pub fn refused(alloc: Global, two: &Two, fault: AcceptFault) -> Result<Stop, Memory>
+    requires pair { IsPair two.now }
+    requires sound { IsSoundPair two.now }
+    requires reason { IsReason two.now.text two.now.xml fault }
+    ensures { IfOk result (StopsBy (IsUnsure two.now)) }
+{
+    match fault {
+        AcceptFault::Heavy { weight } => Ok(Stop::Refused(Outcome::Heavy { weight })),
+        AcceptFault::Suspect(suspect) => {
+            let report = report(alloc, two, suspect)?;
+            Ok(Stop::Refused(Outcome::Suspect(report)))
+        }
+        AcceptFault::Memory => Ok(Stop::Memory),
+    }
+}
+
 /// Makes sure that a sheet is accepted, so that each word of either side has at most one
 /// derivation.
 pub fn checked(alloc: Global, two: &Two) -> Result<(), Stop>
@@ -92,11 +110,6 @@ pub fn checked(alloc: Global, two: &Two) -> Result<(), Stop>
 {
     match accept(alloc, two) {
         Ok(_) => Ok(()),
-        Err(AcceptFault::Heavy { weight }) => Err(Stop::Refused(Outcome::Heavy { weight })),
-        Err(AcceptFault::Suspect(suspect)) => {
-            let report = report(alloc, two, suspect)?;
-            Err(Stop::Refused(Outcome::Suspect(report)))
-        }
-        Err(AcceptFault::Memory) => Err(Stop::Memory),
+        Err(fault) => Err(refused(alloc, two, fault)?),
     }
 }

@@ -1,4 +1,4 @@
-ghost use Rattle.xs_top.specs.Laws.{PairsAgree, SheetsAgree, OutlinesAgree, ScriptsAgree, OneAnswer, TranslatesBack, RoundIsIdempotent, TranslatesAgain, RefusesExactly, OneVerdict, CheckDecides, CheckDecidesUpgrades, CheckAccepts};
+ghost use Rattle.xs_top.specs.Laws.{PairsAgree, SheetsAgree, OutlinesAgree, ScriptsAgree, OneAnswer, TranslatesBack, RoundIsIdempotent, TranslatesAgain, RefusesExactly, OneVerdict, CheckDecides, CheckDecidesUpgrades, CheckDecidesCertificates, CheckAccepts};
 
 use xs_check_laws::weights_are_exact;
 use xs_sheet_laws::{alike_pairs_mean_the_same, alike_sheets_mean_the_same, one_pair, one_sheet};
@@ -57,12 +57,13 @@ pub fn refuses_exactly()
     bytes_agree();
 }
 
-/// Outcomes that tell different things of a sheet exclude each other; and once `check` is done no run
-/// refuses the sheet, and each word of either language has at most one derivation.
+/// Outcomes that tell different things of a sheet exclude each other; and once a check, with a
+/// certificate or without, or `prove` is done, no run refuses the sheet, and each word of either language has at most one derivation.
 pub fn check_decides()
     ensures one { OneVerdict }
     ensures decides { CheckDecides }
     ensures upgrades { CheckDecidesUpgrades }
+    ensures certificates { CheckDecidesCertificates }
     ensures accepts { CheckAccepts }
 {
     one_word();

@@ -13,6 +13,7 @@ ghost use Rattle.xs_top.specs.Ran.{Told, IsComplete};
 
 mod answer;
 mod asking;
+mod certified;
 mod checked;
 mod covered;
 mod documents;
@@ -29,11 +30,13 @@ mod written;
 
 use crate::answer::answer_of;
 use crate::asking::{Ask, asked};
+use crate::certified::certified;
 use crate::notes::{no_names, tell};
 use crate::sheets::{pair_for, shipped_bytes, upgrade_for};
 use crate::stop::Stop;
 use crate::written::written;
 pub use answer::DOCUMENT_LIMIT;
+pub use certified::CERTIFICATE_LIMIT;
 pub use laws::{
     bytes_agree, check_decides, one_answer, refuses_exactly, round_is_idempotent, translates_back,
 };
@@ -55,8 +58,9 @@ use xs_xml::one_word;
 /// and its answers are written; or the derivations of a text are listed; or the sheet is checked; or
 /// a smallest document pair is shown for each of its productions. The sheet is a file of the shelf,
 /// or one that the program includes, which can be written too; of the first of these a text can be
-/// made and turned. The upgrade of a sheet to version 2 can be written. All memory is taken
-/// before the first write.
+/// made and turned. The upgrade of a sheet to version 2 can be written; and a certificate that a
+/// sheet is accepted can be written, and a sheet checked by one. All memory is taken before the first
+/// write.
 pub fn run<S: Source, H: Shelf, K: Sink, N: Sink>(
     alloc: Global,
     words: &[String],
@@ -86,6 +90,11 @@ pub fn run<S: Source, H: Shelf, K: Sink, N: Sink>(
             return Ok(written(out, notes, &none, room, shipped_bytes(core)));
         }
         Some(Ask::Upgrade { sheet }) => match upgrade_for(alloc, shelf, sheet) {
+            Ok(answer) => return Ok(written(out, notes, &none, room, answer.as_slice())),
+            Err(Stop::Refused(outcome)) => return tell(alloc, notes, &none, outcome),
+            Err(Stop::Memory) => return Err(Memory),
+        },
+        Some(Ask::Certify { sheet, cert }) => match certified(alloc, shelf, sheet, cert) {
             Ok(answer) => return Ok(written(out, notes, &none, room, answer.as_slice())),
             Err(Stop::Refused(outcome)) => return tell(alloc, notes, &none, outcome),
             Err(Stop::Memory) => return Err(Memory),

@@ -19,9 +19,11 @@ pub fn status(outcome: &Outcome) -> u8
         Outcome::Usage => 5,
         Outcome::SheetFault
         | Outcome::ReadFault
+        | Outcome::CertFault
         | Outcome::WriteFault { .. }
         | Outcome::NoteFault { .. } => 6,
-        Outcome::DocLong => 7,
+        Outcome::DocLong | Outcome::CertLong => 7,
+        Outcome::CertBad { .. } => 9,
         Outcome::ScriptBad { .. } => 10,
         Outcome::OutlineBad { .. } => 11,
     }

@@ -1,6 +1,8 @@
+use xs_cert::CertFault;
 use xs_chars::DecodeFault;
 use xs_class::Memory;
 use xs_form::XmlFault;
+use xs_light::CheckFault;
 use xs_outline::OutlineFault;
 use xs_script::ScriptFault;
 use xs_sheet::SheetFault;
@@ -122,6 +124,35 @@ impl From<ScriptFault> for Stop {
         match fault {
             ScriptFault::ScriptBad { line } => Stop::Refused(Outcome::ScriptBad { line }),
             ScriptFault::Memory => Stop::Memory,
+        }
+    }
+}
+
+impl From<CheckFault> for Stop {
+    ghost use Rattle.std.specs.Prelude.{◌≡◌};
+    ghost use Rattle.xs_top.specs.Stops.{stop_of_check};
+
+    ghost from_gives = { λ fault e. e ≡ stop_of_check fault };
+
+    fn from(fault: CheckFault) -> Self {
+        match fault {
+            CheckFault::Heavy { weight } => Stop::Refused(Outcome::Heavy { weight }),
+            CheckFault::Memory => Stop::Memory,
+        }
+    }
+}
+
+impl From<CertFault> for Stop {
+    ghost use Rattle.std.specs.Prelude.{◌≡◌};
+    ghost use Rattle.xs_top.specs.Stops.{stop_of_certificate};
+
+    ghost from_gives = { λ fault e. e ≡ stop_of_certificate fault };
+
+    fn from(fault: CertFault) -> Self {
+        match fault {
+            CertFault::Heavy { weight } => Stop::Refused(Outcome::Heavy { weight }),
+            CertFault::CertBad { line } => Stop::Refused(Outcome::CertBad { line }),
+            CertFault::Memory => Stop::Memory,
         }
     }
 }

@@ -15,7 +15,8 @@ pub data Sheet : Type 0 where
   leiden2 : Sheet
   file : List ℕ → Sheet
 
--- a command, with its sheet, its side, its form and its numbers: a greatest number of trees, a seed and a number of lines
+-- a command, with its sheet, its side, its form, the name of a certificate's file, and its numbers: a
+-- greatest number of trees, a seed and a number of lines
 pub data Command : Type 0 where
   check : Sheet → Command
   to_xml : Sheet → Form → Command
@@ -27,6 +28,8 @@ pub data Command : Type 0 where
   print_sheet2 : Command
   make : ℕ → ℕ → Command
   upgrade : Sheet → Command
+  prove : Sheet → Command
+  check_cert : Sheet → List ℕ → Command
   session : Sheet → Command
   to_tree : Sheet → Side → Form → Command
   from_tree : Sheet → Side → Command
@@ -45,9 +48,9 @@ side_of word = if bytes_eq word (codes "text") then Some Text else (if bytes_eq 
 abbrev pub printed_of : List ℕ → Option Command
 printed_of number = if bytes_eq number (codes "2") then Some print_sheet2 else None
 
--- check SHEET, to-xml SHEET, to-text SHEET, session SHEET, cover SHEET, upgrade SHEET, sheet 2
+-- check SHEET, to-xml SHEET, to-text SHEET, session SHEET, cover SHEET, upgrade SHEET, prove SHEET, sheet 2
 abbrev pub command_of_two : List ℕ → List ℕ → Option Command
-command_of_two verb sheet = if bytes_eq verb (codes "check") then Some (check (sheet_of sheet)) else (if bytes_eq verb (codes "to-xml") then Some (to_xml (sheet_of sheet) AsIs) else (if bytes_eq verb (codes "to-text") then Some (to_text (sheet_of sheet)) else (if bytes_eq verb (codes "session") then Some (session (sheet_of sheet)) else (if bytes_eq verb (codes "cover") then Some (cover (sheet_of sheet)) else (if bytes_eq verb (codes "upgrade") then Some (upgrade (sheet_of sheet)) else (if bytes_eq verb (codes "sheet") then printed_of sheet else None))))))
+command_of_two verb sheet = if bytes_eq verb (codes "check") then Some (check (sheet_of sheet)) else (if bytes_eq verb (codes "to-xml") then Some (to_xml (sheet_of sheet) AsIs) else (if bytes_eq verb (codes "to-text") then Some (to_text (sheet_of sheet)) else (if bytes_eq verb (codes "session") then Some (session (sheet_of sheet)) else (if bytes_eq verb (codes "cover") then Some (cover (sheet_of sheet)) else (if bytes_eq verb (codes "upgrade") then Some (upgrade (sheet_of sheet)) else (if bytes_eq verb (codes "prove") then Some (prove (sheet_of sheet)) else (if bytes_eq verb (codes "sheet") then printed_of sheet else None)))))))
 
 -- round SHEET text, round SHEET xml
 abbrev pub round_of : List ℕ → List ℕ → Option Command
@@ -68,14 +71,14 @@ to_tree_of sheet (Some side) = Some (to_tree (sheet_of sheet) side AsIs)
 abbrev pub command_of_three : List ℕ → List ℕ → List ℕ → Option Command
 command_of_three verb first second = if bytes_eq verb (codes "to-xml") then option_map (to_xml (sheet_of first)) (form_of second) else (if bytes_eq verb (codes "round") then round_of first second else (if bytes_eq verb (codes "trees") then option_map (trees (sheet_of first)) (number_within 1 1000 second) else (if bytes_eq verb (codes "make") then make_of (number_within 0 2147483647 first) (number_within 1 2000 second) else (if bytes_eq verb (codes "to-tree") then to_tree_of first (side_of second) else (if bytes_eq verb (codes "from-tree") then option_map (from_tree (sheet_of first)) (side_of second) else None)))))
 
--- round SHEET text FORM, to-tree SHEET text FORM
+-- round SHEET text FORM, to-tree SHEET text FORM, check SHEET cert FILE
 abbrev pub command_of_four : List ℕ → List ℕ → List ℕ → List ℕ → Option Command
-command_of_four verb sheet side form = if bytes_eq verb (codes "round") && bytes_eq side (codes "text") then option_map (round_text (sheet_of sheet)) (form_of form) else (if bytes_eq verb (codes "to-tree") && bytes_eq side (codes "text") then option_map (to_tree (sheet_of sheet) Text) (form_of form) else None)
+command_of_four verb sheet third last = if bytes_eq verb (codes "round") && bytes_eq third (codes "text") then option_map (round_text (sheet_of sheet)) (form_of last) else (if bytes_eq verb (codes "to-tree") && bytes_eq third (codes "text") then option_map (to_tree (sheet_of sheet) Text) (form_of last) else (if bytes_eq verb (codes "check") && bytes_eq third (codes "cert") then Some (check_cert (sheet_of sheet) last) else None))
 
 -- the command that the words are, or none; a text is taken as it is where no form is named
 abbrev pub command_of : List (List ℕ) → Option Command
 command_of (verb ∷ []) = if bytes_eq verb (codes "sheet") then Some print_sheet else None
 command_of (verb ∷ sheet ∷ []) = command_of_two verb sheet
 command_of (verb ∷ first ∷ second ∷ []) = command_of_three verb first second
-command_of (verb ∷ sheet ∷ side ∷ form ∷ []) = command_of_four verb sheet side form
+command_of (verb ∷ sheet ∷ third ∷ last ∷ []) = command_of_four verb sheet third last
 command_of words = None

@@ -3,8 +3,8 @@ use Rattle.std.specs.Prelude.{◌≤◌}
 use Rattle.xs_words.specs.declared.command.SheetName.{SheetName}
 use Rattle.xs_words.specs.declared.command.SheetName.TheVariants.{Leiden, Leiden2, File}
 use Rattle.xs_words.specs.declared.command.Command.{Command as Asked}
-use Rattle.xs_words.specs.declared.command.Command.TheVariants.{Check, ToXml, ToText, RoundText, RoundXml, Trees, PrintSheet, Make, Session, ToTree, FromTree, Cover, PrintSheet2, Upgrade}
-use Rattle.xs_words.specs.Command.{Sheet, leiden, file, Command, check, to_xml, to_text, round_text, round_xml, trees, print_sheet, make, session, to_tree, from_tree, cover, leiden2, print_sheet2, upgrade}
+use Rattle.xs_words.specs.declared.command.Command.TheVariants.{Check, ToXml, ToText, RoundText, RoundXml, Trees, PrintSheet, Make, Session, ToTree, FromTree, Cover, PrintSheet2, Upgrade, Prove, CheckCert}
+use Rattle.xs_words.specs.Command.{Sheet, leiden, file, Command, check, to_xml, to_text, round_text, round_xml, trees, print_sheet, make, session, to_tree, from_tree, cover, leiden2, print_sheet2, upgrade, prove, check_cert}
 
 abbrev pub sheet_meant : SheetName → Sheet
 sheet_meant Leiden = leiden
@@ -22,6 +22,8 @@ meant PrintSheet = print_sheet
 meant PrintSheet2 = print_sheet2
 meant (Make seed lines) = make seed lines
 meant (Upgrade sheet) = upgrade (sheet_meant sheet)
+meant (Prove sheet) = prove (sheet_meant sheet)
+meant (CheckCert sheet cert) = check_cert (sheet_meant sheet) cert.now
 meant (Session sheet) = session (sheet_meant sheet)
 meant (ToTree sheet side form) = to_tree (sheet_meant sheet) side form
 meant (FromTree sheet side) = from_tree (sheet_meant sheet) side

@@ -54,6 +54,15 @@ pub enum Command<'w> {
     Upgrade {
         sheet: SheetName<'w>,
     },
+    /// `prove SHEET`: a certificate that the sheet is accepted.
+    Prove {
+        sheet: SheetName<'w>,
+    },
+    /// `check SHEET cert FILE`: whether the sheet is accepted, by a certificate in place of the search.
+    CheckCert {
+        sheet: SheetName<'w>,
+        cert: &'w str,
+    },
     /// `session SHEET`: the edit script of the input, played and answered line by line.
     Session {
         sheet: SheetName<'w>,

@@ -1,6 +1,6 @@
 //! The words that the program is called with, and the command that they are.
 //!
-//! Exactly nineteen forms of words are commands, and any other list of words is none. A command names
+//! Exactly twenty-one forms of words are commands, and any other list of words is none. A command names
 //! its sheet, the form that its text is put into, and its numbers.
 #![tactic(auto)]
 

@@ -77,6 +77,7 @@ fn of_two<'w>(verb: &str, second: &'w str) -> Option<Command<'w>>
         "session" => Some(Command::Session { sheet }),
         "cover" => Some(Command::Cover { sheet }),
         "upgrade" => Some(Command::Upgrade { sheet }),
+        "prove" => Some(Command::Prove { sheet }),
         "sheet" => printed(second),
         _ => None,
     }
@@ -150,23 +151,25 @@ fn of_three<'w>(verb: &str, first: &'w str, second: &str) -> Option<Command<'w>>
 }
 
 /// A command of four words.
-fn of_four<'w>(verb: &str, sheet: &'w str, side: &str, form: &str) -> Option<Command<'w>>
-    ensures command { option_map meant result ≡ command_of_four verb.now sheet.now side.now form.now }
+fn of_four<'w>(verb: &str, sheet: &'w str, third: &str, last: &'w str) -> Option<Command<'w>>
+    ensures command { option_map meant result ≡ command_of_four verb.now sheet.now third.now last.now }
     ensures lines { IfSome result HasLines }
 {
-    if verb == "round" && side == "text" {
-        let form = form_named(form)?;
-        let sheet = sheet_name(sheet);
+    let sheet = sheet_name(sheet);
+    if verb == "round" && third == "text" {
+        let form = form_named(last)?;
         return Some(Command::RoundText { sheet, form });
     }
-    if verb == "to-tree" && side == "text" {
-        let form = form_named(form)?;
-        let sheet = sheet_name(sheet);
+    if verb == "to-tree" && third == "text" {
+        let form = form_named(last)?;
         return Some(Command::ToTree {
             sheet,
             side: Side::Text,
             form,
         });
+    }
+    if verb == "check" && third == "cert" {
+        return Some(Command::CheckCert { sheet, cert: last });
     }
     None
 }
@@ -175,9 +178,9 @@ fn of_four<'w>(verb: &str, sheet: &'w str, side: &str, form: &str) -> Option<Com
 ///
 /// The forms are `check SHEET`, `to-xml SHEET`, `to-xml SHEET FORM`, `to-text SHEET`,
 /// `round SHEET text`, `round SHEET text FORM`, `round SHEET xml`, `trees SHEET MAX`, `sheet`,
-/// `sheet 2`, `make SEED LINES`, `upgrade SHEET`, `session SHEET`, `to-tree SHEET text`,
-/// `to-tree SHEET text FORM`, `to-tree SHEET xml`, `from-tree SHEET text`, `from-tree SHEET xml` and
-/// `cover SHEET`. SHEET is `@leiden`, `@leiden2` or a file's name, and FORM `asis`, which is meant
+/// `sheet 2`, `make SEED LINES`, `upgrade SHEET`, `prove SHEET`, `check SHEET cert FILE`,
+/// `session SHEET`, `to-tree SHEET text`, `to-tree SHEET text FORM`, `to-tree SHEET xml`,
+/// `from-tree SHEET text`, `from-tree SHEET xml` and `cover SHEET`. FILE is a file's name. SHEET is `@leiden`, `@leiden2` or a file's name, and FORM `asis`, which is meant
 /// where it is left out, `nfc` or `nfd`. MAX is 1 to 1,000, SEED 0 to 2,147,483,647 and LINES 1 to
 /// 2,000, each in decimal digits without a sign, and without a leading zero but for `0` itself. Takes
 /// no memory; time is linear in the words.
@@ -196,11 +199,11 @@ pub fn command_of(words: &[String]) -> Option<Command<'_>>
         }
         [verb, sheet] => of_two(verb.as_str(), sheet.as_str()),
         [verb, first, second] => of_three(verb.as_str(), first.as_str(), second.as_str()),
-        [verb, sheet, side, form] => of_four(
+        [verb, sheet, third, last] => of_four(
             verb.as_str(),
             sheet.as_str(),
-            side.as_str(),
-            form.as_str(),
+            third.as_str(),
+            last.as_str(),
         ),
         [_, _, _, _, _, ..] => None,
     }
