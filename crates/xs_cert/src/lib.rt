@@ -11,7 +11,9 @@ mod certify;
 mod fault;
 mod heads;
 mod prove;
+mod relating;
 mod weigh;
+mod writer;
 
 pub use certified::Certified;
 pub use certify::certify;

@@ -41,7 +41,7 @@ same_number : {m n : ℕ} → m ≡ n → nat_eq m n ≡ true
 same_number e = rw e (eq_self _)
 
 -- the items from one place of a rule to another
-slice_stretch : {g : Grammar} {p start end : ℕ} → p < length g.rules → start ≤ length (spread g p) → start ≤ end → IsLevel g.fences (slice_range (spread g p) start end) → IsStretch g p start (slice_range (spread g p) start end)
+pub slice_stretch : {g : Grammar} {p start end : ℕ} → p < length g.rules → start ≤ length (spread g p) → start ≤ end → IsLevel g.fences (slice_range (spread g p) start end) → IsStretch g p start (slice_range (spread g p) start end)
 slice_stretch {g} {p} {start} {end} rule low order level = record {
   rule = rule;
   before = take start (spread g p);
