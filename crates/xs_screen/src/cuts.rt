@@ -1,4 +1,4 @@
-ghost use Rattle.std.specs.Prelude.{◌≡◌, ◌<◌, ◌⊎◌, true, false, set, length, IfOk, IfSome};
+ghost use Rattle.std.specs.Prelude.{◌≡◌, ◌<◌, ◌⊎◌, true, false, set, length, IfOk, OnOk, IfSome};
 ghost use Rattle.std.specs.List.{Contains};
 ghost use Rattle.xs_gram.specs.Sound.{IsBuilt};
 ghost use Rattle.xs_stretch.specs.Parts.{IsPart};
@@ -26,8 +26,8 @@ use xs_stretch::Part;
 const LONGEST_END: u32 = 64;
 
 impl Screen {
-    /// For each place of a rule's spread items whether its cut is in doubt: of the others it is
-    /// seen that front and rest do not overlap.
+    /// Says in the list, for each place of a rule's spread items, whether its cut is in doubt: of
+    /// the others it is seen that front and rest do not overlap.
     ///
     /// Where the cover of the rule is kept, it is looked at and let go: ask for its pairs first.
     pub fn doubts(
@@ -36,17 +36,19 @@ impl Screen {
         g: &Gram,
         groups: &Numbers,
         rule: u32,
-    ) -> Result<Vec<bool>, Memory>
+        doubts: &mut Vec<bool>,
+    ) -> Result<(), Memory>
         requires built { IsBuilt g.now }
         requires groups { AreNumbersBefore g.now (length g.now.rules) groups.now }
         requires screen { IsScreen g.now self.old }
         requires rule { rule < length g.now.rules }
         ensures screen { IsScreen g.now self.new }
-        ensures doubts { IfOk result (λ ds. AreDoubts g.now rule ds.items) }
+        ensures doubts { OnOk result (AreDoubts g.now rule doubts.new.items) }
     {
         let part = whole(g, rule);
-        let mut doubts = vec![in alloc; true; g.spread(rule).len() + 1]?;
-        self.clear_part(alloc, g, groups, &part, &mut doubts)?;
+        doubts.clear();
+        doubts.resize(g.spread(rule).len() + 1, true)?;
+        self.clear_part(alloc, g, groups, &part, doubts)?;
         'items: for place in 0..part.end {
             let Some(partner) = g.partner(rule, place) else {
                 continue;
@@ -56,9 +58,9 @@ impl Screen {
                 start: place + 1,
                 end: partner,
             };
-            self.clear_part(alloc, g, groups, &inside, &mut doubts)?;
+            self.clear_part(alloc, g, groups, &inside, doubts)?;
         }
-        Ok(doubts)
+        Ok(())
     }
 
     /// Takes away the doubt of those cuts of a part at which it is seen that nothing overlaps.
