@@ -2,7 +2,7 @@
 -- clear nothing overlaps.
 use Rattle.std.proofs.Common.{◌≡◌, ◌≢◌, ◌⊎◌, inl, inr, ℕ, zero, suc, ◌-◌, ◌<◌, Bool, true, false, List, [], ◌∷◌, refl, length, length-set, length-append, get_or, set, take, drop, ap, sym, subst, ◌∙◌, arith}
 use Rattle.std.proofs.lemmas.Bool.{cases_lt, cases_eq}
-use Rattle.std.proofs.lemmas.Option.{same_Some}
+use Rattle.std.proofs.lemmas.Option.{same_Some, slice_get_read}
 use Rattle.std.specs.declared.option.Option.{Option}
 use Rattle.std.specs.declared.option.Option.TheVariants.{Some, None}
 use Rattle.std.specs.Option.{IfSome}
@@ -34,10 +34,10 @@ use Rattle.xs_coarse_net.proofs.Keeping.{covers_same}
 use Rattle.xs_coarse.specs.Labels.{IsLabelsOf}
 use Rattle.xs_apart.specs.declared.tail.Tail.{Tail}
 use Rattle.xs_apart.specs.Sets.{AreClear}
-use Rattle.xs_screen.specs.declared.ready.Ready.{Ready}
+use Rattle.xs_screen.specs.declared.kept.Kept.{Kept}
 use Rattle.xs_screen.specs.declared.screen.Screen.{Screen}
 use Rattle.xs_screen.specs.Parting.{Parts}
-use Rattle.xs_screen.specs.Screens.{IsScreen, IsReady, IsTailOf, IsMadeOf, IsKept, AreNone, AreEndsApart, ShareNone, OverlapNowhere, AreDoubts, whole_part}
+use Rattle.xs_screen.specs.Screens.{IsScreen, IsWholeCover, IsEndOf, IsTailOf, AreOf, AreNone, AreKept, AreEndsApart, ShareNone, OverlapNowhere, AreDoubts, whole_part}
 
 pub whole_items : (g : Grammar) (p : ℕ) → part_items g (whole_part g p) ≡ spread g p
 whole_items g p = take_all (length (spread g p) - 0) (spread g p) (omega arith)
@@ -58,7 +58,7 @@ module _ (g : Grammar) (built : IsBuilt g) (s : Screen) (screen : IsScreen g s) 
   -- so do rules whose ends are apart
   pub ends_share : ApartSharesNone → (p q : ℕ) → p < length g.rules → q < length g.rules → (one other : Tail) → IsTailOf g s.labels p one → IsTailOf g s.labels q other → AreEndsApart s.labels one other → ShareNone g p q
   ends_share law p q rule rule2 one other h k apart =
-      apart_shares law p q rule rule2 h.cover k.cover h.covers k.covers (apart h.cover.net k.cover.net h.cover.last h.gate k.cover.last k.gate h.within k.within h.is k.is)
+      apart_shares law p q rule rule2 h.cover k.cover h.covers k.covers (apart h.cover.net k.cover.net h.cover.last h.end.gate k.cover.last k.end.gate h.end.within k.end.within h.end.is k.end.is)
 
   pub clear_overlaps : ClearOverlapsNot → CutsAreOne → (part : Part) (c : Cover) (place here : ℕ) → IsPart g part → IsCoverOf g s.labels part c → CoversCut g (cover_view s.labels c) part.rule part.start place part.end here c.last → here < c.net.states → CutsAt g.fences (spread g part.rule) place part.start part.end → AreClear (MayCall s.labels) (view s.labels c.net 0 here) (view s.labels c.net here c.last) → OverlapNowhere g part.rule place
   clear_overlaps law once part c place here is_part cover covers low cuts clear x a y h =
@@ -121,74 +121,65 @@ set_here [] i x y e = absurd cc
 set_here (z ∷ zs) zero x y e = same_Some _ _ e
 set_here (z ∷ zs) (suc i) x y e = set_here zs i x y e
 
--- a screen stays one where covers are made
-pub screen_covered : (g : Grammar) (s new : Screen) → IsScreen g s → new.labels ≡ s.labels → IsCovers g s.labels new.covers → new.covers.contents.items ≡ s.covers.contents.items → new.rules.items ≡ s.rules.items → IsScreen g new
-screen_covered g s new was labels is contents rules = record {
+-- what is kept is still so where something of a rule is kept, or nothing any longer
+of_set : {A : Type 0} (P : ℕ → A → Type 0) (xs : List (Option A)) (p : ℕ) (made : Option A) → AreOf P xs → IfSome made (P p) → AreOf P (set xs p made)
+of_set {A} P xs p made was of q x at =
+    elim (cases_eq q p) [
+      | inl same ↦ subst (λ (k : ℕ). P k x) (sym same) (here (ap (λ (k : ℕ). slice_get (set xs p made) k) (sym same) ∙ at))
+      | inr other ↦ was q x (sym (set_other xs p q made other) ∙ at)
+    ]
+  where
+    here : slice_get (set xs p made) p ≡ Some (Some x) → P p x
+    here e = subst (λ (o : Option A). IfSome o (P p)) (set_here xs p made (Some x) e) of
+
+-- so it is where the end of a rule's cover is kept, and the cover where there is room
+pub kept_more : (g : Grammar) (t : Table) (old new : Kept) (p : ℕ) (tail : Tail) (cover : Cover) → AreKept g t old → IsWholeCover g t p cover → IsEndOf cover tail → new.tails.items ≡ set old.tails.items p (Some tail) → (new.covers.items ≡ old.covers.items) ⊎ (new.covers.items ≡ set old.covers.items p (Some cover)) → AreKept g t new
+kept_more g t old new p tail cover was whole end tails covers = record {
+  tails = ap (λ (xs : List (Option Tail)). length xs) tails ∙ length-set old.tails.items p (Some tail) ∙ was.tails;
+  covers = elim covers [
+    | inl same ↦ ap (λ (xs : List (Option Cover)). length xs) same ∙ was.covers
+    | inr more ↦ ap (λ (xs : List (Option Cover)). length xs) more ∙ length-set old.covers.items p (Some cover) ∙ was.covers
+  ];
+  each_tail = subst (λ (xs : List (Option Tail)). AreOf (IsTailOf g t) xs) (sym tails) (of_set (IsTailOf g t) old.tails.items p (Some tail) was.each_tail (record { cover = cover; covers = whole; end = end }));
+  each_cover = elim covers [
+    | inl same ↦ subst (λ (xs : List (Option Cover)). AreOf (IsWholeCover g t) xs) (sym same) was.each_cover
+    | inr more ↦ subst (λ (xs : List (Option Cover)). AreOf (IsWholeCover g t) xs) (sym more) (of_set (IsWholeCover g t) old.covers.items p (Some cover) was.each_cover whole)
+  ];
+}
+
+-- what stands in the place of a rule is so
+pub held_of : {A : Type 0} (P : ℕ → A → Type 0) (xs : List (Option A)) (p : ℕ) (x : A) → AreOf P xs → get_or xs p None ≡ Some x → P p x
+held_of {A} P xs p x was at = was p x (there xs p at)
+  where
+    there : (ys : List (Option A)) (i : ℕ) → get_or ys i None ≡ Some x → slice_get ys i ≡ Some (Some x)
+    there [] i e = absurd cc
+    there (y ∷ ys) zero e = ap (λ (o : Option A). Some o) e
+    there (y ∷ ys) (suc i) e = there ys i e
+
+pub read_of : {A : Type 0} (P : ℕ → A → Type 0) (xs : List (Option A)) (p : ℕ) (read : Option A) (x : A) → AreOf P xs → p < length xs → read ≡ get_or xs p read → read ≡ Some x → P p x
+read_of P xs p read x was within at is = was p x (slice_get_read xs (length xs) p read refl within at ∙ ap Some is)
+
+-- so is the cover that is taken out, if there is one
+pub taken_cover : (g : Grammar) (t : Table) (p : ℕ) (covers : List (Option Cover)) (taken : Option Cover) → AreOf (IsWholeCover g t) covers → taken ≡ get_or covers p None → IfSome taken (IsWholeCover g t p)
+taken_cover g t p covers None each at = tt
+taken_cover g t p covers (Some cover) each at = held_of (IsWholeCover g t) covers p cover each (sym at)
+
+-- so is the cover that is kept of a rule, or else was made
+pub held_cover : (g : Grammar) (t : Table) (p : ℕ) (covers : List (Option Cover)) (made : Option Cover) (cover : Cover) → AreOf (IsWholeCover g t) covers → IfSome made (IsWholeCover g t p) → (get_or covers p None ≡ Some cover) ⊎ (made ≡ Some cover) → IsWholeCover g t p cover
+held_cover g t p covers made cover each new at =
+    elim at [
+      | inl kept ↦ held_of (IsWholeCover g t) covers p cover each kept
+      | inr now ↦ subst (λ (o : Option Cover). IfSome o (IsWholeCover g t p)) now new
+    ]
+
+-- a screen stays one where covers are made, and where more or less is kept of rules
+pub screen_kept : (g : Grammar) (s new : Screen) → IsScreen g s → new.labels ≡ s.labels → IsCovers g s.labels new.covers → new.covers.contents.items ≡ s.covers.contents.items → AreKept g s.labels new.kept → IsScreen g new
+screen_kept g s new was labels is contents kept = record {
   labels = subst (λ (t : Table). IsLabelsOf g t) (sym labels) was.labels;
   covers = subst (λ (t : Table). IsCovers g t new.covers) (sym labels) is;
   settled = subst (λ (t : Table). IsSettled (nest_of t new.covers.contents.items) (MayCall t)) (sym labels) (subst (λ (items : List Content). IsSettled (nest_of s.labels items) (MayCall s.labels)) (sym contents) was.settled);
-  counted = ap (λ (l : List (Option Ready)). length l) rules ∙ was.counted;
-  rules = λ q r at. subst (λ (t : Table). IsReady g t q r) (sym labels) (was.rules q r (ap (λ (l : List (Option Ready)). slice_get l q) (sym rules) ∙ at));
+  kept = subst (λ (t : Table). AreKept g t new.kept) (sym labels) kept;
 }
-
--- and where something is ready of a rule, or nothing any longer
-pub screen_set : (g : Grammar) (s new : Screen) (p : ℕ) (made : Option Ready) → IsScreen g s → new.labels ≡ s.labels → new.covers ≡ s.covers → new.rules.items ≡ set s.rules.items p made → IfSome made (IsReady g s.labels p) → IsScreen g new
-screen_set g s new p made was labels covers set_is of = record {
-  labels = subst (λ (t : Table). IsLabelsOf g t) (sym labels) was.labels;
-  covers = subst (λ (t : Table). IsCovers g t new.covers) (sym labels) (subst (λ (x : Covers). IsCovers g s.labels x) (sym covers) was.covers);
-  settled = subst (λ (t : Table). IsSettled (nest_of t new.covers.contents.items) (MayCall t)) (sym labels) (subst (λ (x : Covers). IsSettled (nest_of s.labels x.contents.items) (MayCall s.labels)) (sym covers) was.settled);
-  counted = ap (λ (l : List (Option Ready)). length l) set_is ∙ length-set s.rules.items p made ∙ was.counted;
-  rules = λ q r at. subst (λ (t : Table). IsReady g t q r) (sym labels) (kept q r (ap (λ (l : List (Option Ready)). slice_get l q) (sym set_is) ∙ at));
-}
-  where
-    beside : (q : ℕ) (r : Ready) → q ≢ p → slice_get (set s.rules.items p made) q ≡ Some (Some r) → IsReady g s.labels q r
-    beside q r other at = was.rules q r (sym (set_other s.rules.items p q made other) ∙ at)
-
-    here : (r : Ready) → slice_get (set s.rules.items p made) p ≡ Some (Some r) → IsReady g s.labels p r
-    here r at = subst (λ (o : Option Ready). IfSome o (IsReady g s.labels p)) (set_here s.rules.items p made (Some r) at) of
-
-    kept : (q : ℕ) (r : Ready) → slice_get (set s.rules.items p made) q ≡ Some (Some r) → IsReady g s.labels q r
-    kept q r at =
-        elim (cases_eq q p) [
-          | inl same ↦ subst (λ (x : ℕ). IsReady g s.labels x r) (sym same) (here r (ap (λ (x : ℕ). slice_get (set s.rules.items p made) x) (sym same) ∙ at))
-          | inr other ↦ beside q r other at
-        ]
-
--- so it does where nothing is ready of a rule any longer, and covers are made
-pub screen_remade : (g : Grammar) (s new : Screen) (p : ℕ) → IsScreen g s → new.labels ≡ s.labels → IsCovers g s.labels new.covers → new.covers.contents.items ≡ s.covers.contents.items → new.rules.items ≡ set s.rules.items p None → IsScreen g new
-screen_remade g s new p was labels is contents none =
-    let without : Screen = record s { rules = new.rules } in
-    screen_covered g without new (screen_set g s without p None was refl refl none tt) labels is contents refl
-
--- what was taken out was ready of the rule
-pub taken_ready : (g : Grammar) (s : Screen) (p : ℕ) (r : Ready) → IsScreen g s → get_or s.rules.items p None ≡ Some r → IsReady g s.labels p r
-taken_ready g s p r was at = was.rules p r (held s.rules.items p at)
-  where
-    held : (xs : List (Option Ready)) (i : ℕ) → get_or xs i None ≡ Some r → slice_get xs i ≡ Some (Some r)
-    held [] i e = absurd cc
-    held (x ∷ xs) zero e = ap (λ (o : Option Ready). Some o) e
-    held (x ∷ xs) (suc i) e = held xs i e
-
--- what is made of a cover of a rule is ready of it
-pub made_ready : (g : Grammar) (t : Table) (p : ℕ) (cover : Cover) (r : Ready) → IsCoverOf g t (whole_part g p) cover → IsMadeOf cover r → IsReady g t p r
-made_ready g t p cover r covers made = record {
-  tail = record { cover = cover; gate = made.gate; covers = covers; within = made.within; is = made.tail };
-  kept = subst (λ (o : Option Cover). IfSome o (IsCoverOf g t (whole_part g p))) (sym made.kept) covers;
-}
-
-pub if_made_ready : (g : Grammar) (t : Table) (p : ℕ) (cover : Cover) (made : Option Ready) → IsCoverOf g t (whole_part g p) cover → IfSome made (IsMadeOf cover) → IfSome made (IsReady g t p)
-if_made_ready g t p cover None covers made = tt
-if_made_ready g t p cover (Some r) covers made = made_ready g t p cover r covers made
-
--- so is what is kept of it
-pub kept_ready : (g : Grammar) (t : Table) (p : ℕ) (r : Ready) (cover : Option Cover) → IsReady g t p r → IfSome cover (λ c. r.cover ≡ Some c) → IsReady g t p (record { tail = r.tail; cover = cover })
-kept_ready g t p r None was of = record { tail = was.tail; kept = tt }
-kept_ready g t p r (Some c) was of = record { tail = was.tail; kept = subst (λ (o : Option Cover). IfSome o (IsCoverOf g t (whole_part g p))) of was.kept }
-
--- a screen stays one where what is ready of a rule is kept
-pub screen_keeps : (g : Grammar) (s new : Screen) (p : ℕ) (r : Ready) → IsScreen g s → IsReady g s.labels p r → new.labels ≡ s.labels → new.covers ≡ s.covers → IsKept s.rules.items p r new.rules.items → IsScreen g new
-screen_keeps g s new p r was ready labels covers kept =
-    screen_set g s new p (Some (record { tail = r.tail; cover = kept.cover })) was labels covers kept.is (kept_ready g s.labels p r kept.cover ready kept.of)
 
 -- labels of which some were parted are still those of the grammar
 labels_same : (g : Grammar) {old new : Table} → Parts old new → IsLabelsOf g old → IsLabelsOf g new
@@ -198,12 +189,21 @@ labels_same g {old} {new} h was = record {
   few = omega (arith, was.few, ap length h.parted.classes, h.groups);
 }
 
--- labels, covers and settled groups make a screen without covers of rules
-pub screen_made : (g : Grammar) (old : Table) (s : Screen) → Parts old s.labels → IsLabelsOf g old → IsCovers g old s.covers → IsSettled (nest_of s.labels s.covers.contents.items) (MayCall s.labels) → length s.rules.items ≡ length g.rules → AreNone s.rules.items → IsScreen g s
-screen_made g old s parts labels covers settled counted none = record {
+-- labels, covers and settled groups make a screen of which nothing is kept of rules
+pub screen_made : (g : Grammar) (old : Table) (s : Screen) → Parts old s.labels → IsLabelsOf g old → IsCovers g old s.covers → IsSettled (nest_of s.labels s.covers.contents.items) (MayCall s.labels) → AreNone (length g.rules) s.kept → IsScreen g s
+screen_made g old s parts labels covers settled none = record {
   labels = labels_same g parts labels;
   covers = covers_same old s.labels parts.parted.classes g s.covers covers;
   settled = settled;
-  counted = counted;
-  rules = λ p c at. absurd (none p c at);
+  kept = record { tails = none.tails; covers = none.covers; each_tail = λ p x at. absurd (none.no_tail p x at); each_cover = λ p x at. absurd (none.no_cover p x at) };
 }
+
+-- a screen stays one where the cover of a rule is kept no longer
+pub screen_taken : (g : Grammar) (s new : Screen) (p : ℕ) → IsScreen g s → new.labels ≡ s.labels → new.covers ≡ s.covers → new.kept.tails.items ≡ s.kept.tails.items → new.kept.covers.items ≡ set s.kept.covers.items p None → IsScreen g new
+screen_taken g s new p was labels same tails covers =
+    screen_kept g s new was labels (subst (λ (x : Covers). IsCovers g s.labels x) (sym same) was.covers) (ap (λ (x : Covers). x.contents.items) same) (record {
+      tails = ap (λ (xs : List (Option Tail)). length xs) tails ∙ was.kept.tails;
+      covers = ap (λ (xs : List (Option Cover)). length xs) covers ∙ length-set s.kept.covers.items p None ∙ was.kept.covers;
+      each_tail = subst (λ (xs : List (Option Tail)). AreOf (IsTailOf g s.labels) xs) (sym tails) was.kept.each_tail;
+      each_cover = subst (λ (xs : List (Option Cover)). AreOf (IsWholeCover g s.labels) xs) (sym covers) (of_set (IsWholeCover g s.labels) s.kept.covers.items p None was.kept.each_cover tt);
+    })

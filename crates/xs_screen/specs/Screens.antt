@@ -1,5 +1,5 @@
 -- What a screen stands on, and what it sees.
-use Rattle.std.specs.Prelude.{◌≡◌, ℕ, Bool, true, false, List, length, get_or, set, slice_get, Some, IfSome}
+use Rattle.std.specs.Prelude.{◌≡◌, ℕ, Bool, true, false, List, length, get_or, slice_get, Some}
 use Rattle.std.specs.declared.option.Option.{Option}
 use Rattle.xs_gram.specs.Grammar.{Grammar}
 use Rattle.xs_gram.specs.Fences.{spread}
@@ -15,55 +15,54 @@ use Rattle.xs_coarse_net.specs.declared.cover.Cover.{Cover}
 use Rattle.xs_coarse_net.specs.Contents.{nest_of}
 use Rattle.xs_coarse_net.specs.Covers.{IsCoverOf}
 use Rattle.xs_coarse_net.specs.Having.{IsCovers}
-use Rattle.xs_screen.specs.declared.ready.Ready.{Ready}
+use Rattle.xs_screen.specs.declared.kept.Kept.{Kept}
 use Rattle.xs_screen.specs.declared.screen.Screen.{Screen}
 
 -- all spread items of rule p
 abbrev pub whole_part : Grammar → ℕ → Part
 whole_part g p = record { rule = p; start = 0; end = length (spread g p) }
 
--- the end is that of the net of a cover of rule p
-pub record IsTailOf (g : Grammar) (t : Table) (p : ℕ) (tail : Tail) : Type 0 where
-  pub cover : Cover
+-- the end is that of the net of this cover
+pub record IsEndOf (cover : Cover) (tail : Tail) : Type 0 where
   pub gate : ℕ
-  pub covers : IsCoverOf g t (whole_part g p) cover
   pub within : IsWithinAll cover.net
   pub is : IsTail cover.net cover.last gate tail
 
--- what is ready is the end of a cover of rule p, and a cover of it, if one is kept
-pub record IsReady (g : Grammar) (t : Table) (p : ℕ) (ready : Ready) : Type 0 where
-  pub tail : IsTailOf g t p ready.tail
-  pub kept : IfSome ready.cover (IsCoverOf g t (whole_part g p))
+-- the cover is one of all spread items of rule p
+abbrev pub IsWholeCover : Grammar → Table → ℕ → Cover → Type 0
+IsWholeCover g t p cover = IsCoverOf g t (whole_part g p) cover
 
--- what is ready has this cover, and an end of its net
-pub record IsMadeOf (cover : Cover) (ready : Ready) : Type 0 where
-  pub gate : ℕ
-  pub within : IsWithinAll cover.net
-  pub tail : IsTail cover.net cover.last gate ready.tail
-  pub kept : ready.cover ≡ Some cover
+-- the end is that of the net of such a cover
+pub record IsTailOf (g : Grammar) (t : Table) (p : ℕ) (tail : Tail) : Type 0 where
+  pub cover : Cover
+  pub covers : IsWholeCover g t p cover
+  pub end : IsEndOf cover tail
 
--- the end is kept in the place of rule p, and the cover, unless there is none
-pub record IsKept (old : List (Option Ready)) (p : ℕ) (ready : Ready) (new : List (Option Ready)) : Type 0 where
-  pub cover : Option Cover
-  pub of : IfSome cover (λ c. ready.cover ≡ Some c)
-  pub is : new ≡ set old p (Some (record { tail = ready.tail; cover = cover }))
+-- what is kept in the place of each rule, if something is, is so
+abbrev pub AreOf : {A : Type 0} → (ℕ → A → Type 0) → List (Option A) → Type 0
+AreOf {A} P kept = (p : ℕ) (x : A) → slice_get kept p ≡ Some (Some x) → P p x
 
--- nothing is ready of a rule
-abbrev pub AreNone : List (Option Ready) → Type 0
-AreNone kept = (p : ℕ) (r : Ready) → slice_get kept p ≡ Some (Some r) → ⊥
+-- nothing is kept of that many rules
+pub record AreNone (rules : ℕ) (kept : Kept) : Type 0 where
+  pub tails : length kept.tails.items ≡ rules
+  pub covers : length kept.covers.items ≡ rules
+  pub no_tail : AreOf (λ (p : ℕ) (x : Tail). ⊥) kept.tails.items
+  pub no_cover : AreOf (λ (p : ℕ) (x : Cover). ⊥) kept.covers.items
 
--- what is ready of each rule is so
-abbrev pub AreReady : Grammar → Screen → Type 0
-AreReady g s = (p : ℕ) (r : Ready) → slice_get s.rules.items p ≡ Some (Some r) → IsReady g s.labels p r
+-- of each rule the end of a cover is kept, and a cover, or there is none
+pub record AreKept (g : Grammar) (t : Table) (kept : Kept) : Type 0 where
+  pub tails : length kept.tails.items ≡ length g.rules
+  pub covers : length kept.covers.items ≡ length g.rules
+  pub each_tail : AreOf (IsTailOf g t) kept.tails.items
+  pub each_cover : AreOf (IsWholeCover g t) kept.covers.items
 
 -- the labels and the covers are those of the grammar, groups that the labels keep apart read no common
--- word, and there is room for what is ready of each rule
+-- word, and what is kept of each rule is of it
 pub record IsScreen (g : Grammar) (s : Screen) : Type 0 where
   pub labels : IsLabelsOf g s.labels
   pub covers : IsCovers g s.labels s.covers
   pub settled : IsSettled (nest_of s.labels s.covers.contents.items) (MayCall s.labels)
-  pub counted : length s.rules.items ≡ length g.rules
-  pub rules : AreReady g s
+  pub kept : AreKept g s.labels s.kept
 
 -- nets that have these ends accept no common word
 abbrev pub AreEndsApart : Table → Tail → Tail → Type 0

@@ -3,16 +3,18 @@ ghost use Rattle.std.specs.List.{Contains};
 ghost use Rattle.xs_gram.specs.Sound.{IsBuilt};
 ghost use Rattle.xs_stretch.specs.Parts.{IsPart};
 ghost use Rattle.xs_stretch.specs.Tables.{AreNumbersBefore};
-ghost use Rattle.xs_apart.specs.Sets.{AreDoubles};
+ghost use Rattle.xs_coarse.specs.Coarse.{MayCall, view};
+ghost use Rattle.xs_apart.specs.Sets.{AreDoubles, AreClear};
 ghost use Rattle.xs_coarse_net.specs.Covers.{IsCoverOf};
-ghost use Rattle.xs_screen.specs.Screens.{IsScreen, AreDoubts, OverlapNowhere};
+ghost use Rattle.xs_screen.specs.Screens.{IsScreen, AreDoubts, OverlapNowhere, whole_part};
 
 use crate::Screen;
 use crate::places::{follows_non, is_cut_of};
 use crate::rules::whole;
 use std::alloc::Global;
-use xs_apart::Doubles;
+use xs_apart::{Doubles, Search};
 use xs_class::Memory;
+use xs_coarse::Labels;
 use xs_coarse_laws::closed_sets_show_none;
 use xs_coarse_net::{Cover, Outer};
 use xs_gram::{Gram, cuts_are_one};
@@ -26,6 +28,8 @@ const LONGEST_END: u32 = 64;
 impl Screen {
     /// For each place of a rule's spread items whether its cut is in doubt: of the others it is
     /// seen that front and rest do not overlap.
+    ///
+    /// Where the cover of the rule is kept, it is looked at and let go: ask for its pairs first.
     pub fn doubts(
         &mut self,
         alloc: Global,
@@ -79,82 +83,54 @@ impl Screen {
         if part.end - part.start < 2 {
             return Ok(());
         }
-        let Some(cover) = self.covers.cover(alloc, g, &self.labels, groups, part)? else {
+        let Some(cover) = self.cover_of(alloc, g, groups, part)? else {
             return Ok(());
         };
-        self.clear_by_ends(g, part, &cover, doubts)?;
+        self.clear_cuts(g, part, &cover, None, doubts)?;
         self.clear_by_layers(g, part, &cover, doubts)?;
         Ok(())
     }
 
-    /// Takes away the doubt of those cuts of a part at which the rest and the end of the front show
-    /// that nothing overlaps.
-    fn clear_by_ends(
+    /// The cover of a part, or none where it would be too large: the one that is kept, which is
+    /// taken out, or else one that is made.
+    fn cover_of(
         &mut self,
+        alloc: Global,
         g: &Gram,
+        groups: &Numbers,
         part: &Part,
-        cover: &Cover,
-        doubts: &mut Vec<bool>,
-    ) -> Result<(), Memory>
+    ) -> Result<Option<Cover>, Memory>
         requires built { IsBuilt g.now }
+        requires groups { AreNumbersBefore g.now (length g.now.rules) groups.now }
         requires screen { IsScreen g.now self.old }
         requires part { IsPart g.now part.now }
-        requires cover { IsCoverOf g.now self.old.labels part.now cover.now }
-        requires doubts { AreDoubts g.now part.now.rule doubts.old.items }
         ensures labels { self.new.labels ≡ self.old.labels }
         ensures screen { IsScreen g.now self.new }
-        ensures doubts { AreDoubts g.now part.now.rule doubts.new.items }
+        ensures cover { IfOk result (λ o. IfSome o (IsCoverOf g.now self.new.labels part.now)) }
     {
-        let mut gate = 0;
-        'places: for index in 0..cover.places.len() {
-            let outer = cover.places[index];
-            if follows_non(g, part.rule, cover, index) {
-                gate = outer.state;
-            }
-            if !self.is_clear_by_ends(g, part, cover, gate, outer)? {
-                continue;
-            }
-            clear_doubt(doubts, outer.place);
+        if let Some(cover) = self.take_cover(g, part) {
+            return Ok(Some(cover));
         }
-        Ok(())
+        let cover = self.covers.cover(alloc, g, &self.labels, groups, part)?;
+        Ok(cover)
     }
 
-    /// Whether it is seen at a place of a part by the rest, and by the front from a gate on, that
-    /// nothing overlaps. Looks at short ends alone.
-    fn is_clear_by_ends(
-        &mut self,
-        g: &Gram,
-        part: &Part,
-        cover: &Cover,
-        gate: u32,
-        outer: Outer,
-    ) -> Result<bool, Memory>
-        requires built { IsBuilt g.now }
+    /// Takes out the cover that is kept of a part: only those of whole rules are.
+    fn take_cover(&mut self, g: &Gram, part: &Part) -> Option<Cover>
         requires screen { IsScreen g.now self.old }
         requires part { IsPart g.now part.now }
-        requires cover { IsCoverOf g.now self.old.labels part.now cover.now }
-        requires outer { Contains cover.now.places.items outer }
         ensures labels { self.new.labels ≡ self.old.labels }
         ensures screen { IsScreen g.now self.new }
-        ensures clear { IfOk result (λ b. b ≡ true → OverlapNowhere g.now part.now.rule outer.place) }
+        ensures cover { IfSome result (IsCoverOf g.now self.new.labels part.now) }
     {
-        if !is_inner(part, cover, outer) || !is_cut_of(g, part, outer.place) {
-            return Ok(false);
+        if is_whole(g, part) {
+            return self.kept.take(part.rule);
         }
-        let rest = cover.net.len() - outer.state;
-        if rest > LONGEST_END || outer.state.saturating_sub(gate) > LONGEST_END {
-            return Ok(false);
-        }
-        cuts_are_one();
-        closed_sets_show_none();
-        let clear = self
-            .search
-            .clear_ends(&self.labels, &cover.net, gate, outer.state, cover.last)?;
-        Ok(clear)
+        None
     }
 
-    /// Takes away the doubt of those cuts of a part that are still in doubt, and at which the whole
-    /// front and the rest show that nothing overlaps.
+    /// Takes away the doubt of those cuts of a part at which the whole front and the rest show that
+    /// nothing overlaps.
     fn clear_by_layers(
         &mut self,
         g: &Gram,
@@ -176,12 +152,41 @@ impl Screen {
         let Some(doubles) = self.search.doubles(&self.labels, &cover.net, top)? else {
             return Ok(());
         };
+        self.clear_cuts(g, part, cover, Some(&doubles), doubts)?;
+        Ok(())
+    }
+
+    /// Takes away the doubt of those cuts of a part that are still in doubt, and at which the rest
+    /// and the front show that nothing overlaps: the whole front, where the doubles of its net are
+    /// there, or else its end, after its last nonterminal.
+    fn clear_cuts(
+        &mut self,
+        g: &Gram,
+        part: &Part,
+        cover: &Cover,
+        doubles: Option<&Doubles>,
+        doubts: &mut Vec<bool>,
+    ) -> Result<(), Memory>
+        requires built { IsBuilt g.now }
+        requires screen { IsScreen g.now self.old }
+        requires part { IsPart g.now part.now }
+        requires cover { IsCoverOf g.now self.old.labels part.now cover.now }
+        requires doubles { IfSome doubles (λ d. AreDoubles self.old.labels cover.now.net d.now.top d.now.pairs.items) }
+        requires doubts { AreDoubts g.now part.now.rule doubts.old.items }
+        ensures labels { self.new.labels ≡ self.old.labels }
+        ensures screen { IsScreen g.now self.new }
+        ensures doubts { AreDoubts g.now part.now.rule doubts.new.items }
+    {
+        let mut gate = 0;
         'places: for index in 0..cover.places.len() {
             let outer = cover.places[index];
+            if follows_non(g, part.rule, cover, index) {
+                gate = outer.state;
+            }
             if !is_doubted(doubts, outer.place) {
                 continue;
             }
-            if !self.is_clear(g, part, cover, &doubles, outer)? {
+            if !self.is_clear(g, part, cover, doubles, gate, outer)? {
                 continue;
             }
             clear_doubt(doubts, outer.place);
@@ -195,14 +200,15 @@ impl Screen {
         g: &Gram,
         part: &Part,
         cover: &Cover,
-        doubles: &Doubles,
+        doubles: Option<&Doubles>,
+        gate: u32,
         outer: Outer,
     ) -> Result<bool, Memory>
         requires built { IsBuilt g.now }
         requires screen { IsScreen g.now self.old }
         requires part { IsPart g.now part.now }
         requires cover { IsCoverOf g.now self.old.labels part.now cover.now }
-        requires doubles { AreDoubles self.old.labels cover.now.net doubles.now.top doubles.now.pairs.items }
+        requires doubles { IfSome doubles (λ d. AreDoubles self.old.labels cover.now.net d.now.top d.now.pairs.items) }
         requires outer { Contains cover.now.places.items outer }
         ensures labels { self.new.labels ≡ self.old.labels }
         ensures screen { IsScreen g.now self.new }
@@ -213,11 +219,49 @@ impl Screen {
         }
         cuts_are_one();
         closed_sets_show_none();
-        let clear = self
-            .search
-            .clear(&self.labels, &cover.net, doubles, outer.state, cover.last)?;
+        let clear = is_seen_clear(
+            &self.labels,
+            &mut self.search,
+            cover,
+            doubles,
+            gate,
+            outer.state,
+        )?;
         Ok(clear)
     }
+}
+
+/// Whether closed sets show at a state of a cover that nothing overlaps there: by the rest and the
+/// whole front, where the doubles of the net are there, or else by the rest and the front from a
+/// gate on, if both are short.
+fn is_seen_clear(
+    labels: &Labels,
+    search: &mut Search,
+    cover: &Cover,
+    doubles: Option<&Doubles>,
+    gate: u32,
+    here: u32,
+) -> Result<bool, Memory>
+    requires doubles { IfSome doubles (λ d. AreDoubles labels.now cover.now.net d.now.top d.now.pairs.items) }
+    requires here { here < cover.now.net.states }
+    ensures { IfOk result (λ b. b ≡ true → AreClear (MayCall labels.now) (view labels.now cover.now.net 0 here) (view labels.now cover.now.net here cover.now.last)) }
+{
+    if let Some(doubles) = doubles {
+        return search.clear(labels, &cover.net, doubles, here, cover.last);
+    }
+    let rest = cover.net.len() - here;
+    if rest > LONGEST_END || here.saturating_sub(gate) > LONGEST_END {
+        return Ok(false);
+    }
+    search.clear_ends(labels, &cover.net, gate, here, cover.last)
+}
+
+/// Whether a part has all spread items of its rule.
+fn is_whole(g: &Gram, part: &Part) -> bool
+    requires { IsPart g.now part.now }
+    ensures { result ≡ true → part.now ≡ whole_part g.now part.now.rule }
+{
+    *part == whole(g, part.rule)
 }
 
 /// Whether an outer place stands inside a part, and its state in the net of the part's cover.

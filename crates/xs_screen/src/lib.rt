@@ -7,11 +7,11 @@
 
 mod cuts;
 mod groups;
+mod kept;
 mod places;
-mod ready;
 mod rules;
 mod screen;
 
-pub use ready::Ready;
+pub use kept::Kept;
 pub use rules::whole;
 pub use screen::Screen;

@@ -1,10 +1,10 @@
-ghost use Rattle.std.specs.Prelude.{◌≡◌, length, IfOk, IfSome};
+ghost use Rattle.std.specs.Prelude.{length, IfOk, IfSome};
 ghost use Rattle.xs_gram.specs.Sound.{IsBuilt};
 ghost use Rattle.xs_stretch.specs.Tables.{AreNumbersBefore};
-ghost use Rattle.xs_screen.specs.Screens.{IsScreen, AreNone};
+ghost use Rattle.xs_screen.specs.Screens.{IsScreen};
 
 use crate::groups::part_groups;
-use crate::ready::Ready;
+use crate::kept::Kept;
 use std::alloc::Global;
 use xs_apart::Search;
 use xs_class::Memory;
@@ -13,18 +13,14 @@ use xs_coarse_net::Covers;
 use xs_gram::Gram;
 use xs_regex::Numbers;
 
-/// How many states the covers that are kept may have together.
-const MOST_KEPT: u32 = 1 << 18;
-
-/// The coarse nets of a grammar, with the search over them, what is ready of each rule, and how
-/// many states of covers may still be kept: a cover for which there is no room is made again.
+/// The coarse nets of a grammar, with the search over them, and what is kept of each rule: a cover
+/// for which there was no room is made again.
 #[derive(Drop)]
 pub struct Screen {
     pub labels: Labels,
     pub covers: Covers,
     pub search: Search,
-    pub rules: Vec<Option<Ready>>,
-    pub room: u32,
+    pub kept: Kept,
 }
 
 impl Screen {
@@ -51,25 +47,12 @@ impl Screen {
         if !part_groups(&mut labels, &mut search, &covers.contents)? {
             return Ok(None);
         }
-        let rules = none_ready(alloc, g.rules())?;
+        let kept = Kept::none(alloc, g.rules())?;
         Ok(Some(Screen {
             labels,
             covers,
             search,
-            rules,
-            room: MOST_KEPT,
+            kept,
         }))
     }
-}
-
-/// Nothing ready yet, of that many rules.
-fn none_ready(alloc: Global, rules: u32) -> Result<Vec<Option<Ready>>, Memory>
-    ensures counted { IfOk result (λ kept. length kept.items ≡ rules) }
-    ensures none { IfOk result (λ kept. AreNone kept.items) }
-{
-    let mut kept = Vec::with_capacity(alloc, rules as usize)?;
-    'rules: for _ in 0..rules {
-        kept.push(None)?;
-    }
-    Ok(kept)
 }

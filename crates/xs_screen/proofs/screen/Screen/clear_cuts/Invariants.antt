@@ -1,6 +1,6 @@
 use Rattle.std.proofs.Common.{◌≡◌}
 use Rattle.xs_screen.specs.Screens.{IsScreen, AreDoubts}
-use Rattle.xs_screen.proofs.screen.Screen.clear_by_ends.Given as goal
+use Rattle.xs_screen.proofs.screen.Screen.clear_cuts.Given as goal
 
 abbrev pub invariant-places : goal.invariant-places
 invariant-places l = record {

@@ -1,7 +1,7 @@
 use Rattle.std.proofs.Common.{Bool, List, sym, subst, ◌∙◌}
 use Rattle.xs_screen.specs.Screens.{AreDoubts}
 use Rattle.xs_screen.proofs.Seeing.{doubt_cleared}
-use Rattle.xs_screen.proofs.screen.Screen.clear_by_layers.Goals as goal
+use Rattle.xs_screen.proofs.screen.Screen.clear_cuts.Goals as goal
 
 pub places-preserved : goal.places-preserved
 places-preserved c =
