@@ -6,7 +6,7 @@ ghost use Rattle.xs_stretch.specs.Tables.{AreNumbersBefore};
 ghost use Rattle.xs_coarse.specs.Coarse.{MayCall, view};
 ghost use Rattle.xs_apart.specs.Sets.{AreDoubles, AreClear};
 ghost use Rattle.xs_coarse_net.specs.Covers.{IsCoverOf};
-ghost use Rattle.xs_screen.specs.Screens.{IsScreen, AreDoubts, OverlapNowhere};
+ghost use Rattle.xs_screen.specs.Screens.{IsScreen, AreDoubts, OverlapNowhere, whole_part};
 
 use crate::Screen;
 use crate::places::{follows_non, is_cut_of};
@@ -125,7 +125,7 @@ impl Screen {
         ensures screen { IsScreen g.now self.new }
         ensures cover { IfSome result (IsCoverOf g.now self.new.labels part.now) }
     {
-        if *part == whole(g, part.rule) {
+        if is_whole(g, part) {
             return self.kept.take(part.rule);
         }
         None
@@ -256,6 +256,14 @@ fn is_seen_clear(
         return Ok(false);
     }
     search.clear_ends(labels, &cover.net, gate, here, cover.last)
+}
+
+/// Whether a part has all spread items of its rule.
+fn is_whole(g: &Gram, part: &Part) -> bool
+    requires { IsPart g.now part.now }
+    ensures { result ≡ true → part.now ≡ whole_part g.now part.now.rule }
+{
+    *part == whole(g, part.rule)
 }
 
 /// Whether an outer place stands inside a part, and its state in the net of the part's cover.
