@@ -1,3 +1,13 @@
-pub mod Least
-pub mod Reached
+pub mod AddLemmas
+pub mod CloseLemmas
+pub mod CutLemmas
+pub mod FoundLemmas
+pub mod LeadLemmas
+pub mod LeastLemmas
+pub mod LongestLemmas
+pub mod NeedLemmas
+pub mod ReachedLemmas
+pub mod RowLemmas
+pub mod SeedLemmas
+pub mod WalkLemmas
 pub mod WordLemmas

@@ -9,10 +9,20 @@
 //! its partners.
 #![tactic(auto)]
 
+mod laws;
+mod least;
 mod least_laws;
+mod pair;
 mod pair_set;
+mod seeds;
 mod sets;
+mod spread;
+mod testing;
+mod visits;
 
+pub use laws::rows_are_marks;
+pub use least::{least_apart, least_clear};
 pub use least_laws::{least_sets_are_right, reached_shows};
 pub use pair_set::PairSet;
 pub use sets::CutSets;
+pub use testing::{longest_apart, longest_clear};

@@ -1,4 +1,4 @@
-use Rattle.xs_closed.proofs.Reached.{reached_is_shared, reached_is_overlap}
+use Rattle.xs_closed.proofs.ReachedLemmas.{reached_is_shared, reached_is_overlap}
 use Rattle.xs_closed.proofs.least_laws.reached_shows.Goals as goal
 
 pub returns-clause-shared : goal.returns-clause-shared

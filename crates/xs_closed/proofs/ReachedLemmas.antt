@@ -8,7 +8,7 @@ use Rattle.xs_meet.specs.Closed.{Marked, Drifts, Strides, Leads}
 use Rattle.xs_meet.proofs.WalkLemmas.{crosses_on}
 use Rattle.xs_closed.specs.Least.{AreStarts, IsPastFront, IsStride, IsPastMiddle, Meeting, Fronts, Pauses, Middles, Rests}
 use Rattle.xs_closed.specs.Laws.{ReachedIsShared, ReachedIsOverlap}
-use Rattle.xs_closed.proofs.Least.{reach_within}
+use Rattle.xs_closed.proofs.LeastLemmas.{reach_within}
 
 -- each two related groups share a word
 abbrev pub AllShared : List Group → (ℕ → ℕ → Type 0) → Type 0

@@ -1,0 +1,250 @@
+-- The greatest number of leading rows that are right.
+use Rattle.std.proofs.Common.{◌≡◌, ℕ, zero, suc, ◌+◌, ◌<◌, ◌≤◌, ◌⊎◌, Bool, true, false, ◌&&◌, max, List, [], ◌∷◌, ◌++◌, length, get_or, take, drop, Option, Some, None, refl, sym, ap, subst, ◌∙◌, inl, inr, arith, length-append}
+use Rattle.std.proofs.lemmas.Bool.{cases_eq, cases_lt, true≢false, and_from}
+use Rattle.std.proofs.lemmas.List.{take_more, take_all, take_at, take-append-drop, take-take, get_or-take, get_or_past, length-take}
+use Rattle.xs_auto.specs.Nets.{Graph, final_at}
+use Rattle.xs_meet.specs.Closed.{Leads}
+use Rattle.xs_closed.specs.Rows.{Grid, Row, marked, IsSized, IsNext, holds, places, row_then, rows_from, rows_of}
+use Rattle.xs_closed.specs.Longest.{First, IsGreatestIn}
+use Rattle.xs_closed.specs.Testing.{Keeps, Raises, IsNeed, RowKeeps, RowHasNoFinals, IsRowNeed, IsPairNeed, IsBelow, IsLimit, rank, IsBest, IsRead}
+use Rattle.xs_closed.proofs.RowLemmas.{holds_rows}
+use Rattle.xs_closed.proofs.NeedLemmas.{raises_pair, raises_none, raises_then, raises_as, lacks_as}
+
+-- a marked pair is inside the table
+pub marked_within : (high wide : ℕ) (z : Grid) (a b : ℕ) → IsSized high wide z → marked z a b ≡ true → (a < high) × (b < wide)
+marked_within high wide z a b sized e = elim (cases_lt a high) [
+  | inr l ↦ absurd (true≢false (sym e ∙ ap (λ r. get_or r b false) (get_or_past z.rows a [] (omega (arith, sized.high)))))
+  | inl l ↦ elim (cases_lt b wide) [
+    | inr m ↦ absurd (true≢false (sym e ∙ get_or_past (get_or z.rows a []) b false (omega (arith, sized.even a l))))
+    | inl m ↦ (l, m)
+  ]
+]
+
+pub past_marks : (high wide : ℕ) (z : Grid) (a b : ℕ) → IsSized high wide z → wide ≤ b → marked z a b ≡ false
+past_marks high wide z a b sized l = elim (cases_lt a high) [
+  | inr m ↦ ap (λ r. get_or r b false) (get_or_past z.rows a [] (omega (arith, sized.high)))
+  | inl m ↦ get_or_past (get_or z.rows a []) b false (omega (arith, sized.even a m))
+]
+
+not_both : (x y : Bool) → (x && y) ≡ false → x ≡ true → y ≡ true → ⊥
+not_both x y e f g = true≢false (sym (and_from x y f g) ∙ e)
+
+-- what one pair needs
+pub kept : (z : Grid) (R : ℕ → ℕ → Type 0) (m n : Graph) (a b old : ℕ) (result : Option ℕ) → marked z a b ≡ true → (final_at m a && final_at n b) ≡ false → IsNeed z (Leads R m n a b) (max old (a + 1)) result → IsPairNeed R m n z a b old result
+kept z R m n a b old None e f need = λ k. lacks_as z (λ c d t. inr t) need
+kept z R m n a b old (Some new) e f need =
+    (not_both (final_at m a) (final_at n b) f, raises_then z old (max old (a + 1)) new (λ c d t. t) (λ c d t. inl t) (λ c d t. inr t) (raises_pair z a b old (max old (a + 1)) e (omega arith) (omega arith) (λ x l k. omega arith)) need)
+
+pub both_final : (z : Grid) (R : ℕ → ℕ → Type 0) (m n : Graph) (a b old : ℕ) → (final_at m a && final_at n b) ≡ true → IsPairNeed R m n z a b old None
+both_final z R m n a b old e k = absurd (both (final_at m a) (final_at n b) e k)
+  where
+    both : (x y : Bool) → (x && y) ≡ true → (x ≡ true → y ≡ true → ⊥) → ⊥
+    both true true e k = k refl refl
+    both true false e k = true≢false (sym e)
+    both false y e k = true≢false (sym e)
+
+-- the partners of a row, one after another
+pub row_begun : (z : Grid) (R : ℕ → ℕ → Type 0) (m n : Graph) (a old : ℕ) → Raises z (RowKeeps R m n z a 0) old old
+row_begun z R m n a old = raises_none z old (λ c d t. absurd (omega (arith, t.before)))
+
+pub row_finals : (z : Grid) (R : ℕ → ℕ → Type 0) (m n : Graph) (a from b old new : ℕ) → IsNext z a from b → RowHasNoFinals m n z a from → IsPairNeed R m n z a b old (Some new) → RowHasNoFinals m n z a (b + 1)
+row_finals z R m n a from b old new next none need = λ p l e f g. elim (cases_lt p from) [
+  | inl k ↦ none p k e f g
+  | inr k ↦ elim (cases_eq p b) [
+    | inl q ↦ need.0 f (rw q at g)
+    | inr q ↦ true≢false (sym e ∙ next.least p k (omega arith))
+  ]
+]
+
+pub row_more : (z : Grid) (R : ℕ → ℕ → Type 0) (m n : Graph) (a from b old mid new : ℕ) → IsNext z a from b → Raises z (RowKeeps R m n z a from) old mid → IsPairNeed R m n z a b mid (Some new) → Raises z (RowKeeps R m n z a (b + 1)) old new
+row_more z R m n a from b old mid new next h need = raises_then z old mid new split left right h need.1
+  where
+    split : (c d : ℕ) → RowKeeps R m n z a (b + 1) c d → RowKeeps R m n z a from c d ⊎ Keeps R m n a b c d
+    split c d t = elim (cases_lt t.partner from) [
+      | inl k ↦ inl (record { partner = t.partner; before = k; there = t.there; keeps = t.keeps })
+      | inr k ↦ elim (cases_eq t.partner b) [
+        | inl q ↦ inr (rw q at t.keeps)
+        | inr q ↦ absurd (true≢false (sym t.there ∙ next.least t.partner k (omega (arith, t.before))))
+      ]
+    ]
+
+    left : (c d : ℕ) → RowKeeps R m n z a from c d → RowKeeps R m n z a (b + 1) c d
+    left c d t = record { partner = t.partner; before = omega (arith, t.before, next.order); there = t.there; keeps = t.keeps }
+
+    right : (c d : ℕ) → Keeps R m n a b c d → RowKeeps R m n z a (b + 1) c d
+    right c d t = record { partner = b; before = omega arith; there = next.there; keeps = t }
+
+pub row_fails : (z : Grid) (R : ℕ → ℕ → Type 0) (m n : Graph) (a from b top old mid : ℕ) → IsNext z a from b → b < top → IsPairNeed R m n z a b mid None → IsRowNeed R m n z a top old None
+row_fails z R m n a from b top old mid next l need = λ none. lacks_as z (λ c d t. record { partner = b; before = l; there = next.there; keeps = t }) (need (λ f g. none b l next.there f g))
+
+pub row_done : (z : Grid) (R : ℕ → ℕ → Type 0) (m n : Graph) (a from high top old new : ℕ) → IsSized high top z → ((b : ℕ) → from ≤ b → marked z a b ≡ false) → RowHasNoFinals m n z a from → Raises z (RowKeeps R m n z a from) old new → IsRowNeed R m n z a top old (Some new)
+row_done z R m n a from high top old new sized past none need = (λ b l e f g. none b (before b e) e f g, raises_as z old new (λ c d t. record { partner = t.partner; before = (marked_within high top z a t.partner sized t.there).1; there = t.there; keeps = t.keeps }) (λ c d t. record { partner = t.partner; before = before t.partner t.there; there = t.there; keeps = t.keeps }) need)
+  where
+    before : (b : ℕ) → marked z a b ≡ true → b < from
+    before b e = elim (cases_lt b from) [ inl l ↦ l | inr l ↦ absurd (true≢false (sym e ∙ past b l)) ]
+
+-- the rows, one after another
+pub read_begun : (z : Grid) (R : ℕ → ℕ → Type 0) (m n : Graph) (low : ℕ) → IsRead R m n z low 0 low
+read_begun z R m n low = record {
+  there = λ a b c d l e t. absurd (omega arith);
+  none = λ a b l e f g. absurd (omega (arith, l));
+  order = omega arith;
+  within = λ a b c d l e t. absurd (omega arith);
+  least = λ y l m k. m;
+}
+
+pub read_more : (z : Grid) (R : ℕ → ℕ → Type 0) (m n : Graph) (low high wide a need new : ℕ) → IsSized high wide z → IsRead R m n z low a need → IsRowNeed R m n z a wide need (Some new) → IsRead R m n z low (a + 1) new
+read_more z R m n low high wide a need new sized h row = record {
+  there = λ x b c d l e t. elim (cases_eq x a) [
+    | inl q ↦ row.1.there c d (of_row x b c d q e t)
+    | inr q ↦ h.there x b c d (omega arith) e t
+  ];
+  none = λ x b l e f g. elim (cases_eq x a) [
+    | inl q ↦ row.0 b (marked_within high wide z x b sized e).1 (rw q at e) (rw q at f) g
+    | inr q ↦ h.none x b (omega arith) e f g
+  ];
+  order = omega (arith, h.order, row.1.order);
+  within = λ x b c d l e t. elim (cases_eq x a) [
+    | inl q ↦ row.1.within c d (of_row x b c d q e t)
+    | inr q ↦ omega (arith, h.within x b c d (omega arith) e t, row.1.order)
+  ];
+  least = λ y l o k. row.1.least y (h.least y (omega arith) o (λ x b c d p e t. k x b c d (omega arith) e t)) (λ c d t. elim t.keeps [
+    | inl same ↦ omega (arith, same.first)
+    | inr leads ↦ k a t.partner c d (omega arith) t.there leads
+  ]);
+}
+  where
+    of_row : (x b c d : ℕ) → x ≡ a → marked z x b ≡ true → Leads R m n x b c d → RowKeeps R m n z a wide c d
+    of_row x b c d q e t = record { partner = b; before = (marked_within high wide z x b sized e).1; there = rw q at e; keeps = inr (rw q at t) }
+
+-- a number of rows is right where it is no less than what those rows need
+limit_need : (z : Grid) (R : ℕ → ℕ → Type 0) (m n : Graph) (low x need : ℕ) → IsRead R m n z low x need → IsLimit R m n z low x → need ≤ x
+limit_need z R m n low x need h limit = h.least x (omega arith) limit.order (λ a b c d l e t. (limit.closed a b c d (record { there = e; before = l }) t).before)
+
+need_limit : (z : Grid) (R : ℕ → ℕ → Type 0) (m n : Graph) (low x need : ℕ) → IsRead R m n z low x need → need ≤ x → IsLimit R m n z low x
+need_limit z R m n low x need h l = record {
+  order = omega (arith, h.order);
+  closed = λ a b c d p t. record { there = h.there a b c d p.before p.there t; before = omega (arith, h.within a b c d p.before p.there t) };
+  none = λ a b p f g. h.none a b p.before p.there f g;
+}
+
+-- no greater number is right where a row is not
+pub fails_on : (z : Grid) (R : ℕ → ℕ → Type 0) (m n : Graph) (low a wide old y : ℕ) → IsRowNeed R m n z a wide old None → a < y → IsLimit R m n z low y → ⊥
+fails_on z R m n low a wide old y need l limit =
+    need (λ b o e f g. limit.none a b (record { there = e; before = l }) f g) (λ c d t. elim t.keeps [
+      | inl same ↦ rw (same.first, same.second) t.there
+      | inr leads ↦ (limit.closed a t.partner c d (record { there = t.there; before = l }) leads).there
+    ])
+
+pub best_on : (z : Grid) (R : ℕ → ℕ → Type 0) (m n : Graph) (low x y : ℕ) (best : Option ℕ) → x ≤ y → ((k : ℕ) → x ≤ k → k < y → IsLimit R m n z low k → ⊥) → IsBest R m n z low x best → IsBest R m n z low y best
+best_on z R m n low x y None l none h = λ k o limit. elim (cases_lt k x) [ inl p ↦ h k p limit | inr p ↦ none k p o limit ]
+best_on z R m n low x y (Some j) l none h = record {
+  limit = h.limit;
+  before = omega (arith, h.before);
+  count = h.count;
+  is = h.is;
+  greatest = λ k o limit. elim (cases_lt k x) [ inl p ↦ h.greatest k p limit | inr p ↦ absurd (none k p o limit) ];
+}
+
+pub best_more : (z : Grid) (R : ℕ → ℕ → Type 0) (m n : Graph) (low a need count : ℕ) (best result : Option ℕ) → IsRead R m n z low a need → count ≡ rank z a → (need ≤ a → result ≡ Some count) → (a < need → result ≡ best) → IsBest R m n z low a best → IsBest R m n z low (a + 1) result
+best_more z R m n low a need count best result h e taken kept old = elim (cases_lt a need) [
+  | inl l ↦ rw (kept l) (best_on z R m n low a (a + 1) best (omega arith) (λ k o p limit. let q : k ≡ a = omega arith in absurd (omega (arith, limit_need z R m n low a need h (rw q at limit)))) old)
+  | inr l ↦ rw (taken l) (record { limit = a; before = omega arith; count = e; is = need_limit z R m n low a need h l; greatest = λ y o k. omega arith })
+]
+
+-- counting rows
+rows_append : (k : ℕ) (xs ys : List (List Bool)) → rows_from k (xs ++ ys) ≡ rows_from k xs ++ rows_from (k + length xs) ys
+rows_append k [] ys = let e : k ≡ k + 0 = omega arith in ap (λ i. rows_from i ys) e
+rows_append k (x ∷ xs) ys =
+    let e : suc k + length xs ≡ k + suc (length xs) = omega arith in
+    ap (row_then k (places 0 x)) (rows_append (suc k) xs ys ∙ ap (λ i. rows_from (suc k) xs ++ rows_from i ys) e) ∙ then_append k (places 0 x) (rows_from (suc k) xs) (rows_from (k + suc (length xs)) ys)
+  where
+    then_append : (a : ℕ) (ps : List ℕ) (rs ss : List Row) → row_then a ps (rs ++ ss) ≡ row_then a ps rs ++ ss
+    then_append a [] rs ss = refl
+    then_append a (p ∷ ps) rs ss = refl
+
+-- the rows of the first x lists of marks come first
+pub rows_split : (x : ℕ) (rs : List (List Bool)) → rows_from 0 rs ≡ rows_from 0 (take x rs) ++ rows_from (0 + length (take x rs)) (drop x rs)
+rows_split x rs = ap (rows_from 0) (sym (take-append-drop x rs)) ∙ rows_append 0 (take x rs) (drop x rs)
+
+rows_few : (k : ℕ) (rs : List (List Bool)) → length (rows_from k rs) ≤ length rs
+rows_few k [] = omega arith
+rows_few k (r ∷ rs) = few k (places 0 r) (rows_from (suc k) rs) (length rs) (rows_few (suc k) rs)
+  where
+    few : (a : ℕ) (ps : List ℕ) (ss : List Row) (n : ℕ) → length ss ≤ n → length (row_then a ps ss) ≤ suc n
+    few a [] ss n l = omega arith
+    few a (p ∷ ps) ss n l = omega arith
+
+pub rank_few : (z : Grid) (x : ℕ) → rank z x ≤ x
+rank_few z x = omega (arith, rows_few 0 (take x z.rows), length-take x z.rows)
+
+pub rank_none : (z : Grid) → rank z 0 ≡ 0
+rank_none z = refl
+
+pub rank_all : (z : Grid) (x : ℕ) → length z.rows ≤ x → rank z x ≡ length (rows_of z)
+rank_all z x l = ap (λ rs. length (rows_from 0 rs)) (take_all x z.rows l)
+
+pub rank_le : (z : Grid) (x : ℕ) → rank z x ≤ length (rows_of z)
+rank_le z x = omega (arith, ap length (rows_split x z.rows), length-append (rows_from 0 (take x z.rows)) (rows_from (0 + length (take x z.rows)) (drop x z.rows)))
+
+pub rank_mono : (z : Grid) (x y : ℕ) → x ≤ y → rank z x ≤ rank z y
+rank_mono z x y l = rw (ap (λ rs. length (rows_from 0 rs)) (sym (take-take x y z.rows l))) (rank_le (record { wide = z.wide; rows = take y z.rows }) x)
+
+-- a row with a mark counts, and one without does not
+places_none : (k : ℕ) (bs : List Bool) → ((i : ℕ) → get_or bs i false ≡ false) → places k bs ≡ []
+places_none k [] h = refl
+places_none k (true ∷ bs) h = absurd (true≢false (h 0))
+places_none k (false ∷ bs) h = places_none (suc k) bs (λ i. h (suc i))
+
+places_some : (k : ℕ) (bs : List Bool) (i : ℕ) → get_or bs i false ≡ true → (a : ℕ) (rs : List Row) → length (row_then a (places k bs) rs) ≡ suc (length rs)
+places_some k [] i e a rs = absurd (true≢false (sym e))
+places_some k (true ∷ bs) i e a rs = refl
+places_some k (false ∷ bs) zero e a rs = absurd (true≢false (sym e))
+places_some k (false ∷ bs) (suc i) e a rs = places_some (suc k) bs i e a rs
+
+rank_next : (z : Grid) (a : ℕ) → a < length z.rows → rank z (a + 1) ≡ rank z a + length (row_then (0 + length (take a z.rows)) (places 0 (get_or z.rows a [])) [])
+rank_next z a l = ap (λ rs. length (rows_from 0 rs)) (take_more z.rows a [] l) ∙ ap length (rows_append 0 (take a z.rows) (get_or z.rows a [] ∷ [])) ∙ length-append (rows_from 0 (take a z.rows)) _
+
+pub rank_some : (z : Grid) (a b : ℕ) → a < length z.rows → marked z a b ≡ true → rank z (a + 1) ≡ rank z a + 1
+rank_some z a b l e = rank_next z a l ∙ ap (λ n. rank z a + n) (places_some 0 (get_or z.rows a []) b e (0 + length (take a z.rows)) [])
+
+pub rank_same : (z : Grid) (a : ℕ) → a < length z.rows → ((b : ℕ) → marked z a b ≡ false) → rank z (a + 1) ≡ rank z a
+rank_same z a l h = rank_next z a l ∙ ap (λ ps. rank z a + length (row_then (0 + length (take a z.rows)) ps [])) (places_none 0 (get_or z.rows a []) h) ∙ omega arith
+
+-- each number of leading rows is that of the rows below some state
+reach_row : (k : ℕ) (ps : List ℕ) (rs : List (List Bool)) (j : ℕ) → ((i : ℕ) → i ≤ length (rows_from (suc k) rs) → (x : ℕ) × (x ≤ length rs) × (length (rows_from (suc k) (take x rs)) ≡ i)) → suc j ≤ length (row_then k ps (rows_from (suc k) rs)) → (x : ℕ) × (x ≤ length rs) × (length (row_then k ps (rows_from (suc k) (take x rs))) ≡ suc j)
+reach_row k [] rs j on l = on (suc j) l
+reach_row k (p ∷ ps) rs j on l = let h = on j (omega arith) in (h.0, h.1, ap suc h.2)
+
+reach : (k : ℕ) (rs : List (List Bool)) (j : ℕ) → j ≤ length (rows_from k rs) → (x : ℕ) × (x ≤ length rs) × (length (rows_from k (take x rs)) ≡ j)
+reach k rs zero l = (0, omega arith, refl)
+reach k [] (suc j) l = absurd (omega arith)
+reach k (r ∷ rs) (suc j) l = let h = reach_row k (places 0 r) rs j (λ i m. reach (suc k) rs i m) l in (suc h.0, omega (arith, h.1), h.2)
+
+pub rank_reach : (z : Grid) (j : ℕ) → j ≤ length (rows_of z) → (x : ℕ) × (x ≤ length z.rows) × (rank z x ≡ j)
+rank_reach z j l = reach 0 z.rows j l
+
+-- the first rows have the marked pairs below a state
+first_rows : (z : Grid) (x a b : ℕ) → holds (take (rank z x) (rows_of z)) a b ≡ get_or (get_or (take x z.rows) a []) b false
+first_rows z x a b = ap (λ rs. holds rs a b) (ap (take (rank z x)) (rows_split x z.rows) ∙ take_at (rows_from 0 (take x z.rows)) (rows_from (0 + length (take x z.rows)) (drop x z.rows)) (rank z x) refl) ∙ holds_rows 0 (take x z.rows) a b a (omega arith)
+
+pub below_first : (z : Grid) (x a b : ℕ) → IsBelow z x a b → First z (rank z x) a b
+below_first z x a b h = first_rows z x a b ∙ ap (λ r. get_or r b false) (get_or-take x z.rows a [] h.before) ∙ h.there
+
+pub first_below : (z : Grid) (x a b : ℕ) → First z (rank z x) a b → IsBelow z x a b
+first_below z x a b e = elim (cases_lt a x) [
+  | inl l ↦ record { there = ap (λ r. get_or r b false) (sym (get_or-take x z.rows a [] l)) ∙ sym (first_rows z x a b) ∙ e; before = l }
+  | inr l ↦ absurd (true≢false (sym e ∙ first_rows z x a b ∙ ap (λ r. get_or r b false) (get_or_past (take x z.rows) a [] (omega (arith, length-take x z.rows)))))
+]
+
+-- the best number of rows is the greatest that is right
+pub best_greatest : (z : Grid) (R : ℕ → ℕ → Type 0) (m n : Graph) (low high wide : ℕ) (P : ℕ → Type 0) (result : Option ℕ) → IsSized high wide z → ((x : ℕ) → P (rank z x) → IsLimit R m n z low x) → ((x : ℕ) → IsLimit R m n z low x → P (rank z x)) → IsBest R m n z low (high + 1) result → IsGreatestIn (length (rows_of z)) P result
+best_greatest z R m n low high wide P None sized to from best = λ i l p. let x = rank_reach z i l in best x.0 (omega (arith, x.1, sized.high)) (to x.0 (subst P (sym x.2) p))
+best_greatest z R m n low high wide P (Some j) sized to from best = record {
+  within = omega (arith, best.count, rank_le z best.limit);
+  is = subst P (sym best.count) (from best.limit best.is);
+  greatest = λ i l p.
+      let x = rank_reach z i l in
+      let below = best.greatest x.0 (omega (arith, x.1, sized.high)) (to x.0 (subst P (sym x.2) p)) in
+      omega (arith, x.2, best.count, rank_mono z x.0 best.limit below);
+}

@@ -1,0 +1,31 @@
+use Rattle.std.proofs.Common.{arith}
+use Rattle.xs_meet.specs.Closed.{Drifts}
+use Rattle.xs_closed.proofs.CloseLemmas.{for_more, inside_at, goes_none, goes_more, goes_all}
+use Rattle.xs_closed.proofs.spread.close_drifts.Goals as goal
+
+pub places-init : goal.places-init
+places-init c = record {
+  listed = c.requires.listed;
+  goes = goes_none (Drifts c.args.m.now c.args.n.now) c.args.set.now c.args.pairs.now.items;
+}
+
+pub returns-then-place-len-clause-ok : goal.returns-then-place-len-clause-ok
+returns-then-place-len-clause-ok c = goes_all (Drifts c.args.m.now c.args.n.now) (omega (arith, c.if-place-len.true, c.len.ensures, c.places.pairs.ok)) c.places.invariant.listed c.places.invariant.goes
+
+pub drift-requires-clause-nets : goal.drift-requires-clause-nets
+drift-requires-clause-nets c = for_more c.requires.nets c.places.invariant.goes.size
+
+pub drift-requires-clause-first : goal.drift-requires-clause-first
+drift-requires-clause-first c = (inside_at c.args.m.now c.args.n.now c.places.set c.places.pairs.items c.places.place c.index-at.result.now (for_more c.requires.nets c.places.invariant.goes.size) c.places.invariant.listed (omega (arith, c.if-place-len.false, c.len.ensures, c.places.pairs.ok)) c.index-at.ensures).first
+
+pub drift-requires-clause-second : goal.drift-requires-clause-second
+drift-requires-clause-second c = (inside_at c.args.m.now c.args.n.now c.places.set c.places.pairs.items c.places.place c.index-at.result.now (for_more c.requires.nets c.places.invariant.goes.size) c.places.invariant.listed (omega (arith, c.if-place-len.false, c.len.ensures, c.places.pairs.ok)) c.index-at.ensures).second
+
+pub places-preserved : goal.places-preserved
+places-preserved c = record {
+  listed = c.in_ok-drift.ensures.listed;
+  goes = goes_more (Drifts c.args.m.now c.args.n.now) c.index-at.result.now (omega (arith, c.if-place-len.false, c.len.ensures, c.places.pairs.ok)) c.index-at.ensures c.places.invariant.listed c.in_ok-drift.ensures.listed c.places.invariant.goes c.in_ok-drift.ensures.ok;
+}
+
+pub returns-clause-ok : goal.returns-clause-ok
+returns-clause-ok c = goes_all (Drifts c.args.m.now c.args.n.now) (omega (arith, c.places-test.false, c.places.pairs.ok)) c.places.invariant.listed c.places.invariant.goes

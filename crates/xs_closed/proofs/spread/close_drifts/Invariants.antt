@@ -1,0 +1,10 @@
+use Rattle.xs_meet.specs.Closed.{Drifts}
+use Rattle.xs_closed.specs.Search.{IsListed}
+use Rattle.xs_closed.proofs.CloseLemmas.{GoesOn}
+use Rattle.xs_closed.proofs.spread.close_drifts.Given as goal
+
+abbrev pub invariant-places : goal.invariant-places
+invariant-places l = record {
+  listed : IsListed l.set l.pairs.items;
+  goes : GoesOn (Drifts l.m l.n) l.initial.set l.set l.place l.pairs.items;
+}

@@ -1,0 +1,7 @@
+use Rattle.xs_meet.specs.Closed.{Marked, Drifts, Strides}
+use Rattle.xs_closed.specs.Rows.{marked}
+use Rattle.xs_closed.proofs.AddLemmas.{adds_then}
+use Rattle.xs_closed.proofs.spread.lead.Goals as goal
+
+pub returns-clause-ok : goal.returns-clause-ok
+returns-clause-ok c = adds_then (Drifts c.args.m.now c.args.n.now c.args.at.first c.args.at.second) (Strides (Marked (marked c.args.related.now)) c.args.m.now c.args.n.now c.args.at.first c.args.at.second) c.in_ok-drift.ensures.ok c.in_ok-stride.ensures.ok

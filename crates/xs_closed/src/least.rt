@@ -1,0 +1,124 @@
+ghost use Rattle.std.specs.Prelude.{◌≡◌, ◌<◌, OnOk, IfOk, length};
+ghost use Rattle.std.specs.List.{All};
+ghost use Rattle.xs_auto.specs.Nets.{states};
+ghost use Rattle.xs_meet.specs.Closed.{Drifts, Leads, Marked};
+ghost use Rattle.xs_closed.specs.Rows.{marked};
+ghost use Rattle.xs_closed.specs.Least.{Reach, IsPastFront, IsStride, IsPastMiddle, Meeting, IsTableOf, AreLeastOf};
+ghost use Rattle.xs_closed.specs.Search.{IsInside, HasPair, AreFound};
+
+use crate::pair::Pair;
+use crate::seeds::{seed_middles, seed_pauses, seed_rests, seed_starts};
+use crate::spread::{close, close_drifts};
+use crate::{CutSets, PairSet};
+use std::alloc::Global;
+use xs_auto::Net;
+use xs_class::Memory;
+
+/// The least set that has the two starts and is closed; empty where one net has no start.
+///
+/// Takes time linear in the pairs of the set, times the edges, moves and calls of their states, and
+/// 8 bytes for each pair beside the set.
+pub fn least_apart(
+    alloc: Global,
+    related: &PairSet,
+    m: &Net,
+    n: &Net,
+    set: &mut PairSet,
+) -> Result<(), Memory>
+    ensures { OnOk result (IsTableOf (Meeting (Marked (marked related.now)) m.now n.now) m.now n.now set.new) }
+{
+    find_meeting(alloc, related, m, n, set)?;
+    Ok(())
+}
+
+/// The four least sets of a cut.
+///
+/// Takes time linear in the pairs of the sets, times the edges, moves and calls of their states, and
+/// 8 bytes for each pair beside the sets.
+pub fn least_clear(
+    alloc: Global,
+    related: &PairSet,
+    front: &Net,
+    rest: &Net,
+    sets: &mut CutSets,
+) -> Result<(), Memory>
+    ensures { OnOk result (AreLeastOf (Marked (marked related.now)) front.now rest.now sets.new) }
+{
+    let fronts = find_meeting(alloc, related, front, front, &mut sets.fronts)?;
+    let pauses = find_pauses(alloc, front, rest, &fronts, &mut sets.pauses)?;
+    let middles = find_middles(alloc, related, front, rest, &pauses, &mut sets.middles)?;
+    find_rests(alloc, related, front, rest, &middles, &mut sets.rests)
+}
+
+/// The pairs that the starts of two nets lead to.
+fn find_meeting(
+    alloc: Global,
+    related: &PairSet,
+    m: &Net,
+    n: &Net,
+    set: &mut PairSet,
+) -> Result<Vec<Pair>, Memory>
+    ensures { IfOk result (λ ps. AreFound (Meeting (Marked (marked related.now)) m.now n.now) m.now n.now set.new ps.items) }
+{
+    let mut pairs = Vec::new(alloc);
+    set.reset(m.len(), n.len())?;
+    seed_starts(set, &mut pairs, m, n)?;
+    close(set, &mut pairs, related, m, n)?;
+    Ok(pairs)
+}
+
+/// The pairs of a front and a rest state before a middle word is read, from pairs of front states.
+fn find_pauses(
+    alloc: Global,
+    front: &Net,
+    rest: &Net,
+    fronts: &[Pair],
+    set: &mut PairSet,
+) -> Result<Vec<Pair>, Memory>
+    requires { All (IsInside (states front.now) (states front.now)) fronts.now }
+    ensures { IfOk result (λ ps. AreFound (Reach (IsPastFront front.now rest.now (HasPair fronts.now)) (Drifts front.now rest.now)) front.now rest.now set.new ps.items) }
+{
+    let mut pairs = Vec::new(alloc);
+    set.reset(front.len(), rest.len())?;
+    seed_pauses(set, &mut pairs, front, rest, fronts)?;
+    close_drifts(set, &mut pairs, front, rest)?;
+    Ok(pairs)
+}
+
+/// The pairs of a front and a rest state within a middle word, from those before it.
+fn find_middles(
+    alloc: Global,
+    related: &PairSet,
+    front: &Net,
+    rest: &Net,
+    pauses: &[Pair],
+    set: &mut PairSet,
+) -> Result<Vec<Pair>, Memory>
+    requires { All (IsInside (states front.now) (states rest.now)) pauses.now }
+    ensures { IfOk result (λ ps. AreFound (Reach (IsStride (Marked (marked related.now)) front.now rest.now (HasPair pauses.now)) (Leads (Marked (marked related.now)) front.now rest.now)) front.now rest.now set.new ps.items) }
+{
+    let mut pairs = Vec::new(alloc);
+    set.reset(front.len(), rest.len())?;
+    seed_middles(set, &mut pairs, related, front, rest, pauses)?;
+    close(set, &mut pairs, related, front, rest)?;
+    Ok(pairs)
+}
+
+/// Marks the pairs of rest states after a middle word, from the pairs within it.
+fn find_rests(
+    alloc: Global,
+    related: &PairSet,
+    front: &Net,
+    rest: &Net,
+    middles: &[Pair],
+    set: &mut PairSet,
+) -> Result<(), Memory>
+    requires { All (IsInside (states front.now) (states rest.now)) middles.now }
+    ensures { OnOk result (IsTableOf (Reach (IsPastMiddle front.now rest.now (HasPair middles.now)) (Leads (Marked (marked related.now)) rest.now rest.now)) rest.now rest.now set.new) }
+{
+    let mut pairs = Vec::new(alloc);
+    set.reset(rest.len(), rest.len())?;
+    seed_rests(set, &mut pairs, front, rest, middles)?;
+    close(set, &mut pairs, related, rest, rest)?;
+    Ok(())
+}

@@ -1,0 +1,113 @@
+ghost use Rattle.std.specs.Prelude.{◌≡◌, ◌<◌, OnOk, length};
+ghost use Rattle.xs_auto.specs.Nets.{states};
+ghost use Rattle.xs_meet.specs.Closed.{Drifts, Strides, Leads, Marked};
+ghost use Rattle.xs_closed.specs.Rows.{marked};
+ghost use Rattle.xs_closed.specs.Search.{IsListed, IsFor, Adds, Closes};
+
+use crate::PairSet;
+use crate::pair::Pair;
+use crate::visits::{visit_boths, visit_calls, visit_firsts, visit_seconds};
+use xs_auto::Net;
+use xs_class::Memory;
+
+/// Visits the pairs to which an empty move of either net leads from a pair.
+fn drift(set: &mut PairSet, pairs: &mut Vec<Pair>, m: &Net, n: &Net, at: Pair) -> Result<(), Memory>
+    requires nets { IsFor m.now n.now set.old }
+    requires listed { IsListed set.old pairs.old.items }
+    requires first { at.first < states m.now }
+    requires second { at.second < states n.now }
+    ensures listed { OnOk result (IsListed set.new pairs.new.items) }
+    ensures ok { OnOk result (Adds (Drifts m.now n.now at.first at.second) set.old pairs.old.items set.new pairs.new.items) }
+{
+    visit_firsts(set, pairs, m.moves(at.first), at.second)?;
+    visit_seconds(set, pairs, at.first, n.moves(at.second))?;
+    Ok(())
+}
+
+/// Visits the pairs to which edges, or calls over related groups, of both nets lead from a pair.
+pub fn stride(
+    set: &mut PairSet,
+    pairs: &mut Vec<Pair>,
+    related: &PairSet,
+    m: &Net,
+    n: &Net,
+    at: Pair,
+) -> Result<(), Memory>
+    requires nets { IsFor m.now n.now set.old }
+    requires listed { IsListed set.old pairs.old.items }
+    requires first { at.first < states m.now }
+    requires second { at.second < states n.now }
+    ensures listed { OnOk result (IsListed set.new pairs.new.items) }
+    ensures ok { OnOk result (Adds (Strides (Marked (marked related.now)) m.now n.now at.first at.second) set.old pairs.old.items set.new pairs.new.items) }
+{
+    visit_boths(set, pairs, m.edges(at.first), n.edges(at.second))?;
+    visit_calls(set, pairs, related, m.calls(at.first), n.calls(at.second))?;
+    Ok(())
+}
+
+/// Visits the pairs to which an empty move of either net, or edges or calls of both, lead from a
+/// pair.
+fn lead(
+    set: &mut PairSet,
+    pairs: &mut Vec<Pair>,
+    related: &PairSet,
+    m: &Net,
+    n: &Net,
+    at: Pair,
+) -> Result<(), Memory>
+    requires nets { IsFor m.now n.now set.old }
+    requires listed { IsListed set.old pairs.old.items }
+    requires first { at.first < states m.now }
+    requires second { at.second < states n.now }
+    ensures listed { OnOk result (IsListed set.new pairs.new.items) }
+    ensures ok { OnOk result (Adds (Leads (Marked (marked related.now)) m.now n.now at.first at.second) set.old pairs.old.items set.new pairs.new.items) }
+{
+    drift(set, pairs, m, n, at)?;
+    stride(set, pairs, related, m, n, at)?;
+    Ok(())
+}
+
+/// Marks and lists all pairs to which the pairs lead.
+pub fn close(
+    set: &mut PairSet,
+    pairs: &mut Vec<Pair>,
+    related: &PairSet,
+    m: &Net,
+    n: &Net,
+) -> Result<(), Memory>
+    requires nets { IsFor m.now n.now set.old }
+    requires listed { IsListed set.old pairs.old.items }
+    ensures listed { OnOk result (IsListed set.new pairs.new.items) }
+    ensures ok { OnOk result (Closes (Leads (Marked (marked related.now)) m.now n.now) set.old set.new) }
+{
+    'places: for place in 0..usize::MAX {
+        if place >= pairs.len() {
+            return Ok(());
+        }
+        let at = pairs[place];
+        lead(set, pairs, related, m, n, at)?;
+    }
+    Ok(())
+}
+
+/// Marks and lists all pairs to which the pairs lead by empty moves alone.
+pub fn close_drifts(
+    set: &mut PairSet,
+    pairs: &mut Vec<Pair>,
+    m: &Net,
+    n: &Net,
+) -> Result<(), Memory>
+    requires nets { IsFor m.now n.now set.old }
+    requires listed { IsListed set.old pairs.old.items }
+    ensures listed { OnOk result (IsListed set.new pairs.new.items) }
+    ensures ok { OnOk result (Closes (Drifts m.now n.now) set.old set.new) }
+{
+    'places: for place in 0..usize::MAX {
+        if place >= pairs.len() {
+            return Ok(());
+        }
+        let at = pairs[place];
+        drift(set, pairs, m, n, at)?;
+    }
+    Ok(())
+}

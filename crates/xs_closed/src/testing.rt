@@ -1,0 +1,63 @@
+mod cut;
+mod longest;
+mod steps;
+mod walk;
+
+ghost use Rattle.std.specs.Prelude.{length};
+ghost use Rattle.xs_auto.specs.Nets.{states};
+ghost use Rattle.xs_meet.specs.Closed.{Marked};
+ghost use Rattle.xs_closed.specs.Rows.{marked, rows_of, IsSized};
+ghost use Rattle.xs_closed.specs.Least.{AreStarts};
+ghost use Rattle.xs_closed.specs.Longest.{IsGreatestIn, IsApartBy, IsClearBy, AreSized};
+ghost use Rattle.xs_closed.specs.Testing.{IsNeed};
+
+use crate::{CutSets, PairSet};
+use cut::{are_fronts, are_pauses, middles_need};
+use longest::longest;
+use steps::pair_need;
+use xs_auto::Net;
+
+/// What the pair of the two starts needs.
+fn start_need(m: &Net, n: &Net, set: &PairSet) -> Option<u64>
+    ensures { IsNeed set.now (AreStarts m.now n.now) 0 result }
+{
+    match (m.start(), n.start()) {
+        (Some(a), Some(b)) => pair_need(set, a, b, 0),
+        _ => Some(0),
+    }
+}
+
+/// How many leading rows of a set show that two nets share no word, at most, if any number does;
+/// `related` has the groups that may share a word.
+///
+/// Takes time linear in the pairs of the set times what leads from them, and no memory.
+pub fn longest_apart(related: &PairSet, m: &Net, n: &Net, set: &PairSet) -> Option<u32>
+    requires sized { IsSized (states m.now) (states n.now) set.now }
+    ensures { IsGreatestIn (length (rows_of set.now)) (IsApartBy (Marked (marked related.now)) m.now n.now set.now) result }
+{
+    match start_need(m, n, set) {
+        Some(need) => longest(related, m, n, set, need),
+        None => None,
+    }
+}
+
+/// How many leading rows of the last of the four sets of a cut show with the others that there is no
+/// overlap, at most, if any number does; `related` has the groups that may share a word.
+///
+/// Takes time linear in the pairs of the sets times what leads from them, and no memory.
+pub fn longest_clear(related: &PairSet, front: &Net, rest: &Net, sets: &CutSets) -> Option<u32>
+    requires sized { AreSized front.now rest.now sets.now }
+    ensures { IsGreatestIn (length (rows_of sets.now.rests)) (IsClearBy (Marked (marked related.now)) front.now rest.now sets.now) result }
+{
+    start_need(front, front, &sets.fronts)?;
+    if !are_fronts(related, front, rest, sets) {
+        return None;
+    }
+    if !are_pauses(related, front, rest, sets) {
+        return None;
+    }
+    match middles_need(related, front, rest, sets) {
+        Some(need) => longest(related, rest, rest, &sets.rests, need),
+        None => None,
+    }
+}

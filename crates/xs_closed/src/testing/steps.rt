@@ -1,0 +1,165 @@
+ghost use Rattle.std.specs.Prelude.{◌≡◌, ◌<◌};
+ghost use Rattle.xs_auto.specs.Nets.{states, edges_of, moves_of, calls_of};
+ghost use Rattle.xs_meet.specs.Closed.{Marked, Drifts, Strides, Leads};
+ghost use Rattle.xs_closed.specs.Rows.{marked};
+ghost use Rattle.xs_closed.specs.Testing.{IsNeed, IsPair, OneOf, Meets, Joins};
+
+use crate::PairSet;
+use xs_auto::{Call, Edge, Net, first_common};
+
+/// What one pair needs.
+pub fn pair_need(set: &PairSet, c: u32, d: u32, need: u64) -> Option<u64>
+    ensures { IsNeed set.now (IsPair c d) need result }
+{
+    if !set.has(c, d) {
+        return None;
+    }
+    Some(need.max(c as u64 + 1))
+}
+
+/// What the pairs of each of these first states with one second state need.
+pub fn firsts_need(set: &PairSet, firsts: &[u32], d: u32, need: u64) -> Option<u64>
+    ensures { IsNeed set.now (OneOf firsts.now (λ c. IsPair c d)) need result }
+{
+    let mut need = need;
+    'firsts: for first in firsts {
+        need = pair_need(set, *first, d, need)?;
+    }
+    Some(need)
+}
+
+/// What the pairs of one first state with each of these second states need.
+pub fn seconds_need(set: &PairSet, c: u32, seconds: &[u32], need: u64) -> Option<u64>
+    ensures { IsNeed set.now (OneOf seconds.now (λ d. IsPair c d)) need result }
+{
+    let mut need = need;
+    'seconds: for second in seconds {
+        need = pair_need(set, c, *second, need)?;
+    }
+    Some(need)
+}
+
+/// What two edges need, where they read a common symbol.
+fn edge_need(set: &PairSet, edge: &Edge, other: &Edge, need: u64) -> Option<u64>
+    ensures { IsNeed set.now (Meets edge.now other.now) need result }
+{
+    if set.has(edge.to, other.to) && (edge.to as u64) < need {
+        return Some(need);
+    }
+    match first_common(&edge.class, &other.class) {
+        Some(_) => pair_need(set, edge.to, other.to, need),
+        None => Some(need),
+    }
+}
+
+/// What one edge needs with each of the others.
+fn ends_need(set: &PairSet, edge: &Edge, others: &[Edge], need: u64) -> Option<u64>
+    ensures { IsNeed set.now (OneOf others.now (Meets edge.now)) need result }
+{
+    let mut need = need;
+    'others: for other in others {
+        need = edge_need(set, edge, other, need)?;
+    }
+    Some(need)
+}
+
+/// What each of the edges needs with each of the others.
+pub fn edges_need(set: &PairSet, edges: &[Edge], others: &[Edge], need: u64) -> Option<u64>
+    ensures { IsNeed set.now (OneOf edges.now (λ e. OneOf others.now (Meets e))) need result }
+{
+    let mut need = need;
+    'edges: for edge in edges {
+        need = ends_need(set, edge, others, need)?;
+    }
+    Some(need)
+}
+
+/// What two calls need, where their groups are related.
+fn call_need(related: &PairSet, set: &PairSet, call: Call, other: Call, need: u64) -> Option<u64>
+    ensures { IsNeed set.now (Joins (Marked (marked related.now)) call other) need result }
+{
+    if !related.has(call.group, other.group) {
+        return Some(need);
+    }
+    pair_need(set, call.to, other.to, need)
+}
+
+/// What one call needs with each of the others.
+fn partners_need(
+    related: &PairSet,
+    set: &PairSet,
+    call: Call,
+    others: &[Call],
+    need: u64,
+) -> Option<u64>
+    ensures { IsNeed set.now (OneOf others.now (Joins (Marked (marked related.now)) call)) need result }
+{
+    let mut need = need;
+    'others: for other in others {
+        need = call_need(related, set, call, *other, need)?;
+    }
+    Some(need)
+}
+
+/// What each of the calls needs with each of the others.
+pub fn calls_need(
+    related: &PairSet,
+    set: &PairSet,
+    calls: &[Call],
+    others: &[Call],
+    need: u64,
+) -> Option<u64>
+    ensures { IsNeed set.now (OneOf calls.now (λ h. OneOf others.now (Joins (Marked (marked related.now)) h))) need result }
+{
+    let mut need = need;
+    'calls: for call in calls {
+        need = partners_need(related, set, *call, others, need)?;
+    }
+    Some(need)
+}
+
+/// What the empty moves of either net from a pair need.
+pub fn drift_need(m: &Net, n: &Net, set: &PairSet, a: u32, b: u32, need: u64) -> Option<u64>
+    requires first { a < states m.now }
+    requires second { b < states n.now }
+    ensures { IsNeed set.now (Drifts m.now n.now a b) need result }
+{
+    let need = firsts_need(set, m.moves(a), b, need)?;
+    seconds_need(set, a, n.moves(b), need)
+}
+
+/// What the edges and the calls of both nets from a pair need.
+pub fn stride_need(
+    related: &PairSet,
+    m: &Net,
+    n: &Net,
+    set: &PairSet,
+    a: u32,
+    b: u32,
+    need: u64,
+) -> Option<u64>
+    requires first { a < states m.now }
+    requires second { b < states n.now }
+    ensures { IsNeed set.now (Strides (Marked (marked related.now)) m.now n.now a b) need result }
+{
+    let need = edges_need(set, m.edges(a), n.edges(b), need)?;
+    calls_need(related, set, m.calls(a), n.calls(b), need)
+}
+
+/// What all that leads from a pair needs.
+pub fn lead_need(
+    related: &PairSet,
+    m: &Net,
+    n: &Net,
+    set: &PairSet,
+    a: u32,
+    b: u32,
+    need: u64,
+) -> Option<u64>
+    requires first { a < states m.now }
+    requires second { b < states n.now }
+    ensures { IsNeed set.now (Leads (Marked (marked related.now)) m.now n.now a b) need result }
+{
+    let need = drift_need(m, n, set, a, b, need)?;
+    stride_need(related, m, n, set, a, b, need)
+}
