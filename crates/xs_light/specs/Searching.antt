@@ -28,7 +28,7 @@ OverlapsAt g p c = (x : List ℕ) × (a : List ℕ) × (y : List ℕ) × IsHoriz
 -- the exact searches are of the grammar
 pub record IsExactFor (g : Grammar) (e : Exact) : Type 0 where
   pub space : IsSpace e.space
-  pub grammar : e.space.g.now ≡ g
+  pub grammar : e.space.site.g.now ≡ g
 
 -- a grammar that was built and whose rules are light, with its components and its tables, its screen
 -- where there is one, and the exact searches where they were made

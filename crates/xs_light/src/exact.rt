@@ -46,11 +46,11 @@ impl<'g> Exact<'g> {
     /// A word that is loose for two rules, or none where there is none.
     pub fn shared_word(&mut self, rule: u32, rule2: u32) -> Result<Option<Word>, Memory>
         requires space { IsSpace self.old.space }
-        requires rule { rule < length self.old.space.g.now.rules }
-        requires rule2 { rule2 < length self.old.space.g.now.rules }
+        requires rule { rule < length self.old.space.site.g.now.rules }
+        requires rule2 { rule2 < length self.old.space.site.g.now.rules }
         ensures same { self.new.space ≡ self.old.space }
-        ensures some { IfOk result (λ o. IfSome o (AreBothLoose self.old.space.g.now rule rule2)) }
-        ensures none { IfOk result (λ o. IfNone o ((w : List ℕ) → AreBothLoose self.old.space.g.now rule rule2 w → ⊥)) }
+        ensures some { IfOk result (λ o. IfSome o (AreBothLoose self.old.space.site.g.now rule rule2)) }
+        ensures none { IfOk result (λ o. IfNone o ((w : List ℕ) → AreBothLoose self.old.space.site.g.now rule rule2 w → ⊥)) }
     {
         let net = self.space.rule_net(rule)?;
         let net2 = self.space.rule_net(rule2)?;
@@ -61,12 +61,12 @@ impl<'g> Exact<'g> {
     /// none.
     pub fn overlap_at(&mut self, rule: u32, cut: u32) -> Result<Option<Overlap>, Memory>
         requires space { IsSpace self.old.space }
-        requires rule { rule < length self.old.space.g.now.rules }
+        requires rule { rule < length self.old.space.site.g.now.rules }
         requires low { 0 < cut }
-        requires high { cut < length (spread self.old.space.g.now rule) }
+        requires high { cut < length (spread self.old.space.site.g.now rule) }
         ensures same { self.new.space ≡ self.old.space }
-        ensures some { IfOk result (λ o. IfSome o (λ w. IsHorizontal self.old.space.g.now rule cut w.x w.a w.y)) }
-        ensures none { IfOk result (λ o. IfNone o (OverlapsAt self.old.space.g.now rule cut → ⊥)) }
+        ensures some { IfOk result (λ o. IfSome o (λ w. IsHorizontal self.old.space.site.g.now rule cut w.x w.a w.y)) }
+        ensures none { IfOk result (λ o. IfNone o (OverlapsAt self.old.space.site.g.now rule cut → ⊥)) }
     {
         let nets = self.space.cut_nets(rule, cut)?;
         self.maps.overlap(&self.space, &nets.front, &nets.rest)

@@ -16,7 +16,7 @@ mod weights;
 
 pub use fault::CheckFault;
 pub use maps::Maps;
-pub use nets::CutNets;
+pub use nets::{CutNets, Site};
 pub use searches::Searches;
 pub use space::SearchSpace;
 pub use weights::light;

@@ -1,16 +1,20 @@
 ghost use Rattle.std.specs.Prelude.{◌≡◌, ◌<◌, length, IfOk};
 ghost use Rattle.xs_gram.specs.Fences.{spread};
+ghost use Rattle.xs_gram.specs.Loose.{AreComponents};
 ghost use Rattle.xs_gram.specs.Sound.{IsBuilt};
+ghost use Rattle.xs_check_laws.specs.Acceptance.{IsLight};
+ghost use Rattle.xs_stretch.specs.Groups.{HasFewGroups};
+ghost use Rattle.xs_stretch.specs.Nets.{IsNetOf, IsNestOf};
 ghost use Rattle.xs_stretch.specs.Parts.{IsPart, part_items, AreLight};
-ghost use Rattle.xs_light.specs.Spaces.{IsSpace, AcceptsLoose, AreCutNets};
+ghost use Rattle.xs_stretch.specs.Tables.{AreTables};
+ghost use Rattle.xs_light.specs.Spaces.{IsSite, IsRuleNet, AreNumbered};
 
-use crate::SearchSpace;
-use xs_auto::Net;
+use std::alloc::Global;
+use xs_auto::{Nest, Net};
 use xs_class::Memory;
-use xs_gram::cuts_are_one;
+use xs_gram::{Comps, Gram};
 use xs_screen::whole;
-use xs_stretch::{LooseFault, Part, net_by};
-use xs_stretch_laws::{nets_accept_loose, nets_are_tame};
+use xs_stretch::{LooseFault, Part, Tables, nest_by, net_by};
 
 /// Nets for the front and the rest of a cut.
 #[derive(Debug, Drop)]
@@ -19,16 +23,35 @@ pub struct CutNets {
     pub rest: Net,
 }
 
-impl<'g> SearchSpace<'g> {
-    /// A net for a part whose items are light.
-    fn light_net(&self, part: Part) -> Result<Net, Memory>
-        requires space { IsSpace self.now }
+/// A grammar whose rules are light, with its components and tables, by which its nets are made.
+#[derive(Clone, Copy)]
+pub struct Site<'g> {
+    pub alloc: Global,
+    pub g: &'g Gram,
+    pub comps: &'g Comps,
+    pub tables: &'g Tables,
+}
+
+impl<'g> Site<'g> {
+    /// The nest of the groups.
+    pub fn nest(&self) -> Result<Nest, Memory>
+        requires { IsSite self.now }
+        ensures { IfOk result (IsNestOf self.now.g.now) }
+    {
+        match nest_by(self.alloc, self.g, self.comps, self.tables) {
+            Ok(nest) => Ok(nest),
+            Err(LooseFault::Memory) => Err(Memory),
+            Err(LooseFault::Heavy { .. }) => unreachable!(),
+        }
+    }
+
+    /// The net of a part whose items are light.
+    fn net(&self, part: Part) -> Result<Net, Memory>
+        requires site { IsSite self.now }
         requires part { IsPart self.now.g.now part }
         requires light { AreLight self.now.g.now (part_items self.now.g.now part) }
-        ensures { IfOk result (AcceptsLoose self.now.g.now self.now.nest (part_items self.now.g.now part)) }
+        ensures { IfOk result (IsNetOf self.now.g.now part) }
     {
-        nets_accept_loose();
-        nets_are_tame();
         match net_by(self.alloc, self.g, self.comps, self.tables, &part) {
             Ok(net) => Ok(net),
             Err(LooseFault::Memory) => Err(Memory),
@@ -36,24 +59,23 @@ impl<'g> SearchSpace<'g> {
         }
     }
 
-    /// A net for all spread items of a rule.
+    /// The net of all spread items of a rule.
     pub fn rule_net(&self, rule: u32) -> Result<Net, Memory>
-        requires space { IsSpace self.now }
+        requires site { IsSite self.now }
         requires rule { rule < length self.now.g.now.rules }
-        ensures { IfOk result (AcceptsLoose self.now.g.now self.now.nest (spread self.now.g.now rule)) }
+        ensures { IfOk result (IsRuleNet self.now.g.now rule) }
     {
         let part = whole(self.g, rule);
-        self.light_net(part)
+        self.net(part)
     }
 
-    /// Nets for the front and the rest of a cut of a rule's spread items.
+    /// The nets of the front and the rest of a cut of a rule's spread items.
     pub fn cut_nets(&self, rule: u32, place: u32) -> Result<CutNets, Memory>
-        requires space { IsSpace self.now }
+        requires site { IsSite self.now }
         requires rule { rule < length self.now.g.now.rules }
         requires place { place < length (spread self.now.g.now rule) }
-        ensures { IfOk result (AreCutNets self.now.g.now self.now.nest rule place) }
+        ensures { IfOk result (AreNumbered self.now.g.now rule place) }
     {
-        cuts_are_one();
         let cut = self.g.cut(rule, place);
         let before = Part {
             rule,
@@ -65,8 +87,8 @@ impl<'g> SearchSpace<'g> {
             start: place,
             end: cut.end,
         };
-        let front = self.light_net(before)?;
-        let rest = self.light_net(after)?;
+        let front = self.net(before)?;
+        let rest = self.net(after)?;
         Ok(CutNets { front, rest })
     }
 }

@@ -8,24 +8,23 @@ ghost use Rattle.xs_meet.specs.Sharing.{IsSharedOf};
 ghost use Rattle.xs_stretch.specs.Groups.{HasFewGroups};
 ghost use Rattle.xs_stretch.specs.Nets.{IsNestOf};
 ghost use Rattle.xs_stretch.specs.Tables.{AreTables};
-ghost use Rattle.xs_light.specs.Spaces.{IsSpace};
+ghost use Rattle.xs_gram.specs.Fences.{spread};
+ghost use Rattle.xs_light.specs.Spaces.{IsSpace, AcceptsLoose, AreCutNets};
 
+use crate::{CutNets, Site};
 use std::alloc::Global;
-use xs_auto::{Nest, Pairs};
+use xs_auto::{Nest, Net, Pairs};
 use xs_class::Memory;
-use xs_gram::{Comps, Gram};
+use xs_gram::{Comps, Gram, cuts_are_one};
 use xs_meet::Shared;
-use xs_stretch::{LooseFault, Tables, nest_by};
-use xs_stretch_laws::nests_are_fenced;
+use xs_stretch::Tables;
+use xs_stretch_laws::{nests_are_fenced, nets_accept_loose, nets_are_tame};
 
-/// A grammar whose rules are light, with what the searches for its suspects share: its components
-/// and tables, the nest of its groups, and which two groups share a word.
+/// A grammar whose rules are light, with what the searches for its suspects share: the nest of its
+/// groups, and which two groups share a word.
 #[derive(Drop)]
 pub struct SearchSpace<'g> {
-    pub alloc: Global,
-    pub g: &'g Gram,
-    pub comps: &'g Comps,
-    pub tables: &'g Tables,
+    pub site: Site<'g>,
     pub nest: Nest,
     pub shared: Shared,
 }
@@ -47,34 +46,41 @@ impl<'g> SearchSpace<'g> {
         requires few { HasFewGroups g.now }
         requires light { IsLight g.now }
         ensures space { IfOk result IsSpace }
-        ensures grammar { IfOk result (λ s. s.g.now ≡ g.now) }
+        ensures grammar { IfOk result (λ s. s.site.g.now ≡ g.now) }
     {
-        let nest = light_nest(alloc, g, comps, tables)?;
-        let shared = shared_groups(alloc, g, &nest)?;
-        Ok(SearchSpace {
+        let site = Site {
             alloc,
             g,
             comps,
             tables,
-            nest,
-            shared,
-        })
+        };
+        let nest = site.nest()?;
+        let shared = shared_groups(alloc, g, &nest)?;
+        Ok(SearchSpace { site, nest, shared })
     }
-}
 
-/// The nest of a grammar whose rules are light.
-fn light_nest(alloc: Global, g: &Gram, comps: &Comps, tables: &Tables) -> Result<Nest, Memory>
-    requires built { IsBuilt g.now }
-    requires comps { AreComponents g.now comps.now }
-    requires tables { AreTables g.now comps.now tables.now }
-    requires few { HasFewGroups g.now }
-    requires light { IsLight g.now }
-    ensures { IfOk result (IsNestOf g.now) }
-{
-    match nest_by(alloc, g, comps, tables) {
-        Ok(nest) => Ok(nest),
-        Err(LooseFault::Memory) => Err(Memory),
-        Err(LooseFault::Heavy { .. }) => unreachable!(),
+    /// A net for all spread items of a rule.
+    pub fn rule_net(&self, rule: u32) -> Result<Net, Memory>
+        requires space { IsSpace self.now }
+        requires rule { rule < length self.now.site.g.now.rules }
+        ensures { IfOk result (AcceptsLoose self.now.site.g.now self.now.nest (spread self.now.site.g.now rule)) }
+    {
+        nets_accept_loose();
+        nets_are_tame();
+        self.site.rule_net(rule)
+    }
+
+    /// Nets for the front and the rest of a cut of a rule's spread items.
+    pub fn cut_nets(&self, rule: u32, place: u32) -> Result<CutNets, Memory>
+        requires space { IsSpace self.now }
+        requires rule { rule < length self.now.site.g.now.rules }
+        requires place { place < length (spread self.now.site.g.now rule) }
+        ensures { IfOk result (AreCutNets self.now.site.g.now self.now.nest rule place) }
+    {
+        nets_accept_loose();
+        nets_are_tame();
+        cuts_are_one();
+        self.site.cut_nets(rule, place)
     }
 }
 
