@@ -20,7 +20,7 @@ use Rattle.xs_gram.proofs.Cuts.{cuts_are_one}
 use Rattle.xs_gram.specs.Loose.{IsLoose}
 use Rattle.xs_gram.specs.Sound.{IsBuilt}
 use Rattle.xs_gram.specs.Suspects.{IsVertical, IsHorizontal}
-use Rattle.xs_cert_laws.specs.Two.{Pair}
+use Rattle.xs_pair.specs.Grammars.{Pair}
 use Rattle.xs_check_laws.specs.Acceptance.{IsLight, HasNoSuspect, IsAccepted}
 use Rattle.xs_check_laws.specs.Freedom.{HasNoVertical, HasNoHorizontal}
 use Rattle.xs_check_laws.proofs.Words.{loose_level}
