@@ -32,4 +32,4 @@ returns c =
       exact = related_exact nest c.in_ok-space.space.shared related space.fenced space.shared c.in_ok-relate.ensures;
     } in
     on_ok_weaker c.write_blocks.result (λ blocks. subst (λ (h : Grammar). AddsHalf h c.args.writer.now.out c.write_blocks.new.self.out) same
-      (half_written g nest related source c.args.writer.now.out c.write_shares.new.out c.write_blocks.new.self.out (rw c.len.ensures at c.in_ok-write_shares.ensures) blocks)) c.write_blocks.ensures
+    (half_written g nest related source c.args.writer.now.out c.write_shares.new.out c.write_blocks.new.self.out (rw c.len.ensures at c.in_ok-write_shares.ensures) blocks)) c.write_blocks.ensures
