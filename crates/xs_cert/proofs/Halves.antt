@@ -13,7 +13,7 @@ use Rattle.xs_cert_lines.specs.Lines.{Lines, written}
 use Rattle.xs_cert_laws.specs.Blocks.{Head, Block, head, block_lines, IsRight}
 use Rattle.xs_cert_laws.specs.Certificates.{between, one_fence, IsFencePair, Half, IsHalf, Shares, share_line, half_lines, heads, group_heads, rule_heads, cut_heads}
 use Rattle.xs_cert_laws.specs.Exact.{IsExact}
-use Rattle.xs_cert.specs.Heads.{open_heads, all_heads}
+use Rattle.xs_cert.specs.Sides.{open_heads, side_heads}
 use Rattle.xs_cert.specs.Writing.{Adds, IsSource, Relates, shares_in, AddsBlocks, AddsHalf}
 use Rattle.xs_cert.proofs.Adding.{adds_lines}
 use Rattle.xs_cert.proofs.Same.{right_same, least_same}
@@ -61,7 +61,7 @@ module _ (g : Grammar) (nest : List Group) (z : Grid) (source : IsSource g nest 
   to = share_to (length nest) (marked z) turned inside
 
   pub half_written : (old mid new : List ℕ) → Adds old mid (map share_line (shares_in (length nest) (marked z)))
-      → AddsBlocks g nest (Marked (marked z)) (all_heads g nest (marked z)) mid new → AddsHalf g old new
+      → AddsBlocks g nest (Marked (marked z)) (side_heads g nest (marked z)) mid new → AddsHalf g old new
   half_written old mid new shares blocks = record {
     half = record { nest = nest; shares = shares_in (length nest) (marked z); blocks = blocks.blocks };
     whole = record {

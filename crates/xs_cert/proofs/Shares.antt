@@ -9,7 +9,8 @@ use Rattle.xs_check_laws.specs.Acceptance.{IsBefore}
 use Rattle.xs_cert_laws.specs.Certificates.{has_pair, is_shared, one_fence, IsFencePair, AreShares, between, group_heads}
 use Rattle.xs_cert_laws.specs.Blocks.{Head, for_groups}
 use Rattle.xs_cert_laws.proofs.Finding.{between_has, map_has, filter_has, flat_has}
-use Rattle.xs_cert.specs.Heads.{is_open, open_heads}
+use Rattle.xs_cert.specs.Heads.{is_open}
+use Rattle.xs_cert.specs.Sides.{open_heads}
 use Rattle.xs_cert.specs.Writing.{shares_of, shares_in}
 
 -- the pair of c and d does not come before that of a and b

@@ -6,7 +6,8 @@ ghost use Rattle.xs_closed.specs.Rows.{marked};
 ghost use Rattle.xs_cert_lines.specs.Lines.{spaced};
 ghost use Rattle.xs_cert_laws.specs.Blocks.{for_groups, for_rules, for_cut, AreContents, AreRuleNets, AreCutNets};
 ghost use Rattle.xs_cert_laws.specs.Certificates.{between, rule_heads, cut_heads};
-ghost use Rattle.xs_cert.specs.Heads.{is_open, is_of_one, open_heads, all_heads};
+ghost use Rattle.xs_cert.specs.Heads.{is_open, is_of_one};
+ghost use Rattle.xs_cert.specs.Sides.{open_heads, side_heads};
 ghost use Rattle.xs_cert.specs.Writing.{IsSource, AddsApart, AddsBlock, AddsBlocks, MeetNowhere, OverlapNowhere};
 ghost use Rattle.xs_light.specs.Spaces.{IsSite, IsRuleNet};
 
@@ -59,7 +60,7 @@ impl Writer {
     pub fn write_blocks(&mut self, source: Source<'_>) -> Result<(), Memory>
         requires source { IsSource source.site.g.now source.nest.now source.related.now }
         requires site { IsSite source.site }
-        ensures { OnOk result (AddsBlocks source.entry.site.g.now source.entry.nest.now (Marked (marked source.entry.related.now)) (all_heads source.entry.site.g.now source.entry.nest.now (marked source.entry.related.now)) self.old.out self.new.out) }
+        ensures { OnOk result (AddsBlocks source.entry.site.g.now source.entry.nest.now (Marked (marked source.entry.related.now)) (side_heads source.entry.site.g.now source.entry.nest.now (marked source.entry.related.now)) self.old.out self.new.out) }
     {
         let mut partners = Vec::new(self.alloc);
         self.write_all_groups(source, &mut partners)?;

@@ -2,7 +2,7 @@ use Rattle.std.proofs.Common.{flat_map, arith}
 use Rattle.xs_meet.specs.Closed.{Marked}
 use Rattle.xs_closed.specs.Rows.{marked}
 use Rattle.xs_cert_laws.specs.Certificates.{between}
-use Rattle.xs_cert.specs.Heads.{open_heads}
+use Rattle.xs_cert.specs.Sides.{open_heads}
 use Rattle.xs_cert.proofs.Ranges.{flat_more}
 use Rattle.xs_cert.proofs.Adding.{adds_both}
 use Rattle.xs_cert.proofs.writer.Writer.write_all_groups.Goals as goal

@@ -1,6 +1,6 @@
 use Rattle.std.proofs.Common.{flat_map}
 use Rattle.xs_cert_laws.specs.Certificates.{between}
-use Rattle.xs_cert.specs.Heads.{open_heads}
+use Rattle.xs_cert.specs.Sides.{open_heads}
 use Rattle.xs_meet.specs.Closed.{Marked}
 use Rattle.xs_closed.specs.Rows.{marked}
 use Rattle.xs_cert.specs.Writing.{AddsBlocks}

@@ -3,7 +3,7 @@ use Rattle.std.proofs.lemmas.Result.{on_ok_weaker}
 use Rattle.xs_meet.specs.Closed.{Marked}
 use Rattle.xs_closed.specs.Rows.{marked}
 use Rattle.xs_cert_laws.specs.Certificates.{between, rule_heads, cut_heads}
-use Rattle.xs_cert.specs.Heads.{open_heads}
+use Rattle.xs_cert.specs.Sides.{open_heads}
 use Rattle.xs_cert.proofs.Adding.{adds_both}
 use Rattle.xs_cert.proofs.writer.Writer.write_blocks.Goals as goal
 
