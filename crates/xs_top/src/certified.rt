@@ -1,7 +1,8 @@
 ghost use Rattle.std.specs.Prelude.{◌≡◌, ◌≤◌, IfOk, IfErr};
+ghost use Rattle.xs_io.specs.Shown.{IsFile};
 ghost use Rattle.xs_words.specs.Meaning.{sheet_meant};
 ghost use Rattle.xs_top.specs.Devices.{shelves_of};
-ghost use Rattle.xs_top.specs.Certifying.{IsCertified, IsUncertified};
+ghost use Rattle.xs_top.specs.Certifying.{IsCertified, IsUnshown, IsUncertified};
 ghost use Rattle.xs_top.specs.Stops.{StopsBy};
 
 use crate::sheets::pair_for;
@@ -17,7 +18,12 @@ use xs_words::SheetName;
 pub const CERTIFICATE_LIMIT: usize = 268_435_456;
 
 /// The bytes of the certificate in the file of this name.
-fn certificate<H: Shelf>(alloc: Global, shelf: &mut H, name: &str) -> Result<Bytes, Stop> {
+fn certificate<H: Shelf>(alloc: Global, shelf: &mut H, name: &str) -> Result<Bytes, Stop>
+    ensures bytes { IfOk result (λ bytes. IsFile (H.files shelf.old) name.now bytes 268435456) }
+    ensures files { H.files shelf.new ≡ H.files shelf.old }
+    ensures stop { IfErr result (StopsBy (IsUnshown (shelves_of H.files H.faults H.name_faults shelf.old shelf.new)
+        name.now)) }
+{
     match read_file(alloc, shelf, name, CERTIFICATE_LIMIT) {
         Ok(bytes) => Ok(bytes),
         Err(ReadStop::ReadFault) => Err(Stop::Refused(Outcome::CertFault)),
@@ -26,8 +32,8 @@ fn certificate<H: Shelf>(alloc: Global, shelf: &mut H, name: &str) -> Result<Byt
     }
 }
 
-/// What is said of a sheet, once the certificate in the file of this name shows that it is accepted.
-/// The file is read only where no rule of the sheet is too heavy.
+/// What is said of a sheet, once the certificate in the file of this name shows that it is
+/// accepted. The file is read only where no rule of the sheet is too heavy.
 pub fn certified<H: Shelf>(
     alloc: Global,
     shelf: &mut H,
