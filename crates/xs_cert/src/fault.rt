@@ -6,8 +6,8 @@ use xs_light::CheckFault;
 pub enum CertFault {
     /// A rule weighs more than 8,192: this is the weight of the first that does.
     Heavy { weight: u64 },
-    /// No rule is heavy, and this line, counted from 1, is the first that a certificate does not go
-    /// on with.
+    /// No rule is heavy, and this line, counted from 1, is the first after the longest front of the
+    /// bytes that is right.
     CertBad { line: u64 },
     Memory,
 }
