@@ -10,3 +10,4 @@ pub mod Rows
 pub mod Steps
 pub mod Basis
 pub mod Halves
+pub mod Laws
