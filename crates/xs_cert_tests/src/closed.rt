@@ -81,7 +81,8 @@ fn least_sets_have_what_the_starts_lead_to(rt: HostRuntime) {
     assert!(rt; met_calls(alloc, 5, 1) == Ok(START));
 }
 
-/// The least sets of a cut of two runs, and how many rows of the last show that they do not overlap.
+/// The least sets of a cut of two runs, and how many rows of the last show that the runs do not
+/// overlap.
 type Found = ([Marks; 4], Option<u32>);
 
 fn cut(alloc: Global, front: (u32, u32), rest: (u32, u32)) -> Result<Found, Memory> {

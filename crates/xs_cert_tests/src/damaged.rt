@@ -1,5 +1,5 @@
-//! Certificates that are damaged, of the empty sheet and of a small one with fences: `certify` names
-//! the line that the slow program does.
+//! Certificates that are damaged, of the empty sheet and of a small one with fences: `certify`
+//! names the line that the slow program does.
 ghost use Rattle.xs_pair.specs.Sound.{IsSoundPair};
 
 use super::slow::Slow;
@@ -178,7 +178,7 @@ fn is_begin(bytes: &[u8], place: usize) -> bool {
     is_digit && is_after
 }
 
-/// A zero comes before each number, a carriage return before each line feed, and a space after each.
+/// A zero comes before each number, and a carriage return or a space before each line feed.
 fn bytes_more(rt: &impl Abort, alloc: Global, two: &Two, case: &Case) -> Result<(), Fail>
     requires { IsSoundPair two.now }
 {
@@ -223,7 +223,7 @@ fn number_end(bytes: &[u8], place: usize) -> usize {
     bytes.len()
 }
 
-/// Each number that comes after a space, a partner of a state or of what a block is for, is left out.
+/// Each number that comes after a space, in a row or in the line of what comes next, is left out.
 fn numbers_less(rt: &impl Abort, alloc: Global, two: &Two, case: &Case) -> Result<(), Fail>
     requires { IsSoundPair two.now }
 {
@@ -238,7 +238,7 @@ fn numbers_less(rt: &impl Abort, alloc: Global, two: &Two, case: &Case) -> Resul
     Ok(())
 }
 
-/// Each row gets one more partner, some of which are as right, and one that is no state.
+/// Each row gets one more partner, which may be right or not, or one that is no state.
 fn numbers_more(rt: &impl Abort, alloc: Global, two: &Two, case: &Case) -> Result<(), Fail>
     requires { IsSoundPair two.now }
 {
@@ -267,7 +267,7 @@ fn is_head(line: &[u8]) -> bool {
         || line.starts_with(b"end")
 }
 
-/// Each block is left out, and each side without what it has of groups that share a word.
+/// Each block is left out, and each line of a side with those of groups that share a word.
 fn blocks_less(rt: &impl Abort, alloc: Global, two: &Two, case: &Case) -> Result<(), Fail>
     requires { IsSoundPair two.now }
 {
@@ -331,23 +331,28 @@ const BAD: [(&[u8], u64); 10] = [
     (b"xsugar-cert-1\r\nside text\r\n", 1),
     (b"xsugar-cert-1\nside text\nside xml\ncut 0 1\n", 4),
     (
-        b"xsugar-cert-1\nside text\nside xml\ncut 00 1\nset 1\n0 0\n1 1\nset 0\n1 0\nset 2\nset 3\nend\n",
+        b"xsugar-cert-1\nside text\nside xml\ncut 00 1\n\
+            set 1\n0 0\n1 1\nset 0\n1 0\nset 2\nset 3\nend\n",
         4,
     ),
     (
-        b"xsugar-cert-1\nside text\nside xml\ncut 0 1\nset 1\n0 0\nset 0\n1 0\nset 2\nset 3\nend\n",
+        b"xsugar-cert-1\nside text\nside xml\ncut 0 1\n\
+            set 1\n0 0\nset 0\n1 0\nset 2\nset 3\nend\n",
         4,
     ),
     (
-        b"xsugar-cert-1\nside text\nside xml\ncut 0 1\nset 1\n0 0\n1 1\nset 0\n1 0\nset 2\nset 3\nend",
+        b"xsugar-cert-1\nside text\nside xml\ncut 0 1\n\
+            set 1\n0 0\n1 1\nset 0\n1 0\nset 2\nset 3\nend",
         12,
     ),
     (
-        b"xsugar-cert-1\nside text\nside xml\ncut 0 1\nset 1\n0 0\n1 1\nset 0\n1 0\nset 2\nset 3\nend\nend\n",
+        b"xsugar-cert-1\nside text\nside xml\ncut 0 1\n\
+            set 1\n0 0\n1 1\nset 0\n1 0\nset 2\nset 3\nend\nend\n",
         12,
     ),
     (
-        b"xsugar-cert-1\nside text\nside xml\ncut 0 1\nset 1\n0 0\n1 1\nset 0\n1 0\nset 2\nset 3\n0 1\n1 1\nend\n",
+        b"xsugar-cert-1\nside text\nside xml\ncut 0 1\n\
+            set 1\n0 0\n1 1\nset 0\n1 0\nset 2\nset 3\n0 1\n1 1\nend\n",
         13,
     ),
 ];

@@ -1,6 +1,6 @@
-//! Small sheets that are drawn: `prove` writes a certificate where `accept` accepts and refuses as it
-//! does, `certify` takes what was written, and one byte of it that is drawn anew makes `certify` say
-//! what the slow program does.
+//! Small sheets that are drawn: `prove` writes a certificate where `accept` accepts, and refuses as
+//! it does; `certify` takes what was written, and where one byte of it is drawn anew it says what
+//! the slow program does.
 ghost use Rattle.xs_pair.specs.Sound.{IsSoundPair};
 
 use super::damaged::{expect_same, replaced};

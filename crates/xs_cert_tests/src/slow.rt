@@ -1,9 +1,9 @@
-//! A slow program of what a certificate is, which stands beside `certify` and shares nothing with it
-//! but the nets.
+//! A slow program of what a certificate is, which stands beside `certify` and shares nothing with
+//! it but the nets.
 //!
 //! It tries each number of lines, from all lines down, and asks whether so many first lines are a
-//! good front: whether they begin a certificate, end before or after a whole block, a line of groups
-//! that share a word or of a side, and all their blocks are right.
+//! good front: whether they begin a certificate, end before or after a whole block, a line of
+//! groups that share a word or of a side, and all their blocks are right.
 ghost use Rattle.xs_pair.specs.Sound.{IsSoundPair};
 
 mod reading;

@@ -26,11 +26,12 @@ fn the_certificate_of_the_empty_sheet(rt: HostRuntime) -> Result<(), Fail> {
     Ok(())
 }
 
-/// Groups in groups: of one fence, where the second and the third share a word, and the first shares
-/// none with them.
+/// Groups in groups: of one fence, where the second and the third share a word, and the first
+/// shares none with them.
 pub const GROUPS: &str =
     "xsugar-2\nstart s\nterminal d = /[0-9]/\nterminal l = /[a-z]/\nfence \"(\" \")\"\n\
-    s : \"(\" [d a] \"(\" [l b] \")\" \")\" \"(\" [l c] \")\" = <s><a>[d a]<b>[l b]</b></a><b>[l c]</b></s>\n\
+    s : \"(\" [d a] \"(\" [l b] \")\" \")\" \"(\" [l c] \")\" = \
+    <s><a>[d a]<b>[l b]</b></a><b>[l c]</b></s>\n\
     s : [d a] = <d>[d a]</d>\n";
 
 /// The sheets of examples/ stand in `EXAMPLES`.
@@ -87,7 +88,8 @@ fn has_part(bytes: &[u8], text: &[u8]) -> bool {
 /// a, b, b and d are groups; and the first line of the block after them.
 const SHARED: [&[u8]; 2] = [
     b"side text\nshared 0 0\nshared 1 1\nshared 1 2\nshared 2 2\ngroup 0 1\n",
-    b"side xml\nshared 0 0\nshared 1 1\nshared 2 2\nshared 2 3\nshared 3 3\nshared 4 4\nrules 0 1\n",
+    b"side xml\nshared 0 0\nshared 1 1\nshared 2 2\nshared 2 3\nshared 3 3\nshared 4 4\n\
+        rules 0 1\n",
 ];
 
 #[test]

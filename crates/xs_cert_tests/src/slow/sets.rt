@@ -153,8 +153,8 @@ impl<'t> Duo<'t> {
         true
     }
 
-    /// Whether the set has all pairs to which a call of this group, to this state, and a call of the
-    /// second net lead.
+    /// Whether the set has all pairs to which a call of this group, to this state, and a call of
+    /// the second net lead.
     fn has_calls_with(&self, group: u32, c: u32, b: u32, set: &Set) -> bool {
         if b >= self.n.len() {
             return false;

@@ -24,8 +24,8 @@ struct Cut {
     rest: Net,
 }
 
-/// A rule: its nonterminal, how many spread items it has, the net of all of them, and the nets of its
-/// cuts from the first one on.
+/// A rule: its nonterminal, how many spread items it has, the net of all of them, and the nets of
+/// its cuts from the first one on.
 #[derive(Debug, Drop)]
 struct Rule {
     non: u32,
@@ -57,8 +57,8 @@ struct Block {
     sets: Vec<Set>,
 }
 
-/// What lines have of a side: the groups that are said to share a word, the blocks, and whether these
-/// are all.
+/// What lines have of a side: the groups that are said to share a word, the blocks, and whether
+/// these are all.
 #[derive(Drop)]
 pub struct Half {
     shares: Vec<(u32, u32)>,
