@@ -1,2 +1,12 @@
 pub mod Heads
+pub mod Writing
 pub mod Reasons
+pub mod Places
+pub mod Ways
+pub mod Sides
+pub mod Shares
+pub mod Readings
+pub mod Rows
+pub mod Steps
+pub mod Basis
+pub mod Halves

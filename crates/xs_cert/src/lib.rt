@@ -2,19 +2,28 @@
 //! accepted, and `certify` tests one, pair by pair.
 //!
 //! The test is local: each pair of states of each set is looked at once, with the edges, moves and
-//! calls that lead from it. What it takes grows with the certificate and the nets, in memory with one
-//! block's sets.
+//! calls that lead from it. What it takes grows with the certificate and the nets, in memory with
+//! one block's sets.
 #![tactic(auto)]
 
+mod basis;
+mod blocks;
 mod certified;
-mod certify;
+mod certifying;
 mod fault;
+mod half;
 mod heads;
-mod prove;
-mod weigh;
+mod place;
+mod proving;
+mod relating;
+mod sets;
+mod sharing;
+mod titles;
+mod weighing;
+mod writer;
 
 pub use certified::Certified;
-pub use certify::certify;
+pub use certifying::certify;
 pub use fault::CertFault;
-pub use prove::prove;
-pub use weigh::weigh;
+pub use proving::prove;
+pub use weighing::weigh;

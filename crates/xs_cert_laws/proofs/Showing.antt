@@ -20,7 +20,7 @@ use Rattle.xs_gram.proofs.Cuts.{cuts_are_one}
 use Rattle.xs_gram.specs.Loose.{IsLoose}
 use Rattle.xs_gram.specs.Sound.{IsBuilt}
 use Rattle.xs_gram.specs.Suspects.{IsVertical, IsHorizontal}
-use Rattle.xs_cert_laws.specs.Two.{Pair}
+use Rattle.xs_pair.specs.Grammars.{Pair}
 use Rattle.xs_check_laws.specs.Acceptance.{IsLight, HasNoSuspect, IsAccepted}
 use Rattle.xs_check_laws.specs.Freedom.{HasNoVertical, HasNoHorizontal}
 use Rattle.xs_check_laws.proofs.Words.{loose_level}
@@ -41,7 +41,7 @@ same_number : {m n : ℕ} → m ≡ n → nat_eq m n ≡ true
 same_number e = rw e (eq_self _)
 
 -- the items from one place of a rule to another
-slice_stretch : {g : Grammar} {p start end : ℕ} → p < length g.rules → start ≤ length (spread g p) → start ≤ end → IsLevel g.fences (slice_range (spread g p) start end) → IsStretch g p start (slice_range (spread g p) start end)
+pub slice_stretch : {g : Grammar} {p start end : ℕ} → p < length g.rules → start ≤ length (spread g p) → start ≤ end → IsLevel g.fences (slice_range (spread g p) start end) → IsStretch g p start (slice_range (spread g p) start end)
 slice_stretch {g} {p} {start} {end} rule low order level = record {
   rule = rule;
   before = take start (spread g p);

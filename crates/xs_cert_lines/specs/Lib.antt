@@ -1,2 +1,5 @@
 pub mod Lines
 pub mod Runs
+pub mod Numbers
+pub mod Reading
+pub mod Laws

@@ -14,8 +14,8 @@ pub record IsFrom (bytes : List ℕ) (start end : ℕ) (ls : Lines) : Type 0 whe
   pub within : end ≤ length bytes
   pub is : drop start bytes ≡ written ls ++ drop end bytes
 
--- the lines of the rows of the table stand between the two bytes, and no rows of a set of such a table
--- go further
+-- the lines of the rows of the table stand between the two bytes, and no rows of a set of such a
+-- table go further
 pub record IsRun (bytes : List ℕ) (start : ℕ) (high wide : ℕ) (end many : ℕ) (z : Grid) : Type 0 where
   pub sized : IsSized high wide z
   pub there : IsFrom bytes start end (set_lines (rows_of z))

@@ -3,6 +3,14 @@
 //! set.
 #![tactic(auto)]
 
+mod laws;
+mod line;
+mod number;
+mod row;
+mod rows;
 mod run;
 
-pub use run::Run;
+pub use laws::lines_are_read_once;
+pub use line::{read_line, read_pair, write_pair};
+pub use rows::write_rows;
+pub use run::{Run, read_rows};

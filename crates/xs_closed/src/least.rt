@@ -33,8 +33,8 @@ pub fn least_apart(
 
 /// The four least sets of a cut.
 ///
-/// Takes time linear in the pairs of the sets, times the edges, moves and calls of their states, and
-/// 8 bytes for each pair beside the sets.
+/// Takes time linear in the pairs of the sets, times the edges, moves and calls of their states,
+/// and 8 bytes for each pair beside the sets.
 pub fn least_clear(
     alloc: Global,
     related: &PairSet,

@@ -6,8 +6,8 @@ pub fn least_sets_are_right()
     ensures clear { LeastIsClear }
 {}
 
-/// Two final states that are reached show a word that both nets accept, or words that overlap, where
-/// related groups share a word.
+/// Two final states that are reached show a word that both nets accept, or words that overlap,
+/// where related groups share a word.
 pub fn reached_shows()
     ensures shared { ReachedIsShared }
     ensures overlap { ReachedIsOverlap }

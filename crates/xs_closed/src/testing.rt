@@ -41,8 +41,8 @@ pub fn longest_apart(related: &PairSet, m: &Net, n: &Net, set: &PairSet) -> Opti
     }
 }
 
-/// How many leading rows of the last of the four sets of a cut show with the others that there is no
-/// overlap, at most, if any number does; `related` has the groups that may share a word.
+/// How many leading rows of the last of the four sets of a cut show with the others that there is
+/// no overlap, at most, if any number does; `related` has the groups that may share a word.
 ///
 /// Takes time linear in the pairs of the sets times what leads from them, and no memory.
 pub fn longest_clear(related: &PairSet, front: &Net, rest: &Net, sets: &CutSets) -> Option<u32>

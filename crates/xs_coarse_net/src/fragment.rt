@@ -15,6 +15,9 @@ use std::alloc::Global;
 use xs_class::Memory;
 use xs_coarse::{Arc, Coarse};
 
+/// For how many arcs there is room before any is copied.
+const ROOM: usize = 128;
+
 /// A copy that is being made of the part of a net that is reached from a state: the numbers of the
 /// states reached so far, which states they are, and the arcs.
 #[derive(Debug, Drop)]
@@ -57,7 +60,7 @@ impl Tracer {
         Ok(Tracer {
             names: vec![in alloc; 0u32; states as usize]?,
             order: Vec::with_capacity(alloc, states as usize)?,
-            arcs: Vec::new(alloc),
+            arcs: Vec::with_capacity(alloc, ROOM)?,
         })
     }
 

@@ -57,8 +57,9 @@ pub fn first_horizontal(searches: &mut Searches<'_>) -> Result<Option<Horiz>, Me
     ensures none { IfOk result (λ o. IfNone o (HasNoHorizontal searches.old)) }
 {
     let g = searches.grammar();
+    let mut doubts = Vec::new(searches.alloc());
     'rules: for rule in 0..g.rules() {
-        let found = first_cut(searches, rule)?;
+        let found = first_cut(searches, rule, &mut doubts)?;
         if let Some(horiz) = found {
             return Ok(Some(horiz));
         }
@@ -67,7 +68,11 @@ pub fn first_horizontal(searches: &mut Searches<'_>) -> Result<Option<Horiz>, Me
 }
 
 /// The first cut of a rule at which front and rest overlap, where there is one.
-fn first_cut(searches: &mut Searches<'_>, rule: u32) -> Result<Option<Horiz>, Memory>
+fn first_cut(
+    searches: &mut Searches<'_>,
+    rule: u32,
+    doubts: &mut Vec<bool>,
+) -> Result<Option<Horiz>, Memory>
     requires rule { rule < length searches.old.rules }
     ensures same { searches.new ≡ searches.old }
     ensures some { IfOk result (λ o. IfSome o (IsFirstCut searches.old rule)) }
@@ -75,9 +80,9 @@ fn first_cut(searches: &mut Searches<'_>, rule: u32) -> Result<Option<Horiz>, Me
 {
     let g = searches.grammar();
     let count = g.spread(rule).len() as u32;
-    let doubts = searches.doubts(rule)?;
+    searches.doubts(rule, doubts)?;
     'cuts: for cut in 1..count {
-        let found = overlap_at(searches, &doubts, rule, cut)?;
+        let found = overlap_at(searches, doubts, rule, cut)?;
         if let Some(Overlap { x, a, y }) = found {
             return Ok(Some(Horiz { rule, cut, x, a, y }));
         }

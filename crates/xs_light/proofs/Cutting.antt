@@ -9,7 +9,12 @@ use Rattle.xs_gram.specs.Fences.{spread}
 use Rattle.xs_gram.specs.Sound.{IsBuilt}
 use Rattle.xs_gram.proofs.Cuts.{cut_level}
 use Rattle.xs_check_laws.specs.Acceptance.{IsLight}
+use Rattle.xs_stretch.specs.declared.part.Part.{Part}
+use Rattle.xs_stretch.specs.Nets.{IsNumbered, IsNetOf, IsNestOf}
 use Rattle.xs_stretch.specs.Parts.{IsPart, part_items, AreLight}
+use Rattle.xs_stretch.proofs.Stretches.{part_stretch}
+use Rattle.xs_stretch_laws.specs.Laws.{NetsAcceptLoose, NetsAreTame}
+use Rattle.xs_light.specs.declared.nets.CutNets.{CutNets}
 use Rattle.xs_light.specs.Spaces.{AcceptsLoose, AreCutNets}
 use Rattle.xs_light.proofs.Lightness.{cut_light}
 
@@ -26,10 +31,18 @@ module _ (g : Grammar) (built : IsBuilt g) (p c start end : ℕ) (lt : p < lengt
   pub rest_light : IsLight g → AreLight g (part_items g (record { rule = p; start = c; end = end }))
   rest_light light = (cut_light g built light p c (slice_range (spread g p) start c) (slice_range (spread g p) c end) lt at.cut).1
 
-  pub cut_nets_are : (nest : List Group) (front rest : Graph) → CutsAreOne → c ≤ length (spread g p)
-      → AcceptsLoose g nest (part_items g (record { rule = p; start = start; end = c })) front → AcceptsLoose g nest (part_items g (record { rule = p; start = c; end = end })) rest
-      → AreCutNets g nest p c (record { front = front; rest = rest })
-  cut_nets_are nest front rest law within accepts_front accepts_rest =
+  accepts : (nest : List Group) → IsNestOf g nest → NetsAcceptLoose → NetsAreTame → (part : Part) → IsPart g part → (n : Graph) → IsNetOf g part n → AcceptsLoose g nest (part_items g part) n
+  accepts nest is_nest loose tame part is n net =
+      let stretch = part_stretch g part is in
+      record {
+        tame = tame g built nest is_nest part.rule part.start (part_items g part) n stretch net;
+        words = λ w. loose g built nest is_nest part.rule part.start (part_items g part) n stretch net w;
+      }
+
+  -- the nets of a cut accept the loose words of its front and its rest
+  pub cut_nets_accept : (nest : List Group) → IsNestOf g nest → NetsAcceptLoose → NetsAreTame → CutsAreOne → c ≤ length (spread g p) → (nets : CutNets)
+      → IsNumbered g p start (slice_range (spread g p) start c) nets.front → IsNumbered g p c (slice_range (spread g p) c end) nets.rest → AreCutNets g nest p c nets
+  cut_nets_accept nest is_nest loose tame law within nets front rest =
       let one = law g built.proper p c within in
       let own = one.only (slice_range (spread g p) start c) (slice_range (spread g p) c end) at.cut in
       record {
@@ -37,6 +50,6 @@ module _ (g : Grammar) (built : IsBuilt g) (p c start end : ℕ) (lt : p < lengt
         rest_items = slice_range (spread g p) c end;
         cut = at.cut;
         only = λ f r k. (let q = one.only f r k in (q.0 ∙ sym own.0, q.1 ∙ sym own.1));
-        front = accepts_front;
-        rest = accepts_rest;
+        front = accepts nest is_nest loose tame (record { rule = p; start = start; end = c }) front_part nets.front front;
+        rest = accepts nest is_nest loose tame (record { rule = p; start = c; end = end }) rest_part nets.rest rest;
       }

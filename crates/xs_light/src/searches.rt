@@ -1,4 +1,4 @@
-ghost use Rattle.std.specs.Prelude.{ℕ, ◌≡◌, ◌<◌, true, List, length, IfOk, IfSome, IfNone};
+ghost use Rattle.std.specs.Prelude.{ℕ, ◌≡◌, ◌<◌, true, List, length, IfOk, OnOk, IfSome, IfNone};
 ghost use Rattle.xs_gram.specs.Fences.{spread};
 ghost use Rattle.xs_gram.specs.Loose.{AreComponents};
 ghost use Rattle.xs_gram.specs.Sound.{IsBuilt};
@@ -101,6 +101,11 @@ impl<'g> Searches<'g> {
         self.g
     }
 
+    /// The allocator.
+    pub fn alloc(&self) -> Global {
+        self.alloc
+    }
+
     /// A word that is loose for two rules, or none where there is none.
     pub fn shared_word(&mut self, rule: u32, rule2: u32) -> Result<Option<Word>, Memory>
         requires rule { rule < length self.old.rules }
@@ -136,19 +141,22 @@ impl<'g> Searches<'g> {
         }
     }
 
-    /// For each place of a rule's spread items whether its cut is in doubt, as those beyond the list
-    /// are: at the others the screen sees that front and rest do not overlap.
-    pub fn doubts(&mut self, rule: u32) -> Result<Vec<bool>, Memory>
+    /// Says in the list, for each place of a rule's spread items, whether its cut is in doubt, as
+    /// those beyond the list are: at the others the screen sees that front and rest do not overlap.
+    pub fn doubts(&mut self, rule: u32, doubts: &mut Vec<bool>) -> Result<(), Memory>
         requires rule { rule < length self.old.rules }
         ensures same { self.new ≡ self.old }
-        ensures doubts { IfOk result (λ ds. AreDoubts self.old rule ds.items) }
+        ensures doubts { OnOk result (AreDoubts self.old rule doubts.new.items) }
     {
         match self.screen.take() {
-            None => Ok(Vec::new(self.alloc)),
+            None => {
+                doubts.clear();
+                Ok(())
+            }
             Some(mut screen) => {
-                let doubts = screen.doubts(self.alloc, self.g, &self.tables.groups, rule)?;
+                screen.doubts(self.alloc, self.g, &self.tables.groups, rule, doubts)?;
                 self.screen = Some(screen);
-                Ok(doubts)
+                Ok(())
             }
         }
     }

@@ -21,6 +21,7 @@ pub mod Balancing
 pub mod Apart
 pub mod Regexes
 pub mod RegexCopies
+pub mod RegexFrames
 pub mod FenceOrders
 pub mod Lists
 pub mod Nested

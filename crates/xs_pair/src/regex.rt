@@ -5,33 +5,53 @@ use std::alloc::Global;
 use xs_class::Memory;
 use xs_regex::Regex;
 
-/// The same regex once more. It calls itself for what is nested.
+/// What stands round the part that is copied next. `First` and `One` hold the copied first part of
+/// a sequence and of a choice.
+#[derive(Drop)]
+enum Frame {
+    First(Regex),
+    One(Regex),
+    Any,
+    Counted(u32, Option<u32>),
+}
+
+/// The same regex once more. It calls itself for what is nested, and goes along the parts of a
+/// sequence or of a choice in a loop, from left to right and back.
 pub fn copied_regex(alloc: Global, regex: &Regex) -> Result<Regex, Memory>
     ensures { IfOk result (IsCopyOf regex.now) }
 {
-    match regex {
-        Regex::Empty => Ok(Regex::Empty),
-        Regex::Set(class) => {
-            let class = class.copy()?;
-            Ok(Regex::Set(class))
+    let mut frames = Vec::new(alloc);
+    let mut rest = regex;
+    let mut copy = 'parts: loop {
+        match rest {
+            Regex::Empty => break 'parts Regex::Empty,
+            Regex::Set(class) => break 'parts Regex::Set(class.copy()?),
+            Regex::Then(first, next) => {
+                frames.push(Frame::First(copied_regex(alloc, first)?))?;
+                rest = next;
+            }
+            Regex::Or(one, other) => {
+                frames.push(Frame::One(copied_regex(alloc, one)?))?;
+                rest = other;
+            }
+            Regex::Star(inner) => {
+                frames.push(Frame::Any)?;
+                rest = inner;
+            }
+            Regex::Times(inner, least, most) => {
+                frames.push(Frame::Counted(*least, *most))?;
+                rest = inner;
+            }
         }
-        Regex::Then(first, next) => {
-            let first = copied_regex(alloc, first)?;
-            let next = copied_regex(alloc, next)?;
-            Ok(Regex::Then(Box::new(alloc, first)?, Box::new(alloc, next)?))
-        }
-        Regex::Or(one, other) => {
-            let one = copied_regex(alloc, one)?;
-            let other = copied_regex(alloc, other)?;
-            Ok(Regex::Or(Box::new(alloc, one)?, Box::new(alloc, other)?))
-        }
-        Regex::Star(inner) => {
-            let inner = copied_regex(alloc, inner)?;
-            Ok(Regex::Star(Box::new(alloc, inner)?))
-        }
-        Regex::Times(inner, least, most) => {
-            let inner = copied_regex(alloc, inner)?;
-            Ok(Regex::Times(Box::new(alloc, inner)?, *least, *most))
-        }
+    };
+    'frames: while let Some(frame) = frames.pop() {
+        let inner = Box::new(alloc, copy)?;
+        copy = match frame {
+            Frame::First(first) => Regex::Then(Box::new(alloc, first)?, inner),
+            Frame::One(one) => Regex::Or(Box::new(alloc, one)?, inner),
+            Frame::Any => Regex::Star(inner),
+            Frame::Counted(least, most) => Regex::Times(inner, least, most),
+        };
     }
+    Ok(copy)
 }

@@ -1,4 +1,4 @@
-ghost use Rattle.std.specs.Prelude.{◌≡◌, ◌<◌, ◌⊎◌, true, false, set, length, IfOk, IfSome};
+ghost use Rattle.std.specs.Prelude.{◌≡◌, ◌<◌, ◌⊎◌, true, false, set, length, IfOk, OnOk, IfSome};
 ghost use Rattle.std.specs.List.{Contains};
 ghost use Rattle.xs_gram.specs.Sound.{IsBuilt};
 ghost use Rattle.xs_stretch.specs.Parts.{IsPart};
@@ -6,7 +6,7 @@ ghost use Rattle.xs_stretch.specs.Tables.{AreNumbersBefore};
 ghost use Rattle.xs_coarse.specs.Coarse.{MayCall, view};
 ghost use Rattle.xs_apart.specs.Sets.{AreDoubles, AreClear};
 ghost use Rattle.xs_coarse_net.specs.Covers.{IsCoverOf};
-ghost use Rattle.xs_screen.specs.Screens.{IsScreen, AreDoubts, OverlapNowhere};
+ghost use Rattle.xs_screen.specs.Screens.{IsScreen, AreDoubts, OverlapNowhere, whole_part};
 
 use crate::Screen;
 use crate::places::{follows_non, is_cut_of};
@@ -26,8 +26,8 @@ use xs_stretch::Part;
 const LONGEST_END: u32 = 64;
 
 impl Screen {
-    /// For each place of a rule's spread items whether its cut is in doubt: of the others it is
-    /// seen that front and rest do not overlap.
+    /// Says in the list, for each place of a rule's spread items, whether its cut is in doubt: of
+    /// the others it is seen that front and rest do not overlap.
     ///
     /// Where the cover of the rule is kept, it is looked at and let go: ask for its pairs first.
     pub fn doubts(
@@ -36,17 +36,19 @@ impl Screen {
         g: &Gram,
         groups: &Numbers,
         rule: u32,
-    ) -> Result<Vec<bool>, Memory>
+        doubts: &mut Vec<bool>,
+    ) -> Result<(), Memory>
         requires built { IsBuilt g.now }
         requires groups { AreNumbersBefore g.now (length g.now.rules) groups.now }
         requires screen { IsScreen g.now self.old }
         requires rule { rule < length g.now.rules }
         ensures screen { IsScreen g.now self.new }
-        ensures doubts { IfOk result (λ ds. AreDoubts g.now rule ds.items) }
+        ensures doubts { OnOk result (AreDoubts g.now rule doubts.new.items) }
     {
         let part = whole(g, rule);
-        let mut doubts = vec![in alloc; true; g.spread(rule).len() + 1]?;
-        self.clear_part(alloc, g, groups, &part, &mut doubts)?;
+        doubts.clear();
+        doubts.resize(g.spread(rule).len() + 1, true)?;
+        self.clear_part(alloc, g, groups, &part, doubts)?;
         'items: for place in 0..part.end {
             let Some(partner) = g.partner(rule, place) else {
                 continue;
@@ -56,9 +58,9 @@ impl Screen {
                 start: place + 1,
                 end: partner,
             };
-            self.clear_part(alloc, g, groups, &inside, &mut doubts)?;
+            self.clear_part(alloc, g, groups, &inside, doubts)?;
         }
-        Ok(doubts)
+        Ok(())
     }
 
     /// Takes away the doubt of those cuts of a part at which it is seen that nothing overlaps.
@@ -123,7 +125,7 @@ impl Screen {
         ensures screen { IsScreen g.now self.new }
         ensures cover { IfSome result (IsCoverOf g.now self.new.labels part.now) }
     {
-        if *part == whole(g, part.rule) {
+        if is_whole(g, part) {
             return self.kept.take(part.rule);
         }
         None
@@ -254,6 +256,14 @@ fn is_seen_clear(
         return Ok(false);
     }
     search.clear_ends(labels, &cover.net, gate, here, cover.last)
+}
+
+/// Whether a part has all spread items of its rule.
+fn is_whole(g: &Gram, part: &Part) -> bool
+    requires { IsPart g.now part.now }
+    ensures { result ≡ true → part.now ≡ whole_part g.now part.now.rule }
+{
+    *part == whole(g, part.rule)
 }
 
 /// Whether an outer place stands inside a part, and its state in the net of the part's cover.

@@ -132,7 +132,8 @@ fn is_doubted(alloc: Global, gram: &Gram, asked: Asked) -> Result<bool, CheckFau
             if rule >= gram.rules() {
                 return Ok(true);
             }
-            let doubts = screen.doubts(alloc, gram, &tables.groups, rule)?;
+            let mut doubts = Vec::new(alloc);
+            screen.doubts(alloc, gram, &tables.groups, rule, &mut doubts)?;
             Ok(doubts.get(cut as usize) != Some(&false))
         }
     }

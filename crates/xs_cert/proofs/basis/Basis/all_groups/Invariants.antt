@@ -1,0 +1,10 @@
+use Rattle.std.proofs.Common.{flat_map}
+use Rattle.xs_meet.specs.Closed.{Marked}
+use Rattle.xs_closed.specs.Rows.{marked}
+use Rattle.xs_cert_laws.specs.Certificates.{between}
+use Rattle.xs_cert.specs.Readings.{AreWhole}
+use Rattle.xs_cert.specs.Sides.{open_heads}
+use Rattle.xs_cert.proofs.basis.Basis.all_groups.Given as goal
+
+abbrev pub invariant-groups : goal.invariant-groups
+invariant-groups l = AreWhole l.self.site.g.now l.self.nest.now (Marked (marked l.self.related.now)) l.self.bytes.now l.fn.place (flat_map (open_heads l.self.nest.now (marked l.self.related.now)) (between 0 l.first)) l.at
