@@ -12,7 +12,7 @@ use Rattle.xs_talk.specs.declared.outcome.Outcome.TheVariants.{Done}
 use Rattle.xs_top.specs.declared.asking.Job.TheVariants.{Check, Turn}
 use Rattle.xs_top.specs.Asked.{by, asked}
 use Rattle.xs_top.specs.Ran.{Told}
-use Rattle.xs_top.specs.Runs.{IsUnwritten, Answers, IsNormalOf}
+use Rattle.xs_top.specs.Runs.{checks as by_search, IsUnwritten, Answers, IsNormalOf}
 use Rattle.xs_top.specs.Laws.{TranslatesBack, RoundIsIdempotent, RefusesExactly, CheckDecides, CheckAccepts, IsDecided, RefusesSheet}
 use Rattle.xs_client.specs.Runs.{IsRan, IsDoneOrSinkFault, IsSinkFault, IsDecidedBy}
 use Rattle.xs_client.proofs.Asking.{sheet_name, asks_for, is_to_turn, read_whole, was_turned, sink_fault, done_or_fault}
@@ -43,11 +43,11 @@ module _ (words then : List (List ℕ)) (sheet input text line written : List �
 
   pub not_refused : CheckDecides → RefusesSheet p → ⊥
   not_refused law refuses =
-      law one.run two.run (Turn Text Xml AsIs) sheet (asks_for words sheet input o line one short Check checks) (asks_for then sheet text p written two short (Turn Text Xml AsIs) turns) is_checked p two.told refuses
+      law one.run two.run (Turn Text Xml AsIs) sheet (by_search (asks_for words sheet input o line one short Check checks)) (asks_for then sheet text p written two short (Turn Text Xml AsIs) turns) is_checked p two.told refuses
 
   pub decided : CheckAccepts → RefusesExactly → IsUtf8 text → length text ≤ 1048576 → IsDecidedBy sheet text p
   decided accepts exactly utf8 few =
-      let a = accepts one.run sheet (asks_for words sheet input o line one short Check checks) is_checked in
+      let a = accepts one.run sheet (by_search (asks_for words sheet input o line one short Check checks)) is_checked in
       record {
         pair = a.pair;
         is_pair = a.is_pair;

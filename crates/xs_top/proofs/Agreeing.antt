@@ -14,11 +14,10 @@ use Rattle.xs_chars.specs.Text.{text_of}
 use Rattle.xs_outline.specs.Outline.{IsOutline}
 use Rattle.xs_pair.specs.Grammars.{Pair, grammar_of}
 use Rattle.xs_top.specs.declared.asking.Job.{Job}
-use Rattle.xs_top.specs.declared.asking.Job.TheVariants.{Check, Turn, Trees, Make, Session, ToTree, FromTree, Cover}
+use Rattle.xs_top.specs.declared.asking.Job.TheVariants.{Check, Turn, Trees, Make, Session, ToTree, FromTree, Cover, Prove}
 use Rattle.xs_top.specs.Devices.{Input}
 use Rattle.xs_top.specs.Documents.{IsWordOf, IsDocument}
 use Rattle.xs_top.specs.Checks.{IsSure}
-use Rattle.xs_top.specs.Answers.{IsOutlineDocument}
 use Rattle.xs_top.specs.Ran.{IsOfLanguage, IsReadable, IsReadableOutline, IsDoable}
 use Rattle.xs_top.specs.Laws.{PairsAgree, SheetsAgree, OutlinesAgree, ScriptsAgree}
 use Rattle.xs_top.proofs.Outlines.{outline_kept}
@@ -89,3 +88,4 @@ doable_kept p q same keep i Session doable = (same.checked.accepted.0 doable.0, 
 doable_kept p q same keep i (ToTree from form) doable = (same.checked.accepted.0 doable.0, readable_kept p q same i from form doable.1)
 doable_kept p q same keep i (FromTree to) doable = (same.checked.accepted.0 doable.0, outline_readable p q keep i doable.1)
 doable_kept p q same keep i Cover doable = doable
+doable_kept p q same keep i Prove doable = same.checked.accepted.0 doable

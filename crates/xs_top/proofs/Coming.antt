@@ -14,13 +14,15 @@ use Rattle.xs_talk.specs.declared.outcome.Outcome.{Outcome}
 use Rattle.xs_talk.specs.declared.outcome.Outcome.TheVariants.{Done, NoteFault}
 use Rattle.xs_top.specs.declared.asking.Core.{Core}
 use Rattle.xs_top.specs.declared.asking.Job.{Job}
-use Rattle.xs_top.specs.declared.asking.Job.TheVariants.{Check, Turn, Trees, Make, Session, ToTree, FromTree, Cover}
-use Rattle.xs_top.specs.Asked.{Ask, shipped, upgrading, by}
+use Rattle.xs_top.specs.declared.asking.Job.TheVariants.{Check, Turn, Trees, Make, Session, ToTree, FromTree, Cover, Prove}
+use Rattle.xs_top.specs.Asked.{Ask, shipped, upgrading, certifying, by}
 use Rattle.xs_top.specs.Devices.{Run, Input}
 use Rattle.xs_top.specs.Known.{HasBytes}
 use Rattle.xs_top.specs.Sheets.{IsPairOfBytes, IsUnpaired}
-use Rattle.xs_top.specs.Ran.{IsUnanswered, IsUndone, IsAnswer, Took, Went, no_command, shipped_written, not_upgraded, upgrade_written, unpaired, undone, answered, Told}
-use Rattle.xs_top.specs.Runs.{AsksFor, AsksToUpgrade}
+use Rattle.xs_top.specs.Checks.{IsSure}
+use Rattle.xs_top.specs.Certifying.{IsCertified, IsUncertified}
+use Rattle.xs_top.specs.Ran.{IsUnanswered, IsUndone, IsAnswer, Took, Went, no_command, shipped_written, not_upgraded, upgrade_written, uncertified, certified, unpaired, undone, answered, Told}
+use Rattle.xs_top.specs.Runs.{AsksFor, AsksToUpgrade, AsksToCertify, AsksWhether, checks, proves, certifies}
 use Rattle.xs_top.proofs.Known.{spelled_pair}
 
 -- before the job, of the job, or with an answer to it
@@ -44,11 +46,16 @@ not_shipped core n j e = cc
 not_upgrading : (s n : Named) (j : Job) → Some (upgrading s) ≡ Some (by n j) → ⊥
 not_upgrading s n j e = cc
 
+not_certifying : (s : Named) (cert : List ℕ) (n : Named) (j : Job) → Some (certifying s cert) ≡ Some (by n j) → ⊥
+not_certifying s cert n j e = cc
+
 went_came : (run : Run) (sheet : List ℕ) (job : Job) (asks : AsksFor run job sheet) (o : Outcome) (names : List (List ℕ)) → Went run o names → Came run sheet asks.named job o
 went_came run sheet job asks o names (no_command none read took) = absurd (none_asked (by asks.named job) (sym asks.is ∙ none))
 went_came run sheet job asks o names (shipped_written core is read took) = absurd (not_shipped core asks.named job (sym is ∙ asks.is))
 went_came run sheet job asks o names (not_upgraded named' is why read took) = absurd (not_upgrading named' asks.named job (sym is ∙ asks.is))
 went_came run sheet job asks o names (upgrade_written named' answer is spells read took) = absurd (not_upgrading named' asks.named job (sym is ∙ asks.is))
+went_came run sheet job asks o names (uncertified named' cert is why read took) = absurd (not_certifying named' cert asks.named job (sym is ∙ asks.is))
+went_came run sheet job asks o names (certified named' cert answer is shows read took) = absurd (not_certifying named' cert asks.named job (sym is ∙ asks.is))
 went_came run sheet job asks o names (unpaired named' job' is why read took) =
     let same = one_ask named' asks.named job' job (some_ask (by named' job') (by asks.named job) (sym is ∙ asks.is)) in
     before (subst (λ (n : Named). IsUnpaired run.shelf n o) same.0 why)
@@ -67,6 +74,9 @@ one_upgrading n m e = cc
 not_shipped_upgrading : (core : Core) (s : Named) → Some (shipped core) ≡ Some (upgrading s) → ⊥
 not_shipped_upgrading core s e = cc
 
+not_certifying_upgrading : (n : Named) (cert : List ℕ) (s : Named) → Some (certifying n cert) ≡ Some (upgrading s) → ⊥
+not_certifying_upgrading n cert s e = cc
+
 -- the outcome of an upgrade: the sheet spells no grammars, or an answer was written
 pub went_upgraded : (run : Run) (sheet : List ℕ) (asks : AsksToUpgrade run sheet) (o : Outcome) (names : List (List ℕ)) → Went run o names → IsUnpaired run.shelf asks.named o ⊎ ((answer : List ℕ) × Took run.out answer o)
 went_upgraded run sheet asks o names (no_command none read took) = absurd (none_asked (upgrading asks.named) (sym asks.is ∙ none))
@@ -74,9 +84,37 @@ went_upgraded run sheet asks o names (shipped_written core is read took) = absur
 went_upgraded run sheet asks o names (not_upgraded named' is why read took) =
     inl (subst (λ (n : Named). IsUnpaired run.shelf n o) (one_upgrading named' asks.named (some_ask (upgrading named') (upgrading asks.named) (sym is ∙ asks.is))) why)
 went_upgraded run sheet asks o names (upgrade_written named' answer is spells read took) = inr (answer, took)
+went_upgraded run sheet asks o names (uncertified named' cert is why read took) = absurd (not_certifying_upgrading named' cert asks.named (sym is ∙ asks.is))
+went_upgraded run sheet asks o names (certified named' cert answer is shows read took) = absurd (not_certifying_upgrading named' cert asks.named (sym is ∙ asks.is))
 went_upgraded run sheet asks o names (unpaired named' job' is why read took) = absurd (not_upgrading asks.named named' job' (sym asks.is ∙ is))
 went_upgraded run sheet asks o names (undone named' job' p is spells why took) = absurd (not_upgrading asks.named named' job' (sym asks.is ∙ is))
 went_upgraded run sheet asks o names (answered named' job' p answer is spells has_answer took) = absurd (not_upgrading asks.named named' job' (sym asks.is ∙ is))
+
+one_certifying : (n m : Named) (c d : List ℕ) → certifying n c ≡ certifying m d → (n ≡ m) × (c ≡ d)
+one_certifying n m c d e = (cc, cc)
+
+not_shipped_certifying : (core : Core) (n : Named) (cert : List ℕ) → Some (shipped core) ≡ Some (certifying n cert) → ⊥
+not_shipped_certifying core n cert e = cc
+
+-- how an outcome came of a check by a certificate: the sheet is not accepted by it, or what is said of it was written
+pub data Tested (run : Run) (named : Named) (cert : List ℕ) (o : Outcome) : Type 0 where
+  refused : IsUncertified run.shelf named cert o → Tested run named cert o
+  shown : (answer : List ℕ) → IsCertified run.shelf.files named cert answer → Took run.out answer o → Tested run named cert o
+
+pub went_tested : (run : Run) (sheet : List ℕ) (asks : AsksToCertify run sheet) (o : Outcome) (names : List (List ℕ)) → Went run o names → Tested run asks.named asks.cert o
+went_tested run sheet asks o names (no_command none read took) = absurd (none_asked (certifying asks.named asks.cert) (sym asks.is ∙ none))
+went_tested run sheet asks o names (shipped_written core is read took) = absurd (not_shipped_certifying core asks.named asks.cert (sym is ∙ asks.is))
+went_tested run sheet asks o names (not_upgraded named' is why read took) = absurd (not_certifying_upgrading asks.named asks.cert named' (sym asks.is ∙ is))
+went_tested run sheet asks o names (upgrade_written named' answer is spells read took) = absurd (not_certifying_upgrading asks.named asks.cert named' (sym asks.is ∙ is))
+went_tested run sheet asks o names (uncertified named' cert' is why read took) =
+    let same = one_certifying named' asks.named cert' asks.cert (some_ask (certifying named' cert') (certifying asks.named asks.cert) (sym is ∙ asks.is)) in
+    refused (subst (λ (n : Named). IsUncertified run.shelf n asks.cert o) same.0 (subst (λ (c : List ℕ). IsUncertified run.shelf named' c o) same.1 why))
+went_tested run sheet asks o names (certified named' cert' answer is shows read took) =
+    let same = one_certifying named' asks.named cert' asks.cert (some_ask (certifying named' cert') (certifying asks.named asks.cert) (sym is ∙ asks.is)) in
+    shown answer (subst (λ (n : Named). IsCertified run.shelf.files n asks.cert answer) same.0 (subst (λ (c : List ℕ). IsCertified run.shelf.files named' c answer) same.1 shows)) took
+went_tested run sheet asks o names (unpaired named' job' is why read took) = absurd (not_certifying asks.named asks.cert named' job' (sym asks.is ∙ is))
+went_tested run sheet asks o names (undone named' job' p is spells why took) = absurd (not_certifying asks.named asks.cert named' job' (sym asks.is ∙ is))
+went_tested run sheet asks o names (answered named' job' p answer is spells has_answer took) = absurd (not_certifying asks.named asks.cert named' job' (sym asks.is ∙ is))
 
 -- the outcome came so, or notes failed
 pub told_came : (run : Run) (sheet : List ℕ) (job : Job) (asks : AsksFor run job sheet) (o : Outcome) → Told run o → Came run sheet asks.named job o ⊎ ((of : ℕ) × (written : ℕ) × (o ≡ NoteFault of written) × Rose run.notes.faults_before run.notes.faults_now)
@@ -104,6 +142,7 @@ undone_not_done p i (FromTree to) (inl unchecked) = unchecked.1
 undone_not_done p i (FromTree to) (inr (sure, inl untaken)) = untaken
 undone_not_done p i (FromTree to) (inr (sure, inr (bytes, takes, none))) = none
 undone_not_done p i Cover why = why
+undone_not_done p i Prove why = why.1
 
 pub record IsAnswered (run : Run) (sheet : List ℕ) (job : Job) : Type 0 where
   pub pair : Pair
@@ -127,6 +166,30 @@ done_answered run sheet job asks told = by_case (told_came run sheet job asks Do
     by_case : Came run sheet asks.named job Done ⊎ ((of : ℕ) × (written : ℕ) × (Done ≡ NoteFault of written) × Rose run.notes.faults_before run.notes.faults_now) → IsAnswered run sheet job
     by_case (inl came) = came_answered run sheet asks.named job came
     by_case (inr (of, written, is, rose)) = absurd (not_note of written is)
+
+-- two grammars that the bytes spell are accepted
+pub record IsFound (sheet : List ℕ) : Type 0 where
+  pub pair : Pair
+  pub is_pair : IsPairOfBytes sheet pair
+  pub sure : IsSure pair
+
+tested_found : (run : Run) (sheet : List ℕ) (asks : AsksToCertify run sheet) → Tested run asks.named asks.cert Done → IsFound sheet
+tested_found run sheet asks (refused (inl (inl stopped))) = absurd stopped
+tested_found run sheet asks (refused (inl (inr (bytes, are, bad)))) = absurd bad
+tested_found run sheet asks (refused (inr (p, spells, why))) = absurd why
+tested_found run sheet asks (shown answer shows took) = record { pair = shows.pair; is_pair = spelled_pair run.shelf.files asks.named sheet shows.pair asks.has shows.spelled; sure = shows.sure }
+
+-- once it was asked whether a sheet is accepted, and the run was done
+pub done_found : (run : Run) (sheet : List ℕ) → AsksWhether run sheet → Told run Done → IsFound sheet
+done_found run sheet (checks asks) told =
+    let a = done_answered run sheet Check asks told in
+    record { pair = a.pair; is_pair = a.is_pair; sure = a.is_answer.1 }
+done_found run sheet (proves asks) told =
+    let a = done_answered run sheet Prove asks told in
+    record { pair = a.pair; is_pair = a.is_pair; sure = a.is_answer.1 }
+done_found run sheet (certifies asks) (other, names, went, inl (is, line)) =
+    tested_found run sheet asks (subst (λ (x : Outcome). Tested run asks.named asks.cert x) (sym is) (went_tested run sheet asks other names went))
+done_found run sheet (certifies asks) (other, names, went, inr (of, written, note, fails)) = absurd (not_note of written note)
 
 -- what was appended to known bytes is known
 same_known : (xs ys : List ℕ) → Some xs ≡ Some ys → xs ≡ ys

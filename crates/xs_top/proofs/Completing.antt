@@ -23,26 +23,29 @@ use Rattle.xs_check_laws.specs.Laws.{RuleWeighsOnce}
 use Rattle.xs_unique.specs.Reasons.{shown}
 use Rattle.xs_pair.specs.Grammars.{Pair, grammar_of}
 use Rattle.xs_talk.specs.declared.outcome.Outcome.{Outcome}
-use Rattle.xs_talk.specs.declared.outcome.Outcome.TheVariants.{Done, Foreign, SheetLong, SheetBad, SheetIll, Heavy, Suspect, NotUtf8, NotXml, Usage, SheetFault, ReadFault, WriteFault, NoteFault, DocLong, ScriptBad, OutlineBad}
+use Rattle.xs_talk.specs.declared.outcome.Outcome.TheVariants.{Done, Foreign, SheetLong, SheetBad, SheetIll, Heavy, Suspect, NotUtf8, NotXml, Usage, SheetFault, ReadFault, WriteFault, NoteFault, DocLong, ScriptBad, OutlineBad, CertFault, CertLong, CertBad}
 use Rattle.xs_top.specs.declared.asking.Job.{Job}
-use Rattle.xs_top.specs.declared.asking.Job.TheVariants.{Check, Turn, Trees, Make, Session, ToTree, FromTree, Cover}
-use Rattle.xs_top.specs.Asked.{Ask, upgrading, by, asked}
+use Rattle.xs_top.specs.declared.asking.Job.TheVariants.{Check, Turn, Trees, Make, Session, ToTree, FromTree, Cover, Prove}
+use Rattle.xs_top.specs.Asked.{Ask, upgrading, certifying, by, asked}
 use Rattle.xs_leiden.specs.Made.{made_text}
 use Rattle.xs_words.specs.Command.{Sheet as Named}
+use Rattle.xs_cert_laws.specs.Certificates.{IsCertificate}
 use Rattle.xs_top.specs.Devices.{Run, Input}
+use Rattle.xs_top.specs.Certifying.{IsUncertain, IsUncertified}
 use Rattle.xs_sheet.specs.Grammar.{IsSheetOf}
 use Rattle.xs_top.specs.Known.{HasBytes}
 use Rattle.xs_top.specs.Sheets.{core_bytes, IsFailed, IsPairOfBytes, IsUnpaired}
 use Rattle.xs_top.specs.Laws.{PairsAgree, SheetsAgree, OutlinesAgree}
 use Rattle.xs_top.proofs.FencesOnce.{once_in_text, once_in_xml}
 use Rattle.xs_top.proofs.Known.{has_only, has_short, spelled_pair}
+use Rattle.xs_top.proofs.Certifying.{file_only, file_short}
 use Rattle.xs_top.proofs.Agreeing.{doable_kept}
 use Rattle.xs_top.proofs.Scripts.{not_bad_script}
 use Rattle.xs_top.specs.Checks.{IsUnsure}
 use Rattle.xs_top.specs.Documents.{IsWordOf}
 use Rattle.xs_top.specs.Answers.{IsOutlineDocument, IsUnread, IsNoOutline}
 use Rattle.xs_top.specs.Scripts.{IsScript, IsNoScript}
-use Rattle.xs_top.specs.Ran.{IsUntaken, IsUnanswered, IsUnplayed, IsUnmade, IsUndone, Took, Went, no_command, shipped_written, not_upgraded, upgrade_written, unpaired, undone, answered, Tells, Told, IsOfLanguage, IsReadable, IsReadableScript, IsReadableOutline, IsDoable, IsClear, IsKnown, IsFree, IsHonest, IsComplete}
+use Rattle.xs_top.specs.Ran.{IsUntaken, IsUnanswered, IsUnplayed, IsUnmade, IsUndone, Took, Went, no_command, shipped_written, not_upgraded, upgrade_written, uncertified, certified, unpaired, undone, answered, Tells, Told, IsOfLanguage, IsReadable, IsReadableScript, IsReadableOutline, IsDoable, IsClear, IsKnown, IsCertifiable, IsFree, IsHonest, IsComplete}
 
 same_ask : (a b : Ask) → Some a ≡ Some b → a ≡ b
 same_ask a b e = cc
@@ -108,6 +111,9 @@ module _ (law : OneReading) (weigh : RuleWeighsOnce) (agree : PairsAgree) (well 
   not_unsure bytes p is DocLong accepted unsure = absurd unsure
   not_unsure bytes p is (ScriptBad bad) accepted unsure = absurd unsure
   not_unsure bytes p is (OutlineBad bad) accepted unsure = absurd unsure
+  not_unsure bytes p is CertFault accepted unsure = absurd unsure
+  not_unsure bytes p is CertLong accepted unsure = absurd unsure
+  not_unsure bytes p is (CertBad line) accepted unsure = absurd unsure
 
   -- a document of the language is not refused
   not_unread : (p : Pair) (side : Side) (form : Form) (bytes : List ℕ) (is : IsOfLanguage p side form bytes) (o : Outcome) → IsUnread p side form bytes o → ⊥
@@ -130,6 +136,9 @@ module _ (law : OneReading) (weigh : RuleWeighsOnce) (agree : PairsAgree) (well 
   not_unread p side form bytes is DocLong unread = absurd unread
   not_unread p side form bytes is (ScriptBad bad) unread = absurd unread
   not_unread p side form bytes is (OutlineBad bad) unread = absurd unread
+  not_unread p side form bytes is CertFault unread = absurd unread
+  not_unread p side form bytes is CertLong unread = absurd unread
+  not_unread p side form bytes is (CertBad line) unread = absurd unread
 
   -- nor is a script
   not_no_script : (bytes : List ℕ) → IsScript bytes → (o : Outcome) → IsNoScript bytes o → ⊥
@@ -180,6 +189,7 @@ module _ (law : OneReading) (weigh : RuleWeighsOnce) (agree : PairsAgree) (well 
   not_undone bytes p is i (FromTree to) doable o (inl unchecked) = not_unsure bytes p is o doable.0 unchecked.1
   not_undone bytes p is i (FromTree to) doable o (inr unmade) = not_unmade p i doable.1 o unmade.1
   not_undone bytes p is i Cover doable o why = why
+  not_undone bytes p is i Prove doable o why = not_unsure bytes p is o doable why.1
 
   -- bytes that are known and spell two grammars are no reason
   module _ (run : Run) (sheet : Named) (known : List ℕ) (pair : Pair) (sure : IsFailed run.shelf sheet → ⊥) (has : HasBytes run.shelf.files sheet known) (spells : IsPairOfBytes known pair) where
@@ -221,6 +231,27 @@ module _ (law : OneReading) (weigh : RuleWeighsOnce) (agree : PairsAgree) (well 
     not_unpaired (ScriptBad bad) (inr (bytes, are, why)) = absurd why
     not_unpaired (OutlineBad bad) (inl stopped) = absurd stopped
     not_unpaired (OutlineBad bad) (inr (bytes, are, why)) = absurd why
+    not_unpaired CertFault (inl stopped) = absurd stopped
+    not_unpaired CertFault (inr (bytes, are, why)) = absurd why
+    not_unpaired CertLong (inl stopped) = absurd stopped
+    not_unpaired CertLong (inr (bytes, are, why)) = absurd why
+    not_unpaired (CertBad line) (inl stopped) = absurd stopped
+    not_unpaired (CertBad line) (inr (bytes, are, why)) = absurd why
+
+  -- nor is the certificate of an accepted sheet, where it is known
+  not_uncertain : (run : Run) (sheet : Named) (cert : List ℕ) (is : IsCertifiable run sheet cert) (p : Pair) → IsPairOfBytes is.known.bytes p → IsAccepted p.text p.xml → (o : Outcome) → IsUncertain p run.shelf cert o → ⊥
+  not_uncertain run sheet cert is p is_p accepted (Heavy weight) why = not_heavy weigh is.known.bytes p is_p weight accepted why
+  not_uncertain run sheet cert is p is_p accepted CertFault why = is.cert_sure why.1
+  not_uncertain run sheet cert is p is_p accepted CertLong why = file_short run.shelf.files cert is.certificate is.has why.1
+  not_uncertain run sheet cert is p is_p accepted (CertBad line) (light, bytes, are, bad) =
+      bad.none (subst (λ (b : List ℕ). IsCertificate p b) (sym (file_only run.shelf.files cert is.certificate bytes is.has are)) (is.shows p is_p))
+  not_uncertain run sheet cert is p is_p accepted o why = absurd why
+
+  not_uncertified : (run : Run) (sheet : Named) (cert : List ℕ) → IsCertifiable run sheet cert → (o : Outcome) → IsUncertified run.shelf sheet cert o → ⊥
+  not_uncertified run sheet cert is o (inl why) = not_unpaired run sheet is.known.bytes is.known.pair is.known.sheet_sure is.known.has is.known.spelled o why
+  not_uncertified run sheet cert is o (inr (p, spells, why)) =
+      let spelled : IsPairOfBytes is.known.bytes p = spelled_pair run.shelf.files sheet is.known.bytes p is.known.has spells in
+      not_uncertain run sheet cert is p spelled ((agree is.known.bytes is.known.pair p is.known.spelled spelled).checked.accepted.0 is.accepted) o why
 
   module _ (outlines : OutlinesAgree) (run : Run) (honest : IsHonest run) where
     its_clear : (sheet : Named) (job : Job) → asked run.words ≡ Some (by sheet job) → IsClear run sheet job
@@ -228,6 +259,9 @@ module _ (law : OneReading) (weigh : RuleWeighsOnce) (agree : PairsAgree) (well 
 
     its_sheet : (sheet : Named) → asked run.words ≡ Some (upgrading sheet) → IsKnown run sheet
     its_sheet sheet is = subst (λ (a : Ask). IsFree run a) (same_ask honest.ask (upgrading sheet) (sym honest.is ∙ is)) honest.free
+
+    its_certificate : (sheet : Named) (cert : List ℕ) → asked run.words ≡ Some (certifying sheet cert) → IsCertifiable run sheet cert
+    its_certificate sheet cert is = subst (λ (a : Ask). IsFree run a) (same_ask honest.ask (certifying sheet cert) (sym honest.is ∙ is)) honest.free
 
     took_done : (answer : List ℕ) (o : Outcome) → Took run.out answer o → o ≡ Done
     took_done answer Done took = refl
@@ -247,12 +281,17 @@ module _ (law : OneReading) (weigh : RuleWeighsOnce) (agree : PairsAgree) (well 
     took_done answer DocLong took = absurd took
     took_done answer (ScriptBad bad) took = absurd took
     took_done answer (OutlineBad bad) took = absurd took
+    took_done answer CertFault took = absurd took
+    took_done answer CertLong took = absurd took
+    took_done answer (CertBad line) took = absurd took
 
     went_done : (o : Outcome) (names : List (List ℕ)) → Went run o names → o ≡ Done
     went_done o names (no_command none read took) = absurd (not_none honest.ask (asked run.words) none honest.is)
     went_done o names (shipped_written core is read took) = took_done (core_bytes core) o took
     went_done o names (not_upgraded sheet is why read took) = let known = its_sheet sheet is in absurd (not_unpaired run sheet known.bytes known.pair known.sheet_sure known.has known.spelled o why)
     went_done o names (upgrade_written sheet answer is spells read took) = took_done answer o took
+    went_done o names (uncertified sheet cert is why read took) = absurd (not_uncertified run sheet cert (its_certificate sheet cert is) o why)
+    went_done o names (certified sheet cert answer is certifies read took) = took_done answer o took
     went_done o names (unpaired sheet job is why read took) = let clear = its_clear sheet job is in absurd (not_unpaired run sheet clear.bytes clear.pair clear.sheet_sure clear.has clear.spelled o why)
     went_done o names (undone sheet job p is spells why took) =
         let clear = its_clear sheet job is in

@@ -1,5 +1,5 @@
 -- No symbol stands twice in the fences of a grammar of a sheet, so that a rule has one weight.
-use Rattle.std.proofs.Common.{◌≡◌, inl, inr, ℕ, List, [], length, sym, subst}
+use Rattle.std.proofs.Common.{inl, inr, ℕ, List, length, sym, subst}
 use Rattle.xs_gram.specs.Fences.{fence_symbols}
 use Rattle.xs_gram.specs.Laws.{IsDistinct}
 use Rattle.xs_class.specs.declared.side.Side.TheVariants.{Text, Xml}

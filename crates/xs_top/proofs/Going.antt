@@ -13,13 +13,14 @@ use Rattle.xs_talk.specs.declared.outcome.Outcome.TheVariants.{NoteFault}
 use Rattle.xs_words.specs.Command.{Sheet as Named}
 use Rattle.xs_top.specs.declared.asking.Core.{Core}
 use Rattle.xs_top.specs.declared.asking.Job.{Job}
-use Rattle.xs_top.specs.Asked.{shipped, upgrading, by, asked}
+use Rattle.xs_top.specs.Asked.{shipped, upgrading, certifying, by, asked}
 use Rattle.xs_top.specs.Devices.{Output, Run, ReadNothing, TookNothing}
 use Rattle.xs_top.specs.Sheets.{core_bytes, SpellsPair, SpellsUpgrade, IsUnpaired}
+use Rattle.xs_top.specs.Certifying.{IsCertified, IsUncertified}
 use Rattle.xs_top.specs.declared.stop.Stop.{Stop}
 use Rattle.xs_top.specs.declared.stop.Stop.TheVariants.{Refused, Memory}
 use Rattle.xs_top.specs.Stops.{StopsBy}
-use Rattle.xs_top.specs.Ran.{IsAnswer, IsUndone, Went, shipped_written, not_upgraded, upgrade_written, unpaired, undone, answered, Took, IsWritten, Told, Tells, status_of}
+use Rattle.xs_top.specs.Ran.{IsAnswer, IsUndone, Went, shipped_written, not_upgraded, upgrade_written, uncertified, certified, unpaired, undone, answered, Took, IsWritten, Told, Tells, status_of}
 
 -- a stop by another cause
 pub stops_as : {P Q : Outcome → Type 0} → ((o : Outcome) → P o → Q o) → (stop : Stop) → StopsBy P stop → StopsBy Q stop
@@ -58,6 +59,15 @@ not_upgraded_told run sheet stop o names r is stops same read took none tells =
 -- an upgrade that was written, and reported where out failed
 pub upgraded_told : (run : Run) (sheet : Named) (answer bytes : List ℕ) (result : Outcome) → asked run.words ≡ Some (upgrading sheet) → SpellsUpgrade run.shelf.files sheet answer → ReadNothing run.input → bytes ≡ answer → IsWritten run.out run.notes bytes result → Told run result
 upgraded_told run sheet answer bytes result is spells read same (o, took, tells) = (o, [], upgrade_written sheet answer is spells read (subst (λ (b : List ℕ). Took run.out b o) same took), tells)
+
+-- a sheet that is not accepted by the certificate
+pub uncertified_told : (run : Run) (sheet : Named) (cert : List ℕ) (stop : Stop) (o : Outcome) (names : List (List ℕ)) (r : Result Outcome Refusal) → asked run.words ≡ Some (certifying sheet cert) → StopsBy (IsUncertified run.shelf sheet cert) stop → stop ≡ Refused o → ReadNothing run.input → TookNothing run.out → names ≡ [] → IfOk r (Tells run.notes names o) → IfOk r (Told run)
+uncertified_told run sheet cert stop o names r is stops same read took none tells =
+    usage_told run names o r none (uncertified sheet cert is (stop_is (IsUncertified run.shelf sheet cert) stop o stops same) read took) tells
+
+-- what is said of a sheet that is accepted by the certificate, which was written, and reported where out failed
+pub certified_told : (run : Run) (sheet : Named) (cert answer bytes : List ℕ) (result : Outcome) → asked run.words ≡ Some (certifying sheet cert) → IsCertified run.shelf.files sheet cert answer → ReadNothing run.input → bytes ≡ answer → IsWritten run.out run.notes bytes result → Told run result
+certified_told run sheet cert answer bytes result is certifies read same (o, took, tells) = (o, [], certified sheet cert answer is certifies read (subst (λ (b : List ℕ). Took run.out b o) same took), tells)
 
 -- a sheet that spells no grammars
 pub unpaired_told : (run : Run) (sheet : Named) (job : Job) (stop : Stop) (o : Outcome) (names : List (List ℕ)) (r : Result Outcome Refusal) → asked run.words ≡ Some (by sheet job) → StopsBy (IsUnpaired run.shelf sheet) stop → stop ≡ Refused o → ReadNothing run.input → TookNothing run.out → names ≡ [] → IfOk r (Tells run.notes names o) → IfOk r (Told run)

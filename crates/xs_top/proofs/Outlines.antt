@@ -4,11 +4,11 @@ use Rattle.std.specs.Prelude.{slice_index_or, slice_set}
 use Rattle.std.specs.declared.option.Option.{Option}
 use Rattle.xs_gram.specs.declared.parts.RulePart.{RulePart}
 use Rattle.xs_gram.specs.Grammar.{no_rule, IsRuleOf}
-use Rattle.xs_gram.specs.Common.{Common, word, made, Kind, of_term, of_non, kinds, lookup}
+use Rattle.xs_gram.specs.Common.{Common, made, Kind, of_term, of_non, kinds, lookup}
 use Rattle.xs_sheet_laws.specs.Pairs as P
 use Rattle.xs_pair.specs.Grammars.{Pair}
-use Rattle.xs_outline.specs.Lines.{Line, line, leaf_word, production}
-use Rattle.xs_outline.specs.Shapes.{Shape, leaf, node, Branches, none, branch, slot_count, slot_name, kind_at, empty_cells, kids_in, meaning, filled, ShapeFits, BranchesFit, lines, branch_lines, root_name, root_kind}
+use Rattle.xs_outline.specs.Lines.{Line, line, production}
+use Rattle.xs_outline.specs.Shapes.{Shape, leaf, node, Branches, none, branch, slot_name, kind_at, empty_cells, kids_in, meaning, filled, ShapeFits, BranchesFit, lines, branch_lines, root_name, root_kind}
 use Rattle.xs_outline.specs.Outline.{AreLinesOf, IsOutline}
 
 module _ (p q : Pair) (alike : P.AreAlike p q) where

@@ -6,7 +6,7 @@ use Rattle.xs_gram.specs.declared.parts.GItem.TheVariants.{Fixed, Term, Non, Ski
 use Rattle.xs_gram.specs.declared.parts.RulePart.{RulePart}
 use Rattle.xs_gram.specs.Grammar.{no_rule, items}
 use Rattle.xs_gram.specs.Derivations.{Parts, fixed, leaf, skip, sub, Derivation}
-use Rattle.xs_gram.specs.Languages.{InLang, IsFront}
+use Rattle.xs_gram.specs.Languages.{IsFront}
 use Rattle.xs_sheet_laws.specs.Pairs as P
 use Rattle.xs_pair.specs.Grammars.{Pair}
 use Rattle.xs_talk.specs.Words.{quoted}

@@ -2,7 +2,6 @@
 use Rattle.std.proofs.Common.{◌≡◌, ℕ, zero, suc, List, [], ◌∷◌, Some, slice_get, subst}
 use Rattle.xs_class.specs.declared.side.Side.TheVariants.{Text}
 use Rattle.xs_chars.specs.declared.form.Form.TheVariants.{AsIs}
-use Rattle.xs_chars.specs.Text.{text_of}
 use Rattle.xs_outline.specs.Lines.{text_lines}
 use Rattle.xs_script.specs.declared.request.Request.{Request}
 use Rattle.xs_script.specs.declared.fault.ScriptFault.{ScriptFault}

@@ -18,21 +18,22 @@ use Rattle.xs_talk.specs.declared.outcome.Report.{Report}
 use Rattle.xs_talk.specs.declared.outcome.Outcome.{Outcome}
 use Rattle.xs_talk.specs.declared.outcome.Outcome.TheVariants.{Done, Foreign, SheetLong, SheetBad, SheetIll, Heavy, Suspect, NotUtf8, NotXml, SheetFault, ReadFault, WriteFault, NoteFault, DocLong, ScriptBad, OutlineBad}
 use Rattle.xs_top.specs.declared.asking.Job.{Job}
-use Rattle.xs_top.specs.declared.asking.Job.TheVariants.{Check, Turn, Trees, Make, Session, ToTree, FromTree, Cover}
-use Rattle.xs_top.specs.Devices.{Run, Input}
+use Rattle.xs_top.specs.declared.asking.Job.TheVariants.{Check, Turn, Trees, Make, Session, ToTree, FromTree, Cover, Prove}
+use Rattle.xs_top.specs.Devices.{Shelves, Run, Input}
+use Rattle.xs_top.specs.Certifying.{IsUncertain}
 use Rattle.xs_top.specs.Known.{HasBytes}
 use Rattle.xs_top.specs.Sheets.{IsStopped, IsBadBytes, IsPairOfBytes, IsUnpaired}
 use Rattle.xs_top.specs.Checks.{IsReported, IsUnsure, IsSure}
 use Rattle.xs_top.specs.Answers.{IsUnread, IsNoOutline}
 use Rattle.xs_top.specs.Scripts.{IsNoScript}
 use Rattle.xs_top.specs.Ran.{IsUntaken, IsUnanswered, IsUnplayed, IsUnmade, IsUndone, IsAnswer, Took, Told}
-use Rattle.xs_top.specs.Runs.{AsksFor, AsksToUpgrade, Verdict, bad, ill, heavy, suspect, accepted}
-use Rattle.xs_top.specs.Laws.{PairsAgree, SheetsAgree, IsChecked, verdict, OneVerdict, RefusesSheet, CheckDecides, CheckDecidesUpgrades, CheckAccepts}
-use Rattle.xs_top.proofs.Known.{has_only, has_short}
+use Rattle.xs_top.specs.Runs.{AsksFor, AsksToUpgrade, AsksToCertify, Verdict, bad, ill, heavy, suspect, accepted}
+use Rattle.xs_top.specs.Laws.{PairsAgree, SheetsAgree, IsChecked, verdict, OneVerdict, RefusesSheet, CheckDecides, CheckDecidesUpgrades, CheckDecidesCertificates, CheckAccepts}
+use Rattle.xs_top.proofs.Known.{has_only, has_short, spelled_pair}
 use Rattle.xs_top.proofs.Agreeing.{sure_kept}
 use Rattle.xs_top.proofs.FencesOnce.{once_in_text, once_in_xml}
 use Rattle.xs_top.proofs.Completing.{not_heavy_rule, not_heavy, not_shown, not_unsure}
-use Rattle.xs_top.proofs.Coming.{Came, before, of_job, with_answer, went_upgraded, told_came, done_answered}
+use Rattle.xs_top.proofs.Coming.{Came, before, of_job, with_answer, went_upgraded, told_came, Tested, refused, shown, went_tested, done_found}
 
 -- what a verdict means of the bytes
 abbrev Means : List ℕ → Verdict → Type 0
@@ -127,6 +128,7 @@ undone_means sheet p i (ToTree from form) checked is_p o v (inr (sure, why)) is 
 undone_means sheet p i (FromTree to) checked is_p o v (inl why) is = unsure_means sheet p is_p o v why.1 is
 undone_means sheet p i (FromTree to) checked is_p o v (inr (sure, why)) is = sure_means sheet p is_p sure o v (unmade_accepted p i o why) is
 undone_means sheet p i Cover checked is_p o v why is = absurd checked
+undone_means sheet p i Prove checked is_p o v why is = unsure_means sheet p is_p o v why.1 is
 
 answer_sure : (p : Pair) (i : Input) (job : Job) (answer : List ℕ) → IsChecked job → IsAnswer p i job answer → IsSure p
 answer_sure p i Check answer checked has = has.1
@@ -137,6 +139,7 @@ answer_sure p i Session answer checked has = has.0
 answer_sure p i (ToTree from form) answer checked has = has.0
 answer_sure p i (FromTree to) answer checked has = has.0
 answer_sure p i Cover answer checked has = absurd checked
+answer_sure p i Prove answer checked has = has.1
 
 came_means : (run : Run) (sheet : List ℕ) (named : Named) (job : Job) → HasBytes run.shelf.files named sheet → IsChecked job → (o : Outcome) (v : Verdict) → Came run sheet named job o → verdict o ≡ Some v → Means sheet v
 came_means run sheet named job has checked o v (before why) is = unpaired_means run named sheet has o v why is
@@ -258,6 +261,7 @@ module _ (law : OneReading) (weigh : RuleWeighsOnce) (agree : PairsAgree) (well 
   undone_not sheet p is_p i (FromTree to) is o (inl why) refuses = not_unsure law weigh agree well sheet p is_p o is why.1
   undone_not sheet p is_p i (FromTree to) is o (inr (sure, why)) refuses = accepted_not o (unmade_accepted p i o why) refuses
   undone_not sheet p is_p i Cover is o why refuses = why
+  undone_not sheet p is_p i Prove is o why refuses = not_unsure law weigh agree well sheet p is_p o is why.1
 
   came_not : (run : Run) (sheet : List ℕ) (named : Named) (job : Job) → HasBytes run.shelf.files named sheet → Means sheet accepted → (o : Outcome) → Came run sheet named job o → RefusesSheet o → ⊥
   came_not run sheet named job has (p, is_p, is) o (before why) refuses = unpaired_not run named sheet has p is_p o why refuses
@@ -269,8 +273,8 @@ module _ (law : OneReading) (weigh : RuleWeighsOnce) (agree : PairsAgree) (well 
     where
       by_case : Came two sheet also.named job o ⊎ ((of : ℕ) × (written : ℕ) × (o ≡ NoteFault of written) × Rose two.notes.faults_before two.notes.faults_now) → ⊥
       by_case (inl came) =
-          let a = done_answered one sheet Check asks is_done in
-          came_not two sheet also.named job also.has (a.pair, a.is_pair, a.is_answer.1.accepted) o came refuses
+          let a = done_found one sheet asks is_done in
+          came_not two sheet also.named job also.has (a.pair, a.is_pair, a.sure.accepted) o came refuses
       by_case (inr (of, written, note, rose)) = subst (λ (x : Outcome). RefusesSheet x) note refuses
 
   -- an upgrade of a sheet that is accepted does not refuse it
@@ -285,10 +289,36 @@ module _ (law : OneReading) (weigh : RuleWeighsOnce) (agree : PairsAgree) (well 
 
   pub check_decides_upgrades_lem : CheckDecidesUpgrades
   check_decides_upgrades_lem one two sheet asks also is_done o told refuses =
-      let a = done_answered one sheet Check asks is_done in
+      let a = done_found one sheet asks is_done in
       told_upgrade_not two sheet also a.pair a.is_pair o told refuses
+
+  -- nor does its check by a certificate
+  uncertain_not : (sheet : List ℕ) (p : Pair) → IsPairOfBytes sheet p → IsAccepted p.text p.xml → (shelf : Shelves) (cert : List ℕ) (o : Outcome) → IsUncertain p shelf cert o → RefusesSheet o → ⊥
+  uncertain_not sheet p is_p is shelf cert (Heavy weight) why refuses = not_heavy weigh sheet p is_p weight is why
+  uncertain_not sheet p is_p is shelf cert (SheetBad at) why refuses = why
+  uncertain_not sheet p is_p is shelf cert (SheetIll which) why refuses = why
+  uncertain_not sheet p is_p is shelf cert (Suspect report) why refuses = why
+  uncertain_not sheet p is_p is shelf cert SheetLong why refuses = why
+  uncertain_not sheet p is_p is shelf cert o why refuses = refuses
+
+  tested_not : (run : Run) (sheet : List ℕ) (named : Named) (cert : List ℕ) → HasBytes run.shelf.files named sheet → Means sheet accepted → (o : Outcome) → Tested run named cert o → RefusesSheet o → ⊥
+  tested_not run sheet named cert has (p, is_p, is) o (refused (inl why)) refuses = unpaired_not run named sheet has p is_p o why refuses
+  tested_not run sheet named cert has (p, is_p, is) o (refused (inr (q, spells, why))) refuses =
+      let is_q : IsPairOfBytes sheet q = spelled_pair run.shelf.files named sheet q has spells in
+      uncertain_not sheet q is_q ((agree sheet p q is_p is_q).checked.accepted.0 is) run.shelf cert o why refuses
+  tested_not run sheet named cert has found o (shown answer shows took) refuses = accepted_not o (took_accepted run answer o took) refuses
+
+  told_tested_not : (run : Run) (sheet : List ℕ) → AsksToCertify run sheet → Means sheet accepted → (o : Outcome) → Told run o → RefusesSheet o → ⊥
+  told_tested_not run sheet asks found o (other, names, went, inl (is, line)) refuses =
+      tested_not run sheet asks.named asks.cert asks.has found other (went_tested run sheet asks other names went) (subst (λ (x : Outcome). RefusesSheet x) is refuses)
+  told_tested_not run sheet asks found o (other, names, went, inr (of, written, note, fails)) refuses = subst (λ (x : Outcome). RefusesSheet x) note refuses
+
+  pub check_decides_certificates_lem : CheckDecidesCertificates
+  check_decides_certificates_lem one two sheet asks also is_done o told refuses =
+      let a = done_found one sheet asks is_done in
+      told_tested_not two sheet also (a.pair, a.is_pair, a.sure.accepted) o told refuses
 
 pub check_accepts_lem : PairsAgree → CheckAccepts
 check_accepts_lem agree run sheet asks told =
-    let a = done_answered run sheet Check asks told in
-    record { pair = a.pair; is_pair = a.is_pair; sure = λ p is_p. sure_kept a.pair p (agree sheet a.pair p a.is_pair is_p) a.is_answer.1 }
+    let a = done_found run sheet asks told in
+    record { pair = a.pair; is_pair = a.is_pair; sure = λ p is_p. sure_kept a.pair p (agree sheet a.pair p a.is_pair is_p) a.sure }

@@ -30,6 +30,12 @@ pub record IsCertified (files : Files) (sheet : Named) (cert answer : List ℕ) 
 abbrev pub AreLight : Pair → Type 0
 AreLight p = IsLight p.text × IsLight p.xml
 
+-- why the bytes of the certificate's file cannot be had
+abbrev pub IsUnshown : Shelves → List ℕ → Outcome → Type 0
+IsUnshown shelf cert CertFault = NameFailed shelf.files cert shelf.faults_before shelf.faults_now (shelf.name_before cert) (shelf.name_now cert)
+IsUnshown shelf cert CertLong = IsLongFile shelf.files cert 268435456
+IsUnshown shelf cert other = ⊥
+
 -- why the file does not certify the two grammars; it is read only where no rule is heavy
 abbrev pub IsUncertain : Pair → Shelves → List ℕ → Outcome → Type 0
 IsUncertain p shelf cert (Heavy weight) = IsFirstHeavy p.text p.xml weight

@@ -58,7 +58,8 @@ pub fn refuses_exactly()
 }
 
 /// Outcomes that tell different things of a sheet exclude each other; and once a check, with a
-/// certificate or without, or `prove` is done, no run refuses the sheet, and each word of either language has at most one derivation.
+/// certificate or without, or `prove` is done, no run refuses the sheet, and each word of either
+/// language has at most one derivation.
 pub fn check_decides()
     ensures one { OneVerdict }
     ensures decides { CheckDecides }

@@ -59,8 +59,8 @@ use xs_xml::one_word;
 /// a smallest document pair is shown for each of its productions. The sheet is a file of the shelf,
 /// or one that the program includes, which can be written too; of the first of these a text can be
 /// made and turned. The upgrade of a sheet to version 2 can be written; and a certificate that a
-/// sheet is accepted can be written, and a sheet checked by one. All memory is taken before the first
-/// write.
+/// sheet is accepted can be written, and a sheet checked by one. All memory is taken before the
+/// first write.
 pub fn run<S: Source, H: Shelf, K: Sink, N: Sink>(
     alloc: Global,
     words: &[String],

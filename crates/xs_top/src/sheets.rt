@@ -1,4 +1,4 @@
-ghost use Rattle.std.specs.Prelude.{◌≡◌, ◌≤◌, length, IfOk, IfErr};
+ghost use Rattle.std.specs.Prelude.{◌≡◌, ◌≤◌, ℕ, List, length, IfOk, IfErr};
 ghost use Rattle.xs_pair.specs.Sound.{IsSoundPair};
 ghost use Rattle.xs_words.specs.Meaning.{sheet_meant};
 ghost use Rattle.xs_writing_laws.specs.Laws.{CanBeWritten};
@@ -33,9 +33,12 @@ pub fn shipped_bytes(core: Core) -> &'static [u8]
 }
 
 /// The bytes of a sheet.
+#[tactic(auto, using(crate::proofs::Certifying::falls_nowhere))]
 fn sheet_bytes<H: Shelf>(alloc: Global, shelf: &mut H, sheet: SheetName<'_>) -> Result<Bytes, Stop>
     ensures bytes { IfOk result (AreBytesOf (H.files shelf.old) (sheet_meant sheet.entry)) }
     ensures files { H.files shelf.new ≡ H.files shelf.old }
+    ensures later { H.faults shelf.old ≤ H.faults shelf.new }
+    ensures name_later { (name : List ℕ) → H.name_faults shelf.old name ≤ H.name_faults shelf.new name }
     ensures stop { IfErr result (StopsBy (IsStopped (shelves_of H.files H.faults H.name_faults shelf.old shelf.new)
         (sheet_meant sheet.entry))) }
 {
@@ -73,6 +76,8 @@ pub fn pair_of(alloc: Global, bytes: &[u8]) -> Result<Two, Stop>
 pub fn pair_for<H: Shelf>(alloc: Global, shelf: &mut H, sheet: SheetName<'_>) -> Result<Two, Stop>
     ensures pair { IfOk result (SpellsPair (H.files shelf.old) (sheet_meant sheet.entry)) }
     ensures files { H.files shelf.new ≡ H.files shelf.old }
+    ensures later { H.faults shelf.old ≤ H.faults shelf.new }
+    ensures name_later { (name : List ℕ) → H.name_faults shelf.old name ≤ H.name_faults shelf.new name }
     ensures sound { IfOk result IsSoundPair }
     ensures writable { IfOk result CanBeWritten }
     ensures stop { IfErr result (StopsBy (IsUnpaired (shelves_of H.files H.faults H.name_faults shelf.old shelf.new)

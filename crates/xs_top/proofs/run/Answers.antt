@@ -5,7 +5,7 @@ use Rattle.xs_words.specs.Meaning.{sheet_meant}
 use Rattle.xs_top.specs.Meaning.{ask_meant}
 use Rattle.xs_top.specs.Devices.{shelves_of, input_of, output_of, run_of}
 use Rattle.xs_top.specs.Ran.{no_command}
-use Rattle.xs_top.proofs.Going.{usage_told, shipped_told, not_upgraded_told, upgraded_told, unpaired_told, undone_told, answered_told}
+use Rattle.xs_top.proofs.Going.{usage_told, shipped_told, not_upgraded_told, upgraded_told, uncertified_told, certified_told, unpaired_told, undone_told, answered_told}
 use Rattle.xs_top.proofs.Completing.{complete, complete_if}
 use Rattle.xs_top.proofs.run.Goals as goal
 
@@ -34,6 +34,24 @@ returns-in-Err-Refused-clause-told g c =
 
 pub returns-in-Err-Refused-clause-complete : goal.returns-in-Err-Refused-clause-complete
 returns-in-Err-Refused-clause-complete g c = complete_if c.one_word.ensures c.weights_are_exact.ensures.rule c.bytes_agree.ensures.pairs c.bytes_agree.ensures.sheets c.bytes_agree.ensures.outlines _ c.tell.result (returns-in-Err-Refused-clause-told g c)
+
+pub returns-in-Ok-certified-clause-told : goal.returns-in-Ok-certified-clause-told
+returns-in-Ok-certified-clause-told g c =
+    certified_told _ (sheet_meant c.in-Some-Certify.sheet) c.in-Some-Certify.cert.now c.in-Ok-certified.answer c.as_slice-in-Ok-certified.result.now c.written-in-Ok-certified.result (sym c.asked.ensures.ask ∙ ap (λ o. option_map ask_meant o) c.in-Some-Certify.is ∙ ap (λ a. Some (ask_meant a)) c.in-Some-Certify.field-0-is) c.in-Ok-certified.ensures.answer (record { left = refl; faults = refl }) c.as_slice-in-Ok-certified.ensures c.written-in-Ok-certified.ensures
+
+pub returns-in-Ok-certified-clause-complete : goal.returns-in-Ok-certified-clause-complete
+returns-in-Ok-certified-clause-complete g c = complete c.one_word.ensures c.weights_are_exact.ensures.rule c.bytes_agree.ensures.pairs c.bytes_agree.ensures.sheets c.bytes_agree.ensures.outlines _ c.written-in-Ok-certified.result (returns-in-Ok-certified-clause-told g c)
+
+pub returns-in-Err-Refused-certified-clause-told : goal.returns-in-Err-Refused-certified-clause-told
+returns-in-Err-Refused-certified-clause-told g c =
+    uncertified_told
+    (run_of (map string_bytes c.args.words.now) (shelves_of g.H.Shelf.files g.H.Shelf.faults g.H.Shelf.name_faults c.args.shelf.now c.certified.new.shelf) (input_of g.S.Source.left g.S.Source.faults c.args.input.now c.args.input.now)
+    (output_of g.K.Sink.taken g.K.Sink.faults c.args.out.now c.args.out.now) (output_of g.N.Sink.taken g.N.Sink.faults c.args.notes.now c.tell-in-Err-Refused-certified.new.notes))
+    (sheet_meant c.in-Some-Certify.sheet) c.in-Some-Certify.cert.now c.in-Err-Refused-certified.field-0 c.in-Err-Refused-certified.outcome c.in_ok-none.none c.tell-in-Err-Refused-certified.result (sym c.asked.ensures.ask ∙ ap (λ o. option_map ask_meant o) c.in-Some-Certify.is ∙ ap (λ a. Some (ask_meant a)) c.in-Some-Certify.field-0-is) c.in-Err-Refused-certified.ensures.stop c.in-Err-Refused-certified.field-0-is
+    (record { left = refl; faults = refl }) (record { taken = refl; faults = refl }) c.in_ok-none.ensures c.tell-in-Err-Refused-certified.ensures.told
+
+pub returns-in-Err-Refused-certified-clause-complete : goal.returns-in-Err-Refused-certified-clause-complete
+returns-in-Err-Refused-certified-clause-complete g c = complete_if c.one_word.ensures c.weights_are_exact.ensures.rule c.bytes_agree.ensures.pairs c.bytes_agree.ensures.sheets c.bytes_agree.ensures.outlines _ c.tell-in-Err-Refused-certified.result (returns-in-Err-Refused-certified-clause-told g c)
 
 pub returns-in-Err-Refused-pair_for-clause-told : goal.returns-in-Err-Refused-pair_for-clause-told
 returns-in-Err-Refused-pair_for-clause-told g c =

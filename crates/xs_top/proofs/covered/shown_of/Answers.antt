@@ -1,4 +1,4 @@
-use Rattle.std.proofs.Common.{◌≡◌, Some, IfNone, IfSome, slice_get, subst, ap, ◌∙◌}
+use Rattle.std.proofs.Common.{Some, IfNone, IfSome, subst, ap, ◌∙◌}
 use Rattle.xs_gram.specs.Grammar.{Grammar}
 use Rattle.xs_gram.specs.Common.{print}
 use Rattle.xs_tree.specs.Flat.{common_of}

@@ -1,4 +1,4 @@
-use Rattle.xs_top.proofs.Verdicts.{one_verdict_lem, check_decides_lem, check_decides_upgrades_lem, check_accepts_lem}
+use Rattle.xs_top.proofs.Verdicts.{one_verdict_lem, check_decides_lem, check_decides_upgrades_lem, check_decides_certificates_lem, check_accepts_lem}
 use Rattle.xs_top.proofs.laws.check_decides.Goals as goal
 
 pub returns-clause-one : goal.returns-clause-one
@@ -9,6 +9,9 @@ returns-clause-decides c = check_decides_lem c.one_word.ensures c.weights_are_ex
 
 pub returns-clause-upgrades : goal.returns-clause-upgrades
 returns-clause-upgrades c = check_decides_upgrades_lem c.one_word.ensures c.weights_are_exact.ensures.rule c.bytes_agree.ensures.pairs c.bytes_agree.ensures.sheets
+
+pub returns-clause-certificates : goal.returns-clause-certificates
+returns-clause-certificates c = check_decides_certificates_lem c.one_word.ensures c.weights_are_exact.ensures.rule c.bytes_agree.ensures.pairs c.bytes_agree.ensures.sheets
 
 pub returns-clause-accepts : goal.returns-clause-accepts
 returns-clause-accepts c = check_accepts_lem c.bytes_agree.ensures.pairs
