@@ -6,20 +6,15 @@ use Rattle.std.proofs.lemmas.Option.{same_Some}
 use Rattle.std.proofs.lemmas.Slice.Eq.{bytes_eq-Decides}
 use Rattle.xs_io.specs.Causes.{Rose}
 use Rattle.xs_io.specs.Shown.{Files, Has, IsFile, IsLongFile, NameFailed}
-use Rattle.xs_light.specs.declared.fault.CheckFault.{CheckFault}
-use Rattle.xs_light.specs.declared.fault.CheckFault.TheVariants as K
-use Rattle.xs_cert.specs.declared.fault.CertFault.{CertFault as Fault}
-use Rattle.xs_cert.specs.declared.fault.CertFault.TheVariants as C
-use Rattle.xs_cert.specs.Reasons.{IsWeighty, IsCertReason}
 use Rattle.xs_pair.specs.Grammars.{Pair}
 use Rattle.xs_words.specs.Command.{Sheet as Named}
 use Rattle.xs_talk.specs.declared.outcome.Outcome.{Outcome}
-use Rattle.xs_talk.specs.declared.outcome.Outcome.TheVariants.{CertFault, CertLong}
+use Rattle.xs_talk.specs.declared.outcome.Outcome.TheVariants.{Heavy, CertFault, CertLong, CertBad}
 use Rattle.xs_top.specs.Devices.{Shelves, shelves_of}
 use Rattle.xs_top.specs.Sheets.{SpellsPair}
 use Rattle.xs_top.specs.declared.stop.Stop.{Stop}
-use Rattle.xs_top.specs.Stops.{StopsBy, stop_of_check, stop_of_certificate}
-use Rattle.xs_top.specs.Certifying.{AreLight, IsUnshown, IsUncertain, IsUncertified, HasFile}
+use Rattle.xs_top.specs.Stops.{StopsBy}
+use Rattle.xs_top.specs.Certifying.{IsUncertain, IsUncertified, HasFile}
 use Rattle.xs_top.proofs.Going.{stops_as}
 
 -- where one name was read, no name's count fell
@@ -45,25 +40,18 @@ failed_since files files' name old mid now own_old own_mid own_now same later ow
   own = λ has. rose_since own_old own_mid own_now own_later (failed.own (subst (λ (f : Files). Has f name) (sym same) has));
 }
 
--- why the bytes of the certificate cannot be had, once no rule is heavy, told of the whole run
+-- why the two grammars are not certified, told from any time before
 module _ {H : Type 0} (files : H → Files) (faults : H → ℕ) (own : H → List ℕ → ℕ) (old mid now : H) (cert : List ℕ) (same : files mid ≡ files old) (later : faults old ≤ faults mid) (own_later : own old cert ≤ own mid cert) where
-  pub unshown_since : (p : Pair) → AreLight p → (o : Outcome) → IsUnshown (shelves_of files faults own mid now) cert o → IsUncertain p (shelves_of files faults own old now) cert o
-  unshown_since p light CertFault failed = (light, failed_since (files old) (files mid) cert (faults old) (faults mid) (faults now) (own old cert) (own mid cert) (own now cert) same later own_later failed)
-  unshown_since p light CertLong long = (light, subst (λ (f : Files). IsLongFile f cert 268435456) same long)
-  unshown_since p light o unshown = absurd unshown
+  pub uncertain_since : (p : Pair) (o : Outcome) → IsUncertain p (shelves_of files faults own mid now) cert o → IsUncertain p (shelves_of files faults own old now) cert o
+  uncertain_since p (Heavy weight) why = why
+  uncertain_since p CertFault (light, failed) = (light, failed_since (files old) (files mid) cert (faults old) (faults mid) (faults now) (own old cert) (own mid cert) (own now cert) same later own_later failed)
+  uncertain_since p CertLong (light, long) = (light, subst (λ (f : Files). IsLongFile f cert 268435456) same long)
+  uncertain_since p (CertBad line) (light, bytes, are, bad) = (light, bytes, subst (λ (f : Files). IsFile f cert bytes 268435456) same are, bad)
+  uncertain_since p o why = absurd why
 
 -- the two grammars are not certified
 pub uncertain_stops : (shelf : Shelves) (sheet : Named) (cert : List ℕ) (p : Pair) → SpellsPair shelf.files sheet p → (stop : Stop) → StopsBy (IsUncertain p shelf cert) stop → StopsBy (IsUncertified shelf sheet cert) stop
 uncertain_stops shelf sheet cert p spells stop stops = stops_as (λ o why. inr (p, spells, why)) stop stops
-
-pub weight_stops : (p : Pair) (shelf : Shelves) (cert : List ℕ) (fault : CheckFault) → IsWeighty p fault → StopsBy (IsUncertain p shelf cert) (stop_of_check fault)
-weight_stops p shelf cert (K.Heavy weight) why = why
-weight_stops p shelf cert K.Memory why = tt
-
-pub certificate_stops : (p : Pair) (shelf : Shelves) (cert bytes : List ℕ) → IsFile shelf.files cert bytes 268435456 → (fault : Fault) → IsCertReason p bytes fault → StopsBy (IsUncertain p shelf cert) (stop_of_certificate fault)
-certificate_stops p shelf cert bytes are (C.Heavy weight) why = why
-certificate_stops p shelf cert bytes are (C.CertBad line) why = ((why.0, why.1), bytes, are, why.2)
-certificate_stops p shelf cert bytes are C.Memory why = tt
 
 -- the bytes of the certificate, where they are known, are the only ones
 pub file_only : (files : Files) (cert bytes other : List ℕ) → HasFile files cert bytes → IsFile files cert other 268435456 → other ≡ bytes
