@@ -88,17 +88,18 @@ impl Slow {
     }
 
     /// What the lines are as a front.
-    fn front(&self, alloc: Global, lines: &[&[u8]]) -> Result<Front, Memory> {
+    fn front<'t>(&self, alloc: Global, lines: &'t [&'t [u8]]) -> Result<Front, Memory> {
         let mut walk = Walk { lines, next: 0 };
         let Some(halves) = self.halves(alloc, &mut walk)? else {
             return Ok(Front::Wrong);
         };
-        let is_text = self.text.is_right(&halves.text);
-        let is_xml = self.xml.is_right(&halves.xml);
+        let Halves { text, xml } = halves;
+        let is_text = self.text.is_right(&text);
+        let is_xml = self.xml.is_right(&xml);
         if !is_text || !is_xml {
             return Ok(Front::Wrong);
         }
-        match halves.xml {
+        match xml {
             Some(xml) if xml.is_whole => Ok(Front::Whole),
             _ => Ok(Front::Begun),
         }

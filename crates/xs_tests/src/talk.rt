@@ -39,7 +39,7 @@ fn lines_of_outcomes(rt: HostRuntime) -> Result<(), Memory> {
         rule: IllRule::NameOnce,
         line: 4,
     });
-    let rows: [(Outcome, &str); 11] = [
+    let rows: [(Outcome, &str); 13] = [
         (Outcome::Done, ""),
         (
             Outcome::Foreign { viable: 4 },
@@ -65,12 +65,20 @@ fn lines_of_outcomes(rt: HostRuntime) -> Result<(), Memory> {
             "script: line 2: not expected here\n",
         ),
         (
+            Outcome::CertBad { line: 4 },
+            "certificate: line 4: not expected here\n",
+        ),
+        (
+            Outcome::CertLong,
+            "certificate: more than 268435456 bytes\n",
+        ),
+        (
             Outcome::OutlineBad { line: 3 },
             "outline: line 3: not expected here\n",
         ),
         (
             Outcome::Usage,
-            "usage: xsugar check S | to-xml S [F] | to-text S | round S text [F] | round S xml | trees S M | sheet | sheet 2 | make SEED LINES | upgrade S | session S | to-tree S text [F] | to-tree S xml | from-tree S text | from-tree S xml | cover S\n",
+            "usage: xsugar check S | to-xml S [F] | to-text S | round S text [F] | round S xml | trees S M | sheet | sheet 2 | make SEED LINES | upgrade S | prove S | check S cert C | session S | to-tree S text [F] | to-tree S xml | from-tree S text | from-tree S xml | cover S\n",
         ),
     ];
     expect_told(&rt, rt.alloc(), &rows)

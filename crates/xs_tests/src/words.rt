@@ -11,7 +11,7 @@ fn is_command(alloc: Global, words: &[&str]) -> Result<bool, Memory> {
     Ok(command_of(&list).is_some())
 }
 
-const ROWS: [(&[&str], bool); 36] = [
+const ROWS: [(&[&str], bool); 41] = [
     (&["check", "pair.xsugar"], true),
     (&["to-xml", "@leiden", "nfd"], true),
     (&["round", "pair.xsugar", "text", "asis"], true),
@@ -28,6 +28,11 @@ const ROWS: [(&[&str], bool); 36] = [
     (&["cover", "a", "b"], false),
     (&["upgrade", "@leiden2"], true),
     (&["upgrade"], false),
+    (&["prove", "@leiden2"], true),
+    (&["prove"], false),
+    (&["check", "a", "cert", "b"], true),
+    (&["check", "a", "cert"], false),
+    (&["check", "a", "text", "b"], false),
     (&[], false),
     (&["to-xml"], false),
     (&["check", "a", "b"], false),

@@ -163,7 +163,7 @@ fn documents_of_other_names(rt: HostRuntime) -> Result<(), Fail> {
 }
 
 const USAGE: &[u8] =
-    b"usage: xsugar check S | to-xml S [F] | to-text S | round S text [F] | round S xml | trees S M | sheet | sheet 2 | make SEED LINES | upgrade S | session S | to-tree S text [F] | to-tree S xml | from-tree S text | from-tree S xml | cover S\n";
+    b"usage: xsugar check S | to-xml S [F] | to-text S | round S text [F] | round S xml | trees S M | sheet | sheet 2 | make SEED LINES | upgrade S | prove S | check S cert C | session S | to-tree S text [F] | to-tree S xml | from-tree S text | from-tree S xml | cover S\n";
 
 const NO_COMMANDS: &[&[&str]] = &[
     &[],
