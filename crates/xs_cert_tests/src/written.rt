@@ -1,7 +1,6 @@
 //! What `prove` writes, and that `certify` takes it.
 ghost use Rattle.xs_pair.specs.Sound.{IsSoundPair};
 
-use super::slow::Slow;
 use super::verdicts::{Spot, Verdict, are_same, spot_of, verdict_on};
 use std::alloc::Global;
 use std::process::Abort;
@@ -99,9 +98,6 @@ fn groups_that_share_a_word_are_written(rt: HostRuntime) -> Result<(), Fail> {
     for lines in SHARED {
         assert!(rt; has_part(written.as_slice(), lines));
     }
-    let slow = Slow::of(rt.alloc(), &two)?;
-    let line = slow.bad_line(rt.alloc(), written.as_slice())?;
-    assert!(rt; line.is_none(), "{line:?}");
     Ok(())
 }
 
