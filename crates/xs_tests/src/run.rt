@@ -6,6 +6,7 @@ use xs_class::{Bytes, Memory, Text};
 use xs_io::{MemShelf, MemSink, MemSource};
 use xs_top::{Outcome, run, status};
 
+mod certificates;
 mod checks;
 mod cover;
 mod cuts;

@@ -16,7 +16,7 @@ use Rattle.xs_pair.specs.Grammars.{Pair}
 use Rattle.xs_wf.specs.Rules.{IsWell}
 use Rattle.xs_talk.specs.declared.outcome.Report.{Report}
 use Rattle.xs_talk.specs.declared.outcome.Outcome.{Outcome}
-use Rattle.xs_talk.specs.declared.outcome.Outcome.TheVariants.{Done, Foreign, SheetLong, SheetBad, SheetIll, Heavy, Suspect, NotUtf8, NotXml, SheetFault, ReadFault, WriteFault, NoteFault, DocLong, ScriptBad, OutlineBad}
+use Rattle.xs_talk.specs.declared.outcome.Outcome.TheVariants.{Done, Foreign, SheetLong, SheetBad, SheetIll, Heavy, Suspect, NotUtf8, NotXml, SheetFault, ReadFault, WriteFault, NoteFault, DocLong, ScriptBad, OutlineBad, CertFault, CertLong, CertBad}
 use Rattle.xs_top.specs.declared.asking.Job.{Job}
 use Rattle.xs_top.specs.declared.asking.Job.TheVariants.{Check, Turn, Trees, Make, Session, ToTree, FromTree, Cover, Prove}
 use Rattle.xs_top.specs.Devices.{Shelves, Run, Input}
@@ -28,7 +28,7 @@ use Rattle.xs_top.specs.Answers.{IsUnread, IsNoOutline}
 use Rattle.xs_top.specs.Scripts.{IsNoScript}
 use Rattle.xs_top.specs.Ran.{IsUntaken, IsUnanswered, IsUnplayed, IsUnmade, IsUndone, IsAnswer, Took, Told}
 use Rattle.xs_top.specs.Runs.{AsksFor, AsksToUpgrade, AsksToCertify, Verdict, bad, ill, heavy, suspect, accepted}
-use Rattle.xs_top.specs.Laws.{PairsAgree, SheetsAgree, IsChecked, verdict, OneVerdict, RefusesSheet, CheckDecides, CheckDecidesUpgrades, CheckDecidesCertificates, CheckAccepts}
+use Rattle.xs_top.specs.Laws.{PairsAgree, SheetsAgree, IsChecked, ChecksSheet, for_job, by_certificate, verdict, OneVerdict, RefusesSheet, CheckDecides, CheckDecidesUpgrades, CheckDecidesCertificates, CheckAccepts}
 use Rattle.xs_top.proofs.Known.{has_only, has_short, spelled_pair}
 use Rattle.xs_top.proofs.Agreeing.{sure_kept}
 use Rattle.xs_top.proofs.FencesOnce.{once_in_text, once_in_xml}
@@ -156,6 +156,31 @@ told_means run sheet job asks checked o v told is = by_case (told_came run sheet
     by_case (inl came) = came_means run sheet asks.named job asks.has checked o v came is
     by_case (inr (of, written, note, rose)) = absurd (note_verdict of written v o note is)
 
+-- of its check by a certificate
+uncertain_means : (sheet : List ℕ) (p : Pair) → IsPairOfBytes sheet p → (shelf : Shelves) (cert : List ℕ) (o : Outcome) (v : Verdict) → IsUncertain p shelf cert o → verdict o ≡ Some v → Means sheet v
+uncertain_means sheet p is_p shelf cert (Heavy weight) v why is = as_verdict sheet heavy v is (p, is_p, weight, why)
+uncertain_means sheet p is_p shelf cert CertFault v why is = absurd (none_verdict v is)
+uncertain_means sheet p is_p shelf cert CertLong v why is = absurd (none_verdict v is)
+uncertain_means sheet p is_p shelf cert (CertBad line) v why is = absurd (none_verdict v is)
+uncertain_means sheet p is_p shelf cert o v why is = absurd why
+
+tested_means : (run : Run) (sheet : List ℕ) (named : Named) (cert : List ℕ) → HasBytes run.shelf.files named sheet → (o : Outcome) (v : Verdict) → Tested run named cert o → verdict o ≡ Some v → Means sheet v
+tested_means run sheet named cert has o v (refused (inl why)) is = unpaired_means run named sheet has o v why is
+tested_means run sheet named cert has o v (refused (inr (p, spells, why))) is =
+    uncertain_means sheet p (spelled_pair run.shelf.files named sheet p has spells) run.shelf cert o v why is
+tested_means run sheet named cert has o v (shown answer shows took) is =
+    let is_p : IsPairOfBytes sheet shows.pair = spelled_pair run.shelf.files named sheet shows.pair has shows.spelled in
+    sure_means sheet shows.pair is_p shows.sure o v (took_accepted run answer o took) is
+
+told_tested_means : (run : Run) (sheet : List ℕ) → AsksToCertify run sheet → (o : Outcome) (v : Verdict) → Told run o → verdict o ≡ Some v → Means sheet v
+told_tested_means run sheet asks o v (other, names, went, inl (same, line)) is =
+    tested_means run sheet asks.named asks.cert asks.has other v (went_tested run sheet asks other names went) (subst (λ (x : Outcome). verdict x ≡ Some v) same is)
+told_tested_means run sheet asks o v (other, names, went, inr (of, written, note, fails)) is = absurd (note_verdict of written v o note is)
+
+checked_means : (run : Run) (sheet : List ℕ) → ChecksSheet run sheet → (o : Outcome) (v : Verdict) → Told run o → verdict o ≡ Some v → Means sheet v
+checked_means run sheet (for_job job asks checked) o v told is = told_means run sheet job asks checked o v told is
+checked_means run sheet (by_certificate asks) o v told is = told_tested_means run sheet asks o v told is
+
 module _ (law : OneReading) (weigh : RuleWeighsOnce) (agree : PairsAgree) (well : SheetsAgree) where
   -- no two verdicts hold of the same bytes
   bad_not : (sheet : List ℕ) → Means sheet bad → (p : Pair) → IsPairOfBytes sheet p → ⊥
@@ -205,8 +230,8 @@ module _ (law : OneReading) (weigh : RuleWeighsOnce) (agree : PairsAgree) (well 
   one_meaning sheet accepted accepted m n = refl
 
   pub one_verdict_lem : OneVerdict
-  one_verdict_lem one two job other sheet asks also checked too o q told_o told_q v w is_v is_w =
-      one_meaning sheet v w (told_means one sheet job asks checked o v told_o is_v) (told_means two sheet other also too q w told_q is_w)
+  one_verdict_lem one two sheet asks also o q told_o told_q v w is_v is_w =
+      one_meaning sheet v w (checked_means one sheet asks o v told_o is_v) (checked_means two sheet also q w told_q is_w)
 
   -- a run by a sheet that is accepted does not refuse it
   unpaired_not : (run : Run) (named : Named) (sheet : List ℕ) → HasBytes run.shelf.files named sheet → (p : Pair) → IsPairOfBytes sheet p → (o : Outcome) → IsUnpaired run.shelf named o → RefusesSheet o → ⊥

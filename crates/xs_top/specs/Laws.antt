@@ -110,7 +110,9 @@ IsChecked (FromTree to) = ⊤
 IsChecked Cover = ⊥
 IsChecked Prove = ⊤
 
--- what an outcome tells of the sheet's bytes: none where they could not be had, or nothing was done with them
+-- What an outcome tells of the sheet's bytes: none where they could not be had, or nothing was done with them; and none
+-- where a certificate could not be had or is none of the sheet (CertFault, CertLong, CertBad), which leaves open whether
+-- the sheet is accepted.
 abbrev pub verdict : Outcome → Option Verdict
 verdict (SheetBad at) = Some bad
 verdict (SheetIll which) = Some ill
@@ -133,14 +135,17 @@ verdict CertFault = None
 verdict CertLong = None
 verdict (CertBad line) = None
 
+-- the run is to check a sheet of these bytes: for a job, or by a certificate
+pub data ChecksSheet (run : Run) (sheet : List ℕ) : Type 0 where
+  for_job : (job : Job) → AsksFor run job sheet → IsChecked job → ChecksSheet run sheet
+  by_certificate : AsksToCertify run sheet → ChecksSheet run sheet
+
 -- two runs that check the same sheet tell the same of it
 abbrev pub OneVerdict : Type 0
 OneVerdict =
-    (one two : Run) (job other : Job) (sheet : List ℕ)
-    → AsksFor one job sheet
-    → AsksFor two other sheet
-    → IsChecked job
-    → IsChecked other
+    (one two : Run) (sheet : List ℕ)
+    → ChecksSheet one sheet
+    → ChecksSheet two sheet
     → (o q : Outcome)
     → Told one o
     → Told two q

@@ -38,7 +38,8 @@ pub record AsksToCertify (run : Run) (sheet : List ℕ) : Type 0 where
   pub is : asked run.words ≡ Some (certifying named cert)
   pub has : HasBytes run.shelf.files named sheet
 
--- the words ask whether a sheet of these bytes is accepted: by the search, for a certificate, or by one
+-- The words ask whether a sheet of these bytes is accepted: for its check by the search, for a certificate of it, or for
+-- its check by a certificate.
 pub data AsksWhether (run : Run) (sheet : List ℕ) : Type 0 where
   checks : AsksFor run Check sheet → AsksWhether run sheet
   proves : AsksFor run Prove sheet → AsksWhether run sheet

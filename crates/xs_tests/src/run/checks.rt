@@ -73,7 +73,7 @@ fn the_shipped_sheet_is_accepted(rt: HostRuntime) -> Result<(), Fail> {
 }
 
 /// A sheet that is suspect, and how its line begins.
-const SUSPECT: &[Line<'static>] = &[
+pub(super) const SUSPECT: &[Line<'static>] = &[
     (TWO_WORDS, b"suspect: text: s: line 4, cut 1: "),
     (TWO_WAYS, b"suspect: text: s: lines 4 and 5 share \"a\"\n"),
     (BRACKETS, b"suspect: text: list: line 6, cut 1: "),
