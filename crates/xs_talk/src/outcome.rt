@@ -66,8 +66,9 @@ pub enum Outcome {
     CertFault,
     /// The certificate's file has more than 268,435,456 bytes.
     CertLong,
-    /// The file is no certificate of the sheet: `line`, counted from 1, is the first line that a
-    /// certificate does not go on with.
+    /// The file is no certificate of the sheet: `line`, counted from 1, is the first line after the
+    /// longest good front of the file, of lines that begin a certificate and whose blocks are whole
+    /// and right.
     CertBad { line: u64 },
     /// The input is no outline: `line`, counted from 1, is the first line such that the lines up to
     /// it begin none, or one more than the number of lines where the outline ends too early.
