@@ -1,17 +1,16 @@
 -- What the four sets of a cut show, and what a set of two nets does.
-use Rattle.std.proofs.Common.{◌≡◌, ℕ, ◌+◌, ◌≤◌, ◌⊎◌, true, length, Option, Some, None, refl, sym, subst, ◌∙◌, inl, inr, arith}
-use Rattle.std.proofs.lemmas.Bool.{cases_lt}
+use Rattle.std.proofs.Common.{◌≡◌, ℕ, ◌+◌, ◌<◌, ◌≤◌, ◌⊎◌, true, false, length, Option, Some, None, refl, sym, subst, ◌∙◌, inl, inr, arith}
+use Rattle.std.proofs.lemmas.Bool.{cases_eq, true≢false}
 use Rattle.xs_auto.specs.Nets.{Graph, final_at}
-use Rattle.xs_meet.specs.Closed.{Marked, IsClear}
-use Rattle.xs_closed.specs.Rows.{Grid, marked, rows_of}
+use Rattle.xs_meet.specs.Closed.{Marked, Drifts, Strides, Leads, IsClear}
+use Rattle.xs_closed.specs.Rows.{Grid, marked, IsSized, rows_of}
 use Rattle.xs_closed.specs.Least.{AreStarts, IsPastMiddle}
 use Rattle.xs_closed.specs.Longest.{First, Holds, IsApartBy, IsClearBy}
 use Rattle.xs_closed.specs.declared.sets.CutSets.{CutSets}
-use Rattle.xs_closed.specs.Testing.{IsPair, Raises, Lacks, IsNeed, IsLimit, rank, IsEarlier, IsFirstFrom, EachPair, IsFrontPair, IsPausePair, IsMiddlePair, IsPastOne, IsPastBefore, IsOneNeed, IsMiddleNeed}
+use Rattle.xs_closed.specs.Testing.{IsPair, InRow, Raises, Lacks, IsNeed, IsLimit, rank, EachPair, LeadsWithin, IsTurned, IsPastRow, IsPastBelow}
 use Rattle.xs_closed.proofs.RowLemmas.{holds_rows}
 use Rattle.xs_closed.proofs.NeedLemmas.{raises_none, raises_then, raises_as, lacks_as}
-use Rattle.xs_closed.proofs.LongestLemmas.{rank_reach, below_first, first_below}
-use Rattle.xs_closed.proofs.WalkLemmas.{each_seen, earlier_on}
+use Rattle.xs_closed.proofs.LongestLemmas.{marked_within, rank_reach, below_first, first_below}
 
 -- the rows of a table have a pair where it is marked
 held : (z : Grid) (a b : ℕ) → marked z a b ≡ true → Holds z a b
@@ -55,63 +54,87 @@ limit_apart z R m n need x h p = record {
 pub no_apart : (z : Grid) (R : ℕ → ℕ → Type 0) (m n : Graph) → Lacks z (AreStarts m n) → (j : ℕ) → j ≤ length (rows_of z) → IsApartBy R m n z j → ⊥
 no_apart z R m n lacks j l p = lacks (λ c d t. first_marked z j c d l (p.starts c d t.first t.second))
 
--- what a final first state needs
-pub past_one : (z : Grid) (front rest : Graph) (a b s old : ℕ) (result : Option ℕ) → final_at front a ≡ true → rest.start ≡ Some s → IsNeed z (IsPair s b) old result → IsNeed z (IsPastOne front rest a b) old result
-past_one z front rest a b s old None f e need = lacks_as z (λ c d t. record { final = f; starts = rw t.first e; same = t.second }) need
-past_one z front rest a b s old (Some new) f e need = raises_as z old new (λ c d t. record { final = f; starts = rw t.first e; same = t.second }) (λ c d t. record { first = same c s (sym t.starts ∙ e); second = t.same }) need
-  where
-    same : (x y : ℕ) → Some x ≡ Some y → x ≡ y
-    same x y q = cc
+-- what a row leads to, and the rows one after another
+pub row_closed : (y z : Grid) (R : ℕ → ℕ → Type 0) (m n : Graph) (a o p q r : ℕ) → Raises y (InRow y a (Drifts m n a)) o p → Raises z (InRow y a (Strides R m n a)) q r → (b : ℕ) → marked y a b ≡ true → LeadsWithin R m n y z a b
+row_closed y z R m n a o p q r h g b e = record {
+  drifts = λ c d t. h.there c d (record { partner = b; there = e; leads = t });
+  strides = λ c d t. g.there c d (record { partner = b; there = e; leads = t });
+}
 
--- one pair more of the third set
-past_here : (front rest : Graph) (z : Grid) (x y s r : ℕ) → marked z x y ≡ true → IsPastOne front rest x y s r → IsPastMiddle front rest (Marked (marked z)) s r
-past_here front rest z x y s r e t = record { state = x; within = rw t.same e; final = t.final; starts = t.starts }
+pub drifts_out : (y z : Grid) (R : ℕ → ℕ → Type 0) (m n : Graph) (a : ℕ) → Lacks y (InRow y a (Drifts m n a)) → ((b : ℕ) → marked y a b ≡ true → LeadsWithin R m n y z a b) → ⊥
+drifts_out y z R m n a lacks each = lacks (λ c d t. (each t.partner t.there).drifts c d t.leads)
 
-pub past_next : (s : CutSets) (front rest : Graph) (a from x y mid new : ℕ) → IsFirstFrom s.middles a from (x, y) → Raises s.rests (IsPastBefore front rest s.middles a from) 0 mid → Raises s.rests (IsPastOne front rest x y) mid new → Raises s.rests (IsPastBefore front rest s.middles x (y + 1)) 0 new
-past_next s front rest a from x y mid new first h g = raises_then s.rests 0 mid new split left right h g
+pub strides_out : (y z : Grid) (R : ℕ → ℕ → Type 0) (m n : Graph) (a : ℕ) → Lacks z (InRow y a (Strides R m n a)) → ((b : ℕ) → marked y a b ≡ true → LeadsWithin R m n y z a b) → ⊥
+strides_out y z R m n a lacks each = lacks (λ c d t. (each t.partner t.there).strides c d t.leads)
+
+pub rows_more : (y : Grid) (P : ℕ → ℕ → Type 0) (a : ℕ) → ((x b : ℕ) → x < a → marked y x b ≡ true → P x b) → ((b : ℕ) → marked y a b ≡ true → P a b) → (x b : ℕ) → x < a + 1 → marked y x b ≡ true → P x b
+rows_more y P a before here x b l e = elim (cases_eq x a) [
+  | inl q ↦ rw q (here b (rw q at e))
+  | inr q ↦ before x b (omega arith) e
+]
+
+pub rows_all : (y : Grid) (P : ℕ → ℕ → Type 0) (high wide a : ℕ) → IsSized high wide y → high ≤ a → ((x b : ℕ) → x < a → marked y x b ≡ true → P x b) → EachPair y P
+rows_all y P high wide a sized l each x b e = let k = marked_within high wide y x b sized e in each x b (omega (arith, k.0)) e
+
+-- the rows of the third set, one after another
+pub past_begun : (y z : Grid) (front rest : Graph) → Raises z (IsPastBelow front rest y 0) 0 0
+past_begun y z front rest = raises_none z 0 (λ c d t. absurd (omega (arith, t.before)))
+
+pub past_row : (y z : Grid) (front : Graph) (a s old : ℕ) (result : Option ℕ) → final_at front a ≡ true → IsNeed z (InRow y a (IsPair s)) old result → IsNeed z (IsPastRow front y a s) old result
+past_row y z front a s old None f need = lacks_as z (λ c d t. record { final = f; first = t.leads.first; there = rw t.leads.second t.there }) need
+past_row y z front a s old (Some new) f need = raises_as z old new (λ c d t. record { final = f; first = t.leads.first; there = rw t.leads.second t.there }) (λ c d t. record { partner = d; there = t.there; leads = record { first = t.first; second = refl } }) need
+
+pub past_no_row : (y z : Grid) (front : Graph) (a s old : ℕ) → final_at front a ≡ false → Raises z (IsPastRow front y a s) old old
+past_no_row y z front a s old f = raises_none z old (λ c d t. true≢false (sym t.final ∙ f))
+
+pub past_next : (y z : Grid) (front rest : Graph) (a s mid new : ℕ) → rest.start ≡ Some s → Raises z (IsPastBelow front rest y a) 0 mid → Raises z (IsPastRow front y a s) mid new → Raises z (IsPastBelow front rest y (a + 1)) 0 new
+past_next y z front rest a s mid new e h g = raises_then z 0 mid new split left right h g
   where
-    split : (c d : ℕ) → IsPastBefore front rest s.middles x (y + 1) c d → IsPastBefore front rest s.middles a from c d ⊎ IsPastOne front rest x y c d
-    split c d t = elim t.before [
-      | inl l ↦ inl (record { state = t.state; before = first.least t.state d t.within (inl l); within = t.within; final = t.final; starts = t.starts })
-      | inr p ↦ elim (cases_lt d y) [
-        | inl l ↦ inl (record { state = t.state; before = first.least t.state d t.within (inr (p.0, l)); within = t.within; final = t.final; starts = t.starts })
-        | inr l ↦ inr (record { final = rw p.0 at t.final; starts = t.starts; same = omega (arith, p.1) })
-      ]
+    same : (u v : ℕ) → Some u ≡ Some v → u ≡ v
+    same u v q = cc
+
+    split : (c d : ℕ) → IsPastBelow front rest y (a + 1) c d → IsPastBelow front rest y a c d ⊎ IsPastRow front y a s c d
+    split c d t = elim (cases_eq t.state a) [
+      | inl q ↦ inr (record { final = rw q at t.final; first = same c s (sym t.starts ∙ e); there = rw q at t.within })
+      | inr q ↦ inl (record { state = t.state; before = omega (arith, t.before); within = t.within; final = t.final; starts = t.starts })
     ]
 
-    left : (c d : ℕ) → IsPastBefore front rest s.middles a from c d → IsPastBefore front rest s.middles x (y + 1) c d
-    left c d t = record { state = t.state; before = earlier_on s.middles a from x y first t.state d t.before; within = t.within; final = t.final; starts = t.starts }
+    left : (c d : ℕ) → IsPastBelow front rest y a c d → IsPastBelow front rest y (a + 1) c d
+    left c d t = record { state = t.state; before = omega (arith, t.before); within = t.within; final = t.final; starts = t.starts }
 
-    right : (c d : ℕ) → IsPastOne front rest x y c d → IsPastBefore front rest s.middles x (y + 1) c d
-    right c d t = record { state = x; before = inr (refl, omega (arith, t.same)); within = rw t.same first.there; final = t.final; starts = t.starts }
+    right : (c d : ℕ) → IsPastRow front y a s c d → IsPastBelow front rest y (a + 1) c d
+    right c d t = record { state = a; before = omega arith; within = t.there; final = t.final; starts = rw t.first e }
 
-pub past_begun : (s : CutSets) (front rest : Graph) → Raises s.rests (IsPastBefore front rest s.middles 0 0) 0 0
-past_begun s front rest = raises_none s.rests 0 (λ c d t. elim t.before [ inl l ↦ omega arith | inr p ↦ omega (arith, p.1) ])
+pub past_lacks : (y z : Grid) (front rest : Graph) (a s : ℕ) → rest.start ≡ Some s → Lacks z (IsPastRow front y a s) → Lacks z (IsPastMiddle front rest (Marked (marked y)))
+past_lacks y z front rest a s e = lacks_as z (λ c d t. record { state = a; within = t.there; final = t.final; starts = rw t.first e })
 
-pub past_fails : (s : CutSets) (R : ℕ → ℕ → Type 0) (front rest : Graph) (x y old : ℕ) → marked s.middles x y ≡ true → IsOneNeed R front rest s x y old None → IsMiddleNeed R front rest s None
-past_fails s R front rest x y old e need each = lacks_as s.rests (λ c d t. past_here front rest s.middles x y c d e t) (need (each x y e))
-
-pub past_done : (s : CutSets) (R : ℕ → ℕ → Type 0) (front rest : Graph) (a from need : ℕ) → ((x y : ℕ) → marked s.middles x y ≡ true → IsEarlier x y a from) → ((x y : ℕ) → IsEarlier x y a from → marked s.middles x y ≡ true → IsMiddlePair R front rest s x y) → Raises s.rests (IsPastBefore front rest s.middles a from) 0 need → IsMiddleNeed R front rest s (Some need)
-past_done s R front rest a from need seen each h = (each_seen s.middles (IsMiddlePair R front rest s) a from seen each, raises_as s.rests 0 need (λ c d t. record { state = t.state; within = t.within; final = t.final; starts = t.starts }) (λ c d t. record { state = t.state; before = seen t.state d t.within; within = t.within; final = t.final; starts = t.starts }) h)
+pub past_done : (y z : Grid) (front rest : Graph) (high wide a need : ℕ) → IsSized high wide y → high ≤ a → Raises z (IsPastBelow front rest y a) 0 need → Raises z (IsPastMiddle front rest (Marked (marked y))) 0 need
+past_done y z front rest high wide a need sized l = raises_as z 0 need (λ c d t. record { state = t.state; within = t.within; final = t.final; starts = t.starts }) (λ c d t. let k = marked_within high wide y t.state d sized t.within in record { state = t.state; before = omega (arith, k.0); within = t.within; final = t.final; starts = t.starts })
 
 -- what four right sets say of each pair
 pub clear_starts : (s : CutSets) (R : ℕ → ℕ → Type 0) (front rest : Graph) (Z : ℕ → ℕ → Type 0) → IsClear R front rest (Holds s.fronts) (Holds s.pauses) (Holds s.middles) Z → (c d : ℕ) → AreStarts front front c d → marked s.fronts c d ≡ true
 clear_starts s R front rest Z p c d t = is_held s.fronts c d (p.starts c d t.first t.second)
 
-pub clear_fronts : (s : CutSets) (R : ℕ → ℕ → Type 0) (front rest : Graph) (Z : ℕ → ℕ → Type 0) → IsClear R front rest (Holds s.fronts) (Holds s.pauses) (Holds s.middles) Z → EachPair s.fronts (IsFrontPair R front rest s)
+pub clear_fronts : (s : CutSets) (R : ℕ → ℕ → Type 0) (front rest : Graph) (Z : ℕ → ℕ → Type 0) → IsClear R front rest (Holds s.fronts) (Holds s.pauses) (Holds s.middles) Z → EachPair s.fronts (LeadsWithin R front front s.fronts s.fronts)
 clear_fronts s R front rest Z p a b e = record {
-  leads = λ c d t. is_held s.fronts c d (p.closed1 a b c d (held s.fronts a b e) t);
-  past = λ f r k. is_held s.pauses b r (p.to0 a b r (held s.fronts a b e) f k);
+  drifts = λ c d t. is_held s.fronts c d (p.closed1 a b c d (held s.fronts a b e) (inl t));
+  strides = λ c d t. is_held s.fronts c d (p.closed1 a b c d (held s.fronts a b e) (inr t));
 }
 
-pub clear_pauses : (s : CutSets) (R : ℕ → ℕ → Type 0) (front rest : Graph) (Z : ℕ → ℕ → Type 0) → IsClear R front rest (Holds s.fronts) (Holds s.pauses) (Holds s.middles) Z → EachPair s.pauses (IsPausePair R front rest s)
+pub clear_turned : (s : CutSets) (R : ℕ → ℕ → Type 0) (front rest : Graph) (Z : ℕ → ℕ → Type 0) → IsClear R front rest (Holds s.fronts) (Holds s.pauses) (Holds s.middles) Z → EachPair s.fronts (IsTurned front rest s.pauses)
+clear_turned s R front rest Z p a b e = λ f r k. is_held s.pauses b r (p.to0 a b r (held s.fronts a b e) f k)
+
+pub clear_pauses : (s : CutSets) (R : ℕ → ℕ → Type 0) (front rest : Graph) (Z : ℕ → ℕ → Type 0) → IsClear R front rest (Holds s.fronts) (Holds s.pauses) (Holds s.middles) Z → EachPair s.pauses (LeadsWithin R front rest s.pauses s.middles)
 clear_pauses s R front rest Z p a b e = record {
   drifts = λ c d t. is_held s.pauses c d (p.drifts0 a b c d (held s.pauses a b e) t);
   strides = λ c d t. is_held s.middles c d (p.to2 a b c d (held s.pauses a b e) t);
 }
 
-pub clear_middles : (s : CutSets) (R : ℕ → ℕ → Type 0) (front rest : Graph) (Z : ℕ → ℕ → Type 0) → IsClear R front rest (Holds s.fronts) (Holds s.pauses) (Holds s.middles) Z → EachPair s.middles (IsMiddlePair R front rest s)
-clear_middles s R front rest Z p a b e = λ c d t. is_held s.middles c d (p.closed2 a b c d (held s.middles a b e) t)
+pub clear_middles : (s : CutSets) (R : ℕ → ℕ → Type 0) (front rest : Graph) (Z : ℕ → ℕ → Type 0) → IsClear R front rest (Holds s.fronts) (Holds s.pauses) (Holds s.middles) Z → EachPair s.middles (LeadsWithin R front rest s.middles s.middles)
+clear_middles s R front rest Z p a b e = record {
+  drifts = λ c d t. is_held s.middles c d (p.closed2 a b c d (held s.middles a b e) (inl t));
+  strides = λ c d t. is_held s.middles c d (p.closed2 a b c d (held s.middles a b e) (inr t));
+}
 
 pub clear_past : (s : CutSets) (R : ℕ → ℕ → Type 0) (front rest : Graph) (j : ℕ) → j ≤ length (rows_of s.rests) → IsClearBy R front rest s j → (c d : ℕ) → IsPastMiddle front rest (Marked (marked s.middles)) c d → marked s.rests c d ≡ true
 clear_past s R front rest j l p c d t = first_marked s.rests j c d l (p.to3 t.state d c (held s.middles t.state d t.within) t.final t.starts)
@@ -125,14 +148,19 @@ clear_limit s R front rest need x h p = record {
   none = λ a b k f g. p.none a b (below_first s.rests x a b k) f g;
 }
 
-pub limit_clear : (s : CutSets) (R : ℕ → ℕ → Type 0) (front rest : Graph) (low need x : ℕ) → Raises s.fronts (AreStarts front front) 0 low → EachPair s.fronts (IsFrontPair R front rest s) → EachPair s.pauses (IsPausePair R front rest s) → EachPair s.middles (IsMiddlePair R front rest s) → Raises s.rests (IsPastMiddle front rest (Marked (marked s.middles))) 0 need → IsLimit R rest rest s.rests need x → IsClearBy R front rest s (rank s.rests x)
-limit_clear s R front rest low need x starts fronts pauses middles h p = record {
+-- a pair leads to pairs of its set
+leads_in : (z : Grid) (R : ℕ → ℕ → Type 0) (m n : Graph) (a b c d : ℕ) → LeadsWithin R m n z z a b → Leads R m n a b c d → marked z c d ≡ true
+leads_in z R m n a b c d h (inl t) = h.drifts c d t
+leads_in z R m n a b c d h (inr t) = h.strides c d t
+
+pub limit_clear : (s : CutSets) (R : ℕ → ℕ → Type 0) (front rest : Graph) (low need x : ℕ) → Raises s.fronts (AreStarts front front) 0 low → EachPair s.fronts (LeadsWithin R front front s.fronts s.fronts) → EachPair s.fronts (IsTurned front rest s.pauses) → EachPair s.pauses (LeadsWithin R front rest s.pauses s.middles) → EachPair s.middles (LeadsWithin R front rest s.middles s.middles) → Raises s.rests (IsPastMiddle front rest (Marked (marked s.middles))) 0 need → IsLimit R rest rest s.rests need x → IsClearBy R front rest s (rank s.rests x)
+limit_clear s R front rest low need x starts fronts turned pauses middles h p = record {
   starts = λ a b e f. held s.fronts a b (starts.there a b (record { first = e; second = f }));
-  closed1 = λ a b c d k t. held s.fronts c d ((fronts a b (is_held s.fronts a b k)).leads c d t);
-  to0 = λ a b r k f e. held s.pauses b r ((fronts a b (is_held s.fronts a b k)).past f r e);
+  closed1 = λ a b c d k t. held s.fronts c d (leads_in s.fronts R front front a b c d (fronts a b (is_held s.fronts a b k)) t);
+  to0 = λ a b r k f e. held s.pauses b r (turned a b (is_held s.fronts a b k) f r e);
   drifts0 = λ a b c d k t. held s.pauses c d ((pauses a b (is_held s.pauses a b k)).drifts c d t);
   to2 = λ a b c d k t. held s.middles c d ((pauses a b (is_held s.pauses a b k)).strides c d t);
-  closed2 = λ a b c d k t. held s.middles c d (middles a b (is_held s.middles a b k) c d t);
+  closed2 = λ a b c d k t. held s.middles c d (leads_in s.middles R front rest a b c d (middles a b (is_held s.middles a b k)) t);
   to3 = λ b r q k f e.
       let t : IsPastMiddle front rest (Marked (marked s.middles)) q r = record { state = b; within = is_held s.middles b r k; final = f; starts = e } in
       below_first s.rests x q r (record { there = h.there q r t; before = omega (arith, h.within q r t, p.order) });

@@ -6,8 +6,8 @@ pub mod LeadLemmas
 pub mod LeastLemmas
 pub mod LongestLemmas
 pub mod NeedLemmas
+pub mod PartnerLemmas
 pub mod ReachedLemmas
 pub mod RowLemmas
 pub mod SeedLemmas
-pub mod WalkLemmas
 pub mod WordLemmas

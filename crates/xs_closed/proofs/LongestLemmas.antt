@@ -1,14 +1,15 @@
 -- The greatest number of leading rows that are right.
 use Rattle.std.proofs.Common.{◌≡◌, ℕ, zero, suc, ◌+◌, ◌<◌, ◌≤◌, ◌⊎◌, Bool, true, false, ◌&&◌, max, List, [], ◌∷◌, ◌++◌, length, get_or, take, drop, Option, Some, None, refl, sym, ap, subst, ◌∙◌, inl, inr, arith, length-append}
+use Rattle.std.specs.Prelude.{IfSome}
 use Rattle.std.proofs.lemmas.Bool.{cases_eq, cases_lt, true≢false, and_from}
 use Rattle.std.proofs.lemmas.List.{take_more, take_all, take_at, take-append-drop, take-take, get_or-take, get_or_past, length-take}
 use Rattle.xs_auto.specs.Nets.{Graph, final_at}
-use Rattle.xs_meet.specs.Closed.{Leads}
+use Rattle.xs_meet.specs.Closed.{Drifts, Strides, Leads}
 use Rattle.xs_closed.specs.Rows.{Grid, Row, marked, IsSized, IsNext, holds, places, row_then, rows_from, rows_of}
 use Rattle.xs_closed.specs.Longest.{First, IsGreatestIn}
-use Rattle.xs_closed.specs.Testing.{Keeps, Raises, IsNeed, RowKeeps, RowHasNoFinals, IsRowNeed, IsPairNeed, IsBelow, IsLimit, rank, IsBest, IsRead}
+use Rattle.xs_closed.specs.Testing.{IsPair, InRow, Keeps, Raises, Lacks, IsNeed, RowHasNoFinals, IsRowNeed, IsBelow, IsLimit, rank, IsBest, IsRead}
 use Rattle.xs_closed.proofs.RowLemmas.{holds_rows}
-use Rattle.xs_closed.proofs.NeedLemmas.{raises_pair, raises_none, raises_then, raises_as, lacks_as}
+use Rattle.xs_closed.proofs.NeedLemmas.{raises_none, raises_then, lacks_as}
 
 -- a marked pair is inside the table
 pub marked_within : (high wide : ℕ) (z : Grid) (a b : ℕ) → IsSized high wide z → marked z a b ≡ true → (a < high) × (b < wide)
@@ -20,68 +21,46 @@ marked_within high wide z a b sized e = elim (cases_lt a high) [
   ]
 ]
 
+pub next_within : (high wide : ℕ) (z : Grid) (a from : ℕ) (result : Option ℕ) → IsSized high wide z → IfSome result (IsNext z a from) → IfSome result (λ b. b < wide)
+next_within high wide z a from None sized next = next
+next_within high wide z a from (Some b) sized next = (marked_within high wide z a b sized next.there).1
+
 pub past_marks : (high wide : ℕ) (z : Grid) (a b : ℕ) → IsSized high wide z → wide ≤ b → marked z a b ≡ false
 past_marks high wide z a b sized l = elim (cases_lt a high) [
   | inr m ↦ ap (λ r. get_or r b false) (get_or_past z.rows a [] (omega (arith, sized.high)))
   | inl m ↦ get_or_past (get_or z.rows a []) b false (omega (arith, sized.even a m))
 ]
 
-not_both : (x y : Bool) → (x && y) ≡ false → x ≡ true → y ≡ true → ⊥
-not_both x y e f g = true≢false (sym (and_from x y f g) ∙ e)
+-- a row, then its empty moves, then its edges and calls
+pub row_fails : (z : Grid) (R : ℕ → ℕ → Type 0) (m n : Graph) (a old : ℕ) {T : ℕ → ℕ → Type 0} → ((c d : ℕ) → T c d → InRow z a (Keeps R m n a) c d) → Lacks z T → IsRowNeed R m n z a old None
+row_fails z R m n a old to lacks = λ none. lacks_as z to lacks
 
--- what one pair needs
-pub kept : (z : Grid) (R : ℕ → ℕ → Type 0) (m n : Graph) (a b old : ℕ) (result : Option ℕ) → marked z a b ≡ true → (final_at m a && final_at n b) ≡ false → IsNeed z (Leads R m n a b) (max old (a + 1)) result → IsPairNeed R m n z a b old result
-kept z R m n a b old None e f need = λ k. lacks_as z (λ c d t. inr t) need
-kept z R m n a b old (Some new) e f need =
-    (not_both (final_at m a) (final_at n b) f, raises_then z old (max old (a + 1)) new (λ c d t. t) (λ c d t. inl t) (λ c d t. inr t) (raises_pair z a b old (max old (a + 1)) e (omega arith) (omega arith) (λ x l k. omega arith)) need)
+pub kept_in : (z : Grid) (R : ℕ → ℕ → Type 0) (m n : Graph) (a c d : ℕ) → InRow z a (IsPair a) c d → InRow z a (Keeps R m n a) c d
+kept_in z R m n a c d t = record { partner = t.partner; there = t.there; leads = inl t.leads }
 
-pub both_final : (z : Grid) (R : ℕ → ℕ → Type 0) (m n : Graph) (a b old : ℕ) → (final_at m a && final_at n b) ≡ true → IsPairNeed R m n z a b old None
-both_final z R m n a b old e k = absurd (both (final_at m a) (final_at n b) e k)
-  where
-    both : (x y : Bool) → (x && y) ≡ true → (x ≡ true → y ≡ true → ⊥) → ⊥
-    both true true e k = k refl refl
-    both true false e k = true≢false (sym e)
-    both false y e k = true≢false (sym e)
+pub drifts_in : (z : Grid) (R : ℕ → ℕ → Type 0) (m n : Graph) (a c d : ℕ) → InRow z a (Drifts m n a) c d → InRow z a (Keeps R m n a) c d
+drifts_in z R m n a c d t = record { partner = t.partner; there = t.there; leads = inr (inl t.leads) }
 
--- the partners of a row, one after another
-pub row_begun : (z : Grid) (R : ℕ → ℕ → Type 0) (m n : Graph) (a old : ℕ) → Raises z (RowKeeps R m n z a 0) old old
-row_begun z R m n a old = raises_none z old (λ c d t. absurd (omega (arith, t.before)))
+pub strides_in : (z : Grid) (R : ℕ → ℕ → Type 0) (m n : Graph) (a c d : ℕ) → InRow z a (Strides R m n a) c d → InRow z a (Keeps R m n a) c d
+strides_in z R m n a c d t = record { partner = t.partner; there = t.there; leads = inr (inr t.leads) }
 
-pub row_finals : (z : Grid) (R : ℕ → ℕ → Type 0) (m n : Graph) (a from b old new : ℕ) → IsNext z a from b → RowHasNoFinals m n z a from → IsPairNeed R m n z a b old (Some new) → RowHasNoFinals m n z a (b + 1)
-row_finals z R m n a from b old new next none need = λ p l e f g. elim (cases_lt p from) [
-  | inl k ↦ none p k e f g
-  | inr k ↦ elim (cases_eq p b) [
-    | inl q ↦ need.0 f (rw q at g)
-    | inr q ↦ true≢false (sym e ∙ next.least p k (omega arith))
-  ]
-]
+kinds : (z : Grid) (R : ℕ → ℕ → Type 0) (m n : Graph) (a c d b : ℕ) → marked z a b ≡ true → Keeps R m n a b c d → (InRow z a (IsPair a) c d ⊎ InRow z a (Drifts m n a) c d) ⊎ InRow z a (Strides R m n a) c d
+kinds z R m n a c d b e (inl x) = inl (inl (record { partner = b; there = e; leads = x }))
+kinds z R m n a c d b e (inr (inl x)) = inl (inr (record { partner = b; there = e; leads = x }))
+kinds z R m n a c d b e (inr (inr x)) = inr (record { partner = b; there = e; leads = x })
 
-pub row_more : (z : Grid) (R : ℕ → ℕ → Type 0) (m n : Graph) (a from b old mid new : ℕ) → IsNext z a from b → Raises z (RowKeeps R m n z a from) old mid → IsPairNeed R m n z a b mid (Some new) → Raises z (RowKeeps R m n z a (b + 1)) old new
-row_more z R m n a from b old mid new next h need = raises_then z old mid new split left right h need.1
-  where
-    split : (c d : ℕ) → RowKeeps R m n z a (b + 1) c d → RowKeeps R m n z a from c d ⊎ Keeps R m n a b c d
-    split c d t = elim (cases_lt t.partner from) [
-      | inl k ↦ inl (record { partner = t.partner; before = k; there = t.there; keeps = t.keeps })
-      | inr k ↦ elim (cases_eq t.partner b) [
-        | inl q ↦ inr (rw q at t.keeps)
-        | inr q ↦ absurd (true≢false (sym t.there ∙ next.least t.partner k (omega (arith, t.before))))
-      ]
-    ]
+fronts : (z : Grid) (R : ℕ → ℕ → Type 0) (m n : Graph) (a c d : ℕ) → InRow z a (IsPair a) c d ⊎ InRow z a (Drifts m n a) c d → InRow z a (Keeps R m n a) c d
+fronts z R m n a c d (inl t) = kept_in z R m n a c d t
+fronts z R m n a c d (inr t) = drifts_in z R m n a c d t
 
-    left : (c d : ℕ) → RowKeeps R m n z a from c d → RowKeeps R m n z a (b + 1) c d
-    left c d t = record { partner = t.partner; before = omega (arith, t.before, next.order); there = t.there; keeps = t.keeps }
+pub row_done : (z : Grid) (R : ℕ → ℕ → Type 0) (m n : Graph) (a old kept drifted : ℕ) (result : Option ℕ) → RowHasNoFinals m n z a → Raises z (InRow z a (IsPair a)) old kept → Raises z (InRow z a (Drifts m n a)) kept drifted → IsNeed z (InRow z a (Strides R m n a)) drifted result → IsRowNeed R m n z a old result
+row_done z R m n a old kept drifted None none h g k = row_fails z R m n a old (strides_in z R m n a) k
+row_done z R m n a old kept drifted (Some new) none h g k =
+    let front : Raises z (λ c d. InRow z a (IsPair a) c d ⊎ InRow z a (Drifts m n a) c d) old drifted = raises_then z old kept drifted (λ c d t. t) (λ c d t. inl t) (λ c d t. inr t) h g in
+    (none, raises_then z old drifted new (λ c d t. kinds z R m n a c d t.partner t.there t.leads) (fronts z R m n a) (strides_in z R m n a) front k)
 
-    right : (c d : ℕ) → Keeps R m n a b c d → RowKeeps R m n z a (b + 1) c d
-    right c d t = record { partner = b; before = omega arith; there = next.there; keeps = t }
-
-pub row_fails : (z : Grid) (R : ℕ → ℕ → Type 0) (m n : Graph) (a from b top old mid : ℕ) → IsNext z a from b → b < top → IsPairNeed R m n z a b mid None → IsRowNeed R m n z a top old None
-row_fails z R m n a from b top old mid next l need = λ none. lacks_as z (λ c d t. record { partner = b; before = l; there = next.there; keeps = t }) (need (λ f g. none b l next.there f g))
-
-pub row_done : (z : Grid) (R : ℕ → ℕ → Type 0) (m n : Graph) (a from high top old new : ℕ) → IsSized high top z → ((b : ℕ) → from ≤ b → marked z a b ≡ false) → RowHasNoFinals m n z a from → Raises z (RowKeeps R m n z a from) old new → IsRowNeed R m n z a top old (Some new)
-row_done z R m n a from high top old new sized past none need = (λ b l e f g. none b (before b e) e f g, raises_as z old new (λ c d t. record { partner = t.partner; before = (marked_within high top z a t.partner sized t.there).1; there = t.there; keeps = t.keeps }) (λ c d t. record { partner = t.partner; before = before t.partner t.there; there = t.there; keeps = t.keeps }) need)
-  where
-    before : (b : ℕ) → marked z a b ≡ true → b < from
-    before b e = elim (cases_lt b from) [ inl l ↦ l | inr l ↦ absurd (true≢false (sym e ∙ past b l)) ]
+pub row_empty : (z : Grid) (R : ℕ → ℕ → Type 0) (m n : Graph) (a old : ℕ) → ((b : ℕ) → marked z a b ≡ false) → IsRowNeed R m n z a old (Some old)
+row_empty z R m n a old none = (λ b e f g. true≢false (sym e ∙ none b), raises_none z old (λ c d t. true≢false (sym t.there ∙ none t.partner)))
 
 -- the rows, one after another
 pub read_begun : (z : Grid) (R : ℕ → ℕ → Type 0) (m n : Graph) (low : ℕ) → IsRead R m n z low 0 low
@@ -93,14 +72,14 @@ read_begun z R m n low = record {
   least = λ y l m k. m;
 }
 
-pub read_more : (z : Grid) (R : ℕ → ℕ → Type 0) (m n : Graph) (low high wide a need new : ℕ) → IsSized high wide z → IsRead R m n z low a need → IsRowNeed R m n z a wide need (Some new) → IsRead R m n z low (a + 1) new
-read_more z R m n low high wide a need new sized h row = record {
+pub read_more : (z : Grid) (R : ℕ → ℕ → Type 0) (m n : Graph) (low a need new : ℕ) → IsRead R m n z low a need → IsRowNeed R m n z a need (Some new) → IsRead R m n z low (a + 1) new
+read_more z R m n low a need new h row = record {
   there = λ x b c d l e t. elim (cases_eq x a) [
     | inl q ↦ row.1.there c d (of_row x b c d q e t)
     | inr q ↦ h.there x b c d (omega arith) e t
   ];
   none = λ x b l e f g. elim (cases_eq x a) [
-    | inl q ↦ row.0 b (marked_within high wide z x b sized e).1 (rw q at e) (rw q at f) g
+    | inl q ↦ row.0 b (rw q at e) (rw q at f) g
     | inr q ↦ h.none x b (omega arith) e f g
   ];
   order = omega (arith, h.order, row.1.order);
@@ -108,14 +87,14 @@ read_more z R m n low high wide a need new sized h row = record {
     | inl q ↦ row.1.within c d (of_row x b c d q e t)
     | inr q ↦ omega (arith, h.within x b c d (omega arith) e t, row.1.order)
   ];
-  least = λ y l o k. row.1.least y (h.least y (omega arith) o (λ x b c d p e t. k x b c d (omega arith) e t)) (λ c d t. elim t.keeps [
+  least = λ y l o k. row.1.least y (h.least y (omega arith) o (λ x b c d p e t. k x b c d (omega arith) e t)) (λ c d t. elim t.leads [
     | inl same ↦ omega (arith, same.first)
     | inr leads ↦ k a t.partner c d (omega arith) t.there leads
   ]);
 }
   where
-    of_row : (x b c d : ℕ) → x ≡ a → marked z x b ≡ true → Leads R m n x b c d → RowKeeps R m n z a wide c d
-    of_row x b c d q e t = record { partner = b; before = (marked_within high wide z x b sized e).1; there = rw q at e; keeps = inr (rw q at t) }
+    of_row : (x b c d : ℕ) → x ≡ a → marked z x b ≡ true → Leads R m n x b c d → InRow z a (Keeps R m n a) c d
+    of_row x b c d q e t = record { partner = b; there = rw q at e; leads = inr (rw q at t) }
 
 -- a number of rows is right where it is no less than what those rows need
 limit_need : (z : Grid) (R : ℕ → ℕ → Type 0) (m n : Graph) (low x need : ℕ) → IsRead R m n z low x need → IsLimit R m n z low x → need ≤ x
@@ -129,9 +108,9 @@ need_limit z R m n low x need h l = record {
 }
 
 -- no greater number is right where a row is not
-pub fails_on : (z : Grid) (R : ℕ → ℕ → Type 0) (m n : Graph) (low a wide old y : ℕ) → IsRowNeed R m n z a wide old None → a < y → IsLimit R m n z low y → ⊥
-fails_on z R m n low a wide old y need l limit =
-    need (λ b o e f g. limit.none a b (record { there = e; before = l }) f g) (λ c d t. elim t.keeps [
+pub fails_on : (z : Grid) (R : ℕ → ℕ → Type 0) (m n : Graph) (low a old y : ℕ) → IsRowNeed R m n z a old None → a < y → IsLimit R m n z low y → ⊥
+fails_on z R m n low a old y need l limit =
+    need (λ b e f g. limit.none a b (record { there = e; before = l }) f g) (λ c d t. elim t.leads [
       | inl same ↦ rw (same.first, same.second) t.there
       | inr leads ↦ (limit.closed a t.partner c d (record { there = t.there; before = l }) leads).there
     ])

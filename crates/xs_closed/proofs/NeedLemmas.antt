@@ -6,10 +6,9 @@ use Rattle.std.proofs.lemmas.List.Elements.{Contains-append_left, Contains-push,
 use Rattle.xs_class.specs.Classes.{Has}
 use Rattle.xs_auto.specs.declared.call.Call.{Call}
 use Rattle.xs_auto.specs.declared.edge.Edge.{Edge}
-use Rattle.xs_auto.specs.Nets.{Graph, edges_of, moves_of, calls_of}
-use Rattle.xs_meet.specs.Closed.{Drifts, Strides, Leads}
+use Rattle.xs_auto.specs.Nets.{Graph, edges_of, calls_of}
 use Rattle.xs_closed.specs.Rows.{Grid, marked}
-use Rattle.xs_closed.specs.Testing.{OneOf, IsPair, Meets, Joins, Raises, Lacks, IsNeed}
+use Rattle.xs_closed.specs.Testing.{OneOf, IsPair, Meets, Joins, StridesBy, Raises, Lacks, IsNeed}
 
 -- a pair that is marked is needed
 pub raises_pair : (z : Grid) (a b old new : ℕ) → marked z a b ≡ true → old ≤ new → a < new → ((x : ℕ) → old ≤ x → a < x → new ≤ x) → Raises z (IsPair a b) old new
@@ -107,56 +106,20 @@ pub joins_need : (z : Grid) (R : ℕ → ℕ → Type 0) (h k : Call) (old : ℕ
 joins_need z R h k old None r need = lacks_as z (λ c d t. record { related = r; to_first = sym t.first; to_second = sym t.second }) need
 joins_need z R h k old (Some new) r need = raises_as z old new (λ c d t. record { related = r; to_first = sym t.first; to_second = sym t.second }) (λ c d t. record { first = sym t.to_first; second = sym t.to_second }) need
 
--- the moves of the first net, and then those of the second
-drift_split : (m n : Graph) (a b : ℕ) (xs ys : List ℕ) → xs ≡ moves_of m a → ys ≡ moves_of n b → (c d : ℕ) → Drifts m n a b c d → OneOf xs (λ x. IsPair x b) c d ⊎ OneOf ys (λ y. IsPair a y) c d
-drift_split m n a b xs ys e f c d (inl x) = inl (record { item = c; has = rw e x.move; leads = record { first = refl; second = x.still } })
-drift_split m n a b xs ys e f c d (inr y) = inr (record { item = d; has = rw f y.move; leads = record { first = y.still; second = refl } })
+-- what leads from edges and then from calls
+stride_split : (R : ℕ → ℕ → Type 0) (n : Graph) (b : ℕ) (es fs : List Edge) (hs ks : List Call) → fs ≡ edges_of n b → ks ≡ calls_of n b → (c d : ℕ) → StridesBy R es hs n b c d → OneOf es (λ e. OneOf fs (Meets e)) c d ⊎ OneOf hs (λ h. OneOf ks (Joins R h)) c d
+stride_split R n b es fs hs ks r r' c d (inl t) = inl (record { item = t.item; has = t.has; leads = record { item = t.leads.item; has = rw r t.leads.has; leads = t.leads.leads } })
+stride_split R n b es fs hs ks r r' c d (inr t) = inr (record { item = t.item; has = t.has; leads = record { item = t.leads.item; has = rw r' t.leads.has; leads = t.leads.leads } })
 
-drift_left : (m n : Graph) (a b : ℕ) (xs : List ℕ) → xs ≡ moves_of m a → (c d : ℕ) → OneOf xs (λ x. IsPair x b) c d → Drifts m n a b c d
-drift_left m n a b xs e c d t = inl (record { move = rw (t.leads.first, ← e) t.has; still = t.leads.second })
+stride_left : (R : ℕ → ℕ → Type 0) (n : Graph) (b : ℕ) (es fs : List Edge) (hs : List Call) → fs ≡ edges_of n b → (c d : ℕ) → OneOf es (λ e. OneOf fs (Meets e)) c d → StridesBy R es hs n b c d
+stride_left R n b es fs hs r c d t = inl (record { item = t.item; has = t.has; leads = record { item = t.leads.item; has = rw (← r) t.leads.has; leads = t.leads.leads } })
 
-drift_right : (m n : Graph) (a b : ℕ) (ys : List ℕ) → ys ≡ moves_of n b → (c d : ℕ) → OneOf ys (λ y. IsPair a y) c d → Drifts m n a b c d
-drift_right m n a b ys f c d t = inr (record { move = rw (t.leads.second, ← f) t.has; still = t.leads.first })
+stride_right : (R : ℕ → ℕ → Type 0) (n : Graph) (b : ℕ) (es : List Edge) (hs ks : List Call) → ks ≡ calls_of n b → (c d : ℕ) → OneOf hs (λ h. OneOf ks (Joins R h)) c d → StridesBy R es hs n b c d
+stride_right R n b es hs ks r c d t = inr (record { item = t.item; has = t.has; leads = record { item = t.leads.item; has = rw (← r) t.leads.has; leads = t.leads.leads } })
 
-pub drift_first : (z : Grid) (m n : Graph) (a b : ℕ) (xs : List ℕ) → xs ≡ moves_of m a → Lacks z (OneOf xs (λ x. IsPair x b)) → Lacks z (Drifts m n a b)
-drift_first z m n a b xs e = lacks_as z (drift_left m n a b xs e)
+pub stride_first : (z : Grid) (R : ℕ → ℕ → Type 0) (n : Graph) (b : ℕ) (es fs : List Edge) (hs : List Call) → fs ≡ edges_of n b → Lacks z (OneOf es (λ e. OneOf fs (Meets e))) → Lacks z (StridesBy R es hs n b)
+stride_first z R n b es fs hs r = lacks_as z (stride_left R n b es fs hs r)
 
-pub drift_then : (z : Grid) (m n : Graph) (a b : ℕ) (xs ys : List ℕ) (old mid : ℕ) (result : Option ℕ) → xs ≡ moves_of m a → ys ≡ moves_of n b → Raises z (OneOf xs (λ x. IsPair x b)) old mid → IsNeed z (OneOf ys (λ y. IsPair a y)) mid result → IsNeed z (Drifts m n a b) old result
-drift_then z m n a b xs ys old mid None e f h g = lacks_as z (drift_right m n a b ys f) g
-drift_then z m n a b xs ys old mid (Some new) e f h g = raises_then z old mid new (drift_split m n a b xs ys e f) (drift_left m n a b xs e) (drift_right m n a b ys f) h g
-
--- the edges of both nets, and then their calls
-stride_split : (R : ℕ → ℕ → Type 0) (m n : Graph) (a b : ℕ) (es fs : List Edge) (hs ks : List Call) → es ≡ edges_of m a → fs ≡ edges_of n b → hs ≡ calls_of m a → ks ≡ calls_of n b → (c d : ℕ) → Strides R m n a b c d → OneOf es (λ e. OneOf fs (Meets e)) c d ⊎ OneOf hs (λ h. OneOf ks (Joins R h)) c d
-stride_split R m n a b es fs hs ks q r q' r' c d (inl x) =
-    let y = x.1 in
-    inl (record { item = y.first; has = rw q y.of_first; leads = record { item = y.second; has = rw r y.of_second; leads = record { symbol = x.0; takes_first = y.takes_first; takes_second = y.takes_second; to_first = y.to_first; to_second = y.to_second } } })
-stride_split R m n a b es fs hs ks q r q' r' c d (inr x) =
-    let y = x.2 in
-    inr (record { item = y.first; has = rw q' y.of_first; leads = record { item = y.second; has = rw r' y.of_second; leads = record { related = rw (y.over_first, y.over_second) y.related; to_first = y.to_first; to_second = y.to_second } } })
-
-stride_left : (R : ℕ → ℕ → Type 0) (m n : Graph) (a b : ℕ) (es fs : List Edge) → es ≡ edges_of m a → fs ≡ edges_of n b → (c d : ℕ) → OneOf es (λ e. OneOf fs (Meets e)) c d → Strides R m n a b c d
-stride_left R m n a b es fs q r c d t =
-    let u = t.leads in
-    let w = u.leads in
-    inl (w.symbol, record { first = t.item; second = u.item; of_first = rw (← q) t.has; of_second = rw (← r) u.has; takes_first = w.takes_first; takes_second = w.takes_second; to_first = w.to_first; to_second = w.to_second })
-
-stride_right : (R : ℕ → ℕ → Type 0) (m n : Graph) (a b : ℕ) (hs ks : List Call) → hs ≡ calls_of m a → ks ≡ calls_of n b → (c d : ℕ) → OneOf hs (λ h. OneOf ks (Joins R h)) c d → Strides R m n a b c d
-stride_right R m n a b hs ks q r c d t =
-    let u = t.leads in
-    let w = u.leads in
-    inr (t.item.group, u.item.group, record { first = t.item; second = u.item; of_first = rw (← q) t.has; of_second = rw (← r) u.has; over_first = refl; over_second = refl; related = w.related; to_first = w.to_first; to_second = w.to_second })
-
-pub stride_first : (z : Grid) (R : ℕ → ℕ → Type 0) (m n : Graph) (a b : ℕ) (es fs : List Edge) → es ≡ edges_of m a → fs ≡ edges_of n b → Lacks z (OneOf es (λ e. OneOf fs (Meets e))) → Lacks z (Strides R m n a b)
-stride_first z R m n a b es fs q r = lacks_as z (stride_left R m n a b es fs q r)
-
-pub stride_then : (z : Grid) (R : ℕ → ℕ → Type 0) (m n : Graph) (a b : ℕ) (es fs : List Edge) (hs ks : List Call) (old mid : ℕ) (result : Option ℕ) → es ≡ edges_of m a → fs ≡ edges_of n b → hs ≡ calls_of m a → ks ≡ calls_of n b → Raises z (OneOf es (λ e. OneOf fs (Meets e))) old mid → IsNeed z (OneOf hs (λ h. OneOf ks (Joins R h))) mid result → IsNeed z (Strides R m n a b) old result
-stride_then z R m n a b es fs hs ks old mid None q r q' r' h g = lacks_as z (stride_right R m n a b hs ks q' r') g
-stride_then z R m n a b es fs hs ks old mid (Some new) q r q' r' h g = raises_then z old mid new (stride_split R m n a b es fs hs ks q r q' r') (stride_left R m n a b es fs q r) (stride_right R m n a b hs ks q' r') h g
-
--- empty moves, and then edges and calls
-pub lead_first : (z : Grid) (R : ℕ → ℕ → Type 0) (m n : Graph) (a b : ℕ) → Lacks z (Drifts m n a b) → Lacks z (Leads R m n a b)
-lead_first z R m n a b = lacks_as z (λ c d t. inl t)
-
-pub lead_then : (z : Grid) (R : ℕ → ℕ → Type 0) (m n : Graph) (a b old mid : ℕ) (result : Option ℕ) → Raises z (Drifts m n a b) old mid → IsNeed z (Strides R m n a b) mid result → IsNeed z (Leads R m n a b) old result
-lead_then z R m n a b old mid None h g = lacks_as z (λ c d t. inr t) g
-lead_then z R m n a b old mid (Some new) h g = raises_then z old mid new (λ c d t. t) (λ c d t. inl t) (λ c d t. inr t) h g
+pub stride_then : (z : Grid) (R : ℕ → ℕ → Type 0) (n : Graph) (b : ℕ) (es fs : List Edge) (hs ks : List Call) (old mid : ℕ) (result : Option ℕ) → fs ≡ edges_of n b → ks ≡ calls_of n b → Raises z (OneOf es (λ e. OneOf fs (Meets e))) old mid → IsNeed z (OneOf hs (λ h. OneOf ks (Joins R h))) mid result → IsNeed z (StridesBy R es hs n b) old result
+stride_then z R n b es fs hs ks old mid None r r' h g = lacks_as z (stride_right R n b es hs ks r') g
+stride_then z R n b es fs hs ks old mid (Some new) r r' h g = raises_then z old mid new (stride_split R n b es fs hs ks r r') (stride_left R n b es fs hs r) (stride_right R n b es hs ks r') h g

@@ -1,13 +1,14 @@
 -- A table of marks in words: reading, setting and finding bits.
-use Rattle.std.proofs.Common.{◌≡◌, ◌≢◌, ℕ, zero, suc, ◌+◌, ◌-◌, ◌*◌, ◌/◌, ◌%◌, ◌^◌, ◌<◌, ◌≤◌, Bool, true, false, not, nat_eq, List, [], ◌∷◌, ◌++◌, length, get_or, set, take, replicate, max, bit_and, bit_or, w64, refl, sym, ap, ◌∙◌, inl, inr, arith, length-set, get_or-set_same, get_or-set_other}
-use Rattle.std.specs.Int.{bit_at, trailing_zeros}
-use Rattle.std.proofs.lemmas.Bool.{cases_eq, cases_lt}
+use Rattle.std.proofs.Common.{◌≡◌, ◌≢◌, ℕ, zero, suc, ◌+◌, ◌-◌, ◌*◌, ◌/◌, ◌%◌, ◌^◌, ◌<◌, ◌≤◌, Bool, true, false, not, nat_eq, List, [], ◌∷◌, ◌++◌, length, get_or, set, take, replicate, max, min, leb, ◌↔◌, bit_and, bit_or, w64, refl, sym, ap, ◌∙◌, inl, inr, arith, length-set, get_or-set_same, get_or-set_other}
+use Rattle.std.specs.Prelude.{IsTrue}
+use Rattle.std.specs.Int.{bit_at, bit_not, trailing_zeros}
+use Rattle.std.proofs.lemmas.Bool.{cases_eq, cases_lt, eqb-true, true≢false, leb-true, le-leb}
 use Rattle.std.proofs.lemmas.List.{get_or-replicate, length-replicate, get_or_past}
 use Rattle.std.proofs.lemmas.List.FromFn.{length-map-range_with_len, get_or-map-range_with_len, fill_by_all}
-use Rattle.std.proofs.lemmas.Nat.{mul-add-lt, same_from_place, shr-shr, shr_le}
-use Rattle.std.proofs.lemmas.Nat.Bits.{bit_at-zero, bit_at-lt, bit_at_set_same, bit_at_set_other, shr_and_one, bit_at-trailing_zeros, bit_at_above}
+use Rattle.std.proofs.lemmas.Nat.{mul-add-lt, and_le_l, same_from_place, shr-shr, shr_le}
+use Rattle.std.proofs.lemmas.Nat.Bits.{bit_at-zero, bit_at-lt, bit_at_and, bit_at_not, bit_at_set_same, bit_at_set_other, shr_and_one, bit_at-trailing_zeros, bit_at_above}
 use Rattle.xs_closed.specs.Rows.{Grid, blank, marked, IsSized, Marks}
-use Rattle.xs_closed.specs.Words.{bit_in, row_in, grid_of, IsPacked, IsFirstBit}
+use Rattle.xs_closed.specs.Words.{bit_in, row_in, grid_of, IsPacked, IsFirstBit, IsFirstLack}
 
 -- a row of the table
 row_read : (high wide step : ℕ) (words : List ℕ) (a : ℕ) → a < high → get_or (grid_of high wide step words).rows a [] ≡ row_in wide step words a
@@ -157,3 +158,74 @@ low_bit word r fits some =
 -- the columns of one word: what a bit of it says of a pair
 pub lane_bit : (step : ℕ) (words : List ℕ) (a at b x : ℕ) → b / 64 ≡ at / 64 → bit_at (get_or words (a * step + at / 64) 0) (b % 64) ≡ x → bit_in step words a b ≡ nat_eq x 1
 lane_bit step words a at b x e f = rw (e, f) refl
+
+-- a word that lacks no bit of another, and one that lacks some: the lowest
+one_left : (p q r s : ℕ) → r ≡ min p q → q ≡ 1 - s → r ≡ 0 → p ≡ 1 → s < 2 → s ≡ 1
+one_left p q r s e f g h l = omega arith
+
+one_lacks : (p q r s : ℕ) → r ≡ min p q → q ≡ 1 - s → r ≡ 1 → p < 2 → (p ≡ 1) × (s ≡ 0)
+one_lacks p q r s e f g l = (omega arith, omega arith)
+
+bit_kept : (x y i : ℕ) → y < 2 ^ 64 → i < 64 → bit_at (bit_and x (bit_not w64 y)) i ≡ 0 → bit_at x i ≡ 1 → bit_at y i ≡ 1
+bit_kept x y i fits l none h = one_left (bit_at x i) (bit_at (bit_not w64 y) i) (bit_at (bit_and x (bit_not w64 y)) i) (bit_at y i) (bit_at_and x (bit_not w64 y) i) (bit_at_not w64 y i fits l) none h (bit_at-lt y i)
+
+bit_lost : (x y i : ℕ) → y < 2 ^ 64 → i < 64 → bit_at (bit_and x (bit_not w64 y)) i ≡ 1 → (bit_at x i ≡ 1) × (bit_at y i ≡ 0)
+bit_lost x y i fits l some = one_lacks (bit_at x i) (bit_at (bit_not w64 y) i) (bit_at (bit_and x (bit_not w64 y)) i) (bit_at y i) (bit_at_and x (bit_not w64 y) i) (bit_at_not w64 y i fits l) some (bit_at-lt x i)
+
+-- bits of two words as marks of two rows
+lane_kept : (step other : ℕ) (ws vs : List ℕ) (a c at b x y : ℕ) → b / 64 ≡ at / 64 → x ≡ get_or ws (a * step + at / 64) 0 → y ≡ get_or vs (c * other + at / 64) 0 → (bit_at x (b % 64) ≡ 1 → bit_at y (b % 64) ≡ 1) → bit_in step ws a b ≡ true → bit_in other vs c b ≡ true
+lane_kept step other ws vs a c at b x y e f g h t = lane_bit other vs c at b 1 e (ap (λ w. bit_at w (b % 64)) (sym g) ∙ h (eqb-true (bit_at x (b % 64)) 1 (sym (lane_bit step ws a at b (bit_at x (b % 64)) e (ap (λ w. bit_at w (b % 64)) (sym f))) ∙ t)))
+
+-- rows whose bits are kept are kept
+pub row_kept : (high below wide step other : ℕ) (ws vs : List ℕ) (a c : ℕ) → a < high → c < below → ((b : ℕ) → b < wide → bit_in step ws a b ≡ true → bit_in other vs c b ≡ true) → (b : ℕ) → marked (grid_of high wide step ws) a b ≡ true → marked (grid_of below wide other vs) c b ≡ true
+row_kept high below wide step other ws vs a c l m kept b e = elim (cases_lt b wide) [
+  | inl p ↦ pair_read below wide other vs c b m p ∙ kept b p (sym (pair_read high wide step ws a b l p) ∙ e)
+  | inr p ↦ absurd (true≢false (sym e ∙ past_wide high wide step ws a b p))
+]
+
+-- one word more of two rows
+pub word_kept : (step other : ℕ) (ws vs : List ℕ) (a c at x y : ℕ) → at % 64 ≡ 0 → x ≡ get_or ws (a * step + at / 64) 0 → y ≡ get_or vs (c * other + at / 64) 0 → ((i : ℕ) → i < 64 → bit_at x i ≡ 1 → bit_at y i ≡ 1) → ((b : ℕ) → b < at → bit_in step ws a b ≡ true → bit_in other vs c b ≡ true) → (b : ℕ) → b < at + 64 → bit_in step ws a b ≡ true → bit_in other vs c b ≡ true
+word_kept step other ws vs a c at x y whole f g none below b l = elim (cases_lt b at) [
+  | inl m ↦ below b m
+  | inr m ↦ lane_kept step other ws vs a c at b x y (omega arith) f g (none (b % 64) (omega arith))
+]
+
+-- the lowest bit that a word lacks, where it is past the width, and where it is not
+lacks_past : (step other : ℕ) (ws vs : List ℕ) (a c at wide x y i : ℕ) → at % 64 ≡ 0 → x ≡ get_or ws (a * step + at / 64) 0 → y ≡ get_or vs (c * other + at / 64) 0 → IsFirstLack x y i → wide ≤ at + i → ((b : ℕ) → b < at → bit_in step ws a b ≡ true → bit_in other vs c b ≡ true) → (b : ℕ) → b < wide → bit_in step ws a b ≡ true → bit_in other vs c b ≡ true
+lacks_past step other ws vs a c at wide x y i whole f g first past below b l = elim (cases_lt b at) [
+  | inl m ↦ below b m
+  | inr m ↦ lane_kept step other ws vs a c at b x y (omega (arith, first.within)) f g (first.least (b % 64) (omega (arith, first.within)))
+]
+
+lacks_here : (high below wide step other : ℕ) (ws vs : List ℕ) (a c at x y i : ℕ) → a < high → c < below → at % 64 ≡ 0 → x ≡ get_or ws (a * step + at / 64) 0 → y ≡ get_or vs (c * other + at / 64) 0 → IsFirstLack x y i → at + i < wide → ((b : ℕ) → marked (grid_of high wide step ws) a b ≡ true → marked (grid_of below wide other vs) c b ≡ true) → ⊥
+lacks_here high below wide step other ws vs a c at x y i l m whole f g first near kept =
+    let e : (at + i) / 64 ≡ at / 64 = omega (arith, first.within) in
+    let r : (at + i) % 64 ≡ i = omega (arith, first.within) in
+    let there : bit_in step ws a (at + i) ≡ true = lane_bit step ws a at (at + i) 1 e (ap (λ w. bit_at w ((at + i) % 64)) (sym f) ∙ ap (bit_at x) r ∙ first.there) in
+    let gone : bit_in other vs c (at + i) ≡ false = lane_bit other vs c at (at + i) 0 e (ap (λ w. bit_at w ((at + i) % 64)) (sym g) ∙ ap (bit_at y) r ∙ first.gone) in
+    true≢false (sym (kept (at + i) (pair_read high wide step ws a (at + i) l near ∙ there)) ∙ pair_read below wide other vs c (at + i) m near ∙ gone)
+
+-- the answer where a word lacks a bit
+pub lack_tells : (high below wide step other : ℕ) (ws vs : List ℕ) (a c at x y i : ℕ) → a < high → c < below → at % 64 ≡ 0 → x ≡ get_or ws (a * step + at / 64) 0 → y ≡ get_or vs (c * other + at / 64) 0 → IsFirstLack x y i → ((b : ℕ) → b < at → bit_in step ws a b ≡ true → bit_in other vs c b ≡ true) → IsTrue (leb wide (at + i)) ↔ ((b : ℕ) → marked (grid_of high wide step ws) a b ≡ true → marked (grid_of below wide other vs) c b ≡ true)
+lack_tells high below wide step other ws vs a c at x y i l m whole f g first kept =
+    (λ e. row_kept high below wide step other ws vs a c l m (lacks_past step other ws vs a c at wide x y i whole f g first (leb-true wide (at + i) e) kept), λ p. elim (cases_lt (at + i) wide) [ inl near ↦ absurd (lacks_here high below wide step other ws vs a c at x y i l m whole f g first near p) | inr past ↦ le-leb wide (at + i) past ])
+
+-- the bits of two words
+positive : (n : ℕ) → (n ≡ 0 → ⊥) → 0 < n
+positive zero some = absurd (some refl)
+positive (suc n) some = omega arith
+
+pub first_lacking : (x y : ℕ) → x < 2 ^ 64 → y < 2 ^ 64 → (bit_and x (bit_not w64 y) ≡ 0 → ⊥) → IsFirstLack x y (trailing_zeros w64 (bit_and x (bit_not w64 y)))
+first_lacking x y big fits none =
+    let some : 0 < bit_and x (bit_not w64 y) = positive (bit_and x (bit_not w64 y)) none in
+    let low = bit_at-trailing_zeros w64 (bit_and x (bit_not w64 y)) some (omega (arith, and_le_l x (bit_not w64 y))) in
+    let lost = bit_lost x y (trailing_zeros w64 (bit_and x (bit_not w64 y))) fits low.0 low.1 in
+    record {
+      there = lost.0;
+      gone = lost.1;
+      within = low.0;
+      least = λ j l. bit_kept x y j fits (let m : trailing_zeros w64 (bit_and x (bit_not w64 y)) < 64 = low.0 in omega arith) (low.2 j l);
+    }
+
+pub none_lacking : (x y : ℕ) → y < 2 ^ 64 → bit_and x (bit_not w64 y) ≡ 0 → (i : ℕ) → i < 64 → bit_at x i ≡ 1 → bit_at y i ≡ 1
+none_lacking x y fits none i l = bit_kept x y i fits l (ap (λ w. bit_at w i) none ∙ bit_at-zero i)

@@ -4,7 +4,7 @@ use Rattle.std.specs.List.{Contains}
 use Rattle.xs_class.specs.Classes.{Has}
 use Rattle.xs_auto.specs.declared.call.Call.{Call}
 use Rattle.xs_auto.specs.declared.edge.Edge.{Edge}
-use Rattle.xs_auto.specs.Nets.{Graph, final_at}
+use Rattle.xs_auto.specs.Nets.{Graph, final_at, edges_of, calls_of}
 use Rattle.xs_meet.specs.Closed.{Marked, Drifts, Strides, Leads, IsClosed, HasNoFinals}
 use Rattle.xs_closed.specs.Rows.{Grid, marked, rows_from}
 use Rattle.xs_closed.specs.Least.{IsPastMiddle}
@@ -56,26 +56,32 @@ abbrev pub IsNeed : Grid → (ℕ → ℕ → Type 0) → ℕ → Option ℕ →
 IsNeed z T old None = Lacks z T
 IsNeed z T old (Some new) = Raises z T old new
 
--- a pair of row a whose second state is below a bound keeps or leads to the pair of c and d
-pub record RowKeeps (R : ℕ → ℕ → Type 0) (m n : Graph) (z : Grid) (a top c d : ℕ) : Type 0 where
+-- a marked pair of row a leads by F to the pair of c and d
+pub record InRow (z : Grid) (a : ℕ) (F : ℕ → ℕ → ℕ → Type 0) (c d : ℕ) : Type 0 where
+  pub partner : ℕ
+  pub there : marked z a partner ≡ true
+  pub leads : F partner c d
+
+-- one whose second state is below a bound does
+pub record InRowBelow (z : Grid) (a top : ℕ) (F : ℕ → ℕ → ℕ → Type 0) (c d : ℕ) : Type 0 where
   pub partner : ℕ
   pub before : partner < top
   pub there : marked z a partner ≡ true
-  pub keeps : Keeps R m n a partner c d
+  pub leads : F partner c d
 
--- no such pair is of two final states
-abbrev pub RowHasNoFinals : Graph → Graph → Grid → ℕ → ℕ → Type 0
-RowHasNoFinals m n z a top = (b : ℕ) → b < top → marked z a b ≡ true → final_at m a ≡ true → final_at n b ≡ true → ⊥
+-- edges and calls, and those of a state of the second net, lead to the pair of c and d
+abbrev pub StridesBy : (ℕ → ℕ → Type 0) → List Edge → List Call → Graph → ℕ → ℕ → ℕ → Type 0
+StridesBy R edges calls n b c d = OneOf edges (λ e. OneOf (edges_of n b) (Meets e)) c d ⊎ OneOf calls (λ h. OneOf (calls_of n b) (Joins R h)) c d
 
--- what row a needs, or none where it leads out of the set or has a pair of two final states
-abbrev pub IsRowNeed : (ℕ → ℕ → Type 0) → Graph → Graph → Grid → ℕ → ℕ → ℕ → Option ℕ → Type 0
-IsRowNeed R m n z a top old None = RowHasNoFinals m n z a top → Lacks z (RowKeeps R m n z a top)
-IsRowNeed R m n z a top old (Some new) = RowHasNoFinals m n z a top × Raises z (RowKeeps R m n z a top) old new
+-- no pair of row a is of two final states
+abbrev pub RowHasNoFinals : Graph → Graph → Grid → ℕ → Type 0
+RowHasNoFinals m n z a = (b : ℕ) → marked z a b ≡ true → final_at m a ≡ true → final_at n b ≡ true → ⊥
 
--- the same of one pair
-abbrev pub IsPairNeed : (ℕ → ℕ → Type 0) → Graph → Graph → Grid → ℕ → ℕ → ℕ → Option ℕ → Type 0
-IsPairNeed R m n z a b old None = (final_at m a ≡ true → final_at n b ≡ true → ⊥) → Lacks z (Keeps R m n a b)
-IsPairNeed R m n z a b old (Some new) = (final_at m a ≡ true → final_at n b ≡ true → ⊥) × Raises z (Keeps R m n a b) old new
+-- what row a needs with all that leads from it, or none where it leads out of the set or has a pair of
+-- two final states
+abbrev pub IsRowNeed : (ℕ → ℕ → Type 0) → Graph → Graph → Grid → ℕ → ℕ → Option ℕ → Type 0
+IsRowNeed R m n z a old None = RowHasNoFinals m n z a → Lacks z (InRow z a (Keeps R m n a))
+IsRowNeed R m n z a old (Some new) = RowHasNoFinals m n z a × Raises z (InRow z a (Keeps R m n a)) old new
 
 -- the pair is marked, and its first state is below x
 pub record IsBelow (z : Grid) (x a b : ℕ) : Type 0 where
@@ -114,56 +120,29 @@ pub record IsRead (R : ℕ → ℕ → Type 0) (m n : Graph) (z : Grid) (low x n
   pub within : (a b c d : ℕ) → a < x → marked z a b ≡ true → Leads R m n a b c d → c < need
   pub least : (y : ℕ) → x ≤ y → low ≤ y → ((a b c d : ℕ) → a < x → marked z a b ≡ true → Leads R m n a b c d → c < y) → need ≤ y
 
--- the pair of x and y comes before that of a and b
-abbrev pub IsEarlier : ℕ → ℕ → ℕ → ℕ → Type 0
-IsEarlier x y a b = (x < a) ⊎ ((x ≡ a) × (y < b))
-
--- the first marked pair from that of a and b on
-pub record IsFirstFrom (z : Grid) (a b : ℕ) (p : ℕ × ℕ) : Type 0 where
-  pub there : marked z p.0 p.1 ≡ true
-  pub order : IsEarlier p.0 p.1 a b → ⊥
-  pub least : (x y : ℕ) → marked z x y ≡ true → IsEarlier x y p.0 p.1 → IsEarlier x y a b
-
 -- each marked pair is as P says
 abbrev pub EachPair : Grid → (ℕ → ℕ → Type 0) → Type 0
 EachPair z P = (a b : ℕ) → marked z a b ≡ true → P a b
 
--- a pair of the first set of a cut leads to pairs of it, and beside a final state to a pair of the
--- second
-pub record IsFrontPair (R : ℕ → ℕ → Type 0) (front rest : Graph) (s : CutSets) (a b : ℕ) : Type 0 where
-  pub leads : (c d : ℕ) → Leads R front front a b c d → marked s.fronts c d ≡ true
-  pub past : final_at front a ≡ true → (r : ℕ) → rest.start ≡ Some r → marked s.pauses b r ≡ true
+-- the pair leads to pairs of y by empty moves, and to pairs of z by edges or calls
+pub record LeadsWithin (R : ℕ → ℕ → Type 0) (m n : Graph) (y z : Grid) (a b : ℕ) : Type 0 where
+  pub drifts : (c d : ℕ) → Drifts m n a b c d → marked y c d ≡ true
+  pub strides : (c d : ℕ) → Strides R m n a b c d → marked z c d ≡ true
 
--- a pair of the second set leads to pairs of it by empty moves, and to pairs of the third by edges or
--- calls
-pub record IsPausePair (R : ℕ → ℕ → Type 0) (front rest : Graph) (s : CutSets) (a b : ℕ) : Type 0 where
-  pub drifts : (c d : ℕ) → Drifts front rest a b c d → marked s.pauses c d ≡ true
-  pub strides : (c d : ℕ) → Strides R front rest a b c d → marked s.middles c d ≡ true
+-- where the first state is final, the set has the second one beside the start of the rest
+abbrev pub IsTurned : Graph → Graph → Grid → ℕ → ℕ → Type 0
+IsTurned front rest z a b = final_at front a ≡ true → (r : ℕ) → rest.start ≡ Some r → marked z b r ≡ true
 
--- a pair of the third set leads to pairs of it
-abbrev pub IsMiddlePair : (ℕ → ℕ → Type 0) → Graph → Graph → CutSets → ℕ → ℕ → Type 0
-IsMiddlePair R front rest s a b = (c d : ℕ) → Leads R front rest a b c d → marked s.middles c d ≡ true
-
--- a first state that is final leads past it, to the start of the rest beside the second state
-pub record IsPastOne (front rest : Graph) (a b s r : ℕ) : Type 0 where
+-- a marked pair of row a, whose state is final, leads past it: to s beside the second state
+pub record IsPastRow (front : Graph) (z : Grid) (a s c d : ℕ) : Type 0 where
   pub final : final_at front a ≡ true
-  pub starts : rest.start ≡ Some s
-  pub same : r ≡ b
+  pub first : c ≡ s
+  pub there : marked z a d ≡ true
 
--- a marked pair before that of a and b does
-pub record IsPastBefore (front rest : Graph) (z : Grid) (a b s r : ℕ) : Type 0 where
+-- a marked pair of a row below x does, and s is the start of the rest
+pub record IsPastBelow (front rest : Graph) (z : Grid) (x s r : ℕ) : Type 0 where
   pub state : ℕ
-  pub before : IsEarlier state r a b
+  pub before : state < x
   pub within : marked z state r ≡ true
   pub final : final_at front state ≡ true
   pub starts : rest.start ≡ Some s
-
--- what the third set needs of the fourth, or none where it leads out of it or out of itself
-abbrev pub IsMiddleNeed : (ℕ → ℕ → Type 0) → Graph → Graph → CutSets → Option ℕ → Type 0
-IsMiddleNeed R front rest s None = EachPair s.middles (IsMiddlePair R front rest s) → Lacks s.rests (IsPastMiddle front rest (Marked (marked s.middles)))
-IsMiddleNeed R front rest s (Some need) = EachPair s.middles (IsMiddlePair R front rest s) × Raises s.rests (IsPastMiddle front rest (Marked (marked s.middles))) 0 need
-
--- the same of one pair
-abbrev pub IsOneNeed : (ℕ → ℕ → Type 0) → Graph → Graph → CutSets → ℕ → ℕ → ℕ → Option ℕ → Type 0
-IsOneNeed R front rest s a b old None = IsMiddlePair R front rest s a b → Lacks s.rests (IsPastOne front rest a b)
-IsOneNeed R front rest s a b old (Some new) = IsMiddlePair R front rest s a b × Raises s.rests (IsPastOne front rest a b) old new

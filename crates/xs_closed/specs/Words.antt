@@ -30,3 +30,10 @@ pub record IsFirstBit (word from i : ℕ) : Type 0 where
   pub order : from ≤ i
   pub within : i < 64
   pub least : (j : ℕ) → from ≤ j → j < i → bit_at word j ≡ 0
+
+-- bit i is the lowest that is set in the word and not in the other
+pub record IsFirstLack (word other i : ℕ) : Type 0 where
+  pub there : bit_at word i ≡ 1
+  pub gone : bit_at other i ≡ 0
+  pub within : i < 64
+  pub least : (j : ℕ) → j < i → bit_at word j ≡ 1 → bit_at other j ≡ 1

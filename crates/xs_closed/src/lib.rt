@@ -4,7 +4,7 @@
 //!
 //! Such a set that has the two starts and no pair of two final states shows that the nets share no
 //! word; four such sets show that the nets of a cut do not overlap. Here the least sets are
-//! computed, by a search from the starts, and given sets are tested, pair by pair, without a search.
+//! computed, by a search from the starts, and given sets are tested, row by row, without a search.
 //! A set is a table of marks, a bit for each pair, or the list of its rows: each state that has a
 //! partner, with its partners.
 #![tactic(auto)]

@@ -1,3 +1,4 @@
+mod within;
 mod words;
 
 ghost use Rattle.std.specs.Prelude.{◌≡◌, ℕ, ◌<◌, ◌≤◌, length, not, false, IfSome, IfNone, OnOk};

@@ -1,5 +1,6 @@
 mod cut;
 mod longest;
+mod rows;
 mod steps;
 mod walk;
 
@@ -12,7 +13,7 @@ ghost use Rattle.xs_closed.specs.Longest.{IsGreatestIn, IsApartBy, IsClearBy, Ar
 ghost use Rattle.xs_closed.specs.Testing.{IsNeed};
 
 use crate::{CutSets, PairSet};
-use cut::{are_fronts, are_pauses, middles_need};
+use cut::{is_closed, is_turned, past_need};
 use longest::longest;
 use steps::pair_need;
 use xs_auto::Net;
@@ -30,7 +31,9 @@ fn start_need(m: &Net, n: &Net, set: &PairSet) -> Option<u64>
 /// How many leading rows of a set show that two nets share no word, at most, if any number does;
 /// `related` has the groups that may share a word.
 ///
-/// Takes time linear in the pairs of the set times what leads from them, and no memory.
+/// Takes time linear in the pairs of the set times what leads from them by edges, calls and empty
+/// moves of the second net, and in the words of its rows times the empty moves of the first; and no
+/// memory.
 pub fn longest_apart(related: &PairSet, m: &Net, n: &Net, set: &PairSet) -> Option<u32>
     requires sized { IsSized (states m.now) (states n.now) set.now }
     ensures { IsGreatestIn (length (rows_of set.now)) (IsApartBy (Marked (marked related.now)) m.now n.now set.now) result }
@@ -44,19 +47,25 @@ pub fn longest_apart(related: &PairSet, m: &Net, n: &Net, set: &PairSet) -> Opti
 /// How many leading rows of the last of the four sets of a cut show with the others that there is
 /// no overlap, at most, if any number does; `related` has the groups that may share a word.
 ///
-/// Takes time linear in the pairs of the sets times what leads from them, and no memory.
+/// Takes the time of `longest_apart` for each of the sets, and no memory.
 pub fn longest_clear(related: &PairSet, front: &Net, rest: &Net, sets: &CutSets) -> Option<u32>
     requires sized { AreSized front.now rest.now sets.now }
     ensures { IsGreatestIn (length (rows_of sets.now.rests)) (IsClearBy (Marked (marked related.now)) front.now rest.now sets.now) result }
 {
     start_need(front, front, &sets.fronts)?;
-    if !are_fronts(related, front, rest, sets) {
+    if !is_closed(related, front, front, &sets.fronts, &sets.fronts) {
         return None;
     }
-    if !are_pauses(related, front, rest, sets) {
+    if !is_turned(front, rest, &sets.fronts, &sets.pauses) {
         return None;
     }
-    match middles_need(related, front, rest, sets) {
+    if !is_closed(related, front, rest, &sets.pauses, &sets.middles) {
+        return None;
+    }
+    if !is_closed(related, front, rest, &sets.middles, &sets.middles) {
+        return None;
+    }
+    match past_need(front, rest, &sets.middles, &sets.rests) {
         Some(need) => longest(related, rest, rest, &sets.rests, need),
         None => None,
     }

@@ -2,57 +2,28 @@ ghost use Rattle.std.specs.Prelude.{◌≡◌, ◌+◌, ◌-◌, ◌^◌, ◌<�
 ghost use Rattle.xs_auto.specs.Nets.{states, final_at};
 ghost use Rattle.xs_meet.specs.Closed.{Marked};
 ghost use Rattle.xs_closed.specs.Rows.{marked, IsSized};
-ghost use Rattle.xs_closed.specs.Testing.{IsPairNeed, IsRowNeed, IsBest, rank};
+ghost use Rattle.xs_closed.specs.Testing.{IsRowNeed, IsBest, rank};
 
-use super::steps::lead_need;
-use super::walk::partner_from;
+use super::rows::{drifts_need, first_need, has_finals, strides_need};
 use crate::PairSet;
 use xs_auto::Net;
-
-/// Whether both states are final.
-fn are_final(m: &Net, n: &Net, a: u32, b: u32) -> bool
-    requires first { a < states m.now }
-    requires second { b < states n.now }
-    ensures { result ≡ final_at m.now a && final_at n.now b }
-{
-    m.is_final(a) && n.is_final(b)
-}
-
-/// What a pair of a set needs with all that leads from it; none also where both states are final.
-fn kept_need(
-    related: &PairSet,
-    m: &Net,
-    n: &Net,
-    set: &PairSet,
-    a: u32,
-    b: u32,
-    need: u64,
-) -> Option<u64>
-    requires first { a < states m.now }
-    requires second { b < states n.now }
-    requires there { marked set.now a b ≡ true }
-    ensures { IsPairNeed (Marked (marked related.now)) m.now n.now set.now a b need result }
-{
-    if are_final(m, n, a, b) {
-        return None;
-    }
-    lead_need(related, m, n, set, a, b, need.max(a as u64 + 1))
-}
 
 /// What the pairs of a row need with all that leads from them; none also where both states of one
 /// are final.
 fn row_need(related: &PairSet, m: &Net, n: &Net, set: &PairSet, a: u32, need: u64) -> Option<u64>
     requires first { a < states m.now }
     requires sized { IsSized (states m.now) (states n.now) set.now }
-    ensures { IsRowNeed (Marked (marked related.now)) m.now n.now set.now a (states n.now) need result }
+    ensures { IsRowNeed (Marked (marked related.now)) m.now n.now set.now a need result }
 {
-    let mut needed = need;
-    let mut from = 0;
-    'partners: while let Some(b) = partner_from(set, a, from) {
-        needed = kept_need(related, m, n, set, a, b, needed)?;
-        from = b as u64 + 1;
+    let Some(_) = set.next(a, 0) else {
+        return Some(need);
+    };
+    if has_finals(m, n, set, a) {
+        return None;
     }
-    Some(needed)
+    let kept = first_need(set, a, set, a, need)?;
+    let drifted = drifts_need(m, n, set, a, kept)?;
+    strides_need(related, m, n, set, set, a, drifted)
 }
 
 /// The count, where no more is needed than the rows before a, and else the best until then.

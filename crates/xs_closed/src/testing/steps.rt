@@ -1,8 +1,8 @@
 ghost use Rattle.std.specs.Prelude.{◌≡◌, ◌<◌};
-ghost use Rattle.xs_auto.specs.Nets.{states, edges_of, moves_of, calls_of};
-ghost use Rattle.xs_meet.specs.Closed.{Marked, Drifts, Strides, Leads};
+ghost use Rattle.xs_auto.specs.Nets.{states};
+ghost use Rattle.xs_meet.specs.Closed.{Marked};
 ghost use Rattle.xs_closed.specs.Rows.{marked};
-ghost use Rattle.xs_closed.specs.Testing.{IsNeed, IsPair, OneOf, Meets, Joins};
+ghost use Rattle.xs_closed.specs.Testing.{IsNeed, IsPair, OneOf, Meets, Joins, StridesBy};
 
 use crate::PairSet;
 use xs_auto::{Call, Edge, Net, first_common};
@@ -17,20 +17,9 @@ pub fn pair_need(set: &PairSet, c: u32, d: u32, need: u64) -> Option<u64>
     Some(need.max(c as u64 + 1))
 }
 
-/// What the pairs of each of these first states with one second state need.
-pub fn firsts_need(set: &PairSet, firsts: &[u32], d: u32, need: u64) -> Option<u64>
-    ensures { IsNeed set.now (OneOf firsts.now (λ c. IsPair c d)) need result }
-{
-    let mut need = need;
-    'firsts: for first in firsts {
-        need = pair_need(set, *first, d, need)?;
-    }
-    Some(need)
-}
-
 /// What the pairs of one first state with each of these second states need.
 pub fn seconds_need(set: &PairSet, c: u32, seconds: &[u32], need: u64) -> Option<u64>
-    ensures { IsNeed set.now (OneOf seconds.now (λ d. IsPair c d)) need result }
+    ensures { IsNeed set.now (OneOf seconds.now (IsPair c)) need result }
 {
     let mut need = need;
     'seconds: for second in seconds {
@@ -64,7 +53,7 @@ fn ends_need(set: &PairSet, edge: &Edge, others: &[Edge], need: u64) -> Option<u
 }
 
 /// What each of the edges needs with each of the others.
-pub fn edges_need(set: &PairSet, edges: &[Edge], others: &[Edge], need: u64) -> Option<u64>
+fn edges_need(set: &PairSet, edges: &[Edge], others: &[Edge], need: u64) -> Option<u64>
     ensures { IsNeed set.now (OneOf edges.now (λ e. OneOf others.now (Meets e))) need result }
 {
     let mut need = need;
@@ -102,7 +91,7 @@ fn partners_need(
 }
 
 /// What each of the calls needs with each of the others.
-pub fn calls_need(
+fn calls_need(
     related: &PairSet,
     set: &PairSet,
     calls: &[Call],
@@ -118,48 +107,19 @@ pub fn calls_need(
     Some(need)
 }
 
-/// What the empty moves of either net from a pair need.
-pub fn drift_need(m: &Net, n: &Net, set: &PairSet, a: u32, b: u32, need: u64) -> Option<u64>
-    requires first { a < states m.now }
-    requires second { b < states n.now }
-    ensures { IsNeed set.now (Drifts m.now n.now a b) need result }
-{
-    let need = firsts_need(set, m.moves(a), b, need)?;
-    seconds_need(set, a, n.moves(b), need)
-}
-
-/// What the edges and the calls of both nets from a pair need.
+/// What these edges and calls need with those of a state of the second net.
 pub fn stride_need(
     related: &PairSet,
-    m: &Net,
     n: &Net,
     set: &PairSet,
-    a: u32,
+    edges: &[Edge],
+    calls: &[Call],
     b: u32,
     need: u64,
 ) -> Option<u64>
-    requires first { a < states m.now }
-    requires second { b < states n.now }
-    ensures { IsNeed set.now (Strides (Marked (marked related.now)) m.now n.now a b) need result }
+    requires { b < states n.now }
+    ensures { IsNeed set.now (StridesBy (Marked (marked related.now)) edges.now calls.now n.now b) need result }
 {
-    let need = edges_need(set, m.edges(a), n.edges(b), need)?;
-    calls_need(related, set, m.calls(a), n.calls(b), need)
-}
-
-/// What all that leads from a pair needs.
-pub fn lead_need(
-    related: &PairSet,
-    m: &Net,
-    n: &Net,
-    set: &PairSet,
-    a: u32,
-    b: u32,
-    need: u64,
-) -> Option<u64>
-    requires first { a < states m.now }
-    requires second { b < states n.now }
-    ensures { IsNeed set.now (Leads (Marked (marked related.now)) m.now n.now a b) need result }
-{
-    let need = drift_need(m, n, set, a, b, need)?;
-    stride_need(related, m, n, set, a, b, need)
+    let need = edges_need(set, edges, n.edges(b), need)?;
+    calls_need(related, set, calls, n.calls(b), need)
 }

@@ -3,4 +3,4 @@ use Rattle.xs_closed.specs.Testing.{OneOf, IsPair, Raises}
 use Rattle.xs_closed.proofs.testing.steps.seconds_need.Given as goal
 
 abbrev pub invariant-seconds : goal.invariant-seconds
-invariant-seconds l = Raises l.set (OneOf (take l.second-index l.seconds) (λ d. IsPair l.c d)) l.fn.need l.need
+invariant-seconds l = Raises l.set (OneOf (take l.second-index l.seconds) (IsPair l.c)) l.fn.need l.need
