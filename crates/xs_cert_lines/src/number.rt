@@ -7,6 +7,7 @@ ghost use Rattle.xs_closed.specs.Rows.{has_number};
 ghost use Rattle.xs_cert_lines.specs.Numbers.{digit_at, number_after, kept_within, within_at, partner_at};
 
 /// The value of a decimal digit, if the byte is one.
+#[inline(always)]
 fn digit(byte: u8) -> Option<u32>
     ensures { result ≡ digit_at byte }
 {
@@ -39,6 +40,7 @@ fn zero_within(bytes: &[u8], at: usize, first: u32, end: u32) -> Option<(u32, us
 /// within bounds, and the place after them.
 ///
 /// It stops at the end that the number must be below, so that no product is too great.
+#[inline(always)]
 fn more_within(
     bytes: &[u8],
     start: usize,
@@ -70,6 +72,7 @@ fn more_within(
 
 /// The number at a place, in digits without a leading zero, where it is at least the first that may
 /// come and below the end, and the place after it.
+#[inline(always)]
 pub fn number_within(bytes: &[u8], start: usize, first: u32, end: u32) -> Option<(u32, usize)>
     requires { has_number (drop start bytes.now) 10 ≡ true }
     ensures value { option_map (λ r. (r.0, drop r.1 bytes.now)) result ≡ within_at first end (drop start bytes.now) }
@@ -84,6 +87,7 @@ pub fn number_within(bytes: &[u8], start: usize, first: u32, end: u32) -> Option
 }
 
 /// A space and such a number.
+#[inline(always)]
 pub fn partner(bytes: &[u8], start: usize, first: u32, end: u32) -> Option<(u32, usize)>
     requires { has_number (drop start bytes.now) 10 ≡ true }
     ensures value { option_map (λ r. (r.0, drop r.1 bytes.now)) result ≡ partner_at first end (drop start bytes.now) }

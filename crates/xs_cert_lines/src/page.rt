@@ -3,6 +3,7 @@ ghost use Rattle.std.specs.Prelude.{◌+◌, ◌<◌, ◌≤◌, [], ◌∷◌, 
 ghost use Rattle.xs_cert_lines.specs.Pages.{Puts};
 
 /// Puts a byte at a place, and gives the place after it.
+#[inline(always)]
 pub fn put(page: &mut [u8], at: usize, byte: u8) -> usize
     requires { at < length page.old }
     ensures { Puts page.old page.new at result (byte ∷ []) }
@@ -12,6 +13,7 @@ pub fn put(page: &mut [u8], at: usize, byte: u8) -> usize
 }
 
 /// Puts a number of one digit.
+#[inline(always)]
 fn put_one(page: &mut [u8], at: usize, number: u32) -> usize
     requires low { number < 10 }
     requires room { at + length (decimal number) ≤ length page.old }
@@ -21,6 +23,7 @@ fn put_one(page: &mut [u8], at: usize, number: u32) -> usize
 }
 
 /// Puts a number of two digits at most.
+#[inline(always)]
 fn put_two(page: &mut [u8], at: usize, number: u32) -> usize
     requires low { number < 100 }
     requires room { at + length (decimal number) ≤ length page.old }
@@ -34,6 +37,7 @@ fn put_two(page: &mut [u8], at: usize, number: u32) -> usize
 }
 
 /// Puts a number of three digits at most.
+#[inline(always)]
 fn put_three(page: &mut [u8], at: usize, number: u32) -> usize
     requires low { number < 1000 }
     requires room { at + length (decimal number) ≤ length page.old }
@@ -59,6 +63,7 @@ fn put_long(page: &mut [u8], at: usize, number: u32) -> usize
 }
 
 /// Puts a number in decimal digits: most have three of them or fewer.
+#[inline(always)]
 pub fn put_number(page: &mut [u8], at: usize, number: u32) -> usize
     requires { at + 10 ≤ length page.old }
     ensures text { Puts page.old page.new at result (decimal number) }
