@@ -1,7 +1,10 @@
 pub mod Pieces
 pub mod Numerals
+pub mod Digits
 pub mod Partners
 pub mod Marking
 pub mod Running
+pub mod Paging
 pub mod Writing
+pub mod Lanes
 pub mod Feeds

@@ -1,15 +1,17 @@
 -- Marking the partners of a row, one after another.
-use Rattle.std.proofs.Common.{◌≡◌, ℕ, suc, ◌+◌, ◌^◌, ◌<◌, Bool, true, false, ◌&&◌, ◌||◌, nat_eq, List, [], ◌∷◌, ◌++◌, length, Option, Some, None, decimal, refl, sym, ap, ◌∙◌, subst, arith, add-one, append_assoc, append-nil, eqb-true}
+use Rattle.std.proofs.Common.{◌≡◌, ℕ, suc, ◌+◌, ◌^◌, ◌<◌, ◌≤◌, Bool, true, false, ◌&&◌, ◌||◌, nat_eq, List, [], ◌∷◌, ◌++◌, length, Option, Some, None, decimal, refl, sym, ap, ◌∙◌, subst, inl, inr, arith, add-one, append_assoc, append-nil, eqb-true}
+use Rattle.std.proofs.lemmas.Bool.{cases_eq}
 use Rattle.std.specs.List.{All}
 use Rattle.std.proofs.lemmas.List.Elements.{All-head, All-tail}
-use Rattle.xs_class.proofs.Truth.{eq_self}
+use Rattle.xs_class.proofs.Truth.{eq_self, or_right, false_true}
 use Rattle.xs_class.proofs.Lists.{some_pair}
 use Rattle.xs_closed.specs.Rows.{Grid, Row, IsSized, Marks, Ascends, marked, has_number}
+use Rattle.xs_closed.specs.Lanes.{HasNoRow}
 use Rattle.xs_cert_lines.specs.Lines.{spaced, row_line}
 use Rattle.xs_cert_lines.specs.Numbers.{within_at, partner_at}
-use Rattle.xs_cert_lines.specs.Reading.{listed, ArePartners, HasPartners, MarksAll, IsRowAt, AddsRow}
+use Rattle.xs_cert_lines.specs.Reading.{listed, ArePartners, HasPartners, MarksIn, ReadsPartners, IsRowAt, AddsRow, IsSameSet}
 use Rattle.xs_cert_lines.proofs.Numerals.{within_found, within_read, partner_read}
-use Rattle.xs_cert_lines.proofs.Partners.{listed_ends}
+use Rattle.xs_cert_lines.proofs.Partners.{SameRests, listed_ends, last_skipped}
 
 none_pair : (x : ℕ × List ℕ) → ◌≡◌ {A = Option (ℕ × List ℕ)} None (Some x) → ⊥
 none_pair x e = cc
@@ -113,22 +115,71 @@ no_rest first high wide bytes state partners small at none r rest is =
     let e = some_pair state r.state partners (listed r.partners ++ 10 ∷ rest) (at ∙ state_read first high wide bytes r rest small is) in
     none rest (record { partners = r.partners; are = record { is = e.1; some = is.row.some; order = is.row.order; within = is.row.within } })
 
-pub row_added : (first high wide : ℕ) (old new : Grid) (bytes : List ℕ) (state : ℕ) (partners rest : List ℕ)
-    → high ≡ length old.rows → wide ≡ old.wide → Some (state, partners) ≡ within_at first high bytes → HasPartners 0 wide partners rest
-    → ((ps r : List ℕ) → ArePartners 0 old.wide partners ps r → MarksAll old new state ps)
+pub row_added : (first high : ℕ) (old new : Grid) (bytes : List ℕ) (state : ℕ) (partners rest : List ℕ)
+    → high ≡ length old.rows → Some (state, partners) ≡ within_at first high bytes → ReadsPartners old new state partners rest
     → AddsRow first old new bytes (state + 1) rest
-row_added first high wide old new bytes state partners rest high_is wide_is at has marks =
+row_added first high old new bytes state partners rest high_is at reads =
     let found = within_found first high bytes state partners (sym at) in
-    let are : ArePartners 0 old.wide partners has.partners rest = subst (λ k. ArePartners 0 k partners has.partners rest) wide_is has.are in
-    let row : Row = record { state = state; partners = has.partners } in
+    let row : Row = record { state = state; partners = reads.partners } in
     record {
       row = row;
       is = add-one state;
       at = record {
-        is = found.is ∙ ap (λ z. decimal state ++ z) are.is ∙ sym (line_is row rest);
+        is = found.is ∙ ap (λ z. decimal state ++ z) reads.are.is ∙ sym (line_is row rest);
         order = found.order;
         within = subst (λ k. state < k) high_is found.below;
-        row = record { some = are.some; order = are.order; within = are.within };
+        row = record { some = reads.are.some; order = reads.are.order; within = reads.are.within };
       };
-      adds = marks has.partners rest are;
+      adds = reads.marks;
     }
+
+-- the partners that are read first, before any
+pub marking_begins : (end : ℕ) (old : Grid) (a : ℕ) (bytes bs rest : List ℕ) → end ≡ old.wide → ArePartners 0 old.wide bytes bs rest → IsMarking 0 end old old a bytes bs rest
+marking_begins end old a bytes bs rest is are = record {
+  others = bs;
+  left = are.is;
+  order = are.order;
+  within = subst (λ k. All (λ b. b < k) bs) (sym is) are.within;
+  marks = λ c d. refl;
+}
+
+-- and the last, with a line feed after it
+pub last_marked : (end first : ℕ) (old now new : Grid) (a : ℕ) (bytes rest : List ℕ) (n : ℕ) (more after : List ℕ)
+    → end < 2 ^ 32 → end ≡ old.wide → SameRests end 0 bytes first rest → Some (n, more) ≡ partner_at first end rest → more ≡ 10 ∷ after
+    → IsSized (length old.rows) old.wide new → Marks now new a n
+    → ((ps r : List ℕ) → ArePartners 0 old.wide bytes ps r → IsMarking first end old now a rest ps r) → ReadsPartners old new a bytes after
+last_marked end first old now new a bytes rest n more after small is same at feed sized m marking =
+    let has = last_skipped end 0 bytes first rest n more after same at feed in
+    let are : ArePartners 0 old.wide bytes has.partners after = subst (λ k. ArePartners 0 k bytes has.partners after) is has.are in
+    let next = marking_goes_on first end old now new a rest has.partners after n more small at m (marking has.partners after are) in
+    record {
+      partners = has.partners;
+      are = are;
+      marks = record { sized = sized; marks = marking_ends (suc n) end old new a more has.partners after small (sym (ap (partner_at (suc n) end) feed)) next };
+    }
+
+-- one pair more of a number
+pub marks_in_more : (old now new : Grid) (a b : ℕ) → MarksIn old now a → IsSized (length now.rows) now.wide new → Marks now new a b → MarksIn old new a
+marks_in_more old now new a b is sized m = record {
+  sized = sized_again (length old.rows) old.wide now new is.sized sized;
+  others = λ c d ne. m.others c d (λ x y. ne x) ∙ is.others c d ne;
+}
+
+-- a row that was blank is blank again
+pub cleared_same : (first : ℕ) (old now new : Grid) (a : ℕ) → ((c d : ℕ) → first ≤ c → marked old c d ≡ false) → first ≤ a
+    → MarksIn old now a → IsSized (length now.rows) now.wide new → HasNoRow now new a → IsSameSet old new
+cleared_same first old now new a blank order is sized none = record {
+  sized = λ high wide was. sized_again high wide old new was (sized_again (length old.rows) old.wide now new is.sized sized);
+  same = λ c d. elim (cases_eq c a) [
+    | inl e ↦ subst (λ k. marked new k d ≡ marked old k d) (sym e) (none.clear d ∙ sym (blank a d order))
+    | inr ne ↦ none.others c d ne ∙ is.others c d ne
+  ];
+}
+
+-- no row stands where no line feed comes
+has_there : (l rest : List ℕ) → has_number (l ++ 10 ∷ rest) 10 ≡ true
+has_there [] rest = refl
+has_there (c ∷ cs) rest = or_right (nat_eq c 10) (has_number (cs ++ 10 ∷ rest) 10) (has_there cs rest)
+
+pub no_feed : (first high wide : ℕ) (bytes : List ℕ) → has_number bytes 10 ≡ false → (r : Row) (rest : List ℕ) → IsRowAt first high wide bytes r rest → ⊥
+no_feed first high wide bytes none r rest at = false_true (sym none ∙ ap (λ z. has_number z 10) at.is ∙ has_there (row_line r) rest)

@@ -1,5 +1,5 @@
 -- Partners at the front of bytes, one after another.
-use Rattle.std.proofs.Common.{◌≡◌, ◌≢◌, ◌↔◌, ℕ, suc, ◌^◌, ◌<◌, ◌≤◌, false, List, [], ◌∷◌, ◌++◌, length, length-append, Option, Some, None, decimal, refl, sym, ap, ◌∙◌, subst, arith, append_assoc}
+use Rattle.std.proofs.Common.{◌≡◌, ◌≢◌, ◌↔◌, ℕ, suc, ◌^◌, ◌<◌, ◌≤◌, false, List, [], ◌∷◌, ◌++◌, get_or, Option, Some, None, decimal, refl, sym, ap, ◌∙◌, subst, arith, append_assoc}
 use Rattle.std.specs.List.{All}
 use Rattle.std.proofs.lemmas.List.Elements.{All-cons, All-nil, All-head, All-tail}
 use Rattle.xs_class.proofs.Lists.{some_pair}
@@ -99,8 +99,6 @@ pub none_skipped : (end first : ℕ) (bytes : List ℕ) (low : ℕ) (rest : List
 none_skipped end first bytes low rest small same at r has =
     let old = (same r).1 has in no_partners low end rest old.partners r (omega (arith, small)) (sym at) old.are
 
--- what follows a partner is shorter
-pub shorter : (low end : ℕ) (bytes : List ℕ) (n : ℕ) (more : List ℕ) → Some (n, more) ≡ partner_at low end bytes → length more < length bytes
-shorter low end bytes n more at =
-    let found = partner_found low end bytes n more (sym at) in
-    omega (arith, ap length found.is, length-append (decimal n) more)
+-- a byte that is no line feed comes first
+pub no_feed_first : (c : ℕ) (cs more : List ℕ) → more ≡ c ∷ cs → (c ≡ 10 → ⊥) → (r : List ℕ) → more ≡ 10 ∷ r → ⊥
+no_feed_first c cs more is other r e = other (ap (λ (z : List ℕ). get_or z 0 0) (sym is ∙ e))

@@ -1,15 +1,14 @@
 -- Rows, one after another.
-use Rattle.std.proofs.Common.{◌≡◌, ℕ, zero, suc, ◌+◌, ◌-◌, ◌^◌, ◌<◌, ◌≤◌, Bool, true, false, ◌&&◌, ◌||◌, nat_eq, List, [], ◌∷◌, ◌++◌, length, length-append, get_or, take, drop, replicate, decimal, refl, sym, ap, ◌∙◌, subst, arith, append_assoc}
+use Rattle.std.proofs.Common.{◌≡◌, ℕ, zero, suc, ◌+◌, ◌^◌, ◌<◌, ◌≤◌, Bool, true, false, ◌&&◌, ◌||◌, nat_eq, List, [], ◌∷◌, ◌++◌, length, length-append, get_or, take, drop, replicate, decimal, refl, sym, ap, ◌∙◌, subst, arith, append_assoc, eqb-true}
 use Rattle.std.specs.List.{All}
 use Rattle.std.proofs.lemmas.List.Elements.{All-head, All-tail}
 use Rattle.xs_class.proofs.Lists.{some_pair}
-use Rattle.xs_closed.specs.Rows.{Grid, Row, IsRow, AreRows, IsSet, IsSized, blank, has_number, holds, places, rows_from, rows_of}
+use Rattle.xs_closed.specs.Rows.{Grid, Row, IsRow, AreRows, IsSet, IsSized, blank, has_number, holds, places, rows_from, rows_of, marked}
 use Rattle.xs_closed.specs.Laws.{RowsAreMarks, RowsAreOne}
 use Rattle.xs_cert_lines.specs.Lines.{row_line, set_lines, written}
 use Rattle.xs_cert_lines.specs.Runs.{IsRun}
 use Rattle.xs_cert_lines.specs.Numbers.{number_at}
-use Rattle.xs_cert_lines.specs.Reading.{listed, IsRowAt, AddsRow, next_state}
-use Rattle.xs_cert_lines.proofs.Pieces.{stands}
+use Rattle.xs_cert_lines.specs.Reading.{listed, IsRowAt, AddsRow, IsSameSet, next_state}
 use Rattle.xs_cert_lines.proofs.Numerals.{number_read}
 use Rattle.xs_cert_lines.proofs.Partners.{listed_ends}
 use Rattle.xs_cert_lines.proofs.Marking.{sized_again, line_is}
@@ -98,8 +97,37 @@ more_next high wide first old new bytes next rest more = more.next_is ∙ sym (n
 pub more_count : (count high wide first : ℕ) (old new : Grid) (bytes : List ℕ) (next : ℕ) (rest : List ℕ) → count ≡ length (rows_of old) → IsMore high wide first old new bytes next rest → count + 1 ≡ length (rows_of new)
 more_count count high wide first old new bytes next rest so more = ap (λ z. z + 1) so ∙ sym (length-append (rows_of old) (more.row ∷ [])) ∙ ap length (sym more.rows)
 
-pub shorter_rest : (high wide first : ℕ) (old new : Grid) (bytes : List ℕ) (next : ℕ) (rest : List ℕ) → AddsRow first old new bytes next rest → length rest < length bytes
-shorter_rest high wide first old new bytes next rest adds = omega (arith, ap length adds.at.is, length-append (row_line adds.row) (10 ∷ rest))
+-- what has the same pairs has the same rows
+pub record IsSame (high wide : ℕ) (old new : Grid) : Type 0 where
+  pub sized : IsSized high wide new
+  pub rows : rows_of new ≡ rows_of old
+
+pub same_set : RowsAreMarks → RowsAreOne → (high wide : ℕ) (old new : Grid) → IsSized high wide old → IsSameSet old new → IsSame high wide old new
+same_set marks one high wide old new was is =
+    let sized : IsSized high wide new = is.sized high wide was in
+    let before = marks high wide old was in
+    let after = marks high wide new sized in
+    record { sized = sized; rows = one high wide (rows_of new) (rows_of old) after.0 before.0 (λ a b. after.1 a b ∙ is.same a b ∙ sym (before.1 a b)) }
+
+-- numbers from the next on have no partners
+next_later : (high wide low : ℕ) (rs : List Row) → AreRows high wide low rs → low ≤ next_state low rs
+next_later high wide low [] are = omega arith
+next_later high wide low (r ∷ rs) are = let more = next_later high wide (suc r.state) rs are.3 in omega (arith, more, are.0)
+
+holds_later : (high wide low : ℕ) (rs : List Row) (a b : ℕ) → AreRows high wide low rs → next_state low rs ≤ a → holds rs a b ≡ false
+holds_later high wide low [] a b are later = refl
+holds_later high wide low (r ∷ rs) a b are later =
+    let more = next_later high wide (suc r.state) rs are.3 in
+    ap (λ z. z || holds rs a b) (other (nat_eq r.state a) refl (omega (arith, more, later))) ∙ holds_later high wide (suc r.state) rs a b are.3 later
+  where
+    other : (p : Bool) → nat_eq r.state a ≡ p → r.state < a → (p && has_number r.partners b) ≡ false
+    other true e below = absurd (omega (arith, eqb-true r.state a e, below))
+    other false e below = refl
+
+pub blank_later : RowsAreMarks → (high wide first : ℕ) (z : Grid) → IsSized high wide z → first ≡ next_state 0 (rows_of z) → (a b : ℕ) → first ≤ a → marked z a b ≡ false
+blank_later marks high wide first z sized is a b later =
+    let rows = marks high wide z sized in
+    sym (rows.1 a b) ∙ holds_later high wide 0 (rows_of z) a b rows.0 (subst (λ k. k ≤ a) is later)
 
 -- partners are read in one way
 partners_once : (wide : ℕ) (bs cs x y : List ℕ) → wide < 2 ^ 32 → All (λ b. b < wide) bs → All (λ b. b < wide) cs → listed bs ++ 10 ∷ x ≡ listed cs ++ 10 ∷ y → (bs ≡ cs) × (x ≡ y)
@@ -159,16 +187,16 @@ first_rows high wide low (r ∷ rs) (q ∷ qs) rest s small narrow are are' none
     line_then q x y = append_assoc (row_line q ++ 10 ∷ []) x y ∙ append_assoc (row_line q) (10 ∷ []) (x ++ y)
 
 -- the whole run
-pub run_is : (bytes : List ℕ) (start high wide : ℕ) (rest : List ℕ) (count first : ℕ) (z : Grid) → RowsAreMarks → start ≤ length bytes → high < 2 ^ 32 → wide < 2 ^ 32
-    → IsSized high wide z → drop start bytes ≡ written (set_lines (rows_of z)) ++ rest → first ≡ next_state 0 (rows_of z) → count ≡ length (rows_of z)
-    → ((r : Row) (x : List ℕ) → IsRowAt first high wide rest r x → ⊥) → IsRun bytes start high wide (length bytes - length rest) count z
-run_is bytes start high wide rest count first z marks within small narrow sized there next so none =
+pub run_is : (bytes : List ℕ) (start high wide end count first : ℕ) (z : Grid) → RowsAreMarks → start ≤ end → end ≤ length bytes → high < 2 ^ 32 → wide < 2 ^ 32
+    → IsSized high wide z → drop start bytes ≡ written (set_lines (rows_of z)) ++ drop end bytes → first ≡ next_state 0 (rows_of z) → count ≡ length (rows_of z)
+    → ((r : Row) (x : List ℕ) → IsRowAt first high wide (drop end bytes) r x → ⊥) → IsRun bytes start high wide end count z
+run_is bytes start high wide end count first z marks order within small narrow sized there next so none =
     record {
       sized = sized;
-      there = stands bytes start (set_lines (rows_of z)) rest within there;
+      there = record { order = order; within = within; is = there };
       count = so;
-      most = λ rs set goes. first_rows high wide 0 (rows_of z) rs rest goes.rest small narrow (marks high wide z sized).0 set
-          (subst (λ k. (r : Row) (x : List ℕ) → IsRowAt k high wide rest r x → ⊥) next none) (sym there ∙ goes.is);
+      most = λ rs set goes. first_rows high wide 0 (rows_of z) rs (drop end bytes) goes.rest small narrow (marks high wide z sized).0 set
+          (subst (λ k. (r : Row) (x : List ℕ) → IsRowAt k high wide (drop end bytes) r x → ⊥) next none) (sym there ∙ goes.is);
     }
 
 -- no row comes next, where the bounds are those of the table

@@ -1,9 +1,10 @@
 -- The rows of a table, as they are written.
-use Rattle.std.proofs.Common.{◌≡◌, ℕ, zero, suc, ◌+◌, ◌-◌, ◌<◌, ◌≤◌, Bool, true, false, List, [], ◌∷◌, ◌++◌, get_or, drop, decimal, refl, sym, ap, ◌∙◌, arith, append_assoc, append-nil}
+use Rattle.std.proofs.Common.{◌≡◌, ℕ, zero, suc, ◌+◌, ◌-◌, ◌<◌, ◌≤◌, Bool, true, false, List, [], ◌∷◌, ◌++◌, length, get_or, take, drop, drop-cons, decimal, refl, sym, ap, ◌∙◌, arith, append_assoc, append-nil}
 use Rattle.std.proofs.lemmas.List.{drop-drop}
-use Rattle.xs_closed.specs.Rows.{Grid, IsNext, marked, places, row_then}
+use Rattle.xs_closed.specs.Rows.{Grid, IsNext, marked, places, row_then, rows_from}
 use Rattle.xs_cert_lines.specs.Lines.{row_line, set_lines, written}
 use Rattle.xs_cert_lines.specs.Reading.{listed}
+use Rattle.xs_cert_lines.specs.Pages.{Puts, Flushes, Writes}
 use Rattle.xs_cert_lines.proofs.Marking.{spaced_is}
 
 -- no place before a true one is skipped
@@ -34,7 +35,7 @@ first_place k (suc n) (false ∷ bs) none is =
     ∙ ap (λ z. z ∷ places (suc k + suc n) (drop (suc n) bs)) (omega arith)
     ∙ ap (λ z. (k + suc n) ∷ places z (drop (suc n) bs)) (omega arith)
 
-get_drop : (n k : ℕ) (bs : List Bool) → get_or (drop n bs) k false ≡ get_or bs (n + k) false
+pub get_drop : (n k : ℕ) (bs : List Bool) → get_or (drop n bs) k false ≡ get_or bs (n + k) false
 get_drop zero k bs = ap (λ z. get_or bs z false) (omega arith)
 get_drop (suc n) k [] = refl
 get_drop (suc n) k (b ∷ bs) = let e : suc (n + k) ≡ suc n + k = omega arith in get_drop n k bs ∙ ap (λ z. get_or (b ∷ bs) z false) e
@@ -57,29 +58,47 @@ next_place from b bs order is least =
 pub row_written : (a b : ℕ) (bs : List ℕ) → written (set_lines (row_then a (b ∷ bs) [])) ≡ decimal a ++ listed (b ∷ bs) ++ 10 ∷ []
 row_written a b bs = append-nil (row_line (record { state = a; partners = b ∷ bs }) ++ 10 ∷ []) ∙ ap (λ z. z ++ 10 ∷ []) (spaced_is (decimal a) (b ∷ bs))
 
--- what was written of partners, and one more
-pub partners_go_on : (now all : List ℕ) (z : Grid) (a from b : ℕ) → now ++ listed (places from (drop from (get_or z.rows a []))) ≡ all → IsNext z a from b → (now ++ 32 ∷ decimal b) ++ listed (places (suc b) (drop (suc b) (get_or z.rows a []))) ≡ all
-partners_go_on now all z a from b so next =
-    append_assoc now (32 ∷ decimal b) (listed (places (suc b) (drop (suc b) (get_or z.rows a []))))
-    ∙ ap (λ ps. now ++ listed ps) (sym (next_place from b (get_or z.rows a []) next.order next.there next.least)) ∙ so
-
--- all of them
-pub partners_end : (now all : List ℕ) (z : Grid) (a from : ℕ) → now ++ listed (places from (drop from (get_or z.rows a []))) ≡ all → ((b : ℕ) → from ≤ b → marked z a b ≡ false) → now ≡ all
-partners_end now all z a from so none = sym (append-nil now) ∙ ap (λ ps. now ++ listed ps) (sym (no_more from (get_or z.rows a []) none)) ∙ so
-
 -- no row
 pub no_row : (out : List ℕ) (z : Grid) (a : ℕ) → ((b : ℕ) → 0 ≤ b → marked z a b ≡ false) → out ≡ out ++ written (set_lines (row_then a (places 0 (get_or z.rows a [])) []))
 no_row out z a none = sym (append-nil out) ∙ ap (λ ps. out ++ written (set_lines (row_then a ps []))) (sym (no_more 0 (get_or z.rows a []) none))
 
--- a row, from its first partner on
-pub one_row : (out numbered listing ended : List ℕ) (z : Grid) (a b : ℕ) → IsNext z a 0 b → numbered ≡ out ++ decimal a → listing ≡ numbered ++ listed (places b (drop b (get_or z.rows a []))) → ended ≡ listing ++ 10 ∷ []
-    → ended ≡ out ++ written (set_lines (row_then a (places 0 (get_or z.rows a [])) []))
-one_row out numbered listing ended z a b next number list end =
+-- a row: its number, its partners and the line feed
+pub one_row : (out begun page new_out listing_page ended : List ℕ) (start begin between listing end : ℕ) (page0 : List ℕ) (z : Grid) (a b : ℕ)
+    → IsNext z a 0 b → Flushes out begun page0 start begin → Puts page0 page begin between (decimal a)
+    → Writes begun page between new_out listing_page listing (listed (places 0 (get_or z.rows a []))) → Puts listing_page ended listing end (10 ∷ [])
+    → Writes out page0 start new_out ended end (written (set_lines (row_then a (places 0 (get_or z.rows a [])) [])))
+one_row out begun page new_out listing_page ended start begin between listing end page0 z a b next flush number list feed =
     let bs = get_or z.rows a [] in
     let first : places 0 bs ≡ b ∷ places (suc b) (drop (suc b) bs) = next_place 0 b bs next.order next.there next.least in
-    let again : places b (drop b bs) ≡ b ∷ places (suc b) (drop (suc b) bs) = next_place b b bs (omega arith) next.there (λ c low high. absurd (omega (arith, low, high))) in
-    let tail = listed (b ∷ places (suc b) (drop (suc b) bs)) in
-    end ∙ ap (λ x. x ++ 10 ∷ []) (list ∙ ap (λ x. x ++ listed (places b (drop b bs))) number ∙ ap (λ ps. (out ++ decimal a) ++ listed ps) again ∙ append_assoc out (decimal a) tail)
-    ∙ append_assoc out (decimal a ++ tail) (10 ∷ [])
-    ∙ ap (λ x. out ++ x) (sym (row_written a b (places (suc b) (drop (suc b) bs))))
-    ∙ ap (λ ps. out ++ written (set_lines (row_then a ps []))) (sym first)
+    let row : written (set_lines (row_then a (places 0 bs) [])) ≡ decimal a ++ listed (places 0 bs) ++ 10 ∷ [] = ap (λ ps. written (set_lines (row_then a ps []))) first ∙ row_written a b (places (suc b) (drop (suc b) bs)) ∙ ap (λ ps. decimal a ++ listed ps ++ 10 ∷ []) (sym first) in
+    record {
+      text =
+          ap (λ x. new_out ++ x) feed.text ∙ sym (append_assoc new_out (take listing listing_page) (10 ∷ []))
+          ∙ ap (λ x. x ++ 10 ∷ []) (list.text ∙ ap (λ x. (begun ++ x) ++ listed (places 0 bs)) number.text)
+          ∙ regroup begun (take begin page0) (decimal a) (listed (places 0 bs)) (10 ∷ [])
+          ∙ ap (λ x. x ++ (decimal a ++ listed (places 0 bs) ++ 10 ∷ [])) flush.text
+          ∙ ap (λ x. (out ++ take start page0) ++ x) (sym row);
+      size = feed.size ∙ list.size ∙ number.size;
+    }
+  where
+    regroup : (o p d l f : List ℕ) → ((o ++ (p ++ d)) ++ l) ++ f ≡ (o ++ p) ++ (d ++ l ++ f)
+    regroup o p d l f = simp append_assoc
+
+-- rows, the first of them before the others
+pub rows_written : (a : ℕ) (rows : List (List Bool)) → a < length rows
+    → written (set_lines (rows_from a (drop a rows))) ≡ written (set_lines (row_then a (places 0 (get_or rows a [])) [])) ++ written (set_lines (rows_from (suc a) (drop (suc a) rows)))
+rows_written a rows l = ap (λ z. written (set_lines (rows_from a z))) (drop-cons rows a [] l) ∙ by (places 0 (get_or rows a []))
+  where
+    by : (ps : List ℕ) → written (set_lines (row_then a ps (rows_from (suc a) (drop (suc a) rows)))) ≡ written (set_lines (row_then a ps [])) ++ written (set_lines (rows_from (suc a) (drop (suc a) rows)))
+    by [] = refl
+    by (b ∷ bs) = let line = row_line (record { state = a; partners = b ∷ bs }) ++ 10 ∷ [] in ap (λ z. z ++ written (set_lines (rows_from (suc a) (drop (suc a) rows)))) (sym (append-nil line))
+
+-- the rows so far, and one more
+pub rows_go_on : (out page new_out new_page all : List ℕ) (at end a : ℕ) (rows : List (List Bool)) → a < length rows
+    → (out ++ take at page) ++ written (set_lines (rows_from a (drop a rows))) ≡ all
+    → Writes out page at new_out new_page end (written (set_lines (row_then a (places 0 (get_or rows a [])) [])))
+    → (new_out ++ take end new_page) ++ written (set_lines (rows_from (suc a) (drop (suc a) rows))) ≡ all
+rows_go_on out page new_out new_page all at end a rows l so writes =
+    let row = written (set_lines (row_then a (places 0 (get_or rows a [])) [])) in
+    let later = written (set_lines (rows_from (suc a) (drop (suc a) rows))) in
+    ap (λ z. z ++ later) writes.text ∙ append_assoc (out ++ take at page) row later ∙ ap (λ z. (out ++ take at page) ++ z) (sym (rows_written a rows l)) ∙ so

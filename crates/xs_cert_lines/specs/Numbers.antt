@@ -6,10 +6,6 @@ use Rattle.xs_class.specs.Words.{is_digit}
 abbrev pub digit_at : ℕ → Option ℕ
 digit_at c = if is_digit c then Some (c - 48) else None
 
--- a number with one more digit, where it is below 2^32
-abbrev pub with_digit : ℕ → ℕ → Option ℕ
-with_digit n d = if nat_lt (n * 10 + d) (2 ^ 32) then Some (n * 10 + d) else None
-
 -- the number that the digits at the front spell after those of n, where it is below 2^32 and none
 -- comes after a zero that is the first, and what follows the digits
 abbrev pub number_after : ℕ → List ℕ → Option (ℕ × List ℕ)

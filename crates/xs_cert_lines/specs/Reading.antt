@@ -27,6 +27,22 @@ pub record MarksAll (old new : Grid) (a : ℕ) (bs : List ℕ) : Type 0 where
   pub sized : IsSized (length old.rows) old.wide new
   pub marks : (c d : ℕ) → marked new c d ≡ (marked old c d || (nat_eq a c && has_number bs d))
 
+-- pairs of a number are marked too, and no others
+pub record MarksIn (old new : Grid) (a : ℕ) : Type 0 where
+  pub sized : IsSized (length old.rows) old.wide new
+  pub others : (c d : ℕ) → (c ≡ a → ⊥) → marked new c d ≡ marked old c d
+
+-- there are such partners, and their pairs are marked too
+pub record ReadsPartners (old new : Grid) (a : ℕ) (bytes rest : List ℕ) : Type 0 where
+  pub partners : List ℕ
+  pub are : ArePartners 0 old.wide bytes partners rest
+  pub marks : MarksAll old new a partners
+
+-- the same pairs are marked
+pub record IsSameSet (old new : Grid) : Type 0 where
+  pub sized : (high wide : ℕ) → IsSized high wide old → IsSized high wide new
+  pub same : (c d : ℕ) → marked new c d ≡ marked old c d
+
 -- the bytes are a row's line, whose number is at least the first and below the end, and the rest
 pub record IsRowAt (first high wide : ℕ) (bytes : List ℕ) (r : Row) (rest : List ℕ) : Type 0 where
   pub is : bytes ≡ row_line r ++ 10 ∷ rest

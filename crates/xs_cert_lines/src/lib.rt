@@ -6,6 +6,7 @@
 mod laws;
 mod line;
 mod number;
+mod page;
 mod row;
 mod rows;
 mod run;

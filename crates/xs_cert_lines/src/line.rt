@@ -5,14 +5,14 @@ ghost use Rattle.xs_cert_lines.specs.Runs.{GoesOn, IsFrom};
 
 use itoa::Buffer;
 use xs_class::{Bytes, Memory};
-use xs_talk::push_decimal;
 
 /// Appends a space and a number.
-pub(crate) fn push_number(out: &mut Bytes, number: u32) -> Result<(), Memory>
+fn push_number(out: &mut Bytes, number: u32) -> Result<(), Memory>
     ensures { OnOk result (out.new ≡ out.old ++ 32 ∷ decimal number) }
 {
+    let mut digits = Buffer::new();
     out.push(b' ')?;
-    push_decimal(out, u64::from(number))?;
+    out.extend(digits.format(number).as_bytes())?;
     Ok(())
 }
 
@@ -28,7 +28,7 @@ pub fn write_pair(out: &mut Bytes, text: &[u8], first: u32, second: u32) -> Resu
 }
 
 /// The bytes from this one on.
-pub(crate) fn from_byte(bytes: &[u8], start: usize) -> &[u8]
+fn from_byte(bytes: &[u8], start: usize) -> &[u8]
     requires { start ≤ length bytes.now }
     ensures { result.now ≡ drop start bytes.now }
 {

@@ -1,70 +1,86 @@
-// Rows at the front of bytes.
-ghost use Rattle.std.specs.Prelude.{◌≡◌, ℕ, ◌<◌, List, ◌∷◌, length, IfSome, IfNone, MatchOption};
-ghost use Rattle.xs_closed.specs.Rows.{Row};
-ghost use Rattle.xs_cert_lines.specs.Reading.{ArePartners, HasPartners, MarksAll, IsRowAt, AddsRow};
+// Rows, read where they stand.
+ghost use Rattle.std.specs.Prelude.{◌≡◌, ℕ, ◌<◌, ◌≤◌, List, true, false, length, drop, IfSome, IfNone};
+ghost use Rattle.xs_closed.specs.Rows.{Row, has_number, marked};
+ghost use Rattle.xs_cert_lines.specs.Reading.{HasPartners, MarksIn, ReadsPartners, IsRowAt, AddsRow, IsSameSet};
 
 use crate::number::{number_within, partner};
 use xs_closed::PairSet;
 
-/// What follows a line feed at the front.
-fn after_feed(bytes: &[u8]) -> Option<&[u8]>
-    ensures { MatchOption result ((rest : List ℕ) → bytes.now ≡ 10 ∷ rest → ⊥) (λ rest. bytes.now ≡ 10 ∷ rest.now) }
+/// Whether a line feed stands at a place or after it.
+///
+/// Looks at the last byte first: where it is one, as in each whole certificate, the others are not
+/// gone through.
+fn has_feed(bytes: &[u8], start: usize) -> bool
+    requires { start ≤ length bytes.now }
+    ensures { result ≡ has_number (drop start bytes.now) 10 }
 {
-    match bytes {
-        [b'\n', rest @ ..] => Some(rest),
-        _ => None,
+    if start < bytes.len() && bytes[bytes.len() - 1] == b'\n' {
+        return true;
     }
+    let mut at = start;
+    'bytes: while at < bytes.len() {
+        if bytes[at] == b'\n' {
+            return true;
+        }
+        at += 1;
+    }
+    false
 }
 
-/// The bytes after the partners at the front and their line feed.
-fn skip_partners(bytes: &[u8], end: u32) -> Option<&[u8]>
-    ensures { MatchOption result ((rest : List ℕ) → HasPartners 0 end bytes.now rest → ⊥) (λ rest. HasPartners 0 end bytes.now rest.now) }
+/// Marks the pairs of a number and each of the partners from a byte on, up to their line feed, after
+/// which is the byte that it gives. Where there is none, some of the pairs are marked.
+fn read_partners(bytes: &[u8], start: usize, state: u32, set: &mut PairSet) -> Option<usize>
+    requires feed { has_number (drop start bytes.now) 10 ≡ true }
+    requires state { state < length set.old.rows }
+    ensures row { MarksIn set.old set.new state }
+    ensures none { IfNone result ((rest : List ℕ) → HasPartners 0 set.old.wide (drop start bytes.now) rest → ⊥) }
+    ensures some { IfSome result (λ end. ReadsPartners set.old set.new state (drop start bytes.now) (drop end bytes.now)) }
+    ensures place { IfSome result (λ end. end ≤ length bytes.now) }
+    ensures order { IfSome result (λ end. start < end) }
 {
+    let end = set.wide();
     let mut first = 0;
-    let mut rest = bytes;
-    'partners: while let Some((number, more)) = partner(rest, first, end) {
-        if let Some(after) = after_feed(more) {
-            return Some(after);
+    let mut at = start;
+    'partners: while let Some((number, after)) = partner(bytes, at, first, end) {
+        set.insert(state, number);
+        if bytes[after] == b'\n' {
+            return Some(after + 1);
         }
         first = number + 1;
-        rest = more;
+        at = after;
     }
     None
 }
 
-/// Marks the pairs of a number and each of the partners at the front, where a line feed follows.
-fn mark_partners(bytes: &[u8], state: u32, set: &mut PairSet)
-    requires { state < length set.old.rows }
-    ensures { (partners rest : List ℕ) → ArePartners 0 set.old.wide bytes.now partners rest → MarksAll set.old set.new state partners }
-{
-    let end = set.wide();
-    let mut first = 0;
-    let mut rest = bytes;
-    'partners: while let Some((number, more)) = partner(rest, first, end) {
-        set.insert(state, number);
-        first = number + 1;
-        rest = more;
-    }
-}
-
-/// Reads a row at the front into a set with these bounds: the first number that may come after it,
-/// and the bytes after its line. Where no row stands there whose number is at least the first,
-/// nothing is marked.
-pub fn read_row<'b>(
-    bytes: &'b [u8],
+/// Reads a row from a byte on into a set with these bounds that has no pairs of the first number
+/// that may come and of those after it: the first number that may come after the row, and the byte
+/// after its line. Where no row stands there whose number is at least the first, the set has the
+/// same pairs as before.
+pub fn read_row(
+    bytes: &[u8],
+    start: usize,
     first: u32,
     high: u32,
     wide: u32,
     set: &mut PairSet,
-) -> Option<(u32, &'b [u8])>
+) -> Option<(u32, usize)>
+    requires start { start ≤ length bytes.now }
     requires high { high ≡ length set.old.rows }
     requires wide { wide ≡ set.old.wide }
-    ensures same { IfNone result (set.new ≡ set.old) }
-    ensures none { IfNone result ((row : Row) (rest : List ℕ) → IsRowAt first high wide bytes.now row rest → ⊥) }
-    ensures some { IfSome result (λ r. AddsRow first set.old set.new bytes.now r.0 r.1.now) }
+    requires blank { (a b : ℕ) → first ≤ a → marked set.old a b ≡ false }
+    ensures same { IfNone result (IsSameSet set.old set.new) }
+    ensures none { IfNone result ((row : Row) (rest : List ℕ) → IsRowAt first high wide (drop start bytes.now) row rest → ⊥) }
+    ensures some { IfSome result (λ r. AddsRow first set.old set.new (drop start bytes.now) r.0 (drop r.1 bytes.now)) }
+    ensures place { IfSome result (λ r. r.1 ≤ length bytes.now) }
+    ensures order { IfSome result (λ r. start < r.1) }
 {
-    let (state, partners) = number_within(bytes, first, high)?;
-    let rest = skip_partners(partners, wide)?;
-    mark_partners(partners, state, set);
-    Some((state + 1, rest))
+    if !has_feed(bytes, start) {
+        return None;
+    }
+    let (state, partners) = number_within(bytes, start, first, high)?;
+    let Some(end) = read_partners(bytes, partners, state, set) else {
+        set.clear_row(state);
+        return None;
+    };
+    Some((state + 1, end))
 }

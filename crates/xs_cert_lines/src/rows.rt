@@ -1,41 +1,107 @@
 // Writing the rows of a set.
-ghost use Rattle.std.specs.Prelude.{◌≡◌, [], ◌++◌, drop, get_or, OnOk};
+ghost use Rattle.std.specs.Prelude.{◌≡◌, ◌+◌, ◌*◌, ◌<◌, ◌≤◌, [], ◌++◌, length, get_or, OnOk, IfOk};
 ghost use Rattle.xs_closed.specs.Rows.{places, row_then, rows_of};
 ghost use Rattle.xs_cert_lines.specs.Lines.{written, set_lines};
 ghost use Rattle.xs_cert_lines.specs.Reading.{listed};
+ghost use Rattle.xs_cert_lines.specs.Pages.{Flushes, PutsPartners, Writes};
 
-use crate::line::push_number;
+use crate::page::{put, put_number};
 use xs_class::{Bytes, Memory};
 use xs_closed::PairSet;
-use xs_talk::push_decimal;
 
-/// Appends the partners of a number from this one on.
-fn write_partners(out: &mut Bytes, set: &PairSet, state: u32, first: u32) -> Result<(), Memory>
-    ensures { OnOk result (out.new ≡ out.old ++ listed (places first (drop first (get_or set.now.rows state [])))) }
+/// How many bytes are written before they are appended at once.
+const PAGE: usize = 2048;
+
+/// More than the partners of a word and what else is put before the next time that there is room:
+/// each of the 64 takes a space and ten digits at most.
+const ROOM: usize = 728;
+
+/// Appends what was written, where there is not much room left, and gives the place to go on from.
+fn with_room(out: &mut Bytes, page: &[u8], at: usize) -> Result<usize, Memory>
+    requires page { 728 ≤ length page.now }
+    requires within { at ≤ length page.now }
+    ensures { IfOk result (Flushes out.old out.new page.now at) }
 {
-    let wide = set.wide();
-    let mut from = first;
-    'partners: while from < wide {
-        let Some(partner) = set.next(state, from) else {
-            return Ok(());
-        };
-        push_number(out, partner)?;
-        from = partner + 1;
+    if page.len() - at < ROOM {
+        out.extend(&page[..at])?;
+        return Ok(0);
     }
-    Ok(())
+    Ok(at)
 }
 
-/// Appends the row of a number, if it has partners.
-fn write_row(out: &mut Bytes, set: &PairSet, state: u32) -> Result<(), Memory>
-    ensures { OnOk result (out.new ≡ out.old ++ written (set_lines (row_then state (places 0 (get_or set.now.rows state [])) []))) }
+/// Puts the partners of a number from 64 times a place on that are in one word.
+fn put_lane(page: &mut [u8], start: usize, set: &PairSet, state: u32, place: u32) -> usize
+    requires state { state < length set.now.rows }
+    requires place { place * 64 < set.now.wide }
+    requires room { start + 704 ≤ length page.old }
+    ensures text { PutsPartners page.old page.new start result (get_or set.now.rows state []) (place * 64) (place * 64 + 64) }
+    ensures short { result ≤ start + 704 }
 {
-    let Some(first) = set.next(state, 0) else {
-        return Ok(());
+    let bound = set.wide();
+    let wide = u64::from(bound);
+    let mut left = set.lane(state, place);
+    let mut from = u64::from(place) * 64;
+    let mut at = start;
+    'partners: while left != 0 {
+        let zeros = left.trailing_zeros();
+        let partner = from + u64::from(zeros);
+        if wide <= partner {
+            return at;
+        }
+        left = (left >> zeros) >> 1;
+        from = partner + 1;
+        let after = put(page, at, b' ');
+        at = put_number(page, after, partner as u32);
+    }
+    at
+}
+
+/// Writes the partners of a number.
+fn put_partners(
+    out: &mut Bytes,
+    page: &mut [u8],
+    start: usize,
+    set: &PairSet,
+    state: u32,
+) -> Result<usize, Memory>
+    requires state { state < length set.now.rows }
+    requires page { 728 ≤ length page.old }
+    requires room { start + 16 ≤ length page.old }
+    ensures text { IfOk result (λ end. Writes out.old page.old start out.new page.new end (listed (places 0 (get_or set.now.rows state [])))) }
+    ensures room { IfOk result (λ end. end + 16 ≤ length page.new) }
+{
+    let bound = set.wide();
+    let wide = u64::from(bound);
+    let lanes = ((wide + 63) / 64) as u32;
+    let mut at = start;
+    'lanes: for place in 0..lanes {
+        let begin = with_room(out, page, at)?;
+        at = put_lane(page, begin, set, state, place);
+    }
+    Ok(at)
+}
+
+/// Writes the row of a number, if it has partners.
+fn put_row(
+    out: &mut Bytes,
+    page: &mut [u8],
+    start: usize,
+    set: &PairSet,
+    state: u32,
+) -> Result<usize, Memory>
+    requires state { state < length set.now.rows }
+    requires page { 728 ≤ length page.old }
+    requires within { start ≤ length page.old }
+    ensures text { IfOk result (λ end. Writes out.old page.old start out.new page.new end (written (set_lines (row_then state (places 0 (get_or set.now.rows state [])) [])))) }
+    ensures within { IfOk result (λ end. end ≤ length page.new) }
+{
+    let Some(_) = set.next(state, 0) else {
+        return Ok(start);
     };
-    push_decimal(out, u64::from(state))?;
-    write_partners(out, set, state, first)?;
-    out.push(b'\n')?;
-    Ok(())
+    let begin = with_room(out, page, start)?;
+    let numbered = put_number(page, begin, state);
+    let listed = put_partners(out, page, numbered, set, state)?;
+    Ok(put(page, listed, b'\n'))
 }
 
 /// Appends the rows of a set.
@@ -44,8 +110,11 @@ fn write_row(out: &mut Bytes, set: &PairSet, state: u32) -> Result<(), Memory>
 pub fn write_rows(out: &mut Bytes, set: &PairSet) -> Result<(), Memory>
     ensures { OnOk result (out.new ≡ out.old ++ written (set_lines (rows_of set.now))) }
 {
+    let mut page = [0; PAGE];
+    let mut at = 0;
     'rows: for state in 0..set.high() {
-        write_row(out, set, state)?;
+        at = put_row(out, &mut page, at, set, state)?;
     }
+    out.extend(&page[..at])?;
     Ok(())
 }

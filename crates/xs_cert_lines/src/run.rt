@@ -2,7 +2,6 @@ ghost use Rattle.std.specs.Prelude.{◌≡◌, ◌≤◌, length};
 ghost use Rattle.xs_closed.specs.Rows.{blank};
 ghost use Rattle.xs_cert_lines.specs.Runs.{IsRun};
 
-use crate::line::from_byte;
 use crate::row::read_row;
 use xs_closed::{PairSet, rows_are_marks};
 
@@ -16,8 +15,7 @@ pub struct Run {
 /// Reads rows into a set without pairs, from a byte on: as many as stand there.
 ///
 /// The run ends before the first line that is no row of such a set or whose number is not greater
-/// than that of the row before. Linear in the bytes up to the end of that line, which are read
-/// twice at most; takes no memory.
+/// than that of the row before. Linear in the bytes up to the end of that line; takes no memory.
 pub fn read_rows(bytes: &[u8], start: usize, set: &mut PairSet) -> Run
     requires within { start ≤ length bytes.now }
     requires blank { set.old ≡ blank (length set.old.rows) set.old.wide }
@@ -26,16 +24,13 @@ pub fn read_rows(bytes: &[u8], start: usize, set: &mut PairSet) -> Run
     rows_are_marks();
     let high = set.high();
     let wide = set.wide();
-    let mut rest = from_byte(bytes, start);
+    let mut end = start;
     let mut first = 0;
     let mut count = 0;
-    'rows: while let Some((next, more)) = read_row(rest, first, high, wide, set) {
+    'rows: while let Some((next, after)) = read_row(bytes, end, first, high, wide, set) {
         first = next;
         count += 1;
-        rest = more;
+        end = after;
     }
-    Run {
-        end: bytes.len() - rest.len(),
-        count,
-    }
+    Run { end, count }
 }

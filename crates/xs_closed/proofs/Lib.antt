@@ -2,6 +2,7 @@ pub mod AddLemmas
 pub mod CloseLemmas
 pub mod CutLemmas
 pub mod FoundLemmas
+pub mod LaneLemmas
 pub mod LeadLemmas
 pub mod LeastLemmas
 pub mod LongestLemmas

@@ -5,3 +5,4 @@ pub mod Search
 pub mod Longest
 pub mod Laws
 pub mod Testing
+pub mod Lanes

@@ -1,12 +1,13 @@
 mod within;
 mod words;
 
-ghost use Rattle.std.specs.Prelude.{◌≡◌, ℕ, ◌<◌, ◌≤◌, length, not, false, IfSome, IfNone, OnOk};
+ghost use Rattle.std.specs.Prelude.{◌≡◌, ℕ, ◌*◌, ◌<◌, ◌≤◌, length, not, false, IfSome, IfNone, OnOk};
 ghost use Rattle.xs_closed.specs.Rows.{blank, marked, IsSized, Marks, IsNext};
+ghost use Rattle.xs_closed.specs.Lanes.{HasNoRow, IsLane};
 
 use std::alloc::Global;
 use std::marker::Model;
-use words::{clear_words, first_bit, grow_words};
+use words::{clear_between, clear_words, first_bit, grow_words};
 use xs_class::Memory;
 
 /// A set of pairs of numbers, each below a bound: a table with a bit for each pair.
@@ -104,6 +105,29 @@ impl PairSet {
         self.words[place] = word | (1 << bit);
         self.used = self.used.max(place + 1);
         (word >> bit) & 1 == 0
+    }
+
+    /// Takes all pairs of a number out.
+    ///
+    /// Takes time linear in the words of a row.
+    pub fn clear_row(&mut self, a: u32)
+        requires { a < length self.old.rows }
+        ensures clear { HasNoRow self.old self.new a }
+        ensures sized { IsSized (length self.old.rows) self.old.wide self.new }
+    {
+        let first = a as usize * self.step;
+        let end = first + self.step;
+        clear_between(&mut self.words, first, end);
+    }
+
+    /// The partners of a number from 64 times a place on, as the bits of a word: its lowest bit is
+    /// for the first of them.
+    pub fn lane(&self, a: u32, place: u32) -> u64
+        requires first { a < length self.now.rows }
+        requires second { place * 64 < self.now.wide }
+        ensures { IsLane self.now a place result }
+    {
+        self.words[a as usize * self.step + place as usize]
     }
 
     /// The least partner of a number that is at least `from`, if there is one.

@@ -16,6 +16,20 @@ pub fn clear_words(words: &mut Vec<u64>, used: usize)
     }
 }
 
+/// Sets the words from one place up to another to 0.
+pub fn clear_between(words: &mut Vec<u64>, from: usize, to: usize)
+    requires order { from ≤ to }
+    requires within { to ≤ length words.old.items }
+    ensures length { length words.new.items ≡ length words.old.items }
+    ensures zeros { (k : ℕ) → from ≤ k → k < to → get_or words.new.items k 0 ≡ 0 }
+    ensures before { (k : ℕ) → k < from → get_or words.new.items k 0 ≡ get_or words.old.items k 0 }
+    ensures after { (k : ℕ) → to ≤ k → get_or words.new.items k 0 ≡ get_or words.old.items k 0 }
+{
+    'places: for place in from..to {
+        words[place] = 0;
+    }
+}
+
 /// Appends zeros to zeros up to that many words.
 pub fn grow_words(words: &mut Vec<u64>, count: usize) -> Result<(), Memory>
     requires { (k : ℕ) → get_or words.old.items k 0 ≡ 0 }

@@ -1,0 +1,13 @@
+-- A row of a table of marks: none of it, and its words of 64 bits.
+use Rattle.std.specs.Prelude.{◌≡◌, ℕ, ◌/◌, ◌%◌, ◌<◌, false, nat_eq}
+use Rattle.std.specs.Int.{bit_at}
+use Rattle.xs_closed.specs.Rows.{Grid, marked}
+
+-- no pair of a is marked any more, and all others are as they were
+pub record HasNoRow (old new : Grid) (a : ℕ) : Type 0 where
+  pub clear : (b : ℕ) → marked new a b ≡ false
+  pub others : (c d : ℕ) → (c ≡ a → ⊥) → marked new c d ≡ marked old c d
+
+-- the bits of the word are the marks of row a from column 64 * place on
+pub record IsLane (z : Grid) (a place word : ℕ) : Type 0 where
+  pub marks : (b : ℕ) → b / 64 ≡ place → b < z.wide → marked z a b ≡ nat_eq (bit_at word (b % 64)) 1
