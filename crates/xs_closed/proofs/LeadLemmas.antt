@@ -1,5 +1,5 @@
 -- What the pairs that were visited say of how a pair leads to others.
-use Rattle.std.proofs.Common.{◌≡◌, ℕ, ◌⊎◌, List, refl, sym, inl, inr}
+use Rattle.std.proofs.Common.{◌≡◌, ℕ, ◌⊎◌, List, length, arith, refl, sym, inl, inr}
 use Rattle.xs_auto.specs.declared.call.Call.{Call}
 use Rattle.xs_auto.specs.declared.edge.Edge.{Edge}
 use Rattle.xs_auto.specs.Nets.{Graph, edges_of, moves_of, calls_of}
@@ -44,6 +44,20 @@ strode_on R m n a b es fs hs ks q r q' r' g h =
     back c d (inr x) =
         let y = x.2 in
         inr (record { item = y.first; has = rw q' y.of_first; gives = record { item = y.second; has = rw r' y.of_second; gives = record { related = rw (y.over_first, y.over_second) y.related; to_first = y.to_first; to_second = y.to_second } } })
+
+-- a pair of states one of which has none leads nowhere by edges and calls
+pub strode_none : (R : ℕ → ℕ → Type 0) (m n : Graph) (a b : ℕ) (z : Grid) (ps : List Pair) → (length (edges_of m a) ≡ 0) ⊎ (length (edges_of n b) ≡ 0) → (length (calls_of m a) ≡ 0) ⊎ (length (calls_of n b) ≡ 0) → Adds (Strides R m n a b) z ps z ps
+strode_none R m n a b z ps e f = adds_known (Strides R m n a b) z ps none
+  where
+    none : (c d : ℕ) → Strides R m n a b c d → Marked (marked z) c d
+    none c d (inl x) = elim e [
+      | inl l ↦ absurd (omega (arith, x.1.of_first.1, l))
+      | inr l ↦ absurd (omega (arith, x.1.of_second.1, l))
+    ]
+    none c d (inr y) = elim f [
+      | inl l ↦ absurd (omega (arith, y.2.of_first.1, l))
+      | inr l ↦ absurd (omega (arith, y.2.of_second.1, l))
+    ]
 
 -- two edges that read a common symbol lead to one pair, and others lead to none that is not marked
 pub meets_new : (e f : Edge) {y z : Grid} {ps qs : List Pair} → Meets e f e.to f.to → Adds (IsPair e.to f.to) y ps z qs → Adds (Meets e f) y ps z qs

@@ -1,5 +1,5 @@
-ghost use Rattle.std.specs.Prelude.{◌≡◌, ◌<◌, OnOk, length};
-ghost use Rattle.xs_auto.specs.Nets.{states};
+ghost use Rattle.std.specs.Prelude.{◌≡◌, ◌<◌, ◌⊎◌, true, OnOk, length};
+ghost use Rattle.xs_auto.specs.Nets.{states, edges_of, calls_of};
 ghost use Rattle.xs_meet.specs.Closed.{Drifts, Strides, Leads, Marked};
 ghost use Rattle.xs_closed.specs.Rows.{marked};
 ghost use Rattle.xs_closed.specs.Search.{IsListed, IsFor, Adds, Closes};
@@ -22,6 +22,28 @@ fn drift(set: &mut PairSet, pairs: &mut Vec<Pair>, m: &Net, n: &Net, at: Pair) -
     visit_firsts(set, pairs, m.moves(at.first), at.second)?;
     visit_seconds(set, pairs, at.first, n.moves(at.second))?;
     Ok(())
+}
+
+/// Whether no edge and no call leads from a state.
+fn is_still(net: &Net, a: u32) -> bool
+    requires { a < states net.now }
+    ensures edges { result ≡ true → length (edges_of net.now a) ≡ 0 }
+    ensures calls { result ≡ true → length (calls_of net.now a) ≡ 0 }
+{
+    net.edges(a).is_empty() && net.calls(a).is_empty()
+}
+
+/// Whether edges and calls of both nets lead nowhere from a pair, since one state has none.
+fn are_still(m: &Net, n: &Net, at: Pair) -> bool
+    requires first { at.first < states m.now }
+    requires second { at.second < states n.now }
+    ensures edges { result ≡ true → (length (edges_of m.now at.first) ≡ 0) ⊎ (length (edges_of n.now at.second) ≡ 0) }
+    ensures calls { result ≡ true → (length (calls_of m.now at.first) ≡ 0) ⊎ (length (calls_of n.now at.second) ≡ 0) }
+{
+    if is_still(m, at.first) {
+        return true;
+    }
+    is_still(n, at.second)
 }
 
 /// Visits the pairs to which edges, or calls over related groups, of both nets lead from a pair.
@@ -63,6 +85,9 @@ fn lead(
     ensures ok { OnOk result (Adds (Leads (Marked (marked related.now)) m.now n.now at.first at.second) set.old pairs.old.items set.new pairs.new.items) }
 {
     drift(set, pairs, m, n, at)?;
+    if are_still(m, n, at) {
+        return Ok(());
+    }
     stride(set, pairs, related, m, n, at)?;
     Ok(())
 }
