@@ -22,6 +22,19 @@ fn stretch<T>(all: &[T], from: usize, end: usize) -> &[T]
     &all[from..end]
 }
 
+/// Appends the elements, or all stays as it was; no elements cost no copy.
+#[inline(always)]
+fn append<T: Copy>(all: &mut Vec<T>, list: &[T]) -> Result<(), Memory>
+    ensures ok { OnOk result (all.new.items ≡ all.old.items ++ list.now) }
+    ensures err { OnErr result (all.new.items ≡ all.old.items) }
+{
+    if list.is_empty() {
+        return Ok(());
+    }
+    all.extend_from_slice(list)?;
+    Ok(())
+}
+
 /// A list of lists of any elements, which contracts see as the list of them.
 #[derive(Debug, Drop)]
 pub struct FlatLists<T> {
@@ -70,12 +83,13 @@ impl<T> FlatLists<T> {
 
 impl<T: Copy> FlatLists<T> {
     /// A new last list of these elements, or all stays as it was.
+    #[inline(always)]
     pub fn push(&mut self, list: &[T]) -> Result<(), Memory>
         ensures ok { OnOk result (self.new ≡ self.old ++ list.now ∷ []) }
         ensures err { OnErr result (self.new ≡ self.old) }
     {
         self.ends.reserve(1)?;
-        self.all.extend_from_slice(list)?;
+        append(&mut self.all, list)?;
         self.ends.push_reserved(self.all.len());
         Ok(())
     }
