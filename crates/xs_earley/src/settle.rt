@@ -172,6 +172,7 @@ fn enlist(
 }
 
 /// Adds to the last set all that its items lead to there, and puts them in their waiting lists.
+#[inline(always)]
 pub fn close(
     chart: &mut Chart,
     called: &mut [bool],

@@ -27,6 +27,7 @@ impl<L: Label> Model for Index<L> {
 }
 
 /// Which of that many remainders the label's spread has.
+#[inline(always)]
 fn remainder<L: Label>(label: L, buckets: usize) -> usize
     requires { 0 < buckets }
     ensures is { result ≡ L.spread_of label % buckets }
@@ -37,6 +38,7 @@ fn remainder<L: Label>(label: L, buckets: usize) -> usize
 
 /// The last place of the label before place `end`, which stands just after a label with the same
 /// remainder, or is 0.
+#[inline(always)]
 fn latest<L: Label>(labels: &[L], lasts: &[u32], befores: &[u32], label: L, end: u32) -> Option<u32>
     requires indexed { IsIndexed L.spread_of labels.now lasts.now befores.now }
     requires within { end ≤ length labels.now }
@@ -90,6 +92,7 @@ impl<L: Label> Index<L> {
     }
 
     /// A new last label, or all stays as it was.
+    #[inline(always)]
     pub fn push(&mut self, label: L) -> Result<(), Memory>
         ensures ok { OnOk result (self.new ≡ self.old ++ label ∷ []) }
         ensures err { OnErr result (self.new ≡ self.old) }
@@ -107,6 +110,7 @@ impl<L: Label> Index<L> {
     }
 
     /// The last place of the label.
+    #[inline(always)]
     pub fn last(&self, label: L) -> Option<u32>
         ensures { IsLatest self.now (length self.now) label result }
     {
