@@ -123,7 +123,7 @@ const SUSPECT: [(&str, Spot); 4] = [
 ];
 
 /// Why `prove` writes no certificate, which is why `accept` refuses the sheet.
-fn refusal(rt: &impl Abort, alloc: Global, two: &Two) -> Option<AcceptFault>
+pub fn refusal(rt: &impl Abort, alloc: Global, two: &Two) -> Option<AcceptFault>
     requires { IsSoundPair two.now }
 {
     let fault = prove(alloc, two).err()?;
