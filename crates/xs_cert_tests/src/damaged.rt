@@ -1,12 +1,12 @@
 //! Bytes that are no certificate, most of them a certificate of the empty sheet or of a small one
-//! with fences that is damaged: `certify` names the line that the slow program does.
+//! with groups that is damaged: `certify` names the line that the slow program does.
 mod damages;
 
 ghost use Rattle.xs_pair.specs.Sound.{IsSoundPair};
 
 use super::slow::Slow;
 use super::verdicts::{Verdict, verdict_on};
-use super::written::OF_EMPTY;
+use super::written::{GROUPS, OF_EMPTY};
 pub use damages::replaced;
 use damages::{DAMAGES, Damage, Spot, TEXTS, damaged, is_fit, is_spot};
 use std::alloc::Global;
@@ -159,14 +159,14 @@ fn expect_sheet(rt: &impl Abort, alloc: Global, sheet: &str) -> Result<(), Fail>
     expect_found(rt, alloc, &two, &slow)
 }
 
-#[test]
-fn damage_to_the_certificate_of_the_empty_sheet_is_found(rt: HostRuntime) -> Result<(), Fail> {
-    expect_sheet(&rt, rt.alloc(), EMPTY)
-}
+const SHEETS: [&str; 3] = [EMPTY, FENCED, GROUPS];
 
 #[test]
-fn damage_to_the_certificate_of_a_fenced_sheet_is_found(rt: HostRuntime) -> Result<(), Fail> {
-    expect_sheet(&rt, rt.alloc(), FENCED)
+fn damage_to_a_certificate_is_found(rt: HostRuntime) -> Result<(), Fail> {
+    for sheet in SHEETS {
+        expect_sheet(&rt, rt.alloc(), sheet)?;
+    }
+    Ok(())
 }
 
 /// Bytes in place of the certificate of the empty sheet, and their first bad line.

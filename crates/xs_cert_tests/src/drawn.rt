@@ -48,7 +48,7 @@ fn expect_changes(
     requires { IsSoundPair two.now }
 {
     let count = (bytes.len() % 65_536) as u32;
-    for _ in 0..4 {
+    for _ in 0..10 {
         let place = draws.below(count) as usize;
         let byte = draws.letter_of(CHANGED);
         let changed = replaced(alloc, bytes, place, place.wrapping_add(1), &[byte])?;
@@ -118,10 +118,10 @@ fn drawn_sheets_are_certified_where_they_are_accepted(rt: HostRuntime) -> Result
         plain: 0,
         damaged: 0,
     };
-    for seed in 1..=600 {
+    for seed in 1..=3_000 {
         expect_seed(&rt, rt.alloc(), seed, &mut counts)?;
     }
     let least = counts.refused.min(counts.fenced).min(counts.plain);
-    assert!(rt; least >= 50 && counts.damaged >= 1_000, "{counts:?}");
+    assert!(rt; least >= 250 && counts.damaged >= 10_000, "{counts:?}");
     Ok(())
 }
