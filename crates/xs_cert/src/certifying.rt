@@ -31,7 +31,7 @@ use xs_stretch::Tables;
 /// text rules before XML rules; with `CertBad` exactly where none does and the bytes are no such
 /// certificate, with the line after their longest good front, counted from 1.
 ///
-/// Takes time linear in the bytes, the nets, and the pairs of the sets times what leads from them;
+/// Takes time linear in the bytes and the nets, beside what `longest_apart` and `longest_clear` take;
 /// memory for the nets of a grammar's groups, and for the nets and sets of one block.
 pub fn certify<'t>(alloc: Global, two: &'t Two, bytes: &[u8]) -> Result<Certified<'t>, CertFault>
     requires text { IsSound two.now.text }

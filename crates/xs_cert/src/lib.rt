@@ -1,8 +1,8 @@
 //! Certificates in place of the search for suspects: `prove` writes one for grammars that are
-//! accepted, and `certify` tests one, pair by pair.
+//! accepted, and `certify` tests one, row by row.
 //!
-//! The test is local: each pair of states of each set is looked at once, with the edges, moves and
-//! calls that lead from it. What it takes grows with the certificate and the nets, in memory with
+//! The test is local: each row of each set is looked at by itself, with the edges, moves and calls
+//! that lead from its pairs. What it takes grows with the certificate and the nets, in memory with
 //! one block's sets.
 #![tactic(auto)]
 

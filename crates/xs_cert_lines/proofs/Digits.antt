@@ -1,11 +1,10 @@
 -- Numbers that are read digit by digit, where they stand in bytes with a line feed after them.
 use Rattle.std.proofs.Common.{◌≡◌, ◌⊎◌, ℕ, zero, suc, ◌+◌, ◌-◌, ◌*◌, ◌^◌, ◌<◌, ◌≤◌, Bool, true, false, ◌==◌, ◌&&◌, ◌||◌, nat_eq, nat_le, nat_lt, if◌then◌else◌, List, [], ◌∷◌, length, get_or, get_or-drop, drop, drop-cons, length-drop, Option, Some, None, refl, sym, ap, ◌∙◌, inl, inr, arith, eqb-true}
 use Rattle.std.proofs.lemmas.Bool.{cases_lt}
-use Rattle.std.proofs.lemmas.List.{drop_all}
 use Rattle.xs_class.specs.Words.{is_digit}
-use Rattle.xs_class.proofs.Truth.{and_true, both_true, le_is, le_true, lt_is, lt_true, if_true, if_false, or_left, or_right, and_no, false_true, eq_self}
+use Rattle.xs_class.proofs.Truth.{and_true, le_is, lt_is, lt_true, if_true, if_false, or_left, or_right, and_no, false_true, eq_self}
 use Rattle.xs_closed.specs.Rows.{has_number}
-use Rattle.xs_cert_lines.specs.Numbers.{digit_at, number_after, number_at, kept_within, within_at}
+use Rattle.xs_cert_lines.specs.Numbers.{digit_at, number_after, kept_within}
 
 -- where a line feed comes, there is a byte
 pub feed_within : (at : ℕ) (bytes : List ℕ) → has_number (drop at bytes) 10 ≡ true → at < length bytes
@@ -47,13 +46,6 @@ digit_is c d e = by (is_digit c) refl e
     by : (b : Bool) → is_digit c ≡ b → Some d ≡ (if b then Some (c - 48) else None) → IsDigit c d
     by false i h = absurd (none_some d (sym h))
     by true i h = let p = and_true (nat_le 48 c) (nat_le c 57) i in record { is = i; value = some_is d (c - 48) h; low = le_is 48 c p.0; high = le_is c 57 p.1 }
-
-pub no_digit : (c : ℕ) → None ≡ digit_at c → is_digit c ≡ false
-no_digit c e = by (is_digit c) refl e
-  where
-    by : (b : Bool) → is_digit c ≡ b → ◌≡◌ {A = Option ℕ} None (if b then Some (c - 48) else None) → is_digit c ≡ false
-    by false i h = i
-    by true i h = absurd (none_some (c - 48) h)
 
 pub digit_no_feed : (c d : ℕ) → Some d ≡ digit_at c → c ≡ 10 → ⊥
 digit_no_feed c d e feed = let is = digit_is c d e in absurd (omega (arith, is.low, feed))
@@ -101,31 +93,6 @@ one_more first end n c d cs small some at =
         by_limit (inl l) = absurd (false_true (sym e ∙ lt_true (n * 10 + (c - 48)) (2 ^ 32) l))
         by_limit (inr g) = omega (arith, g, small)
 
--- no digit more
-pub no_more_digits : (n c : ℕ) (cs : List ℕ) → None ≡ digit_at c → number_after n (c ∷ cs) ≡ Some (n, c ∷ cs)
-no_more_digits n c cs at = if_false (is_digit c) (if n == 0 then None else (if nat_lt (n * 10 + (c - 48)) (2 ^ 32) then number_after (n * 10 + (c - 48)) cs else None)) (Some (n, c ∷ cs)) (no_digit c at)
-
-pub kept : (first end n : ℕ) (rest : List ℕ) → first ≤ n → n < end → kept_within first end (Some (n, rest)) ≡ Some (n, rest)
-kept first end n rest order below = if_true (nat_le first n && nat_lt n end) (Some (n, rest)) None (both_true (nat_le first n) (nat_lt n end) (le_true first n order) (lt_true n end below))
-
-pub not_kept : (first end n : ℕ) (rest : List ℕ) → (first ≤ n → n < end → ⊥) → kept_within first end (Some (n, rest)) ≡ None
-not_kept first end n rest out = by (nat_le first n && nat_lt n end) refl
-  where
-    by : (b : Bool) → (nat_le first n && nat_lt n end) ≡ b → ◌≡◌ {A = Option (ℕ × List ℕ)} (if b then Some (n, rest) else None) None
-    by false e = refl
-    by true e = let p = and_true (nat_le first n) (nat_lt n end) e in absurd (out (le_is first n p.0) (lt_is n end p.1))
-
--- digits after a zero
-pub zero_more : (first end c d : ℕ) (cs : List ℕ) → Some d ≡ digit_at c → kept_within first end (number_after 0 (c ∷ cs)) ≡ None
-zero_more first end c d cs at = ap (kept_within first end) (if_true (is_digit c) None (Some (0, c ∷ cs)) (digit_is c d at).is)
-
--- the first digit
-pub first_digit : (c d : ℕ) (cs : List ℕ) → Some d ≡ digit_at c → number_at (c ∷ cs) ≡ number_after d cs
-first_digit c d cs at = let is = digit_is c d at in if_true (is_digit c) (number_after (c - 48) cs) None is.is ∙ ap (λ k. number_after k cs) (sym is.value)
-
-pub no_first : (first end c : ℕ) (cs : List ℕ) → None ≡ digit_at c → within_at first end (c ∷ cs) ≡ None
-no_first first end c cs at = ap (kept_within first end) (if_false (is_digit c) (number_after (c - 48) cs) None (no_digit c at))
-
 -- where the last byte is a line feed
 has_at : (k : ℕ) (bs : List ℕ) → k < length bs → get_or bs k 0 ≡ 10 → has_number bs 10 ≡ true
 has_at k [] l e = absurd (omega (arith, l))
@@ -136,22 +103,6 @@ pub last_feed : (start : ℕ) (bytes : List ℕ) → start < length bytes → ge
 last_feed start bytes l e =
     let there : start + (length bytes - 1 - start) ≡ length bytes - 1 = omega (arith, l) in
     has_at (length bytes - 1 - start) (drop start bytes) (omega (arith, length-drop start bytes, l)) (get_or-drop start bytes (length bytes - 1 - start) 0 ∙ ap (λ k. get_or bytes k 0) there ∙ e)
-
-pub feed_here : (at : ℕ) (bytes : List ℕ) → at < length bytes → get_or bytes at 0 ≡ 10 → has_number (drop at bytes) 10 ≡ true
-feed_here at bytes l e = has_at 0 (drop at bytes) (omega (arith, length-drop at bytes, l)) (get_or-drop at bytes 0 0 ∙ ap (λ k. get_or bytes k 0) (zero_after at) ∙ e)
-  where
-    zero_after : (n : ℕ) → n + 0 ≡ n
-    zero_after n = omega arith
-
-pub feed_later : (at : ℕ) (bytes : List ℕ) → at < length bytes → (get_or bytes at 0 ≡ 10 → ⊥) → has_number (drop at bytes) 10 ≡ has_number (drop (suc at) bytes) 10
-feed_later at bytes l other = ap (λ z. has_number z 10) (drop-cons bytes at 0 l) ∙ by (nat_eq (get_or bytes at 0) 10) refl
-  where
-    by : (b : Bool) → nat_eq (get_or bytes at 0) 10 ≡ b → (b || has_number (drop (suc at) bytes) 10) ≡ has_number (drop (suc at) bytes) 10
-    by true e = absurd (other (eqb-true (get_or bytes at 0) 10 e))
-    by false e = refl
-
-pub no_bytes : (at : ℕ) (bytes : List ℕ) → length bytes ≤ at → has_number (drop at bytes) 10 ≡ false
-no_bytes at bytes l = ap (λ z. has_number z 10) (drop_all at bytes l)
 
 -- a step of the loop over digits
 add_one : (n : ℕ) → suc n ≡ n + 1

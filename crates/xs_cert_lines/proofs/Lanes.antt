@@ -1,14 +1,14 @@
 -- The marks of a row, a word after another.
-use Rattle.std.proofs.Common.{◌≡◌, ◌⊎◌, ℕ, zero, suc, ◌+◌, ◌-◌, ◌*◌, ◌/◌, ◌%◌, ◌^◌, ◌<◌, ◌≤◌, Bool, true, false, nat_eq, List, [], ◌∷◌, ◌++◌, length, get_or, drop, take, decimal, w64, refl, sym, ap, ◌∙◌, subst, inl, inr, arith, append_assoc, append-nil}
+use Rattle.std.proofs.Common.{◌≡◌, ◌⊎◌, ℕ, zero, suc, ◌+◌, ◌-◌, ◌*◌, ◌/◌, ◌%◌, ◌^◌, ◌<◌, ◌≤◌, Bool, true, false, nat_eq, List, [], ◌∷◌, ◌++◌, length, get_or, drop, take, decimal, w64, refl, sym, ap, ◌∙◌, subst, inl, inr, arith, append_assoc}
 use Rattle.std.specs.Int.{bit_at, trailing_zeros}
 use Rattle.std.proofs.lemmas.Bool.{cases_lt}
-use Rattle.std.proofs.lemmas.List.{drop-drop, get_or_past, drop_all}
+use Rattle.std.proofs.lemmas.List.{drop-drop, get_or_past}
 use Rattle.std.proofs.lemmas.Nat.{shr-shr}
 use Rattle.std.proofs.lemmas.Nat.Bits.{bit_at-zero, bit_at-trailing_zeros, bit_at_above}
 use Rattle.xs_closed.specs.Rows.{Grid, places}
 use Rattle.xs_closed.specs.Lanes.{IsLane}
 use Rattle.xs_cert_lines.specs.Reading.{listed}
-use Rattle.xs_cert_lines.specs.Pages.{Puts, Flushes, PutsPartners}
+use Rattle.xs_cert_lines.specs.Pages.{Puts}
 use Rattle.xs_cert_lines.proofs.Paging.{put_then}
 use Rattle.xs_cert_lines.proofs.Writing.{get_drop, next_place}
 
@@ -142,16 +142,3 @@ partner_put old mid new all at between end from to left b row so next space numb
 pub lane_ends : (old all : List ℕ) (at from to : ℕ) (row : List Bool) → from ≤ to → ((b : ℕ) → from ≤ b → b < to → get_or row b false ≡ false)
     → take at old ++ listed (places from (drop from row)) ≡ all → take at old ++ listed (places to (drop to row)) ≡ all
 lane_ends old all at from to row order none so = ap (λ ps. take at old ++ listed ps) (sym (passed from to row order none)) ∙ so
-
--- a word after another
-pub lanes_go_on : (out begun page new_page all : List ℕ) (at begin end from to : ℕ) (row : List Bool) → Flushes out begun page at begin → PutsPartners page new_page begin end row from to
-    → (out ++ take at page) ++ listed (places from (drop from row)) ≡ all → (begun ++ take end new_page) ++ listed (places to (drop to row)) ≡ all
-lanes_go_on out begun page new_page all at begin end from to row flush puts so =
-    append_assoc begun (take end new_page) (listed (places to (drop to row)))
-    ∙ ap (λ z. begun ++ z) puts.text
-    ∙ sym (append_assoc begun (take begin page) (listed (places from (drop from row))))
-    ∙ ap (λ z. z ++ listed (places from (drop from row))) flush.text ∙ so
-
--- the last word of a row
-pub lanes_end : (text all : List ℕ) (from : ℕ) (row : List Bool) → length row ≤ from → text ++ listed (places from (drop from row)) ≡ all → text ≡ all
-lanes_end text all from row past so = sym (append-nil text) ∙ ap (λ bs. text ++ listed (places from bs)) (sym (drop_all from row past)) ∙ so

@@ -133,16 +133,6 @@ row_added first high old new bytes state partners rest high_is at reads =
       adds = reads.marks;
     }
 
--- the partners that are read first, before any
-pub marking_begins : (end : ℕ) (old : Grid) (a : ℕ) (bytes bs rest : List ℕ) → end ≡ old.wide → ArePartners 0 old.wide bytes bs rest → IsMarking 0 end old old a bytes bs rest
-marking_begins end old a bytes bs rest is are = record {
-  others = bs;
-  left = are.is;
-  order = are.order;
-  within = subst (λ k. All (λ b. b < k) bs) (sym is) are.within;
-  marks = λ c d. refl;
-}
-
 -- and the last, with a line feed after it
 pub last_marked : (end first : ℕ) (old now new : Grid) (a : ℕ) (bytes rest : List ℕ) (n : ℕ) (more after : List ℕ)
     → end < 2 ^ 32 → end ≡ old.wide → SameRests end 0 bytes first rest → Some (n, more) ≡ partner_at first end rest → more ≡ 10 ∷ after

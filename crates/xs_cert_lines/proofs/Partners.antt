@@ -13,10 +13,6 @@ pub listed_ends : (bs rest : List ℕ) → begins_digit (listed bs ++ 10 ∷ res
 listed_ends [] rest = refl
 listed_ends (b ∷ bs) rest = refl
 
-pub Ascends_later : (first low : ℕ) (bs : List ℕ) → first ≤ low → Ascends low bs → Ascends first bs
-Ascends_later first low [] le up = tt
-Ascends_later first low (b ∷ bs) le up = (omega (arith, up.0), up.1)
-
 none_pair : (x : ℕ × List ℕ) → ◌≡◌ {A = Option (ℕ × List ℕ)} None (Some x) → ⊥
 none_pair x e = cc
 

@@ -1,7 +1,7 @@
 -- The rows of a table, as they are written.
-use Rattle.std.proofs.Common.{◌≡◌, ℕ, zero, suc, ◌+◌, ◌-◌, ◌<◌, ◌≤◌, Bool, true, false, List, [], ◌∷◌, ◌++◌, length, get_or, take, drop, drop-cons, decimal, refl, sym, ap, ◌∙◌, arith, append_assoc, append-nil}
+use Rattle.std.proofs.Common.{◌≡◌, ℕ, zero, suc, ◌+◌, ◌-◌, ◌<◌, ◌≤◌, Bool, true, false, List, [], ◌∷◌, ◌++◌, get_or, take, drop, decimal, refl, sym, ap, ◌∙◌, arith, append_assoc, append-nil}
 use Rattle.std.proofs.lemmas.List.{drop-drop}
-use Rattle.xs_closed.specs.Rows.{Grid, IsNext, marked, places, row_then, rows_from}
+use Rattle.xs_closed.specs.Rows.{Grid, IsNext, marked, places, row_then}
 use Rattle.xs_cert_lines.specs.Lines.{row_line, set_lines, written}
 use Rattle.xs_cert_lines.specs.Reading.{listed}
 use Rattle.xs_cert_lines.specs.Pages.{Puts, Flushes, Writes}
@@ -83,22 +83,3 @@ one_row out begun page new_out listing_page ended start begin between listing en
   where
     regroup : (o p d l f : List ℕ) → ((o ++ (p ++ d)) ++ l) ++ f ≡ (o ++ p) ++ (d ++ l ++ f)
     regroup o p d l f = simp append_assoc
-
--- rows, the first of them before the others
-pub rows_written : (a : ℕ) (rows : List (List Bool)) → a < length rows
-    → written (set_lines (rows_from a (drop a rows))) ≡ written (set_lines (row_then a (places 0 (get_or rows a [])) [])) ++ written (set_lines (rows_from (suc a) (drop (suc a) rows)))
-rows_written a rows l = ap (λ z. written (set_lines (rows_from a z))) (drop-cons rows a [] l) ∙ by (places 0 (get_or rows a []))
-  where
-    by : (ps : List ℕ) → written (set_lines (row_then a ps (rows_from (suc a) (drop (suc a) rows)))) ≡ written (set_lines (row_then a ps [])) ++ written (set_lines (rows_from (suc a) (drop (suc a) rows)))
-    by [] = refl
-    by (b ∷ bs) = let line = row_line (record { state = a; partners = b ∷ bs }) ++ 10 ∷ [] in ap (λ z. z ++ written (set_lines (rows_from (suc a) (drop (suc a) rows)))) (sym (append-nil line))
-
--- the rows so far, and one more
-pub rows_go_on : (out page new_out new_page all : List ℕ) (at end a : ℕ) (rows : List (List Bool)) → a < length rows
-    → (out ++ take at page) ++ written (set_lines (rows_from a (drop a rows))) ≡ all
-    → Writes out page at new_out new_page end (written (set_lines (row_then a (places 0 (get_or rows a [])) [])))
-    → (new_out ++ take end new_page) ++ written (set_lines (rows_from (suc a) (drop (suc a) rows))) ≡ all
-rows_go_on out page new_out new_page all at end a rows l so writes =
-    let row = written (set_lines (row_then a (places 0 (get_or rows a [])) [])) in
-    let later = written (set_lines (rows_from (suc a) (drop (suc a) rows))) in
-    ap (λ z. z ++ later) writes.text ∙ append_assoc (out ++ take at page) row later ∙ ap (λ z. (out ++ take at page) ++ z) (sym (rows_written a rows l)) ∙ so

@@ -39,7 +39,7 @@ fn zero_within(bytes: &[u8], at: usize, first: u32, end: u32) -> Option<(u32, us
 /// The number that the digits from a place on spell after those of one that is not 0, where it is
 /// within bounds, and the place after them.
 ///
-/// It stops at the end that the number must be below, so that no product is too great.
+/// It stops once the number is not below the end, so no product overflows.
 #[inline(always)]
 fn more_within(
     bytes: &[u8],

@@ -27,8 +27,8 @@ fn has_feed(bytes: &[u8], start: usize) -> bool
     false
 }
 
-/// Marks the pairs of a number and each of the partners from a byte on, up to their line feed, after
-/// which is the byte that it gives. Where there is none, some of the pairs are marked.
+/// Marks the pairs of a number and the partners that stand from a byte on, and gives the byte after
+/// their line feed. Where no such partners stand there, some pairs may have been marked.
 fn read_partners(bytes: &[u8], start: usize, state: u32, set: &mut PairSet) -> Option<usize>
     requires feed { has_number (drop start bytes.now) 10 ≡ true }
     requires state { state < length set.old.rows }
@@ -52,9 +52,9 @@ fn read_partners(bytes: &[u8], start: usize, state: u32, set: &mut PairSet) -> O
     None
 }
 
-/// Reads a row from a byte on into a set with these bounds that has no pairs of the first number
-/// that may come and of those after it: the first number that may come after the row, and the byte
-/// after its line. Where no row stands there whose number is at least the first, the set has the
+/// Reads the row that stands from a byte on into a set with these bounds, which has no pairs of the
+/// first number that may come nor of later ones. Gives the first number that may come next, and the
+/// byte after the line. Where no row stands there whose number is at least the first, the set has the
 /// same pairs as before.
 pub fn read_row(
     bytes: &[u8],

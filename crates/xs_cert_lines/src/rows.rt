@@ -12,8 +12,8 @@ use xs_closed::PairSet;
 /// How many bytes are written before they are appended at once.
 const PAGE: usize = 2048;
 
-/// More than the partners of a word and what else is put before the next time that there is room:
-/// each of the 64 takes a space and ten digits at most.
+/// No less than what is put between two calls of `with_room`: 64 partners of at most 11 bytes each,
+/// a row's number and a line feed.
 const ROOM: usize = 728;
 
 /// Appends what was written, where there is not much room left, and gives the place to go on from.

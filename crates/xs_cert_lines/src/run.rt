@@ -15,7 +15,8 @@ pub struct Run {
 /// Reads rows into a set without pairs, from a byte on: as many as stand there.
 ///
 /// The run ends before the first line that is no row of such a set or whose number is not greater
-/// than that of the row before. Linear in the bytes up to the end of that line; takes no memory.
+/// than that of the row before. Linear in the bytes up to the end of that line and in the words of
+/// a row; takes no memory.
 pub fn read_rows(bytes: &[u8], start: usize, set: &mut PairSet) -> Run
     requires within { start ≤ length bytes.now }
     requires blank { set.old ≡ blank (length set.old.rows) set.old.wide }

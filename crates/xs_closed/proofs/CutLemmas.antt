@@ -2,7 +2,7 @@
 use Rattle.std.proofs.Common.{◌≡◌, ℕ, ◌+◌, ◌<◌, ◌≤◌, ◌⊎◌, true, false, length, Option, Some, None, refl, sym, subst, ◌∙◌, inl, inr, arith}
 use Rattle.std.proofs.lemmas.Bool.{cases_eq, true≢false}
 use Rattle.xs_auto.specs.Nets.{Graph, final_at}
-use Rattle.xs_meet.specs.Closed.{Marked, Drifts, Strides, Leads, IsClear}
+use Rattle.xs_meet.specs.Closed.{Marked, Leads, IsClear}
 use Rattle.xs_closed.specs.Rows.{Grid, marked, IsSized, rows_of}
 use Rattle.xs_closed.specs.Least.{AreStarts, IsPastMiddle}
 use Rattle.xs_closed.specs.Longest.{First, Holds, IsApartBy, IsClearBy}
@@ -31,9 +31,6 @@ starts_need z m n a b (Some new) e f need = raises_as z 0 new (λ c d t. record 
     same : (x y : ℕ) → Some x ≡ Some y → x ≡ y
     same x y q = cc
 
-pub no_starts : (z : Grid) (m n : Graph) → ((a b : ℕ) → m.start ≡ Some a → n.start ≡ Some b → ⊥) → Raises z (AreStarts m n) 0 0
-no_starts z m n none = raises_none z 0 (λ c d t. none c d t.first t.second)
-
 -- the first rows show that the nets share no word where they are closed and right
 pub apart_limit : (z : Grid) (R : ℕ → ℕ → Type 0) (m n : Graph) (need x : ℕ) → Raises z (AreStarts m n) 0 need → IsApartBy R m n z (rank z x) → IsLimit R m n z need x
 apart_limit z R m n need x h p = record {
@@ -54,19 +51,6 @@ limit_apart z R m n need x h p = record {
 pub no_apart : (z : Grid) (R : ℕ → ℕ → Type 0) (m n : Graph) → Lacks z (AreStarts m n) → (j : ℕ) → j ≤ length (rows_of z) → IsApartBy R m n z j → ⊥
 no_apart z R m n lacks j l p = lacks (λ c d t. first_marked z j c d l (p.starts c d t.first t.second))
 
--- what a row leads to, and the rows one after another
-pub row_closed : (y z : Grid) (R : ℕ → ℕ → Type 0) (m n : Graph) (a o p q r : ℕ) → Raises y (InRow y a (Drifts m n a)) o p → Raises z (InRow y a (Strides R m n a)) q r → (b : ℕ) → marked y a b ≡ true → LeadsWithin R m n y z a b
-row_closed y z R m n a o p q r h g b e = record {
-  drifts = λ c d t. h.there c d (record { partner = b; there = e; leads = t });
-  strides = λ c d t. g.there c d (record { partner = b; there = e; leads = t });
-}
-
-pub drifts_out : (y z : Grid) (R : ℕ → ℕ → Type 0) (m n : Graph) (a : ℕ) → Lacks y (InRow y a (Drifts m n a)) → ((b : ℕ) → marked y a b ≡ true → LeadsWithin R m n y z a b) → ⊥
-drifts_out y z R m n a lacks each = lacks (λ c d t. (each t.partner t.there).drifts c d t.leads)
-
-pub strides_out : (y z : Grid) (R : ℕ → ℕ → Type 0) (m n : Graph) (a : ℕ) → Lacks z (InRow y a (Strides R m n a)) → ((b : ℕ) → marked y a b ≡ true → LeadsWithin R m n y z a b) → ⊥
-strides_out y z R m n a lacks each = lacks (λ c d t. (each t.partner t.there).strides c d t.leads)
-
 pub rows_more : (y : Grid) (P : ℕ → ℕ → Type 0) (a : ℕ) → ((x b : ℕ) → x < a → marked y x b ≡ true → P x b) → ((b : ℕ) → marked y a b ≡ true → P a b) → (x b : ℕ) → x < a + 1 → marked y x b ≡ true → P x b
 rows_more y P a before here x b l e = elim (cases_eq x a) [
   | inl q ↦ rw q (here b (rw q at e))
@@ -75,10 +59,6 @@ rows_more y P a before here x b l e = elim (cases_eq x a) [
 
 pub rows_all : (y : Grid) (P : ℕ → ℕ → Type 0) (high wide a : ℕ) → IsSized high wide y → high ≤ a → ((x b : ℕ) → x < a → marked y x b ≡ true → P x b) → EachPair y P
 rows_all y P high wide a sized l each x b e = let k = marked_within high wide y x b sized e in each x b (omega (arith, k.0)) e
-
--- the rows of the third set, one after another
-pub past_begun : (y z : Grid) (front rest : Graph) → Raises z (IsPastBelow front rest y 0) 0 0
-past_begun y z front rest = raises_none z 0 (λ c d t. absurd (omega (arith, t.before)))
 
 pub past_row : (y z : Grid) (front : Graph) (a s old : ℕ) (result : Option ℕ) → final_at front a ≡ true → IsNeed z (InRow y a (IsPair s)) old result → IsNeed z (IsPastRow front y a s) old result
 past_row y z front a s old None f need = lacks_as z (λ c d t. record { final = f; first = t.leads.first; there = rw t.leads.second t.there }) need

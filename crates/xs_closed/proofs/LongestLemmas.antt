@@ -1,9 +1,9 @@
 -- The greatest number of leading rows that are right.
-use Rattle.std.proofs.Common.{◌≡◌, ℕ, zero, suc, ◌+◌, ◌<◌, ◌≤◌, ◌⊎◌, Bool, true, false, ◌&&◌, max, List, [], ◌∷◌, ◌++◌, length, get_or, take, drop, Option, Some, None, refl, sym, ap, subst, ◌∙◌, inl, inr, arith, length-append}
+use Rattle.std.proofs.Common.{◌≡◌, ℕ, zero, suc, ◌+◌, ◌<◌, ◌≤◌, ◌⊎◌, Bool, true, false, List, [], ◌∷◌, ◌++◌, length, get_or, take, drop, Option, Some, None, refl, sym, ap, subst, ◌∙◌, inl, inr, arith, length-append}
 use Rattle.std.specs.Prelude.{IfSome}
-use Rattle.std.proofs.lemmas.Bool.{cases_eq, cases_lt, true≢false, and_from}
-use Rattle.std.proofs.lemmas.List.{take_more, take_all, take_at, take-append-drop, take-take, get_or-take, get_or_past, length-take}
-use Rattle.xs_auto.specs.Nets.{Graph, final_at}
+use Rattle.std.proofs.lemmas.Bool.{cases_eq, cases_lt, true≢false}
+use Rattle.std.proofs.lemmas.List.{take_more, take_at, take-append-drop, take-take, get_or-take, get_or_past, length-take}
+use Rattle.xs_auto.specs.Nets.{Graph}
 use Rattle.xs_meet.specs.Closed.{Drifts, Strides, Leads}
 use Rattle.xs_closed.specs.Rows.{Grid, Row, marked, IsSized, IsNext, holds, places, row_then, rows_from, rows_of}
 use Rattle.xs_closed.specs.Longest.{First, IsGreatestIn}
@@ -24,12 +24,6 @@ marked_within high wide z a b sized e = elim (cases_lt a high) [
 pub next_within : (high wide : ℕ) (z : Grid) (a from : ℕ) (result : Option ℕ) → IsSized high wide z → IfSome result (IsNext z a from) → IfSome result (λ b. b < wide)
 next_within high wide z a from None sized next = next
 next_within high wide z a from (Some b) sized next = (marked_within high wide z a b sized next.there).1
-
-pub past_marks : (high wide : ℕ) (z : Grid) (a b : ℕ) → IsSized high wide z → wide ≤ b → marked z a b ≡ false
-past_marks high wide z a b sized l = elim (cases_lt a high) [
-  | inr m ↦ ap (λ r. get_or r b false) (get_or_past z.rows a [] (omega (arith, sized.high)))
-  | inl m ↦ get_or_past (get_or z.rows a []) b false (omega (arith, sized.even a m))
-]
 
 -- a row, then its empty moves, then its edges and calls
 pub row_fails : (z : Grid) (R : ℕ → ℕ → Type 0) (m n : Graph) (a old : ℕ) {T : ℕ → ℕ → Type 0} → ((c d : ℕ) → T c d → InRow z a (Keeps R m n a) c d) → Lacks z T → IsRowNeed R m n z a old None
@@ -61,16 +55,6 @@ row_done z R m n a old kept drifted (Some new) none h g k =
 
 pub row_empty : (z : Grid) (R : ℕ → ℕ → Type 0) (m n : Graph) (a old : ℕ) → ((b : ℕ) → marked z a b ≡ false) → IsRowNeed R m n z a old (Some old)
 row_empty z R m n a old none = (λ b e f g. true≢false (sym e ∙ none b), raises_none z old (λ c d t. true≢false (sym t.there ∙ none t.partner)))
-
--- the rows, one after another
-pub read_begun : (z : Grid) (R : ℕ → ℕ → Type 0) (m n : Graph) (low : ℕ) → IsRead R m n z low 0 low
-read_begun z R m n low = record {
-  there = λ a b c d l e t. absurd (omega arith);
-  none = λ a b l e f g. absurd (omega (arith, l));
-  order = omega arith;
-  within = λ a b c d l e t. absurd (omega arith);
-  least = λ y l m k. m;
-}
 
 pub read_more : (z : Grid) (R : ℕ → ℕ → Type 0) (m n : Graph) (low a need new : ℕ) → IsRead R m n z low a need → IsRowNeed R m n z a need (Some new) → IsRead R m n z low (a + 1) new
 read_more z R m n low a need new h row = record {
@@ -156,12 +140,6 @@ rows_few k (r ∷ rs) = few k (places 0 r) (rows_from (suc k) rs) (length rs) (r
 
 pub rank_few : (z : Grid) (x : ℕ) → rank z x ≤ x
 rank_few z x = omega (arith, rows_few 0 (take x z.rows), length-take x z.rows)
-
-pub rank_none : (z : Grid) → rank z 0 ≡ 0
-rank_none z = refl
-
-pub rank_all : (z : Grid) (x : ℕ) → length z.rows ≤ x → rank z x ≡ length (rows_of z)
-rank_all z x l = ap (λ rs. length (rows_from 0 rs)) (take_all x z.rows l)
 
 pub rank_le : (z : Grid) (x : ℕ) → rank z x ≤ length (rows_of z)
 rank_le z x = omega (arith, ap length (rows_split x z.rows), length-append (rows_from 0 (take x z.rows)) (rows_from (0 + length (take x z.rows)) (drop x z.rows)))

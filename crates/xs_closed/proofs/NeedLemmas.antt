@@ -1,26 +1,13 @@
 -- What pairs need, one after another.
-use Rattle.std.proofs.Common.{◌≡◌, ℕ, ◌+◌, ◌<◌, ◌≤◌, ◌⊎◌, true, false, List, [], ◌∷◌, ◌++◌, length, get_or, take, Option, Some, None, refl, sym, ap, ◌∙◌, inl, inr, arith}
-use Rattle.std.proofs.lemmas.Bool.{true≢false}
+use Rattle.std.proofs.Common.{◌≡◌, ℕ, ◌+◌, ◌<◌, ◌≤◌, ◌⊎◌, List, [], ◌∷◌, ◌++◌, length, get_or, take, Option, Some, None, sym, ap, ◌∙◌, inl, inr, arith}
 use Rattle.std.proofs.lemmas.List.{take_more, take_all}
 use Rattle.std.proofs.lemmas.List.Elements.{Contains-append_left, Contains-push, Contains-push_cases, Contains-get_or}
 use Rattle.xs_class.specs.Classes.{Has}
 use Rattle.xs_auto.specs.declared.call.Call.{Call}
 use Rattle.xs_auto.specs.declared.edge.Edge.{Edge}
 use Rattle.xs_auto.specs.Nets.{Graph, edges_of, calls_of}
-use Rattle.xs_closed.specs.Rows.{Grid, marked}
+use Rattle.xs_closed.specs.Rows.{Grid}
 use Rattle.xs_closed.specs.Testing.{OneOf, IsPair, Meets, Joins, StridesBy, Raises, Lacks, IsNeed}
-
--- a pair that is marked is needed
-pub raises_pair : (z : Grid) (a b old new : ℕ) → marked z a b ≡ true → old ≤ new → a < new → ((x : ℕ) → old ≤ x → a < x → new ≤ x) → Raises z (IsPair a b) old new
-raises_pair z a b old new e l m least = record {
-  there = λ c d t. rw (t.first, t.second) e;
-  order = l;
-  within = λ c d t. omega (arith, t.first);
-  least = λ x o k. least x o (k a b (record { first = refl; second = refl }));
-}
-
-pub lacks_pair : (z : Grid) (a b : ℕ) → marked z a b ≡ false → Lacks z (IsPair a b)
-lacks_pair z a b e h = true≢false (sym (h a b (record { first = refl; second = refl })) ∙ e)
 
 -- no pair needs nothing
 pub raises_none : (z : Grid) {T : ℕ → ℕ → Type 0} (old : ℕ) → ((c d : ℕ) → T c d → ⊥) → Raises z T old old
@@ -51,10 +38,6 @@ raises_as z old new to back h = record {
 pub lacks_as : (z : Grid) {T U : ℕ → ℕ → Type 0} → ((c d : ℕ) → T c d → U c d) → Lacks z T → Lacks z U
 lacks_as z to h k = h (λ c d t. k c d (to c d t))
 
--- elements one after another
-pub one_none : (z : Grid) {X : Type 0} (F : X → ℕ → ℕ → Type 0) (old : ℕ) → Raises z (OneOf [] F) old old
-one_none z F old = raises_none z old (λ c d t. absurd (omega (arith, t.has.1)))
-
 pub one_read : (z : Grid) {X : Type 0} (F : X → ℕ → ℕ → Type 0) (xs : List X) (i : ℕ) (x d : X) (old mid new : ℕ) → i < length xs → x ≡ get_or xs i d → Raises z (OneOf (take i xs) F) old mid → Raises z (F x) mid new → Raises z (OneOf (take (i + 1) xs) F) old new
 one_read z {X} F xs i x d old mid new l e h g = raises_then z old mid new split left right h g
   where
@@ -83,24 +66,9 @@ one_lacks z F xs i x d l e h = lacks_as z (λ a b t. record { item = x; has = rw
 abbrev pub no_call : Call
 no_call = record { group = 0; to = 0 }
 
--- edges that read no common symbol, and groups that are not related, need nothing
-pub meets_none : (z : Grid) (e f : Edge) (old : ℕ) → ((s : ℕ) → Has e.class s → Has f.class s → ⊥) → Raises z (Meets e f) old old
-meets_none z e f old none = raises_none z old (λ c d t. none t.symbol t.takes_first t.takes_second)
-
-pub meets_there : (z : Grid) (e f : Edge) (old : ℕ) → marked z e.to f.to ≡ true → e.to < old → Raises z (Meets e f) old old
-meets_there z e f old there l = record {
-  there = λ c d t. rw (← t.to_first, ← t.to_second) there;
-  order = omega arith;
-  within = λ c d t. omega (arith, t.to_first);
-  least = λ x o k. o;
-}
-
 pub meets_need : (z : Grid) (e f : Edge) (s old : ℕ) (result : Option ℕ) → Has e.class s → Has f.class s → IsNeed z (IsPair e.to f.to) old result → IsNeed z (Meets e f) old result
 meets_need z e f s old None h k need = lacks_as z (λ c d t. record { symbol = s; takes_first = h; takes_second = k; to_first = sym t.first; to_second = sym t.second }) need
 meets_need z e f s old (Some new) h k need = raises_as z old new (λ c d t. record { symbol = s; takes_first = h; takes_second = k; to_first = sym t.first; to_second = sym t.second }) (λ c d t. record { first = sym t.to_first; second = sym t.to_second }) need
-
-pub joins_none : (z : Grid) (R : ℕ → ℕ → Type 0) (h k : Call) (old : ℕ) → (R h.group k.group → ⊥) → Raises z (Joins R h k) old old
-joins_none z R h k old none = raises_none z old (λ c d t. none t.related)
 
 pub joins_need : (z : Grid) (R : ℕ → ℕ → Type 0) (h k : Call) (old : ℕ) (result : Option ℕ) → R h.group k.group → IsNeed z (IsPair h.to k.to) old result → IsNeed z (Joins R h k) old result
 joins_need z R h k old None r need = lacks_as z (λ c d t. record { related = r; to_first = sym t.first; to_second = sym t.second }) need

@@ -1,16 +1,13 @@
 -- What the pairs of a row need, one partner after another.
-use Rattle.std.proofs.Common.{◌≡◌, ℕ, ◌+◌, ◌<◌, ◌≤◌, ◌⊎◌, true, false, max, List, [], Option, Some, None, refl, sym, ◌∙◌, inl, inr, arith}
+use Rattle.std.proofs.Common.{◌≡◌, ℕ, ◌+◌, ◌<◌, ◌≤◌, ◌⊎◌, true, false, max, List, Option, Some, None, refl, sym, ◌∙◌, inl, inr, arith}
 use Rattle.std.proofs.lemmas.Bool.{cases_eq, cases_lt, true≢false}
 use Rattle.xs_auto.specs.declared.call.Call.{Call}
 use Rattle.xs_auto.specs.declared.edge.Edge.{Edge}
 use Rattle.xs_auto.specs.Nets.{Graph, edges_of, moves_of, calls_of}
 use Rattle.xs_meet.specs.Closed.{Drifts, Strides}
 use Rattle.xs_closed.specs.Rows.{Grid, marked, IsNext}
-use Rattle.xs_closed.specs.Testing.{OneOf, IsPair, Meets, Joins, StridesBy, InRow, InRowBelow, Keeps, Raises, Lacks, IsNeed}
+use Rattle.xs_closed.specs.Testing.{OneOf, IsPair, StridesBy, InRow, InRowBelow, Raises, Lacks, IsNeed}
 use Rattle.xs_closed.proofs.NeedLemmas.{raises_none, raises_then, raises_as, lacks_as}
-
-pub partners_begun : (y z : Grid) (a : ℕ) (F : ℕ → ℕ → ℕ → Type 0) (old : ℕ) → Raises z (InRowBelow y a 0 F) old old
-partners_begun y z a F old = raises_none z old (λ c d t. absurd (omega (arith, t.before)))
 
 pub partners_more : (y z : Grid) (a : ℕ) (F : ℕ → ℕ → ℕ → Type 0) (from b old mid new : ℕ) → IsNext y a from b → Raises z (InRowBelow y a from F) old mid → Raises z (F b) mid new → Raises z (InRowBelow y a (b + 1) F) old new
 partners_more y z a F from b old mid new next h g = raises_then z old mid new split left right h g

@@ -1,5 +1,5 @@
 -- A table of marks in words: reading, setting and finding bits.
-use Rattle.std.proofs.Common.{◌≡◌, ◌≢◌, ℕ, zero, suc, ◌+◌, ◌-◌, ◌*◌, ◌/◌, ◌%◌, ◌^◌, ◌<◌, ◌≤◌, Bool, true, false, not, nat_eq, List, [], ◌∷◌, ◌++◌, length, get_or, set, take, replicate, max, min, leb, ◌↔◌, bit_and, bit_or, w64, refl, sym, ap, ◌∙◌, inl, inr, arith, length-set, get_or-set_same, get_or-set_other}
+use Rattle.std.proofs.Common.{◌≡◌, ◌≢◌, ℕ, zero, suc, ◌+◌, ◌-◌, ◌*◌, ◌/◌, ◌%◌, ◌^◌, ◌<◌, ◌≤◌, Bool, true, false, not, nat_eq, List, [], length, get_or, set, replicate, max, min, leb, ◌↔◌, bit_and, bit_or, w64, refl, sym, ap, ◌∙◌, inl, inr, arith, length-set, get_or-set_same, get_or-set_other}
 use Rattle.std.specs.Prelude.{IsTrue}
 use Rattle.std.specs.Int.{bit_at, bit_not, trailing_zeros}
 use Rattle.std.proofs.lemmas.Bool.{cases_eq, cases_lt, eqb-true, true≢false, leb-true, le-leb}
@@ -117,18 +117,6 @@ fresh_bit word r = rw (shr_and_one word r) (one_of (bit_at word r) (bit_at-lt wo
 
 pub held_bit : (word r : ℕ) → nat_eq (bit_and (word / 2 ^ r) 1) 1 ≡ nat_eq (bit_at word r) 1
 held_bit word r = rw (shr_and_one word r) refl
-
-copies : (m k : ℕ) → get_or {A = ℕ} (replicate {A = ℕ} m zero) k zero ≡ zero
-copies zero k = refl
-copies (suc m) zero = refl
-copies (suc m) (suc k) = copies m k
-
--- zeros, and zeros after them
-pub zeros_more : (n m : ℕ) (xs : List ℕ) → ((k : ℕ) → get_or xs k zero ≡ zero) → (k : ℕ) → get_or (take n xs ++ replicate m zero) k zero ≡ zero
-zeros_more zero m xs h k = copies m k
-zeros_more (suc n) m [] h k = copies m k
-zeros_more (suc n) m (x ∷ xs) h zero = h zero
-zeros_more (suc n) m (x ∷ xs) h (suc k) = zeros_more n m xs (λ i. h (suc i)) k
 
 -- a bit of a word from another on
 shifted : (word r i : ℕ) → bit_at (word / 2 ^ r) i ≡ bit_at word (r + i)

@@ -5,10 +5,8 @@ use Rattle.xs_class.specs.Classes.{Has}
 use Rattle.xs_auto.specs.declared.call.Call.{Call}
 use Rattle.xs_auto.specs.declared.edge.Edge.{Edge}
 use Rattle.xs_auto.specs.Nets.{Graph, final_at, edges_of, calls_of}
-use Rattle.xs_meet.specs.Closed.{Marked, Drifts, Strides, Leads, IsClosed, HasNoFinals}
+use Rattle.xs_meet.specs.Closed.{Drifts, Strides, Leads, IsClosed, HasNoFinals}
 use Rattle.xs_closed.specs.Rows.{Grid, marked, rows_from}
-use Rattle.xs_closed.specs.Least.{IsPastMiddle}
-use Rattle.xs_closed.specs.declared.sets.CutSets.{CutSets}
 
 -- some element leads to the pair of c and d
 pub record OneOf {X : Type 0} (xs : List X) (F : X → ℕ → ℕ → Type 0) (c d : ℕ) : Type 0 where

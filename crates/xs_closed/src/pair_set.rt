@@ -121,7 +121,7 @@ impl PairSet {
     }
 
     /// The partners of a number from 64 times a place on, as the bits of a word: its lowest bit is
-    /// for the first of them.
+    /// for the first of them. A bit for a number outside the bounds says nothing. Constant time.
     pub fn lane(&self, a: u32, place: u32) -> u64
         requires first { a < length self.now.rows }
         requires second { place * 64 < self.now.wide }

@@ -31,9 +31,8 @@ fn start_need(m: &Net, n: &Net, set: &PairSet) -> Option<u64>
 /// How many leading rows of a set show that two nets share no word, at most, if any number does;
 /// `related` has the groups that may share a word.
 ///
-/// Takes time linear in the pairs of the set times what leads from them by edges, calls and empty
-/// moves of the second net, and in the words of its rows times the empty moves of the first; and no
-/// memory.
+/// Takes time linear in the words of the table, those of a row with pairs once more for each empty
+/// move of its state, and in the pairs times what else leads from them; no memory.
 pub fn longest_apart(related: &PairSet, m: &Net, n: &Net, set: &PairSet) -> Option<u32>
     requires sized { IsSized (states m.now) (states n.now) set.now }
     ensures { IsGreatestIn (length (rows_of set.now)) (IsApartBy (Marked (marked related.now)) m.now n.now set.now) result }

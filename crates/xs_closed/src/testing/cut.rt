@@ -20,13 +20,8 @@ fn is_closed_row(related: &PairSet, m: &Net, n: &Net, set: &PairSet, into: &Pair
     let Some(_) = set.next(a, 0) else {
         return true;
     };
-    match drifts_need(m, n, set, a, u64::MAX) {
-        Some(_) => match strides_need(related, m, n, set, into, a, u64::MAX) {
-            Some(_) => true,
-            None => false,
-        },
-        None => false,
-    }
+    drifts_need(m, n, set, a, u64::MAX).is_some()
+        && strides_need(related, m, n, set, into, a, u64::MAX).is_some()
 }
 
 /// Whether each pair of a set leads to pairs of it by empty moves, and to pairs of another by edges

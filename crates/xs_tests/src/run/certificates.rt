@@ -185,7 +185,8 @@ type Fault = (
     &'static [u8],
 );
 
-/// Each call moves at most seven bytes. The sheet takes two calls of the shelf, and the file two.
+/// Each call of `out` and `notes` moves at most seven bytes. The sheet takes the first two calls of
+/// the shelf, and the file the next two.
 const FAULTS: &[Fault] = &[
     (
         CERTIFY,

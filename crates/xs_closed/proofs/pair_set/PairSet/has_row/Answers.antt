@@ -1,7 +1,5 @@
-use Rattle.std.proofs.Common.{◌≡◌, ℕ, ◌+◌, ◌*◌, ◌/◌, ◌<◌, true, length, get_or, refl, sym, arith}
+use Rattle.std.proofs.Common.{◌≡◌, ◌+◌, ◌*◌, ◌/◌, get_or, refl, arith}
 use Rattle.std.proofs.lemmas.List.{get_or_read}
-use Rattle.xs_closed.specs.Rows.{marked}
-use Rattle.xs_closed.specs.Words.{grid_of}
 use Rattle.xs_closed.proofs.WordLemmas.{rows_length, word_within, row_kept, word_kept, lack_tells}
 use Rattle.xs_closed.proofs.pair_set.PairSet.has_row.Goals as goal
 

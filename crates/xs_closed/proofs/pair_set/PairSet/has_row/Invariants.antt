@@ -1,4 +1,4 @@
-use Rattle.std.proofs.Common.{◌≡◌, ℕ, ◌*◌, ◌-◌, ◌%◌, ◌<◌, true}
+use Rattle.std.proofs.Common.{◌≡◌, ℕ, ◌-◌, ◌%◌, ◌<◌, true}
 use Rattle.xs_closed.specs.Words.{bit_in}
 use Rattle.xs_closed.proofs.pair_set.PairSet.has_row.Given as goal
 
