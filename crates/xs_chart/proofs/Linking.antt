@@ -1,5 +1,5 @@
 -- Chains of a hash table over a list of items.
-use Rattle.std.proofs.Common.{◌≡◌, ◌≢◌, ℕ, zero, suc, ◌+◌, ◌*◌, ◌-◌, ◌/◌, ◌<◌, ◌≤◌, min, List, [], ◌∷◌, ◌++◌, length, get_or, set, take, Some, Bool, true, false, if◌then◌else◌, ◌↔◌, ◌⊎◌, inl, inr, refl, sym, ◌∙◌, ap, subst, arith, length-append, get_or-set_same, get_or-set_other, length-set}
+use Rattle.std.proofs.Common.{◌≡◌, ◌≢◌, ℕ, zero, suc, ◌+◌, ◌*◌, ◌-◌, ◌/◌, ◌<◌, ◌≤◌, min, List, [], ◌∷◌, ◌++◌, length, get_or, set, take, Some, Bool, true, false, if◌then◌else◌, ◌↔◌, ◌⊎◌, inl, inr, refl, sym, ◌∙◌, ap, subst, arith, length-append, get_or-set_same, get_or-set_other, length-set, Vec, Global, vec_len}
 use Rattle.std.specs.Prelude.{Contains, slice_get, IsTrue}
 use Rattle.std.proofs.lemmas.Bool.{cases_eq, cases_lt, false≢true}
 use Rattle.std.proofs.lemmas.Option.{slice_get-get_or, slice_get_within, get_or_from_slice_get, none-some, same_Some}
@@ -7,7 +7,10 @@ use Rattle.std.proofs.lemmas.List.{get_or_default}
 use Rattle.std.proofs.lemmas.Nat.{and_le_r}
 use Rattle.xs_chart.specs.declared.item.Item.{Item}
 use Rattle.xs_chart.specs.Different.{AreDifferent}
-use Rattle.xs_chart.specs.Linked.{slot_of, IsChained, here, there, IsBackward, IsLinked, IsTable}
+use Rattle.xs_chart.specs.Linked.{slot_of, IsChained, here, there, IsBackward, IsLinked, IsTable, IsRoomy}
+
+pub len_is : {X : Type 0} (v : Vec X Global) → vec_len v ≡ length v.items
+len_is v = omega (arith, v.ok)
 
 -- an element of the longer list, before the last one or the last one
 pub get_push : {A : Type 0} (xs : List A) (y : A) (k : ℕ) (x : A) → slice_get (xs ++ y ∷ []) k ≡ Some x → (slice_get xs k ≡ Some x) ⊎ ((k ≡ length xs) × (x ≡ y))
@@ -149,3 +152,17 @@ table_more items earlier heads item table new = record {
   linked = linked_more items earlier heads item (slot_within (length heads) item table.some) table.linked;
   different = different_more items item table.different new;
 }
+
+-- an item more where there is room for it
+pub roomy_more : (items : List Item) (earlier heads : List ℕ) (item : Item) (room wide : ℕ) → IsRoomy items earlier heads room wide → length items < length heads → (Contains items item → ⊥)
+    → IsRoomy (items ++ item ∷ []) (earlier ++ min (get_or heads (slot_of (length heads) item) 0) (length earlier) ∷ []) (set heads (slot_of (length heads) item) (suc (length earlier))) room wide
+roomy_more items earlier heads item room wide roomy space new =
+    let same = length-set heads (slot_of (length heads) item) (suc (length earlier)) in
+    let longer = length-append items (item ∷ []) in
+    record {
+      table = table_more items earlier heads item roomy.table new;
+      within = rw same (omega (arith, longer, space));
+      few = rw same roomy.few;
+      items_fit = rw same roomy.items_fit;
+      earlier_fit = rw same roomy.earlier_fit;
+    }

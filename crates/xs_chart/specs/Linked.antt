@@ -1,5 +1,5 @@
 -- A hash table over a list of items: slots that lead to chains of the items' numbers.
-use Rattle.std.specs.Prelude.{◌≡◌, ℕ, suc, ◌+◌, ◌*◌, ◌-◌, ◌/◌, ◌<◌, ◌≤◌, List, length, bit_and, slice_get, slice_index_or, Some}
+use Rattle.std.specs.Prelude.{◌≡◌, ℕ, suc, ◌+◌, ◌*◌, ◌-◌, ◌/◌, ◌^◌, ◌<◌, ◌≤◌, List, length, bit_and, slice_get, slice_index_or, Some}
 use Rattle.xs_chart.specs.declared.item.Item.{Item}
 use Rattle.xs_chart.specs.Different.{AreDifferent}
 
@@ -27,3 +27,12 @@ pub record IsTable (items : List Item) (earlier heads : List ℕ) : Type 0 where
   pub some : 0 < length heads
   pub linked : IsLinked items earlier heads
   pub different : AreDifferent items
+
+-- they are linked and different, there are no more items than slots, numbers of 32 bits count the slots, and the two lists
+-- have room for as many elements
+pub record IsRoomy (items : List Item) (earlier heads : List ℕ) (room wide : ℕ) : Type 0 where
+  pub table : IsTable items earlier heads
+  pub within : length items ≤ length heads
+  pub few : length heads < 2 ^ 32
+  pub items_fit : length heads ≤ room
+  pub earlier_fit : length heads ≤ wide

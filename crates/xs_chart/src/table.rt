@@ -1,6 +1,6 @@
-ghost use Rattle.std.specs.Prelude.{◌≡◌, ◌<◌, ◌↔◌, ◌+◌, suc, ℕ, [], ◌∷◌, ◌++◌, length, min, slice_get, slice_index_or, slice_set, if◌then◌else◌, Some, Contains, IsTrue, IfOk, OnOk, OnErr};
+ghost use Rattle.std.specs.Prelude.{◌≡◌, ◌<◌, ◌≤◌, ◌↔◌, ◌+◌, ◌^◌, suc, ℕ, [], ◌∷◌, ◌++◌, length, min, slice_get, slice_index_or, slice_set, if◌then◌else◌, Some, Contains, IsTrue, IfOk, OnOk, OnErr, vec_len, vec_capacity};
 ghost use Rattle.xs_chart.specs.Different.{AreDifferent};
-ghost use Rattle.xs_chart.specs.Linked.{slot_of, IsChained, IsBackward, IsLinked};
+ghost use Rattle.xs_chart.specs.Linked.{slot_of, IsChained, IsBackward, IsLinked, IsRoomy};
 
 use crate::Item;
 use std::alloc::Global;
@@ -17,7 +17,8 @@ const SLOTS_AT_ONCE: usize = 8;
 ///
 /// A slot has the number of its last item, counted from 1, and beside each item stands that of an
 /// earlier one; so the items of a slot are a chain. What a slot has from a list that was cleared may
-/// lead to other items too, but misses none.
+/// lead to other items too, but misses none. There are no more items than slots, and both lists have
+/// room for as many as there are slots, so that an item is put last by one comparison.
 #[derive(Drop)]
 pub struct Table {
     alloc: Global,
@@ -27,15 +28,15 @@ pub struct Table {
 }
 
 impl Model for Table {
-    ghost use Rattle.std.specs.Prelude.{List};
+    ghost use Rattle.std.specs.Prelude.{List, vec_capacity};
     ghost use Rattle.xs_chart.specs.declared.item.Item.{Item};
-    ghost use Rattle.xs_chart.specs.Linked.{IsTable};
+    ghost use Rattle.xs_chart.specs.Linked.{IsRoomy};
 
     ghost Value = { List Item };
 
     ghost view = { λ t. t.items.items };
 
-    ghost invariant = { λ t. IsTable t.items.items t.earlier.items t.heads.items };
+    ghost invariant = { λ t. IsRoomy t.items.items t.earlier.items t.heads.items (vec_capacity t.items) (vec_capacity t.earlier) };
 }
 
 /// The slot of an item among that many.
@@ -70,35 +71,80 @@ fn seek(items: &[Item], earlier: &[u32], start: u32, item: Item) -> bool
 
 /// Puts an item's number last in the chain of its slot.
 #[inline(always)]
-fn link(earlier: &mut Vec<u32>, heads: &mut Vec<u32>, item: Item) -> Result<(), Memory>
-    requires { 0 < length heads.old.items }
-    ensures earlier { OnOk result (earlier.new.items ≡ earlier.old.items ++ min (slice_index_or heads.old.items (slot_of (length heads.old.items) item) 0) (length earlier.old.items) ∷ []) }
-    ensures heads { OnOk result (heads.new.items ≡ slice_set heads.old.items (slot_of (length heads.old.items) item) (suc (length earlier.old.items))) }
-    ensures err { OnErr result (earlier.new.items ≡ earlier.old.items) }
-    ensures heads_err { OnErr result (heads.new.items ≡ heads.old.items) }
+fn link(earlier: &mut Vec<u32>, heads: &mut Vec<u32>, item: Item)
+    requires some { 0 < length heads.old.items }
+    requires room { vec_len earlier.old < vec_capacity earlier.old }
+    requires few { vec_len earlier.old + 1 < 2 ^ 32 }
+    ensures earlier { earlier.new.items ≡ earlier.old.items ++ min (slice_index_or heads.old.items (slot_of (length heads.old.items) item) 0) (length earlier.old.items) ∷ [] }
+    ensures heads { heads.new.items ≡ slice_set heads.old.items (slot_of (length heads.old.items) item) (suc (length earlier.old.items)) }
+    ensures capacity { vec_capacity earlier.new ≡ vec_capacity earlier.old }
 {
-    if earlier.len() >= u32::MAX as usize {
-        return Err(Memory);
-    }
     let number = earlier.len() as u32 + 1;
     let place = slot(item, heads.len());
-    earlier.push(heads[place].min(number - 1))?;
+    earlier.push_reserved(heads[place].min(number - 1));
     heads[place] = number;
-    Ok(())
 }
 
 /// The chains of the items, by that many slots.
 fn linked(alloc: Global, items: &[Item], count: usize) -> Result<(Vec<u32>, Vec<u32>), Memory>
-    requires { 0 < count }
-    ensures some { IfOk result (λ r. 0 < length r.1.items) }
+    requires some { 0 < count }
+    requires few { count < 2 ^ 32 }
+    requires items { length items.now ≤ count }
+    ensures slots { IfOk result (λ r. length r.1.items ≡ count) }
+    ensures room { IfOk result (λ r. count ≤ vec_capacity r.0) }
     ensures linked { IfOk result (λ r. IsLinked items.now r.0.items r.1.items) }
 {
     let mut heads = vec![in alloc; 0; count]?;
-    let mut earlier = Vec::with_capacity(alloc, items.len())?;
+    let mut earlier = Vec::with_capacity(alloc, count)?;
     'items: for item in items {
-        link(&mut earlier, &mut heads, *item)?;
+        link(&mut earlier, &mut heads, *item);
     }
     Ok((earlier, heads))
+}
+
+/// Doubles the slots, and the room of the lists.
+#[cold]
+#[inline(never)]
+fn widen(
+    alloc: Global,
+    items: &mut Vec<Item>,
+    earlier: &mut Vec<u32>,
+    heads: &mut Vec<u32>,
+) -> Result<(), Memory>
+    requires roomy { IsRoomy items.old.items earlier.old.items heads.old.items (vec_capacity items.old) (vec_capacity earlier.old) }
+    ensures roomy { IsRoomy items.new.items earlier.new.items heads.new.items (vec_capacity items.new) (vec_capacity earlier.new) }
+    ensures same { items.new.items ≡ items.old.items }
+    ensures space { OnOk result (length items.new.items < length heads.new.items) }
+{
+    let count = heads.len() * 2;
+    if count > u32::MAX as usize {
+        return Err(Memory);
+    }
+    items.reserve(count - items.len())?;
+    let (new_earlier, new_heads) = linked(alloc, items, count)?;
+    *earlier = new_earlier;
+    *heads = new_heads;
+    Ok(())
+}
+
+/// Makes more slots, and more room, where there are no more slots than items.
+#[inline(always)]
+fn spread(
+    alloc: Global,
+    items: &mut Vec<Item>,
+    earlier: &mut Vec<u32>,
+    heads: &mut Vec<u32>,
+) -> Result<(), Memory>
+    requires roomy { IsRoomy items.old.items earlier.old.items heads.old.items (vec_capacity items.old) (vec_capacity earlier.old) }
+    ensures roomy { IsRoomy items.new.items earlier.new.items heads.new.items (vec_capacity items.new) (vec_capacity earlier.new) }
+    ensures same { items.new.items ≡ items.old.items }
+    ensures space { OnOk result (length items.new.items < length heads.new.items) }
+{
+    if items.len() < heads.len() {
+        return Ok(());
+    }
+    widen(alloc, items, earlier, heads)?;
+    Ok(())
 }
 
 /// Empties the slots of the items; all slots, where there are few for each item.
@@ -124,7 +170,7 @@ impl Table {
         let (earlier, heads) = linked(alloc, &[], FIRST_SLOTS)?;
         Ok(Table {
             alloc,
-            items: Vec::new(alloc),
+            items: Vec::with_capacity(alloc, FIRST_SLOTS)?,
             earlier,
             heads,
         })
@@ -149,35 +195,6 @@ impl Table {
         seek(&self.items, &self.earlier, start, item)
     }
 
-    /// Makes more slots where there are no more than items.
-    #[inline(always)]
-    fn spread(&mut self) -> Result<(), Memory>
-        ensures same { self.new ≡ self.old }
-        ensures different { AreDifferent self.new }
-    {
-        if self.items.len() < self.heads.len() {
-            return Ok(());
-        }
-        self.widen()?;
-        Ok(())
-    }
-
-    /// Doubles the slots.
-    #[cold]
-    #[inline(never)]
-    fn widen(&mut self) -> Result<(), Memory>
-        ensures same { self.new ≡ self.old }
-        ensures different { AreDifferent self.new }
-    {
-        let Some(count) = self.heads.len().checked_mul(2) else {
-            return Err(Memory);
-        };
-        let (earlier, heads) = linked(self.alloc, &self.items, count)?;
-        self.earlier = earlier;
-        self.heads = heads;
-        Ok(())
-    }
-
     /// Puts the item last, unless it is there; true exactly where it was not there.
     #[inline(always)]
     pub fn add(&mut self, item: Item) -> Result<bool, Memory>
@@ -186,12 +203,16 @@ impl Table {
         ensures different { AreDifferent self.new }
         ensures err { OnErr result (self.new ≡ self.old) }
     {
-        self.spread()?;
-        self.items.reserve(1)?;
+        spread(
+            self.alloc,
+            &mut self.items,
+            &mut self.earlier,
+            &mut self.heads,
+        )?;
         if self.has(item) {
             return Ok(false);
         }
-        link(&mut self.earlier, &mut self.heads, item)?;
+        link(&mut self.earlier, &mut self.heads, item);
         self.items.push_reserved(item);
         Ok(true)
     }

@@ -1,15 +1,34 @@
-use Rattle.std.proofs.Common.{List, sym, subst, ◌∙◌}
-use Rattle.std.specs.Prelude.{Contains}
+use Rattle.std.proofs.Common.{arith, sym, ◌∙◌}
 use Rattle.std.proofs.lemmas.Bool.{true≢false}
-use Rattle.xs_chart.specs.declared.item.Item.{Item}
-use Rattle.xs_chart.proofs.Linking.{table_more}
+use Rattle.xs_chart.proofs.Linking.{len_is, roomy_more}
 use Rattle.xs_chart.proofs.table.Table.add.Goals as goal
+
+pub link-requires-clause-room : goal.link-requires-clause-room
+link-requires-clause-room c =
+    let r = c.spread.ensures.roomy in
+    let long = r.table.linked.long in
+    let space = c.in_ok-spread.ensures.space in
+    let fit = r.earlier_fit in
+    omega (arith, len_is c.spread.new.earlier, long, space, fit)
+
+pub link-requires-clause-few : goal.link-requires-clause-few
+link-requires-clause-few c =
+    let r = c.spread.ensures.roomy in
+    let long = r.table.linked.long in
+    let space = c.in_ok-spread.ensures.space in
+    let few = r.few in
+    omega (arith, len_is c.spread.new.earlier, long, space, few)
+
+pub push_reserved-requires : goal.push_reserved-requires
+push_reserved-requires c =
+    let space = c.in_ok-spread.ensures.space in
+    let fit = c.spread.ensures.roomy.items_fit in
+    omega (arith, len_is c.spread.new.items, space, fit)
 
 pub invariant_of-self-3 : goal.invariant_of-self-3
 invariant_of-self-3 c =
-    let i = c.self.inside in
-    rw (c.push_reserved.ensures.items, c.in_ok-reserve.ensures.items, c.in_ok-link.ensures.heads, c.in_ok-link.ensures.earlier)
-    (table_more i.items.items i.earlier.items i.heads.items c.args.item c.self.invariant (λ h. true≢false (sym (c.has.ensures.is.1 (subst (λ (l : List Item). Contains l c.args.item) (sym c.in_ok-reserve.ensures.items) h)) ∙ c.if-has.false)))
+    rw (c.push_reserved.ensures.items, c.push_reserved.ensures.capacity, c.link.ensures.heads, c.link.ensures.earlier, c.link.ensures.capacity)
+    (roomy_more c.spread.new.items.items c.spread.new.earlier.items c.spread.new.heads.items c.args.item _ _ c.spread.ensures.roomy c.in_ok-spread.ensures.space (λ h. true≢false (sym (c.has.ensures.is.1 h) ∙ c.if-has.false)))
 
 pub returns-clause-different : goal.returns-clause-different
-returns-clause-different c = (invariant_of-self-3 c).different
+returns-clause-different c = (invariant_of-self-3 c).table.different
