@@ -58,6 +58,7 @@ pub(crate) struct Written {
 }
 
 /// A new last part, which is no kid yet.
+#[inline(always)]
 fn add(written: &mut Written, part: SpeltPart) -> Result<(), Memory>
     ensures { OnOk result (Added written.old.parts.items written.old.places.items part written.new.parts.items written.new.places.items) }
 {
@@ -147,6 +148,7 @@ fn task_after(forest: &Forest<SpanKey>, label: SpanKey, chosen: Chosen, from: u6
 }
 
 /// An unfolding of a row is taken apart.
+#[inline(always)]
 pub(crate) fn visit(
     source: &Source<'_>,
     row: u32,
