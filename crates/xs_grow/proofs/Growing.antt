@@ -134,7 +134,7 @@ module _ (g : Grammar) (w : List ℕ) (f : Forest) where
   made_once (Front p zero) i j n m a h k made made' = absurd h
   made_once (Front p (suc d)) i j n m a (item, at, before, last) (item', at', before', last') made made' = front_once f p d i n m a.left (front_at p d i n a.left made.1 before) (front_at p d i m a.left made'.1 before')
 
-  module _ (x : What) (i j : ℕ) (label : IsLabel g w (key_at x i j)) (missing : (at : ℕ) → HasLabel f at (key_at x i j) → ⊥) (numbers : List ℕ) (all : AreNumbersOf g w (key_at x i j) numbers) (alts : List Alt) (made : AreMade g f (key_at x i j) numbers alts) where
+  module _ (x : What) (i j : ℕ) (label : IsLabel g w (key_at x i j)) (numbers : List ℕ) (all : AreNumbersOf g w (key_at x i j) numbers) (alts : List Alt) (made : AreMade g f (key_at x i j) numbers alts) where
     -- each alternative is one that a number stands for
     made_of : (k : ℕ) (a : Alt) → slice_get alts k ≡ Some a → (n : ℕ) × (slice_get numbers k ≡ Some n) × IsNumberOf g w has x i j n × IsMade g f x i j n a
     made_of k a at =
@@ -154,8 +154,8 @@ module _ (g : Grammar) (w : List ℕ) (f : Forest) where
     sound : (a : Alt) → Contains alts a → IsAltBy g w has f x i j a
     sound a c = let at = get_of alts a c in let n = made_of at.0 a at.1 in alt_by x i j n.0 a n.2 n.3
 
-    pub next : IsNext g w has f x i j alts
-    next = record {
+    next : ((at : ℕ) → HasLabel f at (key_at x i j) → ⊥) → IsNext g w has f x i j alts
+    next missing = record {
       label = label;
       new_label = λ r lt e. missing r (row_label f r (key_at x i j) lt e);
       sound = sound;
@@ -177,8 +177,8 @@ module _ (g : Grammar) (w : List ℕ) (f : Forest) where
     pub earlier : AreEarlier alts (length f)
     earlier = alts_earlier g w has f x i j alts sound
 
-    pub grown_more : (longer : Forest) → longer ≡ f ++ (key_at x i j, alts) ∷ [] → IsGrown g w has f → IsGrown g w has longer
-    grown_more longer e grown = subst (λ (z : Forest). IsGrown g w has z) (sym e) (added g w has f x i j alts grown next)
+    pub grown_more : ((at : ℕ) → HasLabel f at (key_at x i j) → ⊥) → (longer : Forest) → longer ≡ f ++ (key_at x i j, alts) ∷ [] → IsGrown g w has f → IsGrown g w has longer
+    grown_more missing longer e grown = subst (λ (z : Forest). IsGrown g w has z) (sym e) (added g w has f x i j alts grown (next missing))
 
   -- the finished forest
   pub forest_of : (root : ℕ) → IsGrown g w has f → IsRow f root (Whole g.start) 0 (length w) → IsForestOf g w f root

@@ -62,7 +62,8 @@ fn splits_of(
 /// number of the root's row.
 ///
 /// A label is looked at when it comes last on the stack, and left there until its children have
-/// rows. No label needs itself, since the grammar is sound, so the stack ends.
+/// rows. Just after it was put there as a child that is missing, no row is looked for. No label needs
+/// itself, since the grammar is sound, so the stack ends.
 fn grow_rows(
     alloc: Global,
     source: &Source<'_>,
@@ -81,9 +82,12 @@ fn grow_rows(
     };
     let mut stack = Vec::new(alloc);
     stack.push(root)?;
+    let mut is_new = true;
     'labels: for _ in 0..u64::MAX {
         let key = stack[stack.len() - 1];
-        if let Some(row) = visit(source, forest, key, &mut buffers, &mut stack)? {
+        let row = visit(source, forest, key, is_new, &mut buffers, &mut stack)?;
+        is_new = row.is_none();
+        if let Some(row) = row {
             stack.truncate(stack.len() - 1);
             if stack.is_empty() {
                 return Ok(row);

@@ -45,6 +45,7 @@ impl<L: Label> Marks<L> {
     }
 
     /// A new last mark.
+    #[inline(always)]
     pub(crate) fn push(&mut self, label: L, number: u32) -> Result<(), Memory>
         ensures { OnOk result (self.new ≡ self.old ++ (label, number) ∷ []) }
     {
@@ -74,6 +75,7 @@ impl<L: Label> Marks<L> {
     }
 
     /// Appends the numbers of a label, in time linear in them.
+    #[inline(always)]
     pub(crate) fn numbers(&self, label: L, out: &mut Vec<u32>) -> Result<(), Memory>
         requires { AreOnce self.now }
         ensures { OnOk result (Appends (λ n. Contains self.now (label, n)) out.old.items out.new.items) }

@@ -13,6 +13,7 @@ use xs_forest_laws::{SpanKey, What};
 use xs_gram::{GItem, Gram};
 
 /// The row of a label, which is missing where there is none.
+#[inline(always)]
 fn child(
     source: &Source<'_>,
     forest: &Builder<SpanKey>,
@@ -136,7 +137,8 @@ fn alternatives(
     Ok(())
 }
 
-/// Adds the row of a label that has none, by its numbers and the alternatives that they stand for.
+/// The row of a label, which is added by its numbers and the alternatives that they stand for unless
+/// there is one.
 fn add(
     source: &Source<'_>,
     forest: &mut Builder<SpanKey>,
@@ -147,7 +149,6 @@ fn add(
     requires source { IsSource source.now }
     requires grown { IsGrown source.now.g.now source.now.doc.now (stands_at source.now.g.now source.now.doc.now) forest.old }
     requires label { IsLabel source.now.g.now source.now.doc.now key }
-    requires missing { (at : ℕ) → HasLabel forest.old at key → ⊥ }
     requires numbers { AreNumbersOf source.now.g.now source.now.doc.now key numbers.now }
     requires made { AreMade source.now.g.now forest.old key numbers.now alts.now }
     ensures grown { OnOk result (IsGrown source.now.g.now source.now.doc.now (stands_at source.now.g.now source.now.doc.now) forest.new) }
@@ -155,8 +156,8 @@ fn add(
 {
     match forest.add_row(key, alts) {
         Ok(row) => Ok(row),
+        Err(AddFault::Repeated { at }) => Ok(at),
         Err(AddFault::Memory) => Err(Memory),
-        Err(AddFault::Repeated { .. }) => unreachable!(),
     }
 }
 
@@ -168,11 +169,12 @@ pub(crate) struct Buffers {
 }
 
 /// The row of a label, which is made if its children have rows; where some have none it is no row,
-/// and their labels go to those that are missing.
+/// and their labels go to those that are missing. Of a new label no row is looked for first.
 pub(crate) fn visit(
     source: &Source<'_>,
     forest: &mut Builder<SpanKey>,
     key: SpanKey,
+    is_new: bool,
     buffers: &mut Buffers,
     missing: &mut Vec<SpanKey>,
 ) -> Result<Option<u32>, Memory>
@@ -184,8 +186,10 @@ pub(crate) fn visit(
     ensures same { IfOk result (λ row. MatchOption row (Unit {0}) (λ r. missing.new.items ≡ missing.old.items)) }
     ensures missing { OnOk result (Misses source.now.g.now source.now.doc.now (Unit {0}) missing.old.items missing.new.items) }
 {
-    if let Some(row) = forest.find(key) {
-        return Ok(Some(row));
+    if !is_new {
+        if let Some(row) = forest.find(key) {
+            return Ok(Some(row));
+        }
     }
     numbers_of(source, key, &mut buffers.numbers)?;
     let before = missing.len();

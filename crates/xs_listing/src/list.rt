@@ -9,7 +9,7 @@ use crate::count::{choose, count_rows};
 use crate::rows::alts_at;
 use crate::sizes::first_sizes;
 use crate::write::{Source, Written, write_front};
-use crate::{Listing, Spelt, SpeltPart, Spelts};
+use crate::{Kids, Listing, Spelt, SpeltPart, Spelts};
 use std::alloc::Global;
 use xs_class::{Listed, Memory, Word};
 use xs_forest_laws::Grown;
@@ -26,7 +26,7 @@ fn spell(alloc: Global, source: &Source<'_>, root: u64, number: u64) -> Result<S
     let chosen = choose(source.counts, alts, source.cap, number);
     let written = write_front(alloc, source, chosen.alt.left, chosen.left)?;
     let Written { mut parts, places } = written;
-    let kids = Listed::from_vec(places);
+    let kids = Kids::of(alloc, &places)?;
     parts.push(SpeltPart::Node {
         production: chosen.alt.rule,
         kids,

@@ -1,7 +1,40 @@
-use xs_class::Listed;
+ghost use Rattle.std.specs.Prelude.{◌≡◌, IfOk};
 
-/// The places of a node's kids in the list of parts.
-pub type Kids = Listed<u64>;
+use smallvec::SmallVec;
+use std::alloc::Global;
+use std::marker::Model;
+use xs_class::{Listed, Memory};
+
+/// The places of a node's kids in the list of parts. One or two take no memory of their own.
+#[derive(Debug, Drop)]
+pub struct Kids {
+    all: SmallVec<u64, 2>,
+}
+
+impl Model for Kids {
+    ghost use Rattle.std.specs.Prelude.{List, ℕ};
+
+    ghost Value = { List ℕ };
+
+    ghost view = { λ k. k.all.items };
+}
+
+impl Kids {
+    /// The kids at these places.
+    pub(crate) fn of(alloc: Global, places: &[u64]) -> Result<Self, Memory>
+        ensures { IfOk result (λ kids. kids ≡ places.now) }
+    {
+        let all = SmallVec::from_slice(alloc, places)?;
+        Ok(Kids { all })
+    }
+
+    /// The places in order.
+    pub fn as_slice(&self) -> &[u64]
+        ensures { result.now ≡ self.now }
+    {
+        self.all.as_slice()
+    }
+}
 
 /// A part of a derivation that is written flat; stretches of the document are given by their first
 /// place and the place after them, counted from 0.

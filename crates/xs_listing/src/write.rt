@@ -6,12 +6,12 @@ ghost use Rattle.xs_forest_laws.specs.Forest.{Unfolding, read};
 ghost use Rattle.xs_forest_laws.specs.Number.{count_of, At};
 ghost use Rattle.xs_listing.specs.Writing.{child_task, last_task, IsVisited, Added, IsWordWritten, IsDone, AreWritten, IsSource, HasChild, CanVisit, CanDo};
 
-use crate::SpeltPart;
 use crate::count::{Chosen, choose};
 use crate::rows::{alts_at, end_of, label_at};
 use crate::sizes::size_of;
+use crate::{Kids, SpeltPart};
 use std::alloc::Global;
-use xs_class::{Listed, Memory, Word};
+use xs_class::{Memory, Word};
 use xs_forest::Forest;
 use xs_forest_laws::{SpanKey, What};
 use xs_gram::{GItem, Gram};
@@ -58,6 +58,7 @@ pub(crate) struct Written {
 }
 
 /// A new last part, which is no kid yet.
+#[inline(always)]
 fn add(written: &mut Written, part: SpeltPart) -> Result<(), Memory>
     ensures { OnOk result (Added written.old.parts.items written.old.places.items part written.new.parts.items written.new.places.items) }
 {
@@ -79,12 +80,12 @@ fn write_word(item: &GItem, start: u32, end: u32, written: &mut Written) -> Resu
 }
 
 /// Writes a node of a rule whose kids are all places from one on.
-fn write_node(rule: u32, from: u64, written: &mut Written) -> Result<(), Memory>
+fn write_node(alloc: Global, rule: u32, from: u64, written: &mut Written) -> Result<(), Memory>
     requires { from ≤ length written.old.places.items }
     ensures { OnOk result (Added written.old.parts.items (take from written.old.places.items) (Node rule (drop from written.old.places.items)) written.new.parts.items written.new.places.items) }
 {
-    let kids = written.places.split_off(from as usize)?;
-    let kids = Listed::from_vec(kids);
+    let kids = Kids::of(alloc, &written.places[from as usize..])?;
+    written.places.truncate(from as usize);
     add(
         written,
         SpeltPart::Node {
@@ -147,6 +148,7 @@ fn task_after(forest: &Forest<SpanKey>, label: SpanKey, chosen: Chosen, from: u6
 }
 
 /// An unfolding of a row is taken apart.
+#[inline(always)]
 pub(crate) fn visit(
     source: &Source<'_>,
     row: u32,
@@ -168,6 +170,7 @@ pub(crate) fn visit(
 
 /// One task is done.
 fn perform(
+    alloc: Global,
     source: &Source<'_>,
     task: Task,
     tasks: &mut Vec<Task>,
@@ -191,7 +194,7 @@ fn perform(
             let item = &source.g.items(rule)[dot as usize];
             write_word(item, start, end, written)
         }
-        Task::Close { rule, from } => write_node(rule, from, written),
+        Task::Close { rule, from } => write_node(alloc, rule, from, written),
     }
 }
 
@@ -216,7 +219,7 @@ pub(crate) fn write_front(
     };
     let mut tasks = first_tasks(alloc, front, number)?;
     'tasks: while let Some(task) = tasks.pop() {
-        perform(source, task, &mut tasks, &mut written)?;
+        perform(alloc, source, task, &mut tasks, &mut written)?;
     }
     Ok(written)
 }

@@ -33,5 +33,5 @@ returns c =
     let ch = subst (λ (l : List Alt). IsChosen s.cap s.counts.now l c.args.number n x.left x.right x.alt) c.alts_at-alts.ensures c.choose-chosen.ensures.1 in
     let parts = c.in_ok-written.written.parts.items in
     let places = c.in_ok-written.written.places.items in
-    let new : c.from_vec.result ≡ parts ++ Node x.alt.rule places ∷ [] = c.from_vec.ensures ∙ (c.in_ok-push.ensures.items ∙ ap (λ (l : List ℕ). parts ++ Node x.alt.rule l ∷ []) c.from_vec-kids.ensures) in
+    let new : c.from_vec.result ≡ parts ++ Node x.alt.rule places ∷ [] = c.from_vec.ensures ∙ (c.in_ok-push.ensures.items ∙ ap (λ (l : List ℕ). parts ++ Node x.alt.rule l ∷ []) (c.in_ok-kids.ensures ∙ c.deref.ensures.value)) in
     subst (λ (l : List SpeltPart). IsSpeltBy s c.args.root c.args.number l) (sym new) (spelt_by s c.requires.source c.args.root c.requires.root c.args.number n x ch parts places c.in_ok-written.ensures)
