@@ -106,18 +106,6 @@ word_packed high wide step used last word place words h l e = record {
   unused = λ k m. let ne : k ≢ place = (λ f. absurd (omega arith)) in get_or-set_other words place k word 0 ne ∙ h.unused k (omega arith);
 }
 
--- the test of a bit that the code makes
-pub fresh_bit : (word r : ℕ) → nat_eq (bit_and (word / 2 ^ r) 1) 0 ≡ not (nat_eq (bit_at word r) 1)
-fresh_bit word r = rw (shr_and_one word r) (one_of (bit_at word r) (bit_at-lt word r))
-  where
-    one_of : (b : ℕ) → b < 2 → nat_eq b 0 ≡ not (nat_eq b 1)
-    one_of zero l = refl
-    one_of (suc zero) l = refl
-    one_of (suc (suc b)) l = absurd (omega arith)
-
-pub held_bit : (word r : ℕ) → nat_eq (bit_and (word / 2 ^ r) 1) 1 ≡ nat_eq (bit_at word r) 1
-held_bit word r = rw (shr_and_one word r) refl
-
 -- a bit of a word from another on
 shifted : (word r i : ℕ) → bit_at (word / 2 ^ r) i ≡ bit_at word (r + i)
 shifted word r i = ap (λ q. q % 2) (shr-shr word r i)
