@@ -12,7 +12,7 @@ use Rattle.xs_gram.specs.Fences.{spread, IsLevel}
 use Rattle.xs_gram.specs.Loose.{IsLoose}
 use Rattle.xs_gram.specs.Sound.{IsBuilt}
 use Rattle.xs_gram.specs.Suspects.{IsVertical, IsHorizontal, Overlaps}
-use Rattle.xs_cert_laws.proofs.Showing.{slice_stretch}
+use Rattle.xs_stretch.proofs.Stretches.{slice_stretch}
 use Rattle.xs_gram.proofs.Cuts.{cut_level}
 use Rattle.xs_meet.specs.Closed.{Marked}
 use Rattle.xs_stretch.specs.Nets.{IsNumbered, IsNestOf}

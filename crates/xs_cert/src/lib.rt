@@ -8,7 +8,6 @@
 
 mod basis;
 mod blocks;
-mod certified;
 mod certifying;
 mod fault;
 mod half;
@@ -23,7 +22,6 @@ mod titles;
 mod weighing;
 mod writer;
 
-pub use certified::Certified;
 pub use certifying::certify;
 pub use fault::CertFault;
 pub use laws::proof_passes;

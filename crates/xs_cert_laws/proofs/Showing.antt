@@ -1,9 +1,7 @@
 -- A side whose blocks are all right has no suspect.
-use Rattle.std.proofs.Common.{◌≡◌, ℕ, suc, ◌+◌, ◌-◌, ◌<◌, ◌≤◌, ◌⊎◌, ◌&&◌, min, max, not, nat_eq, Bool, true, false, List, [], ◌∷◌, ◌++◌, length, map, flat_map, take, drop, refl, sym, ap, ◌∙◌, arith, inl, inr, append-nil, append_assoc, slice_range}
+use Rattle.std.proofs.Common.{◌≡◌, ℕ, suc, ◌+◌, ◌-◌, ◌<◌, ◌≤◌, ◌⊎◌, ◌&&◌, min, max, not, nat_eq, Bool, true, false, List, [], ◌∷◌, ◌++◌, length, map, flat_map, refl, sym, ap, ◌∙◌, arith, inl, inr, append-nil, append_assoc, slice_range}
 use Rattle.std.specs.List.{Contains}
 use Rattle.std.proofs.lemmas.Bool.{cases_lt, true≢false}
-use Rattle.std.proofs.lemmas.List.{take-append-drop, length-take-le}
-use Rattle.std.proofs.lemmas.List.Folds.{drop_split}
 use Rattle.std.proofs.lemmas.List.Elements.{Contains-append_left, Contains-append_right}
 use Rattle.std.proofs.lemmas.Option.{slice_get_within, get_or_from_slice_get}
 use Rattle.xs_closed.specs.Rows.{holds}
@@ -26,6 +24,7 @@ use Rattle.xs_check_laws.specs.Freedom.{HasNoVertical, HasNoHorizontal}
 use Rattle.xs_check_laws.proofs.Words.{loose_level}
 use Rattle.xs_stretch.specs.Nets.{IsNumbered, IsNestOf}
 use Rattle.xs_stretch.specs.Parts.{IsStretch}
+use Rattle.xs_stretch.proofs.Stretches.{slice_stretch}
 use Rattle.xs_stretch_laws.proofs.Reading.{nets_accept_loose}
 use Rattle.xs_stretch_laws.proofs.Taming.{nets_are_tame, nests_are_fenced}
 use Rattle.xs_cert_laws.specs.Blocks.{Head, for_groups, for_rules, for_cut, Block, of_groups, of_rules, of_cut, head, Pairs, IsRight, ShowsApart, ShowsClear, AreContents, AreRuleNets, AreCutNets}
@@ -39,17 +38,6 @@ truth false = inr refl
 
 same_number : {m n : ℕ} → m ≡ n → nat_eq m n ≡ true
 same_number e = rw e (eq_self _)
-
--- the items from one place of a rule to another
-pub slice_stretch : {g : Grammar} {p start end : ℕ} → p < length g.rules → start ≤ length (spread g p) → start ≤ end → IsLevel g.fences (slice_range (spread g p) start end) → IsStretch g p start (slice_range (spread g p) start end)
-slice_stretch {g} {p} {start} {end} rule low order level = record {
-  rule = rule;
-  before = take start (spread g p);
-  after = drop end (spread g p);
-  split = sym (take-append-drop start (spread g p)) ∙ ap (λ (x : List GItem). take start (spread g p) ++ x) (drop_split (spread g p) start end order);
-  place = sym (length-take-le start (spread g p) low);
-  level = level;
-}
 
 -- whether groups are said to share does not depend on their order
 shares_turned : (shares : List (ℕ × ℕ)) (h k : ℕ) → is_shared shares h k ≡ is_shared shares k h

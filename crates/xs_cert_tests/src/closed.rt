@@ -1,22 +1,9 @@
 //! Least closed sets of small nets, and how many rows of given sets are right.
 use std::alloc::Global;
 use xs_auto::Net;
-use xs_class::{Class, Memory};
+use xs_class::Memory;
 use xs_closed::{CutSets, PairSet, least_apart, least_clear, longest_apart, longest_clear};
-
-/// A net of two states that accepts one or more symbols of a range, by an edge and an empty move
-/// back.
-fn run_of(alloc: Global, range: (u32, u32)) -> Result<Net, Memory> {
-    let class = Class::from_ranges(alloc, &[range])?;
-    let mut net = Net::new(alloc)?;
-    let first = net.state()?;
-    let last = net.state()?;
-    net.edge(first, &class, last)?;
-    net.pass(last, first)?;
-    net.set_start(first);
-    net.set_final(last)?;
-    Ok(net)
-}
+use xs_test_tools::run_of;
 
 /// A net of two states that calls a group once.
 fn call_of(alloc: Global, group: u32) -> Result<Net, Memory> {

@@ -3,8 +3,7 @@
 //! the same of small sheets that are drawn; and of closed sets of pairs, on which both stand, over
 //! small nets.
 //!
-//! They stand apart from the crates that they try, so that each of those is proved once: a crate
-//! with tests is proved a second time with them.
+//! `xs_test_tools` says why they stand apart from the crates that they try.
 #![tactic(auto)]
 
 #[cfg(test)]

@@ -6,7 +6,7 @@ use Rattle.std.proofs.lemmas.List.Elements.{All-push, Contains-append_left, Cont
 use Rattle.xs_meet.specs.Closed.{Marked}
 use Rattle.xs_closed.specs.declared.pair.Pair.{Pair}
 use Rattle.xs_closed.specs.Rows.{Grid, marked, IsSized, Marks}
-use Rattle.xs_closed.specs.Search.{pair, IsInside, IsListed, KeepsSize, IsLonger, Adds, IsPair, Among}
+use Rattle.xs_closed.specs.Search.{pair, IsInside, IsListed, KeepsSize, IsLonger, Adds, IsPair, OneOf}
 
 pub longer_same : (ps : List Pair) → IsLonger ps ps
 longer_same ps = record { added = []; is = sym (append-nil ps) }
@@ -50,29 +50,29 @@ adds_as P Q to back g = record {
 }
 
 -- a loop's beginning, its turn at one more element, and its end
-pub adds_none : {X : Type 0} (Q : X → ℕ → ℕ → Type 0) (z : Grid) (ps : List Pair) → Adds (Among [] Q) z ps z ps
-adds_none Q z ps = adds_known (Among [] Q) z ps (λ a b p. absurd (omega (arith, p.has.1)))
+pub adds_none : {X : Type 0} (Q : X → ℕ → ℕ → Type 0) (z : Grid) (ps : List Pair) → Adds (OneOf [] Q) z ps z ps
+adds_none Q z ps = adds_known (OneOf [] Q) z ps (λ a b p. absurd (omega (arith, p.has.1)))
 
-pub adds_more : {X : Type 0} (Q : X → ℕ → ℕ → Type 0) {x y z : Grid} {ps qs rs : List Pair} (xs : List X) (i : ℕ) (d : X) → i < length xs → Adds (Among (take i xs) Q) x ps y qs → Adds (Q (get_or xs i d)) y qs z rs → Adds (Among (take (i + 1) xs) Q) x ps z rs
-adds_more {X} Q xs i d l g h = adds_as (λ a b. Among (take i xs) Q a b ⊎ Q (get_or xs i d) a b) (Among (take (i + 1) xs) Q) to back (adds_then (Among (take i xs) Q) (Q (get_or xs i d)) g h)
+pub adds_more : {X : Type 0} (Q : X → ℕ → ℕ → Type 0) {x y z : Grid} {ps qs rs : List Pair} (xs : List X) (i : ℕ) (d : X) → i < length xs → Adds (OneOf (take i xs) Q) x ps y qs → Adds (Q (get_or xs i d)) y qs z rs → Adds (OneOf (take (i + 1) xs) Q) x ps z rs
+adds_more {X} Q xs i d l g h = adds_as (λ a b. OneOf (take i xs) Q a b ⊎ Q (get_or xs i d) a b) (OneOf (take (i + 1) xs) Q) to back (adds_then (OneOf (take i xs) Q) (Q (get_or xs i d)) g h)
   where
     more : take (i + 1) xs ≡ take i xs ++ get_or xs i d ∷ []
     more = take_more xs i d l
 
-    to : (a b : ℕ) → Among (take i xs) Q a b ⊎ Q (get_or xs i d) a b → Among (take (i + 1) xs) Q a b
-    to a b (inl p) = record { item = p.item; has = rw more (Contains-append_left (take i xs) (get_or xs i d ∷ []) p.item p.has); gives = p.gives }
-    to a b (inr q) = record { item = get_or xs i d; has = rw more (Contains-push (take i xs) (get_or xs i d)); gives = q }
+    to : (a b : ℕ) → OneOf (take i xs) Q a b ⊎ Q (get_or xs i d) a b → OneOf (take (i + 1) xs) Q a b
+    to a b (inl p) = record { item = p.item; has = rw more (Contains-append_left (take i xs) (get_or xs i d ∷ []) p.item p.has); leads = p.leads }
+    to a b (inr q) = record { item = get_or xs i d; has = rw more (Contains-push (take i xs) (get_or xs i d)); leads = q }
 
-    back : (a b : ℕ) → Among (take (i + 1) xs) Q a b → Among (take i xs) Q a b ⊎ Q (get_or xs i d) a b
+    back : (a b : ℕ) → OneOf (take (i + 1) xs) Q a b → OneOf (take i xs) Q a b ⊎ Q (get_or xs i d) a b
     back a b p = elim (Contains-push_cases (take i xs) (get_or xs i d) p.item (rw more at p.has)) [
-      | inl c ↦ inl (record { item = p.item; has = c; gives = p.gives })
-      | inr e ↦ inr (rw e p.gives)
+      | inl c ↦ inl (record { item = p.item; has = c; leads = p.leads })
+      | inr e ↦ inr (rw e p.leads)
     ]
 
-pub adds_read : {X : Type 0} (Q : X → ℕ → ℕ → Type 0) {x y z : Grid} {ps qs rs : List Pair} (xs : List X) (i : ℕ) (u : X) → i < length xs → u ≡ get_or xs i u → Adds (Among (take i xs) Q) x ps y qs → Adds (Q u) y qs z rs → Adds (Among (take (i + 1) xs) Q) x ps z rs
+pub adds_read : {X : Type 0} (Q : X → ℕ → ℕ → Type 0) {x y z : Grid} {ps qs rs : List Pair} (xs : List X) (i : ℕ) (u : X) → i < length xs → u ≡ get_or xs i u → Adds (OneOf (take i xs) Q) x ps y qs → Adds (Q u) y qs z rs → Adds (OneOf (take (i + 1) xs) Q) x ps z rs
 adds_read Q {x} {y} {z} {ps} {qs} {rs} xs i u l e g h = adds_more Q xs i u l g (subst (λ v. Adds (Q v) y qs z rs) e h)
 
-pub adds_all : {X : Type 0} (Q : X → ℕ → ℕ → Type 0) {y z : Grid} {ps qs : List Pair} (xs : List X) (i : ℕ) → length xs ≤ i → Adds (Among (take i xs) Q) y ps z qs → Adds (Among xs Q) y ps z qs
+pub adds_all : {X : Type 0} (Q : X → ℕ → ℕ → Type 0) {y z : Grid} {ps qs : List Pair} (xs : List X) (i : ℕ) → length xs ≤ i → Adds (OneOf (take i xs) Q) y ps z qs → Adds (OneOf xs Q) y ps z qs
 adds_all Q xs i l g = rw (take_all i xs l) at g
 
 -- one pair more is marked, and all others as before

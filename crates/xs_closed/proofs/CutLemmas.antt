@@ -7,7 +7,8 @@ use Rattle.xs_closed.specs.Rows.{Grid, marked, IsSized, rows_of}
 use Rattle.xs_closed.specs.Least.{AreStarts, IsPastMiddle}
 use Rattle.xs_closed.specs.Longest.{First, Holds, IsApartBy, IsClearBy}
 use Rattle.xs_closed.specs.declared.sets.CutSets.{CutSets}
-use Rattle.xs_closed.specs.Testing.{IsPair, InRow, Raises, Lacks, IsNeed, IsLimit, rank, EachPair, LeadsWithin, IsTurned, IsPastRow, IsPastBelow}
+use Rattle.xs_closed.specs.Search.{IsPair}
+use Rattle.xs_closed.specs.Testing.{InRow, Raises, Lacks, IsNeed, IsLimit, rank, EachPair, LeadsWithin, IsTurned, IsPastRow, IsPastBelow}
 use Rattle.xs_closed.proofs.RowLemmas.{holds_rows}
 use Rattle.xs_closed.proofs.NeedLemmas.{raises_none, raises_then, raises_as, lacks_as}
 use Rattle.xs_closed.proofs.LongestLemmas.{marked_within, rank_reach, below_first, first_below}

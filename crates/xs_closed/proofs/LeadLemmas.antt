@@ -6,44 +6,44 @@ use Rattle.xs_auto.specs.Nets.{Graph, edges_of, moves_of, calls_of}
 use Rattle.xs_meet.specs.Closed.{Marked, Drifts, Strides}
 use Rattle.xs_closed.specs.declared.pair.Pair.{Pair}
 use Rattle.xs_closed.specs.Rows.{Grid, marked}
-use Rattle.xs_closed.specs.Search.{Adds, IsPair, Among, Meets, Joins}
+use Rattle.xs_closed.specs.Search.{Adds, IsPair, OneOf, Meets, Joins}
 use Rattle.xs_closed.proofs.AddLemmas.{adds_then, adds_as, adds_known}
 
 -- the pairs that the moves of the first net give, and then those that the moves of the second give
-pub drifted_on : (m n : Graph) (a b : ℕ) {x y z : Grid} {ps qs rs : List Pair} (us vs : List ℕ) → us ≡ moves_of m a → vs ≡ moves_of n b → Adds (Among us (λ c. IsPair c b)) x ps y qs → Adds (Among vs (λ d. IsPair a d)) y qs z rs → Adds (Drifts m n a b) x ps z rs
+pub drifted_on : (m n : Graph) (a b : ℕ) {x y z : Grid} {ps qs rs : List Pair} (us vs : List ℕ) → us ≡ moves_of m a → vs ≡ moves_of n b → Adds (OneOf us (λ c. IsPair c b)) x ps y qs → Adds (OneOf vs (λ d. IsPair a d)) y qs z rs → Adds (Drifts m n a b) x ps z rs
 drifted_on m n a b us vs e f g h =
-    adds_as (λ c d. Among us (λ c. IsPair c b) c d ⊎ Among vs (λ d. IsPair a d) c d) (Drifts m n a b) to back (adds_then (Among us (λ c. IsPair c b)) (Among vs (λ d. IsPair a d)) g h)
+    adds_as (λ c d. OneOf us (λ c. IsPair c b) c d ⊎ OneOf vs (λ d. IsPair a d) c d) (Drifts m n a b) to back (adds_then (OneOf us (λ c. IsPair c b)) (OneOf vs (λ d. IsPair a d)) g h)
   where
-    to : (c d : ℕ) → Among us (λ c. IsPair c b) c d ⊎ Among vs (λ d. IsPair a d) c d → Drifts m n a b c d
-    to c d (inl x) = inl (record { move = rw (← e, x.gives.first) x.has; still = x.gives.second })
-    to c d (inr y) = inr (record { move = rw (← f, y.gives.second) y.has; still = y.gives.first })
+    to : (c d : ℕ) → OneOf us (λ c. IsPair c b) c d ⊎ OneOf vs (λ d. IsPair a d) c d → Drifts m n a b c d
+    to c d (inl x) = inl (record { move = rw (← e, x.leads.first) x.has; still = x.leads.second })
+    to c d (inr y) = inr (record { move = rw (← f, y.leads.second) y.has; still = y.leads.first })
 
-    back : (c d : ℕ) → Drifts m n a b c d → Among us (λ c. IsPair c b) c d ⊎ Among vs (λ d. IsPair a d) c d
-    back c d (inl x) = inl (record { item = c; has = rw e x.move; gives = record { first = refl; second = x.still } })
-    back c d (inr y) = inr (record { item = d; has = rw f y.move; gives = record { first = y.still; second = refl } })
+    back : (c d : ℕ) → Drifts m n a b c d → OneOf us (λ c. IsPair c b) c d ⊎ OneOf vs (λ d. IsPair a d) c d
+    back c d (inl x) = inl (record { item = c; has = rw e x.move; leads = record { first = refl; second = x.still } })
+    back c d (inr y) = inr (record { item = d; has = rw f y.move; leads = record { first = y.still; second = refl } })
 
 -- the pairs that the edges of both give, and then those that the calls of both give
-pub strode_on : (R : ℕ → ℕ → Type 0) (m n : Graph) (a b : ℕ) {x y z : Grid} {ps qs rs : List Pair} (es fs : List Edge) (hs ks : List Call) → es ≡ edges_of m a → fs ≡ edges_of n b → hs ≡ calls_of m a → ks ≡ calls_of n b → Adds (Among es (λ e. Among fs (Meets e))) x ps y qs → Adds (Among hs (λ h. Among ks (Joins R h))) y qs z rs → Adds (Strides R m n a b) x ps z rs
+pub strode_on : (R : ℕ → ℕ → Type 0) (m n : Graph) (a b : ℕ) {x y z : Grid} {ps qs rs : List Pair} (es fs : List Edge) (hs ks : List Call) → es ≡ edges_of m a → fs ≡ edges_of n b → hs ≡ calls_of m a → ks ≡ calls_of n b → Adds (OneOf es (λ e. OneOf fs (Meets e))) x ps y qs → Adds (OneOf hs (λ h. OneOf ks (Joins R h))) y qs z rs → Adds (Strides R m n a b) x ps z rs
 strode_on R m n a b es fs hs ks q r q' r' g h =
-    adds_as (λ c d. Among es (λ e. Among fs (Meets e)) c d ⊎ Among hs (λ h. Among ks (Joins R h)) c d) (Strides R m n a b) to back (adds_then (Among es (λ e. Among fs (Meets e))) (Among hs (λ h. Among ks (Joins R h))) g h)
+    adds_as (λ c d. OneOf es (λ e. OneOf fs (Meets e)) c d ⊎ OneOf hs (λ h. OneOf ks (Joins R h)) c d) (Strides R m n a b) to back (adds_then (OneOf es (λ e. OneOf fs (Meets e))) (OneOf hs (λ h. OneOf ks (Joins R h))) g h)
   where
-    to : (c d : ℕ) → Among es (λ e. Among fs (Meets e)) c d ⊎ Among hs (λ h. Among ks (Joins R h)) c d → Strides R m n a b c d
+    to : (c d : ℕ) → OneOf es (λ e. OneOf fs (Meets e)) c d ⊎ OneOf hs (λ h. OneOf ks (Joins R h)) c d → Strides R m n a b c d
     to c d (inl x) =
-        let y = x.gives in
-        let z = y.gives in
+        let y = x.leads in
+        let z = y.leads in
         inl (z.symbol, record { first = x.item; second = y.item; of_first = rw (← q) x.has; of_second = rw (← r) y.has; takes_first = z.takes_first; takes_second = z.takes_second; to_first = z.to_first; to_second = z.to_second })
     to c d (inr x) =
-        let y = x.gives in
-        let z = y.gives in
+        let y = x.leads in
+        let z = y.leads in
         inr (x.item.group, y.item.group, record { first = x.item; second = y.item; of_first = rw (← q') x.has; of_second = rw (← r') y.has; over_first = refl; over_second = refl; related = z.related; to_first = z.to_first; to_second = z.to_second })
 
-    back : (c d : ℕ) → Strides R m n a b c d → Among es (λ e. Among fs (Meets e)) c d ⊎ Among hs (λ h. Among ks (Joins R h)) c d
+    back : (c d : ℕ) → Strides R m n a b c d → OneOf es (λ e. OneOf fs (Meets e)) c d ⊎ OneOf hs (λ h. OneOf ks (Joins R h)) c d
     back c d (inl x) =
         let y = x.1 in
-        inl (record { item = y.first; has = rw q y.of_first; gives = record { item = y.second; has = rw r y.of_second; gives = record { symbol = x.0; takes_first = y.takes_first; takes_second = y.takes_second; to_first = y.to_first; to_second = y.to_second } } })
+        inl (record { item = y.first; has = rw q y.of_first; leads = record { item = y.second; has = rw r y.of_second; leads = record { symbol = x.0; takes_first = y.takes_first; takes_second = y.takes_second; to_first = y.to_first; to_second = y.to_second } } })
     back c d (inr x) =
         let y = x.2 in
-        inr (record { item = y.first; has = rw q' y.of_first; gives = record { item = y.second; has = rw r' y.of_second; gives = record { related = rw (y.over_first, y.over_second) y.related; to_first = y.to_first; to_second = y.to_second } } })
+        inr (record { item = y.first; has = rw q' y.of_first; leads = record { item = y.second; has = rw r' y.of_second; leads = record { related = rw (y.over_first, y.over_second) y.related; to_first = y.to_first; to_second = y.to_second } } })
 
 -- a pair of states one of which has none leads nowhere by edges and calls
 pub strode_none : (R : ℕ → ℕ → Type 0) (m n : Graph) (a b : ℕ) (z : Grid) (ps : List Pair) → (length (edges_of m a) ≡ 0) ⊎ (length (edges_of n b) ≡ 0) → (length (calls_of m a) ≡ 0) ⊎ (length (calls_of n b) ≡ 0) → Adds (Strides R m n a b) z ps z ps

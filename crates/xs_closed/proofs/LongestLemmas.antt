@@ -7,7 +7,8 @@ use Rattle.xs_auto.specs.Nets.{Graph}
 use Rattle.xs_meet.specs.Closed.{Drifts, Strides, Leads}
 use Rattle.xs_closed.specs.Rows.{Grid, Row, marked, IsSized, IsNext, holds, places, row_then, rows_from, rows_of}
 use Rattle.xs_closed.specs.Longest.{First, IsGreatestIn}
-use Rattle.xs_closed.specs.Testing.{IsPair, InRow, Keeps, Raises, Lacks, IsNeed, RowHasNoFinals, IsRowNeed, IsBelow, IsLimit, rank, IsBest, IsRead}
+use Rattle.xs_closed.specs.Search.{IsPair}
+use Rattle.xs_closed.specs.Testing.{InRow, Keeps, Raises, Lacks, IsNeed, RowHasNoFinals, IsRowNeed, IsBelow, IsLimit, rank, IsBest, IsRead}
 use Rattle.xs_closed.proofs.RowLemmas.{holds_rows}
 use Rattle.xs_closed.proofs.NeedLemmas.{raises_none, raises_then, lacks_as}
 

@@ -7,7 +7,8 @@ use Rattle.xs_auto.specs.declared.call.Call.{Call}
 use Rattle.xs_auto.specs.declared.edge.Edge.{Edge}
 use Rattle.xs_auto.specs.Nets.{Graph, edges_of, calls_of}
 use Rattle.xs_closed.specs.Rows.{Grid}
-use Rattle.xs_closed.specs.Testing.{OneOf, IsPair, Meets, Joins, StridesBy, Raises, Lacks, IsNeed}
+use Rattle.xs_closed.specs.Search.{OneOf, IsPair, Meets, Joins}
+use Rattle.xs_closed.specs.Testing.{StridesBy, Raises, Lacks, IsNeed}
 
 -- no pair needs nothing
 pub raises_none : (z : Grid) {T : ℕ → ℕ → Type 0} (old : ℕ) → ((c d : ℕ) → T c d → ⊥) → Raises z T old old

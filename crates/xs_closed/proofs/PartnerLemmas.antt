@@ -6,7 +6,8 @@ use Rattle.xs_auto.specs.declared.edge.Edge.{Edge}
 use Rattle.xs_auto.specs.Nets.{Graph, edges_of, moves_of, calls_of}
 use Rattle.xs_meet.specs.Closed.{Drifts, Strides}
 use Rattle.xs_closed.specs.Rows.{Grid, marked, IsNext}
-use Rattle.xs_closed.specs.Testing.{OneOf, IsPair, StridesBy, InRow, InRowBelow, Raises, Lacks, IsNeed}
+use Rattle.xs_closed.specs.Search.{OneOf, IsPair}
+use Rattle.xs_closed.specs.Testing.{StridesBy, InRow, InRowBelow, Raises, Lacks, IsNeed}
 use Rattle.xs_closed.proofs.NeedLemmas.{raises_none, raises_then, raises_as, lacks_as}
 
 pub partners_more : (y z : Grid) (a : ℕ) (F : ℕ → ℕ → ℕ → Type 0) (from b old mid new : ℕ) → IsNext y a from b → Raises z (InRowBelow y a from F) old mid → Raises z (F b) mid new → Raises z (InRowBelow y a (b + 1) F) old new

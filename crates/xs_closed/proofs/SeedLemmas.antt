@@ -8,7 +8,7 @@ use Rattle.xs_meet.specs.Closed.{Strides}
 use Rattle.xs_closed.specs.declared.pair.Pair.{Pair}
 use Rattle.xs_closed.specs.Rows.{Grid}
 use Rattle.xs_closed.specs.Least.{AreStarts, IsPastFront, IsStride, IsPastMiddle}
-use Rattle.xs_closed.specs.Search.{pair, HasPair, Adds, IsPair, Among, Turns, Returns}
+use Rattle.xs_closed.specs.Search.{pair, HasPair, Adds, IsPair, OneOf, Turns, Returns}
 use Rattle.xs_closed.proofs.AddLemmas.{adds_as, adds_known}
 
 -- where both nets have a start, and where one has none
@@ -43,26 +43,26 @@ pub returns_none : (front : Graph) (start : ℕ) (p : Pair) (z : Grid) (ps : Lis
 returns_none front start p z ps shut = adds_known (Returns front start p) z ps (λ c d t. absurd (true≢false (sym t.final ∙ shut)))
 
 -- over all pairs of a list
-pub turns_all : (front rest : Graph) (start : ℕ) (fronts : List Pair) {y z : Grid} {ps qs : List Pair} → rest.start ≡ Some start → Adds (Among fronts (Turns front start)) y ps z qs → Adds (IsPastFront front rest (HasPair fronts)) y ps z qs
-turns_all front rest start fronts begin g = adds_as (Among fronts (Turns front start)) (IsPastFront front rest (HasPair fronts)) to back g
+pub turns_all : (front rest : Graph) (start : ℕ) (fronts : List Pair) {y z : Grid} {ps qs : List Pair} → rest.start ≡ Some start → Adds (OneOf fronts (Turns front start)) y ps z qs → Adds (IsPastFront front rest (HasPair fronts)) y ps z qs
+turns_all front rest start fronts begin g = adds_as (OneOf fronts (Turns front start)) (IsPastFront front rest (HasPair fronts)) to back g
   where
-    to : (c d : ℕ) → Among fronts (Turns front start) c d → IsPastFront front rest (HasPair fronts) c d
-    to c d t = record { state = t.item.first; within = rw t.gives.first t.has; final = t.gives.final; starts = rw t.gives.second begin }
+    to : (c d : ℕ) → OneOf fronts (Turns front start) c d → IsPastFront front rest (HasPair fronts) c d
+    to c d t = record { state = t.item.first; within = rw t.leads.first t.has; final = t.leads.final; starts = rw t.leads.second begin }
 
-    back : (c d : ℕ) → IsPastFront front rest (HasPair fronts) c d → Among fronts (Turns front start) c d
-    back c d p = record { item = pair p.state c; has = p.within; gives = record { final = p.final; first = refl; second = some_same _ _ _ p.starts begin } }
+    back : (c d : ℕ) → IsPastFront front rest (HasPair fronts) c d → OneOf fronts (Turns front start) c d
+    back c d p = record { item = pair p.state c; has = p.within; leads = record { final = p.final; first = refl; second = some_same _ _ _ p.starts begin } }
 
 pub turns_nowhere : (front rest : Graph) (fronts : List Pair) (z : Grid) (ps : List Pair) → rest.start ≡ None → Adds (IsPastFront front rest (HasPair fronts)) z ps z ps
 turns_nowhere front rest fronts z ps none = adds_known (IsPastFront front rest (HasPair fronts)) z ps (λ c d p. absurd (no_start d rest none p.starts))
 
-pub returns_all : (front rest : Graph) (start : ℕ) (middles : List Pair) {y z : Grid} {ps qs : List Pair} → rest.start ≡ Some start → Adds (Among middles (Returns front start)) y ps z qs → Adds (IsPastMiddle front rest (HasPair middles)) y ps z qs
-returns_all front rest start middles begin g = adds_as (Among middles (Returns front start)) (IsPastMiddle front rest (HasPair middles)) to back g
+pub returns_all : (front rest : Graph) (start : ℕ) (middles : List Pair) {y z : Grid} {ps qs : List Pair} → rest.start ≡ Some start → Adds (OneOf middles (Returns front start)) y ps z qs → Adds (IsPastMiddle front rest (HasPair middles)) y ps z qs
+returns_all front rest start middles begin g = adds_as (OneOf middles (Returns front start)) (IsPastMiddle front rest (HasPair middles)) to back g
   where
-    to : (c d : ℕ) → Among middles (Returns front start) c d → IsPastMiddle front rest (HasPair middles) c d
-    to c d t = record { state = t.item.first; within = rw t.gives.second t.has; final = t.gives.final; starts = rw t.gives.first begin }
+    to : (c d : ℕ) → OneOf middles (Returns front start) c d → IsPastMiddle front rest (HasPair middles) c d
+    to c d t = record { state = t.item.first; within = rw t.leads.second t.has; final = t.leads.final; starts = rw t.leads.first begin }
 
-    back : (c d : ℕ) → IsPastMiddle front rest (HasPair middles) c d → Among middles (Returns front start) c d
-    back c d p = record { item = pair p.state d; has = p.within; gives = record { final = p.final; first = some_same _ _ _ p.starts begin; second = refl } }
+    back : (c d : ℕ) → IsPastMiddle front rest (HasPair middles) c d → OneOf middles (Returns front start) c d
+    back c d p = record { item = pair p.state d; has = p.within; leads = record { final = p.final; first = some_same _ _ _ p.starts begin; second = refl } }
 
 pub returns_nowhere : (front rest : Graph) (middles : List Pair) (z : Grid) (ps : List Pair) → rest.start ≡ None → Adds (IsPastMiddle front rest (HasPair middles)) z ps z ps
 returns_nowhere front rest middles z ps none = adds_known (IsPastMiddle front rest (HasPair middles)) z ps (λ c d p. absurd (no_start c rest none p.starts))
@@ -71,11 +71,11 @@ returns_nowhere front rest middles z ps none = adds_known (IsPastMiddle front re
 abbrev pub Goes : (ℕ → ℕ → Type 0) → Graph → Graph → Pair → ℕ → ℕ → Type 0
 Goes R front rest p = Strides R front rest p.first p.second
 
-pub strides_all : (R : ℕ → ℕ → Type 0) (front rest : Graph) (pauses : List Pair) {y z : Grid} {ps qs : List Pair} → Adds (Among pauses (Goes R front rest)) y ps z qs → Adds (IsStride R front rest (HasPair pauses)) y ps z qs
-strides_all R front rest pauses g = adds_as (Among pauses (Goes R front rest)) (IsStride R front rest (HasPair pauses)) to back g
+pub strides_all : (R : ℕ → ℕ → Type 0) (front rest : Graph) (pauses : List Pair) {y z : Grid} {ps qs : List Pair} → Adds (OneOf pauses (Goes R front rest)) y ps z qs → Adds (IsStride R front rest (HasPair pauses)) y ps z qs
+strides_all R front rest pauses g = adds_as (OneOf pauses (Goes R front rest)) (IsStride R front rest (HasPair pauses)) to back g
   where
-    to : (c d : ℕ) → Among pauses (Goes R front rest) c d → IsStride R front rest (HasPair pauses) c d
-    to c d t = record { front_state = t.item.first; rest_state = t.item.second; within = t.has; stride = t.gives }
+    to : (c d : ℕ) → OneOf pauses (Goes R front rest) c d → IsStride R front rest (HasPair pauses) c d
+    to c d t = record { front_state = t.item.first; rest_state = t.item.second; within = t.has; stride = t.leads }
 
-    back : (c d : ℕ) → IsStride R front rest (HasPair pauses) c d → Among pauses (Goes R front rest) c d
-    back c d s = record { item = pair s.front_state s.rest_state; has = s.within; gives = s.stride }
+    back : (c d : ℕ) → IsStride R front rest (HasPair pauses) c d → OneOf pauses (Goes R front rest) c d
+    back c d s = record { item = pair s.front_state s.rest_state; has = s.within; leads = s.stride }

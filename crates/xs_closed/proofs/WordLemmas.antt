@@ -1,12 +1,12 @@
 -- A table of marks in words: reading, setting and finding bits.
-use Rattle.std.proofs.Common.{◌≡◌, ◌≢◌, ℕ, zero, suc, ◌+◌, ◌-◌, ◌*◌, ◌/◌, ◌%◌, ◌^◌, ◌<◌, ◌≤◌, Bool, true, false, not, nat_eq, List, [], length, get_or, set, replicate, max, min, leb, ◌↔◌, bit_and, bit_or, w64, refl, sym, ap, ◌∙◌, inl, inr, arith, length-set, get_or-set_same, get_or-set_other}
+use Rattle.std.proofs.Common.{◌≡◌, ◌≢◌, ℕ, zero, suc, ◌+◌, ◌-◌, ◌*◌, ◌/◌, ◌%◌, ◌^◌, ◌<◌, ◌≤◌, Bool, true, false, nat_eq, List, [], length, get_or, set, replicate, max, min, leb, ◌↔◌, bit_and, bit_or, w64, refl, sym, ap, ◌∙◌, inl, inr, arith, length-set, get_or-set_same, get_or-set_other}
 use Rattle.std.specs.Prelude.{IsTrue}
 use Rattle.std.specs.Int.{bit_at, bit_not, trailing_zeros}
 use Rattle.std.proofs.lemmas.Bool.{cases_eq, cases_lt, eqb-true, true≢false, leb-true, le-leb}
 use Rattle.std.proofs.lemmas.List.{get_or-replicate, length-replicate, get_or_past}
 use Rattle.std.proofs.lemmas.List.FromFn.{length-map-range_with_len, get_or-map-range_with_len, fill_by_all}
 use Rattle.std.proofs.lemmas.Nat.{mul-add-lt, and_le_l, same_from_place, shr-shr, shr_le}
-use Rattle.std.proofs.lemmas.Nat.Bits.{bit_at-zero, bit_at-lt, bit_at_and, bit_at_not, bit_at_set_same, bit_at_set_other, shr_and_one, bit_at-trailing_zeros, bit_at_above}
+use Rattle.std.proofs.lemmas.Nat.Bits.{bit_at-zero, bit_at-lt, bit_at_and, bit_at_not, bit_at_set_same, bit_at_set_other, bit_at-trailing_zeros, bit_at_above}
 use Rattle.xs_closed.specs.Rows.{Grid, blank, marked, IsSized, Marks}
 use Rattle.xs_closed.specs.Words.{bit_in, row_in, grid_of, IsPacked, IsFirstBit, IsFirstLack}
 
@@ -105,18 +105,6 @@ word_packed high wide step used last word place words h l e = record {
   within = rw length-set (omega (arith, h.within));
   unused = λ k m. let ne : k ≢ place = (λ f. absurd (omega arith)) in get_or-set_other words place k word 0 ne ∙ h.unused k (omega arith);
 }
-
--- the test of a bit that the code makes
-pub fresh_bit : (word r : ℕ) → nat_eq (bit_and (word / 2 ^ r) 1) 0 ≡ not (nat_eq (bit_at word r) 1)
-fresh_bit word r = rw (shr_and_one word r) (one_of (bit_at word r) (bit_at-lt word r))
-  where
-    one_of : (b : ℕ) → b < 2 → nat_eq b 0 ≡ not (nat_eq b 1)
-    one_of zero l = refl
-    one_of (suc zero) l = refl
-    one_of (suc (suc b)) l = absurd (omega arith)
-
-pub held_bit : (word r : ℕ) → nat_eq (bit_and (word / 2 ^ r) 1) 1 ≡ nat_eq (bit_at word r) 1
-held_bit word r = rw (shr_and_one word r) refl
 
 -- a bit of a word from another on
 shifted : (word r i : ℕ) → bit_at (word / 2 ^ r) i ≡ bit_at word (r + i)

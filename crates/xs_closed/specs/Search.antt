@@ -1,4 +1,4 @@
--- How a search marks pairs, and lists those that it has marked.
+-- Where parts of a pair lead; how a search marks pairs, and lists those that it has marked.
 use Rattle.std.specs.Prelude.{◌≡◌, ◌↔◌, ℕ, ◌<◌, ◌⊎◌, true, List, ◌++◌, length, slice_get, Some}
 use Rattle.std.specs.List.{All, Contains}
 use Rattle.xs_class.specs.Classes.{Has}
@@ -51,11 +51,11 @@ pub record IsPair (a b c d : ℕ) : Type 0 where
   pub first : c ≡ a
   pub second : d ≡ b
 
--- some element gives the pair
-pub record Among {X : Type 0} (xs : List X) (Q : X → ℕ → ℕ → Type 0) (c d : ℕ) : Type 0 where
+-- some element leads to the pair of c and d
+pub record OneOf {X : Type 0} (xs : List X) (Q : X → ℕ → ℕ → Type 0) (c d : ℕ) : Type 0 where
   pub item : X
   pub has : Contains xs item
-  pub gives : Q item c d
+  pub leads : Q item c d
 
 -- the two edges read a common symbol, and lead to the pair
 pub record Meets (e f : Edge) (c d : ℕ) : Type 0 where

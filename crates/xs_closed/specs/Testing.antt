@@ -1,37 +1,11 @@
 -- How far the pairs of a set lead into its rows.
 use Rattle.std.specs.Prelude.{◌≡◌, ℕ, ◌<◌, ◌≤◌, ◌⊎◌, true, List, length, take, Option, None, Some}
-use Rattle.std.specs.List.{Contains}
-use Rattle.xs_class.specs.Classes.{Has}
 use Rattle.xs_auto.specs.declared.call.Call.{Call}
 use Rattle.xs_auto.specs.declared.edge.Edge.{Edge}
 use Rattle.xs_auto.specs.Nets.{Graph, final_at, edges_of, calls_of}
 use Rattle.xs_meet.specs.Closed.{Drifts, Strides, Leads, IsClosed, HasNoFinals}
 use Rattle.xs_closed.specs.Rows.{Grid, marked, rows_from}
-
--- some element leads to the pair of c and d
-pub record OneOf {X : Type 0} (xs : List X) (F : X → ℕ → ℕ → Type 0) (c d : ℕ) : Type 0 where
-  pub item : X
-  pub has : Contains xs item
-  pub leads : F item c d
-
--- the pair of c and d is that of a and b
-pub record IsPair (a b c d : ℕ) : Type 0 where
-  pub first : c ≡ a
-  pub second : d ≡ b
-
--- the two edges read a common symbol, and lead to c and d
-pub record Meets (e f : Edge) (c d : ℕ) : Type 0 where
-  pub symbol : ℕ
-  pub takes_first : Has e.class symbol
-  pub takes_second : Has f.class symbol
-  pub to_first : e.to ≡ c
-  pub to_second : f.to ≡ d
-
--- R relates the groups of the two calls, which lead to c and d
-pub record Joins (R : ℕ → ℕ → Type 0) (h k : Call) (c d : ℕ) : Type 0 where
-  pub related : R h.group k.group
-  pub to_first : h.to ≡ c
-  pub to_second : k.to ≡ d
+use Rattle.xs_closed.specs.Search.{OneOf, IsPair, Meets, Joins}
 
 -- the pair itself, or one that it leads to
 abbrev pub Keeps : (ℕ → ℕ → Type 0) → Graph → Graph → ℕ → ℕ → ℕ → ℕ → Type 0

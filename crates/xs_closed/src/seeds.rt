@@ -4,7 +4,7 @@ ghost use Rattle.xs_auto.specs.Nets.{states};
 ghost use Rattle.xs_meet.specs.Closed.{Marked};
 ghost use Rattle.xs_closed.specs.Rows.{marked};
 ghost use Rattle.xs_closed.specs.Least.{AreStarts, IsPastFront, IsStride, IsPastMiddle};
-ghost use Rattle.xs_closed.specs.Search.{IsListed, IsFor, IsInside, Adds, HasPair, Among, Turns, Returns};
+ghost use Rattle.xs_closed.specs.Search.{IsListed, IsFor, IsInside, Adds, HasPair, OneOf, Turns, Returns};
 
 use crate::PairSet;
 use crate::pair::Pair;
@@ -41,7 +41,7 @@ fn seed_turns(
     requires start { start < set.old.wide }
     requires inside { All (IsInside (states front.now) (length set.old.rows)) fronts.now }
     ensures listed { OnOk result (IsListed set.new pairs.new.items) }
-    ensures ok { OnOk result (Adds (Among fronts.now (Turns front.now start)) set.old pairs.old.items set.new pairs.new.items) }
+    ensures ok { OnOk result (Adds (OneOf fronts.now (Turns front.now start)) set.old pairs.old.items set.new pairs.new.items) }
 {
     'fronts: for at in fronts {
         if front.is_final(at.first) {
@@ -106,7 +106,7 @@ fn seed_returns(
     requires start { start < length set.old.rows }
     requires inside { All (IsInside (states front.now) set.old.wide) middles.now }
     ensures listed { OnOk result (IsListed set.new pairs.new.items) }
-    ensures ok { OnOk result (Adds (Among middles.now (Returns front.now start)) set.old pairs.old.items set.new pairs.new.items) }
+    ensures ok { OnOk result (Adds (OneOf middles.now (Returns front.now start)) set.old pairs.old.items set.new pairs.new.items) }
 {
     'middles: for at in middles {
         if front.is_final(at.first) {

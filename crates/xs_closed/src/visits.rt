@@ -3,7 +3,7 @@ ghost use Rattle.std.specs.List.{All};
 ghost use Rattle.xs_class.specs.Classes.{Has};
 ghost use Rattle.xs_meet.specs.Closed.{Marked};
 ghost use Rattle.xs_closed.specs.Rows.{marked};
-ghost use Rattle.xs_closed.specs.Search.{IsListed, Adds, IsPair, Among, Meets, Joins};
+ghost use Rattle.xs_closed.specs.Search.{IsListed, Adds, IsPair, OneOf, Meets, Joins};
 
 use crate::PairSet;
 use crate::pair::Pair;
@@ -40,7 +40,7 @@ pub fn visit_firsts(
     requires first { All (λ a. a < length set.old.rows) firsts.now }
     requires second { second < set.old.wide }
     ensures listed { OnOk result (IsListed set.new pairs.new.items) }
-    ensures ok { OnOk result (Adds (Among firsts.now (λ a. IsPair a second)) set.old pairs.old.items set.new pairs.new.items) }
+    ensures ok { OnOk result (Adds (OneOf firsts.now (λ a. IsPair a second)) set.old pairs.old.items set.new pairs.new.items) }
 {
     'firsts: for first in firsts {
         visit(set, pairs, *first, second)?;
@@ -59,7 +59,7 @@ pub fn visit_seconds(
     requires first { first < length set.old.rows }
     requires second { All (λ b. b < set.old.wide) seconds.now }
     ensures listed { OnOk result (IsListed set.new pairs.new.items) }
-    ensures ok { OnOk result (Adds (Among seconds.now (λ b. IsPair first b)) set.old pairs.old.items set.new pairs.new.items) }
+    ensures ok { OnOk result (Adds (OneOf seconds.now (λ b. IsPair first b)) set.old pairs.old.items set.new pairs.new.items) }
 {
     'seconds: for second in seconds {
         visit(set, pairs, first, *second)?;
@@ -86,7 +86,7 @@ fn visit_ends(
     requires first { edge.now.to < length set.old.rows }
     requires second { All (λ f. f.to < set.old.wide) others.now }
     ensures listed { OnOk result (IsListed set.new pairs.new.items) }
-    ensures ok { OnOk result (Adds (Among others.now (Meets edge.now)) set.old pairs.old.items set.new pairs.new.items) }
+    ensures ok { OnOk result (Adds (OneOf others.now (Meets edge.now)) set.old pairs.old.items set.new pairs.new.items) }
 {
     'others: for other in others {
         if is_new(set, edge, other) {
@@ -107,7 +107,7 @@ pub fn visit_boths(
     requires first { All (λ e. e.to < length set.old.rows) edges.now }
     requires second { All (λ f. f.to < set.old.wide) others.now }
     ensures listed { OnOk result (IsListed set.new pairs.new.items) }
-    ensures ok { OnOk result (Adds (Among edges.now (λ e. Among others.now (Meets e))) set.old pairs.old.items set.new pairs.new.items) }
+    ensures ok { OnOk result (Adds (OneOf edges.now (λ e. OneOf others.now (Meets e))) set.old pairs.old.items set.new pairs.new.items) }
 {
     'edges: for edge in edges {
         visit_ends(set, pairs, edge, others)?;
@@ -128,7 +128,7 @@ fn visit_partners(
     requires first { call.to < length set.old.rows }
     requires second { All (λ k. k.to < set.old.wide) others.now }
     ensures listed { OnOk result (IsListed set.new pairs.new.items) }
-    ensures ok { OnOk result (Adds (Among others.now (Joins (Marked (marked related.now)) call)) set.old pairs.old.items set.new pairs.new.items) }
+    ensures ok { OnOk result (Adds (OneOf others.now (Joins (Marked (marked related.now)) call)) set.old pairs.old.items set.new pairs.new.items) }
 {
     'others: for other in others {
         if related.has(call.group, other.group) {
@@ -150,7 +150,7 @@ pub fn visit_calls(
     requires first { All (λ h. h.to < length set.old.rows) calls.now }
     requires second { All (λ k. k.to < set.old.wide) others.now }
     ensures listed { OnOk result (IsListed set.new pairs.new.items) }
-    ensures ok { OnOk result (Adds (Among calls.now (λ h. Among others.now (Joins (Marked (marked related.now)) h))) set.old pairs.old.items set.new pairs.new.items) }
+    ensures ok { OnOk result (Adds (OneOf calls.now (λ h. OneOf others.now (Joins (Marked (marked related.now)) h))) set.old pairs.old.items set.new pairs.new.items) }
 {
     'calls: for call in calls {
         visit_partners(set, pairs, related, *call, others)?;

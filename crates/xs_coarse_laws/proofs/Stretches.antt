@@ -1,8 +1,5 @@
 -- What is left of a stretch after an item and after a group, the group itself, and its inside.
-use Rattle.std.proofs.Common.{◌≡◌, ℕ, suc, ◌+◌, ◌<◌, ◌≤◌, List, [], ◌∷◌, ◌++◌, length, take, drop, refl, sym, ap, ◌∙◌, arith, append_assoc, length-append}
-use Rattle.std.proofs.lemmas.List.{take-append-drop, length-take-le}
-use Rattle.std.proofs.lemmas.List.Folds.{drop_split}
-use Rattle.std.specs.Prelude.{slice_range}
+use Rattle.std.proofs.Common.{◌≡◌, ℕ, suc, ◌+◌, ◌<◌, List, [], ◌∷◌, ◌++◌, length, refl, sym, ap, ◌∙◌, arith, append_assoc, length-append}
 use Rattle.xs_gram.specs.declared.parts.GItem.{GItem}
 use Rattle.xs_gram.specs.declared.parts.GItem.TheVariants.{Fixed}
 use Rattle.xs_gram.specs.Grammar.{Grammar}
@@ -46,15 +43,4 @@ its_inside {l = l} {r = r} {inside = inside} rule a = record {
   split = a.split ∙ sym (append_assoc a.before (Fixed (l ∷ []) ∷ []) (inside ++ Fixed (r ∷ []) ∷ a.after));
   place = omega (arith, a.place, length-append a.before (Fixed (l ∷ []) ∷ []));
   level = a.within;
-}
-
--- the items from one place of a rule to another, also where the second one is past the rule's end
-pub slice_stretch : {g : Grammar} {p start end : ℕ} → p < length g.rules → start ≤ length (spread g p) → start ≤ end → IsLevel g.fences (slice_range (spread g p) start end) → IsStretch g p start (slice_range (spread g p) start end)
-slice_stretch {g} {p} {start} {end} rule low order level = record {
-  rule = rule;
-  before = take start (spread g p);
-  after = drop end (spread g p);
-  split = sym (take-append-drop start (spread g p)) ∙ ap (λ (x : List GItem). take start (spread g p) ++ x) (drop_split (spread g p) start end order);
-  place = sym (length-take-le start (spread g p) low);
-  level = level;
 }

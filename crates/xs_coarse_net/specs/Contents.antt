@@ -1,11 +1,10 @@
 -- The covers of the insides of a grammar's groups.
-use Rattle.std.specs.Prelude.{◌≡◌, ℕ, ◌<◌, List, length, map}
-use Rattle.xs_auto.specs.Nests.{Group, IsGroup}
+use Rattle.std.specs.Prelude.{ℕ, ◌<◌, List, length, map}
+use Rattle.xs_auto.specs.Nests.{Group}
 use Rattle.xs_gram.specs.declared.parts.GItem.{GItem}
 use Rattle.xs_gram.specs.Grammar.{Grammar}
 use Rattle.xs_gram.specs.Fences.{spread, GroupAt}
-use Rattle.xs_check_laws.specs.Acceptance.{IsBefore}
-use Rattle.xs_stretch.specs.Groups.{group_number}
+use Rattle.xs_stretch.specs.Nesting.{HasGroupsBefore}
 use Rattle.xs_coarse.specs.Coarse.{Table}
 use Rattle.xs_coarse.specs.Covers.{CoversGroup, IsUnfencedNet}
 use Rattle.xs_coarse_net.specs.declared.contents.Content.{Content}
@@ -28,8 +27,7 @@ pub record IsContentOf (g : Grammar) (p k : ℕ) (group : Group) : Type 0 where
   pub covers : CoversGroup g p k partner group.left inside group.right group
   pub plain : IsUnfencedNet g group.content
 
--- the nest has the groups before spread item k of rule p, each under its number, and no others
-pub record HasContentsBefore (g : Grammar) (p k : ℕ) (nest : List Group) : Type 0 where
-  pub counted : length nest ≡ group_number g p k
-  pub there : (q j m l r : ℕ) (inside : List GItem) → IsBefore q j p k → q < length g.rules → GroupAt g.fences (spread g q) j m l inside r → (group : Group) × IsGroup nest (group_number g q j) group × IsContentOf g q j group
-  pub only : (h : ℕ) (group : Group) → IsGroup nest h group → (q : ℕ) × (j : ℕ) × (h ≡ group_number g q j) × IsContentOf g q j group
+-- the nest has the groups before spread item k of rule p, each under its number with its content, and
+-- no others
+abbrev pub HasContentsBefore : Grammar → ℕ → ℕ → List Group → Type 0
+HasContentsBefore g p k nest = HasGroupsBefore (IsContentOf g) g p k nest

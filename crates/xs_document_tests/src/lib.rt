@@ -1,9 +1,7 @@
 //! Tests of the crates that read, translate and write documents, one module for each: devices,
 //! characters and XML, the two readers, forests and trees, printing, outlines and covers.
 //!
-//! They stand apart from the crates that they try, so that each of those is proved once: a crate
-//! with tests is proved a second time with them; and apart from the tests of the whole run, which
-//! each change of `xs_top` proves again.
+//! `xs_test_tools` says why they stand apart from the crates that they try.
 #![tactic(auto)]
 
 #[cfg(test)]

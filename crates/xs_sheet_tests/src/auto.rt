@@ -1,28 +1,10 @@
 //! Small nets with known answers.
-ghost use Rattle.std.specs.Prelude.{◌≡◌, IsSome, IfOk};
-ghost use Rattle.xs_auto.specs.Nets.{states};
-
 use std::alloc::Global;
 use std::test::Fail;
-use xs_auto::{Net, Pairs};
-use xs_class::{Class, Memory, Word};
+use xs_auto::Pairs;
+use xs_class::{Memory, Word};
 use xs_meet::{Overlap, meet_word, overlap_word};
-
-/// A net that accepts one or more symbols of a range, by an edge and an empty move back.
-fn run_of(alloc: Global, range: (u32, u32)) -> Result<Net, Memory>
-    ensures start { IfOk result (λ n. IsSome n.start) }
-    ensures two { IfOk result (λ n. states n ≡ 2) }
-{
-    let class = Class::from_ranges(alloc, &[range])?;
-    let mut net = Net::new(alloc)?;
-    let first = net.state()?;
-    let last = net.state()?;
-    net.edge(first, &class, last)?;
-    net.pass(last, first)?;
-    net.set_start(first);
-    net.set_final(last)?;
-    Ok(net)
-}
+use xs_test_tools::run_of;
 
 fn shared(alloc: Global, first: (u32, u32), second: (u32, u32)) -> Result<Option<Word>, Memory> {
     let first = run_of(alloc, first)?;

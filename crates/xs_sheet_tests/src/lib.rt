@@ -3,9 +3,7 @@
 //! `xs_vert` and `xs_horiz` is `suspects`, and `xs_meet` has `auto` for nets alone and `nests` for
 //! nets that call groups.
 //!
-//! They stand apart from the crates that they try, so that each of those is proved once: a crate
-//! with tests is proved a second time with them; and apart from the tests of the whole run, which
-//! each change of `xs_top` proves again.
+//! `xs_test_tools` says why they stand apart from the crates that they try.
 #![tactic(auto)]
 
 #[cfg(test)]

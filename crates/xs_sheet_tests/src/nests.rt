@@ -5,22 +5,16 @@ ghost use Rattle.xs_sheet_tests.specs.Small.{IsSmall, AreBrackets};
 use std::alloc::Global;
 use std::test::Fail;
 use xs_auto::{Nest, Net, Pairs};
-use xs_class::{Class, Memory, Sym, Word};
+use xs_class::{Memory, Sym, Word};
 use xs_meet::{Overlap, Shared, meet_nested, overlap_nested};
+use xs_test_tools::run_of;
 
 /// A net of two states that accepts one or more symbols of a range, from the letter `a` on.
 fn letters(alloc: Global, range: (u32, u32)) -> Result<Net, Memory>
     ensures { IfOk result IsSmall }
 {
-    let class = Class::from_ranges(alloc, &[(range.0.max(97), range.1)])?;
-    let mut net = Net::new(alloc)?;
-    let first = net.state()?;
-    let last = net.state()?;
-    net.edge(first, &class, last)?;
-    net.pass(last, first)?;
-    net.set_start(first);
-    net.set_final(last)?;
-    Ok(net)
+    let run = run_of(alloc, (range.0.max(97), range.1))?;
+    Ok(run)
 }
 
 /// A net of two states that accepts what a group reads, once or more.

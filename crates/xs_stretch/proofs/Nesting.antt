@@ -1,8 +1,9 @@
 -- The nest of a grammar's groups, one more at a time.
-use Rattle.std.proofs.Common.{◌≡◌, ◌⊎◌, ℕ, zero, suc, ◌+◌, ◌-◌, ◌<◌, ◌≤◌, ◌^◌, List, [], ◌∷◌, ◌++◌, length, take, get_or, slice_get, slice_range, refl, sym, ap, subst, ◌∙◌, inl, inr, arith, append_assoc, length-append, Some}
+use Rattle.std.proofs.Common.{◌≡◌, ◌⊎◌, ℕ, suc, ◌+◌, ◌-◌, ◌<◌, ◌≤◌, ◌^◌, List, [], ◌∷◌, ◌++◌, length, take, get_or, slice_get, slice_range, refl, sym, ap, subst, ◌∙◌, inl, inr, arith, append_assoc, length-append, Some}
 use Rattle.std.proofs.lemmas.Bool.{cases_eq}
 use Rattle.std.proofs.lemmas.List.{drop_at, take_at, take_all}
 use Rattle.std.proofs.lemmas.Option.{slice_get-get_or, get_or_from_slice_get, same_Some}
+use Rattle.xs_class.proofs.Lists.{get_push, get_last, get_left}
 use Rattle.xs_auto.specs.Nests.{Group, IsGroup}
 use Rattle.xs_gram.specs.declared.parts.GItem.{GItem}
 use Rattle.xs_gram.specs.declared.parts.GItem.TheVariants.{Fixed}
@@ -18,7 +19,7 @@ use Rattle.xs_stretch.specs.declared.part.Part.{Part}
 use Rattle.xs_stretch.specs.declared.fault.LooseFault.{LooseFault}
 use Rattle.xs_stretch.specs.declared.fault.LooseFault.TheVariants.{Heavy, Memory}
 use Rattle.xs_stretch.specs.Groups.{lefts, groups_before, group_number, HasFewGroups}
-use Rattle.xs_stretch.specs.Nesting.{IsNestBefore}
+use Rattle.xs_stretch.specs.Nesting.{HasGroupsBefore, IsNestBefore}
 use Rattle.xs_stretch.specs.Nets.{IsNumbered, IsNetOf, HasItsWeight, IsGroupOf, IsNestOf, HasInside, IsNestCause}
 use Rattle.xs_stretch.specs.Parts.{part_items, IsPart, AreLight, IsCause}
 use Rattle.xs_stretch.proofs.Numbering.{item_at, left_counts, other_counts, number_low}
@@ -91,14 +92,6 @@ item_read xs items k i e low is = slice_get-get_or items k i (omega (arith, ap l
 pub group_low : (g : Grammar) (p k m n : ℕ) → p < length g.rules → HasFewGroups g → IsPartner g.fences (spread g p) k m → n ≡ group_number g p k → n < 2 ^ 32 - 1
 group_low g p k m n low few partner e = omega (arith, few, left_counts g.fences (spread g p) k m partner, number_low g p (k + 1) low)
 
--- no groups
-pub nest_none : (g : Grammar) → IsNestBefore g 0 0 []
-nest_none g = record {
-  counted = refl;
-  there = λ q j m l r inside before low at. elim before [ inl h ↦ absurd (omega arith) | inr h ↦ absurd (omega (arith, h.1)) ];
-  only = λ h group is. absurd cc;
-}
-
 -- a pair before the next place is before this one, or this one
 before_next : (q j p k : ℕ) → IsBefore q j p (k + 1) → IsBefore q j p k ⊎ ((q ≡ p) × (j ≡ k))
 before_next q j p k h = elim h [
@@ -109,36 +102,67 @@ before_next q j p k h = elim h [
   ]
 ]
 
--- the place has no group
-pub nest_past : (g : Grammar) (p k : ℕ) (nest : List Group) → k < length (spread g p) → (IsLeftFence g.fences (spread g p) k → ⊥) → IsNestBefore g p k nest → IsNestBefore g p (k + 1) nest
-nest_past g p k nest low none was = record {
-  counted = omega (arith, was.counted, other_counts g.fences (spread g p) k low none);
-  there = λ q j m l r inside before rule at. elim (before_next q j p k before) [
-    | inl h ↦ was.there q j m l r inside h rule at
-    | inr e ↦ absurd (none (subst (λ (i : ℕ). IsLeftFence g.fences (spread g p) i) e.1 (subst (λ (s : ℕ). IsLeftFence g.fences (spread g s) j) e.0 (left_opens at))))
-  ];
-  only = was.only;
-}
+-- the groups before a place, each of which is as P says of its place
+module _ {P : ℕ → ℕ → Group → Type 0} (g : Grammar) where
+  pub groups_none : HasGroupsBefore P g 0 0 []
+  groups_none = record {
+    counted = refl;
+    there = λ q j m l r inside before low at. elim before [ inl h ↦ absurd (omega arith) | inr h ↦ absurd (omega (arith, h.1)) ];
+    only = λ h group is. absurd cc;
+  }
 
-kept_group : (nest : List Group) (h : ℕ) (group more : Group) → IsGroup nest h group → IsGroup (nest ++ more ∷ []) h group
-kept_group [] h group more is = absurd cc
-kept_group (x ∷ nest) zero group more is = is
-kept_group (x ∷ nest) (suc h) group more is = kept_group nest h group more is
+  -- the place has no group
+  pub groups_past : (p k : ℕ) (nest : List Group) → k < length (spread g p) → (IsLeftFence g.fences (spread g p) k → ⊥) → HasGroupsBefore P g p k nest → HasGroupsBefore P g p (k + 1) nest
+  groups_past p k nest low none was = record {
+    counted = omega (arith, was.counted, other_counts g.fences (spread g p) k low none);
+    there = λ q j m l r inside before rule at. elim (before_next q j p k before) [
+      | inl h ↦ was.there q j m l r inside h rule at
+      | inr e ↦ absurd (none (subst (λ (i : ℕ). IsLeftFence g.fences (spread g p) i) e.1 (subst (λ (s : ℕ). IsLeftFence g.fences (spread g s) j) e.0 (left_opens at))))
+    ];
+    only = was.only;
+  }
 
-group_cases : (nest : List Group) (h : ℕ) (group more : Group) → IsGroup (nest ++ more ∷ []) h group → IsGroup nest h group ⊎ ((h ≡ length nest) × (more ≡ group))
-group_cases [] zero group more is = inr (refl, same_Some _ _ is)
-group_cases [] (suc h) group more is = absurd cc
-group_cases (x ∷ nest) zero group more is = inl is
-group_cases (x ∷ nest) (suc h) group more is = elim (group_cases nest h group more is) [
-  | inl before ↦ inl before
-  | inr last ↦ inr (ap suc last.0, last.1)
-]
+  -- the place has a group
+  pub groups_more : (p k m : ℕ) → IsPartner g.fences (spread g p) k m → (nest new : List Group) (group : Group) → P p k group → new ≡ nest ++ group ∷ [] → HasGroupsBefore P g p k nest → HasGroupsBefore P g p (k + 1) new
+  groups_more p k m partner nest new group is e was = subst (λ (xs : List Group). HasGroupsBefore P g p (k + 1) xs) (sym e) (record {
+    counted = omega (arith, length-append nest (group ∷ []), was.counted, left_counts g.fences (spread g p) k m partner);
+    there = λ q j n l r inside before low at. elim (before_next q j p k before) [
+      | inl h ↦ let found = was.there q j n l r inside h low at in (found.0, get_left nest (group ∷ []) (group_number g q j) found.0 found.1, found.2)
+      | inr same ↦ here q j same.0 same.1
+    ];
+    only = λ h other there. elim (get_push nest group other h there) [
+      | inl before ↦ was.only h other before
+      | inr last ↦ (p, k, last.0 ∙ was.counted, subst (λ (x : Group). P p k x) last.1 is)
+    ];
+  })
+    where
+      here : (q j : ℕ) → q ≡ p → j ≡ k → (found : Group) × IsGroup (nest ++ group ∷ []) (group_number g q j) found × P q j found
+      here q j a b = rw (a, b) (group, subst (λ (h : ℕ). IsGroup (nest ++ group ∷ []) h group) was.counted (get_last nest group), is)
 
-last_group : (nest : List Group) (group : Group) → IsGroup (nest ++ group ∷ []) (length nest) group
-last_group [] group = refl
-last_group (x ∷ nest) group = last_group nest group
+  -- the groups of a rule are those of its places
+  pub groups_next : (p k : ℕ) (nest : List Group) → length (spread g p) ≤ k → HasGroupsBefore P g p k nest → HasGroupsBefore P g (p + 1) 0 nest
+  groups_next p k nest end was = subst (λ (q : ℕ). HasGroupsBefore P g q 0 nest) next (record {
+    counted = was.counted ∙ ap (λ (xs : List GItem). groups_before g p + lefts g.fences xs) (take_all k (spread g p) end) ∙ omega arith;
+    there = λ q j m l r inside before low at. was.there q j m l r inside (of_rule q j m l r inside before at) low at;
+    only = was.only;
+  })
+    where
+      next : suc p ≡ p + 1
+      next = omega arith
 
--- the place has a group
+      of_rule : (q j m l r : ℕ) (inside : List GItem) → IsBefore q j (suc p) 0 → GroupAt g.fences (spread g q) j m l inside r → IsBefore q j p k
+      of_rule q j m l r inside before at = elim before [
+        | inl low ↦ elim (cases_eq q p) [
+          | inl e ↦
+              let within = partner_low g.fences (spread g q) j m l r inside at in
+              let long : length (spread g q) ≡ length (spread g p) = ap (λ (s : ℕ). length (spread g s)) e in
+              inr (e, omega (arith, within.0, within.1, long))
+          | inr ne ↦ inl (omega arith)
+        ]
+        | inr none ↦ absurd (omega (arith, none.1))
+      ]
+
+-- what was read at the fences of a group is the group
 module _ (g : Grammar) (p k m : ℕ) (rule : p < length g.rules) (partner : IsPartner g.fences (spread g p) k m) where
   pub group_is : (group : Group) (part : Part) (items : List GItem) (i j : GItem) → items ≡ spread g p → slice_get items k ≡ Some i → slice_get items m ≡ Some j → i ≡ Fixed (group.left ∷ []) → j ≡ Fixed (group.right ∷ []) → part.rule ≡ p → part.start ≡ k + 1 → IsNetOf g part group.content → part_items g part ≡ partner.inside → HasItsWeight g (part_items g part) group.content → IsGroupOf g p k group
   group_is group part items i j same first second left right a b net inside weight = record {
@@ -164,45 +188,6 @@ module _ (g : Grammar) (p k m : ℕ) (rule : p < length g.rules) (partner : IsPa
 
       second_there : slice_get (spread g p) m ≡ Some (Fixed (group.right ∷ []))
       second_there = ap (λ (xs : List GItem). slice_get xs m) (sym same) ∙ second ∙ ap (λ (x : GItem). Some x) right
-
-  pub nest_more : (nest new : List Group) (group : Group) → IsGroupOf g p k group → new ≡ nest ++ group ∷ [] → IsNestBefore g p k nest → IsNestBefore g p (k + 1) new
-  nest_more nest new group is e was = subst (λ (xs : List Group). IsNestBefore g p (k + 1) xs) (sym e) (record {
-    counted = omega (arith, length-append nest (group ∷ []), was.counted, left_counts g.fences (spread g p) k m partner);
-    there = λ q j n l r inside before low at. elim (before_next q j p k before) [
-      | inl h ↦ let found = was.there q j n l r inside h low at in (found.0, kept_group nest (group_number g q j) found.0 group found.1, found.2)
-      | inr same ↦ here q j same.0 same.1
-    ];
-    only = λ h other there. elim (group_cases nest h other group there) [
-      | inl before ↦ was.only h other before
-      | inr last ↦ (p, k, last.0 ∙ was.counted, subst (λ (x : Group). IsGroupOf g p k x) last.1 is)
-    ];
-  })
-    where
-      here : (q j : ℕ) → q ≡ p → j ≡ k → (found : Group) × IsGroup (nest ++ group ∷ []) (group_number g q j) found × IsGroupOf g q j found
-      here q j a b = rw (a, b) (group, subst (λ (h : ℕ). IsGroup (nest ++ group ∷ []) h group) was.counted (last_group nest group), is)
-
--- the groups of a rule are those of its places
-pub nest_next : (g : Grammar) (p k : ℕ) (nest : List Group) → length (spread g p) ≤ k → IsNestBefore g p k nest → IsNestBefore g (p + 1) 0 nest
-nest_next g p k nest end was = subst (λ (q : ℕ). IsNestBefore g q 0 nest) next (record {
-  counted = was.counted ∙ ap (λ (xs : List GItem). groups_before g p + lefts g.fences xs) (take_all k (spread g p) end) ∙ omega arith;
-  there = λ q j m l r inside before low at. was.there q j m l r inside (of_rule q j m l r inside before at) low at;
-  only = was.only;
-})
-  where
-    next : suc p ≡ p + 1
-    next = omega arith
-
-    of_rule : (q j m l r : ℕ) (inside : List GItem) → IsBefore q j (suc p) 0 → GroupAt g.fences (spread g q) j m l inside r → IsBefore q j p k
-    of_rule q j m l r inside before at = elim before [
-      | inl low ↦ elim (cases_eq q p) [
-        | inl e ↦
-            let within = partner_low g.fences (spread g q) j m l r inside at in
-            let long : length (spread g q) ≡ length (spread g p) = ap (λ (s : ℕ). length (spread g s)) e in
-            inr (e, omega (arith, within.0, within.1, long))
-        | inr ne ↦ inl (omega arith)
-      ]
-      | inr none ↦ absurd (omega (arith, none.1))
-    ]
 
 pub nest_all : (g : Grammar) (p : ℕ) (nest : List Group) → p ≡ length g.rules → IsNestBefore g p 0 nest → IsNestOf g nest
 nest_all g p nest end was = record {

@@ -1,5 +1,6 @@
 -- Stretches of a rule's spread items, and how far they were gone through.
 use Rattle.std.proofs.Common.{◌≡◌, ℕ, zero, suc, ◌+◌, ◌<◌, ◌≤◌, List, [], ◌∷◌, ◌++◌, length, take, drop, refl, sym, ap, ◌∙◌, arith, append_assoc, append-nil, length-append, drop_at}
+use Rattle.std.specs.Prelude.{slice_range}
 use Rattle.std.proofs.lemmas.List.{take-append-drop}
 use Rattle.std.proofs.lemmas.List.Folds.{drop_split}
 use Rattle.xs_gram.specs.declared.parts.GItem.{GItem}
@@ -34,6 +35,17 @@ part_long g part is =
     let halves : length (take part.end xs) + length (drop part.end xs) ≡ length xs = sym (length-append (take part.end xs) (drop part.end xs)) ∙ ap length (take-append-drop part.end xs) in
     let first : length xs ≡ length (take part.start xs) + length (part_items g part ++ drop part.end xs) = ap length (part_stretch g part is).split ∙ length-append (take part.start xs) (part_items g part ++ drop part.end xs) in
     omega (arith, first, length-append (part_items g part) (drop part.end xs), halves, front, long_take xs part.start (omega (arith, is.order, is.within)))
+
+-- the items from one place of a rule to another, also where the second one is past the rule's end
+pub slice_stretch : {g : Grammar} {p start end : ℕ} → p < length g.rules → start ≤ length (spread g p) → start ≤ end → IsLevel g.fences (slice_range (spread g p) start end) → IsStretch g p start (slice_range (spread g p) start end)
+slice_stretch {g} {p} {start} {end} rule low order level = record {
+  rule = rule;
+  before = take start (spread g p);
+  after = drop end (spread g p);
+  split = sym (take-append-drop start (spread g p)) ∙ ap (λ (x : List GItem). take start (spread g p) ++ x) (drop_split (spread g p) start end order);
+  place = sym (long_take (spread g p) start low);
+  level = level;
+}
 
 -- what is left of a stretch stands in its rule
 pub stretch_rest : (g : Grammar) (p start k : ℕ) (is front rest : List GItem) → IsStretch g p start is → is ≡ front ++ rest → k ≡ start + length front → IsLevel g.fences rest → 0 < length rest → StandsAt g p k rest

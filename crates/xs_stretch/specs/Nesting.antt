@@ -8,8 +8,13 @@ use Rattle.xs_check_laws.specs.Acceptance.{IsBefore}
 use Rattle.xs_stretch.specs.Groups.{group_number}
 use Rattle.xs_stretch.specs.Nets.{IsGroupOf}
 
--- the nest has the groups before spread item k of rule p, each under its number, and no others
-pub record IsNestBefore (g : Grammar) (p k : ℕ) (nest : List Group) : Type 0 where
+-- the nest has the groups before spread item k of rule p, each under its number and as P says of its
+-- place, and no others
+pub record HasGroupsBefore (P : ℕ → ℕ → Group → Type 0) (g : Grammar) (p k : ℕ) (nest : List Group) : Type 0 where
   pub counted : length nest ≡ group_number g p k
-  pub there : (q j m l r : ℕ) (inside : List GItem) → IsBefore q j p k → q < length g.rules → GroupAt g.fences (spread g q) j m l inside r → (group : Group) × IsGroup nest (group_number g q j) group × IsGroupOf g q j group
-  pub only : (h : ℕ) (group : Group) → IsGroup nest h group → (q : ℕ) × (j : ℕ) × (h ≡ group_number g q j) × IsGroupOf g q j group
+  pub there : (q j m l r : ℕ) (inside : List GItem) → IsBefore q j p k → q < length g.rules → GroupAt g.fences (spread g q) j m l inside r → (group : Group) × IsGroup nest (group_number g q j) group × P q j group
+  pub only : (h : ℕ) (group : Group) → IsGroup nest h group → (q : ℕ) × (j : ℕ) × (h ≡ group_number g q j) × P q j group
+
+-- each with the net of the stretch inside
+abbrev pub IsNestBefore : Grammar → ℕ → ℕ → List Group → Type 0
+IsNestBefore g p k nest = HasGroupsBefore (IsGroupOf g) g p k nest

@@ -1,12 +1,17 @@
 //! What several crates of tests need: the grammars of a sheet that is given as bytes, the items of a
-//! sheet by letters, small sheets and those of examples/, names and words of texts, and numbers that
-//! are drawn.
+//! sheet by letters, small sheets and those of examples/, names and words of texts, small nets, and
+//! numbers that are drawn.
+//!
+//! The crates of tests stand apart from the crates that they try, so that each of those is proved
+//! once: a crate with tests is proved a second time with them. They stand apart from one another, so
+//! that a change of one crate proves few tests again.
 #![tactic(auto)]
 
 mod draws;
 mod examples;
 mod items;
 mod names;
+mod nets;
 mod sheets;
 mod small;
 
@@ -14,5 +19,6 @@ pub use draws::Draws;
 pub use examples::EXAMPLES;
 pub use items::{push_all, push_item, push_items};
 pub use names::{add_characters, names_of, word_of};
+pub use nets::run_of;
 pub use sheets::{other_side, pair_of, two_of};
 pub use small::{EMPTY, LEFT, NESTED, PAIR, RIGHT, SPACED};

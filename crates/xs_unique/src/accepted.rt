@@ -9,7 +9,7 @@ use xs_pair::Two;
 /// word of either has at most one derivation.
 #[derive(Debug, Drop)]
 pub struct Accepted<'t> {
-    pub(crate) two: &'t Two,
+    two: &'t Two,
 }
 
 impl<'t> Model for Accepted<'t> {
@@ -28,6 +28,16 @@ impl<'t> Model for Accepted<'t> {
 }
 
 impl<'t> Accepted<'t> {
+    /// Two grammars that were shown to be accepted, by a search or by a certificate.
+    pub fn of(two: &'t Two) -> Self
+        requires accepted { IsAccepted two.now.text two.now.xml }
+        requires text { IsUnique two.now.text }
+        requires xml { IsUnique two.now.xml }
+        ensures { result ≡ two.now }
+    {
+        Accepted { two }
+    }
+
     /// The two grammars.
     pub fn two(&self) -> &'t Two
         ensures same { result.now ≡ self.now }

@@ -31,7 +31,7 @@ pub fn accept<'t>(alloc: Global, two: &'t Two) -> Result<Accepted<'t>, AcceptFau
     ensures reason { IfErr result (IsReason two.now.text two.now.xml) }
 {
     check(alloc, two.gram(Side::Text), two.gram(Side::Xml))?;
-    Ok(Accepted { two })
+    Ok(Accepted::of(two))
 }
 
 /// Makes sure that two grammars are accepted.

@@ -3,7 +3,8 @@ ghost use Rattle.std.specs.List.{All};
 ghost use Rattle.xs_auto.specs.Nets.{states, moves_of};
 ghost use Rattle.xs_meet.specs.Closed.{Marked, Drifts, Strides};
 ghost use Rattle.xs_closed.specs.Rows.{marked, IsSized};
-ghost use Rattle.xs_closed.specs.Testing.{IsNeed, IsPair, OneOf, InRow, RowHasNoFinals};
+ghost use Rattle.xs_closed.specs.Search.{IsPair, OneOf};
+ghost use Rattle.xs_closed.specs.Testing.{IsNeed, InRow, RowHasNoFinals};
 
 use super::steps::{seconds_need, stride_need};
 use super::walk::partner_from;

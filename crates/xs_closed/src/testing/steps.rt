@@ -2,7 +2,8 @@ ghost use Rattle.std.specs.Prelude.{◌≡◌, ◌<◌};
 ghost use Rattle.xs_auto.specs.Nets.{states};
 ghost use Rattle.xs_meet.specs.Closed.{Marked};
 ghost use Rattle.xs_closed.specs.Rows.{marked};
-ghost use Rattle.xs_closed.specs.Testing.{IsNeed, IsPair, OneOf, Meets, Joins, StridesBy};
+ghost use Rattle.xs_closed.specs.Search.{IsPair, OneOf, Meets, Joins};
+ghost use Rattle.xs_closed.specs.Testing.{IsNeed, StridesBy};
 
 use crate::PairSet;
 use xs_auto::{Call, Edge, Net, first_common};

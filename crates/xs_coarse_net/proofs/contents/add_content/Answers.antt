@@ -2,16 +2,16 @@ use Rattle.std.proofs.Common.{◌+◌, List, slice_get, refl, sym, ap, ◌∙◌
 use Rattle.xs_gram.specs.declared.parts.GItem.{GItem}
 use Rattle.xs_gram.specs.Fences.{spread}
 use Rattle.xs_stretch.specs.declared.part.Part.{Part}
-use Rattle.xs_stretch.proofs.Nesting.{inside_is, inside_part, partner_low, item_read, right_read}
+use Rattle.xs_stretch.proofs.Nesting.{inside_is, inside_part, partner_low, item_read, right_read, groups_past}
 use Rattle.xs_coarse_net.specs.declared.contents.Content.{Content}
 use Rattle.xs_coarse_net.specs.Contents.{nest_of}
-use Rattle.xs_coarse_net.proofs.Contenting.{contents_past, contents_push, content_is}
+use Rattle.xs_coarse_net.proofs.Contenting.{contents_push, content_is}
 use Rattle.xs_coarse_net.proofs.contents.add_content.Goals as goal
 
 pub returns-in_default-clause-contents : goal.returns-in_default-clause-contents
 returns-in_default-clause-contents c =
     let t = c.args.site.now.labels.now in
-    contents_past c.args.site.now.g.now c.args.rule c.args.place (nest_of t c.args.contents.now.items) c.requires.place (c.partner.ensures.none.0 c.in_default.is) c.requires.contents
+    groups_past c.args.site.now.g.now c.args.rule c.args.place (nest_of t c.args.contents.now.items) c.requires.place (c.partner.ensures.none.0 c.in_default.is) c.requires.contents
 
 pub fence_symbol-right-requires : goal.fence_symbol-right-requires
 fence_symbol-right-requires c =
@@ -36,4 +36,4 @@ returns-clause-contents c =
     let first = item_read (spread g c.args.rule) items c.args.place c.index-items-place.result same c.requires.place c.index-items-place.is in
     let second = item_read (spread g c.args.rule) items partner c.index-items-partner.result same (omega (arith, partner_low g.fences (spread g c.args.rule) c.args.place partner p.left p.right p.inside p.group)) c.index-items-partner.is in
     let is = content_is g t c.requires.site.labels.unfenced c.args.rule c.args.place partner c.requires.rule p content part c.index-items-place.result c.index-items-partner.result (ap (λ (xs : List GItem). slice_get xs c.args.place) (sym same) ∙ first) (ap (λ (xs : List GItem). slice_get xs partner) (sym same) ∙ second) c.fence_symbol-left.ensures c.fence_symbol-right.ensures refl refl (inside_is g.fences (spread g c.args.rule) c.args.place partner p.left p.right p.inside p.group) c.in_ok-cover.ensures.cover in
-    contents_push g t c.args.rule c.args.place partner c.requires.rule p c.args.contents.now.items _ content is c.in_ok-push.ensures.items c.requires.contents
+    contents_push g t c.args.rule c.args.place partner p c.args.contents.now.items _ content is c.in_ok-push.ensures.items c.requires.contents

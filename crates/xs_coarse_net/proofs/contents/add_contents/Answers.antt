@@ -1,9 +1,9 @@
 use Rattle.std.proofs.Common.{length, ap, arith}
 use Rattle.xs_coarse_net.specs.Contents.{nest_of}
-use Rattle.xs_coarse_net.proofs.Contenting.{contents_next}
+use Rattle.xs_stretch.proofs.Nesting.{groups_next}
 use Rattle.xs_coarse_net.proofs.contents.add_contents.Goals as goal
 
 pub returns-clause-contents : goal.returns-clause-contents
 returns-clause-contents c =
     let t = c.args.site.now.labels.now in
-    contents_next c.args.site.now.g.now c.args.rule c.items.place (nest_of t c.items.contents.items) (omega (arith, c.items-test.false, ap length c.spread.ensures.items)) c.items.invariant.contents
+    groups_next c.args.site.now.g.now c.args.rule c.items.place (nest_of t c.items.contents.items) (omega (arith, c.items-test.false, ap length c.spread.ensures.items)) c.items.invariant.contents

@@ -1,12 +1,13 @@
 use Rattle.std.proofs.Common.{arith}
 use Rattle.xs_coarse_net.specs.Contents.{nest_of}
-use Rattle.xs_coarse_net.proofs.Contenting.{contents_none, contents_all}
+use Rattle.xs_stretch.proofs.Nesting.{groups_none}
+use Rattle.xs_coarse_net.proofs.Contenting.{contents_all}
 use Rattle.xs_coarse_net.proofs.contents.contents_of.Goals as goal
 
 pub rules-init : goal.rules-init
 rules-init c =
     let t = c.args.site.now.labels.now in
-    record { kept = c.requires.kept; contents = rw c.new-contents.ensures.items (contents_none c.args.site.now.g.now) }
+    record { kept = c.requires.kept; contents = rw c.new-contents.ensures.items (groups_none c.args.site.now.g.now) }
 
 pub returns-clause-contents : goal.returns-clause-contents
 returns-clause-contents c =

@@ -4,11 +4,11 @@ use Rattle.xs_auto.specs.Nests.{Group}
 use Rattle.xs_gram.specs.Fences.{spread}
 use Rattle.xs_stretch.specs.declared.part.Part.{Part}
 use Rattle.xs_stretch.specs.Parts.{part_items}
-use Rattle.xs_stretch.proofs.Nesting.{nest_past, nest_more, nest_fault, group_is, group_low, inside_is, partner_low, item_read, right_read}
+use Rattle.xs_stretch.proofs.Nesting.{groups_past, groups_more, nest_fault, group_is, group_low, inside_is, partner_low, item_read, right_read}
 use Rattle.xs_stretch.proofs.nest.add_group.Goals as goal
 
 pub returns-in_default-clause-nest : goal.returns-in_default-clause-nest
-returns-in_default-clause-nest c = nest_past c.args.site.now.g.now c.args.rule c.args.place c.args.nest.now c.requires.place (c.partner.ensures.none.0 c.in_default.is) c.requires.nest
+returns-in_default-clause-nest c = groups_past c.args.site.now.g.now c.args.rule c.args.place c.args.nest.now c.requires.place (c.partner.ensures.none.0 c.in_default.is) c.requires.nest
 
 pub fence_symbol-right-requires : goal.fence_symbol-right-requires
 fence_symbol-right-requires c =
@@ -38,4 +38,4 @@ returns-clause-nest c =
     let first = item_read (spread g c.args.rule) items c.args.place c.index-items-place.result same c.requires.place c.index-items-place.is in
     let second = item_read (spread g c.args.rule) items partner c.index-items-partner.result same (omega (arith, partner_low g.fences (spread g c.args.rule) c.args.place partner p.left p.right p.inside p.group)) c.index-items-partner.is in
     let is = group_is g c.args.rule c.args.place partner c.requires.rule p group part items c.index-items-place.result c.index-items-partner.result same first second c.fence_symbol-left.ensures c.fence_symbol-right.ensures refl refl c.in_ok-content.ensures.net (inside_is g.fences (spread g c.args.rule) c.args.place partner p.left p.right p.inside p.group) c.in_ok-content.ensures.weight in
-    nest_more g c.args.rule c.args.place partner c.requires.rule p c.args.nest.now c.group.new.self group is c.in_ok-group.ensures.ok c.requires.nest
+    groups_more g c.args.rule c.args.place partner p c.args.nest.now c.group.new.self group is c.in_ok-group.ensures.ok c.requires.nest

@@ -1,6 +1,7 @@
 use Rattle.std.proofs.Common.{◌+◌, ◌*◌, ◌/◌, ◌∙◌, sym}
 use Rattle.std.proofs.lemmas.List.{get_or_read}
-use Rattle.xs_closed.proofs.WordLemmas.{pair_read, past_high, past_wide, word_within, held_bit}
+use Rattle.xs_auto.proofs.BitLemmas.{held_bit}
+use Rattle.xs_closed.proofs.WordLemmas.{pair_read, past_high, past_wide, word_within}
 use Rattle.xs_closed.proofs.pair_set.PairSet.has.Goals as goal
 use Rattle.xs_closed.proofs.pair_set.PairSet.has.Goals.{then-a-self-via-then-a-self, then-a-self-via-else-a-self+then-b-self}
 

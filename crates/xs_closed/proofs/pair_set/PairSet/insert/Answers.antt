@@ -1,6 +1,7 @@
 use Rattle.std.proofs.Common.{◌+◌, ◌*◌, ◌/◌, not, ◌∙◌, sym, ap, arith}
 use Rattle.std.proofs.lemmas.List.{get_or_read}
-use Rattle.xs_closed.proofs.WordLemmas.{rows_length, grid_sized, pair_read, pair_marks, word_within, word_packed, fresh_bit}
+use Rattle.xs_auto.proofs.BitLemmas.{fresh_bit}
+use Rattle.xs_closed.proofs.WordLemmas.{rows_length, grid_sized, pair_read, pair_marks, word_within, word_packed}
 use Rattle.xs_closed.proofs.pair_set.PairSet.insert.Goals as goal
 
 pub overflow_mul-place : goal.overflow_mul-place

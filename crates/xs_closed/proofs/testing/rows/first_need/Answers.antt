@@ -1,6 +1,6 @@
 use Rattle.std.proofs.Common.{refl, sym, arith}
 use Rattle.std.proofs.lemmas.Bool.{true≢false}
-use Rattle.xs_closed.specs.Testing.{IsPair}
+use Rattle.xs_closed.specs.Search.{IsPair}
 use Rattle.xs_closed.proofs.PartnerLemmas.{first_has, first_lacks, no_partners}
 use Rattle.xs_closed.proofs.testing.rows.first_need.Goals as goal
 

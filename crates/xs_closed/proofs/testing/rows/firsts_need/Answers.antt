@@ -1,5 +1,6 @@
 use Rattle.std.proofs.Common.{get_or, refl}
-use Rattle.xs_closed.specs.Testing.{IsPair, InRow}
+use Rattle.xs_closed.specs.Search.{IsPair}
+use Rattle.xs_closed.specs.Testing.{InRow}
 use Rattle.xs_closed.proofs.NeedLemmas.{one_read, one_all, one_lacks}
 use Rattle.xs_closed.proofs.testing.rows.firsts_need.Goals as goal
 

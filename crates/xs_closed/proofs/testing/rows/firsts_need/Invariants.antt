@@ -1,5 +1,6 @@
 use Rattle.std.proofs.Common.{take}
-use Rattle.xs_closed.specs.Testing.{OneOf, IsPair, InRow, Raises}
+use Rattle.xs_closed.specs.Search.{OneOf, IsPair}
+use Rattle.xs_closed.specs.Testing.{InRow, Raises}
 use Rattle.xs_closed.proofs.testing.rows.firsts_need.Given as goal
 
 abbrev pub invariant-firsts : goal.invariant-firsts

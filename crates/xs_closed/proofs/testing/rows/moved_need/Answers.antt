@@ -1,5 +1,5 @@
 use Rattle.xs_auto.specs.Nets.{moves_of}
-use Rattle.xs_closed.specs.Testing.{OneOf, IsPair}
+use Rattle.xs_closed.specs.Search.{OneOf, IsPair}
 use Rattle.xs_closed.proofs.PartnerLemmas.{partners_more, partners_lack, partners_done}
 use Rattle.xs_closed.proofs.testing.rows.moved_need.Goals as goal
 

@@ -1,6 +1,7 @@
 use Rattle.std.proofs.Common.{◌-◌}
 use Rattle.xs_auto.specs.Nets.{moves_of}
-use Rattle.xs_closed.specs.Testing.{OneOf, IsPair, InRowBelow, Raises}
+use Rattle.xs_closed.specs.Search.{OneOf, IsPair}
+use Rattle.xs_closed.specs.Testing.{InRowBelow, Raises}
 use Rattle.xs_closed.proofs.testing.rows.moved_need.Given as goal
 
 abbrev pub invariant-partners : goal.invariant-partners

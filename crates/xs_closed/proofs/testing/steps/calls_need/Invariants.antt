@@ -1,7 +1,8 @@
 use Rattle.std.proofs.Common.{take}
 use Rattle.xs_meet.specs.Closed.{Marked}
 use Rattle.xs_closed.specs.Rows.{marked}
-use Rattle.xs_closed.specs.Testing.{OneOf, Joins, Raises}
+use Rattle.xs_closed.specs.Search.{OneOf, Joins}
+use Rattle.xs_closed.specs.Testing.{Raises}
 use Rattle.xs_closed.proofs.testing.steps.calls_need.Given as goal
 
 abbrev pub invariant-calls : goal.invariant-calls

@@ -1,4 +1,4 @@
-use Rattle.xs_closed.specs.Testing.{OneOf, Meets}
+use Rattle.xs_closed.specs.Search.{OneOf, Meets}
 use Rattle.xs_closed.proofs.NeedLemmas.{one_read, one_all, one_lacks}
 use Rattle.xs_closed.proofs.testing.steps.edges_need.Goals as goal
 

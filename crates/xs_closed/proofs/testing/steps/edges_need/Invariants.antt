@@ -1,5 +1,6 @@
 use Rattle.std.proofs.Common.{take}
-use Rattle.xs_closed.specs.Testing.{OneOf, Meets, Raises}
+use Rattle.xs_closed.specs.Search.{OneOf, Meets}
+use Rattle.xs_closed.specs.Testing.{Raises}
 use Rattle.xs_closed.proofs.testing.steps.edges_need.Given as goal
 
 abbrev pub invariant-edges : goal.invariant-edges

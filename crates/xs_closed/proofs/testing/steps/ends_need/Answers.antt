@@ -1,4 +1,4 @@
-use Rattle.xs_closed.specs.Testing.{Meets}
+use Rattle.xs_closed.specs.Search.{Meets}
 use Rattle.xs_closed.proofs.NeedLemmas.{one_read, one_all, one_lacks}
 use Rattle.xs_closed.proofs.testing.steps.ends_need.Goals as goal
 

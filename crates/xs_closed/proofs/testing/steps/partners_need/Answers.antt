@@ -1,7 +1,7 @@
 use Rattle.std.proofs.Common.{get_or, refl}
 use Rattle.xs_meet.specs.Closed.{Marked}
 use Rattle.xs_closed.specs.Rows.{marked}
-use Rattle.xs_closed.specs.Testing.{Joins}
+use Rattle.xs_closed.specs.Search.{Joins}
 use Rattle.xs_closed.proofs.NeedLemmas.{one_read, one_all, one_lacks, no_call}
 use Rattle.xs_closed.proofs.testing.steps.partners_need.Goals as goal
 

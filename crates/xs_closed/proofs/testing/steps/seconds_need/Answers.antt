@@ -1,5 +1,5 @@
 use Rattle.std.proofs.Common.{get_or, refl}
-use Rattle.xs_closed.specs.Testing.{IsPair}
+use Rattle.xs_closed.specs.Search.{IsPair}
 use Rattle.xs_closed.proofs.NeedLemmas.{one_read, one_all, one_lacks}
 use Rattle.xs_closed.proofs.testing.steps.seconds_need.Goals as goal
 

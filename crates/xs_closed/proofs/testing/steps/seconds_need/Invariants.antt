@@ -1,5 +1,6 @@
 use Rattle.std.proofs.Common.{take}
-use Rattle.xs_closed.specs.Testing.{OneOf, IsPair, Raises}
+use Rattle.xs_closed.specs.Search.{OneOf, IsPair}
+use Rattle.xs_closed.specs.Testing.{Raises}
 use Rattle.xs_closed.proofs.testing.steps.seconds_need.Given as goal
 
 abbrev pub invariant-seconds : goal.invariant-seconds
