@@ -8,7 +8,7 @@ mod Ending
 mod Verdict
 mod Strings
 mod Spaced
-pub mod Escapes
+mod Escapes
 mod Lexed
 mod Sources
 mod Renewed
