@@ -1,31 +1,30 @@
 -- What is gathered by a symbol is what arrives by it.
 use Rattle.std.proofs.Common.{◌≡◌, ◌≢◌, ℕ, zero, suc, ◌+◌, ◌-◌, ◌<◌, ◌≤◌, ◌^◌, Bool, true, false, not, List, [], ◌∷◌, ◌++◌, length, take, drop, get_or, Option, Some, None, if◌then◌else◌, refl, sym, ◌∙◌, ap, subst, arith, ◌⊎◌, inl, inr, ◌↔◌, append_assoc, append-nil, length-drop}
-use Rattle.std.specs.Prelude.{Contains, slice_get, slice_index_or, slice_range, IsTrue, IsSomeAnd, IfSome, nat_le, nat_eq, ◌&&◌, ◌||◌}
+use Rattle.std.specs.Prelude.{Contains, slice_get, slice_index_or, IsTrue, IsSomeAnd, IfSome, nat_le, nat_eq, ◌&&◌}
 use Rattle.std.proofs.lemmas.Bool.{cases_eq, cases_lt, eqb-true, eqb-false, eq-eqb, ne_eqb, leb-true, le-leb, and_parts, and_from, or_cases, or_left, or_right, false≢true, true≢false}
 use Rattle.std.proofs.lemmas.List.{take_more, take_all, get_or_past, length-take-le}
 use Rattle.std.proofs.lemmas.List.Elements.{Contains-append_left, Contains-append_right, Contains-append_cases}
-use Rattle.std.proofs.lemmas.Option.{slice_get-get_or, slice_get_within, get_or_from_slice_get}
+use Rattle.std.proofs.lemmas.Option.{slice_get-get_or, get_or_from_slice_get}
 use Rattle.xs_class.specs.Classes.{Has}
 use Rattle.xs_class.proofs.Lists.{some_same, first_in, rest_in, get_of, get_last, get_drop}
 use Rattle.xs_chart.specs.declared.item.Item.{Item}
 use Rattle.xs_regex.specs.declared.position.Position.{Position}
 use Rattle.xs_regex.specs.Automaton.{HasAt, Leads, IsWellFormed}
-use Rattle.xs_gram.specs.declared.parts.GItem.{GItem}
 use Rattle.xs_gram.specs.declared.parts.GItem.TheVariants.{Fixed, Term, Non, Skip}
 use Rattle.xs_gram.specs.declared.places.Place.{Place}
 use Rattle.xs_gram.specs.Grammar.{Grammar, term_of, skip_of, items, ItemAt}
 use Rattle.xs_gram.specs.Sound.{IsBuilt}
-use Rattle.xs_gram.specs.Chart.{IsAutomatonOf, Stands}
-use Rattle.xs_gram.specs.Places.{at_dot, at_inside, all_places, IsPlace}
+use Rattle.xs_gram.specs.Chart.{Stands}
+use Rattle.xs_gram.specs.Places.{at_dot, at_inside, all_places}
 use Rattle.xs_gram.proofs.Numbers.{place_once, number_inside, listed_is_place, as_dot}
 use Rattle.xs_atoms.specs.declared.atoms.Atoms.{Atoms}
 use Rattle.xs_atoms.specs.Alphabet.{AreAtoms, atom_of, class_has, term_classes, skip_classes}
 use Rattle.xs_chart_laws.specs.Steps.{next_of, HasAutomaton, GoesBy, Arrives}
 use Rattle.xs_chart_laws.specs.Reading.{Reads}
-use Rattle.xs_chart_laws.specs.Charts.{IsNumber, set_at, HasPlace, IsChartOf}
+use Rattle.xs_chart_laws.specs.Charts.{IsNumber, set_at, IsChartOf}
 use Rattle.xs_chart_laws.specs.Next.{IsDue, IsBegun}
 use Rattle.xs_chart_laws.proofs.Words.{get_lt, get_some, Reads-is}
-use Rattle.xs_chart_laws.proofs.Numbers.{one_place, inside_place}
+use Rattle.xs_chart_laws.proofs.Numbers.{inside_place}
 use Rattle.xs_chart_laws.proofs.Settling.{one_of_place, automaton_once, automaton_not_non, automaton_not_fixed, same_word}
 use Rattle.xs_chart_laws.proofs.Nexts.{begun_on, begun_due, begun_read, begun_before}
 use Rattle.xs_earley.specs.declared.begun.Begun.{Begun}
@@ -35,7 +34,6 @@ use Rattle.xs_earley.specs.declared.rows.Stand.{Stand}
 use Rattle.xs_earley.specs.declared.rows.Stand.TheVariants.{AtEnd, AtNon, AtWord, AtTerm, AtSkip}
 use Rattle.xs_earley.specs.Facts.{row_at, IsSpelt, IsStand, IsRow, AreFacts, IsAtom}
 use Rattle.xs_earley.specs.Arriving.{gathered, in_class, at_has, IsTold, positions_at, entered, lex_due, is_letter, word_due, word_begun, due_at, begun_at, item_due, item_begun, rest_due, rest_begun, more_due, more_begun, AreBegun}
-use Rattle.xs_earley.specs.Stages.{AreDue}
 
 -- what is gathered
 

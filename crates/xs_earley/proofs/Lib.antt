@@ -7,5 +7,6 @@ pub mod Tables
 pub mod Wholes
 pub mod Rowings
 pub mod Arrivals
+pub mod Maskings
 pub mod Steppings
 pub mod Followings

@@ -1,8 +1,8 @@
 -- The row of a place.
-use Rattle.std.proofs.Common.{◌≡◌, ℕ, zero, suc, ◌+◌, ◌<◌, ◌≤◌, List, [], ◌∷◌, ◌++◌, length, Some, None, refl, sym, ◌∙◌, ap, subst, arith, ◌⊎◌, inl, inr, ◌↔◌, length-append, take-append-drop}
+use Rattle.std.proofs.Common.{◌≡◌, ℕ, ◌+◌, ◌<◌, List, [], ◌∷◌, ◌++◌, length, Some, None, refl, sym, ◌∙◌, subst, arith, ◌⊎◌, inl, inr, ◌↔◌, length-append}
 use Rattle.std.specs.declared.option.Option.{Option}
-use Rattle.std.specs.Prelude.{Contains, slice_get, slice_range, IsTrue}
-use Rattle.std.proofs.lemmas.Bool.{cases_lt, cases_eq}
+use Rattle.std.specs.Prelude.{Contains, slice_get, IsTrue}
+use Rattle.std.proofs.lemmas.Bool.{cases_eq}
 use Rattle.std.proofs.lemmas.List.{get_or_append_left, get_or_at}
 use Rattle.xs_class.proofs.Lists.{some_same}
 use Rattle.xs_regex.specs.declared.position.Position.{Position}
@@ -12,7 +12,7 @@ use Rattle.xs_gram.specs.declared.places.Place.{Place}
 use Rattle.xs_gram.specs.Grammar.{Grammar, items, ItemAt}
 use Rattle.xs_gram.specs.Sound.{IsNullable}
 use Rattle.xs_gram.specs.Places.{at_dot, positions_of, IsPlace}
-use Rattle.xs_chart_laws.specs.Steps.{next_of, IsBefore, IsAtEnd, HasAutomaton, IsPassed}
+use Rattle.xs_chart_laws.specs.Steps.{next_of, HasAutomaton, IsPassed}
 use Rattle.xs_chart_laws.specs.Charts.{IsNumber}
 use Rattle.xs_chart_laws.proofs.Words.{get_lt}
 use Rattle.xs_chart_laws.proofs.Numbers.{one_place}

@@ -1,6 +1,6 @@
 -- A run that begins, goes on by a symbol, and goes back.
-use Rattle.std.proofs.Common.{◌≡◌, ◌≢◌, ℕ, zero, suc, ◌+◌, ◌-◌, ◌<◌, ◌≤◌, Bool, true, false, List, [], ◌∷◌, ◌++◌, length, take, drop, get_or, Some, refl, sym, ◌∙◌, ap, subst, arith, inl, inr, ◌↔◌, length-append, take-append-drop, append-nil}
-use Rattle.std.specs.Prelude.{Contains, slice_get, slice_index_or, IsTrue}
+use Rattle.std.proofs.Common.{◌≡◌, ◌≢◌, ℕ, zero, suc, ◌+◌, ◌-◌, ◌<◌, ◌≤◌, Bool, false, List, [], ◌∷◌, ◌++◌, length, take, drop, Some, refl, sym, ◌∙◌, ap, subst, arith, inl, inr, ◌↔◌, length-append, take-append-drop, append-nil}
+use Rattle.std.specs.Prelude.{Contains, slice_get, slice_index_or}
 use Rattle.std.proofs.lemmas.Bool.{cases_eq, cases_lt, false≢true}
 use Rattle.std.proofs.lemmas.List.{take_all, get_or_past, get_or_append_left, get_or_at, get_or-take, length-take-le}
 use Rattle.xs_class.proofs.Lists.{contains_of, get_of, first_in}
@@ -11,11 +11,11 @@ use Rattle.xs_chart.specs.Charted.{Charted, items_of, waiting_of, waiting_for, l
 use Rattle.xs_gram.specs.declared.places.Place.{Place}
 use Rattle.xs_gram.specs.Grammar.{Grammar, IsRuleOf}
 use Rattle.xs_gram.specs.Derivations.{yield}
-use Rattle.xs_gram.specs.Sound.{IsBuilt, IsSound}
+use Rattle.xs_gram.specs.Sound.{IsSound}
 use Rattle.xs_gram.specs.Languages.{InLang, IsFront, IsViable}
 use Rattle.xs_gram.specs.Chart.{Stands}
-use Rattle.xs_gram.specs.Places.{at_dot}
-use Rattle.xs_chart_laws.specs.Charts.{IsNumber, set_at, HasPlace, ItemStands, AllItemsStand, IsChartOf, HasWaiters}
+use Rattle.xs_gram.specs.Places.{at_dot, all_places}
+use Rattle.xs_chart_laws.specs.Charts.{set_at, HasPlace, ItemStands, AllItemsStand, IsChartOf, HasWaiters}
 use Rattle.xs_chart_laws.specs.Next.{IsDue, IsBegun}
 use Rattle.xs_chart_laws.proofs.Words.{get_take, get_lt}
 use Rattle.xs_chart_laws.proofs.Numbers.{has_number, stands_at_place}
@@ -27,6 +27,7 @@ use Rattle.xs_earley.specs.declared.begun.Begun.{Begun}
 use Rattle.xs_earley.specs.declared.facts.Facts.{Facts}
 use Rattle.xs_earley.specs.Adding.{Puts, Adds, Begins, AreCalled}
 use Rattle.xs_earley.specs.Arriving.{AreBegun}
+use Rattle.xs_earley.specs.Masks.{AreMasks}
 use Rattle.xs_earley.specs.Facts.{AreFacts}
 use Rattle.xs_earley.specs.Growing.{Standing, Grown, IsSettledAt, IsExact, IsOpen}
 use Rattle.xs_earley.specs.Running.{Running, IsRunOf}
@@ -34,7 +35,7 @@ use Rattle.xs_earley.specs.Stages.{AreDue, KeepsFirst}
 use Rattle.xs_earley.specs.Waiting.{WaitsBelow}
 use Rattle.xs_earley.proofs.Additions.{no_element, puts_kept}
 use Rattle.xs_earley.proofs.Completing.{waiting_same}
-use Rattle.xs_earley.proofs.Growths.{grown_stand, grown_none, exact_same}
+use Rattle.xs_earley.proofs.Growths.{grown_stand, exact_same}
 use Rattle.xs_earley.proofs.Queues.{waits_exact, waits_none}
 use Rattle.xs_earley.proofs.Settlings.{adds_grown}
 
@@ -146,10 +147,11 @@ begun_first : (g : Grammar) (sets : List (List Item)) → AreBegun g [] sets 0 [
 begun_first g sets b = ((λ h. absurd (no_element b h)), (λ h. let e = h.1.is in let some = h.0 in absurd (omega (arith, e, some))))
 
 -- a run over the empty word
-pub run_first : (g : Grammar) (f : Facts) (chart : Charted) (begun : List (List Begun)) (marks : ℕ) → IsSound g → AreFacts g f → marks ≡ g.nons → IsChartOf g [] chart.sets → HasWaiters g chart → begun ≡ [] ∷ [] → IsRunOf g (record { word = []; chart = chart; begun = begun; facts = f; marks = marks })
-run_first g f chart begun marks sound facts counted is waiters one = record {
+pub run_first : (g : Grammar) (f : Facts) (chart : Charted) (begun : List (List Begun)) (marks : ℕ) → IsSound g → AreFacts g f → AreMasks g f (length (all_places g)) f.masks.items → marks ≡ g.nons → IsChartOf g [] chart.sets → HasWaiters g chart → begun ≡ [] ∷ [] → IsRunOf g (record { word = []; chart = chart; begun = begun; facts = f; marks = marks })
+run_first g f chart begun marks sound facts masks counted is waiters one = record {
   sound = sound;
   facts = facts;
+  masks = masks;
   marks = counted;
   few = omega arith;
   chart = is;
@@ -228,6 +230,7 @@ module _ (g : Grammar) (w : List ℕ) (s : ℕ) (f : Facts) (old : Charted) (beg
     next_run fresh exact on is few front word same_word more same_marks = subst (λ (u : List ℕ). IsRunOf g (record { word = u; chart = new; begun = on; facts = f; marks = more })) (sym same_word) (record {
       sound = run.sound;
       facts = run.facts;
+      masks = run.masks;
       marks = same_marks ∙ run.marks;
       few = omega (arith, end, few);
       chart = next_chart;
@@ -269,6 +272,7 @@ pub run_same : (g : Grammar) (w : List ℕ) (f : Facts) (old new : Charted) (beg
 run_same g w f old new begun marks run sets same = record {
   sound = run.sound;
   facts = run.facts;
+  masks = run.masks;
   marks = run.marks;
   few = run.few;
   chart = subst (λ (s : List (List Item)). IsChartOf g w s) (sym sets) run.chart;
@@ -328,6 +332,7 @@ module _ (g : Grammar) (w : List ℕ) (f : Facts) (chart : Charted) (begun : Lis
   run_back = record {
     sound = run.sound;
     facts = run.facts;
+    masks = run.masks;
     marks = run.marks;
     few = (let few = run.few in omega (arith, long, few, within));
     chart = back_chart;

@@ -1,5 +1,5 @@
 -- What the items of a set and its begun fixed words lead to by the next symbol.
-use Rattle.std.specs.Prelude.{◌≡◌, ℕ, ◌+◌, ◌-◌, ◌<◌, ◌&&◌, ◌||◌, ◌↔◌, Bool, false, not, nat_le, nat_eq, List, [], ◌∷◌, ◌++◌, length, Option, None, Some, slice_get, slice_index_or, Contains, if◌then◌else◌}
+use Rattle.std.specs.Prelude.{◌≡◌, ℕ, ◌+◌, ◌-◌, ◌<◌, ◌&&◌, ◌||◌, ◌↔◌, Bool, false, not, nat_le, nat_eq, List, [], ◌∷◌, ◌++◌, Option, None, Some, slice_get, slice_index_or, Contains, if◌then◌else◌}
 use Rattle.xs_chart.specs.declared.item.Item.{Item}
 use Rattle.xs_regex.specs.declared.position.Position.{Position}
 use Rattle.xs_gram.specs.Grammar.{Grammar, term_of, skip_of}

@@ -1,5 +1,5 @@
 -- Facts of a grammar that its recogniser asks for: those of its nonterminals, and a row for each place.
-use Rattle.std.specs.Prelude.{◌≡◌, ℕ, ◌<◌, ◌≤◌, ◌^◌, ◌↔◌, Bool, false, List, [], length, Option, None, Some, slice_index_or, slice_range, Contains, IsTrue, IfSome}
+use Rattle.std.specs.Prelude.{◌≡◌, ℕ, ◌<◌, ◌≤◌, ◌^◌, ◌↔◌, false, List, length, Option, None, Some, slice_index_or, slice_range, Contains, IsTrue, IfSome}
 use Rattle.xs_regex.specs.declared.position.Position.{Position}
 use Rattle.xs_gram.specs.declared.parts.GItem.{GItem}
 use Rattle.xs_gram.specs.declared.parts.GItem.TheVariants.{Fixed, Term, Non, Skip}

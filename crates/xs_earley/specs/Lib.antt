@@ -4,6 +4,7 @@ pub mod Asked
 pub mod Facts
 pub mod Following
 pub mod Growing
+pub mod Masks
 pub mod Running
 pub mod Seen
 pub mod Stages

@@ -4,11 +4,13 @@ use Rattle.xs_chart.specs.Charted.{Charted, set_limit}
 use Rattle.xs_gram.specs.Grammar.{Grammar}
 use Rattle.xs_gram.specs.Sound.{IsSound}
 use Rattle.xs_gram.specs.Languages.{IsFront}
+use Rattle.xs_gram.specs.Places.{all_places}
 use Rattle.xs_chart_laws.specs.Charts.{IsChartOf, HasWaiters}
 use Rattle.xs_earley.specs.declared.begun.Begun.{Begun}
 use Rattle.xs_earley.specs.declared.facts.Facts.{Facts}
 use Rattle.xs_earley.specs.Facts.{AreFacts}
 use Rattle.xs_earley.specs.Arriving.{AreBegun}
+use Rattle.xs_earley.specs.Masks.{AreMasks}
 
 -- the word so far, its chart, the begun fixed words beside each set, and the facts of the grammar
 pub record Running : Type 0 where
@@ -23,6 +25,7 @@ pub record Running : Type 0 where
 pub record IsRunOf (g : Grammar) (run : Running) : Type 0 where
   pub sound : IsSound g
   pub facts : AreFacts g run.facts
+  pub masks : AreMasks g run.facts (length (all_places g)) run.facts.masks.items
   pub marks : run.marks ≡ g.nons
   pub few : length run.word < set_limit
   pub chart : IsChartOf g run.word run.chart.sets

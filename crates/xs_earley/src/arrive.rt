@@ -4,10 +4,12 @@ ghost use Rattle.xs_gram.specs.Sound.{IsBuilt};
 ghost use Rattle.xs_gram.specs.Places.{all_places};
 ghost use Rattle.xs_earley.specs.declared.begun.Begun.{Begun as AnyBegun};
 ghost use Rattle.xs_earley.specs.Facts.{AreFacts, IsAtom};
+ghost use Rattle.xs_earley.specs.Masks.{AreMasks};
 ghost use Rattle.xs_earley.specs.Arriving.{gathered, at_has, positions_at, entered, lex_due, IsTold, is_letter, word_due, word_begun, item_due, item_begun, more_due, more_begun};
 
 use crate::begun::Begun;
 use crate::facts::Facts;
+use crate::masks::has_bit;
 use crate::rows::Stand;
 use xs_chart::Item;
 use xs_class::{Memory, Sym};
@@ -47,7 +49,7 @@ fn has_at(
 
 /// The number of the class at a position, 0 where there is none.
 #[inline(always)]
-fn class_at(classes: &[u32], position: u32) -> u32
+pub fn class_at(classes: &[u32], position: u32) -> u32
     ensures { result ≡ slice_index_or classes.now position 0 }
 {
     match classes.get(position as usize) {
@@ -249,6 +251,34 @@ fn arrive(
     }
 }
 
+/// Appends what an item of the last set leads to by the symbol, which is asked for only where its
+/// state's mask has the bit of the symbol's atom.
+#[inline(always)]
+fn arrive_by_mask(
+    due: &mut Vec<Item>,
+    fresh: &mut Vec<Begun>,
+    g: &Gram,
+    facts: &Facts,
+    masks: &[u64],
+    symbol: Sym,
+    atom: u16,
+    item: Item,
+) -> Result<(), Memory>
+    requires built { IsBuilt g.now }
+    requires facts { AreFacts g.now facts.now }
+    requires masks { AreMasks g.now facts.now (length (all_places g.now)) masks.now }
+    requires atom { IsAtom facts.now symbol atom }
+    requires state { item.state < length (all_places g.now) }
+    ensures due { IfOk result (λ _. due.new.items ≡ due.old.items ++ item_due g.now facts.now symbol item) }
+    ensures fresh { IfOk result (λ _. fresh.new.items ≡ fresh.old.items ++ item_begun facts.now symbol item) }
+{
+    if !has_bit(masks[item.state as usize], atom) {
+        return Ok(());
+    }
+    arrive(due, fresh, g, facts, symbol, atom, item)?;
+    Ok(())
+}
+
 /// Appends what the items of the last set lead to by the symbol.
 pub fn arrive_all(
     due: &mut Vec<Item>,
@@ -260,13 +290,15 @@ pub fn arrive_all(
 ) -> Result<(), Memory>
     requires built { IsBuilt g.now }
     requires facts { AreFacts g.now facts.now }
+    requires masks { AreMasks g.now facts.now (length (all_places g.now)) facts.now.masks.items }
     requires states { (item : AnyItem) → Contains items.now item → item.state < length (all_places g.now) }
     ensures due { IfOk result (λ _. due.new.items ≡ due.old.items ++ gathered (item_due g.now facts.now symbol) items.now) }
     ensures fresh { IfOk result (λ _. fresh.new.items ≡ fresh.old.items ++ gathered (item_begun facts.now symbol) items.now) }
 {
     let atom = facts.atom(symbol);
+    let masks = facts.masks.as_slice();
     'items: for item in items {
-        arrive(due, fresh, g, facts, symbol, atom, *item)?;
+        arrive_by_mask(due, fresh, g, facts, masks, symbol, atom, *item)?;
     }
     Ok(())
 }

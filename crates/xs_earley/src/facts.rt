@@ -2,11 +2,14 @@ ghost use Rattle.std.specs.Prelude.{◌≡◌, ◌<◌, ◌↔◌, ℕ, length, 
 ghost use Rattle.xs_atoms.specs.Alphabet.{term_classes, skip_classes};
 ghost use Rattle.xs_atoms.specs.declared.atoms.Atoms.{Atoms as AnyAtoms};
 ghost use Rattle.xs_gram.specs.Grammar.{IsRuleOf};
+ghost use Rattle.xs_gram.specs.Places.{all_places};
 ghost use Rattle.xs_gram.specs.Sound.{IsBuilt};
 ghost use Rattle.xs_order.specs.Order.{AreNullable};
 ghost use Rattle.xs_earley.specs.Asked.{AreRules};
 ghost use Rattle.xs_earley.specs.Facts.{AreFacts, IsAtom, row_at};
+ghost use Rattle.xs_earley.specs.Masks.{AreMasks};
 
+use crate::masks::masks_of;
 use crate::rows::{Row, rows_of};
 use std::alloc::Global;
 use xs_atoms::Atoms;
@@ -16,7 +19,8 @@ use xs_order::{Flags, nullable};
 use xs_regex::Numbers;
 
 /// Of each nonterminal, whether it derives the empty word, and its rules; of each place a row; the
-/// symbols of all fixed words; and the grammar's atoms, where it has few.
+/// symbols of all fixed words; the grammar's atoms, where it has few; and of each place a mask, by
+/// which most items that cannot read a symbol are passed over.
 #[derive(Drop)]
 pub struct Facts {
     pub nulls: Flags,
@@ -24,6 +28,7 @@ pub struct Facts {
     pub rows: Vec<Row>,
     pub letters: Vec<Sym>,
     pub atoms: Option<Atoms>,
+    pub masks: Vec<u64>,
 }
 
 /// The rules of each nonterminal.
@@ -40,24 +45,29 @@ fn rules_of(alloc: Global, g: &Gram) -> Result<Vec<Numbers>, Memory>
 }
 
 impl Facts {
-    /// The facts of a grammar; linear in its nonterminals, rules, places and fixed words, beyond its
-    /// atoms and the nonterminals that derive the empty word.
+    /// The facts of a grammar; linear in its nonterminals, rules, places, fixed words and automata,
+    /// beyond its atoms with their classes and the nonterminals that derive the empty word.
     pub fn of(alloc: Global, g: &Gram) -> Result<Facts, Memory>
         requires built { IsBuilt g.now }
-        ensures { IfOk result (AreFacts g.now) }
+        ensures facts { IfOk result (AreFacts g.now) }
+        ensures masks { IfOk result (λ facts. AreMasks g.now facts (length (all_places g.now)) facts.masks.items) }
     {
         let nulls = nullable(alloc, g)?;
         let rules = rules_of(alloc, g)?;
         let (rows, letters) = rows_of(alloc, g, &nulls)?;
         let atoms = Atoms::of(alloc, g)?;
         let _places = g.places();
-        Ok(Facts {
+        let mut facts = Facts {
             nulls,
             rules,
             rows,
             letters,
             atoms,
-        })
+            masks: Vec::new(alloc),
+        };
+        let masks = masks_of(alloc, g, &facts)?;
+        facts.masks = masks;
+        Ok(facts)
     }
 
     /// The rules of the nonterminal.

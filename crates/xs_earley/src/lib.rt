@@ -17,6 +17,7 @@ mod begun;
 mod facts;
 mod fault;
 mod following;
+mod masks;
 mod places;
 mod recogniser;
 mod rows;

@@ -1,4 +1,4 @@
-use Rattle.std.proofs.Common.{◌≡◌, ◌+◌, ◌<◌, ◌^◌, ℕ, sym, ◌∙◌, ap}
+use Rattle.std.proofs.Common.{sym, ◌∙◌, ap}
 use Rattle.xs_earley.specs.declared.rows.Row.{Row}
 use Rattle.xs_earley.proofs.Arrivals.{term_there, term_room, term_told, skip_there, skip_room, skip_told}
 use Rattle.xs_earley.proofs.arrive.arrive.Goals as goal

@@ -3,7 +3,7 @@ use Rattle.std.proofs.lemmas.List.Elements.{Contains-get_or}
 use Rattle.xs_chart.specs.declared.item.Item.{Item}
 use Rattle.xs_earley.proofs.arrive.arrive_all.Goals as goal
 
-pub arrive-requires-clause-state : goal.arrive-requires-clause-state
-arrive-requires-clause-state c =
+pub arrive_by_mask-requires-clause-state : goal.arrive_by_mask-requires-clause-state
+arrive_by_mask-requires-clause-state c =
     let d : Item = record { state = 0; origin = 0 } in
     c.requires.states (get_or c.args.items.now c.items.item-index d) (Contains-get_or c.args.items.now c.items.item-index d (omega arith))

@@ -1,4 +1,4 @@
-use Rattle.std.proofs.Common.{◌≡◌, ℕ, List, get_or, subst, arith}
+use Rattle.std.proofs.Common.{ℕ, List, get_or, subst, arith}
 use Rattle.std.specs.Prelude.{Contains}
 use Rattle.std.proofs.lemmas.List.Elements.{Contains-get_or}
 use Rattle.xs_earley.proofs.arrive.go_on.Goals as goal

@@ -1,4 +1,4 @@
-use Rattle.std.proofs.Common.{◌≡◌, ◌++◌, [], List, ℕ, Option, None, sym, ◌∙◌, ap, append-nil}
+use Rattle.std.proofs.Common.{◌≡◌, ◌++◌, ℕ, Option, None, sym, ◌∙◌, ap, append-nil}
 use Rattle.std.specs.Prelude.{slice_get}
 use Rattle.xs_earley.specs.Following.{letter_next}
 use Rattle.xs_earley.proofs.Arrivals.{get_none}

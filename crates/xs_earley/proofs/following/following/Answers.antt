@@ -1,8 +1,7 @@
-use Rattle.std.proofs.Common.{◌≡◌, ◌↔◌, ◌++◌, [], ◌∷◌, List, ℕ, take, sym, ◌∙◌, ap, subst}
+use Rattle.std.proofs.Common.{◌≡◌, ◌↔◌, ◌++◌, [], List, ℕ, ◌∙◌, ap, subst}
 use Rattle.std.specs.Prelude.{Contains, slice_index_or}
 use Rattle.xs_class.specs.Classes.{Has}
 use Rattle.xs_chart.specs.declared.item.Item.{Item}
-use Rattle.xs_gram.specs.Languages.{IsFront}
 use Rattle.xs_chart_laws.specs.Charts.{set_at}
 use Rattle.xs_earley.specs.declared.begun.Begun.{Begun}
 use Rattle.xs_earley.specs.Arriving.{gathered}

@@ -4,7 +4,6 @@ use Rattle.std.proofs.lemmas.Bool.{false≢true, not-true}
 use Rattle.std.proofs.lemmas.List.{take_all}
 use Rattle.std.proofs.lemmas.Option.{slice_get-get_or}
 use Rattle.std.proofs.lemmas.Result.{err_from_is_err_and}
-use Rattle.xs_gram.specs.Languages.{InLang, IsViable}
 use Rattle.xs_earley.proofs.Steppings.{fault_stop, fault_whole}
 use Rattle.xs_earley.proofs.recogniser.recognise.Goals as goal
 

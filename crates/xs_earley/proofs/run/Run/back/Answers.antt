@@ -1,4 +1,4 @@
-use Rattle.std.proofs.Common.{◌≡◌, ◌≤◌, List, length, sym, subst}
+use Rattle.std.proofs.Common.{◌≤◌, length, sym, subst}
 use Rattle.xs_earley.specs.Running.{Running, IsRunOf}
 use Rattle.xs_earley.proofs.Steppings.{run_back}
 use Rattle.xs_earley.proofs.run.Run.back.Goals as goal

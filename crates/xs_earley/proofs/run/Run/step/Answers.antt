@@ -1,4 +1,4 @@
-use Rattle.std.proofs.Common.{◌≡◌, ◌++◌, ◌+◌, [], ◌∷◌, List, ℕ, Bool, suc, length, sym, ◌∙◌, ap, subst, arith, Vec, Global, vec_len}
+use Rattle.std.proofs.Common.{◌≡◌, ◌++◌, [], ◌∷◌, List, ℕ, Bool, suc, length, sym, ◌∙◌, ap, subst, arith, Vec, Global, vec_len}
 use Rattle.std.proofs.lemmas.List.{with_items_is}
 use Rattle.std.proofs.lemmas.Bool.{false≢true}
 use Rattle.xs_chart.specs.declared.item.Item.{Item}
