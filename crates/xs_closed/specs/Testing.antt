@@ -3,7 +3,7 @@ use Rattle.std.specs.Prelude.{◌≡◌, ℕ, ◌<◌, ◌≤◌, ◌⊎◌, tru
 use Rattle.std.specs.List.{Contains}
 use Rattle.xs_class.specs.Classes.{Has}
 use Rattle.xs_auto.specs.declared.call.Call.{Call}
-use Rattle.xs_auto.specs.declared.edge.Edge.{Edge}
+use Rattle.xs_auto.specs.Edges.{Edge}
 use Rattle.xs_auto.specs.Nets.{Graph, final_at, edges_of, calls_of}
 use Rattle.xs_meet.specs.Closed.{Drifts, Strides, Leads, IsClosed, HasNoFinals}
 use Rattle.xs_closed.specs.Rows.{Grid, marked, rows_from}

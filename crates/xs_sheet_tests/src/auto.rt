@@ -4,7 +4,7 @@ ghost use Rattle.xs_auto.specs.Nets.{states};
 
 use std::alloc::Global;
 use std::test::Fail;
-use xs_auto::{Net, Pairs};
+use xs_auto::{Draft, Net, Pairs};
 use xs_class::{Class, Memory, Word};
 use xs_meet::{Overlap, meet_word, overlap_word};
 
@@ -14,14 +14,14 @@ fn run_of(alloc: Global, range: (u32, u32)) -> Result<Net, Memory>
     ensures two { IfOk result (λ n. states n ≡ 2) }
 {
     let class = Class::from_ranges(alloc, &[range])?;
-    let mut net = Net::new(alloc)?;
+    let mut net = Draft::new(alloc)?;
     let first = net.state()?;
     let last = net.state()?;
     net.edge(first, &class, last)?;
     net.pass(last, first)?;
     net.set_start(first);
     net.set_final(last)?;
-    Ok(net)
+    net.finish()
 }
 
 fn shared(alloc: Global, first: (u32, u32), second: (u32, u32)) -> Result<Option<Word>, Memory> {
