@@ -38,6 +38,7 @@ impl<'n> Edge<'n> {
     }
 
     /// The least symbol that both edges read, by one walk over the ranges of both classes.
+    #[inline(always)]
     pub fn first_common(&self, other: &Edge<'_>) -> Option<Sym>
         ensures first { IfSome result (Has self.now.class) }
         ensures second { IfSome result (Has other.now.class) }
@@ -48,6 +49,7 @@ impl<'n> Edge<'n> {
     }
 
     /// The state that it leads to.
+    #[inline(always)]
     pub fn to(&self) -> u32
         ensures { result ≡ self.now.to }
     {
@@ -56,6 +58,7 @@ impl<'n> Edge<'n> {
 }
 
 /// The class of a number.
+#[inline(always)]
 fn class_at(classes: &[Class], number: u32) -> &Class
     requires { number < length classes.now }
     ensures { slice_get classes.now number ≡ Some result.now }
@@ -64,6 +67,7 @@ fn class_at(classes: &[Class], number: u32) -> &Class
 }
 
 /// Row k, counted from 0.
+#[inline(always)]
 fn row_at(rows: &[EdgeRow], k: usize) -> EdgeRow
     requires { k < length rows.now }
     ensures { slice_get rows.now k ≡ Some result }
@@ -101,6 +105,7 @@ impl<'n> Edges<'n> {
     }
 
     /// The number of edges.
+    #[inline(always)]
     pub fn len(&self) -> usize
         ensures { result ≡ length self.now }
     {
@@ -108,6 +113,7 @@ impl<'n> Edges<'n> {
     }
 
     /// Edge k, counted from 0.
+    #[inline(always)]
     pub fn edge(&self, k: usize) -> Edge<'n>
         requires { k < length self.now }
         ensures { slice_get self.now k ≡ Some result }

@@ -1,4 +1,4 @@
-use Rattle.std.proofs.Common.{arith, length}
+use Rattle.std.proofs.Common.{arith}
 use Rattle.xs_auto.proofs.LayoutLemmas.{drafted_states, start_drafted}
 use Rattle.xs_auto.proofs.net.draft.Draft.set_start.Goals as goal
 
