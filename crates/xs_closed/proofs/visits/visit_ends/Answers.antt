@@ -13,7 +13,7 @@ pub others-preserved : goal.others-preserved
 others-preserved c =
     let e = c.args.edge.now in
     let f = c.edge-other.result in
-    let there : c.others.place < length c.args.others.now = omega (arith, c.len.ensures, c.others-test.true) in
+    let there : c.others.place < length c.args.others.now = omega (arith, c.len-place-end.ensures, c.others-test.true) in
     let is : f ≡ get_or c.args.others.now c.others.place f = sym (get_or_from_slice_get c.args.others.now c.others.place f f c.edge-other.ensures) in
     elim c.if-is_new.branch [
       | then-is_new+in_ok-visit w ↦ rw (w.set-is, w.pairs-is) (record {
@@ -27,4 +27,4 @@ others-preserved c =
     ]
 
 pub returns-clause-ok : goal.returns-clause-ok
-returns-clause-ok c = adds_all (Meets c.args.edge.now) c.args.others.now c.others.place (omega (arith, c.len.ensures, c.others-test.false)) c.others.invariant.more
+returns-clause-ok c = adds_all (Meets c.args.edge.now) c.args.others.now c.others.place (omega (arith, c.len-place-end.ensures, c.others-test.false)) c.others.invariant.more

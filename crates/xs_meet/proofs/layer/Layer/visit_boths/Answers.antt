@@ -8,8 +8,8 @@ pub edges-preserved : goal.edges-preserved
 edges-preserved c = record {
   cells = c.visit_ends.ensures.cells ∙ c.edges.invariant.cells;
   fits = c.in_ok-visit_ends.ensures.fits;
-  more = extends_read (λ e. Among c.args.others.now (λ f. Meets e f c.args.from)) c.args.edges.now c.edges.place c.edge-edge.result (omega (arith, c.len.ensures, c.edges-test.true)) (sym (get_or_from_slice_get c.args.edges.now c.edges.place c.edge-edge.result c.edge-edge.result c.edge-edge.ensures)) c.edges.invariant.more c.in_ok-visit_ends.ensures.ok;
+  more = extends_read (λ e. Among c.args.others.now (λ f. Meets e f c.args.from)) c.args.edges.now c.edges.place c.edge-edge.result (omega (arith, c.len-place-end.ensures, c.edges-test.true)) (sym (get_or_from_slice_get c.args.edges.now c.edges.place c.edge-edge.result c.edge-edge.result c.edge-edge.ensures)) c.edges.invariant.more c.in_ok-visit_ends.ensures.ok;
 }
 
 pub returns-clause-ok : goal.returns-clause-ok
-returns-clause-ok c = extends_all (λ e. Among c.args.others.now (λ f. Meets e f c.args.from)) c.args.edges.now c.edges.place (omega (arith, c.len.ensures, c.edges-test.false)) c.edges.invariant.more
+returns-clause-ok c = extends_all (λ e. Among c.args.others.now (λ f. Meets e f c.args.from)) c.args.edges.now c.edges.place (omega (arith, c.len-place-end.ensures, c.edges-test.false)) c.edges.invariant.more

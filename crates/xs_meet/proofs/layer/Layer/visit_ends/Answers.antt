@@ -8,7 +8,7 @@ use Rattle.xs_meet.proofs.layer.Layer.visit_ends.Goals.{then-is_some+in_ok-visit
 pub others-preserved : goal.others-preserved
 others-preserved c =
     let f = c.edge-other.result in
-    let there : c.others.place < length c.args.others.now = omega (arith, c.len.ensures, c.others-test.true) in
+    let there : c.others.place < length c.args.others.now = omega (arith, c.len-place-end.ensures, c.others-test.true) in
     let is : f ≡ get_or c.args.others.now c.others.place f = sym (get_or_from_slice_get c.args.others.now c.others.place f f c.edge-other.ensures) in
     let common = c.first_common in
     elim c.if-is_some.branch [
@@ -27,4 +27,4 @@ others-preserved c =
     ]
 
 pub returns-clause-ok : goal.returns-clause-ok
-returns-clause-ok c = extends_all (λ f. Meets c.args.edge.now f c.args.from) c.args.others.now c.others.place (omega (arith, c.len.ensures, c.others-test.false)) c.others.invariant.more
+returns-clause-ok c = extends_all (λ f. Meets c.args.edge.now f c.args.from) c.args.others.now c.others.place (omega (arith, c.len-place-end.ensures, c.others-test.false)) c.others.invariant.more
