@@ -3,7 +3,7 @@ use Rattle.std.specs.Prelude.{◌≡◌, ◌≢◌, ℕ, suc, ◌<◌, ◌^◌, 
 use Rattle.std.specs.List.{All, Contains}
 use Rattle.xs_class.specs.Classes.{Has}
 use Rattle.xs_auto.specs.declared.call.Call.{Call}
-use Rattle.xs_auto.specs.declared.edge.Edge.{Edge}
+use Rattle.xs_auto.specs.Edges.{Edge}
 
 -- a state: whether it is final, and where it leads to by edges, by empty moves and by calls of
 -- groups

@@ -1,123 +1,48 @@
-mod state;
+mod draft;
 
-ghost use Rattle.std.specs.Prelude.{◌≡◌, ◌<◌, ◌-◌, ◌^◌, [], OnOk, OnErr, IfOk, IfSome, Some, None};
+ghost use Rattle.std.specs.Prelude.{◌≡◌, ◌<◌, IfSome};
 ghost use Rattle.std.specs.List.{All};
-ghost use Rattle.xs_auto.specs.Nets.{states, final_at, edges_of, moves_of, calls_of, AddsState, AddsEdge, AddsMove, AddsCall, SetsFinal, IsSound};
+ghost use Rattle.xs_auto.specs.Nets.{states, final_at, edges_of, moves_of, calls_of};
 
-use crate::{Call, Edge};
-use state::State;
-use std::alloc::Global;
+use crate::Call;
+use crate::edge::{EdgeRow, Edges};
+use crate::grouped::Grouped;
+pub use draft::Draft;
 use std::marker::Model;
-use xs_class::{Class, Memory};
+use xs_class::Class;
 
 /// States that are numbered from 0, with a start, final states, edges by classes, empty moves, and
 /// calls of groups.
 ///
 /// Each state that is named in a net is one of its states. What a call reads is said by a nest of
-/// groups; by itself a net goes nowhere by its calls.
+/// groups; by itself a net goes nowhere by its calls. A net is made of a draft.
 #[derive(Debug, Drop)]
 pub struct Net {
     start: Option<u32>,
-    states: Vec<State>,
-    alloc: Global,
+    finals: Vec<bool>,
+    classes: Vec<Class>,
+    edges: Grouped<EdgeRow>,
+    moves: Grouped<u32>,
+    calls: Grouped<Call>,
 }
 
 impl Model for Net {
-    ghost use Rattle.xs_auto.specs.Nets.{Graph, IsSound};
+    ghost use Rattle.xs_auto.specs.Nets.{Graph};
+    ghost use Rattle.xs_auto.specs.Layout.{graph_of, edge_lists, IsLaidOut};
 
     ghost Value = { Graph };
 
-    ghost view = { λ n. record { start = n.start; nodes = n.states.items } };
+    ghost view = { λ n. graph_of n.start n.finals.items (edge_lists n.classes.items n.edges) n.moves n.calls };
 
-    ghost invariant = { λ n. IsSound (record { start = n.start; nodes = n.states.items }) };
+    ghost invariant = { λ n. IsLaidOut n.start n.finals.items n.classes.items n.edges n.moves n.calls };
 }
 
 impl Net {
-    /// A net without states.
-    pub fn new(alloc: Global) -> Result<Net, Memory>
-        ensures { IfOk result (λ n. n ≡ record { start = None; nodes = [] }) }
-    {
-        Ok(Net {
-            start: None,
-            states: Vec::new(alloc),
-            alloc,
-        })
-    }
-
-    /// Adds a state that is not final and leads nowhere, and gives its number.
-    pub fn state(&mut self) -> Result<u32, Memory>
-        requires { states self.old < 2 ^ 32 - 1 }
-        ensures number { IfOk result (λ a. a ≡ states self.old) }
-        ensures ok { OnOk result (AddsState self.old self.new) }
-        ensures err { OnErr result (self.new ≡ self.old) }
-    {
-        let number = self.states.len() as u32;
-        let state = State::new(self.alloc);
-        self.states.push(state)?;
-        Ok(number)
-    }
-
-    /// Adds an edge from a to b that reads the symbols of the class.
-    pub fn edge(&mut self, a: u32, class: &Class, b: u32) -> Result<(), Memory>
-        requires from { a < states self.old }
-        requires to { b < states self.old }
-        ensures ok { OnOk result (AddsEdge self.old self.new a (record { class = class.now; to = b })) }
-        ensures err { OnErr result (self.new ≡ self.old) }
-    {
-        let class = class.copy()?;
-        let source = &mut self.states[a as usize];
-        source.add_edge(Edge { class, to: b })?;
-        Ok(())
-    }
-
-    /// Adds an empty move from a to b.
-    pub fn pass(&mut self, a: u32, b: u32) -> Result<(), Memory>
-        requires from { a < states self.old }
-        requires to { b < states self.old }
-        ensures ok { OnOk result (AddsMove self.old self.new a b) }
-        ensures err { OnErr result (self.new ≡ self.old) }
-    {
-        let state = &mut self.states[a as usize];
-        state.add_move(b)?;
-        Ok(())
-    }
-
-    /// Adds a call of a group, which leads from a to b.
-    pub fn call(&mut self, a: u32, group: u32, b: u32) -> Result<(), Memory>
-        requires from { a < states self.old }
-        requires to { b < states self.old }
-        ensures ok { OnOk result (AddsCall self.old self.new a (record { group = group; to = b })) }
-        ensures err { OnErr result (self.new ≡ self.old) }
-    {
-        let state = &mut self.states[a as usize];
-        state.add_call(Call { group, to: b })?;
-        Ok(())
-    }
-
-    /// Makes a the state to begin from, in place of any that was set before.
-    pub fn set_start(&mut self, a: u32)
-        requires { a < states self.old }
-        ensures { self.new ≡ record self.old { start = Some a } }
-    {
-        self.start = Some(a);
-    }
-
-    /// Makes a final.
-    pub fn set_final(&mut self, a: u32) -> Result<(), Memory>
-        requires { a < states self.old }
-        ensures ok { OnOk result (SetsFinal self.old self.new a) }
-        ensures err { OnErr result (self.new ≡ self.old) }
-    {
-        let state = &mut self.states[a as usize];
-        state.set_final();
-        Ok(())
-    }
-
     /// The number of states.
     pub fn len(&self) -> u32
         ensures { result ≡ states self.now }
     {
-        self.states.len() as u32
+        self.finals.len() as u32
     }
 
     /// The state to begin from, or none where none was set.
@@ -132,16 +57,16 @@ impl Net {
         requires { a < states self.now }
         ensures { result ≡ final_at self.now a }
     {
-        self.states[a as usize].is_final()
+        self.finals[a as usize]
     }
 
     /// The edges of a state, in the order in which they were added.
-    pub fn edges(&self, a: u32) -> &[Edge]
+    pub fn edges(&self, a: u32) -> Edges<'_>
         requires { a < states self.now }
-        ensures value { result.now ≡ edges_of self.now a }
-        ensures exist { All (λ e. e.to < states self.now) result.now }
+        ensures value { result ≡ edges_of self.now a }
+        ensures exist { All (λ e. e.to < states self.now) result }
     {
-        self.states[a as usize].edges()
+        Edges::of(&self.classes, self.edges.list(a as usize))
     }
 
     /// The targets of a state's empty moves, in the order in which they were added.
@@ -150,7 +75,7 @@ impl Net {
         ensures value { result.now ≡ moves_of self.now a }
         ensures exist { All (λ b. b < states self.now) result.now }
     {
-        self.states[a as usize].moves()
+        self.moves.list(a as usize)
     }
     /// The calls that lead from a state, in the order in which they were added.
     pub fn calls(&self, a: u32) -> &[Call]
@@ -158,6 +83,6 @@ impl Net {
         ensures value { result.now ≡ calls_of self.now a }
         ensures exist { All (λ k. k.to < states self.now) result.now }
     {
-        self.states[a as usize].calls()
+        self.calls.list(a as usize)
     }
 }

@@ -1,19 +1,19 @@
 //! Least closed sets of small nets, and how many rows of given sets are right.
 use std::alloc::Global;
-use xs_auto::Net;
+use xs_auto::{Draft, Net};
 use xs_class::Memory;
 use xs_closed::{CutSets, PairSet, least_apart, least_clear, longest_apart, longest_clear};
 use xs_test_tools::run_of;
 
 /// A net of two states that calls a group once.
 fn call_of(alloc: Global, group: u32) -> Result<Net, Memory> {
-    let mut net = Net::new(alloc)?;
+    let mut net = Draft::new(alloc)?;
     let first = net.state()?;
     let last = net.state()?;
     net.call(first, group, last)?;
     net.set_start(first);
     net.set_final(last)?;
-    Ok(net)
+    net.finish()
 }
 
 /// Which pairs of two numbers below 2 a set has: 0 and 0, 0 and 1, 1 and 0, 1 and 1.

@@ -1,7 +1,7 @@
 -- What the pairs that were visited say of how a pair leads to others.
 use Rattle.std.proofs.Common.{◌≡◌, ℕ, ◌⊎◌, List, length, arith, refl, sym, inl, inr}
 use Rattle.xs_auto.specs.declared.call.Call.{Call}
-use Rattle.xs_auto.specs.declared.edge.Edge.{Edge}
+use Rattle.xs_auto.specs.Edges.{Edge}
 use Rattle.xs_auto.specs.Nets.{Graph, edges_of, moves_of, calls_of}
 use Rattle.xs_meet.specs.Closed.{Marked, Drifts, Strides}
 use Rattle.xs_closed.specs.declared.pair.Pair.{Pair}

@@ -3,7 +3,7 @@ use Rattle.std.specs.Prelude.{◌≡◌, ◌↔◌, ℕ, ◌<◌, ◌⊎◌, tru
 use Rattle.std.specs.List.{All, Contains}
 use Rattle.xs_class.specs.Classes.{Has}
 use Rattle.xs_auto.specs.declared.call.Call.{Call}
-use Rattle.xs_auto.specs.declared.edge.Edge.{Edge}
+use Rattle.xs_auto.specs.Edges.{Edge}
 use Rattle.xs_auto.specs.Nets.{Graph, states, final_at}
 use Rattle.xs_meet.specs.Closed.{Marked}
 use Rattle.xs_closed.specs.declared.pair.Pair.{Pair}

@@ -1,7 +1,7 @@
 -- How far the pairs of a set lead into its rows.
 use Rattle.std.specs.Prelude.{◌≡◌, ℕ, ◌<◌, ◌≤◌, ◌⊎◌, true, List, length, take, Option, None, Some}
 use Rattle.xs_auto.specs.declared.call.Call.{Call}
-use Rattle.xs_auto.specs.declared.edge.Edge.{Edge}
+use Rattle.xs_auto.specs.Edges.{Edge}
 use Rattle.xs_auto.specs.Nets.{Graph, final_at, edges_of, calls_of}
 use Rattle.xs_meet.specs.Closed.{Drifts, Strides, Leads, IsClosed, HasNoFinals}
 use Rattle.xs_closed.specs.Rows.{Grid, marked, rows_from}

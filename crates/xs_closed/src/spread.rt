@@ -30,7 +30,7 @@ fn is_still(net: &Net, a: u32) -> bool
     ensures edges { result ≡ true → length (edges_of net.now a) ≡ 0 }
     ensures calls { result ≡ true → length (calls_of net.now a) ≡ 0 }
 {
-    net.edges(a).is_empty() && net.calls(a).is_empty()
+    net.edges(a).len() == 0 && net.calls(a).is_empty()
 }
 
 /// Whether edges and calls of both nets lead nowhere from a pair, since one state has none.
@@ -62,7 +62,9 @@ pub fn stride(
     ensures listed { OnOk result (IsListed set.new pairs.new.items) }
     ensures ok { OnOk result (Adds (Strides (Marked (marked related.now)) m.now n.now at.first at.second) set.old pairs.old.items set.new pairs.new.items) }
 {
-    visit_boths(set, pairs, m.edges(at.first), n.edges(at.second))?;
+    let edges = m.edges(at.first);
+    let others = n.edges(at.second);
+    visit_boths(set, pairs, &edges, &others)?;
     visit_calls(set, pairs, related, m.calls(at.first), n.calls(at.second))?;
     Ok(())
 }

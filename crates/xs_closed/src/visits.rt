@@ -7,7 +7,7 @@ ghost use Rattle.xs_closed.specs.Search.{IsListed, Adds, IsPair, OneOf, Meets, J
 
 use crate::PairSet;
 use crate::pair::Pair;
-use xs_auto::{Call, Edge, first_common};
+use xs_auto::{Call, Edge, Edges};
 use xs_class::Memory;
 
 /// Marks a pair, and lists it unless it was marked already.
@@ -68,19 +68,19 @@ pub fn visit_seconds(
 }
 
 /// Whether the pair of targets of two edges is not marked and they read a common symbol.
-fn is_new(set: &PairSet, edge: &Edge, other: &Edge) -> bool
+fn is_new(set: &PairSet, edge: &Edge<'_>, other: &Edge<'_>) -> bool
     ensures meet { result ≡ true → Meets edge.now other.now edge.now.to other.now.to }
     ensures known { result ≡ false → Meets edge.now other.now edge.now.to other.now.to → Marked (marked set.now) edge.now.to other.now.to }
 {
-    !set.has(edge.to, other.to) && first_common(&edge.class, &other.class).is_some()
+    !set.has(edge.to(), other.to()) && edge.first_common(other).is_some()
 }
 
 /// Visits the pairs of targets of one edge and each other edge that reads a symbol of it.
 fn visit_ends(
     set: &mut PairSet,
     pairs: &mut Vec<Pair>,
-    edge: &Edge,
-    others: &[Edge],
+    edge: &Edge<'_>,
+    others: &Edges<'_>,
 ) -> Result<(), Memory>
     requires listed { IsListed set.old pairs.old.items }
     requires first { edge.now.to < length set.old.rows }
@@ -88,9 +88,12 @@ fn visit_ends(
     ensures listed { OnOk result (IsListed set.new pairs.new.items) }
     ensures ok { OnOk result (Adds (OneOf others.now (Meets edge.now)) set.old pairs.old.items set.new pairs.new.items) }
 {
-    'others: for other in others {
-        if is_new(set, edge, other) {
-            visit(set, pairs, edge.to, other.to)?;
+    'others: for place in 0..others.len() {
+        let other = others.edge(place);
+        if is_new(set, edge, &other) {
+            let first = edge.to();
+            let second = other.to();
+            visit(set, pairs, first, second)?;
         }
     }
     Ok(())
@@ -100,8 +103,8 @@ fn visit_ends(
 pub fn visit_boths(
     set: &mut PairSet,
     pairs: &mut Vec<Pair>,
-    edges: &[Edge],
-    others: &[Edge],
+    edges: &Edges<'_>,
+    others: &Edges<'_>,
 ) -> Result<(), Memory>
     requires listed { IsListed set.old pairs.old.items }
     requires first { All (λ e. e.to < length set.old.rows) edges.now }
@@ -109,8 +112,9 @@ pub fn visit_boths(
     ensures listed { OnOk result (IsListed set.new pairs.new.items) }
     ensures ok { OnOk result (Adds (OneOf edges.now (λ e. OneOf others.now (Meets e))) set.old pairs.old.items set.new pairs.new.items) }
 {
-    'edges: for edge in edges {
-        visit_ends(set, pairs, edge, others)?;
+    'edges: for place in 0..edges.len() {
+        let edge = edges.edge(place);
+        visit_ends(set, pairs, &edge, others)?;
     }
     Ok(())
 }

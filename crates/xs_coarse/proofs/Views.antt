@@ -8,7 +8,7 @@ use Rattle.std.proofs.lemmas.List.FromFn.{get_or-map-range_with_len, length-map-
 use Rattle.xs_class.proofs.Lists.{first_in, rest_in}
 use Rattle.xs_class.proofs.Truth.{and_true, both_true, lt_is, lt_true}
 use Rattle.xs_auto.specs.declared.call.Call.{Call}
-use Rattle.xs_auto.specs.declared.edge.Edge.{Edge}
+use Rattle.xs_auto.specs.Edges.{Edge}
 use Rattle.xs_auto.specs.Nets.{Node, bare, states, final_at, edges_of, moves_of, calls_of}
 use Rattle.xs_coarse.specs.declared.arc.Arc.{Arc}
 use Rattle.xs_coarse.specs.Coarse.{Table, Net, HasArc, class_label, group_label, class_at, is_move, is_edge, is_call, edge_of, call_from, node_of, view}

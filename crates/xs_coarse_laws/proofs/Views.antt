@@ -3,7 +3,7 @@ use Rattle.std.proofs.Common.{◌≡◌, inl, inr, ℕ, ◌<◌, List, get_or, r
 use Rattle.std.proofs.lemmas.Bool.{cases_lt}
 use Rattle.std.specs.List.{Contains}
 use Rattle.xs_auto.specs.declared.call.Call.{Call}
-use Rattle.xs_auto.specs.declared.edge.Edge.{Edge}
+use Rattle.xs_auto.specs.Edges.{Edge}
 use Rattle.xs_auto.specs.Nets.{Graph, Node, bare, edges_of, moves_of, calls_of}
 use Rattle.xs_auto.specs.Nests.{Group, Crossing, stands, drifts, takes, enters, AcceptsNested}
 use Rattle.xs_coarse.specs.Coarse.{Table, Net, node_of, view}

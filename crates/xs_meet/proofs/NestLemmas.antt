@@ -4,7 +4,7 @@ use Rattle.std.specs.List.{Contains}
 use Rattle.std.specs.declared.option.Option.TheVariants.{Some}
 use Rattle.xs_class.specs.Classes.{Has}
 use Rattle.xs_auto.specs.declared.call.Call.{Call}
-use Rattle.xs_auto.specs.declared.edge.Edge.{Edge}
+use Rattle.xs_auto.specs.Edges.{Edge}
 use Rattle.xs_auto.specs.Nets.{Graph, edges_of, calls_of, final_at}
 use Rattle.xs_auto.specs.Nests.{Group, IsGroup, Crossing, stands, drifts, takes, enters, IsPlain, IsTame, IsFenced, HaveOneFence}
 use Rattle.xs_meet.specs.Closed.{Drifts, Strides, Leads, IsClosed, LeadsInto, IsApart, IsClear, Marked, IsSettled}

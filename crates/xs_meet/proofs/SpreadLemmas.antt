@@ -4,7 +4,7 @@ use Rattle.std.proofs.lemmas.Bool.{cases_eq}
 use Rattle.std.proofs.lemmas.Option.{slice_get_within, slice_get_read}
 use Rattle.xs_class.proofs.Lists.{some_same, get_left}
 use Rattle.xs_auto.specs.declared.call.Call.{Call}
-use Rattle.xs_auto.specs.declared.edge.Edge.{Edge}
+use Rattle.xs_auto.specs.Edges.{Edge}
 use Rattle.xs_meet.specs.declared.reached_pair.ReachedPair.{ReachedPair}
 use Rattle.xs_meet.specs.declared.layer.Layer.{Layer}
 use Rattle.xs_auto.specs.Marks.{Marks}

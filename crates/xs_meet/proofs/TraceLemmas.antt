@@ -10,7 +10,7 @@ use Rattle.std.proofs.lemmas.List.Elements.{All-cons, All-nil, Contains-push_cas
 use Rattle.xs_class.specs.Classes.{Has}
 use Rattle.xs_class.proofs.Lists.{some_same}
 use Rattle.xs_auto.specs.declared.call.Call.{Call}
-use Rattle.xs_auto.specs.declared.edge.Edge.{Edge}
+use Rattle.xs_auto.specs.Edges.{Edge}
 use Rattle.xs_auto.specs.Nets.{Graph, edges_of, calls_of}
 use Rattle.xs_auto.specs.Nests.{Group, Crossing, stands, drifts, takes, enters}
 use Rattle.xs_meet.specs.declared.piece.Piece.{Piece}

@@ -3,7 +3,7 @@ use Rattle.std.specs.Prelude.{◌≡◌, ℕ, ◌+◌, ◌*◌, ◌<◌, ◌≤�
 use Rattle.std.specs.List.{Contains}
 use Rattle.xs_class.specs.Classes.{Has}
 use Rattle.xs_auto.specs.declared.call.Call.{Call}
-use Rattle.xs_auto.specs.declared.edge.Edge.{Edge}
+use Rattle.xs_auto.specs.Edges.{Edge}
 use Rattle.xs_meet.specs.declared.reached_pair.ReachedPair.{ReachedPair}
 use Rattle.xs_meet.specs.declared.layer.Layer.{Layer}
 use Rattle.xs_auto.specs.Marks.{Marks, marked_at}

@@ -6,7 +6,7 @@ ghost use Rattle.xs_meet.specs.Sharing.{AreKnown};
 use crate::reached_pair::ReachedPair;
 use crate::shared::Shared;
 use std::alloc::Global;
-use xs_auto::{Call, Edge, Net, Pairs, first_common};
+use xs_auto::{Call, Edge, Edges, Net, Pairs};
 use xs_class::Memory;
 
 /// The pairs of states of two nets that a search has found, in the order in which it found them,
@@ -115,8 +115,8 @@ impl Layer {
     fn visit_ends(
         &mut self,
         pairs: &mut Pairs,
-        edge: &Edge,
-        others: &[Edge],
+        edge: &Edge<'_>,
+        others: &Edges<'_>,
         from: usize,
     ) -> Result<(), Memory>
         requires fits { Fits self.old pairs.old }
@@ -126,11 +126,14 @@ impl Layer {
         ensures fits { OnOk result (Fits self.new pairs.new) }
         ensures ok { OnOk result (Extends (Among others.now (λ f. Meets edge.now f from)) self.old self.new) }
     {
-        'others: for other in others {
-            if first_common(&edge.class, &other.class).is_some() {
+        'others: for place in 0..others.len() {
+            let other = others.edge(place);
+            if edge.first_common(&other).is_some() {
+                let first = edge.to();
+                let second = other.to();
                 let step = ReachedPair {
-                    first: edge.to,
-                    second: other.to,
+                    first,
+                    second,
                     from,
                 };
                 self.visit(pairs, step)?;
@@ -143,8 +146,8 @@ impl Layer {
     pub fn visit_boths(
         &mut self,
         pairs: &mut Pairs,
-        edges: &[Edge],
-        others: &[Edge],
+        edges: &Edges<'_>,
+        others: &Edges<'_>,
         from: usize,
     ) -> Result<(), Memory>
         requires fits { Fits self.old pairs.old }
@@ -154,8 +157,9 @@ impl Layer {
         ensures fits { OnOk result (Fits self.new pairs.new) }
         ensures ok { OnOk result (Extends (Among edges.now (λ e. Among others.now (λ f. Meets e f from))) self.old self.new) }
     {
-        'edges: for edge in edges {
-            self.visit_ends(pairs, edge, others, from)?;
+        'edges: for place in 0..edges.len() {
+            let edge = edges.edge(place);
+            self.visit_ends(pairs, &edge, others, from)?;
         }
         Ok(())
     }

@@ -50,7 +50,9 @@ impl Layer {
         ensures fits { OnOk result (Fits self.new pairs.new) }
         ensures ok { OnOk result (Extends (StridesFrom (AreKnown shared.now) first.now second.now at.first at.second from) self.old self.new) }
     {
-        self.visit_boths(pairs, first.edges(at.first), second.edges(at.second), from)?;
+        let edges = first.edges(at.first);
+        let others = second.edges(at.second);
+        self.visit_boths(pairs, &edges, &others, from)?;
         self.visit_calls(
             pairs,
             shared,

@@ -10,7 +10,7 @@ use crate::piece::Piece;
 use crate::reached_pair::ReachedPair;
 use crate::shared::Shared;
 use std::alloc::Global;
-use xs_auto::{Call, Edge, Net, first_common};
+use xs_auto::{Call, Edge, Edges, Net};
 use xs_class::{Memory, Sym};
 
 /// Pieces of a word that leads from a layer's seed to one of its pairs, and the seed's place.
@@ -87,9 +87,11 @@ fn symbol_between(first: &Net, second: &Net, from: ReachedPair, to: ReachedPair)
 {
     let edges = first.edges(from.first);
     let others = second.edges(from.second);
-    'edges: for edge in edges {
-        if edge.to == to.first {
-            let symbol = symbol_with(edge, others, to.second);
+    'edges: for place in 0..edges.len() {
+        let edge = edges.edge(place);
+        let target = edge.to();
+        if target == to.first {
+            let symbol = symbol_with(&edge, &others, to.second);
             if symbol.is_some() {
                 return symbol;
             }
@@ -100,13 +102,15 @@ fn symbol_between(first: &Net, second: &Net, from: ReachedPair, to: ReachedPair)
 
 /// A symbol that an edge reads and another edge, which leads to a state, reads too, if there is
 /// one.
-fn symbol_with(edge: &Edge, others: &[Edge], to: u32) -> Option<Sym>
+fn symbol_with(edge: &Edge<'_>, others: &Edges<'_>, to: u32) -> Option<Sym>
     ensures some { IfSome result (ReadsWith edge.now others.now to) }
     ensures none { IfNone result ((x : ℕ) → ReadsWith edge.now others.now to x → ⊥) }
 {
-    'others: for other in others {
-        if other.to == to {
-            let symbol = first_common(&edge.class, &other.class);
+    'others: for place in 0..others.len() {
+        let other = others.edge(place);
+        let target = other.to();
+        if target == to {
+            let symbol = edge.first_common(&other);
             if symbol.is_some() {
                 return symbol;
             }

@@ -4,7 +4,7 @@ ghost use Rattle.xs_sheet_tests.specs.Small.{IsSmall, AreBrackets};
 
 use std::alloc::Global;
 use std::test::Fail;
-use xs_auto::{Nest, Net, Pairs};
+use xs_auto::{Draft, Nest, Net, Pairs};
 use xs_class::{Memory, Sym, Word};
 use xs_meet::{Overlap, Shared, meet_nested, overlap_nested};
 use xs_test_tools::run_of;
@@ -21,14 +21,14 @@ fn letters(alloc: Global, range: (u32, u32)) -> Result<Net, Memory>
 fn calls(alloc: Global, group: u32) -> Result<Net, Memory>
     ensures { IfOk result IsSmall }
 {
-    let mut net = Net::new(alloc)?;
+    let mut net = Draft::new(alloc)?;
     let first = net.state()?;
     let last = net.state()?;
     net.call(first, group, last)?;
     net.pass(last, first)?;
     net.set_start(first);
     net.set_final(last)?;
-    Ok(net)
+    net.finish()
 }
 
 /// Four groups in parentheses: one of groups of the third kind, one of groups of the fourth, and

@@ -6,7 +6,7 @@ mod shipped;
 
 use std::alloc::Global;
 use std::test::Fail;
-use xs_auto::{Net, Pairs};
+use xs_auto::{Draft, Net, Pairs};
 use xs_class::{Class, Memory, Side};
 use xs_gram::Gram;
 use xs_meet::meet_word;
@@ -21,7 +21,7 @@ const LISTS: &[u8] =
     l : [d a] = <l>[d a]</l>\nl : [l a] \",\" [d b] = <l>[l a]<d>[d b]</d></l>\n";
 
 /// A state that is reached from the last one by the class.
-fn add_state(net: &mut Net, last: u32, class: &Class) -> Result<u32, Memory> {
+fn add_state(net: &mut Draft, last: u32, class: &Class) -> Result<u32, Memory> {
     if net.len() == u32::MAX || last >= net.len() {
         return Err(Memory);
     }
@@ -31,7 +31,7 @@ fn add_state(net: &mut Net, last: u32, class: &Class) -> Result<u32, Memory> {
 }
 
 /// The state that is reached from the first one by the word.
-fn add_word(alloc: Global, net: &mut Net, first: u32, word: &[u8]) -> Result<u32, Memory> {
+fn add_word(alloc: Global, net: &mut Draft, first: u32, word: &[u8]) -> Result<u32, Memory> {
     let mut last = first;
     for symbol in word {
         let number = *symbol as u32;
@@ -45,7 +45,7 @@ fn add_word(alloc: Global, net: &mut Net, first: u32, word: &[u8]) -> Result<u32
 fn net_of_word(alloc: Global, word: &[u8]) -> Result<Net, Memory>
     ensures { IfOk result (λ n. IsSome n.start) }
 {
-    let mut net = Net::new(alloc)?;
+    let mut net = Draft::new(alloc)?;
     let first = net.state()?;
     let last = add_word(alloc, &mut net, first, word)?;
     if first >= net.len() || last >= net.len() {
@@ -53,7 +53,7 @@ fn net_of_word(alloc: Global, word: &[u8]) -> Result<Net, Memory>
     }
     net.set_start(first);
     net.set_final(last)?;
-    Ok(net)
+    net.finish()
 }
 
 /// This part of the rule, if there is one and the grammar has no fences.

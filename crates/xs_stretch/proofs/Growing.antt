@@ -5,7 +5,7 @@ use Rattle.std.proofs.lemmas.Bool.{cases_eq}
 use Rattle.std.proofs.lemmas.List.Elements.{Contains-append_left, Contains-append_right, Contains-append_cases, Contains-push, Contains-push_cases}
 use Rattle.xs_class.specs.Classes.{Has, HaveSame, IsClass}
 use Rattle.xs_auto.specs.declared.call.Call.{Call}
-use Rattle.xs_auto.specs.declared.edge.Edge.{Edge}
+use Rattle.xs_auto.specs.Edges.{Edge}
 use Rattle.xs_auto.specs.Nets.{Graph, edges_of, moves_of, calls_of, AddsEdge, AddsMove, AddsCall}
 use Rattle.xs_stretch.specs.Arcs.{Label, reads, passes, calls, Arc, read, pass, call}
 use Rattle.xs_stretch.specs.Growth.{HasLabel, HasArc, NetGrows}

@@ -2,7 +2,7 @@
 use Rattle.std.specs.Prelude.{◌≡◌, ◌↔◌, ℕ, suc, ◌<◌, ◌≤◌, true, List, length, Some}
 use Rattle.std.specs.List.{Contains}
 use Rattle.xs_auto.specs.declared.call.Call.{Call}
-use Rattle.xs_auto.specs.declared.edge.Edge.{Edge}
+use Rattle.xs_auto.specs.Edges.{Edge}
 use Rattle.xs_auto.specs.Nets.{Graph, states, final_at, edges_of, moves_of, calls_of}
 use Rattle.xs_auto.specs.Nests.{Group, IsGroup}
 use Rattle.xs_gram.specs.declared.parts.GItem.{GItem}

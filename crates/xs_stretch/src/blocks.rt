@@ -7,13 +7,13 @@ ghost use Rattle.xs_stretch.specs.Growth.{NetGrows};
 
 use crate::growth::{pass, read, read_symbol};
 use std::alloc::Global;
-use xs_auto::Net;
+use xs_auto::Draft;
 use xs_class::{Memory, Sym};
 use xs_regex::Position;
 
 /// Lays a fixed word after a state, by a state for each symbol, and gives the state after it.
 pub fn lay_word(
-    net: &mut Net,
+    net: &mut Draft,
     alloc: Global,
     word: &[Sym],
     before: u32,
@@ -37,7 +37,7 @@ pub fn lay_word(
 /// Lays an automaton after a state, by a state for each position and one more, which is the state
 /// after it.
 pub fn lay_automaton(
-    net: &mut Net,
+    net: &mut Draft,
     automaton: &Position,
     before: u32,
     at: u32,
@@ -58,7 +58,7 @@ pub fn lay_automaton(
 }
 
 /// Adds the move past an automaton, if it accepts the empty word.
-fn pass_if(net: &mut Net, nullable: bool, from: u32, to: u32) -> Result<(), Memory>
+fn pass_if(net: &mut Draft, nullable: bool, from: u32, to: u32) -> Result<(), Memory>
     requires from { from < states net.old }
     requires to { to < states net.old }
     ensures { OnOk result (NetGrows (arc_past nullable from to) net.old net.new) }
@@ -71,7 +71,7 @@ fn pass_if(net: &mut Net, nullable: bool, from: u32, to: u32) -> Result<(), Memo
 
 /// Adds the edges from a state to those of positions.
 fn read_all(
-    net: &mut Net,
+    net: &mut Draft,
     automaton: &Position,
     first: u32,
     from: u32,
@@ -91,7 +91,7 @@ fn read_all(
 }
 
 /// Adds the edges from each position to those that follow it.
-fn read_follows(net: &mut Net, automaton: &Position, first: u32) -> Result<(), Memory>
+fn read_follows(net: &mut Draft, automaton: &Position, first: u32) -> Result<(), Memory>
     requires formed { IsWellFormed automaton.now }
     requires room { first + length automaton.now.classes ≤ states net.old }
     requires few { states net.old < 2 ^ 32 }
@@ -105,7 +105,7 @@ fn read_follows(net: &mut Net, automaton: &Position, first: u32) -> Result<(), M
 }
 
 /// Adds the moves from the states of positions.
-fn pass_all(net: &mut Net, first: u32, lasts: &[u32], to: u32) -> Result<(), Memory>
+fn pass_all(net: &mut Draft, first: u32, lasts: &[u32], to: u32) -> Result<(), Memory>
     requires few { states net.old < 2 ^ 32 }
     requires lasts { (k : ℕ) → Contains lasts.now k → first + k < states net.old }
     requires to { to < states net.old }

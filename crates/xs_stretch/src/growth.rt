@@ -4,11 +4,11 @@ ghost use Rattle.xs_stretch.specs.Arcs.{read as read_arc, pass as pass_arc, call
 ghost use Rattle.xs_stretch.specs.Growth.{NetGrows};
 
 use std::alloc::Global;
-use xs_auto::Net;
+use xs_auto::Draft;
 use xs_class::{Class, Memory, Sym};
 
 /// Adds an edge by a class.
-pub fn read(net: &mut Net, from: u32, class: &Class, to: u32) -> Result<(), Memory>
+pub fn read(net: &mut Draft, from: u32, class: &Class, to: u32) -> Result<(), Memory>
     requires from { from < states net.old }
     requires to { to < states net.old }
     ensures { OnOk result (NetGrows (read_arc from class.now to ∷ []) net.old net.new) }
@@ -19,7 +19,7 @@ pub fn read(net: &mut Net, from: u32, class: &Class, to: u32) -> Result<(), Memo
 
 /// Adds an edge by one symbol.
 pub fn read_symbol(
-    net: &mut Net,
+    net: &mut Draft,
     alloc: Global,
     from: u32,
     symbol: Sym,
@@ -37,7 +37,7 @@ pub fn read_symbol(
 }
 
 /// Adds an empty move.
-pub fn pass(net: &mut Net, from: u32, to: u32) -> Result<(), Memory>
+pub fn pass(net: &mut Draft, from: u32, to: u32) -> Result<(), Memory>
     requires from { from < states net.old }
     requires to { to < states net.old }
     ensures { OnOk result (NetGrows (pass_arc from to ∷ []) net.old net.new) }
@@ -47,7 +47,7 @@ pub fn pass(net: &mut Net, from: u32, to: u32) -> Result<(), Memory>
 }
 
 /// Adds a call of a group.
-pub fn call(net: &mut Net, from: u32, group: u32, to: u32) -> Result<(), Memory>
+pub fn call(net: &mut Draft, from: u32, group: u32, to: u32) -> Result<(), Memory>
     requires from { from < states net.old }
     requires to { to < states net.old }
     ensures { OnOk result (NetGrows (call_arc from group to ∷ []) net.old net.new) }

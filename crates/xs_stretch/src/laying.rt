@@ -23,14 +23,14 @@ use crate::members::member_of;
 use crate::site::{Home, Next, Site, Spot, Task};
 use crate::tables::after_place;
 use std::alloc::Global;
-use xs_auto::Net;
+use xs_auto::Draft;
 use xs_class::{Memory, Sym};
 use xs_gram::GItem;
 use xs_regex::Position;
 
 /// Lays the outer items and groups of a part one after another, and gives the spot after them.
 pub fn lay_items(
-    net: &mut Net,
+    net: &mut Draft,
     tasks: &mut Vec<Task>,
     alloc: Global,
     site: &Site<'_>,
@@ -67,7 +67,7 @@ pub fn lay_items(
 /// Lays the outer item or the group at a place of a rule, whose number is given, and says where to
 /// go on.
 fn lay_next(
-    net: &mut Net,
+    net: &mut Draft,
     tasks: &mut Vec<Task>,
     alloc: Global,
     site: &Site<'_>,
@@ -102,7 +102,7 @@ fn lay_next(
 }
 
 /// Lays a group: a state after its call, and one after an empty move from there.
-fn lay_group(net: &mut Net, number: u32, spot: Spot) -> Result<Spot, Memory>
+fn lay_group(net: &mut Draft, number: u32, spot: Spot) -> Result<Spot, Memory>
     requires before { spot.before < states net.old }
     requires room { suc spot.at < states net.old }
     requires few { states net.old ≤ suc heaviest }
@@ -120,7 +120,7 @@ fn lay_group(net: &mut Net, number: u32, spot: Spot) -> Result<Spot, Memory>
 
 /// Lays an outer item, in the component of its home if it has one.
 fn lay_outer(
-    net: &mut Net,
+    net: &mut Draft,
     tasks: &mut Vec<Task>,
     alloc: Global,
     site: &Site<'_>,
@@ -146,7 +146,7 @@ fn lay_outer(
 
 /// Lays an outer item of a rule in the component of its home.
 fn lay_in(
-    net: &mut Net,
+    net: &mut Draft,
     tasks: &mut Vec<Task>,
     alloc: Global,
     site: &Site<'_>,
@@ -173,7 +173,7 @@ fn lay_in(
 
 /// Lays a member of the component of its home: one state, which is after it.
 fn lay_member(
-    net: &mut Net,
+    net: &mut Draft,
     site: &Site<'_>,
     home: Home,
     member: u32,
@@ -214,7 +214,7 @@ pub fn entry_of(site: &Site<'_>, home: Home, member: u32) -> u32
 
 /// Lays an item whole; a nonterminal's component is left to a task.
 fn lay_item(
-    net: &mut Net,
+    net: &mut Draft,
     tasks: &mut Vec<Task>,
     alloc: Global,
     site: &Site<'_>,
@@ -237,7 +237,7 @@ fn lay_item(
 }
 
 /// Lays a fixed word.
-fn lay_fixed(net: &mut Net, alloc: Global, word: &[Sym], spot: Spot) -> Result<Spot, Memory>
+fn lay_fixed(net: &mut Draft, alloc: Global, word: &[Sym], spot: Spot) -> Result<Spot, Memory>
     requires before { spot.before < states net.old }
     requires room { spot.at + length word.now ≤ states net.old }
     requires few { states net.old ≤ suc heaviest }
@@ -253,7 +253,7 @@ fn lay_fixed(net: &mut Net, alloc: Global, word: &[Sym], spot: Spot) -> Result<S
 }
 
 /// Lays an automaton.
-fn lay_regular(net: &mut Net, automaton: &Position, spot: Spot) -> Result<Spot, Memory>
+fn lay_regular(net: &mut Draft, automaton: &Position, spot: Spot) -> Result<Spot, Memory>
     requires formed { IsWellFormed automaton.now }
     requires few { states net.old ≤ suc heaviest }
     requires before { spot.before < states net.old }
@@ -271,7 +271,7 @@ fn lay_regular(net: &mut Net, automaton: &Position, spot: Spot) -> Result<Spot, 
 
 /// Leads to the entry of a nonterminal, and leaves its component to a task.
 fn leave(
-    net: &mut Net,
+    net: &mut Draft,
     tasks: &mut Vec<Task>,
     site: &Site<'_>,
     non: u32,

@@ -16,7 +16,7 @@ use crate::tasks::lay_tasks;
 use crate::weighing::weight_by;
 use crate::{LooseFault, Part, Tables};
 use std::alloc::Global;
-use xs_auto::Net;
+use xs_auto::{Draft, Net};
 use xs_class::Memory;
 use xs_gram::{Comps, Gram};
 
@@ -79,17 +79,18 @@ fn light_net(alloc: Global, site: &Site<'_>, part: Part, weight: u32) -> Result<
     let last = lay_items(&mut net, &mut tasks, alloc, site, None, part, first)?;
     lay_tasks(&mut net, &mut tasks, alloc, site)?;
     net.set_final(last.before)?;
-    Ok(net)
+    let done = net.finish()?;
+    Ok(done)
 }
 
-/// A net of that many states, the first of which is the start; none is final or leads anywhere.
-fn blank(alloc: Global, count: u32) -> Result<Net, Memory>
+/// A draft of that many states, the first of which is the start; none is final or leads anywhere.
+fn blank(alloc: Global, count: u32) -> Result<Draft, Memory>
     requires some { 0 < count }
     requires few { count ≤ suc heaviest }
     ensures start { IfOk result (λ n. n.start ≡ Some 0) }
     ensures blank { IfOk result (IsBlank count) }
 {
-    let mut net = Net::new(alloc)?;
+    let mut net = Draft::new(alloc)?;
     'states: for _ in 0..count {
         net.state()?;
     }

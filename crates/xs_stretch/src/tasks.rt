@@ -13,12 +13,12 @@ use crate::growth::pass;
 use crate::laying::{entry_of, lay_items};
 use crate::site::{Home, Site, Spot, Task};
 use std::alloc::Global;
-use xs_auto::Net;
+use xs_auto::Draft;
 use xs_class::Memory;
 
 /// Lays all components that were left to tasks, and those that they leave in turn.
 pub fn lay_tasks(
-    net: &mut Net,
+    net: &mut Draft,
     tasks: &mut Vec<Task>,
     alloc: Global,
     site: &Site<'_>,
@@ -36,7 +36,7 @@ pub fn lay_tasks(
 
 /// Lays the component of a task: the rules of its members, one after another.
 fn lay_component(
-    net: &mut Net,
+    net: &mut Draft,
     tasks: &mut Vec<Task>,
     alloc: Global,
     site: &Site<'_>,
@@ -64,7 +64,7 @@ fn lay_component(
 /// Lays a rule of a member of the component of its home, whose place 0 is given, and gives the next
 /// free state: a move from the entry of its nonterminal, its items, and a move to the exit.
 fn lay_rule(
-    net: &mut Net,
+    net: &mut Draft,
     tasks: &mut Vec<Task>,
     alloc: Global,
     site: &Site<'_>,

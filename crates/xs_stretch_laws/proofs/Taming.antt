@@ -7,7 +7,7 @@ use Rattle.xs_class.specs.Classes.{Has}
 use Rattle.xs_class.proofs.Lists.{first_in, rest_in}
 use Rattle.xs_class.proofs.Truth.{false_true, or_left, or_right}
 use Rattle.xs_regex.specs.declared.position.Position.{Position}
-use Rattle.xs_auto.specs.declared.edge.Edge.{Edge}
+use Rattle.xs_auto.specs.Edges.{Edge}
 use Rattle.xs_auto.specs.Nets.{Graph, edges_of}
 use Rattle.xs_auto.specs.Nests.{Group, IsGroup, IsTame}
 use Rattle.xs_gram.specs.declared.parts.GItem.{GItem}

@@ -4,7 +4,7 @@ ghost use Rattle.xs_auto.specs.Nets.{states};
 ghost use Rattle.xs_test_tools.specs.Runs.{ReadsFrom};
 
 use std::alloc::Global;
-use xs_auto::Net;
+use xs_auto::{Draft, Net};
 use xs_class::{Class, Memory};
 
 /// A net of two states that accepts one or more symbols of a range, by an edge and an empty move
@@ -15,12 +15,12 @@ pub fn run_of(alloc: Global, range: (u32, u32)) -> Result<Net, Memory>
     ensures reads { IfOk result (ReadsFrom range.0) }
 {
     let class = Class::from_ranges(alloc, &[range])?;
-    let mut net = Net::new(alloc)?;
+    let mut net = Draft::new(alloc)?;
     let first = net.state()?;
     let last = net.state()?;
     net.edge(first, &class, last)?;
     net.pass(last, first)?;
     net.set_start(first);
     net.set_final(last)?;
-    Ok(net)
+    net.finish()
 }

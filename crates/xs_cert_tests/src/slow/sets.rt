@@ -189,8 +189,10 @@ impl<'t> Duo<'t> {
         if b >= self.n.len() {
             return false;
         }
-        for edge in self.n.edges(b) {
-            if have_common(class, &edge.class) && !set.has(c, edge.to) {
+        let edges = self.n.edges(b);
+        for place in 0..edges.len() {
+            let edge = edges.edge(place);
+            if have_common(class, edge.class()) && !set.has(c, edge.to()) {
                 return false;
             }
         }
@@ -202,8 +204,10 @@ impl<'t> Duo<'t> {
         if a >= self.m.len() {
             return false;
         }
-        for edge in self.m.edges(a) {
-            if !self.has_edges_with(&edge.class, edge.to, b, set) {
+        let edges = self.m.edges(a);
+        for place in 0..edges.len() {
+            let edge = edges.edge(place);
+            if !self.has_edges_with(edge.class(), edge.to(), b, set) {
                 return false;
             }
         }

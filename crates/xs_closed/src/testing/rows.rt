@@ -83,13 +83,13 @@ pub fn strides_need(
 {
     let edges = m.edges(a);
     let calls = m.calls(a);
-    if edges.is_empty() && calls.is_empty() {
+    if edges.len() == 0 && calls.is_empty() {
         return Some(need);
     }
     let mut need = need;
     let mut from = 0;
     'partners: while let Some(b) = partner_from(set, a, from) {
-        need = stride_need(related, n, into, edges, calls, b, need)?;
+        need = stride_need(related, n, into, &edges, calls, b, need)?;
         from = b as u64 + 1;
     }
     Some(need)

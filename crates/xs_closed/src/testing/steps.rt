@@ -6,7 +6,7 @@ ghost use Rattle.xs_closed.specs.Search.{IsPair, OneOf, Meets, Joins};
 ghost use Rattle.xs_closed.specs.Testing.{IsNeed, StridesBy};
 
 use crate::PairSet;
-use xs_auto::{Call, Edge, Net, first_common};
+use xs_auto::{Call, Edge, Edges, Net};
 
 /// What one pair needs.
 pub fn pair_need(set: &PairSet, c: u32, d: u32, need: u64) -> Option<u64>
@@ -30,36 +30,40 @@ pub fn seconds_need(set: &PairSet, c: u32, seconds: &[u32], need: u64) -> Option
 }
 
 /// What two edges need, where they read a common symbol.
-fn edge_need(set: &PairSet, edge: &Edge, other: &Edge, need: u64) -> Option<u64>
+fn edge_need(set: &PairSet, edge: &Edge<'_>, other: &Edge<'_>, need: u64) -> Option<u64>
     ensures { IsNeed set.now (Meets edge.now other.now) need result }
 {
-    if set.has(edge.to, other.to) && (edge.to as u64) < need {
+    let first = edge.to();
+    let second = other.to();
+    if set.has(first, second) && (first as u64) < need {
         return Some(need);
     }
-    match first_common(&edge.class, &other.class) {
-        Some(_) => pair_need(set, edge.to, other.to, need),
+    match edge.first_common(other) {
+        Some(_) => pair_need(set, first, second, need),
         None => Some(need),
     }
 }
 
 /// What one edge needs with each of the others.
-fn ends_need(set: &PairSet, edge: &Edge, others: &[Edge], need: u64) -> Option<u64>
+fn ends_need(set: &PairSet, edge: &Edge<'_>, others: &Edges<'_>, need: u64) -> Option<u64>
     ensures { IsNeed set.now (OneOf others.now (Meets edge.now)) need result }
 {
     let mut need = need;
-    'others: for other in others {
-        need = edge_need(set, edge, other, need)?;
+    'others: for place in 0..others.len() {
+        let other = others.edge(place);
+        need = edge_need(set, edge, &other, need)?;
     }
     Some(need)
 }
 
 /// What each of the edges needs with each of the others.
-fn edges_need(set: &PairSet, edges: &[Edge], others: &[Edge], need: u64) -> Option<u64>
+fn edges_need(set: &PairSet, edges: &Edges<'_>, others: &Edges<'_>, need: u64) -> Option<u64>
     ensures { IsNeed set.now (OneOf edges.now (λ e. OneOf others.now (Meets e))) need result }
 {
     let mut need = need;
-    'edges: for edge in edges {
-        need = ends_need(set, edge, others, need)?;
+    'edges: for place in 0..edges.len() {
+        let edge = edges.edge(place);
+        need = ends_need(set, &edge, others, need)?;
     }
     Some(need)
 }
@@ -113,7 +117,7 @@ pub fn stride_need(
     related: &PairSet,
     n: &Net,
     set: &PairSet,
-    edges: &[Edge],
+    edges: &Edges<'_>,
     calls: &[Call],
     b: u32,
     need: u64,
@@ -121,6 +125,7 @@ pub fn stride_need(
     requires { b < states n.now }
     ensures { IsNeed set.now (StridesBy (Marked (marked related.now)) edges.now calls.now n.now b) need result }
 {
-    let need = edges_need(set, edges, n.edges(b), need)?;
+    let others = n.edges(b);
+    let need = edges_need(set, edges, &others, need)?;
     calls_need(related, set, calls, n.calls(b), need)
 }

@@ -4,4 +4,4 @@ use Rattle.xs_closed.proofs.LeadLemmas.{strode_on}
 use Rattle.xs_closed.proofs.spread.stride.Goals as goal
 
 pub returns-clause-ok : goal.returns-clause-ok
-returns-clause-ok c = strode_on (Marked (marked c.args.related.now)) c.args.m.now c.args.n.now c.args.at.first c.args.at.second _ _ _ _ c.edges.ensures.value c.edges-2.ensures.value c.calls.ensures.value c.calls-2.ensures.value c.in_ok-visit_boths.ensures.ok c.in_ok-visit_calls.ensures.ok
+returns-clause-ok c = strode_on (Marked (marked c.args.related.now)) c.args.m.now c.args.n.now c.args.at.first c.args.at.second _ _ _ _ c.edges-edges.ensures.value c.edges-others.ensures.value c.calls.ensures.value c.calls-2.ensures.value c.in_ok-visit_boths.ensures.ok c.in_ok-visit_calls.ensures.ok

@@ -5,5 +5,5 @@ use Rattle.xs_closed.proofs.visits.visit_ends.Given as goal
 abbrev pub invariant-others : goal.invariant-others
 invariant-others l = record {
   listed : IsListed l.set l.pairs.items;
-  more : Adds (OneOf (take l.other-index l.others) (Meets l.edge)) l.initial.set l.initial.pairs.items l.set l.pairs.items;
+  more : Adds (OneOf (take l.place l.others) (Meets l.edge)) l.initial.set l.initial.pairs.items l.set l.pairs.items;
 }

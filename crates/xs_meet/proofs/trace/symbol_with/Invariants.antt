@@ -3,4 +3,4 @@ use Rattle.xs_meet.specs.Searches.{ReadsWith}
 use Rattle.xs_meet.proofs.trace.symbol_with.Given as goal
 
 abbrev pub invariant-others : goal.invariant-others
-invariant-others l = record { none : (x : ℕ) → ReadsWith l.edge (take l.other-index l.others) l.to x → ⊥ }
+invariant-others l = record { none : (x : ℕ) → ReadsWith l.edge (take l.place l.others) l.to x → ⊥ }

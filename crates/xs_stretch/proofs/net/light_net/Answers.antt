@@ -24,4 +24,4 @@ returns-clause-net c =
     let weights = c.args.site.now.tables.now.weights in
     let count : c.args.weight + 1 ≡ suc c.args.weight = omega arith in
     let all = subst (λ (ts : List Task). AreAllLaid g weights None c.args.part.rule c.args.part.start (part_items g c.args.part) (record { before = 0; at = 1 }) c.in_ok-net.net ts c.lay_items.new.net c.lay_items.new.tasks.items c.in_ok-last.last) c.new-tasks.ensures.items c.in_ok-last.ensures in
-    net_numbered g c.requires.site.built weights c.args.part c.requires.part c.args.weight c.requires.weighs c.requires.light c.in_ok-net.net c.lay_items.new.net c.lay_tasks.new.net c.set_final.new.self c.lay_items.new.tasks.items c.in_ok-last.last (subst (λ (n : ℕ). IsBlank n c.in_ok-net.net) count c.in_ok-net.ensures.blank) c.in_ok-net.ensures.start all c.in_ok-lay_tasks.ensures c.in_ok-set_final.ensures.ok
+    rw c.in_ok-done.ensures (net_numbered g c.requires.site.built weights c.args.part c.requires.part c.args.weight c.requires.weighs c.requires.light c.in_ok-net.net c.lay_items.new.net c.lay_tasks.new.net c.set_final.new.self c.lay_items.new.tasks.items c.in_ok-last.last (subst (λ (n : ℕ). IsBlank n c.in_ok-net.net) count c.in_ok-net.ensures.blank) c.in_ok-net.ensures.start all c.in_ok-lay_tasks.ensures c.in_ok-set_final.ensures.ok)

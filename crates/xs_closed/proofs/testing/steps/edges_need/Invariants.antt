@@ -4,4 +4,4 @@ use Rattle.xs_closed.specs.Testing.{Raises}
 use Rattle.xs_closed.proofs.testing.steps.edges_need.Given as goal
 
 abbrev pub invariant-edges : goal.invariant-edges
-invariant-edges l = Raises l.set (OneOf (take l.edge-index l.edges) (λ e. OneOf l.others (Meets e))) l.fn.need l.need
+invariant-edges l = Raises l.set (OneOf (take l.place l.edges) (λ e. OneOf l.others (Meets e))) l.fn.need l.need

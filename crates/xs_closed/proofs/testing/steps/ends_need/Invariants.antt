@@ -4,4 +4,4 @@ use Rattle.xs_closed.specs.Testing.{Raises}
 use Rattle.xs_closed.proofs.testing.steps.ends_need.Given as goal
 
 abbrev pub invariant-others : goal.invariant-others
-invariant-others l = Raises l.set (OneOf (take l.other-index l.others) (Meets l.edge)) l.fn.need l.need
+invariant-others l = Raises l.set (OneOf (take l.place l.others) (Meets l.edge)) l.fn.need l.need

@@ -6,5 +6,5 @@ abbrev pub invariant-edges : goal.invariant-edges
 invariant-edges l = record {
   cells : l.pairs.cells ≡ l.initial.pairs.cells;
   fits : Fits l.self l.pairs;
-  more : Extends (Among (take l.edge-index l.edges) (λ e. Among l.others (λ f. Meets e f l.from))) l.initial.self l.self;
+  more : Extends (Among (take l.place l.edges) (λ e. Among l.others (λ f. Meets e f l.from))) l.initial.self l.self;
 }

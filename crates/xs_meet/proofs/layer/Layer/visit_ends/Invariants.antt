@@ -6,5 +6,5 @@ abbrev pub invariant-others : goal.invariant-others
 invariant-others l = record {
   cells : l.pairs.cells ≡ l.initial.pairs.cells;
   fits : Fits l.self l.pairs;
-  more : Extends (Among (take l.other-index l.others) (λ f. Meets l.edge f l.from)) l.initial.self l.self;
+  more : Extends (Among (take l.place l.others) (λ f. Meets l.edge f l.from)) l.initial.self l.self;
 }
