@@ -22,5 +22,6 @@ pub fn run_of(alloc: Global, range: (u32, u32)) -> Result<Net, Memory>
     net.pass(last, first)?;
     net.set_start(first);
     net.set_final(last)?;
-    net.finish()
+    let made = net.finish()?;
+    Ok(made)
 }
