@@ -1,5 +1,5 @@
 -- The front and the rest of a cut are parts, with nets where all rules are light.
-use Rattle.std.proofs.Common.{ℕ, ◌<◌, ◌≤◌, List, length, sym, ◌∙◌, arith}
+use Rattle.std.proofs.Common.{ℕ, ◌<◌, ◌≤◌, List, length, sym, ◌∙◌, arith, Result, Ok, Err, IfOk, Option, None, Some, IfSome}
 use Rattle.std.specs.List.{slice_range}
 use Rattle.xs_auto.specs.Nets.{Graph}
 use Rattle.xs_auto.specs.Nests.{Group}
@@ -7,8 +7,12 @@ use Rattle.xs_gram.specs.Grammar.{Grammar}
 use Rattle.xs_gram.specs.Cuts.{CutsAt, CutsAreOne}
 use Rattle.xs_gram.specs.Fences.{spread}
 use Rattle.xs_gram.specs.Sound.{IsBuilt}
+use Rattle.xs_gram.specs.Suspects.{IsHorizontal}
 use Rattle.xs_gram.proofs.Cuts.{cut_level}
 use Rattle.xs_check_laws.specs.Acceptance.{IsLight}
+use Rattle.xs_class.specs.declared.memory.Memory.{Memory}
+use Rattle.xs_meet.specs.declared.overlap.Overlap.{Overlap}
+use Rattle.xs_meet.specs.Shared.{AreOverlapOver}
 use Rattle.xs_stretch.specs.declared.part.Part.{Part}
 use Rattle.xs_stretch.specs.Nets.{IsNumbered, IsNetOf, IsNestOf}
 use Rattle.xs_stretch.specs.Parts.{IsPart, part_items, AreLight}
@@ -53,3 +57,24 @@ module _ (g : Grammar) (built : IsBuilt g) (p c start end : ℕ) (lt : p < lengt
         front = accepts nest is_nest loose tame (record { rule = p; start = start; end = c }) front_part nets.front front;
         rest = accepts nest is_nest loose tame (record { rule = p; start = c; end = end }) rest_part nets.rest rest;
       }
+
+-- what a search over the nets of a cut finds shows that it is a suspect
+pub overlap_shows : (g : Grammar) (nest : List Group) (p c : ℕ) (nets : CutNets) → p < length g.rules → 0 < c → c < length (spread g p) → AreCutNets g nest p c nets → (o : Result (Option Overlap) Memory)
+    → IfOk o (λ found. IfSome found (λ w. AreOverlapOver nest nets.front nets.rest w.x w.a w.y)) → IfOk o (λ found. IfSome found (λ w. IsHorizontal g p c w.x w.a w.y))
+overlap_shows g nest p c nets lt low high are (Ok (Some w)) over = record {
+  rule = lt;
+  low = low;
+  high = high;
+  front = are.front_items;
+  rest = are.rest_items;
+  cut = are.cut;
+  overlap = record {
+    some = over.some;
+    short_front = (are.front.words _).0 over.short_front;
+    long_front = (are.front.words _).0 over.long_front;
+    short_rest = (are.rest.words _).0 over.short_rest;
+    long_rest = (are.rest.words _).0 over.long_rest;
+  };
+}
+overlap_shows g nest p c nets lt low high are (Ok None) over = over
+overlap_shows g nest p c nets lt low high are (Err e) over = over
