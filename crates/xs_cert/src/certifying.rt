@@ -50,8 +50,20 @@ pub fn certify<'t>(alloc: Global, two: &'t Two, bytes: &[u8]) -> Result<Accepted
         return Err(CertFault::CertBad { line });
     }
     certified_is_accepted();
+    Ok(shown(two))
+}
+
+/// The two grammars, which were shown to be accepted.
+fn shown(two: &Two) -> Accepted<'_>
+    requires text { IsBuilt two.now.text }
+    requires xml { IsBuilt two.now.xml }
+    requires accepted { IsAccepted two.now.text two.now.xml }
+    ensures two { result ≡ two.now }
+    ensures unique_text { IsUnique two.now.text }
+    ensures unique_xml { IsUnique two.now.xml }
+{
     accepted_is_unique();
-    Ok(Accepted::of(two))
+    Accepted::of(two)
 }
 
 /// The first line after the longest good front, counted from 1, of bytes that are no certificate;
