@@ -22,7 +22,7 @@ mod sets;
 
 pub use automaton::positions;
 pub use fault::RegexFault;
-pub use matching::{matches, some_marked};
+pub use matching::{Matcher, matches, some_marked};
 pub use position::{Classes, Follows, Numbers, Position};
 pub use read::{one_regex, read_regex};
 pub use regex::Regex;

@@ -17,23 +17,45 @@ pub fn matches(alloc: Global, r: &Regex, word: &Word) -> Result<bool, Memory>
     ensures { IfOk result (λ b. IsTrue b ↔ Matches r.now word.now) }
 {
     let p = positions(alloc, r)?;
-    let answer = goes_by(alloc, &p, word)?;
-    Ok(answer)
+    let mut matcher = Matcher::new(alloc);
+    matcher.accepts(&p, word.as_slice())
 }
 
-/// Whether the automaton accepts the word.
-fn goes_by(alloc: Global, p: &Position, word: &Word) -> Result<bool, Memory>
-    requires { IsWellFormed p.now }
-    ensures { IfOk result (λ b. IsTrue b ↔ Accepts p.now word.now) }
-{
-    let count = p.classes.len();
-    let mut may = vec![in alloc; false; count]?;
-    let mut reached = vec![in alloc; false; count]?;
-    let answer = goes(p, word.as_slice(), &mut may, &mut reached);
-    Ok(answer)
+/// A run of an automaton over a word, symbol by symbol: flags for the positions that it has reached
+/// and for those that may come next. Its memory serves one word after another, of any automata.
+#[derive(Drop)]
+pub struct Matcher {
+    may: Vec<bool>,
+    reached: Vec<bool>,
 }
 
-/// The same, with flags for the positions that may come next, and for those that are reached.
+impl Matcher {
+    /// A matcher without memory.
+    pub fn new(alloc: Global) -> Self {
+        Matcher {
+            may: Vec::new(alloc),
+            reached: Vec::new(alloc),
+        }
+    }
+
+    /// Whether the automaton accepts the word, in time at most the product of the word's length and
+    /// the square of the number of positions.
+    ///
+    /// `Memory` comes only where there is no memory for two flags for each position; what has been
+    /// reserved for an automaton of as many positions is used again.
+    pub fn accepts(&mut self, p: &Position, word: &[Sym]) -> Result<bool, Memory>
+        requires { IsWellFormed p.now }
+        ensures { IfOk result (λ b. IsTrue b ↔ Accepts p.now word.now) }
+    {
+        let count = p.classes.len();
+        self.may.resize(count, false)?;
+        self.reached.resize(count, false)?;
+        Ok(goes(p, word, &mut self.may, &mut self.reached))
+    }
+}
+
+/// Whether the automaton accepts the word, by flags for the positions that may come next, and for
+/// those that are reached.
 fn goes(p: &Position, word: &[Sym], may: &mut [bool], reached: &mut [bool]) -> bool
     requires formed { IsWellFormed p.now }
     requires room { length may.old ≡ length p.now.classes }
