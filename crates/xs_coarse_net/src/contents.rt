@@ -1,5 +1,4 @@
-ghost use Rattle.std.specs.Prelude.{◌≡◌, ℕ, ◌+◌, ◌∷◌, [], ◌<◌, length, IfOk, OnOk};
-ghost use Rattle.xs_gram.specs.declared.parts.GItem.TheVariants.{Fixed};
+ghost use Rattle.std.specs.Prelude.{◌+◌, ◌<◌, length, IfOk, OnOk};
 ghost use Rattle.xs_gram.specs.Fences.{spread};
 ghost use Rattle.xs_coarse.specs.Covers.{CoversGroups};
 ghost use Rattle.xs_coarse_net.specs.Contents.{nest_of, HasContentsBefore};
@@ -15,7 +14,7 @@ use crate::whole::Whole;
 use std::alloc::Global;
 use xs_class::Sym;
 use xs_coarse::Coarse;
-use xs_gram::GItem;
+use xs_gram::fence_symbol;
 use xs_stretch::Part;
 
 /// A group: the two symbols of its fence, and the cover of what is inside.
@@ -102,15 +101,4 @@ fn add_content(
     let cover = cover_part(kept, alloc, site, whole, part)?;
     contents.push(Content { left, right, cover })?;
     Ok(())
-}
-
-/// The symbol of an item that is a fixed word of one symbol.
-fn fence_symbol(item: &GItem) -> Sym
-    requires { (s : ℕ) × (item.now ≡ Fixed (s ∷ [])) }
-    ensures { item.now ≡ Fixed (result ∷ []) }
-{
-    match item {
-        GItem::Fixed(word) => word.at(0),
-        _ => unreachable!(),
-    }
 }

@@ -1,5 +1,5 @@
 ghost use Rattle.std.specs.Prelude.{◌≡◌, ◌+◌, ℕ, ◌<◌, ◌≤◌, true, false, length, IfOk, OnOk};
-ghost use Rattle.xs_gram.specs.Grammar.{items, rule_of, slots};
+ghost use Rattle.xs_gram.specs.Grammar.{items, rule_of};
 ghost use Rattle.xs_gram.specs.Sound.{IsSound};
 ghost use Rattle.xs_pair.specs.Sound.{IsSoundPair};
 ghost use Rattle.xs_cover.specs.Prices.{AreLow, AreTrees, AreKids, IsClosed};
@@ -9,23 +9,9 @@ use crate::prices::{MOST, Prices};
 use crate::words::least_word;
 use std::alloc::Global;
 use xs_class::{Memory, Side, Word};
-use xs_gram::{GItem, Gram};
+use xs_gram::{GItem, Gram, slot_count};
 use xs_pair::Two;
 use xs_tree::Builder;
-
-/// The number of slots of the items.
-fn slot_count(items: &[GItem]) -> usize
-    ensures { result ≡ length (slots items.now) }
-{
-    let mut count = 0;
-    'items: for item in items {
-        match item {
-            GItem::Fixed(_) | GItem::Skip { .. } => (),
-            GItem::Term { .. } | GItem::Non { .. } => count += 1,
-        }
-    }
-    count
-}
 
 /// Puts the numbers of trees at the slots of a rule's items, where the first trees are those of the
 /// terminals, and the numbers of those of the nonterminals are given.

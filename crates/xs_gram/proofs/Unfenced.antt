@@ -1,10 +1,10 @@
 -- Without fences each stretch is level, and each regex avoids them.
-use Rattle.std.proofs.Common.{◌≡◌, ℕ, suc, ◌<◌, List, [], ◌∷◌, ◌++◌, length, refl, sym, ap, ◌∙◌, append_assoc, append-nil, slice_get, Some, arith}
+use Rattle.std.proofs.Common.{ℕ, List, [], ◌∷◌, refl, arith}
 use Rattle.xs_regex.specs.declared.regex.Regex.{Regex}
 use Rattle.xs_regex.specs.declared.regex.Regex.TheVariants as R
 use Rattle.xs_gram.specs.declared.parts.GItem.{GItem}
 use Rattle.xs_gram.specs.declared.parts.GItem.TheVariants.{Fixed, Term, Non, Skip}
-use Rattle.xs_gram.specs.Fences.{IsFence, IsPlain, IsLevel, level_none, level_then, AvoidsFences, after_word, split_word, spread_items}
+use Rattle.xs_gram.specs.Fences.{IsFence, IsPlain, IsLevel, level_none, level_then, AvoidsFences}
 
 pub no_fence : {l r : ℕ} → IsFence [] l r → ⊥
 no_fence f = let h = f.is in omega (arith, h.1)

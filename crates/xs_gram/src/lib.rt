@@ -17,6 +17,7 @@ mod body;
 mod components;
 mod cutting;
 mod gram;
+mod items;
 mod laws;
 mod parts;
 mod places;
@@ -26,6 +27,7 @@ mod suspect;
 pub use components::Comps;
 pub use cutting::Cut;
 pub use gram::Gram;
+pub use items::{fence_symbol, push_symbol, slot_count};
 pub use laws::{cuts_are_one, printed_has_tree, prints_normal};
 pub use parts::{
     Fences, GItem, GItems, GramParts, Ignorable, Partners, Regexes, RulePart, Rules, SkipPart,

@@ -1,10 +1,10 @@
 ghost use Rattle.std.specs.Prelude.{◌≡◌, ◌<◌, ◌^◌, ◌++◌, ◌∷◌, ℕ, List, [], length, reverse, IfOk, OnOk};
 ghost use Rattle.xs_gram.specs.declared.parts.GItem.{GItem as Item};
-ghost use Rattle.xs_gram.specs.declared.parts.GItem.TheVariants as G;
 ghost use Rattle.xs_gram.specs.Fences.{is_left, is_right, is_fence, after_word, split_word, spread_items, spread};
 ghost use Rattle.xs_gram.specs.Spreading.{opens, closes, waiting_from, partner_from, partners, AreSpreads, ArePartners};
 
 use crate::body::Body;
+use crate::items::push_symbol;
 use crate::{GItem, GItems, Partners};
 use std::alloc::Global;
 use std::mem;
@@ -49,16 +49,6 @@ fn push_word(alloc: Global, word: &mut Word, out: &mut Vec<GItem>) -> Result<(),
         let whole = mem::replace(word, Word::new(alloc));
         out.push(GItem::Fixed(whole))?;
     }
-    Ok(())
-}
-
-/// Appends a fixed word of one symbol.
-fn push_symbol(alloc: Global, symbol: Sym, out: &mut Vec<GItem>) -> Result<(), Memory>
-    ensures { OnOk result (out.new.items ≡ out.old.items ++ G.Fixed (symbol ∷ []) ∷ []) }
-{
-    let mut word = Word::new(alloc);
-    word.push(symbol)?;
-    out.push(GItem::Fixed(word))?;
     Ok(())
 }
 

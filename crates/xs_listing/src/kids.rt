@@ -11,22 +11,8 @@ use crate::rows::{FirstAlternative, first_step};
 use xs_class::{Memory, Word};
 use xs_forest::{Alt, Forest};
 use xs_forest_laws::SpanKey;
-use xs_gram::{GItem, Gram};
+use xs_gram::{GItem, Gram, slot_count};
 use xs_tree::Builder;
-
-/// The number of slots of the items.
-fn slot_count(items: &[GItem]) -> usize
-    ensures { result ≡ length (slots items.now) }
-{
-    let mut count = 0;
-    'items: for item in items {
-        match item {
-            GItem::Fixed(_) | GItem::Skip { .. } => (),
-            GItem::Term { .. } | GItem::Non { .. } => count += 1,
-        }
-    }
-    count
-}
 
 /// A new leaf with the word of a stretch of the document.
 fn add_leaf(doc: &Word, step: &FirstAlternative, builder: &mut Builder) -> Result<u64, Memory>

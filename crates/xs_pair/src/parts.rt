@@ -1,5 +1,4 @@
-ghost use Rattle.std.specs.Prelude.{◌≡◌, ◌++◌, ◌∷◌, ◌<◌, [], IfOk, OnOk};
-ghost use Rattle.xs_gram.specs.declared.parts.GItem.TheVariants as G;
+ghost use Rattle.std.specs.Prelude.{◌≡◌, ◌++◌, ◌<◌, [], IfOk, OnOk};
 ghost use Rattle.xs_gram.specs.Building.{EachOf, IsFit};
 ghost use Rattle.xs_sheet.specs.Grammar.{HasRegex, HaveRegexes};
 ghost use Rattle.xs_class.specs.Ordered.{place_of};
@@ -13,8 +12,8 @@ use crate::regex::copied_regex;
 use crate::slotted::Slotted;
 use crate::{Directory, Mark};
 use std::alloc::Global;
-use xs_class::{ATTR_END, Memory, Names, Side, Sym, Text, Word, word_of};
-use xs_gram::{GItem, GItems, GramParts, Regexes, RulePart, Rules, SkipPart, Skips};
+use xs_class::{ATTR_END, Memory, Names, Side, Sym, Text, word_of};
+use xs_gram::{GItem, GItems, GramParts, Regexes, RulePart, Rules, SkipPart, Skips, push_symbol};
 use xs_regex::Regex;
 use xs_sheet::{Item, Sheet, Unit};
 
@@ -38,15 +37,6 @@ fn mark_number(names: &Names, name: &Text) -> u32
         Some(number) => number,
         None => 0,
     }
-}
-
-fn push_symbol(alloc: Global, symbol: Sym, out: &mut Vec<GItem>) -> Result<(), Memory>
-    ensures { OnOk result (out.new.items ≡ out.old.items ++ G.Fixed (symbol ∷ []) ∷ []) }
-{
-    let mut word = Word::new(alloc);
-    word.push(symbol)?;
-    out.push(GItem::Fixed(word))?;
-    Ok(())
 }
 
 /// The regex of a terminal, once more.

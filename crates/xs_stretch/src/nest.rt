@@ -1,5 +1,4 @@
-ghost use Rattle.std.specs.Prelude.{◌≡◌, ℕ, ◌+◌, ◌∷◌, [], ◌<◌, length, IfOk, IfErr, OnOk};
-ghost use Rattle.xs_gram.specs.declared.parts.GItem.TheVariants.{Fixed};
+ghost use Rattle.std.specs.Prelude.{◌+◌, ◌<◌, length, IfOk, IfErr, OnOk};
 ghost use Rattle.xs_gram.specs.Fences.{spread};
 ghost use Rattle.xs_gram.specs.Loose.{AreComponents};
 ghost use Rattle.xs_gram.specs.Sound.{IsBuilt};
@@ -14,8 +13,7 @@ use crate::site::Site;
 use crate::{LooseFault, Part, Tables};
 use std::alloc::Global;
 use xs_auto::Nest;
-use xs_class::Sym;
-use xs_gram::{Comps, GItem, Gram};
+use xs_gram::{Comps, Gram, fence_symbol};
 
 /// The nest of a grammar's groups, each with the net of the stretch inside; by rule, and in a rule by
 /// the place of the left fence, as their numbers go.
@@ -91,15 +89,4 @@ fn add_group(
     let content = net_by(alloc, site.g, site.comps, site.tables, &inside)?;
     nest.group(left, right, content)?;
     Ok(())
-}
-
-/// The symbol of an item that is a fixed word of one symbol.
-fn fence_symbol(item: &GItem) -> Sym
-    requires { (s : ℕ) × (item.now ≡ Fixed (s ∷ [])) }
-    ensures { item.now ≡ Fixed (result ∷ []) }
-{
-    match item {
-        GItem::Fixed(word) => word.at(0),
-        _ => unreachable!(),
-    }
 }

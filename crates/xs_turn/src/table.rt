@@ -10,23 +10,9 @@ ghost use Rattle.xs_turn.specs.Tables.{AreSlotCounts, AreNodeTrees, AreNodeKids,
 
 use std::alloc::Global;
 use xs_class::{Memory, Sym};
-use xs_gram::{GItem, Gram};
+use xs_gram::{GItem, Gram, slot_count};
 use xs_parse_table::{Node, ParseTable};
 use xs_tree::{Builder, Tree};
-
-/// The number of slots of the items.
-fn slot_count(items: &[GItem]) -> usize
-    ensures { result ≡ length (slots items.now) }
-{
-    let mut count = 0;
-    'items: for item in items {
-        match item {
-            GItem::Fixed(_) | GItem::Skip { .. } => (),
-            GItem::Term { .. } | GItem::Non { .. } => count += 1,
-        }
-    }
-    count
-}
 
 /// The number of slots of each production, counted once a grammar.
 fn slot_counts(alloc: Global, g: &Gram) -> Result<Vec<usize>, Memory>

@@ -1,6 +1,6 @@
 use Rattle.std.proofs.Common.{◌≡◌, ◌+◌, ◌≤◌, length, drop}
 use Rattle.xs_gram.specs.Grammar.{slots}
-use Rattle.xs_turn.proofs.table.slot_count.Given as goal
+use Rattle.xs_gram.proofs.items.slot_count.Given as goal
 
 abbrev pub invariant-items : goal.invariant-items
 invariant-items l = record {
