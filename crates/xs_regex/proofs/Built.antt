@@ -52,7 +52,7 @@ of_bare Word Sure b to back sure = record {
 pub empty_is : (Sure : Type 0) → IsAutomaton (λ w. w ≡ []) [] Sure (bare true)
 empty_is Sure = of_bare (λ w. w ≡ []) Sure true (λ t. refl) (λ w e. (e, refl)) (λ s. refl)
 
-no_lead : (class : List (ℕ × ℕ)) (j k : ℕ) → Leads (of_class class) j k → ⊥
+pub no_lead : (class : List (ℕ × ℕ)) (j k : ℕ) → Leads (of_class class) j k → ⊥
 no_lead class zero k l = contains_nil k l
 no_lead class (suc j) k l = l
 

@@ -36,19 +36,19 @@ numbers_left n xs ys zs e k c = rw e (Contains-append_left _ _ k c)
 numbers_right : (n : ℕ) (xs ys zs : List ℕ) → zs ≡ xs ++ shift n ys → (k : ℕ) → Contains ys k → Contains zs (n + k)
 numbers_right n xs ys zs e k c = rw e (Contains-append_right _ _ _ (shift_contains n ys k c))
 
-leads_split : {p q r : Position} → IsWellFormed p → IsEither p q r → (j k : ℕ) → Leads r j k → Leads p j k ⊎ ((i : ℕ) × (m : ℕ) × (j ≡ length p.classes + i) × (k ≡ length p.classes + m) × Leads q i m)
-leads_split {p} {q} {r} f t j k l = elim (at_split (λ row. Contains row k) (length p.classes) p.follow _ j f.rows (rw t.follow at l)) [
+pub either_leads : {p q r : Position} → IsWellFormed p → IsEither p q r → (j k : ℕ) → Leads r j k → Leads p j k ⊎ ((i : ℕ) × (m : ℕ) × (j ≡ length p.classes + i) × (k ≡ length p.classes + m) × Leads q i m)
+either_leads {p} {q} {r} f t j k l = elim (at_split (λ row. Contains row k) (length p.classes) p.follow _ j f.rows (rw t.follow at l)) [
   | inl a ↦ inl a
   | inr b ↦ let s = row_shift (length p.classes) q.follow b.0 k b.2 in inr (b.0, s.0, b.1, s.1, s.2)
 ]
 
-either_left : {p q r : Position} → IsEither p q r → Embeds (λ k. k) p r
+pub either_left : {p q r : Position} → IsEither p q r → Embeds (λ k. k) p r
 either_left {p} {q} {r} t = record {
   leads = λ j k l. rw t.follow (at_left (λ row. Contains row k) p.follow _ j l);
   has = λ k s h. rw t.classes (at_left (λ class. Has class s) p.classes q.classes k h);
 }
 
-either_right : {p q r : Position} → IsWellFormed p → IsEither p q r → Embeds (λ k. length p.classes + k) q r
+pub either_right : {p q r : Position} → IsWellFormed p → IsEither p q r → Embeds (λ k. length p.classes + k) q r
 either_right {p} {q} {r} f t = record {
   leads = λ j k l. rw t.follow (at_right (λ row. Contains row (length p.classes + k)) (length p.classes) p.follow _ j f.rows (shift_row (length p.classes) q.follow j k l));
   has = λ k s h. rw t.classes (at_right (λ class. Has class s) (length p.classes) p.classes q.classes k refl h);
@@ -59,7 +59,7 @@ either_run {p} {q} {r} f t (begins {k = k} s c h is) = elim (numbers_split (leng
   | inl a ↦ inl (begins s a (has_left p q r t.classes k s (f.first_in k a) h) is)
   | inr b ↦ inr (b.0, b.1, begins s b.2 (has_right p q r t.classes k b.0 s b.1 h) is)
 ]
-either_run {p} {q} {r} f t (goes {k = k} v j s run l h is) = elim (leads_split f t j k l) [
+either_run {p} {q} {r} f t (goes {k = k} v j s run l h is) = elim (either_leads f t j k l) [
   | inl a ↦ elim (either_run f t run) [
     | inl one ↦ inl (goes v j s one a (has_left p q r t.classes k s (f.follow_in j k a) h) is)
     | inr two ↦ absurd (omega (arith, two.1, at_within (λ row. Contains row k) p.follow j a, f.rows))
@@ -107,7 +107,7 @@ either_formed {p} {q} {r} f g t =
         | inl h ↦ omega (arith, f.last_in k h)
         | inr h ↦ omega (arith, h.1, g.last_in h.0 h.2)
       ];
-      follow_in = λ j k l. elim (leads_split f t j k l) [
+      follow_in = λ j k l. elim (either_leads f t j k l) [
         | inl h ↦ omega (arith, f.follow_in j k h)
         | inr h ↦ omega (arith, h.3, g.follow_in h.0 h.1 h.4)
       ];

@@ -6,6 +6,7 @@ pub mod Choice
 pub mod Copies
 pub mod Flags
 pub mod Fronts
+pub mod Links
 pub mod Meanings
 pub mod Merging
 pub mod Names
@@ -17,4 +18,5 @@ pub mod Rows
 pub mod Runs
 pub mod Scanning
 pub mod Sequence
+pub mod Shapes
 pub mod Words

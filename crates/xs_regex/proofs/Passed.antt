@@ -8,8 +8,10 @@ use Rattle.xs_regex.specs.Automaton.{Accepts, IsWellFormed, ClassesHaveMembers}
 use Rattle.xs_regex.specs.Matches.{InTurn, OfEither, Matches}
 use Rattle.xs_regex.specs.Parts.{IsThen, IsEither, IsTrim, IsAutomaton}
 use Rattle.xs_regex.specs.Size.{sets, size, IsBounded}
+use Rattle.xs_regex.specs.Links.{Shape, turn, choice, shape, HasLinks}
 use Rattle.xs_regex.proofs.Built.{restated, itself, then_is, either_is}
 use Rattle.xs_regex.proofs.Places.{length-sets}
+use Rattle.xs_regex.proofs.Shapes.{turn_again, choice_again}
 
 -- how many nodes the regex has, which bounds the calls
 abbrev pub nodes : Regex → ℕ
@@ -28,9 +30,13 @@ pub record IsPassed (Join : (List ℕ → Type 0) → (List ℕ → Type 0) → 
   pub classes_are : all.classes ++ later ≡ classes
   pub sure : Sure → (ClassesHaveMembers all → IsTrim all) × SureRest
 
+-- the positions of what was passed, joined with those of the rest, are those of the whole
+abbrev pub ArePassed : (Shape → Shape → Shape) → Shape → Position → Shape → Type 0
+ArePassed join whole all rest = (s : Shape) × HasLinks s all × ((p : Position) → HasLinks (join s rest) p → HasLinks whole p)
+
 -- what was passed of a regex joined so with another, and what is left
-abbrev pub IsPassedOf : ((List ℕ → Type 0) → (List ℕ → Type 0) → List ℕ → Type 0) → Regex → Regex → Position → Regex → Type 0
-IsPassedOf Join a b all rest = (nodes rest ≤ nodes b) × IsPassed Join (Join (Matches a) (Matches b)) (sets a ++ sets b) (IsBounded a × IsBounded b) all (Matches rest) (sets rest) (IsBounded rest)
+abbrev pub IsPassedOf : ((List ℕ → Type 0) → (List ℕ → Type 0) → List ℕ → Type 0) → (Shape → Shape → Shape) → Regex → Regex → Position → Regex → Type 0
+IsPassedOf Join join a b all rest = (nodes rest ≤ nodes b) × IsPassed Join (Join (Matches a) (Matches b)) (sets a ++ sets b) (IsBounded a × IsBounded b) all (Matches rest) (sets rest) (IsBounded rest) × ArePassed join (join (shape a) (shape b)) all (shape rest)
 
 pub passed_size : (a b rest : Regex) (all : Position) → all.classes ++ sets rest ≡ sets a ++ sets b → length all.classes + size rest ≡ size a + size b
 passed_size a b rest all e =
@@ -91,3 +97,16 @@ turn_ended {all = all} h x t = restated h.sound h.complete h.classes_are h.sure 
 
 pub either_ended : {Word W : List ℕ → Type 0} {classes d : List (List (ℕ × ℕ))} {Sure T : Type 0} {all last r : Position} → IsPassed OfEither Word classes Sure all W d T → IsAutomaton W d T last → IsEither all last r → IsAutomaton Word classes Sure r
 either_ended {all = all} h x t = restated h.sound h.complete h.classes_are h.sure (either_is (itself all h.formed) x t)
+
+-- the positions, at the start, after one part more and at the end
+pub places_begun : (join : Shape → Shape → Shape) (s t : Shape) (p : Position) → HasLinks s p → ArePassed join (join s t) p t
+places_begun join s t p h = (s, h, λ q k. k)
+
+pub turn_places : (whole s t : Shape) (all next : Position) → ArePassed turn whole all (turn s t) → ((u : Shape) → HasLinks u all → HasLinks (turn u s) next) → ArePassed turn whole next t
+turn_places whole s t all next h f = (turn h.0 s, f h.0 h.1, λ q k. h.2 q (turn_again h.0 s t q k))
+
+pub choice_places : (whole s t : Shape) (all next : Position) → ArePassed choice whole all (choice s t) → ((u : Shape) → HasLinks u all → HasLinks (choice u s) next) → ArePassed choice whole next t
+choice_places whole s t all next h f = (choice h.0 s, f h.0 h.1, λ q k. h.2 q (choice_again h.0 s t q k))
+
+pub places_ended : (join : Shape → Shape → Shape) (whole t : Shape) (all r : Position) → ArePassed join whole all t → ((u : Shape) → HasLinks u all → HasLinks (join u t) r) → HasLinks whole r
+places_ended join whole t all r h f = h.2 r (f h.0 h.1)

@@ -12,31 +12,31 @@ use Rattle.xs_regex.proofs.Rows.{at_left, at_right, at_split, at_within, contain
 use Rattle.xs_regex.proofs.Runs.{Embeds, run_moved, on_moved, run_after, on_after, run_within, has_left, has_right, members_right}
 
 -- numbers that are added where a test holds
-added_split : (b : Bool) (xs ys : List ℕ) (k : ℕ) → Contains (xs ++ (if b then ys else [])) k → Contains xs k ⊎ (IsTrue b × Contains ys k)
+pub added_split : (b : Bool) (xs ys : List ℕ) (k : ℕ) → Contains (xs ++ (if b then ys else [])) k → Contains xs k ⊎ (IsTrue b × Contains ys k)
 added_split true xs ys k c = elim (Contains-append_cases xs ys k c) [ inl a ↦ inl a | inr h ↦ inr (refl, h) ]
 added_split false xs ys k c = elim (Contains-append_cases xs [] k c) [ inl a ↦ inl a | inr h ↦ absurd (contains_nil k h) ]
 
-added_right : (b : Bool) (xs ys : List ℕ) (k : ℕ) → IsTrue b → Contains ys k → Contains (xs ++ (if b then ys else [])) k
+pub added_right : (b : Bool) (xs ys : List ℕ) (k : ℕ) → IsTrue b → Contains ys k → Contains (xs ++ (if b then ys else [])) k
 added_right true xs ys k e c = Contains-append_right xs ys k c
 added_right false xs ys k e c = cc
 
-front_split : (b : Bool) (xs ys : List ℕ) (k : ℕ) → Contains ((if b then xs else []) ++ ys) k → (IsTrue b × Contains xs k) ⊎ Contains ys k
+pub front_split : (b : Bool) (xs ys : List ℕ) (k : ℕ) → Contains ((if b then xs else []) ++ ys) k → (IsTrue b × Contains xs k) ⊎ Contains ys k
 front_split true xs ys k c = elim (Contains-append_cases xs ys k c) [ inl a ↦ inl (refl, a) | inr h ↦ inr h ]
 front_split false xs ys k c = inr c
 
-front_left : (b : Bool) (xs ys : List ℕ) (k : ℕ) → IsTrue b → Contains xs k → Contains ((if b then xs else []) ++ ys) k
+pub front_left : (b : Bool) (xs ys : List ℕ) (k : ℕ) → IsTrue b → Contains xs k → Contains ((if b then xs else []) ++ ys) k
 front_left true xs ys k e c = Contains-append_left xs ys k c
 front_left false xs ys k e c = cc
 
-both_left : (a b : Bool) → IsTrue (a && b) → IsTrue a
+pub both_left : (a b : Bool) → IsTrue (a && b) → IsTrue a
 both_left true b e = refl
 both_left false b e = cc
 
-both_right : (a b : Bool) → IsTrue (a && b) → IsTrue b
+pub both_right : (a b : Bool) → IsTrue (a && b) → IsTrue b
 both_right true b e = e
 both_right false b e = cc
 
-both : (a b : Bool) → IsTrue a → IsTrue b → IsTrue (a && b)
+pub both : (a b : Bool) → IsTrue a → IsTrue b → IsTrue (a && b)
 both true b d e = e
 both false b d e = cc
 
@@ -80,13 +80,13 @@ then_right {p} {q} {r} f t = record {
   has = λ k s h. rw t.classes (at_right (λ class. Has class s) (length p.classes) p.classes q.classes k refl h);
 }
 
-across : {p q r : Position} → IsWellFormed p → IsThen p q r → (j : ℕ) → Contains p.last j → (k : ℕ) → Contains q.first k → Leads r j (length p.classes + k)
+pub across : {p q r : Position} → IsWellFormed p → IsThen p q r → (j : ℕ) → Contains p.last j → (k : ℕ) → Contains q.first k → Leads r j (length p.classes + k)
 across {p} {q} {r} f t j c k d =
     rw t.follow (at_left (λ row. Contains row (length p.classes + k)) t.rows _ j (t.linked.linked j (length p.classes + k) (rw f.rows (f.last_in j c)) c (shift_contains (length p.classes) q.first k d)))
 
-leads_split : {p q r : Position} → IsWellFormed p → IsThen p q r → (j k : ℕ) → Leads r j k →
+pub then_leads : {p q r : Position} → IsWellFormed p → IsThen p q r → (j k : ℕ) → Leads r j k →
     Leads p j k ⊎ (Contains p.last j × ((m : ℕ) × (k ≡ length p.classes + m) × Contains q.first m)) ⊎ ((i : ℕ) × (m : ℕ) × (j ≡ length p.classes + i) × (k ≡ length p.classes + m) × Leads q i m)
-leads_split {p} {q} {r} f t j k l = elim (at_split (λ row. Contains row k) (length p.classes) t.rows _ j (rows_length f t) (rw t.follow at l)) [
+then_leads {p} {q} {r} f t j k l = elim (at_split (λ row. Contains row k) (length p.classes) t.rows _ j (rows_length f t) (rw t.follow at l)) [
   | inl a ↦ elim (t.linked.only j k a) [
     | inl h ↦ inl h
     | inr h ↦ inr (inl (h.0, contains_shift (length p.classes) q.first k h.1))
@@ -117,7 +117,7 @@ then_run {p} {q} {r} {w} f t (begins {k = k} s c h is) = elim (first_split t k c
     run = begins s b.1.2 (has_right p q r t.classes k b.1.0 s b.1.1 h) is;
   }
 ]
-then_run {p} {q} {r} {w} f t (goes {k = k} v j s run l h is) = elim (leads_split f t j k l) [
+then_run {p} {q} {r} {w} f t (goes {k = k} v j s run l h is) = elim (then_leads f t j k l) [
   | inl a ↦ elim (then_run f t run) [
     | inl one ↦ inl (goes v j s one a (has_left p q r t.classes k s (f.follow_in j k a) h) is)
     | inr two ↦ absurd (omega (arith, two.place_is, at_within (λ row. Contains row k) p.follow j a, f.rows))
@@ -190,7 +190,7 @@ then_formed {p} {q} {r} f g t =
         | inl h ↦ omega (arith, f.last_in k h.1)
         | inr h ↦ omega (arith, h.1, g.last_in h.0 h.2)
       ];
-      follow_in = λ j k l. elim (leads_split f t j k l) [
+      follow_in = λ j k l. elim (then_leads f t j k l) [
         | inl h ↦ omega (arith, f.follow_in j k h)
         | inr (inl h) ↦ omega (arith, h.1.1, g.first_in h.1.0 h.1.2)
         | inr (inr h) ↦ omega (arith, h.3, g.follow_in h.0 h.1 h.4)

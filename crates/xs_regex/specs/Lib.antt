@@ -1,6 +1,7 @@
 pub mod Ascending
 pub mod Automaton
 pub mod Characters
+pub mod Links
 pub mod Marked
 pub mod Matches
 pub mod Meaning

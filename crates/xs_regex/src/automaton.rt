@@ -1,8 +1,9 @@
-ghost use Rattle.std.specs.Prelude.{◌≡◌, ◌+◌, ◌*◌, ◌≤◌, ◌++◌, ℕ, List, [], length, IfOk};
+ghost use Rattle.std.specs.Prelude.{◌≡◌, ◌+◌, ◌*◌, ◌≤◌, ◌++◌, ℕ, true, List, [], length, IfOk};
 ghost use Rattle.xs_regex.specs.Automaton.{Accepts, IsWellFormed, ClassesHaveMembers, EachEnds};
 ghost use Rattle.xs_regex.specs.Matches.{joined, Each, InTurn, OfEither, Repeats, Matches};
 ghost use Rattle.xs_regex.specs.Parts.{IsAutomaton, IsThen, IsEither};
 ghost use Rattle.xs_regex.specs.Size.{copies, times, size, sets, IsInOrder, IsBounded, HasMembers};
+ghost use Rattle.xs_regex.specs.Links.{Shape, bare_of, turn, choice, once_or_more, at_most_once, as_often, shape, HasLinks};
 ghost use Rattle.xs_regex.specs.declared.position.Position.{Position as AnyPosition};
 
 use crate::compose::{either, maybe, nothing, round, sequence, single};
@@ -23,6 +24,9 @@ pub fn positions(alloc: Global, r: &Regex) -> Result<Position, Memory>
     ensures sound { IfOk result (λ p. (w : List ℕ) → Accepts p w → Matches r.now w) }
     ensures complete { IfOk result (λ p. (w : List ℕ) → Matches r.now w → Accepts p w) }
 
+    // Which positions are first and last, and which follow another, is as in Glushkov's construction.
+    ensures links { IfOk result (HasLinks (shape r.now)) }
+
     // Where no class is empty, no position is a dead end.
     ensures members { IfOk result (λ p. HasMembers r.now → ClassesHaveMembers p) }
     ensures ends { IfOk result (λ p. IsBounded r.now → ClassesHaveMembers p → EachEnds p) }
@@ -40,7 +44,8 @@ pub fn positions(alloc: Global, r: &Regex) -> Result<Position, Memory>
 #[inline(never)]
 fn built(alloc: Global, r: &Regex) -> Result<Position, Memory>
     requires { size r.now ≤ 512 }
-    ensures { IfOk result (IsAutomaton (Matches r.now) (sets r.now) (IsBounded r.now)) }
+    ensures automaton { IfOk result (IsAutomaton (Matches r.now) (sets r.now) (IsBounded r.now)) }
+    ensures links { IfOk result (HasLinks (shape r.now)) }
 {
     match r {
         Regex::Empty => no_symbol(alloc),
@@ -55,7 +60,8 @@ fn built(alloc: Global, r: &Regex) -> Result<Position, Memory>
 /// The empty word.
 #[inline(never)]
 fn no_symbol(alloc: Global) -> Result<Position, Memory>
-    ensures { IfOk result (IsAutomaton (λ (w : List ℕ). w ≡ []) [] (Unit {0})) }
+    ensures automaton { IfOk result (IsAutomaton (λ (w : List ℕ). w ≡ []) [] (Unit {0})) }
+    ensures links { IfOk result (HasLinks (bare_of true)) }
 {
     Ok(nothing(alloc, true))
 }
@@ -65,7 +71,8 @@ fn no_symbol(alloc: Global) -> Result<Position, Memory>
 #[inline(never)]
 fn in_turn(alloc: Global, a: &Regex, b: &Regex) -> Result<Position, Memory>
     requires { size a.now + size b.now ≤ 512 }
-    ensures { IfOk result (IsAutomaton (InTurn (Matches a.now) (Matches b.now)) (sets a.now ++ sets b.now) (IsBounded a.now × IsBounded b.now)) }
+    ensures automaton { IfOk result (IsAutomaton (InTurn (Matches a.now) (Matches b.now)) (sets a.now ++ sets b.now) (IsBounded a.now × IsBounded b.now)) }
+    ensures links { IfOk result (HasLinks (turn (shape a.now) (shape b.now))) }
 {
     let mut all = built(alloc, a)?;
     let mut rest = b;
@@ -83,7 +90,8 @@ fn in_turn(alloc: Global, a: &Regex, b: &Regex) -> Result<Position, Memory>
 fn add_after(alloc: Global, all: &mut Position, part: &Regex) -> Result<(), Memory>
     requires formed { IsWellFormed all.old }
     requires small { length all.old.classes + size part.now ≤ 512 }
-    ensures { IfOk result (λ _. (next : AnyPosition) × IsAutomaton (Matches part.now) (sets part.now) (IsBounded part.now) next × IsThen all.old next all.new) }
+    ensures part { IfOk result (λ _. (next : AnyPosition) × IsAutomaton (Matches part.now) (sets part.now) (IsBounded part.now) next × IsThen all.old next all.new) }
+    ensures links { IfOk result (λ _. (s : Shape) → HasLinks s all.old → HasLinks (turn s (shape part.now)) all.new) }
 {
     let mut next = built(alloc, part)?;
     sequence(alloc, all, &mut next)
@@ -94,7 +102,8 @@ fn add_after(alloc: Global, all: &mut Position, part: &Regex) -> Result<(), Memo
 #[inline(never)]
 fn of_either(alloc: Global, a: &Regex, b: &Regex) -> Result<Position, Memory>
     requires { size a.now + size b.now ≤ 512 }
-    ensures { IfOk result (IsAutomaton (OfEither (Matches a.now) (Matches b.now)) (sets a.now ++ sets b.now) (IsBounded a.now × IsBounded b.now)) }
+    ensures automaton { IfOk result (IsAutomaton (OfEither (Matches a.now) (Matches b.now)) (sets a.now ++ sets b.now) (IsBounded a.now × IsBounded b.now)) }
+    ensures links { IfOk result (HasLinks (choice (shape a.now) (shape b.now))) }
 {
     let mut all = built(alloc, a)?;
     let mut rest = b;
@@ -112,7 +121,8 @@ fn of_either(alloc: Global, a: &Regex, b: &Regex) -> Result<Position, Memory>
 fn add_beside(alloc: Global, all: &mut Position, part: &Regex) -> Result<(), Memory>
     requires formed { IsWellFormed all.old }
     requires small { length all.old.classes + size part.now ≤ 512 }
-    ensures { IfOk result (λ _. (next : AnyPosition) × IsAutomaton (Matches part.now) (sets part.now) (IsBounded part.now) next × IsEither all.old next all.new) }
+    ensures part { IfOk result (λ _. (next : AnyPosition) × IsAutomaton (Matches part.now) (sets part.now) (IsBounded part.now) next × IsEither all.old next all.new) }
+    ensures links { IfOk result (λ _. (s : Shape) → HasLinks s all.old → HasLinks (choice s (shape part.now)) all.new) }
 {
     let mut next = built(alloc, part)?;
     either(alloc, all, &mut next)
@@ -123,7 +133,8 @@ fn add_beside(alloc: Global, all: &mut Position, part: &Regex) -> Result<(), Mem
 #[inline(never)]
 fn any_number(alloc: Global, a: &Regex) -> Result<Position, Memory>
     requires { size a.now ≤ 512 }
-    ensures { IfOk result (IsAutomaton (λ w. (ws : List (List ℕ)) × (w ≡ joined ws) × Each (Matches a.now) ws) (sets a.now) (IsBounded a.now)) }
+    ensures automaton { IfOk result (IsAutomaton (λ w. (ws : List (List ℕ)) × (w ≡ joined ws) × Each (Matches a.now) ws) (sets a.now) (IsBounded a.now)) }
+    ensures links { IfOk result (HasLinks (at_most_once (once_or_more (shape a.now)))) }
 {
     let mut p = built(alloc, a)?;
     round(alloc, &mut p)?;
@@ -135,7 +146,8 @@ fn any_number(alloc: Global, a: &Regex) -> Result<Position, Memory>
 #[inline(never)]
 fn counted(alloc: Global, a: &Regex, least: u32, most: Option<u32>) -> Result<Position, Memory>
     requires { copies least most * size a.now ≤ 512 }
-    ensures { IfOk result (IsAutomaton (Repeats (Matches a.now) least most) (times (copies least most) (sets a.now)) (IsInOrder least most × IsBounded a.now)) }
+    ensures automaton { IfOk result (IsAutomaton (Repeats (Matches a.now) least most) (times (copies least most) (sets a.now)) (IsInOrder least most × IsBounded a.now)) }
+    ensures links { IfOk result (HasLinks (as_often least most (shape a.now))) }
 {
     if let Some(0) = most {
         return Ok(nothing(alloc, least == 0));

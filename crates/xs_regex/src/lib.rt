@@ -10,6 +10,7 @@ mod characters;
 mod compose;
 mod fault;
 mod forms;
+mod laws;
 mod lists;
 mod matching;
 mod measure;
@@ -22,6 +23,7 @@ mod sets;
 
 pub use automaton::positions;
 pub use fault::RegexFault;
+pub use laws::one_automaton;
 pub use matching::{Matcher, matches, some_marked};
 pub use position::{Classes, Follows, Numbers, Position};
 pub use read::{one_regex, read_regex};

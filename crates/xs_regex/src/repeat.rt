@@ -2,6 +2,7 @@ ghost use Rattle.std.specs.Prelude.{◌≡◌, ◌*◌, ◌<◌, ◌≤◌, ◌�
 ghost use Rattle.xs_regex.specs.Automaton.{Accepts, IsWellFormed};
 ghost use Rattle.xs_regex.specs.Matches.{Repeats};
 ghost use Rattle.xs_regex.specs.Parts.{optional, IsAutomaton, IsSure};
+ghost use Rattle.xs_regex.specs.Links.{Shape, least_copies, copies_between, as_often, HasLinks};
 ghost use Rattle.xs_regex.specs.Size.{copies, times, IsInOrder};
 
 use crate::Position;
@@ -22,7 +23,8 @@ pub fn repeated(
 ) -> Result<Position, Memory>
     requires formed { IsWellFormed one.now }
     requires small { copies least most * length one.now.classes ≤ 512 }
-    ensures { IfOk result (IsAutomaton (Repeats (Accepts one.now) least most) (times (copies least most) one.now.classes) (IsSure one.now least most)) }
+    ensures automaton { IfOk result (IsAutomaton (Repeats (Accepts one.now) least most) (times (copies least most) one.now.classes) (IsSure one.now least most)) }
+    ensures links { IfOk result (λ all. (s : Shape) → HasLinks s one.now → HasLinks (as_often least most s) all) }
 {
     if one.classes.is_empty() {
         return Ok(nothing(alloc, allows_none(one.nullable, least, most)));
@@ -55,7 +57,8 @@ fn at_least(alloc: Global, one: &Position, least: u32) -> Result<Position, Memor
     requires formed { IsWellFormed one.now }
     requires some { 0 < length one.now.classes }
     requires small { max least 1 * length one.now.classes ≤ 512 }
-    ensures { IfOk result (IsAutomaton (Repeats (Accepts one.now) least None) (times (max least 1) one.now.classes) (IsSure one.now least None)) }
+    ensures automaton { IfOk result (IsAutomaton (Repeats (Accepts one.now) least None) (times (max least 1) one.now.classes) (IsSure one.now least None)) }
+    ensures links { IfOk result (λ all. (s : Shape) → HasLinks s one.now → HasLinks (least_copies least s) all) }
 {
     let mut last = copied(alloc, one)?;
     round(alloc, &mut last)?;
@@ -73,7 +76,8 @@ fn between(alloc: Global, one: &Position, least: u32, most: u32) -> Result<Posit
     requires formed { IsWellFormed one.now }
     requires some { 0 < length one.now.classes }
     requires small { most * length one.now.classes ≤ 512 }
-    ensures { IfOk result (IsAutomaton (Repeats (Accepts one.now) least (Some most)) (times most one.now.classes) (IsSure one.now least (Some most))) }
+    ensures automaton { IfOk result (IsAutomaton (Repeats (Accepts one.now) least (Some most)) (times most one.now.classes) (IsSure one.now least (Some most))) }
+    ensures links { IfOk result (λ all. (s : Shape) → HasLinks s one.now → HasLinks (copies_between least most s) all) }
 {
     let mut all = nothing(alloc, least <= most);
     'copies: for later in 0..most {

@@ -1,5 +1,6 @@
 use Rattle.std.proofs.Common.{◌+◌, ◌*◌}
 use Rattle.xs_regex.specs.Matches.{InTurn, OfEither}
+use Rattle.xs_regex.specs.Links.{turn, choice}
 use Rattle.xs_regex.proofs.Passed.{nodes, IsPassedOf}
 use Rattle.xs_regex.proofs.automaton.+built.Given as goal
 
@@ -22,7 +23,7 @@ abbrev pub decreases-in_turn : goal.decreases-in_turn
 decreases-in_turn l = 3 * (nodes l.a.now + nodes l.b.now) + 2
 
 abbrev pub invariant-in_turn-parts : goal.invariant-in_turn-parts
-invariant-in_turn-parts l = IsPassedOf InTurn l.fn.a l.fn.b l.all l.rest
+invariant-in_turn-parts l = IsPassedOf InTurn turn l.fn.a l.fn.b l.all l.rest
 
 abbrev pub decreases-in_turn-parts : goal.decreases-in_turn-parts
 decreases-in_turn-parts l = nodes l.rest
@@ -31,7 +32,7 @@ abbrev pub decreases-of_either : goal.decreases-of_either
 decreases-of_either l = 3 * (nodes l.a.now + nodes l.b.now) + 2
 
 abbrev pub invariant-of_either-parts : goal.invariant-of_either-parts
-invariant-of_either-parts l = IsPassedOf OfEither l.fn.a l.fn.b l.all l.rest
+invariant-of_either-parts l = IsPassedOf OfEither choice l.fn.a l.fn.b l.all l.rest
 
 abbrev pub decreases-of_either-parts : goal.decreases-of_either-parts
 decreases-of_either-parts l = nodes l.rest
