@@ -24,7 +24,7 @@ means_some : (t : Tree) (cs : List ℕ) (r q : Regex) → Means t r → Means t 
 means_some nothing cs Empty Empty h k m = m
 means_some nothing cs Empty q h k m = absurd k
 means_some nothing cs r q h k m = absurd h
-means_some (class sort) cs (Set ranges) (Set others) h k m = some_weaker (Has ranges) (Has others) cs (λ c has. (k c).1 ((h c).0 has)) m
+means_some (class sort) cs (Set ranges) (Set others) h k m = some_weaker (Has ranges) (Has others) cs (λ c has. (k.1 c).1 ((h.1 c).0 has)) m
 means_some (class sort) cs (Set ranges) q h k m = absurd k
 means_some (class sort) cs r q h k m = absurd h
 means_some (both t u) cs (Then' p a q b) (Then' p' c q' d) h k m = either_way (means_some t cs a c h.0 k.0) (means_some u cs b d h.1 k.1) m

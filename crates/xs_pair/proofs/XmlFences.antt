@@ -138,7 +138,7 @@ char_low s (inr (inr (inr (inr (inr (inr none)))))) = absurd none
 
 means_avoids : (count : ℕ) (t : Tree) (r : Regex) → Means t r → AvoidsFences (mark_pairs 0 count) r
 means_avoids count nothing Empty means = tt
-means_avoids count (class sort) (Set ranges) means = λ s has. (let low = char_low s ((means s).0 has).0 in low_fence 0 count s (omega arith))
+means_avoids count (class sort) (Set ranges) means = λ s has. (let low = char_low s ((means.1 s).0 has).0 in low_fence 0 count s (omega arith))
 means_avoids count (both t u) (Then' p a q b) means = (means_avoids count t a means.0, means_avoids count u b means.1)
 means_avoids count (either t u) (Or' p a q b) means = (means_avoids count t a means.0, means_avoids count u b means.1)
 means_avoids count (any t) (Star' p a) means = means_avoids count t a means

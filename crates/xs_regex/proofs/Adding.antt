@@ -7,7 +7,7 @@ use Rattle.std.specs.declared.result.Result.{Result}
 use Rattle.std.specs.Bool.{IsTrue}
 use Rattle.ucd_sets.specs.Sets.{in_set}
 use Rattle.ucd_sets.specs.declared.set.Set.{Set}
-use Rattle.xs_class.specs.Classes.{Has}
+use Rattle.xs_class.specs.Classes.{Has, IsClass}
 use Rattle.xs_class.specs.Named.{set_named, HasMembersOf}
 use Rattle.xs_class.specs.Tables.{IsChar}
 use Rattle.xs_class.proofs.Adding.{has_append}
@@ -128,13 +128,16 @@ items_on n m cs rest left c item old mid new r p e f k h t =
     more (Some a) (Err e) g t = λ k. absurd (some_none a (t k))
 
 -- sets of the characters that were added
-pub some_reported : (o : Option (List Item × List ℕ)) (old ranges class : List (ℕ × ℕ)) (left : List ℕ) → old ≡ [] → IsSomeAnd o (λ a. (a.1 ≡ left) × Adds old ranges (IsOfItems a.0)) → ((s : ℕ) → Has class s ↔ (IsChar s × Has ranges s)) → IsSomeAnd (sorted some_of o) (λ a. (a.1 ≡ left) × IsClassOf a.0 class)
-some_reported None old ranges class left e h k = absurd h
-some_reported (Some a) old ranges class left e h k = (
+pub some_reported : (o : Option (List Item × List ℕ)) (old ranges class : List (ℕ × ℕ)) (left : List ℕ) → old ≡ [] → IsSomeAnd o (λ a. (a.1 ≡ left) × Adds old ranges (IsOfItems a.0)) → IsClass class → ((s : ℕ) → Has class s ↔ (IsChar s × Has ranges s)) → IsSomeAnd (sorted some_of o) (λ a. (a.1 ≡ left) × IsClassOf a.0 class)
+some_reported None old ranges class left e h up k = absurd h
+some_reported (Some a) old ranges class left e h up k = (
   h.0,
-  λ s. (
-    λ m. let b = (k s).0 m in (b.0, from_none s ((h.1 s).0 b.1)),
-    λ m. (k s).1 (m.0, (h.1 s).1 (inr m.1)),
+  (
+    up,
+    λ s. (
+      λ m. let b = (k s).0 m in (b.0, from_none s ((h.1 s).0 b.1)),
+      λ m. (k s).1 (m.0, (h.1 s).1 (inr m.1)),
+    ),
   ),
 )
   where
@@ -142,13 +145,16 @@ some_reported (Some a) old ranges class left e h k = (
     from_none s (inl b) = absurd (rw e at b)
     from_none s (inr b) = b
 
-pub none_reported : (o : Option (List Item × List ℕ)) (old ranges class : List (ℕ × ℕ)) (left : List ℕ) → old ≡ [] → IsSomeAnd o (λ a. (a.1 ≡ left) × Adds old ranges (IsOfItems a.0)) → ((s : ℕ) → Has class s ↔ (IsChar s × (Has ranges s → ⊥))) → IsSomeAnd (sorted none_of o) (λ a. (a.1 ≡ left) × IsClassOf a.0 class)
-none_reported None old ranges class left e h k = absurd h
-none_reported (Some a) old ranges class left e h k = (
+pub none_reported : (o : Option (List Item × List ℕ)) (old ranges class : List (ℕ × ℕ)) (left : List ℕ) → old ≡ [] → IsSomeAnd o (λ a. (a.1 ≡ left) × Adds old ranges (IsOfItems a.0)) → IsClass class → ((s : ℕ) → Has class s ↔ (IsChar s × (Has ranges s → ⊥))) → IsSomeAnd (sorted none_of o) (λ a. (a.1 ≡ left) × IsClassOf a.0 class)
+none_reported None old ranges class left e h up k = absurd h
+none_reported (Some a) old ranges class left e h up k = (
   h.0,
-  λ s. (
-    λ m. let b = (k s).0 m in (b.0, λ i. b.1 ((h.1 s).1 (inr i))),
-    λ m. (k s).1 (m.0, λ i. m.1 (from_none s ((h.1 s).0 i))),
+  (
+    up,
+    λ s. (
+      λ m. let b = (k s).0 m in (b.0, λ i. b.1 ((h.1 s).1 (inr i))),
+      λ m. (k s).1 (m.0, λ i. m.1 (from_none s ((h.1 s).0 i))),
+    ),
   ),
 )
   where
@@ -156,13 +162,16 @@ none_reported (Some a) old ranges class left e h k = (
     from_none s (inl b) = absurd (rw e at b)
     from_none s (inr b) = b
 
-pub one_reported : (o : Option Item) (old ranges class : List (ℕ × ℕ)) (left : List ℕ) → old ≡ [] → IsSomeAnd o (λ a. Adds old ranges (IsOfItem a)) → ((s : ℕ) → Has class s ↔ (IsChar s × Has ranges s)) → IsSomeAnd (one_set (with_left left o)) (λ a. (a.1 ≡ left) × IsClassOf a.0 class)
-one_reported None old ranges class left e h k = absurd h
-one_reported (Some item) old ranges class left e h k = (
+pub one_reported : (o : Option Item) (old ranges class : List (ℕ × ℕ)) (left : List ℕ) → old ≡ [] → IsSomeAnd o (λ a. Adds old ranges (IsOfItem a)) → IsClass class → ((s : ℕ) → Has class s ↔ (IsChar s × Has ranges s)) → IsSomeAnd (one_set (with_left left o)) (λ a. (a.1 ≡ left) × IsClassOf a.0 class)
+one_reported None old ranges class left e h up k = absurd h
+one_reported (Some item) old ranges class left e h up k = (
   refl,
-  λ s. (
-    λ m. let b = (k s).0 m in (b.0, from_none s ((h s).0 b.1)),
-    λ m. (k s).1 (m.0, (h s).1 (inr (only s m.1))),
+  (
+    up,
+    λ s. (
+      λ m. let b = (k s).0 m in (b.0, from_none s ((h s).0 b.1)),
+      λ m. (k s).1 (m.0, (h s).1 (inr (only s m.1))),
+    ),
   ),
 )
   where

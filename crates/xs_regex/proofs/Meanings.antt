@@ -107,7 +107,7 @@ means_same : (t : Tree) (r q : Regex) → Means t r → Means t q → (w : List 
 means_same nothing Empty Empty h k w m = m
 means_same nothing Empty q h k w m = absurd k
 means_same nothing r q h k w m = absurd h
-means_same (class sort) (Set ranges) (Set others) h k w m = (m.0, (k m.0).1 ((h m.0).0 m.1), m.2)
+means_same (class sort) (Set ranges) (Set others) h k w m = (m.0, (k.1 m.0).1 ((h.1 m.0).0 m.1), m.2)
 means_same (class sort) (Set ranges) q h k w m = absurd k
 means_same (class sort) r q h k w m = absurd h
 means_same (both t u) (Then' p a q b) (Then' p' c q' d) h k w m = (m.0, m.1, m.2, means_same t a c h.0 k.0 m.0 m.3, means_same u b d h.1 k.1 m.1 m.4)

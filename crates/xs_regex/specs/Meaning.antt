@@ -2,7 +2,7 @@
 use Rattle.std.specs.Prelude.{◌≡◌, ◌↔◌, ◌⊎◌, ℕ, ◌≤◌, List, [], ◌∷◌, IsTrue, IsSomeAnd}
 use Rattle.std.specs.Borrow.{Bor}
 use Rattle.ucd_sets.specs.Sets.{in_set}
-use Rattle.xs_class.specs.Classes.{Has}
+use Rattle.xs_class.specs.Classes.{Has, IsClass}
 use Rattle.xs_class.specs.Named.{set_named}
 use Rattle.xs_class.specs.Tables.{IsChar}
 use Rattle.xs_regex.specs.declared.regex.Regex.{Regex}
@@ -25,9 +25,9 @@ abbrev pub IsOfSort : Sort → ℕ → Type 0
 IsOfSort (some_of items) s = IsOfItems items s
 IsOfSort (none_of items) s = ¬ (IsOfItems items s)
 
--- the class has exactly the characters of the set that are characters of XML
+-- the class has exactly the characters of the set that are characters of XML, in sorted ranges
 abbrev pub IsClassOf : Sort → List (ℕ × ℕ) → Type 0
-IsClassOf sort ranges = (s : ℕ) → Has ranges s ↔ (IsChar s × IsOfSort sort s)
+IsClassOf sort ranges = IsClass ranges × ((s : ℕ) → Has ranges s ↔ (IsChar s × IsOfSort sort s))
 
 -- the regex has the form of the tree, with these classes
 abbrev pub Means : Tree → Regex → Type 0

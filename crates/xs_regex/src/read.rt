@@ -1,10 +1,11 @@
 ghost use Rattle.std.specs.Prelude.{◌≡◌, ◌+◌, ◌*◌, ◌<◌, ◌≤◌, [], ℕ, List, length, IfOk, IfErr, Some};
 ghost use Rattle.std.specs.Str.{chars};
+ghost use Rattle.xs_regex.specs.Links.{shape};
 ghost use Rattle.xs_regex.specs.Matches.{Matches};
 ghost use Rattle.xs_regex.specs.Meaning.{Means, IsPatternOf};
 ghost use Rattle.xs_regex.specs.Pattern.{Tree, IsReading};
 ghost use Rattle.xs_regex.specs.Scan.{regex_at};
-ghost use Rattle.xs_regex.specs.Size.{size, IsBounded};
+ghost use Rattle.xs_regex.specs.Size.{size, sets, IsBounded};
 ghost use Rattle.xs_regex.specs.declared.regex.Regex.{Regex as AnyRegex};
 
 use crate::measure::size_up_to;
@@ -70,8 +71,11 @@ fn whole(alloc: Global, cs: &[char]) -> Result<Regex, RegexFault>
     }
 }
 
-/// A pattern has at most one reading, and all regexes that it stands for match the same words.
+/// A pattern has at most one reading, and all regexes that it stands for match the same words, and
+/// have one shape and the same classes.
 pub fn one_regex()
     ensures tree { (pattern : List ℕ) (t u : Tree) → IsReading pattern t → IsReading pattern u → t ≡ u }
     ensures words { (pattern : List ℕ) (r q : AnyRegex) → IsPatternOf pattern r → IsPatternOf pattern q → (w : List ℕ) → Matches r w → Matches q w }
+    ensures shape { (pattern : List ℕ) (r q : AnyRegex) → IsPatternOf pattern r → IsPatternOf pattern q → shape r ≡ shape q }
+    ensures classes { (pattern : List ℕ) (r q : AnyRegex) → IsPatternOf pattern r → IsPatternOf pattern q → sets r ≡ sets q }
 {}

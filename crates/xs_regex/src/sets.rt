@@ -1,5 +1,5 @@
 ghost use Rattle.std.specs.Prelude.{◌≡◌, ◌↔◌, ℕ, length, IfOk};
-ghost use Rattle.xs_class.specs.Classes.{Has, HaveSame};
+ghost use Rattle.xs_class.specs.Classes.{Has, HaveSame, IsClass};
 ghost use Rattle.xs_class.specs.Named.{set_named, HasMembersOf};
 ghost use Rattle.xs_class.specs.Tables.{IsChar, char_table};
 ghost use Rattle.xs_regex.specs.Characters.{known, known_item, items_at, sorted, bracket_at, one_at, one_set, set_at};
@@ -105,21 +105,25 @@ fn characters(alloc: Global) -> Result<Class, Memory>
 
 /// The characters of XML that are in the ranges.
 fn among(alloc: Global, ranges: &[(u32, u32)]) -> Result<Class, Memory>
-    ensures { IfOk result (λ c. (s : ℕ) → Has c s ↔ (IsChar s × Has ranges.now s)) }
+    ensures sorted { IfOk result IsClass }
+    ensures members { IfOk result (λ c. (s : ℕ) → Has c s ↔ (IsChar s × Has ranges.now s)) }
 {
     let all = characters(alloc)?;
     let some = Class::from_ranges(alloc, ranges)?;
     let class = all.meet(&some)?;
+    class.ranges();
     Ok(class)
 }
 
 /// The characters of XML that are not in the ranges.
 fn apart(alloc: Global, ranges: &[(u32, u32)]) -> Result<Class, Memory>
-    ensures { IfOk result (λ c. (s : ℕ) → Has c s ↔ (IsChar s × (¬ (Has ranges.now s)))) }
+    ensures sorted { IfOk result IsClass }
+    ensures members { IfOk result (λ c. (s : ℕ) → Has c s ↔ (IsChar s × (¬ (Has ranges.now s)))) }
 {
     let all = characters(alloc)?;
     let some = Class::from_ranges(alloc, ranges)?;
     let class = all.without(&some)?;
+    class.ranges();
     Ok(class)
 }
 

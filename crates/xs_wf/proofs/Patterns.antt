@@ -17,7 +17,7 @@ means_members : (t : Tree) (r q : Regex) → Means t r → Means t q → HasMemb
 means_members nothing Empty Empty h k m = tt
 means_members nothing Empty q h k m = absurd k
 means_members nothing r q h k m = absurd h
-means_members (class sort) (Set ranges) (Set others) h k m = (m.0, (k m.0).1 ((h m.0).0 m.1))
+means_members (class sort) (Set ranges) (Set others) h k m = (m.0, (k.1 m.0).1 ((h.1 m.0).0 m.1))
 means_members (class sort) (Set ranges) q h k m = absurd k
 means_members (class sort) r q h k m = absurd h
 means_members (both t u) (Then' p a q b) (Then' p' c q' d) h k m = (means_members t a c h.0 k.0 m.0, means_members u b d h.1 k.1 m.1)
