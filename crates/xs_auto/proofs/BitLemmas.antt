@@ -35,7 +35,7 @@ with_bit words c = set words (c / 64) (bit_or (get_or words (c / 64) 0) (1 * 2 ^
 bit_here : (words : List ℕ) (c : ℕ) → c / 64 < length words → bit_of (with_bit words c) c ≡ true
 bit_here words c within = ap (λ w. nat_eq (bit_at w (c % 64)) 1) (get_or-set_same words (c / 64) _ 0 within) ∙ ap (λ b. nat_eq b 1) (bit_at_set_same w64 (get_or words (c / 64) 0) (c % 64) (omega arith))
 
-bit_there : (words : List ℕ) (c k : ℕ) → c / 64 < length words → k ≢ c → bit_of (with_bit words c) k ≡ bit_of words k
+pub bit_there : (words : List ℕ) (c k : ℕ) → c / 64 < length words → k ≢ c → bit_of (with_bit words c) k ≡ bit_of words k
 bit_there words c k within ne = elim (cases_eq (k / 64) (c / 64)) [
   | inl e ↦
       let other : k % 64 ≢ c % 64 = λ f. ne (omega arith) in

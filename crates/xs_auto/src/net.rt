@@ -6,10 +6,10 @@ ghost use Rattle.xs_auto.specs.Nets.{states, final_at, edges_of, moves_of, calls
 
 use crate::Call;
 use crate::edge::{EdgeRow, Edges};
-use crate::grouped::Grouped;
 pub use draft::Draft;
 use std::marker::Model;
 use xs_class::Class;
+use xs_flat::FlatLists;
 
 /// States that are numbered from 0, with a start, final states, edges by classes, empty moves, and
 /// calls of groups.
@@ -21,9 +21,9 @@ pub struct Net {
     start: Option<u32>,
     finals: Vec<bool>,
     classes: Vec<Class>,
-    edges: Grouped<EdgeRow>,
-    moves: Grouped<u32>,
-    calls: Grouped<Call>,
+    edges: FlatLists<EdgeRow>,
+    moves: FlatLists<u32>,
+    calls: FlatLists<Call>,
 }
 
 impl Model for Net {
@@ -77,6 +77,7 @@ impl Net {
     {
         self.moves.list(a as usize)
     }
+
     /// The calls that lead from a state, in the order in which they were added.
     pub fn calls(&self, a: u32) -> &[Call]
         requires { a < states self.now }

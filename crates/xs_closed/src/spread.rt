@@ -11,6 +11,7 @@ use xs_auto::Net;
 use xs_class::Memory;
 
 /// Visits the pairs to which an empty move of either net leads from a pair.
+#[inline(always)]
 fn drift(set: &mut PairSet, pairs: &mut Vec<Pair>, m: &Net, n: &Net, at: Pair) -> Result<(), Memory>
     requires nets { IsFor m.now n.now set.old }
     requires listed { IsListed set.old pairs.old.items }
@@ -47,6 +48,7 @@ fn are_still(m: &Net, n: &Net, at: Pair) -> bool
 }
 
 /// Visits the pairs to which edges, or calls over related groups, of both nets lead from a pair.
+#[inline(always)]
 pub fn stride(
     set: &mut PairSet,
     pairs: &mut Vec<Pair>,
@@ -71,6 +73,7 @@ pub fn stride(
 
 /// Visits the pairs to which an empty move of either net, or edges or calls of both, lead from a
 /// pair.
+#[inline(always)]
 fn lead(
     set: &mut PairSet,
     pairs: &mut Vec<Pair>,

@@ -100,6 +100,7 @@ fn visit_ends(
 }
 
 /// Visits the pairs of targets of each two edges that read a common symbol.
+#[inline(always)]
 pub fn visit_boths(
     set: &mut PairSet,
     pairs: &mut Vec<Pair>,
@@ -143,6 +144,7 @@ fn visit_partners(
 }
 
 /// Visits the pairs of targets of each two calls over related groups.
+#[inline(always)]
 pub fn visit_calls(
     set: &mut PairSet,
     pairs: &mut Vec<Pair>,

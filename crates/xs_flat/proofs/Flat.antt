@@ -29,6 +29,14 @@ list_within from (end ∷ ends) last (suc k) h lt =
     let rest = list_within end ends last k h.1 (omega (arith, lt)) in
     (subst (λ b. b ≤ get_or ends k 0) (begin_next end ends k) rest.0, rest.1)
 
+-- ends rise if each list ends where it begins or later
+pub rise_by : (from : ℕ) (ends : List ℕ) (last : ℕ) → ((k : ℕ) → k < length ends → begin_of from ends k ≤ get_or ends k 0) → begin_of from ends (length ends) ≡ last → Rise from ends last
+rise_by from [] last up at = at
+rise_by from (end ∷ ends) last up at = (
+  up 0 (omega arith),
+  rise_by end ends last (λ k lt. subst (λ b. b ≤ get_or ends k 0) (sym (begin_next end ends k)) (up (suc k) (omega (arith, lt)))) (begin_next end ends (length ends) ∙ at),
+)
+
 pub rise_more : (from : ℕ) (ends : List ℕ) (last next : ℕ) → Rise from ends last → last ≤ next → Rise from (ends ++ next ∷ []) next
 rise_more from [] last next h le = (subst (λ n. n ≤ next) (sym h) le, refl)
 rise_more from (end ∷ ends) last next h le = (h.0, rise_more end ends last next h.1 le)

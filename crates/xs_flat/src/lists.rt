@@ -1,5 +1,5 @@
 ghost use Rattle.std.specs.Prelude.{◌≡◌, ◌<◌, ◌≤◌, [], ◌∷◌, ◌++◌, length, take, slice_get, slice_index_or, slice_range, OnOk, OnErr};
-ghost use Rattle.xs_flat.specs.Flat.{begin_of};
+ghost use Rattle.xs_flat.specs.Flat.{begin_of, lists_from, Rise};
 
 use std::alloc::Global;
 use std::marker::Model;
@@ -62,6 +62,14 @@ impl<T> FlatLists<T> {
             all: Vec::new(alloc),
             ends: Vec::new(alloc),
         }
+    }
+
+    /// The lists of these elements, each of which ends before the element of its number here.
+    pub fn from_ends(all: Vec<T>, ends: Vec<usize>) -> Self
+        requires { Rise 0 ends.items (length all.items) }
+        ensures { result ≡ lists_from all.items 0 ends.items }
+    {
+        FlatLists { all, ends }
     }
 
     /// The number of lists.

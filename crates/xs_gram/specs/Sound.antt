@@ -4,6 +4,7 @@ use Rattle.xs_regex.specs.declared.regex.Regex.{Regex}
 use Rattle.xs_regex.specs.declared.position.Position.{Position}
 use Rattle.xs_regex.specs.Matches.{Matches}
 use Rattle.xs_regex.specs.Automaton.{Accepts, IsWellFormed, EachEnds}
+use Rattle.xs_regex.specs.Links.{shape, HasLinks}
 use Rattle.xs_regex.specs.Size.{size, sets, IsBounded, HasMembers}
 use Rattle.xs_gram.specs.declared.parts.GItem.{GItem}
 use Rattle.xs_gram.specs.declared.parts.GItem.TheVariants.{Fixed, Term, Non, Skip}
@@ -14,12 +15,14 @@ use Rattle.xs_gram.specs.Laws.{IsDistinct, HasNumberedSlots}
 
 -- the automaton is one of the regex: it accepts exactly what the regex matches, and where no class
 -- is empty each of its positions can be gone on from to a last one; its classes are those of the
--- regex, those of a repetition once for each copy
+-- regex, those of a repetition once for each copy, and its positions are linked as in Glushkov's
+-- construction
 pub record IsAutomaton (regex : Regex) (a : Position) : Type 0 where
   pub accepts : (w : List ℕ) → Matches regex w ↔ Accepts a w
   pub formed : IsWellFormed a
   pub positions : length a.classes ≡ size regex
   pub classes : a.classes ≡ sets regex
+  pub links : HasLinks (shape regex) a
   pub ends : HasMembers regex → EachEnds a
 
 -- the numbers that items name are there, and no fixed word is empty

@@ -40,6 +40,7 @@ impl Layer {
     }
 
     /// Adds a step, unless its pair is marked already.
+    #[inline(always)]
     pub fn visit(&mut self, pairs: &mut Pairs, step: ReachedPair) -> Result<(), Memory>
         requires fits { Fits self.old pairs.old }
         requires first { step.first < self.old.height }
@@ -143,6 +144,7 @@ impl Layer {
     }
 
     /// Visits the pairs of targets of each two edges that read a common symbol.
+    #[inline(always)]
     pub fn visit_boths(
         &mut self,
         pairs: &mut Pairs,
@@ -194,6 +196,7 @@ impl Layer {
     }
 
     /// Visits the pairs of targets of each two calls over groups that share a word.
+    #[inline(always)]
     pub fn visit_calls(
         &mut self,
         pairs: &mut Pairs,

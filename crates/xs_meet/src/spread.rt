@@ -11,6 +11,7 @@ use xs_class::Memory;
 
 impl Layer {
     /// Visits the pairs to which an empty move of either net leads from a pair.
+    #[inline(always)]
     fn drift(
         &mut self,
         pairs: &mut Pairs,
@@ -33,6 +34,7 @@ impl Layer {
     }
 
     /// Visits the pairs to which edges, or calls, of both nets lead from a pair.
+    #[inline(always)]
     pub fn stride(
         &mut self,
         pairs: &mut Pairs,

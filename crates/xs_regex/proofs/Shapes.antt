@@ -1,5 +1,5 @@
--- The shapes of regular expressions: sequences and choices put together otherwise, shapes of no position, and the copies
--- of a repetition.
+-- The shapes of regular expressions: sequences and choices put together otherwise, shapes of no
+-- position, and the copies of a repetition.
 use Rattle.std.proofs.Common.{◌≡◌, ◌⊎◌, ◌∙◌, ◌↔◌, ℕ, zero, suc, ◌+◌, ◌-◌, ◌<◌, ◌≤◌, Bool, true, false, ◌&&◌, ◌||◌, List, [], ◌∷◌, ◌++◌, length, refl, sym, ap, subst, inl, inr, arith, min, None, Some, nat_eq, nat_lt, nat_le, append_assoc, if◌then◌else◌}
 use Rattle.std.proofs.lemmas.List.{append-nil, map-append}
 use Rattle.std.proofs.lemmas.List.Elements.{Contains-append_left, Contains-append_right}

@@ -8,9 +8,9 @@ use Rattle.xs_regex.specs.declared.regex.Regex.TheVariants.{Empty, Set, Then', O
 use Rattle.xs_regex.specs.Automaton.{Leads}
 use Rattle.xs_regex.specs.Parts.{shift}
 
--- A regular expression without its classes, and with its repetitions written out: no position, where
--- the empty word is accepted or not; one position; one part and then another; one or another; once or
--- more; once or not at all.
+-- A regular expression without its classes, and with its repetitions written out: no position,
+-- where the empty word is accepted or not; one position; one part and then another; one or another;
+-- once or more; once or not at all.
 pub data Shape : Type 0 where
   bare_of : Bool → Shape
   place : Shape

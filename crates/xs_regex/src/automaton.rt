@@ -24,7 +24,7 @@ pub fn positions(alloc: Global, r: &Regex) -> Result<Position, Memory>
     ensures sound { IfOk result (λ p. (w : List ℕ) → Accepts p w → Matches r.now w) }
     ensures complete { IfOk result (λ p. (w : List ℕ) → Matches r.now w → Accepts p w) }
 
-    // Which positions are first and last, and which follow another, is as in Glushkov's construction.
+    // Which positions are first and last, and which follow another, is as Glushkov has it.
     ensures links { IfOk result (HasLinks (shape r.now)) }
 
     // Where no class is empty, no position is a dead end.

@@ -5,7 +5,7 @@ ghost use Rattle.xs_auto.specs.Nets.{states, AddsState, AddsEdge, AddsMove, Adds
 use super::Net;
 use crate::Call;
 use crate::edge::EdgeRow;
-use crate::grouped::{Grouped, Leaving};
+use crate::grouped::{Leaving, grouped};
 use std::alloc::Global;
 use std::marker::Model;
 use xs_class::{Class, Memory};
@@ -169,9 +169,9 @@ impl Draft {
         let states = self.finals.len();
         let no_edge = EdgeRow { class: 0, to: 0 };
         let no_call = Call { group: 0, to: 0 };
-        let edges = Grouped::of(alloc, states, &self.edges, no_edge)?;
-        let moves = Grouped::of(alloc, states, &self.moves, 0)?;
-        let calls = Grouped::of(alloc, states, &self.calls, no_call)?;
+        let edges = grouped(alloc, states, &self.edges, no_edge)?;
+        let moves = grouped(alloc, states, &self.moves, 0)?;
+        let calls = grouped(alloc, states, &self.calls, no_call)?;
         Ok(Net {
             start: self.start,
             finals: self.finals,
