@@ -8,7 +8,7 @@ mod Ending
 mod Verdict
 mod Strings
 mod Spaced
-mod Escapes
+pub mod Escapes
 mod Lexed
 mod Sources
 mod Renewed
