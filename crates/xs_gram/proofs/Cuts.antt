@@ -94,7 +94,7 @@ same_parts (s ∷ u) v (t ∷ x) y e h =
     let r = same_parts u v x y (omega (arith, e)) c.1 in
     (cons_same c.0 r.0, r.1)
 
-slice_middle : {A : Type 0} {is : List A} (head middle tail : List A) {a b : ℕ} → is ≡ head ++ (middle ++ tail) → a ≡ length head → b ≡ a + length middle → slice_range is a b ≡ middle
+pub slice_middle : {A : Type 0} {is : List A} (head middle tail : List A) {a b : ℕ} → is ≡ head ++ (middle ++ tail) → a ≡ length head → b ≡ a + length middle → slice_range is a b ≡ middle
 slice_middle {A} head middle tail {a} {b} e p q =
     let n : b - a ≡ length middle = omega arith in
     ap (λ (x : List A). slice_range x a b) e ∙ ap (λ (k : ℕ). take (b - a) (drop k (head ++ (middle ++ tail)))) p ∙ ap (λ (x : List A). take (b - a) x) (drop-append_seam head (middle ++ tail)) ∙ ap (λ (k : ℕ). take k (middle ++ tail)) n ∙ take-append_seam middle tail

@@ -114,7 +114,7 @@ not_left fs i s e o l = let q = ap (λ (x : GItem). opens fs x) e in cc
 no_some : {m : ℕ} → ◌≡◌ {A = Option ℕ} None (Some m) → ⊥
 no_some e = cc
 
-opens_item : (fs : List (ℕ × ℕ)) (i : GItem) → opens fs i ≡ true → (s : ℕ) × (i ≡ Fixed (s ∷ [])) × (is_left fs s ≡ true)
+pub opens_item : (fs : List (ℕ × ℕ)) (i : GItem) → opens fs i ≡ true → (s : ℕ) × (i ≡ Fixed (s ∷ [])) × (is_left fs s ≡ true)
 opens_item fs (Fixed []) e = absurd cc
 opens_item fs (Fixed (s ∷ [])) e = (s, refl, e)
 opens_item fs (Fixed (s ∷ t ∷ w)) e = absurd cc

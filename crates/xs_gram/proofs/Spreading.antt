@@ -16,7 +16,7 @@ after_more : (w : List ℕ) (is : List GItem) → after_word w is ≡ after_word
 after_more [] is = refl
 after_more (s ∷ w) is = refl
 
-after_longer : (w : List ℕ) (is js : List GItem) → after_word w (is ++ js) ≡ after_word w is ++ js
+pub after_longer : (w : List ℕ) (is js : List GItem) → after_word w (is ++ js) ≡ after_word w is ++ js
 after_longer [] is js = refl
 after_longer (s ∷ w) is js = refl
 
