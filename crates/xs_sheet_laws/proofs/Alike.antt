@@ -17,7 +17,7 @@ use Rattle.xs_sheet_laws.proofs.Weighed.{KeepsSizes}
 use Rattle.xs_sheet_laws.proofs.Checked as C
 
 pub regex_back : {r q : _} → R.AreAlike r q → R.AreAlike q r
-regex_back a = record { size = sym a.size; words = λ w. ((a.words w).1, (a.words w).0) }
+regex_back a = record { size = sym a.size; form = sym a.form; classes = sym a.classes; words = λ w. ((a.words w).1, (a.words w).0) }
 
 pub alike_back : (g h : Grammar) → AreAlike g h → AreAlike h g
 alike_back g h a = record {

@@ -119,7 +119,7 @@ pair_kept s t p alike of =
 
 -- terminals and ignorables of the same units are alike, one by one
 itself : (r : Regex) → R.AreAlike r r
-itself r = record { size = refl; words = λ w. (λ m. m, λ m. m) }
+itself r = record { size = refl; form = refl; classes = refl; words = λ w. (λ m. m, λ m. m) }
 
 record AreLike (rs qs : List Regex) (d : Regex) : Type 0 where
   long : length rs ≡ length qs

@@ -5,6 +5,7 @@ use Rattle.xs_lex.proofs.Uniqueness.{one_list}
 use Rattle.xs_regex.specs.declared.regex.Regex.{Regex}
 use Rattle.xs_regex.specs.Meaning.{IsPatternOf, Means}
 use Rattle.xs_regex.proofs.Meanings.{means_size, same_words}
+use Rattle.xs_regex.proofs.Patterns.{same_shape, same_sets}
 use Rattle.xs_regex.proofs.Readings.{same_reading}
 use Rattle.xs_sheet.specs.declared.piece.Piece.{Piece}
 use Rattle.xs_sheet.specs.declared.item.Item.{Item}
@@ -26,6 +27,8 @@ use Rattle.xs_sheet_laws.proofs.Twins.{all_back}
 pub regexes_alike : (pattern : List ℕ) (r q : Regex) → IsPatternOf pattern r → IsPatternOf pattern q → R.AreAlike r q
 regexes_alike pattern r q a b = record {
   size = means_size a.0 r a.2 ∙ sym (means_size a.0 q (subst (λ t. Means t q) (same_reading pattern b.0 a.0 b.1 a.1) b.2));
+  form = same_shape pattern r q a b;
+  classes = same_sets pattern r q a b;
   words = λ w. (same_words pattern r q a b w, same_words pattern q r b a w);
 }
 

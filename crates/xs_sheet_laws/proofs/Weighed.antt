@@ -15,7 +15,7 @@ pub record KeepsSizes (g h : Grammar) : Type 0 where
   pub skips : (k : ℕ) → size (skip_of g k).regex ≡ size (skip_of h k).regex
 
 module _ (g : Grammar) (ts : List Terminal) (ks : List Ignorable) where
-  members_kept : {c n k : ℕ} → Members g c n k → Members (with_parts g ts ks) c n k
+  pub members_kept : {c n k : ℕ} → Members g c n k → Members (with_parts g ts ks) c n k
   members_kept no_member = no_member
   members_kept {c} (member_next {n = n} a m) = member_next (one g ts ks c n a) (members_kept m)
   members_kept {c} (other_next {n = n} a m) = other_next (λ h. a (one_back g ts ks c n h)) (members_kept m)
@@ -41,7 +41,7 @@ module _ (g : Grammar) (ts : List Terminal) (ks : List Ignorable) where
     body_kept keeps (other_then {c = c} {i = i} p a j b e) = other_then {i = i} p (λ h. a (member_back g ts ks c i h)) (item_kept keeps j) (body_kept keeps b) e
     body_kept keeps (group_then f i b is e) = group_then f i (body_kept keeps b) is e
 
-  part_kept : {is : List GItem} {w : ℕ} → KeepsSizes g (with_parts g ts ks) → PartWeighs g is w → PartWeighs (with_parts g ts ks) is w
+  pub part_kept : {is : List GItem} {w : ℕ} → KeepsSizes g (with_parts g ts ks) → PartWeighs g is w → PartWeighs (with_parts g ts ks) is w
   part_kept keeps no_part = no_part
   part_kept keeps (part_then p i r e) = part_then p (item_kept keeps i) (part_kept keeps r) e
   part_kept keeps (part_group f i r is e) = part_group f i (part_kept keeps r) is e

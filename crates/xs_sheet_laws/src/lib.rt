@@ -1,10 +1,11 @@
 //! Laws of sheets: bytes spell one sheet and one pair of grammars, up to what no definition sees.
 //!
 //! A regular expression is read of a pattern, and two readings may differ in how they hold it; they
-//! have one size and match the same words. Sheets, grammars and pairs of grammars are alike where
-//! they differ in that alone. The laws: bytes that spell two sheets spell sheets that are alike, two
-//! pairs of grammars of the same bytes are alike, and grammars that are alike have the same
-//! derivations, trees, prints, words, viable prefixes, weights and suspects, and are accepted alike.
+//! have one size, one shape and the same classes, and match the same words. Sheets, grammars and
+//! pairs of grammars are alike where they differ in that alone. The laws: bytes that spell two
+//! sheets spell sheets that are alike, two pairs of grammars of the same bytes are alike, and
+//! grammars that are alike have the same derivations, trees, prints, words, viable prefixes, weights
+//! and suspects, and are accepted alike.
 //!
 //! The statements stand in specs/. Each function here is a law, and does nothing when it runs.
 #![tactic(auto)]

@@ -118,19 +118,19 @@ module _ {all : List Arc} (p : Position) (before first : ℕ) (within : Within (
   outward : Within (arcs_out first p.last (after_automaton p first) ++ arc_past p.nullable before (after_automaton p first)) all
   outward = within_right (arcs_on p first 0 p.follow) onward
 
-  first_arc : (k : ℕ) → Contains p.first k → Among all (read before (class_at p k) (first + k))
+  pub first_arc : (k : ℕ) → Contains p.first k → Among all (read before (class_at p k) (first + k))
   first_arc k among = (within_left (arcs_into p first before p.first) (arcs_on p first 0 p.follow ++ (arcs_out first p.last (after_automaton p first) ++ arc_past p.nullable before (after_automaton p first))) within).each _ (into_there p first before p.first k among)
 
-  next_arc : (j k : ℕ) → A.Leads p j k → Among all (read (first + j) (class_at p k) (first + k))
+  pub next_arc : (j k : ℕ) → A.Leads p j k → Among all (read (first + j) (class_at p k) (first + k))
   next_arc j k leads =
       let e : first + (0 + j) ≡ first + j = omega arith in
       let h = (within_left (arcs_on p first 0 p.follow) (arcs_out first p.last (after_automaton p first) ++ arc_past p.nullable before (after_automaton p first)) onward).each _ (on_there p first 0 p.follow j k leads) in
       subst (λ (n : ℕ). Among all (read n (class_at p k) (first + k))) e h
 
-  last_arc : (k : ℕ) → Contains p.last k → Among all (pass (first + k) (after_automaton p first))
+  pub last_arc : (k : ℕ) → Contains p.last k → Among all (pass (first + k) (after_automaton p first))
   last_arc k among = (within_left (arcs_out first p.last (after_automaton p first)) (arc_past p.nullable before (after_automaton p first)) outward).each _ (out_there first p.last (after_automaton p first) k among)
 
-  past_arc : p.nullable ≡ true → Among all (pass before (after_automaton p first))
+  pub past_arc : p.nullable ≡ true → Among all (pass before (after_automaton p first))
   past_arc e = (within_right (arcs_out first p.last (after_automaton p first)) outward).each _ (past_there p.nullable before (after_automaton p first) e)
 
   run_path : {nest : List Group} {w : List ℕ} {k : ℕ} → A.Runs p w k → Path (Along nest all) before w (first + k)

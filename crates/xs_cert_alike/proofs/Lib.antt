@@ -1,0 +1,5 @@
+pub mod Automata
+pub mod Linked
+pub mod Laying
+pub mod Nests
+pub mod Certificates
