@@ -1,8 +1,8 @@
 -- A stretch that is level where there are more fences is level where there are fewer: read symbol
 -- by symbol, it closes each fence that it opens.
-use Rattle.std.proofs.Common.{◌≡◌, ℕ, zero, suc, ◌<◌, List, [], ◌∷◌, ◌++◌, length, refl, sym, ap, subst, ◌∙◌, append_assoc, append-nil, arith, Bool, true, false, ◌||◌, slice_index_or}
+use Rattle.std.proofs.Common.{◌≡◌, ℕ, zero, suc, ◌<◌, List, [], ◌∷◌, ◌++◌, length, refl, sym, ap, subst, ◌∙◌, append_assoc, append-nil, arith, Bool, true, false, slice_index_or}
 use Rattle.std.specs.List.{Contains}
-use Rattle.xs_class.proofs.Truth.{or_left, or_right}
+use Rattle.xs_class.proofs.Truth.{neither, or_left, or_right}
 use Rattle.xs_gram.specs.declared.parts.GItem.{GItem}
 use Rattle.xs_gram.specs.declared.parts.GItem.TheVariants.{Fixed, Term, Non, Skip}
 use Rattle.xs_gram.specs.Laws.{IsDistinct}
@@ -87,9 +87,6 @@ false_true e h = cc
 not_so : (b : Bool) → (b ≡ true → ⊥) → b ≡ false
 not_so true h = absurd (h refl)
 not_so false h = refl
-
-neither : (b c : Bool) → b ≡ false → c ≡ false → (b || c) ≡ false
-neither b c e h = rw (e, h) refl
 
 module _ (fs gs : List (ℕ × ℕ)) (once : IsDistinct (fence_symbols gs)) (more : (l r : ℕ) → IsFence fs l r → IsFence gs l r) where
   -- a fence of the more is one of the fewer, or neither of its symbols is of those

@@ -7,17 +7,14 @@ use Rattle.xs_gram.specs.Grammar.{Grammar}
 use Rattle.xs_gram.specs.Fences.{is_fence, after_word, split_word, spread_items}
 use Rattle.xs_gram.specs.Loose.{loose_fixed}
 use Rattle.xs_gram.proofs.Levels.{cons_parts, cons_same}
+use Rattle.xs_gram.proofs.Spreading.{after_longer}
 use Rattle.xs_check_laws.specs.Words.{after_own, split_own, split_words}
 use Rattle.xs_check_laws.proofs.Words.{Words, no_words, word_then}
 
-word_append : (before : List ℕ) (is js : List GItem) → after_word before (is ++ js) ≡ after_word before is ++ js
-word_append [] is js = refl
-word_append (s ∷ before) is js = refl
-
 split_append : (fs : List (ℕ × ℕ)) (before w : List ℕ) (is js : List GItem) → split_word fs before w (is ++ js) ≡ split_word fs before w is ++ js
-split_append fs before [] is js = word_append before is js
+split_append fs before [] is js = after_longer before is js
 split_append fs before (s ∷ w) is js =
-    let t : after_word before (Fixed (s ∷ []) ∷ split_word fs [] w (is ++ js)) ≡ after_word before (Fixed (s ∷ []) ∷ split_word fs [] w is) ++ js = ap (λ (x : List GItem). after_word before (Fixed (s ∷ []) ∷ x)) (split_append fs [] w is js) ∙ word_append before (Fixed (s ∷ []) ∷ split_word fs [] w is) js in
+    let t : after_word before (Fixed (s ∷ []) ∷ split_word fs [] w (is ++ js)) ≡ after_word before (Fixed (s ∷ []) ∷ split_word fs [] w is) ++ js = ap (λ (x : List GItem). after_word before (Fixed (s ∷ []) ∷ x)) (split_append fs [] w is js) ∙ after_longer before (Fixed (s ∷ []) ∷ split_word fs [] w is) js in
     let f : split_word fs (before ++ s ∷ []) w (is ++ js) ≡ split_word fs (before ++ s ∷ []) w is ++ js = split_append fs (before ++ s ∷ []) w is js in
     elim (is_fence fs s) as (λ b. ◌≡◌ {A = List GItem} (elim b [ true ↦ after_word before (Fixed (s ∷ []) ∷ split_word fs [] w (is ++ js)) | false ↦ split_word fs (before ++ s ∷ []) w (is ++ js) ]) (elim b [ true ↦ after_word before (Fixed (s ∷ []) ∷ split_word fs [] w is) | false ↦ split_word fs (before ++ s ∷ []) w is ] ++ js)) [ true ↦ t | false ↦ f ]
 

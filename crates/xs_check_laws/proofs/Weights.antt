@@ -36,7 +36,7 @@ greatest_once e h p q = cc
 deepest_once : {a b c v w x y z : ℕ} → v ≡ max (capped (suc a)) (max b c) → w ≡ max (capped (suc x)) (max y z) → a ≡ x → b ≡ y → c ≡ z → v ≡ w
 deepest_once e h p q r = cc
 
-members_once : {g : Grammar} {c n k j : ℕ} → Members g c n k → Members g c n j → k ≡ j
+pub members_once : {g : Grammar} {c n k j : ℕ} → Members g c n k → Members g c n j → k ≡ j
 members_once no_member no_member = refl
 members_once (member_next a m) (member_next b l) = ap suc (members_once m l)
 members_once (member_next a m) (other_next b l) = absurd (b a)
@@ -51,7 +51,7 @@ member_not_fixed g c l (Non n s) m e = cc
 member_not_fixed g c l (Skip k) m e = m
 
 -- two readings of one stretch as a group and what follows it
-groups_once : {fs : List (ℕ × ℕ)} {l r m s : ℕ} {a b x y is : List GItem} → IsDistinct (fence_symbols fs) → IsFence fs l r → IsFence fs m s → IsLevel fs a → IsLevel fs b → is ≡ grouped l a r x → is ≡ grouped m b s y → IsOnce a b r s x y
+pub groups_once : {fs : List (ℕ × ℕ)} {l r m s : ℕ} {a b x y is : List GItem} → IsDistinct (fence_symbols fs) → IsFence fs l r → IsFence fs m s → IsLevel fs a → IsLevel fs b → is ≡ grouped l a r x → is ≡ grouped m b s y → IsOnce a b r s x y
 groups_once {fs} once f h i j e k = level_once fs once i j f h (cons_parts (sym e ∙ k)).1
 
 module _ (g : Grammar) (once : IsDistinct (fence_symbols g.fences)) where
@@ -126,7 +126,7 @@ pub rule_weighs_once : RuleWeighsOnce
 rule_weighs_once g once p v w a b = greatest_once a.4 b.4 (part_once g once a.2 b.2 refl) (insides_once g once a.3 b.3 refl)
 
 -- a component is named by any of its members
-members_moved : {g : Grammar} {c d n k : ℕ} → Members g d n k → AreOne g c d → Members g c n k
+pub members_moved : {g : Grammar} {c d n k : ℕ} → Members g d n k → AreOne g c d → Members g c n k
 members_moved no_member o = no_member
 members_moved (member_next a m) o = member_next (one_on o a) (members_moved m o)
 members_moved (other_next a m) o = other_next (λ h. a (one_on (one_back o) h)) (members_moved m o)
