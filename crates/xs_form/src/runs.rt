@@ -196,19 +196,7 @@ pub fn is_name_text(text: &[Sym]) -> bool
 pub fn equal(one: &[Sym], other: &[Sym]) -> bool
     ensures { result ≡ same one.now other.now }
 {
-    let mut rest = other;
-    'symbols: for symbol in one {
-        match rest {
-            [] => return false,
-            [first, others @ ..] => {
-                if symbol.number() != first.number() {
-                    return false;
-                }
-                rest = others;
-            }
-        }
-    }
-    rest.is_empty()
+    one == other
 }
 
 /// Whether the text is this ASCII word.

@@ -23,7 +23,8 @@ use Rattle.xs_stretch_laws.proofs.Among.{Among}
 use Rattle.xs_stretch_laws.proofs.Paths as P
 use Rattle.xs_stretch_laws.proofs.Paths.{Path, path_on, path_one}
 use Rattle.xs_stretch_laws.proofs.Blocks.{Entering, Along, Within, within_all, within_as, within_on, within_left, within_right, within_first, within_rest, moved, crossed, word_path, automaton_path}
-use Rattle.xs_stretch_laws.proofs.Finding.{members_once, members_below, SameGroup, group_once, body_state, body_first, body_last, ItemFound, found_member, found_other, found_moved, GroupFound, group_moved, item_found, group_found, rule_state, RuleFound, rule_found}
+use Rattle.xs_check_laws.proofs.Weights.{members_once}
+use Rattle.xs_stretch_laws.proofs.Finding.{members_below, SameGroup, group_once, body_state, body_first, body_last, ItemFound, found_member, found_other, found_moved, GroupFound, group_moved, item_found, group_found, rule_state, RuleFound, rule_found}
 
 non_same : {m n s t : ℕ} → Non m s ≡ Non n t → m ≡ n
 non_same e = cc
