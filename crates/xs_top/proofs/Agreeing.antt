@@ -20,6 +20,8 @@ use Rattle.xs_top.specs.Documents.{IsWordOf, IsDocument}
 use Rattle.xs_top.specs.Checks.{IsSure}
 use Rattle.xs_top.specs.Ran.{IsOfLanguage, IsReadable, IsReadableOutline, IsDoable}
 use Rattle.xs_top.specs.Laws.{PairsAgree, SheetsAgree, OutlinesAgree, ScriptsAgree}
+use Rattle.xs_top.specs.Certificates.{CertificatesAgree}
+use Rattle.xs_cert_alike.specs.Laws.{AlikeHaveSameCertificates}
 use Rattle.xs_top.proofs.Outlines.{outline_kept}
 use Rattle.xs_top.proofs.Playing.{played_kept}
 
@@ -36,6 +38,9 @@ pub scripts_agree_lem : OnePairOfBytes → AlikePairsMeanTheSame → ScriptsAgre
 scripts_agree_lem one mean bytes p q is_p is_q script answer is =
     let alike = one bytes is_p.sheet is_q.sheet p q is_p.spelled is_q.spelled is_p.pair is_q.pair in
     played_kept p q alike (mean p q alike) script answer is
+
+pub certificates_agree_lem : OnePairOfBytes → AlikeHaveSameCertificates → CertificatesAgree
+certificates_agree_lem one same bytes p q is_p is_q built other = same p q (one bytes is_p.sheet is_q.sheet p q is_p.spelled is_q.spelled is_p.pair is_q.pair) built other
 
 -- one side of two pairs
 pub on_side : (p q : Pair) → P.MeanTheSame p q → (side : Side) → M.MeanTheSame (grammar_of p side) (grammar_of q side)

@@ -46,7 +46,7 @@ module _ {H : Type 0} (files : H → Files) (faults : H → ℕ) (own : H → Li
   uncertain_since p (Heavy weight) why = why
   uncertain_since p CertFault (light, failed) = (light, failed_since (files old) (files mid) cert (faults old) (faults mid) (faults now) (own old cert) (own mid cert) (own now cert) same later own_later failed)
   uncertain_since p CertLong (light, long) = (light, subst (λ (f : Files). IsLongFile f cert 268435456) same long)
-  uncertain_since p (CertBad line) (light, bytes, are, bad) = (light, bytes, subst (λ (f : Files). IsFile f cert bytes 268435456) same are, bad)
+  uncertain_since p (CertBad line) (light, built, bytes, are, bad) = (light, built, bytes, subst (λ (f : Files). IsFile f cert bytes 268435456) same are, bad)
   uncertain_since p o why = absurd why
 
 -- the two grammars are not certified

@@ -35,6 +35,7 @@ use Rattle.xs_top.specs.Certifying.{IsUncertain, IsUncertified}
 use Rattle.xs_sheet.specs.Grammar.{IsSheetOf}
 use Rattle.xs_top.specs.Known.{HasBytes}
 use Rattle.xs_top.specs.Sheets.{core_bytes, IsFailed, IsPairOfBytes, IsUnpaired}
+use Rattle.xs_top.specs.Certificates.{CertificatesAgree}
 use Rattle.xs_top.specs.Laws.{PairsAgree, SheetsAgree, OutlinesAgree}
 use Rattle.xs_top.proofs.FencesOnce.{once_in_text, once_in_xml}
 use Rattle.xs_top.proofs.Known.{has_only, has_short, spelled_pair}
@@ -239,21 +240,22 @@ module _ (law : OneReading) (weigh : RuleWeighsOnce) (agree : PairsAgree) (well 
     not_unpaired (CertBad line) (inr (bytes, are, why)) = absurd why
 
   -- nor is the certificate of an accepted sheet, where it is known
-  not_uncertain : (run : Run) (sheet : Named) (cert : List ℕ) (is : IsCertifiable run sheet cert) (p : Pair) → IsPairOfBytes is.known.bytes p → IsAccepted p.text p.xml → (o : Outcome) → IsUncertain p run.shelf cert o → ⊥
-  not_uncertain run sheet cert is p is_p accepted (Heavy weight) why = not_heavy weigh is.known.bytes p is_p weight accepted why
-  not_uncertain run sheet cert is p is_p accepted CertFault why = is.cert_sure why.1
-  not_uncertain run sheet cert is p is_p accepted CertLong why = file_short run.shelf.files cert is.certificate is.has why.1
-  not_uncertain run sheet cert is p is_p accepted (CertBad line) (light, bytes, are, bad) =
-      bad.none (subst (λ (b : List ℕ). IsCertificate p b) (sym (file_only run.shelf.files cert is.certificate bytes is.has are)) (is.shows p is_p))
-  not_uncertain run sheet cert is p is_p accepted o why = absurd why
+  not_uncertain : CertificatesAgree → (run : Run) (sheet : Named) (cert : List ℕ) (is : IsCertifiable run sheet cert) (p : Pair) → IsPairOfBytes is.known.bytes p → IsAccepted p.text p.xml → (o : Outcome) → IsUncertain p run.shelf cert o → ⊥
+  not_uncertain certificates run sheet cert is p is_p accepted (Heavy weight) why = not_heavy weigh is.known.bytes p is_p weight accepted why
+  not_uncertain certificates run sheet cert is p is_p accepted CertFault why = is.cert_sure why.1
+  not_uncertain certificates run sheet cert is p is_p accepted CertLong why = file_short run.shelf.files cert is.certificate is.has why.1
+  not_uncertain certificates run sheet cert is p is_p accepted (CertBad line) (light, built, bytes, are, bad) =
+      let shows : IsCertificate p is.certificate = ((certificates is.known.bytes is.known.pair p is.known.spelled is_p is.built built).certificate is.certificate).0 is.shows in
+      bad.none (subst (λ (b : List ℕ). IsCertificate p b) (sym (file_only run.shelf.files cert is.certificate bytes is.has are)) shows)
+  not_uncertain certificates run sheet cert is p is_p accepted o why = absurd why
 
-  not_uncertified : (run : Run) (sheet : Named) (cert : List ℕ) → IsCertifiable run sheet cert → (o : Outcome) → IsUncertified run.shelf sheet cert o → ⊥
-  not_uncertified run sheet cert is o (inl why) = not_unpaired run sheet is.known.bytes is.known.pair is.known.sheet_sure is.known.has is.known.spelled o why
-  not_uncertified run sheet cert is o (inr (p, spells, why)) =
+  not_uncertified : CertificatesAgree → (run : Run) (sheet : Named) (cert : List ℕ) → IsCertifiable run sheet cert → (o : Outcome) → IsUncertified run.shelf sheet cert o → ⊥
+  not_uncertified certificates run sheet cert is o (inl why) = not_unpaired run sheet is.known.bytes is.known.pair is.known.sheet_sure is.known.has is.known.spelled o why
+  not_uncertified certificates run sheet cert is o (inr (p, spells, why)) =
       let spelled : IsPairOfBytes is.known.bytes p = spelled_pair run.shelf.files sheet is.known.bytes p is.known.has spells in
-      not_uncertain run sheet cert is p spelled ((agree is.known.bytes is.known.pair p is.known.spelled spelled).checked.accepted.0 is.accepted) o why
+      not_uncertain certificates run sheet cert is p spelled ((agree is.known.bytes is.known.pair p is.known.spelled spelled).checked.accepted.0 is.accepted) o why
 
-  module _ (outlines : OutlinesAgree) (run : Run) (honest : IsHonest run) where
+  module _ (outlines : OutlinesAgree) (certificates : CertificatesAgree) (run : Run) (honest : IsHonest run) where
     its_clear : (sheet : Named) (job : Job) → asked run.words ≡ Some (by sheet job) → IsClear run sheet job
     its_clear sheet job is = subst (λ (a : Ask). IsFree run a) (same_ask honest.ask (by sheet job) (sym honest.is ∙ is)) honest.free
 
@@ -290,7 +292,7 @@ module _ (law : OneReading) (weigh : RuleWeighsOnce) (agree : PairsAgree) (well 
     went_done o names (shipped_written core is read took) = took_done (core_bytes core) o took
     went_done o names (not_upgraded sheet is why read took) = let known = its_sheet sheet is in absurd (not_unpaired run sheet known.bytes known.pair known.sheet_sure known.has known.spelled o why)
     went_done o names (upgrade_written sheet answer is spells read took) = took_done answer o took
-    went_done o names (uncertified sheet cert is why read took) = absurd (not_uncertified run sheet cert (its_certificate sheet cert is) o why)
+    went_done o names (uncertified sheet cert is why read took) = absurd (not_uncertified certificates run sheet cert (its_certificate sheet cert is) o why)
     went_done o names (certified sheet cert answer is certifies read took) = took_done answer o took
     went_done o names (unpaired sheet job is why read took) = let clear = its_clear sheet job is in absurd (not_unpaired run sheet clear.bytes clear.pair clear.sheet_sure clear.has clear.spelled o why)
     went_done o names (undone sheet job p is spells why took) =
@@ -304,9 +306,9 @@ module _ (law : OneReading) (weigh : RuleWeighsOnce) (agree : PairsAgree) (well 
     told_done o result names went (inl told) = told.0 ∙ went_done o names went
     told_done o result names went (inr (of, written, is, fails)) = absurd (honest.notes_sure fails.rose)
 
-pub complete : OneReading → RuleWeighsOnce → PairsAgree → SheetsAgree → OutlinesAgree → (run : Run) (result : Outcome) → Told run result → IsComplete run result
-complete law weigh agree well outlines run result (o, names, went, tells) honest = told_done law weigh agree well outlines run honest o result names went tells
+pub complete : OneReading → RuleWeighsOnce → PairsAgree → SheetsAgree → OutlinesAgree → CertificatesAgree → (run : Run) (result : Outcome) → Told run result → IsComplete run result
+complete law weigh agree well outlines certificates run result (o, names, went, tells) honest = told_done law weigh agree well outlines certificates run honest o result names went tells
 
-pub complete_if : OneReading → RuleWeighsOnce → PairsAgree → SheetsAgree → OutlinesAgree → (run : Run) (r : Result Outcome Refusal) → IfOk r (Told run) → IfOk r (IsComplete run)
-complete_if law weigh agree well outlines run (Ok result) told = complete law weigh agree well outlines run result told
-complete_if law weigh agree well outlines run (Err e) told = told
+pub complete_if : OneReading → RuleWeighsOnce → PairsAgree → SheetsAgree → OutlinesAgree → CertificatesAgree → (run : Run) (r : Result Outcome Refusal) → IfOk r (Told run) → IfOk r (IsComplete run)
+complete_if law weigh agree well outlines certificates run (Ok result) told = complete law weigh agree well outlines certificates run result told
+complete_if law weigh agree well outlines certificates run (Err e) told = told

@@ -16,4 +16,5 @@ mod Deciding
 mod Back
 mod Exactly
 mod Verdicts
+mod Certificates
 mod Showing

@@ -3,6 +3,7 @@ use Rattle.std.specs.Prelude.{◌≡◌, ◌⊎◌, ℕ, ◌≤◌, List, length
 use Rattle.xs_io.specs.Shown.{Files, IsFile, IsLongFile, NameFailed}
 use Rattle.xs_check_laws.specs.Acceptance.{IsLight, IsFirstHeavy}
 use Rattle.xs_cert_laws.specs.Certificates.{IsCertificate, IsBadAt}
+use Rattle.xs_cert_alike.specs.Laws.{AreBuilt}
 use Rattle.xs_words.specs.Command.{Sheet as Named}
 use Rattle.xs_pair.specs.Grammars.{Pair}
 use Rattle.xs_talk.specs.Counts.{accepted_line}
@@ -22,6 +23,7 @@ pub record HasCertificate (files : Files) (cert : List ℕ) (p : Pair) : Type 0 
 pub record IsCertified (files : Files) (sheet : Named) (cert answer : List ℕ) : Type 0 where
   pub pair : Pair
   pub spelled : SpellsPair files sheet pair
+  pub built : AreBuilt pair
   pub certificate : HasCertificate files cert pair
   pub sure : IsSure pair
   pub is : answer ≡ accepted_line pair
@@ -41,7 +43,7 @@ abbrev pub IsUncertain : Pair → Shelves → List ℕ → Outcome → Type 0
 IsUncertain p shelf cert (Heavy weight) = IsFirstHeavy p.text p.xml weight
 IsUncertain p shelf cert CertFault = AreLight p × NameFailed shelf.files cert shelf.faults_before shelf.faults_now (shelf.name_before cert) (shelf.name_now cert)
 IsUncertain p shelf cert CertLong = AreLight p × IsLongFile shelf.files cert 268435456
-IsUncertain p shelf cert (CertBad line) = AreLight p × (bytes : List ℕ) × IsFile shelf.files cert bytes 268435456 × IsBadAt p bytes line
+IsUncertain p shelf cert (CertBad line) = AreLight p × AreBuilt p × (bytes : List ℕ) × IsFile shelf.files cert bytes 268435456 × IsBadAt p bytes line
 IsUncertain p shelf cert other = ⊥
 
 -- why the sheet is not accepted by the file

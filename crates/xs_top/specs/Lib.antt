@@ -13,3 +13,4 @@ pub mod Covering
 pub mod Ran
 pub mod Runs
 pub mod Laws
+pub mod Certificates

@@ -33,6 +33,7 @@ use Rattle.xs_top.specs.Covering.{IsCovered}
 use Rattle.xs_io.specs.Shown.{NameFailed}
 use Rattle.xs_cert_laws.specs.Certificates.{IsCertificate}
 use Rattle.xs_cert_laws.specs.Exact.{IsProof}
+use Rattle.xs_cert_alike.specs.Laws.{AreBuilt}
 use Rattle.xs_top.specs.Certifying.{IsCertified, IsUncertified, HasFile}
 
 -- the input was read to its end, and is these bytes
@@ -50,7 +51,7 @@ IsAnswer p i Session answer = IsSure p × (bytes : List ℕ) × Takes i bytes ×
 IsAnswer p i (ToTree from form) answer = IsSure p × (bytes : List ℕ) × Takes i bytes × IsOutlined p from form bytes answer
 IsAnswer p i (FromTree to) answer = IsSure p × (bytes : List ℕ) × Takes i bytes × IsMadeOfOutline p to bytes answer
 IsAnswer p i Cover answer = ReadNothing i × IsCovered p answer
-IsAnswer p i Prove answer = ReadNothing i × IsSure p × IsProof p answer
+IsAnswer p i Prove answer = ReadNothing i × IsSure p × AreBuilt p × IsProof p answer
 
 -- why the input cannot be had
 abbrev pub IsUntaken : Input → Outcome → Type 0
@@ -210,15 +211,16 @@ pub record IsKnown (run : Run) (sheet : Named) : Type 0 where
   pub pair : Pair
   pub spelled : IsPairOfBytes bytes pair
 
--- The sheet is known and accepted, and the file of this name, which did not fail, is known to be a certificate of any
--- two grammars that the sheet spells.
+-- The sheet is known and accepted, and the file of this name, which did not fail, is known to be a certificate of its
+-- two grammars.
 pub record IsCertifiable (run : Run) (sheet : Named) (cert : List ℕ) : Type 0 where
   pub known : IsKnown run sheet
   pub accepted : IsAccepted known.pair.text known.pair.xml
   pub cert_sure : NameFailed run.shelf.files cert run.shelf.faults_before run.shelf.faults_now (run.shelf.name_before cert) (run.shelf.name_now cert) → ⊥
   pub certificate : List ℕ
   pub has : HasFile run.shelf.files cert certificate
-  pub shows : (p : Pair) → IsPairOfBytes known.bytes p → IsCertificate p certificate
+  pub built : AreBuilt known.pair
+  pub shows : IsCertificate known.pair certificate
 
 -- nothing stands against what is asked for; never against a shipped sheet
 abbrev pub IsFree : Run → Ask → Type 0

@@ -1,21 +1,26 @@
+ghost use Rattle.xs_top.specs.Certificates.{CertificatesAgree, ProofIsTaken, OneCertificate};
 ghost use Rattle.xs_top.specs.Laws.{PairsAgree, SheetsAgree, OutlinesAgree, ScriptsAgree, OneAnswer, TranslatesBack, RoundIsIdempotent, TranslatesAgain, RefusesExactly, OneVerdict, CheckDecides, CheckDecidesUpgrades, CheckDecidesCertificates, CheckAccepts};
 
+use xs_cert_alike::alike_have_same_certificates;
 use xs_check_laws::weights_are_exact;
 use xs_sheet_laws::{alike_pairs_mean_the_same, alike_sheets_mean_the_same, one_pair, one_sheet};
 use xs_xml::one_word;
 
 /// Two pairs of grammars of the same bytes mean the same, and so do two sheets; an outline is of the
-/// same tree by either pair, and a script has the same answers.
+/// same tree by either pair, a script has the same answers, and pairs that are built have the same
+/// certificates.
 pub fn bytes_agree()
     ensures pairs { PairsAgree }
     ensures sheets { SheetsAgree }
     ensures outlines { OutlinesAgree }
     ensures scripts { ScriptsAgree }
+    ensures certificates { CertificatesAgree }
 {
     one_sheet();
     alike_sheets_mean_the_same();
     one_pair();
     alike_pairs_mean_the_same();
+    alike_have_same_certificates();
 }
 
 /// Two runs that turn the same document by the same sheet write the same.
@@ -66,6 +71,18 @@ pub fn check_decides()
     ensures upgrades { CheckDecidesUpgrades }
     ensures certificates { CheckDecidesCertificates }
     ensures accepts { CheckAccepts }
+{
+    one_word();
+    weights_are_exact();
+    bytes_agree();
+}
+
+/// What `prove` wrote of a sheet is taken as its certificate by every check of that sheet. Of two
+/// checks of a sheet by one certificate none refuses what the other takes, and both refuse it at the
+/// same line.
+pub fn certificates_decide()
+    ensures taken { ProofIsTaken }
+    ensures one { OneCertificate }
 {
     one_word();
     weights_are_exact();

@@ -38,7 +38,8 @@ use crate::written::written;
 pub use answer::DOCUMENT_LIMIT;
 pub use certified::CERTIFICATE_LIMIT;
 pub use laws::{
-    bytes_agree, check_decides, one_answer, refuses_exactly, round_is_idempotent, translates_back,
+    bytes_agree, certificates_decide, check_decides, one_answer, refuses_exactly,
+    round_is_idempotent, translates_back,
 };
 pub use outcome::status;
 pub use sheets::SHEET_LIMIT;

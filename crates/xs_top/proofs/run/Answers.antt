@@ -22,7 +22,7 @@ returns-in-Ok-clause-told g c =
     upgraded_told _ (sheet_meant c.in-Some-Upgrade.sheet) c.in-Ok.answer c.as_slice.result.now c.written-in-Ok.result (sym c.asked.ensures.ask ∙ ap (λ o. option_map ask_meant o) c.in-Some-Upgrade.is ∙ ap (λ a. Some (ask_meant a)) c.in-Some-Upgrade.field-0-is) c.in-Ok.ensures.upgrade (record { left = refl; faults = refl }) c.as_slice.ensures c.written-in-Ok.ensures
 
 pub returns-in-Ok-clause-complete : goal.returns-in-Ok-clause-complete
-returns-in-Ok-clause-complete g c = complete c.one_word.ensures c.weights_are_exact.ensures.rule c.bytes_agree.ensures.pairs c.bytes_agree.ensures.sheets c.bytes_agree.ensures.outlines _ c.written-in-Ok.result (returns-in-Ok-clause-told g c)
+returns-in-Ok-clause-complete g c = complete c.one_word.ensures c.weights_are_exact.ensures.rule c.bytes_agree.ensures.pairs c.bytes_agree.ensures.sheets c.bytes_agree.ensures.outlines c.bytes_agree.ensures.certificates _ c.written-in-Ok.result (returns-in-Ok-clause-told g c)
 
 pub returns-in-Err-Refused-clause-told : goal.returns-in-Err-Refused-clause-told
 returns-in-Err-Refused-clause-told g c =
@@ -33,14 +33,14 @@ returns-in-Err-Refused-clause-told g c =
     (record { left = refl; faults = refl }) (record { taken = refl; faults = refl }) c.in_ok-none.ensures c.tell.ensures.told
 
 pub returns-in-Err-Refused-clause-complete : goal.returns-in-Err-Refused-clause-complete
-returns-in-Err-Refused-clause-complete g c = complete_if c.one_word.ensures c.weights_are_exact.ensures.rule c.bytes_agree.ensures.pairs c.bytes_agree.ensures.sheets c.bytes_agree.ensures.outlines _ c.tell.result (returns-in-Err-Refused-clause-told g c)
+returns-in-Err-Refused-clause-complete g c = complete_if c.one_word.ensures c.weights_are_exact.ensures.rule c.bytes_agree.ensures.pairs c.bytes_agree.ensures.sheets c.bytes_agree.ensures.outlines c.bytes_agree.ensures.certificates _ c.tell.result (returns-in-Err-Refused-clause-told g c)
 
 pub returns-in-Ok-certified-clause-told : goal.returns-in-Ok-certified-clause-told
 returns-in-Ok-certified-clause-told g c =
     certified_told _ (sheet_meant c.in-Some-Certify.sheet) c.in-Some-Certify.cert.now c.in-Ok-certified.answer c.as_slice-in-Ok-certified.result.now c.written-in-Ok-certified.result (sym c.asked.ensures.ask ∙ ap (λ o. option_map ask_meant o) c.in-Some-Certify.is ∙ ap (λ a. Some (ask_meant a)) c.in-Some-Certify.field-0-is) c.in-Ok-certified.ensures.answer (record { left = refl; faults = refl }) c.as_slice-in-Ok-certified.ensures c.written-in-Ok-certified.ensures
 
 pub returns-in-Ok-certified-clause-complete : goal.returns-in-Ok-certified-clause-complete
-returns-in-Ok-certified-clause-complete g c = complete c.one_word.ensures c.weights_are_exact.ensures.rule c.bytes_agree.ensures.pairs c.bytes_agree.ensures.sheets c.bytes_agree.ensures.outlines _ c.written-in-Ok-certified.result (returns-in-Ok-certified-clause-told g c)
+returns-in-Ok-certified-clause-complete g c = complete c.one_word.ensures c.weights_are_exact.ensures.rule c.bytes_agree.ensures.pairs c.bytes_agree.ensures.sheets c.bytes_agree.ensures.outlines c.bytes_agree.ensures.certificates _ c.written-in-Ok-certified.result (returns-in-Ok-certified-clause-told g c)
 
 pub returns-in-Err-Refused-certified-clause-told : goal.returns-in-Err-Refused-certified-clause-told
 returns-in-Err-Refused-certified-clause-told g c =
@@ -51,7 +51,7 @@ returns-in-Err-Refused-certified-clause-told g c =
     (record { left = refl; faults = refl }) (record { taken = refl; faults = refl }) c.in_ok-none.ensures c.tell-in-Err-Refused-certified.ensures.told
 
 pub returns-in-Err-Refused-certified-clause-complete : goal.returns-in-Err-Refused-certified-clause-complete
-returns-in-Err-Refused-certified-clause-complete g c = complete_if c.one_word.ensures c.weights_are_exact.ensures.rule c.bytes_agree.ensures.pairs c.bytes_agree.ensures.sheets c.bytes_agree.ensures.outlines _ c.tell-in-Err-Refused-certified.result (returns-in-Err-Refused-certified-clause-told g c)
+returns-in-Err-Refused-certified-clause-complete g c = complete_if c.one_word.ensures c.weights_are_exact.ensures.rule c.bytes_agree.ensures.pairs c.bytes_agree.ensures.sheets c.bytes_agree.ensures.outlines c.bytes_agree.ensures.certificates _ c.tell-in-Err-Refused-certified.result (returns-in-Err-Refused-certified-clause-told g c)
 
 pub returns-in-Err-Refused-pair_for-clause-told : goal.returns-in-Err-Refused-pair_for-clause-told
 returns-in-Err-Refused-pair_for-clause-told g c =
@@ -63,14 +63,14 @@ returns-in-Err-Refused-pair_for-clause-told g c =
     (record { left = refl; faults = refl }) (record { taken = refl; faults = refl }) c.in_ok-none.ensures told
 
 pub returns-in-Err-Refused-pair_for-clause-complete : goal.returns-in-Err-Refused-pair_for-clause-complete
-returns-in-Err-Refused-pair_for-clause-complete g c = complete_if c.one_word.ensures c.weights_are_exact.ensures.rule c.bytes_agree.ensures.pairs c.bytes_agree.ensures.sheets c.bytes_agree.ensures.outlines _ c.tell-in-Err-Refused-pair_for.result (returns-in-Err-Refused-pair_for-clause-told g c)
+returns-in-Err-Refused-pair_for-clause-complete g c = complete_if c.one_word.ensures c.weights_are_exact.ensures.rule c.bytes_agree.ensures.pairs c.bytes_agree.ensures.sheets c.bytes_agree.ensures.outlines c.bytes_agree.ensures.certificates _ c.tell-in-Err-Refused-pair_for.result (returns-in-Err-Refused-pair_for-clause-told g c)
 
 pub returns-in-Ok-answer_of-clause-told : goal.returns-in-Ok-answer_of-clause-told
 returns-in-Ok-answer_of-clause-told g c =
     answered_told _ (sheet_meant c.in-Some-By.sheet) c.in-Some-By.job c.in-Ok-pair_for.two c.in-Ok-answer_of.answer c.as_slice-in-Ok-answer_of.result.now c.written-in-Ok-answer_of.result (sym c.asked.ensures.ask ∙ ap (λ o. option_map ask_meant o) c.in-Some-By.is ∙ ap (λ a. Some (ask_meant a)) c.in-Some-By.field-0-is) c.in-Ok-pair_for.ensures.pair c.in-Ok-answer_of.ensures.answer c.as_slice-in-Ok-answer_of.ensures c.written-in-Ok-answer_of.ensures
 
 pub returns-in-Ok-answer_of-clause-complete : goal.returns-in-Ok-answer_of-clause-complete
-returns-in-Ok-answer_of-clause-complete g c = complete c.one_word.ensures c.weights_are_exact.ensures.rule c.bytes_agree.ensures.pairs c.bytes_agree.ensures.sheets c.bytes_agree.ensures.outlines _ c.written-in-Ok-answer_of.result (returns-in-Ok-answer_of-clause-told g c)
+returns-in-Ok-answer_of-clause-complete g c = complete c.one_word.ensures c.weights_are_exact.ensures.rule c.bytes_agree.ensures.pairs c.bytes_agree.ensures.sheets c.bytes_agree.ensures.outlines c.bytes_agree.ensures.certificates _ c.written-in-Ok-answer_of.result (returns-in-Ok-answer_of-clause-told g c)
 
 pub returns-in-Err-Refused-answer_of-clause-told : goal.returns-in-Err-Refused-answer_of-clause-told
 returns-in-Err-Refused-answer_of-clause-told g c =
@@ -78,4 +78,4 @@ returns-in-Err-Refused-answer_of-clause-told g c =
     (record { taken = refl; faults = refl }) c.names.ensures c.tell-in-Err-Refused-answer_of.ensures.told
 
 pub returns-in-Err-Refused-answer_of-clause-complete : goal.returns-in-Err-Refused-answer_of-clause-complete
-returns-in-Err-Refused-answer_of-clause-complete g c = complete_if c.one_word.ensures c.weights_are_exact.ensures.rule c.bytes_agree.ensures.pairs c.bytes_agree.ensures.sheets c.bytes_agree.ensures.outlines _ c.tell-in-Err-Refused-answer_of.result (returns-in-Err-Refused-answer_of-clause-told g c)
+returns-in-Err-Refused-answer_of-clause-complete g c = complete_if c.one_word.ensures c.weights_are_exact.ensures.rule c.bytes_agree.ensures.pairs c.bytes_agree.ensures.sheets c.bytes_agree.ensures.outlines c.bytes_agree.ensures.certificates _ c.tell-in-Err-Refused-answer_of.result (returns-in-Err-Refused-answer_of-clause-told g c)
