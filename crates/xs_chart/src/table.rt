@@ -11,6 +11,9 @@ use xs_class::Memory;
 /// How many slots the table of a new list has.
 const FIRST_SLOTS: usize = 32;
 
+/// The slots of fewer items than this are not emptied: what they have leads to few other items.
+const FEW_ITEMS: usize = 4;
+
 /// As many slots as this are emptied together in the time of one by itself.
 const SLOTS_AT_ONCE: usize = 8;
 
@@ -195,11 +198,15 @@ fn link_all(
     }
 }
 
-/// Empties the slots of the items; all slots, where there are few for each item.
+/// Empties the slots of the items, unless there are few items; all slots, where there are few for each
+/// item.
 fn clear_slots(heads: &mut [u32], items: &[Item])
     requires { 0 < length heads.old }
     ensures { length heads.new ≡ length heads.old }
 {
+    if items.len() < FEW_ITEMS {
+        return;
+    }
     if heads.len() / SLOTS_AT_ONCE <= items.len() {
         heads.fill(0);
         return;
