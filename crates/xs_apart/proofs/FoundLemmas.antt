@@ -1,5 +1,5 @@
 -- What the map of marks says of the pairs that were found.
-use Rattle.std.proofs.Common.{◌≡◌, ◌≢◌, ℕ, suc, ◌+◌, ◌*◌, ◌/◌, ◌%◌, ◌^◌, ◌<◌, ◌≤◌, Bool, true, false, not, nat_eq, bit_and, List, [], ◌∷◌, ◌++◌, length, get_or, set, refl, sym, ap, subst, eqb-true, ◌∙◌, inl, inr, arith, slice_get, length-set, get_or-set_same, get_or-set_other}
+use Rattle.std.proofs.Common.{◌≡◌, ◌≢◌, ℕ, ◌+◌, ◌*◌, ◌/◌, ◌%◌, ◌^◌, ◌<◌, ◌≤◌, Bool, true, false, not, nat_eq, bit_and, List, [], ◌∷◌, ◌++◌, length, get_or, set, refl, sym, ap, subst, eqb-true, ◌∙◌, inl, inr, arith, slice_get, length-set, get_or-set_same, get_or-set_other}
 use Rattle.std.proofs.Math.Nat.{mul-le-mul_right}
 use Rattle.std.specs.Int.{bit_at}
 use Rattle.std.specs.declared.option.Option.TheVariants.{Some}
@@ -9,8 +9,8 @@ use Rattle.std.proofs.lemmas.List.Elements.{Contains-append_left, Contains-push,
 use Rattle.std.proofs.lemmas.Nat.Bits.{bit_at-zero}
 use Rattle.std.proofs.lemmas.Option.{slice_get_within}
 use Rattle.xs_class.proofs.Lists.{some_same, get_of, one_cell}
-use Rattle.xs_auto.specs.Bits.{bit_of, bits_of}
-use Rattle.xs_auto.proofs.BitLemmas.{bit_read, set_bits, with_bit, fresh_bit}
+use Rattle.xs_auto.specs.Bits.{bit_of}
+use Rattle.xs_auto.proofs.BitLemmas.{bit_there, with_bit, fresh_bit}
 use Rattle.xs_apart.specs.declared.pair.Pair.{Pair}
 use Rattle.xs_apart.specs.declared.found.Found.{Found}
 use Rattle.xs_coarse.specs.Coarse.{Net}
@@ -23,12 +23,6 @@ cell_word h w a b n la lb room =
     let m : (a + 1) * w ≤ h * w = mul-le-mul_right w (omega arith) in
     omega (arith, m)
 
--- the bits of other cells are as they were
-bit_other : (words : List ℕ) (c k : ℕ) → c / 64 < length words → k ≢ c → bit_of (with_bit words c) k ≡ bit_of words k
-bit_other words c k l ne =
-    let bound = suc (c + k) in
-    sym (bit_read bound (with_bit words c) k (omega arith)) ∙ ap (λ bs. get_or bs k false) (set_bits bound words c (omega arith) l) ∙ get_or-set_other (bits_of bound words) c k true false ne ∙ bit_read bound words k (omega arith)
-
 -- a new pair is marked and added
 pub fits_new : (f g : Found) (p : Pair) → Fits f → IsInside f.height f.width p → g.height ≡ f.height → g.width ≡ f.width → g.pairs.items ≡ f.pairs.items ++ p ∷ [] → g.words.items ≡ with_bit f.words.items (cell f.width p) → Fits g
 fits_new f g p h within eh ew ep es = record {
@@ -38,7 +32,7 @@ fits_new f g p h within eh ew ep es = record {
     | inl same ↦ record { of = p; has = Contains-push f.pairs.items p; is = same }
     | inr ne ↦
         let low = cell_word f.height f.width p.first p.second (length f.words.items) within.first within.second h.room in
-        let k = h.known c (sym (bit_other f.words.items (cell f.width p) c low ne) ∙ (rw es at e)) in
+        let k = h.known c (sym (bit_there f.words.items (cell f.width p) c low ne) ∙ (rw es at e)) in
         record { of = k.of; has = Contains-append_left f.pairs.items (p ∷ []) k.of k.has; is = k.is }
   ]);
 }

@@ -1,5 +1,5 @@
 -- Marks of sets of pairs.
-use Rattle.std.proofs.Common.{◌≡◌, ℕ, zero, suc, ◌==◌, ◌&&◌, ◌||◌, ◌⊎◌, ◌<◌, ◌≤◌, nat_le, Bool, true, false, List, [], ◌∷◌, refl, ap, subst, ◌∙◌, inl, inr, arith, eqb-true, slice_get}
+use Rattle.std.proofs.Common.{◌≡◌, ℕ, zero, suc, ◌==◌, ◌&&◌, ◌||◌, ◌⊎◌, ◌<◌, ◌≤◌, nat_le, Bool, true, List, [], ◌∷◌, refl, ap, subst, ◌∙◌, inl, inr, arith, eqb-true, slice_get}
 use Rattle.std.specs.declared.option.Option.TheVariants.{Some}
 use Rattle.std.specs.List.{Contains, list_any}
 use Rattle.std.proofs.lemmas.Bool.{cases_lt}
@@ -7,6 +7,7 @@ use Rattle.xs_class.proofs.Lists.{some_inj, first_in, rest_in, get_of}
 use Rattle.xs_class.proofs.Truth.{and_true, both_true, or_left, or_right, eq_self, false_true, le_is, le_true}
 use Rattle.xs_auto.specs.Nets.{Graph}
 use Rattle.xs_meet.specs.Closed.{IsApart, IsClear, AreApart}
+use Rattle.xs_meet.proofs.PhaseLemmas.{either_true}
 use Rattle.xs_apart.specs.declared.pair.Pair.{Pair}
 use Rattle.xs_apart.specs.Arcs.{HasWithin}
 use Rattle.xs_apart.specs.Found.{HasPair, pair}
@@ -30,10 +31,6 @@ mark_at (p ∷ ps) a b (suc k) e = or_right _ _ (mark_at ps a b k e)
 
 mark : (ps : List Pair) (a b : ℕ) → HasPair ps a b → has ps a b ≡ true
 mark ps a b h = let at = get_of ps (pair a b) h in mark_at ps a b at.0 at.1
-
-either_true : (a b : Bool) → (a || b) ≡ true → (a ≡ true) ⊎ (b ≡ true)
-either_true true b e = inl refl
-either_true false b e = inr e
 
 unmark : (ps : List Pair) (a b : ℕ) → has ps a b ≡ true → HasPair ps a b
 unmark [] a b e = absurd (false_true e)

@@ -11,10 +11,7 @@ use Rattle.xs_cert_lines.specs.Lines.{Lines, ended, written}
 use Rattle.xs_cert_laws.specs.Blocks.{Head, Block, head, block_lines, IsRight}
 use Rattle.xs_cert_laws.specs.Exact.{IsLeast}
 use Rattle.xs_cert.specs.Writing.{AddsBlock, AddsBlocks}
-
-written_append : (xs ys : Lines) → written (xs ++ ys) ≡ written xs ++ written ys
-written_append [] ys = refl
-written_append (x ∷ xs) ys = ap (λ z. ended x ++ z) (written_append xs ys) ∙ sym (append_assoc (ended x) (written xs) (written ys))
+use Rattle.xs_cert.proofs.Standing.{written-append}
 
 -- a line and those of a set
 pub adds_set : (o0 line : List ℕ) {o1 o2 : List ℕ} (z : Lines) → o1 ≡ o0 ++ ended line → o2 ≡ o1 ++ written z → o2 ≡ o0 ++ written (line ∷ z)
@@ -26,13 +23,13 @@ pub adds_cut : (o0 line : List ℕ) {o1 o2 o3 o4 o5 o6 o7 o8 o9 : List ℕ} (z1 
     → o6 ≡ o5 ++ ended (codes "set 2") → o7 ≡ o6 ++ written z2 → o8 ≡ o7 ++ ended (codes "set 3") → o9 ≡ o8 ++ written z3
     → o9 ≡ o0 ++ written (line ∷ codes "set 1" ∷ (z1 ++ codes "set 0" ∷ (z0 ++ codes "set 2" ∷ (z2 ++ codes "set 3" ∷ z3))))
 adds_cut o0 line z1 z0 z2 z3 e1 e2 e3 e4 e5 e6 e7 e8 e9 =
-    let three = written_append z2 (codes "set 3" ∷ z3) in
-    let two = written_append z0 (codes "set 2" ∷ (z2 ++ codes "set 3" ∷ z3)) in
-    let one = written_append z1 (codes "set 0" ∷ (z0 ++ codes "set 2" ∷ (z2 ++ codes "set 3" ∷ z3))) in
+    let three = written-append z2 (codes "set 3" ∷ z3) in
+    let two = written-append z0 (codes "set 2" ∷ (z2 ++ codes "set 3" ∷ z3)) in
+    let one = written-append z1 (codes "set 0" ∷ (z0 ++ codes "set 2" ∷ (z2 ++ codes "set 3" ∷ z3))) in
     rw (e9, e8, e7, e6, e5, e4, e3, e2, e1, one, two, three) (simp append_assoc)
 
 pub adds_lines : (old : List ℕ) {mid new : List ℕ} (xs ys : Lines) → mid ≡ old ++ written xs → new ≡ mid ++ written ys → new ≡ old ++ written (xs ++ ys)
-adds_lines old xs ys a b = b ∙ ap (λ o. o ++ written ys) a ∙ append_assoc old (written xs) (written ys) ∙ ap (λ o. old ++ o) (sym (written_append xs ys))
+adds_lines old xs ys a b = b ∙ ap (λ o. o ++ written ys) a ∙ append_assoc old (written xs) (written ys) ∙ ap (λ o. old ++ o) (sym (written-append xs ys))
 
 pub adds_line : (old : List ℕ) {mid new : List ℕ} (xs : Lines) (line : List ℕ) → mid ≡ old ++ written xs → new ≡ mid ++ ended line → new ≡ old ++ written (xs ++ line ∷ [])
 adds_line old {mid} xs line a b = adds_lines old xs (line ∷ []) a (b ∙ ap (λ o. mid ++ o) (sym (append-nil (ended line))))
@@ -49,7 +46,7 @@ module _ (g : Grammar) (nest : List Group) (R : ℕ → ℕ → Type 0) where
       | inl h ↦ a.right x h
       | inr h ↦ b.right x h
     ];
-    adds = b.adds ∙ ap (λ x. x ++ written (flat_map block_lines b.blocks)) a.adds ∙ append_assoc old (written (flat_map block_lines a.blocks)) (written (flat_map block_lines b.blocks)) ∙ ap (λ x. old ++ x) (sym (written_append (flat_map block_lines a.blocks) (flat_map block_lines b.blocks)) ∙ ap written (sym (flat_map-append block_lines a.blocks b.blocks)));
+    adds = b.adds ∙ ap (λ x. x ++ written (flat_map block_lines b.blocks)) a.adds ∙ append_assoc old (written (flat_map block_lines a.blocks)) (written (flat_map block_lines b.blocks)) ∙ ap (λ x. old ++ x) (sym (written-append (flat_map block_lines a.blocks) (flat_map block_lines b.blocks)) ∙ ap written (sym (flat_map-append block_lines a.blocks b.blocks)));
   }
 
   one : (h : Head) {old new : List ℕ} → AddsBlock g nest R h old new → AddsBlocks g nest R (h ∷ []) old new
@@ -76,7 +73,7 @@ pub adds_whole : {o0 o1 o2 o3 o4 o5 : List ℕ} (t x : Lines)
     → o0 ≡ [] → o1 ≡ o0 ++ codes "xsugar-cert-1\nside text\n" → o2 ≡ o1 ++ written t → o3 ≡ o2 ++ codes "side xml\n" → o4 ≡ o3 ++ written x → o5 ≡ o4 ++ codes "end\n"
     → o5 ≡ written (((codes "xsugar-cert-1" ∷ codes "side text" ∷ t) ++ codes "side xml" ∷ x) ++ codes "end" ∷ [])
 adds_whole {o5 = o5} t x e0 e1 e2 e3 e4 e5 =
-    let all = written_append ((codes "xsugar-cert-1" ∷ codes "side text" ∷ t) ++ codes "side xml" ∷ x) (codes "end" ∷ []) ∙ ap (λ z. z ++ written (codes "end" ∷ [])) (written_append (codes "xsugar-cert-1" ∷ codes "side text" ∷ t) (codes "side xml" ∷ x)) in
+    let all = written-append ((codes "xsugar-cert-1" ∷ codes "side text" ∷ t) ++ codes "side xml" ∷ x) (codes "end" ∷ []) ∙ ap (λ z. z ++ written (codes "end" ∷ [])) (written-append (codes "xsugar-cert-1" ∷ codes "side text" ∷ t) (codes "side xml" ∷ x)) in
     let parts : o5 ≡ (((codes "xsugar-cert-1\nside text\n" ++ written t) ++ codes "side xml\n") ++ written x) ++ codes "end\n" = rw (e5, e4, e3, e2, e1, e0) in
     parts ∙ same (written t) (written x) ∙ sym all
   where

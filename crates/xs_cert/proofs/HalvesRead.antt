@@ -1,5 +1,5 @@
 -- A side is read where its lines of groups that share are, and then its blocks.
-use Rattle.std.proofs.Common.{◌≡◌, ◌⊎◌, inl, inr, ℕ, zero, suc, ◌+◌, ◌≤◌, ◌&&◌, ◌||◌, nat_eq, not, Bool, false, List, [], ◌∷◌, ◌++◌, length, map, flat_map, filter, replicate, get_or, refl, sym, ap, subst, ◌∙◌, arith, append-nil, length-append, Result, Ok, Err, IfOk}
+use Rattle.std.proofs.Common.{◌≡◌, ◌⊎◌, inl, inr, ℕ, suc, ◌+◌, ◌≤◌, ◌&&◌, ◌||◌, nat_eq, not, Bool, false, List, [], ◌∷◌, ◌++◌, length, map, flat_map, filter, refl, sym, ap, subst, ◌∙◌, arith, append-nil, length-append, Result, Ok, Err, IfOk}
 use Rattle.std.proofs.Math.Path.{fun_ext}
 use Rattle.std.proofs.lemmas.List.Elements.{All-contains, filter_agree}
 use Rattle.xs_class.specs.declared.memory.Memory.{Memory}
@@ -10,6 +10,7 @@ use Rattle.xs_meet.specs.Closed.{Marked}
 use Rattle.xs_stretch.specs.Nets.{IsNestOf}
 use Rattle.xs_stretch.specs.Laws.{IsLaidOnce}
 use Rattle.xs_closed.specs.Rows.{Grid, marked, blank}
+use Rattle.xs_closed.proofs.FoundLemmas.{blank_row}
 use Rattle.xs_cert_lines.specs.Lines.{Lines}
 use Rattle.xs_cert_laws.specs.Blocks.{Head, Block, of_groups, of_rules, of_cut, head, IsRight, ShowsApart, block_lines, for_groups}
 use Rattle.xs_cert_laws.specs.Certificates.{one_fence, IsFencePair, is_shared, Shares, between, group_heads, heads, Half, IsHalf, share_line, half_lines}
@@ -123,18 +124,8 @@ blocks_done T ls rest j ends_here = inl refl
 blocks_done T ls rest j (goes_past t) = inr t
 
 -- no pair is marked in a table without marks
-none_in_row : (wide b : ℕ) → get_or (replicate wide false) b false ≡ false
-none_in_row zero b = refl
-none_in_row (suc n) zero = refl
-none_in_row (suc n) (suc b) = none_in_row n b
-
-none_in_rows : (high wide a b : ℕ) → get_or (get_or (replicate high (replicate wide false)) a []) b false ≡ false
-none_in_rows zero wide a b = refl
-none_in_rows (suc n) wide zero b = none_in_row wide b
-none_in_rows (suc n) wide (suc a) b = none_in_rows n wide a b
-
 none_marked : (high wide a b : ℕ) → marked (blank high wide) a b ≡ false
-none_marked high wide a b = none_in_rows high wide a b
+none_marked high wide a b = blank_row high wide a b
 
 module _ (once : IsLaidOnce) {g : Grammar} {nest : List Group} {bytes : List ℕ} (built : IsBuilt g) (is_nest : IsNestOf g nest) (p q : Place) (k : ℕ) (related : Grid)
     (m : AreSharesRead nest bytes p 0 0 q (length nest) k (blank (length nest) (length nest)) related) where

@@ -4,6 +4,7 @@ use Rattle.std.specs.List.{All}
 use Rattle.std.proofs.lemmas.List.{map-append}
 use Rattle.std.proofs.lemmas.List.Elements.{All-nil, All-cons, All-append, All-head, All-tail, All-weaker}
 use Rattle.std.proofs.lemmas.Bool.{cases_lt, cases_eq}
+use Rattle.xs_class.proofs.Truth.{and_true}
 use Rattle.xs_auto.specs.Nests.{Group}
 use Rattle.xs_gram.specs.Grammar.{Grammar}
 use Rattle.xs_check_laws.specs.Acceptance.{IsBefore}
@@ -101,16 +102,6 @@ same_is_shared h k le =
     let low : h ≡ min h k = omega arith in
     let high : k ≡ max h k = omega arith in
     ap (λ (x : Bool). (x && nat_eq k (max h k)) || false) (eq-eqb h (min h k) low) ∙ ap (λ (x : Bool). x || false) (eq-eqb k (max h k) high)
-
-and_true : (x y : Bool) → (x && y) ≡ true → (x ≡ true) × (y ≡ true)
-and_true true y e = (refl, e)
-and_true false y e = absurd (true_false (sym e))
-
-shared_turned : (ss : List (ℕ × ℕ)) (a b : ℕ) → is_shared ss a b ≡ is_shared ss b a
-shared_turned ss a b =
-    let low : min a b ≡ min b a = omega arith in
-    let high : max a b ≡ max b a = omega arith in
-    ap (λ (x : ℕ). has_pair ss x (max a b)) low ∙ ap (λ (x : ℕ). has_pair ss (min b a) x) high
 
 shared_only : (h k a b : ℕ) → is_shared ((h, k) ∷ []) a b ≡ true → (h ≡ min a b) × (k ≡ max a b)
 shared_only h k a b e =

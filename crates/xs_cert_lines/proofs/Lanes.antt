@@ -3,10 +3,10 @@ use Rattle.std.proofs.Common.{◌≡◌, ◌⊎◌, ℕ, zero, suc, ◌+◌, ◌
 use Rattle.std.specs.Int.{bit_at, trailing_zeros}
 use Rattle.std.proofs.lemmas.Bool.{cases_lt}
 use Rattle.std.proofs.lemmas.List.{drop-drop, get_or_past}
-use Rattle.std.proofs.lemmas.Nat.{shr-shr}
 use Rattle.std.proofs.lemmas.Nat.Bits.{bit_at-zero, bit_at-trailing_zeros, bit_at_above}
 use Rattle.xs_closed.specs.Rows.{Grid, places}
 use Rattle.xs_closed.specs.Lanes.{IsLane}
+use Rattle.xs_closed.proofs.WordLemmas.{shifted}
 use Rattle.xs_cert_lines.specs.Reading.{listed}
 use Rattle.xs_cert_lines.specs.Pages.{Puts}
 use Rattle.xs_cert_lines.proofs.Paging.{put_then}
@@ -25,9 +25,6 @@ whole_lane z a place word fits wide lane = record {
   bits = λ b l m k. (let e : b % 64 ≡ b - place * 64 = omega (arith, l, m) in lane.marks b (omega (arith, l, m)) (omega (arith, k, wide)) ∙ ap (λ i. nat_eq (bit_at word i) 1) e);
   none = λ i l. bit_at_above word 64 i fits (omega (arith, l));
 }
-
-shifted : (word r i : ℕ) → bit_at (word / 2 ^ r) i ≡ bit_at word (r + i)
-shifted word r i = ap (λ q. q % 2) (shr-shr word r i)
 
 -- the next mark, and the bits after it
 pub record IsNextBit (row : List Bool) (from to left b : ℕ) : Type 0 where

@@ -1,5 +1,5 @@
 -- Marking the partners of a row, one after another.
-use Rattle.std.proofs.Common.{◌≡◌, ℕ, suc, ◌+◌, ◌^◌, ◌<◌, ◌≤◌, Bool, true, false, ◌&&◌, ◌||◌, nat_eq, List, [], ◌∷◌, ◌++◌, length, Option, Some, None, decimal, refl, sym, ap, ◌∙◌, subst, inl, inr, arith, add-one, append_assoc, append-nil, eqb-true}
+use Rattle.std.proofs.Common.{◌≡◌, ℕ, suc, ◌+◌, ◌^◌, ◌<◌, ◌≤◌, Bool, true, false, ◌&&◌, ◌||◌, nat_eq, List, [], ◌∷◌, ◌++◌, length, Some, None, decimal, refl, sym, ap, ◌∙◌, subst, inl, inr, arith, add-one, append_assoc, append-nil, eqb-true}
 use Rattle.std.proofs.lemmas.Bool.{cases_eq}
 use Rattle.std.specs.List.{All}
 use Rattle.std.proofs.lemmas.List.Elements.{All-head, All-tail}
@@ -10,11 +10,8 @@ use Rattle.xs_closed.specs.Lanes.{HasNoRow}
 use Rattle.xs_cert_lines.specs.Lines.{spaced, row_line}
 use Rattle.xs_cert_lines.specs.Numbers.{within_at, partner_at}
 use Rattle.xs_cert_lines.specs.Reading.{listed, ArePartners, HasPartners, MarksIn, ReadsPartners, IsRowAt, AddsRow, IsSameSet}
-use Rattle.xs_cert_lines.proofs.Numerals.{within_found, within_read, partner_read}
+use Rattle.xs_cert_lines.proofs.Numerals.{none_pair, within_found, within_read, partner_read}
 use Rattle.xs_cert_lines.proofs.Partners.{SameRests, listed_ends, last_skipped}
-
-none_pair : (x : ℕ × List ℕ) → ◌≡◌ {A = Option (ℕ × List ℕ)} None (Some x) → ⊥
-none_pair x e = cc
 
 -- where the next partners and the marks so far make up those of a row
 pub record IsMarking (first end : ℕ) (old new : Grid) (a : ℕ) (bytes bs rest : List ℕ) : Type 0 where

@@ -12,7 +12,7 @@ digit_is c e = let p = and_true (nat_le 48 c) (nat_le c 57) e in (le_is 48 c p.0
 is_digit_of : (d : ℕ) → d < 10 → is_digit (48 + d) ≡ true
 is_digit_of d low = both_true (nat_le 48 (48 + d)) (nat_le (48 + d) 57) (le_true 48 (48 + d) (omega arith)) (le_true (48 + d) 57 (omega arith))
 
-none_pair : (x : ℕ × List ℕ) → ◌≡◌ {A = Option (ℕ × List ℕ)} None (Some x) → ⊥
+pub none_pair : (x : ℕ × List ℕ) → ◌≡◌ {A = Option (ℕ × List ℕ)} None (Some x) → ⊥
 none_pair x e = cc
 
 -- the digits of a number and one more

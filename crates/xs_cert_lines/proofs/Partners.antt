@@ -1,20 +1,17 @@
 -- Partners at the front of bytes, one after another.
-use Rattle.std.proofs.Common.{◌≡◌, ◌≢◌, ◌↔◌, ℕ, suc, ◌^◌, ◌<◌, ◌≤◌, false, List, [], ◌∷◌, ◌++◌, get_or, Option, Some, None, decimal, refl, sym, ap, ◌∙◌, subst, arith, append_assoc}
+use Rattle.std.proofs.Common.{◌≡◌, ◌≢◌, ◌↔◌, ℕ, suc, ◌^◌, ◌<◌, ◌≤◌, false, List, [], ◌∷◌, ◌++◌, get_or, Some, None, decimal, refl, sym, ap, ◌∙◌, subst, arith, append_assoc}
 use Rattle.std.specs.List.{All}
 use Rattle.std.proofs.lemmas.List.Elements.{All-cons, All-nil, All-head, All-tail}
 use Rattle.xs_class.proofs.Lists.{some_pair}
 use Rattle.xs_closed.specs.Rows.{Ascends}
 use Rattle.xs_cert_lines.specs.Numbers.{partner_at, begins_digit}
 use Rattle.xs_cert_lines.specs.Reading.{listed, ArePartners, HasPartners}
-use Rattle.xs_cert_lines.proofs.Numerals.{partner_found, partner_read}
+use Rattle.xs_cert_lines.proofs.Numerals.{none_pair, partner_found, partner_read}
 
 -- what comes after a partner begins with no digit
 pub listed_ends : (bs rest : List ℕ) → begins_digit (listed bs ++ 10 ∷ rest) ≡ false
 listed_ends [] rest = refl
 listed_ends (b ∷ bs) rest = refl
-
-none_pair : (x : ℕ × List ℕ) → ◌≡◌ {A = Option (ℕ × List ℕ)} None (Some x) → ⊥
-none_pair x e = cc
 
 -- the first of the partners is read
 pub first_read : (first end : ℕ) (bytes : List ℕ) (b : ℕ) (bs rest : List ℕ) → end ≤ 2 ^ 32 → ArePartners first end bytes (b ∷ bs) rest → partner_at first end bytes ≡ Some (b, listed bs ++ 10 ∷ rest)

@@ -2,20 +2,13 @@
 use Rattle.std.proofs.Common.{◌≡◌, ℕ, zero, suc, ◌+◌, ◌-◌, ◌<◌, ◌≤◌, Bool, true, false, List, [], ◌∷◌, ◌++◌, get_or, take, drop, decimal, refl, sym, ap, ◌∙◌, arith, append_assoc, append-nil}
 use Rattle.std.proofs.lemmas.List.{drop-drop}
 use Rattle.xs_closed.specs.Rows.{Grid, IsNext, marked, places, row_then}
+use Rattle.xs_closed.proofs.LongestLemmas.{places_none}
 use Rattle.xs_cert_lines.specs.Lines.{row_line, set_lines, written}
 use Rattle.xs_cert_lines.specs.Reading.{listed}
 use Rattle.xs_cert_lines.specs.Pages.{Puts, Flushes, Writes}
 use Rattle.xs_cert_lines.proofs.Marking.{spaced_is}
 
 -- no place before a true one is skipped
-no_places : (k : ℕ) (bs : List Bool) → ((n : ℕ) → get_or bs n false ≡ false) → places k bs ≡ []
-no_places k [] none = refl
-no_places k (true ∷ bs) none = absurd (differ (none 0))
-  where
-    differ : true ≡ false → ⊥
-    differ e = cc
-no_places k (false ∷ bs) none = no_places (suc k) bs (λ n. none (suc n))
-
 first_place : (k n : ℕ) (bs : List Bool) → ((m : ℕ) → m < n → get_or bs m false ≡ false) → get_or bs n false ≡ true → places k bs ≡ (k + n) ∷ places (k + suc n) (drop (suc n) bs)
 first_place k n [] none is = absurd (differ is)
   where
@@ -41,7 +34,7 @@ get_drop (suc n) k [] = refl
 get_drop (suc n) k (b ∷ bs) = let e : suc (n + k) ≡ suc n + k = omega arith in get_drop n k bs ∙ ap (λ z. get_or (b ∷ bs) z false) e
 
 pub no_more : (from : ℕ) (bs : List Bool) → ((b : ℕ) → from ≤ b → get_or bs b false ≡ false) → places from (drop from bs) ≡ []
-no_more from bs none = no_places from (drop from bs) (λ n. get_drop from n bs ∙ none (from + n) (omega arith))
+no_more from bs none = places_none from (drop from bs) (λ n. get_drop from n bs ∙ none (from + n) (omega arith))
 
 pub next_place : (from b : ℕ) (bs : List Bool) → from ≤ b → get_or bs b false ≡ true → ((c : ℕ) → from ≤ c → c < b → get_or bs c false ≡ false) → places from (drop from bs) ≡ b ∷ places (suc b) (drop (suc b) bs)
 next_place from b bs order is least =

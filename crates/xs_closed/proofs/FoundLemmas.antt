@@ -24,7 +24,7 @@ reach_from {S} {T} {L} more r = reach_within (Reach T L) (λ a b s. begun (more 
 blank_cell : (n k : ℕ) → get_or (replicate n false) k false ≡ false
 blank_cell n k = copy_at false n k
 
-blank_row : (high wide a b : ℕ) → get_or (get_or (replicate high (replicate wide false)) a []) b false ≡ false
+pub blank_row : (high wide a b : ℕ) → get_or (get_or (replicate high (replicate wide false)) a []) b false ≡ false
 blank_row high wide a b = elim (cases_lt a high) [
   | inl low ↦ ap (λ r. get_or r b false) (get_or-replicate high a (replicate wide false) [] low) ∙ blank_cell wide b
   | inr beyond ↦ ap (λ r. get_or r b false) (get_or_past (replicate high (replicate wide false)) a [] (omega (arith, beyond, length-replicate high (replicate wide false))))

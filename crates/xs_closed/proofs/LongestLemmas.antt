@@ -149,7 +149,7 @@ pub rank_mono : (z : Grid) (x y : ℕ) → x ≤ y → rank z x ≤ rank z y
 rank_mono z x y l = rw (ap (λ rs. length (rows_from 0 rs)) (sym (take-take x y z.rows l))) (rank_le (record { wide = z.wide; rows = take y z.rows }) x)
 
 -- a row with a mark counts, and one without does not
-places_none : (k : ℕ) (bs : List Bool) → ((i : ℕ) → get_or bs i false ≡ false) → places k bs ≡ []
+pub places_none : (k : ℕ) (bs : List Bool) → ((i : ℕ) → get_or bs i false ≡ false) → places k bs ≡ []
 places_none k [] h = refl
 places_none k (true ∷ bs) h = absurd (true≢false (h 0))
 places_none k (false ∷ bs) h = places_none (suc k) bs (λ i. h (suc i))

@@ -107,7 +107,7 @@ word_packed high wide step used last word place words h l e = record {
 }
 
 -- a bit of a word from another on
-shifted : (word r i : ℕ) → bit_at (word / 2 ^ r) i ≡ bit_at word (r + i)
+pub shifted : (word r i : ℕ) → bit_at (word / 2 ^ r) i ≡ bit_at word (r + i)
 shifted word r i = ap (λ q. q % 2) (shr-shr word r i)
 
 pub no_bit : (word r : ℕ) → word / 2 ^ r ≡ 0 → (i : ℕ) → r ≤ i → bit_at word i ≡ 0

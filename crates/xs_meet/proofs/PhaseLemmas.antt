@@ -90,7 +90,7 @@ found_is (x ∷ xs) a b zero from e =
     or_left _ _ (both_true _ _ (ap (λ s. s.first == a) same ∙ eq_self a) (ap (λ s. s.second == b) same ∙ eq_self b))
 found_is (x ∷ xs) a b (suc k) from e = or_right _ _ (found_is xs a b k from e)
 
-either_true : (a b : Bool) → (a || b) ≡ true → (a ≡ true) ⊎ (b ≡ true)
+pub either_true : (a b : Bool) → (a || b) ≡ true → (a ≡ true) ⊎ (b ≡ true)
 either_true true b e = inl refl
 either_true false b e = inr e
 
