@@ -1,12 +1,12 @@
 -- Lists that are gone through from the front.
 use Rattle.std.proofs.Common.{◌≡◌, ℕ, zero, suc, ◌+◌, ◌<◌, ◌≤◌, List, [], ◌∷◌, length, take, get_or, slice_get, Some, sym, subst, inl, inr, arith}
-use Rattle.std.specs.Prelude.{IsSomeAnd}
 use Rattle.std.specs.List.{Contains}
 use Rattle.std.proofs.lemmas.List.{take_more, take_all}
 use Rattle.std.proofs.lemmas.List.Elements.{Contains-append_cases}
 use Rattle.xs_class.specs.Classes.{Has}
 use Rattle.xs_regex.specs.declared.position.Position.{Position}
 use Rattle.xs_regex.specs.Automaton.{HasAt, Leads}
+use Rattle.xs_regex.proofs.Rows.{at_within}
 
 pub none_in : {A : Type 0} (x : A) → Contains [] x → ⊥
 none_in x (n, lt, e) = absurd (omega arith)
@@ -31,16 +31,11 @@ pub take_whole : {A : Type 0} (xs : List A) (i : ℕ) (x : A) → length xs ≤ 
 take_whole xs i x end h = subst (λ (l : List _). Contains l x) (sym (take_all i xs end)) h
 
 -- a position with a symbol is one of the automaton, and so is one that leads on
-there_low : {A : Type 0} (P : A → Type 0) (xs : List A) (k : ℕ) → IsSomeAnd (slice_get xs k) P → k < length xs
-there_low P [] k h = absurd h
-there_low P (x ∷ xs) zero h = omega arith
-there_low P (x ∷ xs) (suc k) h = omega (arith, there_low P xs k h)
-
 pub has_low : (p : Position) (k s : ℕ) → HasAt p k s → k < length p.classes
-has_low p k s h = there_low (λ class. Has class s) p.classes k h
+has_low p k s h = at_within (λ class. Has class s) p.classes k h
 
 pub leads_low : (p : Position) (j k : ℕ) → Leads p j k → j < length p.follow
-leads_low p j k h = there_low (λ row. Contains row k) p.follow j h
+leads_low p j k h = at_within (λ row. Contains row k) p.follow j h
 
 pub leads_at : (p : Position) (j k : ℕ) (row : List ℕ) → slice_get p.follow j ≡ Some row → Leads p j k → Contains row k
 leads_at p j k row e h = rw e at h

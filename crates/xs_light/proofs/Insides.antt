@@ -1,9 +1,7 @@
 -- The greatest of what the groups of a rule count is what its insides weigh.
-use Rattle.std.proofs.Common.{◌≡◌, ◌⊎◌, inl, inr, ℕ, zero, suc, ◌+◌, ◌-◌, ◌<◌, ◌≤◌, max, List, [], ◌∷◌, ◌++◌, length, take, drop, refl, sym, ap, subst, ◌∙◌, arith, append_assoc, append-nil, length-append, true, false, Some, slice_get}
+use Rattle.std.proofs.Common.{◌≡◌, ◌⊎◌, inl, inr, ℕ, zero, suc, ◌+◌, ◌<◌, ◌≤◌, max, List, [], ◌∷◌, ◌++◌, length, refl, sym, ap, subst, ◌∙◌, arith, append_assoc, append-nil, length-append, true, false, Some, slice_get}
 use Rattle.std.proofs.lemmas.Bool.{cases_lt}
-use Rattle.std.proofs.Math.Seq.{take-append_seam, drop-append_seam}
 use Rattle.std.specs.Cmp.{nat_cmp_is}
-use Rattle.std.specs.List.{slice_range}
 use Rattle.std.specs.declared.cmp.Ordering.{Ordering}
 use Rattle.std.specs.declared.cmp.Ordering.TheVariants.{Less, Equal, Greater}
 use Rattle.std.specs.Ordering.{is_lt, nat_cmp, ord_max}
@@ -13,6 +11,7 @@ use Rattle.xs_gram.specs.declared.parts.GItem.TheVariants.{Fixed}
 use Rattle.xs_gram.specs.Grammar.{Grammar}
 use Rattle.xs_gram.specs.Fences.{is_left, spread, IsFence, IsPlain, IsLevel, level_none, level_then, level_group, grouped, GroupAt, IsPartner, IsLeftFence}
 use Rattle.xs_gram.specs.Sound.{IsBuilt}
+use Rattle.xs_gram.proofs.Cuts.{slice_middle}
 use Rattle.xs_gram.proofs.Fences.{is_left_of, left_not_plain, right_not_left, some_right}
 use Rattle.xs_gram.proofs.Levels.{group_opened}
 use Rattle.xs_check_laws.specs.Weights.{capped, PartWeighs, InsidesWeigh, no_inside, inside_later, inside_here}
@@ -160,11 +159,6 @@ insides_are g built p end most long h =
     subst (λ (n : ℕ). InsidesWeigh g (spread g p) n) same d.weighs
 
 -- the inside of a group is a part
-slice_middle : {A : Type 0} {is : List A} (head middle tail : List A) {a b : ℕ} → is ≡ head ++ (middle ++ tail) → a ≡ length head → b ≡ a + length middle → slice_range is a b ≡ middle
-slice_middle {A} head middle tail {a} {b} e p q =
-    let n : b - a ≡ length middle = omega arith in
-    ap (λ (x : List A). slice_range x a b) e ∙ ap (λ (k : ℕ). take (b - a) (drop k (head ++ (middle ++ tail)))) p ∙ ap (λ (x : List A). take (b - a) x) (drop-append_seam head (middle ++ tail)) ∙ ap (λ (k : ℕ). take k (middle ++ tail)) n ∙ take-append_seam middle tail
-
 inside_items : (g : Grammar) (p k m l : ℕ) (inside : List GItem) (r : ℕ) → GroupAt g.fences (spread g p) k m l inside r → part_items g (record { rule = p; start = k + 1; end = m }) ≡ inside
 inside_items g p k m l inside r a = slice_middle (a.before ++ Fixed (l ∷ []) ∷ []) inside (Fixed (r ∷ []) ∷ a.after) (a.split ∙ sym (append_assoc a.before (Fixed (l ∷ []) ∷ []) (inside ++ Fixed (r ∷ []) ∷ a.after))) (omega (arith, a.place, length-append a.before (Fixed (l ∷ []) ∷ []))) (omega (arith, a.partner))
 

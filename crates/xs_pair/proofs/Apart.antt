@@ -129,7 +129,7 @@ record AreOnce (earlier ss : List ℕ) : Type 0 where
   once : IsDistinct ss
   new : Every (λ c. is_one_of earlier c ≡ false) ss
 
-every_weaker : (P Q : ℕ → Type 0) (ns : List ℕ) → ((n : ℕ) → P n → Q n) → Every P ns → Every Q ns
+pub every_weaker : (P Q : ℕ → Type 0) (ns : List ℕ) → ((n : ℕ) → P n → Q n) → Every P ns → Every Q ns
 every_weaker P Q [] f each = tt
 every_weaker P Q (n ∷ ns) f each = (f n each.0, every_weaker P Q ns f each.1)
 

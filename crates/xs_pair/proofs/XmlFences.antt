@@ -37,6 +37,7 @@ use Rattle.xs_pair.specs.Listing.{rules_of, names_in}
 use Rattle.xs_pair.specs.Marks.{all_marks, attr_marks, attrs_marks, by_name, opening_marks, slot_names}
 use Rattle.xs_pair.specs.Rules.{IsAmong}
 use Rattle.xs_pair.specs.Units.{number_of}
+use Rattle.xs_pair.proofs.Apart.{every_weaker}
 use Rattle.xs_pair.proofs.FlatElements.{flat_element}
 use Rattle.xs_pair.proofs.Known.{AreKnown, known_names}
 use Rattle.xs_pair.proofs.Levels.{IsBare, items_word, words_append, balanced_level}
@@ -51,10 +52,6 @@ use Rattle.xs_pair.proofs.Strings.{AreLow, IsLowItem}
 symbols_above : (k count bound : ℕ) → bound ≤ 1114114 + 3 * k → Every (λ s. bound ≤ s) (fence_symbols (mark_pairs k count))
 symbols_above k zero bound le = tt
 symbols_above k (suc count) bound le = (le, (omega arith, symbols_above (k + 1) count bound (omega arith)))
-
-every_weaker : (P Q : ℕ → Type 0) (ns : List ℕ) → ((n : ℕ) → P n → Q n) → Every P ns → Every Q ns
-every_weaker P Q [] f each = tt
-every_weaker P Q (n ∷ ns) f each = (f n each.0, every_weaker P Q ns f each.1)
 
 above : (m n : ℕ) → suc n ≤ m → m ≡ n → ⊥
 above m n le e = omega arith

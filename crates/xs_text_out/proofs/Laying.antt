@@ -9,7 +9,7 @@ use Rattle.xs_text_out.specs.declared.pieces.Piece.{Piece}
 use Rattle.xs_text_out.specs.declared.pieces.Row.{Row}
 use Rattle.xs_text_out.specs.Pieces.{AreRows, AreWithin, GoesOn, IsClosed, IsPut, IsRow, IsRowPut, IsWithin, end_word, open_word, piece_to, piece_word, pieces_word, row_pieces}
 use Rattle.xs_text_out.specs.Printed.{item_word}
-use Rattle.xs_text_out.proofs.Sharing.{between_append}
+use Rattle.xs_tree.proofs.Rows.{slice_append}
 use Rattle.xs_text_out.proofs.Words.{spelling_first}
 
 pub on_none : {X : Type 0} (xs : List X) → GoesOn xs xs
@@ -28,7 +28,7 @@ pieces_append text (p ∷ ps) qs at = ap (λ w. piece_word text p at ++ w) (piec
 
 -- a longer text
 piece_grows : (text more : List ℕ) (p : Piece) (at : ℕ → List ℕ) → IsWithin text p → piece_word (text ++ more) p at ≡ piece_word text p at
-piece_grows text more p at is = ap (λ w. w ++ end_word p.slot at) (between_append text more p.begin p.end is.risen is.within)
+piece_grows text more p at is = ap (λ w. w ++ end_word p.slot at) (slice_append text more p.begin p.end is.risen is.within)
 
 pieces_grow : (text more : List ℕ) (ps : List Piece) (at : ℕ → List ℕ) → AreWithin text ps → pieces_word (text ++ more) ps at ≡ pieces_word text ps at
 pieces_grow text more [] at are = refl

@@ -1,12 +1,12 @@
 -- What a node prints is what its production prints by itself, and what is printed at its slots.
-use Rattle.std.proofs.Common.{◌≡◌, ℕ, ◌+◌, ◌-◌, ◌≤◌, List, [], ◌∷◌, ◌++◌, length, take, drop, Some, slice_get, slice_range, refl, sym, ◌∙◌, ap, subst, inl, inr, arith, length-append}
-use Rattle.std.proofs.lemmas.List.{drop_at, drop-append-le, length-drop, take-append-le, take_all}
+use Rattle.std.proofs.Common.{◌≡◌, ℕ, ◌+◌, List, [], ◌∷◌, ◌++◌, length, Some, slice_get, refl, sym, ◌∙◌, ap, subst, inl, inr, arith, length-append}
 use Rattle.xs_class.proofs.Lists.{get_push}
 use Rattle.xs_gram.specs.declared.parts.GItem.{GItem}
 use Rattle.xs_gram.specs.declared.parts.GItem.TheVariants.{Fixed, Term, Non, Skip}
 use Rattle.xs_gram.specs.Grammar.{Grammar, items, normal_word, slots}
 use Rattle.xs_gram.specs.Common.{spelling}
 use Rattle.xs_tree.specs.Counts.{capped}
+use Rattle.xs_tree.proofs.Rows.{slice_append, slice_last}
 use Rattle.xs_text_out.specs.declared.shares.Share.{Share}
 use Rattle.xs_text_out.specs.Shares.{own_lengths, slots_length, IsShare, AreRows}
 
@@ -40,24 +40,12 @@ node_counted_by g is at own number list own_is list_is counted =
     let same : slots_length at list ≡ slots_length at (slots is) = ap (slots_length at) list_is in
     omega (arith, own_is, counted, long, same)
 
--- a stretch of a list that goes on
-pub between_append : (all more : List ℕ) (begin end : ℕ) → begin ≤ end → end ≤ length all → slice_range (all ++ more) begin end ≡ slice_range all begin end
-between_append all more begin end le within =
-    let short : end - begin ≤ length (drop begin all) = rw length-drop (omega arith) in
-    ap (take (end - begin)) (drop-append-le begin all more (omega arith)) ∙ take-append-le (end - begin) (drop begin all) more short
-
--- the stretch that was appended
-between_last : (all more : List ℕ) (end : ℕ) → end ≡ length all + length more → slice_range (all ++ more) (length all) end ≡ more
-between_last all more end is =
-    let long : length more ≤ end - length all = omega (arith, is) in
-    ap (take (end - length all)) (drop_at all more (length all) refl) ∙ take_all (end - length all) more long
-
 share_stays : (g : Grammar) (all more : List ℕ) (p : ℕ) (share : Share) → IsShare g all p share → IsShare g (all ++ more) p share
 share_stays g all more p share is = record {
   own_is = is.own_is;
   risen = is.risen;
   within = omega (arith, is.within, length-append all more);
-  slots_are = between_append all more share.begin share.end is.risen is.within ∙ is.slots_are;
+  slots_are = slice_append all more share.begin share.end is.risen is.within ∙ is.slots_are;
 }
 
 -- the share of the next production
@@ -70,7 +58,7 @@ rows_pushed g all new rows more own end are own_is new_is end_is more_is p share
       own_is = own_is;
       risen = omega (arith, long);
       within = omega (arith, long, length-append all list);
-      slots_are = between_last all list end long;
+      slots_are = slice_last all list end long;
     } in
     let found : slice_get (rows ++ last ∷ []) p ≡ Some share = ap (λ (l : List Share). slice_get l p) (sym more_is) ∙ there in
     let at : IsShare g (all ++ list) p share = elim (get_push rows last share p found) [

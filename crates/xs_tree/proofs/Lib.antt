@@ -1,5 +1,5 @@
 pub mod Trees
 pub mod Counting
-mod Rows
+pub mod Rows
 mod Shapes
 mod Numbering

@@ -8,13 +8,13 @@ use Rattle.xs_tree.specs.Flat.{Leaf, Node}
 use Rattle.xs_tree.specs.Rows.{row_part, row_parts, AreWithin, IsWithin}
 
 -- a stretch of a list that goes on
-slice_append : (all more : List ℕ) (begin end : ℕ) → begin ≤ end → end ≤ length all → slice_range (all ++ more) begin end ≡ slice_range all begin end
+pub slice_append : (all more : List ℕ) (begin end : ℕ) → begin ≤ end → end ≤ length all → slice_range (all ++ more) begin end ≡ slice_range all begin end
 slice_append all more begin end le within =
     let short : end - begin ≤ length (drop begin all) = rw length-drop (omega arith) in
     ap (take (end - begin)) (drop-append-le begin all more (omega arith)) ∙ take-append-le (end - begin) (drop begin all) more short
 
 -- the stretch that was appended
-slice_last : (all more : List ℕ) (end : ℕ) → end ≡ length all + length more → slice_range (all ++ more) (length all) end ≡ more
+pub slice_last : (all more : List ℕ) (end : ℕ) → end ≡ length all + length more → slice_range (all ++ more) (length all) end ≡ more
 slice_last all more end is =
     let long : length more ≤ end - length all = omega (arith, is) in
     ap (take (end - length all)) (drop_at all more (length all) refl) ∙ take_all (end - length all) more long

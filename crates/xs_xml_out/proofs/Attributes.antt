@@ -1,5 +1,5 @@
 -- The attributes of a word, as those of a tag.
-use Rattle.std.proofs.Common.{◌≡◌, ℕ, ◌<◌, List, [], ◌∷◌, ◌++◌, length, append_assoc, true, false, Bool, not, ◌||◌, codes, refl, ◌∙◌, ap, arith}
+use Rattle.std.proofs.Common.{◌≡◌, ℕ, ◌<◌, List, [], ◌∷◌, ◌++◌, length, append_assoc, true, false, not, codes, refl, ◌∙◌, ap, arith}
 use Rattle.std.specs.declared.cmp.Ordering.TheVariants.{Less}
 use Rattle.std.proofs.lemmas.List.Elements.{All-get_or}
 use Rattle.xs_class.specs.Marks.{attr_end, attribute_mark}
@@ -14,7 +14,7 @@ use Rattle.xs_xml_out.specs.Laws.{AreNames}
 use Rattle.xs_xml_out.proofs.SymbolKinds.{symbol_kind-attribute_mark}
 use Rattle.xs_xml_out.proofs.Places.{name_before, names_apart, place_of-name_at}
 use Rattle.xs_xml_out.proofs.Values.{bits, are_bits-bits, value-bits, written-value}
-use Rattle.xs_class.proofs.Truth.{both_true}
+use Rattle.xs_class.proofs.Truth.{both_true, neither}
 
 -- one space before the name, and double quotes
 abbrev pub tag_attribute : List ℕ → List ℕ → TagAttribute
@@ -52,9 +52,6 @@ below_rest : (a : Attribute) (as_ : List Attribute) → IsAscending (a ∷ as_) 
 below_rest a [] is = tt
 below_rest a (b ∷ bs) is = (is.0, below_from a.name bs b is.0 is.1)
 
-both_false : (x y : Bool) → x ≡ false → y ≡ false → (x || y) ≡ false
-both_false x y e f = rw (e, f) refl
-
 placed_first : (a b : TagAttribute) (bs : List TagAttribute) → name_order a.name b.name ≡ Less → placed a (b ∷ bs) ≡ a ∷ b ∷ bs
 placed_first a b bs is = rw is refl
 
@@ -71,7 +68,7 @@ module _ (names : List (List ℕ)) (ordered : IsOrdered names) (are_names : AreN
 
   among_none : (k : ℕ) (as_ : List Attribute) → IsBelow k as_ → AreAttributes names as_ → among (name_at names k) (tag_attributes names as_) ≡ false
   among_none k [] up are = refl
-  among_none k (a ∷ as_) up are = both_false (same (name_at names k) (name_at names a.name)) (among (name_at names k) (tag_attributes names as_)) (names_apart names ordered k a.name up.0 are.0) (among_none k as_ up.1 are.2)
+  among_none k (a ∷ as_) up are = neither (same (name_at names k) (name_at names a.name)) (among (name_at names k) (tag_attributes names as_)) (names_apart names ordered k a.name up.0 are.0) (among_none k as_ up.1 are.2)
 
   pub attributes_distinct : (as_ : List Attribute) → IsAscending as_ → AreAttributes names as_ → distinct (tag_attributes names as_) ≡ true
   attributes_distinct [] ascend are = refl
