@@ -6,12 +6,13 @@ use Rattle.std.proofs.lemmas.Option.{get_or_from_slice_get, slice_get_within, sl
 use Rattle.std.specs.List.Sorted.{IsNonDecreasingBy}
 use Rattle.std.specs.Prelude.{slice_get, sum_by, IsTrue, ◌&&◌, nat_le, None, if◌then◌else◌}
 use Rattle.xs_class.proofs.Lists.{get_left, get_last}
+use Rattle.xs_class.proofs.Truth.{le_true}
 use Rattle.xs_atoms.specs.declared.sweep.Draft.{Draft}
 use Rattle.xs_atoms.specs.declared.sweep.Stretch.{Stretch}
 use Rattle.xs_atoms.specs.declared.turns.Turn.{Turn}
 use Rattle.xs_atoms.specs.Turns.{odd, is_of, of_class, flip, flips, AreKept}
 use Rattle.xs_atoms.specs.Stretches.{flag, row_of, start_of, IsAtomOf, IsDrafted, IsAdded, IsFound, IsGiven, IsPushed, IsTurned, IsSwept}
-use Rattle.xs_atoms.proofs.Turning.{le_true, le_false, below_or}
+use Rattle.xs_atoms.proofs.Turning.{le_false, below_or}
 use Rattle.xs_atoms.proofs.Rows.{get_push, start_of-push, start_of-past, row_of-left, row_of-end, within_rows, atom_below}
 
 -- an atom stays that of its symbols when more atoms come

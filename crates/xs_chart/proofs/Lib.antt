@@ -1,3 +1,4 @@
 pub mod Grouping
 pub mod Linking
 pub mod Sets
+pub mod States

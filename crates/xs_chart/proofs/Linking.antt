@@ -103,42 +103,43 @@ linked_more items earlier heads item lt linked = record { long = long; back = ba
 pub linked_none : (heads : List ℕ) → IsLinked [] [] heads
 linked_none heads = record { long = refl; back = λ k n e. absurd (none-some n e); found = λ k item e. absurd (none-some item e) }
 
--- different items, and one that is not among them
-pub different_more : (items : List Item) (item : Item) → AreDifferent items → (Contains items item → ⊥) → AreDifferent (items ++ item ∷ [])
-different_more items item different new j k x at_j at_k = by (get_push items item j x at_j) (get_push items item k x at_k)
+-- different elements, and one that is not among them
+pub different_more : {A : Type 0} (xs : List A) (y : A) → AreDifferent xs → (Contains xs y → ⊥) → AreDifferent (xs ++ y ∷ [])
+different_more {A} xs y different new j k x at_j at_k = by (get_push xs y j x at_j) (get_push xs y k x at_k)
   where
-    never : (n : ℕ) → slice_get items n ≡ Some x → x ≡ item → ⊥
-    never n e same = new (n, slice_get_within items n x e, get_or_from_slice_get items n x item e ∙ same)
+    never : (n : ℕ) → slice_get xs n ≡ Some x → x ≡ y → ⊥
+    never n e same = new (n, slice_get_within xs n x e, get_or_from_slice_get xs n x y e ∙ same)
 
-    by : ((slice_get items j ≡ Some x) ⊎ ((j ≡ length items) × (x ≡ item))) → ((slice_get items k ≡ Some x) ⊎ ((k ≡ length items) × (x ≡ item))) → j ≡ k
+    by : ((slice_get xs j ≡ Some x) ⊎ ((j ≡ length xs) × (x ≡ y))) → ((slice_get xs k ≡ Some x) ⊎ ((k ≡ length xs) × (x ≡ y))) → j ≡ k
     by (inl a) (inl b) = different j k x a b
     by (inl a) (inr b) = absurd (never j a b.1)
     by (inr a) (inl b) = absurd (never k b a.1)
     by (inr a) (inr b) = a.0 ∙ sym b.0
 
-pub different_none : AreDifferent []
+pub different_none : AreDifferent {A = Item} []
 different_none j k item a b = absurd (none-some item a)
 
--- an item of different ones is not among those before it
+-- an element of different ones is not among those before it
+pub not_before : {A : Type 0} (xs : List A) (n : ℕ) (d : A) → n < length xs → AreDifferent xs → Contains (take n xs) (get_or xs n d) → ⊥
+not_before {A} xs n d lt different h =
+    let k = h.0 in
+    let at = front n xs k h.1 in
+    let same : get_or xs k d ≡ get_or xs n d = sym at.0 ∙ get_or_default (take n xs) k d (get_or xs n d) h.1 ∙ h.2 in
+    let one : k ≡ n = different k n (get_or xs n d) (slice_get-get_or xs k d at.2 ∙ ap (λ x. Some x) same) (slice_get-get_or xs n d lt) in
+    omega (arith, one, at.1)
+  where
+    front : (m : ℕ) (ys : List A) (k : ℕ) → k < length (take m ys) → (get_or (take m ys) k d ≡ get_or ys k d) × (k < m) × (k < length ys)
+    front zero ys k h = absurd (omega (arith, h))
+    front (suc m) [] k h = absurd (omega (arith, h))
+    front (suc m) (y ∷ ys) zero h = (refl, omega arith, omega arith)
+    front (suc m) (y ∷ ys) (suc k) h = let r = front m ys k (omega (arith, h)) in (r.0, omega (arith, r.1), omega (arith, r.2))
+
+-- one of different items is added to those before it
 pub added_all : (items : List Item) (n : ℕ) (d : Item) → n < length items → (old new : List Item) (added : Bool) → AreDifferent items → old ≡ take n items
     → IsTrue added ↔ (Contains old (get_or items n d) → ⊥) → new ≡ (if added then old ++ get_or items n d ∷ [] else old) → new ≡ take n items ++ get_or items n d ∷ []
 added_all items n d lt old new true different is iff e = e ∙ ap (λ l. l ++ get_or items n d ∷ []) is
-added_all items n d lt old new false different is iff e = absurd (false≢true (iff.1 never))
-  where
-    front : (m : ℕ) (xs : List Item) (k : ℕ) → k < length (take m xs) → (get_or (take m xs) k d ≡ get_or xs k d) × (k < m) × (k < length xs)
-    front zero xs k h = absurd (omega (arith, h))
-    front (suc m) [] k h = absurd (omega (arith, h))
-    front (suc m) (x ∷ xs) zero h = (refl, omega arith, omega arith)
-    front (suc m) (x ∷ xs) (suc k) h = let r = front m xs k (omega (arith, h)) in (r.0, omega (arith, r.1), omega (arith, r.2))
-
-    never : Contains old (get_or items n d) → ⊥
-    never h =
-        let there = subst (λ (l : List Item). Contains l (get_or items n d)) is h in
-        let k = there.0 in
-        let at = front n items k there.1 in
-        let same : get_or items k d ≡ get_or items n d = sym at.0 ∙ get_or_default (take n items) k d (get_or items n d) there.1 ∙ there.2 in
-        let one : k ≡ n = different k n (get_or items n d) (slice_get-get_or items k d at.2 ∙ ap (λ x. Some x) same) (slice_get-get_or items n d lt) in
-        omega (arith, one, at.1)
+added_all items n d lt old new false different is iff e =
+    absurd (false≢true (iff.1 (λ h. not_before items n d lt different (subst (λ (l : List Item). Contains l (get_or items n d)) is h))))
 
 -- a slot is one of them
 pub slot_within : (count : ℕ) (item : Item) → 0 < count → slot_of count item < count

@@ -5,7 +5,7 @@ use Rattle.std.proofs.lemmas.List.{length-append, length-take-le, get_or_at, set
 use Rattle.std.proofs.lemmas.List.Elements.{All-head, All-tail, All-cons}
 use Rattle.xs_chart.specs.declared.item.Item.{Item}
 use Rattle.xs_chart.specs.declared.waiting.Waiter.{Waiter}
-use Rattle.xs_chart.specs.Charted.{Charted, items_of, waiting_of, waiting_for, last_set, with_item, first_sets, before_last}
+use Rattle.xs_chart.specs.Charted.{Charted, items_of, waiting_of, waiting_for, last_set, with_item, with_items, first_sets, before_last}
 use Rattle.xs_chart.specs.Different.{AreDifferent}
 use Rattle.xs_chart.specs.Kept.{opened, IsGrouped, IsKept}
 
@@ -30,15 +30,19 @@ module _ (o : Bool) (items : List (List Item)) (last : List Item) (waits : List 
       ap (λ j. waiting_of (seen o items last waits entries) j non) last_is
       ∙ ap (λ ws. waiting_for ws non) (subst (λ b. get_or (opened b waits entries) (length items) [] ≡ entries) (sym opens) (get_or_at waits entries [] [] (length items) kept.paired))
 
-  -- an item more
+  -- items more
+  pub items_more : (more new : List Item) → new ≡ last ++ more → seen o items new waits entries ≡ with_items (seen o items last waits entries) more
+  items_more more new is =
+      let put : opened o items new ≡ set (opened o items last) (length items) (last ++ more)
+      = ap (opened o items) is ∙ subst (λ b. opened b items (last ++ more) ≡ set (opened b items last) (length items) (last ++ more)) (sym opens) (sym (set_at items last [] (last ++ more) (length items) refl)) in
+      let there : set (opened o items last) (length items) (last ++ more) ≡ set (opened o items last) (last_set (seen o items last waits entries)) (items_of (seen o items last waits entries) (last_set (seen o items last waits entries)) ++ more)
+      = ap (λ j. set (opened o items last) j (last ++ more)) (sym last_is) ∙ ap (λ l. set (opened o items last) (last_set (seen o items last waits entries)) (l ++ more)) (sym last_items) in
+      ap (λ (s : List (List Item)). let c : Charted = record { sets = s; waits = opened o waits entries } in c) (put ∙ there)
+
+  -- an item more, or none
   pub item_more : (item : Item) (new : List Item) (added : Bool) → new ≡ (if added then last ++ item ∷ [] else last)
       → seen o items new waits entries ≡ (if added then with_item (seen o items last waits entries) item else seen o items last waits entries)
-  item_more item new true is =
-      let put : opened o items new ≡ set (opened o items last) (length items) (last ++ item ∷ [])
-      = ap (opened o items) is ∙ subst (λ b. opened b items (last ++ item ∷ []) ≡ set (opened b items last) (length items) (last ++ item ∷ [])) (sym opens) (sym (set_at items last [] (last ++ item ∷ []) (length items) refl)) in
-      let there : set (opened o items last) (length items) (last ++ item ∷ []) ≡ set (opened o items last) (last_set (seen o items last waits entries)) (items_of (seen o items last waits entries) (last_set (seen o items last waits entries)) ++ item ∷ [])
-      = ap (λ j. set (opened o items last) j (last ++ item ∷ [])) (sym last_is) ∙ ap (λ l. set (opened o items last) (last_set (seen o items last waits entries)) (l ++ item ∷ [])) (sym last_items) in
-      ap (λ (s : List (List Item)). let c : Charted = record { sets = s; waits = opened o waits entries } in c) (put ∙ there)
+  item_more item new true is = items_more (item ∷ []) new is
   item_more item new false is = ap (λ l. seen o items l waits entries) is
 
   -- an entry more in the last set
@@ -91,7 +95,7 @@ kept_reopened set items last new waits is kept different =
 pub different_sets : (o : Bool) (items : List (List Item)) (last : List Item) → All AreDifferent items → AreDifferent last → (k : ℕ) → AreDifferent (get_or (opened o items last) k [])
 different_sets o [] last all own k = by o k
   where
-    nothing : AreDifferent []
+    nothing : AreDifferent {A = Item} []
     nothing j k item a b = absurd (none-some item a)
 
     by : (o : Bool) (k : ℕ) → AreDifferent (get_or (opened o [] last) k [])

@@ -47,12 +47,24 @@ first_sets count chart = record { sets = take count chart.sets; waits = take cou
 abbrev pub before_last : Charted → Charted
 before_last chart = first_sets (last_set chart) chart
 
--- the chart with one item more, which stands last in the last set
-abbrev pub with_item : Charted → Item → Charted
-with_item chart item = record {
-  sets = slice_set chart.sets (last_set chart) (items_of chart (last_set chart) ++ item ∷ []);
+-- the chart with these items more, which stand last in the last set
+abbrev pub with_items : Charted → List Item → Charted
+with_items chart items = record {
+  sets = slice_set chart.sets (last_set chart) (items_of chart (last_set chart) ++ items);
   waits = chart.waits;
 }
+
+-- and with one item more
+abbrev pub with_item : Charted → Item → Charted
+with_item chart item = with_items chart (item ∷ [])
+
+-- the item of a state, with this origin
+abbrev pub item_from : ℕ → ℕ → Item
+item_from origin state = record { state = state; origin = origin }
+
+-- the items of the states in their order, all with this origin
+abbrev pub items_from : ℕ → List ℕ → List Item
+items_from origin states = map (item_from origin) states
 
 -- the entries of a nonterminal's waiting list in a set, which is not the last, are these
 pub record IsWaiting (chart : Charted) (w : Waiting) : Type 0 where

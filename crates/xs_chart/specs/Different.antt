@@ -1,7 +1,6 @@
--- Lists of different items.
+-- Lists of different elements.
 use Rattle.std.specs.Prelude.{◌≡◌, ℕ, List, Some, slice_get}
-use Rattle.xs_chart.specs.declared.item.Item.{Item}
 
--- no item stands at two places
-abbrev pub AreDifferent : List Item → Type 0
-AreDifferent items = (j k : ℕ) (item : Item) → slice_get items j ≡ Some item → slice_get items k ≡ Some item → j ≡ k
+-- no element stands at two places
+abbrev pub AreDifferent : {A : Type 0} → List A → Type 0
+AreDifferent {A} xs = (j k : ℕ) (x : A) → slice_get xs j ≡ Some x → slice_get xs k ≡ Some x → j ≡ k

@@ -98,7 +98,7 @@ fn open_last(
 }
 
 impl Chart {
-    ghost use Rattle.xs_chart.specs.Charted.{items_of, last_set, waiting_of, with_item, first_sets, before_last, IsWaiting, set_limit};
+    ghost use Rattle.xs_chart.specs.Charted.{items_of, last_set, waiting_of, with_item, with_items, item_from, items_from, first_sets, before_last, IsWaiting, set_limit};
 
     /// The chart without sets.
     pub fn new(alloc: Global) -> Result<Self, Memory>
@@ -154,6 +154,28 @@ impl Chart {
         )?;
         let added = self.last.add(item)?;
         Ok(added)
+    }
+
+    /// Puts items of these states last in the last set, all with one origin; no state stands twice, and
+    /// none of the items is there. None of them is looked for.
+    #[inline(always)]
+    pub fn append_all(&mut self, states: &[u32], origin: u32) -> Result<(), Memory>
+        requires some { 0 < length self.old.sets }
+        requires different { AreDifferent states.now }
+        requires absent { (state : ℕ) → Contains states.now state → Contains (items_of self.old (last_set self.old)) (item_from origin state) → ⊥ }
+        ensures last { OnOk result (self.new ≡ with_items self.old (items_from origin states.now)) }
+        ensures before { before_last self.new ≡ before_last self.old }
+        ensures err { OnErr result (self.new ≡ self.old) }
+    {
+        reopen(
+            &mut self.is_open,
+            &mut self.items,
+            &mut self.waits,
+            &mut self.last,
+            &mut self.waiting,
+        )?;
+        self.last.append_all(states, origin)?;
+        Ok(())
     }
 
     /// The items of a set, in the order in which they were added.

@@ -1,4 +1,5 @@
 ghost use Rattle.std.specs.Prelude.{◌≡◌, ◌<◌, ◌≤◌, ◌↔◌, ◌+◌, ◌^◌, suc, ℕ, [], ◌∷◌, ◌++◌, length, min, slice_get, slice_index_or, slice_set, if◌then◌else◌, Some, Contains, IsTrue, IfOk, OnOk, OnErr, vec_len, vec_capacity};
+ghost use Rattle.xs_chart.specs.Charted.{item_from, items_from};
 ghost use Rattle.xs_chart.specs.Different.{AreDifferent};
 ghost use Rattle.xs_chart.specs.Linked.{slot_of, IsChained, IsBackward, IsLinked, IsRoomy};
 
@@ -9,6 +10,9 @@ use xs_class::Memory;
 
 /// How many slots the table of a new list has.
 const FIRST_SLOTS: usize = 32;
+
+/// The slots of fewer items than this are not emptied: what they have leads to few other items.
+const FEW_ITEMS: usize = 4;
 
 /// As many slots as this are emptied together in the time of one by itself.
 const SLOTS_AT_ONCE: usize = 8;
@@ -103,9 +107,7 @@ fn linked(alloc: Global, items: &[Item], count: usize) -> Result<(Vec<u32>, Vec<
 }
 
 /// Doubles the slots, and the room of the lists.
-#[cold]
-#[inline(never)]
-fn widen(
+fn double(
     alloc: Global,
     items: &mut Vec<Item>,
     earlier: &mut Vec<u32>,
@@ -114,7 +116,7 @@ fn widen(
     requires roomy { IsRoomy items.old.items earlier.old.items heads.old.items (vec_capacity items.old) (vec_capacity earlier.old) }
     ensures roomy { IsRoomy items.new.items earlier.new.items heads.new.items (vec_capacity items.new) (vec_capacity earlier.new) }
     ensures same { items.new.items ≡ items.old.items }
-    ensures space { OnOk result (length items.new.items < length heads.new.items) }
+    ensures wider { OnOk result (length heads.old.items < length heads.new.items) }
 {
     let count = heads.len() * 2;
     if count > u32::MAX as usize {
@@ -127,31 +129,84 @@ fn widen(
     Ok(())
 }
 
-/// Makes more slots, and more room, where there are no more slots than items.
+/// Doubles the slots until there are that many more than items.
+#[cold]
+#[inline(never)]
+fn widen(
+    alloc: Global,
+    items: &mut Vec<Item>,
+    earlier: &mut Vec<u32>,
+    heads: &mut Vec<u32>,
+    more: usize,
+) -> Result<(), Memory>
+    requires roomy { IsRoomy items.old.items earlier.old.items heads.old.items (vec_capacity items.old) (vec_capacity earlier.old) }
+    ensures roomy { IsRoomy items.new.items earlier.new.items heads.new.items (vec_capacity items.new) (vec_capacity earlier.new) }
+    ensures same { items.new.items ≡ items.old.items }
+    ensures space { OnOk result (length items.new.items + more ≤ length heads.new.items) }
+{
+    'doublings: while heads.len() - items.len() < more {
+        double(alloc, items, earlier, heads)?;
+    }
+    Ok(())
+}
+
+/// Makes more slots, and more room, where there are not that many more slots than items.
 #[inline(always)]
 fn spread(
     alloc: Global,
     items: &mut Vec<Item>,
     earlier: &mut Vec<u32>,
     heads: &mut Vec<u32>,
+    more: usize,
 ) -> Result<(), Memory>
     requires roomy { IsRoomy items.old.items earlier.old.items heads.old.items (vec_capacity items.old) (vec_capacity earlier.old) }
     ensures roomy { IsRoomy items.new.items earlier.new.items heads.new.items (vec_capacity items.new) (vec_capacity earlier.new) }
     ensures same { items.new.items ≡ items.old.items }
-    ensures space { OnOk result (length items.new.items < length heads.new.items) }
+    ensures space { OnOk result (length items.new.items + more ≤ length heads.new.items) }
 {
-    if items.len() < heads.len() {
+    if more <= heads.len() - items.len() {
         return Ok(());
     }
-    widen(alloc, items, earlier, heads)?;
+    widen(alloc, items, earlier, heads, more)?;
     Ok(())
 }
 
-/// Empties the slots of the items; all slots, where there are few for each item.
+/// Links items of these states, all with one origin, and puts them last; they are not there yet, and
+/// there is room for them.
+#[inline(always)]
+fn link_all(
+    items: &mut Vec<Item>,
+    earlier: &mut Vec<u32>,
+    heads: &mut Vec<u32>,
+    states: &[u32],
+    origin: u32,
+)
+    requires roomy { IsRoomy items.old.items earlier.old.items heads.old.items (vec_capacity items.old) (vec_capacity earlier.old) }
+    requires space { length items.old.items + length states.now ≤ length heads.old.items }
+    requires different { AreDifferent states.now }
+    requires absent { (state : ℕ) → Contains states.now state → Contains items.old.items (item_from origin state) → ⊥ }
+    ensures roomy { IsRoomy items.new.items earlier.new.items heads.new.items (vec_capacity items.new) (vec_capacity earlier.new) }
+    ensures items { items.new.items ≡ items.old.items ++ items_from origin states.now }
+{
+    'states: for state in states {
+        let item = Item {
+            state: *state,
+            origin,
+        };
+        link(earlier, heads, item);
+        items.push_reserved(item);
+    }
+}
+
+/// Empties the slots of the items, unless there are few items; all slots, where there are few for each
+/// item.
 fn clear_slots(heads: &mut [u32], items: &[Item])
     requires { 0 < length heads.old }
     ensures { length heads.new ≡ length heads.old }
 {
+    if items.len() < FEW_ITEMS {
+        return;
+    }
     if heads.len() / SLOTS_AT_ONCE <= items.len() {
         heads.fill(0);
         return;
@@ -208,6 +263,7 @@ impl Table {
             &mut self.items,
             &mut self.earlier,
             &mut self.heads,
+            1,
         )?;
         if self.has(item) {
             return Ok(false);
@@ -215,6 +271,33 @@ impl Table {
         link(&mut self.earlier, &mut self.heads, item);
         self.items.push_reserved(item);
         Ok(true)
+    }
+
+    /// Puts items of these states last, all with one origin; no state stands twice, and none of the
+    /// items is there.
+    #[inline(always)]
+    pub fn append_all(&mut self, states: &[u32], origin: u32) -> Result<(), Memory>
+        requires different { AreDifferent states.now }
+        requires absent { (state : ℕ) → Contains states.now state → Contains self.old (item_from origin state) → ⊥ }
+        ensures items { OnOk result (self.new ≡ self.old ++ items_from origin states.now) }
+        ensures different { AreDifferent self.new }
+        ensures err { OnErr result (self.new ≡ self.old) }
+    {
+        spread(
+            self.alloc,
+            &mut self.items,
+            &mut self.earlier,
+            &mut self.heads,
+            states.len(),
+        )?;
+        link_all(
+            &mut self.items,
+            &mut self.earlier,
+            &mut self.heads,
+            states,
+            origin,
+        );
+        Ok(())
     }
 
     /// Removes all items, and keeps the memory.

@@ -5,7 +5,7 @@ use Rattle.std.proofs.lemmas.Bool.{cases_eq, false≢true}
 use Rattle.std.proofs.lemmas.List.{take_more}
 use Rattle.std.proofs.lemmas.List.Elements.{Contains-append_left, Contains-append_right, Contains-append_cases, Contains-push, Contains-push_cases}
 use Rattle.xs_chart.specs.declared.item.Item.{Item}
-use Rattle.xs_chart.specs.Charted.{Charted, items_of, last_set, with_item}
+use Rattle.xs_chart.specs.Charted.{Charted, items_of, last_set, with_item, with_items}
 use Rattle.xs_gram.specs.declared.places.Place.{Place}
 use Rattle.xs_gram.specs.Grammar.{Grammar}
 use Rattle.xs_chart_laws.specs.Charts.{IsNumber, set_at}
@@ -58,37 +58,43 @@ puts_kept at P a b puts k item h = elim (cases_eq k at) [
   | inr ne ↦ subst (λ (l : List Item). Contains l item) (sym (puts.others k ne)) h
 ]
 
--- one item is put last in a set
-pub set_puts : (sets : List (List Item)) (at : ℕ) (item : Item) (items : List Item) → at < length sets → items ≡ set_at sets at ++ item ∷ [] → Puts at (λ x. x ≡ item) sets (set sets at items)
-set_puts sets at item items lt is = record {
+-- items are put last in a set
+pub set_puts : (sets : List (List Item)) (at : ℕ) (more items : List Item) → at < length sets → items ≡ set_at sets at ++ more → Puts at (Contains more) sets (set sets at items)
+set_puts sets at more items lt is = record {
   counted = length-set sets at items;
-  more = item ∷ [];
+  more = more;
   last = get_or-set_same sets at items [] lt ∙ is;
-  each = λ x h. elim (Contains-push_cases [] item x h) [ inl none ↦ absurd (no_element x none) | inr e ↦ sym e ];
+  each = λ x h. h;
   others = λ k ne. get_or-set_other sets at k items [] ne;
 }
 
-pub set_there : (sets : List (List Item)) (at : ℕ) (item : Item) (items : List Item) → at < length sets → items ≡ set_at sets at ++ item ∷ [] → Contains (set_at (set sets at items) at) item
-set_there sets at item items lt is = subst (λ (l : List Item). Contains l item) (sym (get_or-set_same sets at items [] lt ∙ is)) (Contains-push (set_at sets at) item)
+pub set_there : (sets : List (List Item)) (at : ℕ) (more items : List Item) → at < length sets → items ≡ set_at sets at ++ more → (item : Item) → Contains more item → Contains (set_at (set sets at items) at) item
+set_there sets at more items lt is item h = subst (λ (l : List Item). Contains l item) (sym (get_or-set_same sets at items [] lt ∙ is)) (Contains-append_right (set_at sets at) more item h)
 
 pub last_at : (chart : Charted) (at : ℕ) → length chart.sets ≡ suc at → last_set chart ≡ at
 last_at chart at last = omega arith
 
+-- items are put last in the last set of a chart
+pub appended_puts : (old new : Charted) (at : ℕ) (more : List Item) → length old.sets ≡ suc at → new ≡ with_items old more → Puts at (Contains more) old.sets new.sets
+appended_puts old new at more last is =
+    let lt : at < length old.sets = omega arith in
+    let here = set_puts old.sets at more (set_at old.sets at ++ more) lt refl in
+    subst (λ (c : Charted). Puts at (Contains more) old.sets c.sets) (sym is) (subst (λ k. Puts at (Contains more) old.sets (set old.sets k (set_at old.sets k ++ more))) (sym (last_at old at last)) here)
+
+pub appended_there : (old new : Charted) (at : ℕ) (more : List Item) → length old.sets ≡ suc at → new ≡ with_items old more → (item : Item) → Contains more item → Contains (set_at new.sets at) item
+appended_there old new at more last is item h =
+    let lt : at < length old.sets = omega arith in
+    let here = set_there old.sets at more (set_at old.sets at ++ more) lt refl item h in
+    subst (λ (c : Charted). Contains (set_at c.sets at) item) (sym is) (subst (λ k. Contains (set_at (set old.sets k (set_at old.sets k ++ more)) at) item) (sym (last_at old at last)) here)
+
 -- an item is added to the last set of a chart
 pub added_puts : (old new : Charted) (at : ℕ) (item : Item) (added : Bool) → length old.sets ≡ suc at → new ≡ (if added then with_item old item else old) → Puts at (λ x. x ≡ item) old.sets new.sets
 added_puts old new at item true last is =
-    let e = last_at old at last in
-    let lt : at < length old.sets = omega arith in
-    let here = set_puts old.sets at item (set_at old.sets at ++ item ∷ []) lt refl in
-    subst (λ (c : Charted). Puts at (λ x. x ≡ item) old.sets c.sets) (sym is) (subst (λ k. Puts at (λ x. x ≡ item) old.sets (set old.sets k (set_at old.sets k ++ item ∷ []))) (sym e) here)
+    puts_weaker at (Contains (item ∷ [])) (λ x. x ≡ item) old.sets new.sets (λ x h. elim (Contains-push_cases [] item x h) [ inl none ↦ absurd (no_element x none) | inr e ↦ sym e ]) (appended_puts old new at (item ∷ []) last is)
 added_puts old new at item false last is = subst (λ (c : Charted). Puts at (λ x. x ≡ item) old.sets c.sets) (sym is) (puts_none at (λ x. x ≡ item) old.sets)
 
 pub added_there : (old new : Charted) (at : ℕ) (item : Item) (added : Bool) → length old.sets ≡ suc at → new ≡ (if added then with_item old item else old) → IsTrue added ↔ (Contains (items_of old (last_set old)) item → ⊥) → Contains (set_at new.sets at) item
-added_there old new at item true last is iff =
-    let e = last_at old at last in
-    let lt : at < length old.sets = omega arith in
-    let here = set_there old.sets at item (set_at old.sets at ++ item ∷ []) lt refl in
-    subst (λ (c : Charted). Contains (set_at c.sets at) item) (sym is) (subst (λ k. Contains (set_at (set old.sets k (set_at old.sets k ++ item ∷ [])) at) item) (sym e) here)
+added_there old new at item true last is iff = appended_there old new at (item ∷ []) last is item (0, omega arith, refl)
 added_there old new at item false last is iff = elim (contains_cases (set_at old.sets at) item) [
   | inl h ↦ subst (λ (c : Charted). Contains (set_at c.sets at) item) (sym is) h
   | inr never ↦ absurd (false≢true (iff.1 (λ h. never (subst (λ k. Contains (set_at old.sets k) item) (last_at old at last) h))))

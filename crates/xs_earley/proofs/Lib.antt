@@ -2,6 +2,7 @@ pub mod Additions
 pub mod Growths
 pub mod Settlings
 pub mod Completing
+pub mod Predicting
 pub mod Queues
 pub mod Tables
 pub mod Wholes

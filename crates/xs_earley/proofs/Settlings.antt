@@ -1,18 +1,17 @@
 -- An item is settled by what is added for it.
-use Rattle.std.proofs.Common.{◌≡◌, ◌≢◌, ◌↔◌, ℕ, suc, ◌<◌, ◌≤◌, List, length, set, Bool, true, false, Some, None, get_or-set_other, refl, sym, ◌∙◌, ap, subst, arith, inl, inr}
-use Rattle.std.specs.Prelude.{Contains, slice_get, slice_index_or, IsTrue}
-use Rattle.std.proofs.lemmas.Bool.{cases_eq, false≢true}
+use Rattle.std.proofs.Common.{◌≡◌, ◌≢◌, ℕ, ◌<◌, ◌≤◌, List, length, false, Some, refl, sym, ◌∙◌, ap, subst, arith, inl, inr}
+use Rattle.std.specs.Prelude.{Contains, slice_get, IsTrue}
+use Rattle.std.proofs.lemmas.Bool.{false≢true}
 use Rattle.xs_chart.specs.declared.item.Item.{Item}
 use Rattle.xs_gram.specs.declared.parts.GItem.{GItem}
 use Rattle.xs_gram.specs.declared.parts.GItem.TheVariants.{Fixed, Term, Non, Skip}
 use Rattle.xs_gram.specs.declared.places.Place.{Place}
-use Rattle.xs_gram.specs.Grammar.{Grammar, rule_of, items, IsRuleOf, ItemAt}
+use Rattle.xs_gram.specs.Grammar.{Grammar, ItemAt}
 use Rattle.xs_gram.specs.Sound.{IsBuilt}
 use Rattle.xs_gram.specs.Chart.{Stands}
 use Rattle.xs_gram.specs.Places.{at_dot, all_places}
 use Rattle.xs_chart_laws.specs.Steps.{next_of, IsBefore, IsAtEnd, IsPassed, IsSettled}
-use Rattle.xs_chart_laws.specs.Charts.{IsNumber, set_at, HasPlace, ItemStands, AllItemsStand}
-use Rattle.xs_chart_laws.proofs.Numbers.{one_place}
+use Rattle.xs_chart_laws.specs.Charts.{IsNumber, set_at, HasPlace, AllItemsStand}
 use Rattle.xs_chart_laws.proofs.Words.{get_lt}
 use Rattle.xs_chart_laws.proofs.Charts.{chart_stands}
 use Rattle.xs_chart_laws.proofs.Steps.{passed_stands, called_stands, completed_stands}
@@ -20,13 +19,13 @@ use Rattle.xs_chart_laws.proofs.Settling.{has_place_more, same_non, one_of_place
 use Rattle.xs_earley.specs.declared.rows.Row.{Row}
 use Rattle.xs_earley.specs.declared.rows.Stand.{Stand}
 use Rattle.xs_earley.specs.declared.rows.Stand.TheVariants.{AtEnd, AtNon, AtWord, AtTerm, AtSkip}
-use Rattle.xs_earley.specs.Adding.{Puts, IsOf, Adds, Is, Begins, Passes, Completes, Calls, Leads, AreCalled}
+use Rattle.xs_earley.specs.Adding.{IsOf, Adds, Is, Passes, Completes, Calls, Leads}
 use Rattle.xs_earley.specs.declared.facts.Facts.{Facts}
 use Rattle.xs_earley.specs.Facts.{row_at, IsStand, IsRow, AreFacts}
 use Rattle.xs_earley.specs.Growing.{Standing, Grown, IsSettledAt}
-use Rattle.xs_earley.proofs.Additions.{puts_none, puts_weaker, puts_kept, adds_none, adds_same}
+use Rattle.xs_earley.proofs.Additions.{puts_weaker, puts_kept, adds_none, adds_same}
 use Rattle.xs_earley.proofs.Growths.{grown_then, put_item}
-use Rattle.xs_class.proofs.Lists.{some_same, contains_of}
+use Rattle.xs_class.proofs.Lists.{some_same}
 
 -- where each place and origin with the property stands, items of those that are added stand
 pub adds_grown : (g : Grammar) (w : List ℕ) (at : ℕ) (P : Place → ℕ → Type 0) (a b : List (List Item)) → ((c : Place) (i : ℕ) → P c i → Stands g w c i at) → Adds g at P a b → Grown g w at a b
@@ -98,26 +97,6 @@ settled_by_place g w old new at k item grown lt e h x c at_k num =
     let was = put_item at (Standing g w at) old new grown k x lt at_k in
     let one : x ≡ item = some_same (slice_get (set_at old at) k) x item was e in
     subst (λ (y : Item). IsSettled g (HasPlace g new) at c y.origin) (sym one) (h c (subst (λ (y : Item). IsNumber g y.state c) one num))
-
--- a nonterminal that is marked has its rules begun
-pub calls_none : (g : Grammar) (at non : ℕ) (sets : List (List Item)) (called : List Bool) → AreCalled g at sets called → slice_index_or called non false ≡ true → Adds g at (Calls g at non) sets sets
-calls_none g at non sets called known e = record {
-  puts = puts_none at (IsOf g (Calls g at non)) sets;
-  there = λ c i h. subst (λ d. HasPlace g sets at d i) (sym h.2.0) (subst (λ o. HasPlace g sets at (at_dot h.0 0) o) (sym h.2.1) (known non h.0 e h.1));
-}
-
-pub calls_made : (g : Grammar) (at non : ℕ) (rules : List ℕ) (a b : List (List Item)) → ((q : ℕ) → Contains rules q ↔ IsRuleOf g non q) → Adds g at (Begins rules at) a b → Adds g at (Calls g at non) a b
-calls_made g at non rules a b all adds = adds_same g at (Begins rules at) (Calls g at non) a b (λ c i h. (h.0, (all h.0).0 h.1, h.2)) (λ c i h. (h.0, (all h.0).1 h.1, h.2)) adds
-
--- marks stay right while the set grows
-pub called_kept : (g : Grammar) (at : ℕ) (P : Item → Type 0) (a b : List (List Item)) (called : List Bool) → Puts at P a b → AreCalled g at a called → AreCalled g at b called
-called_kept g at P a b called puts known non q e rule = has_place_more g a b at (at_dot q 0) at (puts_kept at P a b puts at) (known non q e rule)
-
-pub called_more : (g : Grammar) (at non : ℕ) (a b : List (List Item)) (called : List Bool) → non < length called → Adds g at (Calls g at non) a b → AreCalled g at a called → AreCalled g at b (set called non true)
-called_more g at non a b called lt adds known m q e rule = elim (cases_eq m non) [
-  | inl same ↦ adds.there (at_dot q 0) at (q, subst (λ n. IsRuleOf g n q) same rule, (refl, refl))
-  | inr other ↦ called_kept g at (IsOf g (Calls g at non)) a b called adds.puts known m q (sym (get_or-set_other called non m true false other) ∙ e) rule
-]
 
 -- what stands at a place leads to nothing more
 pub leads_word : (g : Grammar) (at o : ℕ) (stand : Stand) (a : List (List Item)) (x y : ℕ) → stand ≡ AtWord x y → Adds g at (Leads g a at o stand) a a

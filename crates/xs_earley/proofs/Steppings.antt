@@ -1,7 +1,7 @@
 -- A run that begins, goes on by a symbol, and goes back.
-use Rattle.std.proofs.Common.{◌≡◌, ◌≢◌, ℕ, zero, suc, ◌+◌, ◌-◌, ◌<◌, ◌≤◌, Bool, false, List, [], ◌∷◌, ◌++◌, length, take, drop, Some, refl, sym, ◌∙◌, ap, subst, arith, inl, inr, ◌↔◌, length-append, take-append-drop, append-nil}
+use Rattle.std.proofs.Common.{◌≡◌, ◌≢◌, ℕ, zero, suc, ◌+◌, ◌-◌, ◌<◌, ◌≤◌, List, [], ◌∷◌, ◌++◌, length, take, drop, Some, refl, sym, ◌∙◌, ap, subst, arith, inl, inr, length-append, take-append-drop, append-nil}
 use Rattle.std.specs.Prelude.{Contains, slice_get, slice_index_or}
-use Rattle.std.proofs.lemmas.Bool.{cases_eq, cases_lt, false≢true}
+use Rattle.std.proofs.lemmas.Bool.{cases_eq, cases_lt}
 use Rattle.std.proofs.lemmas.List.{take_all, get_or_past, get_or_append_left, get_or_at, get_or-take, length-take-le}
 use Rattle.xs_class.proofs.Lists.{contains_of, get_of, first_in}
 use Rattle.xs_chart.specs.declared.item.Item.{Item}
@@ -9,23 +9,23 @@ use Rattle.xs_chart.specs.declared.waiting.Waiter.{Waiter}
 use Rattle.xs_chart.specs.Different.{AreDifferent}
 use Rattle.xs_chart.specs.Charted.{Charted, items_of, waiting_of, waiting_for, last_set, first_sets, before_last, set_limit}
 use Rattle.xs_gram.specs.declared.places.Place.{Place}
-use Rattle.xs_gram.specs.Grammar.{Grammar, IsRuleOf}
+use Rattle.xs_gram.specs.Grammar.{Grammar}
 use Rattle.xs_gram.specs.Derivations.{yield}
 use Rattle.xs_gram.specs.Sound.{IsSound}
 use Rattle.xs_gram.specs.Languages.{InLang, IsFront, IsViable}
 use Rattle.xs_gram.specs.Chart.{Stands}
 use Rattle.xs_gram.specs.Places.{at_dot, all_places}
-use Rattle.xs_chart_laws.specs.Charts.{set_at, HasPlace, ItemStands, AllItemsStand, IsChartOf, HasWaiters}
+use Rattle.xs_chart_laws.specs.Charts.{IsNumber, set_at, HasPlace, ItemStands, AllItemsStand, IsChartOf, HasWaiters}
 use Rattle.xs_chart_laws.specs.Next.{IsDue, IsBegun}
 use Rattle.xs_chart_laws.proofs.Words.{get_take, get_lt}
-use Rattle.xs_chart_laws.proofs.Numbers.{has_number, stands_at_place}
+use Rattle.xs_chart_laws.proofs.Numbers.{has_number, one_place, stands_at_place}
 use Rattle.xs_chart_laws.proofs.Steps.{start_stands}
 use Rattle.xs_chart_laws.proofs.Settling.{has_place_more}
 use Rattle.xs_chart_laws.proofs.Longer.{stands_longer, front_shorter}
 use Rattle.xs_chart_laws.proofs.Nexts.{chart_first, due_front, begun_front, no_front, due_stands, chart_more, begun_longer, begun_shorter, chart_shorter}
 use Rattle.xs_earley.specs.declared.begun.Begun.{Begun}
 use Rattle.xs_earley.specs.declared.facts.Facts.{Facts}
-use Rattle.xs_earley.specs.Adding.{Puts, Adds, Begins, AreCalled}
+use Rattle.xs_earley.specs.Adding.{Puts, Adds, Calls}
 use Rattle.xs_earley.specs.Arriving.{AreBegun}
 use Rattle.xs_earley.specs.Masks.{AreMasks}
 use Rattle.xs_earley.specs.Facts.{AreFacts}
@@ -36,6 +36,7 @@ use Rattle.xs_earley.specs.Waiting.{WaitsBelow}
 use Rattle.xs_earley.proofs.Additions.{no_element, puts_kept}
 use Rattle.xs_earley.proofs.Completing.{waiting_same}
 use Rattle.xs_earley.proofs.Growths.{grown_stand, exact_same}
+use Rattle.xs_earley.proofs.Predicting.{arrives_later}
 use Rattle.xs_earley.proofs.Queues.{waits_exact, waits_none}
 use Rattle.xs_earley.proofs.Settlings.{adds_grown}
 
@@ -63,10 +64,6 @@ waits_beyond g chart waiters j non le = no_elements (waiting_of chart j non) nev
     never n h =
         let x = (waiters.exact j non n).0 h in
         no_element x.0 (contains_of [] n x.0 (subst (λ (l : List Item). slice_get l n ≡ Some x.0) (get_or_past chart.sets j [] le) x.1))
-
--- no nonterminal is marked
-pub called_none : (g : Grammar) (at : ℕ) (sets : List (List Item)) (called : List Bool) → ((k : ℕ) → slice_index_or called k false ≡ false) → AreCalled g at sets called
-called_none g at sets called none non q e rule = absurd (false≢true (sym (none non) ∙ e))
 
 -- what waits in one more set that was closed
 waiters_more : (g : Grammar) (old new : Charted) (at : ℕ) → HasWaiters g old → ((j : ℕ) → j ≢ at → items_of new j ≡ items_of old j) → ((j non : ℕ) → j ≢ at → waiting_of new j non ≡ waiting_of old j non) → WaitsBelow g new at (length (items_of new at)) → HasWaiters g new
@@ -96,9 +93,9 @@ waiters_same g old new waiters items same = record {
 
 -- THE FIRST SET
 
-module _ (g : Grammar) (sound : IsSound g) (pushed begun new : Charted) (rules : List ℕ) (sets : pushed.sets ≡ [] ∷ []) (none : (j non : ℕ) → waiting_of pushed j non ≡ []) (all : (q : ℕ) → Contains rules q ↔ IsRuleOf g g.start q) (adds : Adds g 0 (Begins rules 0) pushed.sets begun.sets) (same : begun.waits ≡ pushed.waits) where
+module _ (g : Grammar) (sound : IsSound g) (pushed begun new : Charted) (sets : pushed.sets ≡ [] ∷ []) (none : (j non : ℕ) → waiting_of pushed j non ≡ []) (adds : Adds g 0 (Calls g 0 g.start) pushed.sets begun.sets) (same : begun.waits ≡ pushed.waits) where
   first_grown : Grown g [] 0 pushed.sets begun.sets
-  first_grown = adds_grown g [] 0 (Begins rules 0) pushed.sets begun.sets (λ c i h. subst (λ d. Stands g [] d i 0) (sym h.2.0) (subst (λ o. Stands g [] (at_dot h.0 0) o 0) (sym h.2.1) (start_stands g [] sound.built h.0 ((all h.0).0 h.1)))) adds
+  first_grown = adds_grown g [] 0 (Calls g 0 g.start) pushed.sets begun.sets (λ c i h. subst (λ d. Stands g [] d i 0) (sym h.2.0) (subst (λ o. Stands g [] (at_dot h.0 0) o 0) (sym h.2.1) (start_stands g [] sound.built h.0 h.1))) adds
 
   pushed_none : (j : ℕ) (item : Item) → Contains (set_at pushed.sets j) item → ⊥
   pushed_none j item h = no_element item (subst (λ (l : List Item). Contains l item) (by j) h)
@@ -124,7 +121,7 @@ module _ (g : Grammar) (sound : IsSound g) (pushed begun new : Charted) (rules :
   module _ (grown : Grown g [] 0 begun.sets new.sets) (settled : (k : ℕ) → k < length (items_of new 0) → IsSettledAt g new.sets 0 k) (earlier : (j non : ℕ) → j ≢ 0 → waiting_of new j non ≡ waiting_of begun j non) (waits : WaitsBelow g new 0 (length (items_of new 0))) (different : (j : ℕ) → AreDifferent (set_at new.sets j)) where
     pub first_chart : IsChartOf g [] new.sets
     first_chart = chart_first g new.sets sound.built (grown.counted ∙ first_open.last) (grown_stand g [] 0 begun.sets new.sets grown first_open.stand) different
-        (λ p rule. has_place_more g begun.sets new.sets 0 (at_dot p 0) 0 (puts_kept 0 (Standing g [] 0) begun.sets new.sets grown 0) (adds.there (at_dot p 0) 0 (p, (all p).1 rule, (refl, refl))))
+        (λ p rule. has_place_more g begun.sets new.sets 0 (at_dot p 0) 0 (puts_kept 0 (Standing g [] 0) begun.sets new.sets grown 0) (adds.there (at_dot p 0) 0 (p, rule, (refl, refl))))
         (λ item c h num. let n = get_of (set_at new.sets 0) item h in settled n.0 (get_lt (set_at new.sets 0) n.0 item n.1) item c n.1 num)
 
     pub first_waiters : HasWaiters g new
@@ -200,6 +197,12 @@ module _ (g : Grammar) (w : List ℕ) (s : ℕ) (f : Facts) (old : Charted) (beg
     stand = mid_stand;
     waiting = λ j non lt. let ne : j ≢ suc (length w) = omega arith in exact_same g old mid j non (mid_items j ne) (mid_waits j non) (run.waiters.exact j non);
   }
+
+  -- no rule is begun there
+  pub next_unbegun : (item : Item) (q : ℕ) → Contains (set_at mid.sets (suc (length w))) item → IsNumber g item.state (at_dot q 0) → ⊥
+  next_unbegun item q h num =
+      let d = (are_due item).0 (puts.each item (subst (λ (l : List Item). Contains l item) mid_last h)) in
+      arrives_later g (w ++ s ∷ []) d.2.0 d.2.1 (suc (length w)) d.0 d.2.3 q (one_place g item.state d.0 (at_dot q 0) d.1 num)
 
   pub next_waits : WaitsBelow g mid (suc (length w)) 0
   next_waits = waits_none g mid (suc (length w)) (λ non. mid_waits (suc (length w)) non ∙ waits_beyond g old run.waiters (suc (length w)) non (let c = run.chart.counted in omega (arith, c)))

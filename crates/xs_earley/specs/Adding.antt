@@ -2,7 +2,7 @@
 use Rattle.std.specs.Prelude.{◌≡◌, ◌≢◌, ℕ, ◌<◌, List, ◌++◌, length, Bool, true, false, Some, slice_get, slice_index_or, Contains}
 use Rattle.xs_chart.specs.declared.item.Item.{Item}
 use Rattle.xs_gram.specs.declared.places.Place.{Place}
-use Rattle.xs_gram.specs.Grammar.{Grammar, IsRuleOf}
+use Rattle.xs_gram.specs.Grammar.{Grammar, rule_of, IsRuleOf}
 use Rattle.xs_gram.specs.Places.{at_dot}
 use Rattle.xs_chart_laws.specs.Steps.{next_of, IsBefore, IsPassed}
 use Rattle.xs_chart_laws.specs.Charts.{IsNumber, set_at, HasPlace}
@@ -30,10 +30,6 @@ pub record Adds (g : Grammar) (at : ℕ) (P : Place → ℕ → Type 0) (old new
 abbrev pub Is : Place → ℕ → Place → ℕ → Type 0
 Is d o c i = (c ≡ d) × (i ≡ o)
 
--- the beginning of one of the rules, and this origin
-abbrev pub Begins : List ℕ → ℕ → Place → ℕ → Type 0
-Begins rules o c i = (q : ℕ) × Contains rules q × Is (at_dot q 0) o c i
-
 -- what is after the nonterminal, for an item of set `from` that stands before it
 abbrev pub Completes : Grammar → List (List Item) → ℕ → ℕ → Place → ℕ → Type 0
 Completes g sets from non c i = (d : Place) × HasPlace g sets from d i × IsBefore g d non × (c ≡ next_of d)
@@ -59,6 +55,7 @@ Leads g sets at o (AtWord from end) c i = ⊥
 Leads g sets at o (AtTerm t) c i = ⊥
 Leads g sets at o (AtSkip k) c i = ⊥
 
--- where a nonterminal is marked, its rules are begun in set `at`
-abbrev pub AreCalled : Grammar → ℕ → List (List Item) → List Bool → Type 0
-AreCalled g at sets called = (non q : ℕ) → slice_index_or called non false ≡ true → IsRuleOf g non q → HasPlace g sets at (at_dot q 0) at
+-- where a nonterminal is marked, its rules are begun in set `at`, and no other rule has an item at its beginning there
+pub record AreCalled (g : Grammar) (at : ℕ) (sets : List (List Item)) (called : List Bool) : Type 0 where
+  pub begun : (non q : ℕ) → slice_index_or called non false ≡ true → IsRuleOf g non q → HasPlace g sets at (at_dot q 0) at
+  pub only : (item : Item) (q : ℕ) → Contains (set_at sets at) item → IsNumber g item.state (at_dot q 0) → slice_index_or called (rule_of g q).non false ≡ true

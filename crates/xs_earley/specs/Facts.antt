@@ -15,7 +15,7 @@ use Rattle.xs_earley.specs.declared.rows.Row.{Row}
 use Rattle.xs_earley.specs.declared.rows.Stand.{Stand}
 use Rattle.xs_earley.specs.declared.rows.Stand.TheVariants.{AtEnd, AtNon, AtWord, AtTerm, AtSkip}
 use Rattle.xs_earley.specs.declared.facts.Facts.{Facts}
-use Rattle.xs_earley.specs.Asked.{AreRules}
+use Rattle.xs_earley.specs.Starts.{AreStarts}
 
 -- what stands for a row that is not there
 abbrev pub no_row : Row
@@ -67,7 +67,7 @@ pub record AreRows (g : Grammar) (letters : List ℕ) (count : ℕ) (rows : List
 -- all of them
 pub record AreFacts (g : Grammar) (facts : Facts) : Type 0 where
   pub nulls : AreNullable g facts.nulls
-  pub rules : AreRules g (length g.rules) facts.rules.items
+  pub starts : AreStarts g (length g.rules) facts.starts.items
   pub rows : AreRows g facts.letters.items (length (all_places g)) facts.rows.items
   pub few : length (all_places g) < 2 ^ 32
   pub letters_few : length facts.letters.items < 2 ^ 32

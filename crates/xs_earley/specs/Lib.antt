@@ -1,6 +1,5 @@
 pub mod Adding
 pub mod Arriving
-pub mod Asked
 pub mod Facts
 pub mod Following
 pub mod Growing
@@ -8,4 +7,5 @@ pub mod Masks
 pub mod Running
 pub mod Seen
 pub mod Stages
+pub mod Starts
 pub mod Waiting

@@ -1,11 +1,11 @@
 ghost use Rattle.std.specs.Prelude.{◌≡◌, ◌<◌, ◌↔◌, ℕ, length, Some, IfOk, Contains};
+ghost use Rattle.xs_chart.specs.Different.{AreDifferent};
 ghost use Rattle.xs_atoms.specs.Alphabet.{term_classes, skip_classes};
 ghost use Rattle.xs_atoms.specs.declared.atoms.Atoms.{Atoms as AnyAtoms};
-ghost use Rattle.xs_gram.specs.Grammar.{IsRuleOf};
 ghost use Rattle.xs_gram.specs.Places.{all_places};
 ghost use Rattle.xs_gram.specs.Sound.{IsBuilt};
 ghost use Rattle.xs_order.specs.Order.{AreNullable};
-ghost use Rattle.xs_earley.specs.Asked.{AreRules};
+ghost use Rattle.xs_earley.specs.Starts.{IsStart, AreStarts};
 ghost use Rattle.xs_earley.specs.Facts.{AreFacts, IsAtom, row_at};
 ghost use Rattle.xs_earley.specs.Masks.{AreMasks};
 
@@ -14,32 +14,37 @@ use crate::rows::{Row, rows_of};
 use std::alloc::Global;
 use xs_atoms::Atoms;
 use xs_class::{Memory, Sym, empty_lists};
-use xs_gram::Gram;
+use xs_gram::{Gram, Place};
 use xs_order::{Flags, nullable};
 use xs_regex::Numbers;
 
-/// Of each nonterminal, whether it derives the empty word, and its rules; of each place a row; the
-/// symbols of all fixed words; the grammar's atoms, where it has few; and of each place a mask, by
-/// which most items that cannot read a symbol are passed over.
+/// Of each nonterminal, whether it derives the empty word, and the states in which its rules begin;
+/// of each place a row; the symbols of all fixed words; the grammar's atoms, where it has few; and of
+/// each place a mask, by which most items that cannot read a symbol are passed over.
 #[derive(Drop)]
 pub struct Facts {
     pub nulls: Flags,
-    pub rules: Vec<Numbers>,
+    pub starts: Vec<Numbers>,
     pub rows: Vec<Row>,
     pub letters: Vec<Sym>,
     pub atoms: Option<Atoms>,
     pub masks: Vec<u64>,
 }
 
-/// The rules of each nonterminal.
-fn rules_of(alloc: Global, g: &Gram) -> Result<Vec<Numbers>, Memory>
+/// The states in which the rules of each nonterminal begin.
+fn starts_of(alloc: Global, g: &Gram) -> Result<Vec<Numbers>, Memory>
     requires built { IsBuilt g.now }
-    ensures { IfOk result (λ rows. AreRules g.now (length g.now.rules) rows.items) }
+    ensures { IfOk result (λ rows. AreStarts g.now (length g.now.rules) rows.items) }
 {
     let mut rows: Vec<Numbers> = empty_lists(alloc, g.nons() as usize)?;
     'rules: for rule in 0..g.rules() {
+        let state = g.number(Place {
+            rule,
+            dot: 0,
+            inside: None,
+        });
         let row = &mut rows[g.non_of(rule) as usize];
-        row.push(rule)?;
+        row.push(state)?;
     }
     Ok(rows)
 }
@@ -53,13 +58,13 @@ impl Facts {
         ensures masks { IfOk result (λ facts. AreMasks g.now facts (length (all_places g.now)) facts.masks.items) }
     {
         let nulls = nullable(alloc, g)?;
-        let rules = rules_of(alloc, g)?;
+        let starts = starts_of(alloc, g)?;
         let (rows, letters) = rows_of(alloc, g, &nulls)?;
         let atoms = Atoms::of(alloc, g)?;
         let _places = g.places();
         let mut facts = Facts {
             nulls,
-            rules,
+            starts,
             rows,
             letters,
             atoms,
@@ -70,14 +75,15 @@ impl Facts {
         Ok(facts)
     }
 
-    /// The rules of the nonterminal.
+    /// The states in which the rules of the nonterminal begin, each once.
     #[inline(always)]
-    pub fn rules(&self, g: &Gram, non: u32) -> &[u32]
+    pub fn starts(&self, g: &Gram, non: u32) -> &[u32]
         requires facts { AreFacts g.now self.now }
         requires non { non < g.now.nons }
-        ensures { (q : ℕ) → Contains result.now q ↔ IsRuleOf g.now non q }
+        ensures is { (state : ℕ) → Contains result.now state ↔ IsStart g.now non state }
+        ensures different { AreDifferent result.now }
     {
-        self.rules[non as usize].as_slice()
+        self.starts[non as usize].as_slice()
     }
 
     /// The row of a place by its number.

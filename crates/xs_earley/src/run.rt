@@ -1,12 +1,11 @@
 ghost use Rattle.std.specs.Prelude.{◌≡◌, ◌<◌, ◌≤◌, ◌+◌, ◌↔◌, suc, ℕ, false, [], ◌∷◌, ◌++◌, length, take, IsTrue, IfOk, OnErr};
 ghost use Rattle.xs_class.specs.Classes.{Has};
 ghost use Rattle.xs_chart.specs.Charted.{set_limit};
-ghost use Rattle.xs_gram.specs.Grammar.{Grammar, items};
+ghost use Rattle.xs_gram.specs.Grammar.{Grammar, items, IsRuleOf};
 ghost use Rattle.xs_gram.specs.Languages.{InLang, IsFront};
 ghost use Rattle.xs_gram.specs.Places.{at_dot};
 ghost use Rattle.xs_gram.specs.Sound.{IsSound};
 ghost use Rattle.xs_chart_laws.specs.Charts.{HasPlace, IsChartOf, HasWaiters};
-ghost use Rattle.xs_earley.specs.Facts.{AreFacts};
 ghost use Rattle.xs_earley.specs.Running.{IsRunOf};
 
 use crate::begun::Begun;
@@ -44,12 +43,16 @@ impl Model for Run {
     ghost view = { λ r. record { word = r.word.items; chart = r.chart; begun = r.begun; facts = r.facts; marks = length r.called.items } };
 }
 
-/// Whether set `at` of the chart has the rule at its end, from the front of the document.
+/// Whether the rule is one of the start, and set `at` of the chart has it at its end, from the front of
+/// the document.
 fn has_whole(g: &Gram, chart: &Chart, at: u32, rule: u32) -> bool
     requires rule { rule < length g.now.rules }
     requires at { at < length chart.now.sets }
-    ensures { IsTrue result ↔ HasPlace g.now chart.now.sets at (at_dot rule (length (items g.now rule))) 0 }
+    ensures { IsTrue result ↔ (IsRuleOf g.now g.now.start rule × HasPlace g.now chart.now.sets at (at_dot rule (length (items g.now rule))) 0) }
 {
+    if g.non_of(rule) != g.start() {
+        return false;
+    }
     let place = Place {
         rule,
         dot: g.items(rule).len() as u32,
@@ -60,16 +63,15 @@ fn has_whole(g: &Gram, chart: &Chart, at: u32, rule: u32) -> bool
 }
 
 /// Whether a whole rule of the start is read over the document.
-fn is_whole(g: &Gram, doc: &[Sym], facts: &Facts, chart: &Chart) -> bool
+fn is_whole(g: &Gram, doc: &[Sym], chart: &Chart) -> bool
     requires sound { IsSound g.now }
-    requires facts { AreFacts g.now facts.now }
     requires chart { IsChartOf g.now doc.now chart.now.sets }
     requires few { length doc.now < set_limit }
     ensures { IsTrue result ↔ InLang g.now doc.now }
 {
     let at = doc.len() as u32;
-    'starts: for rule in facts.rules(g, g.start()) {
-        if has_whole(g, chart, at, *rule) {
+    'rules: for rule in 0..g.rules() {
+        if has_whole(g, chart, at, rule) {
             return true;
         }
     }
@@ -200,7 +202,7 @@ impl Run {
         requires { IsRunOf g.now self.now }
         ensures { IsTrue result ↔ InLang g.now self.now.word }
     {
-        is_whole(g, &self.word, &self.facts, &self.chart)
+        is_whole(g, &self.word, &self.chart)
     }
 
     /// The chart of the word so far.

@@ -6,7 +6,7 @@ ghost use Rattle.xs_gram.specs.Sound.{IsBuilt};
 ghost use Rattle.xs_chart_laws.specs.Steps.{IsSettled};
 ghost use Rattle.xs_chart_laws.specs.Charts.{IsNumber, HasPlace, ItemStands};
 ghost use Rattle.xs_earley.specs.declared.rows.Stand.TheVariants.{AtNon};
-ghost use Rattle.xs_earley.specs.Adding.{Adds, Calls, Completes, Leads, AreCalled};
+ghost use Rattle.xs_earley.specs.Adding.{Adds, Completes, Leads, AreCalled};
 ghost use Rattle.xs_earley.specs.Facts.{AreFacts, row_at};
 ghost use Rattle.xs_earley.specs.Growing.{Grown, IsSettledAt, IsExact, IsOpen};
 ghost use Rattle.xs_earley.specs.Waiting.{Waited, WaitsBelow};
@@ -43,34 +43,6 @@ fn end_rule(
     Ok(())
 }
 
-/// Begins the rules of a nonterminal, unless it is marked as one whose rules are begun, and marks it.
-#[inline(always)]
-fn call(
-    chart: &mut Chart,
-    called: &mut [bool],
-    g: &Gram,
-    facts: &Facts,
-    at: u32,
-    non: u32,
-) -> Result<(), Memory>
-    requires facts { AreFacts g.now facts.now }
-    requires non { non < g.now.nons }
-    requires marks { length called.old ≡ g.now.nons }
-    requires called { AreCalled g.now at chart.old.sets called.old }
-    requires last { length chart.old.sets ≡ suc at }
-    ensures adds { IfOk result (λ _. Adds g.now at (Calls g.now at non) chart.old.sets chart.new.sets) }
-    ensures called { IfOk result (λ _. AreCalled g.now at chart.new.sets called.new) }
-    ensures waits { chart.new.waits ≡ chart.old.waits }
-    ensures before { before_last chart.new ≡ before_last chart.old }
-{
-    if called[non as usize] {
-        return Ok(());
-    }
-    predict(chart, g, at, facts.rules(g, non))?;
-    called[non as usize] = true;
-    Ok(())
-}
-
 /// Adds what stands at a place leads to, beside what may be passed over.
 #[inline(always)]
 fn lead(
@@ -99,7 +71,7 @@ fn lead(
             Ok(())
         }
         Stand::AtNon(non) => {
-            call(chart, called, g, facts, at, non)?;
+            predict(chart, called, g, facts, at, non)?;
             Ok(())
         }
         Stand::AtWord(_, _) => Ok(()),

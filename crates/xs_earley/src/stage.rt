@@ -36,7 +36,7 @@ pub fn first_set(
     ensures waiters { IfOk result (λ _. HasWaiters g.now chart.new) }
 {
     chart.push_set()?;
-    predict(chart, g, 0, facts.rules(g, g.start()))?;
+    predict(chart, called, g, facts, 0, g.start())?;
     close(chart, called, g, facts, &[], 0)?;
     let _different = chart.sets();
     Ok(())

@@ -1,6 +1,6 @@
-ghost use Rattle.std.specs.Prelude.{◌≡◌, ◌<◌, suc, ℕ, length, IfOk, Contains};
+ghost use Rattle.std.specs.Prelude.{◌≡◌, ◌<◌, suc, length, IfOk};
 ghost use Rattle.xs_chart.specs.Charted.{before_last};
-ghost use Rattle.xs_earley.specs.Adding.{Adds, Begins, Completes};
+ghost use Rattle.xs_earley.specs.Adding.{Adds, Calls, Completes, AreCalled};
 ghost use Rattle.xs_earley.specs.Facts.{AreFacts};
 ghost use Rattle.xs_earley.specs.Growing.{IsExact};
 
@@ -8,26 +8,35 @@ use crate::adding::put;
 use crate::facts::Facts;
 use xs_chart::Chart;
 use xs_class::Memory;
-use xs_gram::{Gram, Place};
+use xs_gram::Gram;
 
-/// Adds the beginnings of these rules to the last set, with its number as their origin.
+/// Begins the rules of a nonterminal in the last set, unless it is marked as one whose rules are begun
+/// there, and marks it. What is added otherwise is never the beginning of a rule: so none of these is
+/// looked for.
 #[inline(always)]
-pub fn predict(chart: &mut Chart, g: &Gram, at: u32, rules: &[u32]) -> Result<(), Memory>
-    requires rules { (q : ℕ) → Contains rules.now q → q < length g.now.rules }
+pub fn predict(
+    chart: &mut Chart,
+    called: &mut [bool],
+    g: &Gram,
+    facts: &Facts,
+    at: u32,
+    non: u32,
+) -> Result<(), Memory>
+    requires facts { AreFacts g.now facts.now }
+    requires non { non < g.now.nons }
+    requires marks { length called.old ≡ g.now.nons }
+    requires called { AreCalled g.now at chart.old.sets called.old }
     requires last { length chart.old.sets ≡ suc at }
-    ensures adds { IfOk result (λ _. Adds g.now at (Begins rules.now at) chart.old.sets chart.new.sets) }
+    ensures adds { IfOk result (λ _. Adds g.now at (Calls g.now at non) chart.old.sets chart.new.sets) }
+    ensures called { IfOk result (λ _. AreCalled g.now at chart.new.sets called.new) }
     ensures waits { chart.new.waits ≡ chart.old.waits }
     ensures before { before_last chart.new ≡ before_last chart.old }
 {
-    'rules: for rule in rules {
-        let place = Place {
-            rule: *rule,
-            dot: 0,
-            inside: None,
-        };
-        let state = g.number(place);
-        put(chart, at, state, at)?;
+    if called[non as usize] {
+        return Ok(());
     }
+    chart.append_all(facts.starts(g, non), at)?;
+    called[non as usize] = true;
     Ok(())
 }
 

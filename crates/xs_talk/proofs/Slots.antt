@@ -6,24 +6,17 @@ use Rattle.xs_class.specs.declared.side.Side.TheVariants.{Text}
 use Rattle.xs_gram.specs.declared.parts.GItem.{GItem}
 use Rattle.xs_gram.specs.declared.parts.GItem.TheVariants.{Fixed, Term, Non, Skip}
 use Rattle.xs_gram.specs.declared.parts.RulePart.{RulePart}
-use Rattle.xs_gram.specs.Common.{kinds}
 use Rattle.xs_gram.specs.Grammar.{items, slots, no_rule}
 use Rattle.xs_gram.specs.Laws.{Every, HasNumberedSlots}
 use Rattle.xs_sheet.specs.declared.sheet.Sheet.{Sheet}
 use Rattle.xs_pair.specs.declared.mark.Mark.{Mark}
 use Rattle.xs_pair.specs.declared.production.Rule.{Rule}
+use Rattle.xs_gram.proofs.Printed.{kinds_long}
 use Rattle.xs_pair.specs.Grammars.{Pair, IsPairOf, Numbering, numbering, flat_marks, rule_part}
 use Rattle.xs_pair.specs.Listing.{rules_of}
 use Rattle.xs_pair.specs.Marks.{slot_names, slots_of}
 use Rattle.xs_pair.proofs.SlotKinds.{numbered, flat_kinds}
 use Rattle.xs_talk.specs.Slots.{AreNamed, HasSlotNames}
-
-kinds_long : (is : List GItem) → length (kinds is) ≡ length (slots is)
-kinds_long [] = refl
-kinds_long (Fixed f ∷ is) = kinds_long is
-kinds_long (Term t s ∷ is) = ap suc (kinds_long is)
-kinds_long (Non n s ∷ is) = ap suc (kinds_long is)
-kinds_long (Skip k ∷ is) = kinds_long is
 
 -- a side's items have as many slots as there are names of slots
 slots_long : (n : Numbering) (sl : List (List ℕ)) (ms : List Mark) → length (slots (flat_marks n sl ms)) ≡ length (slot_names ms)

@@ -1,13 +1,12 @@
 -- A grammar with other fences: derivations do not see them, and without fences a grammar is built as well.
 use Rattle.std.proofs.Common.{◌≡◌, ◌∙◌, ℕ, List, [], ◌∷◌, refl, ap}
-use Rattle.xs_regex.specs.declared.regex.Regex.{Regex}
-use Rattle.xs_regex.specs.declared.regex.Regex.TheVariants as R
 use Rattle.xs_gram.specs.declared.parts.GItem.{GItem}
 use Rattle.xs_gram.specs.declared.parts.GItem.TheVariants.{Fixed, Term, Non, Skip}
 use Rattle.xs_gram.specs.Grammar.{Grammar, items, term_of, skip_of, normal_word}
 use Rattle.xs_gram.specs.Derivations.{Parts, done, fixed, leaf, skip, sub, Derivation, FitsItems, Fits, normal_parts, normal}
 use Rattle.xs_gram.specs.Languages.{Derives, IsUnique}
-use Rattle.xs_gram.specs.Fences.{IsPlain, IsLevel, level_none, level_then, AvoidsFences, spread}
+use Rattle.xs_gram.specs.Fences.{spread}
+use Rattle.xs_gram.proofs.Unfenced.{level_unfenced, avoids_unfenced}
 use Rattle.xs_gram.specs.Sound.{IsBuilt, IsNullable, IsNullableItem, IsProductive, LeadsTo, LeadsOn, once, onward, DerivesItself}
 use Rattle.xs_sheet_laws.specs.Meanings.{HaveSameDerivations}
 
@@ -88,30 +87,11 @@ derivations_join g h k one two = record {
   unique = (λ is. two.unique.0 (one.unique.0 is), λ is. one.unique.1 (two.unique.1 is));
 }
 
--- without fences each list of items is level, and each regex avoids them
-avoids : (r : Regex) → AvoidsFences [] r
-avoids R.Empty = tt
-avoids (R.Set class) = λ s has. refl
-avoids (R.Then' p a q b) = (avoids a, avoids b)
-avoids (R.Or' p a q b) = (avoids a, avoids b)
-avoids (R.Star' p a) = avoids a
-avoids (R.Times' p a least most) = avoids a
-
-plain : (i : GItem) → IsPlain [] i
-plain (Fixed w) = λ s has. refl
-plain (Term t s) = tt
-plain (Non m s) = tt
-plain (Skip k) = tt
-
-level : (is : List GItem) → IsLevel [] is
-level [] = level_none
-level (i ∷ is) = level_then (plain i) (level is)
-
 pub built_without : (g : Grammar) → IsBuilt g → IsBuilt (with_fences g [])
 built_without g built = record {
   range = record { start = built.range.start; rules = built.range.rules; terms = built.range.terms; nons = built.range.nons; skips = built.range.skips; words = built.range.words };
   small = record { rules = built.small.rules; items = built.small.items; terms = built.small.terms; skips = built.small.skips };
   slots = built.slots;
   automata = record { terms = built.automata.terms; skips = built.automata.skips; terms_bounded = built.automata.terms_bounded; skips_bounded = built.automata.skips_bounded };
-  proper = record { once = tt; terms = λ t lt. avoids (term_of g t).regex; skips = λ k lt. avoids (skip_of g k).regex; level = λ p. level (spread (with_fences g []) p) };
+  proper = record { once = tt; terms = λ t lt. avoids_unfenced (term_of g t).regex; skips = λ k lt. avoids_unfenced (skip_of g k).regex; level = λ p. level_unfenced (spread (with_fences g []) p) };
 }

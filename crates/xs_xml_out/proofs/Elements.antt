@@ -1,9 +1,8 @@
 -- Elements, as they are written.
-use Rattle.std.proofs.Common.{◌≡◌, ◌⊎◌, inl, inr, ℕ, ◌<◌, List, [], ◌∷◌, ◌++◌, length, append_assoc, Option, Some, true, ◌==◌, codes, refl, sym, ◌∙◌, ap, subst, arith}
-use Rattle.std.proofs.lemmas.Bool.Decides.{nat_tests}
+use Rattle.std.proofs.Common.{◌≡◌, ◌⊎◌, inl, inr, ℕ, ◌<◌, List, [], ◌∷◌, ◌++◌, length, append_assoc, Option, Some, true, codes, refl, sym, ◌∙◌, ap, subst}
 use Rattle.xs_class.specs.Marks.{attr_end, opening_mark, attribute_mark, closing_mark}
 use Rattle.xs_class.specs.Ordered.{IsOrdered}
-use Rattle.xs_xml.specs.Piece.{Piece, start_tag, empty_tag, end_tag, spelt, spelt_attributes, is_piece, same, is_tag}
+use Rattle.xs_xml.specs.Piece.{Piece, start_tag, empty_tag, end_tag, spelt, spelt_attributes, is_piece, is_tag}
 use Rattle.xs_xml.specs.Legal.{closed, spelt_all, are_pieces, Spot, inside, passed, all_passed}
 use Rattle.xs_xml.specs.Reads.{symbols, all_symbols, opening, closing}
 use Rattle.xs_xml_out.specs.declared.mode.Mode.TheVariants.{Content, Tag}
@@ -16,12 +15,9 @@ use Rattle.xs_xml_out.proofs.Attributes.{tag_attributes, name_at-is_name, writte
 use Rattle.xs_xml_out.proofs.Content.{IsSpelt, spelt_nothing, spelt_text}
 use Rattle.xs_xml_out.proofs.Calm.{are_calm-append}
 use Rattle.xs_class.proofs.Truth.{both_true}
+use Rattle.xs_class.proofs.Words.{same_self}
 use Rattle.xs_xml.proofs.More.{pieces_append, passed_append}
 use Rattle.xs_xml.proofs.Greatest.{spelt_append}
-
-same_itself : (n : List ℕ) → same n n ≡ true
-same_itself [] = refl
-same_itself (c ∷ cs) = both_true (c == c) (same cs cs) (grind (arith, nat_tests)) (same_itself cs)
 
 attributes_word-append : (as_ : List Attribute) (y x : List ℕ) → attributes_word as_ y ++ x ≡ attributes_word as_ (y ++ x)
 attributes_word-append [] y x = refl
@@ -72,7 +68,7 @@ module _ (names : List (List ℕ)) (ordered : IsOrdered names) (are_names : AreN
   end_fits = rw (name_at-is_name names ordered are_names k below) refl
 
   pub end_passes : (ms : List (List ℕ)) → passed (inside (name_at names k) ms) (end_tag (name_at names k) []) ≡ Some (closed ms)
-  end_passes ms = rw (same_itself (name_at names k)) refl
+  end_passes ms = rw (same_self (name_at names k)) refl
 
   -- an empty tag, and what stands after it
   pub empty_spells : (v x rest : List ℕ) → written names Content (v ++ x) ≡ rest → written names Content (element_word k as_ [] v ++ x) ≡ spelt (empty_tag (name_at names k) (tag_attributes names as_) []) rest

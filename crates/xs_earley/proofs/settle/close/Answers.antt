@@ -1,4 +1,4 @@
-use Rattle.std.proofs.Common.{◌≡◌, ◌≢◌, ◌<◌, ◌+◌, ◌∙◌, ℕ, List, length, sym, subst, arith, inl, inr, refl}
+use Rattle.std.proofs.Common.{◌≡◌, ◌≢◌, ◌<◌, ◌+◌, ◌∙◌, ℕ, List, length, sym, subst, arith, inl, inr}
 use Rattle.std.proofs.lemmas.Bool.{cases_lt}
 use Rattle.std.proofs.lemmas.Option.{slice_get_within}
 use Rattle.xs_class.proofs.Lists.{contains_of}
@@ -8,7 +8,6 @@ use Rattle.xs_gram.specs.Grammar.{Grammar}
 use Rattle.xs_gram.specs.Places.{all_places}
 use Rattle.xs_chart_laws.specs.Charts.{set_at}
 use Rattle.xs_chart_laws.proofs.Words.{get_lt}
-use Rattle.xs_earley.specs.Adding.{AreCalled}
 use Rattle.xs_earley.specs.Growing.{Standing, Grown, IsSettledAt, IsOpen}
 use Rattle.xs_earley.specs.Waiting.{Waited}
 use Rattle.xs_earley.proofs.Completing.{waiting_same}

@@ -1,6 +1,7 @@
 use Rattle.std.proofs.Common.{◌<◌}
-use Rattle.xs_earley.specs.Adding.{IsOf, Completes}
-use Rattle.xs_earley.proofs.Settlings.{leads_end, leads_non, called_kept}
+use Rattle.xs_earley.specs.Adding.{Completes}
+use Rattle.xs_earley.proofs.Predicting.{next_later, called_kept}
+use Rattle.xs_earley.proofs.Settlings.{leads_end, leads_non}
 use Rattle.xs_earley.proofs.settle.lead.Goals as goal
 
 pub end_rule-requires-clause-waiting : goal.end_rule-requires-clause-waiting
@@ -13,7 +14,7 @@ pub returns-in_ok-end_rule-in-AtEnd-clause-called : goal.returns-in_ok-end_rule-
 returns-in_ok-end_rule-in-AtEnd-clause-called c =
     let g = c.args.g.now in
     let a = c.args.chart.now.sets in
-    called_kept g c.args.at (IsOf g (λ d i. (c.args.origin < c.args.at) × Completes g a c.args.origin c.in-AtEnd.non d i)) a c.end_rule.new.chart.sets c.args.called.now c.in_ok-end_rule-in-AtEnd.ensures.adds.puts c.requires.called
+    called_kept g c.args.at (λ d i. (c.args.origin < c.args.at) × Completes g a c.args.origin c.in-AtEnd.non d i) a c.end_rule.new.chart.sets c.args.called.now (λ d i h. next_later d h.1.0 h.1.3) c.in_ok-end_rule-in-AtEnd.ensures.adds c.requires.called
 
-pub returns-in_ok-call-in-AtNon-clause-adds : goal.returns-in_ok-call-in-AtNon-clause-adds
-returns-in_ok-call-in-AtNon-clause-adds c = leads_non c.args.g.now c.args.at c.args.origin c.args.stand c.args.chart.now.sets c.call.new.chart.sets c.in-AtNon.non c.in-AtNon.is c.in_ok-call-in-AtNon.ensures.adds
+pub returns-in_ok-predict-in-AtNon-clause-adds : goal.returns-in_ok-predict-in-AtNon-clause-adds
+returns-in_ok-predict-in-AtNon-clause-adds c = leads_non c.args.g.now c.args.at c.args.origin c.args.stand c.args.chart.now.sets c.predict.new.chart.sets c.in-AtNon.non c.in-AtNon.is c.in_ok-predict-in-AtNon.ensures.adds

@@ -1,13 +1,13 @@
-use Rattle.std.proofs.Common.{◌≡◌, ◌≢◌, ◌<◌, ◌∙◌, ℕ, List, length, sym, ap, subst, arith}
-use Rattle.xs_chart.specs.declared.item.Item.{Item}
+use Rattle.std.proofs.Common.{◌≢◌, ◌∙◌, subst, arith}
 use Rattle.xs_gram.specs.declared.places.Place.{Place}
 use Rattle.xs_chart_laws.specs.Steps.{IsSettled}
 use Rattle.xs_chart_laws.specs.Charts.{HasPlace}
 use Rattle.xs_chart_laws.proofs.Numbers.{one_place}
-use Rattle.xs_earley.specs.Adding.{IsOf, Passes}
+use Rattle.xs_earley.specs.Adding.{Passes}
 use Rattle.xs_earley.proofs.Completing.{waiting_same}
 use Rattle.xs_earley.proofs.Growths.{exact_same}
-use Rattle.xs_earley.proofs.Settlings.{row_is, non_there, called_kept, row_grown, row_settled}
+use Rattle.xs_earley.proofs.Predicting.{next_later, called_kept}
+use Rattle.xs_earley.proofs.Settlings.{row_is, non_there, row_grown, row_settled}
 use Rattle.xs_earley.proofs.settle.settle_item.Goals as goal
 
 pub lead-requires-clause-stand : goal.lead-requires-clause-stand
@@ -21,8 +21,7 @@ lead-requires-clause-called c =
     let st = c.requires.stands in
     let g = c.args.g.now in
     let is = row_is g c.args.facts.now c.requires.facts c.args.item.state st.0 st.1 c.args.row c.requires.row in
-    let adds = c.in_ok-pass.ensures.adds g c.args.facts.now.letters.items st.0 is in
-    called_kept g c.args.at (IsOf g (Passes g st.0 c.args.item.origin)) c.args.chart.now.sets c.pass.new.chart.sets c.args.called.now adds.puts c.requires.called
+    called_kept g c.args.at (Passes g st.0 c.args.item.origin) c.args.chart.now.sets c.pass.new.chart.sets c.args.called.now (λ d i h. next_later d st.0 h.1.0) (c.in_ok-pass.ensures.adds g c.args.facts.now.letters.items st.0 is) c.requires.called
 
 pub lead-requires-clause-last : goal.lead-requires-clause-last
 lead-requires-clause-last c =

@@ -1,35 +1,20 @@
-use Rattle.std.proofs.Common.{◌∙◌, get_or, refl, subst, arith}
-use Rattle.std.proofs.lemmas.List.{take_all}
-use Rattle.std.proofs.lemmas.List.Elements.{Contains-get_or}
-use Rattle.xs_gram.specs.Places.{at_dot}
-use Rattle.xs_chart_laws.proofs.Numbers.{first_place}
-use Rattle.xs_earley.specs.Adding.{Adds, Is, Begins}
-use Rattle.xs_earley.proofs.Additions.{among_none, among_more}
+use Rattle.std.proofs.Common.{◌<◌, length, sym, subst}
+use Rattle.std.specs.Prelude.{Contains}
+use Rattle.xs_chart.specs.Charted.{items_of, item_from}
+use Rattle.xs_earley.proofs.Additions.{last_at}
+use Rattle.xs_earley.proofs.Predicting.{starts_absent, calls_made, called_more}
 use Rattle.xs_earley.proofs.steps.predict.Goals as goal
 
-pub number-state-requires : goal.number-state-requires
-number-state-requires c =
-    let n = c.rules.rule-index in
-    let rules = c.args.rules.now in
-    first_place c.args.g.now (get_or rules n 0) (c.requires.rules (get_or rules n 0) (Contains-get_or rules n 0 (omega arith)))
-
-pub put-requires : goal.put-requires
-put-requires c = record { last = c.rules.invariant.adds.puts.counted ∙ c.requires.last }
-
-pub rules-init : goal.rules-init
-rules-init c = record { adds = among_none c.args.g.now c.args.at (λ q. Is (at_dot q 0) c.args.at) c.args.chart.now.sets; waits = refl; before = refl }
-
-pub rules-preserved : goal.rules-preserved
-rules-preserved c =
-    let n = c.rules.rule-index in
-    let rules = c.args.rules.now in
-    record {
-      adds = among_more c.args.g.now c.args.at (λ q. Is (at_dot q 0) c.args.at) rules n (get_or rules n 0) c.args.chart.now.sets c.rules.chart.sets c.put.new.chart.sets (omega arith) refl c.rules.invariant.adds (c.in_ok-put.ensures.adds c.args.g.now (at_dot (get_or rules n 0) 0) c.number-state.ensures.found);
-      waits = c.put.ensures.waits ∙ c.rules.invariant.waits;
-      before = c.put.ensures.before ∙ c.rules.invariant.before;
-    }
+pub append_all-requires-clause-absent : goal.append_all-requires-clause-absent
+append_all-requires-clause-absent c state among there =
+    let chart = c.args.chart.now in
+    let at = c.args.at in
+    starts_absent c.args.g.now at c.args.non chart.sets c.args.called.now c.requires.called c.if-called-non.false at state ((c.starts.ensures.is state).0 among) (subst (λ k. Contains (items_of chart k) (item_from at state)) (last_at chart at c.requires.last) there)
 
 pub returns-clause-adds : goal.returns-clause-adds
-returns-clause-adds c =
-    let all = take_all c.rules.rule-index c.args.rules.now (omega arith) in
-    subst (λ l. Adds c.args.g.now c.args.at (Begins l c.args.at) c.args.chart.now.sets c.rules.chart.sets) all c.rules.invariant.adds
+returns-clause-adds c = calls_made c.args.g.now c.args.at c.args.non c.starts.result.now c.args.chart.now c.append_all.new.self c.starts.ensures.is c.requires.last c.in_ok-append_all.ensures.last
+
+pub returns-clause-called : goal.returns-clause-called
+returns-clause-called c =
+    let lt : c.args.non < length c.args.called.now = subst (λ n. c.args.non < n) (sym c.requires.marks) c.requires.non in
+    called_more c.args.g.now c.args.at c.args.non c.args.chart.now.sets c.append_all.new.self.sets c.args.called.now lt (returns-clause-adds c) c.requires.called

@@ -28,7 +28,7 @@ push_reserved-requires c =
 pub invariant_of-self-3 : goal.invariant_of-self-3
 invariant_of-self-3 c =
     rw (c.push_reserved.ensures.items, c.push_reserved.ensures.capacity, c.link.ensures.heads, c.link.ensures.earlier, c.link.ensures.capacity)
-    (roomy_more c.spread.new.items.items c.spread.new.earlier.items c.spread.new.heads.items c.args.item _ _ c.spread.ensures.roomy c.in_ok-spread.ensures.space (λ h. true≢false (sym (c.has.ensures.is.1 h) ∙ c.if-has.false)))
+    (roomy_more c.spread.new.items.items c.spread.new.earlier.items c.spread.new.heads.items c.args.item _ _ c.spread.ensures.roomy (omega (arith, c.in_ok-spread.ensures.space)) (λ h. true≢false (sym (c.has.ensures.is.1 h) ∙ c.if-has.false)))
 
 pub returns-clause-different : goal.returns-clause-different
 returns-clause-different c = (invariant_of-self-3 c).table.different

@@ -1,0 +1,16 @@
+-- The states in which the rules of each nonterminal begin.
+use Rattle.std.specs.Prelude.{◌≡◌, ◌↔◌, ℕ, ◌<◌, List, [], length, slice_index_or, Contains}
+use Rattle.xs_chart.specs.Different.{AreDifferent}
+use Rattle.xs_gram.specs.Grammar.{Grammar, IsRuleOf}
+use Rattle.xs_gram.specs.Places.{at_dot}
+use Rattle.xs_chart_laws.specs.Charts.{IsNumber}
+
+-- a rule of the nonterminal begins in the state
+abbrev pub IsStart : Grammar → ℕ → ℕ → Type 0
+IsStart g non state = (q : ℕ) × IsRuleOf g non q × IsNumber g state (at_dot q 0)
+
+-- a row for each nonterminal has the states in which its rules among that many first ones begin, each once
+pub record AreStarts (g : Grammar) (count : ℕ) (rows : List (List ℕ)) : Type 0 where
+  pub counted : length rows ≡ g.nons
+  pub exact : (non state : ℕ) → non < g.nons → Contains (slice_index_or rows non []) state ↔ ((start : IsStart g non state) × (start.0 < count))
+  pub different : (non : ℕ) → AreDifferent (slice_index_or rows non [])
