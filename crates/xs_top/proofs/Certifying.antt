@@ -6,7 +6,9 @@ use Rattle.std.proofs.lemmas.Option.{same_Some}
 use Rattle.std.proofs.lemmas.Slice.Eq.{bytes_eq-Decides}
 use Rattle.xs_io.specs.Causes.{Rose}
 use Rattle.xs_io.specs.Shown.{Files, Has, IsFile, IsLongFile, NameFailed}
+use Rattle.xs_cert_alike.specs.Laws.{AreBuilt}
 use Rattle.xs_pair.specs.Grammars.{Pair}
+use Rattle.xs_pair.specs.Sound.{IsSoundPair}
 use Rattle.xs_words.specs.Command.{Sheet as Named}
 use Rattle.xs_talk.specs.declared.outcome.Outcome.{Outcome}
 use Rattle.xs_talk.specs.declared.outcome.Outcome.TheVariants.{Heavy, CertFault, CertLong, CertBad}
@@ -16,6 +18,10 @@ use Rattle.xs_top.specs.declared.stop.Stop.{Stop}
 use Rattle.xs_top.specs.Stops.{StopsBy}
 use Rattle.xs_top.specs.Certifying.{IsUncertain, IsUncertified, HasFile}
 use Rattle.xs_top.proofs.Going.{stops_as}
+
+-- the grammars of a sound pair are built
+pub sound_is_built : (p : Pair) → IsSoundPair p → AreBuilt p
+sound_is_built p sound = record { text = sound.text.built; xml = sound.xml.built }
 
 -- where one name was read, no name's count fell
 pub falls_nowhere : (before now : List ℕ → ℕ) (name : List ℕ) → before name ≤ now name → ((other : List ℕ) → other ≢ name → now other ≡ before other) → (other : List ℕ) → before other ≤ now other
