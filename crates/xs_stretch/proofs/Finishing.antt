@@ -23,7 +23,8 @@ use Rattle.xs_stretch.specs.Nets.{IsNetOf, HasItsWeight}
 use Rattle.xs_stretch.specs.Parts.{part_items, IsPart}
 use Rattle.xs_stretch.specs.Walking.{HasRoom, AreAllLaid}
 use Rattle.xs_stretch.specs.Work.{IsOfTask, Holds, Gains, work}
-use Rattle.xs_stretch.proofs.Gaining.{of_more, of_last, of_cases, gains_then, work_pop}
+use Rattle.xs_stretch.proofs.Gaining.{of_more, of_last, of_cases, work_pop}
+use Rattle.xs_stretch.proofs.Growing.{grows_then}
 use Rattle.xs_stretch.proofs.Laid.{PartLaid, part_laid, stretch_named}
 use Rattle.xs_stretch.proofs.Spans.{part_span}
 use Rattle.xs_stretch.proofs.Stretches.{part_stretch}
@@ -91,16 +92,6 @@ module _ (g : Grammar) (weights : List ℕ) (once : IsDistinct (fence_symbols g.
   pub less_work : work weights us < work weights all
   less_work = omega (arith, done.less, work_pop weights all ts t popped)
 
-pub gains_nothing : (g : Grammar) (n : Graph) (ts : List Task) → Gains g [] n ts n ts
-gains_nothing g n ts = record {
-  states = refl;
-  start = refl;
-  finals = λ i. refl;
-  kept = λ x h. h;
-  there = λ x h. absurd (omega (arith, h.1));
-  only = λ x h. inl h;
-}
-
 -- a part that is light has room in a net of one state more
 pub part_room : (g : Grammar) → IsBuilt g → (part : Part) → IsPart g part → (weight bound : ℕ) → PartWeighs g (part_items g part) weight → weight ≤ heaviest → bound ≡ suc weight → HasRoom g bound None part.rule part.start (part_items g part) (record { before = 0; at = 1 })
 part_room g built part is weight bound weighs light e =
@@ -112,7 +103,7 @@ part_room g built part is weight bound weighs light e =
 -- state after them was made final.
 module _ (g : Grammar) (built : IsBuilt g) (weights : List ℕ) (part : Part) (is : IsPart g part) (weight : ℕ) (weighs : PartWeighs g (part_items g part) weight) (light : weight ≤ heaviest) (bare laid full net : Graph) (tasks : List Task) (spot : Spot) (blank : IsBlank (suc weight) bare) (start : bare.start ≡ Some 0) (all : AreAllLaid g weights None part.rule part.start (part_items g part) (record { before = 0; at = 1 }) bare [] laid tasks spot) (gains : Gains g [] laid tasks full []) (sets : SetsFinal full net spot.before) where
   both : Gains g (all.arcs ++ []) bare [] full []
-  both = gains_then all.done.gains gains
+  both = grows_then all.done.gains gains
 
   arcs_there : (x : Arc) → Contains all.arcs x → HasArc full x
   unfolding both

@@ -1,7 +1,7 @@
 -- What a net and the tasks gain together.
 use Rattle.std.proofs.Common.{◌≡◌, ◌⊎◌, ℕ, ◌+◌, ◌<◌, ◌≤◌, List, [], ◌∷◌, ◌++◌, get_or, refl, sym, ap, subst, ◌∙◌, inl, inr, arith}
 use Rattle.std.specs.List.{Contains}
-use Rattle.std.proofs.lemmas.List.Elements.{Contains-append_left, Contains-append_right, Contains-append_cases, Contains-push, Contains-push_cases}
+use Rattle.std.proofs.lemmas.List.Elements.{Contains-append_left, Contains-push, Contains-push_cases}
 use Rattle.xs_auto.specs.Nets.{Graph, states}
 use Rattle.xs_gram.specs.Grammar.{Grammar}
 use Rattle.xs_gram.specs.Laws.{IsDistinct}
@@ -11,6 +11,7 @@ use Rattle.xs_stretch.specs.Arcs.{Arc}
 use Rattle.xs_stretch.specs.Growth.{NetGrows}
 use Rattle.xs_stretch.specs.Laying.{LaysComponent}
 use Rattle.xs_stretch.specs.Work.{IsOfTask, Gains, work, IsTask, AreTasks, IsDone}
+use Rattle.xs_stretch.proofs.Growing.{grows_then}
 use Rattle.xs_stretch.proofs.Once.{component_once}
 
 pub gains_grows : (g : Grammar) {arcs : List Arc} {n m : Graph} (ts : List Task) → NetGrows arcs n m → Gains g arcs n ts m ts
@@ -23,19 +24,6 @@ gains_grows g ts grows = record {
   only = λ x h. elim h [
     | inl net ↦ elim (grows.only x net) [ inl before ↦ inl (inl before) | inr own ↦ inr own ]
     | inr task ↦ inl (inr task)
-  ];
-}
-
-pub gains_then : {g : Grammar} {xs ys : List Arc} {l m n : Graph} {ls ms ns : List Task} → Gains g xs l ls m ms → Gains g ys m ms n ns → Gains g (xs ++ ys) l ls n ns
-gains_then {xs = xs} {ys = ys} first second = record {
-  states = second.states ∙ first.states;
-  start = second.start ∙ first.start;
-  finals = λ i. second.finals i ∙ first.finals i;
-  kept = λ x h. second.kept x (first.kept x h);
-  there = λ x h. elim (Contains-append_cases xs ys x h) [ inl a ↦ second.kept x (first.there x a) | inr b ↦ second.there x b ];
-  only = λ x h. elim (second.only x h) [
-    | inl m ↦ elim (first.only x m) [ inl l ↦ inl l | inr a ↦ inr (Contains-append_left xs ys x a) ]
-    | inr b ↦ inr (Contains-append_right xs ys x b)
   ];
 }
 
@@ -72,7 +60,7 @@ done_grows g weights ts le grows = record { gains = gains_grows g ts grows; task
 
 pub done_then : {g : Grammar} {weights : List ℕ} {xs ys : List Arc} {a b c : ℕ} {l m n : Graph} {ls ms ns : List Task} → IsDone g weights xs a b l ls m ms → IsDone g weights ys b c m ms n ns → IsDone g weights (xs ++ ys) a c l ls n ns
 done_then {g} {weights} {ms = ms} {ns = ns} first second = record {
-  gains = gains_then first.gains second.gains;
+  gains = grows_then first.gains second.gains;
   tasks = λ h. subst (λ (k : ℕ). AreTasks g weights k ns) first.gains.states (second.tasks (subst (λ (k : ℕ). AreTasks g weights k ms) (sym first.gains.states) (first.tasks h)));
   less = omega (arith, first.less, second.less);
 }

@@ -8,10 +8,10 @@ use Rattle.xs_auto.specs.declared.call.Call.{Call}
 use Rattle.xs_auto.specs.Edges.{Edge}
 use Rattle.xs_auto.specs.Nets.{Graph, edges_of, moves_of, calls_of, AddsEdge, AddsMove, AddsCall}
 use Rattle.xs_stretch.specs.Arcs.{Label, reads, passes, calls, Arc, read, pass, call}
-use Rattle.xs_stretch.specs.Growth.{HasLabel, HasArc, NetGrows}
+use Rattle.xs_stretch.specs.Growth.{HasLabel, HasArc, GrowsBy, NetGrows}
 
 -- no arcs
-pub grows_none : (n : Graph) → NetGrows [] n n
+pub grows_none : {Has : Arc → Type 0} (n : Graph) → GrowsBy [] n n Has Has
 grows_none n = record {
   states = refl;
   start = refl;
@@ -22,7 +22,7 @@ grows_none n = record {
 }
 
 -- and some, and then more
-pub grows_then : {xs ys : List Arc} {l m n : Graph} → NetGrows xs l m → NetGrows ys m n → NetGrows (xs ++ ys) l n
+pub grows_then : {xs ys : List Arc} {l m n : Graph} {L M N : Arc → Type 0} → GrowsBy xs l m L M → GrowsBy ys m n M N → GrowsBy (xs ++ ys) l n L N
 grows_then {xs} {ys} first second = record {
   states = second.states ∙ first.states;
   start = second.start ∙ first.start;

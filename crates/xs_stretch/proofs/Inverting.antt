@@ -14,7 +14,8 @@ use Rattle.xs_stretch.specs.Arcs.{Arc, pass, call}
 use Rattle.xs_stretch.specs.Groups.{group_number}
 use Rattle.xs_stretch.specs.Laying.{entry_state, exit_state, LaysItem, LaysBody, lays_no_body, lays_member, lays_other, lays_group, LaysPart, part_none, part_then, part_group}
 use Rattle.xs_stretch.specs.Walking.{Lays}
-use Rattle.xs_stretch.proofs.Once.{groups_once, non_fixed, non_named}
+use Rattle.xs_check_laws.proofs.Weights.{groups_once}
+use Rattle.xs_stretch.proofs.Once.{non_fixed, non_named}
 
 -- the item is a member of its home's component
 abbrev pub IsOwn : Grammar → Option Home → GItem → Type 0

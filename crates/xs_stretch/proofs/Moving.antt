@@ -12,8 +12,8 @@ use Rattle.xs_gram.specs.Building.{NamesAreThere}
 use Rattle.xs_gram.specs.Fences.{IsPlain}
 use Rattle.xs_gram.specs.Loose.{AreOne}
 use Rattle.xs_gram.specs.Sound.{IsBuilt}
-use Rattle.xs_check_laws.specs.Weights.{Members, no_member, member_next, other_next}
-use Rattle.xs_check_laws.proofs.Walks.{one_on, one_back}
+use Rattle.xs_check_laws.specs.Weights.{Members}
+use Rattle.xs_check_laws.proofs.Weights.{members_moved}
 use Rattle.xs_stretch.specs.declared.site.Home.{Home}
 use Rattle.xs_stretch.specs.declared.site.Spot.{Spot}
 use Rattle.xs_stretch.specs.declared.site.Task.{Task}
@@ -43,12 +43,6 @@ pass_to e = cc
 
 pub pass_from : {a b c : ℕ} → a ≡ b → pass a c ≡ pass b c
 pass_from e = cc
-
--- a component is named by any of its members
-members_moved : {g : Grammar} {c d n k : ℕ} → Members g d n k → AreOne g c d → Members g c n k
-members_moved no_member o = no_member
-members_moved (member_next a m) o = member_next (one_on o a) (members_moved m o)
-members_moved (other_next a m) o = other_next (λ h. a (one_on (one_back o) h)) (members_moved m o)
 
 pub rank_in : (g : Grammar) (ranks : List ℕ) (c n rank : ℕ) → AreRanks g g.nons ranks → n < g.nons → slice_get ranks n ≡ Some rank → AreOne g c n → Members g c n rank
 rank_in g ranks c n rank are there e one = members_moved (subst (λ (k : ℕ). Members g n n k) (sym (element_is ranks n rank 0 e)) (are.each n there)) one

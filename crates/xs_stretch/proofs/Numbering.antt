@@ -4,11 +4,12 @@ use Rattle.std.proofs.lemmas.Bool.{cases_eq}
 use Rattle.std.proofs.lemmas.List.{take_more, take-append-drop}
 use Rattle.std.proofs.lemmas.Option.{slice_get-get_or, same_Some}
 use Rattle.xs_gram.specs.declared.parts.GItem.{GItem}
-use Rattle.xs_gram.specs.declared.parts.GItem.TheVariants.{Fixed, Term, Non, Skip}
+use Rattle.xs_gram.specs.declared.parts.GItem.TheVariants.{Fixed, Non}
 use Rattle.xs_gram.specs.Grammar.{Grammar}
-use Rattle.xs_gram.specs.Fences.{spread, is_left, IsPartner, IsLeftFence}
+use Rattle.xs_gram.specs.Fences.{spread, IsPartner, IsLeftFence}
 use Rattle.xs_gram.specs.Spreading.{opens}
 use Rattle.xs_gram.proofs.Fences.{is_left_of}
+use Rattle.xs_gram.proofs.Partners.{opens_item}
 use Rattle.xs_stretch.specs.Groups.{lefts, groups_before, groups_count}
 
 -- one more where the test holds
@@ -61,14 +62,6 @@ left_counts fs xs k m p =
     let at : slice_get xs k ≡ Some first = ap (λ (ys : List GItem). slice_get ys k) a.split ∙ ap (λ (n : ℕ). slice_get (a.before ++ first ∷ rest) n) a.place ∙ item_at a.before rest first in
     lefts_next fs xs k first low at ∙ ap (λ (n : ℕ). lefts fs (take k xs) + n) (left_is_one fs first (is_left_of a.fence))
 
-left_of : (fs : List (ℕ × ℕ)) (i : GItem) → opens fs i ≡ true → (s : ℕ) × (i ≡ Fixed (s ∷ [])) × (is_left fs s ≡ true)
-left_of fs (Fixed []) e = absurd cc
-left_of fs (Fixed (s ∷ [])) e = (s, refl, e)
-left_of fs (Fixed (s ∷ t ∷ w)) e = absurd cc
-left_of fs (Term t s) e = absurd cc
-left_of fs (Non n s) e = absurd cc
-left_of fs (Skip k) e = absurd cc
-
 pub other_counts : (fs : List (ℕ × ℕ)) (xs : List GItem) (k : ℕ) → k < length xs → (IsLeftFence fs xs k → ⊥) → lefts fs (take (k + 1) xs) ≡ lefts fs (take k xs)
 other_counts fs xs k low other = by_case (opens fs i) refl
   where
@@ -79,7 +72,7 @@ other_counts fs xs k low other = by_case (opens fs i) refl
     at = slice_get-get_or xs k (Non 0 0) low
 
     by_case : (b : Bool) → opens fs i ≡ b → lefts fs (take (k + 1) xs) ≡ lefts fs (take k xs)
-    by_case true e = let l = left_of fs i e in absurd (other (record { symbol = l.0; item = at ∙ ap (λ (x : GItem). Some x) l.1; left = l.2 }))
+    by_case true e = let l = opens_item fs i e in absurd (other (record { symbol = l.0; item = at ∙ ap (λ (x : GItem). Some x) l.1; left = l.2 }))
     by_case false e = omega (arith, lefts_next fs xs k i low at, other_is_none fs i e)
 
 -- the numbers of a rule's groups are below that of all groups

@@ -4,10 +4,11 @@ use Rattle.xs_gram.specs.declared.parts.GItem.{GItem}
 use Rattle.xs_gram.specs.declared.parts.GItem.TheVariants.{Fixed, Non}
 use Rattle.xs_gram.specs.Grammar.{Grammar}
 use Rattle.xs_gram.specs.Laws.{IsDistinct}
-use Rattle.xs_gram.specs.Fences.{fence_symbols, spread, IsFence, IsLevel, grouped}
+use Rattle.xs_gram.specs.Fences.{fence_symbols, spread}
 use Rattle.xs_gram.specs.Loose.{IsMember}
-use Rattle.xs_gram.proofs.Levels.{IsOnce, cons_parts, no_group, plain_not_group, level_once}
-use Rattle.xs_check_laws.specs.Weights.{Members, no_member, member_next, other_next}
+use Rattle.xs_gram.proofs.Levels.{cons_parts, no_group, plain_not_group}
+use Rattle.xs_check_laws.specs.Weights.{Members}
+use Rattle.xs_check_laws.proofs.Weights.{members_once, groups_once}
 use Rattle.xs_stretch.specs.Arcs.{Arc, pass, call}
 use Rattle.xs_stretch.specs.Laying.{entry_state, exit_state, LaysItem, lays_fixed, lays_term, lays_skip, lays_non, LaysComponent, lays_component, LaysRules, lays_no_rule, lays_rule, lays_other_rule, LaysBody, lays_no_body, lays_member, lays_other, lays_group, LaysPart, part_none, part_then, part_group}
 
@@ -16,13 +17,6 @@ pub record AreSame (xs ys : List Arc) (s t m n : ℕ) : Type 0 where
   pub arcs : xs ≡ ys
   pub after : s ≡ t
   pub next : m ≡ n
-
-pub rank_once : {g : Grammar} {c n k j : ℕ} → Members g c n k → Members g c n j → k ≡ j
-rank_once no_member no_member = refl
-rank_once (member_next a m) (member_next b l) = ap suc (rank_once m l)
-rank_once (member_next a m) (other_next b l) = absurd (b a)
-rank_once (other_next a m) (member_next b l) = absurd (a b)
-rank_once (other_next a m) (other_next b l) = rank_once m l
 
 pub non_fixed : {n s l : ℕ} → Non n s ≡ Fixed (l ∷ []) → ⊥
 non_fixed e = cc
@@ -48,10 +42,6 @@ ruled first e h p q r u v = cc
 exits : (first : ℕ) {j k s t : ℕ} → s ≡ exit_state first j → t ≡ exit_state first k → j ≡ k → s ≡ t
 exits first e h p = cc
 
--- two readings of one stretch as a group and what follows it
-pub groups_once : {fs : List (ℕ × ℕ)} {l r m s : ℕ} {a b x y js : List GItem} → IsDistinct (fence_symbols fs) → IsFence fs l r → IsFence fs m s → IsLevel fs a → IsLevel fs b → js ≡ grouped l a r x → js ≡ grouped m b s y → IsOnce a b r s x y
-groups_once {fs} once f h i j e k = level_once fs once i j f h (cons_parts (sym e ∙ k)).1
-
 module _ (g : Grammar) (once : IsDistinct (fence_symbols g.fences)) where
   mutual
     pub item_once : {i : GItem} {b at t u m n : ℕ} {xs ys : List Arc} → LaysItem g i b at xs t m → LaysItem g i b at ys u n → AreSame xs ys t u m n
@@ -59,13 +49,13 @@ module _ (g : Grammar) (once : IsDistinct (fence_symbols g.fences)) where
     item_once (lays_term e p q) (lays_term h r s) = record { arcs = e ∙ sym h; after = p ∙ sym r; next = q ∙ ap suc (p ∙ sym r) ∙ sym s }
     item_once (lays_skip e p q) (lays_skip h r s) = record { arcs = e ∙ sym h; after = p ∙ sym r; next = q ∙ ap suc (p ∙ sym r) ∙ sym s }
     item_once {at = at} (lays_non k own e p) (lays_non j other h q) =
-        let rank = rank_once k j in
+        let rank = members_once k j in
         let inner = component_once own other in
         record { arcs = begun at e h rank inner.0; after = exits at p q rank; next = inner.1 }
 
     pub component_once : {c first m n : ℕ} {xs ys : List Arc} → LaysComponent g c first xs m → LaysComponent g c first ys n → (xs ≡ ys) × (m ≡ n)
     component_once {c} {first} {n = n} {ys = ys} (lays_component ms own) (lays_component ls other) =
-        let at = ap (λ (k : ℕ). first + 2 * k) (rank_once ms ls) in
+        let at = ap (λ (k : ℕ). first + 2 * k) (members_once ms ls) in
         rules_once own (subst (λ (s : ℕ). LaysRules g c first (length g.rules) s ys n) (sym at) other)
 
     pub rules_once : {c first p at m n : ℕ} {xs ys : List Arc} → LaysRules g c first p at xs m → LaysRules g c first p at ys n → (xs ≡ ys) × (m ≡ n)
@@ -73,7 +63,7 @@ module _ (g : Grammar) (once : IsDistinct (fence_symbols g.fences)) where
     rules_once {c} {first} {n = n} (lays_rule {p = p} {place = place} one k prev own e) (lays_rule {place = place'} {last = last'} {own = arcs'} one' k' prev' own' e') =
         let before = rules_once prev prev' in
         let body = body_once own (subst (λ (s : ℕ). LaysBody g c first p 0 (spread g p) s (suc s) arcs' last' n) (sym before.1) own') refl in
-        (ruled first e e' before.0 body.arcs (rank_once k k') before.1 body.after, body.next)
+        (ruled first e e' before.0 body.arcs (members_once k k') before.1 body.after, body.next)
     rules_once (lays_rule one k prev own e) (lays_other_rule out prev') = absurd (out one)
     rules_once (lays_other_rule out prev) (lays_rule one k prev' own e) = absurd (out one)
     rules_once (lays_other_rule out prev) (lays_other_rule out' prev') = rules_once prev prev'
@@ -87,7 +77,7 @@ module _ (g : Grammar) (once : IsDistinct (fence_symbols g.fences)) where
     body_once {c} {first} (lays_member {n = n} o j y h) (lays_member {j = rank'} o' j' y' h') s =
         let named = non_named (cons_parts s).0 in
         let own = body_once y y' (cons_parts s).1 in
-        record { arcs = entered first h h' (rank_once j (subst (λ (x : ℕ). Members g c x rank') (sym named) j')) own.arcs; after = own.after; next = own.next }
+        record { arcs = entered first h h' (members_once j (subst (λ (x : ℕ). Members g c x rank') (sym named) j')) own.arcs; after = own.after; next = own.next }
     body_once {c} (lays_member o j y h) (lays_other p x i y' h') s = absurd (x (subst (λ (z : GItem). IsMember g c z) (cons_parts s).0 o))
     body_once (lays_member o j y h) (lays_group f l y' split h') s = absurd (non_fixed (cons_parts (s ∙ split)).0)
     body_once (lays_other p x i y h) lays_no_body s = absurd cc

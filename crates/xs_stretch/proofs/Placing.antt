@@ -32,7 +32,8 @@ use Rattle.xs_stretch.proofs.Growing.{grows_none}
 use Rattle.xs_stretch.proofs.Items.{one_there}
 use Rattle.xs_stretch.proofs.Laid.{rule_named, member_rank, component_laid, ComponentLaid}
 use Rattle.xs_stretch.proofs.Leaving.{component_ends}
-use Rattle.xs_stretch.proofs.Once.{rules_once, rank_once}
+use Rattle.xs_check_laws.proofs.Weights.{members_once}
+use Rattle.xs_stretch.proofs.Once.{rules_once}
 use Rattle.xs_stretch.proofs.Pushing.{element_is}
 use Rattle.xs_stretch.proofs.Spans.{rules_span, body_span, lays_rises}
 use Rattle.xs_stretch.proofs.Summing.{passed, not_passed, all_members}
@@ -131,7 +132,7 @@ module _ (g : Grammar) (built : IsBuilt g) (weights : List ℕ) (weigh : AreWeig
       by_component {arcs} {next} (lays_component {count = own} ms rs) within = record {
         arcs = arcs;
         next = next;
-        lays = subst (λ (k : ℕ). LaysRules g t.non t.at (length g.rules) (t.at + 2 * k) arcs next) (rank_once ms members) rs;
+        lays = subst (λ (k : ℕ). LaysRules g t.non t.at (length g.rules) (t.at + 2 * k) arcs next) (members_once ms members) rs;
         within = within;
       }
 

@@ -1,6 +1,6 @@
 -- The arcs of words and of automata, one more at a time.
-use Rattle.std.proofs.Common.{◌≡◌, ℕ, zero, suc, ◌+◌, ◌<◌, ◌≤◌, List, [], ◌∷◌, ◌++◌, length, take, get_or, refl, sym, ap, subst, ◌∙◌, arith, append_assoc, append-nil, slice_get, Some}
-use Rattle.std.proofs.lemmas.List.{take_more}
+use Rattle.std.proofs.Common.{◌≡◌, ℕ, zero, suc, ◌+◌, ◌<◌, List, [], ◌∷◌, ◌++◌, length, take, get_or, refl, sym, ap, subst, ◌∙◌, arith, append_assoc, append-nil, slice_get, Some}
+use Rattle.std.proofs.lemmas.List.{length-take-le, take_more}
 use Rattle.std.proofs.lemmas.Option.{same_Some}
 use Rattle.xs_auto.specs.Nets.{Graph}
 use Rattle.std.specs.List.{Contains}
@@ -35,21 +35,16 @@ on_push p first j (r ∷ rows) row =
     ap (λ (xs : List Arc). arcs_into p first (first + j) r ++ xs) (on_push p first (suc j) rows row ∙ ap (λ (n : ℕ). arcs_on p first (suc j) rows ++ arcs_into p first (first + n) row) place)
     ∙ sym (append_assoc (arcs_into p first (first + j) r) (arcs_on p first (suc j) rows) (arcs_into p first (first + (j + length (r ∷ rows))) row))
 
-long_take : {A : Type 0} (xs : List A) (k : ℕ) → k ≤ length xs → length (take k xs) ≡ k
-long_take xs zero le = refl
-long_take [] (suc k) le = absurd (omega arith)
-long_take (x ∷ xs) (suc k) le = ap suc (long_take xs k (omega arith))
-
 -- one more symbol of a word
 pub word_more : (w : List ℕ) (i s before at : ℕ) (l m n : Graph) → i < length w → s ≡ get_or w i 0 → NetGrows (word_arcs (take i w) before at) l m → NetGrows (read (after_word (take i w) before at) ((s, s) ∷ []) (at + i) ∷ []) m n → NetGrows (word_arcs (take (i + 1) w) before at) l n
 word_more w i s before at l m n low is first second =
     let more : take (i + 1) w ≡ take i w ++ s ∷ [] = take_more w i 0 low ∙ ap (λ (x : ℕ). take i w ++ x ∷ []) (sym is) in
-    let place : at + length (take i w) ≡ at + i = ap (λ (k : ℕ). at + k) (long_take w i (omega arith)) in
+    let place : at + length (take i w) ≡ at + i = ap (λ (k : ℕ). at + k) (length-take-le i w (omega arith)) in
     let e = ap (λ (xs : List ℕ). word_arcs xs before at) more ∙ word_push (take i w) s before at ∙ ap (λ (k : ℕ). word_arcs (take i w) before at ++ read (after_word (take i w) before at) ((s, s) ∷ []) k ∷ []) place in
     subst (λ (xs : List Arc). NetGrows xs l n) (sym e) (grows_then first second)
 
 pub after_more : (w : List ℕ) (i before at : ℕ) → i < length w → after_word (take (i + 1) w) before at ≡ at + i
-after_more w i before at low = ap (λ (xs : List ℕ). after_word xs before at) (take_more w i 0 low) ∙ after_push (take i w) (get_or w i 0) before at ∙ ap (λ (k : ℕ). at + k) (long_take w i (omega arith))
+after_more w i before at low = ap (λ (xs : List ℕ). after_word xs before at) (take_more w i 0 low) ∙ after_push (take i w) (get_or w i 0) before at ∙ ap (λ (k : ℕ). at + k) (length-take-le i w (omega arith))
 
 -- one more target
 pub into_more : (p : Position) (first from : ℕ) (ks : List ℕ) (i k : ℕ) (class : List (ℕ × ℕ)) (l m n : Graph) → i < length ks → k ≡ get_or ks i 0 → class ≡ class_at p k → NetGrows (arcs_into p first from (take i ks)) l m → NetGrows (read from class (first + k) ∷ []) m n → NetGrows (arcs_into p first from (take (i + 1) ks)) l n
@@ -62,7 +57,7 @@ into_more p first from ks i k class l m n low is has before after =
 pub on_more : (p : Position) (first : ℕ) (rows : List (List ℕ)) (i : ℕ) (row : List ℕ) (l m n : Graph) → i < length rows → row ≡ get_or rows i [] → NetGrows (arcs_on p first 0 (take i rows)) l m → NetGrows (arcs_into p first (first + i) row) m n → NetGrows (arcs_on p first 0 (take (i + 1) rows)) l n
 on_more p first rows i row l m n low is before after =
     let more : take (i + 1) rows ≡ take i rows ++ row ∷ [] = take_more rows i [] low ∙ ap (λ (x : List ℕ). take i rows ++ x ∷ []) (sym is) in
-    let place : first + (0 + length (take i rows)) ≡ first + i = omega (arith, long_take rows i (omega arith)) in
+    let place : first + (0 + length (take i rows)) ≡ first + i = omega (arith, length-take-le i rows (omega arith)) in
     let e = ap (λ (xs : List (List ℕ)). arcs_on p first 0 xs) more ∙ on_push p first 0 (take i rows) row ∙ ap (λ (k : ℕ). arcs_on p first 0 (take i rows) ++ arcs_into p first k row) place in
     subst (λ (xs : List Arc). NetGrows xs l n) (sym e) (grows_then before after)
 

@@ -14,7 +14,7 @@ use Rattle.xs_stretch.specs.Arcs.{Arc, after_word}
 use Rattle.xs_stretch.specs.Laying.{exit_state, LaysItem, lays_fixed, lays_term, lays_skip, lays_non, LaysComponent, lays_component, LaysRules, lays_no_rule, lays_rule, lays_other_rule, LaysBody, lays_no_body, lays_member, lays_other, lays_group, LaysPart, part_none, part_then, part_group}
 use Rattle.xs_stretch.specs.Walking.{AreNamed, Lays}
 use Rattle.xs_stretch.proofs.Laid.{rule_named, first_named, later_named, after_named, member_rank}
-use Rattle.xs_stretch.proofs.Once.{rank_once}
+use Rattle.xs_check_laws.proofs.Weights.{members_once}
 
 -- the states from one on and below another are as many as something weighs
 pub record Span (W : ℕ → Type 0) (at next : ℕ) : Type 0 where
@@ -90,7 +90,7 @@ module _ (g : Grammar) (built : IsBuilt g) where
 
   -- the exit of a member is a state of its component
   pub rank_less : {c count n k : ℕ} → Members g c g.nons count → Members g c n k → AreOne g c n → n < g.nons → k < count
-  rank_less {n = n} ms m one low = let r = member_rank ms n one low in omega (arith, rank_once m r.is, r.less)
+  rank_less {n = n} ms m one low = let r = member_rank ms n one low in omega (arith, members_once m r.is, r.less)
 
   pub exit_within : {c first n k next : ℕ} {xs : List Arc} → LaysComponent g c first xs next → Members g c n k → AreOne g c n → n < g.nons → exit_state first k < next
   exit_within (lays_component ms rs) m one low = omega (arith, rank_less ms m one low, (rules_span rs).is)

@@ -1,7 +1,7 @@
 -- Stretches of a rule's spread items, and how far they were gone through.
-use Rattle.std.proofs.Common.{◌≡◌, ℕ, zero, suc, ◌+◌, ◌<◌, ◌≤◌, List, [], ◌∷◌, ◌++◌, length, take, drop, refl, sym, ap, ◌∙◌, arith, append_assoc, append-nil, length-append, drop_at}
+use Rattle.std.proofs.Common.{◌≡◌, ℕ, ◌+◌, ◌<◌, ◌≤◌, List, [], ◌∷◌, ◌++◌, length, take, drop, sym, ap, ◌∙◌, arith, append_assoc, append-nil, length-append, drop_at}
 use Rattle.std.specs.Prelude.{slice_range}
-use Rattle.std.proofs.lemmas.List.{take-append-drop}
+use Rattle.std.proofs.lemmas.List.{length-take-le, take-append-drop}
 use Rattle.std.proofs.lemmas.List.Folds.{drop_split}
 use Rattle.xs_gram.specs.declared.parts.GItem.{GItem}
 use Rattle.xs_gram.specs.Grammar.{Grammar}
@@ -9,11 +9,6 @@ use Rattle.xs_gram.specs.Fences.{spread, IsLevel}
 use Rattle.xs_stretch.specs.declared.part.Part.{Part}
 use Rattle.xs_stretch.specs.Parts.{part_items, IsPart, IsStretch}
 use Rattle.xs_stretch.specs.Steps.{StandsAt}
-
-long_take : {A : Type 0} (xs : List A) (k : ℕ) → k ≤ length xs → length (take k xs) ≡ k
-long_take xs zero le = refl
-long_take [] (suc k) le = absurd (omega arith)
-long_take (x ∷ xs) (suc k) le = ap suc (long_take xs k (omega arith))
 
 -- a part is a stretch
 pub part_stretch : (g : Grammar) (part : Part) → IsPart g part → IsStretch g part.rule part.start (part_items g part)
@@ -23,7 +18,7 @@ part_stretch g part is =
       before = take part.start xs;
       after = drop part.end xs;
       split = sym (take-append-drop part.start xs) ∙ ap (λ (ys : List GItem). take part.start xs ++ ys) (drop_split xs part.start part.end is.order);
-      place = sym (long_take xs part.start (omega (arith, is.order, is.within)));
+      place = sym (length-take-le part.start xs (omega (arith, is.order, is.within)));
       level = is.level;
     }
 
@@ -31,10 +26,10 @@ pub part_long : (g : Grammar) (part : Part) → IsPart g part → part.start + l
 unfolding part_stretch
 part_long g part is =
     let xs = spread g part.rule in
-    let front = long_take xs part.end is.within in
+    let front = length-take-le part.end xs is.within in
     let halves : length (take part.end xs) + length (drop part.end xs) ≡ length xs = sym (length-append (take part.end xs) (drop part.end xs)) ∙ ap length (take-append-drop part.end xs) in
     let first : length xs ≡ length (take part.start xs) + length (part_items g part ++ drop part.end xs) = ap length (part_stretch g part is).split ∙ length-append (take part.start xs) (part_items g part ++ drop part.end xs) in
-    omega (arith, first, length-append (part_items g part) (drop part.end xs), halves, front, long_take xs part.start (omega (arith, is.order, is.within)))
+    omega (arith, first, length-append (part_items g part) (drop part.end xs), halves, front, length-take-le part.start xs (omega (arith, is.order, is.within)))
 
 -- the items from one place of a rule to another, also where the second one is past the rule's end
 pub slice_stretch : {g : Grammar} {p start end : ℕ} → p < length g.rules → start ≤ length (spread g p) → start ≤ end → IsLevel g.fences (slice_range (spread g p) start end) → IsStretch g p start (slice_range (spread g p) start end)
@@ -43,7 +38,7 @@ slice_stretch {g} {p} {start} {end} rule low order level = record {
   before = take start (spread g p);
   after = drop end (spread g p);
   split = sym (take-append-drop start (spread g p)) ∙ ap (λ (x : List GItem). take start (spread g p) ++ x) (drop_split (spread g p) start end order);
-  place = sym (long_take (spread g p) start low);
+  place = sym (length-take-le start (spread g p) low);
   level = level;
 }
 

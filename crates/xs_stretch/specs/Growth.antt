@@ -13,11 +13,16 @@ HasLabel n a (calls group) b = Contains (calls_of n a) (record { group = group; 
 abbrev pub HasArc : Graph → Arc → Type 0
 HasArc n x = HasLabel n x.from x.label x.to
 
--- the arcs were added, and nothing else
-pub record NetGrows (arcs : List Arc) (old new : Graph) : Type 0 where
+-- The new net has the states of the old one. Old says which arcs there were before and New which
+-- there are after: the given ones were added, and nothing else.
+pub record GrowsBy (arcs : List Arc) (old new : Graph) (Old New : Arc → Type 0) : Type 0 where
   pub states : states new ≡ states old
   pub start : new.start ≡ old.start
   pub finals : (i : ℕ) → final_at new i ≡ final_at old i
-  pub kept : (x : Arc) → HasArc old x → HasArc new x
-  pub there : (x : Arc) → Contains arcs x → HasArc new x
-  pub only : (x : Arc) → HasArc new x → HasArc old x ⊎ Contains arcs x
+  pub kept : (x : Arc) → Old x → New x
+  pub there : (x : Arc) → Contains arcs x → New x
+  pub only : (x : Arc) → New x → Old x ⊎ Contains arcs x
+
+-- the arcs were added to the net, and nothing else
+abbrev pub NetGrows : List Arc → Graph → Graph → Type 0
+NetGrows arcs old new = GrowsBy arcs old new (HasArc old) (HasArc new)

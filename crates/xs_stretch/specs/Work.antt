@@ -1,7 +1,7 @@
 -- What is still to be laid while a net is made, and which arcs the net and the tasks gain together.
-use Rattle.std.specs.Prelude.{◌≡◌, ◌⊎◌, ℕ, ◌+◌, ◌<◌, ◌≤◌, List, [], ◌∷◌, slice_index_or}
+use Rattle.std.specs.Prelude.{◌⊎◌, ℕ, ◌+◌, ◌<◌, ◌≤◌, List, [], ◌∷◌, slice_index_or}
 use Rattle.std.specs.List.{Contains}
-use Rattle.xs_auto.specs.Nets.{Graph, states, final_at}
+use Rattle.xs_auto.specs.Nets.{Graph, states}
 use Rattle.xs_gram.specs.Grammar.{Grammar}
 use Rattle.xs_gram.specs.Loose.{AreComponents}
 use Rattle.xs_gram.specs.Sound.{IsBuilt}
@@ -9,7 +9,7 @@ use Rattle.xs_stretch.specs.declared.site.Site.{Site}
 use Rattle.xs_stretch.specs.declared.site.Task.{Task}
 use Rattle.xs_stretch.specs.Arcs.{Arc}
 use Rattle.xs_stretch.specs.Groups.{HasFewGroups}
-use Rattle.xs_stretch.specs.Growth.{HasArc}
+use Rattle.xs_stretch.specs.Growth.{HasArc, GrowsBy}
 use Rattle.xs_stretch.specs.Laying.{LaysComponent}
 use Rattle.xs_stretch.specs.Tables.{AreTables}
 
@@ -34,13 +34,8 @@ abbrev pub Holds : Grammar → Graph → List Task → Arc → Type 0
 Holds g n tasks x = HasArc n x ⊎ IsOfTask g tasks x
 
 -- the net and the tasks have gained the arcs together, and no others
-pub record Gains (g : Grammar) (arcs : List Arc) (old : Graph) (olds : List Task) (new : Graph) (news : List Task) : Type 0 where
-  pub states : states new ≡ states old
-  pub start : new.start ≡ old.start
-  pub finals : (i : ℕ) → final_at new i ≡ final_at old i
-  pub kept : (x : Arc) → Holds g old olds x → Holds g new news x
-  pub there : (x : Arc) → Contains arcs x → Holds g new news x
-  pub only : (x : Arc) → Holds g new news x → Holds g old olds x ⊎ Contains arcs x
+abbrev pub Gains : Grammar → List Arc → Graph → List Task → Graph → List Task → Type 0
+Gains g arcs old olds new news = GrowsBy arcs old new (Holds g old olds) (Holds g new news)
 
 -- how many states the components of tasks take
 abbrev pub work : List ℕ → List Task → ℕ

@@ -1,6 +1,6 @@
 use Rattle.std.proofs.Common.{suc, arith}
 use Rattle.xs_check_laws.specs.Weights.{heaviest}
-use Rattle.xs_stretch.proofs.Once.{rank_once}
+use Rattle.xs_check_laws.proofs.Weights.{members_once}
 use Rattle.xs_stretch.proofs.Moving.{rank_in, member_room}
 use Rattle.xs_stretch.proofs.laying.entry_of.Goals as goal
 
@@ -17,7 +17,7 @@ overflow_add-result c =
 pub returns-clause-entry : goal.returns-clause-entry
 returns-clause-entry c = λ j members.
     let own = rank_in c.args.site.now.g.now c.args.site.now.tables.now.ranks c.args.home.non c.args.member c.at-rank.result.now c.requires.site.tables.ranks c.requires.there c.at-rank.ensures c.requires.member in
-    omega (arith, rank_once members own)
+    omega (arith, members_once members own)
 
 pub returns-clause-exit : goal.returns-clause-exit
 returns-clause-exit c = λ bound home.

@@ -2,7 +2,8 @@ use Rattle.std.proofs.Common.{ℕ, subst, sym, ◌∙◌}
 use Rattle.xs_auto.specs.Nets.{states}
 use Rattle.xs_stretch.specs.Work.{AreTasks}
 use Rattle.xs_stretch.proofs.Finishing.{gains_popped, less_work}
-use Rattle.xs_stretch.proofs.Gaining.{gains_then, tasks_before}
+use Rattle.xs_stretch.proofs.Gaining.{tasks_before}
+use Rattle.xs_stretch.proofs.Growing.{grows_then}
 use Rattle.xs_stretch.proofs.tasks.lay_tasks.Goals as goal
 
 pub lay_component-requires-clause-task : goal.lay_component-requires-clause-task
@@ -20,5 +21,5 @@ tasks-preserved c =
     record {
       same = done.gains.states ∙ c.tasks.invariant.same;
       tasks = subst (λ (n : ℕ). AreTasks g weights n c.lay_component.new.tasks.items) (sym done.gains.states) (done.tasks before);
-      gains = gains_then c.tasks.invariant.gains (gains_popped g weights c.requires.site.built.proper.once c.tasks.net c.lay_component.new.net c.tasks.tasks.items c.pop.new.self.items c.lay_component.new.tasks.items c.in-Some.task c.in-Some.ensures.items done);
+      gains = grows_then c.tasks.invariant.gains (gains_popped g weights c.requires.site.built.proper.once c.tasks.net c.lay_component.new.net c.tasks.tasks.items c.pop.new.self.items c.lay_component.new.tasks.items c.in-Some.task c.in-Some.ensures.items done);
     }
