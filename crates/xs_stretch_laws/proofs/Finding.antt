@@ -16,15 +16,7 @@ use Rattle.xs_stretch.specs.Groups.{group_number}
 use Rattle.xs_stretch.specs.Laying.{entry_state, exit_state, LaysItem, LaysRules, lays_no_rule, lays_rule, lays_other_rule, LaysBody, lays_no_body, lays_member, lays_other, lays_group}
 use Rattle.xs_stretch_laws.proofs.Blocks.{Within, within_all, within_as, within_on, within_left, within_right, within_first, within_rest}
 
--- members below a bound are counted in one way
-pub members_once : {g : Grammar} {c n k j : ℕ} → Members g c n k → Members g c n j → k ≡ j
-members_once no_member no_member = refl
-members_once (member_next a m) (member_next b l) = ap suc (members_once m l)
-members_once (member_next a m) (other_next b l) = absurd (b a)
-members_once (other_next a m) (member_next b l) = absurd (a b)
-members_once (other_next a m) (other_next b l) = members_once m l
-
--- and below each smaller bound
+-- members are also counted below each smaller bound
 pub members_below : {g : Grammar} {c bound count : ℕ} → Members g c bound count → (n : ℕ) → n ≤ bound → (k : ℕ) × Members g c n k
 members_below {g} {c} no_member n lt = let e : 0 ≡ n = omega arith in (0, subst (λ (m : ℕ). Members g c m 0) e no_member)
 members_below {g} {c} (member_next {n = b} {k = j} a m) n lt = by_case (cases_lt n (suc b)) (λ low. members_below m n low)

@@ -25,7 +25,8 @@ use Rattle.xs_stretch_laws.specs.Laws.{NetsAcceptLoose}
 use Rattle.xs_stretch_laws.proofs.Among.{Among, front, further, nothing, first_or_rest, among_left, among_right, among_either, of_contains}
 use Rattle.xs_stretch_laws.proofs.Paths.{Path, stays, goes, path_one, path_map_within}
 use Rattle.xs_stretch_laws.proofs.Blocks.{Reads, Along}
-use Rattle.xs_stretch_laws.proofs.Finding.{members_once, SameGroup, group_once}
+use Rattle.xs_check_laws.proofs.Weights.{members_once}
+use Rattle.xs_stretch_laws.proofs.Finding.{SameGroup, group_once}
 use Rattle.xs_stretch_laws.proofs.Spelling.{Stands, after_item, after_group, group_here, inside_stands, loose_is_accepted}
 use Rattle.xs_stretch_laws.proofs.Cells.{Cell, IsIn, point, Chain, chain_rises, chain_within, chain_once, chain_on, IsFine, point_fine, LaidArc, jumps, rests, CellBefore, AreCells, cells_reached}
 use Rattle.xs_stretch_laws.proofs.Pieces.{Short, Leads, ends_lead, word_ends, after_in, first_arc, in_turn, empty_path, word_read, automaton_ends, automaton_read}

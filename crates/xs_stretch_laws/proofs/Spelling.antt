@@ -23,10 +23,9 @@ use Rattle.xs_stretch_laws.proofs.Among.{Among}
 use Rattle.xs_stretch_laws.proofs.Paths as P
 use Rattle.xs_stretch_laws.proofs.Paths.{Path, path_on, path_one}
 use Rattle.xs_stretch_laws.proofs.Blocks.{Entering, Along, Within, within_all, within_as, within_on, within_left, within_right, within_first, within_rest, moved, crossed, word_path, automaton_path}
-use Rattle.xs_stretch_laws.proofs.Finding.{members_once, members_below, SameGroup, group_once, body_state, body_first, body_last, ItemFound, found_member, found_other, found_moved, GroupFound, group_moved, item_found, group_found, rule_state, RuleFound, rule_found}
-
-non_same : {m n s t : ℕ} → Non m s ≡ Non n t → m ≡ n
-non_same e = cc
+use Rattle.xs_check_laws.proofs.Weights.{members_once}
+use Rattle.xs_stretch.proofs.Once.{non_named}
+use Rattle.xs_stretch_laws.proofs.Finding.{members_below, SameGroup, group_once, body_state, body_first, body_last, ItemFound, found_member, found_other, found_moved, GroupFound, group_moved, item_found, group_found, rule_state, RuleFound, rule_found}
 
 -- where items stand in a rule
 pub record Stands (g : Grammar) (p k : ℕ) (is : List GItem) : Type 0 where
@@ -131,13 +130,13 @@ module _ (g : Grammar) (built : IsBuilt g) (nest : List Group) (nested : IsNestO
   -- a move to a member's entry, and one from its exit
   member_in : {c first n s t a b slot : ℕ} {own all : List Arc} {start bound next : ℕ} (d : LaysRules g c first bound start own next) → AreOne g c n → StateOf d (entry n) b → a ≡ s → Within own all → ItemFound g c first own (Non n slot) s t → Path (Along nest all) a [] b
   member_in {c} {first} {n} d two to p within (found_member {n = m} {j = j} e one members enter leave) =
-      let same : j ≡ to.0 = members_once (subst (λ (x : ℕ). Members g c x j) (sym (non_same e)) members) to.1 in
+      let same : j ≡ to.0 = members_once (subst (λ (x : ℕ). Members g c x j) (sym (non_named e)) members) to.1 in
       moved (within.each _ enter) p (to.2 ∙ ap (λ (x : ℕ). entry_state first x) (sym same))
   member_in d two to p within (found_other apart l w) = absurd (apart two)
 
   member_out : {c first n s t a b slot : ℕ} {own all : List Arc} {start bound next : ℕ} (d : LaysRules g c first bound start own next) → AreOne g c n → StateOf d (exit n) a → b ≡ t → Within own all → ItemFound g c first own (Non n slot) s t → Path (Along nest all) a [] b
   member_out {c} {first} {n} d two from q within (found_member {n = m} {j = j} e one members enter leave) =
-      let same : j ≡ from.0 = members_once (subst (λ (x : ℕ). Members g c x j) (sym (non_same e)) members) from.1 in
+      let same : j ≡ from.0 = members_once (subst (λ (x : ℕ). Members g c x j) (sym (non_named e)) members) from.1 in
       moved (within.each _ leave) (from.2 ∙ ap (λ (x : ℕ). exit_state first x) (sym same)) q
   member_out d two from q within (found_other apart l w) = absurd (apart two)
 
