@@ -8,15 +8,6 @@ use Rattle.xs_atoms.specs.declared.sweep.Stretch.{Stretch}
 use Rattle.xs_atoms.proofs.Turning.{below_or}
 use Rattle.xs_atoms.specs.Stretches.{row_of, start_of}
 
-pub get_left : {X : Type 0} (xs ys : List X) (i : ℕ) (x : X) → slice_get xs i ≡ Some x → slice_get (xs ++ ys) i ≡ Some x
-get_left [] ys i x e = cc
-get_left (y ∷ xs) ys zero x e = e
-get_left (y ∷ xs) ys (suc i) x e = get_left xs ys i x e
-
-pub get_end : {X : Type 0} (xs : List X) (x : X) → slice_get (xs ++ x ∷ []) (length xs) ≡ Some x
-get_end [] x = refl
-get_end (y ∷ xs) x = get_end xs x
-
 -- an element of a list with a new end is an old one or the end
 pub get_push : {X : Type 0} (xs : List X) (y x : X) (i : ℕ) → slice_get (xs ++ y ∷ []) i ≡ Some x → ((i < length xs) × (slice_get xs i ≡ Some x)) ⊎ ((i ≡ length xs) × (y ≡ x))
 get_push [] y x zero e = inr (refl, cc)

@@ -5,13 +5,15 @@ use Rattle.std.proofs.lemmas.List.{take-append-drop, take_more}
 use Rattle.std.proofs.lemmas.Option.{get_or_from_slice_get, slice_get_within, slice_get-get_or}
 use Rattle.std.specs.List.Sorted.{IsNonDecreasingBy}
 use Rattle.std.specs.Prelude.{slice_get, sum_by, IsTrue, ◌&&◌, nat_le, None, if◌then◌else◌}
+use Rattle.xs_class.proofs.Lists.{get_left, get_last}
+use Rattle.xs_class.proofs.Truth.{le_true}
 use Rattle.xs_atoms.specs.declared.sweep.Draft.{Draft}
 use Rattle.xs_atoms.specs.declared.sweep.Stretch.{Stretch}
 use Rattle.xs_atoms.specs.declared.turns.Turn.{Turn}
 use Rattle.xs_atoms.specs.Turns.{odd, is_of, of_class, flip, flips, AreKept}
 use Rattle.xs_atoms.specs.Stretches.{flag, row_of, start_of, IsAtomOf, IsDrafted, IsAdded, IsFound, IsGiven, IsPushed, IsTurned, IsSwept}
-use Rattle.xs_atoms.proofs.Turning.{le_true, le_false, below_or}
-use Rattle.xs_atoms.proofs.Rows.{get_left, get_end, get_push, start_of-push, start_of-past, row_of-left, row_of-end, within_rows, atom_below}
+use Rattle.xs_atoms.proofs.Turning.{le_false, below_or}
+use Rattle.xs_atoms.proofs.Rows.{get_push, start_of-push, start_of-past, row_of-left, row_of-end, within_rows, atom_below}
 
 -- an atom stays that of its symbols when more atoms come
 grown : (turns : List Turn) (width : ℕ) (rows row : List Bool) (firsts more : List ℕ) (s atom : ℕ) → length rows ≡ width * length firsts → IsAtomOf turns width rows firsts s atom → IsAtomOf turns width (rows ++ row) (firsts ++ more) s atom
@@ -51,7 +53,7 @@ added turns width old new row start next atom far n a = record {
     same = λ c h. ap (λ (r : List Bool). flag r c) (row_of-end width old.rows.items row atom here n.long) ∙ n.flags s lo hi c h;
     only = λ t.
         let e : s ≡ start = n.only s lo hi t in
-        ap (λ k. slice_get (old.firsts.items ++ start ∷ []) k) a.last ∙ get_end old.firsts.items start ∙ ap (λ k. Some k) (sym e);
+        ap (λ k. slice_get (old.firsts.items ++ start ∷ []) k) a.last ∙ get_last old.firsts.items start ∙ ap (λ k. Some k) (sym e);
   };
 }
   where

@@ -10,9 +10,6 @@ use Rattle.xs_class.specs.Classes.{Has, IsClass, RisesFrom}
 use Rattle.xs_atoms.specs.declared.turns.Turn.{Turn}
 use Rattle.xs_atoms.specs.Turns.{odd, flip, flips, at_symbol, range_turns, class_turns, AreTurnsOf}
 
-pub le_true : (m n : ℕ) → m ≤ n → nat_le m n ≡ true
-le_true m n h = grind (arith, nat_tests)
-
 pub le_false : (m n : ℕ) → n < m → nat_le m n ≡ false
 le_false m n h = grind (arith, nat_tests)
 

@@ -52,22 +52,7 @@ fn is_at(classes: &[Class], number: u32, class: &Class) -> bool
     ensures { IsTrue result → slice_get classes.now number ≡ Some class.now }
 {
     let place = number as usize;
-    place < classes.len() && are_same(classes[place].ranges(), class.ranges())
-}
-
-/// Whether the ranges are the same.
-fn are_same(a: &[(u32, u32)], b: &[(u32, u32)]) -> bool
-    ensures { IsTrue result → a.now ≡ b.now }
-{
-    if a.len() != b.len() {
-        return false;
-    }
-    'places: for place in 0..a.len() {
-        if a[place].0 != b[place].0 || a[place].1 != b[place].1 {
-            return false;
-        }
-    }
-    true
+    place < classes.len() && classes[place].ranges() == class.ranges()
 }
 
 /// A number that is seldom the same for two lists of ranges.
