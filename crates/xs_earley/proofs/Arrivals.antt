@@ -48,6 +48,22 @@ gathered_push {A} {B} f xs n d start old new lt before is =
     is ∙ ap (λ (l : List B). l ++ f (get_or xs n d)) before ∙ append_assoc start (gathered f (take n xs)) (f (get_or xs n d))
     ∙ ap (λ (l : List B). start ++ l) (ap (λ (l : List B). gathered f (take n xs) ++ l) (sym one) ∙ sym (gathered_append f (take n xs) (get_or xs n d ∷ [])) ∙ ap (gathered f) (sym (take_more xs n d lt)))
 
+-- elements that give nothing are passed over
+gathered_after : {A B : Type 0} (f : A → List B) (xs : List A) (from count : ℕ) (d : A) → from + count ≤ length xs → ((k : ℕ) → from ≤ k → k < from + count → f (get_or xs k d) ≡ []) → gathered f (take (from + count) xs) ≡ gathered f (take from xs)
+gathered_after f xs from zero d within none = (let e : from + zero ≡ from = omega arith in ap (λ n. gathered f (take n xs)) e)
+gathered_after {A} {B} f xs from (suc count) d within none =
+    let n = from + count in
+    let e : from + suc count ≡ n + 1 = omega arith in
+    let here : f (get_or xs n d) ≡ [] = none n (omega arith) (omega arith) in
+    ap (λ m. gathered f (take m xs)) e ∙ ap (gathered f) (take_more xs n d (omega (arith, within))) ∙ gathered_append f (take n xs) (get_or xs n d ∷ [])
+    ∙ ap (λ (l : List B). gathered f (take n xs) ++ l) (append-nil (f (get_or xs n d)) ∙ here) ∙ append-nil (gathered f (take n xs))
+    ∙ gathered_after f xs from count d (omega (arith, within)) (λ k ge lt. none k ge (omega (arith, lt)))
+
+pub gathered_past : {A B : Type 0} (f : A → List B) (xs : List A) (from end : ℕ) (d : A) → from ≤ end → end ≤ length xs → ((k : ℕ) → from ≤ k → k < end → f (get_or xs k d) ≡ []) → gathered f (take end xs) ≡ gathered f (take from xs)
+gathered_past f xs from end d le within none =
+    let e : from + (end - from) ≡ end = omega (arith, le) in
+    ap (λ m. gathered f (take m xs)) (sym e) ∙ gathered_after f xs from (end - from) d (omega (arith, le, within)) (λ k ge lt. none k ge (omega (arith, le, lt)))
+
 pub gathered_in : {A B : Type 0} (f : A → List B) (xs : List A) (y : B) → Contains (gathered f xs) y → (x : A) × Contains xs x × Contains (f x) y
 gathered_in f [] y h = absurd (omega (arith, h.1))
 gathered_in f (x ∷ xs) y h = elim (Contains-append_cases (f x) (gathered f xs) y h) [

@@ -1,10 +1,10 @@
 -- A state whose mask has no bit for the atom of a symbol does not go on by it.
-use Rattle.std.proofs.Common.{not, ◌≡◌, ℕ, ◌+◌, ◌-◌, ◌*◌, ◌/◌, ◌<◌, ◌^◌, ◌%◌, Bool, true, false, List, [], ◌∷◌, ◌++◌, length, get_or, take, max, bit_and, bit_or, Option, Some, if◌then◌else◌, refl, sym, ◌∙◌, ap, subst, arith, inl, inr, append-nil, length-append}
+use Rattle.std.proofs.Common.{not, ◌≡◌, ℕ, ◌+◌, ◌-◌, ◌*◌, ◌/◌, ◌<◌, ◌≤◌, ◌^◌, ◌%◌, Bool, true, false, List, [], ◌∷◌, ◌++◌, length, get_or, take, max, bit_and, bit_or, Option, Some, if◌then◌else◌, refl, sym, ◌∙◌, ap, subst, arith, inl, inr, append-nil, length-append}
 use Rattle.std.specs.Prelude.{Contains, slice_get, slice_index_or, IsTrue, IfSome, nat_eq, ◌&&◌}
 use Rattle.std.specs.Int.{bit_at}
 use Rattle.std.proofs.lemmas.Bool.{cases_eq, cases_lt, eqb-true, eq-eqb, ne_eqb, false≢true}
 use Rattle.std.proofs.lemmas.List.{take_more, get_or_past, get_or_append_left, get_or_at}
-use Rattle.std.proofs.lemmas.List.Elements.{Contains-push_cases}
+use Rattle.std.proofs.lemmas.List.Elements.{Contains-get_or, Contains-push_cases}
 use Rattle.std.proofs.lemmas.Nat.{shl_whole}
 use Rattle.std.proofs.lemmas.Nat.Bits.{bit_at-lt, bit_at_or, bit_at-pow_same, bit_at_ones, shr_and_one}
 use Rattle.xs_class.proofs.Lists.{some_same, first_in, rest_in}
@@ -22,7 +22,7 @@ use Rattle.xs_earley.specs.declared.rows.Stand.TheVariants.{AtEnd, AtNon, AtWord
 use Rattle.xs_earley.specs.Facts.{row_at, AreFacts, IsAtom}
 use Rattle.xs_earley.specs.Arriving.{gathered, at_has, positions_at, entered, lex_due, is_letter, due_at, begun_at, item_due, item_begun}
 use Rattle.xs_earley.specs.Masks.{has_bit, mask_of, AreClassMasks, IsMask, AreMasks}
-use Rattle.xs_earley.proofs.Arrivals.{term_told, skip_told}
+use Rattle.xs_earley.proofs.Arrivals.{gathered_past, term_told, skip_told}
 
 -- bits
 
@@ -178,3 +178,10 @@ item_idle g f count masks known s atom item lt is none = known.each item.state l
 
 pub nothing_more : {A : Type 0} (xs ys : List A) → ys ≡ [] → xs ≡ xs ++ ys
 nothing_more {A} xs ys none = sym (ap (λ (l : List A). xs ++ l) none ∙ append-nil xs)
+
+-- items without the bit of the atom lead to nothing, one after another
+pub idle_past : (g : Grammar) (f : Facts) (masks : List ℕ) → AreMasks g f (length (all_places g)) masks → (s atom : ℕ) → IsAtom f s atom → (xs : List Item) → ((item : Item) → Contains xs item → item.state < length (all_places g)) → (from end : ℕ) → from ≤ end → end ≤ length xs → ((k : ℕ) (d : Item) → from ≤ k → k < end → has_bit (slice_index_or masks (slice_index_or xs k d).state 0) atom ≡ false) → (gathered (item_due g f s) (take end xs) ≡ gathered (item_due g f s) (take from xs)) × (gathered (item_begun f s) (take end xs) ≡ gathered (item_begun f s) (take from xs))
+idle_past g f masks known s atom is xs states from end le within none =
+    let d : Item = record { state = 0; origin = 0 } in
+    let idle = λ (k : ℕ) (ge : from ≤ k) (lt : k < end). item_idle g f (length (all_places g)) masks known s atom (get_or xs k d) (states (get_or xs k d) (Contains-get_or xs k d (omega (arith, lt, within)))) is (none k d ge lt) in
+    (gathered_past (item_due g f s) xs from end d le within (λ k ge lt. (idle k ge lt).0), gathered_past (item_begun f s) xs from end d le within (λ k ge lt. (idle k ge lt).1))

@@ -1,10 +1,10 @@
-ghost use Rattle.std.specs.Prelude.{◌≡◌, ◌<◌, ◌+◌, ◌++◌, ◌^◌, [], ◌∷◌, ℕ, length, slice_get, slice_index_or, Contains, IfOk};
+ghost use Rattle.std.specs.Prelude.{◌≡◌, ◌<◌, ◌≤◌, ◌+◌, ◌++◌, ◌^◌, [], ◌∷◌, ℕ, length, false, slice_get, slice_index_or, Contains, IfOk};
 ghost use Rattle.xs_chart.specs.declared.item.Item.{Item as AnyItem};
 ghost use Rattle.xs_gram.specs.Sound.{IsBuilt};
 ghost use Rattle.xs_gram.specs.Places.{all_places};
 ghost use Rattle.xs_earley.specs.declared.begun.Begun.{Begun as AnyBegun};
 ghost use Rattle.xs_earley.specs.Facts.{AreFacts, IsAtom};
-ghost use Rattle.xs_earley.specs.Masks.{AreMasks};
+ghost use Rattle.xs_earley.specs.Masks.{has_bit as is_in, AreMasks};
 ghost use Rattle.xs_earley.specs.Arriving.{gathered, at_has, positions_at, entered, lex_due, IsTold, is_letter, word_due, word_begun, item_due, item_begun, more_due, more_begun};
 
 use crate::begun::Begun;
@@ -251,32 +251,30 @@ fn arrive(
     }
 }
 
-/// Appends what an item of the last set leads to by the symbol, which is asked for only where its
-/// state's mask has the bit of the symbol's atom.
+/// Whether the mask of the item's state has the bit of the atom.
 #[inline(always)]
-fn arrive_by_mask(
-    due: &mut Vec<Item>,
-    fresh: &mut Vec<Begun>,
-    g: &Gram,
-    facts: &Facts,
-    masks: &[u64],
-    symbol: Sym,
-    atom: u16,
-    item: Item,
-) -> Result<(), Memory>
-    requires built { IsBuilt g.now }
-    requires facts { AreFacts g.now facts.now }
-    requires masks { AreMasks g.now facts.now (length (all_places g.now)) masks.now }
-    requires atom { IsAtom facts.now symbol atom }
-    requires state { item.state < length (all_places g.now) }
-    ensures due { IfOk result (λ _. due.new.items ≡ due.old.items ++ item_due g.now facts.now symbol item) }
-    ensures fresh { IfOk result (λ _. fresh.new.items ≡ fresh.old.items ++ item_begun facts.now symbol item) }
+fn has_bit_at(masks: &[u64], atom: u16, item: Item) -> bool
+    requires { item.state < length masks.now }
+    ensures { result ≡ is_in (slice_index_or masks.now item.state 0) atom }
 {
-    if !has_bit(masks[item.state as usize], atom) {
-        return Ok(());
+    has_bit(masks[item.state as usize], atom)
+}
+
+/// The place of the first item from a place on whose state's mask has the bit of the atom, or the
+/// number of items where there is none. The loop is by itself, so that it is short.
+#[inline(always)]
+fn next_by_mask(masks: &[u64], atom: u16, items: &[Item], from: usize) -> usize
+    requires states { (item : AnyItem) → Contains items.now item → item.state < length masks.now }
+    requires from { from ≤ length items.now }
+    ensures from { from ≤ result }
+    ensures within { result ≤ length items.now }
+    ensures idle { (k : ℕ) (d : AnyItem) → from ≤ k → k < result → is_in (slice_index_or masks.now (slice_index_or items.now k d).state 0) atom ≡ false }
+{
+    let mut at = from;
+    'items: while at < items.len() && !has_bit_at(masks, atom, items[at]) {
+        at += 1;
     }
-    arrive(due, fresh, g, facts, symbol, atom, item)?;
-    Ok(())
+    at
 }
 
 /// Appends what the items of the last set lead to by the symbol.
@@ -297,8 +295,10 @@ pub fn arrive_all(
 {
     let atom = facts.atom(symbol);
     let masks = facts.masks.as_slice();
-    'items: for item in items {
-        arrive_by_mask(due, fresh, g, facts, masks, symbol, atom, *item)?;
+    let mut at = next_by_mask(masks, atom, items, 0);
+    'items: while at < items.len() {
+        arrive(due, fresh, g, facts, symbol, atom, items[at])?;
+        at = next_by_mask(masks, atom, items, at + 1);
     }
     Ok(())
 }

@@ -6,7 +6,8 @@ use Rattle.xs_pair.specs.Grammars.{Pair}
 use Rattle.xs_outline.specs.Lines.{Entry, production, leaf_word, Line, Lacks, SpellsEntry, SpellsLine, AreSpelt, text_lines, number_text, entry_text, line_text, lines_text}
 use Rattle.xs_outline.specs.Shapes.{Shape, leaf, node, Branches, none, branch, slot_name, lines, branch_lines, root_name}
 use Rattle.xs_outline.proofs.Decimals.{numeral_is}
-use Rattle.xs_outline.proofs.Quoting.{is_other, lacks_by_test, lacks_append, quoted_is, quoted_lacks}
+use Rattle.xs_sheet.proofs.Escapes.{quoted_is}
+use Rattle.xs_outline.proofs.Quoting.{is_other, lacks_by_test, lacks_append, quoted_lacks}
 use Rattle.xs_outline.proofs.SlotNames.{IsOneWord}
 use Rattle.xs_outline.proofs.Spelling.{digits_lack_other}
 use Rattle.xs_outline.proofs.TextLines.{first_then}

@@ -16,7 +16,6 @@ mod children;
 mod fault;
 mod laws;
 mod line;
-mod matching;
 mod numeral;
 mod order;
 mod page;

@@ -10,11 +10,11 @@ ghost use Rattle.xs_outline.specs.declared.reader.Open.{Open as AnyOpen};
 
 use crate::children::{Children, child, gather, put};
 use crate::line::{Entry, Parsed, read_line};
-use crate::matching::Flags;
 use crate::slot_table::{Kind, SlotTable};
 use std::alloc::Global;
 use xs_class::{Memory, Side, Sym};
 use xs_pair::Two;
+use xs_regex::Matcher;
 use xs_tree::Builder;
 
 /// A node that is open: its number, its production, the slot of its parent that it is for, and how
@@ -43,7 +43,7 @@ pub struct Reader {
 const ROOT: [Sym; 4] = [Sym(0x74), Sym(0x72), Sym(0x65), Sym(0x65)];
 
 /// Whether the entry may stand where something of this kind may.
-fn fits(flags: &mut Flags, two: &Two, kind: Kind, entry: &Entry) -> Result<bool, Memory>
+fn fits(matcher: &mut Matcher, two: &Two, kind: Kind, entry: &Entry) -> Result<bool, Memory>
     requires built { IsBuilt two.now.text }
     requires there { IsThere two.now (kind_meant kind) }
     ensures { IfOk result (λ b. MatchBool b (EntryFits two.now (Some (kind_meant kind)) (entry_meant entry.now))
@@ -51,7 +51,7 @@ fn fits(flags: &mut Flags, two: &Two, kind: Kind, entry: &Entry) -> Result<bool,
 {
     let text = two.gram(Side::Text);
     match (kind, entry) {
-        (Kind::Term(term), Entry::Leaf(word)) => flags.accepts(text.term(term), word.as_slice()),
+        (Kind::Term(term), Entry::Leaf(word)) => matcher.accepts(text.term(term), word.as_slice()),
         (Kind::Non(non), Entry::Production(number)) => {
             Ok(*number < u64::from(text.rules()) && text.non_of(*number as u32) == non)
         }
@@ -288,7 +288,7 @@ impl Reader {
     /// not opened yet.
     fn take(
         &mut self,
-        flags: &mut Flags,
+        matcher: &mut Matcher,
         two: &Two,
         tables: &[SlotTable],
         number: u64,
@@ -306,7 +306,7 @@ impl Reader {
         let Some(place) = self.place(two, tables, parsed.depth, parsed.name) else {
             return Ok(false);
         };
-        if !fits(flags, two, place.0, &parsed.entry)? {
+        if !fits(matcher, two, place.0, &parsed.entry)? {
             return Ok(false);
         }
         self.enter(two, tables, number, place.1, &parsed.entry)?;
@@ -317,7 +317,7 @@ impl Reader {
     pub fn read<'d>(
         &mut self,
         alloc: Global,
-        flags: &mut Flags,
+        matcher: &mut Matcher,
         two: &Two,
         tables: &[SlotTable],
         number: u64,
@@ -332,7 +332,7 @@ impl Reader {
         let Some((parsed, more)) = read_line(alloc, text)? else {
             return Ok(None);
         };
-        if self.take(flags, two, tables, number, parsed)? {
+        if self.take(matcher, two, tables, number, parsed)? {
             Ok(Some(more))
         } else {
             Ok(None)

@@ -8,12 +8,12 @@ ghost use Rattle.xs_outline.specs.Outline.{IsOutline};
 ghost use Rattle.xs_outline.specs.Refusal.{IsRefusal};
 
 use crate::OutlineFault;
-use crate::matching::Flags;
 use crate::reader::Reader;
 use crate::slot_table::tables;
 use std::alloc::Global;
 use xs_class::Word;
 use xs_pair::Two;
+use xs_regex::Matcher;
 use xs_tree::Tree;
 
 /// The tree of an outline.
@@ -31,11 +31,11 @@ pub fn read_outline(alloc: Global, two: &Two, doc: &Word) -> Result<Tree, Outlin
 {
     let tables = tables(alloc, two)?;
     let mut reader = Reader::new(alloc)?;
-    let mut flags = Flags::new(alloc);
+    let mut matcher = Matcher::new(alloc);
     let mut rest = doc.as_slice();
     let mut number: u64 = 0;
     'lines: while !rest.is_empty() {
-        let Some(more) = reader.read(alloc, &mut flags, two, &tables, number, rest)? else {
+        let Some(more) = reader.read(alloc, &mut matcher, two, &tables, number, rest)? else {
             return Err(OutlineFault::OutlineBad { line: number + 1 });
         };
         number += 1;

@@ -28,7 +28,7 @@ all_words P f (w ∷ ws) each = chars_append w (joined ws) (f w each.0) (all_wor
 -- a regex that means a pattern matches characters of XML only
 pub regex_words : (t : Tree) (r : Regex) (w : List ℕ) → Means t r → Matches r w → AreChars w
 regex_words nothing Empty w means m = subst AreChars (sym m) refl
-regex_words (class sort) (Set ranges) w means m = subst AreChars (sym m.2) (both_true (is_char m.0) _ (char_tested m.0 ((means m.0).0 m.1).0) refl)
+regex_words (class sort) (Set ranges) w means m = subst AreChars (sym m.2) (both_true (is_char m.0) _ (char_tested m.0 ((means.1 m.0).0 m.1).0) refl)
 regex_words (both t u) (Then' p a q b) w means m = subst AreChars (sym m.2) (chars_append m.0 m.1 (regex_words t a m.0 means.0 m.3) (regex_words u b m.1 means.1 m.4))
 regex_words (either t u) (Or' p a q b) w means (inl m) = regex_words t a w means.0 m
 regex_words (either t u) (Or' p a q b) w means (inr m) = regex_words u b w means.1 m
