@@ -1,11 +1,10 @@
 -- Automata that are linked alike have the same arcs in a net.
-use Rattle.std.proofs.Common.{◌≡◌, ◌∙◌, ◌↔◌, ℕ, suc, ◌+◌, List, [], ◌∷◌, ◌++◌, length, refl, sym, ap, subst, inl, inr}
+use Rattle.std.proofs.Common.{◌≡◌, ◌∙◌, ◌↔◌, ℕ, ◌+◌, List, [], ◌∷◌, ◌++◌, length, slice_index_or, sym, ap, subst, inl, inr}
 use Rattle.std.specs.List.{Contains}
 use Rattle.xs_regex.specs.declared.position.Position.{Position}
-use Rattle.xs_regex.specs.Automaton.{Leads}
 use Rattle.xs_regex.specs.Links.{AreLinkedAlike}
 use Rattle.xs_stretch.specs.Arcs.{Arc, read, pass, class_at, after_automaton, automaton_arcs}
-use Rattle.xs_stretch_laws.proofs.Among.{Among, front, further, first_or_rest, among_left, among_right, among_either, of_contains, to_contains}
+use Rattle.xs_stretch_laws.proofs.Among.{Among, among_left, among_right, among_either, of_contains, to_contains}
 use Rattle.xs_stretch_laws.proofs.Blocks.{Within, first_arc, next_arc, last_arc, past_arc}
 use Rattle.xs_stretch_laws.proofs.Pieces.{AutomatonArc, leads_in, leads_on, leads_out, leads_past, automaton_only}
 

@@ -1,27 +1,22 @@
 -- Pairs of grammars that are alike have the same certificates.
-use Rattle.std.proofs.Common.{◌≡◌, ◌∙◌, ◌↔◌, ℕ, ◌<◌, List, length, refl, sym, ap, subst, inl, inr, arith}
+use Rattle.std.proofs.Common.{◌∙◌, ℕ, ◌<◌, ◌≤◌, List, length, sym, ap, subst, inl, inr}
 use Rattle.std.proofs.lemmas.Bool.{cases_lt}
 use Rattle.std.proofs.lemmas.List.{get_or_past}
-use Rattle.xs_regex.specs.declared.regex.Regex.{Regex}
-use Rattle.xs_regex.specs.declared.position.Position.{Position}
 use Rattle.xs_regex.specs.Links.{AreLinkedAlike}
 use Rattle.xs_gram.specs.declared.parts.Terminal.{Terminal}
 use Rattle.xs_gram.specs.declared.parts.Ignorable.{Ignorable}
 use Rattle.xs_gram.specs.Grammar.{Grammar, term_of, skip_of, no_terminal, no_ignorable}
-use Rattle.xs_gram.specs.Sound.{IsBuilt, IsAutomaton}
+use Rattle.xs_gram.specs.Sound.{IsBuilt}
 use Rattle.xs_pair.specs.Grammars.{Pair}
-use Rattle.xs_sheet_laws.specs.Regexes as R
 use Rattle.xs_sheet_laws.specs.Grammars as G
-use Rattle.xs_sheet_laws.specs.Pairs as P
-use Rattle.xs_sheet_laws.proofs.Other.{with_parts, is_with_parts}
+use Rattle.xs_sheet_laws.proofs.Other.{is_with_parts}
 use Rattle.xs_sheet_laws.proofs.Alike.{alike_back}
 use Rattle.xs_sheet_laws.proofs.Weighed.{KeepsSizes}
 use Rattle.xs_cert_lines.specs.Lines.{Lines}
 use Rattle.xs_cert_laws.specs.Blocks.{Head}
 use Rattle.xs_cert_laws.specs.Certificates.{Half, IsHalf, IsCertificate, Front, nothing, version, in_text, in_xml, IsGoodFront, IsBadAt}
 use Rattle.xs_cert_laws.specs.Exact.{IsProof}
-use Rattle.xs_cert_alike.specs.Laws.{AreBuilt, HaveSameCertificates, AlikeHaveSameCertificates}
-use Rattle.xs_cert_alike.proofs.Automata.{linked_back}
+use Rattle.xs_cert_alike.specs.Laws.{AlikeHaveSameCertificates}
 use Rattle.xs_cert_alike.proofs.Laying.{KeepsLinks}
 use Rattle.xs_cert_alike.proofs.Linked.{linked, same_linked}
 use Rattle.xs_cert_alike.proofs.Nests.{half_kept}
@@ -55,6 +50,7 @@ module _ (p q : Pair) (text : KeepsHalves p.text q.text) (xml : KeepsHalves p.xm
   certificate_kept bytes c = record { text = c.text; xml = c.xml; is_text = text c.text _ c.is_text; is_xml = xml c.xml _ c.is_xml; is = c.is }
 
   proof_kept : (bytes : List ℕ) → IsProof p bytes → IsProof q bytes
+  unfolding certificate_kept
   proof_kept bytes d = record { is = certificate_kept bytes d.is; text = d.text; xml = d.xml }
 
   front_kept : {lines : Lines} → Front p lines → Front q lines

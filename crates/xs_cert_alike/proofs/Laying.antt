@@ -1,5 +1,5 @@
 -- How items are laid in a net of a grammar with other terminals and ignorables, whose automata are linked alike.
-use Rattle.std.proofs.Common.{◌≡◌, ◌∙◌, ℕ, suc, List, [], ◌∷◌, ◌++◌, refl, sym, ap, subst}
+use Rattle.std.proofs.Common.{◌∙◌, ℕ, suc, List, [], ◌∷◌, ◌++◌, refl}
 use Rattle.xs_gram.specs.declared.parts.GItem.{GItem}
 use Rattle.xs_gram.specs.declared.parts.Terminal.{Terminal}
 use Rattle.xs_gram.specs.declared.parts.Ignorable.{Ignorable}
@@ -9,7 +9,7 @@ use Rattle.xs_stretch.specs.Arcs.{Arc, pass, call, automaton_arcs}
 use Rattle.xs_stretch.specs.Groups.{group_number}
 use Rattle.xs_stretch.specs.Laying.{entry_state, exit_state, LaysItem, lays_fixed, lays_term, lays_skip, lays_non, LaysComponent, lays_component, LaysRules, lays_no_rule, lays_rule, lays_other_rule, LaysBody, lays_no_body, lays_member, lays_other, lays_group, LaysPart, part_none, part_then, part_group}
 use Rattle.xs_sheet_laws.proofs.Other.{with_parts}
-use Rattle.xs_sheet_laws.proofs.LooseKept.{one, one_back, member, member_back}
+use Rattle.xs_sheet_laws.proofs.LooseKept.{one, one_back, member_back}
 use Rattle.xs_sheet_laws.proofs.Weighed.{members_kept}
 use Rattle.xs_cert_alike.proofs.Automata.{AreSame, itself, joined, with_first, same_as, after_same, automaton_same}
 

@@ -1,17 +1,13 @@
 -- Nets, nests and blocks of a grammar with other terminals and ignorables, whose automata are linked alike.
-use Rattle.std.proofs.Common.{◌≡◌, ℕ, List, length, refl}
-use Rattle.std.specs.List.{Contains}
-use Rattle.xs_auto.specs.Edges.{Edge}
-use Rattle.xs_auto.specs.declared.call.Call.{Call}
-use Rattle.xs_auto.specs.Nets.{Graph, edges_of, moves_of, calls_of}
-use Rattle.xs_auto.specs.Nests.{Group, IsGroup}
+use Rattle.std.proofs.Common.{ℕ, List}
+use Rattle.xs_auto.specs.Nets.{Graph}
+use Rattle.xs_auto.specs.Nests.{Group}
 use Rattle.xs_gram.specs.declared.parts.GItem.{GItem}
 use Rattle.xs_gram.specs.declared.parts.Terminal.{Terminal}
 use Rattle.xs_gram.specs.declared.parts.Ignorable.{Ignorable}
 use Rattle.xs_gram.specs.Grammar.{Grammar}
-use Rattle.xs_gram.specs.Fences.{spread, GroupAt}
+use Rattle.xs_gram.specs.Fences.{spread}
 use Rattle.xs_stretch.specs.Arcs.{read, pass, call}
-use Rattle.xs_stretch.specs.Groups.{group_number}
 use Rattle.xs_stretch.specs.Nets.{IsNumbered, IsGroupOf, IsNestOf}
 use Rattle.xs_cert_laws.specs.Blocks.{Block, of_groups, of_rules, of_cut, IsRight}
 use Rattle.xs_cert_laws.specs.Certificates.{Half, Shares, IsHalf}
