@@ -12,6 +12,7 @@ use Rattle.xs_cert_lines.specs.Lines.{Lines, ended, written}
 use Rattle.xs_cert_lines.specs.Laws.{IsLine}
 use Rattle.xs_closed.specs.Rows.{Grid, marked, Marks}
 use Rattle.xs_cert_laws.specs.Certificates.{IsFencePair, AreShares, has_pair, is_shared, Shares, heads, share_line}
+use Rattle.xs_cert_laws.proofs.Showing.{shares_turned}
 use Rattle.xs_cert.specs.declared.place.Place.{Place}
 use Rattle.xs_cert.specs.Places.{IsPast, Stand}
 use Rattle.xs_cert.specs.Ways.{Ahead, Tail, TailWays, LeadsTo, BlockWays}
@@ -135,7 +136,7 @@ marks_both old mid new h k le first second c d = by_shared (is_shared ((h, k) �
     by_shared true e = by_place (placed (shared_only h k c d e)) ∙ sym (ap (λ (x : Bool). marked old c d || x) e ∙ or_true (marked old c d))
     by_shared false e =
         let not_first : c ≡ h → d ≡ k → ⊥ = λ x y. not_there (is_shared ((h, k) ∷ []) c d) e (ap (λ (z : ℕ). is_shared ((h, k) ∷ []) z d) x ∙ ap (λ (z : ℕ). is_shared ((h, k) ∷ []) h z) y ∙ same_is_shared h k le) in
-        let not_second : c ≡ k → d ≡ h → ⊥ = λ x y. not_there (is_shared ((h, k) ∷ []) c d) e (ap (λ (z : ℕ). is_shared ((h, k) ∷ []) z d) x ∙ ap (λ (z : ℕ). is_shared ((h, k) ∷ []) k z) y ∙ shared_turned ((h, k) ∷ []) k h ∙ same_is_shared h k le) in
+        let not_second : c ≡ k → d ≡ h → ⊥ = λ x y. not_there (is_shared ((h, k) ∷ []) c d) e (ap (λ (z : ℕ). is_shared ((h, k) ∷ []) z d) x ∙ ap (λ (z : ℕ). is_shared ((h, k) ∷ []) k z) y ∙ shares_turned ((h, k) ∷ []) k h ∙ same_is_shared h k le) in
         second.others c d not_second ∙ first.others c d not_first ∙ sym (ap (λ (x : Bool). marked old c d || x) e ∙ or_none (marked old c d))
 
 module _ {nest : List Group} {bytes : List ℕ} where

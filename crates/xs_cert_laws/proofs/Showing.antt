@@ -40,7 +40,7 @@ same_number : {m n : ℕ} → m ≡ n → nat_eq m n ≡ true
 same_number e = rw e (eq_self _)
 
 -- whether groups are said to share does not depend on their order
-shares_turned : (shares : List (ℕ × ℕ)) (h k : ℕ) → is_shared shares h k ≡ is_shared shares k h
+pub shares_turned : (shares : List (ℕ × ℕ)) (h k : ℕ) → is_shared shares h k ≡ is_shared shares k h
 shares_turned shares h k =
     let least : min h k ≡ min k h = omega arith in
     let most : max h k ≡ max k h = omega arith in
