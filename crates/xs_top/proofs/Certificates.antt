@@ -4,22 +4,22 @@ use Rattle.xs_check_laws.specs.Laws.{RuleWeighsOnce}
 use Rattle.xs_xml.specs.Laws.{OneReading}
 use Rattle.xs_pair.specs.Grammars.{Pair}
 use Rattle.xs_cert_laws.specs.Certificates.{IsCertificate, IsBadAt}
-use Rattle.xs_cert_alike.specs.Laws.{AreBuilt, HaveSameCertificates}
+use Rattle.xs_cert_alike.specs.Laws.{AreBuilt}
 use Rattle.xs_talk.specs.declared.outcome.Outcome.{Outcome}
-use Rattle.xs_talk.specs.declared.outcome.Outcome.TheVariants.{Done, SheetLong, SheetBad, SheetIll, SheetFault, Heavy, CertFault, CertLong, CertBad, WriteFault, NoteFault}
+use Rattle.xs_talk.specs.declared.outcome.Outcome.TheVariants.{Done, Heavy, CertFault, CertLong, CertBad, WriteFault}
 use Rattle.xs_top.specs.declared.asking.Job.TheVariants.{Prove}
 use Rattle.xs_top.specs.Devices.{Run}
-use Rattle.xs_top.specs.Sheets.{IsPairOfBytes, IsUnpaired}
+use Rattle.xs_top.specs.Sheets.{IsPairOfBytes}
 use Rattle.xs_top.specs.Checks.{IsSure}
-use Rattle.xs_top.specs.Certifying.{IsUncertain, IsUncertified, IsCertified, HasFile}
+use Rattle.xs_top.specs.Certifying.{IsUncertain}
 use Rattle.xs_top.specs.Ran.{Took, Told}
 use Rattle.xs_top.specs.Runs.{AsksToCertify, IsUnwritten}
 use Rattle.xs_top.specs.Laws.{PairsAgree, SheetsAgree}
-use Rattle.xs_top.specs.Certificates.{CertificatesAgree, Proved, IsToCertify, AreHad, TakesCertificate, ProofIsTaken, AgreeOnCertificate, OneCertificate}
+use Rattle.xs_top.specs.Certificates.{CertificatesAgree, Proved, IsToCertify, AreHad, ProofIsTaken, OneCertificate}
 use Rattle.xs_top.proofs.Known.{spelled_pair}
 use Rattle.xs_top.proofs.Certifying.{file_only, file_short}
 use Rattle.xs_top.proofs.Completing.{not_heavy, not_unpaired}
-use Rattle.xs_top.proofs.Coming.{Tested, refused, shown, went_tested, IsAnswered, done_answered, appended}
+use Rattle.xs_top.proofs.Coming.{Tested, refused, shown, went_tested, done_answered, appended}
 
 -- two grammars of the sheet's bytes that are built, and the file is a certificate of them, or is bad at the line
 pub record HasTaken (sheet certificate : List ℕ) : Type 0 where
@@ -43,7 +43,7 @@ bad_refused : (run : Run) (sheet certificate : List ℕ) (job : IsToCertify run 
 bad_refused run sheet certificate job line (inr unwritten) = absurd unwritten
 bad_refused run sheet certificate job line (inl (refused (inl (inl stopped)))) = absurd stopped
 bad_refused run sheet certificate job line (inl (refused (inl (inr (bytes, are, bad))))) = absurd bad
-bad_refused run sheet certificate job line (inl (refused (inr (p, spells, light, built, bytes, are, bad)))) = record {
+bad_refused run sheet certificate job line (inl (refused (inr (p, spells, (light, built, bytes, are, bad))))) = record {
   pair = p;
   is_pair = spelled_pair run.shelf.files job.asks.named sheet p job.asks.has spells;
   built = built;
