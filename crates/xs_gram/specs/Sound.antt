@@ -4,7 +4,7 @@ use Rattle.xs_regex.specs.declared.regex.Regex.{Regex}
 use Rattle.xs_regex.specs.declared.position.Position.{Position}
 use Rattle.xs_regex.specs.Matches.{Matches}
 use Rattle.xs_regex.specs.Automaton.{Accepts, IsWellFormed, EachEnds}
-use Rattle.xs_regex.specs.Links.{shape, HasLinks}
+use Rattle.xs_regex.specs.Links.{IsGlushkov}
 use Rattle.xs_regex.specs.Size.{size, sets, IsBounded, HasMembers}
 use Rattle.xs_gram.specs.declared.parts.GItem.{GItem}
 use Rattle.xs_gram.specs.declared.parts.GItem.TheVariants.{Fixed, Term, Non, Skip}
@@ -22,7 +22,7 @@ pub record IsAutomaton (regex : Regex) (a : Position) : Type 0 where
   pub formed : IsWellFormed a
   pub positions : length a.classes ≡ size regex
   pub classes : a.classes ≡ sets regex
-  pub links : HasLinks (shape regex) a
+  pub links : IsGlushkov regex a
   pub ends : HasMembers regex → EachEnds a
 
 -- the numbers that items name are there, and no fixed word is empty

@@ -8,6 +8,7 @@ use xs_class::Memory;
 use xs_regex::{Position, Regex, positions};
 
 /// The automaton of a regex.
+#[tactic(auto, unfolding(xs_regex::specs::Links::IsGlushkov))]
 fn automaton_of(alloc: Global, regex: &Regex) -> Result<Position, Memory>
     requires { IsFit regex.now }
     ensures { IfOk result (IsAutomaton regex.now) }

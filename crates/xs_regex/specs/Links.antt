@@ -102,6 +102,11 @@ pub record HasLinks (s : Shape) (p : Position) : Type 0 where
   pub last : p.last ≡ lasts s
   pub follow : (j k : ℕ) → Leads p j k ↔ Follows s j k
 
+-- The automaton's positions are linked as those of the regular expression. This definition is not
+-- unfolded by itself, so that no search for another fact about automata goes through it.
+unfoldable pub IsGlushkov : Regex → Position → Type 0
+IsGlushkov r p = HasLinks (shape r) p
+
 -- two automata with the same classes, at the same positions of which words begin, end and go on
 pub record AreLinkedAlike (p q : Position) : Type 0 where
   pub classes : p.classes ≡ q.classes
