@@ -1,5 +1,5 @@
 -- Rows of atoms, stretches and lists of which an end is new.
-use Rattle.std.proofs.Common.{◌≡◌, ◌∙◌, ◌⊎◌, ℕ, zero, suc, ◌+◌, ◌*◌, ◌<◌, ◌≤◌, Bool, List, [], ◌∷◌, ◌++◌, length, take, drop, Some, refl, sym, ap, inl, inr, arith, length-drop, Vec, Global, vec_len}
+use Rattle.std.proofs.Common.{◌≡◌, ◌∙◌, ◌⊎◌, ℕ, zero, suc, ◌+◌, ◌*◌, ◌<◌, ◌≤◌, Bool, List, [], ◌∷◌, ◌++◌, length, take, drop, Some, refl, sym, ap, inl, inr, arith, length-drop}
 use Rattle.std.proofs.Math.Nat.{mul-le-mul_left}
 use Rattle.std.proofs.Math.Seq.{take-length, drop-append_seam}
 use Rattle.std.proofs.lemmas.List.{take-append-le, drop-append-le}
@@ -47,5 +47,3 @@ atom_below width n atom w h = elim (below_or atom n) [
   | inr l ↦ absurd (omega (arith, mul-le-mul_left {m = n} {n = atom} width l))
 ]
 
-pub len_is : {X : Type 0} (v : Vec X Global) → vec_len v ≡ length v.items
-len_is v = omega (arith, v.ok)

@@ -1,15 +1,11 @@
 -- Nets that are kept in lists, and drafts as arcs are added.
-use Rattle.std.proofs.Common.{◌≡◌, ℕ, zero, suc, ◌+◌, ◌-◌, ◌<◌, ◌≤◌, ◌^◌, Bool, true, false, List, [], ◌∷◌, ◌++◌, map, length, length-append, get_or, set, refl, sym, ap, ◌∙◌, subst, inl, inr, arith, get_or-set_same, get_or-set_other, length-set, Option, Some, None, IfSome, IsTrue, nat_eq, eqb, ◌&&◌, Result, Ok, Err, OnErr}
+use Rattle.std.proofs.Common.{◌≡◌, ℕ, zero, suc, ◌+◌, ◌-◌, ◌<◌, ◌≤◌, ◌^◌, Bool, true, false, List, [], ◌∷◌, ◌++◌, map, length, length-append, get_or, set, refl, sym, ap, ◌∙◌, subst, inl, inr, arith, get_or-set_same, get_or-set_other, length-set, Option, Some, None, IfSome, nat_eq, Result, Ok, Err, OnErr}
 use Rattle.std.specs.List.{All, filter, range_with_len}
 use Rattle.std.proofs.Math.ListN.{get_or-map as map_at}
 use Rattle.std.proofs.Math.Seq.{get_or-append_seam}
-use Rattle.std.specs.Bool.{Decides}
-use Rattle.std.specs.Cmp.Lexicographic.{pointwise}
 use Rattle.std.specs.List.{slice_get}
 use Rattle.std.proofs.lemmas.Bool.{cases_lt}
-use Rattle.std.proofs.lemmas.Bool.Decides.{Decides-and, Decides-eqb}
 use Rattle.std.proofs.lemmas.Option.{get_or_from_slice_get, slice_get_read}
-use Rattle.std.proofs.lemmas.Slice.Eq.{slice_eq-Decides}
 use Rattle.std.proofs.lemmas.List.{map-append, length-map, get_or_past, get_or_append_left, get_or-map}
 use Rattle.std.proofs.lemmas.List.Elements.{All-append, All-filter, All-map}
 use Rattle.std.proofs.lemmas.List.FromFn.{length-map-range_with_len, get_or-map-range_with_len}
@@ -374,15 +370,6 @@ start_drafted n start entered classes es ms ks a h l = record {
 
 pub finished : (start : Option ℕ) (finals : List Bool) (classes : List (List (ℕ × ℕ))) (es : List (Leaving EdgeRow)) (ms : List (Leaving ℕ)) (ks : List (Leaving Call)) (rows : List (List EdgeRow)) (moves : List (List ℕ)) (calls : List (List Call)) (n : Graph) → rows ≡ grouped (length finals) es → moves ≡ grouped (length finals) ms → calls ≡ grouped (length finals) ks → draft_of start finals classes es ms ks ≡ n → graph_of start finals (edge_lists classes rows) moves calls ≡ n
 finished start finals classes es ms ks rows moves calls n e f g h = rw (e, f, g) h
-
--- what `==` says of two classes
-pair_same : (x y : ℕ × ℕ) → Decides (eqb x.0 y.0 && eqb x.1 y.1) (x ≡ y)
-pair_same x y =
-    let d = Decides-and (eqb x.0 y.0) (eqb x.1 y.1) (Decides-eqb x.0 y.0) (Decides-eqb x.1 y.1) in
-    (λ t. ap (λ a. (a, x.1)) (d.0 t).0 ∙ ap (λ b. (y.0, b)) (d.0 t).1, λ e. d.1 (ap (λ z. z.0) e, ap (λ z. z.1) e))
-
-pub same_ranges : (xs ys : List (ℕ × ℕ)) (r : Bool) → r ≡ pointwise (λ x y. eqb x.0 y.0 && eqb x.1 y.1) xs ys → IsTrue r → xs ≡ ys
-same_ranges xs ys r e t = (slice_eq-Decides pair_same xs ys r e).0 t
 
 -- what holds anyway holds on an error
 pub on_err : {T E P : Type 0} (r : Result T E) → P → OnErr r P

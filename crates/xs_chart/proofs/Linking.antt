@@ -1,5 +1,5 @@
 -- Chains of a hash table over a list of items.
-use Rattle.std.proofs.Common.{◌≡◌, ◌≢◌, ℕ, zero, suc, ◌+◌, ◌*◌, ◌-◌, ◌/◌, ◌<◌, ◌≤◌, min, List, [], ◌∷◌, ◌++◌, length, get_or, set, take, Some, Bool, true, false, if◌then◌else◌, ◌↔◌, ◌⊎◌, inl, inr, refl, sym, ◌∙◌, ap, subst, arith, length-append, get_or-set_same, get_or-set_other, length-set, Vec, Global, vec_len}
+use Rattle.std.proofs.Common.{◌≡◌, ◌≢◌, ℕ, zero, suc, ◌+◌, ◌*◌, ◌-◌, ◌/◌, ◌<◌, ◌≤◌, min, List, [], ◌∷◌, ◌++◌, length, get_or, set, take, Some, Bool, true, false, ◌↔◌, ◌⊎◌, inl, inr, refl, sym, ◌∙◌, ap, subst, arith, length-append, get_or-set_same, get_or-set_other, length-set, if◌then◌else◌}
 use Rattle.std.specs.Prelude.{Contains, slice_get, IsTrue}
 use Rattle.std.proofs.lemmas.Bool.{cases_eq, cases_lt, false≢true}
 use Rattle.std.proofs.lemmas.Option.{slice_get-get_or, slice_get_within, get_or_from_slice_get, none-some, same_Some}
@@ -8,9 +8,6 @@ use Rattle.std.proofs.lemmas.Nat.{and_le_r}
 use Rattle.xs_chart.specs.declared.item.Item.{Item}
 use Rattle.xs_chart.specs.Different.{AreDifferent}
 use Rattle.xs_chart.specs.Linked.{slot_of, IsChained, here, there, IsBackward, IsLinked, IsTable, IsRoomy}
-
-pub len_is : {X : Type 0} (v : Vec X Global) → vec_len v ≡ length v.items
-len_is v = omega (arith, v.ok)
 
 -- an element of the longer list, before the last one or the last one
 pub get_push : {A : Type 0} (xs : List A) (y : A) (k : ℕ) (x : A) → slice_get (xs ++ y ∷ []) k ≡ Some x → (slice_get xs k ≡ Some x) ⊎ ((k ≡ length xs) × (x ≡ y))

@@ -3,6 +3,7 @@
 use Rattle.std.proofs.Common.{◌≡◌, ℕ, suc, ◌+◌, List, [], ◌∷◌, ◌++◌, length, refl, sym, ap, subst, ◌∙◌, append_assoc, append-nil, arith, length-append}
 use Rattle.std.specs.List.{concat}
 use Rattle.std.proofs.lemmas.List.Folds.{concat-append}
+use Rattle.xs_class.proofs.Lists.{cons_parts, cons_same}
 use Rattle.xs_gram.specs.declared.parts.GItem.{GItem}
 use Rattle.xs_gram.specs.declared.parts.GItem.TheVariants.{Fixed, Non}
 use Rattle.xs_gram.specs.Grammar.{Grammar, items, IsRuleOf}
@@ -10,7 +11,7 @@ use Rattle.xs_gram.specs.Sound.{IsBuilt}
 use Rattle.xs_gram.specs.Fences.{spread, spread_items, IsFence, IsLevel, level_none, level_then, grouped, OuterAt}
 use Rattle.xs_gram.specs.Loose.{Spot, entry, exit, at}
 use Rattle.xs_gram.specs.Loose.{Uses, Reaches, here, onward, AreOne, LooseItem, loose_fixed, loose_term, loose_skip, loose_non, IsLoose, loose_none, loose_then, loose_group, begins, passes, encloses, calls, ends, returns, Walk, stays, goes}
-use Rattle.xs_gram.proofs.Levels.{cons_parts, cons_same, level_append, level_rest, group_more}
+use Rattle.xs_gram.proofs.Levels.{level_append, level_rest, group_more}
 use Rattle.xs_check_laws.specs.Words.{split_words}
 use Rattle.xs_check_laws.proofs.Words.{Words, no_words, word_then, group_word, level_loose, spread_ok, spread_concat}
 use Rattle.xs_check_laws.proofs.Walks.{joined, walk_level}

@@ -4,6 +4,7 @@ use Rattle.std.proofs.Common.{◌≡◌, ℕ, suc, ◌+◌, ◌<◌, List, [], �
 use Rattle.std.specs.List.{concat}
 use Rattle.std.proofs.lemmas.Bool.{cases_lt}
 use Rattle.std.proofs.lemmas.List.{append_cancel_left, append_cancel_right}
+use Rattle.xs_class.proofs.Lists.{cons_parts, cons_same}
 use Rattle.xs_gram.specs.declared.parts.GItem.{GItem}
 use Rattle.xs_gram.specs.declared.parts.GItem.TheVariants.{Fixed, Term, Non, Skip}
 use Rattle.xs_gram.specs.Grammar.{Grammar, items, IsRuleOf}
@@ -13,7 +14,7 @@ use Rattle.xs_gram.specs.Fences.{spread, IsLevel, level_none, level_then, level_
 use Rattle.xs_gram.specs.Loose.{IsLoose, loose_none, loose_then, loose_group}
 use Rattle.xs_gram.specs.Suspects.{Overlaps}
 use Rattle.xs_gram.proofs.Inversion.{done_parts, fixed_parts, leaf_parts, skip_parts, sub_parts}
-use Rattle.xs_gram.proofs.Levels.{cons_parts, cons_same, level_append, group_split}
+use Rattle.xs_gram.proofs.Levels.{level_append, group_split}
 use Rattle.xs_check_laws.specs.Words.{part_words}
 use Rattle.xs_check_laws.specs.Words.{split_words}
 use Rattle.xs_check_laws.specs.Freedom.{HasNoVertical, HasNoHorizontal}

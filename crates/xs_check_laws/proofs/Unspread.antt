@@ -1,12 +1,12 @@
 -- Items whose fixed words are split at fence symbols: where a nonterminal stands among them, and
 -- what words of them are words of the items.
 use Rattle.std.proofs.Common.{◌≡◌, ℕ, List, [], ◌∷◌, ◌++◌, refl, sym, ap, subst, ◌∙◌, true, false}
+use Rattle.xs_class.proofs.Lists.{cons_parts, cons_same}
 use Rattle.xs_gram.specs.declared.parts.GItem.{GItem}
 use Rattle.xs_gram.specs.declared.parts.GItem.TheVariants.{Fixed, Term, Non, Skip}
 use Rattle.xs_gram.specs.Grammar.{Grammar}
 use Rattle.xs_gram.specs.Fences.{is_fence, after_word, split_word, spread_items}
 use Rattle.xs_gram.specs.Loose.{loose_fixed}
-use Rattle.xs_gram.proofs.Levels.{cons_parts, cons_same}
 use Rattle.xs_gram.proofs.Spreading.{after_longer}
 use Rattle.xs_check_laws.specs.Words.{after_own, split_own, split_words}
 use Rattle.xs_check_laws.proofs.Words.{Words, no_words, word_then}

@@ -2,13 +2,14 @@
 -- groups. Components weigh the same by whichever member they are named, and weights of stretches add
 -- up.
 use Rattle.std.proofs.Common.{◌≡◌, ℕ, suc, ◌+◌, ◌*◌, ◌≤◌, max, List, [], ◌∷◌, ◌++◌, refl, sym, ap, subst, ◌∙◌, arith}
+use Rattle.xs_class.proofs.Lists.{cons_parts}
 use Rattle.xs_gram.specs.declared.parts.GItem.{GItem}
 use Rattle.xs_gram.specs.declared.parts.GItem.TheVariants.{Fixed, Term, Non, Skip}
 use Rattle.xs_gram.specs.Grammar.{Grammar}
 use Rattle.xs_gram.specs.Laws.{IsDistinct}
 use Rattle.xs_gram.specs.Fences.{fence_symbols, IsFence, IsLevel, level_none, level_then, level_group, grouped}
 use Rattle.xs_gram.specs.Loose.{AreOne, IsMember}
-use Rattle.xs_gram.proofs.Levels.{IsOnce, cons_parts, no_group, plain_not_group, group_more, level_once}
+use Rattle.xs_gram.proofs.Levels.{IsOnce, no_group, plain_not_group, group_more, level_once}
 use Rattle.xs_check_laws.specs.Weights.{cap, capped}
 use Rattle.xs_check_laws.specs.Weights.{Members, no_member, member_next, other_next, ItemWeighs, fixed_weighs, term_weighs, skip_weighs, non_weighs, ComponentWeighs, component_weighs, RulesWeigh, no_rule_yet, rule_of_member, rule_of_other, BodyWeighs, no_body, member_then, other_then, group_then, PartWeighs, no_part, part_then, part_group, InsidesWeigh, no_inside, inside_later, inside_here}
 use Rattle.xs_check_laws.specs.Laws.{PartWeighsOnce, RuleWeighsOnce}

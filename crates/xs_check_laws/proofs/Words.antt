@@ -2,13 +2,14 @@
 use Rattle.std.proofs.Common.{◌≡◌, ℕ, zero, suc, List, [], ◌∷◌, ◌++◌, take, drop, refl, sym, ap, subst, ◌∙◌, append_assoc, true, false}
 use Rattle.std.specs.List.{concat}
 use Rattle.std.proofs.lemmas.List.Folds.{concat-append}
+use Rattle.xs_class.proofs.Lists.{cons_parts}
 use Rattle.xs_gram.specs.declared.parts.GItem.{GItem}
 use Rattle.xs_gram.specs.declared.parts.GItem.TheVariants.{Fixed, Term, Non, Skip}
 use Rattle.xs_gram.specs.Grammar.{Grammar}
 use Rattle.xs_gram.specs.Derivations.{Parts, done, fixed, leaf, skip, sub, parts_yield}
 use Rattle.xs_gram.specs.Fences.{IsLevel, level_none, level_then, level_group, grouped, is_fence, after_word, split_word, spread_items}
 use Rattle.xs_gram.specs.Loose.{LooseItem, loose_fixed, loose_term, loose_skip, loose_non, IsLoose, loose_none, loose_then, loose_group}
-use Rattle.xs_gram.proofs.Levels.{cons_parts, group_more}
+use Rattle.xs_gram.proofs.Levels.{group_more}
 use Rattle.xs_check_laws.specs.Words.{part_words, after_own, split_own, split_words}
 
 pub data Words (g : Grammar) : List GItem → List (List ℕ) → Type 0 where

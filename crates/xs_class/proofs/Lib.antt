@@ -4,6 +4,7 @@ pub mod Lists
 pub mod Members
 pub mod Merging
 pub mod Places
+pub mod Ranges
 pub mod Sets
 pub mod TableLaws
 pub mod Truth

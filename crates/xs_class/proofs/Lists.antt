@@ -1,5 +1,5 @@
 -- Lists, their elements and stretches, and what an option has.
-use Rattle.std.proofs.Common.{arith, ◌≤◌, ◌<◌, ◌+◌, ◌-◌, ◌*◌, ◌/◌, ◌≡◌, ◌∙◌, ◌⊎◌, inl, inr, ℕ, zero, suc, List, [], ◌∷◌, ◌++◌, length, length-append, get_or, take, drop, Some, refl, sym, ap, zero-add}
+use Rattle.std.proofs.Common.{arith, ◌≤◌, ◌<◌, ◌+◌, ◌-◌, ◌*◌, ◌/◌, ◌≡◌, ◌∙◌, ◌⊎◌, inl, inr, ℕ, zero, suc, List, [], ◌∷◌, ◌++◌, length, length-append, get_or, take, drop, Some, refl, sym, ap, zero-add, Vec, Global, vec_len}
 use Rattle.std.proofs.lemmas.Nat.{div-mul-add}
 use Rattle.std.proofs.lemmas.Option.{slice_get-get_or, slice_get_within, get_or_from_slice_get}
 use Rattle.std.proofs.lemmas.List.{take_more}
@@ -35,6 +35,23 @@ get_of xs x (n, lt, e) = (n, slice_get-get_or xs n x lt ∙ ap (λ y. Some y) e)
 
 pub contains_of : {X : Type 0} (xs : List X) (n : ℕ) (x : X) → slice_get xs n ≡ Some x → Contains xs x
 contains_of xs n x e = (n, slice_get_within xs n x e, get_or_from_slice_get xs n x x e)
+
+-- an element of two lists after one another
+pub get_of_two : {A : Type 0} (xs ys : List A) (k : ℕ) (x : A) → slice_get (xs ++ ys) k ≡ Some x → (slice_get xs k ≡ Some x) ⊎ ((j : ℕ) × (k ≡ length xs + j) × (slice_get ys j ≡ Some x))
+get_of_two [] ys k x e = inr (k, omega arith, e)
+get_of_two (y ∷ xs) ys zero x e = inl e
+get_of_two (y ∷ xs) ys (suc k) x e = elim (get_of_two xs ys k x e) [ inl h ↦ inl h | inr h ↦ inr (h.0, omega (arith, h.1), h.2) ]
+
+-- what two lists begin with, and what follows
+pub cons_parts : {A : Type 0} {s t : A} {u v : List A} → s ∷ u ≡ t ∷ v → (s ≡ t) × (u ≡ v)
+cons_parts e = (cc, cc)
+
+pub cons_same : {A : Type 0} {s t : A} {u v : List A} → s ≡ t → u ≡ v → s ∷ u ≡ t ∷ v
+cons_same p q = cc
+
+-- the number of a list's elements
+pub len_is : {X : Type 0} (v : Vec X Global) → vec_len v ≡ length v.items
+len_is v = omega (arith, v.ok)
 
 -- empty lists
 pub front_empty : (u v : List ℕ) → u ++ v ≡ [] → u ≡ []

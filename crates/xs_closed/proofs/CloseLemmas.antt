@@ -3,10 +3,9 @@ use Rattle.std.proofs.Common.{◌≡◌, ℕ, ◌+◌, ◌<◌, ◌≤◌, List,
 use Rattle.std.proofs.lemmas.Bool.{cases_eq}
 use Rattle.std.proofs.lemmas.Option.{slice_get_within, slice_get_read}
 use Rattle.std.specs.declared.option.Option.TheVariants.{Some}
-use Rattle.xs_class.proofs.Lists.{some_same, get_of, contains_of}
+use Rattle.xs_class.proofs.Lists.{some_same, get_of, contains_of, get_of_two}
 use Rattle.xs_auto.specs.Nets.{Graph, states}
 use Rattle.xs_meet.specs.Closed.{Marked, IsClosed}
-use Rattle.xs_meet.proofs.GainLemmas.{at_cases}
 use Rattle.xs_closed.specs.declared.pair.Pair.{Pair}
 use Rattle.xs_closed.specs.Rows.{Grid, marked}
 use Rattle.xs_closed.specs.Least.{Reach, begun, led}
@@ -57,7 +56,7 @@ goes_more L {x} {y} {z} {k} {ps} {qs} p low read before after g h = record {
     ]
 
     closed : IsClosedBelow L (k + 1) qs
-    closed i q l e c d leads = elim (at_cases ps h.longer.added i q (rw h.longer.is at e)) [
+    closed i q l e c d leads = elim (get_of_two ps h.longer.added i q (rw h.longer.is at e)) [
       | inl f ↦ elim (cases_eq i k) [
         | inl same ↦
             let one : q ≡ p = some_same _ _ _ f (rw same here) in

@@ -1,6 +1,7 @@
 -- Each loose word is spelt by a path of a net that covers: by recursion on how the word is loose.
 use Rattle.std.proofs.Common.{◌≡◌, ℕ, suc, ◌<◌, Bool, true, List, [], ◌∷◌, ◌++◌, length, refl, sym, ap, subst, ◌∙◌, append-nil}
 use Rattle.std.specs.List.{Contains}
+use Rattle.xs_class.proofs.Lists.{cons_parts}
 use Rattle.xs_auto.specs.Nets.{Graph, Walks, calls_of}
 use Rattle.xs_auto.specs.Nests.{Group, Crossing, stands, enters}
 use Rattle.xs_meet.proofs.WalkLemmas.{crosses_on, walk_crosses}
@@ -9,7 +10,7 @@ use Rattle.xs_gram.specs.declared.parts.GItem.TheVariants.{Fixed, Term, Non, Ski
 use Rattle.xs_gram.specs.Grammar.{Grammar, IsRuleOf, rule_of}
 use Rattle.xs_gram.specs.Fences.{spread, IsLevel, OuterAt, GroupAt}
 use Rattle.xs_gram.specs.Loose.{Spot, entry, exit, at, Reaches, here as at_once, onward, AreOne, LooseItem, loose_fixed, loose_term, loose_skip, loose_non, IsLoose, loose_none, loose_then, loose_group, Step, begins, passes, encloses, calls, ends, returns, Walk, stays, goes}
-use Rattle.xs_gram.proofs.Levels.{cons_parts, no_group, plain_not_group, level_once}
+use Rattle.xs_gram.proofs.Levels.{no_group, plain_not_group, level_once}
 use Rattle.xs_check_laws.proofs.Words.{loose_level}
 use Rattle.xs_stretch.specs.Parts.{IsStretch}
 use Rattle.xs_coarse.specs.Covers.{call_of, CoversFrom, CoversItem, CoversPart, covers_none, covers_then, covers_group}

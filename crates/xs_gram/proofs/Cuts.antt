@@ -5,6 +5,7 @@ use Rattle.std.proofs.lemmas.Bool.{cases_lt}
 use Rattle.std.specs.declared.option.Option.{Option}
 use Rattle.std.specs.List.{slice_range}
 use Rattle.std.proofs.Math.Seq.{take-append_seam, drop-append_seam}
+use Rattle.xs_class.proofs.Lists.{cons_parts, cons_same}
 use Rattle.xs_gram.specs.declared.parts.GItem.{GItem}
 use Rattle.xs_gram.specs.declared.parts.GItem.TheVariants.{Fixed}
 use Rattle.xs_gram.specs.Grammar.{Grammar}
@@ -13,7 +14,7 @@ use Rattle.xs_gram.specs.Sound.{IsProper}
 use Rattle.xs_gram.specs.Fences.{fence_symbols, spread, IsFence, grouped, IsLevel, level_none, level_then, level_group, IsPartner, IsCut, cut_here, cut_inside}
 use Rattle.xs_gram.specs.Spreading.{partners}
 use Rattle.xs_gram.specs.Cuts.{ReachesTo, IsRound, HasNoRound, CutsAt, HasOneCut, CutsAreOne}
-use Rattle.xs_gram.proofs.Levels.{cons_parts, cons_same, group_split, level_append}
+use Rattle.xs_gram.proofs.Levels.{group_split, level_append}
 use Rattle.xs_gram.proofs.Partners.{partner_once, partner_listed, partner_in, partner_kept, partners_long}
 
 -- what stands before the front and after the rest: nothing, or all up to a left fence and all from

@@ -1,16 +1,11 @@
 -- Level stretches: they join, a group's end is found in one way, and what stands in no group.
 use Rattle.std.proofs.Common.{◌≡◌, ◌⊎◌, inl, inr, ℕ, suc, ◌+◌, ◌<◌, List, [], ◌∷◌, ◌++◌, length, refl, sym, ap, ◌∙◌, subst, arith, append_assoc, length-append, drop, drop_at, slice_get, Some}
+use Rattle.xs_class.proofs.Lists.{cons_parts, cons_same}
 use Rattle.xs_gram.specs.declared.parts.GItem.{GItem}
 use Rattle.xs_gram.specs.declared.parts.GItem.TheVariants.{Fixed}
 use Rattle.xs_gram.specs.Laws.{IsDistinct}
 use Rattle.xs_gram.specs.Fences.{fence_symbols, IsFence, IsPlain, grouped, IsLevel, level_none, level_then, level_group, OuterAt, GroupAt}
 use Rattle.xs_gram.proofs.Fences.{left_not_plain, right_not_plain, sides_apart}
-
-pub cons_parts : {A : Type 0} {s t : A} {u v : List A} → s ∷ u ≡ t ∷ v → (s ≡ t) × (u ≡ v)
-cons_parts e = (cc, cc)
-
-pub cons_same : {A : Type 0} {s t : A} {u v : List A} → s ≡ t → u ≡ v → s ∷ u ≡ t ∷ v
-cons_same p q = cc
 
 pub fixed_one : {l m : ℕ} → Fixed (l ∷ []) ≡ Fixed (m ∷ []) → l ≡ m
 fixed_one e = cc

@@ -1,7 +1,8 @@
 -- The partners that are found are the right fences that close the left ones.
-use Rattle.std.proofs.Common.{◌≡◌, ◌⊎◌, inl, inr, ◌↔◌, ℕ, zero, suc, ◌+◌, ◌<◌, ◌≤◌, List, [], ◌∷◌, ◌++◌, length, refl, sym, ap, subst, ◌∙◌, arith, append_assoc, append-nil, length-append, get_or, true, false, Bool, None, Some, IfSome, slice_get, slice_index_or}
+use Rattle.std.proofs.Common.{◌≡◌, inl, inr, ◌↔◌, ℕ, zero, suc, ◌+◌, ◌<◌, ◌≤◌, List, [], ◌∷◌, ◌++◌, length, refl, sym, ap, subst, ◌∙◌, arith, append_assoc, append-nil, length-append, get_or, true, false, Bool, None, Some, IfSome, slice_get, slice_index_or}
 use Rattle.std.specs.declared.option.Option.{Option}
 use Rattle.std.proofs.lemmas.Option.{slice_get-get_or, slice_get_within, get_or_from_slice_get}
+use Rattle.xs_class.proofs.Lists.{get_of_two}
 use Rattle.xs_class.proofs.Truth.{or_false, if_true, if_false}
 use Rattle.xs_gram.specs.declared.parts.GItem.{GItem}
 use Rattle.xs_gram.specs.declared.parts.GItem.TheVariants.{Fixed, Term, Non, Skip}
@@ -83,12 +84,6 @@ pub split_at : {A : Type 0} (xs : List A) (k : ℕ) (x : A) → slice_get xs k �
 split_at [] k x e = absurd cc
 split_at (y ∷ xs) zero x e = ([], xs, ap (λ z. z ∷ xs) (some_one e), refl)
 split_at (y ∷ xs) (suc k) x e = let h = split_at xs k x e in (y ∷ h.0, h.1, ap (λ z. y ∷ z) h.2, ap suc h.3)
-
--- an item of two lists after one another
-get_of_two : {A : Type 0} (xs ys : List A) (k : ℕ) (x : A) → slice_get (xs ++ ys) k ≡ Some x → (slice_get xs k ≡ Some x) ⊎ ((j : ℕ) × (k ≡ length xs + j) × (slice_get ys j ≡ Some x))
-get_of_two [] ys k x e = inr (k, omega arith, e)
-get_of_two (y ∷ xs) ys zero x e = inl e
-get_of_two (y ∷ xs) ys (suc k) x e = elim (get_of_two xs ys k x e) [ inl h ↦ inl h | inr h ↦ inr (h.0, omega (arith, h.1), h.2) ]
 
 -- a partner stays one inside a longer stretch
 pub group_within : {fs : List (ℕ × ℕ)} {is : List GItem} {k m l : ℕ} {inside : List GItem} {r : ℕ} (front back : List GItem) → GroupAt fs is k m l inside r → GroupAt fs (front ++ (is ++ back)) (length front + k) (length front + m) l inside r

@@ -2,13 +2,14 @@
 -- are light has no heavy one.
 use Rattle.std.proofs.Common.{◌≡◌, ℕ, suc, ◌+◌, ◌<◌, ◌≤◌, List, [], ◌∷◌, ◌++◌, length, drop, refl, sym, ap, subst, ◌∙◌, arith, append_assoc, Some, slice_get}
 use Rattle.std.proofs.Math.Seq.{drop-append_seam}
+use Rattle.xs_class.proofs.Lists.{cons_parts, cons_same}
 use Rattle.xs_gram.specs.declared.parts.GItem.{GItem}
 use Rattle.xs_gram.specs.declared.parts.GItem.TheVariants.{Fixed}
 use Rattle.xs_gram.specs.Grammar.{Grammar}
 use Rattle.xs_gram.specs.Fences.{spread, IsFence, IsLevel, level_none, level_then, level_group, grouped, IsCut, cut_here, cut_inside}
 use Rattle.xs_gram.specs.Sound.{IsBuilt}
 use Rattle.xs_gram.proofs.Fences.{is_left_of, sides_apart}
-use Rattle.xs_gram.proofs.Levels.{cons_parts, cons_same, fixed_one, no_group, plain_not_group, group_more, group_opened, level_append, level_once}
+use Rattle.xs_gram.proofs.Levels.{fixed_one, no_group, plain_not_group, group_more, group_opened, level_append, level_once}
 use Rattle.xs_gram.proofs.Partners.{has_partner}
 use Rattle.xs_gram.proofs.Cuts.{cut_level}
 use Rattle.xs_check_laws.specs.Weights.{heaviest, capped, PartWeighs, no_part, part_then, part_group, ItemWeighs, InsidesWeigh, no_inside, inside_later, inside_here}

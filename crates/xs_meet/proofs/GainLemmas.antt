@@ -7,19 +7,13 @@ use Rattle.std.proofs.lemmas.Bool.{cases_eq, true≢false, false≢true}
 use Rattle.std.proofs.lemmas.List.{take_more, take_all}
 use Rattle.std.proofs.lemmas.List.Elements.{Contains-append_left, Contains-push, Contains-push_cases}
 use Rattle.xs_class.specs.Classes.{Has}
-use Rattle.xs_class.proofs.Lists.{get_left, get_last, one_cell}
+use Rattle.xs_class.proofs.Lists.{get_left, get_last, one_cell, get_of_two}
 use Rattle.xs_auto.specs.declared.call.Call.{Call}
 use Rattle.xs_auto.specs.Edges.{Edge}
 use Rattle.xs_meet.specs.declared.reached_pair.ReachedPair.{ReachedPair}
 use Rattle.xs_meet.specs.declared.layer.Layer.{Layer}
 use Rattle.xs_auto.specs.Marks.{Marks, IsMarked}
 use Rattle.xs_meet.specs.Searches.{step, IsFound, Among, Meets, Joins, Gains, KeepsArea, Extends, Fits}
-
--- what stands in a list stands there when more is added, and what stands in the longer list is old or added
-pub at_cases : {X : Type 0} (xs ys : List X) (k : ℕ) (x : X) → slice_get (xs ++ ys) k ≡ Some x → (slice_get xs k ≡ Some x) ⊎ ((j : ℕ) × (k ≡ length xs + j) × (slice_get ys j ≡ Some x))
-at_cases [] ys k x e = inr (k, omega arith, e)
-at_cases (y ∷ xs) ys zero x e = inl e
-at_cases (y ∷ xs) ys (suc k) x e = elim (at_cases xs ys k x e) [ inl h ↦ inl h | inr h ↦ inr (h.0, omega (arith, h.1), h.2) ]
 
 -- a list of one element has no other
 pub at_only : {X : Type 0} (x : X) (k : ℕ) (y : X) → slice_get (x ∷ []) k ≡ Some y → (k ≡ 0) × (y ≡ x)
@@ -33,7 +27,7 @@ pub gains_then : (R S : ReachedPair → Type 0) {xs ys zs : List ReachedPair} �
 gains_then R S {xs} {ys} {zs} g h = record {
   added = g.added ++ h.added;
   is = h.is ∙ ap (λ us. us ++ h.added) g.is ∙ append_assoc xs g.added h.added;
-  each = λ k s e. elim (at_cases g.added h.added k s e) [ inl f ↦ inl (g.each k s f) | inr f ↦ inr (h.each f.0 s f.2) ];
+  each = λ k s e. elim (get_of_two g.added h.added k s e) [ inl f ↦ inl (g.each k s f) | inr f ↦ inr (h.each f.0 s f.2) ];
   there = λ s r. elim r [ inl a ↦ rw h.is (found_more h.added (g.there s a)) | inr b ↦ h.there s b ];
 }
 
@@ -120,7 +114,7 @@ pub fits_new : (l m : Layer) (p q : Marks) (s : ReachedPair) (cell : ℕ) → Fi
 fits_new l m p q s cell f a b c marked area is = record {
   map = rw area.map f.map;
   room = rw (area.height, area.width, marked.cells) f.room;
-  in_range = λ k t e. elim (at_cases l.steps.items (s ∷ []) k t (rw is at e)) [
+  in_range = λ k t e. elim (get_of_two l.steps.items (s ∷ []) k t (rw is at e)) [
     | inl h ↦ rw (area.height, area.width) (f.in_range k t h)
     | inr h ↦ rw ((at_only s h.0 t h.2).1, area.height, area.width) (a, b)
   ];

@@ -2,6 +2,7 @@
 use Rattle.std.proofs.Common.{◌≡◌, ℕ, ◌<◌, List, [], ◌∷◌, ◌++◌, length, refl, sym, ap, ◌∙◌, append_assoc, inl, inr, arith, true}
 use Rattle.std.specs.List.{Contains}
 use Rattle.std.specs.declared.option.Option.TheVariants.{Some}
+use Rattle.xs_class.proofs.Lists.{cons_parts, cons_same}
 use Rattle.xs_class.specs.Classes.{Has}
 use Rattle.xs_auto.specs.declared.call.Call.{Call}
 use Rattle.xs_auto.specs.Edges.{Edge}
@@ -9,12 +10,6 @@ use Rattle.xs_auto.specs.Nets.{Graph, edges_of, calls_of, final_at}
 use Rattle.xs_auto.specs.Nests.{Group, IsGroup, Crossing, stands, drifts, takes, enters, IsPlain, IsTame, IsFenced, HaveOneFence}
 use Rattle.xs_meet.specs.Closed.{Drifts, Strides, Leads, IsClosed, LeadsInto, IsApart, IsClear, Marked, IsSettled}
 use Rattle.xs_meet.specs.Shared.{IsSharedOver, AreOverlapOver}
-
-cons_parts : {A : Type 0} {s t : A} {u v : List A} → s ∷ u ≡ t ∷ v → (s ≡ t) × (u ≡ v)
-cons_parts e = (cc, cc)
-
-cons_same : {A : Type 0} {s t : A} {u v : List A} → s ≡ t → u ≡ v → s ∷ u ≡ t ∷ v
-cons_same p q = cc
 
 group_same : {l m r s : ℕ} {u v x y : List ℕ} → l ≡ m → u ≡ v → r ≡ s → x ≡ y → l ∷ (u ++ r ∷ x) ≡ m ∷ (v ++ s ∷ y)
 group_same p q r s = cc

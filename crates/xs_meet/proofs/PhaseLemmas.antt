@@ -5,7 +5,7 @@ use Rattle.xs_class.proofs.Truth.{and_true, both_true, or_left, or_right, eq_sel
 use Rattle.std.specs.declared.option.Option.TheVariants.{Some}
 use Rattle.std.proofs.lemmas.Bool.{cases_eq}
 use Rattle.std.proofs.lemmas.Option.{slice_get-get_or}
-use Rattle.xs_class.proofs.Lists.{some_same, some_inj}
+use Rattle.xs_class.proofs.Lists.{some_same, some_inj, get_of_two}
 use Rattle.xs_meet.specs.declared.reached_pair.ReachedPair.{ReachedPair}
 use Rattle.xs_meet.specs.declared.layer.Layer.{Layer}
 use Rattle.xs_auto.specs.Marks.{Marks}
@@ -14,7 +14,7 @@ use Rattle.xs_meet.specs.Searches.{step, IsAt, IsFound, Gains, Extends, Fits, Is
 use Rattle.xs_meet.specs.declared.trace.Trace.{Trace}
 use Rattle.xs_meet.specs.Closed.{HasNoFinals, AreApart}
 use Rattle.xs_meet.specs.Traces.{IsSeeded, IsRoot, IsTurns, IsTrace, ArePieces}
-use Rattle.xs_meet.proofs.GainLemmas.{at_cases, area_then, extends_as}
+use Rattle.xs_meet.proofs.GainLemmas.{area_then, extends_as}
 use Rattle.xs_meet.proofs.SpreadLemmas.{same_step, longer_found}
 
 -- a layer that fits is in range
@@ -29,7 +29,7 @@ gained R xs ys none g k s e = g.each k s (rw (g.is ∙ ap (λ us. us ++ g.added)
 pub closed_seeds : (R : ℕ → ℕ → Type 0) (m n : Graph) (S : ReachedPair → Type 0) (k l o : Layer) (p : Marks) → IsFor m n k → k.steps.items ≡ [] → Extends S k l → Fits o p → Closes R m n l o → IsSeeded R m n S o
 closed_seeds R m n S k l o p nets none g f c = record {
   range = in_area m n k o p nets (area_then g.area c.area) f;
-  seeded = λ i s low e. elim (at_cases l.steps.items c.longer.added i s (rw c.longer.is at e)) [
+  seeded = λ i s low e. elim (get_of_two l.steps.items c.longer.added i s (rw c.longer.is at e)) [
     | inl h ↦ gained S k.steps.items l.steps.items none g.gains i s h
     | inr h ↦ absurd (omega (arith, low, h.1, c.seeds))
   ];

@@ -2,7 +2,7 @@
 use Rattle.std.proofs.Common.{◌≡◌, ℕ, ◌+◌, ◌<◌, ◌≤◌, ◌⊎◌, List, [], ◌++◌, length, get_or, length-append, refl, sym, ap, ◌∙◌, inl, inr, arith, append_assoc, append-nil}
 use Rattle.std.proofs.lemmas.Bool.{cases_eq}
 use Rattle.std.proofs.lemmas.Option.{slice_get_within, slice_get_read}
-use Rattle.xs_class.proofs.Lists.{some_same, get_left}
+use Rattle.xs_class.proofs.Lists.{some_same, get_left, get_of_two}
 use Rattle.xs_auto.specs.declared.call.Call.{Call}
 use Rattle.xs_auto.specs.Edges.{Edge}
 use Rattle.xs_meet.specs.declared.reached_pair.ReachedPair.{ReachedPair}
@@ -11,7 +11,7 @@ use Rattle.xs_auto.specs.Marks.{Marks}
 use Rattle.xs_auto.specs.Nets.{Graph, edges_of, moves_of, calls_of, states, rests}
 use Rattle.xs_meet.specs.Closed.{IsClosed}
 use Rattle.xs_meet.specs.Searches.{step, IsAt, IsFound, Among, Meets, Joins, DriftsFrom, StridesFrom, LeadsFrom, Gains, KeepsArea, Extends, Fits, IsFor, IsChained, IsClosedBelow, IsLonger, IsDrifted}
-use Rattle.xs_meet.proofs.GainLemmas.{at_cases, found_more, extends_then, extends_as}
+use Rattle.xs_meet.proofs.GainLemmas.{found_more, extends_then, extends_as}
 use Rattle.xs_meet.proofs.WalkLemmas.{walks_pass}
 
 pub same_step : (s : ReachedPair) (a b from : ℕ) → s.first ≡ a → s.second ≡ b → s.from ≡ from → s ≡ step a b from
@@ -103,7 +103,7 @@ closed_none L xs i s l = absurd (omega arith)
 
 -- what was added comes from the step at place k
 pub chained_more : (R : ℕ → ℕ → Type 0) {m n : Graph} {seeds k : ℕ} {xs ys : List ReachedPair} (s : ReachedPair) → IsAt xs k s → IsChained R m n seeds xs → Gains (LeadsFrom R m n s.first s.second k) xs ys → IsChained R m n seeds ys
-chained_more R {m} {n} {seeds} {k} {xs} {ys} s here chained g i t l e = elim (at_cases xs g.added i t (rw g.is at e)) [
+chained_more R {m} {n} {seeds} {k} {xs} {ys} s here chained g i t l e = elim (get_of_two xs g.added i t (rw g.is at e)) [
   | inl h ↦
       let c = chained i t l h in
       record { earlier = c.earlier; parent = c.parent; at = rw g.is (get_left xs g.added t.from c.parent c.at); leads = c.leads }
@@ -117,7 +117,7 @@ chained_more R {m} {n} {seeds} {k} {xs} {ys} s here chained g i t l e = elim (at
 pub closed_more : (L : ℕ → ℕ → ℕ → ℕ → Type 0) {k : ℕ} {xs ys : List ReachedPair} (s : ReachedPair) → IsAt xs k s → IsClosedBelow L k xs → IsLonger xs ys → ((c d : ℕ) → L s.first s.second c d → IsFound ys c d) → IsClosedBelow L (k + 1) ys
 closed_more L {k} {xs} {ys} s here closed more there i t l e c d leads =
     let w = slice_get_within xs k s here in
-    elim (at_cases xs more.added i t (rw more.is at e)) [
+    elim (get_of_two xs more.added i t (rw more.is at e)) [
       | inl h ↦ elim (cases_eq i k) [
         | inl same ↦
             let one : t ≡ s = some_same _ _ _ h (rw same here) in
@@ -137,7 +137,7 @@ pub drifted_none : (m n : Graph) (xs : List ReachedPair) (k : ℕ) (s : ReachedP
 drifted_none m n xs k s e = record { place = k; seed = s; at = e; from = refl; first = rests; second = rests }
 
 pub drifted_more : {m n : Graph} {us xs ys : List ReachedPair} (k : ℕ) (s : ReachedPair) → IsAt xs k s → ((i : ℕ) (t : ReachedPair) → IsAt xs i t → IsDrifted m n us t) → Gains (DriftsFrom m n s.first s.second s.from) xs ys → (i : ℕ) (t : ReachedPair) → IsAt ys i t → IsDrifted m n us t
-drifted_more {m} {n} {us} {xs} {ys} k s here drifted g i t e = elim (at_cases xs g.added i t (rw g.is at e)) [
+drifted_more {m} {n} {us} {xs} {ys} k s here drifted g i t e = elim (get_of_two xs g.added i t (rw g.is at e)) [
   | inl h ↦ drifted i t h
   | inr h ↦
       let r = g.each h.0 t h.2 in

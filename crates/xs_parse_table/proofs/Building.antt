@@ -1,5 +1,5 @@
 -- Rows of moves, as they are appended.
-use Rattle.std.proofs.Common.{◌≡◌, ◌≢◌, ◌∙◌, ◌⊎◌, ℕ, zero, suc, ◌+◌, ◌-◌, ◌*◌, ◌<◌, ◌≤◌, Bool, List, [], ◌∷◌, ◌++◌, length, get_or, Some, None, refl, sym, ap, subst, inl, inr, arith, append_assoc, length-append, Vec, Global, vec_len}
+use Rattle.std.proofs.Common.{◌≡◌, ◌≢◌, ◌∙◌, ◌⊎◌, ℕ, zero, suc, ◌+◌, ◌-◌, ◌*◌, ◌<◌, ◌≤◌, Bool, List, [], ◌∷◌, ◌++◌, length, get_or, Some, None, refl, sym, ap, subst, inl, inr, arith, append_assoc, length-append}
 use Rattle.std.proofs.Math.ListN.{get_or-append}
 use Rattle.std.proofs.Math.Nat.{mul-le-mul_left}
 use Rattle.std.proofs.Math.Seq.{get_or-append_seam}
@@ -196,9 +196,6 @@ starts_more p a cells new starts more n q start len e l before same here t s h a
       where
         of_some_number : (x y : ℕ) → Some x ≡ Some y → x ≡ y
         of_some_number x y e = cc
-
-pub len_is : {X : Type 0} (v : Vec X Global) → vec_len v ≡ length v.items
-len_is v = omega (arith, v.ok)
 
 pub marked_within : (flags : List Bool) (k : ℕ) → Marked flags k → k < length flags
 marked_within [] k m = cc

@@ -10,7 +10,6 @@ pub mod Links
 pub mod Meanings
 pub mod Merging
 pub mod Names
-pub mod OneClass
 pub mod Passed
 pub mod Patterns
 pub mod Places

@@ -1,12 +1,12 @@
 -- The regexes of one tree have one shape, and the same classes.
 use Rattle.std.proofs.Common.{◌≡◌, ◌∙◌, ℕ, true, List, [], ◌∷◌, refl, sym, ap, subst}
+use Rattle.xs_class.proofs.Ranges.{one_class}
 use Rattle.xs_regex.specs.declared.regex.Regex.{Regex}
 use Rattle.xs_regex.specs.declared.regex.Regex.TheVariants.{Empty, Set, Then', Or', Star', Times'}
 use Rattle.xs_regex.specs.Links.{Shape, bare_of, place, turn, choice, once_or_more, at_most_once, as_often, shape}
 use Rattle.xs_regex.specs.Meaning.{Means, IsPatternOf}
 use Rattle.xs_regex.specs.Pattern.{Tree, nothing, class, both, either, any, times}
 use Rattle.xs_regex.specs.Size.{sets}
-use Rattle.xs_regex.proofs.OneClass.{one_class}
 use Rattle.xs_regex.proofs.Readings.{same_reading}
 
 -- the shape of the regexes of a tree

@@ -1,12 +1,13 @@
 -- Laid items, taken apart at their front.
 use Rattle.std.proofs.Common.{◌≡◌, ℕ, suc, ◌+◌, List, ◌∷◌, ◌++◌, length, refl, sym, subst, ◌∙◌, None, Some, Option}
+use Rattle.xs_class.proofs.Lists.{cons_parts}
 use Rattle.xs_gram.specs.declared.parts.GItem.{GItem}
 use Rattle.xs_gram.specs.declared.parts.GItem.TheVariants.{Non}
 use Rattle.xs_gram.specs.Grammar.{Grammar}
 use Rattle.xs_gram.specs.Laws.{IsDistinct}
 use Rattle.xs_gram.specs.Fences.{fence_symbols, IsFence, IsPlain, IsLevel, grouped}
 use Rattle.xs_gram.specs.Loose.{AreOne, IsMember}
-use Rattle.xs_gram.proofs.Levels.{cons_parts, no_group, plain_not_group}
+use Rattle.xs_gram.proofs.Levels.{no_group, plain_not_group}
 use Rattle.xs_check_laws.specs.Weights.{Members}
 use Rattle.xs_stretch.specs.declared.site.Home.{Home}
 use Rattle.xs_stretch.specs.declared.site.Spot.{Spot}

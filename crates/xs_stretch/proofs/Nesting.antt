@@ -3,7 +3,7 @@ use Rattle.std.proofs.Common.{◌≡◌, ◌⊎◌, ℕ, suc, ◌+◌, ◌-◌, 
 use Rattle.std.proofs.lemmas.Bool.{cases_eq}
 use Rattle.std.proofs.lemmas.List.{drop_at, take_at, take_all}
 use Rattle.std.proofs.lemmas.Option.{slice_get-get_or, get_or_from_slice_get, same_Some}
-use Rattle.xs_class.proofs.Lists.{get_push, get_last, get_left}
+use Rattle.xs_class.proofs.Lists.{get_push, get_last, get_left, cons_parts}
 use Rattle.xs_auto.specs.Nests.{Group, IsGroup}
 use Rattle.xs_gram.specs.declared.parts.GItem.{GItem}
 use Rattle.xs_gram.specs.declared.parts.GItem.TheVariants.{Fixed}
@@ -12,7 +12,7 @@ use Rattle.xs_gram.specs.Laws.{IsDistinct}
 use Rattle.xs_gram.specs.Fences.{fence_symbols, spread, grouped, IsLevel, GroupAt, IsPartner, IsLeftFence}
 use Rattle.xs_gram.specs.Sound.{IsBuilt}
 use Rattle.xs_gram.proofs.Fences.{is_left_of}
-use Rattle.xs_gram.proofs.Levels.{cons_parts, fixed_one, level_once, group_opened}
+use Rattle.xs_gram.proofs.Levels.{fixed_one, level_once, group_opened}
 use Rattle.xs_check_laws.specs.Acceptance.{IsBefore}
 use Rattle.xs_check_laws.specs.Weights.{PartWeighs}
 use Rattle.xs_stretch.specs.declared.part.Part.{Part}

@@ -1,12 +1,13 @@
 -- A stretch is laid in one way: the arcs, the state after it and the next free one are fixed.
 use Rattle.std.proofs.Common.{◌≡◌, ℕ, suc, ◌+◌, ◌*◌, List, [], ◌∷◌, ◌++◌, length, refl, sym, ap, subst, ◌∙◌}
+use Rattle.xs_class.proofs.Lists.{cons_parts}
 use Rattle.xs_gram.specs.declared.parts.GItem.{GItem}
 use Rattle.xs_gram.specs.declared.parts.GItem.TheVariants.{Fixed, Non}
 use Rattle.xs_gram.specs.Grammar.{Grammar}
 use Rattle.xs_gram.specs.Laws.{IsDistinct}
 use Rattle.xs_gram.specs.Fences.{fence_symbols, spread}
 use Rattle.xs_gram.specs.Loose.{IsMember}
-use Rattle.xs_gram.proofs.Levels.{cons_parts, no_group, plain_not_group}
+use Rattle.xs_gram.proofs.Levels.{no_group, plain_not_group}
 use Rattle.xs_check_laws.specs.Weights.{Members}
 use Rattle.xs_check_laws.proofs.Weights.{members_once, groups_once}
 use Rattle.xs_stretch.specs.Arcs.{Arc, pass, call}

@@ -1,12 +1,13 @@
 -- What a level stretch begins with: a group, or a plain item.
 use Rattle.std.proofs.Common.{◌≡◌, ℕ, suc, ◌+◌, ◌<◌, List, [], ◌∷◌, ◌++◌, length, drop, get_or, sym, ap, subst, ◌∙◌, arith, Some}
 use Rattle.std.proofs.lemmas.Option.{slice_get-get_or}
+use Rattle.xs_class.proofs.Lists.{cons_parts}
 use Rattle.xs_gram.specs.declared.parts.GItem.{GItem}
 use Rattle.xs_gram.specs.declared.parts.GItem.TheVariants.{Fixed}
 use Rattle.xs_gram.specs.Laws.{IsDistinct}
 use Rattle.xs_gram.specs.Fences.{fence_symbols, IsFence, IsPlain, IsLevel, level_none, level_then, level_group, grouped, IsPartner, IsLeftFence}
 use Rattle.xs_gram.proofs.Fences.{is_left_of}
-use Rattle.xs_gram.proofs.Levels.{cons_parts, plain_not_group, group_more, level_once, level_first, group_opened}
+use Rattle.xs_gram.proofs.Levels.{plain_not_group, group_more, level_once, level_first, group_opened}
 use Rattle.xs_gram.proofs.Building.{drop_next}
 
 -- the stretch, which stands from item k on, begins with a group whose right fence is item m

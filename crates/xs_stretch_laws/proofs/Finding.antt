@@ -1,6 +1,7 @@
 -- Where the items and groups of rules are found in how a component is laid.
-use Rattle.std.proofs.Common.{◌≡◌, ◌⊎◌, ℕ, zero, suc, ◌+◌, ◌-◌, ◌<◌, ◌≤◌, ◌==◌, eqb-true, Bool, true, false, if◌then◌else◌, List, [], ◌∷◌, ◌++◌, length, refl, sym, ap, subst, ◌∙◌, inl, inr, arith, length-append}
+use Rattle.std.proofs.Common.{◌≡◌, ◌⊎◌, ℕ, zero, suc, ◌+◌, ◌-◌, ◌<◌, ◌≤◌, ◌==◌, eqb-true, Bool, true, false, List, [], ◌∷◌, ◌++◌, length, refl, sym, ap, subst, ◌∙◌, inl, inr, arith, length-append, if◌then◌else◌}
 use Rattle.std.proofs.lemmas.Bool.{cases_lt}
+use Rattle.xs_class.proofs.Lists.{cons_parts}
 use Rattle.xs_class.proofs.Truth.{false_true, eq_self, if_true, if_false}
 use Rattle.xs_stretch_laws.proofs.Among.{Among}
 use Rattle.xs_gram.specs.declared.parts.GItem.{GItem}
@@ -9,7 +10,7 @@ use Rattle.xs_gram.specs.Grammar.{Grammar, rule_of}
 use Rattle.xs_gram.specs.Laws.{IsDistinct}
 use Rattle.xs_gram.specs.Fences.{fence_symbols, spread, IsFence, IsPlain, IsLevel, level_none, level_then, level_group, grouped, OuterAt, GroupAt, OuterGroupAt}
 use Rattle.xs_gram.specs.Loose.{AreOne, IsMember}
-use Rattle.xs_gram.proofs.Levels.{cons_parts, no_group, plain_not_group, group_more, level_tail, level_once, outer_none, outer_then, outer_group, group_opened}
+use Rattle.xs_gram.proofs.Levels.{no_group, plain_not_group, group_more, level_tail, level_once, outer_none, outer_then, outer_group, group_opened}
 use Rattle.xs_check_laws.specs.Weights.{Members, no_member, member_next, other_next}
 use Rattle.xs_stretch.specs.Arcs.{Arc, pass, call}
 use Rattle.xs_stretch.specs.Groups.{group_number}

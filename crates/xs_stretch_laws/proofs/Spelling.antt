@@ -1,5 +1,6 @@
 -- Each loose word is spelt by a path of the net: by recursion on how the word is loose.
 use Rattle.std.proofs.Common.{◌≡◌, ℕ, suc, ◌+◌, ◌<◌, ◌≤◌, List, [], ◌∷◌, ◌++◌, length, refl, sym, ap, subst, ◌∙◌, arith, append_assoc, append-nil, length-append, Some, slice_get}
+use Rattle.xs_class.proofs.Lists.{cons_parts}
 use Rattle.xs_auto.specs.Nets.{Graph}
 use Rattle.xs_auto.specs.Nests.{Group, AcceptsNested}
 use Rattle.xs_gram.specs.declared.parts.GItem.{GItem}
@@ -9,7 +10,7 @@ use Rattle.xs_gram.specs.Sound.{IsBuilt}
 use Rattle.xs_gram.specs.Building.{NamesAreThere}
 use Rattle.xs_gram.specs.Fences.{spread, IsFence, IsLevel, grouped, OuterAt, GroupAt}
 use Rattle.xs_gram.specs.Loose.{Spot, entry, exit, at, AreOne, IsMember, LooseItem, loose_fixed, loose_term, loose_skip, loose_non, IsLoose, loose_none, loose_then, loose_group, Step, begins, passes, encloses, calls, ends, returns, Walk, stays, goes}
-use Rattle.xs_gram.proofs.Levels.{cons_parts, no_group, plain_not_group, group_more, group_split, length_grouped, level_once, outer_at}
+use Rattle.xs_gram.proofs.Levels.{no_group, plain_not_group, group_more, group_split, length_grouped, level_once, outer_at}
 use Rattle.xs_gram.proofs.Spreading.{spread_names}
 use Rattle.xs_check_laws.specs.Weights.{Members}
 use Rattle.xs_check_laws.proofs.Words.{loose_level}

@@ -1,6 +1,6 @@
 use Rattle.std.proofs.Common.{◌≡◌, ◌∙◌, length, refl}
+use Rattle.xs_class.proofs.Lists.{len_is}
 use Rattle.xs_atoms.proofs.Paging.{page_of_same, same_at, whole_set, whole_stays, whole_is}
-use Rattle.xs_atoms.proofs.Rows.{len_is}
 use Rattle.xs_atoms.proofs.pages.page.Goals as goal
 
 pub returns-then-place-whole-clause-page : goal.returns-then-place-whole-clause-page

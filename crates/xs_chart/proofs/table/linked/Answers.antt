@@ -1,7 +1,8 @@
 use Rattle.std.proofs.Common.{◌<◌, length, get_or, take, arith, length-set}
 use Rattle.std.proofs.lemmas.List.{take_more, length-take-le}
+use Rattle.xs_class.proofs.Lists.{len_is}
 use Rattle.xs_chart.specs.declared.item.Item.{Item}
-use Rattle.xs_chart.proofs.Linking.{len_is, linked_more, slot_within}
+use Rattle.xs_chart.proofs.Linking.{linked_more, slot_within}
 use Rattle.xs_chart.proofs.table.linked.Goals as goal
 
 pub link-requires-clause-room : goal.link-requires-clause-room

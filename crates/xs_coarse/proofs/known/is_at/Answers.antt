@@ -1,6 +1,6 @@
 use Rattle.std.proofs.Common.{◌∙◌, ℕ, List, length, Some, refl, sym, ap}
 use Rattle.std.proofs.lemmas.Option.{slice_get_read}
-use Rattle.xs_auto.proofs.LayoutLemmas.{same_ranges}
+use Rattle.xs_class.proofs.Ranges.{same_ranges}
 use Rattle.xs_coarse.proofs.known.is_at.Goals as goal
 
 pub returns-then-place-classes : goal.returns-then-place-classes

@@ -1,8 +1,8 @@
-use Rattle.std.proofs.Common.{◌≡◌, ◌≢◌, ◌<◌, ◌++◌, [], ◌∷◌, List, Bool, false, replicate, inl, inr, rules, ℕ, suc, length, sym, ◌∙◌, ap, subst, arith, Vec, Global, vec_len}
+use Rattle.std.proofs.Common.{◌≡◌, ◌≢◌, ◌<◌, ◌++◌, [], ◌∷◌, List, Bool, false, replicate, inl, inr, rules, ℕ, suc, length, sym, ◌∙◌, ap, subst, arith}
 use Rattle.std.specs.Prelude.{Contains, slice_index_or}
 use Rattle.std.proofs.lemmas.Bool.{cases_lt}
 use Rattle.std.proofs.lemmas.List.{get_or-replicate, get_or_past, length-replicate}
-use Rattle.xs_class.proofs.Lists.{one_longer}
+use Rattle.xs_class.proofs.Lists.{one_longer, len_is}
 use Rattle.xs_chart.specs.declared.item.Item.{Item}
 use Rattle.xs_chart.specs.Charted.{items_of, waiting_of}
 use Rattle.xs_earley.specs.Adding.{Puts, AreCalled}
@@ -11,9 +11,6 @@ use Rattle.xs_earley.specs.Waiting.{WaitsBelow}
 use Rattle.xs_earley.proofs.Predicting.{called_none}
 use Rattle.xs_earley.proofs.Steppings.{next_open, next_unbegun, next_waits, next_run, push_taken, keeps_before}
 use Rattle.xs_earley.proofs.stage.next_set.Goals as goal
-
-len_is : {X : Type 0} (v : Vec X Global) → vec_len v ≡ length v.items
-len_is v = omega (arith, v.ok)
 
 pub close-requires-clause-open : goal.close-requires-clause-open
 close-requires-clause-open c =

@@ -1,5 +1,6 @@
 use Rattle.std.proofs.Common.{◌≡◌, ◌∙◌, length, arith}
-use Rattle.xs_parse_table.proofs.Building.{rows_more, rows_begun, rows_done, len_is}
+use Rattle.xs_class.proofs.Lists.{len_is}
+use Rattle.xs_parse_table.proofs.Building.{rows_more, rows_begun, rows_done}
 use Rattle.xs_parse_table.proofs.moves.fill_rows.Goals as goal
 
 pub rows-init : goal.rows-init

@@ -1,9 +1,9 @@
 use Rattle.std.proofs.Common.{◌≡◌, ◌∙◌, ℕ, ◌<◌, List, length, Some, refl, ap, arith}
 use Rattle.std.proofs.lemmas.Option.{slice_get_within}
 use Rattle.std.specs.Prelude.{slice_get}
+use Rattle.xs_class.proofs.Lists.{len_is}
 use Rattle.xs_atoms.proofs.Alphabets.{turns_kept, alphabet, later_terms, some_stretch, first_begins}
 use Rattle.xs_atoms.proofs.Fixing.{rules_single}
-use Rattle.xs_atoms.proofs.Rows.{len_is}
 use Rattle.xs_atoms.proofs.atoms.Atoms.made.Goals as goal
 
 pub sweep-requires-clause-width : goal.sweep-requires-clause-width

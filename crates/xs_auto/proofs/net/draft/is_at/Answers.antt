@@ -1,5 +1,5 @@
 use Rattle.std.proofs.Common.{[], ◌∙◌, sym}
-use Rattle.xs_auto.proofs.LayoutLemmas.{same_ranges}
+use Rattle.xs_class.proofs.Ranges.{same_ranges}
 use Rattle.xs_auto.proofs.net.draft.is_at.Goals as goal
 
 pub returns-in-Some : goal.returns-in-Some

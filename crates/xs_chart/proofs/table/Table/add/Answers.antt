@@ -1,6 +1,7 @@
 use Rattle.std.proofs.Common.{arith, sym, ◌∙◌}
 use Rattle.std.proofs.lemmas.Bool.{true≢false}
-use Rattle.xs_chart.proofs.Linking.{len_is, roomy_more}
+use Rattle.xs_class.proofs.Lists.{len_is}
+use Rattle.xs_chart.proofs.Linking.{roomy_more}
 use Rattle.xs_chart.proofs.table.Table.add.Goals as goal
 
 pub link-requires-clause-room : goal.link-requires-clause-room

@@ -1,6 +1,7 @@
-use Rattle.std.proofs.Common.{◌≡◌, ◌++◌, [], ◌∷◌, List, ℕ, Bool, suc, length, sym, ◌∙◌, ap, subst, arith, Vec, Global, vec_len}
+use Rattle.std.proofs.Common.{◌≡◌, ◌++◌, [], ◌∷◌, List, ℕ, Bool, suc, length, sym, ◌∙◌, ap, subst, arith}
 use Rattle.std.proofs.lemmas.List.{with_items_is}
 use Rattle.std.proofs.lemmas.Bool.{false≢true}
+use Rattle.xs_class.proofs.Lists.{len_is}
 use Rattle.xs_chart.specs.declared.item.Item.{Item}
 use Rattle.xs_gram.specs.Languages.{IsFront}
 use Rattle.xs_earley.specs.declared.begun.Begun.{Begun}
@@ -9,9 +10,6 @@ use Rattle.xs_earley.specs.Running.{Running, IsRunOf}
 use Rattle.xs_earley.specs.Stages.{AreDue}
 use Rattle.xs_earley.proofs.Steppings.{run_kept, step_stops, step_goes}
 use Rattle.xs_earley.proofs.run.Run.step.Goals as goal
-
-len_is : {X : Type 0} (v : Vec X Global) → vec_len v ≡ length v.items
-len_is v = omega (arith, v.ok)
 
 pub returns-then-is_nothing-clause-next : goal.returns-then-is_nothing-clause-next
 returns-then-is_nothing-clause-next c =

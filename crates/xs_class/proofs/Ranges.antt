@@ -1,7 +1,22 @@
--- Sorted ranges with the same symbols are the same.
-use Rattle.std.proofs.Common.{◌≡◌, ◌+◌, ◌≤◌, inl, inr, ℕ, List, [], ◌∷◌, refl, sym, subst, arith}
+-- When lists of ranges are the same: by `==`, and, where they are sorted, by their symbols.
+use Rattle.std.proofs.Common.{◌≡◌, ◌∙◌, ◌+◌, ◌≤◌, ◌&&◌, inl, inr, ℕ, Bool, List, [], ◌∷◌, eqb, refl, sym, ap, subst, arith}
+use Rattle.std.specs.Bool.{Decides}
+use Rattle.std.specs.Cmp.Lexicographic.{pointwise}
+use Rattle.std.specs.Prelude.{IsTrue}
 use Rattle.std.proofs.lemmas.Bool.{cases_lt}
+use Rattle.std.proofs.lemmas.Bool.Decides.{Decides-and, Decides-eqb}
+use Rattle.std.proofs.lemmas.Slice.Eq.{slice_eq-Decides}
 use Rattle.xs_class.specs.Classes.{Has, RisesFrom, IsClass, HaveSame}
+use Rattle.xs_class.proofs.Lists.{cons_same}
+
+-- what `==` says of two ranges
+same_range : (x y : ℕ × ℕ) → Decides (eqb x.0 y.0 && eqb x.1 y.1) (x ≡ y)
+same_range x y =
+    let d = Decides-and (eqb x.0 y.0) (eqb x.1 y.1) (Decides-eqb x.0 y.0) (Decides-eqb x.1 y.1) in
+    (λ t. ap (λ a. (a, x.1)) (d.0 t).0 ∙ ap (λ b. (y.0, b)) (d.0 t).1, λ e. d.1 (ap (λ z. z.0) e, ap (λ z. z.1) e))
+
+pub same_ranges : (xs ys : List (ℕ × ℕ)) (r : Bool) → r ≡ pointwise (λ x y. eqb x.0 y.0 && eqb x.1 y.1) xs ys → IsTrue r → xs ≡ ys
+same_ranges xs ys r e t = (slice_eq-Decides same_range xs ys r e).0 t
 
 -- no symbol lies before the ranges
 from_low : (low : ℕ) (rs : List (ℕ × ℕ)) (s : ℕ) → RisesFrom low rs → Has rs s → low ≤ s
@@ -39,9 +54,6 @@ later_in low q r qs rs same up into s h = elim (into s (inr h)) [
 range_same : (q r : ℕ × ℕ) → q.0 ≡ r.0 → q.1 ≡ r.1 → q ≡ r
 range_same (a, b) (c, d) e f = cc
 
-pub first_and_rest : {X : Type 0} (q r : X) (qs rs : List X) → q ≡ r → qs ≡ rs → q ∷ qs ≡ r ∷ rs
-first_and_rest q r qs rs e f = rw (e, f) refl
-
 ranges_same : (low : ℕ) (qs rs : List (ℕ × ℕ)) → RisesFrom low qs → RisesFrom low rs → AreIn qs rs → AreIn rs qs → qs ≡ rs
 ranges_same low [] [] up up' into back = refl
 ranges_same low [] (r ∷ rs) up up' into back = absurd (back r.0 (inl (omega arith, up'.1)))
@@ -54,7 +66,7 @@ ranges_same low (q ∷ qs) (r ∷ rs) up up' into back =
     let long = ends_no_later low r q rs qs (sym begin) up'.1 up back in
     let end : q.1 ≡ r.1 = omega (arith, short, long) in
     let rest : RisesFrom (q.1 + 2) rs = subst (λ (n : ℕ). RisesFrom (n + 2) rs) (sym end) up'.3 in
-    first_and_rest q r qs rs (range_same q r begin end) (ranges_same (q.1 + 2) qs rs up.3 rest (later_in low q r qs rs end up into) (later_in low r q rs qs (sym end) up' back))
+    cons_same (range_same q r begin end) (ranges_same (q.1 + 2) qs rs up.3 rest (later_in low q r qs rs end up into) (later_in low r q rs qs (sym end) up' back))
 
 pub one_class : (qs rs : List (ℕ × ℕ)) → IsClass qs → IsClass rs → HaveSame qs rs → qs ≡ rs
 one_class qs rs up up' same = ranges_same 0 qs rs up up' (λ s h. (same s).0 h) (λ s h. (same s).1 h)
