@@ -46,4 +46,3 @@ atom_below width n atom w h = elim (below_or atom n) [
   | inl l ↦ l
   | inr l ↦ absurd (omega (arith, mul-le-mul_left {m = n} {n = atom} width l))
 ]
-
