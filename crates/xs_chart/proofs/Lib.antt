@@ -1,3 +1,4 @@
+pub mod Advancing
 pub mod Grouping
 pub mod Linking
 pub mod Sets

@@ -1,7 +1,7 @@
 -- The sets of a chart: finished ones, and the last one.
-use Rattle.std.proofs.Common.{◌≡◌, ℕ, zero, suc, ◌-◌, Bool, true, false, List, [], ◌∷◌, ◌++◌, length, get_or, set, take, All, if◌then◌else◌, rules, refl, sym, ◌∙◌, ap, subst, arith}
+use Rattle.std.proofs.Common.{◌≡◌, ◌≢◌, ℕ, zero, suc, ◌-◌, ◌<◌, Bool, true, false, List, [], ◌∷◌, ◌++◌, length, get_or, set, take, All, if◌then◌else◌, rules, refl, sym, ◌∙◌, ap, subst, arith}
 use Rattle.std.proofs.lemmas.Option.{none-some}
-use Rattle.std.proofs.lemmas.List.{length-append, length-take-le, get_or_at, set_at}
+use Rattle.std.proofs.lemmas.List.{length-append, length-take-le, get_or_at, get_or_append_left, set_at}
 use Rattle.std.proofs.lemmas.List.Elements.{All-head, All-tail, All-cons}
 use Rattle.xs_chart.specs.declared.item.Item.{Item}
 use Rattle.xs_chart.specs.declared.waiting.Waiter.{Waiter}
@@ -13,7 +13,7 @@ use Rattle.xs_chart.specs.Kept.{opened, IsGrouped, IsKept}
 abbrev pub seen : Bool → List (List Item) → List Item → List (List Waiter) → List Waiter → Charted
 seen o items last waits entries = record { sets = opened o items last; waits = opened o waits entries }
 
-length_opened : {A : Type 0} (xs : List A) (x : A) → length (opened true xs x) ≡ suc (length xs)
+pub length_opened : {A : Type 0} (xs : List A) (x : A) → length (opened true xs x) ≡ suc (length xs)
 length_opened xs x = let e = length-append xs (x ∷ []) in omega (arith, e)
 
 module _ (o : Bool) (items : List (List Item)) (last : List Item) (waits : List (List Waiter)) (entries : List Waiter) (kept : IsKept o items last waits) (opens : o ≡ true) where
@@ -44,6 +44,14 @@ module _ (o : Bool) (items : List (List Item)) (last : List Item) (waits : List 
       → seen o items new waits entries ≡ (if added then with_item (seen o items last waits entries) item else seen o items last waits entries)
   item_more item new true is = items_more (item ∷ []) new is
   item_more item new false is = ap (λ l. seen o items l waits entries) is
+
+  -- the items of a set before it
+  pub earlier_items : (j : ℕ) → j < length items → items_of (seen o items last waits entries) j ≡ get_or items j []
+  earlier_items j lt = subst (λ b. get_or (opened b items last) j [] ≡ get_or items j []) (sym opens) (get_or_append_left items (last ∷ []) [] j lt)
+
+  -- and what waits there
+  pub earlier_waits : (j non : ℕ) → j < length items → waiting_of (seen o items last waits entries) j non ≡ waiting_for (get_or waits j []) non
+  earlier_waits j non lt = ap (λ ws. waiting_for ws non) (subst (λ b. get_or (opened b waits entries) j [] ≡ get_or waits j []) (sym opens) (get_or_append_left waits (entries ∷ []) [] j (let e = kept.paired in omega (arith, lt, e))))
 
   -- an entry more in the last set
   pub entry_more : (new : List Waiter) (non : ℕ) (more : List ℕ) → waiting_for new non ≡ waiting_for entries non ++ more
@@ -107,18 +115,9 @@ different_sets true (s ∷ items) last all own (suc k) = different_sets true ite
 different_sets false (s ∷ items) last all own zero = All-head AreDifferent s items all
 different_sets false (s ∷ items) last all own (suc k) = different_sets false items last (All-tail AreDifferent s items all) own k
 
--- each waiting list is as it was where the last set is finished and an empty one opened
-pub waiting_kept : (waits : List (List Waiter)) (row entries : List Waiter) (non : ℕ) → waiting_for row non ≡ waiting_for entries non → (k : ℕ)
-    → waiting_for (get_or ((waits ++ row ∷ []) ++ [] ∷ []) k []) non ≡ waiting_for (get_or (waits ++ entries ∷ []) k []) non
-waiting_kept [] row entries non same zero = same
-waiting_kept [] row entries non same (suc zero) = refl
-waiting_kept [] row entries non same (suc (suc k)) = refl
-waiting_kept (w ∷ waits) row entries non same zero = refl
-waiting_kept (w ∷ waits) row entries non same (suc k) = waiting_kept waits row entries non same k
-
--- and where there was none
-pub waiting_opened : (waits : List (List Waiter)) (non k : ℕ) → waiting_for (get_or (waits ++ [] ∷ []) k []) non ≡ waiting_for (get_or waits k []) non
-waiting_opened [] non zero = refl
-waiting_opened [] non (suc k) = refl
-waiting_opened (w ∷ waits) non zero = refl
-waiting_opened (w ∷ waits) non (suc k) = waiting_opened waits non k
+-- a list more is there at its own place alone
+pub pushed_elsewhere : {A : Type 0} (xs : List (List A)) (x : List A) (k : ℕ) → k ≢ length xs → get_or (xs ++ x ∷ []) k [] ≡ get_or xs k []
+pushed_elsewhere [] x zero ne = absurd (ne refl)
+pushed_elsewhere [] x (suc k) ne = refl
+pushed_elsewhere (y ∷ xs) x zero ne = refl
+pushed_elsewhere (y ∷ xs) x (suc k) ne = pushed_elsewhere xs x k (λ e. ne (ap suc e))

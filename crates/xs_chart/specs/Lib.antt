@@ -1,3 +1,4 @@
+pub mod Advancing
 pub mod Charted
 pub mod Different
 pub mod Kept

@@ -1,9 +1,12 @@
-ghost use Rattle.std.specs.Prelude.{◌≡◌, ◌<◌, ◌≤◌, ◌+◌, ◌↔◌, ◌≢◌, suc, ℕ, [], ◌∷◌, ◌++◌, length, true, false, slice_get, if◌then◌else◌, Contains, IsTrue, IfOk, OnOk, OnErr};
+ghost use Rattle.std.specs.Prelude.{◌≡◌, ◌<◌, ◌≤◌, ◌+◌, ◌↔◌, ◌≢◌, suc, ℕ, [], ◌∷◌, ◌++◌, length, true, false, slice_get, if◌then◌else◌, slice_index_or, Contains, IsTrue, IfOk, OnOk, OnErr, List, map};
+ghost use Rattle.xs_chart.specs.declared.item.Item.{Item as AnyItem};
+ghost use Rattle.xs_chart.specs.Charted.{number_of, waiting_for, set_limit};
+ghost use Rattle.xs_chart.specs.Advancing.{HasMore, IsAfter, AreThere, Advanced};
 ghost use Rattle.xs_chart.specs.Different.{AreDifferent};
-ghost use Rattle.xs_chart.specs.Kept.{opened, IsKept};
+ghost use Rattle.xs_chart.specs.Kept.{opened, IsKept, StaysFound};
 
 use crate::table::Table;
-use crate::waiting::{find, keep};
+use crate::waiting::{find, find_again, forget, keep, none_found};
 use crate::{Item, Waiter, Waiting};
 use std::alloc::Global;
 use std::marker::Model;
@@ -13,33 +16,37 @@ use xs_flat::FlatLists;
 /// A list of sets, each a list of different items, with the waiting lists of each.
 ///
 /// Sets, and the places in a set, are numbered from 0.
+///
+/// Where waiting lists were found that were asked for last is kept, until a set is removed: so a list
+/// that many items are completed by is searched for once.
 #[derive(Drop)]
 pub struct Chart {
     items: FlatLists<Item>,
     waits: FlatLists<Waiter>,
     last: Table,
     waiting: Vec<Waiter>,
+    found: Vec<Waiting>,
     is_open: bool,
 }
 
 impl Model for Chart {
     ghost use Rattle.xs_chart.specs.Charted.{Charted};
-    ghost use Rattle.xs_chart.specs.Kept.{opened, IsKept};
+    ghost use Rattle.xs_chart.specs.Kept.{opened, IsCharted};
 
     ghost Value = { Charted };
 
     ghost view = { λ c. record { sets = opened c.is_open c.items c.last; waits = opened c.is_open c.waits c.waiting.items } };
 
-    ghost invariant = { λ c. IsKept c.is_open c.items c.last c.waits };
+    ghost invariant = { λ c. IsCharted c.is_open c.items c.last c.waits c.found.items };
 }
 
-/// Puts the items in the table, which has none of them.
-fn refill(last: &mut Table, items: &[Item]) -> Result<(), Memory>
+/// Puts the items of a set in the table, in place of what it has.
+fn refill(last: &mut Table, set: u32, items: &[Item]) -> Result<(), Memory>
     requires { AreDifferent items.now }
     ensures items { OnOk result (last.new ≡ items.now) }
     ensures different { AreDifferent last.new }
 {
-    last.clear();
+    last.clear(set);
     'items: for item in items {
         last.add(*item)?;
     }
@@ -61,6 +68,7 @@ fn reopen(
     ensures sets { opened is_open.new items.new last.new ≡ opened is_open.old items.old last.old }
     ensures waits { opened is_open.new waits.new waiting.new.items ≡ opened is_open.old waits.old waiting.old.items }
     ensures kept { IsKept is_open.new items.new last.new waits.new }
+    ensures found { StaysFound is_open.old waits.old is_open.new waits.new }
 {
     if *is_open {
         return Ok(());
@@ -86,9 +94,10 @@ fn open_last(
     ensures sets { opened is_open.new items.new last.new ≡ opened is_open.old items.old last.old }
     ensures waits { opened is_open.new waits.new waiting.new.items ≡ opened is_open.old waits.old waiting.old.items }
     ensures kept { IsKept is_open.new items.new last.new waits.new }
+    ensures found { StaysFound is_open.old waits.old is_open.new waits.new }
 {
     let set = items.len() - 1;
-    refill(last, items.list(set))?;
+    refill(last, set as u32, items.list(set))?;
     waiting.clear();
     waiting.extend_from_slice(waits.list(set))?;
     items.truncate(set);
@@ -97,41 +106,140 @@ fn open_last(
     Ok(())
 }
 
-impl Chart {
-    ghost use Rattle.xs_chart.specs.Charted.{items_of, last_set, waiting_of, with_item, with_items, item_from, items_from, first_sets, before_last, IsWaiting, set_limit};
+/// Opens the last set again if it is to be repeated.
+#[inline(always)]
+fn reopen_if(
+    repeats: bool,
+    is_open: &mut bool,
+    items: &mut FlatLists<Item>,
+    waits: &mut FlatLists<Waiter>,
+    last: &mut Table,
+    waiting: &mut Vec<Waiter>,
+) -> Result<(), Memory>
+    requires kept { IsKept is_open.old items.old last.old waits.old }
+    requires some { IsTrue repeats → 0 < length (opened is_open.old items.old last.old) }
+    ensures open { OnOk result (IsTrue repeats → is_open.new ≡ true) }
+    ensures sets { opened is_open.new items.new last.new ≡ opened is_open.old items.old last.old }
+    ensures waits { opened is_open.new waits.new waiting.new.items ≡ opened is_open.old waits.old waiting.old.items }
+    ensures kept { IsKept is_open.new items.new last.new waits.new }
+    ensures found { StaysFound is_open.old waits.old is_open.new waits.new }
+{
+    if repeats {
+        reopen(is_open, items, waits, last, waiting)?;
+    }
+    Ok(())
+}
 
-    /// The chart without sets.
-    pub fn new(alloc: Global) -> Result<Self, Memory>
+/// Finishes the last set if it is open.
+#[inline(always)]
+fn finish(
+    is_open: bool,
+    items: &mut FlatLists<Item>,
+    waits: &mut FlatLists<Waiter>,
+    last: &[Item],
+    waiting: &mut Vec<Waiter>,
+) -> Result<(), Memory>
+    requires kept { IsKept is_open items.old last.now waits.old }
+    requires few { length (opened is_open items.old last.now) < set_limit }
+    ensures items { OnOk result (items.new ≡ opened is_open items.old last.now) }
+    ensures waits { OnOk result ((set non : ℕ) → waiting_for (slice_index_or waits.new set []) non ≡ waiting_for (slice_index_or (opened is_open waits.old waiting.old.items) set []) non) }
+    ensures kept { OnOk result ((next : List AnyItem) → AreDifferent next → IsKept true items.new next waits.new) }
+    ensures found { OnOk result (StaysFound is_open waits.old true waits.new) }
+    ensures same { (non : ℕ) → waiting_for waiting.new.items non ≡ waiting_for waiting.old.items non }
+    ensures err { OnErr result (items.new ≡ items.old) }
+    ensures waits_err { OnErr result (waits.new ≡ waits.old) }
+{
+    if is_open {
+        keep(items, waits, last, waiting)?;
+    }
+    Ok(())
+}
+
+/// Empties what the last set has, which is finished, unless it is to be repeated.
+#[inline(always)]
+fn empty_unless(repeats: bool, set: u32, last: &mut Table, waiting: &mut Vec<Waiter>)
+    requires { AreDifferent last.old }
+    ensures items { last.new ≡ (if repeats then last.old else []) }
+    ensures different { AreDifferent last.new }
+    ensures waiting { waiting.new.items ≡ (if repeats then waiting.old.items else []) }
+{
+    if !repeats {
+        last.clear(set);
+        waiting.clear();
+    }
+}
+
+/// Puts last, each unless it is there, what is after the items of these entries: the items of the
+/// states after theirs, with their origins.
+#[inline(always)]
+fn add_after(last: &mut Table, items: &[Item], waits: &[Waiter], next: &[u32]) -> Result<(), Memory>
+    requires there { AreThere next.now items.now (map number_of waits.now) }
+    requires different { AreDifferent last.old }
+    ensures more { OnOk result (HasMore (IsAfter next.now items.now (map number_of waits.now)) last.old last.new) }
+    ensures different { AreDifferent last.new }
+    ensures kept { (more : List AnyItem) × (last.new ≡ last.old ++ more) }
+{
+    'waiters: for waiter in waits {
+        let item = items[waiter.number as usize];
+        last.add(Item {
+            state: next[item.state as usize],
+            origin: item.origin,
+        })?;
+    }
+    Ok(())
+}
+
+impl Chart {
+    ghost use Rattle.xs_chart.specs.Charted.{items_of, last_set, waiting_of, with_item, with_items, item_from, items_from, first_sets, before_last, IsWaiting};
+
+    /// The chart without sets. Of items that begin in the last set, those of states below that number are
+    /// found in it the soonest.
+    pub fn new(alloc: Global, states: usize) -> Result<Self, Memory>
         ensures sets { IfOk result (λ chart. chart.sets ≡ []) }
         ensures waits { IfOk result (λ chart. chart.waits ≡ []) }
     {
         Ok(Chart {
             items: FlatLists::new(alloc),
             waits: FlatLists::new(alloc),
-            last: Table::new(alloc)?,
+            last: Table::new(alloc, states)?,
             waiting: Vec::new(alloc),
+            found: none_found(alloc)?,
             is_open: false,
         })
     }
 
-    /// A new last set, which is empty. The waiting lists of the one before it are finished.
+    /// A new last set: one with the items and the waiting lists of the last one where it is repeated,
+    /// an empty one else. The waiting lists of the one before it are finished.
     #[inline(always)]
-    pub fn push_set(&mut self) -> Result<(), Memory>
-        requires { length self.old.sets < set_limit }
-        ensures sets { OnOk result (self.new.sets ≡ self.old.sets ++ [] ∷ []) }
-        ensures waiting { (set non : ℕ) → waiting_of self.new set non ≡ waiting_of self.old set non }
+    pub fn push_set(&mut self, repeats: bool) -> Result<(), Memory>
+        requires few { length self.old.sets < set_limit }
+        requires some { IsTrue repeats → 0 < length self.old.sets }
+        ensures sets { OnOk result (self.new.sets ≡ self.old.sets ++ (if repeats then items_of self.old (last_set self.old) else []) ∷ []) }
+        ensures waiting { (set non : ℕ) → set ≢ length self.old.sets → waiting_of self.new set non ≡ waiting_of self.old set non }
+        ensures last { OnOk result ((non : ℕ) → waiting_of self.new (length self.old.sets) non ≡ (if repeats then waiting_of self.old (last_set self.old) non else [])) }
         ensures err { OnErr result (self.new.sets ≡ self.old.sets) }
     {
-        if self.is_open {
-            keep(
-                &mut self.items,
-                &mut self.waits,
-                self.last.as_slice(),
-                &mut self.waiting,
-            )?;
-        }
-        self.last.clear();
-        self.waiting.clear();
+        reopen_if(
+            repeats,
+            &mut self.is_open,
+            &mut self.items,
+            &mut self.waits,
+            &mut self.last,
+            &mut self.waiting,
+        )?;
+        finish(
+            self.is_open,
+            &mut self.items,
+            &mut self.waits,
+            self.last.as_slice(),
+            &mut self.waiting,
+        )?;
+        empty_unless(
+            repeats,
+            self.items.len() as u32,
+            &mut self.last,
+            &mut self.waiting,
+        );
         self.is_open = true;
         Ok(())
     }
@@ -175,6 +283,35 @@ impl Chart {
             &mut self.waiting,
         )?;
         self.last.append_all(states, origin)?;
+        Ok(())
+    }
+
+    /// Puts last in the last set, each unless it is there, what is after the items that wait for the
+    /// nonterminal in an earlier set: the items of the states after theirs, by `next`, with their
+    /// origins.
+    #[inline(always)]
+    pub fn advance(&mut self, from: u32, non: u32, next: &[u32]) -> Result<(), Memory>
+        requires from { suc from < length self.old.sets }
+        requires there { AreThere next.now (items_of self.old from) (waiting_of self.old from non) }
+        ensures advanced { OnOk result (Advanced next.now from non self.old self.new) }
+        ensures waits { self.new.waits ≡ self.old.waits }
+        ensures before { before_last self.new ≡ before_last self.old }
+    {
+        reopen(
+            &mut self.is_open,
+            &mut self.items,
+            &mut self.waits,
+            &mut self.last,
+            &mut self.waiting,
+        )?;
+        let (first, count) = find_again(&mut self.found, &self.waits, from, non);
+        let waits = self.waits.list(from as usize);
+        add_after(
+            &mut self.last,
+            self.items.list(from as usize),
+            &waits[first..first + count],
+            next,
+        )?;
         Ok(())
     }
 
@@ -267,6 +404,7 @@ impl Chart {
         if count <= self.items.len() {
             self.items.truncate(count);
             self.waits.truncate(count);
+            forget(&mut self.found);
             self.is_open = false;
         }
     }

@@ -1,7 +1,7 @@
-ghost use Rattle.std.specs.Prelude.{◌≡◌, ◌<◌, ◌≤◌, ◌↔◌, ◌+◌, ◌^◌, suc, ℕ, [], ◌∷◌, ◌++◌, length, min, slice_get, slice_index_or, slice_set, if◌then◌else◌, Some, Contains, IsTrue, IfOk, OnOk, OnErr, vec_len, vec_capacity};
+ghost use Rattle.std.specs.Prelude.{◌≡◌, ◌<◌, ◌≤◌, ◌↔◌, ◌+◌, ◌^◌, suc, ℕ, [], ◌∷◌, ◌++◌, length, slice_get, slice_index_or, slice_set, if◌then◌else◌, Some, Contains, IsTrue, IfOk, OnOk, OnErr, vec_len, vec_capacity};
 ghost use Rattle.xs_chart.specs.Charted.{item_from, items_from};
 ghost use Rattle.xs_chart.specs.Different.{AreDifferent};
-ghost use Rattle.xs_chart.specs.Linked.{slot_of, IsChained, IsBackward, IsLinked, IsRoomy};
+ghost use Rattle.xs_chart.specs.Linked.{slot_of, IsChained, IsBackward, IsOwn, IsNoted, IsTable, IsRoomy};
 
 use crate::Item;
 use std::alloc::Global;
@@ -11,24 +11,24 @@ use xs_class::Memory;
 /// How many slots the table of a new list has.
 const FIRST_SLOTS: usize = 32;
 
-/// The slots of fewer items than this are not emptied: what they have leads to few other items.
-const FEW_ITEMS: usize = 4;
-
-/// As many slots as this are emptied together in the time of one by itself.
-const SLOTS_AT_ONCE: usize = 8;
-
-/// Different items in the order in which they were added, with a hash table by which one is found.
+/// Different items in the order in which they were added, with two tables by which one is found.
 ///
-/// A slot has the number of its last item, counted from 1, and beside each item stands that of an
-/// earlier one; so the items of a slot are a chain. What a slot has from a list that was cleared may
-/// lead to other items too, but misses none. There are no more items than slots, and both lists have
-/// room for as many as there are slots, so that an item is put last by one comparison.
+/// Items of the origin `own` are found by their states: `marks` has for each state below its length the
+/// number of the item of that state and origin. The others are found by a hash: a slot of `heads` has
+/// the number of its last item, and beside each item stands that of an earlier one; so the items of a
+/// slot are a chain. Numbers go on from list to list: those of this one begin after `base`, and a
+/// number up to `base` is none, so that a list is cleared by raising `base`. There are no more items
+/// than slots, and the lists of items and of earlier numbers have room for as many as there are slots,
+/// so that an item is put last by one comparison.
 #[derive(Drop)]
 pub struct Table {
     alloc: Global,
     items: Vec<Item>,
     earlier: Vec<u32>,
     heads: Vec<u32>,
+    marks: Vec<u32>,
+    base: u32,
+    own: u32,
 }
 
 impl Model for Table {
@@ -40,7 +40,7 @@ impl Model for Table {
 
     ghost view = { λ t. t.items.items };
 
-    ghost invariant = { λ t. IsRoomy t.items.items t.earlier.items t.heads.items (vec_capacity t.items) (vec_capacity t.earlier) };
+    ghost invariant = { λ t. IsRoomy t.base t.own t.items.items t.earlier.items t.heads.items t.marks.items (vec_capacity t.items) (vec_capacity t.earlier) };
 }
 
 /// The slot of an item among that many.
@@ -50,58 +50,126 @@ fn slot(item: Item, count: usize) -> usize
     ensures is { result ≡ slot_of count item }
     ensures within { result < count }
 {
-    let mixed = u64::from(item.state) * 1_640_531_527 + u64::from(item.origin) * 2_135_587_861;
-    (mixed / 32768) as usize & (count - 1)
+    let mixed = u64::from(item.state) + u64::from(item.origin) * 40_503;
+    mixed as usize & (count - 1)
 }
 
 /// Whether the item is one of those on the chain from a number on.
 #[inline(always)]
-fn seek(items: &[Item], earlier: &[u32], start: u32, item: Item) -> bool
+fn seek(items: &[Item], earlier: &[u32], base: u32, start: u32, item: Item) -> bool
     requires long { length earlier.now ≡ length items.now }
-    requires back { IsBackward earlier.now }
-    requires chained { (k : ℕ) → slice_get items.now k ≡ Some item → IsChained earlier.now start k }
+    requires back { IsBackward base earlier.now }
+    requires start { start ≤ base + length items.now }
+    requires chained { (k : ℕ) → slice_get items.now k ≡ Some item → IsChained base earlier.now start k }
     ensures { IsTrue result ↔ Contains items.now item }
 {
-    let mut at = start as usize;
-    'chain: while at > 0 && at <= items.len() {
-        let other = items[at - 1];
+    let mut at = start;
+    'chain: while at > base {
+        let place = (at - base - 1) as usize;
+        let other = items[place];
         if other.state == item.state && other.origin == item.origin {
             return true;
         }
-        at = earlier[at - 1] as usize;
+        at = earlier[place];
     }
     false
 }
 
 /// Puts an item's number last in the chain of its slot.
 #[inline(always)]
-fn link(earlier: &mut Vec<u32>, heads: &mut Vec<u32>, item: Item)
+fn link(earlier: &mut Vec<u32>, heads: &mut Vec<u32>, base: u32, item: Item)
     requires some { 0 < length heads.old.items }
     requires room { vec_len earlier.old < vec_capacity earlier.old }
-    requires few { vec_len earlier.old + 1 < 2 ^ 32 }
-    ensures earlier { earlier.new.items ≡ earlier.old.items ++ min (slice_index_or heads.old.items (slot_of (length heads.old.items) item) 0) (length earlier.old.items) ∷ [] }
-    ensures heads { heads.new.items ≡ slice_set heads.old.items (slot_of (length heads.old.items) item) (suc (length earlier.old.items)) }
+    requires few { base + vec_len earlier.old + 1 < 2 ^ 32 }
+    ensures earlier { earlier.new.items ≡ earlier.old.items ++ slice_index_or heads.old.items (slot_of (length heads.old.items) item) 0 ∷ [] }
+    ensures heads { heads.new.items ≡ slice_set heads.old.items (slot_of (length heads.old.items) item) (base + suc (length earlier.old.items)) }
     ensures capacity { vec_capacity earlier.new ≡ vec_capacity earlier.old }
 {
-    let number = earlier.len() as u32 + 1;
+    let number = base + earlier.len() as u32 + 1;
     let place = slot(item, heads.len());
-    earlier.push_reserved(heads[place].min(number - 1));
+    earlier.push_reserved(heads[place]);
     heads[place] = number;
 }
 
-/// The chains of the items, by that many slots.
-fn linked(alloc: Global, items: &[Item], count: usize) -> Result<(Vec<u32>, Vec<u32>), Memory>
+/// Whether the state is marked.
+#[inline(always)]
+fn is_marked(marks: &[u32], base: u32, state: u32) -> bool
+    ensures { IsTrue result ↔ (base < slice_index_or marks.now state 0) }
+{
+    match marks.get(state as usize) {
+        Some(number) => *number > base,
+        None => false,
+    }
+}
+
+/// Whether the item is found by its state.
+#[inline(always)]
+fn is_own(marks: &[u32], own: u32, item: Item) -> bool
+    ensures { IsTrue result ↔ IsOwn own (length marks.now) item }
+{
+    item.origin == own && (item.state as usize) < marks.len()
+}
+
+/// Marks the state of an item that is to be put last.
+#[inline(always)]
+fn mark(earlier: &mut Vec<u32>, marks: &mut Vec<u32>, base: u32, state: u32)
+    requires state { state < length marks.old.items }
+    requires room { vec_len earlier.old < vec_capacity earlier.old }
+    requires few { base + vec_len earlier.old + 1 < 2 ^ 32 }
+    ensures earlier { earlier.new.items ≡ earlier.old.items ++ 0 ∷ [] }
+    ensures marks { marks.new.items ≡ slice_set marks.old.items state (base + suc (length earlier.old.items)) }
+    ensures capacity { vec_capacity earlier.new ≡ vec_capacity earlier.old }
+{
+    let number = base + earlier.len() as u32 + 1;
+    marks[state as usize] = number;
+    earlier.push_reserved(0);
+}
+
+/// Notes an item that is to be put last: it is found from then on.
+#[inline(always)]
+fn note(
+    earlier: &mut Vec<u32>,
+    heads: &mut Vec<u32>,
+    marks: &mut Vec<u32>,
+    base: u32,
+    own: u32,
+    item: Item,
+)
+    requires some { 0 < length heads.old.items }
+    requires room { vec_len earlier.old < vec_capacity earlier.old }
+    requires few { base + vec_len earlier.old + 1 < 2 ^ 32 }
+    ensures noted { IsNoted base own item earlier.old.items heads.old.items marks.old.items earlier.new.items heads.new.items marks.new.items }
+    ensures capacity { vec_capacity earlier.new ≡ vec_capacity earlier.old }
+{
+    if is_own(marks, own, item) {
+        mark(earlier, marks, base, item.state);
+    } else {
+        link(earlier, heads, base, item);
+    }
+}
+
+/// Notes all items anew, with that many slots.
+fn note_all(
+    alloc: Global,
+    items: &[Item],
+    marks: &mut Vec<u32>,
+    own: u32,
+    count: usize,
+) -> Result<(Vec<u32>, Vec<u32>), Memory>
     requires some { 0 < count }
     requires few { count < 2 ^ 32 }
     requires items { length items.now ≤ count }
+    requires different { AreDifferent items.now }
     ensures slots { IfOk result (λ r. length r.1.items ≡ count) }
     ensures room { IfOk result (λ r. count ≤ vec_capacity r.0) }
-    ensures linked { IfOk result (λ r. IsLinked items.now r.0.items r.1.items) }
+    ensures table { IfOk result (λ r. IsTable 0 own items.now r.0.items r.1.items marks.new.items) }
+    ensures marks { OnErr result (marks.new.items ≡ marks.old.items) }
 {
     let mut heads = vec![in alloc; 0; count]?;
     let mut earlier = Vec::with_capacity(alloc, count)?;
+    marks.fill(0);
     'items: for item in items {
-        link(&mut earlier, &mut heads, *item);
+        note(&mut earlier, &mut heads, marks, 0, own, *item);
     }
     Ok((earlier, heads))
 }
@@ -112,9 +180,12 @@ fn double(
     items: &mut Vec<Item>,
     earlier: &mut Vec<u32>,
     heads: &mut Vec<u32>,
+    marks: &mut Vec<u32>,
+    base: &mut u32,
+    own: u32,
 ) -> Result<(), Memory>
-    requires roomy { IsRoomy items.old.items earlier.old.items heads.old.items (vec_capacity items.old) (vec_capacity earlier.old) }
-    ensures roomy { IsRoomy items.new.items earlier.new.items heads.new.items (vec_capacity items.new) (vec_capacity earlier.new) }
+    requires roomy { IsRoomy base.old own items.old.items earlier.old.items heads.old.items marks.old.items (vec_capacity items.old) (vec_capacity earlier.old) }
+    ensures roomy { IsRoomy base.new own items.new.items earlier.new.items heads.new.items marks.new.items (vec_capacity items.new) (vec_capacity earlier.new) }
     ensures same { items.new.items ≡ items.old.items }
     ensures wider { OnOk result (length heads.old.items < length heads.new.items) }
 {
@@ -123,9 +194,10 @@ fn double(
         return Err(Memory);
     }
     items.reserve(count - items.len())?;
-    let (new_earlier, new_heads) = linked(alloc, items, count)?;
+    let (new_earlier, new_heads) = note_all(alloc, items, marks, own, count)?;
     *earlier = new_earlier;
     *heads = new_heads;
+    *base = 0;
     Ok(())
 }
 
@@ -137,15 +209,18 @@ fn widen(
     items: &mut Vec<Item>,
     earlier: &mut Vec<u32>,
     heads: &mut Vec<u32>,
+    marks: &mut Vec<u32>,
+    base: &mut u32,
+    own: u32,
     more: usize,
 ) -> Result<(), Memory>
-    requires roomy { IsRoomy items.old.items earlier.old.items heads.old.items (vec_capacity items.old) (vec_capacity earlier.old) }
-    ensures roomy { IsRoomy items.new.items earlier.new.items heads.new.items (vec_capacity items.new) (vec_capacity earlier.new) }
+    requires roomy { IsRoomy base.old own items.old.items earlier.old.items heads.old.items marks.old.items (vec_capacity items.old) (vec_capacity earlier.old) }
+    ensures roomy { IsRoomy base.new own items.new.items earlier.new.items heads.new.items marks.new.items (vec_capacity items.new) (vec_capacity earlier.new) }
     ensures same { items.new.items ≡ items.old.items }
     ensures space { OnOk result (length items.new.items + more ≤ length heads.new.items) }
 {
     'doublings: while heads.len() - items.len() < more {
-        double(alloc, items, earlier, heads)?;
+        double(alloc, items, earlier, heads, marks, base, own)?;
     }
     Ok(())
 }
@@ -157,35 +232,41 @@ fn spread(
     items: &mut Vec<Item>,
     earlier: &mut Vec<u32>,
     heads: &mut Vec<u32>,
+    marks: &mut Vec<u32>,
+    base: &mut u32,
+    own: u32,
     more: usize,
 ) -> Result<(), Memory>
-    requires roomy { IsRoomy items.old.items earlier.old.items heads.old.items (vec_capacity items.old) (vec_capacity earlier.old) }
-    ensures roomy { IsRoomy items.new.items earlier.new.items heads.new.items (vec_capacity items.new) (vec_capacity earlier.new) }
+    requires roomy { IsRoomy base.old own items.old.items earlier.old.items heads.old.items marks.old.items (vec_capacity items.old) (vec_capacity earlier.old) }
+    ensures roomy { IsRoomy base.new own items.new.items earlier.new.items heads.new.items marks.new.items (vec_capacity items.new) (vec_capacity earlier.new) }
     ensures same { items.new.items ≡ items.old.items }
     ensures space { OnOk result (length items.new.items + more ≤ length heads.new.items) }
 {
     if more <= heads.len() - items.len() {
         return Ok(());
     }
-    widen(alloc, items, earlier, heads, more)?;
+    widen(alloc, items, earlier, heads, marks, base, own, more)?;
     Ok(())
 }
 
-/// Links items of these states, all with one origin, and puts them last; they are not there yet, and
-/// there is room for them.
+/// Puts items of these states last, all with one origin; they are not there yet, and there is room for
+/// them.
 #[inline(always)]
-fn link_all(
+fn put_all(
     items: &mut Vec<Item>,
     earlier: &mut Vec<u32>,
     heads: &mut Vec<u32>,
+    marks: &mut Vec<u32>,
+    base: u32,
+    own: u32,
     states: &[u32],
     origin: u32,
 )
-    requires roomy { IsRoomy items.old.items earlier.old.items heads.old.items (vec_capacity items.old) (vec_capacity earlier.old) }
+    requires roomy { IsRoomy base own items.old.items earlier.old.items heads.old.items marks.old.items (vec_capacity items.old) (vec_capacity earlier.old) }
     requires space { length items.old.items + length states.now ≤ length heads.old.items }
     requires different { AreDifferent states.now }
     requires absent { (state : ℕ) → Contains states.now state → Contains items.old.items (item_from origin state) → ⊥ }
-    ensures roomy { IsRoomy items.new.items earlier.new.items heads.new.items (vec_capacity items.new) (vec_capacity earlier.new) }
+    ensures roomy { IsRoomy base own items.new.items earlier.new.items heads.new.items marks.new.items (vec_capacity items.new) (vec_capacity earlier.new) }
     ensures items { items.new.items ≡ items.old.items ++ items_from origin states.now }
 {
     'states: for state in states {
@@ -193,41 +274,38 @@ fn link_all(
             state: *state,
             origin,
         };
-        link(earlier, heads, item);
+        note(earlier, heads, marks, base, own, item);
         items.push_reserved(item);
     }
 }
 
-/// Empties the slots of the items, unless there are few items; all slots, where there are few for each
-/// item.
-fn clear_slots(heads: &mut [u32], items: &[Item])
-    requires { 0 < length heads.old }
-    ensures { length heads.new ≡ length heads.old }
+/// Empties both tables, so that numbers begin anew.
+#[cold]
+#[inline(never)]
+fn empty(heads: &mut Vec<u32>, marks: &mut Vec<u32>, base: &mut u32)
+    ensures heads { (k n : ℕ) → slice_get heads.new.items k ≡ Some n → n ≡ 0 }
+    ensures slots { length heads.new.items ≡ length heads.old.items }
+    ensures marks { (k n : ℕ) → slice_get marks.new.items k ≡ Some n → n ≡ 0 }
+    ensures base { base.new ≡ 0 }
 {
-    if items.len() < FEW_ITEMS {
-        return;
-    }
-    if heads.len() / SLOTS_AT_ONCE <= items.len() {
-        heads.fill(0);
-        return;
-    }
-    'items: for item in items {
-        let place = slot(*item, heads.len());
-        heads[place] = 0;
-    }
+    heads.fill(0);
+    marks.fill(0);
+    *base = 0;
 }
 
 impl Table {
-    /// No item.
-    pub fn new(alloc: Global) -> Result<Self, Memory>
+    /// No item. Those of the own origin are found by their states where these are below that number.
+    pub fn new(alloc: Global, states: usize) -> Result<Self, Memory>
         ensures { IfOk result (λ table. table ≡ []) }
     {
-        let (earlier, heads) = linked(alloc, &[], FIRST_SLOTS)?;
         Ok(Table {
             alloc,
             items: Vec::with_capacity(alloc, FIRST_SLOTS)?,
-            earlier,
-            heads,
+            earlier: Vec::with_capacity(alloc, FIRST_SLOTS)?,
+            heads: vec![in alloc; 0; FIRST_SLOTS]?,
+            marks: vec![in alloc; 0; states]?,
+            base: 0,
+            own: 0,
         })
     }
 
@@ -246,8 +324,11 @@ impl Table {
         ensures is { IsTrue result ↔ Contains self.now item }
         ensures different { AreDifferent self.now }
     {
+        if is_own(&self.marks, self.own, item) {
+            return is_marked(&self.marks, self.base, item.state);
+        }
         let start = self.heads[slot(item, self.heads.len())];
-        seek(&self.items, &self.earlier, start, item)
+        seek(&self.items, &self.earlier, self.base, start, item)
     }
 
     /// Puts the item last, unless it is there; true exactly where it was not there.
@@ -263,12 +344,22 @@ impl Table {
             &mut self.items,
             &mut self.earlier,
             &mut self.heads,
+            &mut self.marks,
+            &mut self.base,
+            self.own,
             1,
         )?;
         if self.has(item) {
             return Ok(false);
         }
-        link(&mut self.earlier, &mut self.heads, item);
+        note(
+            &mut self.earlier,
+            &mut self.heads,
+            &mut self.marks,
+            self.base,
+            self.own,
+            item,
+        );
         self.items.push_reserved(item);
         Ok(true)
     }
@@ -288,24 +379,35 @@ impl Table {
             &mut self.items,
             &mut self.earlier,
             &mut self.heads,
+            &mut self.marks,
+            &mut self.base,
+            self.own,
             states.len(),
         )?;
-        link_all(
+        put_all(
             &mut self.items,
             &mut self.earlier,
             &mut self.heads,
+            &mut self.marks,
+            self.base,
+            self.own,
             states,
             origin,
         );
         Ok(())
     }
 
-    /// Removes all items, and keeps the memory.
-    pub fn clear(&mut self)
+    /// Removes all items, and keeps the memory; from then on items of this origin are found by their
+    /// states.
+    pub fn clear(&mut self, own: u32)
         ensures { self.new ≡ [] }
     {
-        clear_slots(&mut self.heads, &self.items);
+        self.base += self.items.len() as u32;
+        if self.base as usize > u32::MAX as usize - self.heads.len() {
+            empty(&mut self.heads, &mut self.marks, &mut self.base);
+        }
         self.items.clear();
         self.earlier.clear();
+        self.own = own;
     }
 }

@@ -1,10 +1,11 @@
-ghost use Rattle.std.specs.Prelude.{◌≡◌, ◌≢◌, ◌<◌, ◌≤◌, ◌+◌, ◌++◌, ℕ, [], ◌∷◌, map, length, slice_index_or, slice_range, IfOk, OnOk, OnErr};
+ghost use Rattle.std.specs.Prelude.{◌≡◌, ◌≢◌, ◌<◌, ◌≤◌, ◌+◌, ◌++◌, ℕ, true, [], ◌∷◌, map, length, All, slice_index_or, slice_range, IfOk, OnOk, OnErr};
 ghost use Rattle.std.specs.List.Sorted.{IsNonDecreasingBy};
 ghost use Rattle.xs_chart.specs.Charted.{waiting_for, number_of, non_of};
-ghost use Rattle.xs_chart.specs.Kept.{KeepsWaiting};
+ghost use Rattle.xs_chart.specs.Kept.{KeepsWaiting, IsGrouped, IsNone, IsFinding, no_set, found_count};
 ghost use Rattle.xs_chart.specs.declared.waiting.Waiter.{Waiter as AnyWaiter};
 
 use crate::Item;
+use std::alloc::Global;
 use xs_class::Memory;
 use xs_flat::FlatLists;
 
@@ -23,6 +24,20 @@ pub struct Waiting {
     pub from: usize,
     pub count: usize,
 }
+
+/// How many stretches that were found are kept.
+const FOUND: usize = 64;
+
+/// The number of no set.
+const NO_SET: u32 = u32::MAX;
+
+/// No stretch was found.
+const NONE: Waiting = Waiting {
+    set: NO_SET,
+    non: 0,
+    from: 0,
+    count: 0,
+};
 
 /// Groups the entries by their nonterminals; those of one stay in their order.
 fn group(waits: &mut Vec<Waiter>) -> Result<(), Memory>
@@ -83,4 +98,60 @@ pub(crate) fn find(waits: &[Waiter], non: u32) -> (usize, usize)
     let from = waits.partition_point(|waiter| waiter.non < non);
     let end = group_end(waits, from, non);
     (from, end - from)
+}
+
+/// A list of stretches none of which was found yet.
+pub(crate) fn none_found(alloc: Global) -> Result<Vec<Waiting>, Memory>
+    ensures long { IfOk result (λ found. length found.items ≡ found_count) }
+    ensures none { IfOk result (λ found. All IsNone found.items) }
+{
+    Ok(vec![in alloc; NONE; FOUND]?)
+}
+
+/// Forgets what was found; takes no memory.
+pub(crate) fn forget(found: &mut Vec<Waiting>)
+    ensures long { length found.new.items ≡ length found.old.items }
+    ensures none { All IsNone found.new.items }
+{
+    found.fill(NONE);
+}
+
+/// Where it is kept what was found.
+#[inline(always)]
+fn place_of(set: u32, non: u32) -> usize
+    ensures { result < found_count }
+{
+    (set as usize + non as usize * 5) & (FOUND - 1)
+}
+
+/// Where the entries of a nonterminal begin in a finished set, and how many there are; what was found
+/// for a set and a nonterminal is kept until another one takes its place.
+#[inline(always)]
+pub(crate) fn find_again(
+    found: &mut Vec<Waiting>,
+    waits: &FlatLists<Waiter>,
+    set: u32,
+    non: u32,
+) -> (usize, usize)
+    requires finding { IsFinding true waits.now found.old.items }
+    requires set { set < length waits.now }
+    requires few { length waits.now < no_set }
+    requires grouped { All IsGrouped waits.now }
+    ensures finding { IsFinding true waits.now found.new.items }
+    ensures within { result.0 + result.1 ≤ length (slice_index_or waits.now set []) }
+    ensures is { waiting_for (slice_index_or waits.now set []) non ≡ map number_of (slice_range (slice_index_or waits.now set []) result.0 (result.0 + result.1)) }
+{
+    let place = place_of(set, non);
+    let known = found[place];
+    if known.set == set && known.non == non {
+        return (known.from, known.count);
+    }
+    let (from, count) = find(waits.list(set as usize), non);
+    found[place] = Waiting {
+        set,
+        non,
+        from,
+        count,
+    };
+    (from, count)
 }

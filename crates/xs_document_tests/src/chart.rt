@@ -15,11 +15,16 @@ const SECOND: Item = Item {
     origin: 1,
 };
 
-/// Adds a first set, of both items.
+const THIRD: Item = Item {
+    state: 9,
+    origin: 1,
+};
+
+/// Adds a first set, of the first two items.
 fn add_set(chart: &mut Chart) -> Result<(), Memory>
     requires { chart.old.sets ≡ [] }
 {
-    chart.push_set()?;
+    chart.push_set(false)?;
     chart.add(FIRST)?;
     chart.add(SECOND)?;
     Ok(())
@@ -41,7 +46,7 @@ fn expect_added_once(rt: &impl Abort, chart: &mut Chart) -> Result<(), Memory>
 {
     let again = chart.add(FIRST)?;
     assert!(rt; !again);
-    chart.push_set()?;
+    chart.push_set(false)?;
     let anew = chart.add(SECOND)?;
     assert!(rt; anew);
     assert!(rt; are_found(chart));
@@ -50,7 +55,7 @@ fn expect_added_once(rt: &impl Abort, chart: &mut Chart) -> Result<(), Memory>
 
 #[test]
 fn items_are_added_once_and_found(rt: HostRuntime) -> Result<(), Memory> {
-    let mut chart = Chart::new(rt.alloc())?;
+    let mut chart = Chart::new(rt.alloc(), 16)?;
     add_set(&mut chart)?;
     assert!(rt; chart.sets() == 1);
     expect_added_once(&rt, &mut chart)
@@ -93,12 +98,59 @@ fn wait_thrice(chart: &mut Chart) -> Result<(), Memory>
 
 #[test]
 fn waiting_lists_are_kept_by_set_and_nonterminal(rt: HostRuntime) -> Result<(), Memory> {
-    let mut chart = Chart::new(rt.alloc())?;
+    let mut chart = Chart::new(rt.alloc(), 16)?;
     add_set(&mut chart)?;
     assert!(rt; chart.sets() == 1 && chart.len(0) == 2);
     wait_thrice(&mut chart)?;
-    chart.push_set()?;
-    chart.push_set()?;
+    chart.push_set(false)?;
+    chart.push_set(false)?;
     assert!(rt; are_waiting(&chart));
     Ok(())
+}
+
+/// Whether the set has the first two items, and no other.
+fn has_both(chart: &Chart, set: u32) -> bool
+    requires { set < length chart.now.sets }
+{
+    chart.len(set) == 2
+        && chart.item(set, 0) == FIRST
+        && chart.item(set, 1) == SECOND
+        && chart.has(set, FIRST)
+        && chart.has(set, SECOND)
+}
+
+/// Whether the first set has the first two items, the second one the third too, and the second item
+/// waits for 3 in the first set.
+fn is_repeated(chart: &Chart) -> bool {
+    chart.sets() == 2
+        && has_both(chart, 0)
+        && !chart.has(0, THIRD)
+        && chart.len(1) == 3
+        && chart.item(1, 1) == SECOND
+        && chart.item(1, 2) == THIRD
+        && has_waiters(chart, 0, 3, &[1])
+}
+
+/// What is added after a set was repeated goes to the new one alone.
+fn expect_added_to_new(rt: &impl Abort, chart: &mut Chart) -> Result<(), Memory>
+    requires { length chart.old.sets ≡ 2 }
+{
+    let again = chart.add(SECOND)?;
+    assert!(rt; !again);
+    assert!(rt; chart.sets() == 2);
+    let anew = chart.add(THIRD)?;
+    assert!(rt; anew);
+    assert!(rt; is_repeated(chart));
+    Ok(())
+}
+
+#[test]
+fn a_set_is_repeated(rt: HostRuntime) -> Result<(), Memory> {
+    let mut chart = Chart::new(rt.alloc(), 16)?;
+    add_set(&mut chart)?;
+    assert!(rt; chart.sets() == 1 && chart.len(0) == 2);
+    chart.wait(3, 1)?;
+    chart.push_set(true)?;
+    assert!(rt; chart.sets() == 2 && has_both(&chart, 0) && has_both(&chart, 1));
+    expect_added_to_new(&rt, &mut chart)
 }

@@ -4,7 +4,7 @@ use Rattle.xs_chart.proofs.table.widen.Given as goal
 
 abbrev pub invariant-doublings : goal.invariant-doublings
 invariant-doublings l = record {
-  roomy : IsRoomy l.items.items l.earlier.items l.heads.items (vec_capacity l.items) (vec_capacity l.earlier);
+  roomy : IsRoomy l.base l.own l.items.items l.earlier.items l.heads.items l.marks.items (vec_capacity l.items) (vec_capacity l.earlier);
   same : l.items.items ≡ l.initial.items.items;
 }
 

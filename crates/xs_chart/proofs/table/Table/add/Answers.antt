@@ -4,16 +4,16 @@ use Rattle.xs_class.proofs.Lists.{len_is}
 use Rattle.xs_chart.proofs.Linking.{roomy_more}
 use Rattle.xs_chart.proofs.table.Table.add.Goals as goal
 
-pub link-requires-clause-room : goal.link-requires-clause-room
-link-requires-clause-room c =
+pub note-requires-clause-room : goal.note-requires-clause-room
+note-requires-clause-room c =
     let r = c.spread.ensures.roomy in
     let long = r.table.linked.long in
     let space = c.in_ok-spread.ensures.space in
     let fit = r.earlier_fit in
     omega (arith, len_is c.spread.new.earlier, long, space, fit)
 
-pub link-requires-clause-few : goal.link-requires-clause-few
-link-requires-clause-few c =
+pub note-requires-clause-few : goal.note-requires-clause-few
+note-requires-clause-few c =
     let r = c.spread.ensures.roomy in
     let long = r.table.linked.long in
     let space = c.in_ok-spread.ensures.space in
@@ -28,8 +28,8 @@ push_reserved-requires c =
 
 pub invariant_of-self-3 : goal.invariant_of-self-3
 invariant_of-self-3 c =
-    rw (c.push_reserved.ensures.items, c.push_reserved.ensures.capacity, c.link.ensures.heads, c.link.ensures.earlier, c.link.ensures.capacity)
-    (roomy_more c.spread.new.items.items c.spread.new.earlier.items c.spread.new.heads.items c.args.item _ _ c.spread.ensures.roomy (omega (arith, c.in_ok-spread.ensures.space)) (λ h. true≢false (sym (c.has.ensures.is.1 h) ∙ c.if-has.false)))
+    rw (c.push_reserved.ensures.items, c.push_reserved.ensures.capacity, c.note.ensures.capacity)
+    (roomy_more c.spread.new.base _ c.spread.new.items.items c.spread.new.earlier.items c.spread.new.heads.items c.spread.new.marks.items _ _ _ c.args.item _ _ c.spread.ensures.roomy (omega (arith, c.in_ok-spread.ensures.space)) (λ h. true≢false (sym (c.has.ensures.is.1 h) ∙ c.if-has.false)) c.note.ensures.noted)
 
 pub returns-clause-different : goal.returns-clause-different
 returns-clause-different c = (invariant_of-self-3 c).table.different

@@ -4,7 +4,7 @@ use Rattle.xs_chart.specs.declared.item.Item.{Item}
 use Rattle.xs_chart.specs.Charted.{item_from}
 use Rattle.xs_chart.proofs.table.Table.append_all.Goals as goal
 
-pub link_all-requires-clause-absent : goal.link_all-requires-clause-absent
-link_all-requires-clause-absent c state among there =
+pub put_all-requires-clause-absent : goal.put_all-requires-clause-absent
+put_all-requires-clause-absent c state among there =
     let item : Item = item_from c.args.origin state in
     c.requires.absent state among (subst (λ (l : List Item). Contains l item) (c.spread.ensures.same ∙ c.self.view_is) there)

@@ -1,11 +1,11 @@
 use Rattle.std.proofs.Common.{◌≡◌, ◌++◌, length, take, vec_capacity}
 use Rattle.xs_chart.specs.Charted.{items_from}
 use Rattle.xs_chart.specs.Linked.{IsRoomy}
-use Rattle.xs_chart.proofs.table.link_all.Given as goal
+use Rattle.xs_chart.proofs.table.put_all.Given as goal
 
 abbrev pub invariant-states : goal.invariant-states
 invariant-states l = record {
-  roomy : IsRoomy l.items.items l.earlier.items l.heads.items (vec_capacity l.items) (vec_capacity l.earlier);
+  roomy : IsRoomy l.base l.own l.items.items l.earlier.items l.heads.items l.marks.items (vec_capacity l.items) (vec_capacity l.earlier);
   items : l.items.items ≡ l.initial.items.items ++ items_from l.origin (take l.state-index l.states);
   slots : length l.heads.items ≡ length l.initial.heads.items;
 }

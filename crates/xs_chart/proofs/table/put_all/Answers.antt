@@ -1,11 +1,11 @@
-use Rattle.std.proofs.Common.{◌≡◌, ◌<◌, ◌≤◌, ◌+◌, ◌++◌, ◌∷◌, ◌∙◌, [], ℕ, List, length, get_or, take, sym, ap, subst, arith, append_assoc, length-append, length-set}
+use Rattle.std.proofs.Common.{◌≡◌, ◌<◌, ◌≤◌, ◌+◌, ◌++◌, ◌∷◌, ◌∙◌, [], ℕ, List, length, get_or, take, sym, ap, subst, arith, append_assoc, length-append}
 use Rattle.std.specs.Prelude.{Contains}
 use Rattle.std.proofs.lemmas.List.{map_more, length-map, length-take-le}
 use Rattle.xs_chart.specs.declared.item.Item.{Item}
 use Rattle.xs_chart.specs.Charted.{item_from, items_from}
-use Rattle.xs_chart.proofs.Linking.{roomy_more}
+use Rattle.xs_chart.proofs.Linking.{table_more, roomy_more}
 use Rattle.xs_chart.proofs.States.{next_absent}
-use Rattle.xs_chart.proofs.table.link_all.Goals as goal
+use Rattle.xs_chart.proofs.table.put_all.Goals as goal
 
 -- there are fewer items than slots
 space_of : (old now : List Item) (origin : ℕ) (states : List ℕ) (n slots : ℕ) → n < length states → length old + length states ≤ slots → now ≡ old ++ items_from origin (take n states) → length now < slots
@@ -27,11 +27,12 @@ states-preserved c =
     let now = c.states.items.items in
     let earlier = c.states.earlier.items in
     let heads = c.states.heads.items in
+    let marks = c.states.marks.items in
     let item = item_from origin (get_or states n 0) in
     let space : length now < length heads = rw inv.slots (space_of old now origin states n (length c.args.heads.now.items) lt c.requires.space inv.items) in
     let absent = λ (h : Contains now item). next_absent old origin states n 0 lt c.requires.different c.requires.absent (subst (λ (l : List Item). Contains l item) inv.items h) in
     record {
-      roomy = rw (c.push_reserved.ensures.items, c.push_reserved.ensures.capacity, c.link.ensures.heads, c.link.ensures.earlier, c.link.ensures.capacity) (roomy_more now earlier heads item _ _ inv.roomy space absent);
+      roomy = rw (c.push_reserved.ensures.items, c.push_reserved.ensures.capacity, c.note.ensures.capacity) (roomy_more c.args.base c.args.own now earlier heads marks _ _ _ item _ _ inv.roomy space absent c.note.ensures.noted);
       items = c.push_reserved.ensures.items ∙ ap (λ (l : List Item). l ++ item ∷ []) inv.items ∙ append_assoc old (items_from origin (take n states)) (item ∷ []) ∙ ap (λ (l : List Item). old ++ l) (sym (map_more (item_from origin) states n 0 lt));
-      slots = rw (c.link.ensures.heads, length-set) inv.slots;
+      slots = (table_more c.args.base c.args.own now earlier heads marks _ _ _ item inv.roomy.table absent c.note.ensures.noted).1 ∙ inv.slots;
     }
