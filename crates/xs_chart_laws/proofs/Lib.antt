@@ -13,3 +13,4 @@ pub mod Settling
 pub mod Reaching
 pub mod Longer
 pub mod Nexts
+pub mod Repeats

@@ -1,28 +1,26 @@
 -- The chart of a document with one symbol more.
-use Rattle.std.proofs.Common.{◌≡◌, ℕ, zero, suc, ◌+◌, ◌<◌, ◌≤◌, List, [], ◌∷◌, ◌++◌, length, take, drop, Some, None, refl, sym, ◌∙◌, ap, subst, arith, ◌⊎◌, inl, inr, ◌↔◌, length-append, take-append-drop}
+use Rattle.std.proofs.Common.{◌≡◌, ℕ, zero, suc, ◌+◌, ◌<◌, ◌≤◌, List, [], ◌∷◌, ◌++◌, length, take, drop, Some, None, refl, sym, ◌∙◌, ap, subst, arith, inl, inr, ◌↔◌, length-append, take-append-drop}
 use Rattle.std.proofs.lemmas.Bool.{cases_lt, cases_eq}
 use Rattle.std.proofs.lemmas.List.{take_all, get_or_past, get_or-take, length-take-le}
 use Rattle.std.specs.Prelude.{Contains, slice_get}
 use Rattle.xs_class.proofs.Lists.{some_same, get_last}
 use Rattle.xs_chart.specs.declared.item.Item.{Item}
 use Rattle.xs_chart.specs.Different.{AreDifferent}
-use Rattle.xs_regex.specs.declared.position.Position.{Position}
-use Rattle.xs_gram.specs.declared.parts.GItem.TheVariants.{Fixed, Non}
+use Rattle.xs_gram.specs.declared.parts.GItem.TheVariants.{Fixed}
 use Rattle.xs_gram.specs.declared.places.Place.{Place}
-use Rattle.xs_gram.specs.Grammar.{Grammar, items, IsRuleOf, ItemAt}
+use Rattle.xs_gram.specs.Grammar.{Grammar, IsRuleOf, ItemAt}
 use Rattle.xs_gram.specs.Languages.{IsFront}
 use Rattle.xs_gram.specs.Sound.{IsBuilt, IsSound}
 use Rattle.xs_gram.specs.Chart.{Stands}
-use Rattle.xs_gram.specs.Places.{at_dot, at_inside}
+use Rattle.xs_gram.specs.Places.{at_dot}
 use Rattle.xs_chart_laws.specs.Reading.{Reads}
 use Rattle.xs_chart_laws.specs.Closed.{IsReached}
-use Rattle.xs_chart_laws.specs.Steps.{next_of, IsBefore, IsAtEnd, HasAutomaton, GoesBy, IsPassed, Arrives, IsSettled}
+use Rattle.xs_chart_laws.specs.Steps.{next_of, Arrives, IsSettled}
 use Rattle.xs_chart_laws.specs.Charts.{IsNumber, set_at, HasPlace, ItemStands, AllItemsStand, IsChartOf}
 use Rattle.xs_chart_laws.specs.Next.{IsDue, IsBegun}
-use Rattle.xs_chart_laws.proofs.Words.{get_lt, get_some, get_take, Reads-split, Reads-join, Reads-is, Reads-within}
-use Rattle.xs_chart_laws.proofs.Numbers.{one_place}
+use Rattle.xs_chart_laws.proofs.Words.{get_lt, get_some, get_take, Reads-split, Reads-join, Reads-is}
 use Rattle.xs_chart_laws.proofs.Standing.{standing_is_closed}
-use Rattle.xs_chart_laws.proofs.Fronts.{front_is_reached, reached_by_more}
+use Rattle.xs_chart_laws.proofs.Fronts.{front_is_reached}
 use Rattle.xs_chart_laws.proofs.Charts.{chart_stands, chart_all_stand, chart_has_all}
 use Rattle.xs_chart_laws.proofs.Steps.{passed_stands, called_stands, completed_stands, arrived_stands, start_stands}
 use Rattle.xs_chart_laws.proofs.Settling.{settled_is_chart, has_place_more}

@@ -1,24 +1,22 @@
 -- Items that are settled: by the kind of their place, while sets grow, and in the end as a chart.
-use Rattle.std.proofs.Common.{◌≡◌, ℕ, suc, ◌+◌, ◌<◌, List, length, refl, sym, subst, arith, ◌⊎◌, inl, inr, Some, None}
+use Rattle.std.proofs.Common.{◌≡◌, ℕ, suc, List, length, refl, subst, arith, inl, inr, Some, None}
 use Rattle.std.specs.declared.option.Option.{Option}
-use Rattle.std.specs.Prelude.{slice_get, Contains, IsTrue}
+use Rattle.std.specs.Prelude.{slice_get, Contains}
 use Rattle.xs_chart.specs.declared.item.Item.{Item}
 use Rattle.xs_chart.specs.Different.{AreDifferent}
 use Rattle.xs_regex.specs.declared.position.Position.{Position}
-use Rattle.xs_regex.specs.Automaton.{HasAt, Leads}
 use Rattle.xs_gram.specs.declared.parts.GItem.{GItem}
 use Rattle.xs_gram.specs.declared.parts.GItem.TheVariants.{Fixed, Non}
 use Rattle.xs_gram.specs.declared.places.Place.{Place}
 use Rattle.xs_gram.specs.Grammar.{Grammar, items, IsRuleOf, ItemAt}
-use Rattle.xs_gram.specs.Sound.{IsBuilt, IsNullable}
+use Rattle.xs_gram.specs.Sound.{IsBuilt}
 use Rattle.xs_gram.specs.Chart.{IsAutomatonOf}
 use Rattle.xs_gram.specs.Places.{at_dot, at_inside}
 use Rattle.xs_gram.proofs.Numbers.{place_once}
-use Rattle.xs_chart_laws.specs.Reading.{Reads}
 use Rattle.xs_chart_laws.specs.Closed.{IsClosedBy}
-use Rattle.xs_chart_laws.specs.Steps.{next_of, IsBefore, IsAtEnd, HasAutomaton, IsPassed, GoesBy, Arrives, IsSettled}
+use Rattle.xs_chart_laws.specs.Steps.{IsBefore, IsAtEnd, HasAutomaton, Arrives, IsSettled}
 use Rattle.xs_chart_laws.specs.Charts.{IsNumber, set_at, HasPlace, AllItemsStand, IsChartOf}
-use Rattle.xs_chart_laws.proofs.Words.{get_lt, Reads-is}
+use Rattle.xs_chart_laws.proofs.Words.{get_lt}
 use Rattle.xs_chart_laws.proofs.Spelling.{one_automaton}
 use Rattle.xs_chart_laws.proofs.Recognising.{closed_by}
 use Rattle.xs_chart_laws.proofs.Charts.{chart_stands, closed_is_chart}
