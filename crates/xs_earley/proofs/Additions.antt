@@ -1,15 +1,13 @@
 -- Sets to which items are added.
-use Rattle.std.proofs.Common.{◌≡◌, ℕ, suc, ◌+◌, ◌<◌, List, [], ◌∷◌, ◌++◌, length, take, get_or, set, Bool, true, false, if◌then◌else◌, refl, sym, ◌∙◌, ap, subst, arith, append_assoc, append-nil, ◌⊎◌, inl, inr, ◌↔◌, length-set, get_or-set_same, get_or-set_other}
+use Rattle.std.proofs.Common.{◌≡◌, ℕ, suc, ◌+◌, ◌<◌, List, [], ◌∷◌, ◌++◌, length, take, set, Bool, true, false, if◌then◌else◌, refl, sym, ◌∙◌, ap, subst, arith, append_assoc, append-nil, ◌⊎◌, inl, inr, ◌↔◌, length-set, get_or-set_same, get_or-set_other}
 use Rattle.std.specs.Prelude.{Contains, IsTrue}
 use Rattle.std.proofs.lemmas.Bool.{cases_eq, false≢true}
-use Rattle.std.proofs.lemmas.List.{take_more}
 use Rattle.std.proofs.lemmas.List.Elements.{Contains-append_left, Contains-append_right, Contains-append_cases, Contains-push, Contains-push_cases}
 use Rattle.xs_chart.specs.declared.item.Item.{Item}
 use Rattle.xs_chart.specs.Charted.{Charted, items_of, last_set, with_item, with_items}
 use Rattle.xs_gram.specs.declared.places.Place.{Place}
 use Rattle.xs_gram.specs.Grammar.{Grammar}
 use Rattle.xs_chart_laws.specs.Charts.{IsNumber, set_at}
-use Rattle.xs_chart_laws.proofs.Settling.{has_place_more}
 use Rattle.xs_earley.specs.Adding.{Puts, IsOf, Adds, Is}
 
 pub no_element : {X : Type 0} (x : X) → Contains [] x → ⊥
@@ -100,10 +98,6 @@ added_there old new at item false last is iff = elim (contains_cases (set_at old
   | inr never ↦ absurd (false≢true (iff.1 (λ h. never (subst (λ k. Contains (set_at old.sets k) item) (last_at old at last) h))))
 ]
 
--- the property for one of the numbers of a list
-abbrev pub Among : (ℕ → Place → ℕ → Type 0) → List ℕ → Place → ℕ → Type 0
-Among R list c i = (x : ℕ) × Contains list x × R x c i
-
 module _ (g : Grammar) (at : ℕ) where
   -- the item of a place and an origin
   pub adds_one : (p : Place) (k o : ℕ) (a b : List (List Item)) → IsNumber g k p → Puts at (λ x. x ≡ record { state = k; origin = o }) a b → Contains (set_at b at) (record { state = k; origin = o }) → Adds g at (Is p o) a b
@@ -120,37 +114,6 @@ module _ (g : Grammar) (at : ℕ) where
     puts = puts_weaker at (IsOf g P) (IsOf g Q) a b (λ item h. (h.0, h.1, to h.0 item.origin h.2)) adds.puts;
     there = λ c i q. adds.there c i (from c i q);
   }
-
-  pub adds_then : (P Q R : Place → ℕ → Type 0) (a b c : List (List Item)) → ((d : Place) (i : ℕ) → P d i → R d i) → ((d : Place) (i : ℕ) → Q d i → R d i) → ((d : Place) (i : ℕ) → R d i → P d i ⊎ Q d i) → Adds g at P a b → Adds g at Q b c → Adds g at R a c
-  adds_then P Q R a b c p q split first next = record {
-    puts = puts_then at (IsOf g P) (IsOf g Q) (IsOf g R) a b c (λ item h. (h.0, h.1, p h.0 item.origin h.2)) (λ item h. (h.0, h.1, q h.0 item.origin h.2)) first.puts next.puts;
-    there = λ d i r. elim (split d i r) [
-      | inl h ↦ has_place_more g b c at d i (puts_kept at (IsOf g Q) b c next.puts at) (first.there d i h)
-      | inr h ↦ next.there d i h
-    ];
-  }
-
-  pub among_none : (R : ℕ → Place → ℕ → Type 0) (a : List (List Item)) → Adds g at (Among R []) a a
-  among_none R a = adds_none (Among R []) a (λ c i h. no_element h.0 h.1)
-
-  -- one more number of the list
-  pub among_more : (R : ℕ → Place → ℕ → Type 0) (list : List ℕ) (n x : ℕ) (a b c : List (List Item)) → n < length list → x ≡ get_or list n 0 → Adds g at (Among R (take n list)) a b → Adds g at (R x) b c → Adds g at (Among R (take (n + 1) list)) a c
-  among_more R list n x a b c lt is first next = adds_then (Among R (take n list)) (R x) (Among R (take (n + 1) list)) a b c before here split first next
-    where
-      more : take (n + 1) list ≡ take n list ++ x ∷ []
-      more = take_more list n 0 lt ∙ ap (λ y. take n list ++ y ∷ []) (sym is)
-
-      before : (d : Place) (i : ℕ) → Among R (take n list) d i → Among R (take (n + 1) list) d i
-      before d i (y, h, r) = (y, subst (λ (l : List ℕ). Contains l y) (sym more) (Contains-append_left (take n list) (x ∷ []) y h), r)
-
-      here : (d : Place) (i : ℕ) → R x d i → Among R (take (n + 1) list) d i
-      here d i r = (x, subst (λ (l : List ℕ). Contains l x) (sym more) (Contains-push (take n list) x), r)
-
-      split : (d : Place) (i : ℕ) → Among R (take (n + 1) list) d i → Among R (take n list) d i ⊎ R x d i
-      split d i (y, h, r) = elim (Contains-push_cases (take n list) x y (subst (λ (l : List ℕ). Contains l y) more h)) [
-        | inl l ↦ inl (y, l, r)
-        | inr e ↦ inr (subst (λ z. R z d i) (sym e) r)
-      ]
 
 -- one item more of a list
 pub put_more : (items : List Item) (n at : ℕ) (item : Item) (a b c : List (List Item)) → take (n + 1) items ≡ take n items ++ item ∷ [] → Puts at (Contains (take n items)) a b → Puts at (λ x. x ≡ item) b c → Puts at (Contains (take (n + 1) items)) a c

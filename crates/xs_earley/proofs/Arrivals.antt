@@ -264,7 +264,7 @@ spelt_length letters from end f h =
 spelt_letter : (letters : List ℕ) (from end : ℕ) (f : List ℕ) (k x : ℕ) → IsSpelt letters from end f → slice_get f k ≡ Some x → slice_get letters (from + k) ≡ Some x
 spelt_letter letters from end f k x h e = sym (get_drop letters from k) ∙ taken_get (end - from) (drop from letters) k x (ap (λ (l : List ℕ). slice_get l k) h.is ∙ e)
 
-letter_spelt : (letters : List ℕ) (from end : ℕ) (f : List ℕ) (k x : ℕ) → IsSpelt letters from end f → k < length f → slice_get letters (from + k) ≡ Some x → slice_get f k ≡ Some x
+pub letter_spelt : (letters : List ℕ) (from end : ℕ) (f : List ℕ) (k x : ℕ) → IsSpelt letters from end f → k < length f → slice_get letters (from + k) ≡ Some x → slice_get f k ≡ Some x
 letter_spelt letters from end f k x h lt e =
     let y = get_some f k lt in
     y.1 ∙ ap (λ z. Some z) (some_same (slice_get letters (from + k)) y.0 x (spelt_letter letters from end f k y.0 h y.1) e)

@@ -23,7 +23,7 @@ use Rattle.xs_earley.specs.declared.rows.Stand.TheVariants.{AtEnd, AtNon, AtWord
 use Rattle.xs_earley.specs.Arriving.{gathered, at_has, positions_at, entered, lex_due, word_due, word_begun, due_at, begun_at, item_due, item_begun, rest_due, rest_begun, more_due, more_begun, AreBegun}
 use Rattle.xs_earley.specs.Facts.{row_at}
 use Rattle.xs_earley.specs.Following.{class_at, lex_next, letter_next, next_at, item_next, rest_next, more_next}
-use Rattle.xs_earley.specs.Running.{IsRunOf}
+use Rattle.xs_earley.specs.Running.{unsteady, IsRunOf}
 use Rattle.xs_earley.specs.Stages.{AreDue}
 use Rattle.xs_earley.proofs.Arrivals.{gathered_in, gathered_has, class_in, in_if, if_in, word_in, word_has, begun_in, begun_has, no_item, no_begun, due_iff, fresh_iff}
 use Rattle.xs_earley.proofs.Steppings.{run_back, step_stops, step_goes}
@@ -177,7 +177,7 @@ module _ (g : Grammar) (f : Facts) (s : ℕ) (items : List Item) (begun : List B
   ]
 
 -- after the last set of a run
-last_goes : (g : Grammar) (w : List ℕ) (s : ℕ) (f : Facts) (chart : Charted) (begun : List (List Begun)) (marks : ℕ) → IsRunOf g (record { word = w; chart = chart; begun = begun; facts = f; marks = marks }) → Has (all_next g f s (set_at chart.sets (length w)) (slice_index_or begun (length w) [])) s ↔ IsFront g (w ++ s ∷ [])
+last_goes : (g : Grammar) (w : List ℕ) (s : ℕ) (f : Facts) (chart : Charted) (begun : List (List Begun)) (marks : ℕ) → IsRunOf g (unsteady w chart begun f marks) → Has (all_next g f s (set_at chart.sets (length w)) (slice_index_or begun (length w) [])) s ↔ IsFront g (w ++ s ∷ [])
 last_goes g w s f chart begun marks run = (to, from)
   where
     items : List Item
@@ -218,7 +218,7 @@ last_goes g w s f chart begun marks run = (to, from)
     ]
 
 -- after any of its sets
-pub following_goes : (g : Grammar) (w : List ℕ) (f : Facts) (chart : Charted) (begun : List (List Begun)) (marks : ℕ) → IsRunOf g (record { word = w; chart = chart; begun = begun; facts = f; marks = marks }) → (at : ℕ) → at ≤ length w → (s : ℕ) → Has (gathered (item_next g f) (set_at chart.sets at) ++ gathered (more_next f) (slice_index_or begun at [])) s ↔ IsFront g (take at w ++ s ∷ [])
+pub following_goes : (g : Grammar) (w : List ℕ) (f : Facts) (chart : Charted) (begun : List (List Begun)) (marks : ℕ) → IsRunOf g (unsteady w chart begun f marks) → (at : ℕ) → at ≤ length w → (s : ℕ) → Has (gathered (item_next g f) (set_at chart.sets at) ++ gathered (more_next f) (slice_index_or begun at [])) s ↔ IsFront g (take at w ++ s ∷ [])
 following_goes g w f chart begun marks run at le s =
     subst (λ (l : List Begun). Has (gathered (item_next g f) (set_at chart.sets at) ++ gathered (more_next f) l) s ↔ IsFront g (take at w ++ s ∷ [])) words
     (subst (λ (l : List Item). Has (gathered (item_next g f) l ++ gathered (more_next f) (slice_index_or (take (at + 1) begun) (length (take at w)) [])) s ↔ IsFront g (take at w ++ s ∷ [])) items
@@ -234,10 +234,10 @@ following_goes g w f chart begun marks run at le s =
     words = ap (λ n. slice_index_or (take (at + 1) begun) n []) long ∙ get_or-take (at + 1) begun at [] (omega arith)
 
 -- the items and begun words of a run have rows
-pub item_there : (g : Grammar) (w : List ℕ) (f : Facts) (chart : Charted) (begun : List (List Begun)) (marks : ℕ) → IsRunOf g (record { word = w; chart = chart; begun = begun; facts = f; marks = marks }) → (at : ℕ) (item : Item) → Contains (set_at chart.sets at) item → item.state < length (all_places g)
+pub item_there : (g : Grammar) (w : List ℕ) (f : Facts) (chart : Charted) (begun : List (List Begun)) (marks : ℕ) → IsRunOf g (unsteady w chart begun f marks) → (at : ℕ) (item : Item) → Contains (set_at chart.sets at) item → item.state < length (all_places g)
 item_there g w f chart begun marks run at item h = let st = (run.chart.stand at item).0 h in get_lt (all_places g) item.state st.0 st.1
 
-pub begun_there : (g : Grammar) (w : List ℕ) (f : Facts) (chart : Charted) (begun : List (List Begun)) (marks : ℕ) → IsRunOf g (record { word = w; chart = chart; begun = begun; facts = f; marks = marks }) → (at : ℕ) → at ≤ length w → (b : Begun) → Contains (slice_index_or begun at []) b → b.state < length f.rows.items
+pub begun_there : (g : Grammar) (w : List ℕ) (f : Facts) (chart : Charted) (begun : List (List Begun)) (marks : ℕ) → IsRunOf g (unsteady w chart begun f marks) → (at : ℕ) → at ≤ length w → (b : Begun) → Contains (slice_index_or begun at []) b → b.state < length f.rows.items
 begun_there g w f chart begun marks run at le b h =
     let a = ((run.begun at le b).0 h).1 in
     let e = run.facts.rows.counted in

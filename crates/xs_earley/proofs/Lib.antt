@@ -3,7 +3,9 @@ pub mod Growths
 pub mod Settlings
 pub mod Completing
 pub mod Predicting
+pub mod Marks
 pub mod Queues
+pub mod Idles
 pub mod Tables
 pub mod Wholes
 pub mod Rowings
@@ -11,3 +13,5 @@ pub mod Arrivals
 pub mod Maskings
 pub mod Steppings
 pub mod Followings
+pub mod Alike
+pub mod Steadiness

@@ -47,10 +47,20 @@ waited_some g old new at k state non place last num before here others earlier =
     ]
 
 -- and in none where it stands before none
-pub waited_none : (g : Grammar) (chart : Charted) (at k state : ℕ) (place : Place) → IsNumber g state place → ((non : ℕ) → IsBefore g place non → ⊥) → Waited g at k state chart chart
-waited_none g chart at k state place num never = record {
-  elsewhere = λ j m ne. refl;
-  there = λ m. inr ((λ h. never m (before_at g state m place h num)), refl);
+pub waited_none : (g : Grammar) (old new : Charted) (at k state : ℕ) (place : Place) → new.waits ≡ old.waits → IsNumber g state place → ((non : ℕ) → IsBefore g place non → ⊥) → Waited g at k state old new
+waited_none g old new at k state place same num never = record {
+  elsewhere = λ j m ne. waiting_same old new j m same;
+  there = λ m. inr ((λ h. never m (before_at g state m place h num)), waiting_same old new at m same);
+}
+
+-- where the waiting lists were as they are when the number is put there
+pub waited_after : (g : Grammar) (old mid new : Charted) (at k state : ℕ) → mid.waits ≡ old.waits → Waited g at k state mid new → Waited g at k state old new
+waited_after g old mid new at k state same waited = record {
+  elsewhere = λ j m ne. waited.elsewhere j m ne ∙ waiting_same old mid j m same;
+  there = λ m. elim (waited.there m) [
+    | inl h ↦ inl (h.0, h.1 ∙ ap (λ (l : List ℕ). l ++ k ∷ []) (waiting_same old mid at m same))
+    | inr h ↦ inr (h.0, h.1 ∙ waiting_same old mid at m same)
+  ];
 }
 
 -- the list has the numbers below k that have the property, each once
@@ -120,33 +130,30 @@ waits_list g chart at k waits non = record { exact = waits.exact non; once = wai
 waits_from : (g : Grammar) (chart : Charted) (at k : ℕ) → ((non : ℕ) → AreBelow (waiting_of chart at non) k (IsWaiting g (items_of chart at) non)) → WaitsBelow g chart at k
 waits_from g chart at k all = record { exact = λ non. (all non).exact; once = λ non. (all non).once }
 
--- item k is put in its list, and then the set grows
-pub waits_more : (g : Grammar) (w : List ℕ) (old mid new : Charted) (at k : ℕ) (item : Item) → WaitsBelow g old at k → slice_get (items_of old at) k ≡ Some item → Waited g at k item.state old mid → mid.sets ≡ old.sets → Grown g w at mid.sets new.sets → new.waits ≡ mid.waits → WaitsBelow g new at (k + 1)
-waits_more g w old mid new at k item waits there waited same grows kept = waits_from g new at (k + 1) each
+-- item k is put in its list, and the set grows
+pub waits_more : (g : Grammar) (w : List ℕ) (old new : Charted) (at k : ℕ) (item : Item) → WaitsBelow g old at k → slice_get (items_of old at) k ≡ Some item → Waited g at k item.state old new → Grown g w at old.sets new.sets → WaitsBelow g new at (k + 1)
+waits_more g w old new at k item waits there waited grows = waits_from g new at (k + 1) each
   where
-    grows' : Grown g w at old.sets new.sets
-    grows' = subst (λ s. Grown g w at s new.sets) same grows
-
     lt : k < length (items_of old at)
     lt = slice_get_within (items_of old at) k item there
 
     now : slice_get (items_of new at) k ≡ Some item
-    now = put_item_more at (Standing g w at) old.sets new.sets grows' k item there
+    now = put_item_more at (Standing g w at) old.sets new.sets grows k item there
 
     alike : (non n : ℕ) → n < k → IsWaiting g (items_of old at) non n ↔ IsWaiting g (items_of new at) non n
     alike non n below = (
-      (λ h. (h.0, put_item_more at (Standing g w at) old.sets new.sets grows' n h.0 h.1, h.2)),
-      (λ h. let before : n < length (items_of old at) = omega (arith, lt) in (h.0, put_item at (Standing g w at) old.sets new.sets grows' n h.0 before h.1, h.2)),
+      (λ h. (h.0, put_item_more at (Standing g w at) old.sets new.sets grows n h.0 h.1, h.2)),
+      (λ h. let before : n < length (items_of old at) = omega (arith, lt) in (h.0, put_item at (Standing g w at) old.sets new.sets grows n h.0 before h.1, h.2)),
     )
 
     first : (non : ℕ) → AreBelow (waiting_of old at non) k (IsWaiting g (items_of new at) non)
     first non = below_same (waiting_of old at non) k (IsWaiting g (items_of old at) non) (IsWaiting g (items_of new at) non) (alike non) (waits_list g old at k waits non)
 
     each : (non : ℕ) → AreBelow (waiting_of new at non) (k + 1) (IsWaiting g (items_of new at) non)
-    each non = subst (λ l. AreBelow l (k + 1) (IsWaiting g (items_of new at) non)) (sym (waiting_same mid new at non kept)) (elim (waited.there non) [
+    each non = elim (waited.there non) [
       | inl h ↦ subst (λ l. AreBelow l (k + 1) (IsWaiting g (items_of new at) non)) (sym h.1) (below_push (waiting_of old at non) k (IsWaiting g (items_of new at) non) (item, now, h.0) (first non))
       | inr h ↦ subst (λ l. AreBelow l (k + 1) (IsWaiting g (items_of new at) non)) (sym h.1) (below_skip (waiting_of old at non) k (IsWaiting g (items_of new at) non) (λ x. h.0 (subst (λ (y : Item). IsNumberBefore g y.state non) (some_same (slice_get (items_of new at) k) x.0 item x.1 now) x.2)) (first non))
-    ])
+    ]
 
 -- the lists of all items are exact
 pub waits_exact : (g : Grammar) (chart : Charted) (at : ℕ) → WaitsBelow g chart at (length (items_of chart at)) → (non : ℕ) → IsExact g chart at non
@@ -159,16 +166,16 @@ waits_none g chart at none = record {
   once = λ non a b n x y. absurd (no_element n (subst (λ (l : List ℕ). Contains l n) (none non) (contains_of (waiting_of chart at non) a n x)));
 }
 
--- an item before a nonterminal, by its row
-pub waited_at : (g : Grammar) (f : Facts) → AreFacts g f → (old new : Charted) (at k : ℕ) (was item : Item) (row : Row) (non : ℕ) → length old.sets ≡ suc at → slice_get (items_of old at) k ≡ Some was → slice_get (items_of old at) k ≡ Some item → was.state < length (all_places g) → row ≡ row_at f.rows.items was.state → row.stand ≡ AtNon non → waiting_of new (last_set old) non ≡ waiting_of old (last_set old) non ++ k ∷ [] → ((other : ℕ) → other ≢ non → waiting_of new (last_set old) other ≡ waiting_of old (last_set old) other) → ((set other : ℕ) → set ≢ last_set old → waiting_of new set other ≡ waiting_of old set other) → Waited g at k item.state old new
-waited_at g f facts old new at k was item row non last e there lt is stand here others earlier =
-    let p = get_some (all_places g) was.state lt in
-    let before : IsBefore g p.0 non = subst (λ s. IsStand g f.letters.items p.0 s) stand (row_is g f facts was.state p.0 p.1 row is).stand in
-    subst (λ (x : Item). Waited g at k x.state old new) (some_same (slice_get (items_of old at) k) was item e there) (waited_some g old new at k was.state non p.0 last p.1 before here others earlier)
+-- a state before a nonterminal, by its row
+pub waited_at : (g : Grammar) (f : Facts) → AreFacts g f → (old new : Charted) (at k state : ℕ) (row : Row) (non : ℕ) → length old.sets ≡ suc at → state < length (all_places g) → row ≡ row_at f.rows.items state → row.stand ≡ AtNon non → waiting_of new (last_set old) non ≡ waiting_of old (last_set old) non ++ k ∷ [] → ((other : ℕ) → other ≢ non → waiting_of new (last_set old) other ≡ waiting_of old (last_set old) other) → ((set other : ℕ) → set ≢ last_set old → waiting_of new set other ≡ waiting_of old set other) → Waited g at k state old new
+waited_at g f facts old new at k state row non last lt is stand here others earlier =
+    let p = get_some (all_places g) state lt in
+    let before : IsBefore g p.0 non = subst (λ s. IsStand g f.letters.items p.0 s) stand (row_is g f facts state p.0 p.1 row is).stand in
+    waited_some g old new at k state non p.0 last p.1 before here others earlier
 
 -- and one that stands before none
-pub waited_not : (g : Grammar) (f : Facts) → AreFacts g f → (chart : Charted) (at k : ℕ) (was item : Item) (row : Row) → slice_get (items_of chart at) k ≡ Some was → slice_get (items_of chart at) k ≡ Some item → was.state < length (all_places g) → row ≡ row_at f.rows.items was.state → ((non : ℕ) → row.stand ≡ AtNon non → ⊥) → Waited g at k item.state chart chart
-waited_not g f facts chart at k was item row e there lt is never =
-    let p = get_some (all_places g) was.state lt in
-    let r = row_is g f facts was.state p.0 p.1 row is in
-    subst (λ (x : Item). Waited g at k x.state chart chart) (some_same (slice_get (items_of chart at) k) was item e there) (waited_none g chart at k was.state p.0 p.1 (λ non before. never non (before_stand g f.letters.items p.0 row.stand non r.stand before)))
+pub waited_not : (g : Grammar) (f : Facts) → AreFacts g f → (old new : Charted) (at k state : ℕ) (row : Row) → new.waits ≡ old.waits → state < length (all_places g) → row ≡ row_at f.rows.items state → ((non : ℕ) → row.stand ≡ AtNon non → ⊥) → Waited g at k state old new
+waited_not g f facts old new at k state row same lt is never =
+    let p = get_some (all_places g) state lt in
+    let r = row_is g f facts state p.0 p.1 row is in
+    waited_none g old new at k state p.0 same p.1 (λ non before. never non (before_stand g f.letters.items p.0 row.stand non r.stand before))

@@ -1,7 +1,7 @@
 -- A run that begins, goes on by a symbol, and goes back.
-use Rattle.std.proofs.Common.{◌≡◌, ◌≢◌, ℕ, zero, suc, ◌+◌, ◌-◌, ◌<◌, ◌≤◌, List, [], ◌∷◌, ◌++◌, length, take, drop, Some, refl, sym, ◌∙◌, ap, subst, arith, inl, inr, length-append, take-append-drop, append-nil}
+use Rattle.std.proofs.Common.{◌≡◌, ◌≢◌, ℕ, zero, suc, ◌+◌, ◌-◌, ◌<◌, ◌≤◌, Bool, true, false, if◌then◌else◌, List, [], ◌∷◌, ◌++◌, length, take, drop, Some, refl, sym, ◌∙◌, ap, subst, arith, inl, inr, length-append, take-append-drop, append-nil}
 use Rattle.std.specs.Prelude.{Contains, slice_get, slice_index_or}
-use Rattle.std.proofs.lemmas.Bool.{cases_eq, cases_lt}
+use Rattle.std.proofs.lemmas.Bool.{cases_eq, cases_lt, false≢true}
 use Rattle.std.proofs.lemmas.List.{take_all, get_or_past, get_or_append_left, get_or_at, get_or-take, length-take-le}
 use Rattle.xs_class.proofs.Lists.{contains_of, get_of, first_in}
 use Rattle.xs_chart.specs.declared.item.Item.{Item}
@@ -30,7 +30,7 @@ use Rattle.xs_earley.specs.Arriving.{AreBegun}
 use Rattle.xs_earley.specs.Masks.{AreMasks}
 use Rattle.xs_earley.specs.Facts.{AreFacts}
 use Rattle.xs_earley.specs.Growing.{Standing, Grown, IsSettledAt, IsExact, IsOpen}
-use Rattle.xs_earley.specs.Running.{Running, IsRunOf}
+use Rattle.xs_earley.specs.Running.{Running, unsteady, IsRunOf}
 use Rattle.xs_earley.specs.Stages.{AreDue, KeepsFirst}
 use Rattle.xs_earley.specs.Waiting.{WaitsBelow}
 use Rattle.xs_earley.proofs.Additions.{no_element, puts_kept}
@@ -39,6 +39,10 @@ use Rattle.xs_earley.proofs.Growths.{grown_stand, exact_same}
 use Rattle.xs_earley.proofs.Predicting.{arrives_later}
 use Rattle.xs_earley.proofs.Queues.{waits_exact, waits_none}
 use Rattle.xs_earley.proofs.Settlings.{adds_grown}
+
+-- a run that is not known to be steady says nothing of it
+never_steady : {A : Type 0} → false ≡ true → A
+never_steady e = absurd (false≢true e)
 
 length-take-most : {A : Type 0} (n : ℕ) (xs : List A) → length (take n xs) ≤ n
 length-take-most zero xs = omega arith
@@ -64,6 +68,18 @@ waits_beyond g chart waiters j non le = no_elements (waiting_of chart j non) nev
     never n h =
         let x = (waiters.exact j non n).0 h in
         no_element x.0 (contains_of [] n x.0 (subst (λ (l : List Item). slice_get l n ≡ Some x.0) (get_or_past chart.sets j [] le) x.1))
+
+-- a set that is opened and does not repeat the last one is empty, and nothing waits in it
+pub sets_opened : (old new : List (List Item)) (repeats : Bool) (last : List Item) → repeats ≡ false → new ≡ old ++ (if repeats then last else []) ∷ [] → new ≡ old ++ [] ∷ []
+sets_opened old new repeats last off is = subst (λ b. new ≡ old ++ (if b then last else []) ∷ []) off is
+
+pub waits_opened : (g : Grammar) (old new : Charted) (repeats : Bool) (last : ℕ → List ℕ) → HasWaiters g old → repeats ≡ false → ((j non : ℕ) → j ≢ length old.sets → waiting_of new j non ≡ waiting_of old j non) → ((non : ℕ) → waiting_of new (length old.sets) non ≡ (if repeats then last non else [])) → (j non : ℕ) → waiting_of new j non ≡ waiting_of old j non
+waits_opened g old new repeats last waiters off kept own j non = elim (cases_eq j (length old.sets)) [
+  | inr ne ↦ kept j non ne
+  | inl e ↦ (
+      let none : waiting_of new j non ≡ [] = ap (λ k. waiting_of new k non) e ∙ own non ∙ ap (λ b. if b then last non else []) off in
+      none ∙ sym (waits_beyond g old waiters j non (omega (arith, e))))
+]
 
 -- what waits in one more set that was closed
 waiters_more : (g : Grammar) (old new : Charted) (at : ℕ) → HasWaiters g old → ((j : ℕ) → j ≢ at → items_of new j ≡ items_of old j) → ((j non : ℕ) → j ≢ at → waiting_of new j non ≡ waiting_of old j non) → WaitsBelow g new at (length (items_of new at)) → HasWaiters g new
@@ -144,7 +160,7 @@ begun_first : (g : Grammar) (sets : List (List Item)) → AreBegun g [] sets 0 [
 begun_first g sets b = ((λ h. absurd (no_element b h)), (λ h. let e = h.1.is in let some = h.0 in absurd (omega (arith, e, some))))
 
 -- a run over the empty word
-pub run_first : (g : Grammar) (f : Facts) (chart : Charted) (begun : List (List Begun)) (marks : ℕ) → IsSound g → AreFacts g f → AreMasks g f (length (all_places g)) f.masks.items → marks ≡ g.nons → IsChartOf g [] chart.sets → HasWaiters g chart → begun ≡ [] ∷ [] → IsRunOf g (record { word = []; chart = chart; begun = begun; facts = f; marks = marks })
+pub run_first : (g : Grammar) (f : Facts) (chart : Charted) (begun : List (List Begun)) (marks : ℕ) → IsSound g → AreFacts g f → AreMasks g f (length (all_places g)) f.masks.items → marks ≡ g.nons → IsChartOf g [] chart.sets → HasWaiters g chart → begun ≡ [] ∷ [] → IsRunOf g (unsteady [] chart begun f marks)
 run_first g f chart begun marks sound facts masks counted is waiters one = record {
   sound = sound;
   facts = facts;
@@ -156,11 +172,41 @@ run_first g f chart begun marks sound facts masks counted is waiters one = recor
   counted = ap (λ (l : List (List Begun)). length l) one;
   begun = λ k le. subst (λ j. AreBegun g [] chart.sets j (slice_index_or begun j [])) (omega (arith, le)) (subst (λ (l : List (List Begun)). AreBegun g [] chart.sets 0 (slice_index_or l 0 [])) (sym one) (begun_first g chart.sets));
   front = (let d = sound.productive g.start sound.built.range.start in (yield d.0, (d.0, (d.1, refl))));
+  steady = never_steady;
 }
+
+-- BEGUN WORDS
+
+module _ (g : Grammar) (w : List ℕ) (s : ℕ) (old new : List (List Item)) (begun : List (List Begun)) (counted : length begun ≡ suc (length w)) (known : (k : ℕ) → k ≤ length w → AreBegun g w old k (slice_index_or begun k [])) (before : (j : ℕ) → j ≤ length w → set_at new j ≡ set_at old j) (fresh : List Begun) (exact : AreBegun g (w ++ s ∷ []) old (suc (length w)) fresh) (on : List (List Begun)) (is : on ≡ begun ++ fresh ∷ []) where
+  last_sets : (state origin count : ℕ) → 0 < count → IsBegun g (w ++ s ∷ []) old (suc (length w)) state origin count → IsBegun g (w ++ s ∷ []) new (suc (length w)) state origin count
+  last_sets state origin count some b = record { from = b.from; place = b.place; word = b.word; number = b.number; outside = b.outside; item = b.item; there = (let e = b.is in subst (λ (l : List Item). Contains l (record { state = state; origin = origin })) (sym (before b.from (omega (arith, e, some)))) b.there); more = b.more; is = b.is; reads = b.reads }
+
+  old_sets : (state origin count : ℕ) → 0 < count → IsBegun g (w ++ s ∷ []) new (suc (length w)) state origin count → IsBegun g (w ++ s ∷ []) old (suc (length w)) state origin count
+  old_sets state origin count some b = record { from = b.from; place = b.place; word = b.word; number = b.number; outside = b.outside; item = b.item; there = (let e = b.is in subst (λ (l : List Item). Contains l (record { state = state; origin = origin })) (before b.from (omega (arith, e, some))) b.there); more = b.more; is = b.is; reads = b.reads }
+
+  last : AreBegun g (w ++ s ∷ []) new (suc (length w)) fresh
+  last b = ((λ h. let x = (exact b).0 h in (x.0, last_sets b.state b.origin b.count x.0 x.1)), (λ x. (exact b).1 (x.0, old_sets b.state b.origin b.count x.0 x.1)))
+
+  front_of : (k : ℕ) → k ≤ length w → AreBegun g (w ++ s ∷ []) new k (slice_index_or begun k [])
+  front_of k le b =
+      let iff = known k le b in (
+        (λ h. let x = iff.0 h in (x.0, begun_longer g w (s ∷ []) old new k b.state b.origin b.count le (λ j lej. before j (omega (arith, le, lej))) x.1)),
+        (λ x. iff.1 (x.0, begun_shorter g w (s ∷ []) old new k b.state b.origin b.count le (λ j lej. before j (omega (arith, le, lej))) x.1)),
+      )
+
+  -- beside the sets with one more stand the words that were begun before, and the fresh ones
+  pub begun_next : (k : ℕ) → k ≤ length (w ++ s ∷ []) → AreBegun g (w ++ s ∷ []) new k (slice_index_or on k [])
+  begun_next k le = subst (λ (l : List (List Begun)). AreBegun g (w ++ s ∷ []) new k (slice_index_or l k [])) (sym is) (elim (cases_lt (length w) k) [
+    | inr under ↦ subst (λ (l : List Begun). AreBegun g (w ++ s ∷ []) new k l) (sym (get_or_append_left begun (fresh ∷ []) [] k (omega (arith, counted, under)))) (front_of k under)
+    | inl over ↦
+        let e : k ≡ suc (length w) = let l = length-append w (s ∷ []) in omega (arith, le, over, l) in
+        let row : slice_index_or (begun ++ fresh ∷ []) k [] ≡ fresh = get_or_at begun fresh [] [] k (omega (arith, e, counted)) in
+        subst (λ (l : List Begun). AreBegun g (w ++ s ∷ []) new k l) (sym row) (subst (λ j. AreBegun g (w ++ s ∷ []) new j fresh) (sym e) last)
+  ])
 
 -- ONE SYMBOL MORE
 
-module _ (g : Grammar) (w : List ℕ) (s : ℕ) (f : Facts) (old : Charted) (begun : List (List Begun)) (marks : ℕ) (run : IsRunOf g (record { word = w; chart = old; begun = begun; facts = f; marks = marks })) (due : List Item) (are_due : AreDue g w s old.sets due) (pushed mid : Charted) (sets : pushed.sets ≡ old.sets ++ [] ∷ []) (waiting : (j non : ℕ) → waiting_of pushed j non ≡ waiting_of old j non) (puts : Puts (suc (length w)) (Contains due) pushed.sets mid.sets) (there : (item : Item) → Contains due item → Contains (items_of mid (suc (length w))) item) (same : mid.waits ≡ pushed.waits) where
+module _ (g : Grammar) (w : List ℕ) (s : ℕ) (f : Facts) (old : Charted) (begun : List (List Begun)) (marks : ℕ) (run : IsRunOf g (unsteady w old begun f marks)) (due : List Item) (are_due : AreDue g w s old.sets due) (pushed mid : Charted) (sets : pushed.sets ≡ old.sets ++ [] ∷ []) (waiting : (j non : ℕ) → waiting_of pushed j non ≡ waiting_of old j non) (puts : Puts (suc (length w)) (Contains due) pushed.sets mid.sets) (there : (item : Item) → Contains due item → Contains (items_of mid (suc (length w))) item) (same : mid.waits ≡ pushed.waits) where
   at : ℕ
   at = suc (length w)
 
@@ -229,8 +275,8 @@ module _ (g : Grammar) (w : List ℕ) (s : ℕ) (f : Facts) (old : Charted) (beg
             let h = there item ((are_due item).1 (d, n.1, x)) in
             (n.0, n.1, puts_kept (suc (length w)) (Standing g (w ++ s ∷ []) (suc (length w))) mid.sets new.sets grown (suc (length w)) item h)
 
-    pub next_run : (fresh : List Begun) → AreBegun g (w ++ s ∷ []) old.sets (suc (length w)) fresh → (on : List (List Begun)) → on ≡ begun ++ fresh ∷ [] → length w + 1 < set_limit → IsFront g (w ++ s ∷ []) → (word : List ℕ) → word ≡ w ++ s ∷ [] → (more : ℕ) → more ≡ marks → IsRunOf g (record { word = word; chart = new; begun = on; facts = f; marks = more })
-    next_run fresh exact on is few front word same_word more same_marks = subst (λ (u : List ℕ). IsRunOf g (record { word = u; chart = new; begun = on; facts = f; marks = more })) (sym same_word) (record {
+    pub next_run : (fresh : List Begun) → AreBegun g (w ++ s ∷ []) old.sets (suc (length w)) fresh → (on : List (List Begun)) → on ≡ begun ++ fresh ∷ [] → length w + 1 < set_limit → IsFront g (w ++ s ∷ []) → (word : List ℕ) → word ≡ w ++ s ∷ [] → (more : ℕ) → more ≡ marks → IsRunOf g (unsteady word new on f more)
+    next_run fresh exact on is few front word same_word more same_marks = subst (λ (u : List ℕ). IsRunOf g (unsteady u new on f more)) (sym same_word) (record {
       sound = run.sound;
       facts = run.facts;
       masks = run.masks;
@@ -239,39 +285,15 @@ module _ (g : Grammar) (w : List ℕ) (s : ℕ) (f : Facts) (old : Charted) (beg
       chart = next_chart;
       waiters = waiters_more g old new (suc (length w)) run.waiters new_items (λ j non ne. earlier j non ne ∙ mid_waits j non) waits;
       counted = ap (λ (l : List (List Begun)). length l) is ∙ (let e = length-append begun (fresh ∷ []) in let c = run.counted in omega (arith, e, c, end));
-      begun = each;
+      begun = begun_next g w s old.sets new.sets begun run.counted run.begun before fresh exact on is;
       front = front;
+      steady = never_steady;
     })
-      where
-        last_sets : (state origin count : ℕ) → 0 < count → IsBegun g (w ++ s ∷ []) old.sets (suc (length w)) state origin count → IsBegun g (w ++ s ∷ []) new.sets (suc (length w)) state origin count
-        last_sets state origin count some b = record { from = b.from; place = b.place; word = b.word; number = b.number; outside = b.outside; item = b.item; there = (let e = b.is in subst (λ (l : List Item). Contains l (record { state = state; origin = origin })) (sym (before b.from (omega (arith, e, some)))) b.there); more = b.more; is = b.is; reads = b.reads }
-
-        old_sets : (state origin count : ℕ) → 0 < count → IsBegun g (w ++ s ∷ []) new.sets (suc (length w)) state origin count → IsBegun g (w ++ s ∷ []) old.sets (suc (length w)) state origin count
-        old_sets state origin count some b = record { from = b.from; place = b.place; word = b.word; number = b.number; outside = b.outside; item = b.item; there = (let e = b.is in subst (λ (l : List Item). Contains l (record { state = state; origin = origin })) (before b.from (omega (arith, e, some))) b.there); more = b.more; is = b.is; reads = b.reads }
-
-        last : AreBegun g (w ++ s ∷ []) new.sets (suc (length w)) fresh
-        last b = ((λ h. let x = (exact b).0 h in (x.0, last_sets b.state b.origin b.count x.0 x.1)), (λ x. (exact b).1 (x.0, old_sets b.state b.origin b.count x.0 x.1)))
-
-        front_of : (k : ℕ) → k ≤ length w → AreBegun g (w ++ s ∷ []) new.sets k (slice_index_or begun k [])
-        front_of k le b =
-            let iff = run.begun k le b in (
-              (λ h. let x = iff.0 h in (x.0, begun_longer g w (s ∷ []) old.sets new.sets k b.state b.origin b.count le (λ j lej. before j (omega (arith, le, lej))) x.1)),
-              (λ x. iff.1 (x.0, begun_shorter g w (s ∷ []) old.sets new.sets k b.state b.origin b.count le (λ j lej. before j (omega (arith, le, lej))) x.1)),
-            )
-
-        each : (k : ℕ) → k ≤ length (w ++ s ∷ []) → AreBegun g (w ++ s ∷ []) new.sets k (slice_index_or on k [])
-        each k le = subst (λ (l : List (List Begun)). AreBegun g (w ++ s ∷ []) new.sets k (slice_index_or l k [])) (sym is) (elim (cases_lt (length w) k) [
-          | inr under ↦ subst (λ (l : List Begun). AreBegun g (w ++ s ∷ []) new.sets k l) (sym (get_or_append_left begun (fresh ∷ []) [] k (let c = run.counted in omega (arith, c, under)))) (front_of k under)
-          | inl over ↦
-              let e : k ≡ suc (length w) = omega (arith, le, over, end) in
-              let row : slice_index_or (begun ++ fresh ∷ []) k [] ≡ fresh = get_or_at begun fresh [] [] k (let c = run.counted in omega (arith, e, c)) in
-              subst (λ (l : List Begun). AreBegun g (w ++ s ∷ []) new.sets k l) (sym row) (subst (λ j. AreBegun g (w ++ s ∷ []) new.sets j fresh) (sym e) last)
-        ])
 
 -- BACK
 
 -- the chart of the same sets and waiting lists, of which those beyond the sets are left out
-pub run_same : (g : Grammar) (w : List ℕ) (f : Facts) (old new : Charted) (begun : List (List Begun)) (marks : ℕ) → IsRunOf g (record { word = w; chart = old; begun = begun; facts = f; marks = marks }) → new.sets ≡ old.sets → ((j non : ℕ) → waiting_of new j non ≡ waiting_of old j non) → IsRunOf g (record { word = w; chart = new; begun = begun; facts = f; marks = marks })
+pub run_same : (g : Grammar) (w : List ℕ) (f : Facts) (old new : Charted) (begun : List (List Begun)) (marks : ℕ) → IsRunOf g (unsteady w old begun f marks) → new.sets ≡ old.sets → ((j non : ℕ) → waiting_of new j non ≡ waiting_of old j non) → IsRunOf g (unsteady w new begun f marks)
 run_same g w f old new begun marks run sets same = record {
   sound = run.sound;
   facts = run.facts;
@@ -283,9 +305,10 @@ run_same g w f old new begun marks run sets same = record {
   counted = run.counted;
   begun = λ k le. subst (λ (s : List (List Item)). AreBegun g w s k (slice_index_or begun k [])) (sym sets) (run.begun k le);
   front = run.front;
+  steady = never_steady;
 }
 
-module _ (g : Grammar) (w : List ℕ) (f : Facts) (chart : Charted) (begun : List (List Begun)) (marks : ℕ) (run : IsRunOf g (record { word = w; chart = chart; begun = begun; facts = f; marks = marks })) (len : ℕ) (within : len ≤ length w) where
+module _ (g : Grammar) (w : List ℕ) (f : Facts) (chart : Charted) (begun : List (List Begun)) (marks : ℕ) (run : IsRunOf g (unsteady w chart begun f marks)) (len : ℕ) (within : len ≤ length w) where
   all : take len w ++ drop len w ≡ w
   all = take-append-drop len w
 
@@ -331,7 +354,7 @@ module _ (g : Grammar) (w : List ℕ) (f : Facts) (chart : Charted) (begun : Lis
         | inl lt ↦ absurd (no_element n (contains_of [] a n (subst (λ (l : List ℕ). slice_get l a ≡ Some n) (none j non lt) x)))
       ]
 
-  pub run_back : IsRunOf g (record { word = take len w; chart = first_sets (len + 1) chart; begun = take (len + 1) begun; facts = f; marks = marks })
+  pub run_back : IsRunOf g (unsteady (take len w) (first_sets (len + 1) chart) (take (len + 1) begun) f marks)
   run_back = record {
     sound = run.sound;
     facts = run.facts;
@@ -343,6 +366,7 @@ module _ (g : Grammar) (w : List ℕ) (f : Facts) (chart : Charted) (begun : Lis
     counted = length-take-le (len + 1) begun (let c = run.counted in omega (arith, c, within)) ∙ sym few_sets;
     begun = each;
     front = front_shorter g (take len w) (drop len w) (subst (λ (u : List ℕ). IsFront g u) (sym all) run.front);
+    steady = never_steady;
   }
     where
       shorter : (k state origin count : ℕ) → k ≤ len → IsBegun g w chart.sets k state origin count → IsBegun g (take len w) (take (len + 1) chart.sets) k state origin count
@@ -378,16 +402,21 @@ waiting_taken : (chart : Charted) (n j non : ℕ) → j < n → waiting_of (firs
 waiting_taken chart n j non lt = ap (λ (l : List Waiter). waiting_for l non) (get_or-take n chart.waits j [] lt)
 
 -- nothing was added to the chart
-pub keeps_chart : (word more : List ℕ) (begun on : List (List Begun)) (old new : Charted) → (take (length word) more ≡ word) × (length word ≤ length more) → (take (length begun) on ≡ begun) × (length begun ≤ length on) → new.sets ≡ old.sets → ((j non : ℕ) → waiting_of new j non ≡ waiting_of old j non) → KeepsFirst word more begun on old new
+pub keeps_chart : (word more : List ℕ) (begun on : List (List Begun)) (old new : Charted) → (take (length word) more ≡ word) × (length word ≤ length more) → (take (length begun) on ≡ begun) × (length begun ≤ length on) → new.sets ≡ old.sets → ((j non : ℕ) → j ≢ length old.sets → waiting_of new j non ≡ waiting_of old j non) → KeepsFirst word more begun on old new
 keeps_chart word more begun on old new w b is same =
-    keeps_of word more begun on old new w.0 w.1 b.0 b.1 (let e = ap (λ (l : List (List Item)). length l) is in omega (arith, e)) (ap (λ (l : List (List Item)). take (length old.sets) l) is ∙ all_taken old.sets) (λ j non lt. waiting_taken new (length old.sets) j non lt ∙ same j non)
+    keeps_of word more begun on old new w.0 w.1 b.0 b.1 (let e = ap (λ (l : List (List Item)). length l) is in omega (arith, e)) (ap (λ (l : List (List Item)). take (length old.sets) l) is ∙ all_taken old.sets) (λ j non lt. let ne : j ≢ length old.sets = omega arith in waiting_taken new (length old.sets) j non lt ∙ same j non ne)
 
 -- a set was added, and what is before it stayed
-pub keeps_before : (word more : List ℕ) (begun on : List (List Begun)) (old pushed new : Charted) → (take (length word) more ≡ word) × (length word ≤ length more) → (take (length begun) on ≡ begun) × (length begun ≤ length on) → pushed.sets ≡ old.sets ++ [] ∷ [] → ((j non : ℕ) → waiting_of pushed j non ≡ waiting_of old j non) → before_last new ≡ before_last pushed → KeepsFirst word more begun on old new
-keeps_before word more begun on old pushed new w b sets same before = keeps_of word more begun on old new w.0 w.1 b.0 b.1 long kept waits
+pub keeps_pushed : (word more : List ℕ) (begun on : List (List Begun)) (old new : Charted) (set : List Item) → (take (length word) more ≡ word) × (length word ≤ length more) → (take (length begun) on ≡ begun) × (length begun ≤ length on) → new.sets ≡ old.sets ++ set ∷ [] → ((j non : ℕ) → j ≢ length old.sets → waiting_of new j non ≡ waiting_of old j non) → KeepsFirst word more begun on old new
+keeps_pushed word more begun on old new set w b sets same =
+    keeps_of word more begun on old new w.0 w.1 b.0 b.1 (let e = ap (λ (l : List (List Item)). length l) sets in let f = length-append old.sets (set ∷ []) in omega (arith, e, f)) (ap (λ (l : List (List Item)). take (length old.sets) l) sets ∙ (push_taken old.sets (old.sets ++ set ∷ []) set refl).0) (λ j non lt. let ne : j ≢ length old.sets = omega arith in waiting_taken new (length old.sets) j non lt ∙ same j non ne)
+
+-- and something was added to it
+pub keeps_before : (word more : List ℕ) (begun on : List (List Begun)) (old pushed new : Charted) (set : List Item) → (take (length word) more ≡ word) × (length word ≤ length more) → (take (length begun) on ≡ begun) × (length begun ≤ length on) → pushed.sets ≡ old.sets ++ set ∷ [] → ((j non : ℕ) → j ≢ length old.sets → waiting_of pushed j non ≡ waiting_of old j non) → before_last new ≡ before_last pushed → KeepsFirst word more begun on old new
+keeps_before word more begun on old pushed new set w b sets same before = keeps_of word more begun on old new w.0 w.1 b.0 b.1 long kept waits
   where
     at : last_set pushed ≡ length old.sets
-    at = let e = ap (λ (l : List (List Item)). length l) sets in let f = length-append old.sets ([] ∷ []) in omega (arith, e, f)
+    at = let e = ap (λ (l : List (List Item)). length l) sets in let f = length-append old.sets (set ∷ []) in omega (arith, e, f)
 
     firsts_long : (l : List (List Item)) → length (take (length l - 1) l) ≡ length l - 1
     firsts_long l = length-take-le (length l - 1) l (omega arith)
@@ -402,17 +431,17 @@ keeps_before word more begun on old pushed new w b sets same before = keeps_of w
     firsts = ap (λ n. first_sets n new) (sym last) ∙ before ∙ ap (λ n. first_sets n pushed) at
 
     kept : take (length old.sets) new.sets ≡ old.sets
-    kept = ap (λ (c : Charted). c.sets) firsts ∙ ap (λ (l : List (List Item)). take (length old.sets) l) sets ∙ (push_taken old.sets (old.sets ++ [] ∷ []) [] refl).0
+    kept = ap (λ (c : Charted). c.sets) firsts ∙ ap (λ (l : List (List Item)). take (length old.sets) l) sets ∙ (push_taken old.sets (old.sets ++ set ∷ []) set refl).0
 
     waits : (j non : ℕ) → j < length old.sets → waiting_of (first_sets (length old.sets) new) j non ≡ waiting_of old j non
-    waits j non lt = ap (λ (c : Charted). waiting_of c j non) firsts ∙ waiting_taken pushed (length old.sets) j non lt ∙ same j non
+    waits j non lt = let ne : j ≢ length old.sets = omega arith in ap (λ (c : Charted). waiting_of c j non) firsts ∙ waiting_taken pushed (length old.sets) j non lt ∙ same j non ne
 
 -- what was kept in a step that failed is the run before it
-pub run_kept : (g : Grammar) (w more : List ℕ) (f : Facts) (old new : Charted) (begun on : List (List Begun)) (marks others : ℕ) → IsRunOf g (record { word = w; chart = old; begun = begun; facts = f; marks = marks }) → KeepsFirst w more begun on old new → others ≡ marks → (n : ℕ) → n ≡ length w → IsRunOf g (record { word = take n more; chart = first_sets (n + 1) new; begun = take (n + 1) on; facts = f; marks = others })
+pub run_kept : (g : Grammar) (w more : List ℕ) (f : Facts) (old new : Charted) (begun on : List (List Begun)) (marks others : ℕ) → IsRunOf g (unsteady w old begun f marks) → KeepsFirst w more begun on old new → others ≡ marks → (n : ℕ) → n ≡ length w → IsRunOf g (unsteady (take n more) (first_sets (n + 1) new) (take (n + 1) on) f others)
 run_kept g w more f old new begun on marks others run kept same n is =
-    subst (λ (m : ℕ). IsRunOf g (record { word = take n more; chart = first_sets (n + 1) new; begun = take (n + 1) on; facts = f; marks = m })) (sym same)
-    (subst (λ (b : List (List Begun)). IsRunOf g (record { word = take n more; chart = first_sets (n + 1) new; begun = b; facts = f; marks = marks })) (sym words)
-    (subst (λ (u : List ℕ). IsRunOf g (record { word = u; chart = first_sets (n + 1) new; begun = begun; facts = f; marks = marks })) (sym word)
+    subst (λ (m : ℕ). IsRunOf g (unsteady (take n more) (first_sets (n + 1) new) (take (n + 1) on) f m)) (sym same)
+    (subst (λ (b : List (List Begun)). IsRunOf g (unsteady (take n more) (first_sets (n + 1) new) b f marks)) (sym words)
+    (subst (λ (u : List ℕ). IsRunOf g (unsteady u (first_sets (n + 1) new) begun f marks)) (sym word)
     (run_same g w f old (first_sets (n + 1) new) begun marks run sets waits)))
   where
     long : n + 1 ≡ length old.sets
@@ -466,7 +495,7 @@ pub viable_whole : (g : Grammar) (w : List ℕ) → IsFront g w → IsViable g w
 viable_whole g w front = (omega arith, subst (λ (u : List ℕ). IsFront g u) (sym (take_all (length w) w (omega arith))) front, λ m le h. le)
 
 -- where nothing was gathered, no word of the language begins so
-pub step_stops : (g : Grammar) (w : List ℕ) (s : ℕ) (f : Facts) (chart : Charted) (begun : List (List Begun)) (marks : ℕ) → IsRunOf g (record { word = w; chart = chart; begun = begun; facts = f; marks = marks }) → (due : List Item) (fresh : List Begun) → AreDue g w s chart.sets due → AreBegun g (w ++ s ∷ []) chart.sets (suc (length w)) fresh → due ≡ [] → fresh ≡ [] → IsFront g (w ++ s ∷ []) → ⊥
+pub step_stops : (g : Grammar) (w : List ℕ) (s : ℕ) (f : Facts) (chart : Charted) (begun : List (List Begun)) (marks : ℕ) → IsRunOf g (unsteady w chart begun f marks) → (due : List Item) (fresh : List Begun) → AreDue g w s chart.sets due → AreBegun g (w ++ s ∷ []) chart.sets (suc (length w)) fresh → due ≡ [] → fresh ≡ [] → IsFront g (w ++ s ∷ []) → ⊥
 step_stops g w s f chart begun marks run due fresh are_due are_fresh none nothing = no_front g w s chart.sets run.chart run.sound.built run.sound no_due no_begun
   where
     no_due : (d : Place) (i : ℕ) → IsDue g (w ++ s ∷ []) chart.sets (suc (length w)) d i → ⊥
@@ -479,7 +508,7 @@ step_stops g w s f chart begun marks run due fresh are_due are_fresh none nothin
     no_begun state origin count b = no_element (record { state = state; origin = origin; count = suc count }) (subst (λ (l : List Begun). Contains l (record { state = state; origin = origin; count = suc count })) nothing ((are_fresh (record { state = state; origin = origin; count = suc count })).1 (omega arith, b)))
 
 -- and where something was, one does
-pub step_goes : (g : Grammar) (w : List ℕ) (s : ℕ) (f : Facts) (chart : Charted) (begun : List (List Begun)) (marks : ℕ) → IsRunOf g (record { word = w; chart = chart; begun = begun; facts = f; marks = marks }) → (due : List Item) (fresh : List Begun) → AreDue g w s chart.sets due → AreBegun g (w ++ s ∷ []) chart.sets (suc (length w)) fresh → (due ≡ [] → fresh ≡ [] → ⊥) → IsFront g (w ++ s ∷ [])
+pub step_goes : (g : Grammar) (w : List ℕ) (s : ℕ) (f : Facts) (chart : Charted) (begun : List (List Begun)) (marks : ℕ) → IsRunOf g (unsteady w chart begun f marks) → (due : List Item) (fresh : List Begun) → AreDue g w s chart.sets due → AreBegun g (w ++ s ∷ []) chart.sets (suc (length w)) fresh → (due ≡ [] → fresh ≡ [] → ⊥) → IsFront g (w ++ s ∷ [])
 step_goes g w s f chart begun marks run [] [] are_due are_fresh some = absurd (some refl refl)
 step_goes g w s f chart begun marks run [] (b ∷ fresh) are_due are_fresh some = begun_front g w s chart.sets run.chart run.sound.built run.sound b.state b.origin b.count ((are_fresh b).0 (first_in b fresh)).1
 step_goes g w s f chart begun marks run (x ∷ due) fresh are_due are_fresh some = let d = (are_due x).0 (first_in x due) in due_front g w s chart.sets run.chart run.sound.built run.sound d.0 x.origin d.2

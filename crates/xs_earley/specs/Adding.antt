@@ -1,5 +1,5 @@
 -- Which items are added to one set, by the places and origins that have a property.
-use Rattle.std.specs.Prelude.{◌≡◌, ◌≢◌, ℕ, ◌<◌, List, ◌++◌, length, Bool, true, false, Some, slice_get, slice_index_or, Contains}
+use Rattle.std.specs.Prelude.{◌≡◌, ◌≢◌, ℕ, ◌<◌, List, ◌++◌, length, Bool, true, false, slice_index_or, Contains}
 use Rattle.xs_chart.specs.declared.item.Item.{Item}
 use Rattle.xs_gram.specs.declared.places.Place.{Place}
 use Rattle.xs_gram.specs.Grammar.{Grammar, rule_of, IsRuleOf}
@@ -33,10 +33,6 @@ Is d o c i = (c ≡ d) × (i ≡ o)
 -- what is after the nonterminal, for an item of set `from` that stands before it
 abbrev pub Completes : Grammar → List (List Item) → ℕ → ℕ → Place → ℕ → Type 0
 Completes g sets from non c i = (d : Place) × HasPlace g sets from d i × IsBefore g d non × (c ≡ next_of d)
-
--- what is after the next item of the place of item n of the list
-abbrev pub Follows : Grammar → List Item → ℕ → Place → ℕ → Type 0
-Follows g items n c i = (item : Item) × (slice_get items n ≡ Some item) × (d : Place) × IsNumber g item.state d × Is (next_of d) item.origin c i
 
 -- what is after the item at the place, where that may be passed over
 abbrev pub Passes : Grammar → Place → ℕ → Place → ℕ → Type 0

@@ -1,5 +1,5 @@
 -- Facts of a grammar that its recogniser asks for: those of its nonterminals, and a row for each place.
-use Rattle.std.specs.Prelude.{◌≡◌, ℕ, ◌<◌, ◌≤◌, ◌^◌, ◌↔◌, false, List, length, Option, None, Some, slice_index_or, slice_range, Contains, IsTrue, IfSome}
+use Rattle.std.specs.Prelude.{◌≡◌, ℕ, ◌<◌, ◌≤◌, ◌^◌, ◌↔◌, ◌||◌, Bool, false, true, List, length, map, Option, None, Some, slice_index_or, slice_range, Contains, IsTrue, IfSome}
 use Rattle.xs_regex.specs.declared.position.Position.{Position}
 use Rattle.xs_gram.specs.declared.parts.GItem.{GItem}
 use Rattle.xs_gram.specs.declared.parts.GItem.TheVariants.{Fixed, Term, Non, Skip}
@@ -64,14 +64,36 @@ pub record AreRows (g : Grammar) (letters : List ℕ) (count : ℕ) (rows : List
   pub counted : length rows ≡ count
   pub each : (k : ℕ) (c : Place) → k < count → IsNumber g k c → IsRow g letters c (row_at rows k)
 
+-- the number of the place after the row's item
+abbrev pub next_at : Row → ℕ
+next_at row = row.next
+
+-- at the end of a rule and before a nonterminal an item leads on within its set
+abbrev pub leads_on : Stand → Bool
+leads_on (AtEnd n) = true
+leads_on (AtNon n) = true
+leads_on (AtWord from end) = false
+leads_on (AtTerm t) = false
+leads_on (AtSkip k) = false
+
+-- an item of the row may lead on within its set: also where it may be passed over
+abbrev pub acts_at : Row → Bool
+acts_at row = row.passes || leads_on row.stand
+
 -- all of them
 pub record AreFacts (g : Grammar) (facts : Facts) : Type 0 where
   pub nulls : AreNullable g facts.nulls
   pub starts : AreStarts g (length g.rules) facts.starts.items
   pub rows : AreRows g facts.letters.items (length (all_places g)) facts.rows.items
+  pub nexts : facts.nexts.items ≡ map next_at facts.rows.items
+  pub acts : facts.acts.items ≡ map acts_at facts.rows.items
   pub few : length (all_places g) < 2 ^ 32
   pub letters_few : length facts.letters.items < 2 ^ 32
   pub atoms : IfSome facts.atoms (AreAtoms g)
+
+-- the grammar has atoms
+abbrev pub HasAtoms : Facts → Type 0
+HasAtoms facts = (atoms : Atoms) × (facts.atoms ≡ Some atoms)
 
 -- the symbol's atom, where the grammar has atoms
 abbrev pub IsAtom : Facts → ℕ → ℕ → Type 0

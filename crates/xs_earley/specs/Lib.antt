@@ -1,5 +1,6 @@
 pub mod Adding
 pub mod Arriving
+pub mod Called
 pub mod Facts
 pub mod Following
 pub mod Growing

@@ -1,5 +1,5 @@
 -- Waiting lists while a set is closed.
-use Rattle.std.specs.Prelude.{◌≡◌, ◌≢◌, ◌↔◌, ◌⊎◌, ℕ, ◌<◌, List, [], ◌∷◌, ◌++◌, Some, slice_get, Contains}
+use Rattle.std.specs.Prelude.{◌≡◌, ◌≢◌, ◌↔◌, ◌⊎◌, ℕ, ◌<◌, Bool, false, List, [], ◌∷◌, ◌++◌, Some, slice_get, slice_index_or, Contains}
 use Rattle.xs_chart.specs.declared.item.Item.{Item}
 use Rattle.xs_chart.specs.Charted.{Charted, items_of, waiting_of}
 use Rattle.xs_gram.specs.Grammar.{Grammar}
@@ -19,3 +19,7 @@ IsWaiting g items non n = (item : Item) × (slice_get items n ≡ Some item) × 
 pub record WaitsBelow (g : Grammar) (chart : Charted) (at k : ℕ) : Type 0 where
   pub exact : (non n : ℕ) → Contains (waiting_of chart at non) n ↔ ((n < k) × IsWaiting g (items_of chart at) non n)
   pub once : (non a b n : ℕ) → slice_get (waiting_of chart at non) a ≡ Some n → slice_get (waiting_of chart at non) b ≡ Some n → a ≡ b
+
+-- item k of the list does not act, by what is said of the states
+abbrev pub IsIdle : List Bool → List Item → ℕ → Type 0
+IsIdle acts items k = (d : Item) → slice_index_or acts (slice_index_or items k d).state false ≡ false

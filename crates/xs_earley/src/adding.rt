@@ -13,7 +13,7 @@ use xs_class::Memory;
 
 /// Adds the item of a state and an origin to the last set, unless it is there.
 #[inline(always)]
-pub fn put(chart: &mut Chart, at: u32, state: u32, origin: u32) -> Result<(), Memory>
+fn put(chart: &mut Chart, at: u32, state: u32, origin: u32) -> Result<(), Memory>
     requires last { length chart.old.sets ≡ suc at }
     ensures adds { IfOk result (λ _. (g : Grammar) (c : Place) → IsNumber g state c → Adds g at (Is c origin) chart.old.sets chart.new.sets) }
     ensures waits { chart.new.waits ≡ chart.old.waits }

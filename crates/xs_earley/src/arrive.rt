@@ -284,16 +284,17 @@ pub fn arrive_all(
     g: &Gram,
     facts: &Facts,
     symbol: Sym,
+    atom: u16,
     items: &[Item],
 ) -> Result<(), Memory>
     requires built { IsBuilt g.now }
     requires facts { AreFacts g.now facts.now }
+    requires atom { IsAtom facts.now symbol atom }
     requires masks { AreMasks g.now facts.now (length (all_places g.now)) facts.now.masks.items }
     requires states { (item : AnyItem) → Contains items.now item → item.state < length (all_places g.now) }
     ensures due { IfOk result (λ _. due.new.items ≡ due.old.items ++ gathered (item_due g.now facts.now symbol) items.now) }
     ensures fresh { IfOk result (λ _. fresh.new.items ≡ fresh.old.items ++ gathered (item_begun facts.now symbol) items.now) }
 {
-    let atom = facts.atom(symbol);
     let masks = facts.masks.as_slice();
     let mut at = next_by_mask(masks, atom, items, 0);
     'items: while at < items.len() {

@@ -10,7 +10,7 @@ ghost use Rattle.xs_earley.specs.Facts.{AreFacts, IsAtom, row_at};
 ghost use Rattle.xs_earley.specs.Masks.{AreMasks};
 
 use crate::masks::masks_of;
-use crate::rows::{Row, rows_of};
+use crate::rows::{Row, acts_of, nexts_of, rows_of};
 use std::alloc::Global;
 use xs_atoms::Atoms;
 use xs_class::{Memory, Sym, empty_lists};
@@ -19,13 +19,16 @@ use xs_order::{Flags, nullable};
 use xs_regex::Numbers;
 
 /// Of each nonterminal, whether it derives the empty word, and the states in which its rules begin;
-/// of each place a row; the symbols of all fixed words; the grammar's atoms, where it has few; and of
-/// each place a mask, by which most items that cannot read a symbol are passed over.
+/// of each place a row, the number of the place after its item, and whether an item there may lead on
+/// within its set; the symbols of all fixed words; the grammar's atoms, where it has few; and of each
+/// place a mask, by which most items that cannot read a symbol are passed over.
 #[derive(Drop)]
 pub struct Facts {
     pub nulls: Flags,
     pub starts: Vec<Numbers>,
     pub rows: Vec<Row>,
+    pub nexts: Vec<u32>,
+    pub acts: Vec<bool>,
     pub letters: Vec<Sym>,
     pub atoms: Option<Atoms>,
     pub masks: Vec<u64>,
@@ -60,12 +63,16 @@ impl Facts {
         let nulls = nullable(alloc, g)?;
         let starts = starts_of(alloc, g)?;
         let (rows, letters) = rows_of(alloc, g, &nulls)?;
+        let nexts = nexts_of(alloc, &rows)?;
+        let acts = acts_of(alloc, &rows)?;
         let atoms = Atoms::of(alloc, g)?;
         let _places = g.places();
         let mut facts = Facts {
             nulls,
             starts,
             rows,
+            nexts,
+            acts,
             letters,
             atoms,
             masks: Vec::new(alloc),

@@ -8,7 +8,7 @@ ghost use Rattle.xs_earley.specs.declared.begun.Begun.{Begun as AnyBegun};
 ghost use Rattle.xs_earley.specs.Arriving.{gathered};
 ghost use Rattle.xs_earley.specs.Facts.{AreFacts};
 ghost use Rattle.xs_earley.specs.Following.{class_at, lex_next, letter_next, item_next, more_next};
-ghost use Rattle.xs_earley.specs.Running.{IsRunOf};
+ghost use Rattle.xs_earley.specs.Running.{unsteady, IsRunOf};
 
 use crate::arrive::next_positions;
 use crate::begun::Begun;
@@ -147,7 +147,7 @@ pub fn following(
     begun: &FlatLists<Begun>,
     at: u32,
 ) -> Result<Class, Memory>
-    requires run { IsRunOf g.now (record { word = word.now; chart = chart.now; begun = begun.now; facts = facts.now; marks = g.now.nons }) }
+    requires run { IsRunOf g.now (unsteady word.now chart.now begun.now facts.now g.now.nons) }
     requires at { at ≤ length word.now }
     ensures { IfOk result (λ class. (s : ℕ) → Has class s ↔ IsFront g.now (take at word.now ++ s ∷ [])) }
 {

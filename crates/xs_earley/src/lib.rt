@@ -14,6 +14,7 @@
 mod adding;
 mod arrive;
 mod begun;
+mod called;
 mod facts;
 mod fault;
 mod following;

@@ -1,10 +1,10 @@
-ghost use Rattle.std.specs.Prelude.{◌≡◌, ◌<◌, ◌≤◌, ◌↔◌, ◌^◌, ◌++◌, ℕ, List, length, slice_index_or, slice_range, IsTrue, IfOk, OnErr};
+ghost use Rattle.std.specs.Prelude.{◌≡◌, ◌<◌, ◌≤◌, ◌↔◌, ◌^◌, ◌++◌, ℕ, List, length, map, slice_index_or, slice_range, IsTrue, IfOk, OnErr};
 ghost use Rattle.xs_gram.specs.Grammar.{ItemAt};
 ghost use Rattle.xs_gram.specs.Places.{all_places, IsPlace};
 ghost use Rattle.xs_gram.specs.Sound.{IsBuilt};
 ghost use Rattle.xs_order.specs.Order.{AreNullable};
 ghost use Rattle.xs_chart_laws.specs.Steps.{IsPassed};
-ghost use Rattle.xs_earley.specs.Facts.{MayEnd, IsKind, IsRow, AreRows};
+ghost use Rattle.xs_earley.specs.Facts.{MayEnd, IsKind, IsRow, AreRows, next_at, acts_at};
 ghost use Rattle.xs_gram.specs.declared.parts.GItem.TheVariants.{Fixed};
 
 use crate::places::{after, item_at};
@@ -149,4 +149,42 @@ pub fn rows_of(alloc: Global, g: &Gram, nulls: &Flags) -> Result<(Vec<Row>, Vec<
         rows.push(row)?;
     }
     Ok((rows, letters))
+}
+
+/// Of each row the number of the place after its item.
+pub fn nexts_of(alloc: Global, rows: &[Row]) -> Result<Vec<u32>, Memory>
+    ensures { IfOk result (λ nexts. nexts.items ≡ map next_at rows.now) }
+{
+    let mut nexts = Vec::with_capacity(alloc, rows.len())?;
+    'rows: for row in rows {
+        nexts.push(row.next)?;
+    }
+    Ok(nexts)
+}
+
+/// Whether an item of the row may lead on within its set.
+fn may_act(row: Row) -> bool
+    ensures { result ≡ acts_at row }
+{
+    if row.passes {
+        return true;
+    }
+    match row.stand {
+        Stand::AtEnd(_) => true,
+        Stand::AtNon(_) => true,
+        Stand::AtWord(_, _) => false,
+        Stand::AtTerm(_) => false,
+        Stand::AtSkip(_) => false,
+    }
+}
+
+/// Of each row whether an item of it may lead on within its set.
+pub fn acts_of(alloc: Global, rows: &[Row]) -> Result<Vec<bool>, Memory>
+    ensures { IfOk result (λ acts. acts.items ≡ map acts_at rows.now) }
+{
+    let mut acts = Vec::with_capacity(alloc, rows.len())?;
+    'rows: for row in rows {
+        acts.push(may_act(*row))?;
+    }
+    Ok(acts)
 }

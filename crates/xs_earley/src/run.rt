@@ -1,17 +1,19 @@
-ghost use Rattle.std.specs.Prelude.{◌≡◌, ◌<◌, ◌≤◌, ◌+◌, ◌↔◌, suc, ℕ, false, [], ◌∷◌, ◌++◌, length, take, IsTrue, IfOk, OnErr};
+ghost use Rattle.std.specs.Prelude.{◌≡◌, ◌<◌, ◌≤◌, ◌+◌, ◌↔◌, ◌^◌, suc, ℕ, false, [], ◌∷◌, ◌++◌, length, take, true, ◌⊎◌, IsTrue, IfOk, OnErr};
 ghost use Rattle.xs_class.specs.Classes.{Has};
-ghost use Rattle.xs_chart.specs.Charted.{set_limit};
+ghost use Rattle.xs_chart.specs.Charted.{set_limit, items_of};
 ghost use Rattle.xs_gram.specs.Grammar.{Grammar, items, IsRuleOf};
 ghost use Rattle.xs_gram.specs.Languages.{InLang, IsFront};
 ghost use Rattle.xs_gram.specs.Places.{at_dot};
 ghost use Rattle.xs_gram.specs.Sound.{IsSound};
 ghost use Rattle.xs_chart_laws.specs.Charts.{HasPlace, IsChartOf, HasWaiters};
+ghost use Rattle.xs_earley.specs.Facts.{HasAtoms};
 ghost use Rattle.xs_earley.specs.Running.{IsRunOf};
 
 use crate::begun::Begun;
+use crate::called::Called;
 use crate::facts::Facts;
 use crate::following::following;
-use crate::stage::{first_set, gather, next_set};
+use crate::stage::{first_set, goes_on, next_set};
 use std::alloc::Global;
 use std::marker::Model;
 use xs_chart::{Chart, Item};
@@ -23,15 +25,21 @@ use xs_gram::{Gram, Place};
 ///
 /// Contracts see it as the word so far, its chart, and what it keeps beside them. It is of one
 /// grammar, the one with which it began; `IsRunOf` says what then holds at every moment.
+///
+/// A long stretch of symbols of one atom, such as the letters of a paragraph, comes soon to sets that
+/// are the same. From then on the run is `steady`: a symbol of that atom repeats the last set, and
+/// nothing is gathered for it.
 #[derive(Drop)]
 pub struct Run {
     facts: Facts,
     word: Vec<Sym>,
     chart: Chart,
     begun: FlatLists<Begun>,
-    called: Vec<bool>,
+    called: Called,
     due: Vec<Item>,
     fresh: Vec<Begun>,
+    atom: u16,
+    steady: bool,
 }
 
 impl Model for Run {
@@ -40,7 +48,7 @@ impl Model for Run {
 
     ghost Value = { Running };
 
-    ghost view = { λ r. record { word = r.word.items; chart = r.chart; begun = r.begun; facts = r.facts; marks = length r.called.items } };
+    ghost view = { λ r. record { word = r.word.items; chart = r.chart; begun = r.begun; facts = r.facts; marks = length r.called; atom = r.atom; steady = r.steady } };
 }
 
 /// Whether the rule is one of the start, and set `at` of the chart has it at its end, from the front of
@@ -78,11 +86,67 @@ fn is_whole(g: &Gram, doc: &[Sym], chart: &Chart) -> bool
     false
 }
 
-/// Whether neither an item nor a begun word was gathered.
-fn is_nothing(due: &[Item], fresh: &[Begun]) -> bool
-    ensures { IsTrue result ↔ ((due.now ≡ []) × (fresh.now ≡ [])) }
+/// Whether the two lists have the same items in one order.
+#[inline(always)]
+fn are_same(items: &[Item], others: &[Item]) -> bool
+    ensures { IsTrue result ↔ (items.now ≡ others.now) }
 {
-    due.is_empty() && fresh.is_empty()
+    items == others
+}
+
+/// Whether no word is begun in either list.
+#[inline(always)]
+fn are_unbegun(begun: &[Begun], fresh: &[Begun]) -> bool
+    ensures { IsTrue result ↔ ((begun.now ≡ []) × (fresh.now ≡ [])) }
+{
+    begun.is_empty() && fresh.is_empty()
+}
+
+/// Whether the grammar has atoms, set `at` and the one after it are the same, and no word is begun in
+/// either.
+#[inline(always)]
+fn is_repeated(facts: &Facts, chart: &Chart, begun: &[Begun], fresh: &[Begun], at: u32) -> bool
+    requires there { suc at < length chart.now.sets }
+    requires few { at + 1 < 2 ^ 32 }
+    ensures { IsTrue result ↔ (HasAtoms facts.now × (begun.now ≡ []) × (fresh.now ≡ []) × (items_of chart.now (suc at) ≡ items_of chart.now at)) }
+{
+    if !are_unbegun(begun, fresh) {
+        return false;
+    }
+    match &facts.atoms {
+        Some(_) => are_same(chart.items(at + 1), chart.items(at)),
+        None => false,
+    }
+}
+
+/// Whether it is known that a symbol of this atom repeats the last set.
+#[inline(always)]
+fn repeats_last(steady: bool, atom: u16, last: u16) -> bool
+    ensures { IsTrue result ↔ ((steady ≡ true) × (atom ≡ last)) }
+{
+    steady && atom == last
+}
+
+/// Whether it is known from now on: where it was known before, or where set `at` and the one after it
+/// came to be the same; that is looked at only after two symbols that are alike.
+#[inline(always)]
+fn stays_steady(
+    repeats: bool,
+    is_alike: bool,
+    facts: &Facts,
+    chart: &Chart,
+    begun: &[Begun],
+    fresh: &[Begun],
+    at: u32,
+) -> bool
+    requires there { suc at < length chart.now.sets }
+    requires few { at + 1 < 2 ^ 32 }
+    ensures { IsTrue result ↔ (IsTrue repeats ⊎ (IsTrue is_alike × HasAtoms facts.now × (begun.now ≡ []) × (fresh.now ≡ []) × (items_of chart.now (suc at) ≡ items_of chart.now at))) }
+{
+    if repeats {
+        return true;
+    }
+    is_alike && is_repeated(facts, chart, begun, fresh, at)
 }
 
 impl Run {
@@ -94,8 +158,8 @@ impl Run {
         ensures word { IfOk result (λ run. run.word ≡ []) }
     {
         let facts = Facts::of(alloc, g)?;
-        let mut called = vec![in alloc; false; g.nons() as usize]?;
-        let mut chart = Chart::new(alloc)?;
+        let mut called = Called::new(alloc, g.nons() as usize)?;
+        let mut chart = Chart::new(alloc, g.places() as usize)?;
         first_set(&mut chart, &mut called, g, &facts)?;
         let mut begun = FlatLists::new(alloc);
         begun.push(&[])?;
@@ -107,6 +171,8 @@ impl Run {
             called,
             due: Vec::new(alloc),
             fresh: Vec::new(alloc),
+            atom: 0,
+            steady: false,
         })
     }
 
@@ -123,7 +189,9 @@ impl Run {
         ensures err { OnErr result (self.new.word ≡ self.old.word) }
         ensures err_sets { OnErr result (self.new.chart.sets ≡ self.old.chart.sets) }
     {
-        gather(
+        let atom = self.facts.atom(symbol);
+        let repeats = repeats_last(self.steady, atom, self.atom);
+        if !goes_on(
             &mut self.due,
             &mut self.fresh,
             g,
@@ -132,12 +200,13 @@ impl Run {
             &self.chart,
             &self.begun,
             symbol,
-        )?;
-        if is_nothing(&self.due, &self.fresh) {
+            atom,
+            repeats,
+        )? {
             return Ok(false);
         }
         let length = self.word.len();
-        let advanced = next_set(
+        let read = next_set(
             &mut self.word,
             &mut self.chart,
             &mut self.begun,
@@ -147,10 +216,24 @@ impl Run {
             symbol,
             &self.due,
             &self.fresh,
+            repeats,
         );
-        match advanced {
-            Ok(()) => Ok(true),
+        match read {
+            Ok(()) => {
+                self.steady = stays_steady(
+                    repeats,
+                    atom == self.atom,
+                    &self.facts,
+                    &self.chart,
+                    self.begun.list(length),
+                    &self.fresh,
+                    length as u32,
+                );
+                self.atom = atom;
+                Ok(true)
+            }
             Err(memory) => {
+                self.steady = false;
                 self.word.truncate(length);
                 self.chart.truncate(length as u32 + 1);
                 self.begun.truncate(length + 1);
@@ -166,6 +249,7 @@ impl Run {
         ensures word { self.new.word ≡ take len self.old.word }
         ensures run { (g : Grammar) → IsRunOf g self.old → IsRunOf g self.new }
     {
+        self.steady = false;
         self.word.truncate(len as usize);
         self.chart.truncate(len + 1);
         self.begun.truncate(len as usize + 1);

@@ -1,4 +1,5 @@
-ghost use Rattle.std.specs.Prelude.{◌≡◌, ◌≢◌, ◌<◌, suc, ℕ, Some, length, slice_get, slice_index_or, IfOk};
+ghost use Rattle.std.specs.Prelude.{◌≡◌, ◌≢◌, ◌<◌, ◌≤◌, suc, ℕ, Some, length, slice_get, Contains, IfOk};
+ghost use Rattle.xs_chart.specs.declared.item.Item.{Item as AnyItem};
 ghost use Rattle.xs_chart.specs.Charted.{items_of, waiting_of, before_last};
 ghost use Rattle.xs_gram.specs.declared.places.Place.{Place};
 ghost use Rattle.xs_gram.specs.Places.{all_places};
@@ -9,9 +10,10 @@ ghost use Rattle.xs_earley.specs.declared.rows.Stand.TheVariants.{AtNon};
 ghost use Rattle.xs_earley.specs.Adding.{Adds, Completes, Leads, AreCalled};
 ghost use Rattle.xs_earley.specs.Facts.{AreFacts, row_at};
 ghost use Rattle.xs_earley.specs.Growing.{Grown, IsSettledAt, IsExact, IsOpen};
-ghost use Rattle.xs_earley.specs.Waiting.{Waited, WaitsBelow};
+ghost use Rattle.xs_earley.specs.Waiting.{Waited, WaitsBelow, IsIdle};
 
 use crate::adding::pass;
+use crate::called::Called;
 use crate::facts::Facts;
 use crate::rows::{Row, Stand};
 use crate::steps::{complete, predict};
@@ -43,34 +45,41 @@ fn end_rule(
     Ok(())
 }
 
-/// Adds what stands at a place leads to, beside what may be passed over.
+/// Adds what the item of a place leads to, beside what may be passed over. Before a nonterminal it
+/// puts the item's number in the waiting list of that one.
 #[inline(always)]
 fn lead(
     chart: &mut Chart,
-    called: &mut [bool],
+    called: &mut Called,
     g: &Gram,
     facts: &Facts,
     at: u32,
-    stand: Stand,
-    origin: u32,
+    k: u64,
+    item: Item,
+    row: Row,
 ) -> Result<(), Memory>
     requires facts { AreFacts g.now facts.now }
-    requires stand { (non : ℕ) → stand ≡ AtNon non → non < g.now.nons }
+    requires stand { (non : ℕ) → row.stand ≡ AtNon non → non < g.now.nons }
     requires marks { length called.old ≡ g.now.nons }
     requires called { AreCalled g.now at chart.old.sets called.old }
     requires last { length chart.old.sets ≡ suc at }
-    requires waiting { (non : ℕ) → origin < at → IsExact g.now chart.old origin non }
-    ensures adds { IfOk result (λ _. Adds g.now at (Leads g.now chart.old.sets at origin stand) chart.old.sets chart.new.sets) }
+    requires waiting { (non : ℕ) → item.origin < at → IsExact g.now chart.old item.origin non }
+    requires item { slice_get (items_of chart.old at) k ≡ Some item }
+    requires number { item.state < length (all_places g.now) }
+    requires row { row ≡ row_at facts.now.rows.items item.state }
+    ensures adds { IfOk result (λ _. Adds g.now at (Leads g.now chart.old.sets at item.origin row.stand) chart.old.sets chart.new.sets) }
+    ensures marks { length called.new ≡ length called.old }
     ensures called { IfOk result (λ _. AreCalled g.now at chart.new.sets called.new) }
-    ensures waits { chart.new.waits ≡ chart.old.waits }
+    ensures waited { IfOk result (λ _. Waited g.now at k item.state chart.old chart.new) }
     ensures before { before_last chart.new ≡ before_last chart.old }
 {
-    match stand {
+    match row.stand {
         Stand::AtEnd(non) => {
-            end_rule(chart, g, facts, at, non, origin)?;
+            end_rule(chart, g, facts, at, non, item.origin)?;
             Ok(())
         }
         Stand::AtNon(non) => {
+            chart.wait(non, k)?;
             predict(chart, called, g, facts, at, non)?;
             Ok(())
         }
@@ -80,15 +89,17 @@ fn lead(
     }
 }
 
-/// Adds all that an item of the last set leads to there.
+/// Adds all that an item of the last set leads to there, and puts its number in the waiting list of
+/// the nonterminal before which it stands, if it stands before one.
 #[inline(always)]
-fn settle_item(
+fn act(
     chart: &mut Chart,
-    called: &mut [bool],
+    called: &mut Called,
     g: &Gram,
     facts: &Facts,
     doc: &[Sym],
     at: u32,
+    k: u64,
     item: Item,
     row: Row,
 ) -> Result<(), Memory>
@@ -97,57 +108,43 @@ fn settle_item(
     requires marks { length called.old ≡ g.now.nons }
     requires called { AreCalled g.now at chart.old.sets called.old }
     requires open { IsOpen g.now doc.now at chart.old }
+    requires item { slice_get (items_of chart.old at) k ≡ Some item }
     requires stands { ItemStands g.now doc.now item at }
     requires row { row ≡ row_at facts.now.rows.items item.state }
     ensures grown { IfOk result (λ _. Grown g.now doc.now at chart.old.sets chart.new.sets) }
     ensures settled { IfOk result (λ _. (c : Place) → IsNumber g.now item.state c → IsSettled g.now (HasPlace g.now chart.new.sets) at c item.origin) }
+    ensures marks { length called.new ≡ length called.old }
     ensures called { IfOk result (λ _. AreCalled g.now at chart.new.sets called.new) }
-    ensures waits { chart.new.waits ≡ chart.old.waits }
-    ensures before { before_last chart.new ≡ before_last chart.old }
-{
-    pass(chart, at, row, item.origin)?;
-    lead(chart, called, g, facts, at, row.stand, item.origin)?;
-    Ok(())
-}
-
-/// Puts the number of an item of the last set in the waiting list of the nonterminal before which the
-/// item stands, if it stands before one.
-#[inline(always)]
-fn enlist(
-    chart: &mut Chart,
-    g: &Gram,
-    facts: &Facts,
-    at: u32,
-    k: u64,
-    item: Item,
-    row: Row,
-) -> Result<(), Memory>
-    requires facts { AreFacts g.now facts.now }
-    requires last { length chart.old.sets ≡ suc at }
-    requires item { slice_get (items_of chart.old at) k ≡ Some item }
-    requires number { item.state < length (all_places g.now) }
-    requires row { row ≡ row_at facts.now.rows.items item.state }
-    ensures sets { IfOk result (λ _. chart.new.sets ≡ chart.old.sets) }
     ensures waited { IfOk result (λ _. Waited g.now at k item.state chart.old chart.new) }
     ensures before { before_last chart.new ≡ before_last chart.old }
 {
-    match row.stand {
-        Stand::AtNon(non) => {
-            chart.wait(non, k)?;
-            Ok(())
-        }
-        Stand::AtEnd(_) => Ok(()),
-        Stand::AtWord(_, _) => Ok(()),
-        Stand::AtTerm(_) => Ok(()),
-        Stand::AtSkip(_) => Ok(()),
+    pass(chart, at, row, item.origin)?;
+    lead(chart, called, g, facts, at, k, item, row)?;
+    Ok(())
+}
+
+/// The place of the first item from a place on that may lead on within its set, or the number of items
+/// where there is none. The loop is by itself, so that it is short.
+#[inline(always)]
+fn next_acting(acts: &[bool], items: &[Item], from: usize) -> usize
+    requires states { (item : AnyItem) → Contains items.now item → item.state < length acts.now }
+    requires from { from ≤ length items.now }
+    ensures from { from ≤ result }
+    ensures within { result ≤ length items.now }
+    ensures idle { (k : ℕ) → from ≤ k → k < result → IsIdle acts.now items.now k }
+{
+    let mut at = from;
+    'items: while at < items.len() && !acts[items[at].state as usize] {
+        at += 1;
     }
+    at
 }
 
 /// Adds to the last set all that its items lead to there, and puts them in their waiting lists.
 #[inline(always)]
 pub fn close(
     chart: &mut Chart,
-    called: &mut [bool],
+    called: &mut Called,
     g: &Gram,
     facts: &Facts,
     doc: &[Sym],
@@ -163,15 +160,15 @@ pub fn close(
     ensures settled { IfOk result (λ _. (k : ℕ) → k < length (items_of chart.new at) → IsSettledAt g.now chart.new.sets at k) }
     ensures earlier { IfOk result (λ _. (j non : ℕ) → j ≢ at → waiting_of chart.new j non ≡ waiting_of chart.old j non) }
     ensures waits { IfOk result (λ _. WaitsBelow g.now chart.new at (length (items_of chart.new at))) }
+    ensures marks { length called.new ≡ length called.old }
     ensures before { before_last chart.new ≡ before_last chart.old }
 {
-    let mut k = 0;
-    'items: while k < chart.len(at) {
-        let item = chart.item(at, k);
+    let mut k = next_acting(&facts.acts, chart.items(at), 0);
+    'acting: while k < chart.items(at).len() {
+        let item = chart.item(at, k as u64);
         let row = facts.row(item.state);
-        enlist(chart, g, facts, at, k, item, row)?;
-        settle_item(chart, called, g, facts, doc, at, item, row)?;
-        k += 1;
+        act(chart, called, g, facts, doc, at, k as u64, item, row)?;
+        k = next_acting(&facts.acts, chart.items(at), k + 1);
     }
     Ok(())
 }

@@ -1,16 +1,17 @@
-ghost use Rattle.std.specs.Prelude.{◌≡◌, ◌<◌, ◌+◌, suc, ℕ, [], ◌∷◌, ◌++◌, length, false, slice_index_or, IfOk};
-ghost use Rattle.xs_chart.specs.Charted.{set_limit};
+ghost use Rattle.std.specs.Prelude.{◌≡◌, ◌<◌, ◌+◌, ◌↔◌, suc, ℕ, [], ◌∷◌, ◌++◌, length, false, slice_index_or, IsTrue, IfOk};
+ghost use Rattle.xs_chart.specs.Charted.{set_limit, items_of};
 ghost use Rattle.xs_gram.specs.Languages.{IsFront};
 ghost use Rattle.xs_gram.specs.Sound.{IsSound};
 ghost use Rattle.xs_chart_laws.specs.Charts.{IsChartOf, HasWaiters};
-ghost use Rattle.xs_earley.specs.Arriving.{AreBegun};
-ghost use Rattle.xs_earley.specs.Facts.{AreFacts};
-ghost use Rattle.xs_earley.specs.Running.{Running, IsRunOf};
+ghost use Rattle.xs_earley.specs.Arriving.{gathered, item_due, item_begun, more_due, more_begun, AreBegun};
+ghost use Rattle.xs_earley.specs.Facts.{AreFacts, IsAtom};
+ghost use Rattle.xs_earley.specs.Running.{unsteady, IsSteady, IsRunOf};
 ghost use Rattle.xs_earley.specs.Stages.{AreDue, KeepsFirst};
 
 use crate::adding::put_all;
 use crate::arrive::{arrive_all, read_all};
 use crate::begun::Begun;
+use crate::called::Called;
 use crate::facts::Facts;
 use crate::settle::close;
 use crate::steps::predict;
@@ -22,7 +23,7 @@ use xs_gram::Gram;
 /// Fills the chart's first set, of the empty document.
 pub fn first_set(
     chart: &mut Chart,
-    called: &mut [bool],
+    called: &mut Called,
     g: &Gram,
     facts: &Facts,
 ) -> Result<(), Memory>
@@ -34,8 +35,9 @@ pub fn first_set(
     requires waits { chart.old.waits ≡ [] }
     ensures chart { IfOk result (λ _. IsChartOf g.now [] chart.new.sets) }
     ensures waiters { IfOk result (λ _. HasWaiters g.now chart.new) }
+    ensures marks { length called.new ≡ length called.old }
 {
-    chart.push_set()?;
+    chart.push_set(false)?;
     predict(chart, called, g, facts, 0, g.start())?;
     close(chart, called, g, facts, &[], 0)?;
     let _different = chart.sets();
@@ -43,7 +45,7 @@ pub fn first_set(
 }
 
 /// Gathers what the last set and its begun words lead to by a symbol.
-pub fn gather(
+fn gather(
     due: &mut Vec<Item>,
     fresh: &mut Vec<Begun>,
     g: &Gram,
@@ -52,46 +54,102 @@ pub fn gather(
     chart: &Chart,
     begun: &FlatLists<Begun>,
     symbol: Sym,
+    atom: u16,
 ) -> Result<(), Memory>
-    requires run { IsRunOf g.now (record { word = word.now; chart = chart.now; begun = begun.now; facts = facts.now; marks = g.now.nons }) }
+    requires run { IsRunOf g.now (unsteady word.now chart.now begun.now facts.now g.now.nons) }
+    requires atom { IsAtom facts.now symbol atom }
     ensures due { IfOk result (λ _. AreDue g.now word.now symbol chart.now.sets due.new.items) }
     ensures fresh { IfOk result (λ _. AreBegun g.now (word.now ++ symbol ∷ []) chart.now.sets (suc (length word.now)) fresh.new.items) }
+    ensures due_is { IfOk result (λ _. due.new.items ≡ gathered (item_due g.now facts.now symbol) (items_of chart.now (length word.now)) ++ gathered (more_due facts.now symbol) (slice_index_or begun.now (length word.now) [])) }
+    ensures fresh_is { IfOk result (λ _. fresh.new.items ≡ gathered (item_begun facts.now symbol) (items_of chart.now (length word.now)) ++ gathered (more_begun facts.now symbol) (slice_index_or begun.now (length word.now) [])) }
 {
     due.clear();
     fresh.clear();
     let last = word.len();
-    arrive_all(due, fresh, g, facts, symbol, chart.items(last as u32))?;
+    arrive_all(due, fresh, g, facts, symbol, atom, chart.items(last as u32))?;
     read_all(due, fresh, facts, symbol, begun.list(last))?;
     Ok(())
 }
 
-/// Fills the next set: with what is due, and all that it leads to there.
+/// Whether neither an item nor a begun word was gathered.
+#[inline(always)]
+fn is_nothing(due: &[Item], fresh: &[Begun]) -> bool
+    ensures { IsTrue result ↔ ((due.now ≡ []) × (fresh.now ≡ [])) }
+{
+    due.is_empty() && fresh.is_empty()
+}
+
+/// Whether a word of the language begins with the word so far and the symbol. What the symbol leads to
+/// is gathered for that, unless it is known that it repeats the last set; then no word is begun.
+#[inline(always)]
+pub fn goes_on(
+    due: &mut Vec<Item>,
+    fresh: &mut Vec<Begun>,
+    g: &Gram,
+    facts: &Facts,
+    word: &[Sym],
+    chart: &Chart,
+    begun: &FlatLists<Begun>,
+    symbol: Sym,
+    atom: u16,
+    repeats: bool,
+) -> Result<bool, Memory>
+    requires run { IsRunOf g.now (unsteady word.now chart.now begun.now facts.now g.now.nons) }
+    requires atom { IsAtom facts.now symbol atom }
+    requires steady { IsTrue repeats → IsSteady g.now atom word.now chart.now begun.now facts.now }
+    ensures next { IfOk result (λ next. IsTrue next ↔ IsFront g.now (word.now ++ symbol ∷ [])) }
+    ensures fresh { IfOk result (λ _. AreBegun g.now (word.now ++ symbol ∷ []) chart.now.sets (suc (length word.now)) fresh.new.items) }
+    ensures none { IfOk result (λ _. IsTrue repeats → fresh.new.items ≡ []) }
+    ensures due { IfOk result (λ _. repeats ≡ false → AreDue g.now word.now symbol chart.now.sets due.new.items) }
+    ensures due_is { IfOk result (λ _. repeats ≡ false → due.new.items ≡ gathered (item_due g.now facts.now symbol) (items_of chart.now (length word.now)) ++ gathered (more_due facts.now symbol) (slice_index_or begun.now (length word.now) [])) }
+    ensures fresh_is { IfOk result (λ _. repeats ≡ false → fresh.new.items ≡ gathered (item_begun facts.now symbol) (items_of chart.now (length word.now)) ++ gathered (more_begun facts.now symbol) (slice_index_or begun.now (length word.now) [])) }
+{
+    if repeats {
+        fresh.clear();
+        return Ok(true);
+    }
+    gather(due, fresh, g, facts, word, chart, begun, symbol, atom)?;
+    Ok(!is_nothing(due, fresh))
+}
+
+/// Fills the next set: with the last set once more where the symbol repeats it, else with what is due,
+/// and all that it leads to there.
+#[inline(always)]
 pub fn next_set(
     word: &mut Vec<Sym>,
     chart: &mut Chart,
     begun: &mut FlatLists<Begun>,
-    called: &mut [bool],
+    called: &mut Called,
     g: &Gram,
     facts: &Facts,
     symbol: Sym,
     due: &[Item],
     fresh: &[Begun],
+    repeats: bool,
 ) -> Result<(), Memory>
-    requires run { IsRunOf g.now (record { word = word.old.items; chart = chart.old; begun = begun.old; facts = facts.now; marks = length called.old }) }
+    requires run { IsRunOf g.now (unsteady word.old.items chart.old begun.old facts.now (length called.old)) }
     requires more { length word.old.items + 1 < set_limit }
-    requires due { AreDue g.now word.old.items symbol chart.old.sets due.now }
+    requires steady { IsTrue repeats → (atom : ℕ) × IsAtom facts.now symbol atom × IsSteady g.now atom word.old.items chart.old begun.old facts.now }
+    requires none { IsTrue repeats → fresh.now ≡ [] }
+    requires due { repeats ≡ false → AreDue g.now word.old.items symbol chart.old.sets due.now }
     requires fresh { AreBegun g.now (word.old.items ++ symbol ∷ []) chart.old.sets (suc (length word.old.items)) fresh.now }
     requires front { IsFront g.now (word.old.items ++ symbol ∷ []) }
-    ensures run { IfOk result (λ _. IsRunOf g.now (record { word = word.new.items; chart = chart.new; begun = begun.new; facts = facts.now; marks = length called.new })) }
+    ensures run { IfOk result (λ _. IsRunOf g.now (unsteady word.new.items chart.new begun.new facts.now (length called.new))) }
     ensures word { IfOk result (λ _. word.new.items ≡ word.old.items ++ symbol ∷ []) }
+    ensures begun { IfOk result (λ _. begun.new ≡ begun.old ++ fresh.now ∷ []) }
+    ensures steady { IfOk result (λ _. IsTrue repeats → (atom : ℕ) → IsAtom facts.now symbol atom → IsSteady g.now atom word.old.items chart.old begun.old facts.now → IsSteady g.now atom word.new.items chart.new begun.new facts.now) }
+    ensures marks { length called.new ≡ length called.old }
     ensures kept { KeepsFirst word.old.items word.new.items begun.old begun.new chart.old chart.new }
 {
     word.push(symbol)?;
     begun.push(fresh)?;
-    chart.push_set()?;
+    chart.push_set(repeats)?;
+    if repeats {
+        return Ok(());
+    }
     let at = word.len() as u32;
     put_all(chart, at, due)?;
-    called.fill(false);
+    called.clear();
     close(chart, called, g, facts, word, at)?;
     let _different = chart.sets();
     Ok(())

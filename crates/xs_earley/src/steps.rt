@@ -4,7 +4,7 @@ ghost use Rattle.xs_earley.specs.Adding.{Adds, Calls, Completes, AreCalled};
 ghost use Rattle.xs_earley.specs.Facts.{AreFacts};
 ghost use Rattle.xs_earley.specs.Growing.{IsExact};
 
-use crate::adding::put;
+use crate::called::Called;
 use crate::facts::Facts;
 use xs_chart::Chart;
 use xs_class::Memory;
@@ -16,7 +16,7 @@ use xs_gram::Gram;
 #[inline(always)]
 pub fn predict(
     chart: &mut Chart,
-    called: &mut [bool],
+    called: &mut Called,
     g: &Gram,
     facts: &Facts,
     at: u32,
@@ -28,15 +28,16 @@ pub fn predict(
     requires called { AreCalled g.now at chart.old.sets called.old }
     requires last { length chart.old.sets ≡ suc at }
     ensures adds { IfOk result (λ _. Adds g.now at (Calls g.now at non) chart.old.sets chart.new.sets) }
+    ensures marks { length called.new ≡ length called.old }
     ensures called { IfOk result (λ _. AreCalled g.now at chart.new.sets called.new) }
     ensures waits { chart.new.waits ≡ chart.old.waits }
     ensures before { before_last chart.new ≡ before_last chart.old }
 {
-    if called[non as usize] {
+    if called.has(non) {
         return Ok(());
     }
     chart.append_all(facts.starts(g, non), at)?;
-    called[non as usize] = true;
+    called.mark(non);
     Ok(())
 }
 
@@ -59,11 +60,6 @@ pub fn complete(
     ensures waits { chart.new.waits ≡ chart.old.waits }
     ensures before { before_last chart.new ≡ before_last chart.old }
 {
-    let waiting = chart.waiting(from, non);
-    'waiters: for n in 0..waiting.count {
-        let item = chart.item(from, chart.waiter(waiting, n));
-        let row = facts.row(item.state);
-        put(chart, at, row.next, item.origin)?;
-    }
+    chart.advance(from, non, &facts.nexts)?;
     Ok(())
 }

@@ -16,7 +16,7 @@ items-init c =
     let s = c.args.symbol in
     let first = c.next_by_mask-at in
     let known = subst (AreMasks g f (length (all_places g))) (sym c.as_slice-masks.ensures.value) c.requires.masks in
-    let past = idle_past g f c.as_slice-masks.result.now known s c.atom-atom.result c.atom-atom.ensures c.args.items.now c.requires.states 0 first.result first.ensures.from first.ensures.within first.ensures.idle in
+    let past = idle_past g f c.as_slice-masks.result.now known s c.args.atom c.requires.atom c.args.items.now c.requires.states 0 first.result first.ensures.from first.ensures.within first.ensures.idle in
     record {
       within = first.ensures.within;
       due = nothing_more c.args.due.now.items _ past.0;
@@ -42,7 +42,7 @@ items-preserved c =
     let d : Item = record { state = 0; origin = 0 } in
     let next = c.next_by_mask-at-in-items in
     let known = subst (AreMasks g f (length (all_places g))) (sym c.as_slice-masks.ensures.value) c.requires.masks in
-    let past = idle_past g f c.as_slice-masks.result.now known s c.atom-atom.result c.atom-atom.ensures xs c.requires.states (at + 1) next.result next.ensures.from next.ensures.within next.ensures.idle in
+    let past = idle_past g f c.as_slice-masks.result.now known s c.args.atom c.requires.atom xs c.requires.states (at + 1) next.result next.ensures.from next.ensures.within next.ensures.idle in
     record {
       within = next.ensures.within;
       due = gathered_push (item_due g f s) xs at d c.args.due.now.items c.items.due.items c.arrive.new.due.items (omega arith) c.items.invariant.due c.in_ok-arrive.ensures.due

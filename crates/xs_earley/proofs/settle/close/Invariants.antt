@@ -5,11 +5,12 @@ use Rattle.xs_earley.specs.Growing.{Grown, IsSettledAt, IsOpen}
 use Rattle.xs_earley.specs.Waiting.{WaitsBelow}
 use Rattle.xs_earley.proofs.settle.close.Given as goal
 
-abbrev pub invariant-items : goal.invariant-items
-invariant-items l = record {
+abbrev pub invariant-acting : goal.invariant-acting
+invariant-acting l = record {
   within : l.k ≤ length (items_of l.chart l.at);
   grown : Grown l.g l.doc l.at l.initial.chart.sets l.chart.sets;
   ready : IsOpen l.g l.doc l.at l.chart;
+  marks : length l.called ≡ length l.initial.called;
   called : AreCalled l.g l.at l.chart.sets l.called;
   settled : (m : ℕ) → m < l.k → IsSettledAt l.g l.chart.sets l.at m;
   earlier : (j non : ℕ) → j ≢ l.at → waiting_of l.chart j non ≡ waiting_of l.initial.chart j non;
@@ -17,5 +18,5 @@ invariant-items l = record {
   before : before_last l.chart ≡ before_last l.initial.chart;
 }
 
-abbrev pub decreases-items : goal.decreases-items
-decreases-items l = 18446744073709551616 - l.k
+abbrev pub decreases-acting : goal.decreases-acting
+decreases-acting l = 18446744073709551616 - l.k

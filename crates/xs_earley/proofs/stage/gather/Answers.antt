@@ -45,3 +45,20 @@ returns-clause-fresh c =
     fresh_iff g w s c.args.chart.now.sets run.chart run.sound.built f run.facts (slice_index_or c.args.begun.now (length w) []) (run.begun (length w) (omega arith)) c.read_all.new.fresh.items c.arrive_all.new.fresh.items
     (c.in_ok-arrive_all.ensures.fresh ∙ ap (λ (l : List Begun). l ++ gathered (item_begun f s) c.items.result.now) c.clear-2.ensures.items ∙ ap (gathered (item_begun f s)) c.items.ensures)
     (c.in_ok-read_all.ensures.fresh ∙ ap (λ (l : List Begun). c.arrive_all.new.fresh.items ++ gathered (more_begun f s) l) c.list.ensures)
+
+pub returns-clause-due_is : goal.returns-clause-due_is
+returns-clause-due_is c =
+    let g = c.args.g.now in
+    let f = c.args.facts.now in
+    let s = c.args.symbol in
+    c.in_ok-read_all.ensures.due
+    ∙ ap (λ (l : List Begun). c.arrive_all.new.due.items ++ gathered (more_due f s) l) c.list.ensures
+    ∙ ap (λ (l : List Item). l ++ gathered (more_due f s) (slice_index_or c.args.begun.now (length c.args.word.now) [])) (c.in_ok-arrive_all.ensures.due ∙ ap (λ (l : List Item). l ++ gathered (item_due g f s) c.items.result.now) c.clear.ensures.items ∙ ap (gathered (item_due g f s)) c.items.ensures)
+
+pub returns-clause-fresh_is : goal.returns-clause-fresh_is
+returns-clause-fresh_is c =
+    let f = c.args.facts.now in
+    let s = c.args.symbol in
+    c.in_ok-read_all.ensures.fresh
+    ∙ ap (λ (l : List Begun). c.arrive_all.new.fresh.items ++ gathered (more_begun f s) l) c.list.ensures
+    ∙ ap (λ (l : List Begun). l ++ gathered (more_begun f s) (slice_index_or c.args.begun.now (length c.args.word.now) [])) (c.in_ok-arrive_all.ensures.fresh ∙ ap (λ (l : List Begun). l ++ gathered (item_begun f s) c.items.result.now) c.clear-2.ensures.items ∙ ap (gathered (item_begun f s)) c.items.ensures)

@@ -1,65 +1,92 @@
-use Rattle.std.proofs.Common.{◌≡◌, ◌++◌, [], ◌∷◌, List, ℕ, Bool, suc, length, sym, ◌∙◌, ap, subst, arith}
-use Rattle.std.proofs.lemmas.List.{with_items_is}
+use Rattle.std.proofs.Common.{◌≡◌, ◌<◌, ◌++◌, [], ◌∷◌, List, ℕ, Bool, true, false, suc, length, ◌⊎◌, inl, inr, refl, sym, ◌∙◌, ap, subst, arith}
+use Rattle.std.specs.Prelude.{slice_index_or}
+use Rattle.std.proofs.lemmas.List.{get_or_append_left}
 use Rattle.std.proofs.lemmas.Bool.{false≢true}
 use Rattle.xs_class.proofs.Lists.{len_is}
 use Rattle.xs_chart.specs.declared.item.Item.{Item}
+use Rattle.xs_chart.specs.Charted.{items_of}
 use Rattle.xs_gram.specs.Languages.{IsFront}
 use Rattle.xs_earley.specs.declared.begun.Begun.{Begun}
-use Rattle.xs_earley.specs.Arriving.{AreBegun}
-use Rattle.xs_earley.specs.Running.{Running, IsRunOf}
+use Rattle.xs_earley.specs.Arriving.{gathered, item_due, item_begun, more_due, more_begun, AreBegun}
+use Rattle.xs_earley.specs.Running.{IsSteady}
 use Rattle.xs_earley.specs.Stages.{AreDue}
-use Rattle.xs_earley.proofs.Steppings.{run_kept, step_stops, step_goes}
+use Rattle.xs_earley.proofs.Steadiness.{at_rest_now, at_rest_read, steady_now, with_steady, steady_begins, kept_before}
+use Rattle.xs_earley.proofs.Steppings.{run_kept}
 use Rattle.xs_earley.proofs.run.Run.step.Goals as goal
 
-pub returns-then-is_nothing-clause-next : goal.returns-then-is_nothing-clause-next
-returns-then-is_nothing-clause-next c =
-    let g = c.args.g.now in
-    let s = c.args.symbol in
-    let i = c.self.inside in
-    let base : IsRunOf g (record { word = i.word.items; chart = i.chart; begun = i.begun; facts = i.facts; marks = length i.called.items }) = subst (λ (r : Running). IsRunOf g r) (sym c.self.view_is) c.requires.run in
-    let are_due = subst (λ (u : List ℕ). AreDue g u s i.chart.sets c.gather.new.due.items) c.deref.ensures.value c.in_ok-gather.ensures.due in
-    let are_fresh = subst (λ (u : List ℕ). AreBegun g (u ++ s ∷ []) i.chart.sets (suc (length u)) c.gather.new.fresh.items) c.deref.ensures.value c.in_ok-gather.ensures.fresh in
-    let both = c.is_nothing.ensures.0 c.if-is_nothing.true in
-    let word : i.word.items ≡ c.args.self.now.word = ap (λ (r : Running). r.word) c.self.view_is in
-    ((λ t. absurd (false≢true t)), (λ h. absurd (step_stops g i.word.items s i.facts i.chart i.begun (length i.called.items) base c.gather.new.due.items c.gather.new.fresh.items are_due are_fresh (sym c.deref-2.ensures.value ∙ both.0) (sym c.deref-3.ensures.value ∙ both.1) (subst (λ (u : List ℕ). IsFront g (u ++ s ∷ [])) (sym word) h))))
+pub goes_on-requires-clause-run : goal.goes_on-requires-clause-run
+goes_on-requires-clause-run c = at_rest_read c.args.g.now _ _ c.self.view_is c.requires.run c.deref.result.now c.deref.ensures.value
 
-pub next_set-advanced-requires-clause-front : goal.next_set-advanced-requires-clause-front
-next_set-advanced-requires-clause-front c =
+pub goes_on-requires-clause-steady : goal.goes_on-requires-clause-steady
+goes_on-requires-clause-steady c t =
     let g = c.args.g.now in
-    let s = c.args.symbol in
     let i = c.self.inside in
-    let base : IsRunOf g (record { word = i.word.items; chart = i.chart; begun = i.begun; facts = i.facts; marks = length i.called.items }) = subst (λ (r : Running). IsRunOf g r) (sym c.self.view_is) c.requires.run in
-    let are_due = subst (λ (u : List ℕ). AreDue g u s i.chart.sets c.gather.new.due.items) c.deref.ensures.value c.in_ok-gather.ensures.due in
-    let are_fresh = subst (λ (u : List ℕ). AreBegun g (u ++ s ∷ []) i.chart.sets (suc (length u)) c.gather.new.fresh.items) c.deref.ensures.value c.in_ok-gather.ensures.fresh in
-    step_goes g i.word.items s i.facts i.chart i.begun (length i.called.items) base c.gather.new.due.items c.gather.new.fresh.items are_due are_fresh (λ a b. false≢true (sym c.if-is_nothing.false ∙ c.is_nothing.ensures.1 (c.deref-2.ensures.value ∙ a, c.deref-3.ensures.value ∙ b)))
+    let both = c.repeats_last-repeats.ensures.0 t in
+    subst (λ (u : List ℕ). IsSteady g c.atom-atom.result u i.chart i.begun i.facts) (sym c.deref.ensures.value) (subst (λ n. IsSteady g n i.word.items i.chart i.begun i.facts) (sym both.1) (steady_now g _ _ c.self.view_is c.requires.run both.0))
 
-pub next_set-advanced-requires-clause-due : goal.next_set-advanced-requires-clause-due
-next_set-advanced-requires-clause-due c =
-    let g = c.args.g.now in
-    let s = c.args.symbol in
-    let i = c.self.inside in
-    let base : IsRunOf g (record { word = i.word.items; chart = i.chart; begun = i.begun; facts = i.facts; marks = length i.called.items }) = subst (λ (r : Running). IsRunOf g r) (sym c.self.view_is) c.requires.run in
-    let are_due = subst (λ (u : List ℕ). AreDue g u s i.chart.sets c.gather.new.due.items) c.deref.ensures.value c.in_ok-gather.ensures.due in
-    let are_fresh = subst (λ (u : List ℕ). AreBegun g (u ++ s ∷ []) i.chart.sets (suc (length u)) c.gather.new.fresh.items) c.deref.ensures.value c.in_ok-gather.ensures.fresh in
-    subst (λ (l : List Item). AreDue g i.word.items s i.chart.sets l) (sym c.deref-4.ensures.value) are_due
+pub next_set-read-requires-clause-run : goal.next_set-read-requires-clause-run
+next_set-read-requires-clause-run c = at_rest_now c.args.g.now _ _ c.self.view_is c.requires.run
 
-pub next_set-advanced-requires-clause-fresh : goal.next_set-advanced-requires-clause-fresh
-next_set-advanced-requires-clause-fresh c =
+pub next_set-read-requires-clause-due : goal.next_set-read-requires-clause-due
+next_set-read-requires-clause-due c off =
+    let i = c.self.inside in
+    let are_due = subst (λ (u : List ℕ). AreDue c.args.g.now u c.args.symbol i.chart.sets c.goes_on.new.due.items) c.deref.ensures.value (c.in_ok-goes_on.ensures.due off) in
+    subst (λ (l : List Item). AreDue c.args.g.now i.word.items c.args.symbol i.chart.sets l) (sym c.deref-2.ensures.value) are_due
+
+pub next_set-read-requires-clause-fresh : goal.next_set-read-requires-clause-fresh
+next_set-read-requires-clause-fresh c =
     let g = c.args.g.now in
     let s = c.args.symbol in
     let i = c.self.inside in
-    let base : IsRunOf g (record { word = i.word.items; chart = i.chart; begun = i.begun; facts = i.facts; marks = length i.called.items }) = subst (λ (r : Running). IsRunOf g r) (sym c.self.view_is) c.requires.run in
-    let are_due = subst (λ (u : List ℕ). AreDue g u s i.chart.sets c.gather.new.due.items) c.deref.ensures.value c.in_ok-gather.ensures.due in
-    let are_fresh = subst (λ (u : List ℕ). AreBegun g (u ++ s ∷ []) i.chart.sets (suc (length u)) c.gather.new.fresh.items) c.deref.ensures.value c.in_ok-gather.ensures.fresh in
-    subst (λ (l : List Begun). AreBegun g (i.word.items ++ s ∷ []) i.chart.sets (suc (length i.word.items)) l) (sym c.deref-5.ensures.value) are_fresh
+    let are_fresh = subst (λ (u : List ℕ). AreBegun g (u ++ s ∷ []) i.chart.sets (suc (length u)) c.goes_on.new.fresh.items) c.deref.ensures.value c.in_ok-goes_on.ensures.fresh in
+    subst (λ (l : List Begun). AreBegun g (i.word.items ++ s ∷ []) i.chart.sets (suc (length i.word.items)) l) (sym c.deref-3.ensures.value) are_fresh
+
+-- a test holds or it does not
+split : (b : Bool) → (b ≡ true) ⊎ (b ≡ false)
+split true = inl refl
+split false = inr refl
+
+-- what stands beside the sets before is as it was
+row_before : (begun on : List (List Begun)) (fresh : List Begun) (k : ℕ) → k < length begun → on ≡ begun ++ fresh ∷ [] → slice_index_or on k [] ≡ [] → slice_index_or begun k [] ≡ []
+row_before begun on fresh k lt pushed none = sym (get_or_append_left begun (fresh ∷ []) [] k lt) ∙ sym (ap (λ (l : List (List Begun)). slice_index_or l k []) pushed) ∙ none
+
+pub returns-in-Ok-clause-run : goal.returns-in-Ok-clause-run
+returns-in-Ok-clause-run c =
+    let g = c.args.g.now in
+    let s = c.args.symbol in
+    let i = c.self.inside in
+    let w = i.word.items in
+    let f = i.facts in
+    let n = c.next_set-read.new in
+    let done = c.in-Ok.ensures in
+    let base = at_rest_now g _ _ c.self.view_is c.requires.run in
+    let atom = c.atom-atom.result in
+    let at : c.len-length.result ≡ length w = c.len-length.ensures ∙ len_is i.word in
+    let pushed : n.begun ≡ i.begun ++ c.goes_on.new.fresh.items ∷ [] = done.begun ∙ ap (λ (l : List Begun). i.begun ++ l ∷ []) c.deref-3.ensures.value in
+    let said = c.goes_on.new in
+    let told = c.in_ok-goes_on.ensures in
+    let front = subst (λ (u : List ℕ). IsFront g u) done.word done.run.front in
+    let are_fresh = subst (λ (u : List ℕ). AreBegun g (u ++ s ∷ []) i.chart.sets (suc (length u)) said.fresh.items) c.deref.ensures.value told.fresh in
+    with_steady g _ _ _ f _ atom c.stays_steady-self-inside.result done.run (λ e. elim (split c.repeats_last-repeats.result) [
+      | inl t ↦ (let both = c.repeats_last-repeats.ensures.0 t in done.steady t atom c.atom-atom.ensures (subst (λ m. IsSteady g m w i.chart i.begun f) (sym both.1) (steady_now g _ _ c.self.view_is c.requires.run both.0)))
+      | inr off ↦ elim (c.stays_steady-self-inside.ensures.0 e) [
+        | inl t ↦ absurd (false≢true (sym off ∙ t))
+        | inr h ↦ steady_begins g w s f i.chart i.begun (length i.called) base said.due.items said.fresh.items
+            (subst (λ (u : List ℕ). AreDue g u s i.chart.sets said.due.items) c.deref.ensures.value (told.due off)) are_fresh
+            (subst (λ (u : List ℕ). said.due.items ≡ gathered (item_due g f s) (items_of i.chart (length u)) ++ gathered (more_due f s) (slice_index_or i.begun (length u) [])) c.deref.ensures.value (told.due_is off))
+            (subst (λ (u : List ℕ). said.fresh.items ≡ gathered (item_begun f s) (items_of i.chart (length u)) ++ gathered (more_begun f s) (slice_index_or i.begun (length u) [])) c.deref.ensures.value (told.fresh_is off))
+            front
+            (row_before i.begun n.begun said.fresh.items (length w) (let k = base.counted in omega (arith, k)) pushed (ap (λ k. slice_index_or n.begun k []) (sym at) ∙ sym c.list.ensures ∙ h.2))
+            (sym c.deref-in-Ok.ensures.value ∙ h.3)
+            n.chart n.begun (kept_before g w i.chart n.chart base.chart done.kept.sets_kept)
+            (subst (λ k. items_of n.chart (suc k) ≡ items_of n.chart k) at h.4)
+            pushed h.1.0 h.1.1 atom (c.atom-atom.ensures h.1.0 h.1.1) n.word.items done.word
+      ]
+    ])
 
 pub returns-in-Err-clause-run : goal.returns-in-Err-clause-run
 returns-in-Err-clause-run c =
     let g = c.args.g.now in
-    let s = c.args.symbol in
     let i = c.self.inside in
-    let base : IsRunOf g (record { word = i.word.items; chart = i.chart; begun = i.begun; facts = i.facts; marks = length i.called.items }) = subst (λ (r : Running). IsRunOf g r) (sym c.self.view_is) c.requires.run in
-    let new = c.next_set-advanced.new.called in
-    let marks : length new ≡ length i.called.items = c.next_set-advanced.auto.called ∙ ap (λ (l : List Bool). length l) c.deref_mut.ensures.value in
-    let same = with_items_is i.called new (omega (arith, marks, i.called.ok)) in
-    rw (c.truncate.ensures.items, c.truncate-in-Err.ensures, c.truncate-in-Err-2.ensures) (run_kept g i.word.items c.next_set-advanced.new.word.items i.facts i.chart c.next_set-advanced.new.chart i.begun c.next_set-advanced.new.begun (length i.called.items) _ base c.in-Err.ensures.kept (ap (λ (l : List Bool). length l) same ∙ marks) c.len-length.result (c.len-length.ensures ∙ len_is i.word))
+    let base = at_rest_now g _ _ c.self.view_is c.requires.run in
+    rw (c.truncate.ensures.items, c.truncate-in-Err.ensures, c.truncate-in-Err-2.ensures) (with_steady g _ _ _ _ _ i.atom false (run_kept g i.word.items c.next_set-read.new.word.items i.facts i.chart c.next_set-read.new.chart i.begun c.next_set-read.new.begun (length i.called) (length c.next_set-read.new.called) base c.in-Err.ensures.kept c.next_set-read.ensures.marks c.len-length.result (c.len-length.ensures ∙ len_is i.word)) (λ e. absurd (false≢true e)))
