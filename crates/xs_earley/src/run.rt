@@ -1,4 +1,4 @@
-ghost use Rattle.std.specs.Prelude.{◌≡◌, ◌<◌, ◌≤◌, ◌+◌, ◌↔◌, ◌^◌, suc, ℕ, false, [], ◌∷◌, ◌++◌, length, take, true, ◌⊎◌, IsTrue, IfOk, OnErr};
+ghost use Rattle.std.specs.Prelude.{◌≡◌, ◌<◌, ◌≤◌, ◌+◌, ◌↔◌, ◌^◌, suc, ℕ, false, [], ◌∷◌, ◌++◌, length, take, true, ◌⊎◌, slice_index_or, IsTrue, IfOk, OnErr};
 ghost use Rattle.xs_class.specs.Classes.{Has};
 ghost use Rattle.xs_chart.specs.Charted.{set_limit, items_of};
 ghost use Rattle.xs_gram.specs.Grammar.{Grammar, items, IsRuleOf};
@@ -105,12 +105,19 @@ fn are_unbegun(begun: &[Begun], fresh: &[Begun]) -> bool
 /// Whether the grammar has atoms, set `at` and the one after it are the same, and no word is begun in
 /// either.
 #[inline(always)]
-fn is_repeated(facts: &Facts, chart: &Chart, begun: &[Begun], fresh: &[Begun], at: u32) -> bool
+fn is_repeated(
+    facts: &Facts,
+    chart: &Chart,
+    begun: &FlatLists<Begun>,
+    fresh: &[Begun],
+    at: u32,
+) -> bool
     requires there { suc at < length chart.now.sets }
+    requires row { at < length begun.now }
     requires few { at + 1 < 2 ^ 32 }
-    ensures { IsTrue result ↔ (HasAtoms facts.now × (begun.now ≡ []) × (fresh.now ≡ []) × (items_of chart.now (suc at) ≡ items_of chart.now at)) }
+    ensures { IsTrue result ↔ (HasAtoms facts.now × (slice_index_or begun.now at [] ≡ []) × (fresh.now ≡ []) × (items_of chart.now (suc at) ≡ items_of chart.now at)) }
 {
-    if !are_unbegun(begun, fresh) {
+    if !are_unbegun(begun.list(at as usize), fresh) {
         return false;
     }
     match &facts.atoms {
@@ -135,13 +142,14 @@ fn stays_steady(
     is_alike: bool,
     facts: &Facts,
     chart: &Chart,
-    begun: &[Begun],
+    begun: &FlatLists<Begun>,
     fresh: &[Begun],
     at: u32,
 ) -> bool
     requires there { suc at < length chart.now.sets }
+    requires row { at < length begun.now }
     requires few { at + 1 < 2 ^ 32 }
-    ensures { IsTrue result ↔ (IsTrue repeats ⊎ (IsTrue is_alike × HasAtoms facts.now × (begun.now ≡ []) × (fresh.now ≡ []) × (items_of chart.now (suc at) ≡ items_of chart.now at))) }
+    ensures { IsTrue result ↔ (IsTrue repeats ⊎ (IsTrue is_alike × HasAtoms facts.now × (slice_index_or begun.now at [] ≡ []) × (fresh.now ≡ []) × (items_of chart.now (suc at) ≡ items_of chart.now at))) }
 {
     if repeats {
         return true;
@@ -225,7 +233,7 @@ impl Run {
                     atom == self.atom,
                     &self.facts,
                     &self.chart,
-                    self.begun.list(length),
+                    &self.begun,
                     &self.fresh,
                     length as u32,
                 );

@@ -81,7 +81,6 @@ fn is_nothing(due: &[Item], fresh: &[Begun]) -> bool
 
 /// Whether a word of the language begins with the word so far and the symbol. What the symbol leads to
 /// is gathered for that, unless it is known that it repeats the last set; then no word is begun.
-#[inline(always)]
 pub fn goes_on(
     due: &mut Vec<Item>,
     fresh: &mut Vec<Begun>,
@@ -114,7 +113,6 @@ pub fn goes_on(
 
 /// Fills the next set: with the last set once more where the symbol repeats it, else with what is due,
 /// and all that it leads to there.
-#[inline(always)]
 pub fn next_set(
     word: &mut Vec<Sym>,
     chart: &mut Chart,

@@ -8,6 +8,6 @@ returns-in-Some c =
     let first : c.items.result.now ≡ items_of c.args.chart.now (suc c.args.at) = c.items.ensures ∙ ap (items_of c.args.chart.now) next in
     let second = c.items-in-Some.ensures in
     let both = c.are_unbegun.ensures.0 c.if-not-are_unbegun.false in (
-      (λ t. ((c.in-Some.field-0, c.in-Some.is), both.0, both.1, sym first ∙ c.are_same.ensures.0 t ∙ second)),
+      (λ t. ((c.in-Some.field-0, c.in-Some.is), sym c.list.ensures ∙ both.0, both.1, sym first ∙ c.are_same.ensures.0 t ∙ second)),
       (λ h. c.are_same.ensures.1 (first ∙ h.3 ∙ sym second)),
     )

@@ -76,7 +76,7 @@ returns-in-Ok-clause-run c =
             (subst (λ (u : List ℕ). said.due.items ≡ gathered (item_due g f s) (items_of i.chart (length u)) ++ gathered (more_due f s) (slice_index_or i.begun (length u) [])) c.deref.ensures.value (told.due_is off))
             (subst (λ (u : List ℕ). said.fresh.items ≡ gathered (item_begun f s) (items_of i.chart (length u)) ++ gathered (more_begun f s) (slice_index_or i.begun (length u) [])) c.deref.ensures.value (told.fresh_is off))
             front
-            (row_before i.begun n.begun said.fresh.items (length w) (let k = base.counted in omega (arith, k)) pushed (ap (λ k. slice_index_or n.begun k []) (sym at) ∙ sym c.list.ensures ∙ h.2))
+            (row_before i.begun n.begun said.fresh.items (length w) (let k = base.counted in omega (arith, k)) pushed (ap (λ k. slice_index_or n.begun k []) (sym at) ∙ h.2))
             (sym c.deref-in-Ok.ensures.value ∙ h.3)
             n.chart n.begun (kept_before g w i.chart n.chart base.chart done.kept.sets_kept)
             (subst (λ k. items_of n.chart (suc k) ≡ items_of n.chart k) at h.4)
