@@ -209,3 +209,12 @@ fn runs_over_a_made_text(rt: HostRuntime) -> Result<(), Fail> {
     let text = make_text(rt.alloc(), 1, 2)?;
     expect_retraced(&rt, rt.alloc(), leiden_sheet(), text.as_slice())
 }
+
+/// A sheet by which the sets of a long word soon are the same from letter to letter, and are repeated.
+const LETTERS: &[u8] =
+    b"xsugar-1\nstart s\nterminal v = /[a-c]*/\ns : [v x] \".\" = <s>[v x]</s>\n";
+
+#[test]
+fn runs_over_sets_that_are_repeated(rt: HostRuntime) -> Result<(), Fail> {
+    expect_retraced(&rt, rt.alloc(), LETTERS, b"abcabccbacba.")
+}
