@@ -2,23 +2,8 @@ ghost use Rattle.std.specs.Prelude.{IfOk};
 ghost use Rattle.xs_chars.specs.Text.{AreCharacters};
 
 use std::alloc::Global;
-use xs_chars::{DecodeFault, Form, decode, encode, in_form, read_text, write_text};
+use xs_chars::{DecodeFault, Form, decode, encode, in_form};
 use xs_class::{Sym, Word};
-
-const BROKEN: [(&[u8], u64); 4] = [
-    (b"(\xff", 1),
-    (b"<s>\xc3", 3),
-    (b"\xed\xa0\x80", 0),
-    (b"a\xf4\x90\x80\x80", 1),
-];
-
-#[test]
-fn bytes_that_are_no_utf8(rt: HostRuntime) {
-    for (bytes, at) in &BROKEN {
-        let fault = decode(rt.alloc(), bytes).err();
-        assert!(rt; fault == Some(DecodeFault::NotUtf8 { at: *at }));
-    }
-}
 
 /// Whether these are the numbers of the symbols.
 fn are(symbols: &[Sym], numbers: &[u32]) -> bool {
@@ -32,40 +17,6 @@ fn are(symbols: &[Sym], numbers: &[u32]) -> bool {
 
 /// Bytes, a form, the numbers of symbols, and bytes again.
 type Row<'t> = (&'t [u8], Form, &'t [u32], &'t [u8]);
-
-/// Whether the bytes are read in this form as these symbols, and these written as those bytes.
-fn is_read_and_written(alloc: Global, row: Row<'_>) -> Result<bool, DecodeFault> {
-    let word = read_text(alloc, row.0, row.1)?;
-    let out = write_text(alloc, &word)?;
-    Ok(are(word.as_slice(), row.2) && out.as_slice() == row.3)
-}
-
-const READ: [Row<'static>; 6] = [
-    (
-        b"(3,\xc3\xa9)",
-        Form::AsIs,
-        &[40, 51, 44, 0xE9, 41],
-        b"(3,\xc3\xa9)",
-    ),
-    (b"\xef\xbb\xbfa", Form::AsIs, &[97], b"a"),
-    (
-        b"\xef\xbb\xbf\xef\xbb\xbfa",
-        Form::AsIs,
-        &[0xFEFF, 97],
-        b"\xef\xbb\xbf\xef\xbb\xbfa",
-    ),
-    (b"\xe1\xba\xa1", Form::Nfd, &[97, 0x323], b"a\xcc\xa3"),
-    (b"a\xcc\xa3", Form::Nfc, &[0x1EA1], b"\xe1\xba\xa1"),
-    (b"", Form::Nfc, &[], b""),
-];
-
-#[test]
-fn texts_are_read_and_written(rt: HostRuntime) {
-    for row in &READ {
-        let same = is_read_and_written(rt.alloc(), *row);
-        assert!(rt; same == Ok(true), "{:?}", row.0);
-    }
-}
 
 fn put(alloc: Global, bytes: &[u8], form: Form) -> Result<Word, DecodeFault>
     ensures { IfOk result AreCharacters }

@@ -1,21 +1,7 @@
-use std::alloc::Global;
 use std::test::Fail;
-use xs_class::Side;
-use xs_pair::{Ill, IllRule, PairFault};
+use xs_class::{Side, Sym};
+use xs_pair::Two;
 use xs_test_tools::{PAIR, pair_of};
-
-/// The failure of the sheet of these units.
-fn ill(alloc: Global, text: &str) -> Option<Ill> {
-    match pair_of(alloc, text.as_bytes()) {
-        Err(PairFault::Ill(ill)) => Some(ill),
-        Err(PairFault::Memory) => None,
-        Ok(_) => None,
-    }
-}
-
-pub fn reported(rule: IllRule, line: u32) -> Option<Ill> {
-    Some(Ill { rule, line })
-}
 
 #[test]
 fn the_pair_sheet_has_two_grammars(rt: HostRuntime) -> Result<(), Fail> {
@@ -31,52 +17,40 @@ fn the_pair_sheet_has_two_grammars(rt: HostRuntime) -> Result<(), Fail> {
     Ok(())
 }
 
-const FAILING: [(&str, IllRule, u32); 8] = [
-    (
-        "xsugar-1\nstart s\nterminal d = /a/\nterminal d = /b/\nd : = <s/>\ns : = <s/>\n",
-        IllRule::Twice,
-        4,
-    ),
-    (
-        "xsugar-1\nstart s\ns : [x a] = <s>[x a]</s>\ns : [y a] = <s>[y a]</s>\n",
-        IllRule::Undefined,
-        3,
-    ),
-    (
-        "xsugar-1\nstart s\nterminal d = /a/\nt : = <s/>\n",
-        IllRule::NoStart,
-        2,
-    ),
-    (
-        "xsugar-1\nstart s\nterminal d = /[0-9]/\ns : [d a] = <p/>\ns : = <p>[d a]</p>\n",
-        IllRule::NameOnce,
-        4,
-    ),
-    (
-        "xsugar-1\nstart s\nterminal d = /[0-9]/\ns : [d a] [d a] = <p>[d a]</p>\n",
-        IllRule::NameOnce,
-        4,
-    ),
-    (
-        "xsugar-1\nstart s\nterminal d = /a/\ns : [d] = <s>[d]</s>\ns : [s x] = <s a=[s x]/>\n",
-        IllRule::Kind,
-        4,
-    ),
-    (
-        "xsugar-1\nstart s\ns : = <s><t a=\"x\" a=\"y\"/></s>\ns : = <s b=\"x\" b=\"x\"/>\n",
-        IllRule::AttrTwice,
-        3,
-    ),
-    (
-        "xsugar-1\nstart s\nt : = \"a\"\ns : = \"a\" <s/>\ns : \"a\" = \"a\"\n",
-        IllRule::RootShape,
-        4,
-    ),
-];
+fn fences(two: &Two, side: Side) -> &[(Sym, Sym)] {
+    two.gram(side).fences()
+}
 
 #[test]
-fn the_least_line_of_each_rule_is_reported(rt: HostRuntime) {
-    for (text, rule, line) in &FAILING {
-        assert_eq!(rt; ill(rt.alloc(), text), reported(*rule, *line));
-    }
+fn both_sides_of_version_2_have_their_fences(rt: HostRuntime) -> Result<(), Fail> {
+    let sheet =
+        b"xsugar-2\nstart s\nfence \"(\" \")\"\ns : \"()\" = <s a=\"b\"><t/></s>\nfence \"<\" \">\"\n";
+    let two = pair_of(rt.alloc(), sheet)?;
+    let text = [(Sym(40), Sym(41)), (Sym(60), Sym(62))];
+    assert!(rt; fences(&two, Side::Text) == text.as_slice());
+    let xml = [
+        (Sym::opening(0), Sym::closing(0)),
+        (Sym::opening(1), Sym::closing(1)),
+        (Sym::opening(2), Sym::closing(2)),
+    ];
+    assert!(rt; fences(&two, Side::Xml) == xml.as_slice());
+    Ok(())
+}
+
+/// The first seven rules hold, and the fence is not closed: the text side then has no fences.
+#[test]
+fn a_text_side_whose_fences_fail_has_none(rt: HostRuntime) -> Result<(), Fail> {
+    let sheet = b"xsugar-2\nstart s\nfence \"(\" \")\"\ns : \"(\" = <s/>\n";
+    let two = pair_of(rt.alloc(), sheet)?;
+    assert!(rt; fences(&two, Side::Text).is_empty());
+    assert!(rt; fences(&two, Side::Xml).len() == 1);
+    Ok(())
+}
+
+#[test]
+fn version_1_has_no_fences(rt: HostRuntime) -> Result<(), Fail> {
+    let two = pair_of(rt.alloc(), b"xsugar-1\nstart s\ns : \"()\" = <s/>\n")?;
+    assert!(rt; fences(&two, Side::Text).is_empty());
+    assert!(rt; fences(&two, Side::Xml).is_empty());
+    Ok(())
 }

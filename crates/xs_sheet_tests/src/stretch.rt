@@ -176,3 +176,34 @@ fn nets_accept_loose_words(rt: HostRuntime) -> Result<(), Fail> {
     );
     Ok(())
 }
+
+/// Seventeen items, each of which weighs 501.
+const WIDE: &[u8] = b"xsugar-1\nstart s\nterminal t = /([a-z]{50}){10}/\n\
+    s : [t a] [t b] [t c] [t d] [t e] [t f] [t g] [t h] [t i] \
+    [t j] [t k] [t l] [t m] [t n] [t o] [t p] [t q] = \
+    <s>[t a] [t b] [t c] [t d] [t e] [t f] [t g] [t h] [t i] \
+    [t j] [t k] [t l] [t m] [t n] [t o] [t p] [t q]</s>\n";
+
+/// What the seventeen items of a rule weigh, and the fault of their net.
+fn heaviness(alloc: Global, gram: &Gram, rule: u32) -> Result<(u64, Option<LooseFault>), Memory>
+    requires { IsBuilt gram.now }
+{
+    let comps = components(alloc, gram)?;
+    match part(gram, rule, 0, 17) {
+        None => Err(Memory),
+        Some(part) => {
+            let weight = weight_of(alloc, gram, &comps, &part)?;
+            let net = net_of(alloc, gram, &comps, &part);
+            Ok((weight, net.err()))
+        }
+    }
+}
+
+#[test]
+fn a_part_that_is_too_heavy_has_no_net(rt: HostRuntime) -> Result<(), Fail> {
+    let two = pair_of(rt.alloc(), WIDE)?;
+    let (weight, fault) = heaviness(rt.alloc(), two.gram(Side::Text), 0)?;
+    assert_eq!(rt; weight, 8517);
+    assert!(rt; fault == Some(LooseFault::Heavy { weight: 8517 }));
+    Ok(())
+}

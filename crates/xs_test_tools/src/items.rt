@@ -11,7 +11,7 @@ pub fn push_all(sheet: &mut Bytes, pieces: &[&[u8]]) -> Result<(), Memory> {
 /// Appends the item of a letter: `S`, `T` and `U` are the nonterminals s, t and u, `m`, `q`, `x`,
 /// `y` and `z` terminals, each by this name, `k` and `l` ignorables, `w` is the fixed word of an a
 /// and a b, and any other letter the fixed word of itself.
-pub fn push_item(sheet: &mut Bytes, letter: u8, name: u8) -> Result<(), Memory> {
+fn push_item(sheet: &mut Bytes, letter: u8, name: u8) -> Result<(), Memory> {
     match letter {
         b'S' => push_all(sheet, &[b"[s ", &[name], b"] "]),
         b'T' => push_all(sheet, &[b"[t ", &[name], b"] "]),

@@ -17,7 +17,7 @@ mod small;
 
 pub use draws::Draws;
 pub use examples::EXAMPLES;
-pub use items::{push_all, push_item, push_items};
+pub use items::{push_all, push_items};
 pub use names::{add_characters, names_of, word_of};
 pub use nets::run_of;
 pub use sheets::{other_side, pair_of, two_of};

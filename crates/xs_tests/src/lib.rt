@@ -1,5 +1,6 @@
-//! Tests of the whole run and of what it stands on at once, one module for each crate, where that of
-//! `xs_top` is `run`. The layers below have theirs in `xs_sheet_tests` and `xs_document_tests`.
+//! Tests of what no run of the built program shows: runs over devices that fail (`run`), lines of
+//! outcomes, a document of an edit script at its limit. What a run shows is in the tables of tests/;
+//! the layers below have their tests in `xs_sheet_tests`, `xs_cert_tests` and `xs_document_tests`.
 //!
 //! `xs_test_tools` says why they stand apart from the crates that they try.
 #![tactic(auto)]
@@ -10,5 +11,3 @@ mod run;
 mod script;
 #[cfg(test)]
 mod talk;
-#[cfg(test)]
-mod words;

@@ -1,4 +1,4 @@
-//! The whole run, over devices in memory, one module for each kind of input or answer.
+//! The whole run, over devices in memory that fail.
 use std::alloc::Global;
 use std::process::Abort;
 use std::test::Fail;
@@ -6,38 +6,12 @@ use xs_class::{Bytes, Memory, Text};
 use xs_io::{MemShelf, MemSink, MemSource};
 use xs_top::{Outcome, run, status};
 
-mod certificates;
-mod checks;
-mod cover;
-mod cuts;
 mod faults;
-mod fences;
-mod leiden;
-mod limits;
-mod outlines;
-mod plain;
-mod refusals;
-mod sessions;
-mod sheets;
-mod translations;
-mod upgrades;
 
 /// The name of the file that has the sheet.
 const SHEET: &str = "sheet";
 
-const CHECK: &[&str] = &["check", SHEET];
-
 const TO_XML: &[&str] = &["to-xml", SHEET];
-
-const TO_TEXT: &[&str] = &["to-text", SHEET];
-
-const LETTERS: &str = "xsugar-1\nstart s\nterminal v = /a*/\ns : [v x] = <s>[v x]</s>\n";
-
-const IN_VALUE: &str = "xsugar-1\nstart s\nterminal v = /.*/\ns : [v x] = <s a=[v x]/>\n";
-
-const IN_CONTENT: &str = "xsugar-1\nstart s\nterminal v = /.*/\ns : [v x] = <s>[v x]</s>\n";
-
-const TWINS: &str = "xsugar-1\nstart s\ns : [s a] [s b] = <s>[s a][s b]</s>\ns : \"a\" = <a/>\n";
 
 /// The calls at which devices fail, numbered from 1, where 0 is no call; each call moves at most
 /// `step` bytes.
@@ -208,40 +182,4 @@ fn expect_broken(
     let ended = ran(alloc, run.words, run.sheet, run.input, failures)?;
     assert_end(rt, &ended, end);
     Ok(())
-}
-
-/// The run of these words over the sheet and the input ends so.
-fn expect(
-    rt: &impl Abort,
-    alloc: Global,
-    words: &[&str],
-    sheet: &[u8],
-    input: &[u8],
-    end: End<'_>,
-) -> Result<(), Fail> {
-    let run = Run {
-        words,
-        sheet,
-        input,
-    };
-    expect_broken(rt, alloc, run, NONE, end)
-}
-
-/// The status, and whether `notes` took a line that begins so and `out` took nothing.
-fn reported_by(end: End<'_>, begin: &[u8]) -> (u8, bool) {
-    (
-        end.status,
-        end.notes.starts_with(begin) && end.out.is_empty(),
-    )
-}
-
-/// The status of a run, and whether `notes` takes a line that begins so and `out` takes nothing.
-fn reported(
-    alloc: Global,
-    words: &[&str],
-    sheet: &[u8],
-    begin: &[u8],
-) -> Result<(u8, bool), Memory> {
-    let ended = ran(alloc, words, sheet, b"zzz", NONE)?;
-    Ok(reported_by(end_of(&ended), begin))
 }

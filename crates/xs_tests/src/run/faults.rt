@@ -1,8 +1,12 @@
-use super::{End, Failures, NONE, Run, TO_XML, done, expect_broken, refused};
+use super::{
+    End, Ended, Failures, NONE, Run, SHEET, TO_XML, assert_end, done, expect_broken, outcome_of,
+    refused, set_up,
+};
 use std::alloc::Global;
 use std::process::Abort;
 use std::test::Fail;
-use xs_test_tools::PAIR;
+use xs_class::{Bytes, Memory, Text};
+use xs_test_tools::{EMPTY, PAIR};
 
 /// Words, an input, the calls of `input`, `out` and `notes` that fail, how many bytes a call moves,
 /// what `out` and `notes` take, and how the run breaks off.
@@ -39,6 +43,16 @@ const ROWS: &[Row] = &[
     (&[], b"", [0, 0, 1], 1, b"", b"", (5, 0)),
     // `notes` fails at the line of a failing `out`
     (TO_XML, b"(3,7)", [0, 3, 7], 1, b"<p", b"output", (6, 6)),
+    // the answer to a script is written at its end
+    (
+        &["session", SHEET],
+        b"put 0 0 \"(3\"\nnext 2\nput 2 0 \",7)\"\ntree\nput 1 1 \"x\"\ntree\nput 9 0 \"a\"\n",
+        [0, 2, 0],
+        3,
+        b"ok ",
+        b"output: cannot be written after 3 bytes\n",
+        (0, 3),
+    ),
 ];
 
 fn expect_row(rt: &impl Abort, alloc: Global, row: Row) -> Result<(), Fail> {
@@ -208,6 +222,116 @@ fn each_failing_call_of_notes_is_answered(rt: HostRuntime) -> Result<(), Fail> {
         for call in 1..41u64 {
             expect_unreported(&rt, rt.alloc(), call, step)?;
         }
+    }
+    Ok(())
+}
+
+/// The name of the file that has the certificate.
+const FILE: &str = "certificate";
+
+const PROVE: &[&str] = &["prove", SHEET];
+
+const CERTIFY: &[&str] = &["check", SHEET, "cert", FILE];
+
+/// The certificate of the empty sheet.
+const OF_EMPTY: &[u8] =
+    b"xsugar-cert-1\nside text\nside xml\ncut 0 1\nset 1\n0 0\n1 1\nset 0\n1 0\n\
+    set 2\nset 3\nend\n";
+
+const ACCEPTED: &[u8] = b"accepted: 0 terminals, 0 ignorables, 1 nonterminals, 1 productions\n";
+
+/// The run of these words over the empty sheet and its certificate, where these calls fail.
+fn ran_by(alloc: Global, words: &[&str], failures: Failures) -> Result<Ended, Memory> {
+    let mut devices = set_up(alloc, EMPTY.as_bytes(), b"", failures)?;
+    let name = Text::of(alloc, FILE)?;
+    let file = Bytes::of(alloc, OF_EMPTY)?;
+    devices.shelf.add(name, file)?;
+    let outcome = outcome_of(alloc, words, &mut devices)?;
+    Ok(Ended { outcome, devices })
+}
+
+/// Words, the calls of the shelf, `out` and `notes` that fail, the status, how the run breaks off,
+/// and what `out` and `notes` take.
+type Fault = (
+    &'static [&'static str],
+    [u64; 3],
+    u8,
+    (u8, u64),
+    &'static [u8],
+    &'static [u8],
+);
+
+/// Each call of `out` and `notes` moves at most seven bytes. The sheet takes the first two calls of
+/// the shelf, and the certificate the next two.
+const FAULTS: &[Fault] = &[
+    (
+        CERTIFY,
+        [2, 0, 0],
+        6,
+        (0, 0),
+        b"",
+        b"sheet: cannot be read\n",
+    ),
+    (
+        CERTIFY,
+        [3, 0, 0],
+        6,
+        (0, 0),
+        b"",
+        b"certificate: cannot be read\n",
+    ),
+    (
+        CERTIFY,
+        [4, 0, 0],
+        6,
+        (0, 0),
+        b"",
+        b"certificate: cannot be read\n",
+    ),
+    (CERTIFY, [5, 0, 0], 0, (0, 0), ACCEPTED, b""),
+    (CERTIFY, [3, 0, 3], 6, (6, 14), b"", b"certificate: c"),
+    (
+        CERTIFY,
+        [0, 2, 0],
+        6,
+        (0, 7),
+        b"accepte",
+        b"output: cannot be written after 7 bytes\n",
+    ),
+    (
+        PROVE,
+        [0, 3, 0],
+        6,
+        (0, 14),
+        b"xsugar-cert-1\n",
+        b"output: cannot be written after 14 bytes\n",
+    ),
+];
+
+fn expect_fault(rt: &impl Abort, alloc: Global, fault: Fault) -> Result<(), Fail> {
+    let (words, calls, status, broken, out, notes) = fault;
+    let failures = Failures {
+        shelf: calls[0],
+        input: 0,
+        out: calls[1],
+        notes: calls[2],
+        step: 7,
+    };
+    let end = End {
+        status,
+        broken,
+        notes,
+        out,
+    };
+    let ended = ran_by(alloc, words, failures)?;
+    assert_end(rt, &ended, end);
+    Ok(())
+}
+
+#[test]
+fn failing_calls_over_a_certificate_are_reported(rt: HostRuntime) -> Result<(), Fail> {
+    for fault in FAULTS {
+        expect_fault(&rt, rt.alloc(), *fault)?;
     }
     Ok(())
 }
