@@ -1,5 +1,5 @@
 ghost use Rattle.std.specs.Prelude.{◌≡◌, ℕ, ◌*◌, ◌<◌, ◌≤◌, [], true, false, length, IfOk, OnOk};
-ghost use Rattle.xs_auto.specs.Bits.{bit_of};
+ghost use Rattle.xs_auto.specs.{bit_of};
 ghost use Rattle.xs_apart.specs.Arcs.{HasFound};
 ghost use Rattle.xs_apart.specs.Found.{Fits, IsMore, IsEmpty};
 

@@ -1,7 +1,7 @@
 ghost use Rattle.std.specs.Prelude.{◌≡◌, ℕ, ◌<◌, ◌≤◌, [], true, IfOk, IfSome, OnOk};
 ghost use Rattle.std.specs.List.{All};
-ghost use Rattle.xs_meet.specs.Closed.{AreApart};
-ghost use Rattle.xs_coarse.specs.Coarse.{IsTable, MayCall, view, Net as AnyNet};
+ghost use Rattle.xs_meet.specs.{AreApart};
+ghost use Rattle.xs_coarse.specs.{IsTable, MayCall, view, Net as AnyNet};
 ghost use Rattle.xs_apart.specs.Found.{HasPair, IsInside, IsLonger};
 ghost use Rattle.xs_apart.specs.Sets.{AreDoubles, AreClear, AreEndPairs};
 ghost use Rattle.xs_apart.specs.Tails.{IsTail, IsWithinAll};

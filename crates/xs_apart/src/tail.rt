@@ -1,6 +1,6 @@
 ghost use Rattle.std.specs.Prelude.{◌≡◌, ℕ, ◌+◌, ◌<◌, ◌≤◌, true, IfOk, IfSome};
 ghost use Rattle.std.specs.List.{All};
-ghost use Rattle.xs_coarse.specs.Coarse.{HasArc, IsWithin};
+ghost use Rattle.xs_coarse.specs.{HasArc, IsWithin};
 ghost use Rattle.xs_apart.specs.Arcs.{IsGate};
 ghost use Rattle.xs_apart.specs.Tails.{IsTail, HasArcsFrom};
 

@@ -1,5 +1,5 @@
 ghost use Rattle.std.specs.Prelude.{ℕ, ◌≤◌, IfSome, IfNone};
-ghost use Rattle.xs_class.specs.Classes.{Has};
+ghost use Rattle.xs_class.specs.{Has};
 
 use xs_class::{Class, Sym};
 

@@ -1,6 +1,6 @@
 ghost use Rattle.std.specs.Prelude.{◌≡◌, ℕ, ◌<◌, ◌≤◌, length, map, slice_get, Some, IfSome, IfNone};
 ghost use Rattle.std.specs.List.{All};
-ghost use Rattle.xs_class.specs.Classes.{Has};
+ghost use Rattle.xs_class.specs.{Has};
 ghost use Rattle.xs_auto.specs.Layout.{seen, NamesBelow};
 
 use crate::common::first_common;

@@ -1,10 +1,9 @@
 ghost use Rattle.std.specs.Prelude.{◌≡◌, ◌∷◌, [], ◌<◌, ◌≤◌, length, IfOk};
-ghost use Rattle.xs_auto.specs.Nests.{group_at};
-ghost use Rattle.xs_gram.specs.Fences.{spread};
-ghost use Rattle.xs_closed.specs.Rows.{marked};
-ghost use Rattle.xs_cert_laws.specs.Blocks.{AreRuleNets, for_groups, for_rules, for_cut};
-ghost use Rattle.xs_cert_laws.specs.Certificates.{rule_heads, cut_heads};
-ghost use Rattle.xs_light.specs.Spaces.{IsRuleNet};
+ghost use Rattle.xs_auto.specs.{group_at};
+ghost use Rattle.xs_gram.specs.{spread};
+ghost use Rattle.xs_closed.specs.{marked};
+ghost use Rattle.xs_cert_laws.specs.{AreRuleNets, for_groups, for_rules, for_cut, rule_heads, cut_heads};
+ghost use Rattle.xs_light.specs.{IsRuleNet};
 ghost use Rattle.xs_cert.specs.Basis.{IsBasis, IsIn, AreReadBy};
 ghost use Rattle.xs_cert.specs.Rows.{reading_of};
 ghost use Rattle.xs_cert.specs.Sides.{open_heads, all_group_heads, all_rule_heads, all_cut_heads, side_heads};

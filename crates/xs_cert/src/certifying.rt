@@ -1,9 +1,8 @@
 ghost use Rattle.std.specs.Prelude.{◌≡◌, ◌↔◌, ◌≤◌, ◌+◌, length, drop, codes, IsTrue, IfOk, OnOk, IfErr, IfSome, IfNone};
-ghost use Rattle.xs_gram.specs.Languages.{IsUnique};
-ghost use Rattle.xs_gram.specs.Sound.{IsBuilt, IsSound};
-ghost use Rattle.xs_check_laws.specs.Acceptance.{IsLight, IsAccepted};
-ghost use Rattle.xs_cert_lines.specs.Lines.{ended};
-ghost use Rattle.xs_cert_laws.specs.Certificates.{IsCertificate, IsBadAt};
+ghost use Rattle.xs_gram.specs.{IsUnique, IsBuilt, IsSound};
+ghost use Rattle.xs_check_laws.specs.{IsLight, IsAccepted};
+ghost use Rattle.xs_cert_lines.specs.{ended};
+ghost use Rattle.xs_cert_laws.specs.{IsCertificate, IsBadAt};
 ghost use Rattle.xs_cert.specs.Halves.{IsHalfReading, IsTextRead, IsTextReading, IsAllReading};
 ghost use Rattle.xs_cert.specs.Places.{IsPlace};
 ghost use Rattle.xs_cert.specs.Reasons.{IsCertReason};

@@ -1,6 +1,6 @@
 // A side of a certificate.
 ghost use Rattle.std.specs.Prelude.{IfOk};
-ghost use Rattle.xs_light.specs.Spaces.{IsSite};
+ghost use Rattle.xs_light.specs.{IsSite};
 ghost use Rattle.xs_cert.specs.Places.{IsPlace};
 ghost use Rattle.xs_cert.specs.Halves.{IsHalfReading};
 

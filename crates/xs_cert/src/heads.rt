@@ -1,6 +1,6 @@
 ghost use Rattle.std.specs.Prelude.{◌≡◌, ◌<◌, suc, length, filter, OnOk};
-ghost use Rattle.xs_closed.specs.Rows.{marked};
-ghost use Rattle.xs_cert_laws.specs.Certificates.{between, one_fence};
+ghost use Rattle.xs_closed.specs.{marked};
+ghost use Rattle.xs_cert_laws.specs.{between, one_fence};
 ghost use Rattle.xs_cert.specs.Heads.{is_open as is_open_by, is_of_one};
 
 use xs_auto::Nest;

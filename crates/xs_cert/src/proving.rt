@@ -1,9 +1,8 @@
 ghost use Rattle.std.specs.Prelude.{◌≡◌, IfOk, OnOk, IfErr};
-ghost use Rattle.xs_gram.specs.Languages.{IsUnique};
-ghost use Rattle.xs_gram.specs.Sound.{IsBuilt, IsSound};
-ghost use Rattle.xs_check_laws.specs.Acceptance.{IsAccepted, IsLight, HasNoSuspect};
-ghost use Rattle.xs_unique.specs.Reasons.{IsReason};
-ghost use Rattle.xs_cert_laws.specs.Exact.{IsProof};
+ghost use Rattle.xs_gram.specs.{IsUnique, IsBuilt, IsSound};
+ghost use Rattle.xs_check_laws.specs.{IsAccepted, IsLight, HasNoSuspect};
+ghost use Rattle.xs_unique.specs.{IsReason};
+ghost use Rattle.xs_cert_laws.specs.{IsProof};
 ghost use Rattle.xs_cert.specs.Writing.{AddsHalf, IsWritten};
 
 use crate::relating::{relate, write_shares};

@@ -1,7 +1,7 @@
 ghost use Rattle.std.specs.Prelude.{◌≡◌, ◌≢◌, ◌<◌, ℕ, false, length, map, OnOk};
-ghost use Rattle.xs_closed.specs.Rows.{marked};
-ghost use Rattle.xs_meet.specs.Sharing.{has_at};
-ghost use Rattle.xs_cert_laws.specs.Certificates.{share_line};
+ghost use Rattle.xs_closed.specs.{marked};
+ghost use Rattle.xs_meet.specs.{has_at};
+ghost use Rattle.xs_cert_laws.specs.{share_line};
 ghost use Rattle.xs_cert.specs.Writing.{Adds, Relates, shares_of, shares_in};
 
 use xs_auto::Nest;

@@ -1,11 +1,10 @@
 // The rows of the sets of a block.
 ghost use Rattle.std.specs.Prelude.{◌≡◌, ◌+◌, ◌<◌, ◌≤◌, false, IfOk, IfSome};
-ghost use Rattle.xs_auto.specs.Nets.{states};
-ghost use Rattle.xs_meet.specs.Closed.{Marked};
-ghost use Rattle.xs_closed.specs.Rows.{marked};
-ghost use Rattle.xs_cert_lines.specs.Laws.{IsLine};
-ghost use Rattle.xs_cert_lines.specs.Numbers.{begins_digit};
-ghost use Rattle.xs_cert_laws.specs.Blocks.{ShowsApart};
+ghost use Rattle.xs_auto.specs.{states};
+ghost use Rattle.xs_meet.specs.{Marked};
+ghost use Rattle.xs_closed.specs.{marked};
+ghost use Rattle.xs_cert_lines.specs.{IsLine, begins_digit};
+ghost use Rattle.xs_cert_laws.specs.{ShowsApart};
 ghost use Rattle.xs_cert.specs.Places.{IsPlace};
 ghost use Rattle.xs_cert.specs.Rows.{AreRowsAt, IsRowsReading};
 ghost use Rattle.xs_cert.specs.Steps.{part_of as part, IsTitledSet, AreFirstSets, IsCutReading};

@@ -1,7 +1,6 @@
 // Single lines.
 ghost use Rattle.std.specs.Prelude.{[], ◌∷◌, drop, IfSome, IfNone};
-ghost use Rattle.xs_cert_lines.specs.Lines.{spaced, ended};
-ghost use Rattle.xs_cert_lines.specs.Runs.{GoesOn};
+ghost use Rattle.xs_cert_lines.specs.{spaced, ended, GoesOn};
 ghost use Rattle.xs_cert.specs.Places.{IsPlace, IsPast};
 
 use crate::place::Place;

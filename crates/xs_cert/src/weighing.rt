@@ -1,7 +1,7 @@
 ghost use Rattle.std.specs.Prelude.{OnOk, IfErr};
-ghost use Rattle.xs_gram.specs.Sound.{IsBuilt, IsSound};
-ghost use Rattle.xs_check_laws.specs.Acceptance.{IsLight};
-ghost use Rattle.xs_light.specs.Causes.{IsCause};
+ghost use Rattle.xs_gram.specs.{IsBuilt, IsSound};
+ghost use Rattle.xs_check_laws.specs.{IsLight};
+ghost use Rattle.xs_light.specs.{IsCause};
 ghost use Rattle.xs_cert.specs.Reasons.{IsWeighty};
 
 use std::alloc::Global;

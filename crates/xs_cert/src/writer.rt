@@ -1,15 +1,14 @@
 ghost use Rattle.std.specs.Prelude.{◌≡◌, ◌<◌, ◌∷◌, [], suc, true, length, flat_map, map, codes, OnOk};
-ghost use Rattle.xs_auto.specs.Nests.{group_at};
-ghost use Rattle.xs_gram.specs.Fences.{spread};
-ghost use Rattle.xs_meet.specs.Closed.{Marked};
-ghost use Rattle.xs_closed.specs.Rows.{marked};
-ghost use Rattle.xs_cert_lines.specs.Lines.{spaced};
-ghost use Rattle.xs_cert_laws.specs.Blocks.{for_groups, for_rules, for_cut, AreContents, AreRuleNets, AreCutNets};
-ghost use Rattle.xs_cert_laws.specs.Certificates.{between, rule_heads, cut_heads};
+ghost use Rattle.xs_auto.specs.{group_at};
+ghost use Rattle.xs_gram.specs.{spread};
+ghost use Rattle.xs_meet.specs.{Marked};
+ghost use Rattle.xs_closed.specs.{marked};
+ghost use Rattle.xs_cert_lines.specs.{spaced};
+ghost use Rattle.xs_cert_laws.specs.{for_groups, for_rules, for_cut, AreContents, AreRuleNets, AreCutNets, between, rule_heads, cut_heads};
 ghost use Rattle.xs_cert.specs.Heads.{is_open, is_of_one};
 ghost use Rattle.xs_cert.specs.Sides.{open_heads, side_heads};
 ghost use Rattle.xs_cert.specs.Writing.{IsSource, AddsApart, AddsBlock, AddsBlocks, MeetNowhere, OverlapNowhere};
-ghost use Rattle.xs_light.specs.Spaces.{IsSite, IsRuleNet};
+ghost use Rattle.xs_light.specs.{IsSite, IsRuleNet};
 
 use crate::heads::{group_partners, rule_partners};
 use std::alloc::Global;

@@ -3,7 +3,7 @@
 // No digit is a line feed, so that the bytes go on after each digit.
 ghost use Rattle.std.specs.Prelude.{◌≡◌, ◌<◌, ◌≤◌, true, drop, IfSome};
 ghost use Rattle.std.specs.Option.{option_map};
-ghost use Rattle.xs_closed.specs.Rows.{has_number};
+ghost use Rattle.xs_closed.specs.{has_number};
 ghost use Rattle.xs_cert_lines.specs.Numbers.{digit_at, number_after, kept_within, within_at, partner_at};
 
 /// The value of a decimal digit, if the byte is one.

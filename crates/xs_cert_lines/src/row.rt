@@ -1,6 +1,6 @@
 // Rows, read where they stand.
 ghost use Rattle.std.specs.Prelude.{◌≡◌, ℕ, ◌<◌, ◌≤◌, List, true, false, length, drop, IfSome, IfNone};
-ghost use Rattle.xs_closed.specs.Rows.{Row, has_number, marked};
+ghost use Rattle.xs_closed.specs.{Row, has_number, marked};
 ghost use Rattle.xs_cert_lines.specs.Reading.{HasPartners, MarksIn, ReadsPartners, IsRowAt, AddsRow, IsSameSet};
 
 use crate::number::{number_within, partner};

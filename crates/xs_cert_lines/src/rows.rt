@@ -1,6 +1,6 @@
 // Writing the rows of a set.
 ghost use Rattle.std.specs.Prelude.{◌≡◌, ◌+◌, ◌*◌, ◌<◌, ◌≤◌, [], ◌++◌, length, get_or, OnOk, IfOk};
-ghost use Rattle.xs_closed.specs.Rows.{places, row_then, rows_of};
+ghost use Rattle.xs_closed.specs.{places, row_then, rows_of};
 ghost use Rattle.xs_cert_lines.specs.Lines.{written, set_lines};
 ghost use Rattle.xs_cert_lines.specs.Reading.{listed};
 ghost use Rattle.xs_cert_lines.specs.Pages.{Flushes, PutsPartners, Writes};

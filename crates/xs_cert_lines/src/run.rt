@@ -1,5 +1,5 @@
 ghost use Rattle.std.specs.Prelude.{◌≡◌, ◌≤◌, length};
-ghost use Rattle.xs_closed.specs.Rows.{blank};
+ghost use Rattle.xs_closed.specs.{blank};
 ghost use Rattle.xs_cert_lines.specs.Runs.{IsRun};
 
 use crate::row::read_row;

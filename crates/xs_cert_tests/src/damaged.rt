@@ -2,7 +2,7 @@
 //! with groups that is damaged: `certify` names the line that the slow program does.
 mod damages;
 
-ghost use Rattle.xs_pair.specs.Sound.{IsSoundPair};
+ghost use Rattle.xs_pair.specs.{IsSoundPair};
 
 use super::slow::Slow;
 use super::verdicts::{Verdict, verdict_on};

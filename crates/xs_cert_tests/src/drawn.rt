@@ -3,7 +3,7 @@
 //! the slow program does.
 mod sheets;
 
-ghost use Rattle.xs_pair.specs.Sound.{IsSoundPair};
+ghost use Rattle.xs_pair.specs.{IsSoundPair};
 
 use super::damaged::{expect_same, replaced};
 use super::slow::Slow;

@@ -4,7 +4,7 @@
 //! It tries each number of lines, from all lines down, and asks whether that many first lines are a
 //! good front: whether they begin a certificate, end before or after a whole block, a line of
 //! groups that share a word or of a side, and all their blocks are right.
-ghost use Rattle.xs_pair.specs.Sound.{IsSoundPair};
+ghost use Rattle.xs_pair.specs.{IsSoundPair};
 
 mod lines;
 mod nets;

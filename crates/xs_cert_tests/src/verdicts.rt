@@ -1,6 +1,6 @@
 //! What `certify` says of bytes, and what `accept` and `prove` find wrong, in a form that can be
 //! compared.
-ghost use Rattle.xs_pair.specs.Sound.{IsSoundPair};
+ghost use Rattle.xs_pair.specs.{IsSoundPair};
 
 use std::alloc::Global;
 use xs_cert::{CertFault, certify};

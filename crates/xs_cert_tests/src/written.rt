@@ -1,5 +1,5 @@
 //! What `prove` writes, and that `certify` takes it.
-ghost use Rattle.xs_pair.specs.Sound.{IsSoundPair};
+ghost use Rattle.xs_pair.specs.{IsSoundPair};
 
 use super::verdicts::{Spot, Verdict, are_same, spot_of, verdict_on};
 use std::alloc::Global;

@@ -1,3 +1,5 @@
 pub mod Forms
 pub mod Text
 pub mod Laws
+-- what other crates' contracts cite
+pub use Rattle.xs_chars.specs.Text.{AreCharacters, has_mark}

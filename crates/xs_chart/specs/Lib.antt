@@ -3,3 +3,6 @@ pub mod Charted
 pub mod Different
 pub mod Kept
 pub mod Linked
+-- what other crates' contracts cite
+pub use Rattle.xs_chart.specs.Charted.{before_last, items_of, last_set, set_limit, waiting_of}
+pub use Rattle.xs_chart.specs.Different.{AreDifferent}

@@ -5,3 +5,7 @@ pub mod Next
 pub mod Parts
 pub mod Reading
 pub mod Steps
+-- what other crates' contracts cite
+pub use Rattle.xs_chart_laws.specs.Charts.{HasPlace, HasWaiters, IsChartOf, IsNumber, ItemStands, set_at}
+pub use Rattle.xs_chart_laws.specs.Reading.{Reads}
+pub use Rattle.xs_chart_laws.specs.Steps.{IsPassed, IsSettled, next_of}

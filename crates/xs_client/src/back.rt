@@ -2,9 +2,9 @@ ghost use Rattle.std.specs.Prelude.{◌≡◌, ◌≤◌, length, IfOk, false};
 ghost use Rattle.std.specs.Str.{chars};
 ghost use Rattle.xs_class.specs.declared.side.Side.TheVariants.{Text};
 ghost use Rattle.xs_chars.specs.declared.form.Form.TheVariants.{AsIs};
-ghost use Rattle.xs_chars.specs.Text.{has_mark};
+ghost use Rattle.xs_chars.specs.{has_mark};
 ghost use Rattle.xs_talk.specs.declared.outcome.Outcome.TheVariants.{Done};
-ghost use Rattle.xs_top.specs.Runs.{IsNormalOf};
+ghost use Rattle.xs_top.specs.{IsNormalOf};
 ghost use Rattle.xs_client.specs.Runs.{HasNoIgnorable, IsDoneOrSinkFault};
 
 use crate::ran::{Two, run_on};

@@ -1,7 +1,7 @@
 ghost use Rattle.std.specs.Prelude.{◌≡◌, ◌≤◌, length, IfOk};
 ghost use Rattle.std.specs.Str.{IsUtf8};
 ghost use Rattle.xs_talk.specs.declared.outcome.Outcome.TheVariants.{Done};
-ghost use Rattle.xs_top.specs.Laws.{RefusesSheet};
+ghost use Rattle.xs_top.specs.{RefusesSheet};
 ghost use Rattle.xs_client.specs.Runs.{IsDecidedBy};
 
 use crate::ran::{Two, run_on};

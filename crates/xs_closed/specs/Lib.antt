@@ -6,3 +6,5 @@ pub mod Longest
 pub mod Laws
 pub mod Testing
 pub mod Lanes
+-- what other crates' contracts cite
+pub use Rattle.xs_closed.specs.Rows.{Row, blank, has_number, marked, places, row_then, rows_of}

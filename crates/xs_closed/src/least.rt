@@ -1,7 +1,7 @@
 ghost use Rattle.std.specs.Prelude.{◌≡◌, ◌<◌, OnOk, IfOk, length};
 ghost use Rattle.std.specs.List.{All};
-ghost use Rattle.xs_auto.specs.Nets.{states};
-ghost use Rattle.xs_meet.specs.Closed.{Drifts, Leads, Marked};
+ghost use Rattle.xs_auto.specs.{states};
+ghost use Rattle.xs_meet.specs.{Drifts, Leads, Marked};
 ghost use Rattle.xs_closed.specs.Rows.{marked};
 ghost use Rattle.xs_closed.specs.Least.{Reach, IsPastFront, IsStride, IsPastMiddle, Meeting, IsTableOf, AreLeastOf};
 ghost use Rattle.xs_closed.specs.Search.{IsInside, HasPair, AreFound};

@@ -1,6 +1,6 @@
 ghost use Rattle.std.specs.Prelude.{◌≡◌, ◌<◌, ◌⊎◌, true, OnOk, length};
-ghost use Rattle.xs_auto.specs.Nets.{states, edges_of, calls_of};
-ghost use Rattle.xs_meet.specs.Closed.{Drifts, Strides, Leads, Marked};
+ghost use Rattle.xs_auto.specs.{states, edges_of, calls_of};
+ghost use Rattle.xs_meet.specs.{Drifts, Strides, Leads, Marked};
 ghost use Rattle.xs_closed.specs.Rows.{marked};
 ghost use Rattle.xs_closed.specs.Search.{IsListed, IsFor, Adds, Closes};
 

@@ -5,8 +5,8 @@ mod steps;
 mod walk;
 
 ghost use Rattle.std.specs.Prelude.{length};
-ghost use Rattle.xs_auto.specs.Nets.{states};
-ghost use Rattle.xs_meet.specs.Closed.{Marked};
+ghost use Rattle.xs_auto.specs.{states};
+ghost use Rattle.xs_meet.specs.{Marked};
 ghost use Rattle.xs_closed.specs.Rows.{marked, rows_of, IsSized};
 ghost use Rattle.xs_closed.specs.Least.{AreStarts};
 ghost use Rattle.xs_closed.specs.Longest.{IsGreatestIn, IsApartBy, IsClearBy, AreSized};

@@ -1,7 +1,7 @@
 ghost use Rattle.std.specs.Prelude.{◌≡◌, ◌<◌, true, false, ℕ, OnOk, length};
 ghost use Rattle.std.specs.List.{All};
-ghost use Rattle.xs_class.specs.Classes.{Has};
-ghost use Rattle.xs_meet.specs.Closed.{Marked};
+ghost use Rattle.xs_class.specs.{Has};
+ghost use Rattle.xs_meet.specs.{Marked};
 ghost use Rattle.xs_closed.specs.Rows.{marked};
 ghost use Rattle.xs_closed.specs.Search.{IsListed, Adds, IsPair, OneOf, Meets, Joins};
 

@@ -1,5 +1,5 @@
 ghost use Rattle.std.specs.Prelude.{◌≡◌, ℕ, suc, ◌+◌, ◌*◌, ◌<◌, [], true, false, length, slice_index_or, IfOk, IfSome};
-ghost use Rattle.xs_class.specs.Classes.{Has};
+ghost use Rattle.xs_class.specs.{Has};
 ghost use Rattle.xs_coarse.specs.Labels.{IsCell};
 
 use std::alloc::Global;

@@ -1,5 +1,5 @@
 ghost use Rattle.std.specs.Prelude.{◌≡◌, ◌∷◌, [], Some, slice_get, IsTrue, IfSome};
-ghost use Rattle.xs_gram.specs.Fences.{IsUnfenced};
+ghost use Rattle.xs_gram.specs.{IsUnfenced};
 ghost use Rattle.xs_coarse.specs.Labels.{AllUnfenced};
 
 use crate::fault::LabelsFault;

@@ -1,6 +1,5 @@
 ghost use Rattle.std.specs.Prelude.{◌≡◌, ◌++◌, length, cond, None, Some, IfOk};
-ghost use Rattle.xs_gram.specs.Fences.{is_left};
-ghost use Rattle.xs_gram.specs.Spreading.{opens};
+ghost use Rattle.xs_gram.specs.{is_left, opens};
 ghost use Rattle.xs_coarse.specs.Labels.{first_symbol, lefts_of, lefts_before};
 
 use std::alloc::Global;

@@ -10,3 +10,6 @@ pub mod Reaching
 pub mod Sites
 pub mod Stretches
 pub mod Whole
+-- what other crates' contracts cite
+pub use Rattle.xs_coarse_net.specs.Contents.{nest_of}
+pub use Rattle.xs_coarse_net.specs.Covers.{IsCoverOf, cover_view}

@@ -1,7 +1,7 @@
 ghost use Rattle.std.specs.Prelude.{◌≡◌, ◌≢◌, ℕ, List, true, length, get_or, IfOk, OnOk};
 ghost use Rattle.std.specs.List.{Contains};
-ghost use Rattle.xs_regex.specs.Automaton.{IsBelow, IsWellFormed, Leads};
-ghost use Rattle.xs_coarse.specs.Coarse.{HasArc};
+ghost use Rattle.xs_regex.specs.{IsBelow, IsWellFormed, Leads};
+ghost use Rattle.xs_coarse.specs.{HasArc};
 ghost use Rattle.xs_coarse_net.specs.Going.{Grows, IsLaidIn};
 
 use crate::draft::Draft;

@@ -1,6 +1,6 @@
 ghost use Rattle.std.specs.Prelude.{◌+◌, ◌<◌, length, IfOk, OnOk};
-ghost use Rattle.xs_gram.specs.Fences.{spread};
-ghost use Rattle.xs_coarse.specs.Covers.{CoversGroups};
+ghost use Rattle.xs_gram.specs.{spread};
+ghost use Rattle.xs_coarse.specs.{CoversGroups};
 ghost use Rattle.xs_coarse_net.specs.Contents.{nest_of, HasContentsBefore};
 ghost use Rattle.xs_coarse_net.specs.Joining.{AreFragments};
 ghost use Rattle.xs_coarse_net.specs.Sites.{IsSite};

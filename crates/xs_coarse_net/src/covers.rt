@@ -1,9 +1,7 @@
 ghost use Rattle.std.specs.Prelude.{◌≡◌, ℕ, ◌<◌, length, slice_get, Some, IfOk, IfSome};
-ghost use Rattle.xs_gram.specs.Sound.{IsBuilt};
-ghost use Rattle.xs_stretch.specs.Parts.{IsPart};
-ghost use Rattle.xs_stretch.specs.Tables.{AreNumbersBefore};
-ghost use Rattle.xs_coarse.specs.Coarse.{Net};
-ghost use Rattle.xs_coarse.specs.Labels.{IsLabelsOf};
+ghost use Rattle.xs_gram.specs.{IsBuilt};
+ghost use Rattle.xs_stretch.specs.{IsPart, AreNumbersBefore};
+ghost use Rattle.xs_coarse.specs.{Net, IsLabelsOf};
 ghost use Rattle.xs_coarse_net.specs.Covers.{IsCoverOf};
 ghost use Rattle.xs_coarse_net.specs.Having.{IsCovers};
 

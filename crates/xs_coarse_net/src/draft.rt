@@ -1,6 +1,6 @@
 ghost use Rattle.std.specs.Prelude.{◌≡◌, ◌+◌, ◌<◌, ◌^◌, ◌↔◌, [], true, IsTrue, IfOk, OnOk};
 ghost use Rattle.std.specs.List.{All};
-ghost use Rattle.xs_coarse.specs.Coarse.{IsWithin};
+ghost use Rattle.xs_coarse.specs.{IsWithin};
 ghost use Rattle.xs_coarse_net.specs.Going.{Grows, Adds};
 
 use crate::stop::Stop;
@@ -22,7 +22,7 @@ pub(crate) struct Draft {
 }
 
 impl Model for Draft {
-    ghost use Rattle.xs_coarse.specs.Coarse.{Net};
+    ghost use Rattle.xs_coarse.specs.{Net};
 
     ghost Value = { Net };
 

@@ -1,8 +1,7 @@
 ghost use Rattle.std.specs.Prelude.{◌≡◌, ℕ, suc, ◌+◌, ◌-◌, ◌<◌, ◌≤◌, [], length, get_or, slice_get, replicate, Some, IfOk, OnOk};
 ghost use Rattle.std.specs.List.{Contains};
 ghost use Rattle.xs_coarse.specs.declared.arc.Arc.{Arc as AnyArc};
-ghost use Rattle.xs_coarse.specs.Coarse.{Table, HasArc};
-ghost use Rattle.xs_coarse.specs.Covers.{Follows};
+ghost use Rattle.xs_coarse.specs.{Table, HasArc, Follows};
 ghost use Rattle.xs_coarse_net.specs.Stretches.{open_view, last_state};
 ghost use Rattle.xs_coarse_net.specs.Reaching.{left_arc, left_net};
 ghost use Rattle.xs_coarse_net.specs.Fragments.{AreNamed, Reaches, IsCopied, AreCopied};

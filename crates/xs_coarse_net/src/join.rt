@@ -1,5 +1,5 @@
 ghost use Rattle.std.specs.Prelude.{OnOk};
-ghost use Rattle.xs_coarse.specs.Coarse.{one_arc};
+ghost use Rattle.xs_coarse.specs.{one_arc};
 ghost use Rattle.xs_coarse_net.specs.Joining.{Joins};
 
 use crate::draft::MOST;

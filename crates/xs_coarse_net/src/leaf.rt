@@ -1,10 +1,7 @@
 ghost use Rattle.std.specs.Prelude.{◌≡◌, ℕ, ◌+◌, ◌<◌, ◌≤◌, ◌^◌, List, false, true, length, OnOk};
 ghost use Rattle.xs_gram.specs.declared.parts.GItem.TheVariants.{Fixed as FixedItem};
-ghost use Rattle.xs_gram.specs.Grammar.{IsTermWord, IsSkipWord};
-ghost use Rattle.xs_gram.specs.Building.{NamesAreThere};
-ghost use Rattle.xs_gram.specs.Fences.{is_fence, IsPlain};
-ghost use Rattle.xs_coarse.specs.Coarse.{Table, HasArc};
-ghost use Rattle.xs_coarse.specs.Covers.{IsLeaf};
+ghost use Rattle.xs_gram.specs.{IsTermWord, IsSkipWord, NamesAreThere, is_fence, IsPlain};
+ghost use Rattle.xs_coarse.specs.{Table, HasArc, IsLeaf};
 ghost use Rattle.xs_coarse_net.specs.Going.{Goes, Grows, LabelReads, LeafGoes};
 ghost use Rattle.xs_coarse_net.specs.Placing.{inner_state};
 ghost use Rattle.xs_coarse_net.specs.Sites.{IsSite};

@@ -1,6 +1,6 @@
 ghost use Rattle.std.specs.Prelude.{◌≡◌, ℕ, List, length, IfOk};
-ghost use Rattle.xs_regex.specs.Automaton.{Accepts, IsWellFormed};
-ghost use Rattle.xs_gram.specs.Sound.{IsBuilt};
+ghost use Rattle.xs_regex.specs.{Accepts, IsWellFormed};
+ghost use Rattle.xs_gram.specs.{IsBuilt};
 ghost use Rattle.xs_coarse_net.specs.Going.{Goes};
 ghost use Rattle.xs_coarse_net.specs.Leaves.{AreLeaves, AreTermNets, AreSkipNets};
 ghost use Rattle.xs_coarse_net.specs.Stretches.{last_state};

@@ -1,11 +1,8 @@
 ghost use Rattle.std.specs.Prelude.{◌≡◌, ℕ, ◌+◌, ◌<◌, List, [], ◌∷◌, length, IfOk, OnOk};
 ghost use Rattle.xs_gram.specs.declared.parts.GItem.{GItem as Item};
-ghost use Rattle.xs_gram.specs.Fences.{spread};
-ghost use Rattle.xs_gram.specs.Grammar.{IsTermWord, IsSkipWord};
-ghost use Rattle.xs_stretch.specs.Groups.{group_number, groups_count};
-ghost use Rattle.xs_stretch.specs.Steps.{StandsAt};
-ghost use Rattle.xs_coarse.specs.Coarse.{Net, HasArc, group_label};
-ghost use Rattle.xs_coarse.specs.Covers.{CoversItem};
+ghost use Rattle.xs_gram.specs.{spread, IsTermWord, IsSkipWord};
+ghost use Rattle.xs_stretch.specs.{group_number, groups_count, StandsAt};
+ghost use Rattle.xs_coarse.specs.{Net, HasArc, group_label, CoversItem};
 ghost use Rattle.xs_coarse_net.specs.Going.{Goes};
 ghost use Rattle.xs_coarse_net.specs.Joining.{Joins, IsFragment, AreFragments};
 ghost use Rattle.xs_coarse_net.specs.Placing.{Placed};

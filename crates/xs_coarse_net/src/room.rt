@@ -1,6 +1,6 @@
 ghost use Rattle.std.specs.Prelude.{◌≡◌, ◌<◌, length};
-ghost use Rattle.xs_gram.specs.Fences.{spread};
-ghost use Rattle.xs_stretch.specs.Parts.{IsPart};
+ghost use Rattle.xs_gram.specs.{spread};
+ghost use Rattle.xs_stretch.specs.{IsPart};
 ghost use Rattle.xs_coarse_net.specs.Joining.{AreFragments};
 ghost use Rattle.xs_coarse_net.specs.Sites.{IsSite};
 ghost use Rattle.xs_coarse_net.specs.Whole.{IsWhole};

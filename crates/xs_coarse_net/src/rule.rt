@@ -1,9 +1,7 @@
 ghost use Rattle.std.specs.Prelude.{◌≡◌, true, ℕ, suc, ◌+◌, ◌<◌, ◌≤◌, ◌^◌, length, take, IfOk, OnOk};
-ghost use Rattle.xs_gram.specs.Grammar.{rule_of};
-ghost use Rattle.xs_gram.specs.Building.{NamesAreThere};
-ghost use Rattle.xs_gram.specs.Fences.{spread};
-ghost use Rattle.xs_stretch.specs.Groups.{group_number, groups_before, lefts};
-ghost use Rattle.xs_coarse.specs.Coarse.{HasArc};
+ghost use Rattle.xs_gram.specs.{rule_of, NamesAreThere, spread};
+ghost use Rattle.xs_stretch.specs.{group_number, groups_before, lefts};
+ghost use Rattle.xs_coarse.specs.{HasArc};
 ghost use Rattle.xs_coarse_net.specs.Going.{Grows};
 ghost use Rattle.xs_coarse_net.specs.Sites.{IsSite};
 ghost use Rattle.xs_coarse_net.specs.Whole.{entry_state, exit_state, rule_base, place_state, return_label, ItemLaid, PlaceLaid, RuleLaid, IsEnclosed};

@@ -1,6 +1,6 @@
 ghost use Rattle.std.specs.Prelude.{◌≡◌, ◌+◌, ◌*◌, ◌<◌, length, IfOk, OnOk};
 ghost use Rattle.std.specs.List.{Contains};
-ghost use Rattle.xs_gram.specs.Fences.{spread};
+ghost use Rattle.xs_gram.specs.{spread};
 ghost use Rattle.xs_coarse.specs.declared.arc.Arc.{Arc as AnyArc};
 ghost use Rattle.xs_coarse_net.specs.Reaching.{AreUses, IsUsed};
 ghost use Rattle.xs_coarse_net.specs.Sites.{IsSite};

@@ -6,3 +6,5 @@ pub mod Shortest
 pub mod Prices
 pub mod Steps
 pub mod Kept
+-- what other crates' contracts cite
+pub use Rattle.xs_cover.specs.Kept.{AreCoversOf}

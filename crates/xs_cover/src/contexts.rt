@@ -1,8 +1,8 @@
 ghost use Rattle.std.specs.Prelude.{◌≡◌, ◌+◌, ℕ, ◌<◌, ◌≤◌, true, false, length, IfOk, OnOk};
 ghost use Rattle.xs_gram.specs.declared.parts.GItem.{GItem};
-ghost use Rattle.xs_gram.specs.Grammar.{Grammar, ItemAt};
-ghost use Rattle.xs_gram.specs.Sound.{IsSound};
-ghost use Rattle.xs_pair.specs.Sound.{IsSoundPair};
+ghost use Rattle.xs_gram.specs.{ItemAt, IsSound};
+ghost use Rattle.xs_gram.specs.Grammar.{Grammar};
+ghost use Rattle.xs_pair.specs.{IsSoundPair};
 ghost use Rattle.xs_cover.specs.Steps.{IsStep, AreContexts, IsPassed, HasGrown, IsPassing, IsPassedItem, IsItemOf};
 ghost use Rattle.xs_cover.specs.Tables.{at, total};
 

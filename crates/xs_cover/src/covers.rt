@@ -1,7 +1,7 @@
 ghost use Rattle.std.specs.Prelude.{◌≡◌, ◌<◌, ℕ, None, Some, length, slice_get, slice_index_or, IfOk};
 ghost use Rattle.xs_gram.specs.Grammar.{Grammar};
-ghost use Rattle.xs_pair.specs.Sound.{IsSoundPair};
-ghost use Rattle.xs_tree.specs.Flat.{trees_of};
+ghost use Rattle.xs_pair.specs.{IsSoundPair};
+ghost use Rattle.xs_tree.specs.{trees_of};
 ghost use Rattle.xs_cover.specs.Kept.{AreComplete, AreCoversOf, sizes_of};
 ghost use Rattle.xs_cover.specs.Sizes.{IsLeastSize};
 

@@ -1,5 +1,5 @@
 ghost use Rattle.std.specs.Prelude.{OnOk};
-ghost use Rattle.xs_pair.specs.Sound.{IsSoundPair};
+ghost use Rattle.xs_pair.specs.{IsSoundPair};
 ghost use Rattle.xs_cover.specs.Steps.{AreContexts};
 
 use crate::contexts::Contexts;

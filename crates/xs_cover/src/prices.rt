@@ -1,6 +1,5 @@
 ghost use Rattle.std.specs.Prelude.{◌≡◌, ◌+◌, ◌<◌, [], ◌∷◌, length};
-ghost use Rattle.xs_gram.specs.Building.{NamesAreThere};
-ghost use Rattle.xs_gram.specs.Grammar.{items};
+ghost use Rattle.xs_gram.specs.{NamesAreThere, items};
 ghost use Rattle.xs_cover.specs.Costs.{slots_cost, rule_cost};
 ghost use Rattle.xs_cover.specs.Prices.{costs_of};
 ghost use Rattle.xs_cover.specs.Sizes.{capped, fixed_length};

@@ -1,6 +1,6 @@
 ghost use Rattle.std.specs.Prelude.{◌≡◌, ◌<◌, ◌≤◌, ◌+◌, length, take, IfOk, OnOk, IfSome, IfNone};
-ghost use Rattle.xs_pair.specs.Sound.{IsSoundPair};
-ghost use Rattle.xs_tree.specs.Flat.{common_of};
+ghost use Rattle.xs_pair.specs.{IsSoundPair};
+ghost use Rattle.xs_tree.specs.{common_of};
 ghost use Rattle.xs_cover.specs.Kept.{AreCoversOf, IsShort};
 ghost use Rattle.xs_cover.specs.Sizes.{IsLeastTree, IsTooLong};
 

@@ -1,7 +1,6 @@
 ghost use Rattle.std.specs.Prelude.{◌≡◌, ◌+◌, ℕ, ◌<◌, ◌≤◌, true, false, length, IfOk, OnOk};
-ghost use Rattle.xs_gram.specs.Grammar.{items, rule_of};
-ghost use Rattle.xs_gram.specs.Sound.{IsSound};
-ghost use Rattle.xs_pair.specs.Sound.{IsSoundPair};
+ghost use Rattle.xs_gram.specs.{items, rule_of, IsSound};
+ghost use Rattle.xs_pair.specs.{IsSoundPair};
 ghost use Rattle.xs_cover.specs.Prices.{AreLow, AreTrees, AreKids, IsClosed};
 ghost use Rattle.xs_cover.specs.Tables.{total};
 

@@ -1,5 +1,5 @@
 ghost use Rattle.std.specs.Prelude.{◌≡◌, ◌<◌, ◌≤◌, ◌+◌, ◌^◌, ◌∷◌, ◌++◌, ℕ, [], true, false, length, Contains, IfOk, OnOk, MatchOption};
-ghost use Rattle.xs_regex.specs.Automaton.{Accepts, HasAt, IsBelow, IsWellFormed};
+ghost use Rattle.xs_regex.specs.{Accepts, HasAt, IsBelow, IsWellFormed};
 ghost use Rattle.xs_cover.specs.Tables.{at, total};
 ghost use Rattle.xs_cover.specs.Shortest.{HasSymbol, IsLowest, AreRests, IsSettled, IsShortest, HasShortWord};
 

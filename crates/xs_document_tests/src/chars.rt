@@ -1,5 +1,5 @@
 ghost use Rattle.std.specs.Prelude.{IfOk};
-ghost use Rattle.xs_chars.specs.Text.{AreCharacters};
+ghost use Rattle.xs_chars.specs.{AreCharacters};
 
 use std::alloc::Global;
 use xs_chars::{DecodeFault, Form, decode, encode, in_form};

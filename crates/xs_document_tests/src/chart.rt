@@ -1,5 +1,5 @@
 ghost use Rattle.std.specs.Prelude.{◌≡◌, ◌<◌, suc, [], length, OnOk};
-ghost use Rattle.xs_chart.specs.Charted.{items_of, last_set};
+ghost use Rattle.xs_chart.specs.{items_of, last_set};
 
 use std::process::Abort;
 use xs_chart::{Chart, Item};

@@ -3,7 +3,7 @@
 //! ignorables `b*` and `(ab)?`, `w` is the fixed word of an a and a b, and any other letter the
 //! fixed word of itself.
 ghost use Rattle.std.specs.Prelude.{◌≡◌, ◌<◌, length, IfOk};
-ghost use Rattle.xs_gram.specs.Sound.{IsSound};
+ghost use Rattle.xs_gram.specs.{IsSound};
 
 mod runs;
 

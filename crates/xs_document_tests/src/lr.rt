@@ -1,7 +1,7 @@
 //! What the reader finds, beside what the exact recogniser says.
 ghost use Rattle.std.specs.Prelude.{◌<◌, length};
-ghost use Rattle.xs_gram.specs.Sound.{IsBuilt, IsSound};
-ghost use Rattle.xs_pair.specs.Sound.{IsSoundPair};
+ghost use Rattle.xs_gram.specs.{IsBuilt, IsSound};
+ghost use Rattle.xs_pair.specs.{IsSoundPair};
 
 mod giving_up;
 mod kinds;

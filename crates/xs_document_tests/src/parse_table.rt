@@ -1,6 +1,6 @@
 //! Parse tables made by hand of small documents: right ones, and such as are wrong in one place.
-ghost use Rattle.xs_atoms.specs.Alphabet.{AreAtoms};
-ghost use Rattle.xs_gram.specs.Sound.{IsBuilt};
+ghost use Rattle.xs_atoms.specs.{AreAtoms};
+ghost use Rattle.xs_gram.specs.{IsBuilt};
 
 use std::alloc::Global;
 use std::process::Abort;

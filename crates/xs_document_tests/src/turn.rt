@@ -1,5 +1,5 @@
 //! Documents of small sheets without ignorables, translated both ways.
-ghost use Rattle.xs_pair.specs.Sound.{IsSoundPair};
+ghost use Rattle.xs_pair.specs.{IsSoundPair};
 
 mod trees;
 

@@ -10,3 +10,5 @@ pub mod Seen
 pub mod Stages
 pub mod Starts
 pub mod Waiting
+-- what other crates' contracts cite
+pub use Rattle.xs_earley.specs.Running.{IsRunOf}

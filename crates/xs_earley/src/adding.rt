@@ -1,9 +1,9 @@
 ghost use Rattle.std.specs.Prelude.{◌≡◌, suc, ℕ, List, length, IfOk, Contains};
 ghost use Rattle.xs_chart.specs.declared.item.Item.{Item as AnyItem};
-ghost use Rattle.xs_chart.specs.Charted.{items_of, before_last};
+ghost use Rattle.xs_chart.specs.{items_of, before_last};
 ghost use Rattle.xs_gram.specs.declared.places.Place.{Place};
 ghost use Rattle.xs_gram.specs.Grammar.{Grammar};
-ghost use Rattle.xs_chart_laws.specs.Charts.{IsNumber};
+ghost use Rattle.xs_chart_laws.specs.{IsNumber};
 ghost use Rattle.xs_earley.specs.Adding.{Puts, Adds, Is, Passes};
 ghost use Rattle.xs_earley.specs.Facts.{IsRow};
 

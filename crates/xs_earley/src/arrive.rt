@@ -1,7 +1,6 @@
 ghost use Rattle.std.specs.Prelude.{◌≡◌, ◌<◌, ◌≤◌, ◌+◌, ◌++◌, ◌^◌, [], ◌∷◌, ℕ, length, false, slice_get, slice_index_or, Contains, IfOk};
 ghost use Rattle.xs_chart.specs.declared.item.Item.{Item as AnyItem};
-ghost use Rattle.xs_gram.specs.Sound.{IsBuilt};
-ghost use Rattle.xs_gram.specs.Places.{all_places};
+ghost use Rattle.xs_gram.specs.{IsBuilt, all_places};
 ghost use Rattle.xs_earley.specs.declared.begun.Begun.{Begun as AnyBegun};
 ghost use Rattle.xs_earley.specs.Facts.{AreFacts, IsAtom};
 ghost use Rattle.xs_earley.specs.Masks.{has_bit as is_in, AreMasks};

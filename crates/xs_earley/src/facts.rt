@@ -1,10 +1,9 @@
 ghost use Rattle.std.specs.Prelude.{◌≡◌, ◌<◌, ◌↔◌, ℕ, length, Some, IfOk, Contains};
-ghost use Rattle.xs_chart.specs.Different.{AreDifferent};
-ghost use Rattle.xs_atoms.specs.Alphabet.{term_classes, skip_classes};
+ghost use Rattle.xs_chart.specs.{AreDifferent};
+ghost use Rattle.xs_atoms.specs.{term_classes, skip_classes};
 ghost use Rattle.xs_atoms.specs.declared.atoms.Atoms.{Atoms as AnyAtoms};
-ghost use Rattle.xs_gram.specs.Places.{all_places};
-ghost use Rattle.xs_gram.specs.Sound.{IsBuilt};
-ghost use Rattle.xs_order.specs.Order.{AreNullable};
+ghost use Rattle.xs_gram.specs.{all_places, IsBuilt};
+ghost use Rattle.xs_order.specs.{AreNullable};
 ghost use Rattle.xs_earley.specs.Starts.{IsStart, AreStarts};
 ghost use Rattle.xs_earley.specs.Facts.{AreFacts, IsAtom, row_at};
 ghost use Rattle.xs_earley.specs.Masks.{AreMasks};

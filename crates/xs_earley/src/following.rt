@@ -1,9 +1,7 @@
 ghost use Rattle.std.specs.Prelude.{◌≡◌, ◌<◌, ◌≤◌, ◌+◌, ◌↔◌, ◌^◌, ℕ, [], ◌∷◌, ◌++◌, length, take, slice_get, Contains, IfOk};
-ghost use Rattle.xs_class.specs.Classes.{Has};
+ghost use Rattle.xs_class.specs.{Has};
 ghost use Rattle.xs_chart.specs.declared.item.Item.{Item as AnyItem};
-ghost use Rattle.xs_gram.specs.Languages.{IsFront};
-ghost use Rattle.xs_gram.specs.Places.{all_places};
-ghost use Rattle.xs_gram.specs.Sound.{IsBuilt};
+ghost use Rattle.xs_gram.specs.{IsFront, all_places, IsBuilt};
 ghost use Rattle.xs_earley.specs.declared.begun.Begun.{Begun as AnyBegun};
 ghost use Rattle.xs_earley.specs.Arriving.{gathered};
 ghost use Rattle.xs_earley.specs.Facts.{AreFacts};

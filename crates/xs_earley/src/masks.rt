@@ -1,7 +1,6 @@
 ghost use Rattle.std.specs.Prelude.{◌≡◌, ◌<◌, ℕ, length, false, Some, slice_get, slice_index_or, Contains, IsTrue, IfOk};
-ghost use Rattle.xs_atoms.specs.Alphabet.{atom_of, count_of, class_has};
-ghost use Rattle.xs_gram.specs.Sound.{IsBuilt};
-ghost use Rattle.xs_gram.specs.Places.{all_places};
+ghost use Rattle.xs_atoms.specs.{atom_of, count_of, class_has};
+ghost use Rattle.xs_gram.specs.{IsBuilt, all_places};
 ghost use Rattle.xs_earley.specs.Facts.{AreFacts};
 ghost use Rattle.xs_earley.specs.Arriving.{is_letter};
 ghost use Rattle.xs_earley.specs.Masks.{has_bit as is_in, mask_of, AreClassMasks, IsMask, AreMasks};

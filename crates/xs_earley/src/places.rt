@@ -1,8 +1,7 @@
 ghost use Rattle.std.specs.Prelude.{◌≡◌, length, MatchOption};
 ghost use Rattle.xs_gram.specs.declared.parts.GItem.{GItem};
-ghost use Rattle.xs_gram.specs.Grammar.{items, ItemAt};
-ghost use Rattle.xs_gram.specs.Places.{IsPlace};
-ghost use Rattle.xs_chart_laws.specs.Steps.{next_of};
+ghost use Rattle.xs_gram.specs.{items, ItemAt, IsPlace};
+ghost use Rattle.xs_chart_laws.specs.{next_of};
 
 use xs_gram::{GItem, Gram, Place};
 

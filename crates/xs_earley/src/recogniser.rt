@@ -1,8 +1,7 @@
 ghost use Rattle.std.specs.Prelude.{◌<◌, length, IfOk, IfErr};
-ghost use Rattle.xs_chart.specs.Charted.{set_limit};
-ghost use Rattle.xs_gram.specs.Languages.{InLang};
-ghost use Rattle.xs_gram.specs.Sound.{IsSound};
-ghost use Rattle.xs_chart_laws.specs.Charts.{IsChartOf, HasWaiters};
+ghost use Rattle.xs_chart.specs.{set_limit};
+ghost use Rattle.xs_gram.specs.{InLang, IsSound};
+ghost use Rattle.xs_chart_laws.specs.{IsChartOf, HasWaiters};
 ghost use Rattle.xs_earley.specs.Seen.{IsFault};
 
 use crate::{Run, SeeFault};

@@ -1,9 +1,7 @@
 ghost use Rattle.std.specs.Prelude.{◌≡◌, ◌<◌, ◌≤◌, ◌↔◌, ◌^◌, ◌++◌, ℕ, List, length, map, slice_index_or, slice_range, IsTrue, IfOk, OnErr};
-ghost use Rattle.xs_gram.specs.Grammar.{ItemAt};
-ghost use Rattle.xs_gram.specs.Places.{all_places, IsPlace};
-ghost use Rattle.xs_gram.specs.Sound.{IsBuilt};
-ghost use Rattle.xs_order.specs.Order.{AreNullable};
-ghost use Rattle.xs_chart_laws.specs.Steps.{IsPassed};
+ghost use Rattle.xs_gram.specs.{ItemAt, all_places, IsPlace, IsBuilt};
+ghost use Rattle.xs_order.specs.{AreNullable};
+ghost use Rattle.xs_chart_laws.specs.{IsPassed};
 ghost use Rattle.xs_earley.specs.Facts.{MayEnd, IsKind, IsRow, AreRows, next_at, acts_at};
 ghost use Rattle.xs_gram.specs.declared.parts.GItem.TheVariants.{Fixed};
 

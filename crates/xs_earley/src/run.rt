@@ -1,11 +1,9 @@
 ghost use Rattle.std.specs.Prelude.{◌≡◌, ◌<◌, ◌≤◌, ◌+◌, ◌↔◌, ◌^◌, suc, ℕ, false, [], ◌∷◌, ◌++◌, length, take, true, ◌⊎◌, slice_index_or, IsTrue, IfOk, OnErr};
-ghost use Rattle.xs_class.specs.Classes.{Has};
-ghost use Rattle.xs_chart.specs.Charted.{set_limit, items_of};
-ghost use Rattle.xs_gram.specs.Grammar.{Grammar, items, IsRuleOf};
-ghost use Rattle.xs_gram.specs.Languages.{InLang, IsFront};
-ghost use Rattle.xs_gram.specs.Places.{at_dot};
-ghost use Rattle.xs_gram.specs.Sound.{IsSound};
-ghost use Rattle.xs_chart_laws.specs.Charts.{HasPlace, IsChartOf, HasWaiters};
+ghost use Rattle.xs_class.specs.{Has};
+ghost use Rattle.xs_chart.specs.{set_limit, items_of};
+ghost use Rattle.xs_gram.specs.{items, IsRuleOf, InLang, IsFront, at_dot, IsSound};
+ghost use Rattle.xs_gram.specs.Grammar.{Grammar};
+ghost use Rattle.xs_chart_laws.specs.{HasPlace, IsChartOf, HasWaiters};
 ghost use Rattle.xs_earley.specs.Facts.{HasAtoms};
 ghost use Rattle.xs_earley.specs.Running.{IsRunOf};
 

@@ -1,11 +1,9 @@
 ghost use Rattle.std.specs.Prelude.{◌≡◌, ◌≢◌, ◌<◌, ◌≤◌, suc, ℕ, Some, length, slice_get, Contains, IfOk};
 ghost use Rattle.xs_chart.specs.declared.item.Item.{Item as AnyItem};
-ghost use Rattle.xs_chart.specs.Charted.{items_of, waiting_of, before_last};
+ghost use Rattle.xs_chart.specs.{items_of, waiting_of, before_last};
 ghost use Rattle.xs_gram.specs.declared.places.Place.{Place};
-ghost use Rattle.xs_gram.specs.Places.{all_places};
-ghost use Rattle.xs_gram.specs.Sound.{IsBuilt};
-ghost use Rattle.xs_chart_laws.specs.Steps.{IsSettled};
-ghost use Rattle.xs_chart_laws.specs.Charts.{IsNumber, HasPlace, ItemStands};
+ghost use Rattle.xs_gram.specs.{all_places, IsBuilt};
+ghost use Rattle.xs_chart_laws.specs.{IsSettled, IsNumber, HasPlace, ItemStands};
 ghost use Rattle.xs_earley.specs.declared.rows.Stand.TheVariants.{AtNon};
 ghost use Rattle.xs_earley.specs.Adding.{Adds, Completes, Leads, AreCalled};
 ghost use Rattle.xs_earley.specs.Facts.{AreFacts, row_at};

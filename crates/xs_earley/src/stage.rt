@@ -1,8 +1,7 @@
 ghost use Rattle.std.specs.Prelude.{◌≡◌, ◌<◌, ◌+◌, ◌↔◌, suc, ℕ, [], ◌∷◌, ◌++◌, length, false, slice_index_or, IsTrue, IfOk};
-ghost use Rattle.xs_chart.specs.Charted.{set_limit, items_of};
-ghost use Rattle.xs_gram.specs.Languages.{IsFront};
-ghost use Rattle.xs_gram.specs.Sound.{IsSound};
-ghost use Rattle.xs_chart_laws.specs.Charts.{IsChartOf, HasWaiters};
+ghost use Rattle.xs_chart.specs.{set_limit, items_of};
+ghost use Rattle.xs_gram.specs.{IsFront, IsSound};
+ghost use Rattle.xs_chart_laws.specs.{IsChartOf, HasWaiters};
 ghost use Rattle.xs_earley.specs.Arriving.{gathered, item_due, item_begun, more_due, more_begun, AreBegun};
 ghost use Rattle.xs_earley.specs.Facts.{AreFacts, IsAtom};
 ghost use Rattle.xs_earley.specs.Running.{unsteady, IsSteady, IsRunOf};

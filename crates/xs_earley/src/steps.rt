@@ -1,5 +1,5 @@
 ghost use Rattle.std.specs.Prelude.{◌≡◌, ◌<◌, suc, length, IfOk};
-ghost use Rattle.xs_chart.specs.Charted.{before_last};
+ghost use Rattle.xs_chart.specs.{before_last};
 ghost use Rattle.xs_earley.specs.Adding.{Adds, Calls, Completes, AreCalled};
 ghost use Rattle.xs_earley.specs.Facts.{AreFacts};
 ghost use Rattle.xs_earley.specs.Growing.{IsExact};

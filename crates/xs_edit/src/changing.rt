@@ -1,6 +1,6 @@
 // The document after an edit, and the run that follows it.
 ghost use Rattle.std.specs.Prelude.{◌≡◌, ◌≤◌, ◌+◌, length, IfOk};
-ghost use Rattle.xs_earley.specs.Running.{IsRunOf};
+ghost use Rattle.xs_earley.specs.{IsRunOf};
 ghost use Rattle.xs_edit.specs.Edits.{edited, document_limit};
 ghost use Rattle.xs_edit.specs.Sessions.{HasRead, IsFollowing};
 

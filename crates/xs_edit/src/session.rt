@@ -1,6 +1,5 @@
 ghost use Rattle.std.specs.Prelude.{◌≡◌, ◌<◌, ◌≤◌, [], length, IfOk, IfErr, OnOk, MatchOption};
-ghost use Rattle.xs_gram.specs.Languages.{IsViable};
-ghost use Rattle.xs_gram.specs.Sound.{IsSound};
+ghost use Rattle.xs_gram.specs.{IsViable, IsSound};
 ghost use Rattle.xs_edit.specs.Edits.{edited, CanEdit, IsUndone};
 ghost use Rattle.xs_edit.specs.Sessions.{IsTreeOf, IsNext};
 

@@ -2,11 +2,10 @@ ghost use Rattle.std.specs.Prelude.{◌≡◌, ◌<◌, true, ◌++◌, IsTrue, 
 ghost use Rattle.std.specs.Char.{IsScalar};
 ghost use Rattle.std.specs.Str.{chars};
 ghost use Rattle.std.specs.String.{string_bytes};
-ghost use Rattle.xs_xml.specs.Tables.{is_name_char};
+ghost use Rattle.xs_xml.specs.{is_name_char};
 ghost use Rattle.xs_class.specs.Marks as mark;
-ghost use Rattle.xs_class.specs.Ordered.{place_of};
-ghost use Rattle.xs_xml.specs.Piece.{all_of, is_name};
-ghost use Rattle.xs_xml.specs.Reads.{marked};
+ghost use Rattle.xs_class.specs.{place_of};
+ghost use Rattle.xs_xml.specs.{all_of, is_name, marked};
 
 use std::alloc::Global;
 use xs_class::{Memory, Names, STRANGE, Sym};

@@ -1,7 +1,6 @@
 ghost use Rattle.std.specs.Prelude.{◌≡◌, ◌||◌, codes, length, map, IfOk};
 ghost use Rattle.std.specs.Option.{option_map};
-ghost use Rattle.xs_xml.specs.Piece.{same, is_apart};
-ghost use Rattle.xs_xml.specs.Scan.{char_at, reference_at, end_at, in_cdata, in_comment, bang_at, attrs_at, tag_at, declaration_attrs, instruction_at, markup_at, piece_at};
+ghost use Rattle.xs_xml.specs.{same, is_apart, char_at, reference_at, end_at, in_cdata, in_comment, bang_at, attrs_at, tag_at, declaration_attrs, instruction_at, markup_at, piece_at};
 ghost use Rattle.xs_form.specs.Attributes.{shown};
 ghost use Rattle.xs_form.specs.Seen.{found, shown_found, shown_end, tag_ends, past_feed, held_version, held_encoding, held_standalone, held_settings, instruction_body};
 

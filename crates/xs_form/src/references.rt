@@ -1,9 +1,8 @@
 ghost use Rattle.std.specs.Prelude.{◌≡◌, ◌<◌, ◌≤◌, ◌+◌, ◌*◌, ◌&&◌, min, true, []};
-ghost use Rattle.xs_xml.specs.Tables.{is_char, is_hex};
-ghost use Rattle.xs_xml.specs.Piece.{number, when, numbered, ref_char, all_of};
+ghost use Rattle.xs_xml.specs.{is_char, is_hex, number, when, numbered, ref_char, all_of};
 ghost use Rattle.xs_form.specs.Digits.{radix_of, is_digit_of};
 ghost use Rattle.xs_form.specs.Seen.{named_reference};
-ghost use Rattle.xs_class.specs.Words.{hex_value};
+ghost use Rattle.xs_class.specs.{hex_value};
 
 use crate::runs::{allowed, digit, hexadecimal, is, spells};
 use xs_class::Sym;

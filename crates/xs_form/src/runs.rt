@@ -1,10 +1,8 @@
 ghost use Rattle.std.specs.Prelude.{◌≡◌, ◌==◌, ◌<◌, map, length};
 ghost use Rattle.std.specs.Option.{option_map, option_copied};
-ghost use Rattle.xs_xml.specs.Tables.{is_char, is_name_char, is_white, is_digit, is_hex, is_quote};
-ghost use Rattle.xs_xml.specs.Piece.{is_name, all_of, same, lower};
-ghost use Rattle.xs_xml.specs.Scan.{after, span, cut};
+ghost use Rattle.xs_xml.specs.{is_char, is_name_char, is_white, is_digit, is_hex, is_quote, is_name, all_of, same, lower, after, span, cut};
 ghost use Rattle.xs_form.specs.State.{is_bare};
-ghost use Rattle.xs_class.specs.Tables.{is_name_start};
+ghost use Rattle.xs_class.specs.{is_name_start};
 
 use xs_class::{Sym, is_char, is_name_char, is_name_start};
 

@@ -1,8 +1,7 @@
 ghost use Rattle.std.specs.Prelude.{◌↔◌, ◌<◌, ◌≤◌, ◌+◌, ℕ, length, IfOk, IsTrue};
-ghost use Rattle.xs_chart.specs.Charted.{set_limit};
-ghost use Rattle.xs_gram.specs.Sound.{IsBuilt};
-ghost use Rattle.xs_gram.specs.Grammar.{ItemAt};
-ghost use Rattle.xs_chart_laws.specs.Reading.{Reads};
+ghost use Rattle.xs_chart.specs.{set_limit};
+ghost use Rattle.xs_gram.specs.{IsBuilt, ItemAt};
+ghost use Rattle.xs_chart_laws.specs.{Reads};
 ghost use Rattle.xs_grow.specs.Lists.{AreOnce, HasAllOf};
 ghost use Rattle.xs_grow.specs.Candidates.{EndsAt};
 

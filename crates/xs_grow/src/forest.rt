@@ -1,11 +1,8 @@
 ghost use Rattle.std.specs.Prelude.{◌≡◌, ◌<◌, length, IfOk, OnOk};
-ghost use Rattle.xs_chart.specs.Charted.{set_limit};
-ghost use Rattle.xs_gram.specs.Sound.{IsBuilt, IsSound};
-ghost use Rattle.xs_gram.specs.Languages.{InLang};
-ghost use Rattle.xs_chart_laws.specs.Charts.{HasPlace, IsChartOf};
-ghost use Rattle.xs_forest_laws.specs.Forest.{IsRow};
-ghost use Rattle.xs_forest_laws.specs.Grown.{IsGrown};
-ghost use Rattle.xs_forest_laws.specs.Laws.{IsForestOf, IsExact};
+ghost use Rattle.xs_chart.specs.{set_limit};
+ghost use Rattle.xs_gram.specs.{IsBuilt, IsSound, InLang};
+ghost use Rattle.xs_chart_laws.specs.{HasPlace, IsChartOf};
+ghost use Rattle.xs_forest_laws.specs.{IsRow, IsGrown, IsForestOf, IsExact};
 ghost use Rattle.xs_grow.specs.Lists.{HasAllOf};
 ghost use Rattle.xs_grow.specs.Candidates.{WholeCandidate, FrontCandidate};
 ghost use Rattle.xs_grow.specs.Making.{stands_at, IsSource, IsLabel};

@@ -1,10 +1,8 @@
 ghost use Rattle.std.specs.Prelude.{◌≡◌, ◌↔◌, ◌<◌, ◌≤◌, ℕ, ◌++◌, ◌+◌, None, length, map, OnOk, IsTrue, MatchBool};
-ghost use Rattle.xs_chart.specs.Charted.{set_limit};
-ghost use Rattle.xs_gram.specs.Sound.{IsBuilt};
-ghost use Rattle.xs_gram.specs.Grammar.{items};
-ghost use Rattle.xs_gram.specs.Places.{all_places, IsPlace};
-ghost use Rattle.xs_chart_laws.specs.Charts.{set_at};
-ghost use Rattle.xs_forest_laws.specs.Forest.{key_at};
+ghost use Rattle.xs_chart.specs.{set_limit};
+ghost use Rattle.xs_gram.specs.{IsBuilt, items, all_places, IsPlace};
+ghost use Rattle.xs_chart_laws.specs.{set_at};
+ghost use Rattle.xs_forest_laws.specs.{key_at};
 ghost use Rattle.xs_grow.specs.Lists.{AreOnce, Appends};
 ghost use Rattle.xs_grow.specs.Candidates.{WholeAt, FrontFrom, InSet, InSets, IsLater, HasPlaces};
 

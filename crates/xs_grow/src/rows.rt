@@ -1,8 +1,7 @@
 ghost use Rattle.std.specs.Prelude.{◌≡◌, ◌⊎◌, ◌<◌, ◌++◌, ◌∷◌, [], ℕ, zero, suc, None, Some, length, Contains, IfOk, OnOk, MatchOption};
-ghost use Rattle.xs_gram.specs.Places.{at_dot};
-ghost use Rattle.xs_forest.specs.Rows.{HasLabel};
-ghost use Rattle.xs_forest_laws.specs.Forest.{IsRow, item_of};
-ghost use Rattle.xs_forest_laws.specs.Grown.{IsGrown, ItemOver};
+ghost use Rattle.xs_gram.specs.{at_dot};
+ghost use Rattle.xs_forest.specs.{HasLabel};
+ghost use Rattle.xs_forest_laws.specs.{IsRow, item_of, IsGrown, ItemOver};
 ghost use Rattle.xs_grow.specs.Making.{stands_at, IsSource, IsLabel, IsNumberOf, AreNumbersOf, IsFront, IsItem, IsMade, AreMade, Misses};
 
 use crate::numbers::numbers_of;

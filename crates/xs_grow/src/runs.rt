@@ -1,6 +1,6 @@
 ghost use Rattle.std.specs.Prelude.{◌⊎◌, ◌↔◌, ◌<◌, ◌≤◌, ℕ, length, IfOk, OnOk, IsTrue, Contains, MatchBool};
-ghost use Rattle.xs_chart.specs.Charted.{set_limit};
-ghost use Rattle.xs_regex.specs.Automaton.{HasAt, IsBelow, IsWellFormed};
+ghost use Rattle.xs_chart.specs.{set_limit};
+ghost use Rattle.xs_regex.specs.{HasAt, IsBelow, IsWellFormed};
 ghost use Rattle.xs_grow.specs.Lists.{HasAllOf};
 ghost use Rattle.xs_grow.specs.Running.{Enters, AcceptsTo};
 

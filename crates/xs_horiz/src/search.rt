@@ -1,13 +1,8 @@
 ghost use Rattle.std.specs.Prelude.{◌≡◌, ◌<◌, true, get_or, length, IfOk, IfErr, IfSome, IfNone, OnOk};
-ghost use Rattle.xs_gram.specs.Fences.{spread};
-ghost use Rattle.xs_gram.specs.Loose.{AreComponents};
-ghost use Rattle.xs_gram.specs.Sound.{IsBuilt};
-ghost use Rattle.xs_gram.specs.Suspects.{IsHorizontal};
-ghost use Rattle.xs_check_laws.specs.Freedom.{HasNoHorizontal};
-ghost use Rattle.xs_check_laws.specs.Acceptance.{IsLight, ShowsHorizontal};
-ghost use Rattle.xs_light.specs.Causes.{IsCause};
-ghost use Rattle.xs_light.specs.Searching.{OverlapsAt};
-ghost use Rattle.xs_screen.specs.Screens.{AreDoubts};
+ghost use Rattle.xs_gram.specs.{spread, AreComponents, IsBuilt, IsHorizontal};
+ghost use Rattle.xs_check_laws.specs.{HasNoHorizontal, IsLight, ShowsHorizontal};
+ghost use Rattle.xs_light.specs.{IsCause, OverlapsAt};
+ghost use Rattle.xs_screen.specs.{AreDoubts};
 ghost use Rattle.xs_horiz.specs.Cuts.{IsFirstCut, HasNoCut};
 
 use std::alloc::Global;

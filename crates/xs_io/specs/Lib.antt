@@ -8,3 +8,5 @@ pub mod Shown
 pub mod Sinks
 pub mod Sources
 pub mod Whole
+-- what other crates' contracts cite
+pub use Rattle.xs_io.specs.Shown.{IsFile}

@@ -1,6 +1,6 @@
 ghost use Rattle.std.specs.Prelude.{◌≡◌};
 ghost use Rattle.xs_lex.specs.Classes.{is_name_char, is_plain_start, is_plain_char, is_white};
-ghost use Rattle.xs_class.specs.Tables.{is_name_start};
+ghost use Rattle.xs_class.specs.{is_name_start};
 
 use xs_class::{is_name_char, is_name_start};
 

@@ -5,7 +5,7 @@ ghost use Rattle.xs_lex.specs.Between.{IsApart};
 ghost use Rattle.xs_lex.specs.Reading.{Lexeme, IsTokenAt, NoToken, AreTokens, IsSlice, lexeme_of, valid};
 ghost use Rattle.xs_lex.specs.Laws.{Separated};
 ghost use Rattle.xs_lex.specs.Scan.{front_at};
-ghost use Rattle.xs_class.specs.Words.{is_empty};
+ghost use Rattle.xs_class.specs.{is_empty};
 
 use crate::blanks::blanks;
 use crate::location::Location;

@@ -1,11 +1,7 @@
 ghost use Rattle.std.specs.Prelude.{ℕ, ◌≡◌, ◌<◌, List, length, IfOk, IfSome, IfNone};
-ghost use Rattle.xs_gram.specs.Fences.{spread};
-ghost use Rattle.xs_gram.specs.Loose.{AreComponents};
-ghost use Rattle.xs_gram.specs.Sound.{IsBuilt};
-ghost use Rattle.xs_gram.specs.Suspects.{IsHorizontal};
-ghost use Rattle.xs_check_laws.specs.Acceptance.{IsLight};
-ghost use Rattle.xs_stretch.specs.Groups.{HasFewGroups};
-ghost use Rattle.xs_stretch.specs.Tables.{AreTables};
+ghost use Rattle.xs_gram.specs.{spread, AreComponents, IsBuilt, IsHorizontal};
+ghost use Rattle.xs_check_laws.specs.{IsLight};
+ghost use Rattle.xs_stretch.specs.{HasFewGroups, AreTables};
 ghost use Rattle.xs_light.specs.Searching.{AreBothLoose, OverlapsAt, IsExactFor};
 ghost use Rattle.xs_light.specs.Spaces.{IsSpace};
 

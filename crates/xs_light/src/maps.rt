@@ -1,6 +1,6 @@
 ghost use Rattle.std.specs.Prelude.{ℕ, ◌≡◌, ◌≤◌, List, IfOk, IfSome, IfNone, OnOk};
-ghost use Rattle.xs_auto.specs.Nests.{IsTame};
-ghost use Rattle.xs_meet.specs.Shared.{IsSharedOver, AreOverlapOver};
+ghost use Rattle.xs_auto.specs.{IsTame};
+ghost use Rattle.xs_meet.specs.{IsSharedOver, AreOverlapOver};
 ghost use Rattle.xs_light.specs.Spaces.{IsSpace};
 
 use crate::SearchSpace;

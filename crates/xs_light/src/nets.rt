@@ -1,12 +1,7 @@
 ghost use Rattle.std.specs.Prelude.{◌≡◌, ◌<◌, length, IfOk};
-ghost use Rattle.xs_gram.specs.Fences.{spread};
-ghost use Rattle.xs_gram.specs.Loose.{AreComponents};
-ghost use Rattle.xs_gram.specs.Sound.{IsBuilt};
-ghost use Rattle.xs_check_laws.specs.Acceptance.{IsLight};
-ghost use Rattle.xs_stretch.specs.Groups.{HasFewGroups};
-ghost use Rattle.xs_stretch.specs.Nets.{IsNetOf, IsNestOf};
-ghost use Rattle.xs_stretch.specs.Parts.{IsPart, part_items, AreLight};
-ghost use Rattle.xs_stretch.specs.Tables.{AreTables};
+ghost use Rattle.xs_gram.specs.{spread, AreComponents, IsBuilt};
+ghost use Rattle.xs_check_laws.specs.{IsLight};
+ghost use Rattle.xs_stretch.specs.{HasFewGroups, IsNetOf, IsNestOf, IsPart, part_items, AreLight, AreTables};
 ghost use Rattle.xs_light.specs.Spaces.{IsSite, IsRuleNet, AreNumbered};
 
 use std::alloc::Global;

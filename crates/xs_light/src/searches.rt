@@ -1,12 +1,8 @@
 ghost use Rattle.std.specs.Prelude.{ℕ, ◌≡◌, ◌<◌, true, List, length, IfOk, OnOk, IfSome, IfNone};
-ghost use Rattle.xs_gram.specs.Fences.{spread};
-ghost use Rattle.xs_gram.specs.Loose.{AreComponents};
-ghost use Rattle.xs_gram.specs.Sound.{IsBuilt};
-ghost use Rattle.xs_gram.specs.Suspects.{IsHorizontal};
-ghost use Rattle.xs_check_laws.specs.Acceptance.{IsLight};
-ghost use Rattle.xs_stretch.specs.Groups.{HasFewGroups};
-ghost use Rattle.xs_stretch.specs.Tables.{AreTables};
-ghost use Rattle.xs_screen.specs.Screens.{ShareNone, AreDoubts};
+ghost use Rattle.xs_gram.specs.{spread, AreComponents, IsBuilt, IsHorizontal};
+ghost use Rattle.xs_check_laws.specs.{IsLight};
+ghost use Rattle.xs_stretch.specs.{HasFewGroups, AreTables};
+ghost use Rattle.xs_screen.specs.{ShareNone, AreDoubts};
 ghost use Rattle.xs_light.specs.Searching.{AreBothLoose, OverlapsAt, IsExactFor};
 
 use crate::exact::Exact;

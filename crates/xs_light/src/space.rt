@@ -1,14 +1,10 @@
 ghost use Rattle.std.specs.Prelude.{◌≡◌, ◌<◌, ◌≤◌, ℕ, length, IfOk, OnOk};
-ghost use Rattle.xs_auto.specs.Nets.{states};
-ghost use Rattle.xs_auto.specs.Nests.{group_at, IsFenced};
-ghost use Rattle.xs_gram.specs.Loose.{AreComponents};
-ghost use Rattle.xs_gram.specs.Sound.{IsBuilt};
-ghost use Rattle.xs_check_laws.specs.Acceptance.{IsLight};
-ghost use Rattle.xs_meet.specs.Sharing.{IsSharedOf};
-ghost use Rattle.xs_stretch.specs.Groups.{HasFewGroups};
-ghost use Rattle.xs_stretch.specs.Nets.{IsNestOf};
-ghost use Rattle.xs_stretch.specs.Tables.{AreTables};
-ghost use Rattle.xs_gram.specs.Fences.{spread};
+ghost use Rattle.xs_auto.specs.{states, group_at, IsFenced};
+ghost use Rattle.xs_gram.specs.{AreComponents, IsBuilt};
+ghost use Rattle.xs_check_laws.specs.{IsLight};
+ghost use Rattle.xs_meet.specs.{IsSharedOf};
+ghost use Rattle.xs_stretch.specs.{HasFewGroups, IsNestOf, AreTables};
+ghost use Rattle.xs_gram.specs.{spread};
 ghost use Rattle.xs_light.specs.Spaces.{IsSpace, AcceptsLoose, AreCutNets};
 
 use crate::{CutNets, Site};

@@ -1,9 +1,7 @@
 ghost use Rattle.std.specs.Prelude.{◌<◌, length, IfErr, OnOk};
-ghost use Rattle.xs_gram.specs.Fences.{spread};
-ghost use Rattle.xs_gram.specs.Sound.{IsBuilt};
-ghost use Rattle.xs_check_laws.specs.Acceptance.{IsLight};
-ghost use Rattle.xs_check_laws.specs.Weights.{RuleWeighs, InsidesWeigh};
-ghost use Rattle.xs_stretch.specs.Weighing.{AreWeights};
+ghost use Rattle.xs_gram.specs.{spread, IsBuilt};
+ghost use Rattle.xs_check_laws.specs.{IsLight, RuleWeighs, InsidesWeigh};
+ghost use Rattle.xs_stretch.specs.{AreWeights};
 ghost use Rattle.xs_light.specs.Causes.{IsCause};
 ghost use Rattle.xs_light.specs.Insides.{Counts};
 

@@ -1,8 +1,7 @@
 ghost use Rattle.std.specs.Prelude.{◌≡◌, ℕ, ◌<◌, List, length, IfOk};
 ghost use Rattle.xs_gram.specs.Grammar.{Grammar};
-ghost use Rattle.xs_forest.specs.Rows.{IsEarlier, AreEarlier};
-ghost use Rattle.xs_forest_laws.specs.Forest.{IsRight};
-ghost use Rattle.xs_forest_laws.specs.Number.{count_of, alt_count, alts_count, IsCounted, IsChosen};
+ghost use Rattle.xs_forest.specs.{IsEarlier, AreEarlier};
+ghost use Rattle.xs_forest_laws.specs.{IsRight, count_of, alt_count, alts_count, IsCounted, IsChosen};
 
 use crate::rows::alts_at;
 use std::alloc::Global;

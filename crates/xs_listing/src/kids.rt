@@ -1,10 +1,8 @@
 ghost use Rattle.std.specs.Prelude.{◌≡◌, ◌<◌, ◌≤◌, ◌++◌, ◌∷◌, [], length, slice_range, IfOk, OnOk};
-ghost use Rattle.xs_gram.specs.Grammar.{items, slots};
-ghost use Rattle.xs_tree.specs.Flat.{Leaf};
-ghost use Rattle.xs_gram.specs.Common.{named};
-ghost use Rattle.xs_gram.specs.Sound.{IsBuilt};
-ghost use Rattle.xs_forest_laws.specs.Forest.{IsRight, Unfolding, read};
-ghost use Rattle.xs_forest_laws.specs.First.{IsFirst};
+ghost use Rattle.xs_gram.specs.{items, slots};
+ghost use Rattle.xs_tree.specs.{Leaf};
+ghost use Rattle.xs_gram.specs.{named, IsBuilt};
+ghost use Rattle.xs_forest_laws.specs.{IsRight, Unfolding, read, IsFirst};
 ghost use Rattle.xs_listing.specs.Making.{CanPlace, IsPlaced, CanGather, Extends, Fills};
 
 use crate::rows::{FirstAlternative, first_step};

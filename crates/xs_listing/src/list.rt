@@ -1,6 +1,5 @@
 ghost use Rattle.std.specs.Prelude.{◌<◌, ◌≤◌, Some, IfOk};
-ghost use Rattle.xs_forest_laws.specs.Number.{count_of};
-ghost use Rattle.xs_forest_laws.specs.Laws.{IsRoot, IsForestOf};
+ghost use Rattle.xs_forest_laws.specs.{count_of, IsRoot, IsForestOf};
 ghost use Rattle.xs_listing.specs.Writing.{IsSource};
 ghost use Rattle.xs_listing.specs.Spelt.{IsListingOf};
 ghost use Rattle.xs_listing.specs.Numbered.{IsSpeltBy, AreSpeltBy};

@@ -1,7 +1,7 @@
 ghost use Rattle.std.specs.Prelude.{◌≡◌, ◌<◌, ℕ, List, length, IfOk};
 ghost use Rattle.xs_gram.specs.Grammar.{Grammar};
-ghost use Rattle.xs_forest.specs.Rows.{IsEarlier, AreBelow};
-ghost use Rattle.xs_forest_laws.specs.Forest.{IsRight};
+ghost use Rattle.xs_forest.specs.{IsEarlier, AreBelow};
+ghost use Rattle.xs_forest_laws.specs.{IsRight};
 ghost use Rattle.xs_listing.specs.Marks.{IsReady, IsMarked, AreMarked, with_mark, pass};
 
 use crate::rows::alts_at;

@@ -1,6 +1,6 @@
 ghost use Rattle.std.specs.Prelude.{◌≡◌, ◌<◌, length, IfOk, OnOk};
-ghost use Rattle.xs_gram.specs.Sound.{IsBuilt};
-ghost use Rattle.xs_forest_laws.specs.Forest.{IsRight};
+ghost use Rattle.xs_gram.specs.{IsBuilt};
+ghost use Rattle.xs_forest_laws.specs.{IsRight};
 ghost use Rattle.xs_listing.specs.Marks.{IsMarked, AreMarked};
 ghost use Rattle.xs_listing.specs.Making.{IsWhole, IsMade, AreMade, CanMake, Extends};
 

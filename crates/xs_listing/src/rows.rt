@@ -1,6 +1,6 @@
 ghost use Rattle.std.specs.Prelude.{◌≡◌, ◌<◌, length};
-ghost use Rattle.xs_forest.specs.Rows.{IsEarlier, AreBelow};
-ghost use Rattle.xs_forest_laws.specs.Forest.{key_of, alts_of, end_of};
+ghost use Rattle.xs_forest.specs.{IsEarlier, AreBelow};
+ghost use Rattle.xs_forest_laws.specs.{key_of, alts_of, end_of};
 ghost use Rattle.xs_listing.specs.Marks.{IsFirstAlt};
 ghost use Rattle.xs_listing.specs.Making.{IsFirstAlternative};
 

@@ -1,10 +1,9 @@
 ghost use Rattle.std.specs.Prelude.{◌≡◌, ℕ, ◌<◌, ◌≤◌, ◌++◌, ◌∷◌, [], length, All, IfOk, OnOk};
-ghost use Rattle.xs_gram.specs.Grammar.{items};
-ghost use Rattle.xs_forest.specs.Rows.{IsEarlier};
+ghost use Rattle.xs_gram.specs.{items};
+ghost use Rattle.xs_forest.specs.{IsEarlier};
 ghost use Rattle.xs_forest_laws.specs.declared.span.What.TheVariants.{Front};
-ghost use Rattle.xs_forest_laws.specs.Forest.{IsRight, Unfolding, read};
-ghost use Rattle.xs_forest_laws.specs.Number.{count_of, At};
-ghost use Rattle.xs_tree.specs.Counts.{capped};
+ghost use Rattle.xs_forest_laws.specs.{IsRight, Unfolding, read, count_of, At};
+ghost use Rattle.xs_tree.specs.{capped};
 ghost use Rattle.xs_listing.specs.Sizes.{spelt_count, word_count, size_at, last_count, IsSize, AreSizes};
 ghost use Rattle.xs_listing.specs.Writing.{IsSource, HasChild, CanDo, work_left};
 ghost use Rattle.xs_listing.specs.Owed.{IsCountedOff};

@@ -1,8 +1,7 @@
 ghost use Rattle.std.specs.Prelude.{IfOk};
-ghost use Rattle.xs_gram.specs.Languages.{InLang, HasTree};
-ghost use Rattle.xs_gram.specs.Sound.{IsBuilt};
-ghost use Rattle.xs_tree.specs.Flat.{common_of};
-ghost use Rattle.xs_forest_laws.specs.Laws.{IsForestOf};
+ghost use Rattle.xs_gram.specs.{InLang, HasTree, IsBuilt};
+ghost use Rattle.xs_tree.specs.{common_of};
+ghost use Rattle.xs_forest_laws.specs.{IsForestOf};
 
 use crate::marks::mark_rows;
 use crate::nodes::number_rows;

@@ -1,9 +1,8 @@
 ghost use Rattle.std.specs.Prelude.{◌≡◌, ℕ, ◌<◌, ◌≤◌, ◌++◌, length, take, drop, IfOk, OnOk};
 ghost use Rattle.xs_forest_laws.specs.declared.span.What.TheVariants.{Front};
 ghost use Rattle.xs_listing.specs.declared.spelt.SpeltPart.TheVariants.{Node};
-ghost use Rattle.xs_forest.specs.Rows.{IsEarlier};
-ghost use Rattle.xs_forest_laws.specs.Forest.{Unfolding, read};
-ghost use Rattle.xs_forest_laws.specs.Number.{count_of, At};
+ghost use Rattle.xs_forest.specs.{IsEarlier};
+ghost use Rattle.xs_forest_laws.specs.{Unfolding, read, count_of, At};
 ghost use Rattle.xs_listing.specs.Writing.{child_task, last_task, IsVisited, Added, IsWordWritten, IsDone, AreWritten, IsSource, HasChild, CanVisit, CanDo};
 
 use crate::count::{Chosen, choose};

@@ -6,3 +6,7 @@ pub mod Shared
 pub mod Sharing
 pub mod Spelling
 pub mod Traces
+-- what other crates' contracts cite
+pub use Rattle.xs_meet.specs.Closed.{AreApart, Drifts, IsSettled, Leads, Marked, Strides}
+pub use Rattle.xs_meet.specs.Shared.{AreOverlapOver, IsSharedOver}
+pub use Rattle.xs_meet.specs.Sharing.{IsSharedOf, has_at}

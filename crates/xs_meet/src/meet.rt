@@ -1,6 +1,5 @@
 ghost use Rattle.std.specs.Prelude.{◌≡◌, ℕ, ◌*◌, ◌≤◌, List, IsSome, IfOk, IfSome, IfNone};
-ghost use Rattle.xs_auto.specs.Nets.{states};
-ghost use Rattle.xs_auto.specs.Nests.{IsFenced, IsTame};
+ghost use Rattle.xs_auto.specs.{states, IsFenced, IsTame};
 ghost use Rattle.xs_meet.specs.Closed.{AreApart};
 ghost use Rattle.xs_meet.specs.Searches.{InNets, EndsBoth};
 ghost use Rattle.xs_meet.specs.Shared.{IsShared, IsSharedOver};

@@ -1,5 +1,5 @@
 ghost use Rattle.std.specs.Prelude.{◌≡◌, ◌<◌, ◌+◌, ◌↔◌, ℕ, true, length, IfOk, IsTrue};
-ghost use Rattle.xs_auto.specs.Nests.{group_at, HaveOneFence, IsFenced, AreShared};
+ghost use Rattle.xs_auto.specs.{group_at, HaveOneFence, IsFenced, AreShared};
 ghost use Rattle.xs_meet.specs.Rounds.{Tries, AreThese, AreFrom, AreWithin};
 ghost use Rattle.xs_meet.specs.Sharing.{has_at, HasRoom, IsSharing, IsSharedOf};
 

@@ -1,5 +1,5 @@
 ghost use Rattle.std.specs.Prelude.{◌≡◌, ◌<◌, OnOk};
-ghost use Rattle.xs_auto.specs.Nets.{states};
+ghost use Rattle.xs_auto.specs.{states};
 ghost use Rattle.xs_meet.specs.Searches.{Fits, Extends, IsFor, DriftsFrom, StridesFrom, LeadsFrom, Closes, ClosesDrifts};
 ghost use Rattle.xs_meet.specs.Sharing.{AreKnown};
 

@@ -1,5 +1,5 @@
 ghost use Rattle.std.specs.Prelude.{ℕ, ◌<◌, length, IfOk, IfSome, IfNone};
-ghost use Rattle.xs_auto.specs.Nets.{states};
+ghost use Rattle.xs_auto.specs.{states};
 ghost use Rattle.xs_meet.specs.Closed.{ReadsBoth, Crosses, Strides};
 ghost use Rattle.xs_meet.specs.Searches.{ReadsWith, CallsWith, CallsAmong, NoneCalls, InNets, IsChained};
 ghost use Rattle.xs_meet.specs.Sharing.{AreKnown};

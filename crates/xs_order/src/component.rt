@@ -1,7 +1,5 @@
 ghost use Rattle.std.specs.Prelude.{◌≡◌, ◌<◌, length, drop, IfOk};
-ghost use Rattle.xs_gram.specs.Fences.{spread, IsLevel};
-ghost use Rattle.xs_gram.specs.Loose.{AreComponents};
-ghost use Rattle.xs_gram.specs.Sound.{IsBuilt};
+ghost use Rattle.xs_gram.specs.{spread, IsLevel, AreComponents, IsBuilt};
 ghost use Rattle.xs_order.specs.Graphs.{AreByRule};
 ghost use Rattle.xs_order.specs.Outer.{AreOuterNons, IsPast};
 

@@ -1,5 +1,5 @@
 ghost use Rattle.std.specs.Prelude.{IfOk};
-ghost use Rattle.xs_gram.specs.Sound.{IsBuilt};
+ghost use Rattle.xs_gram.specs.{IsBuilt};
 ghost use Rattle.xs_order.specs.Order.{AreNullable, AreProductive};
 
 use crate::rules::made_nons;

@@ -1,5 +1,5 @@
 ghost use Rattle.std.specs.Prelude.{◌≡◌, ◌<◌, ◌^◌, [], ◌++◌, length, IfOk, OnOk};
-ghost use Rattle.xs_gram.specs.Sound.{IsInRange};
+ghost use Rattle.xs_gram.specs.{IsInRange};
 ghost use Rattle.xs_order.specs.Graphs.{AreByRule, IsGraphTo};
 
 use std::alloc::Global;

@@ -1,7 +1,6 @@
 ghost use Rattle.std.specs.Prelude.{◌≡◌, ◌≤◌, length, IfOk};
 ghost use Rattle.std.specs.List.{All};
-ghost use Rattle.xs_gram.specs.Building.{NamesAreThere};
-ghost use Rattle.xs_gram.specs.Grammar.{items};
+ghost use Rattle.xs_gram.specs.{NamesAreThere, items};
 ghost use Rattle.xs_order.specs.Graphs.{is_nullable, IsFirstFull, AreLeading, AreByRule};
 
 use crate::rules::{add_non, nons_of};

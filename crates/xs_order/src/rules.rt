@@ -1,6 +1,5 @@
 ghost use Rattle.std.specs.Prelude.{◌≡◌, ◌+◌, ◌<◌, [], ◌∷◌, ◌++◌, length, IfOk, OnOk};
-ghost use Rattle.xs_gram.specs.Grammar.{items};
-ghost use Rattle.xs_gram.specs.Sound.{IsBuilt, IsInRange};
+ghost use Rattle.xs_gram.specs.{items, IsBuilt, IsInRange};
 ghost use Rattle.xs_order.specs.Leaves.{IsFor};
 ghost use Rattle.xs_order.specs.Rules.{nons_of, AreClauses, AreMadeFlags};
 

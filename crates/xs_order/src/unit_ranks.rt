@@ -1,5 +1,5 @@
 ghost use Rattle.std.specs.Prelude.{ℕ, IfOk, IfErr};
-ghost use Rattle.xs_gram.specs.Sound.{IsBuilt, DerivesItself};
+ghost use Rattle.xs_gram.specs.{IsBuilt, DerivesItself};
 ghost use Rattle.xs_order.specs.Order.{AreRanks, IsLoop};
 
 use crate::graphs::graph_of;

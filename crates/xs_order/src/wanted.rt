@@ -1,7 +1,7 @@
 ghost use Rattle.std.specs.Prelude.{◌≡◌, ℕ, ◌<◌, ◌↔◌, ◌^◌, List, length, IsTrue, IfOk};
-ghost use Rattle.xs_clauses.specs.Made.{AreFlags};
-ghost use Rattle.xs_gram.specs.Sound.{IsBuilt};
-ghost use Rattle.xs_regex.specs.Automaton.{Accepts, IsWellFormed};
+ghost use Rattle.xs_clauses.specs.{AreFlags};
+ghost use Rattle.xs_gram.specs.{IsBuilt};
+ghost use Rattle.xs_regex.specs.{Accepts, IsWellFormed};
 ghost use Rattle.xs_order.specs.Wanted.{IsWanted, HasTermWord, HasSkipWord, AreWith, is_any};
 
 use crate::leaves::Leaves;

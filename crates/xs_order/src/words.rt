@@ -1,6 +1,6 @@
 ghost use Rattle.std.specs.Prelude.{◌≡◌, ℕ, ◌<◌, ◌↔◌, ◌^◌, List, [], ◌∷◌, false, length, IsTrue, IfOk, OnOk};
-ghost use Rattle.xs_clauses.specs.Made.{AreFlags};
-ghost use Rattle.xs_regex.specs.Automaton.{Accepts, IsBelow, IsWellFormed};
+ghost use Rattle.xs_clauses.specs.{AreFlags};
+ghost use Rattle.xs_regex.specs.{Accepts, IsBelow, IsWellFormed};
 ghost use Rattle.xs_order.specs.Runs.{HasSymbol, IsReached, premises_from, AreSteps, AreAdded};
 
 use std::alloc::Global;

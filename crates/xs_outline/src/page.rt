@@ -1,7 +1,7 @@
 ghost use Rattle.std.specs.Prelude.{◌≡◌, ◌++◌, true, OnOk};
 ghost use Rattle.std.specs.Char.{IsScalar};
 ghost use Rattle.std.specs.Str.{all_scalars};
-ghost use Rattle.xs_sheet.specs.Layout.{quoted};
+ghost use Rattle.xs_sheet.specs.{quoted};
 ghost use Rattle.xs_outline.specs.Lines.{number_text};
 
 use itoa::Buffer;

@@ -1,8 +1,7 @@
 // Quoted strings, in any of their spellings.
 ghost use Rattle.std.specs.Prelude.{◌≡◌, ◌<◌, length, IfOk, IfSome, MatchOption};
 ghost use Rattle.std.specs.Option.{option_map};
-ghost use Rattle.xs_lex.specs.Spelling.{IsQuoted};
-ghost use Rattle.xs_lex.specs.Units.{is_scalar};
+ghost use Rattle.xs_lex.specs.{IsQuoted, is_scalar};
 ghost use Rattle.xs_outline.specs.Reading.{digit_in, digits_at, coded_at, escaped_at, unit_at, ends_at, NoQuoted};
 
 use std::alloc::Global;

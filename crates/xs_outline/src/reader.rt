@@ -1,6 +1,6 @@
 ghost use Rattle.std.specs.Prelude.{◌≡◌, ◌<◌, ◌≤◌, ◌+◌, ◌∷◌, ◌++◌, [], ℕ, List, None, Some, suc, length, slice_get, IsSome, IfOk, IfSome, OnOk, MatchBool, MatchOption};
-ghost use Rattle.xs_gram.specs.Sound.{IsBuilt};
-ghost use Rattle.xs_tree.specs.Flat.{tree_at, trees_of};
+ghost use Rattle.xs_gram.specs.{IsBuilt};
+ghost use Rattle.xs_tree.specs.{tree_at, trees_of};
 ghost use Rattle.xs_outline.specs.Lines.{line, production};
 ghost use Rattle.xs_outline.specs.Machine.{EntryFits, MayCome, enter, give, next};
 ghost use Rattle.xs_outline.specs.Parsed.{entry_meant};

@@ -1,9 +1,8 @@
 ghost use Rattle.std.specs.Prelude.{IfOk, IfErr};
 ghost use Rattle.xs_sheet.specs.declared.sheet.Sheet.{Sheet as AnySheet};
-ghost use Rattle.xs_gram.specs.Common.{TreeFits};
-ghost use Rattle.xs_gram.specs.Sound.{IsSound};
-ghost use Rattle.xs_pair.specs.Grammars.{IsPairOf};
-ghost use Rattle.xs_tree.specs.Flat.{common_of};
+ghost use Rattle.xs_gram.specs.{TreeFits, IsSound};
+ghost use Rattle.xs_pair.specs.{IsPairOf};
+ghost use Rattle.xs_tree.specs.{common_of};
 ghost use Rattle.xs_outline.specs.Outline.{IsOutline};
 ghost use Rattle.xs_outline.specs.Refusal.{IsRefusal};
 

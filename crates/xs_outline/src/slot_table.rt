@@ -1,9 +1,7 @@
 ghost use Rattle.std.specs.Prelude.{◌≡◌, ◌<◌, ◌∷◌, [], ℕ, None, length, IfOk, MatchBool};
 ghost use Rattle.std.specs.Str.{chars};
-ghost use Rattle.xs_class.specs.Ordered.{place_of};
-ghost use Rattle.xs_gram.specs.Common.{kinds as all_kinds, lookup};
-ghost use Rattle.xs_gram.specs.Grammar.{slots};
-ghost use Rattle.xs_gram.specs.Laws.{Every, HasNumberedSlots};
+ghost use Rattle.xs_class.specs.{place_of};
+ghost use Rattle.xs_gram.specs.{kinds as all_kinds, lookup, slots, Every, HasNumberedSlots};
 ghost use Rattle.xs_outline.specs.Shapes.{names_of, slot_count, HasSlotNames};
 ghost use Rattle.xs_outline.specs.Machine.{HasDistinctSlots};
 ghost use Rattle.xs_outline.specs.Tables.{kind_in, either, name_list, IsTable, AreTables};

@@ -1,10 +1,10 @@
 ghost use Rattle.std.specs.Prelude.{◌≡◌, ◌<◌, ◌≤◌, ◌+◌, ◌*◌, ◌∷◌, ◌++◌, [], ℕ, suc, true, codes, length, encode_utf8_all, slice_get, None, Some, IfOk, OnOk, MatchOption};
 ghost use Rattle.std.specs.Str.{all_scalars, chars};
 ghost use Rattle.xs_sheet.specs.declared.sheet.Sheet.{Sheet as AnySheet};
-ghost use Rattle.xs_gram.specs.Common.{Common, word, made, TreeFits};
-ghost use Rattle.xs_gram.specs.Sound.{IsBuilt};
-ghost use Rattle.xs_pair.specs.Grammars.{IsPairOf};
-ghost use Rattle.xs_tree.specs.Flat.{IsFlat, common_at, common_of, production_of, word_of};
+ghost use Rattle.xs_gram.specs.{word, made, TreeFits, IsBuilt};
+ghost use Rattle.xs_gram.specs.Common.{Common};
+ghost use Rattle.xs_pair.specs.{IsPairOf};
+ghost use Rattle.xs_tree.specs.{IsFlat, common_at, common_of, production_of, word_of};
 ghost use Rattle.xs_outline.specs.Lines.{Entry, production, leaf_word, line, line_text, number_text};
 ghost use Rattle.xs_outline.specs.Order.{outline_of};
 ghost use Rattle.xs_outline.specs.Shapes.{HasSlotNames};

@@ -11,3 +11,9 @@ pub mod Sound
 pub mod Fences
 pub mod Upgrades
 pub mod Balance
+-- what other crates' contracts cite
+pub use Rattle.xs_pair.specs.Weights.{IsOfBytes}
+pub use Rattle.xs_pair.specs.Rules.{SomeOf}
+pub use Rattle.xs_pair.specs.Verdict.{IsFirstLine, IsLineWhere, NoneBefore, order}
+pub use Rattle.xs_pair.specs.Grammars.{HaveSameTrees, IsPairOf, Pair, grammar_of}
+pub use Rattle.xs_pair.specs.Sound.{IsSoundPair}

@@ -1,7 +1,6 @@
 ghost use Rattle.std.specs.Prelude.{◌≡◌, IfOk};
-ghost use Rattle.xs_regex.specs.Meaning.{IsPatternOf};
-ghost use Rattle.xs_sheet.specs.Grammar.{HasRegex, HaveRegexes};
-ghost use Rattle.xs_sheet.specs.Outline.{Content, with_item, content_of, unit_outline, terminal, ignorable, production, fence};
+ghost use Rattle.xs_regex.specs.{IsPatternOf};
+ghost use Rattle.xs_sheet.specs.{HasRegex, HaveRegexes, Content, with_item, content_of, unit_outline, terminal, ignorable, production, fence};
 ghost use Rattle.xs_pair.specs.Upgrades.{AreCopies};
 
 use crate::flat::{copied, copied_attr, copied_items};

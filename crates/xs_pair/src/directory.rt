@@ -1,6 +1,6 @@
 ghost use Rattle.std.specs.Prelude.{◌≡◌, ◌<◌, ◌↔◌, ℕ, List, length, Some, slice_get, IfOk, IsTrue, MatchBool};
 ghost use Rattle.std.specs.Str.{chars};
-ghost use Rattle.xs_class.specs.Ordered.{place_of, AreNamesOf};
+ghost use Rattle.xs_class.specs.{place_of, AreNamesOf};
 ghost use Rattle.xs_pair.specs.Directories.{AreFirstPlaces, IsDistinct};
 ghost use Rattle.xs_pair.specs.Rules.{HasRepeat, IsAmong, IsAbsent};
 

@@ -1,5 +1,5 @@
 ghost use Rattle.std.specs.Prelude.{◌≡◌, IfOk, length};
-ghost use Rattle.xs_sheet.specs.Grammar.{HaveRegexes};
+ghost use Rattle.xs_sheet.specs.{HaveRegexes};
 ghost use Rattle.xs_pair.specs.Fences as F;
 ghost use Rattle.xs_pair.specs.Verdict.{NoneFails};
 

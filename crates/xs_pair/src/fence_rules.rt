@@ -1,5 +1,5 @@
 ghost use Rattle.std.specs.Prelude.{ℕ, IfOk};
-ghost use Rattle.xs_sheet.specs.Grammar.{HaveRegexes};
+ghost use Rattle.xs_sheet.specs.{HaveRegexes};
 ghost use Rattle.xs_pair.specs.declared.ill.IllRule.TheVariants as R;
 ghost use Rattle.xs_pair.specs.Fences.{FenceFails, IsFenceIll};
 

@@ -1,6 +1,6 @@
 ghost use Rattle.std.specs.Prelude.{◌≡◌, ◌↔◌, IfOk, IsTrue};
-ghost use Rattle.xs_class.specs.Classes.{Has};
-ghost use Rattle.xs_sheet.specs.Grammar.{HasRegex, HaveRegexes};
+ghost use Rattle.xs_class.specs.{Has};
+ghost use Rattle.xs_sheet.specs.{HasRegex, HaveRegexes};
 ghost use Rattle.xs_pair.specs.Fences as F;
 ghost use Rattle.xs_pair.specs.Rules.{SomeOf};
 ghost use Rattle.xs_pair.specs.Units as U;

@@ -1,7 +1,7 @@
 ghost use Rattle.std.specs.Prelude.{◌≡◌, ◌++◌, ◌<◌, [], IfOk, OnOk};
-ghost use Rattle.xs_gram.specs.Building.{EachOf, IsFit};
-ghost use Rattle.xs_sheet.specs.Grammar.{HasRegex, HaveRegexes};
-ghost use Rattle.xs_class.specs.Ordered.{place_of};
+ghost use Rattle.xs_gram.specs.{EachOf, IsFit};
+ghost use Rattle.xs_sheet.specs.{HasRegex, HaveRegexes};
+ghost use Rattle.xs_class.specs.{place_of};
 ghost use Rattle.xs_pair.specs.Units.{number_of};
 ghost use Rattle.xs_pair.specs.Verdict.{IsOutlineOf};
 ghost use Rattle.xs_pair.specs.Grammars.{flat_item, flat_mark, flat_marks, named_item, rule_part, rule_parts, numbering_in, AreTermsOf, AreSkipsOf, IsTermAdded, IsSkipAdded, ArePartsOf};

@@ -1,9 +1,9 @@
 ghost use Rattle.std.specs.Prelude.{◌≡◌, ◌<◌, [], length, map, slice_get, slice_index_or, IfOk, OnOk, IfErr};
 ghost use Rattle.std.specs.Str.{chars};
-ghost use Rattle.xs_gram.specs.Sound.{IsBuilt};
+ghost use Rattle.xs_gram.specs.{IsBuilt};
 ghost use Rattle.xs_pair.specs.declared.production.Rule.{Rule as AnyRule};
 ghost use Rattle.xs_pair.specs.Grammars.{Pair, IsPairOf, IsGramOf, HaveSameTrees, grammar_of};
-ghost use Rattle.xs_class.specs.Ordered.{AreNamesOf};
+ghost use Rattle.xs_class.specs.{AreNamesOf};
 ghost use Rattle.xs_pair.specs.Listing.{rules_of, names_in as listed_names};
 ghost use Rattle.xs_pair.specs.Marks.{slot_names};
 ghost use Rattle.xs_pair.specs.Units.{nons_of};

@@ -1,6 +1,5 @@
 ghost use Rattle.std.specs.Prelude.{◌≡◌, ◌++◌, true, IfOk, OnOk};
-ghost use Rattle.xs_sheet.specs.Grammar.{HaveRegexes};
-ghost use Rattle.xs_sheet.specs.Lines.{IsReadable};
+ghost use Rattle.xs_sheet.specs.{HaveRegexes, IsReadable};
 ghost use Rattle.xs_pair.specs.Upgrades as U;
 ghost use Rattle.xs_pair.specs.Upgrades.{IsTried, AreTried, AreUpgraded, IsUpgrade, brackets};
 ghost use Rattle.xs_pair.specs.Weights.{IsOfBytes};

@@ -1,7 +1,5 @@
 ghost use Rattle.std.specs.Prelude.{IsTrue};
-ghost use Rattle.xs_gram.specs.Derivations.{Derivation};
-ghost use Rattle.xs_gram.specs.Languages.{Derives};
-ghost use Rattle.xs_gram.specs.Sound.{IsBuilt};
+ghost use Rattle.xs_gram.specs.{Derivation, Derives, IsBuilt};
 ghost use Rattle.xs_parse_table.specs.Nodes.{IsNode, IsRoot};
 ghost use Rattle.xs_parse_table.specs.Validators.{IsReady};
 ghost use Rattle.xs_parse_table.specs.Tables.{IsTreeOf};

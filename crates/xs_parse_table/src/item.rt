@@ -1,8 +1,6 @@
 ghost use Rattle.std.specs.Prelude.{◌≡◌, ◌<◌, ◌≤◌, Some, length, slice_get, slice_range, IsTrue, IfSome};
-ghost use Rattle.xs_gram.specs.Building.{NamesAreThere};
-ghost use Rattle.xs_gram.specs.Grammar.{IsTermWord, IsSkipWord};
-ghost use Rattle.xs_gram.specs.Sound.{IsBuilt};
-ghost use Rattle.xs_regex.specs.Automaton.{Accepts};
+ghost use Rattle.xs_gram.specs.{NamesAreThere, IsTermWord, IsSkipWord, IsBuilt};
+ghost use Rattle.xs_regex.specs.{Accepts};
 ghost use Rattle.xs_parse_table.specs.Moves.{Says};
 ghost use Rattle.xs_parse_table.specs.Validators.{IsReady, AreSaid};
 ghost use Rattle.xs_parse_table.specs.Nodes.{IsWordPart, IsChild, ItemEnds};

@@ -1,7 +1,7 @@
 ghost use Rattle.std.specs.Prelude.{◌≡◌, ◌<◌, ◌≤◌, ◌⊎◌, ◌+◌, ◌*◌, ℕ, suc, length, slice_index_or, Contains, IsTrue, IfOk, IfSome};
-ghost use Rattle.xs_regex.specs.Automaton.{Leads};
+ghost use Rattle.xs_regex.specs.{Leads};
 ghost use Rattle.xs_regex.specs.Marked.{Marked};
-ghost use Rattle.xs_atoms.specs.Alphabet.{class_has};
+ghost use Rattle.xs_atoms.specs.{class_has};
 ghost use Rattle.xs_parse_table.specs.Moves.{AreMoves, MayCome, MayEnd, stand};
 ghost use Rattle.xs_parse_table.specs.Rows.{AreClassesOf, AreLonger, AreChoices, IsRow};
 

@@ -1,5 +1,5 @@
 ghost use Rattle.std.specs.Prelude.{◌≡◌, ◌⊎◌, ◌≤◌, ℕ, length, Contains, IsTrue};
-ghost use Rattle.xs_regex.specs.Automaton.{Accepts, HasAt, Leads};
+ghost use Rattle.xs_regex.specs.{Accepts, HasAt, Leads};
 ghost use Rattle.xs_regex.specs.Marked.{Marked};
 ghost use Rattle.xs_parse_table.specs.Moves.{Says};
 

@@ -1,9 +1,6 @@
 ghost use Rattle.std.specs.Prelude.{◌≡◌, ◌<◌, ◌≤◌, length, slice_range, IsTrue, IfOk};
-ghost use Rattle.xs_atoms.specs.Alphabet.{AreAtoms};
-ghost use Rattle.xs_gram.specs.Derivations.{Derivation};
-ghost use Rattle.xs_gram.specs.Grammar.{term_of, skip_of};
-ghost use Rattle.xs_gram.specs.Languages.{Derives};
-ghost use Rattle.xs_gram.specs.Sound.{IsBuilt};
+ghost use Rattle.xs_atoms.specs.{AreAtoms};
+ghost use Rattle.xs_gram.specs.{Derivation, term_of, skip_of, Derives, IsBuilt};
 ghost use Rattle.xs_parse_table.specs.Rows.{AreLonger, AreTermMoves, AreSkipMoves};
 ghost use Rattle.xs_parse_table.specs.Tables.{IsTreeOf};
 

@@ -11,3 +11,7 @@ pub mod Pieces
 pub mod Scan
 pub mod Size
 pub mod Reported
+-- what other crates' contracts cite
+pub use Rattle.xs_regex.specs.Automaton.{Accepts, HasAt, IsBelow, IsWellFormed, Leads}
+pub use Rattle.xs_regex.specs.Meaning.{IsPatternOf}
+pub use Rattle.xs_regex.specs.Size.{HasMember, HasMembers}

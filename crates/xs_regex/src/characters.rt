@@ -1,6 +1,6 @@
 ghost use Rattle.std.specs.Prelude.{◌≡◌, [], ◌∷◌, ◌<◌, ◌≤◌, None, Some, IfSome, MatchOption, if◌then◌else◌};
 ghost use Rattle.std.specs.Option.{option_map};
-ghost use Rattle.xs_class.specs.Words.{is_digit, hex_value};
+ghost use Rattle.xs_class.specs.{is_digit, hex_value};
 ghost use Rattle.xs_regex.specs.Characters.{is_punctuation, is_plain, is_plain_member, is_hex, is_scalar, hex_room, hex_at, code_at, escape_at, name_at, second_digit, count_at, most_at, counts_at, member_char_at, named_at, span_more, item_at, escaped_one, one_at};
 ghost use Rattle.xs_regex.specs.Characters as spec;
 ghost use Rattle.xs_regex.specs.Pieces.{item_of};

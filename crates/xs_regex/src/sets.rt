@@ -1,7 +1,5 @@
 ghost use Rattle.std.specs.Prelude.{◌≡◌, ◌↔◌, ℕ, length, IfOk};
-ghost use Rattle.xs_class.specs.Classes.{Has, HaveSame, IsClass};
-ghost use Rattle.xs_class.specs.Named.{set_named, HasMembersOf};
-ghost use Rattle.xs_class.specs.Tables.{IsChar, char_table};
+ghost use Rattle.xs_class.specs.{Has, HaveSame, IsClass, set_named, HasMembersOf, IsChar, char_table};
 ghost use Rattle.xs_regex.specs.Characters.{known, known_item, items_at, sorted, bracket_at, one_at, one_set, set_at};
 ghost use Rattle.xs_regex.specs.Characters as spec;
 ghost use Rattle.xs_regex.specs.Meaning.{IsOfItem, IsOfItems, IsClassOf};

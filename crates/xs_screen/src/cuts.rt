@@ -1,11 +1,10 @@
 ghost use Rattle.std.specs.Prelude.{◌≡◌, ◌<◌, ◌⊎◌, true, false, set, length, IfOk, OnOk, IfSome};
 ghost use Rattle.std.specs.List.{Contains};
-ghost use Rattle.xs_gram.specs.Sound.{IsBuilt};
-ghost use Rattle.xs_stretch.specs.Parts.{IsPart};
-ghost use Rattle.xs_stretch.specs.Tables.{AreNumbersBefore};
-ghost use Rattle.xs_coarse.specs.Coarse.{MayCall, view};
-ghost use Rattle.xs_apart.specs.Sets.{AreDoubles, AreClear};
-ghost use Rattle.xs_coarse_net.specs.Covers.{IsCoverOf};
+ghost use Rattle.xs_gram.specs.{IsBuilt};
+ghost use Rattle.xs_stretch.specs.{IsPart, AreNumbersBefore};
+ghost use Rattle.xs_coarse.specs.{MayCall, view};
+ghost use Rattle.xs_apart.specs.{AreDoubles, AreClear};
+ghost use Rattle.xs_coarse_net.specs.{IsCoverOf};
 ghost use Rattle.xs_screen.specs.Screens.{IsScreen, AreDoubts, OverlapNowhere, whole_part};
 
 use crate::Screen;

@@ -1,8 +1,7 @@
 ghost use Rattle.std.specs.Prelude.{◌≡◌, ◌<◌, true, length, IfOk};
-ghost use Rattle.xs_coarse.specs.Coarse.{MayCall};
-ghost use Rattle.xs_coarse_net.specs.Contents.{nest_of};
-ghost use Rattle.xs_coarse_net.specs.Covers.{cover_view};
-ghost use Rattle.xs_meet.specs.Closed.{IsSettled, AreApart};
+ghost use Rattle.xs_coarse.specs.{MayCall};
+ghost use Rattle.xs_coarse_net.specs.{nest_of, cover_view};
+ghost use Rattle.xs_meet.specs.{IsSettled, AreApart};
 ghost use Rattle.xs_screen.specs.Parting.{Parts, AreBothSettled, IsRowSettled, StaySettled, AreTheTwo, IsOfRow};
 
 use xs_apart::Search;

@@ -1,7 +1,6 @@
 ghost use Rattle.std.specs.Prelude.{◌≡◌, ◌<◌, true, length};
-ghost use Rattle.xs_gram.specs.Cuts.{CutsAt};
-ghost use Rattle.xs_gram.specs.Fences.{spread};
-ghost use Rattle.xs_stretch.specs.Parts.{IsPart};
+ghost use Rattle.xs_gram.specs.{CutsAt, spread};
+ghost use Rattle.xs_stretch.specs.{IsPart};
 
 use xs_coarse_net::Cover;
 use xs_gram::{GItem, Gram};

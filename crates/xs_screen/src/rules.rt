@@ -1,8 +1,6 @@
 ghost use Rattle.std.specs.Prelude.{◌≡◌, ◌<◌, true, length, IfOk, IfSome};
-ghost use Rattle.xs_gram.specs.Fences.{spread};
-ghost use Rattle.xs_gram.specs.Sound.{IsBuilt};
-ghost use Rattle.xs_stretch.specs.Parts.{IsPart, part_items};
-ghost use Rattle.xs_stretch.specs.Tables.{AreNumbersBefore};
+ghost use Rattle.xs_gram.specs.{spread, IsBuilt};
+ghost use Rattle.xs_stretch.specs.{IsPart, part_items, AreNumbersBefore};
 ghost use Rattle.xs_screen.specs.Screens.{IsScreen, IsWholeCover, AreEndsApart, ShareNone, whole_part};
 
 use crate::Screen;

@@ -1,7 +1,6 @@
 // The lines that answer requests.
 ghost use Rattle.std.specs.Prelude.{◌≡◌, ◌++◌, ◌∷◌, [], List, ℕ, IfOk, OnOk, codes};
-ghost use Rattle.xs_talk.specs.Slots.{HasSlotNames};
-ghost use Rattle.xs_talk.specs.Words.{quoted};
+ghost use Rattle.xs_talk.specs.{HasSlotNames, quoted};
 ghost use Rattle.xs_script.specs.Playing.{number_line, range_text, ranges_text, next_line, IsPutAnswer, IsTreeAnswer, IsNextAnswer, Answers};
 
 use crate::request::Request;

@@ -1,8 +1,8 @@
 ghost use Rattle.std.specs.Prelude.{◌≡◌, IfOk, IfErr};
 ghost use Rattle.xs_sheet.specs.declared.sheet.Sheet.{Sheet as AnySheet};
-ghost use Rattle.xs_gram.specs.Sound.{IsSound};
-ghost use Rattle.xs_pair.specs.Grammars.{IsPairOf};
-ghost use Rattle.xs_talk.specs.Slots.{HasSlotNames};
+ghost use Rattle.xs_gram.specs.{IsSound};
+ghost use Rattle.xs_pair.specs.{IsPairOf};
+ghost use Rattle.xs_talk.specs.{HasSlotNames};
 ghost use Rattle.xs_script.specs.Playing.{IsLinePlayed, IsPlayed};
 ghost use Rattle.xs_script.specs.Requests.{IsUnplayed};
 

@@ -2,7 +2,7 @@ ghost use Rattle.std.specs.Prelude.{◌≡◌, ◌&&◌, length, nat_lt, IfOk};
 ghost use Rattle.xs_sheet.specs.Grammar.{HaveRegexes};
 ghost use Rattle.xs_sheet.specs.Machine as M;
 ghost use Rattle.xs_sheet.specs.Machine.{is_name};
-ghost use Rattle.xs_class.specs.Words.{same};
+ghost use Rattle.xs_class.specs.{same};
 ghost use Rattle.xs_sheet.specs.Outline.{content_of, element};
 ghost use Rattle.xs_sheet.specs.View.{draft_view, opened_view, opens_view, inside_view, head_view, tag_view, transition_view, TagHasRegexes, TransitionHasRegexes};
 

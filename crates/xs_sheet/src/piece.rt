@@ -1,6 +1,6 @@
 ghost use Rattle.std.specs.Prelude.{◌≡◌, true, nat_lt};
 ghost use Rattle.std.specs.List.{list_all};
-ghost use Rattle.xs_class.specs.Words.{same};
+ghost use Rattle.xs_class.specs.{same};
 ghost use Rattle.xs_sheet.specs.Pieces.{is_reserved};
 ghost use Rattle.xs_sheet.specs.Machine.{is_kind, is_word, is_unit_name, is_name};
 

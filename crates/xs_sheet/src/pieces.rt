@@ -1,7 +1,6 @@
 ghost use Rattle.std.specs.Prelude.{◌≡◌, ◌≤◌, ◌-◌, true, false, All, length, map, take, IfOk};
 ghost use Rattle.std.specs.Str.{chars};
-ghost use Rattle.xs_lex.specs.Spelling.{IsPattern, Spells};
-ghost use Rattle.xs_lex.specs.Reading.{IsSlice, lexeme_of};
+ghost use Rattle.xs_lex.specs.{IsPattern, Spells, IsSlice, lexeme_of};
 ghost use Rattle.xs_regex.specs.declared.regex.Regex.{Regex};
 ghost use Rattle.xs_sheet.specs.Regular.{IsRegex};
 ghost use Rattle.xs_sheet.specs.Pieces.{IsTextOf, IsSpelt, IsPiece, ArePieces};

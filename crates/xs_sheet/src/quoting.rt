@@ -1,6 +1,6 @@
 ghost use Rattle.std.specs.Prelude.{◌≡◌, ◌<◌, ◌++◌, [], OnOk};
 ghost use Rattle.std.specs.Char.{digit_char};
-ghost use Rattle.xs_lex.specs.Units.{coded, spelt_quoted_unit};
+ghost use Rattle.xs_lex.specs.{coded, spelt_quoted_unit};
 ghost use Rattle.xs_sheet.specs.Layout.{hex_digits, escape_sign, is_control, unit_of, quoted};
 
 use xs_class::{Memory, Text};

@@ -1,7 +1,7 @@
 //! Small lists of clauses with known answers.
 ghost use Rattle.std.specs.Prelude.{◌≡◌, ◌<◌, ◌^◌, [], length, IfOk, OnOk};
 ghost use Rattle.std.specs.List.{All};
-ghost use Rattle.xs_clauses.specs.Made.{IsBelow, AreBelow};
+ghost use Rattle.xs_clauses.specs.{IsBelow, AreBelow};
 
 use std::alloc::Global;
 use std::process::Abort;

@@ -1,4 +1,4 @@
-ghost use Rattle.xs_gram.specs.Sound.{IsBuilt};
+ghost use Rattle.xs_gram.specs.{IsBuilt};
 
 use std::alloc::Global;
 use std::test::Fail;

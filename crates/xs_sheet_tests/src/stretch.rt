@@ -1,6 +1,6 @@
 ghost use Rattle.std.specs.Prelude.{IsSome, IfOk, IfSome};
-ghost use Rattle.xs_gram.specs.Sound.{IsBuilt};
-ghost use Rattle.xs_stretch.specs.Parts.{IsPart};
+ghost use Rattle.xs_gram.specs.{IsBuilt};
+ghost use Rattle.xs_stretch.specs.{IsPart};
 
 mod shipped;
 

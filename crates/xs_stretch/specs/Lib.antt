@@ -13,3 +13,10 @@ pub mod Tables
 pub mod Walking
 pub mod Weighing
 pub mod Work
+-- what other crates' contracts cite
+pub use Rattle.xs_stretch.specs.Groups.{HasFewGroups, group_number, groups_before, groups_count, lefts}
+pub use Rattle.xs_stretch.specs.Nets.{IsNestOf, IsNetOf}
+pub use Rattle.xs_stretch.specs.Parts.{AreLight, IsPart, part_items}
+pub use Rattle.xs_stretch.specs.Steps.{StandsAt}
+pub use Rattle.xs_stretch.specs.Tables.{AreNumbersBefore, AreTables}
+pub use Rattle.xs_stretch.specs.Weighing.{AreWeights}

@@ -1,7 +1,7 @@
 ghost use Rattle.std.specs.Prelude.{◌≡◌, ℕ, ◌+◌, ◌<◌, ◌≤◌, ◌^◌, length, IfOk, OnOk};
 ghost use Rattle.std.specs.List.{Contains};
-ghost use Rattle.xs_auto.specs.Nets.{states};
-ghost use Rattle.xs_regex.specs.Automaton.{IsBelow, IsWellFormed};
+ghost use Rattle.xs_auto.specs.{states};
+ghost use Rattle.xs_regex.specs.{IsBelow, IsWellFormed};
 ghost use Rattle.xs_stretch.specs.Arcs.{word_arcs, after_word, arcs_into, arcs_on, arcs_out, arc_past, automaton_arcs, after_automaton};
 ghost use Rattle.xs_stretch.specs.Growth.{NetGrows};
 

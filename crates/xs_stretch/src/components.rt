@@ -1,7 +1,6 @@
 ghost use Rattle.std.specs.Prelude.{◌≡◌, ◌<◌, ◌≤◌, length, IfOk};
 ghost use Rattle.std.specs.List.{All};
-ghost use Rattle.xs_gram.specs.Loose.{AreComponents};
-ghost use Rattle.xs_gram.specs.Sound.{IsBuilt};
+ghost use Rattle.xs_gram.specs.{AreComponents, IsBuilt};
 ghost use Rattle.xs_stretch.specs.Components.{AreListed, AreRuleKeys, AreComponentsOf};
 
 use std::alloc::Global;

@@ -1,5 +1,5 @@
 ghost use Rattle.std.specs.Prelude.{◌∷◌, [], ◌<◌, OnOk};
-ghost use Rattle.xs_auto.specs.Nets.{states};
+ghost use Rattle.xs_auto.specs.{states};
 ghost use Rattle.xs_stretch.specs.Arcs.{read as read_arc, pass as pass_arc, call as call_arc};
 ghost use Rattle.xs_stretch.specs.Growth.{NetGrows};
 

@@ -1,12 +1,10 @@
 ghost use Rattle.std.specs.Prelude.{◌≡◌, ℕ, suc, ◌+◌, ◌<◌, ◌≤◌, ◌∷◌, [], List, length, Some, IfOk, OnOk};
-ghost use Rattle.xs_auto.specs.Nets.{states};
+ghost use Rattle.xs_auto.specs.{states};
 ghost use Rattle.xs_gram.specs.declared.parts.GItem.{GItem as Item};
 ghost use Rattle.xs_gram.specs.declared.parts.GItem.TheVariants.{Non as NonItem};
-ghost use Rattle.xs_regex.specs.Automaton.{IsWellFormed};
-ghost use Rattle.xs_gram.specs.Building.{NamesAreThere};
-ghost use Rattle.xs_gram.specs.Fences.{spread, IsPlain};
-ghost use Rattle.xs_gram.specs.Loose.{AreOne};
-ghost use Rattle.xs_check_laws.specs.Weights.{Members, heaviest};
+ghost use Rattle.xs_regex.specs.{IsWellFormed};
+ghost use Rattle.xs_gram.specs.{NamesAreThere, spread, IsPlain, AreOne};
+ghost use Rattle.xs_check_laws.specs.{Members, heaviest};
 ghost use Rattle.xs_stretch.specs.Arcs.{Arc, call as call_arc, pass as pass_arc, word_arcs, after_word, automaton_arcs, after_automaton};
 ghost use Rattle.xs_stretch.specs.Groups.{group_number};
 ghost use Rattle.xs_stretch.specs.Growth.{NetGrows};

@@ -1,5 +1,5 @@
 ghost use Rattle.std.specs.Prelude.{ℕ, length, IfSome, IfNone};
-ghost use Rattle.xs_gram.specs.Building.{NamesThere};
+ghost use Rattle.xs_gram.specs.{NamesThere};
 ghost use Rattle.xs_stretch.specs.Weighing.{IsOneOf};
 
 use xs_gram::{Comps, GItem};

@@ -1,7 +1,5 @@
 ghost use Rattle.std.specs.Prelude.{◌+◌, ◌<◌, length, IfOk, IfErr, OnOk};
-ghost use Rattle.xs_gram.specs.Fences.{spread};
-ghost use Rattle.xs_gram.specs.Loose.{AreComponents};
-ghost use Rattle.xs_gram.specs.Sound.{IsBuilt};
+ghost use Rattle.xs_gram.specs.{spread, AreComponents, IsBuilt};
 ghost use Rattle.xs_stretch.specs.Groups.{HasFewGroups};
 ghost use Rattle.xs_stretch.specs.Nesting.{IsNestBefore};
 ghost use Rattle.xs_stretch.specs.Nets.{IsNestOf, IsNestCause};

@@ -1,8 +1,7 @@
 ghost use Rattle.std.specs.Prelude.{◌≡◌, suc, ◌<◌, ◌≤◌, IfOk, IfErr, Some};
-ghost use Rattle.xs_auto.specs.Nets.{states};
-ghost use Rattle.xs_gram.specs.Loose.{AreComponents};
-ghost use Rattle.xs_gram.specs.Sound.{IsBuilt};
-ghost use Rattle.xs_check_laws.specs.Weights.{heaviest, PartWeighs};
+ghost use Rattle.xs_auto.specs.{states};
+ghost use Rattle.xs_gram.specs.{AreComponents, IsBuilt};
+ghost use Rattle.xs_check_laws.specs.{heaviest, PartWeighs};
 ghost use Rattle.xs_stretch.specs.Groups.{HasFewGroups};
 ghost use Rattle.xs_stretch.specs.Making.{IsBlank};
 ghost use Rattle.xs_stretch.specs.Nets.{IsNetOf, HasItsWeight};

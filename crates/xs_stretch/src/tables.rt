@@ -1,7 +1,5 @@
 ghost use Rattle.std.specs.Prelude.{◌≡◌, ℕ, ◌+◌, ◌-◌, ◌<◌, ◌^◌, length, take, slice_index_or, IfOk, OnOk};
-ghost use Rattle.xs_gram.specs.Fences.{spread};
-ghost use Rattle.xs_gram.specs.Loose.{AreComponents};
-ghost use Rattle.xs_gram.specs.Sound.{IsBuilt};
+ghost use Rattle.xs_gram.specs.{spread, AreComponents, IsBuilt};
 ghost use Rattle.xs_stretch.specs.Groups.{groups_before, lefts, HasFewGroups};
 ghost use Rattle.xs_stretch.specs.Tables.{AreRanks, AreNumbersBefore, AreTables};
 

@@ -1,9 +1,7 @@
 ghost use Rattle.std.specs.Prelude.{◌≡◌, suc, ◌+◌, ◌<◌, ◌≤◌, [], length, Some, IfOk, OnOk};
-ghost use Rattle.xs_auto.specs.Nets.{states};
-ghost use Rattle.xs_gram.specs.Grammar.{rule_of};
-ghost use Rattle.xs_gram.specs.Fences.{spread};
-ghost use Rattle.xs_gram.specs.Loose.{AreOne};
-ghost use Rattle.xs_check_laws.specs.Weights.{heaviest};
+ghost use Rattle.xs_auto.specs.{states};
+ghost use Rattle.xs_gram.specs.{rule_of, spread, AreOne};
+ghost use Rattle.xs_check_laws.specs.{heaviest};
 ghost use Rattle.xs_stretch.specs.Making.{IsRuleLaid, IsTaskDone};
 ghost use Rattle.xs_stretch.specs.Walking.{IsHome, HasRoom};
 ghost use Rattle.xs_stretch.specs.Work.{Gains, IsSite, IsTask, AreTasks};

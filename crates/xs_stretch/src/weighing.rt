@@ -1,11 +1,8 @@
 ghost use Rattle.std.specs.Prelude.{◌≡◌, ℕ, ◌+◌, ◌<◌, ◌≤◌, List, length, slice_get, slice_index_or, Some, IfOk};
 ghost use Rattle.std.specs.List.{All, Contains};
 ghost use Rattle.xs_gram.specs.declared.parts.GItem.{GItem as Item};
-ghost use Rattle.xs_gram.specs.Building.{NamesAreThere};
-ghost use Rattle.xs_gram.specs.Fences.{spread};
-ghost use Rattle.xs_gram.specs.Loose.{AreComponents};
-ghost use Rattle.xs_gram.specs.Sound.{IsBuilt};
-ghost use Rattle.xs_check_laws.specs.Weights.{cap, capped, ItemWeighs, BodyWeighs, ComponentWeighs, PartWeighs};
+ghost use Rattle.xs_gram.specs.{NamesAreThere, spread, AreComponents, IsBuilt};
+ghost use Rattle.xs_check_laws.specs.{cap, capped, ItemWeighs, BodyWeighs, ComponentWeighs, PartWeighs};
 ghost use Rattle.xs_stretch.specs.Components.{IsListOf, IsNonOf, IsRuleIn, AreComponentsOf};
 ghost use Rattle.xs_stretch.specs.Parts.{IsPart, part_items};
 ghost use Rattle.xs_stretch.specs.Steps.{StandsAt, StandsLast, PartStep, BodyStep};

@@ -6,3 +6,8 @@ pub mod Derivations
 pub mod Slots
 pub mod Walk
 pub mod Covers
+-- what other crates' contracts cite
+pub use Rattle.xs_talk.specs.Words.{quoted}
+pub use Rattle.xs_talk.specs.Room.{line_bytes, line_spare, longest_fault_line}
+pub use Rattle.xs_talk.specs.Lines.{line}
+pub use Rattle.xs_talk.specs.Slots.{HasSlotNames}

@@ -1,6 +1,6 @@
 //! Small nets.
 ghost use Rattle.std.specs.Prelude.{◌≡◌, IsSome, IfOk};
-ghost use Rattle.xs_auto.specs.Nets.{states};
+ghost use Rattle.xs_auto.specs.{states};
 ghost use Rattle.xs_test_tools.specs.Runs.{ReadsFrom};
 
 use std::alloc::Global;

@@ -1,7 +1,7 @@
 //! A script at whose end the document has all symbols that it may have. It is longer than an input
 //! of the program may be.
-ghost use Rattle.xs_pair.specs.Sound.{IsSoundPair};
-ghost use Rattle.xs_wf.specs.Nonterminals.{IsPair};
+ghost use Rattle.xs_pair.specs.{IsSoundPair};
+ghost use Rattle.xs_wf.specs.{IsPair};
 
 use std::alloc::Global;
 use std::test::Fail;

@@ -1,5 +1,5 @@
 ghost use Rattle.std.specs.Prelude.{◌≡◌, slice_get};
-ghost use Rattle.xs_gram.specs.Grammar.{items};
+ghost use Rattle.xs_gram.specs.{items};
 ghost use Rattle.xs_text_out.specs.Printed.{AreThere};
 
 use xs_gram::{GItem, Gram};

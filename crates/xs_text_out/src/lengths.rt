@@ -1,8 +1,8 @@
 ghost use Rattle.std.specs.Prelude.{◌≡◌, ◌<◌, ◌+◌, List, Some, length, All, slice_get, IfOk};
-ghost use Rattle.xs_gram.specs.Common.{Common, spelling};
-ghost use Rattle.xs_gram.specs.Grammar.{Grammar, items};
-ghost use Rattle.xs_tree.specs.Counts.{capped};
-ghost use Rattle.xs_tree.specs.Flat.{TreePart, tree_of, trees_of};
+ghost use Rattle.xs_gram.specs.{spelling, items};
+ghost use Rattle.xs_gram.specs.Common.{Common};
+ghost use Rattle.xs_gram.specs.Grammar.{Grammar};
+ghost use Rattle.xs_tree.specs.{capped, TreePart, tree_of, trees_of};
 ghost use Rattle.xs_text_out.specs.Printed.{AreLengths, print_length, slot_word};
 ghost use Rattle.xs_text_out.specs.Shares.{AreShares, slots_length};
 

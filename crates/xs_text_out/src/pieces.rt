@@ -1,5 +1,5 @@
 ghost use Rattle.std.specs.Prelude.{◌≡◌, ◌≤◌, ◌++◌, ◌∷◌, [], length, slice_get, slice_range, IfOk, OnOk};
-ghost use Rattle.xs_gram.specs.Building.{NamesAreThere};
+ghost use Rattle.xs_gram.specs.{NamesAreThere};
 ghost use Rattle.xs_text_out.specs.Pieces.{ArePieces, AreWithin, IsClosed, IsPut, IsRowPut, piece_to};
 ghost use Rattle.xs_text_out.specs.Printed.{AreThere};
 

@@ -1,6 +1,6 @@
 ghost use Rattle.std.specs.Prelude.{◌≡◌, IfOk};
-ghost use Rattle.xs_gram.specs.Common.{print};
-ghost use Rattle.xs_tree.specs.Flat.{common_of};
+ghost use Rattle.xs_gram.specs.{print};
+ghost use Rattle.xs_tree.specs.{common_of};
 
 use crate::lengths::lengths_of;
 use crate::pieces::pieces_of;

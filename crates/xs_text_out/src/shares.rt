@@ -1,7 +1,6 @@
 ghost use Rattle.std.specs.Prelude.{◌≡◌, ◌≤◌, ◌<◌, ◌++◌, ◌∷◌, [], Some, length, slice_get, slice_range, IfOk};
-ghost use Rattle.xs_gram.specs.Building.{NamesAreThere};
-ghost use Rattle.xs_gram.specs.Grammar.{slots};
-ghost use Rattle.xs_tree.specs.Counts.{capped};
+ghost use Rattle.xs_gram.specs.{NamesAreThere, slots};
+ghost use Rattle.xs_tree.specs.{capped};
 ghost use Rattle.xs_text_out.specs.Printed.{AreThere};
 ghost use Rattle.xs_text_out.specs.Shares.{own_length, own_lengths, AreShares};
 

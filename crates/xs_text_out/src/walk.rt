@@ -1,7 +1,7 @@
 ghost use Rattle.std.specs.Prelude.{◌≡◌, ◌+◌, ◌<◌, ◌≤◌, ◌++◌, ℕ, List, [], ◌∷◌, Some, length, slice_get, vec_len, vec_capacity, IfSome};
-ghost use Rattle.xs_gram.specs.Common.{print, spelling};
+ghost use Rattle.xs_gram.specs.{print, spelling};
 ghost use Rattle.xs_gram.specs.Grammar.{Grammar};
-ghost use Rattle.xs_tree.specs.Flat.{IsFlat, common_at, common_of, production_of, trees_of, word_of};
+ghost use Rattle.xs_tree.specs.{IsFlat, common_at, common_of, production_of, trees_of, word_of};
 ghost use Rattle.xs_text_out.specs.Pieces.{ArePieces, IsWithin, piece_word, pieces_word};
 ghost use Rattle.xs_text_out.specs.Printed.{AreLengths, rule_items};
 ghost use Rattle.xs_text_out.specs.Walk.{AreFalling, IsAside, IsBegun, IsEntry, IsNodeBefore, IsNodeChild, child_word, entered_word, entry_word, left_over, pending, rest_pieces, rest_word, slots_at};

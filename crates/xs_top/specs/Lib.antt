@@ -14,3 +14,6 @@ pub mod Ran
 pub mod Runs
 pub mod Laws
 pub mod Certificates
+-- what other crates' contracts cite
+pub use Rattle.xs_top.specs.Runs.{IsNormalOf}
+pub use Rattle.xs_top.specs.Laws.{RefusesSheet}

@@ -1,8 +1,8 @@
 ghost use Rattle.std.specs.Prelude.{IfOk, IfErr};
 ghost use Rattle.xs_class.specs.declared.side.Side.TheVariants as S;
-ghost use Rattle.xs_pair.specs.Sound.{IsSoundPair};
-ghost use Rattle.xs_wf.specs.Nonterminals.{IsPair};
-ghost use Rattle.xs_writing_laws.specs.Laws.{CanBeWritten};
+ghost use Rattle.xs_pair.specs.{IsSoundPair};
+ghost use Rattle.xs_wf.specs.{IsPair};
+ghost use Rattle.xs_writing_laws.specs.{CanBeWritten};
 ghost use Rattle.xs_top.specs.declared.asking.Job.TheVariants as J;
 ghost use Rattle.xs_top.specs.Meaning.{HasLines};
 ghost use Rattle.xs_top.specs.Devices.{input_of};

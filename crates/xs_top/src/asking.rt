@@ -1,6 +1,6 @@
 ghost use Rattle.std.specs.Prelude.{◌≡◌, IfSome, map, string_bytes};
 ghost use Rattle.std.specs.Option.{option_map};
-ghost use Rattle.xs_words.specs.Meaning.{meant, HasLines};
+ghost use Rattle.xs_words.specs.{meant, HasLines};
 ghost use Rattle.xs_top.specs.declared.asking.Job.TheVariants as J;
 ghost use Rattle.xs_top.specs.Asked.{asked as asked_for, ask_of as asked_of};
 ghost use Rattle.xs_top.specs.Meaning.{ask_meant, AsksForLines};

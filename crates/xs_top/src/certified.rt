@@ -1,7 +1,7 @@
 ghost use Rattle.std.specs.Prelude.{◌≡◌, IfOk, OnOk, IfErr};
-ghost use Rattle.xs_io.specs.Shown.{IsFile};
-ghost use Rattle.xs_pair.specs.Sound.{IsSoundPair};
-ghost use Rattle.xs_words.specs.Meaning.{sheet_meant};
+ghost use Rattle.xs_io.specs.{IsFile};
+ghost use Rattle.xs_pair.specs.{IsSoundPair};
+ghost use Rattle.xs_words.specs.{sheet_meant};
 ghost use Rattle.xs_top.specs.Checks.{IsSure};
 ghost use Rattle.xs_top.specs.Devices.{shelves_of};
 ghost use Rattle.xs_top.specs.Certifying.{HasCertificate, IsCertified, IsUnshown, IsUncertain, IsUncertified};

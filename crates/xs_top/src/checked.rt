@@ -1,9 +1,8 @@
 ghost use Rattle.std.specs.Prelude.{◌≡◌, ◌<◌, length, IfOk, IfErr, OnOk};
-ghost use Rattle.xs_gram.specs.Sound.{IsBuilt};
-ghost use Rattle.xs_pair.specs.Grammars.{grammar_of};
-ghost use Rattle.xs_pair.specs.Sound.{IsSoundPair};
-ghost use Rattle.xs_unique.specs.Reasons.{IsReason};
-ghost use Rattle.xs_wf.specs.Nonterminals.{IsPair};
+ghost use Rattle.xs_gram.specs.{IsBuilt};
+ghost use Rattle.xs_pair.specs.{grammar_of, IsSoundPair};
+ghost use Rattle.xs_unique.specs.{IsReason};
+ghost use Rattle.xs_wf.specs.{IsPair};
 ghost use Rattle.xs_top.specs.Checks.{IsSure, IsUnsure, HasRules, name_at, line_at, report_at};
 ghost use Rattle.xs_top.specs.Stops.{StopsBy};
 

@@ -1,6 +1,6 @@
 ghost use Rattle.std.specs.Prelude.{◌<◌, length, IfOk};
-ghost use Rattle.xs_cover.specs.Kept.{AreCoversOf};
-ghost use Rattle.xs_pair.specs.Sound.{IsSoundPair};
+ghost use Rattle.xs_cover.specs.{AreCoversOf};
+ghost use Rattle.xs_pair.specs.{IsSoundPair};
 ghost use Rattle.xs_top.specs.Covering.{IsShown, AreShown, IsCovered};
 
 use std::alloc::Global;

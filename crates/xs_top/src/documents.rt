@@ -1,7 +1,7 @@
 ghost use Rattle.std.specs.Prelude.{◌≡◌, ◌<◌, [], length, IfOk, IfErr};
 ghost use Rattle.xs_class.specs.declared.side.Side.TheVariants as S;
-ghost use Rattle.xs_class.specs.Ordered.{IsOrdered};
-ghost use Rattle.xs_xml_out.specs.Laws.{AreNames};
+ghost use Rattle.xs_class.specs.{IsOrdered};
+ghost use Rattle.xs_xml_out.specs.{AreNames};
 ghost use Rattle.xs_top.specs.Documents.{IsDocument, IsNoText, IsNoDocument, CanWrite, document_bytes};
 ghost use Rattle.xs_chars.specs.declared.form.Form.TheVariants.{AsIs};
 ghost use Rattle.xs_top.specs.Stops.{StopsBy};

@@ -2,8 +2,7 @@ ghost use Rattle.std.specs.Prelude.{IfOk, IfErr};
 ghost use Rattle.xs_class.specs.declared.side.Side.TheVariants as S;
 ghost use Rattle.xs_chars.specs.declared.form.Form.TheVariants as F;
 ghost use Rattle.xs_sheet.specs.declared.sheet.Sheet.{Sheet as AnySheet};
-ghost use Rattle.xs_pair.specs.Grammars.{IsPairOf};
-ghost use Rattle.xs_pair.specs.Sound.{IsSoundPair};
+ghost use Rattle.xs_pair.specs.{IsPairOf, IsSoundPair};
 ghost use Rattle.xs_top.specs.Answers.{IsListingOf, IsUnread};
 ghost use Rattle.xs_top.specs.Stops.{StopsBy};
 

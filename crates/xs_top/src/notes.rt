@@ -1,5 +1,5 @@
 ghost use Rattle.std.specs.Prelude.{◌≡◌, [], IfOk, OnErr};
-ghost use Rattle.xs_talk.specs.Lines.{line as line_at};
+ghost use Rattle.xs_talk.specs.{line as line_at};
 ghost use Rattle.xs_top.specs.Devices.{output_of};
 ghost use Rattle.xs_top.specs.Ran.{Tells};
 

@@ -1,8 +1,7 @@
 ghost use Rattle.std.specs.Prelude.{IfOk, IfErr};
 ghost use Rattle.xs_sheet.specs.declared.sheet.Sheet.{Sheet as AnySheet};
-ghost use Rattle.xs_pair.specs.Grammars.{IsPairOf};
-ghost use Rattle.xs_pair.specs.Sound.{IsSoundPair};
-ghost use Rattle.xs_writing_laws.specs.Laws.{CanBeWritten};
+ghost use Rattle.xs_pair.specs.{IsPairOf, IsSoundPair};
+ghost use Rattle.xs_writing_laws.specs.{CanBeWritten};
 ghost use Rattle.xs_top.specs.Answers.{IsOutlined, IsMadeOfOutline, IsUnread, IsNoOutline};
 ghost use Rattle.xs_top.specs.Checks.{IsSure};
 ghost use Rattle.xs_top.specs.Stops.{StopsBy};

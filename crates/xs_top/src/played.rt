@@ -1,7 +1,6 @@
 ghost use Rattle.std.specs.Prelude.{IfOk, IfErr};
 ghost use Rattle.xs_sheet.specs.declared.sheet.Sheet.{Sheet as AnySheet};
-ghost use Rattle.xs_pair.specs.Grammars.{IsPairOf};
-ghost use Rattle.xs_pair.specs.Sound.{IsSoundPair};
+ghost use Rattle.xs_pair.specs.{IsPairOf, IsSoundPair};
 ghost use Rattle.xs_top.specs.Scripts.{IsScriptPlayed, IsNoScript};
 ghost use Rattle.xs_top.specs.Stops.{StopsBy};
 

@@ -1,7 +1,7 @@
 ghost use Rattle.std.specs.Prelude.{◌≡◌, ◌≤◌, ℕ, List, length, IfOk, IfErr};
-ghost use Rattle.xs_pair.specs.Sound.{IsSoundPair};
-ghost use Rattle.xs_words.specs.Meaning.{sheet_meant};
-ghost use Rattle.xs_writing_laws.specs.Laws.{CanBeWritten};
+ghost use Rattle.xs_pair.specs.{IsSoundPair};
+ghost use Rattle.xs_words.specs.{sheet_meant};
+ghost use Rattle.xs_writing_laws.specs.{CanBeWritten};
 ghost use Rattle.xs_top.specs.Devices.{shelves_of};
 ghost use Rattle.xs_top.specs.Sheets.{core_bytes, AreBytesOf, IsStopped, IsPairOfBytes, IsUpgradeOfBytes, IsBadBytes, SpellsPair, SpellsUpgrade, IsUnpaired};
 ghost use Rattle.xs_top.specs.Stops.{StopsBy};

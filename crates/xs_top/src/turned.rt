@@ -1,10 +1,9 @@
 ghost use Rattle.std.specs.Prelude.{◌≡◌, IfOk, IfErr};
-ghost use Rattle.xs_gram.specs.Common.{print};
-ghost use Rattle.xs_tree.specs.Flat.{common_of};
-ghost use Rattle.xs_pair.specs.Grammars.{grammar_of};
-ghost use Rattle.xs_pair.specs.Sound.{IsSoundPair};
-ghost use Rattle.xs_writing_laws.specs.Laws.{CanBeWritten};
-ghost use Rattle.xs_turn.specs.Turned.{FitsBoth};
+ghost use Rattle.xs_gram.specs.{print};
+ghost use Rattle.xs_tree.specs.{common_of};
+ghost use Rattle.xs_pair.specs.{grammar_of, IsSoundPair};
+ghost use Rattle.xs_writing_laws.specs.{CanBeWritten};
+ghost use Rattle.xs_turn.specs.{FitsBoth};
 ghost use Rattle.xs_top.specs.Answers.{IsTurnedInto, IsWrittenTree, IsUnread};
 ghost use Rattle.xs_top.specs.Stops.{StopsBy};
 

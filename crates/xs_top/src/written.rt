@@ -1,5 +1,5 @@
 ghost use Rattle.std.specs.Prelude.{◌≡◌, ◌≤◌, []};
-ghost use Rattle.xs_talk.specs.Room.{line_bytes, line_spare, longest_fault_line};
+ghost use Rattle.xs_talk.specs.{line_bytes, line_spare, longest_fault_line};
 ghost use Rattle.xs_top.specs.Devices.{output_of};
 ghost use Rattle.xs_top.specs.Ran.{IsWritten};
 

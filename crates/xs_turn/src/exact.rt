@@ -1,8 +1,7 @@
 ghost use Rattle.std.specs.Prelude.{◌<◌, length, IfOk, IfErr};
-ghost use Rattle.xs_forest_laws.specs.Laws.{IsForestOf, IsExact};
-ghost use Rattle.xs_gram.specs.Languages.{InLang, HasTree};
-ghost use Rattle.xs_gram.specs.Sound.{IsSound};
-ghost use Rattle.xs_tree.specs.Flat.{common_of};
+ghost use Rattle.xs_forest_laws.specs.{IsForestOf, IsExact};
+ghost use Rattle.xs_gram.specs.{InLang, HasTree, IsSound};
+ghost use Rattle.xs_tree.specs.{common_of};
 ghost use Rattle.xs_turn.specs.Stops.{IsStop};
 
 use crate::TurnFault;

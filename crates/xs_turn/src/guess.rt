@@ -1,9 +1,7 @@
 ghost use Rattle.std.specs.Prelude.{IfOk, IfSome};
-ghost use Rattle.xs_gram.specs.Derivations.{Derivation};
-ghost use Rattle.xs_gram.specs.Languages.{Derives, HasTree};
-ghost use Rattle.xs_gram.specs.Sound.{IsBuilt};
-ghost use Rattle.xs_parse_table.specs.Tables.{IsTreeOf};
-ghost use Rattle.xs_tree.specs.Flat.{common_of};
+ghost use Rattle.xs_gram.specs.{Derivation, Derives, HasTree, IsBuilt};
+ghost use Rattle.xs_parse_table.specs.{IsTreeOf};
+ghost use Rattle.xs_tree.specs.{common_of};
 
 use crate::table::tree_of;
 use std::alloc::Global;

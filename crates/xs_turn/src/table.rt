@@ -1,11 +1,7 @@
 ghost use Rattle.std.specs.Prelude.{◌≡◌, ◌<◌, length, IsTrue, IfOk, IfSome};
-ghost use Rattle.xs_gram.specs.Common.{strip};
-ghost use Rattle.xs_gram.specs.Derivations.{Derivation};
-ghost use Rattle.xs_gram.specs.Grammar.{items, slots};
-ghost use Rattle.xs_gram.specs.Languages.{Derives};
-ghost use Rattle.xs_gram.specs.Sound.{IsBuilt};
-ghost use Rattle.xs_parse_table.specs.Tables.{IsTreeOf};
-ghost use Rattle.xs_tree.specs.Flat.{trees_of, common_of};
+ghost use Rattle.xs_gram.specs.{strip, Derivation, items, slots, Derives, IsBuilt};
+ghost use Rattle.xs_parse_table.specs.{IsTreeOf};
+ghost use Rattle.xs_tree.specs.{trees_of, common_of};
 ghost use Rattle.xs_turn.specs.Tables.{AreSlotCounts, AreNodeTrees, AreNodeKids, IsNodeTree, Grows, IsLeafPlaced, IsNodePlaced, IsPlaced};
 
 use std::alloc::Global;

@@ -1,9 +1,8 @@
 ghost use Rattle.std.specs.Prelude.{◌≡◌, ◌<◌, length, IfOk, IfErr};
-ghost use Rattle.xs_forest_laws.specs.Laws.{IsForestOf, IsExact};
-ghost use Rattle.xs_gram.specs.Languages.{HasTree};
-ghost use Rattle.xs_gram.specs.Sound.{IsSound};
-ghost use Rattle.xs_tree.specs.Flat.{common_of};
-ghost use Rattle.xs_pair.specs.Grammars.{HaveSameTrees, grammar_of};
+ghost use Rattle.xs_forest_laws.specs.{IsForestOf, IsExact};
+ghost use Rattle.xs_gram.specs.{HasTree, IsSound};
+ghost use Rattle.xs_tree.specs.{common_of};
+ghost use Rattle.xs_pair.specs.{HaveSameTrees, grammar_of};
 ghost use Rattle.xs_turn.specs.Stops.{IsStop};
 ghost use Rattle.xs_turn.specs.Turned.{FitsBoth, IsTranslated, IsRefusal};
 

@@ -1,2 +1,4 @@
 pub mod Keeping
 pub mod Reasons
+-- what other crates' contracts cite
+pub use Rattle.xs_unique.specs.Reasons.{IsReason}

@@ -1,6 +1,6 @@
 ghost use Rattle.std.specs.Prelude.{◌≡◌};
-ghost use Rattle.xs_gram.specs.Languages.{IsUnique};
-ghost use Rattle.xs_check_laws.specs.Acceptance.{IsAccepted};
+ghost use Rattle.xs_gram.specs.{IsUnique};
+ghost use Rattle.xs_check_laws.specs.{IsAccepted};
 
 use std::marker::Model;
 use xs_pair::Two;
@@ -13,7 +13,7 @@ pub struct Accepted<'t> {
 }
 
 impl<'t> Model for Accepted<'t> {
-    ghost use Rattle.xs_pair.specs.Grammars.{Pair};
+    ghost use Rattle.xs_pair.specs.{Pair};
     ghost use Rattle.xs_regex.specs.contracts.regex.Regex as e;
     ghost use Rattle.std.specs.Coded.{codes};
     ghost use Rattle.xs_unique.specs.Keeping.{KeepsUnique};

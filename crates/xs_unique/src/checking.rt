@@ -1,7 +1,6 @@
 ghost use Rattle.std.specs.Prelude.{◌≡◌, IfOk, IfErr, OnOk};
-ghost use Rattle.xs_gram.specs.Languages.{IsUnique};
-ghost use Rattle.xs_gram.specs.Sound.{IsBuilt, IsSound};
-ghost use Rattle.xs_check_laws.specs.Acceptance.{IsAccepted};
+ghost use Rattle.xs_gram.specs.{IsUnique, IsBuilt, IsSound};
+ghost use Rattle.xs_check_laws.specs.{IsAccepted};
 ghost use Rattle.xs_unique.specs.Reasons.{IsReason};
 
 use crate::suspects::clear;

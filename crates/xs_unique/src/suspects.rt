@@ -1,9 +1,7 @@
 ghost use Rattle.std.specs.Prelude.{IfErr, OnOk};
-ghost use Rattle.xs_gram.specs.Loose.{AreComponents};
-ghost use Rattle.xs_gram.specs.Sound.{IsBuilt};
-ghost use Rattle.xs_check_laws.specs.Acceptance.{IsLight, HasNoSuspect};
-ghost use Rattle.xs_stretch.specs.Groups.{HasFewGroups};
-ghost use Rattle.xs_stretch.specs.Tables.{AreTables};
+ghost use Rattle.xs_gram.specs.{AreComponents, IsBuilt};
+ghost use Rattle.xs_check_laws.specs.{IsLight, HasNoSuspect};
+ghost use Rattle.xs_stretch.specs.{HasFewGroups, AreTables};
 ghost use Rattle.xs_unique.specs.Reasons.{IsUnclear};
 
 use crate::AcceptFault;

@@ -1,10 +1,7 @@
 ghost use Rattle.std.specs.Prelude.{◌≡◌, ◌<◌, length, IfOk, IfErr, IfSome, IfNone, OnOk};
-ghost use Rattle.xs_gram.specs.Loose.{AreComponents};
-ghost use Rattle.xs_gram.specs.Sound.{IsBuilt};
-ghost use Rattle.xs_gram.specs.Suspects.{IsVertical};
-ghost use Rattle.xs_check_laws.specs.Freedom.{HasNoVertical};
-ghost use Rattle.xs_check_laws.specs.Acceptance.{IsLight, ShowsVertical};
-ghost use Rattle.xs_light.specs.Causes.{IsCause};
+ghost use Rattle.xs_gram.specs.{AreComponents, IsBuilt, IsVertical};
+ghost use Rattle.xs_check_laws.specs.{HasNoVertical, IsLight, ShowsVertical};
+ghost use Rattle.xs_light.specs.{IsCause};
 ghost use Rattle.xs_vert.specs.Partners.{ArePartners, IsFirstPartner, HasNoPartner};
 
 use std::alloc::Global;

@@ -1,8 +1,8 @@
 ghost use Rattle.std.specs.Prelude.{◌≡◌, ◌⊎◌, ◌↔◌, None, false, IsTrue, IfOk};
-ghost use Rattle.xs_sheet.specs.Grammar.{HasRegex, HaveRegexes};
+ghost use Rattle.xs_sheet.specs.{HasRegex, HaveRegexes};
 ghost use Rattle.xs_pair.specs.declared.production.Rule.{Rule as AnyRule};
 ghost use Rattle.xs_pair.specs.Units as U;
-ghost use Rattle.xs_pair.specs.Verdict.{IsFirstLine, IsLineWhere};
+ghost use Rattle.xs_pair.specs.{IsFirstLine, IsLineWhere};
 ghost use Rattle.xs_wf.specs.Units.{IsIllUnit, IsStrangeUnit, IsStrangeRule, IsFineUnit, AreFine, lesser as lesser_of};
 
 use crate::units::{is_empty_unit, is_strange_rule, is_strange_unit, is_unmatched_unit};

@@ -1,7 +1,7 @@
 ghost use Rattle.std.specs.Prelude.{◌≡◌, ◌<◌, ◌&&◌, ℕ, false, None, length, slice_index_or, IfOk, IfSome};
-ghost use Rattle.xs_gram.specs.Sound.{IsBuilt, DerivesItself};
+ghost use Rattle.xs_gram.specs.{IsBuilt, DerivesItself};
 ghost use Rattle.xs_order.specs.Order as O;
-ghost use Rattle.xs_pair.specs.Verdict.{IsFirstLine};
+ghost use Rattle.xs_pair.specs.{IsFirstLine};
 ghost use Rattle.xs_wf.specs.Nonterminals.{IsUnproductive, IsLooping, IsWordless, IsFirstLineOf, IsPair, HaveOrderedLines, AreProductive, IsFirstNon, IsLineOf, IsLineOfSome};
 
 use crate::least::lesser;

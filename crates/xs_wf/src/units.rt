@@ -1,7 +1,7 @@
 ghost use Rattle.std.specs.Prelude.{◌≡◌, ◌↔◌, false, IsTrue, IfOk};
-ghost use Rattle.xs_regex.specs.Size.{HasMember, HasMembers};
-ghost use Rattle.xs_sheet.specs.Grammar.{HasRegex};
-ghost use Rattle.xs_pair.specs.Rules.{SomeOf};
+ghost use Rattle.xs_regex.specs.{HasMember, HasMembers};
+ghost use Rattle.xs_sheet.specs.{HasRegex};
+ghost use Rattle.xs_pair.specs.{SomeOf};
 ghost use Rattle.xs_wf.specs.Units.{IsStrange, HasStrange, IsStrangeItem, IsStrangeMark, IsStrangeRule, IsEmptyUnit, IsStrangeUnit, IsUnmatchedUnit, IsFullUnit, IsMatchedUnit};
 
 use std::alloc::Global;

@@ -1,10 +1,7 @@
 ghost use Rattle.std.specs.Prelude.{◌≡◌, ◌+◌, ◌<◌, None, IfOk, OnOk, IfErr};
-ghost use Rattle.xs_sheet.specs.Grammar.{HaveRegexes};
+ghost use Rattle.xs_sheet.specs.{HaveRegexes};
 ghost use Rattle.xs_pair.specs.declared.ill.IllRule.TheVariants as R;
-ghost use Rattle.xs_pair.specs.Grammars.{IsPairOf};
-ghost use Rattle.xs_pair.specs.Sound.{IsSoundPair};
-ghost use Rattle.xs_pair.specs.Verdict.{IsFirstLine, NoneBefore, order};
-ghost use Rattle.xs_pair.specs.Weights.{IsOfBytes};
+ghost use Rattle.xs_pair.specs.{IsPairOf, IsSoundPair, IsFirstLine, NoneBefore, order, IsOfBytes};
 ghost use Rattle.xs_wf.specs.Passing.{AreGrammarsOf, Gives, AllGive};
 ghost use Rattle.xs_wf.specs.Rules.{Fails, IsWell, IsRefusal};
 

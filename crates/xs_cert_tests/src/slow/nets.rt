@@ -1,7 +1,7 @@
 //! The nets of a side: of its groups, of its rules, and of the fronts and rests of their cuts.
 ghost use Rattle.std.specs.Prelude.{◌<◌, length};
-ghost use Rattle.xs_gram.specs.Sound.{IsBuilt};
-ghost use Rattle.xs_light.specs.Spaces.{IsSite};
+ghost use Rattle.xs_gram.specs.{IsBuilt};
+ghost use Rattle.xs_light.specs.{IsSite};
 
 use std::alloc::Global;
 use xs_auto::{Nest, Net};

@@ -1,6 +1,6 @@
 ghost use Rattle.std.specs.Prelude.{◌≡◌, ◌↔◌, ℕ, ◌<◌, length, true, IsTrue, Some};
-ghost use Rattle.xs_auto.specs.Nets.{states};
-ghost use Rattle.xs_meet.specs.Closed.{Marked};
+ghost use Rattle.xs_auto.specs.{states};
+ghost use Rattle.xs_meet.specs.{Marked};
 ghost use Rattle.xs_closed.specs.Rows.{marked, IsSized};
 ghost use Rattle.xs_closed.specs.Least.{IsPastMiddle};
 ghost use Rattle.xs_closed.specs.Testing.{IsNeed, EachPair, LeadsWithin, IsTurned, IsPastRow};

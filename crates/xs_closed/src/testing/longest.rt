@@ -1,6 +1,6 @@
 ghost use Rattle.std.specs.Prelude.{◌≡◌, ◌+◌, ◌-◌, ◌^◌, ◌<◌, ◌≤◌, ◌&&◌, length, true, Some};
-ghost use Rattle.xs_auto.specs.Nets.{states, final_at};
-ghost use Rattle.xs_meet.specs.Closed.{Marked};
+ghost use Rattle.xs_auto.specs.{states, final_at};
+ghost use Rattle.xs_meet.specs.{Marked};
 ghost use Rattle.xs_closed.specs.Rows.{marked, IsSized};
 ghost use Rattle.xs_closed.specs.Testing.{IsRowNeed, IsBest, rank};
 

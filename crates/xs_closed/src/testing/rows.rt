@@ -1,7 +1,7 @@
 ghost use Rattle.std.specs.Prelude.{◌≡◌, ◌<◌, length, true, false};
 ghost use Rattle.std.specs.List.{All};
-ghost use Rattle.xs_auto.specs.Nets.{states, moves_of};
-ghost use Rattle.xs_meet.specs.Closed.{Marked, Drifts, Strides};
+ghost use Rattle.xs_auto.specs.{states, moves_of};
+ghost use Rattle.xs_meet.specs.{Marked, Drifts, Strides};
 ghost use Rattle.xs_closed.specs.Rows.{marked, IsSized};
 ghost use Rattle.xs_closed.specs.Search.{IsPair, OneOf};
 ghost use Rattle.xs_closed.specs.Testing.{IsNeed, InRow, RowHasNoFinals};

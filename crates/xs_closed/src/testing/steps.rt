@@ -1,6 +1,6 @@
 ghost use Rattle.std.specs.Prelude.{◌≡◌, ◌<◌};
-ghost use Rattle.xs_auto.specs.Nets.{states};
-ghost use Rattle.xs_meet.specs.Closed.{Marked};
+ghost use Rattle.xs_auto.specs.{states};
+ghost use Rattle.xs_meet.specs.{Marked};
 ghost use Rattle.xs_closed.specs.Rows.{marked};
 ghost use Rattle.xs_closed.specs.Search.{IsPair, OneOf, Meets, Joins};
 ghost use Rattle.xs_closed.specs.Testing.{IsNeed, StridesBy};

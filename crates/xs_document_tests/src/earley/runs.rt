@@ -1,7 +1,7 @@
 //! A run goes back to each length and on again: its charts are those of runs that never went back.
 ghost use Rattle.std.specs.Prelude.{◌<◌, suc, length, IfOk};
-ghost use Rattle.xs_gram.specs.Sound.{IsSound};
-ghost use Rattle.xs_earley.specs.Running.{IsRunOf};
+ghost use Rattle.xs_gram.specs.{IsSound};
+ghost use Rattle.xs_earley.specs.{IsRunOf};
 
 use std::alloc::Global;
 use std::process::Abort;

@@ -1,7 +1,7 @@
 //! A sheet of many kinds of lines: the tables of its XML side pass their greatest size, so the
 //! reader gives up, and the exact way translates the document.
 ghost use Rattle.std.specs.Prelude.{◌<◌, length};
-ghost use Rattle.xs_pair.specs.Sound.{IsSoundPair};
+ghost use Rattle.xs_pair.specs.{IsSoundPair};
 
 use super::{Found, exact_tree, found_for};
 use std::alloc::Global;

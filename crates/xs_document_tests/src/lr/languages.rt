@@ -1,5 +1,5 @@
 //! All words of a few letters, by small grammars: the reader and the recogniser agree.
-ghost use Rattle.xs_gram.specs.Sound.{IsSound};
+ghost use Rattle.xs_gram.specs.{IsSound};
 
 use super::agree;
 use crate::earley::{numbered, sheet_of, word_of};

@@ -2,8 +2,8 @@
 //! that passes for each, whose tree is that of the exact way. Of a document that is changed in a few
 //! places the recogniser alone says that it is foreign, and how far it can be read.
 ghost use Rattle.std.specs.Prelude.{◌<◌, length, IfSome};
-ghost use Rattle.xs_gram.specs.Sound.{IsSound};
-ghost use Rattle.xs_pair.specs.Sound.{IsSoundPair};
+ghost use Rattle.xs_gram.specs.{IsSound};
+ghost use Rattle.xs_pair.specs.{IsSoundPair};
 
 use super::{Found, agree, changed, exact_tree, found_for};
 use crate::earley::UNITS;

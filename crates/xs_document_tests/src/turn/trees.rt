@@ -1,4 +1,4 @@
-ghost use Rattle.xs_pair.specs.Sound.{IsSoundPair};
+ghost use Rattle.xs_pair.specs.{IsSoundPair};
 
 use std::alloc::Global;
 use std::process::Abort;

@@ -1,6 +1,6 @@
 ghost use Rattle.std.specs.Prelude.{◌<◌, ◌+◌, ◌↔◌, List, length, IsTrue, IfOk};
 ghost use Rattle.std.specs.List.{All};
-ghost use Rattle.xs_auto.specs.Nests.{Group};
+ghost use Rattle.xs_auto.specs.{Group};
 ghost use Rattle.xs_meet.specs.Pieces.{Spells};
 ghost use Rattle.xs_meet.specs.Sharing.{AreKnown, IsKnownBefore, IsSharing};
 ghost use Rattle.xs_meet.specs.Spelling.{HasGroups, IsSymbol, IsUnfolded};

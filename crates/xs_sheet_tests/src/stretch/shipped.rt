@@ -1,8 +1,8 @@
 //! What the first productions of the shipped sheets weigh.
 ghost use Rattle.std.specs.Prelude.{◌<◌, length, IfSome};
-ghost use Rattle.xs_gram.specs.Sound.{IsBuilt};
-ghost use Rattle.xs_stretch.specs.Parts.{IsPart};
-ghost use Rattle.xs_pair.specs.Sound.{IsSoundPair};
+ghost use Rattle.xs_gram.specs.{IsBuilt};
+ghost use Rattle.xs_stretch.specs.{IsPart};
+ghost use Rattle.xs_pair.specs.{IsSoundPair};
 
 use std::alloc::Global;
 use std::test::Fail;

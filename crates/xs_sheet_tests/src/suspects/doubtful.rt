@@ -1,6 +1,6 @@
 //! Small sheets, what a screen sees of two rules or of a cut of their text sides, and the suspects
 //! that the definition gives.
-ghost use Rattle.xs_gram.specs.Sound.{IsBuilt};
+ghost use Rattle.xs_gram.specs.{IsBuilt};
 
 use super::{Horizontal, Vertical, suspects};
 use std::alloc::Global;

@@ -1,7 +1,7 @@
 //! Suspects of small grammars that are drawn, beside what a slow program of the definitions shows
 //! of all words up to five letters, and the derivations of words up to six letters where there are
 //! no suspects.
-ghost use Rattle.xs_gram.specs.Sound.{IsBuilt};
+ghost use Rattle.xs_gram.specs.{IsBuilt};
 
 use super::drawn::{Drawn, Rule, drawn_by, round, sheet_of};
 use super::pieces::{Ways, pieces_of, span};

@@ -1,6 +1,6 @@
 //! The check with coarse nets answers as the exact searches alone do: the same first suspect, or
 //! none, on both sides of drawn sheets.
-ghost use Rattle.xs_gram.specs.Sound.{IsBuilt};
+ghost use Rattle.xs_gram.specs.{IsBuilt};
 
 use super::drawn::{drawn_by, sheet_of};
 use std::alloc::Global;

@@ -1,10 +1,7 @@
 //! Weights by the definition, beside those that are computed.
 ghost use Rattle.std.specs.Prelude.{◌<◌, length};
-ghost use Rattle.xs_gram.specs.Fences.{spread};
-ghost use Rattle.xs_gram.specs.Loose.{AreComponents};
-ghost use Rattle.xs_gram.specs.Sound.{IsBuilt};
-ghost use Rattle.xs_stretch.specs.Parts.{IsPart};
-ghost use Rattle.xs_stretch.specs.Weighing.{AreWeights};
+ghost use Rattle.xs_gram.specs.{spread, AreComponents, IsBuilt};
+ghost use Rattle.xs_stretch.specs.{IsPart, AreWeights};
 
 use super::drawn::{Drawn, MOST_NONS, Reached, non_of, partner, reached_in};
 use super::pieces::is_left;
