@@ -7,14 +7,4 @@
 #![tactic(auto)]
 
 #[cfg(test)]
-mod closed;
-#[cfg(test)]
-mod damaged;
-#[cfg(test)]
-mod drawn;
-#[cfg(test)]
-mod slow;
-#[cfg(test)]
-mod verdicts;
-#[cfg(test)]
-mod written;
+mod tests;

@@ -6,24 +6,4 @@
 #![tactic(auto)]
 
 #[cfg(test)]
-mod chars;
-#[cfg(test)]
-mod chart;
-#[cfg(test)]
-mod earley;
-#[cfg(test)]
-mod forest;
-#[cfg(test)]
-mod io;
-#[cfg(test)]
-mod leiden;
-#[cfg(test)]
-mod lr;
-#[cfg(test)]
-mod parse_table;
-#[cfg(test)]
-mod text_out;
-#[cfg(test)]
-mod tree;
-#[cfg(test)]
-mod turn;
+mod tests;

@@ -7,28 +7,4 @@
 #![tactic(auto)]
 
 #[cfg(test)]
-mod auto;
-#[cfg(test)]
-mod class;
-#[cfg(test)]
-mod clauses;
-#[cfg(test)]
-mod gram;
-#[cfg(test)]
-mod graph;
-#[cfg(test)]
-mod nests;
-#[cfg(test)]
-mod order;
-#[cfg(test)]
-mod pair;
-#[cfg(test)]
-mod regex;
-#[cfg(test)]
-mod sheet;
-#[cfg(test)]
-mod stretch;
-#[cfg(test)]
-mod suspects;
-#[cfg(test)]
-mod wf;
+mod tests;

@@ -6,8 +6,4 @@
 #![tactic(auto)]
 
 #[cfg(test)]
-mod run;
-#[cfg(test)]
-mod script;
-#[cfg(test)]
-mod talk;
+mod tests;

@@ -1,0 +1,6 @@
+mod closed;
+mod damaged;
+mod drawn;
+mod slow;
+mod verdicts;
+mod written;

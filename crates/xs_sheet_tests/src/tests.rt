@@ -1,0 +1,13 @@
+mod auto;
+mod class;
+mod clauses;
+mod gram;
+mod graph;
+mod nests;
+mod order;
+mod pair;
+mod regex;
+mod sheet;
+mod stretch;
+mod suspects;
+mod wf;
