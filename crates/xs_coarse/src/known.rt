@@ -1,8 +1,8 @@
-ghost use Rattle.std.specs.Prelude.{◌≡◌, ◌∷◌, [], Some, slice_get, IsTrue, IfSome};
+ghost use Rattle.std.specs.Prelude.{◌≡◌, ◌<◌, ◌∷◌, [], Some, length, slice_get, IsTrue, IfSome};
 ghost use Rattle.xs_gram.specs.{IsUnfenced};
 ghost use Rattle.xs_coarse.specs.Labels.{AllUnfenced};
 
-use crate::fault::LabelsFault;
+use crate::stop::Stop;
 use std::alloc::Global;
 use xs_class::{Class, Sym};
 use xs_gram::{GItem, Gram};
@@ -25,7 +25,7 @@ pub struct Known {
 impl Known {
     /// The classes of the automata of a grammar, and one for each symbol of its fixed words that is in
     /// no fence.
-    pub fn of(alloc: Global, g: &Gram) -> Result<Known, LabelsFault> {
+    pub fn of(alloc: Global, g: &Gram) -> Result<Known, Stop> {
         let mut known = Known {
             classes: Vec::new(alloc),
             hints: vec![in alloc; 0; HINTS]?,
@@ -37,13 +37,13 @@ impl Known {
             known.add_all(g.skip(skip).classes.as_slice())?;
         }
         'rules: for rule in 0..g.rules() {
-            known.add_items(alloc, g.fences(), g.items(rule))?;
+            known.add_rule(alloc, g, rule)?;
         }
         Ok(known)
     }
 
     /// Adds the classes that are not there.
-    fn add_all(&mut self, classes: &[Class]) -> Result<(), LabelsFault> {
+    fn add_all(&mut self, classes: &[Class]) -> Result<(), Stop> {
         'classes: for class in classes {
             if self.find(class.ranges()).is_none() {
                 self.add(class.copy()?)?;
@@ -52,16 +52,13 @@ impl Known {
         Ok(())
     }
 
-    /// Adds the symbols of the fixed words among items.
-    fn add_items(
-        &mut self,
-        alloc: Global,
-        fences: &[(Sym, Sym)],
-        items: &[GItem],
-    ) -> Result<(), LabelsFault> {
-        'items: for item in items {
+    /// Adds the symbols of the fixed words of a rule.
+    fn add_rule(&mut self, alloc: Global, g: &Gram, rule: u32) -> Result<(), Stop>
+        requires { rule < length g.now.rules }
+    {
+        'items: for item in g.items(rule) {
             match item {
-                GItem::Fixed(word) => self.add_symbols(alloc, fences, word.as_slice())?,
+                GItem::Fixed(word) => self.add_symbols(alloc, g.fences(), word.as_slice())?,
                 GItem::Term { .. } | GItem::Non { .. } | GItem::Skip { .. } => (),
             }
         }
@@ -74,7 +71,7 @@ impl Known {
         alloc: Global,
         fences: &[(Sym, Sym)],
         symbols: &[Sym],
-    ) -> Result<(), LabelsFault> {
+    ) -> Result<(), Stop> {
         'symbols: for symbol in symbols {
             let range = (symbol.number(), symbol.number());
             if self.find(&[range]).is_none() {
@@ -88,10 +85,10 @@ impl Known {
     }
 
     /// Adds a class.
-    fn add(&mut self, class: Class) -> Result<(), LabelsFault> {
+    fn add(&mut self, class: Class) -> Result<(), Stop> {
         let number = self.classes.len();
         if number >= MOST {
-            return Err(LabelsFault::Unfit);
+            return Err(Stop::Unfit);
         }
         let place = hint_place(class.ranges());
         if place < self.hints.len() {

@@ -3,9 +3,9 @@ ghost use Rattle.xs_coarse.specs.Coarse.{group_label, may_meet, IsTable};
 ghost use Rattle.xs_coarse.specs.Labels.{IsClassLabel, AreNewLabels, parted};
 
 use crate::bits::bits_of;
-use crate::fault::LabelsFault;
 use crate::known::{Known, are_unfenced};
 use crate::lefts::lefts;
+use crate::stop::{Stop, fitting};
 use std::alloc::Global;
 use std::marker::Model;
 use xs_class::{Class, Memory, Sym};
@@ -41,22 +41,18 @@ impl Labels {
     pub fn of(alloc: Global, g: &Gram) -> Result<Option<Labels>, Memory>
         ensures { IfOk result (λ o. IfSome o (AreNewLabels g.now)) }
     {
-        match Labels::made(alloc, g) {
-            Ok(labels) => Ok(Some(labels)),
-            Err(LabelsFault::Unfit) => Ok(None),
-            Err(LabelsFault::Memory) => Err(Memory),
-        }
+        fitting(Labels::made(alloc, g))
     }
 
     /// The same, with a cause where there are none.
-    fn made(alloc: Global, g: &Gram) -> Result<Labels, LabelsFault>
+    fn made(alloc: Global, g: &Gram) -> Result<Labels, Stop>
         ensures { IfOk result (AreNewLabels g.now) }
     {
         let known = Known::of(alloc, g)?;
         let lefts = lefts(alloc, g)?;
         let classes = known.classes.as_slice();
         if classes.len() + lefts.len() >= MOST || !are_unfenced(g.fences(), classes) {
-            return Err(LabelsFault::Unfit);
+            return Err(Stop::Unfit);
         }
         let width = 1 + classes.len() + lefts.len();
         let bits = bits_of(alloc, classes, &lefts, width)?;

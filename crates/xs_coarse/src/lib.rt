@@ -10,11 +10,12 @@
 mod arc;
 mod bits;
 mod coarse;
-mod fault;
 mod known;
 mod labels;
 mod lefts;
+mod stop;
 
 pub use arc::Arc;
 pub use coarse::Coarse;
 pub use labels::Labels;
+pub use stop::{Stop, fitting};
