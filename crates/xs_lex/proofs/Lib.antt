@@ -1,4 +1,5 @@
 pub mod Truth
+mod UnitsRead
 pub mod QuotedLaws
 mod PatternLaws
 mod NameLaws

@@ -3,6 +3,7 @@ use Rattle.std.proofs.Common.{◌≡◌, ℕ, suc, ◌+◌, List, [], ◌∷◌,
 use Rattle.std.specs.List.{list_all}
 use Rattle.xs_lex.specs.Units.{PatternUnit, bare, guarded, is_pattern_unit, spelt_pattern}
 use Rattle.xs_lex.specs.Scan.{pattern_end}
+use Rattle.xs_lex.proofs.UnitsRead.{IsRead}
 use Rattle.xs_class.proofs.Truth.{and_true, both_true, not_true, or_false}
 use Rattle.xs_class.proofs.Lists.{some_inj}
 
@@ -31,12 +32,9 @@ abbrev pub begun : Bool → List ℕ
 begun true = 92 ∷ []
 begun false = []
 
-pub record IsReadPattern (before text : List ℕ) (k n : ℕ) : Type 0 where
-  pub units : List PatternUnit
-  pub rest : List ℕ
-  pub each : list_all is_pattern_unit units ≡ true
-  pub spells : before ++ text ≡ spelt_pattern units (47 ∷ rest)
-  pub count : n + length rest ≡ k + length text
+-- a pattern's units that were read, up to the slash
+abbrev pub IsReadPattern : List ℕ → List ℕ → ℕ → ℕ → Type 0
+IsReadPattern before text k n = IsRead is_pattern_unit spelt_pattern 47 before text k n
 
 guarded_more : (t : Bool) (c : ℕ) (cs : List ℕ) (k n : ℕ) → (c == 10) ≡ t → (if t then None else pattern_end false (k + 1) cs) ≡ Some n → (pattern_end false (k + 1) cs ≡ Some n → IsReadPattern [] cs (k + 1) n) → IsReadPattern (92 ∷ []) (c ∷ cs) k n
 guarded_more true c cs k n e h again = absurd (cc)

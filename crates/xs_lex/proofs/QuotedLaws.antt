@@ -8,6 +8,7 @@ use Rattle.xs_lex.specs.declared.quoted.Spot.{Spot}
 use Rattle.xs_lex.specs.declared.quoted.Spot.TheVariants.{Between, Escaped, Opened, Digits}
 use Rattle.xs_lex.specs.Units.{QuotedUnit, plain, escaped, coded, number, is_hex, is_scalar, is_escape, escape_char, is_quoted_unit, spelt_quoted_unit, spelt_quoted, meaning}
 use Rattle.xs_lex.specs.Scan.{spot_if, spot_after, closes, given, quoted_end, value_at}
+use Rattle.xs_lex.proofs.UnitsRead.{IsRead}
 use Rattle.xs_class.proofs.Truth.{and_true, both_true, not_true, or_false, lt_true, le_is, le_true, lt_is, no_other}
 use Rattle.xs_class.proofs.Lists.{some_inj}
 
@@ -190,13 +191,9 @@ goes_on Escaped m p c pend shut is = rw pend (goes_escaped c m is)
 goes_on Opened m p c pend shut is = rw pend (goes_opened c m is)
 goes_on (Digits n v) m p c pend shut is = rw pend.1 (goes_digits pend.0 n v c m pend.2 pend.3 pend.4 pend.5 is)
 
--- what is read is spelt by units
-pub record IsReadQuoted (before text : List ℕ) (k n : ℕ) : Type 0 where
-  pub units : List QuotedUnit
-  pub rest : List ℕ
-  pub each : list_all is_quoted_unit units ≡ true
-  pub spells : before ++ text ≡ spelt_quoted units (34 ∷ rest)
-  pub count : n + length rest ≡ k + length text
+-- a string's units that were read, up to the quotation mark
+abbrev pub IsReadQuoted : List ℕ → List ℕ → ℕ → ℕ → Type 0
+IsReadQuoted before text k n = IsRead is_quoted_unit spelt_quoted 34 before text k n
 
 closes_is : (s : Spot) (p : List ℕ) (c : ℕ) → Pending s p → closes s c ≡ true → (p ≡ []) × (c ≡ 34)
 unfolding Pending

@@ -6,7 +6,7 @@ ghost use Rattle.xs_lex.specs.Scan.{spot_after, closes, given, IsBounded, quoted
 
 use crate::Kind;
 use std::alloc::Global;
-use xs_class::{Memory, Text};
+use xs_class::{Memory, Text, letters};
 
 /// A place in a quoted string: between units, or inside one.
 #[derive(Clone, Copy)]
@@ -185,6 +185,6 @@ pub fn quoted_value(alloc: Global, token_text: &str) -> Result<Text, Memory>
     requires { Spells Kind.Quoted (chars token_text.now) }
     ensures { IfOk result (λ t. IsQuoted (chars token_text.now) t) }
 {
-    let letters: Vec<char> = token_text.chars().collect(alloc)?;
+    let letters = letters(alloc, token_text)?;
     value(alloc, &letters[1..])
 }

@@ -3,7 +3,6 @@ use Rattle.std.specs.declared.result.Result.{Result}
 use Rattle.std.specs.Result.{IfOk}
 use Rattle.std.specs.Str.{chars}
 use Rattle.std.proofs.lemmas.List.{take_rest}
-use Rattle.std.proofs.lemmas.Iterator.{YieldsList-from_chars, items_from_collect}
 use Rattle.xs_lex.specs.declared.kind.Kind.TheVariants.{Quoted}
 use Rattle.xs_lex.specs.declared.quoted.Spot.TheVariants.{Between}
 use Rattle.xs_lex.specs.Spelling.{IsQuoted, Spells}
@@ -25,11 +24,8 @@ if_ok (Ok x) P Q f h = f x h
 if_ok (Err e) P Q f h = h
 
 pub slice_bounds-value-count : goal.slice_bounds-value-count
-slice_bounds-value-count c =
-    let same : c.in_ok-letters.letters.items ≡ chars c.args.token_text.now = items_from_collect {E = ℕ} (Ok c.in_ok-letters.letters) c.in_ok-letters.ensures.ran (YieldsList-from_chars c.args.token_text.now c.utf8.token_text c.chars.ensures.rest) in
-    some_letter c.deref.result.now (chars c.args.token_text.now) (c.deref.ensures.value ∙ same) c.requires
+slice_bounds-value-count c = some_letter c.deref.result.now (chars c.args.token_text.now) (c.deref.ensures.value ∙ c.in_ok-letters.ensures) c.requires
 
 pub returns : goal.returns
 returns c =
-    let same : c.in_ok-letters.letters.items ≡ chars c.args.token_text.now = items_from_collect {E = ℕ} (Ok c.in_ok-letters.letters) c.in_ok-letters.ensures.ran (YieldsList-from_chars c.args.token_text.now c.utf8.token_text c.chars.ensures.rest) in
-    if_ok c.value.result _ _ (λ t h. tail_value c.deref.result.now (chars c.args.token_text.now) t (c.deref.ensures.value ∙ same) c.requires h) c.value.ensures
+    if_ok c.value.result _ _ (λ t h. tail_value c.deref.result.now (chars c.args.token_text.now) t (c.deref.ensures.value ∙ c.in_ok-letters.ensures) c.requires h) c.value.ensures
