@@ -1,2 +1,2 @@
-mod Last
+pub mod Letters
 mod More

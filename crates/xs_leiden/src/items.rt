@@ -4,7 +4,7 @@ ghost use Rattle.xs_leiden.specs.Made.{item as item_at, item_of, after_item, aft
 ghost use Rattle.xs_leiden.specs.Draws.{next};
 
 use crate::draws::Draws;
-use crate::words::{dotted_word, word};
+use crate::words::word;
 use xs_class::{Bytes, Memory};
 
 /// Appends a word that is drawn, between these bytes.
@@ -13,7 +13,8 @@ fn push_word(text: &mut Bytes, draws: &mut Draws, before: &[u8], after: &[u8]) -
     ensures state { OnOk result (draws.new.state ≡ next draws.old.state) }
 {
     text.extend(before)?;
-    text.extend(word(draws.draw(8)))?;
+    let (plain, _) = word(draws.draw(8));
+    text.extend(plain.as_bytes())?;
     text.extend(after)?;
     Ok(())
 }
@@ -40,7 +41,8 @@ fn push_dotted(text: &mut Bytes, draws: &mut Draws) -> Result<(), Memory>
     ensures text { OnOk result (text.new ≡ text.old ++ item_of 7 draws.old.state) }
     ensures state { OnOk result (draws.new.state ≡ next draws.old.state) }
 {
-    text.extend(dotted_word(draws.draw(8)))?;
+    let (_, dotted) = word(draws.draw(8));
+    text.extend(dotted.as_bytes())?;
     Ok(())
 }
 
