@@ -140,19 +140,20 @@ attrs_in_tag : (c : Inside) (tag : List ℕ) (as_ : List Attr) → IsInTag (attr
 unfolding IsInTag
 attrs_in_tag c tag as_ = λ p a b. refl
 
+-- what a piece of this kind, which begins no item, does in a tag
+kind_in_tag : (s : State) (c : Inside) (tag : List ℕ) (as_ : List Attr) (p : Piece) (k : Kind) (r : Transition) → IsInTag s c tag as_ → p.kind ≡ k → is_kind k Quoted ≡ false → is_kind k SquareIn ≡ false → in_tag c tag as_ (record { kind = k; text = p.text; regular = p.regular; start = p.start; line = p.line }) ≡ r → step s p ≡ r
+unfolding IsInTag
+kind_in_tag s c tag as_ p k r here is no_string no_bracket e =
+    here p (ap (λ (z : Kind). is_kind z Quoted) is ∙ no_string) (ap (λ (z : Kind). is_kind z SquareIn) is ∙ no_bracket)
+    ∙ subst (λ (z : Kind). in_tag c tag as_ (record { kind = z; text = p.text; regular = p.regular; start = p.start; line = p.line }) ≡ r) (sym is) e
+
 slash_end_step : (s : State) (c : Inside) (tag : List ℕ) (as_ : List Attr) (p : Piece) → IsInTag s c tag as_ → p.kind ≡ SlashEnd → step s p ≡ go (at (inside (with_empty c tag as_)))
-unfolding is_kind IsInTag
-slash_end_step s c tag as_ p here is = here p (ap (λ (z : Kind). is_kind z Quoted) is) (ap (λ (z : Kind). is_kind z SquareIn) is) ∙ in_tag_at (go (at (inside (with_empty c tag as_)))) refl
-  where
-    in_tag_at : (r : Transition) → in_tag c tag as_ (record { kind = SlashEnd; text = p.text; regular = p.regular; start = p.start; line = p.line }) ≡ r → in_tag c tag as_ p ≡ r
-    in_tag_at r e = subst (λ (z : Kind). in_tag c tag as_ (record { kind = z; text = p.text; regular = p.regular; start = p.start; line = p.line }) ≡ r) (sym is) e
+unfolding is_kind
+slash_end_step s c tag as_ p here is = kind_in_tag s c tag as_ p SlashEnd (go (at (inside (with_empty c tag as_)))) here is refl refl refl
 
 angle_end_step : (s : State) (c : Inside) (tag : List ℕ) (as_ : List Attr) (p : Piece) → IsInTag s c tag as_ → p.kind ≡ AngleEnd → step s p ≡ go (at (inside (with_open c tag as_)))
-unfolding is_kind IsInTag
-angle_end_step s c tag as_ p here is = here p (ap (λ (z : Kind). is_kind z Quoted) is) (ap (λ (z : Kind). is_kind z SquareIn) is) ∙ in_tag_at (go (at (inside (with_open c tag as_)))) refl
-  where
-    in_tag_at : (r : Transition) → in_tag c tag as_ (record { kind = AngleEnd; text = p.text; regular = p.regular; start = p.start; line = p.line }) ≡ r → in_tag c tag as_ p ≡ r
-    in_tag_at r e = subst (λ (z : Kind). in_tag c tag as_ (record { kind = z; text = p.text; regular = p.regular; start = p.start; line = p.line }) ≡ r) (sym is) e
+unfolding is_kind
+angle_end_step s c tag as_ p here is = kind_in_tag s c tag as_ p AngleEnd (go (at (inside (with_open c tag as_)))) here is refl refl refl
 
 closing_step : (d : Draft) (o : Opened) (os : List Opened) (inner : Content) (p : Piece) → p.kind ≡ AngleSlash → step (at (inside (record { draft = d; opens = o ∷ os; so_far = inner }))) p ≡ go (closing d o os inner)
 unfolding is_kind with_kind

@@ -5,7 +5,7 @@ use Rattle.std.specs.Str.{all_scalars}
 use Rattle.xs_sheet.specs.declared.sheet.Sheet.{Sheet}
 use Rattle.xs_sheet.specs.Outline.{UnitOutline, terminal, ignorable, production, fence, unit_outline}
 use Rattle.xs_sheet.specs.Pieces.{is_reserved}
-use Rattle.xs_sheet.specs.Grammar.{IsVersion, MayStand, AllMayStand, HaveRegexes, IsSheetOf}
+use Rattle.xs_sheet.specs.Grammar.{MayStand, AllMayStand, HaveRegexes, IsSheetOf}
 use Rattle.xs_sheet.specs.Layout.{sheet_bytes}
 use Rattle.xs_sheet.specs.Lines.{laid_out, IsReadable}
 use Rattle.xs_lex.specs.Classes.{is_plain}

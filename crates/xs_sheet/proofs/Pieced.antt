@@ -3,7 +3,7 @@ use Rattle.std.proofs.Common.{◌≡◌, ◌⊎◌, inl, inr, ℕ, zero, suc, �
 use Rattle.std.specs.List.{All}
 use Rattle.std.proofs.lemmas.List.{take_rest, take_at, same_from_push, map_more}
 use Rattle.xs_lex.specs.declared.kind.Kind.{Kind}
-use Rattle.xs_lex.specs.declared.kind.Kind.TheVariants.{Plain, Qual, Quoted, Pattern, Colon, Equals, SquareIn, SquareOut, Angle, AngleSlash, AngleEnd, SlashEnd, End, Bad}
+use Rattle.xs_lex.specs.declared.kind.Kind.TheVariants.{Quoted, Pattern, End, Bad}
 use Rattle.xs_lex.specs.declared.token.Token.{Token}
 use Rattle.xs_lex.specs.declared.quoted.Spot.TheVariants.{Between}
 use Rattle.xs_lex.specs.Spelling.{IsQuoted, IsPattern, Spells}
@@ -61,20 +61,9 @@ quoted_same word a b p q = value_of word a p ∙ sym (value_of word b q)
 
 -- one list of pieces for a list of tokens
 text_same : (kind : Kind) (word a b : List ℕ) → IsTextOf kind word a → IsTextOf kind word b → a ≡ b
-text_same Plain word a b p q = p ∙ sym q
-text_same Qual word a b p q = p ∙ sym q
 text_same Quoted word a b p q = quoted_same word a b p q
 text_same Pattern word a b p q = (same_from_push a b 47 47 (ap (λ (z : List ℕ). drop 1 z) (sym p.is ∙ q.is))).0
-text_same Colon word a b p q = p ∙ sym q
-text_same Equals word a b p q = p ∙ sym q
-text_same SquareIn word a b p q = p ∙ sym q
-text_same SquareOut word a b p q = p ∙ sym q
-text_same Angle word a b p q = p ∙ sym q
-text_same AngleSlash word a b p q = p ∙ sym q
-text_same AngleEnd word a b p q = p ∙ sym q
-text_same SlashEnd word a b p q = p ∙ sym q
-text_same End word a b p q = p ∙ sym q
-text_same Bad word a b p q = p ∙ sym q
+text_same kind word a b p q = p ∙ sym q
 
 regular_same : (t u : Bool) (l : Lexeme) (p q : Piece) → p.regular ≡ t → q.regular ≡ u → p.text ≡ q.text → p.kind ≡ q.kind → IsPiece l p → IsPiece l q → t ≡ u
 regular_same true true l p q e f text kind a b = refl
@@ -104,20 +93,11 @@ pieces_same (l ∷ ls) (p ∷ ps) (q ∷ qs) a b = cons_same p q ps qs (piece_sa
 
 -- tokens are spelt as their kinds say
 spells_spelt : (kind : Kind) (word : List ℕ) → Spells kind word → IsSpelt kind word
-spells_spelt Plain word s = tt
-spells_spelt Qual word s = tt
 spells_spelt Quoted word s = s
 spells_spelt Pattern word s = s
-spells_spelt Colon word s = tt
-spells_spelt Equals word s = tt
-spells_spelt SquareIn word s = tt
-spells_spelt SquareOut word s = tt
-spells_spelt Angle word s = tt
-spells_spelt AngleSlash word s = tt
-spells_spelt AngleEnd word s = tt
-spells_spelt SlashEnd word s = tt
 spells_spelt End word s = absurd s
 spells_spelt Bad word s = absurd s
+spells_spelt kind word s = tt
 
 last_kind : (b : Bool) (kind : Kind) → kind ≡ (if b then End else Bad) → (kind ≡ End) ⊎ (kind ≡ Bad)
 last_kind true kind is = inl is

@@ -20,7 +20,7 @@ use Rattle.xs_sheet.specs.Layout.{Written, as_is, unit_words, spaced, spelling, 
 use Rattle.xs_sheet.specs.Lines.{at_line, in_lines, laid_out, without_lines, AreSameButLines, IsReadable, IsReadAgain}
 use Rattle.xs_sheet.proofs.Lexed.{IsGood, AreGood, AreLines, text_lexemes, text_lexed, whole_extent, lines_scalars}
 use Rattle.xs_sheet.proofs.Sources.{GoodPieces, tokens_good}
-use Rattle.xs_sheet.proofs.Renewed.{piece, pieces_at, lines_pieces, piece_is, lines_are_pieces, piece_of, followed, name_good, plain_good, word_of, unit_name_of, lined, UnitsAgain, units_again}
+use Rattle.xs_sheet.proofs.Renewed.{piece, pieces_at, lines_pieces, piece_is, lines_are_pieces, piece_of, followed, name_good, plain_good, word_of, lined, UnitsAgain, units_again}
 use Rattle.xs_lex.proofs.Reached.{scalars_parts}
 
 -- the tokens of the bytes of a text

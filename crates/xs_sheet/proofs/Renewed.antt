@@ -165,6 +165,15 @@ pub record IsAgain (Reads : ℕ → List Piece → List Piece → Type 0) (ws : 
 cut : (ps rest : List Piece) → ps ≡ rest → GoodPieces ps → GoodPieces rest
 cut ps rest is g = subst (λ (z : List Piece). GoodPieces z) is g
 
+-- two forms, one after the other
+both_again : {First Next : ℕ → List Piece → List Piece → Type 0} (front back : List Written) (mid rest : List Piece) → IsAgain First front mid → IsAgain Next back rest → IsAgain (λ line qs more. (cut : List Piece) × First line qs cut × Next line cut more) (front ++ back) rest
+both_again front back mid rest first next = record {
+  left = next.left;
+  words = good-append front back first.words next.words;
+  again = λ line qs more f.
+      let s = split line front back qs more f in (s.0, first.again line qs s.0 s.1, next.again line s.0 more s.2);
+}
+
 item_again : (i : Item) (ps rest : List Piece) → ReadsItem i ps rest → GoodPieces ps → IsAgain (λ line qs more. ReadsItem i qs more) (item_words i) rest
 item_again (Fixed text) ps rest r good =
     let g = cut ps (r.0 ∷ rest) r.1 good in
@@ -196,15 +205,7 @@ item_again (Named name slot) ps rest r good =
 items_again : (is : List Item) (ps rest : List Piece) → ReadsItems is ps rest → GoodPieces ps → IsAgain (λ line qs more. ReadsItems is qs more) (items_words is) rest
 items_again [] ps rest r good = record { left = cut ps rest r good; words = tt; again = λ line qs more f. f }
 items_again (i ∷ is) ps rest r good =
-    let one = item_again i ps r.0 r.1 good in
-    let all = items_again is r.0 rest r.2 one.left in
-    record {
-      left = all.left;
-      words = good-append (item_words i) (items_words is) one.words all.words;
-      again = λ line qs more f.
-          let s = split line (item_words i) (items_words is) qs more f in
-          (s.0, one.again line qs s.0 s.1, all.again line s.0 more s.2);
-    }
+    let one = item_again i ps r.0 r.1 good in both_again (item_words i) (items_words is) r.0 rest one (items_again is r.0 rest r.2 one.left)
 
 attr_again : (a : Attr) (ps rest : List Piece) → ReadsAttr a ps rest → GoodPieces ps → IsAgain (λ line qs more. ReadsAttr a qs more) (attr_words a) rest
 attr_again a ps rest r good =
@@ -221,15 +222,7 @@ attr_again a ps rest r good =
 attrs_again : (as_ : List Attr) (ps rest : List Piece) → ReadsAttrs as_ ps rest → GoodPieces ps → IsAgain (λ line qs more. ReadsAttrs as_ qs more) (attrs_words as_) rest
 attrs_again [] ps rest r good = record { left = cut ps rest r good; words = tt; again = λ line qs more f. f }
 attrs_again (a ∷ as_) ps rest r good =
-    let one = attr_again a ps r.0 r.1 good in
-    let all = attrs_again as_ r.0 rest r.2 one.left in
-    record {
-      left = all.left;
-      words = good-append (attr_words a) (attrs_words as_) one.words all.words;
-      again = λ line qs more f.
-          let s = split line (attr_words a) (attrs_words as_) qs more f in
-          (s.0, one.again line qs s.0 s.1, all.again line s.0 more s.2);
-    }
+    let one = attr_again a ps r.0 r.1 good in both_again (attr_words a) (attrs_words as_) r.0 rest one (attrs_again as_ r.0 rest r.2 one.left)
 
 -- elements
 abbrev After : ℕ → List ℕ → Content → List Piece → List Piece → Type 0
@@ -262,15 +255,7 @@ tags_again tag inner depth closing rest content named good = record {
 content_again : (c : Content) (depth : ℕ) (ps rest : List Piece) → ReadsContent depth c ps rest → GoodPieces ps → IsAgain (λ line qs more. ReadsContent depth c qs more) (content_words c) rest
 content_again nothing depth ps rest r good = record { left = cut ps rest r good; words = tt; again = λ line qs more f. f }
 content_again (item before i) depth ps rest r good =
-    let front = content_again before depth ps r.0 r.1 good in
-    let last = item_again i r.0 rest r.2 front.left in
-    record {
-      left = last.left;
-      words = good-append (content_words before) (item_words i) front.words last.words;
-      again = λ line qs more f.
-          let s = split line (content_words before) (item_words i) qs more f in
-          (s.0, front.again line qs s.0 s.1, last.again line s.0 more s.2);
-    }
+    let front = content_again before depth ps r.0 r.1 good in both_again (content_words before) (item_words i) r.0 rest front (item_again i r.0 rest r.2 front.left)
 content_again (element before tag as_ inner) depth ps rest r good =
     let front = content_again before depth ps r.0 r.1 good in
     let opening = r.4 in

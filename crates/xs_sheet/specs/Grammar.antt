@@ -41,6 +41,11 @@ pub record IsRegular (p : Piece) (pattern : List ℕ) : Type 0 where
   pub regular : p.regular ≡ true
   pub pattern_is : p.text ≡ pattern
 
+-- forms of one kind, one after the other
+abbrev pub ReadsEach : {A : Type 0} → (A → List Piece → List Piece → Type 0) → List A → List Piece → List Piece → Type 0
+ReadsEach Reads [] ps rest = ps ≡ rest
+ReadsEach Reads (x ∷ xs) ps rest = (mid : List Piece) × Reads x ps mid × ReadsEach Reads xs mid rest
+
 -- a string, [NAME] or [NAME SLOT]
 abbrev pub ReadsItem : Item → List Piece → List Piece → Type 0
 ReadsItem (Fixed text) ps rest = (p : Piece) × (ps ≡ p ∷ rest) × IsString p text
@@ -48,8 +53,7 @@ ReadsItem (Skip name) ps rest = (a : Piece) × (b : Piece) × (c : Piece) × (ps
 ReadsItem (Named name slot) ps rest = (a : Piece) × (b : Piece) × (c : Piece) × (d : Piece) × (ps ≡ a ∷ b ∷ c ∷ d ∷ rest) × (a.kind ≡ SquareIn) × IsUnitName b name × IsUnitName c slot × (d.kind ≡ SquareOut)
 
 abbrev pub ReadsItems : List Item → List Piece → List Piece → Type 0
-ReadsItems [] ps rest = ps ≡ rest
-ReadsItems (i ∷ is) ps rest = (mid : List Piece) × ReadsItem i ps mid × ReadsItems is mid rest
+ReadsItems is ps rest = ReadsEach ReadsItem is ps rest
 
 -- a name, = and one item or more
 pub record ReadsAttr (a : Attr) (ps rest : List Piece) : Type 0 where
@@ -63,8 +67,7 @@ pub record ReadsAttr (a : Attr) (ps rest : List Piece) : Type 0 where
   pub value : ReadsItems a.value next rest
 
 abbrev pub ReadsAttrs : List Attr → List Piece → List Piece → Type 0
-ReadsAttrs [] ps rest = ps ≡ rest
-ReadsAttrs (a ∷ as_) ps rest = (mid : List Piece) × ReadsAttr a ps mid × ReadsAttrs as_ mid rest
+ReadsAttrs as_ ps rest = ReadsEach ReadsAttr as_ ps rest
 
 -- < and the tag
 pub record ReadsOpening (tag : List ℕ) (ps rest : List Piece) : Type 0 where
@@ -154,8 +157,7 @@ ReadsUnit (production name left right line) ps rest = ReadsProduction name left 
 ReadsUnit (fence left right line) ps rest = ReadsFence left right line ps rest
 
 abbrev pub ReadsUnits : List UnitOutline → List Piece → List Piece → Type 0
-ReadsUnits [] ps rest = ps ≡ rest
-ReadsUnits (u ∷ us) ps rest = (mid : List Piece) × ReadsUnit u ps mid × ReadsUnits us mid rest
+ReadsUnits us ps rest = ReadsEach ReadsUnit us ps rest
 
 -- the versions of sheets, and the word that each begins with
 abbrev pub IsVersion : ℕ → Type 0

@@ -37,7 +37,7 @@ abbrev pub inside_view : Inside → M.Inside
 inside_view c = record { draft = draft_view c.draft; opens = opens_view c.opens.items; so_far = content_of c.content.items }
 
 abbrev pub site_view : Site → M.Site
-site_view (P.LeftSide head name line items) = M.left_side (head_view head) name line items.items
+site_view (P.LeftSide d) = M.left_side (head_view d.head) d.name d.line d.left.items
 site_view (P.Content c) = M.inside (inside_view c)
 site_view (P.Value v) = M.value (inside_view v.tag.inside) v.tag.name v.tag.attrs.items v.name v.items.items
 
@@ -79,7 +79,7 @@ transition_view T.Refuse = M.refuse
 
 -- the regular expressions so far are those of their patterns
 abbrev pub SiteHasRegexes : Site → Type 0
-SiteHasRegexes (P.LeftSide head name line items) = HaveRegexes head.units.items
+SiteHasRegexes (P.LeftSide d) = HaveRegexes d.head.units.items
 SiteHasRegexes (P.Content c) = HaveRegexes c.draft.head.units.items
 SiteHasRegexes (P.Value v) = HaveRegexes v.tag.inside.draft.head.units.items
 

@@ -9,7 +9,7 @@ use crate::piece::Piece;
 use crate::regular::regex_of;
 use std::alloc::Global;
 use std::str;
-use xs_class::{Memory, Text};
+use xs_class::{Memory, Text, letters};
 use xs_lex::{Kind, Token, quoted_value};
 
 /// The characters without the last one.
@@ -30,7 +30,7 @@ fn between_slashes(alloc: Global, text: &str) -> Result<Text, Memory>
     requires { Spells Kind.Pattern (chars text.now) }
     ensures { IfOk result (λ t. IsPattern (chars text.now) t) }
 {
-    let letters: Vec<char> = text.chars().collect(alloc)?;
+    let letters = letters(alloc, text)?;
     without_last(alloc, &letters[1..])
 }
 

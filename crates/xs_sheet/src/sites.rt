@@ -6,7 +6,7 @@ ghost use Rattle.xs_sheet.specs.View.{head_view, inside_view, site_view, item_vi
 
 use crate::elements::{leave_content, leave_value};
 use crate::piece::Piece;
-use crate::state::{Draft, Head, Inside, ItemState, Site, State, Transition, Value};
+use crate::state::{Draft, Inside, ItemState, Site, State, Transition, Value};
 use crate::units::{refuse, with_text};
 use crate::{Item, XItem};
 use std::alloc::Global;
@@ -25,24 +25,13 @@ pub fn push_content(mut inside: Inside, item: XItem) -> Result<Inside, Memory>
 }
 
 /// The text side with one more item.
-fn put_left(
-    head: Head,
-    name: Text,
-    line: u32,
-    mut items: Vec<Item>,
-    item: Item,
-) -> Result<Site, Memory>
-    requires { HaveRegexes head.units.items }
-    ensures view { IfOk result (λ p. site_view p ≡ M.left_side (head_view head) name line (items.items ++ item ∷ [])) }
+fn put_left(mut draft: Draft, item: Item) -> Result<Site, Memory>
+    requires { HaveRegexes draft.head.units.items }
+    ensures view { IfOk result (λ p. site_view p ≡ M.left_side (head_view draft.head) draft.name draft.line (draft.left.items ++ item ∷ [])) }
     ensures regexes { IfOk result SiteHasRegexes }
 {
-    items.push(item)?;
-    Ok(Site::LeftSide {
-        head,
-        name,
-        line,
-        items,
-    })
+    draft.left.push(item)?;
+    Ok(Site::LeftSide(draft))
 }
 
 /// The content with one more item that is no element.
@@ -73,12 +62,7 @@ fn put(site: Site, item: Item) -> Result<Site, Memory>
     ensures regexes { IfOk result SiteHasRegexes }
 {
     match site {
-        Site::LeftSide {
-            head,
-            name,
-            line,
-            items,
-        } => put_left(head, name, line, items, item),
+        Site::LeftSide(draft) => put_left(draft, item),
         Site::Content(inside) => put_content(inside, item),
         Site::Value(value) => put_value(value, item),
     }
@@ -95,28 +79,16 @@ fn after_item(site: Site, item: Item) -> Result<Transition, Memory>
 }
 
 /// After a text side.
-fn leave_left(
-    alloc: Global,
-    head: Head,
-    name: Text,
-    line: u32,
-    left: Vec<Item>,
-    piece: &Piece,
-) -> Transition
-    requires { HaveRegexes head.units.items }
-    ensures view { transition_view result ≡ M.leave (M.left_side (head_view head) name line left.items) piece.now }
+fn leave_left(alloc: Global, draft: Draft, piece: &Piece) -> Transition
+    requires { HaveRegexes draft.head.units.items }
+    ensures view { transition_view result ≡ M.leave (M.left_side (head_view draft.head) draft.name draft.line draft.left.items) piece.now }
     ensures regexes { TransitionHasRegexes result }
 {
     if !piece.is(Kind::Equals) {
         return Transition::Refuse;
     }
     Transition::Go(State::Item(ItemState::At(Site::Content(Inside {
-        draft: Draft {
-            head,
-            name,
-            line,
-            left,
-        },
+        draft,
         opens: Vec::new(alloc),
         content: Vec::new(alloc),
     }))))
@@ -129,12 +101,7 @@ fn leave(alloc: Global, site: Site, piece: &Piece) -> Result<Transition, Memory>
     ensures regexes { IfOk result TransitionHasRegexes }
 {
     match site {
-        Site::LeftSide {
-            head,
-            name,
-            line,
-            items,
-        } => Ok(leave_left(alloc, head, name, line, items, piece)),
+        Site::LeftSide(draft) => Ok(leave_left(alloc, draft, piece)),
         Site::Content(inside) => leave_content(alloc, inside, piece),
         Site::Value(value) => leave_value(alloc, value, piece),
     }

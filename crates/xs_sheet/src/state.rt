@@ -63,12 +63,8 @@ pub struct Value {
 /// Where an item may stand.
 #[derive(Drop)]
 pub enum Site {
-    LeftSide {
-        head: Head,
-        name: Text,
-        line: u32,
-        items: Vec<Item>,
-    },
+    /// In a text side, whose items so far the production has.
+    LeftSide(Draft),
     Content(Inside),
     Value(Value),
 }

@@ -9,7 +9,7 @@ ghost use Rattle.xs_sheet.specs.View.{head_view, unit_view, transition_view, Uni
 
 use crate::piece::Piece;
 use crate::regular::regex_of;
-use crate::state::{Begun, Head, ItemState, Site, State, Transition, UnitState};
+use crate::state::{Begun, Draft, Head, ItemState, Site, State, Transition, UnitState};
 use crate::{Sheet, Unit, Units};
 use std::alloc::Global;
 use xs_class::{Memory, Text};
@@ -350,12 +350,12 @@ fn colon(alloc: Global, head: Head, name: Text, line: u32, piece: &Piece) -> Tra
     if !piece.is(Kind::Colon) {
         return Transition::Refuse;
     }
-    Transition::Go(State::Item(ItemState::At(Site::LeftSide {
+    Transition::Go(State::Item(ItemState::At(Site::LeftSide(Draft {
         head,
         name,
         line,
-        items: Vec::new(alloc),
-    })))
+        left: Vec::new(alloc),
+    }))))
 }
 
 /// Where one more piece leads outside the sides of a production.
