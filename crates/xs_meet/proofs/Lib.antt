@@ -3,6 +3,7 @@ pub mod GainLemmas
 pub mod NestLemmas
 pub mod OverlapLemmas
 pub mod PhaseLemmas
+pub mod SeatLemmas
 pub mod SeedLemmas
 pub mod SharingLemmas
 pub mod SpellingLemmas

@@ -1,5 +1,5 @@
 -- Four phases show that there is no overlap, or the pieces of one.
-use Rattle.std.proofs.Common.{◌≡◌, ℕ, ◌<◌, List, ◌∷◌, length, get_or, refl, sym, ap, subst, ◌∙◌, length-append, arith}
+use Rattle.std.proofs.Common.{◌≡◌, ℕ, ◌<◌, List, ◌∷◌, length, get_or, refl, ap, subst, ◌∙◌, length-append, arith}
 use Rattle.std.specs.declared.option.Option.{Option}
 use Rattle.std.specs.declared.option.Option.TheVariants.{Some, None}
 use Rattle.std.specs.Option.{IfSome, IfNone, IsSome}
@@ -17,11 +17,11 @@ use Rattle.xs_meet.specs.Closed.{Strides, IsClear}
 use Rattle.xs_meet.specs.Pieces.{Spells, one_piece}
 use Rattle.xs_meet.specs.Searches.{step, IsAt, IsFound, EndsBoth, Departs}
 use Rattle.xs_meet.specs.Shared.{AreOverlapOver}
-use Rattle.xs_meet.specs.Traces.{Bridges, IsRelated, IsTrace, AreReached}
+use Rattle.xs_meet.specs.Traces.{Bridges, IsTrace, AreReached}
 use Rattle.xs_meet.proofs.WalkLemmas.{crosses_on, walk_crosses}
 use Rattle.xs_meet.proofs.SpreadLemmas.{read_at}
 use Rattle.xs_meet.proofs.PhaseLemmas.{found_end}
-use Rattle.xs_meet.proofs.TraceLemmas.{cross_symbol, cross_first, cross_second}
+use Rattle.xs_meet.proofs.TraceLemmas.{bridge_first, bridge_second}
 
 -- the four phases are four sets that show that there is no overlap, where no pair of two final rest
 -- states is found
@@ -29,11 +29,11 @@ pub phases_clear : (R : ℕ → ℕ → Type 0) (a b : Graph) (r : Reached) → 
 phases_clear R a b r h none = record {
   starts = λ p q e f. h.fronts.there (step p q 0) (record { first = e; second = f; from = refl });
   closed1 = h.fronts.closed;
-  to0 = λ p q s f e begun. subst (λ (k : ℕ). IsFound r.turns.steps.items q k) (some_same _ _ _ h.starts begun) (h.turns.there (step q h.start f.place) (record { end = step p q f.from; at = f.at; final = e; first = refl; second = refl }));
+  to0 = λ p q s f e begun. subst (λ (k : ℕ). IsFound r.turns.steps.items q k) (some_same _ _ _ h.starts begun) (h.turns.there (step q h.start f.place) (record { end = step p q f.from; at = f.at; final = e; starts = refl; other = refl }));
   drifts0 = h.turns.closed;
   to2 = λ p q c d f x. h.middles.there (step c d f.place) (record { before = step p q f.from; at = f.at; strides = x });
   closed2 = h.middles.closed;
-  to3 = λ p q s f e begun. subst (λ (k : ℕ). IsFound r.rests.steps.items k q) (some_same _ _ _ h.starts begun) (h.rests.there (step h.start q f.place) (record { end = step p q f.from; at = f.at; final = e; first = refl; second = refl }));
+  to3 = λ p q s f e begun. subst (λ (k : ℕ). IsFound r.rests.steps.items k q) (some_same _ _ _ h.starts begun) (h.rests.there (step h.start q f.place) (record { end = step p q f.from; at = f.at; final = e; starts = refl; other = refl }));
   closed3 = h.rests.closed;
   none = found_end b b r.rests.steps.items none;
 }
@@ -42,19 +42,6 @@ phases_clear R a b r h none = record {
 long : (nest : List Group) (p : Piece) (ps : List Piece) (w : List ℕ) → Spells nest (p ∷ ps) w → 0 < length w
 long nest (Symbol s) ps w (one_piece u v means later split) = omega (arith, ap length split, length-append u v, ap length means)
 long nest (Groups g h) ps w (one_piece u v means later split) = omega (arith, ap length split, length-append u v, ap length means.is)
-
--- a piece that bridges two pairs leads both nets from the one to the other
-bridge_first : (R : ℕ → ℕ → Type 0) (m n : Graph) (a b c d last : ℕ) (nest : List Group) (x : Piece) (ps : List Piece) (w : List ℕ) → Bridges R m n a b c d x → ((v : List ℕ) → Spells nest ps v → Crossing nest m c v last) → Spells nest (x ∷ ps) w → Crossing nest m a w last
-bridge_first R m n a b c d last nest (Symbol s) ps w r rest spells = cross_symbol r.first r.of_first r.takes_first (λ v y. subst (λ (k : ℕ). Crossing nest m k v last) (sym r.to_first) (rest v y)) spells
-bridge_first R m n a b c d last nest (Groups g h) ps w r rest spells = cross_first r.first r.of_first r.over_first (λ v y. subst (λ (k : ℕ). Crossing nest m k v last) (sym r.to_first) (rest v y)) spells
-
-bridge_second : (R : ℕ → ℕ → Type 0) (m n : Graph) (a b c d last : ℕ) (nest : List Group) (x : Piece) (ps : List Piece) (w : List ℕ) → Bridges R m n a b c d x → ((v : List ℕ) → Spells nest ps v → Crossing nest n d v last) → Spells nest (x ∷ ps) w → Crossing nest n b w last
-bridge_second R m n a b c d last nest (Symbol s) ps w r rest spells = cross_symbol r.second r.of_second r.takes_second (λ v y. subst (λ (k : ℕ). Crossing nest n k v last) (sym r.to_second) (rest v y)) spells
-bridge_second R m n a b c d last nest (Groups g h) ps w r rest spells = cross_second r.second r.of_second r.over_second (λ v y. subst (λ (k : ℕ). Crossing nest n k v last) (sym r.to_second) (rest v y)) spells
-
-pub bridge_related : (R : ℕ → ℕ → Type 0) (m n : Graph) (a b c d : ℕ) (x : Piece) → Bridges R m n a b c d x → IsRelated R x
-bridge_related R m n a b c d (Symbol s) r = tt
-bridge_related R m n a b c d (Groups g h) r = r.related
 
 -- the words that are spelt by the pieces of the four phases overlap
 pub overlap : (R : ℕ → ℕ → Type 0) (a b : Graph) (r : Reached) (place : ℕ) (piece : Piece) (front middle rest : Trace) (end departure turn : ReachedPair) → AreReached R a b r → EndsBoth b b r.rests.steps.items place → IsTrace R b b r.rests place rest → IsAt r.rests.steps.items rest.seed end → IsTrace R a b r.middles end.from middle → IsAt r.middles.steps.items middle.seed departure → IsAt r.turns.steps.items departure.from turn → Bridges R a b turn.first turn.second departure.first departure.second piece → IsTrace R a a r.fronts turn.from front → (nest : List Group) (x m y : List ℕ) → Spells nest front.pieces.items x → Spells nest (piece ∷ middle.pieces.items) m → Spells nest rest.pieces.items y → AreOverlapOver nest a b x m y
@@ -77,8 +64,8 @@ overlap R a b r place piece front middle rest end departure turn h ends t at u l
     let x_long : Crossing nest a x.first.second xw from.front.second = rw fronted at (x.crosses_second nest xw sx) in
     let m_front : (w : List ℕ) → Spells nest middle.pieces.items w → Crossing nest a departure.first w seeded.end.first = λ w s. rw (departed, turned) at (m.crosses_first nest w s) in
     let m_rest : (w : List ℕ) → Spells nest middle.pieces.items w → Crossing nest b departure.second w seeded.end.second = λ w s. rw (departed, turned) at (m.crosses_second nest w s) in
-    let y_short : Crossing nest b h.start yw ends.end.first = subst (λ (k : ℕ). Crossing nest b k yw ends.end.first) (ap (λ s. s.first) seed ∙ seeded.first) (rw last at (y.crosses_first nest yw sy)) in
-    let y_long : Crossing nest b seeded.end.second yw ends.end.second = subst (λ (k : ℕ). Crossing nest b k yw ends.end.second) (ap (λ s. s.second) seed ∙ seeded.second) (rw last at (y.crosses_second nest yw sy)) in
+    let y_short : Crossing nest b h.start yw ends.end.first = subst (λ (k : ℕ). Crossing nest b k yw ends.end.first) (ap (λ s. s.first) seed ∙ seeded.starts) (rw last at (y.crosses_first nest yw sy)) in
+    let y_long : Crossing nest b seeded.end.second yw ends.end.second = subst (λ (k : ℕ). Crossing nest b k yw ends.end.second) (ap (λ s. s.second) seed ∙ seeded.other) (rw last at (y.crosses_second nest yw sy)) in
     let a_front : Crossing nest a from.front.second mw seeded.end.first = crosses_on (walk_crosses nest from.first) (bridge_first R a b _ _ _ _ _ nest piece middle.pieces.items mw sides m_front sm) in
     let a_rest : Crossing nest b h.start mw seeded.end.second = crosses_on (walk_crosses nest from.second) (bridge_second R a b _ _ _ _ _ nest piece middle.pieces.items mw sides m_rest sm) in
     record {

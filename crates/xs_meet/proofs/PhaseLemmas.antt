@@ -10,7 +10,8 @@ use Rattle.xs_meet.specs.declared.reached_pair.ReachedPair.{ReachedPair}
 use Rattle.xs_meet.specs.declared.layer.Layer.{Layer}
 use Rattle.xs_auto.specs.Marks.{Marks}
 use Rattle.xs_auto.specs.Nets.{Graph, final_at, Walks}
-use Rattle.xs_meet.specs.Searches.{step, IsAt, IsFound, Gains, Extends, Fits, IsFor, KeepsArea, Closes, ClosesDrifts, InNets, EndsBoth, Turns}
+use Rattle.xs_meet.specs.Searches.{step, IsAt, IsFound, Gains, Extends, Fits, IsFor, KeepsArea, Closes, ClosesDrifts, InNets, EndsBoth, Seeds}
+use Rattle.xs_meet.specs.declared.seat.Seat.TheVariants.{Second}
 use Rattle.xs_meet.specs.declared.trace.Trace.{Trace}
 use Rattle.xs_meet.specs.Closed.{HasNoFinals, AreApart}
 use Rattle.xs_meet.specs.Traces.{IsSeeded, IsRoot, IsTurns, IsTrace, ArePieces}
@@ -49,14 +50,14 @@ root_seed m n a b e f g = extends_as (λ s. s ≡ step a b 0) (IsRoot m n) to ba
     back s r = same_step s a b 0 (some_same _ _ _ r.first e) (some_same _ _ _ r.second f) r.from
 
 -- a layer that was empty, was seeded by final front states, and was closed under empty moves then
-pub closed_turns : (a b : Graph) (start : ℕ) (fronts : List ReachedPair) (k l o : Layer) (p : Marks) → IsFor a b k → k.steps.items ≡ [] → Extends (Turns a start fronts) k l → Fits o p → ClosesDrifts a b l o → IsTurns a b start fronts o
+pub closed_turns : (a b : Graph) (start : ℕ) (fronts : List ReachedPair) (k l o : Layer) (p : Marks) → IsFor a b k → k.steps.items ≡ [] → Extends (Seeds Second a start fronts) k l → Fits o p → ClosesDrifts a b l o → IsTurns a b start fronts o
 closed_turns a b start fronts k l o p nets none g f c = record {
   range = in_area a b k o p nets (area_then g.area c.area) f;
   turned = λ i s e.
       let d = c.drifted i s e in
-      let r = gained (Turns a start fronts) k.steps.items l.steps.items none g.gains d.place d.seed d.at in
-      let one : Walks a r.end.second [] s.first = rw r.first at d.first in
-      let two : Walks b start [] s.second = rw r.second at d.second in
+      let r = gained (Seeds Second a start fronts) k.steps.items l.steps.items none g.gains d.place d.seed d.at in
+      let one : Walks a r.end.second [] s.first = rw r.other at d.first in
+      let two : Walks b start [] s.second = rw r.starts at d.second in
       record { front = r.end; at = subst (λ k. IsAt fronts k r.end) (sym d.from) r.at; final = r.final; first = one; second = two };
   there = λ s r. longer_found c.longer (g.gains.there s r);
   closed = c.closed;

@@ -1,13 +1,16 @@
 -- Steps of one layer that seed another.
-use Rattle.std.proofs.Common.{◌≡◌, ℕ, ◌+◌, ◌<◌, ◌⊎◌, true, false, List, length, refl, sym, ap, ◌∙◌, inl, inr, arith}
+use Rattle.std.proofs.Common.{◌≡◌, ℕ, ◌+◌, ◌<◌, ◌⊎◌, true, false, List, length, get_or, refl, sym, ap, ◌∙◌, inl, inr, arith}
 use Rattle.std.proofs.lemmas.Bool.{cases_eq, true≢false}
-use Rattle.std.proofs.lemmas.Option.{slice_get_within}
+use Rattle.std.proofs.lemmas.Option.{slice_get_within, slice_get-get_or}
 use Rattle.xs_class.proofs.Lists.{some_same}
 use Rattle.xs_meet.specs.declared.reached_pair.ReachedPair.{ReachedPair}
 use Rattle.xs_meet.specs.declared.layer.Layer.{Layer}
-use Rattle.xs_auto.specs.Nets.{Graph, final_at}
-use Rattle.xs_meet.specs.Searches.{step, IsAt, StridesFrom, Turns, Returns, Departs, Extends}
+use Rattle.xs_meet.specs.declared.seat.Seat.{Seat}
+use Rattle.xs_auto.specs.Nets.{Graph, states, final_at}
+use Rattle.xs_meet.specs.Searches.{step, IsAt, InStates, KeepsArea, StridesFrom, Seeds, Departs, Extends}
+use Rattle.xs_meet.specs.Seats.{start_of, other_of}
 use Rattle.xs_meet.proofs.GainLemmas.{extends_then, extends_as, extends_nothing}
+use Rattle.xs_meet.proofs.SeatLemmas.{seat_same, seat_within}
 use Rattle.xs_meet.proofs.SpreadLemmas.{same_step}
 
 -- the steps that come from places below k
@@ -39,55 +42,37 @@ below_more R k g h = extends_as (λ s. Below k R s ⊎ Here k R s) (Below (k + 1
 pub below_all : (R : ReachedPair → Type 0) (k : ℕ) {l m : Layer} → ((s : ReachedPair) → R s → s.from < k) → Extends (Below k R) l m → Extends R l m
 below_all R k low g = extends_as (Below k R) R (λ s b. b.is) (λ s r. record { from = low s r; is = r }) g
 
+-- the pair that a step seeds is one of states of the layer
+pub seed_within : (seat : Seat) (net : Graph) (steps : List ReachedPair) (k a b start : ℕ) {l m : Layer} → KeepsArea l m → InStates (states net) (other_of seat l.height l.width) steps → start < start_of seat l.height l.width → k < length steps → start_of seat a b ≡ start → other_of seat a b ≡ (get_or steps k (step 0 0 0)).second → (a < m.height) × (b < m.width)
+seed_within seat net steps k a b start {l} {m} area range low there e f =
+    let below = range k (get_or steps k (step 0 0 0)) (slice_get-get_or steps k (step 0 0 0) there) in
+    rw (area.height, area.width) (seat_within seat a b l.height l.width start _ e f low below.1)
+
 -- a step whose first state is final seeds one pair, and another step none
-pub turns_here : (net : Graph) (start : ℕ) (steps : List ReachedPair) (k : ℕ) (end : ReachedPair) {l m : Layer} → IsAt steps k end → final_at net end.first ≡ true → Extends (λ s. s ≡ step end.second start k) l m → Extends (Here k (Turns net start steps)) l m
-turns_here net start steps k end at final g = extends_as (λ s. s ≡ step end.second start k) (Here k (Turns net start steps)) to back g
+pub seeds_here : (seat : Seat) (net : Graph) (start : ℕ) (steps : List ReachedPair) (k a b : ℕ) (end : ReachedPair) {l m : Layer} → start_of seat a b ≡ start → other_of seat a b ≡ end.second → IsAt steps k end → final_at net end.first ≡ true → Extends (λ s. s ≡ step a b k) l m → Extends (Here k (Seeds seat net start steps)) l m
+seeds_here seat net start steps k a b end e f at final g = extends_as (λ s. s ≡ step a b k) (Here k (Seeds seat net start steps)) to back g
   where
-    to : (s : ReachedPair) → s ≡ step end.second start k → Here k (Turns net start steps) s
-    to s e = rw e (record { from = refl; is = record { end = end; at = at; final = final; first = refl; second = refl } })
+    to : (s : ReachedPair) → s ≡ step a b k → Here k (Seeds seat net start steps) s
+    to s h = rw h (record { from = refl; is = record { end = end; at = at; final = final; starts = e; other = f } })
 
-    back : (s : ReachedPair) → Here k (Turns net start steps) s → s ≡ step end.second start k
+    back : (s : ReachedPair) → Here k (Seeds seat net start steps) s → s ≡ step a b k
     back s h =
         let r = h.is in
         let same : r.end ≡ end = some_same _ _ _ (rw h.from at r.at) at in
-        same_step s end.second start k (r.first ∙ ap (λ x. x.second) same) r.second h.from
+        let both = seat_same seat s.first s.second a b (r.starts ∙ sym e) (r.other ∙ ap (λ x. x.second) same ∙ sym f) in
+        same_step s a b k both.0 both.1 h.from
 
-pub turns_nowhere : (net : Graph) (start : ℕ) (steps : List ReachedPair) (k : ℕ) (end : ReachedPair) (l : Layer) → IsAt steps k end → final_at net end.first ≡ false → Extends (Here k (Turns net start steps)) l l
-turns_nowhere net start steps k end l at shut = extends_nothing (Here k (Turns net start steps)) l none
+pub seeds_nowhere : (seat : Seat) (net : Graph) (start : ℕ) (steps : List ReachedPair) (k : ℕ) (end : ReachedPair) (l : Layer) → IsAt steps k end → final_at net end.first ≡ false → Extends (Here k (Seeds seat net start steps)) l l
+seeds_nowhere seat net start steps k end l at shut = extends_nothing (Here k (Seeds seat net start steps)) l none
   where
-    none : (s : ReachedPair) → Here k (Turns net start steps) s → ⊥
+    none : (s : ReachedPair) → Here k (Seeds seat net start steps) s → ⊥
     none s h =
         let r = h.is in
         let same : r.end ≡ end = some_same _ _ _ (rw h.from at r.at) at in
         true≢false (sym r.final ∙ ap (λ x. final_at net x.first) same ∙ shut)
 
-pub turns_low : (net : Graph) (start : ℕ) (steps : List ReachedPair) (s : ReachedPair) → Turns net start steps s → s.from < length steps
-turns_low net start steps s r = slice_get_within steps s.from r.end r.at
-
--- the same with the start before the second state
-pub returns_here : (net : Graph) (start : ℕ) (steps : List ReachedPair) (k : ℕ) (end : ReachedPair) {l m : Layer} → IsAt steps k end → final_at net end.first ≡ true → Extends (λ s. s ≡ step start end.second k) l m → Extends (Here k (Returns net start steps)) l m
-returns_here net start steps k end at final g = extends_as (λ s. s ≡ step start end.second k) (Here k (Returns net start steps)) to back g
-  where
-    to : (s : ReachedPair) → s ≡ step start end.second k → Here k (Returns net start steps) s
-    to s e = rw e (record { from = refl; is = record { end = end; at = at; final = final; first = refl; second = refl } })
-
-    back : (s : ReachedPair) → Here k (Returns net start steps) s → s ≡ step start end.second k
-    back s h =
-        let r = h.is in
-        let same : r.end ≡ end = some_same _ _ _ (rw h.from at r.at) at in
-        same_step s start end.second k r.first (r.second ∙ ap (λ x. x.second) same) h.from
-
-pub returns_nowhere : (net : Graph) (start : ℕ) (steps : List ReachedPair) (k : ℕ) (end : ReachedPair) (l : Layer) → IsAt steps k end → final_at net end.first ≡ false → Extends (Here k (Returns net start steps)) l l
-returns_nowhere net start steps k end l at shut = extends_nothing (Here k (Returns net start steps)) l none
-  where
-    none : (s : ReachedPair) → Here k (Returns net start steps) s → ⊥
-    none s h =
-        let r = h.is in
-        let same : r.end ≡ end = some_same _ _ _ (rw h.from at r.at) at in
-        true≢false (sym r.final ∙ ap (λ x. final_at net x.first) same ∙ shut)
-
-pub returns_low : (net : Graph) (start : ℕ) (steps : List ReachedPair) (s : ReachedPair) → Returns net start steps s → s.from < length steps
-returns_low net start steps s r = slice_get_within steps s.from r.end r.at
+pub seeds_low : (seat : Seat) (net : Graph) (start : ℕ) (steps : List ReachedPair) (s : ReachedPair) → Seeds seat net start steps s → s.from < length steps
+seeds_low seat net start steps s r = slice_get_within steps s.from r.end r.at
 
 -- the pairs to which edges or calls of both nets lead from one step
 pub departs_here : (R : ℕ → ℕ → Type 0) (m n : Graph) (steps : List ReachedPair) (k : ℕ) (at : ReachedPair) {l p : Layer} → IsAt steps k at → Extends (StridesFrom R m n at.first at.second k) l p → Extends (Here k (Departs R m n steps)) l p

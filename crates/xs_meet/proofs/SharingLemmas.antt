@@ -10,6 +10,7 @@ use Rattle.std.proofs.lemmas.Option.{slice_get_within, get_or_from_slice_get}
 use Rattle.std.proofs.Math.Seq.{drop-append_seam}
 use Rattle.xs_class.proofs.Lists.{get_left, get_last, get_push, one_cell}
 use Rattle.xs_class.proofs.Truth.{and_true, both_true, lt_is, lt_true, false_true}
+use Rattle.xs_auto.specs.Nets.{Graph}
 use Rattle.xs_auto.specs.Nests.{Group, no_group, group_at, IsGroup, IsFenced, HaveOneFence, ShareContent, AreShared}
 use Rattle.xs_auto.proofs.BitLemmas.{copy_at}
 use Rattle.xs_meet.specs.declared.piece.Piece.{Piece}
@@ -266,8 +267,8 @@ pieces_share nest R g h ps a b fence pieces w s =
     there (x ∷ xs) (suc g) l = there xs g (omega arith)
 
 -- marks for the nets in the other order
-turned_marks : (s : Sharing) (nest : List Group) → IsSharing nest s → (a b : Group) → AreApart (AreKnown s) a.content b.content → AreApart (AreKnown s) b.content a.content
-turned_marks s nest sharing a b x =
+pub apart_turned : (R : ℕ → ℕ → Type 0) → ((h k : ℕ) → R h k → R k h) → (m n : Graph) → AreApart R m n → AreApart R n m
+apart_turned R turned_R m n x =
     let z = x.0 in
     let i = x.1 in (
       λ p q. z q p,
@@ -278,11 +279,11 @@ turned_marks s nest sharing a b x =
       },
     )
   where
-    turned : (p q c d : ℕ) → Leads (AreKnown s) b.content a.content p q c d → Leads (AreKnown s) a.content b.content q p d c
+    turned : (p q c d : ℕ) → Leads R n m p q c d → Leads R m n q p d c
     turned p q c d (inl (inl m)) = inl (inr (record { move = m.move; still = m.still }))
     turned p q c d (inl (inr m)) = inl (inl (record { move = m.move; still = m.still }))
     turned p q c d (inr (inl x)) = let r = x.1 in inr (inl (x.0, record { first = r.second; second = r.first; of_first = r.of_second; of_second = r.of_first; takes_first = r.takes_second; takes_second = r.takes_first; to_first = r.to_second; to_second = r.to_first }))
-    turned p q c d (inr (inr x)) = let r = x.2 in inr (inr (x.1, x.0, record { first = r.second; second = r.first; of_first = r.of_second; of_second = r.of_first; over_first = r.over_second; over_second = r.over_first; related = sharing.turned _ _ r.related; to_first = r.to_second; to_second = r.to_first }))
+    turned p q c d (inr (inr x)) = let r = x.2 in inr (inr (x.1, x.0, record { first = r.second; second = r.first; of_first = r.of_second; of_second = r.of_first; over_first = r.over_second; over_second = r.over_first; related = turned_R _ _ r.related; to_first = r.to_second; to_second = r.to_first }))
 
 -- where a round finds no more, all is settled
 pub all_settled : (nest : List Group) (old new : Sharing) → Tries nest (AreWithin (length nest) (length nest)) old new false → IsSharedOf nest new
@@ -299,7 +300,7 @@ all_settled nest old new t = record { sharing = t.sharing; settled = settled }
       | inr le ↦ half g h le a b is_a is_b fence
       | inl lt ↦ elim (half h g (omega arith) b a is_b is_a (record { left = sym fence.left; right = sym fence.right })) [
         | inl known ↦ inl (t.sharing.turned h g known)
-        | inr x ↦ inr (turned_marks new nest t.sharing b a x)
+        | inr x ↦ inr (apart_turned (AreKnown new) t.sharing.turned b.content a.content x)
       ]
     ]
 

@@ -11,7 +11,7 @@ use Rattle.xs_auto.specs.Marks.{Marks}
 use Rattle.xs_auto.specs.Nets.{Graph, edges_of, moves_of, calls_of, states, rests}
 use Rattle.xs_meet.specs.Closed.{IsClosed}
 use Rattle.xs_meet.specs.Searches.{step, IsAt, IsFound, Among, Meets, Joins, DriftsFrom, StridesFrom, LeadsFrom, Gains, KeepsArea, Extends, Fits, IsFor, IsChained, IsClosedBelow, IsLonger, IsDrifted}
-use Rattle.xs_meet.proofs.GainLemmas.{found_more, extends_then, extends_as}
+use Rattle.xs_meet.proofs.GainLemmas.{found_more, area_same, area_then, extends_then, extends_as}
 use Rattle.xs_meet.proofs.WalkLemmas.{walks_pass}
 
 pub same_step : (s : ReachedPair) (a b from : ℕ) → s.first ≡ a → s.second ≡ b → s.from ≡ from → s ≡ step a b from
@@ -131,6 +131,40 @@ pub closed_all : (L : ℕ → ℕ → ℕ → ℕ → Type 0) {k : ℕ} {xs : Li
 closed_all L {k} {xs} l closed a b c d f leads =
     let w = slice_get_within xs f.place (step a b f.from) f.at in
     closed f.place (step a b f.from) (omega arith) f.at c d leads
+
+-- a layer that gains steps: what it had is kept, and the steps before place k were gone on from
+pub record GoesOn (L : ℕ → ℕ → ℕ → ℕ → Type 0) (old new : Layer) (p q : Marks) (k : ℕ) : Type 0 where
+  pub cells : q.cells ≡ p.cells
+  pub fits : Fits new q
+  pub area : KeepsArea old new
+  pub within : k ≤ length new.steps.items
+  pub longer : IsLonger old.steps.items new.steps.items
+  pub closed : IsClosedBelow L k new.steps.items
+
+pub goes_none : (L : ℕ → ℕ → ℕ → ℕ → Type 0) (l : Layer) (p : Marks) → Fits l p → GoesOn L l l p p 0
+goes_none L l p f = record {
+  cells = refl;
+  fits = f;
+  area = area_same l;
+  within = omega arith;
+  longer = longer_same l.steps.items;
+  closed = closed_none L l.steps.items;
+}
+
+-- the steps to which the one at place k leads
+pub goes_more : (L : ℕ → ℕ → ℕ → ℕ → Type 0) (R : ReachedPair → Type 0) (from : ℕ) {k : ℕ} {old l m : Layer} {p q r : Marks} (s : ReachedPair) → IsAt l.steps.items k s → ((c d : ℕ) → L s.first s.second c d → R (step c d from)) → GoesOn L old l p q k → r.cells ≡ q.cells → Fits m r → Extends R l m → GoesOn L old m p r (k + 1)
+goes_more L R from {k} {old} {l} {m} s here leads g cells fits more =
+    let long = longer_gains R more.gains in
+    let there = slice_get_within l.steps.items k s here in
+    let grown = longer_length long in
+    record {
+      cells = cells ∙ g.cells;
+      fits = fits;
+      area = area_then g.area more.area;
+      within = omega (arith, there, grown);
+      longer = longer_then g.longer long;
+      closed = closed_more L s here g.closed long (λ c d x. more.gains.there (step c d from) (leads c d x));
+    }
 
 -- each step of the beginning is drifted, and so is each that a drifted one leads to by an empty move
 pub drifted_none : (m n : Graph) (xs : List ReachedPair) (k : ℕ) (s : ReachedPair) → IsAt xs k s → IsDrifted m n xs s

@@ -126,32 +126,34 @@ cross_second {w = w} k has over rest (one_piece u v means later split) =
     fence_same : {l m r q : ℕ} (content : List ℕ) → l ≡ m → r ≡ q → l ∷ (content ++ r ∷ []) ≡ m ∷ (content ++ q ∷ [])
     fence_same content e f = cc
 
+-- a piece that bridges two pairs leads both nets from the one to the other
+pub bridge_first : (R : ℕ → ℕ → Type 0) (m n : Graph) (a b c d last : ℕ) (nest : List Group) (x : Piece) (ps : List Piece) (w : List ℕ) → Bridges R m n a b c d x → ((v : List ℕ) → Spells nest ps v → Crossing nest m c v last) → Spells nest (x ∷ ps) w → Crossing nest m a w last
+bridge_first R m n a b c d last nest (Symbol s) ps w r rest spells = cross_symbol r.first r.of_first r.takes_first (λ v y. subst (λ (k : ℕ). Crossing nest m k v last) (sym r.to_first) (rest v y)) spells
+bridge_first R m n a b c d last nest (Groups g h) ps w r rest spells = cross_first r.first r.of_first r.over_first (λ v y. subst (λ (k : ℕ). Crossing nest m k v last) (sym r.to_first) (rest v y)) spells
+
+pub bridge_second : (R : ℕ → ℕ → Type 0) (m n : Graph) (a b c d last : ℕ) (nest : List Group) (x : Piece) (ps : List Piece) (w : List ℕ) → Bridges R m n a b c d x → ((v : List ℕ) → Spells nest ps v → Crossing nest n d v last) → Spells nest (x ∷ ps) w → Crossing nest n b w last
+bridge_second R m n a b c d last nest (Symbol s) ps w r rest spells = cross_symbol r.second r.of_second r.takes_second (λ v y. subst (λ (k : ℕ). Crossing nest n k v last) (sym r.to_second) (rest v y)) spells
+bridge_second R m n a b c d last nest (Groups g h) ps w r rest spells = cross_second r.second r.of_second r.over_second (λ v y. subst (λ (k : ℕ). Crossing nest n k v last) (sym r.to_second) (rest v y)) spells
+
+pub bridge_related : (R : ℕ → ℕ → Type 0) (m n : Graph) (a b c d : ℕ) (x : Piece) → Bridges R m n a b c d x → IsRelated R x
+bridge_related R m n a b c d (Symbol s) r = tt
+bridge_related R m n a b c d (Groups g h) r = r.related
+
 -- the pieces so far, gone on from one step earlier: by a piece, or by an empty move
 pub traced_none : (R : ℕ → ℕ → Type 0) (m n : Graph) (steps : List ReachedPair) (at : ℕ) (s : ReachedPair) → IsAt steps at s → IsTraced R m n steps at at []
 traced_none R m n steps at s e = record { first = s; last = s; begins = e; ends = e; related = All-nil (IsRelated R); crosses_first = λ nest w x. cross_none x; crosses_second = λ nest w x. cross_none x }
 
 pub traced_piece : (R : ℕ → ℕ → Type 0) {m n : Graph} {steps : List ReachedPair} {at place from : ℕ} {ps : List Piece} (x : Piece) (s p : ReachedPair) → IsAt steps at s → IsAt steps from p → Bridges R m n p.first p.second s.first s.second x → IsTraced R m n steps at place ps → IsTraced R m n steps from place (x ∷ ps)
-traced_piece R {m} {n} {steps} {at} {place} {from} {ps} (Symbol x) s p here up r t =
+traced_piece R {m} {n} {steps} {at} {place} {from} {ps} x s p here up r t =
     let same : t.first ≡ s = some_same _ _ _ t.begins here in
     record {
       first = p;
       last = t.last;
       begins = up;
       ends = t.ends;
-      related = All-cons (IsRelated R) (Symbol x) ps tt t.related;
-      crosses_first = λ nest w y. cross_symbol r.first r.of_first r.takes_first (λ v z. subst (λ (k : ℕ). Crossing nest m k v t.last.first) (ap (λ s. s.first) same ∙ sym r.to_first) (t.crosses_first nest v z)) y;
-      crosses_second = λ nest w y. cross_symbol r.second r.of_second r.takes_second (λ v z. subst (λ (k : ℕ). Crossing nest n k v t.last.second) (ap (λ s. s.second) same ∙ sym r.to_second) (t.crosses_second nest v z)) y;
-    }
-traced_piece R {m} {n} {steps} {at} {place} {from} {ps} (Groups g h) s p here up r t =
-    let same : t.first ≡ s = some_same _ _ _ t.begins here in
-    record {
-      first = p;
-      last = t.last;
-      begins = up;
-      ends = t.ends;
-      related = All-cons (IsRelated R) (Groups g h) ps r.related t.related;
-      crosses_first = λ nest w y. cross_first r.first r.of_first r.over_first (λ v z. subst (λ (k : ℕ). Crossing nest m k v t.last.first) (ap (λ s. s.first) same ∙ sym r.to_first) (t.crosses_first nest v z)) y;
-      crosses_second = λ nest w y. cross_second r.second r.of_second r.over_second (λ v z. subst (λ (k : ℕ). Crossing nest n k v t.last.second) (ap (λ s. s.second) same ∙ sym r.to_second) (t.crosses_second nest v z)) y;
+      related = All-cons (IsRelated R) x ps (bridge_related R m n p.first p.second s.first s.second x r) t.related;
+      crosses_first = λ nest w y. bridge_first R m n p.first p.second s.first s.second t.last.first nest x ps w r (λ v z. subst (λ (k : ℕ). Crossing nest m k v t.last.first) (ap (λ s. s.first) same) (t.crosses_first nest v z)) y;
+      crosses_second = λ nest w y. bridge_second R m n p.first p.second s.first s.second t.last.second nest x ps w r (λ v z. subst (λ (k : ℕ). Crossing nest n k v t.last.second) (ap (λ s. s.second) same) (t.crosses_second nest v z)) y;
     }
 
 pub traced_move : (R : ℕ → ℕ → Type 0) {m n : Graph} {steps : List ReachedPair} {at place from : ℕ} {ps : List Piece} (s p : ReachedPair) → IsAt steps at s → IsAt steps from p → IsLink R m n steps at s → s.from ≡ from → (Strides R m n p.first p.second s.first s.second → ⊥) → IsTraced R m n steps at place ps → IsTraced R m n steps from place ps

@@ -1,8 +1,15 @@
 -- Rounds that try which groups of a nest share a word.
 use Rattle.std.specs.Prelude.{◌≡◌, ℕ, ◌<◌, ◌≤◌, Bool, true, false, List}
-use Rattle.xs_auto.specs.Nests.{Group}
+use Rattle.xs_auto.specs.Nests.{Group, IsFenced}
 use Rattle.xs_meet.specs.Closed.{AreSettled}
-use Rattle.xs_meet.specs.Sharing.{Sharing, AreKnown, IsSharing, left_over}
+use Rattle.xs_meet.specs.Sharing.{Sharing, AreKnown, IsSharing, HasRoom, left_over}
+
+-- a round can go on: the nest is fenced, there are as many cells as the contents of two groups take,
+-- and groups that are known to share a word do
+pub record CanTry (nest : List Group) (cells : ℕ) (s : Sharing) : Type 0 where
+  pub fenced : IsFenced nest
+  pub room : HasRoom nest cells
+  pub sharing : IsSharing nest s
 
 -- the groups that P means were tried: either some were found to share a word, or all is as it was
 -- and each two of them are settled

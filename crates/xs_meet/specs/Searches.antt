@@ -6,9 +6,11 @@ use Rattle.xs_auto.specs.declared.call.Call.{Call}
 use Rattle.xs_auto.specs.Edges.{Edge}
 use Rattle.xs_meet.specs.declared.reached_pair.ReachedPair.{ReachedPair}
 use Rattle.xs_meet.specs.declared.layer.Layer.{Layer}
+use Rattle.xs_meet.specs.declared.seat.Seat.{Seat}
 use Rattle.xs_auto.specs.Marks.{Marks, marked_at}
 use Rattle.xs_auto.specs.Nets.{Graph, states, final_at, Walks}
 use Rattle.xs_meet.specs.Closed.{Drifts, Strides, Leads, IsClosed}
+use Rattle.xs_meet.specs.Seats.{start_of, other_of}
 
 -- a step to the pair of a and b, from the place `from`
 abbrev pub step : ℕ → ℕ → ℕ → ReachedPair
@@ -138,21 +140,12 @@ pub record ClosesDrifts (m n : Graph) (old new : Layer) : Type 0 where
 
 -- the step at place s.from of `steps` has a final first state, and s has its second one beside the
 -- start of the other net
-pub record Turns (n : Graph) (start : ℕ) (steps : List ReachedPair) (s : ReachedPair) : Type 0 where
+pub record Seeds (seat : Seat) (n : Graph) (start : ℕ) (steps : List ReachedPair) (s : ReachedPair) : Type 0 where
   pub end : ReachedPair
   pub at : IsAt steps s.from end
   pub final : final_at n end.first ≡ true
-  pub first : s.first ≡ end.second
-  pub second : s.second ≡ start
-
--- the step at place s.from of `steps` has a final first state, and s has the start of the other net
--- beside its second one
-pub record Returns (n : Graph) (start : ℕ) (steps : List ReachedPair) (s : ReachedPair) : Type 0 where
-  pub end : ReachedPair
-  pub at : IsAt steps s.from end
-  pub final : final_at n end.first ≡ true
-  pub first : s.first ≡ start
-  pub second : s.second ≡ end.second
+  pub starts : start_of seat s.first s.second ≡ start
+  pub other : other_of seat s.first s.second ≡ end.second
 
 -- edges that read a common symbol, or calls of groups that R relates, lead from the step at place
 -- s.from of `steps` to s

@@ -7,13 +7,14 @@ use Rattle.xs_meet.specs.declared.piece.Piece.{Piece}
 use Rattle.xs_meet.specs.declared.piece.Piece.TheVariants.{Symbol, Groups}
 use Rattle.xs_meet.specs.declared.reached_pair.ReachedPair.{ReachedPair}
 use Rattle.xs_meet.specs.declared.layer.Layer.{Layer}
+use Rattle.xs_meet.specs.declared.seat.Seat.TheVariants.{First, Second}
 use Rattle.xs_meet.specs.declared.trace.Trace.{Trace}
 use Rattle.xs_meet.specs.declared.overlap.Reached.{Reached}
 use Rattle.xs_meet.specs.declared.overlap.LapPieces.{LapPieces}
 use Rattle.xs_meet.specs.Closed.{Drifts, ReadsBoth, CallsBoth, Leads, IsClosed}
 use Rattle.xs_meet.specs.Pieces.{Spells}
 use Rattle.xs_meet.specs.Shared.{IsSharedOver, AreOverlapOver}
-use Rattle.xs_meet.specs.Searches.{IsAt, IsFound, InNets, IsChained, Turns, Returns, Departs}
+use Rattle.xs_meet.specs.Searches.{IsAt, IsFound, InNets, IsChained, Seeds, Departs}
 
 -- R relates the groups of the piece, if it has any
 abbrev pub IsRelated : (ℕ → ℕ → Type 0) → Piece → Type 0
@@ -69,7 +70,7 @@ pub record IsTurn (a b : Graph) (start : ℕ) (fronts : List ReachedPair) (s : R
 pub record IsTurns (a b : Graph) (start : ℕ) (fronts : List ReachedPair) (l : Layer) : Type 0 where
   pub range : InNets a b l.steps.items
   pub turned : (k : ℕ) (s : ReachedPair) → IsAt l.steps.items k s → IsTurn a b start fronts s
-  pub there : (s : ReachedPair) → Turns a start fronts s → IsFound l.steps.items s.first s.second
+  pub there : (s : ReachedPair) → Seeds Second a start fronts s → IsFound l.steps.items s.first s.second
   pub closed : IsClosed (Drifts a b) (IsFound l.steps.items)
 
 -- the four phases: pairs of front states that one word reaches; turns; pairs that one symbol or call
@@ -81,7 +82,7 @@ pub record AreReached (R : ℕ → ℕ → Type 0) (a b : Graph) (r : Reached) :
   pub fronts : IsSeeded R a a (IsRoot a a) r.fronts
   pub turns : IsTurns a b start r.fronts.steps.items r.turns
   pub middles : IsSeeded R a b (Departs R a b r.turns.steps.items) r.middles
-  pub rests : IsSeeded R b b (Returns a start r.middles.steps.items) r.rests
+  pub rests : IsSeeded R b b (Seeds First a start r.middles.steps.items) r.rests
 
 -- whatever word the pieces spell over a nest, both nets accept it
 pub record ArePieces (R : ℕ → ℕ → Type 0) (m n : Graph) (ps : List Piece) : Type 0 where

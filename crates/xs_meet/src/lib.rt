@@ -14,6 +14,7 @@ mod overlap;
 mod piece;
 mod reached_pair;
 mod rounds;
+mod seat;
 mod seeds;
 mod shared;
 mod shared_groups;
@@ -22,4 +23,5 @@ mod trace;
 
 pub use meet::{meet_nested, meet_word};
 pub use overlap::{Overlap, overlap_nested, overlap_word};
+pub use seat::Seat;
 pub use shared::Shared;

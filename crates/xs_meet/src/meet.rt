@@ -19,6 +19,7 @@ use xs_class::{Memory, Word};
 ///
 /// The pairs are marked in the first map. Takes time linear in the pairs that are reached, times
 /// the edges and moves of their states, and 16 bytes for each pair.
+#[tactic(auto, using(crate::proofs::AloneLemmas::fenced_alone, crate::proofs::AloneLemmas::shared_alone, crate::proofs::AloneLemmas::tame_alone))]
 pub fn meet_word(alloc: Global, a: &Net, b: &Net, pairs: &mut Pairs) -> Result<Option<Word>, Memory>
     requires start_a { IsSome a.now.start }
     requires start_b { IsSome b.now.start }

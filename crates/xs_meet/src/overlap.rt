@@ -1,6 +1,7 @@
 ghost use Rattle.std.specs.Prelude.{◌≡◌, ℕ, ◌<◌, ◌*◌, ◌≤◌, List, Some, IsSome, IfOk, IfSome, IfNone};
 ghost use Rattle.xs_auto.specs.{states, IsFenced, IsTame};
-ghost use Rattle.xs_meet.specs.Searches.{InNets, EndsBoth, Returns, Departs};
+ghost use Rattle.xs_meet.specs.Searches.{InNets, EndsBoth, Seeds, Departs};
+ghost use Rattle.xs_meet.specs.declared.seat.Seat.TheVariants.{First};
 ghost use Rattle.xs_meet.specs.Shared.{AreOverlap, AreOverlapOver};
 ghost use Rattle.xs_meet.specs.Sharing.{AreKnown, IsSharedOf};
 ghost use Rattle.xs_meet.specs.Traces.{IsSeeded, IsTurns, AreReached, AreLapPieces};
@@ -9,6 +10,7 @@ use crate::layer::Layer;
 use crate::meet::{final_pair, reach};
 use crate::piece::Piece;
 use crate::reached_pair::ReachedPair;
+use crate::seat::Seat;
 use crate::shared::Shared;
 use crate::trace::{piece_between, read_trace};
 use std::alloc::Global;
@@ -47,6 +49,7 @@ pub struct LapPieces {
 ///
 /// Uses all three maps. Takes time linear in the pairs that are reached, times the edges and moves
 /// of their states, and 16 bytes for each pair.
+#[tactic(auto, using(crate::proofs::AloneLemmas::fenced_alone, crate::proofs::AloneLemmas::shared_alone, crate::proofs::AloneLemmas::tame_alone))]
 pub fn overlap_word(
     alloc: Global,
     a: &Net,
@@ -154,7 +157,7 @@ fn reach_turns(
 {
     pairs.clear(1);
     let mut layer = Layer::new(alloc, 1, a, b);
-    layer.seed_turns(pairs, fronts, a, start)?;
+    layer.seed_ends(pairs, Seat::Second, fronts, a, start)?;
     layer.close_drifts(pairs, a, b)?;
     Ok(layer)
 }
@@ -196,11 +199,11 @@ fn reach_rests(
     requires range { InNets a.now b.now middles.now }
     requires room { states b.now * states b.now ≤ pairs.old.cells }
     ensures cells { pairs.new.cells ≡ pairs.old.cells }
-    ensures ok { IfOk result (IsSeeded (AreKnown shared.now) b.now b.now (Returns a.now start middles.now)) }
+    ensures ok { IfOk result (IsSeeded (AreKnown shared.now) b.now b.now (Seeds First a.now start middles.now)) }
 {
     pairs.clear(0);
     let mut layer = Layer::new(alloc, 0, b, b);
-    layer.seed_returns(pairs, middles, a, start)?;
+    layer.seed_ends(pairs, Seat::First, middles, a, start)?;
     layer.close(pairs, shared, b, b)?;
     Ok(layer)
 }

@@ -1,7 +1,7 @@
 ghost use Rattle.std.specs.Prelude.{◌≡◌, ◌<◌, ◌+◌, ◌↔◌, ℕ, true, length, IfOk, IsTrue};
 ghost use Rattle.xs_auto.specs.{group_at, HaveOneFence, IsFenced, AreShared};
-ghost use Rattle.xs_meet.specs.Rounds.{Tries, AreThese, AreFrom, AreWithin};
-ghost use Rattle.xs_meet.specs.Sharing.{has_at, HasRoom, IsSharing, IsSharedOf};
+ghost use Rattle.xs_meet.specs.Rounds.{CanTry, Tries, AreThese, AreFrom, AreWithin};
+ghost use Rattle.xs_meet.specs.Sharing.{has_at, HasRoom, IsSharedOf};
 
 use crate::meet::meet_pieces;
 use crate::shared::Shared;
@@ -29,9 +29,7 @@ impl Shared {
 
     /// One round: tries each two groups, and says whether any were found to share a word.
     fn try_all(&mut self, alloc: Global, nest: &Nest, pairs: &mut Pairs) -> Result<bool, Memory>
-        requires fenced { IsFenced nest.now }
-        requires room { HasRoom nest.now pairs.old.cells }
-        requires sharing { IsSharing nest.now self.old }
+        requires ready { CanTry nest.now pairs.old.cells self.old }
         ensures cells { pairs.new.cells ≡ pairs.old.cells }
         ensures ok { IfOk result (Tries nest.now (AreWithin (length nest.now) (length nest.now)) self.old self.new) }
     {
@@ -51,9 +49,7 @@ impl Shared {
         first: u32,
         pairs: &mut Pairs,
     ) -> Result<bool, Memory>
-        requires fenced { IsFenced nest.now }
-        requires room { HasRoom nest.now pairs.old.cells }
-        requires sharing { IsSharing nest.now self.old }
+        requires ready { CanTry nest.now pairs.old.cells self.old }
         requires first { first < length nest.now }
         ensures cells { pairs.new.cells ≡ pairs.old.cells }
         ensures ok { IfOk result (Tries nest.now (AreFrom first (length nest.now)) self.old self.new) }
@@ -75,9 +71,7 @@ impl Shared {
         second: u32,
         pairs: &mut Pairs,
     ) -> Result<bool, Memory>
-        requires fenced { IsFenced nest.now }
-        requires room { HasRoom nest.now pairs.old.cells }
-        requires sharing { IsSharing nest.now self.old }
+        requires ready { CanTry nest.now pairs.old.cells self.old }
         requires first { first < length nest.now }
         requires second { second < length nest.now }
         ensures cells { pairs.new.cells ≡ pairs.old.cells }

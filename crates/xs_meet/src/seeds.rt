@@ -1,10 +1,12 @@
 ghost use Rattle.std.specs.Prelude.{◌≡◌, ◌<◌, OnOk};
 ghost use Rattle.xs_auto.specs.{states};
-ghost use Rattle.xs_meet.specs.Searches.{Fits, Extends, IsFor, InNets, InStates, Turns, Returns, Departs};
+ghost use Rattle.xs_meet.specs.Searches.{Fits, Extends, IsFor, InNets, InStates, Seeds, Departs};
+ghost use Rattle.xs_meet.specs.Seats.{start_of, other_of};
 ghost use Rattle.xs_meet.specs.Sharing.{AreKnown};
 
 use crate::layer::Layer;
 use crate::reached_pair::ReachedPair;
+use crate::seat::Seat;
 use crate::shared::Shared;
 use xs_auto::{Net, Pairs};
 use xs_class::Memory;
@@ -12,56 +14,28 @@ use xs_class::Memory;
 impl Layer {
     /// Visits, for each step of another layer whose first state is final, the pair of its second
     /// state and the start of the other net.
-    pub fn seed_turns(
+    pub fn seed_ends(
         &mut self,
         pairs: &mut Pairs,
+        seat: Seat,
         steps: &[ReachedPair],
         net: &Net,
         start: u32,
     ) -> Result<(), Memory>
         requires fits { Fits self.old pairs.old }
-        requires range { InStates (states net.now) self.old.height steps.now }
-        requires start { start < self.old.width }
+        requires range { InStates (states net.now) (other_of seat self.old.height self.old.width) steps.now }
+        requires start { start < start_of seat self.old.height self.old.width }
         ensures cells { pairs.new.cells ≡ pairs.old.cells }
         ensures fits { OnOk result (Fits self.new pairs.new) }
-        ensures ok { OnOk result (Extends (Turns net.now start steps.now) self.old self.new) }
+        ensures ok { OnOk result (Extends (Seeds seat net.now start steps.now) self.old self.new) }
     {
         'places: for place in 0..steps.len() {
             let end = steps[place];
             if net.is_final(end.first) {
+                let (first, second) = seat.pair(start, end.second);
                 let seed = ReachedPair {
-                    first: end.second,
-                    second: start,
-                    from: place,
-                };
-                self.visit(pairs, seed)?;
-            }
-        }
-        Ok(())
-    }
-
-    /// Visits, for each step of another layer whose first state is final, the pair of the start of
-    /// the other net and its second state.
-    pub fn seed_returns(
-        &mut self,
-        pairs: &mut Pairs,
-        steps: &[ReachedPair],
-        net: &Net,
-        start: u32,
-    ) -> Result<(), Memory>
-        requires fits { Fits self.old pairs.old }
-        requires range { InStates (states net.now) self.old.width steps.now }
-        requires start { start < self.old.height }
-        ensures cells { pairs.new.cells ≡ pairs.old.cells }
-        ensures fits { OnOk result (Fits self.new pairs.new) }
-        ensures ok { OnOk result (Extends (Returns net.now start steps.now) self.old self.new) }
-    {
-        'places: for place in 0..steps.len() {
-            let end = steps[place];
-            if net.is_final(end.first) {
-                let seed = ReachedPair {
-                    first: start,
-                    second: end.second,
+                    first,
+                    second,
                     from: place,
                 };
                 self.visit(pairs, seed)?;

@@ -1,19 +1,7 @@
 use Rattle.std.proofs.Common.{ℕ, List}
 use Rattle.xs_meet.specs.Shared.{IsShared, IsSharedOver}
-use Rattle.xs_meet.proofs.AloneLemmas.{tame_alone, fenced_alone, shared_alone, word_alone, word_over, ok_some, ok_none}
+use Rattle.xs_meet.proofs.AloneLemmas.{word_alone, word_over, ok_some, ok_none}
 use Rattle.xs_meet.proofs.meet.meet_word.Goals as goal
-
-pub meet_nested-requires-clause-fenced : goal.meet_nested-requires-clause-fenced
-meet_nested-requires-clause-fenced c = fenced_alone c.in_ok-nest.nest c.in_ok-nest.ensures
-
-pub meet_nested-requires-clause-shared : goal.meet_nested-requires-clause-shared
-meet_nested-requires-clause-shared c = shared_alone c.in_ok-nest.nest c.in_ok-shared.shared c.in_ok-nest.ensures c.in_ok-shared.ensures
-
-pub meet_nested-requires-clause-tame_a : goal.meet_nested-requires-clause-tame_a
-meet_nested-requires-clause-tame_a c = tame_alone c.in_ok-nest.nest c.args.a.now c.in_ok-nest.ensures c.requires.start_a
-
-pub meet_nested-requires-clause-tame_b : goal.meet_nested-requires-clause-tame_b
-meet_nested-requires-clause-tame_b c = tame_alone c.in_ok-nest.nest c.args.b.now c.in_ok-nest.ensures c.requires.start_b
 
 pub returns-clause-some : goal.returns-clause-some
 returns-clause-some c = ok_some (IsSharedOver c.in_ok-nest.nest c.args.a.now c.args.b.now) (IsShared c.args.a.now c.args.b.now) c.meet_nested.result (λ w s. word_alone c.in_ok-nest.nest c.args.a.now c.args.b.now w c.in_ok-nest.ensures s) c.meet_nested.ensures.some

@@ -1,19 +1,7 @@
 use Rattle.std.proofs.Common.{ℕ, List}
 use Rattle.xs_meet.specs.Shared.{AreOverlap, AreOverlapOver}
-use Rattle.xs_meet.proofs.AloneLemmas.{tame_alone, fenced_alone, shared_alone, lap_alone, lap_over, ok_some, ok_none}
+use Rattle.xs_meet.proofs.AloneLemmas.{lap_alone, lap_over, ok_some, ok_none}
 use Rattle.xs_meet.proofs.overlap.overlap_word.Goals as goal
-
-pub overlap_nested-requires-clause-fenced : goal.overlap_nested-requires-clause-fenced
-overlap_nested-requires-clause-fenced c = fenced_alone c.in_ok-nest.nest c.in_ok-nest.ensures
-
-pub overlap_nested-requires-clause-shared : goal.overlap_nested-requires-clause-shared
-overlap_nested-requires-clause-shared c = shared_alone c.in_ok-nest.nest c.in_ok-shared.shared c.in_ok-nest.ensures c.in_ok-shared.ensures
-
-pub overlap_nested-requires-clause-tame_a : goal.overlap_nested-requires-clause-tame_a
-overlap_nested-requires-clause-tame_a c = tame_alone c.in_ok-nest.nest c.args.a.now c.in_ok-nest.ensures c.requires.start_a
-
-pub overlap_nested-requires-clause-tame_b : goal.overlap_nested-requires-clause-tame_b
-overlap_nested-requires-clause-tame_b c = tame_alone c.in_ok-nest.nest c.args.b.now c.in_ok-nest.ensures c.requires.start_b
 
 pub returns-clause-some : goal.returns-clause-some
 returns-clause-some c = ok_some (λ w. AreOverlapOver c.in_ok-nest.nest c.args.a.now c.args.b.now w.x w.a w.y) (λ w. AreOverlap c.args.a.now c.args.b.now w.x w.a w.y) c.overlap_nested.result (λ w s. lap_alone c.in_ok-nest.nest c.args.a.now c.args.b.now w.x w.a w.y c.in_ok-nest.ensures s) c.overlap_nested.ensures.some

@@ -3,7 +3,8 @@ use Rattle.std.proofs.lemmas.List.Elements.{All-cons}
 use Rattle.std.proofs.lemmas.Option.{slice_get_within}
 use Rattle.xs_meet.specs.Traces.{IsRelated}
 use Rattle.xs_meet.specs.Sharing.{AreKnown}
-use Rattle.xs_meet.proofs.OverlapLemmas.{overlap, bridge_related, at_seed, departed_from, some_unless, some_holds}
+use Rattle.xs_meet.proofs.OverlapLemmas.{overlap, at_seed, departed_from, some_unless, some_holds}
+use Rattle.xs_meet.proofs.TraceLemmas.{bridge_related}
 use Rattle.xs_meet.proofs.overlap.read_overlap.Goals as goal
 
 pub read_trace-requires-2-clause-place : goal.read_trace-requires-2-clause-place

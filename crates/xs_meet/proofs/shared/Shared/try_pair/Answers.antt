@@ -17,5 +17,5 @@ returns-in_ok-add-in-Some-clause-ok c =
     let fence : HaveOneFence (group_at nest g) (group_at nest h) = c.if-not-have_one_fence.ensures.0 refl in
     let unknown : has_at s g h ≡ false = sym c.if-has.ensures in
     tries_added nest (AreThese g h) s c.add.new.self
-    (shared_add nest s c.add.new.self g h c.deref.result.now c.requires.sharing c.in_ok-add-in-Some.ensures.ok c.requires.first c.requires.second pieces.related (pieces_share nest (AreKnown s) g h c.deref.result.now c.requires.first c.requires.second fence pieces))
-    (shared_less s c.add.new.self g h c.deref.result.now c.requires.sharing.cells c.in_ok-add-in-Some.ensures.ok (rw c.requires.sharing.groups c.requires.first) (rw c.requires.sharing.groups c.requires.second) unknown)
+    (shared_add nest s c.add.new.self g h c.deref.result.now c.requires.ready.sharing c.in_ok-add-in-Some.ensures.ok c.requires.first c.requires.second pieces.related (pieces_share nest (AreKnown s) g h c.deref.result.now c.requires.first c.requires.second fence pieces))
+    (shared_less s c.add.new.self g h c.deref.result.now c.requires.ready.sharing.cells c.in_ok-add-in-Some.ensures.ok (rw c.requires.ready.sharing.groups c.requires.first) (rw c.requires.ready.sharing.groups c.requires.second) unknown)
