@@ -4,9 +4,10 @@ use Rattle.std.specs.Int.{bit_at}
 use Rattle.std.proofs.lemmas.Bool.{cases_eq, cases_lt}
 use Rattle.std.proofs.lemmas.Nat.{mul-add-lt}
 use Rattle.std.proofs.lemmas.Nat.Bits.{bit_at-zero}
-use Rattle.xs_closed.specs.Words.{grid_of, IsPacked}
+use Rattle.xs_closed.specs.Rows.{Grid}
+use Rattle.xs_closed.specs.Words.{grid_of, IsPacked, IsCleared}
 use Rattle.xs_closed.specs.Lanes.{HasNoRow, IsLane}
-use Rattle.xs_closed.proofs.WordLemmas.{pair_read, pair_blank, past_high, past_wide}
+use Rattle.xs_closed.proofs.WordLemmas.{rows_length, pair_read, pair_blank, past_high, past_wide}
 
 -- the words of a row are there
 pub row_within : (high wide step used : ℕ) (words : List ℕ) (a : ℕ) → IsPacked high wide step used words → a < high → a * step + step ≤ length words
@@ -16,13 +17,10 @@ row_within high wide step used words a h l = by step refl
     by zero e = subst (λ k. a * k + k ≤ length words) e (omega arith)
     by (suc n) e = omega (arith, h.room, mul-add-lt a step n high l (omega (arith, e)))
 
--- words of a row that are zeros now, and all others as they were
-pub record IsCleared (old new : List ℕ) (from to : ℕ) : Type 0 where
-  pub length : length new ≡ length old
-  pub zeros : (k : ℕ) → from ≤ k → k < to → get_or new k 0 ≡ 0
-  pub before : (k : ℕ) → k < from → get_or new k 0 ≡ get_or old k 0
-  pub after : (k : ℕ) → to ≤ k → get_or new k 0 ≡ get_or old k 0
+pub row_there : {high wide step used : ℕ} {words : List ℕ} {z : Grid} (a : ℕ) → IsPacked high wide step used words → grid_of high wide step words ≡ z → a < length z.rows → a * step + step ≤ length words
+row_there {high} {wide} {step} {used} {words} a h e l = row_within high wide step used words a h (rw (← e, rows_length high wide step words) at l)
 
+-- a table whose row was cleared
 pub cleared_packed : (high wide step used a : ℕ) (old new : List ℕ) → IsPacked high wide step used old → IsCleared old new (a * step) (a * step + step) → IsPacked high wide step used new
 cleared_packed high wide step used a old new h is = record {
   room = omega (arith, h.room, is.length);
@@ -63,8 +61,13 @@ row_cleared high wide step used a old new h l is = record {
         ]
 
 -- a word of a row
-pub lane_within : (high wide step used : ℕ) (words : List ℕ) (a place : ℕ) → IsPacked high wide step used words → a < high → place * 64 < wide → a * step + place < length words
+lane_within : (high wide step used : ℕ) (words : List ℕ) (a place : ℕ) → IsPacked high wide step used words → a < high → place * 64 < wide → a * step + place < length words
 lane_within high wide step used words a place h l m = let k : place < step = omega (arith, h.columns, m) in omega (arith, h.room, mul-add-lt a step place high l k)
+
+pub lane_inside : {high wide step used : ℕ} {words : List ℕ} {z : Grid} (a place : ℕ) → IsPacked high wide step used words → grid_of high wide step words ≡ z → a < length z.rows → place * 64 < z.wide → (a < high) × (a * step + place < length words)
+lane_inside {high} {wide} {step} {used} {words} a place h e l m =
+    let below = rw (← e, rows_length high wide step words) at l in
+    (below, lane_within high wide step used words a place h below (rw (← e) at m))
 
 pub lane_read : (high wide step : ℕ) (words : List ℕ) (a place word : ℕ) → a < high → word ≡ get_or words (a * step + place) 0 → IsLane (grid_of high wide step words) a place word
 lane_read high wide step words a place word l e = record {

@@ -1,14 +1,18 @@
 -- Pairs of one set that lead into another.
-use Rattle.std.proofs.Common.{◌≡◌, ℕ, true, false, List, refl, sym, ◌∙◌}
+use Rattle.std.proofs.Common.{◌≡◌, ℕ, ◌<◌, true, false, List, length, get_or, refl, sym, ◌∙◌}
 use Rattle.std.proofs.lemmas.Bool.{true≢false}
+use Rattle.std.specs.List.{All}
 use Rattle.std.specs.declared.option.Option.TheVariants.{Some, None}
 use Rattle.xs_class.proofs.Lists.{some_same}
-use Rattle.xs_auto.specs.Nets.{Graph, final_at}
+use Rattle.xs_auto.specs.Nets.{Graph, states, final_at}
+use Rattle.xs_meet.specs.declared.seat.Seat.{Seat}
 use Rattle.xs_meet.specs.Closed.{Strides}
+use Rattle.xs_meet.specs.Seats.{start_of, other_of}
+use Rattle.xs_meet.proofs.SeatLemmas.{seat_same, seat_within}
 use Rattle.xs_closed.specs.declared.pair.Pair.{Pair}
 use Rattle.xs_closed.specs.Rows.{Grid}
-use Rattle.xs_closed.specs.Least.{AreStarts, IsPastFront, IsStride, IsPastMiddle}
-use Rattle.xs_closed.specs.Search.{pair, HasPair, Adds, IsPair, OneOf, Turns, Returns}
+use Rattle.xs_closed.specs.Least.{AreStarts, IsPast, IsStride}
+use Rattle.xs_closed.specs.Search.{pair, HasPair, IsInside, KeepsSize, Adds, IsPair, OneOf, Turns}
 use Rattle.xs_closed.proofs.AddLemmas.{adds_as, adds_known}
 
 -- where both nets have a start, and where one has none
@@ -30,42 +34,35 @@ starts_first m n z ps none = adds_known (AreStarts m n) z ps (λ a b s. absurd (
 pub starts_second : (m n : Graph) (z : Grid) (ps : List Pair) → n.start ≡ None → Adds (AreStarts m n) z ps z ps
 starts_second m n z ps none = adds_known (AreStarts m n) z ps (λ a b s. absurd (no_start b n none s.second))
 
-pub turns_new : (front : Graph) (start : ℕ) (p : Pair) {y z : Grid} {ps qs : List Pair} → final_at front p.first ≡ true → Adds (IsPair p.second start) y ps z qs → Adds (Turns front start p) y ps z qs
-turns_new front start p final g = adds_as (IsPair p.second start) (Turns front start p) (λ c d k. record { final = final; first = k.first; second = k.second }) (λ c d t. record { first = t.first; second = t.second }) g
+-- the pair that an end gives is inside the table
+pub end_within : (seat : Seat) (front : Graph) (ends : List Pair) (k a b start : ℕ) {y z : Grid} → KeepsSize y z → All (IsInside (states front) (other_of seat (length y.rows) y.wide)) ends → start < start_of seat (length y.rows) y.wide → k < length ends → start_of seat a b ≡ start → other_of seat a b ≡ (get_or ends k (pair 0 0)).second → (a < length z.rows) × (b < z.wide)
+end_within seat front ends k a b start {y} {z} size inside low there e f =
+    rw (size.high, size.wide) (seat_within seat a b (length y.rows) y.wide start _ e f low (inside k (pair 0 0) there).second)
 
-pub turns_none : (front : Graph) (start : ℕ) (p : Pair) (z : Grid) (ps : List Pair) → final_at front p.first ≡ false → Adds (Turns front start p) z ps z ps
-turns_none front start p z ps shut = adds_known (Turns front start p) z ps (λ c d t. absurd (true≢false (sym t.final ∙ shut)))
+pub turns_new : (seat : Seat) (front : Graph) (start : ℕ) (p : Pair) (a b : ℕ) {y z : Grid} {ps qs : List Pair} → start_of seat a b ≡ start → other_of seat a b ≡ p.second → final_at front p.first ≡ true → Adds (IsPair a b) y ps z qs → Adds (Turns seat front start p) y ps z qs
+turns_new seat front start p a b e f final g = adds_as (IsPair a b) (Turns seat front start p) to back g
+  where
+    to : (c d : ℕ) → IsPair a b c d → Turns seat front start p c d
+    to c d k = rw (k.first, k.second) (record { final = final; starts = e; other = f })
 
-pub returns_new : (front : Graph) (start : ℕ) (p : Pair) {y z : Grid} {ps qs : List Pair} → final_at front p.first ≡ true → Adds (IsPair start p.second) y ps z qs → Adds (Returns front start p) y ps z qs
-returns_new front start p final g = adds_as (IsPair start p.second) (Returns front start p) (λ c d k. record { final = final; first = k.first; second = k.second }) (λ c d t. record { first = t.first; second = t.second }) g
+    back : (c d : ℕ) → Turns seat front start p c d → IsPair a b c d
+    back c d t = let both = seat_same seat c d a b (t.starts ∙ sym e) (t.other ∙ sym f) in record { first = both.0; second = both.1 }
 
-pub returns_none : (front : Graph) (start : ℕ) (p : Pair) (z : Grid) (ps : List Pair) → final_at front p.first ≡ false → Adds (Returns front start p) z ps z ps
-returns_none front start p z ps shut = adds_known (Returns front start p) z ps (λ c d t. absurd (true≢false (sym t.final ∙ shut)))
+pub turns_none : (seat : Seat) (front : Graph) (start : ℕ) (p : Pair) (z : Grid) (ps : List Pair) → final_at front p.first ≡ false → Adds (Turns seat front start p) z ps z ps
+turns_none seat front start p z ps shut = adds_known (Turns seat front start p) z ps (λ c d t. absurd (true≢false (sym t.final ∙ shut)))
 
 -- over all pairs of a list
-pub turns_all : (front rest : Graph) (start : ℕ) (fronts : List Pair) {y z : Grid} {ps qs : List Pair} → rest.start ≡ Some start → Adds (OneOf fronts (Turns front start)) y ps z qs → Adds (IsPastFront front rest (HasPair fronts)) y ps z qs
-turns_all front rest start fronts begin g = adds_as (OneOf fronts (Turns front start)) (IsPastFront front rest (HasPair fronts)) to back g
+pub turns_all : (seat : Seat) (front rest : Graph) (start : ℕ) (ends : List Pair) {y z : Grid} {ps qs : List Pair} → rest.start ≡ Some start → Adds (OneOf ends (Turns seat front start)) y ps z qs → Adds (IsPast seat front rest (HasPair ends)) y ps z qs
+turns_all seat front rest start ends begin g = adds_as (OneOf ends (Turns seat front start)) (IsPast seat front rest (HasPair ends)) to back g
   where
-    to : (c d : ℕ) → OneOf fronts (Turns front start) c d → IsPastFront front rest (HasPair fronts) c d
-    to c d t = record { state = t.item.first; within = rw t.leads.first t.has; final = t.leads.final; starts = rw t.leads.second begin }
+    to : (c d : ℕ) → OneOf ends (Turns seat front start) c d → IsPast seat front rest (HasPair ends) c d
+    to c d t = record { state = t.item.first; within = rw t.leads.other t.has; final = t.leads.final; starts = rw t.leads.starts begin }
 
-    back : (c d : ℕ) → IsPastFront front rest (HasPair fronts) c d → OneOf fronts (Turns front start) c d
-    back c d p = record { item = pair p.state c; has = p.within; leads = record { final = p.final; first = refl; second = some_same _ _ _ p.starts begin } }
+    back : (c d : ℕ) → IsPast seat front rest (HasPair ends) c d → OneOf ends (Turns seat front start) c d
+    back c d p = record { item = pair p.state (other_of seat c d); has = p.within; leads = record { final = p.final; starts = some_same _ _ _ p.starts begin; other = refl } }
 
-pub turns_nowhere : (front rest : Graph) (fronts : List Pair) (z : Grid) (ps : List Pair) → rest.start ≡ None → Adds (IsPastFront front rest (HasPair fronts)) z ps z ps
-turns_nowhere front rest fronts z ps none = adds_known (IsPastFront front rest (HasPair fronts)) z ps (λ c d p. absurd (no_start d rest none p.starts))
-
-pub returns_all : (front rest : Graph) (start : ℕ) (middles : List Pair) {y z : Grid} {ps qs : List Pair} → rest.start ≡ Some start → Adds (OneOf middles (Returns front start)) y ps z qs → Adds (IsPastMiddle front rest (HasPair middles)) y ps z qs
-returns_all front rest start middles begin g = adds_as (OneOf middles (Returns front start)) (IsPastMiddle front rest (HasPair middles)) to back g
-  where
-    to : (c d : ℕ) → OneOf middles (Returns front start) c d → IsPastMiddle front rest (HasPair middles) c d
-    to c d t = record { state = t.item.first; within = rw t.leads.second t.has; final = t.leads.final; starts = rw t.leads.first begin }
-
-    back : (c d : ℕ) → IsPastMiddle front rest (HasPair middles) c d → OneOf middles (Returns front start) c d
-    back c d p = record { item = pair p.state d; has = p.within; leads = record { final = p.final; first = some_same _ _ _ p.starts begin; second = refl } }
-
-pub returns_nowhere : (front rest : Graph) (middles : List Pair) (z : Grid) (ps : List Pair) → rest.start ≡ None → Adds (IsPastMiddle front rest (HasPair middles)) z ps z ps
-returns_nowhere front rest middles z ps none = adds_known (IsPastMiddle front rest (HasPair middles)) z ps (λ c d p. absurd (no_start c rest none p.starts))
+pub turns_nowhere : (seat : Seat) (front rest : Graph) (ends : List Pair) (z : Grid) (ps : List Pair) → rest.start ≡ None → Adds (IsPast seat front rest (HasPair ends)) z ps z ps
+turns_nowhere seat front rest ends z ps none = adds_known (IsPast seat front rest (HasPair ends)) z ps (λ c d p. absurd (no_start (start_of seat c d) rest none p.starts))
 
 -- where the pair leads by edges or calls
 abbrev pub Goes : (ℕ → ℕ → Type 0) → Graph → Graph → Pair → ℕ → ℕ → Type 0

@@ -1,5 +1,5 @@
 -- A table of marks in words: reading, setting and finding bits.
-use Rattle.std.proofs.Common.{◌≡◌, ◌≢◌, ℕ, zero, suc, ◌+◌, ◌-◌, ◌*◌, ◌/◌, ◌%◌, ◌^◌, ◌<◌, ◌≤◌, Bool, true, false, nat_eq, List, [], length, get_or, set, replicate, max, min, leb, ◌↔◌, bit_and, bit_or, w64, refl, sym, ap, ◌∙◌, inl, inr, arith, length-set, get_or-set_same, get_or-set_other}
+use Rattle.std.proofs.Common.{◌≡◌, ◌≢◌, ℕ, zero, suc, ◌+◌, ◌-◌, ◌*◌, ◌/◌, ◌%◌, ◌^◌, ◌<◌, ◌≤◌, Bool, true, false, nat_eq, List, [], length, get_or, set, replicate, max, min, leb, ◌↔◌, bit_and, w64, refl, sym, ap, ◌∙◌, inl, inr, arith, length-set, get_or-set_same, get_or-set_other}
 use Rattle.std.specs.Prelude.{IsTrue}
 use Rattle.std.specs.Int.{bit_at, bit_not, trailing_zeros}
 use Rattle.std.proofs.lemmas.Bool.{cases_eq, cases_lt, eqb-true, true≢false, leb-true, le-leb}
@@ -8,7 +8,7 @@ use Rattle.std.proofs.lemmas.List.FromFn.{length-map-range_with_len, get_or-map-
 use Rattle.std.proofs.lemmas.Nat.{mul-add-lt, and_le_l, same_from_place, shr-shr, shr_le}
 use Rattle.std.proofs.lemmas.Nat.Bits.{bit_at-zero, bit_at-lt, bit_at_and, bit_at_not, bit_at_set_same, bit_at_set_other, bit_at-trailing_zeros, bit_at_above}
 use Rattle.xs_closed.specs.Rows.{Grid, blank, marked, IsSized, Marks}
-use Rattle.xs_closed.specs.Words.{bit_in, row_in, grid_of, IsPacked, IsFirstBit, IsFirstLack}
+use Rattle.xs_closed.specs.Words.{bit_in, row_in, grid_of, with_pair, IsPacked, IsFirstBit, IsFirstLack}
 
 -- a row of the table
 row_read : (high wide step : ℕ) (words : List ℕ) (a : ℕ) → a < high → get_or (grid_of high wide step words).rows a [] ≡ row_in wide step words a
@@ -66,10 +66,16 @@ blank_grid high wide step words h = let f : List (List Bool) → Grid = (λ rs. 
 pub word_within : (high wide step used : ℕ) (words : List ℕ) (a b : ℕ) → IsPacked high wide step used words → a < high → b < wide → a * step + b / 64 < length words
 word_within high wide step used words a b h l m = let k : b / 64 < step = omega (arith, h.columns) in omega (arith, h.room, mul-add-lt a step (b / 64) high l k)
 
--- the words with the bit of a pair set
-abbrev pub with_pair : ℕ → List ℕ → ℕ → ℕ → List ℕ
-with_pair step words a b = set words (a * step + b / 64) (bit_or (get_or words (a * step + b / 64) 0) (1 * 2 ^ (b % 64) % 2 ^ 64))
+pub pair_inside : {high wide step used : ℕ} {words : List ℕ} {z : Grid} (a b : ℕ) → IsPacked high wide step used words → grid_of high wide step words ≡ z → a < length z.rows → b < z.wide → (a < high) × (b < wide) × (a * step + b / 64 < length words)
+pair_inside {high} {wide} {step} {used} {words} a b h e l m =
+    let below = rw (← e, rows_length high wide step words) at l in
+    let within = rw (← e) at m in
+    (below, within, word_within high wide step used words a b h below within)
 
+pub word_there : {high wide step used : ℕ} {words : List ℕ} {z : Grid} (a b : ℕ) → IsPacked high wide step used words → grid_of high wide step words ≡ z → a < length z.rows → b < z.wide → a * step + b / 64 < length words
+word_there a b h e l m = (pair_inside a b h e l m).2
+
+-- the bit of a pair that is set now, and another one
 bit_here : (step : ℕ) (words : List ℕ) (a b : ℕ) → a * step + b / 64 < length words → bit_in step (with_pair step words a b) a b ≡ true
 bit_here step words a b within = ap (λ w. nat_eq (bit_at w (b % 64)) 1) (get_or-set_same words (a * step + b / 64) _ 0 within) ∙ ap (λ x. nat_eq x 1) (bit_at_set_same w64 (get_or words (a * step + b / 64) 0) (b % 64) (omega arith))
 
@@ -135,6 +141,30 @@ low_bit word r fits some =
 pub lane_bit : (step : ℕ) (words : List ℕ) (a at b x : ℕ) → b / 64 ≡ at / 64 → bit_at (get_or words (a * step + at / 64) 0) (b % 64) ≡ x → bit_in step words a b ≡ nat_eq x 1
 lane_bit step words a at b x e f = rw (e, f) refl
 
+-- found is the lowest from some column on whose bit is set in the row
+pub record IsFirstIn (step : ℕ) (words : List ℕ) (a from found : ℕ) : Type 0 where
+  pub there : bit_in step words a found ≡ true
+  pub least : (b : ℕ) → from ≤ b → b < found → bit_in step words a b ≡ false
+
+-- the lowest bit that is set in the next word, and where there is none
+pub lane_first : (step : ℕ) (words : List ℕ) (a from at x i : ℕ) → ((b : ℕ) → from ≤ b → b < at → bit_in step words a b ≡ false) → x ≡ get_or words (a * step + at / 64) 0 → IsFirstBit x (at % 64) i → IsFirstIn step words a from (at / 64 * 64 + i)
+lane_first step words a from at x i none e first = record {
+  there = let m : (at / 64 * 64 + i) % 64 ≡ i = omega (arith, first.within) in lane (at / 64 * 64 + i) 1 (omega (arith, first.within)) (ap (bit_at x) m ∙ first.there);
+  least = λ b l m. elim (cases_lt b at) [
+    | inl k ↦ none b l k
+    | inr k ↦ lane b 0 (omega (arith, first.within)) (first.least (b % 64) (omega (arith, first.within)) (omega (arith, first.within)))
+  ];
+}
+  where
+    lane : (b y : ℕ) → b / 64 ≡ at / 64 → bit_at x (b % 64) ≡ y → bit_in step words a b ≡ nat_eq y 1
+    lane b y f g = lane_bit step words a at b y f (ap (λ w. bit_at w (b % 64)) (sym e) ∙ g)
+
+pub lane_none : (step : ℕ) (words : List ℕ) (a from at x : ℕ) → ((b : ℕ) → from ≤ b → b < at → bit_in step words a b ≡ false) → x ≡ get_or words (a * step + at / 64) 0 → ((i : ℕ) → at % 64 ≤ i → bit_at x i ≡ 0) → (b : ℕ) → from ≤ b → b < (at / 64 + 1) * 64 → bit_in step words a b ≡ false
+lane_none step words a from at x none e blank b l m = elim (cases_lt b at) [
+  | inl k ↦ none b l k
+  | inr k ↦ lane_bit step words a at b 0 (omega arith) (ap (λ w. bit_at w (b % 64)) (sym e) ∙ blank (b % 64) (omega arith))
+]
+
 -- a word that lacks no bit of another, and one that lacks some: the lowest
 one_left : (p q r s : ℕ) → r ≡ min p q → q ≡ 1 - s → r ≡ 0 → p ≡ 1 → s < 2 → s ≡ 1
 one_left p q r s e f g h l = omega arith
@@ -185,6 +215,21 @@ lacks_here high below wide step other ws vs a c at x y i l m whole f g first nea
 pub lack_tells : (high below wide step other : ℕ) (ws vs : List ℕ) (a c at x y i : ℕ) → a < high → c < below → at % 64 ≡ 0 → x ≡ get_or ws (a * step + at / 64) 0 → y ≡ get_or vs (c * other + at / 64) 0 → IsFirstLack x y i → ((b : ℕ) → b < at → bit_in step ws a b ≡ true → bit_in other vs c b ≡ true) → IsTrue (leb wide (at + i)) ↔ ((b : ℕ) → marked (grid_of high wide step ws) a b ≡ true → marked (grid_of below wide other vs) c b ≡ true)
 lack_tells high below wide step other ws vs a c at x y i l m whole f g first kept =
     (λ e. row_kept high below wide step other ws vs a c l m (lacks_past step other ws vs a c at wide x y i whole f g first (leb-true wide (at + i) e) kept), λ p. elim (cases_lt (at + i) wide) [ inl near ↦ absurd (lacks_here high below wide step other ws vs a c at x y i l m whole f g first near p) | inr past ↦ le-leb wide (at + i) past ])
+
+-- two rows, and a word of each, of the same columns
+pub record AreBeside (high below step other : ℕ) (ws vs : List ℕ) (a c at x y : ℕ) : Type 0 where
+  pub row : a < high
+  pub other_row : c < below
+  pub theirs : x ≡ get_or ws (a * step + at / 64) 0
+  pub ours : y ≡ get_or vs (c * other + at / 64) 0
+
+pub beside : (high wide step below broad other : ℕ) (ws vs : List ℕ) {y z : Grid} (a c at u v : ℕ) → grid_of high wide step ws ≡ y → grid_of below broad other vs ≡ z → a < length y.rows → c < length z.rows → u ≡ get_or ws (a * step + at / 64) 0 → v ≡ get_or vs (c * other + at / 64) 0 → AreBeside high below step other ws vs a c at u v
+beside high wide step below broad other ws vs a c at u v e f l m g h = record {
+  row = rw (← e, rows_length high wide step ws) at l;
+  other_row = rw (← f, rows_length below broad other vs) at m;
+  theirs = g;
+  ours = h;
+}
 
 -- the bits of two words
 positive : (n : ℕ) → (n ≡ 0 → ⊥) → 0 < n

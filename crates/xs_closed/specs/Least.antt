@@ -1,7 +1,10 @@
 -- The least sets of pairs of states that are closed: those pairs that are reached.
 use Rattle.std.specs.Prelude.{◌≡◌, ◌↔◌, ℕ, true, Some}
 use Rattle.xs_auto.specs.Nets.{Graph, states, final_at}
+use Rattle.xs_meet.specs.declared.seat.Seat.{Seat}
+use Rattle.xs_meet.specs.declared.seat.Seat.TheVariants.{First, Second}
 use Rattle.xs_meet.specs.Closed.{Drifts, Strides, Leads, Marked}
+use Rattle.xs_meet.specs.Seats.{start_of, other_of}
 use Rattle.xs_closed.specs.Rows.{Grid, marked, IsSized}
 use Rattle.xs_closed.specs.declared.sets.CutSets.{CutSets}
 
@@ -15,12 +18,20 @@ pub record AreStarts (m n : Graph) (a b : ℕ) : Type 0 where
   pub first : m.start ≡ Some a
   pub second : n.start ≡ Some b
 
--- beside a final state the set has b, and r is the start of the rest
-pub record IsPastFront (front rest : Graph) (Z : ℕ → ℕ → Type 0) (b r : ℕ) : Type 0 where
+-- of a and b one is the start of the rest, and the other the set has beside a final state of the front
+pub record IsPast (seat : Seat) (front rest : Graph) (Z : ℕ → ℕ → Type 0) (a b : ℕ) : Type 0 where
   pub state : ℕ
-  pub within : Z state b
+  pub within : Z state (other_of seat a b)
   pub final : final_at front state ≡ true
-  pub starts : rest.start ≡ Some r
+  pub starts : rest.start ≡ Some (start_of seat a b)
+
+-- the start of the rest is the second of them
+abbrev pub IsPastFront : Graph → Graph → (ℕ → ℕ → Type 0) → ℕ → ℕ → Type 0
+IsPastFront = IsPast Second
+
+-- or the first
+abbrev pub IsPastMiddle : Graph → Graph → (ℕ → ℕ → Type 0) → ℕ → ℕ → Type 0
+IsPastMiddle = IsPast First
 
 -- edges or calls lead from a pair of the set to this one
 pub record IsStride (R : ℕ → ℕ → Type 0) (front rest : Graph) (Z : ℕ → ℕ → Type 0) (c d : ℕ) : Type 0 where
@@ -28,13 +39,6 @@ pub record IsStride (R : ℕ → ℕ → Type 0) (front rest : Graph) (Z : ℕ �
   pub rest_state : ℕ
   pub within : Z front_state rest_state
   pub stride : Strides R front rest front_state rest_state c d
-
--- beside a final state of the front the set has r, and s is the start of the rest
-pub record IsPastMiddle (front rest : Graph) (Z : ℕ → ℕ → Type 0) (s r : ℕ) : Type 0 where
-  pub state : ℕ
-  pub within : Z state r
-  pub final : final_at front state ≡ true
-  pub starts : rest.start ≡ Some s
 
 -- the least set that has the two starts and is closed
 abbrev pub Meeting : (ℕ → ℕ → Type 0) → Graph → Graph → ℕ → ℕ → Type 0

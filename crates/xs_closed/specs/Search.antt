@@ -5,7 +5,9 @@ use Rattle.xs_class.specs.Classes.{Has}
 use Rattle.xs_auto.specs.declared.call.Call.{Call}
 use Rattle.xs_auto.specs.Edges.{Edge}
 use Rattle.xs_auto.specs.Nets.{Graph, states, final_at}
+use Rattle.xs_meet.specs.declared.seat.Seat.{Seat}
 use Rattle.xs_meet.specs.Closed.{Marked}
+use Rattle.xs_meet.specs.Seats.{start_of, other_of}
 use Rattle.xs_closed.specs.declared.pair.Pair.{Pair}
 use Rattle.xs_closed.specs.Rows.{Grid, marked, IsSized}
 use Rattle.xs_closed.specs.Least.{Reach, IsTableOf}
@@ -71,17 +73,11 @@ pub record Joins (R : ℕ → ℕ → Type 0) (h k : Call) (c d : ℕ) : Type 0 
   pub to_first : h.to ≡ c
   pub to_second : k.to ≡ d
 
--- the first state of the pair is final, and c is its second one, beside the start
-pub record Turns (front : Graph) (start : ℕ) (p : Pair) (c d : ℕ) : Type 0 where
+-- the first state of the pair is final, and its second one is c or d, beside the start
+pub record Turns (seat : Seat) (front : Graph) (start : ℕ) (p : Pair) (c d : ℕ) : Type 0 where
   pub final : final_at front p.first ≡ true
-  pub first : c ≡ p.second
-  pub second : d ≡ start
-
--- the first state of the pair is final, and d is its second one, beside the start
-pub record Returns (front : Graph) (start : ℕ) (p : Pair) (c d : ℕ) : Type 0 where
-  pub final : final_at front p.first ≡ true
-  pub first : c ≡ start
-  pub second : d ≡ p.second
+  pub starts : start_of seat c d ≡ start
+  pub other : other_of seat c d ≡ p.second
 
 -- the table is for the states of the two nets
 pub record IsFor (m n : Graph) (z : Grid) : Type 0 where

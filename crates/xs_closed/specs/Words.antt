@@ -1,5 +1,5 @@
 -- A table of marks that is kept in words of 64 bits, each row in a whole number of words.
-use Rattle.std.specs.Prelude.{◌≡◌, ℕ, ◌+◌, ◌*◌, ◌/◌, ◌%◌, ◌≤◌, ◌<◌, Bool, nat_eq, List, map, length, get_or}
+use Rattle.std.specs.Prelude.{◌≡◌, ℕ, ◌+◌, ◌*◌, ◌/◌, ◌%◌, ◌^◌, ◌≤◌, ◌<◌, Bool, nat_eq, List, map, length, get_or, set, bit_or}
 use Rattle.std.specs.List.{range_with_len}
 use Rattle.std.specs.Int.{bit_at}
 use Rattle.xs_closed.specs.Rows.{Grid}
@@ -24,6 +24,10 @@ pub record IsPacked (high wide step used : ℕ) (words : List ℕ) : Type 0 wher
   pub within : used ≤ length words
   pub unused : (k : ℕ) → used ≤ k → get_or words k 0 ≡ 0
 
+-- the words with the bit of b set in row a
+abbrev pub with_pair : ℕ → List ℕ → ℕ → ℕ → List ℕ
+with_pair step words a b = set words (a * step + b / 64) (bit_or (get_or words (a * step + b / 64) 0) (1 * 2 ^ (b % 64) % 2 ^ 64))
+
 -- bit i is the lowest that is set in the word from one on
 pub record IsFirstBit (word from i : ℕ) : Type 0 where
   pub there : bit_at word i ≡ 1
@@ -37,3 +41,10 @@ pub record IsFirstLack (word other i : ℕ) : Type 0 where
   pub gone : bit_at other i ≡ 0
   pub within : i < 64
   pub least : (j : ℕ) → j < i → bit_at word j ≡ 1 → bit_at other j ≡ 1
+
+-- the words from one place up to another are zeros now, and all others are as they were
+pub record IsCleared (old new : List ℕ) (from to : ℕ) : Type 0 where
+  pub length : length new ≡ length old
+  pub zeros : (k : ℕ) → from ≤ k → k < to → get_or new k 0 ≡ 0
+  pub before : (k : ℕ) → k < from → get_or new k 0 ≡ get_or old k 0
+  pub after : (k : ℕ) → to ≤ k → get_or new k 0 ≡ get_or old k 0

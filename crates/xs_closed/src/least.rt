@@ -7,12 +7,13 @@ ghost use Rattle.xs_closed.specs.Least.{Reach, IsPastFront, IsStride, IsPastMidd
 ghost use Rattle.xs_closed.specs.Search.{IsInside, HasPair, AreFound};
 
 use crate::pair::Pair;
-use crate::seeds::{seed_middles, seed_pauses, seed_rests, seed_starts};
+use crate::seeds::{seed_ends, seed_middles, seed_starts};
 use crate::spread::{close, close_drifts};
 use crate::{CutSets, PairSet};
 use std::alloc::Global;
 use xs_auto::Net;
 use xs_class::Memory;
+use xs_meet::Seat;
 
 /// The least set that has the two starts and is closed; empty where one net has no start.
 ///
@@ -80,7 +81,7 @@ fn find_pauses(
 {
     let mut pairs = Vec::new(alloc);
     set.reset(front.len(), rest.len())?;
-    seed_pauses(set, &mut pairs, front, rest, fronts)?;
+    seed_ends(set, &mut pairs, Seat::Second, front, rest, fronts)?;
     close_drifts(set, &mut pairs, front, rest)?;
     Ok(pairs)
 }
@@ -118,7 +119,7 @@ fn find_rests(
 {
     let mut pairs = Vec::new(alloc);
     set.reset(rest.len(), rest.len())?;
-    seed_rests(set, &mut pairs, front, rest, middles)?;
+    seed_ends(set, &mut pairs, Seat::First, front, rest, middles)?;
     close(set, &mut pairs, related, rest, rest)?;
     Ok(())
 }

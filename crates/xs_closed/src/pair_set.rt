@@ -7,7 +7,7 @@ ghost use Rattle.xs_closed.specs.Lanes.{HasNoRow, IsLane};
 
 use std::alloc::Global;
 use std::marker::Model;
-use words::{clear_between, clear_words, first_bit, grow_words};
+use words::{clear_row_words, clear_words, first_bit, grow_words, set_bit, word_of};
 use xs_class::Memory;
 
 /// A set of pairs of numbers, each below a bound: a table with a bit for each pair.
@@ -87,8 +87,8 @@ impl PairSet {
         if a >= self.high || b >= self.wide {
             return false;
         }
-        let place = a as usize * self.step + (b / 64) as usize;
-        (self.words[place] >> (b % 64)) & 1 == 1
+        let word = word_of(&self.words, self.step, a, (b / 64) as usize);
+        (word >> (b % 64)) & 1 == 1
     }
 
     /// Puts a pair in, and says whether it was not there.
@@ -99,12 +99,9 @@ impl PairSet {
         ensures marks { Marks self.old self.new a b }
         ensures sized { IsSized (length self.old.rows) self.old.wide self.new }
     {
-        let place = a as usize * self.step + (b / 64) as usize;
-        let bit = b % 64;
-        let word = self.words[place];
-        self.words[place] = word | (1 << bit);
+        let (place, fresh) = set_bit(&mut self.words, self.step, a, b);
         self.used = self.used.max(place + 1);
-        (word >> bit) & 1 == 0
+        fresh
     }
 
     /// Takes all pairs of a number out.
@@ -115,9 +112,7 @@ impl PairSet {
         ensures clear { HasNoRow self.old self.new a }
         ensures sized { IsSized (length self.old.rows) self.old.wide self.new }
     {
-        let first = a as usize * self.step;
-        let end = first + self.step;
-        clear_between(&mut self.words, first, end);
+        clear_row_words(&mut self.words, self.step, a);
     }
 
     /// The partners of a number from 64 times a place on, as the bits of a word: its lowest bit is
@@ -127,7 +122,7 @@ impl PairSet {
         requires second { place * 64 < self.now.wide }
         ensures { IsLane self.now a place result }
     {
-        self.words[a as usize * self.step + place as usize]
+        word_of(&self.words, self.step, a, place as usize)
     }
 
     /// The least partner of a number that is at least `from`, if there is one.
@@ -140,11 +135,10 @@ impl PairSet {
         if a >= self.high {
             return None;
         }
-        let first = a as usize * self.step;
         let wide = self.wide as u64;
         let mut at = from as u64;
         'words: while at < wide {
-            let word = self.words[first + (at / 64) as usize];
+            let word = word_of(&self.words, self.step, a, (at / 64) as usize);
             if let Some(bit) = first_bit(word, (at % 64) as u32) {
                 let found = at / 64 * 64 + bit as u64;
                 return if found < wide {

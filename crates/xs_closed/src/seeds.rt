@@ -1,10 +1,10 @@
 ghost use Rattle.std.specs.Prelude.{◌≡◌, ◌<◌, OnOk, length};
 ghost use Rattle.std.specs.List.{All};
 ghost use Rattle.xs_auto.specs.{states};
-ghost use Rattle.xs_meet.specs.{Marked};
+ghost use Rattle.xs_meet.specs.{Marked, other_of, start_of};
 ghost use Rattle.xs_closed.specs.Rows.{marked};
-ghost use Rattle.xs_closed.specs.Least.{AreStarts, IsPastFront, IsStride, IsPastMiddle};
-ghost use Rattle.xs_closed.specs.Search.{IsListed, IsFor, IsInside, Adds, HasPair, OneOf, Turns, Returns};
+ghost use Rattle.xs_closed.specs.Least.{AreStarts, IsPast, IsStride};
+ghost use Rattle.xs_closed.specs.Search.{IsListed, IsFor, IsInside, Adds, HasPair, OneOf, Turns};
 
 use crate::PairSet;
 use crate::pair::Pair;
@@ -12,6 +12,7 @@ use crate::spread::stride;
 use crate::visits::visit;
 use xs_auto::Net;
 use xs_class::Memory;
+use xs_meet::Seat;
 
 /// Visits the pair of the two starts, if there are both.
 pub fn seed_starts(set: &mut PairSet, pairs: &mut Vec<Pair>, m: &Net, n: &Net) -> Result<(), Memory>
@@ -30,45 +31,48 @@ pub fn seed_starts(set: &mut PairSet, pairs: &mut Vec<Pair>, m: &Net, n: &Net) -
 }
 
 /// Visits, for each pair whose first state is final, its second one beside the start.
-fn seed_turns(
+fn turn_ends(
     set: &mut PairSet,
     pairs: &mut Vec<Pair>,
+    seat: Seat,
     front: &Net,
-    fronts: &[Pair],
+    ends: &[Pair],
     start: u32,
 ) -> Result<(), Memory>
     requires listed { IsListed set.old pairs.old.items }
-    requires start { start < set.old.wide }
-    requires inside { All (IsInside (states front.now) (length set.old.rows)) fronts.now }
+    requires start { start < start_of seat (length set.old.rows) set.old.wide }
+    requires inside { All (IsInside (states front.now) (other_of seat (length set.old.rows) set.old.wide)) ends.now }
     ensures listed { OnOk result (IsListed set.new pairs.new.items) }
-    ensures ok { OnOk result (Adds (OneOf fronts.now (Turns front.now start)) set.old pairs.old.items set.new pairs.new.items) }
+    ensures ok { OnOk result (Adds (OneOf ends.now (Turns seat front.now start)) set.old pairs.old.items set.new pairs.new.items) }
 {
-    'fronts: for at in fronts {
+    'ends: for at in ends {
         if front.is_final(at.first) {
-            visit(set, pairs, at.second, start)?;
+            let (first, second) = seat.pair(start, at.second);
+            visit(set, pairs, first, second)?;
         }
     }
     Ok(())
 }
 
-/// Visits, for each pair of front states whose first is final, its second one beside the start of
-/// the rest.
-pub fn seed_pauses(
+/// Visits, for each pair of which the first state, of the front, is final, its second one beside
+/// the start of the rest.
+pub fn seed_ends(
     set: &mut PairSet,
     pairs: &mut Vec<Pair>,
+    seat: Seat,
     front: &Net,
     rest: &Net,
-    fronts: &[Pair],
+    ends: &[Pair],
 ) -> Result<(), Memory>
-    requires nets { IsFor front.now rest.now set.old }
     requires listed { IsListed set.old pairs.old.items }
-    requires inside { All (IsInside (states front.now) (states front.now)) fronts.now }
+    requires rest { start_of seat (length set.old.rows) set.old.wide ≡ states rest.now }
+    requires inside { All (IsInside (states front.now) (other_of seat (length set.old.rows) set.old.wide)) ends.now }
     ensures listed { OnOk result (IsListed set.new pairs.new.items) }
-    ensures ok { OnOk result (Adds (IsPastFront front.now rest.now (HasPair fronts.now)) set.old pairs.old.items set.new pairs.new.items) }
+    ensures ok { OnOk result (Adds (IsPast seat front.now rest.now (HasPair ends.now)) set.old pairs.old.items set.new pairs.new.items) }
 {
     match rest.start() {
         None => Ok(()),
-        Some(start) => seed_turns(set, pairs, front, fronts, start),
+        Some(start) => turn_ends(set, pairs, seat, front, ends, start),
     }
 }
 
@@ -92,47 +96,4 @@ pub fn seed_middles(
         stride(set, pairs, related, front, rest, *at)?;
     }
     Ok(())
-}
-
-/// Visits, for each pair whose first state is final, the start beside its second one.
-fn seed_returns(
-    set: &mut PairSet,
-    pairs: &mut Vec<Pair>,
-    front: &Net,
-    middles: &[Pair],
-    start: u32,
-) -> Result<(), Memory>
-    requires listed { IsListed set.old pairs.old.items }
-    requires start { start < length set.old.rows }
-    requires inside { All (IsInside (states front.now) set.old.wide) middles.now }
-    ensures listed { OnOk result (IsListed set.new pairs.new.items) }
-    ensures ok { OnOk result (Adds (OneOf middles.now (Returns front.now start)) set.old pairs.old.items set.new pairs.new.items) }
-{
-    'middles: for at in middles {
-        if front.is_final(at.first) {
-            visit(set, pairs, start, at.second)?;
-        }
-    }
-    Ok(())
-}
-
-/// Visits, for each pair of a front and a rest state whose first is final, the start of the rest
-/// beside its second one.
-pub fn seed_rests(
-    set: &mut PairSet,
-    pairs: &mut Vec<Pair>,
-    front: &Net,
-    rest: &Net,
-    middles: &[Pair],
-) -> Result<(), Memory>
-    requires nets { IsFor rest.now rest.now set.old }
-    requires listed { IsListed set.old pairs.old.items }
-    requires inside { All (IsInside (states front.now) (states rest.now)) middles.now }
-    ensures listed { OnOk result (IsListed set.new pairs.new.items) }
-    ensures ok { OnOk result (Adds (IsPastMiddle front.now rest.now (HasPair middles.now)) set.old pairs.old.items set.new pairs.new.items) }
-{
-    match rest.start() {
-        None => Ok(()),
-        Some(start) => seed_returns(set, pairs, front, middles, start),
-    }
 }

@@ -4,6 +4,7 @@ ghost use Rattle.xs_closed.specs.Rows.{marked};
 ghost use Rattle.xs_closed.specs.Words.{IsFirstLack};
 
 use super::PairSet;
+use super::words::word_of;
 
 /// The lowest bit that is set in a word and not in another, if there is one.
 fn first_lack(word: u64, other: u64) -> Option<u32>
@@ -31,10 +32,8 @@ impl PairSet {
         let mut at = 0;
         'words: while at < wide {
             let place = (at / 64) as usize;
-            let there = a as usize * other.step + place;
-            let here = c as usize * self.step + place;
-            let theirs = other.words[there];
-            let ours = self.words[here];
+            let theirs = word_of(&other.words, other.step, a, place);
+            let ours = word_of(&self.words, self.step, c, place);
             if let Some(bit) = first_lack(theirs, ours) {
                 return at + bit as u64 >= wide;
             }

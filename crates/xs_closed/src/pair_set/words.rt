@@ -1,8 +1,33 @@
-ghost use Rattle.std.specs.Prelude.{◌≡◌, ℕ, ◌≤◌, ◌<◌, length, get_or, OnOk, IfSome, IfNone};
+ghost use Rattle.std.specs.Prelude.{◌≡◌, ℕ, ◌+◌, ◌*◌, ◌/◌, ◌≤◌, ◌<◌, length, get_or, not, OnOk, IfSome, IfNone};
 ghost use Rattle.std.specs.Int.{bit_at};
-ghost use Rattle.xs_closed.specs.Words.{IsFirstBit};
+ghost use Rattle.xs_closed.specs.Words.{bit_in, with_pair, IsCleared, IsFirstBit};
 
 use xs_class::Memory;
+
+/// A word of a row, where each row has that many.
+#[inline(always)]
+pub fn word_of(words: &[u64], step: usize, row: u32, place: usize) -> u64
+    requires { row * step + place < length words.now }
+    ensures { result ≡ get_or words.now (row * step + place) 0 }
+{
+    words[row as usize * step + place]
+}
+
+/// Sets the bit of a column in a row, where each row has that many words; gives the place of its
+/// word, and whether the bit was not set.
+#[inline(always)]
+pub fn set_bit(words: &mut Vec<u64>, step: usize, row: u32, column: u32) -> (usize, bool)
+    requires { row * step + column / 64 < length words.old.items }
+    ensures place { result.0 ≡ row * step + column / 64 }
+    ensures words { words.new.items ≡ with_pair step words.old.items row column }
+    ensures fresh { result.1 ≡ not (bit_in step words.old.items row column) }
+{
+    let place = row as usize * step + (column / 64) as usize;
+    let bit = column % 64;
+    let word = words[place];
+    words[place] = word | (1 << bit);
+    (place, (word >> bit) & 1 == 0)
+}
 
 /// Sets each word to 0, where none is used from some word on.
 pub fn clear_words(words: &mut Vec<u64>, used: usize)
@@ -16,16 +41,13 @@ pub fn clear_words(words: &mut Vec<u64>, used: usize)
     }
 }
 
-/// Sets the words from one place up to another to 0.
-pub fn clear_between(words: &mut Vec<u64>, from: usize, to: usize)
-    requires order { from ≤ to }
-    requires within { to ≤ length words.old.items }
-    ensures length { length words.new.items ≡ length words.old.items }
-    ensures zeros { (k : ℕ) → from ≤ k → k < to → get_or words.new.items k 0 ≡ 0 }
-    ensures before { (k : ℕ) → k < from → get_or words.new.items k 0 ≡ get_or words.old.items k 0 }
-    ensures after { (k : ℕ) → to ≤ k → get_or words.new.items k 0 ≡ get_or words.old.items k 0 }
+/// Sets the words of a row to 0, where each row has that many.
+pub fn clear_row_words(words: &mut Vec<u64>, step: usize, row: u32)
+    requires { row * step + step ≤ length words.old.items }
+    ensures { IsCleared words.old.items words.new.items (row * step) (row * step + step) }
 {
-    'places: for place in from..to {
+    let from = row as usize * step;
+    'places: for place in from..from + step {
         words[place] = 0;
     }
 }

@@ -1,5 +1,4 @@
-use Rattle.std.proofs.Common.{◌+◌, ◌*◌, ◌/◌, ◌∙◌, sym}
-use Rattle.std.proofs.lemmas.List.{get_or_read}
+use Rattle.std.proofs.Common.{◌∙◌, sym}
 use Rattle.xs_auto.proofs.BitLemmas.{held_bit}
 use Rattle.xs_closed.proofs.WordLemmas.{pair_read, past_high, past_wide, word_within}
 use Rattle.xs_closed.proofs.pair_set.PairSet.has.Goals as goal
@@ -13,9 +12,12 @@ returns-then-a-self c =
       | then-a-self-via-else-a-self+then-b-self w ↦ sym (past_wide p.high p.wide p.step p.words.items c.args.a c.args.b w.if-b-self.true)
     ])
 
+pub word_of-word-requires : goal.word_of-word-requires
+word_of-word-requires c =
+    let p = c.self.inside in
+    rw c.deref.ensures.value (word_within p.high p.wide p.step p.used p.words.items c.args.a c.args.b c.self.invariant c.if-a-self.false c.if-b-self.false)
+
 pub returns : goal.returns
 returns c =
     let p = c.self.inside in
-    let within = word_within p.high p.wide p.step p.used p.words.items c.args.a c.args.b c.self.invariant c.if-a-self.false c.if-b-self.false in
-    let word = get_or_read p.words.items (c.args.a * p.step + c.args.b / 64) c.index.result.now within c.index.ensures 0 in
-    held_bit c.index.result.now _ ∙ rw (word, ← c.self.view_is) (sym (pair_read p.high p.wide p.step p.words.items c.args.a c.args.b c.if-a-self.false c.if-b-self.false))
+    held_bit c.word_of-word.result _ ∙ rw (c.word_of-word.ensures, c.deref.ensures.value, ← c.self.view_is) (sym (pair_read p.high p.wide p.step p.words.items c.args.a c.args.b c.if-a-self.false c.if-b-self.false))
