@@ -4,7 +4,7 @@ use Rattle.std.specs.Int.{bit_at, trailing_zeros}
 use Rattle.std.proofs.lemmas.Bool.{cases_lt}
 use Rattle.std.proofs.lemmas.List.{drop-drop, get_or_past}
 use Rattle.std.proofs.lemmas.Nat.Bits.{bit_at-zero, bit_at-trailing_zeros, bit_at_above}
-use Rattle.xs_closed.specs.Rows.{Grid, places}
+use Rattle.xs_closed.specs.Rows.{Grid, places, IsSized}
 use Rattle.xs_closed.specs.Lanes.{IsLane}
 use Rattle.xs_closed.proofs.WordLemmas.{shifted}
 use Rattle.xs_cert_lines.specs.Reading.{listed}
@@ -75,6 +75,11 @@ pub lane_next : (row : List Bool) (from to left k : ℕ) → left < 2 ^ 64 → 0
     → IsNextBit row from to (left / 2 ^ trailing_zeros w64 left / 2 ^ 1) (from + k)
 lane_next row from to left k fits some e within is =
     subst (λ j. IsNextBit row from to (left / 2 ^ trailing_zeros w64 left / 2 ^ 1) (from + j)) (sym e) (next_bit row from to left fits some (subst (λ j. from + j < length row) e within) is)
+
+-- the next mark of a row of a table
+pub lane_found : (z : Grid) (a from to left k : ℕ) → a < length z.rows → IsSized (length z.rows) z.wide z → left < 2 ^ 64 → 0 < left → k ≡ trailing_zeros w64 left → from + k < z.wide → IsLeft (get_or z.rows a []) from to left
+    → IsNextBit (get_or z.rows a []) from to (left / 2 ^ trailing_zeros w64 left / 2 ^ 1) (from + k)
+lane_found z a from to left k l sized fits some e within is = lane_next (get_or z.rows a []) from to left k fits some e (omega (arith, sized.even a l, within)) is
 
 -- no mark is left
 pub no_bits : (row : List Bool) (from to : ℕ) → IsLeft row from to 0 → (b : ℕ) → from ≤ b → b < to → get_or row b false ≡ false

@@ -41,11 +41,12 @@ rows_more : (high wide low : ℕ) (rs : List Row) (r : Row) → AreRows high wid
 rows_more high wide low [] r are order within row = (order, within, row, tt)
 rows_more high wide low (q ∷ rs) r are order within row = (are.0, are.1, are.2, rows_more high wide (suc q.state) rs r are.3 order within row)
 
-or_same : (p q r : Bool) → ((p || q) || r) ≡ (p || (q || r))
-or_same true q r = refl
-or_same false q r = refl
+-- marks of one list and then of another
+pub or_assoc : (p q r : Bool) → ((p || q) || r) ≡ (p || (q || r))
+or_assoc true q r = refl
+or_assoc false q r = refl
 
-or_none : (p : Bool) → (p || false) ≡ p
+pub or_none : (p : Bool) → (p || false) ≡ p
 or_none true = refl
 or_none false = refl
 
@@ -53,7 +54,7 @@ holds_more : (rs : List Row) (r : Row) (a b : ℕ) → holds (rs ++ r ∷ []) a 
 holds_more [] r a b = or_none (nat_eq r.state a && has_number r.partners b)
 holds_more (q ∷ rs) r a b =
     ap (λ z. (nat_eq q.state a && has_number q.partners b) || z) (holds_more rs r a b)
-    ∙ sym (or_same (nat_eq q.state a && has_number q.partners b) (holds rs a b) (nat_eq r.state a && has_number r.partners b))
+    ∙ sym (or_assoc (nat_eq q.state a && has_number q.partners b) (holds rs a b) (nat_eq r.state a && has_number r.partners b))
 
 -- a table to which a row was added has that row last
 pub record IsMore (high wide first : ℕ) (old new : Grid) (bytes : List ℕ) (next : ℕ) (rest : List ℕ) : Type 0 where

@@ -24,6 +24,7 @@ fn put_one(page: &mut [u8], at: usize, number: u32) -> usize
 
 /// Puts a number of two digits at most.
 #[inline(always)]
+#[tactic(auto, using(crate::proofs::Paging::more_digits, crate::proofs::Paging::more_put))]
 fn put_two(page: &mut [u8], at: usize, number: u32) -> usize
     requires low { number < 100 }
     requires room { at + length (decimal number) ≤ length page.old }
@@ -38,6 +39,7 @@ fn put_two(page: &mut [u8], at: usize, number: u32) -> usize
 
 /// Puts a number of three digits at most.
 #[inline(always)]
+#[tactic(auto, using(crate::proofs::Paging::more_digits, crate::proofs::Paging::more_put))]
 fn put_three(page: &mut [u8], at: usize, number: u32) -> usize
     requires low { number < 1000 }
     requires room { at + length (decimal number) ≤ length page.old }
