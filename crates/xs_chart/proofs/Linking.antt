@@ -3,7 +3,7 @@ use Rattle.std.proofs.Common.{◌≡◌, ◌≢◌, ℕ, zero, suc, ◌+◌, ◌
 use Rattle.std.specs.Prelude.{Contains, slice_get, IsTrue}
 use Rattle.std.proofs.lemmas.Bool.{cases_eq, false≢true}
 use Rattle.std.proofs.lemmas.Option.{slice_get-get_or, slice_get_within, get_or_from_slice_get, none-some, same_Some}
-use Rattle.std.proofs.lemmas.List.{get_or_default, get_or_at}
+use Rattle.std.proofs.lemmas.List.{get_or_default, get_or_at, take_more}
 use Rattle.std.proofs.lemmas.List.Elements.{Contains-append_left}
 use Rattle.xs_chart.specs.Charted.{item_from}
 use Rattle.std.proofs.lemmas.Nat.{and_le_r}
@@ -224,12 +224,16 @@ not_before {A} xs n d lt different h =
     front (suc m) (y ∷ ys) zero h = (refl, omega arith, omega arith)
     front (suc m) (y ∷ ys) (suc k) h = let r = front m ys k (omega (arith, h)) in (r.0, omega (arith, r.1), omega (arith, r.2))
 
+-- what stands for an item that is not there
+abbrev pub no_item : Item
+no_item = record { state = 0; origin = 0 }
+
 -- one of different items is added to those before it
-pub added_all : (items : List Item) (n : ℕ) (d : Item) → n < length items → (old new : List Item) (added : Bool) → AreDifferent items → old ≡ take n items
-    → IsTrue added ↔ (Contains old (get_or items n d) → ⊥) → new ≡ (if added then old ++ get_or items n d ∷ [] else old) → new ≡ take n items ++ get_or items n d ∷ []
-added_all items n d lt old new true different is iff e = e ∙ ap (λ l. l ++ get_or items n d ∷ []) is
-added_all items n d lt old new false different is iff e =
-    absurd (false≢true (iff.1 (λ h. not_before items n d lt different (subst (λ (l : List Item). Contains l (get_or items n d)) is h))))
+pub added_all : (items : List Item) (n : ℕ) → n < length items → (old new : List Item) (added : Bool) → AreDifferent items → old ≡ take n items
+    → IsTrue added ↔ (Contains old (get_or items n no_item) → ⊥) → new ≡ (if added then old ++ get_or items n no_item ∷ [] else old) → new ≡ take (n + 1) items
+added_all items n lt old new true different is iff e = e ∙ ap (λ l. l ++ get_or items n no_item ∷ []) is ∙ sym (take_more items n no_item lt)
+added_all items n lt old new false different is iff e =
+    absurd (false≢true (iff.1 (λ h. not_before items n no_item lt different (subst (λ (l : List Item). Contains l (get_or items n no_item)) is h))))
 
 -- a slot is one of them
 pub slot_within : (count : ℕ) (item : Item) → 0 < count → slot_of count item < count
@@ -270,6 +274,15 @@ roomy_more base own items earlier heads marks more slots states item room wide r
       items_fit = (let same = table.1 in let fit = roomy.items_fit in omega (arith, fit, same));
       earlier_fit = (let same = table.1 in let fit = roomy.earlier_fit in omega (arith, fit, same));
     }
+
+-- where there are fewer items than slots, both lists have room for one more, and 32 bits have its number
+pub room_more : {base own : ℕ} {items : List Item} {earlier heads marks : List ℕ} {room wide : ℕ} → IsRoomy base own items earlier heads marks room wide → length items + 1 ≤ length heads → (length earlier < wide) × (base + length earlier + 1 < 2 ^ 32) × (length items < room)
+room_more {base} roomy space =
+    let long = roomy.table.linked.long in
+    let few = roomy.few in
+    let items_fit = roomy.items_fit in
+    let earlier_fit = roomy.earlier_fit in
+    (omega (arith, long, space, earlier_fit), omega (arith, long, space, few), omega (arith, space, items_fit))
 
 -- the cleared table
 pub roomy_cleared : (base own : ℕ) (items : List Item) (earlier heads marks : List ℕ) (room wide next other : ℕ) → IsRoomy base own items earlier heads marks room wide → next ≡ base + length items → next + length heads < 2 ^ 32 → IsRoomy next other [] [] heads marks room wide

@@ -7,16 +7,12 @@ use Rattle.xs_chart.specs.declared.item.Item.{Item}
 use Rattle.xs_chart.specs.declared.waiting.Waiter.{Waiter}
 use Rattle.xs_chart.specs.Charted.{Charted, items_of, waiting_of, waiting_for, last_set, with_item, with_items, first_sets, before_last}
 use Rattle.xs_chart.specs.Different.{AreDifferent}
-use Rattle.xs_chart.specs.Kept.{opened, IsGrouped, IsKept}
+use Rattle.xs_chart.specs.Kept.{opened, seen, IsGrouped, IsKept}
 
--- contracts see this chart
-abbrev pub seen : Bool → List (List Item) → List Item → List (List Waiter) → List Waiter → Charted
-seen o items last waits entries = record { sets = opened o items last; waits = opened o waits entries }
-
-pub length_opened : {A : Type 0} (xs : List A) (x : A) → length (opened true xs x) ≡ suc (length xs)
+length_opened : {A : Type 0} (xs : List A) (x : A) → length (opened true xs x) ≡ suc (length xs)
 length_opened xs x = let e = length-append xs (x ∷ []) in omega (arith, e)
 
-module _ (o : Bool) (items : List (List Item)) (last : List Item) (waits : List (List Waiter)) (entries : List Waiter) (kept : IsKept o items last waits) (opens : o ≡ true) where
+module _ {o : Bool} {items : List (List Item)} {last : List Item} {waits : List (List Waiter)} (entries : List Waiter) (kept : IsKept o items last waits) (opens : o ≡ true) where
   pub last_is : last_set (seen o items last waits entries) ≡ length items
   last_is = subst (λ b. length (opened b items last) - 1 ≡ length items) (sym opens) (let e = length_opened items last in omega (arith, e))
 
@@ -46,11 +42,11 @@ module _ (o : Bool) (items : List (List Item)) (last : List Item) (waits : List 
   item_more item new false is = ap (λ l. seen o items l waits entries) is
 
   -- the items of a set before it
-  pub earlier_items : (j : ℕ) → j < length items → items_of (seen o items last waits entries) j ≡ get_or items j []
+  earlier_items : (j : ℕ) → j < length items → items_of (seen o items last waits entries) j ≡ get_or items j []
   earlier_items j lt = subst (λ b. get_or (opened b items last) j [] ≡ get_or items j []) (sym opens) (get_or_append_left items (last ∷ []) [] j lt)
 
   -- and what waits there
-  pub earlier_waits : (j non : ℕ) → j < length items → waiting_of (seen o items last waits entries) j non ≡ waiting_for (get_or waits j []) non
+  earlier_waits : (j non : ℕ) → j < length items → waiting_of (seen o items last waits entries) j non ≡ waiting_for (get_or waits j []) non
   earlier_waits j non lt = ap (λ ws. waiting_for ws non) (subst (λ b. get_or (opened b waits entries) j [] ≡ get_or waits j []) (sym opens) (get_or_append_left waits (entries ∷ []) [] j (let e = kept.paired in omega (arith, lt, e))))
 
   -- an entry more in the last set
@@ -61,12 +57,15 @@ module _ (o : Bool) (items : List (List Item)) (last : List Item) (waits : List 
       ∙ ap (λ ws. waiting_for ws non) (subst (λ b. get_or (opened b waits new) (length items) [] ≡ new) (sym opens) (get_or_at waits new [] [] (length items) kept.paired))
       ∙ is ∙ ap (λ l. l ++ more) (sym (last_waits non))
 
--- charts with the same sets and waiting lists are the same
-pub same_seen : (o p : Bool) (items more : List (List Item)) (last end : List Item) (waits kept : List (List Waiter)) (entries others : List Waiter)
-    → opened o items last ≡ opened p more end → opened o waits entries ≡ opened p kept others → seen o items last waits entries ≡ seen p more end kept others
-same_seen o p items more last end waits kept entries others e f =
-    ap (λ (s : List (List Item)). let c : Charted = record { sets = s; waits = opened o waits entries } in c) e
-    ∙ ap (λ (ws : List (List Waiter)). let c : Charted = record { sets = opened p more end; waits = ws } in c) f
+-- a set before the open last one, with what waits there
+pub earlier_set : {o : Bool} {items : List (List Item)} {last : List Item} {waits : List (List Waiter)} {now : Charted} (entries : List Waiter) → IsKept o items last waits → o ≡ true → seen o items last waits entries ≡ now → (j non : ℕ) → suc j < length now.sets
+    → (items_of now j ≡ get_or items j []) × (waiting_of now j non ≡ waiting_for (get_or waits j []) non)
+earlier_set {o} {items} {last} {waits} {now} entries kept opens same j non before =
+    let count : length now.sets ≡ suc (length items) = sym (ap (λ (x : Charted). length x.sets) same) ∙ subst (λ b. length (opened b items last) ≡ suc (length items)) (sym opens) (length_opened items last) in
+    let lt : j < length items = omega (arith, before, count) in (
+      ap (λ (x : Charted). items_of x j) (sym same) ∙ earlier_items entries kept opens j lt,
+      ap (λ (x : Charted). waiting_of x j non) (sym same) ∙ earlier_waits entries kept opens j non lt,
+    )
 
 take_pushed : {A : Type 0} (xs : List A) (y : A) → take (length xs) (xs ++ y ∷ []) ≡ xs
 take_pushed [] y = refl

@@ -4,13 +4,17 @@ use Rattle.std.specs.List.Sorted.{IsNonDecreasingBy}
 use Rattle.xs_chart.specs.declared.item.Item.{Item}
 use Rattle.xs_chart.specs.declared.waiting.Waiter.{Waiter}
 use Rattle.xs_chart.specs.declared.waiting.Waiting.{Waiting}
-use Rattle.xs_chart.specs.Charted.{waiting_for, number_of, non_of}
+use Rattle.xs_chart.specs.Charted.{Charted, waiting_for, number_of, non_of}
 use Rattle.xs_chart.specs.Different.{AreDifferent}
 
 -- the finished lists, and then the last one if it is open
 abbrev pub opened : {A : Type 0} → Bool → List A → A → List A
 opened false finished last = finished
 opened true finished last = finished ++ last ∷ []
+
+-- what contracts see of such sets and the entries of their waiting lists
+abbrev pub seen : Bool → List (List Item) → List Item → List (List Waiter) → List Waiter → Charted
+seen o items last waits entries = record { sets = opened o items last; waits = opened o waits entries }
 
 -- the entries are grouped by their nonterminals
 abbrev pub IsGrouped : List Waiter → Type 0

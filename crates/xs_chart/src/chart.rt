@@ -3,7 +3,7 @@ ghost use Rattle.xs_chart.specs.declared.item.Item.{Item as AnyItem};
 ghost use Rattle.xs_chart.specs.Charted.{number_of, waiting_for, set_limit};
 ghost use Rattle.xs_chart.specs.Advancing.{HasMore, IsAfter, AreThere, Advanced};
 ghost use Rattle.xs_chart.specs.Different.{AreDifferent};
-ghost use Rattle.xs_chart.specs.Kept.{opened, IsKept, StaysFound};
+ghost use Rattle.xs_chart.specs.Kept.{opened, seen, IsKept, StaysFound};
 
 use crate::table::Table;
 use crate::waiting::{find, find_again, forget, keep, none_found};
@@ -31,11 +31,11 @@ pub struct Chart {
 
 impl Model for Chart {
     ghost use Rattle.xs_chart.specs.Charted.{Charted};
-    ghost use Rattle.xs_chart.specs.Kept.{opened, IsCharted};
+    ghost use Rattle.xs_chart.specs.Kept.{seen, IsCharted};
 
     ghost Value = { Charted };
 
-    ghost view = { λ c. record { sets = opened c.is_open c.items c.last; waits = opened c.is_open c.waits c.waiting.items } };
+    ghost view = { λ c. seen c.is_open c.items c.last c.waits c.waiting.items };
 
     ghost invariant = { λ c. IsCharted c.is_open c.items c.last c.waits c.found.items };
 }
@@ -65,8 +65,7 @@ fn reopen(
     requires kept { IsKept is_open.old items.old last.old waits.old }
     requires some { 0 < length (opened is_open.old items.old last.old) }
     ensures open { OnOk result (is_open.new ≡ true) }
-    ensures sets { opened is_open.new items.new last.new ≡ opened is_open.old items.old last.old }
-    ensures waits { opened is_open.new waits.new waiting.new.items ≡ opened is_open.old waits.old waiting.old.items }
+    ensures same { seen is_open.new items.new last.new waits.new waiting.new.items ≡ seen is_open.old items.old last.old waits.old waiting.old.items }
     ensures kept { IsKept is_open.new items.new last.new waits.new }
     ensures found { StaysFound is_open.old waits.old is_open.new waits.new }
 {
@@ -91,8 +90,7 @@ fn open_last(
     requires kept { IsKept is_open.old items.old last.old waits.old }
     requires some { 0 < length (opened is_open.old items.old last.old) }
     ensures open { OnOk result (is_open.new ≡ true) }
-    ensures sets { opened is_open.new items.new last.new ≡ opened is_open.old items.old last.old }
-    ensures waits { opened is_open.new waits.new waiting.new.items ≡ opened is_open.old waits.old waiting.old.items }
+    ensures same { seen is_open.new items.new last.new waits.new waiting.new.items ≡ seen is_open.old items.old last.old waits.old waiting.old.items }
     ensures kept { IsKept is_open.new items.new last.new waits.new }
     ensures found { StaysFound is_open.old waits.old is_open.new waits.new }
 {
@@ -119,8 +117,7 @@ fn reopen_if(
     requires kept { IsKept is_open.old items.old last.old waits.old }
     requires some { IsTrue repeats → 0 < length (opened is_open.old items.old last.old) }
     ensures open { OnOk result (IsTrue repeats → is_open.new ≡ true) }
-    ensures sets { opened is_open.new items.new last.new ≡ opened is_open.old items.old last.old }
-    ensures waits { opened is_open.new waits.new waiting.new.items ≡ opened is_open.old waits.old waiting.old.items }
+    ensures same { seen is_open.new items.new last.new waits.new waiting.new.items ≡ seen is_open.old items.old last.old waits.old waiting.old.items }
     ensures kept { IsKept is_open.new items.new last.new waits.new }
     ensures found { StaysFound is_open.old waits.old is_open.new waits.new }
 {

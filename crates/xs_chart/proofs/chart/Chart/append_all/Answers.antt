@@ -2,24 +2,19 @@ use Rattle.std.proofs.Common.{List, ◌∙◌, sym, subst}
 use Rattle.std.specs.Prelude.{Contains}
 use Rattle.xs_chart.specs.declared.item.Item.{Item}
 use Rattle.xs_chart.specs.Charted.{Charted, items_of, last_set, item_from, items_from}
-use Rattle.xs_chart.proofs.Sets.{last_items, items_more, same_seen}
+use Rattle.xs_chart.proofs.Sets.{last_items, items_more}
 use Rattle.xs_chart.proofs.chart.Chart.append_all.Goals as goal
 
 pub append_all-requires-clause-absent : goal.append_all-requires-clause-absent
 append_all-requires-clause-absent c state among there =
-    let i = c.self.inside in
-    let r = c.reopen.new in
     let e = c.in_ok-reopen.ensures in
-    let same = same_seen r.is_open i.is_open r.items i.items r.last i.last r.waits i.waits r.waiting.items i.waiting.items e.sets e.waits ∙ c.self.view_is in
     let item : Item = item_from c.args.origin state in
     c.requires.absent state among
-    (subst (λ (x : Charted). Contains (items_of x (last_set x)) item) same
-    (subst (λ (l : List Item). Contains l item) (sym (last_items r.is_open r.items r.last r.waits r.waiting.items e.kept e.open)) there))
+    (subst (λ (x : Charted). Contains (items_of x (last_set x)) item) (e.same ∙ c.self.view_is)
+    (subst (λ (l : List Item). Contains l item) (sym (last_items c.reopen.new.waiting.items e.kept e.open)) there))
 
 pub returns-clause-last : goal.returns-clause-last
 returns-clause-last c =
-    let i = c.self.inside in
-    let r = c.reopen.new in
     let e = c.in_ok-reopen.ensures in
-    let same = same_seen r.is_open i.is_open r.items i.items r.last i.last r.waits i.waits r.waiting.items i.waiting.items e.sets e.waits ∙ c.self.view_is in
-    rw (← same) (items_more r.is_open r.items r.last r.waits r.waiting.items e.kept e.open (items_from c.args.origin c.args.states.now) c.append_all.new.self c.in_ok-append_all.ensures.items)
+    let same = e.same ∙ c.self.view_is in
+    rw (← same) (items_more c.reopen.new.waiting.items e.kept e.open (items_from c.args.origin c.args.states.now) c.append_all.new.self c.in_ok-append_all.ensures.items)

@@ -1,30 +1,17 @@
 use Rattle.std.proofs.Common.{arith, sym, ◌∙◌}
 use Rattle.std.proofs.lemmas.Bool.{true≢false}
 use Rattle.xs_class.proofs.Lists.{len_is}
-use Rattle.xs_chart.proofs.Linking.{roomy_more}
+use Rattle.xs_chart.proofs.Linking.{room_more, roomy_more}
 use Rattle.xs_chart.proofs.table.Table.add.Goals as goal
 
 pub note-requires-clause-room : goal.note-requires-clause-room
-note-requires-clause-room c =
-    let r = c.spread.ensures.roomy in
-    let long = r.table.linked.long in
-    let space = c.in_ok-spread.ensures.space in
-    let fit = r.earlier_fit in
-    omega (arith, len_is c.spread.new.earlier, long, space, fit)
+note-requires-clause-room c = omega (arith, len_is c.spread.new.earlier, (room_more c.spread.ensures.roomy c.in_ok-spread.ensures.space).0)
 
 pub note-requires-clause-few : goal.note-requires-clause-few
-note-requires-clause-few c =
-    let r = c.spread.ensures.roomy in
-    let long = r.table.linked.long in
-    let space = c.in_ok-spread.ensures.space in
-    let few = r.few in
-    omega (arith, len_is c.spread.new.earlier, long, space, few)
+note-requires-clause-few c = omega (arith, len_is c.spread.new.earlier, (room_more c.spread.ensures.roomy c.in_ok-spread.ensures.space).1)
 
 pub push_reserved-requires : goal.push_reserved-requires
-push_reserved-requires c =
-    let space = c.in_ok-spread.ensures.space in
-    let fit = c.spread.ensures.roomy.items_fit in
-    omega (arith, len_is c.spread.new.items, space, fit)
+push_reserved-requires c = omega (arith, len_is c.spread.new.items, (room_more c.spread.ensures.roomy c.in_ok-spread.ensures.space).2)
 
 pub invariant_of-self-3 : goal.invariant_of-self-3
 invariant_of-self-3 c =
