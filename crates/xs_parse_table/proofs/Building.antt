@@ -178,21 +178,21 @@ get_end [] x = refl
 get_end (y ∷ xs) x = get_end xs x
 
 -- the starts with one more
-pub starts_more : (p : ℕ → Position) (a : Atoms) (cells new : List ℕ) (starts more : List (Option ℕ)) (n : ℕ) (q : Position) (start : Option ℕ) → length starts ≡ n → more ≡ starts ++ start ∷ [] → AreLonger cells new → ((t s : ℕ) → t < n → slice_get starts t ≡ Some (Some s) → AreMoves (p t) a cells s) → q ≡ p n → IfSome start (AreMoves q a new) → (t s : ℕ) → t < n + 1 → slice_get more t ≡ Some (Some s) → AreMoves (p t) a new s
-starts_more p a cells new starts more n q start len e l before same here t s h at = elim (at_or t n h) [
+pub starts_more : (p : ℕ → Position) (a : Atoms) (cells new : List ℕ) (starts more : List (Option ℕ)) (n : ℕ) (start : Option ℕ) → length starts ≡ n → more ≡ starts ++ start ∷ [] → AreLonger cells new → ((t s : ℕ) → t < n → slice_get starts t ≡ Some (Some s) → AreMoves (p t) a cells s) → IfSome start (AreMoves (p n) a new) → (t s : ℕ) → t < n + 1 → slice_get more t ≡ Some (Some s) → AreMoves (p t) a new s
+starts_more p a cells new starts more n start len e l before here t s h at = elim (at_or t n h) [
   | inl below ↦
       longer_moves (p t) a cells new s l (before t s below (sym (ap (λ (u : List (Option ℕ)). slice_get u t) e ∙ get_before starts start t (omega arith)) ∙ at))
   | inr last ↦
       let found : Some start ≡ Some (Some s) = sym (get_end starts start) ∙ ap (λ k. slice_get (starts ++ start ∷ []) k) (len ∙ sym last) ∙ sym (ap (λ (u : List (Option ℕ)). slice_get u t) e) ∙ at in
-      subst (λ k. AreMoves (p k) a new s) (sym last) (subst (λ (r : Position). AreMoves r a new s) same (has start (of_some start (Some s) found) here))
+      subst (λ k. AreMoves (p k) a new s) (sym last) (has start (of_some start (Some s) found) here)
 ]
   where
     of_some : (x y : Option ℕ) → Some x ≡ Some y → x ≡ y
     of_some x y e = cc
 
-    has : (o : Option ℕ) → o ≡ Some s → IfSome o (AreMoves q a new) → AreMoves q a new s
+    has : (o : Option ℕ) → o ≡ Some s → IfSome o (AreMoves (p n) a new) → AreMoves (p n) a new s
     has None e h = cc
-    has (Some k) e h = let is : k ≡ s = of_some_number k s e in subst (λ x. AreMoves q a new x) is h
+    has (Some k) e h = let is : k ≡ s = of_some_number k s e in subst (λ x. AreMoves (p n) a new x) is h
       where
         of_some_number : (x y : ℕ) → Some x ≡ Some y → x ≡ y
         of_some_number x y e = cc

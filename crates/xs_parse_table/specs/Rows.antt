@@ -5,6 +5,8 @@ use Rattle.xs_regex.specs.Automaton.{HasAt}
 use Rattle.xs_atoms.specs.declared.atoms.Atoms.{Atoms}
 use Rattle.xs_atoms.specs.Alphabet.{atom_of, class_has}
 use Rattle.xs_gram.specs.Grammar.{Grammar, term_of, skip_of}
+use Rattle.xs_parse_table.specs.declared.validator.Kind.{Kind}
+use Rattle.xs_parse_table.specs.declared.validator.Kind.TheVariants.{Terminals, Ignorables}
 use Rattle.xs_parse_table.specs.Moves.{stand, MayEnd, cell_at, IsMove, AreMoves}
 
 -- the list has for each position the number of its class
@@ -32,9 +34,15 @@ pub record IsRow (p : Position) (a : Atoms) (sets : List (List ℕ)) (start i : 
   pub moves : (x : ℕ) → x < a.count → IsMove p a sets start i x (cell_at cells (first + x))
   pub ends : cell_at cells (first + a.count) ≡ 1 → MayEnd p (stand sets i)
 
--- the starts of rows are those of the automata of terminals, and of ignorables, where they have some
-abbrev pub AreTermMoves : Grammar → Atoms → List ℕ → List (Option ℕ) → Type 0
-AreTermMoves g a cells starts = (t start : ℕ) → t < length g.terms → slice_get starts t ≡ Some (Some start) → AreMoves (term_of g t).automaton a cells start
+-- how many leaves of the kind there are, and the automaton of one
+abbrev pub count_of : Grammar → Kind → ℕ
+count_of g Terminals = length g.terms
+count_of g Ignorables = length g.skips
 
-abbrev pub AreSkipMoves : Grammar → Atoms → List ℕ → List (Option ℕ) → Type 0
-AreSkipMoves g a cells starts = (k start : ℕ) → k < length g.skips → slice_get starts k ≡ Some (Some start) → AreMoves (skip_of g k).automaton a cells start
+abbrev pub automaton_of : Grammar → Kind → ℕ → Position
+automaton_of g Terminals k = (term_of g k).automaton
+automaton_of g Ignorables k = (skip_of g k).automaton
+
+-- the starts of rows are those of the leaves' automata, where they have some
+abbrev pub AreMovesOf : Grammar → Kind → Atoms → List ℕ → List (Option ℕ) → Type 0
+AreMovesOf g kind a cells starts = (k start : ℕ) → k < count_of g kind → slice_get starts k ≡ Some (Some start) → AreMoves (automaton_of g kind k) a cells start

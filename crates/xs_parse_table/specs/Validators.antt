@@ -7,13 +7,14 @@ use Rattle.xs_atoms.specs.declared.atoms.Atoms.{Atoms}
 use Rattle.xs_atoms.specs.Alphabet.{AreAtoms, atom_of}
 use Rattle.xs_parse_table.specs.declared.validator.Validator.{Validator}
 use Rattle.xs_parse_table.specs.Moves.{Says}
-use Rattle.xs_parse_table.specs.Rows.{AreTermMoves, AreSkipMoves}
+use Rattle.xs_parse_table.specs.declared.validator.Kind.TheVariants.{Terminals, Ignorables}
+use Rattle.xs_parse_table.specs.Rows.{AreMovesOf}
 
 -- the rows of terminals and ignorables are those of their automata, where they have some
 pub record IsValidatorOf (g : Grammar) (a : Atoms) (v : Validator) : Type 0 where
   pub count : v.count ≡ a.count
-  pub terms : AreTermMoves g a v.cells.items v.terms.items
-  pub skips : AreSkipMoves g a v.cells.items v.skips.items
+  pub terms : AreMovesOf g Terminals a v.cells.items v.terms.items
+  pub skips : AreMovesOf g Ignorables a v.cells.items v.skips.items
 
 -- what the moves from a cell say of words of the document, the automaton accepts
 abbrev pub AreSaid : Validator → Option ℕ → Position → List ℕ → List ℕ → Type 0

@@ -128,44 +128,6 @@ fn child_end(
     }
 }
 
-/// Whether a word of the terminal stands in the document from one place up to another.
-fn is_term(
-    validator: &Validator,
-    g: &Gram,
-    doc: &[Sym],
-    atoms: &[u16],
-    term: u32,
-    at: u32,
-    to: u32,
-) -> bool
-    requires built { IsBuilt g.now }
-    requires ready { IsReady g.now validator.now doc.now atoms.now }
-    requires there { term < length g.now.terms }
-    ensures { IsTrue result → IsWordPart (λ w. IsTermWord g.now term w) doc.now at to to }
-{
-    let start = start_of(&validator.terms, term);
-    is_of(validator, start, g.term(term), doc, atoms, at, to)
-}
-
-/// Whether a word of the ignorable stands in the document from one place up to another.
-fn is_skip(
-    validator: &Validator,
-    g: &Gram,
-    doc: &[Sym],
-    atoms: &[u16],
-    skip: u32,
-    at: u32,
-    to: u32,
-) -> bool
-    requires built { IsBuilt g.now }
-    requires ready { IsReady g.now validator.now doc.now atoms.now }
-    requires there { skip < length g.now.skips }
-    ensures { IsTrue result → IsWordPart (λ w. IsSkipWord g.now skip w) doc.now at to to }
-{
-    let start = start_of(&validator.skips, skip);
-    is_of(validator, start, g.skip(skip), doc, atoms, at, to)
-}
-
 /// The place where an item of node v ends that begins at a place and has this part, or None where
 /// its part is not right.
 #[inline(always)]
@@ -187,8 +149,14 @@ pub fn item_end(
 {
     let right = match item {
         GItem::Fixed(word) => is_word(doc, at, part, word.as_slice()),
-        GItem::Term { term, .. } => is_term(validator, g, doc, atoms, *term, at, part),
-        GItem::Skip { skip } => is_skip(validator, g, doc, atoms, *skip, at, part),
+        GItem::Term { term, .. } => {
+            let start = start_of(&validator.terms, *term);
+            is_of(validator, start, g.term(*term), doc, atoms, at, part)
+        }
+        GItem::Skip { skip } => {
+            let start = start_of(&validator.skips, *skip);
+            is_of(validator, start, g.skip(*skip), doc, atoms, at, part)
+        }
         GItem::Non { non, .. } => return child_end(g, doc, nodes, v, *non, at, part),
     };
     if right { Some(part) } else { None }

@@ -1,7 +1,8 @@
-ghost use Rattle.std.specs.Prelude.{◌≡◌, ◌<◌, ◌≤◌, length, slice_range, IsTrue, IfOk};
+ghost use Rattle.std.specs.Prelude.{◌≡◌, ◌<◌, ◌≤◌, length, slice_range, IsTrue, IfOk, IfSome};
 ghost use Rattle.xs_atoms.specs.{AreAtoms};
-ghost use Rattle.xs_gram.specs.{Derivation, term_of, skip_of, Derives, IsBuilt};
-ghost use Rattle.xs_parse_table.specs.Rows.{AreLonger, AreTermMoves, AreSkipMoves};
+ghost use Rattle.xs_gram.specs.{Derivation, Derives, IsBuilt};
+ghost use Rattle.xs_parse_table.specs.Moves.{AreMoves};
+ghost use Rattle.xs_parse_table.specs.Rows.{AreLonger, AreMovesOf, automaton_of, count_of};
 ghost use Rattle.xs_parse_table.specs.Tables.{IsTreeOf};
 
 use crate::ParseTable;
@@ -33,8 +34,8 @@ impl Validator {
         ensures { IfOk result (IsValidatorOf g.now atoms.now) }
     {
         let mut cells = Vec::new(alloc);
-        let terms = term_moves(alloc, g, atoms, &mut cells)?;
-        let skips = skip_moves(alloc, g, atoms, &mut cells)?;
+        let terms = moves_of(alloc, g, atoms, Kind::Terminals, g.terms(), &mut cells)?;
+        let skips = moves_of(alloc, g, atoms, Kind::Ignorables, g.skips(), &mut cells)?;
         Ok(Validator {
             count: atoms.count(),
             cells,
@@ -55,40 +56,51 @@ impl Validator {
     }
 }
 
-/// The first cells of the rows of the terminals.
-fn term_moves(
+/// The kinds of leaves that have automata.
+#[derive(Clone, Copy)]
+enum Kind {
+    Terminals,
+    Ignorables,
+}
+
+/// The first cells of the rows of the leaves of a kind, of which there are that many.
+fn moves_of(
     alloc: Global,
     g: &Gram,
     atoms: &Atoms,
+    kind: Kind,
+    count: u32,
     cells: &mut Vec<u32>,
 ) -> Result<Vec<Option<u32>>, Memory>
-    requires { AreAtoms g.now atoms.now }
+    requires are { AreAtoms g.now atoms.now }
+    requires count { count ≡ count_of g.now kind }
     ensures cells { IfOk result (λ _. AreLonger cells.old.items cells.new.items) }
-    ensures moves { IfOk result (λ starts. AreTermMoves g.now atoms.now cells.new.items starts.items) }
+    ensures moves { IfOk result (λ starts. AreMovesOf g.now kind atoms.now cells.new.items starts.items) }
 {
-    let mut starts = Vec::with_capacity(alloc, g.terms() as usize)?;
-    'terms: for term in 0..g.terms() {
-        let start = push_rows(alloc, g.term(term), atoms.term_classes(term), atoms, cells)?;
+    let mut starts = Vec::with_capacity(alloc, count as usize)?;
+    'leaves: for leaf in 0..count {
+        let start = push_leaf(alloc, g, atoms, kind, leaf, cells)?;
         starts.push(start)?;
     }
     Ok(starts)
 }
 
-/// The first cells of the rows of the ignorables.
-fn skip_moves(
+/// Appends the rows of a leaf's automaton, and gives the first cell of its start's, if it has some.
+fn push_leaf(
     alloc: Global,
     g: &Gram,
     atoms: &Atoms,
+    kind: Kind,
+    leaf: u32,
     cells: &mut Vec<u32>,
-) -> Result<Vec<Option<u32>>, Memory>
-    requires { AreAtoms g.now atoms.now }
+) -> Result<Option<u32>, Memory>
+    requires are { AreAtoms g.now atoms.now }
+    requires leaf { leaf < count_of g.now kind }
     ensures cells { IfOk result (λ _. AreLonger cells.old.items cells.new.items) }
-    ensures moves { IfOk result (λ starts. AreSkipMoves g.now atoms.now cells.new.items starts.items) }
+    ensures moves { IfOk result (λ o. IfSome o (AreMoves (automaton_of g.now kind leaf) atoms.now cells.new.items)) }
 {
-    let mut starts = Vec::with_capacity(alloc, g.skips() as usize)?;
-    'skips: for skip in 0..g.skips() {
-        let start = push_rows(alloc, g.skip(skip), atoms.skip_classes(skip), atoms, cells)?;
-        starts.push(start)?;
+    match kind {
+        Kind::Terminals => push_rows(alloc, g.term(leaf), atoms.term_classes(leaf), atoms, cells),
+        Kind::Ignorables => push_rows(alloc, g.skip(leaf), atoms.skip_classes(leaf), atoms, cells),
     }
-    Ok(starts)
 }
