@@ -96,7 +96,7 @@ overlap x y = (max x.0 y.0, min x.1 y.1)
 both_in : (x y : ℕ × ℕ) (s : ℕ) → IsIn x s → IsIn y s → IsIn (overlap x y) s
 both_in x y s h k = (omega (arith, h.0, k.0), omega (arith, h.1, k.1))
 
-pub meet_left : (x y : ℕ × ℕ) (xs ys : List (ℕ × ℕ)) (s : ℕ) → RisesFrom (y.1 + 2) ys → x.1 < y.1 → (IsIn (overlap x y) s ⊎ (Has xs s × Has (y ∷ ys) s)) ↔ (Has (x ∷ xs) s × Has (y ∷ ys) s)
+pub meet_left : (x y : ℕ × ℕ) (xs ys : List (ℕ × ℕ)) (s : ℕ) → RisesFrom (y.1 + 2) ys → x.1 ≤ y.1 → (IsIn (overlap x y) s ⊎ (Has xs s × Has (y ∷ ys) s)) ↔ (Has (x ∷ xs) s × Has (y ∷ ys) s)
 meet_left x y xs ys s up first = (forth, λ h. back h.0 h.1)
   where
     forth : IsIn (overlap x y) s ⊎ (Has xs s × Has (y ∷ ys) s) → Has (x ∷ xs) s × Has (y ∷ ys) s
@@ -108,19 +108,6 @@ meet_left x y xs ys s up first = (forth, λ h. back h.0 h.1)
     back (inl h) (inr k) = absurd (omega (arith, h.1, member_above (y.1 + 2) ys s up k))
     back (inr h) (inl k) = inr (h, inl k)
     back (inr h) (inr k) = inr (h, inr k)
-
-pub meet_right : (x y : ℕ × ℕ) (xs ys : List (ℕ × ℕ)) (s : ℕ) → RisesFrom (x.1 + 2) xs → y.1 ≤ x.1 → (IsIn (overlap x y) s ⊎ (Has (x ∷ xs) s × Has ys s)) ↔ (Has (x ∷ xs) s × Has (y ∷ ys) s)
-meet_right x y xs ys s up first = (forth, λ h. back h.0 h.1)
-  where
-    forth : IsIn (overlap x y) s ⊎ (Has (x ∷ xs) s × Has ys s) → Has (x ∷ xs) s × Has (y ∷ ys) s
-    forth (inl h) = (inl (omega (arith, h.0), omega (arith, h.1)), inl (omega (arith, h.0), omega (arith, h.1)))
-    forth (inr h) = (h.0, inr h.1)
-
-    back : Has (x ∷ xs) s → Has (y ∷ ys) s → IsIn (overlap x y) s ⊎ (Has (x ∷ xs) s × Has ys s)
-    back (inl h) (inl k) = inl (both_in x y s h k)
-    back (inr h) (inl k) = absurd (omega (arith, k.1, member_above (x.1 + 2) xs s up h))
-    back (inl h) (inr k) = inr (inl h, k)
-    back (inr h) (inr k) = inr (inr h, k)
 
 -- a range begins after each earlier one
 next_begins : (rs : List (ℕ × ℕ)) (k : ℕ) → IsClass rs → k + 1 < length rs → (get_or rs k (0, 0)).0 ≤ (get_or rs (k + 1) (0, 0)).0
@@ -156,7 +143,7 @@ regrouped out new r s Whole Left Rest was now parts = (
   ],
 )
 
-pub met_left : (a b : List (ℕ × ℕ)) (i j : ℕ) (out new : List (ℕ × ℕ)) → IsClass a → IsClass b → i < length a → j < length b → IsMet a b i j out → IsAdded out (overlap (get_or a i (0, 0)) (get_or b j (0, 0))) new → (get_or a i (0, 0)).1 < (get_or b j (0, 0)).1 → IsMet a b (i + 1) j new
+pub met_left : (a b : List (ℕ × ℕ)) (i j : ℕ) (out new : List (ℕ × ℕ)) → IsClass a → IsClass b → i < length a → j < length b → IsMet a b i j out → IsAdded out (overlap (get_or a i (0, 0)) (get_or b j (0, 0))) new → (get_or a i (0, 0)).1 ≤ (get_or b j (0, 0)).1 → IsMet a b (i + 1) j new
 met_left a b i j out new one two within inside so_far added first =
     let x : ℕ × ℕ = get_or a i (0, 0) in
     let y : ℕ × ℕ = get_or b j (0, 0) in
@@ -173,22 +160,33 @@ met_left a b i j out new one two within inside so_far added first =
       members = λ s. regrouped out new (overlap x y) s (Has a s × Has b s) (Has (drop i a) s × Has (drop j b) s) (Has xs s × Has (drop j b) s) (so_far.members s) (added.members s) (rw (dropped, other) (meet_left x y xs ys s up.3 first));
     }
 
+-- what two lists have in common does not depend on which of them comes first
+met_swapped : (a b : List (ℕ × ℕ)) (i j : ℕ) (out : List (ℕ × ℕ)) → IsMet a b i j out → IsMet b a j i out
+met_swapped a b i j out h = record {
+  left = h.right;
+  right = h.left;
+  sorted = h.sorted;
+  begun = λ k l. begin_later _ _ out (h.begun l k) (omega arith);
+  members = λ s.
+      let was = h.members s in (
+        λ k. swapped (was.0 (elim k [ inl found ↦ inl found | inr left ↦ inr (swapped left) ])),
+        λ k. elim (was.1 (swapped k)) [ inl found ↦ inl found | inr left ↦ inr (swapped left) ],
+      );
+}
+  where
+    swapped : {P Q : Type 0} → P × Q → Q × P
+    swapped both = (both.1, both.0)
+
+overlap_swapped : (x y : ℕ × ℕ) → overlap x y ≡ overlap y x
+overlap_swapped x y =
+    let from : max x.0 y.0 ≡ max y.0 x.0 = omega arith in
+    let to : min x.1 y.1 ≡ min y.1 x.1 = omega arith in
+    cc
+
 pub met_right : (a b : List (ℕ × ℕ)) (i j : ℕ) (out new : List (ℕ × ℕ)) → IsClass a → IsClass b → i < length a → j < length b → IsMet a b i j out → IsAdded out (overlap (get_or a i (0, 0)) (get_or b j (0, 0))) new → (get_or b j (0, 0)).1 ≤ (get_or a i (0, 0)).1 → IsMet a b i (j + 1) new
 met_right a b i j out new one two within inside so_far added first =
-    let x : ℕ × ℕ = get_or a i (0, 0) in
-    let y : ℕ × ℕ = get_or b j (0, 0) in
-    let xs : List (ℕ × ℕ) = drop (i + 1) a in
-    let ys : List (ℕ × ℕ) = drop (j + 1) b in
-    let dropped : drop i a ≡ x ∷ xs = drop_more a i (0, 0) within in
-    let other : drop j b ≡ y ∷ ys = drop_more b j (0, 0) inside in
-    let up : RisesFrom 0 (x ∷ xs) = subst (RisesFrom 0) dropped (rises_drop 0 a i one) in
-    record {
-      left = omega arith;
-      right = omega arith;
-      sorted = added.sorted;
-      begun = λ h k. begin_later (max x.0 y.0) _ new added.begun (let later = next_begins b j two k in omega arith);
-      members = λ s. regrouped out new (overlap x y) s (Has a s × Has b s) (Has (drop i a) s × Has (drop j b) s) (Has (drop i a) s × Has ys s) (so_far.members s) (added.members s) (rw (dropped, other) (meet_right x y xs ys s up.3 first));
-    }
+    let over : IsAdded out (overlap (get_or b j (0, 0)) (get_or a i (0, 0))) new = rw (overlap_swapped (get_or b j (0, 0)) (get_or a i (0, 0))) added in
+    met_swapped b a (j + 1) i new (met_left b a j i out new two one inside within (met_swapped a b i j out so_far) over first)
 
 pub met_all : (a b : List (ℕ × ℕ)) (i j : ℕ) (out : List (ℕ × ℕ)) → IsMet a b i j out → (length a ≤ i) ⊎ (length b ≤ j) → (s : ℕ) → Has out s ↔ (Has a s × Has b s)
 met_all a b i j out so_far done s =
@@ -227,66 +225,53 @@ rest_after : (rs : List (ℕ × ℕ)) (r : ℕ × ℕ) (more : List (ℕ × ℕ)
 rest_after rs r more next from order rest s l h =
     elim (rest s (omega arith) h) [ inl here ↦ absurd (omega (arith, here.1)) | inr later ↦ later ]
 
-no_member_in_gap : (r : ℕ × ℕ) (more : List (ℕ × ℕ)) (next s : ℕ) → r.0 ≤ r.1 → RisesFrom (r.1 + 2) more → s ≤ r.0 - 1 → next < r.0 → Has (r ∷ more) s → ⊥
-no_member_in_gap r more next s order up l room (inl h) = omega (arith, h.0)
-no_member_in_gap r more next s order up l room (inr h) = omega (arith, member_above (r.1 + 2) more s up h)
+no_member_in_gap : (r : ℕ × ℕ) (more : List (ℕ × ℕ)) (s : ℕ) → r.0 ≤ r.1 → RisesFrom (r.1 + 2) more → s < r.0 → Has (r ∷ more) s → ⊥
+no_member_in_gap r more s order up l (inl h) = omega (arith, h.0)
+no_member_in_gap r more s order up l (inr h) = omega (arith, member_above (r.1 + 2) more s up h)
 
-pub gapped_more : (rs : List (ℕ × ℕ)) (i next : ℕ) (out new : List (ℕ × ℕ)) → i < length rs → IsGapped rs i next out → next < (get_or rs i (0, 0)).0 → IsAdded out (next, (get_or rs i (0, 0)).0 - 1) new → IsGapped rs (i + 1) ((get_or rs i (0, 0)).1 + 1) new
-gapped_more rs i next out new within so_far room added =
+-- one more range is passed, and the symbols before it that are in none are found too
+gapped_past : (rs : List (ℕ × ℕ)) (i next : ℕ) (out new : List (ℕ × ℕ)) → i < length rs → IsGapped rs i next out → IsClass new → BeginBy next new → ((s : ℕ) → Has new s ↔ (Has out s ⊎ ((next ≤ s) × (s < (get_or rs i (0, 0)).0)))) → IsGapped rs (i + 1) ((get_or rs i (0, 0)).1 + 1) new
+gapped_past rs i next out new within so_far sorted begun members =
     let r : ℕ × ℕ = get_or rs i (0, 0) in
     let more : List (ℕ × ℕ) = drop (i + 1) rs in
     let dropped : drop i rs ≡ r ∷ more = drop_more rs i (0, 0) within in
     let up : RisesFrom next (r ∷ more) = subst (RisesFrom next) dropped so_far.rises in
+    let from : next ≤ r.0 = up.0 in
     let order : r.0 ≤ r.1 = up.1 in
     let high : r.1 < 2 ^ 32 = up.2 in
     let rest : (s : ℕ) → next ≤ s → Has rs s → Has (r ∷ more) s = λ s l h. subst (λ l. Has l s) dropped (so_far.rest s l h) in
     let whole : (s : ℕ) → Has (r ∷ more) s → Has rs s = λ s h. has_drop rs i s (subst (λ l. Has l s) (sym dropped) h) in
     record {
-      sorted = added.sorted;
-      begun = begin_later next (r.1 + 1) new added.begun (omega arith);
+      sorted = sorted;
+      begun = begin_later next (r.1 + 1) new begun (omega arith);
       rises = rises_later (r.1 + 2) (r.1 + 1) more up.3 (omega arith);
       bound = omega arith;
-      rest = rest_after rs r more next up.0 order rest;
+      rest = rest_after rs r more next from order rest;
       members = λ s. (
-        λ h. elim ((added.members s).0 h) [
+        λ h. elim ((members s).0 h) [
           | inl old ↦ let was = (so_far.members s).0 old in (omega (arith, was.0), was.1)
-          | inr gap ↦ (omega (arith, gap.1), λ k. no_member_in_gap r more next s order up.3 gap.1 room (rest s gap.0 k))
+          | inr gap ↦ (omega (arith, gap.1), λ k. no_member_in_gap r more s order up.3 gap.1 (rest s gap.0 k))
         ],
         λ h. elim (cases_lt s next) [
-          | inl before ↦ (added.members s).1 (inl ((so_far.members s).1 (before, h.1)))
-          | inr from ↦ elim (cases_lt s r.0) [
-            | inl below ↦ (added.members s).1 (inr (from, omega arith))
-            | inr at ↦ absurd (h.1 (whole s (inl (at, omega (arith, h.0)))))
+          | inl before ↦ (members s).1 (inl ((so_far.members s).1 (before, h.1)))
+          | inr at ↦ elim (cases_lt s r.0) [
+            | inl below ↦ (members s).1 (inr (at, below))
+            | inr above ↦ absurd (h.1 (whole s (inl (above, omega (arith, h.0)))))
           ]
         ],
       );
     }
 
+pub gapped_more : (rs : List (ℕ × ℕ)) (i next : ℕ) (out new : List (ℕ × ℕ)) → i < length rs → IsGapped rs i next out → next < (get_or rs i (0, 0)).0 → IsAdded out (next, (get_or rs i (0, 0)).0 - 1) new → IsGapped rs (i + 1) ((get_or rs i (0, 0)).1 + 1) new
+gapped_more rs i next out new within so_far room added = gapped_past rs i next out new within so_far added.sorted added.begun (
+    λ s. (
+      λ h. elim ((added.members s).0 h) [ inl old ↦ inl old | inr gap ↦ inr (gap.0, omega (arith, gap.1)) ],
+      λ h. (added.members s).1 (elim h [ inl old ↦ inl old | inr gap ↦ inr (gap.0, omega (arith, gap.1)) ]),
+    )
+    )
+
 pub gapped_on : (rs : List (ℕ × ℕ)) (i next : ℕ) (out : List (ℕ × ℕ)) → i < length rs → IsGapped rs i next out → (get_or rs i (0, 0)).0 ≤ next → IsGapped rs (i + 1) ((get_or rs i (0, 0)).1 + 1) out
-gapped_on rs i next out within so_far shut =
-    let r : ℕ × ℕ = get_or rs i (0, 0) in
-    let more : List (ℕ × ℕ) = drop (i + 1) rs in
-    let dropped : drop i rs ≡ r ∷ more = drop_more rs i (0, 0) within in
-    let up : RisesFrom next (r ∷ more) = subst (RisesFrom next) dropped so_far.rises in
-    let order : r.0 ≤ r.1 = up.1 in
-    let from : next ≤ r.0 = up.0 in
-    let high : r.1 < 2 ^ 32 = up.2 in
-    let rest : (s : ℕ) → next ≤ s → Has rs s → Has (r ∷ more) s = λ s l h. subst (λ l. Has l s) dropped (so_far.rest s l h) in
-    let whole : (s : ℕ) → Has (r ∷ more) s → Has rs s = λ s h. has_drop rs i s (subst (λ l. Has l s) (sym dropped) h) in
-    record {
-      sorted = so_far.sorted;
-      begun = begin_later next (r.1 + 1) out so_far.begun (omega arith);
-      rises = rises_later (r.1 + 2) (r.1 + 1) more up.3 (omega arith);
-      bound = omega arith;
-      rest = rest_after rs r more next from order rest;
-      members = λ s. (
-        λ h. let was = (so_far.members s).0 h in (omega (arith, was.0), was.1),
-        λ h. elim (cases_lt s next) [
-          | inl before ↦ (so_far.members s).1 (before, h.1)
-          | inr at ↦ absurd (h.1 (whole s (inl (omega arith, omega (arith, h.0)))))
-        ],
-      );
-    }
+gapped_on rs i next out within so_far shut = gapped_past rs i next out out within so_far so_far.sorted so_far.begun (λ s. (λ h. inl h, λ h. elim h [ inl old ↦ old | inr none ↦ absurd (omega (arith, none.0, none.1)) ]))
 
 none_left : (rs : List (ℕ × ℕ)) (i next : ℕ) (out : List (ℕ × ℕ)) (s : ℕ) → length rs ≤ i → IsGapped rs i next out → next ≤ s → Has rs s → ⊥
 none_left rs i next out s all so_far l h = subst (λ l. Has l s) (drop_all i rs all) (so_far.rest s l h)

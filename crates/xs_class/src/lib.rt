@@ -6,8 +6,8 @@
 //! however it is kept, and a `push` that finds no memory leaves it as it was.
 #![tactic(auto)]
 
-mod bytes;
 mod class;
+mod copied;
 mod listed;
 mod memory;
 mod named;
@@ -16,10 +16,9 @@ mod side;
 mod sym;
 mod tables;
 mod text;
-mod word;
 
-pub use bytes::Bytes;
 pub use class::Class;
+pub use copied::{Bytes, Copied, Word};
 pub use listed::{Listed, empty_lists};
 pub use memory::Memory;
 pub use named::NameFault;
@@ -28,4 +27,3 @@ pub use side::Side;
 pub use sym::{ATTR_END, STRANGE, Sym};
 pub use tables::{is_char, is_name_char, is_name_start};
 pub use text::{Text, letters, word_of};
-pub use word::Word;
