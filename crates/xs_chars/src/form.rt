@@ -1,8 +1,7 @@
-ghost use Rattle.std.specs.Prelude.{◌≡◌, ◌<◌, length, IfOk};
+ghost use Rattle.std.specs.Prelude.{◌≡◌, ◌<◌, length, string_bytes, encode_utf8_all, IsTrue, IfOk};
 ghost use Rattle.std.specs.Str.{chars};
 ghost use Rattle.xs_chars.specs.Forms.{in_form};
 ghost use Rattle.xs_chars.specs.Text.{symbol_limit, AreCharacters};
-ghost use Rattle.unicode_normalization.specs.Forms.{nfc, nfd};
 
 use crate::strings::{ascii_word, utf8_of, word_of};
 use std::alloc::Global;
@@ -21,31 +20,25 @@ pub enum Form {
 /// How many symbols a form may have, so that each place has a number of 32 bits.
 const MOST_SYMBOLS: usize = 4_294_967_294;
 
-/// The text's characters in NFC.
-fn composed(alloc: Global, text: &str) -> Result<Word, Memory>
-    ensures form { IfOk result (λ w. w ≡ nfc (chars text.now)) }
-    ensures characters { IfOk result AreCharacters }
+/// Whether a quick look shows that the text is in the form.
+fn is_surely_in(text: &str, form: Form) -> bool
+    ensures { IsTrue result → in_form form (chars text.now) ≡ chars text.now }
 {
-    match is_nfc_quick(text.chars()) {
-        QuickCheck::Yes => word_of(alloc, text),
-        _ => {
-            let changed = to_nfc(alloc, text)?;
-            word_of(alloc, changed.as_str())
-        }
+    match form {
+        Form::AsIs => true,
+        Form::Nfc => matches!(is_nfc_quick(text.chars()), QuickCheck::Yes),
+        Form::Nfd => matches!(is_nfd_quick(text.chars()), QuickCheck::Yes),
     }
 }
 
-/// The text's characters in NFD.
-fn decomposed(alloc: Global, text: &str) -> Result<Word, Memory>
-    ensures form { IfOk result (λ w. w ≡ nfd (chars text.now)) }
-    ensures characters { IfOk result AreCharacters }
+/// The text in the form.
+fn put_into(alloc: Global, text: &str, form: Form) -> Result<String, Memory>
+    ensures { IfOk result (λ t. string_bytes t ≡ encode_utf8_all (in_form form (chars text.now))) }
 {
-    match is_nfd_quick(text.chars()) {
-        QuickCheck::Yes => word_of(alloc, text),
-        _ => {
-            let changed = to_nfd(alloc, text)?;
-            word_of(alloc, changed.as_str())
-        }
+    match form {
+        Form::AsIs => Ok(String::from_str(alloc, text)?),
+        Form::Nfc => Ok(to_nfc(alloc, text)?),
+        Form::Nfd => Ok(to_nfd(alloc, text)?),
     }
 }
 
@@ -57,11 +50,11 @@ fn changed(alloc: Global, text: &str, form: Form) -> Result<Word, Memory>
     if text.is_ascii() {
         return ascii_word(alloc, text);
     }
-    match form {
-        Form::AsIs => word_of(alloc, text),
-        Form::Nfc => composed(alloc, text),
-        Form::Nfd => decomposed(alloc, text),
+    if is_surely_in(text, form) {
+        return word_of(alloc, text);
     }
+    let put = put_into(alloc, text, form)?;
+    word_of(alloc, put.as_str())
 }
 
 /// The text's characters in the form.

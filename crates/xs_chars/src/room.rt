@@ -1,5 +1,7 @@
 // How much room a text takes, counted so that one reservation serves. No promise rests on it.
 
+ghost use Rattle.std.specs.Prelude.{◌<◌};
+
 use xs_class::Sym;
 
 /// How many bytes are counted in one byte, which such a count fits.
@@ -7,6 +9,18 @@ const BYTES: usize = 128;
 
 /// How many symbols are counted in 32 bits, which the count of their bytes fits.
 const SYMBOLS: usize = 1_024;
+
+/// How much the pieces take in all, of which each has at most that many elements.
+fn room_of<T, F: Fn(&[T]) -> u32>(all: &[T], most: usize, piece_room: F) -> usize
+    requires some { 0 < most }
+    requires called { F.IsAlwaysCallable piece_room }
+{
+    let mut count = 0usize;
+    'pieces: for piece in all.chunks(most) {
+        count = count.saturating_add(piece_room(piece) as usize);
+    }
+    count
+}
 
 /// How many bytes of the piece begin a character.
 fn begun_in(piece: &[u8]) -> u8 {
@@ -19,11 +33,7 @@ fn begun_in(piece: &[u8]) -> u8 {
 
 /// How many characters the UTF-8 spells.
 pub fn symbols_room(bytes: &[u8]) -> usize {
-    let mut count = 0usize;
-    'pieces: for piece in bytes.chunks(BYTES) {
-        count = count.saturating_add(begun_in(piece) as usize);
-    }
-    count
+    room_of(bytes, BYTES, |piece| u32::from(begun_in(piece)))
 }
 
 /// How many bytes the symbols of the piece take in UTF-8.
@@ -39,9 +49,5 @@ fn bytes_in(piece: &[Sym]) -> u32 {
 
 /// How many bytes the symbols take in UTF-8.
 pub fn bytes_room(symbols: &[Sym]) -> usize {
-    let mut count = 0usize;
-    'pieces: for piece in symbols.chunks(SYMBOLS) {
-        count = count.saturating_add(bytes_in(piece) as usize);
-    }
-    count
+    room_of(symbols, SYMBOLS, bytes_in)
 }

@@ -1,8 +1,14 @@
 use Rattle.std.proofs.Common.{◌∙◌}
 use Rattle.std.proofs.lemmas.Result.{IfOk-weaker}
 use Rattle.xs_chars.proofs.Ascii.{ascii_in_form}
+use Rattle.xs_chars.proofs.Characters.{chars_are}
 use Rattle.xs_chars.proofs.form.changed.Goals as goal
 
 pub returns-then-is_ascii-clause-form : goal.returns-then-is_ascii-clause-form
 returns-then-is_ascii-clause-form c =
     IfOk-weaker c.ascii_word.result _ _ (λ w h. h ∙ ascii_in_form c.args.form c.args.text.now c.if-is_ascii.ensures.cases) c.ascii_word.ensures.word
+
+pub returns-clause-form : goal.returns-clause-form
+returns-clause-form c =
+    let are = chars_are c.as_str.result.now _ c.as_str.utf8 (c.as_str.ensures.value ∙ c.in_ok-put.ensures) in
+    IfOk-weaker c.word_of-2.result _ _ (λ w h. h ∙ are) c.word_of-2.ensures.word
