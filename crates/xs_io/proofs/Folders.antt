@@ -41,6 +41,18 @@ lookup-at name (f ∷ files) (suc j) d place =
     let rest = lookup-at name files j d place.1 in
     (omega (arith, rest.0), rw place.0 rest.1)
 
+-- a name that the file does not have is not one that it has
+other_named : (name other : List ℕ) (f : File) → is_named other f ≡ true → is_named name f ≡ false → bytes_eq name other ≡ false
+other_named name other f is away =
+    elim (cases_Bool (bytes_eq name other)) [
+      | inl both ↦
+          let here : encode_utf8_all f.name ≡ other = (bytes_eq-Decides (encode_utf8_all f.name) other).0 is in
+          let same : name ≡ other = (bytes_eq-Decides name other).0 both in
+          let clash : is_named name f ≡ true = (bytes_eq-Decides (encode_utf8_all f.name) name).1 (here ∙ sym same) in
+          let false_one : true ≡ false = sym clash ∙ away in cc
+      | inr not_so ↦ not_so
+    ]
+
 pub lookup-set : (name other : List ℕ) (files : List File) (j : ℕ) (new : File) → IsPlace (is_named name) files j → encode_utf8_all new.name ≡ name → lookup (set files j new) other ≡ cond (bytes_eq name other) (Some new) (lookup files other)
 lookup-set name other [] j new place named = absurd place
 lookup-set name other (f ∷ files) zero new place named =
@@ -50,18 +62,9 @@ lookup-set name other (f ∷ files) zero new place named =
       | inr not_so ↦ rw (named, same, not_so) refl
     ]
 lookup-set name other (f ∷ files) (suc j) new place named =
-    let rest = lookup-set name other files j new place.1 named in
     elim (cases_Bool (is_named other f)) [
-      | inl is ↦
-          let here : encode_utf8_all f.name ≡ other = (bytes_eq-Decides (encode_utf8_all f.name) other).0 is in
-          elim (cases_Bool (bytes_eq name other)) [
-            | inl both ↦
-                let same : name ≡ other = (bytes_eq-Decides name other).0 both in
-                let clash : is_named name f ≡ true = (bytes_eq-Decides (encode_utf8_all f.name) name).1 (here ∙ sym same) in
-                let false_one : true ≡ false = sym clash ∙ place.0 in cc
-            | inr not_so ↦ rw (is, not_so) refl
-          ]
-      | inr not_so ↦ rw not_so rest
+      | inl is ↦ rw (is, other_named name other f is place.0) refl
+      | inr not_so ↦ rw not_so (lookup-set name other files j new place.1 named)
     ]
 
 pub lookup-push : (name other : List ℕ) (files : List File) (new : File) → lookup files name ≡ None → encode_utf8_all new.name ≡ name → lookup (files ++ new ∷ []) other ≡ cond (bytes_eq name other) (Some new) (lookup files other)
@@ -71,18 +74,9 @@ lookup-push name other (f ∷ files) new none named =
       | inl is ↦ let here : Some f ≡ None = rw is at none in cc
       | inr away ↦
           let later : lookup files name ≡ None = rw away at none in
-          let rest = lookup-push name other files new later named in
           elim (cases_Bool (is_named other f)) [
-            | inl is ↦
-                let here : encode_utf8_all f.name ≡ other = (bytes_eq-Decides (encode_utf8_all f.name) other).0 is in
-                elim (cases_Bool (bytes_eq name other)) [
-                  | inl both ↦
-                      let same : name ≡ other = (bytes_eq-Decides name other).0 both in
-                      let clash : is_named name f ≡ true = (bytes_eq-Decides (encode_utf8_all f.name) name).1 (here ∙ sym same) in
-                      let false_one : true ≡ false = sym clash ∙ away in cc
-                  | inr not_so ↦ rw (is, not_so) refl
-                ]
-            | inr not_so ↦ rw not_so rest
+            | inl is ↦ rw (is, other_named name other f is away) refl
+            | inr not_so ↦ rw not_so (lookup-push name other files new later named)
           ]
     ]
 

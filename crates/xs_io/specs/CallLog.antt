@@ -1,10 +1,14 @@
 -- The calls of a device in memory.
-use Rattle.std.specs.Prelude.{◌≡◌, ℕ, ◌+◌, ◌-◌, ◌^◌, min, List, Contains}
+use Rattle.std.specs.Prelude.{◌≡◌, ℕ, ◌+◌, ◌-◌, ◌^◌, min, List, Contains, Result, MatchResult}
 use Rattle.xs_io.specs.declared.call_log.CallLog.{CallLog}
 
 -- a count goes up by one, and stops at 2^64 - 1
 abbrev pub one_more : ℕ → ℕ
 one_more n = min (n + 1) (2 ^ 64 - 1)
+
+-- a failed call raised the count by one, and any other left it as it was
+abbrev pub IsCounted : {T E : Type 0} → ℕ → ℕ → Result T E → Type 0
+IsCounted before now result = MatchResult result (λ _. now ≡ before) (λ _. now ≡ one_more before)
 
 -- the numbers, from 1, of the calls that are to fail
 abbrev pub fails_of : CallLog → List ℕ

@@ -1,7 +1,7 @@
-ghost use Rattle.std.specs.Prelude.{◌≡◌, ◌≤◌, ◌<◌, length, take, IfOk, OnOk, OnErr, IfSome, IfNone, MatchResult, Some, None};
+ghost use Rattle.std.specs.Prelude.{◌≡◌, ◌≤◌, ◌<◌, length, take, IfOk, OnOk, OnErr, None};
 ghost use Rattle.std.specs.Io.{ReadsAtMost, WritesAtMost};
-ghost use Rattle.std.specs.Io.KnownBytes.{Appends, Consumes, IsAtEnd, Keeps, ReadConsumes, WriteAppends};
-ghost use Rattle.xs_io.specs.CallLog.{one_more};
+ghost use Rattle.std.specs.Io.KnownBytes.{ReadConsumes, WriteAppends};
+ghost use Rattle.xs_io.specs.CallLog.{IsCounted};
 ghost use Rattle.xs_io.specs.Causes.{HasCause};
 ghost use Rattle.xs_io.specs.Shown.{StandIn, NameFailed};
 
@@ -14,174 +14,152 @@ use std::{fs, io};
 /// How often one call is tried again where a signal interrupts it.
 const RETRIES: u32 = 1_000;
 
-/// One read, tried again while it is interrupted. `None` is a failure.
-fn read_again<R: Read>(reader: &mut R, buf: &mut [u8]) -> Option<usize>
+/// One read, tried again while it is interrupted.
+fn read_again<R: Read>(reader: &mut R, buf: &mut [u8]) -> Result<usize, Failed>
     requires { 0 < length buf.old }
-    ensures bound { IfSome result (λ n. n ≤ length buf.new) }
-    ensures taken { IfSome result (λ n. Consumes (R.remaining reader.old) (R.remaining reader.new)
-        (take n buf.new)) }
-    ensures end { IfSome result (λ n. n ≡ 0 → IsAtEnd (R.remaining reader.new)) }
-    ensures none { IfNone result (Keeps (R.remaining reader.old) (R.remaining reader.new)) }
+    ensures bound { ReadsAtMost result buf.new }
+    ensures bytes { ReadConsumes (R.remaining reader.old) (R.remaining reader.new) result buf.new }
 {
     'again: for _ in 0..=RETRIES {
         match reader.read(buf) {
-            Ok(count) => return Some(count),
+            Ok(count) => return Ok(count),
             Err(error) => {
                 if error.kind() != ErrorKind::Interrupted {
-                    return None;
+                    return Err(Failed);
                 }
             }
         }
     }
-    None
+    Err(Failed)
 }
 
 /// One read through a piece of its own: a reader that fails may leave anything in what it was given.
 /// Never inlined, so that the piece stands on the stack for this call alone.
 #[inline(never)]
-fn read_whole<R: Read>(reader: &mut R, buf: &mut [u8]) -> Option<usize>
+fn read_whole<R: Read>(reader: &mut R, buf: &mut [u8]) -> Result<usize, Failed>
     requires { 0 < length buf.old }
-    ensures bound { IfSome result (λ n. n ≤ length buf.new) }
-    ensures taken { IfSome result (λ n. Consumes (R.remaining reader.old) (R.remaining reader.new)
-        (take n buf.new)) }
-    ensures end { IfSome result (λ n. n ≡ 0 → IsAtEnd (R.remaining reader.new)) }
-    ensures none { IfNone result (Keeps (R.remaining reader.old) (R.remaining reader.new)) }
-    ensures kept { IfNone result (buf.new ≡ buf.old) }
+    ensures bound { ReadsAtMost result buf.new }
+    ensures bytes { ReadConsumes (R.remaining reader.old) (R.remaining reader.new) result buf.new }
+    ensures kept { OnErr result (buf.new ≡ buf.old) }
 {
     let mut piece = [0u8; PIECE];
     let most = buf.len().min(PIECE);
     let count = read_again(reader, &mut piece[..most])?;
     buf[..count].copy_from_slice(&piece[..count]);
-    Some(count)
+    Ok(count)
 }
 
-/// One write, tried again while it is interrupted. `None` is a failure, as is a write of nothing.
-fn write_again<W: Write>(writer: &mut W, piece: &[u8]) -> Option<usize>
-    ensures some { IfSome result (λ n. 0 < n) }
-    ensures bound { IfSome result (λ n. n ≤ length piece.now) }
-    ensures taken { IfSome result (λ n. Appends (W.contents writer.old) (W.contents writer.new)
-        (take n piece.now)) }
-    ensures none { IfNone result (Keeps (W.contents writer.old) (W.contents writer.new)) }
+/// One write, tried again while it is interrupted. A write of nothing is a failure.
+fn write_again<W: Write>(writer: &mut W, piece: &[u8]) -> Result<usize, Failed>
+    ensures bound { WritesAtMost result piece.now }
+    ensures some { IfOk result (λ n. 0 < n) }
+    ensures bytes { WriteAppends (W.contents writer.old) (W.contents writer.new) result piece.now }
 {
     'again: for _ in 0..=RETRIES {
         match writer.write(piece) {
-            Ok(0) => return None,
-            Ok(count) => return Some(count),
+            Ok(0) => return Err(Failed),
+            Ok(count) => return Ok(count),
             Err(error) => {
                 if error.kind() != ErrorKind::Interrupted {
-                    return None;
+                    return Err(Failed);
                 }
             }
         }
     }
-    None
+    Err(Failed)
 }
 
-/// The answer of a call of which `None` is a failure: the count of faults then rises.
-fn counted(moved: Option<usize>, faults: &mut u64) -> Result<usize, Failed>
-    ensures cases { MatchResult result (λ n. moved ≡ Some n) (λ _. moved ≡ None) }
+/// The answer of a call. The count of faults rises where it failed.
+fn counted(answer: Result<usize, Failed>, faults: &mut u64) -> Result<usize, Failed>
+    ensures same { result ≡ answer }
     ensures cause { HasCause faults.old faults.new result }
-    ensures faults { MatchResult result (λ _. faults.new ≡ faults.old)
-        (λ _. faults.new ≡ one_more faults.old) }
+    ensures faults { IsCounted faults.old faults.new result }
 {
-    match moved {
-        Some(count) => Ok(count),
-        None => {
-            *faults = faults.saturating_add(1);
-            Err(Failed)
-        }
+    if answer.is_err() {
+        *faults = faults.saturating_add(1);
+    }
+    answer
+}
+
+/// A device of the outside, and how often a call of it failed.
+///
+/// A call that is interrupted is tried again, at most 1,000 times, and then fails.
+#[derive(Drop)]
+pub struct Adapter<D> {
+    device: D,
+    faults: u64,
+}
+
+impl<D> Adapter<D> {
+    ghost use Rattle.xs_io.specs.Adapters.{device_of, device_faults};
+
+    /// This device, of which no call failed yet.
+    pub fn new(device: D) -> Self
+        ensures device { device_of result ≡ device }
+        ensures faults { device_faults result ≡ 0 }
+    {
+        Adapter { device, faults: 0 }
     }
 }
 
 /// A source over a reader, such as the standard input.
 ///
-/// A call that is interrupted is tried again, at most 1,000 times, and then fails. It shows what
-/// is left only where the reader does, as one over bytes in memory.
-#[derive(Drop)]
-pub struct FromReader<R: Read> {
-    reader: R,
-    faults: u64,
-}
+/// It shows what is left only where the reader does, as one over bytes in memory.
+pub type FromReader<R> = Adapter<R>;
 
-impl<R: Read> FromReader<R> {
-    ghost use Rattle.xs_io.specs.Adapters.{reader_of, reader_faults};
+/// A sink over a writer.
+///
+/// A write that takes nothing fails. What the sink took is what the writer took: nothing is
+/// flushed, so give it a writer without a buffer, as the runtime's `stdout()` and `stderr()` are.
+/// It shows what it took only where the writer does, as a vector.
+pub type ToWriter<W> = Adapter<W>;
 
-    /// A source over this reader.
-    pub fn new(reader: R) -> Self
-        ensures reader { reader_of result ≡ reader }
-        ensures faults { reader_faults result ≡ 0 }
-    {
-        FromReader { reader, faults: 0 }
-    }
-}
+/// The files of a file system. A name is a path from the folder in which the program was started.
+///
+/// Each call opens its file. Its contracts say nothing of what the files hold.
+pub type DirShelf<'r, R> = Adapter<&'r R>;
 
-impl<R: Read> Source for FromReader<R> {
-    ghost use Rattle.xs_io.specs.Adapters.{reader_of, reader_faults};
+impl<R: Read> Source for Adapter<R> {
+    ghost use Rattle.xs_io.specs.Adapters.{device_of, device_faults};
 
-    ghost left = { λ s. R.remaining (reader_of s) };
+    ghost left = { λ s. R.remaining (device_of s) };
 
-    ghost faults = { λ s. reader_faults s };
+    ghost faults = { λ s. device_faults s };
 
     fn read(&mut self, buf: &mut [u8]) -> Result<usize, Failed>
         requires { 0 < length buf.old }
         ensures bound { ReadsAtMost result buf.new }
-        ensures bytes { ReadConsumes (R.remaining (reader_of self.old))
-            (R.remaining (reader_of self.new)) result buf.new }
+        ensures bytes { ReadConsumes (R.remaining (device_of self.old))
+            (R.remaining (device_of self.new)) result buf.new }
         ensures kept { OnErr result (buf.new ≡ buf.old) }
-        ensures cause { HasCause (reader_faults self.old) (reader_faults self.new) result }
+        ensures cause { HasCause (device_faults self.old) (device_faults self.new) result }
 
         // Its count rises where it fails, and stays elsewhere.
-        ensures faults { MatchResult result (λ _. reader_faults self.new ≡ reader_faults self.old)
-            (λ _. reader_faults self.new ≡ one_more (reader_faults self.old)) }
+        ensures faults { IsCounted (device_faults self.old) (device_faults self.new) result }
     {
-        counted(read_whole(&mut self.reader, buf), &mut self.faults)
+        counted(read_whole(&mut self.device, buf), &mut self.faults)
     }
 }
 
-/// A sink over a writer.
-///
-/// A call that is interrupted is tried again, at most 1,000 times, and then fails. So does a write
-/// that takes nothing. What the sink took is what the writer took: nothing is flushed, so give it
-/// a writer without a buffer, as the runtime's `stdout()` and `stderr()` are. It shows what it
-/// took only where the writer does, as a vector.
-#[derive(Drop)]
-pub struct ToWriter<W: Write> {
-    writer: W,
-    faults: u64,
-}
+impl<W: Write> Sink for Adapter<W> {
+    ghost use Rattle.xs_io.specs.Adapters.{device_of, device_faults};
 
-impl<W: Write> ToWriter<W> {
-    ghost use Rattle.xs_io.specs.Adapters.{writer_of, writer_faults};
+    ghost taken = { λ s. W.contents (device_of s) };
 
-    /// A sink over this writer.
-    pub fn new(writer: W) -> Self
-        ensures writer { writer_of result ≡ writer }
-        ensures faults { writer_faults result ≡ 0 }
-    {
-        ToWriter { writer, faults: 0 }
-    }
-}
-
-impl<W: Write> Sink for ToWriter<W> {
-    ghost use Rattle.xs_io.specs.Adapters.{writer_of, writer_faults};
-
-    ghost taken = { λ s. W.contents (writer_of s) };
-
-    ghost faults = { λ s. writer_faults s };
+    ghost faults = { λ s. device_faults s };
 
     fn write(&mut self, piece: &[u8]) -> Result<usize, Failed>
         requires { 0 < length piece.now }
         ensures bound { WritesAtMost result piece.now }
         ensures some { IfOk result (λ n. 0 < n) }
-        ensures bytes { WriteAppends (W.contents (writer_of self.old))
-            (W.contents (writer_of self.new)) result piece.now }
-        ensures cause { HasCause (writer_faults self.old) (writer_faults self.new) result }
+        ensures bytes { WriteAppends (W.contents (device_of self.old))
+            (W.contents (device_of self.new)) result piece.now }
+        ensures cause { HasCause (device_faults self.old) (device_faults self.new) result }
 
         // Its count rises where it fails, and stays elsewhere.
-        ensures faults { MatchResult result (λ _. writer_faults self.new ≡ writer_faults self.old)
-            (λ _. writer_faults self.new ≡ one_more (writer_faults self.old)) }
+        ensures faults { IsCounted (device_faults self.old) (device_faults self.new) result }
     {
-        counted(write_again(&mut self.writer, piece), &mut self.faults)
+        counted(write_again(&mut self.device, piece), &mut self.faults)
     }
 }
 
@@ -201,33 +179,12 @@ impl<R: Files> Read for FileFrom<'_, R> {
     }
 }
 
-/// The files of a file system. A name is a path from the folder in which the program was started.
-///
-/// Each call opens its file. A call that is interrupted is tried again, at most 1,000 times, and
-/// then fails. Its contracts say nothing of what the files hold.
-#[derive(Drop)]
-pub struct DirShelf<'r, R: Files> {
-    rt: &'r R,
-    faults: u64,
-}
-
-impl<'r, R: Files> DirShelf<'r, R> {
-    ghost use Rattle.xs_io.specs.Adapters.{dir_faults};
-
-    /// A shelf over the files of this runtime.
-    pub fn new(rt: &'r R) -> Self
-        ensures { dir_faults result ≡ 0 }
-    {
-        DirShelf { rt, faults: 0 }
-    }
-}
-
-impl<'r, R: Files> Shelf for DirShelf<'r, R> {
-    ghost use Rattle.xs_io.specs.Adapters.{dir_faults, dir_name_faults};
+impl<'r, R: Files> Shelf for Adapter<&'r R> {
+    ghost use Rattle.xs_io.specs.Adapters.{device_faults, dir_name_faults};
 
     ghost files = { λ _. None };
 
-    ghost faults = { λ s. dir_faults s };
+    ghost faults = { λ s. device_faults s };
 
     ghost name_faults = { λ s name. dir_name_faults s name };
 
@@ -236,20 +193,19 @@ impl<'r, R: Files> Shelf for DirShelf<'r, R> {
         ensures bound { ReadsAtMost result buf.new }
         ensures bytes { IfOk result (λ n. StandIn None name.now at (take n buf.new)) }
         ensures kept { OnErr result (buf.new ≡ buf.old) }
-        ensures later { dir_faults self.old ≤ dir_faults self.new }
+        ensures later { device_faults self.old ≤ device_faults self.new }
         ensures name_later { dir_name_faults self.old name.now ≤ dir_name_faults self.new name.now }
         ensures unmoved { OnOk result (dir_name_faults self.new name.now
             ≡ dir_name_faults self.old name.now) }
         ensures failed { OnErr result (NameFailed None name.now
-            (dir_faults self.old) (dir_faults self.new)
+            (device_faults self.old) (device_faults self.new)
             (dir_name_faults self.old name.now) (dir_name_faults self.new name.now)) }
 
         // Its count rises where it fails, and stays elsewhere.
-        ensures faults { MatchResult result (λ _. dir_faults self.new ≡ dir_faults self.old)
-            (λ _. dir_faults self.new ≡ one_more (dir_faults self.old)) }
+        ensures faults { IsCounted (device_faults self.old) (device_faults self.new) result }
     {
         let mut file = FileFrom {
-            rt: self.rt,
+            rt: self.device,
             name,
             at,
         };

@@ -1,4 +1,4 @@
-ghost use Rattle.std.specs.Prelude.{◌≡◌, ◌≤◌, ◌↔◌, ◌+◌, IsErr, IsTrue, MatchResult, Contains};
+ghost use Rattle.std.specs.Prelude.{◌≡◌, ◌≤◌, ◌↔◌, ◌+◌, IsErr, IsTrue, Contains};
 
 use crate::Failed;
 
@@ -11,7 +11,7 @@ pub(crate) struct CallLog {
 }
 
 impl CallLog {
-    ghost use Rattle.xs_io.specs.CallLog.{IsListed, Begins, one_more, fails_of, made_of, faults_of};
+    ghost use Rattle.xs_io.specs.CallLog.{IsListed, Begins, IsCounted, one_more, fails_of, made_of, faults_of};
 
     /// No call yet. The calls with these numbers, from 1, are to fail.
     pub(crate) fn new(fails: Vec<u64>) -> Self
@@ -30,8 +30,7 @@ impl CallLog {
     pub(crate) fn begin(&mut self) -> Result<(), Failed>
         ensures listed { IsErr result ↔ IsListed self.old }
         ensures counted { Begins self.old self.new }
-        ensures faults { MatchResult result (λ _. faults_of self.new ≡ faults_of self.old)
-            (λ _. faults_of self.new ≡ one_more (faults_of self.old)) }
+        ensures faults { IsCounted (faults_of self.old) (faults_of self.new) result }
         ensures later { faults_of self.old ≤ faults_of self.new }
     {
         let listed = is_listed(&self.fails, self.made);

@@ -1,6 +1,6 @@
-ghost use Rattle.std.specs.Prelude.{◌≡◌, ◌≢◌, ◌≤◌, ◌<◌, ◌↔◌, ◌⊎◌, List, ℕ, None, length, take, IfOk, IsErr, OnOk, OnErr, MatchResult, encode_utf8_all};
+ghost use Rattle.std.specs.Prelude.{◌≡◌, ◌≢◌, ◌≤◌, ◌<◌, ◌↔◌, ◌⊎◌, List, ℕ, None, length, take, IfOk, IsErr, OnOk, OnErr, encode_utf8_all};
 ghost use Rattle.std.specs.Io.{ReadsAtMost};
-ghost use Rattle.xs_io.specs.CallLog.{IsListed, Begins, one_more, fails_of, made_of, faults_of};
+ghost use Rattle.xs_io.specs.CallLog.{IsListed, Begins, IsCounted, fails_of, made_of, faults_of};
 ghost use Rattle.xs_io.specs.Puts.{Puts};
 ghost use Rattle.xs_io.specs.Shown.{StandIn, IsFull, NameFailed};
 
@@ -83,9 +83,8 @@ impl Shelf for MemShelf {
         ensures count { IfOk result (λ n. IsFull (mem_file self.old name.now) at
             (length buf.old) n) }
         ensures counted { Begins (mem_calls self.old) (mem_calls self.new) }
-        ensures faults { MatchResult result (λ _. faults_of (mem_calls self.new)
-            ≡ faults_of (mem_calls self.old))
-            (λ _. faults_of (mem_calls self.new) ≡ one_more (faults_of (mem_calls self.old))) }
+        ensures faults { IsCounted (faults_of (mem_calls self.old)) (faults_of (mem_calls self.new))
+            result }
     {
         if let Err(failed) = self.calls.begin() {
             self.folder.raise(name);
@@ -158,8 +157,7 @@ impl Shelf for SureShelf {
         ensures fails { IsErr result ↔ (sure_file self.old name.now ≡ None) }
         ensures count { IfOk result (λ n. IsFull (sure_file self.old name.now) at
             (length buf.old) n) }
-        ensures faults { MatchResult result (λ _. sure_faults self.new ≡ sure_faults self.old)
-            (λ _. sure_faults self.new ≡ one_more (sure_faults self.old)) }
+        ensures faults { IsCounted (sure_faults self.old) (sure_faults self.new) result }
     {
         match self.folder.read_at(name, at, buf) {
             Some(count) => Ok(count),

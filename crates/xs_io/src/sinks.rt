@@ -1,7 +1,7 @@
-ghost use Rattle.std.specs.Prelude.{◌≡◌, ◌≤◌, ◌<◌, ◌-◌, ◌↔◌, [], length, min, vec_capacity, vec_len, IfOk, IsErr, MatchResult};
+ghost use Rattle.std.specs.Prelude.{◌≡◌, ◌≤◌, ◌<◌, ◌-◌, ◌↔◌, [], length, min, vec_capacity, vec_len, IfOk, IsErr};
 ghost use Rattle.std.specs.Io.{WritesAtMost};
 ghost use Rattle.std.specs.Io.KnownBytes.{WriteAppends};
-ghost use Rattle.xs_io.specs.CallLog.{IsListed, Begins, one_more, fails_of, made_of, faults_of};
+ghost use Rattle.xs_io.specs.CallLog.{IsListed, Begins, IsCounted, fails_of, made_of, faults_of};
 ghost use Rattle.xs_io.specs.Causes.{HasCause};
 
 use crate::call_log::CallLog;
@@ -68,9 +68,8 @@ impl Sink for MemSink {
         ensures listed { IsListed (mem_calls self.old) → IsErr result }
         ensures count { IfOk result (λ n. n ≡ min (mem_step self.old) (length piece.now)) }
         ensures counted { Begins (mem_calls self.old) (mem_calls self.new) }
-        ensures faults { MatchResult result (λ _. faults_of (mem_calls self.new)
-            ≡ faults_of (mem_calls self.old))
-            (λ _. faults_of (mem_calls self.new) ≡ one_more (faults_of (mem_calls self.old))) }
+        ensures faults { IsCounted (faults_of (mem_calls self.old)) (faults_of (mem_calls self.new))
+            result }
         ensures step { mem_step self.new ≡ mem_step self.old }
     {
         self.calls.begin()?;
@@ -138,8 +137,7 @@ impl Sink for SureSink {
         ensures full { IsErr result ↔ (length (sure_bytes self.old) ≡ sure_room self.old) }
         ensures count { IfOk result (λ n. n ≡ min (length piece.now)
             (sure_room self.old - length (sure_bytes self.old))) }
-        ensures faults { MatchResult result (λ _. sure_faults self.new ≡ sure_faults self.old)
-            (λ _. sure_faults self.new ≡ one_more (sure_faults self.old)) }
+        ensures faults { IsCounted (sure_faults self.old) (sure_faults self.new) result }
         ensures room { sure_room self.new ≡ sure_room self.old }
     {
         let count = piece.len().min(self.room - self.bytes.len());

@@ -1,7 +1,7 @@
-ghost use Rattle.std.specs.Prelude.{◌≡◌, ◌≤◌, ◌<◌, ◌↔◌, length, min, IfOk, OnErr, IsOk, IsErr, MatchResult};
+ghost use Rattle.std.specs.Prelude.{◌≡◌, ◌≤◌, ◌<◌, ◌↔◌, length, min, IfOk, OnErr, IsOk, IsErr};
 ghost use Rattle.std.specs.Io.{ReadsAtMost};
 ghost use Rattle.std.specs.Io.KnownBytes.{ReadConsumes};
-ghost use Rattle.xs_io.specs.CallLog.{IsListed, Begins, one_more, fails_of, made_of, faults_of};
+ghost use Rattle.xs_io.specs.CallLog.{IsListed, Begins, IsCounted, fails_of, made_of, faults_of};
 ghost use Rattle.xs_io.specs.Causes.{HasCause};
 
 use crate::call_log::CallLog;
@@ -72,9 +72,8 @@ impl Source for MemSource {
         ensures count { IfOk result (λ n. n ≡ min (mem_step self.old)
             (min (length buf.old) (length (mem_rest self.old)))) }
         ensures counted { Begins (mem_calls self.old) (mem_calls self.new) }
-        ensures faults { MatchResult result (λ _. faults_of (mem_calls self.new)
-            ≡ faults_of (mem_calls self.old))
-            (λ _. faults_of (mem_calls self.new) ≡ one_more (faults_of (mem_calls self.old))) }
+        ensures faults { IsCounted (faults_of (mem_calls self.old)) (faults_of (mem_calls self.new))
+            result }
         ensures step { mem_step self.new ≡ mem_step self.old }
     {
         self.calls.begin()?;
