@@ -2,6 +2,8 @@
 -- follow another. This is Glushkov's construction.
 use Rattle.std.specs.Prelude.{◌≡◌, ◌⊎◌, ◌↔◌, ℕ, zero, suc, ◌+◌, Bool, true, false, ◌&&◌, ◌||◌, List, [], ◌∷◌, ◌++◌, length, Contains, None, Some, if◌then◌else◌}
 use Rattle.std.specs.declared.option.Option.{Option}
+use Rattle.xs_regex.specs.declared.forms.Join.{Join}
+use Rattle.xs_regex.specs.declared.forms.Join.TheVariants.{Turn, Choice}
 use Rattle.xs_regex.specs.declared.position.Position.{Position}
 use Rattle.xs_regex.specs.declared.regex.Regex.{Regex}
 use Rattle.xs_regex.specs.declared.regex.Regex.TheVariants.{Empty, Set, Then', Or', Star', Times'}
@@ -18,6 +20,11 @@ pub data Shape : Type 0 where
   choice : Shape → Shape → Shape
   once_or_more : Shape → Shape
   at_most_once : Shape → Shape
+
+-- the shape of two parts that are joined so
+abbrev pub joined_shape : Join → Shape → Shape → Shape
+joined_shape Turn = turn
+joined_shape Choice = choice
 
 -- at least that many copies: of the last there may be more
 abbrev pub least_copies : ℕ → Shape → Shape

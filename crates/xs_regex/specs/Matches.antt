@@ -2,6 +2,8 @@
 use Rattle.std.specs.Prelude.{◌≡◌, ◌⊎◌, ℕ, ◌≤◌, List, [], ◌∷◌, ◌++◌, length, None, Some}
 use Rattle.std.specs.declared.option.Option.{Option}
 use Rattle.xs_class.specs.Classes.{Has}
+use Rattle.xs_regex.specs.declared.forms.Join.{Join}
+use Rattle.xs_regex.specs.declared.forms.Join.TheVariants.{Turn, Choice}
 use Rattle.xs_regex.specs.declared.regex.Regex.{Regex}
 use Rattle.xs_regex.specs.declared.regex.Regex.TheVariants.{Empty, Set, Then', Or', Star', Times'}
 
@@ -30,6 +32,11 @@ InTurn P Q w = (u : List ℕ) × (v : List ℕ) × (w ≡ u ++ v) × P u × Q v
 
 abbrev pub OfEither : (List ℕ → Type 0) → (List ℕ → Type 0) → List ℕ → Type 0
 OfEither P Q w = P w ⊎ Q w
+
+-- the words of two languages that are joined so
+abbrev pub Joined : Join → (List ℕ → Type 0) → (List ℕ → Type 0) → List ℕ → Type 0
+Joined Turn = InTurn
+Joined Choice = OfEither
 
 -- the words of each form: the empty word, one symbol of a class, one word and then another, a word
 -- of either, any number of words, and as many as the counts allow

@@ -1,7 +1,11 @@
 -- How automata are put together.
 use Rattle.std.specs.Prelude.{◌≡◌, ◌⊎◌, ◌&&◌, ◌||◌, ℕ, ◌+◌, ◌<◌, Bool, true, false, List, [], ◌∷◌, ◌++◌, length, map, slice_get, Contains, IsSomeAnd, IsTrue, if◌then◌else◌}
 use Rattle.std.specs.declared.option.Option.{Option}
+use Rattle.xs_regex.specs.declared.forms.Join.{Join}
+use Rattle.xs_regex.specs.declared.forms.Join.TheVariants.{Turn, Choice}
 use Rattle.xs_regex.specs.declared.position.Position.{Position}
+use Rattle.xs_regex.specs.declared.regex.Regex.{Regex}
+use Rattle.xs_regex.specs.declared.regex.Regex.TheVariants.{Then', Or'}
 use Rattle.xs_regex.specs.Automaton.{Accepts, IsWellFormed, EachEnds, ClassesHaveMembers}
 use Rattle.xs_regex.specs.Size.{IsInOrder}
 
@@ -37,6 +41,17 @@ pub record IsEither (p q r : Position) : Type 0 where
   pub last : r.last ≡ p.last ++ shift (length p.classes) q.last
   pub nullable : r.nullable ≡ p.nullable || q.nullable
   pub follow : r.follow ≡ p.follow ++ map (shift (length p.classes)) q.follow
+
+-- r is p and q, joined so
+abbrev pub AreJoined : Join → Position → Position → Position → Type 0
+AreJoined Turn = IsThen
+AreJoined Choice = IsEither
+
+-- the regex is these two, joined so
+abbrev pub AreParts : Join → Regex → Regex → Regex → Type 0
+AreParts Turn (Then' p a q b) x y = (x ≡ a) × (y ≡ b)
+AreParts Choice (Or' p a q b) x y = (x ≡ a) × (y ≡ b)
+AreParts join r x y = ⊥
 
 -- an automaton once or more
 pub record IsRound (p r : Position) : Type 0 where

@@ -1,12 +1,13 @@
-ghost use Rattle.std.specs.Prelude.{◌≡◌, ◌+◌, ◌*◌, ◌≤◌, ◌++◌, ℕ, true, List, [], length, IfOk};
+ghost use Rattle.std.specs.Prelude.{◌≡◌, ◌+◌, ◌*◌, ◌≤◌, ◌++◌, ℕ, true, List, [], length, IfOk, IfSome};
 ghost use Rattle.xs_regex.specs.Automaton.{Accepts, IsWellFormed, ClassesHaveMembers, EachEnds};
-ghost use Rattle.xs_regex.specs.Matches.{joined, Each, InTurn, OfEither, Repeats, Matches};
-ghost use Rattle.xs_regex.specs.Parts.{IsAutomaton, IsThen, IsEither};
+ghost use Rattle.xs_regex.specs.Matches.{joined as one_word, Each, Joined, Repeats, Matches};
+ghost use Rattle.xs_regex.specs.Parts.{IsAutomaton, AreJoined, AreParts};
 ghost use Rattle.xs_regex.specs.Size.{copies, times, size, sets, IsInOrder, IsBounded, HasMembers};
-ghost use Rattle.xs_regex.specs.Links.{Shape, bare_of, turn, choice, once_or_more, at_most_once, as_often, shape, HasLinks};
+ghost use Rattle.xs_regex.specs.Links.{Shape, bare_of, joined_shape, once_or_more, at_most_once, as_often, shape, HasLinks};
 ghost use Rattle.xs_regex.specs.declared.position.Position.{Position as AnyPosition};
 
 use crate::compose::{either, maybe, nothing, round, sequence, single};
+use crate::forms::Join;
 use crate::repeat::repeated;
 use crate::{Position, Regex};
 use std::alloc::Global;
@@ -50,8 +51,8 @@ fn built(alloc: Global, r: &Regex) -> Result<Position, Memory>
     match r {
         Regex::Empty => no_symbol(alloc),
         Regex::Set(class) => single(alloc, class),
-        Regex::Then(a, b) => in_turn(alloc, a, b),
-        Regex::Or(a, b) => of_either(alloc, a, b),
+        Regex::Then(a, b) => joined(alloc, Join::Turn, a, b),
+        Regex::Or(a, b) => joined(alloc, Join::Choice, a, b),
         Regex::Star(a) => any_number(alloc, a),
         Regex::Times(a, least, most) => counted(alloc, a, *least, *most),
     }
@@ -66,66 +67,49 @@ fn no_symbol(alloc: Global) -> Result<Position, Memory>
     Ok(nothing(alloc, true))
 }
 
-/// One regex and then another, whose right parts are passed one after another.
+/// The two parts of a regex that is joined so.
+fn parts_of(join: Join, r: &Regex) -> Option<(&Regex, &Regex)>
+    ensures { IfSome result (λ p. AreParts join r.now p.0.now p.1.now) }
+{
+    match (join, r) {
+        (Join::Turn, Regex::Then(a, b)) => Some((a, b)),
+        (Join::Choice, Regex::Or(a, b)) => Some((a, b)),
+        _ => None,
+    }
+}
+
+/// Two regexes, joined, whose right parts are passed one after another.
 #[cycle(built)]
 #[inline(never)]
-fn in_turn(alloc: Global, a: &Regex, b: &Regex) -> Result<Position, Memory>
+fn joined(alloc: Global, join: Join, a: &Regex, b: &Regex) -> Result<Position, Memory>
     requires { size a.now + size b.now ≤ 512 }
-    ensures automaton { IfOk result (IsAutomaton (InTurn (Matches a.now) (Matches b.now)) (sets a.now ++ sets b.now) (IsBounded a.now × IsBounded b.now)) }
-    ensures links { IfOk result (HasLinks (turn (shape a.now) (shape b.now))) }
+    ensures automaton { IfOk result (IsAutomaton (Joined join (Matches a.now) (Matches b.now)) (sets a.now ++ sets b.now) (IsBounded a.now × IsBounded b.now)) }
+    ensures links { IfOk result (HasLinks (joined_shape join (shape a.now) (shape b.now))) }
 {
     let mut all = built(alloc, a)?;
     let mut rest = b;
-    'parts: while let Regex::Then(part, next) = rest {
-        add_after(alloc, &mut all, part)?;
+    'parts: while let Some((part, next)) = parts_of(join, rest) {
+        add(alloc, join, &mut all, part)?;
         rest = next;
     }
-    add_after(alloc, &mut all, rest)?;
+    add(alloc, join, &mut all, rest)?;
     Ok(all)
 }
 
-/// Puts the automaton of a part after that of the parts before it.
+/// Joins the automaton of a part to that of the parts before it.
 #[cycle(built)]
 #[inline(never)]
-fn add_after(alloc: Global, all: &mut Position, part: &Regex) -> Result<(), Memory>
+fn add(alloc: Global, join: Join, all: &mut Position, part: &Regex) -> Result<(), Memory>
     requires formed { IsWellFormed all.old }
     requires small { length all.old.classes + size part.now ≤ 512 }
-    ensures part { IfOk result (λ _. (next : AnyPosition) × IsAutomaton (Matches part.now) (sets part.now) (IsBounded part.now) next × IsThen all.old next all.new) }
-    ensures links { IfOk result (λ _. (s : Shape) → HasLinks s all.old → HasLinks (turn s (shape part.now)) all.new) }
+    ensures part { IfOk result (λ _. (next : AnyPosition) × IsAutomaton (Matches part.now) (sets part.now) (IsBounded part.now) next × AreJoined join all.old next all.new) }
+    ensures links { IfOk result (λ _. (s : Shape) → HasLinks s all.old → HasLinks (joined_shape join s (shape part.now)) all.new) }
 {
     let mut next = built(alloc, part)?;
-    sequence(alloc, all, &mut next)
-}
-
-/// One regex or another, whose right parts are passed one after another.
-#[cycle(built)]
-#[inline(never)]
-fn of_either(alloc: Global, a: &Regex, b: &Regex) -> Result<Position, Memory>
-    requires { size a.now + size b.now ≤ 512 }
-    ensures automaton { IfOk result (IsAutomaton (OfEither (Matches a.now) (Matches b.now)) (sets a.now ++ sets b.now) (IsBounded a.now × IsBounded b.now)) }
-    ensures links { IfOk result (HasLinks (choice (shape a.now) (shape b.now))) }
-{
-    let mut all = built(alloc, a)?;
-    let mut rest = b;
-    'parts: while let Regex::Or(part, next) = rest {
-        add_beside(alloc, &mut all, part)?;
-        rest = next;
+    match join {
+        Join::Turn => sequence(alloc, all, &mut next),
+        Join::Choice => either(alloc, all, &mut next),
     }
-    add_beside(alloc, &mut all, rest)?;
-    Ok(all)
-}
-
-/// Puts the automaton of a part beside that of the parts before it.
-#[cycle(built)]
-#[inline(never)]
-fn add_beside(alloc: Global, all: &mut Position, part: &Regex) -> Result<(), Memory>
-    requires formed { IsWellFormed all.old }
-    requires small { length all.old.classes + size part.now ≤ 512 }
-    ensures part { IfOk result (λ _. (next : AnyPosition) × IsAutomaton (Matches part.now) (sets part.now) (IsBounded part.now) next × IsEither all.old next all.new) }
-    ensures links { IfOk result (λ _. (s : Shape) → HasLinks s all.old → HasLinks (choice s (shape part.now)) all.new) }
-{
-    let mut next = built(alloc, part)?;
-    either(alloc, all, &mut next)
 }
 
 /// A regex any number of times.
@@ -133,7 +117,7 @@ fn add_beside(alloc: Global, all: &mut Position, part: &Regex) -> Result<(), Mem
 #[inline(never)]
 fn any_number(alloc: Global, a: &Regex) -> Result<Position, Memory>
     requires { size a.now ≤ 512 }
-    ensures automaton { IfOk result (IsAutomaton (λ w. (ws : List (List ℕ)) × (w ≡ joined ws) × Each (Matches a.now) ws) (sets a.now) (IsBounded a.now)) }
+    ensures automaton { IfOk result (IsAutomaton (λ w. (ws : List (List ℕ)) × (w ≡ one_word ws) × Each (Matches a.now) ws) (sets a.now) (IsBounded a.now)) }
     ensures links { IfOk result (HasLinks (at_most_once (once_or_more (shape a.now)))) }
 {
     let mut p = built(alloc, a)?;
