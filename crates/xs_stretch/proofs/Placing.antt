@@ -2,30 +2,28 @@
 use Rattle.std.proofs.Common.{◌≡◌, ℕ, zero, suc, ◌+◌, ◌*◌, ◌-◌, ◌<◌, ◌≤◌, List, [], ◌∷◌, ◌++◌, length, take, get_or, slice_get, refl, sym, ap, subst, ◌∙◌, inl, inr, arith, Some}
 use Rattle.std.specs.List.{Contains}
 use Rattle.std.proofs.lemmas.Bool.{cases_eq}
-use Rattle.std.proofs.lemmas.List.{take_all}
+use Rattle.std.proofs.lemmas.List.{get_or_read, take_all}
 use Rattle.std.proofs.lemmas.List.Elements.{Contains-get_or}
 use Rattle.xs_auto.specs.Nets.{Graph}
 use Rattle.xs_gram.specs.declared.parts.GItem.{GItem}
 use Rattle.xs_gram.specs.Grammar.{Grammar, rule_of}
 use Rattle.xs_gram.specs.Fences.{spread, IsLevel}
-use Rattle.xs_gram.specs.Loose.{here, AreOne, AreComponents}
+use Rattle.xs_gram.specs.Loose.{here, AreOne}
 use Rattle.xs_gram.specs.Sound.{IsBuilt}
 use Rattle.xs_check_laws.specs.Weights.{heaviest, Members}
-use Rattle.xs_stretch.specs.declared.components.Components.{Components}
 use Rattle.xs_stretch.specs.declared.site.Home.{Home}
+use Rattle.xs_stretch.specs.declared.site.Site.{Site}
 use Rattle.xs_stretch.specs.declared.site.Spot.{Spot}
 use Rattle.xs_stretch.specs.declared.site.Task.{Task}
-use Rattle.xs_stretch.specs.declared.tables.Tables.{Tables}
 use Rattle.xs_stretch.specs.Arcs.{Arc, pass}
 use Rattle.xs_stretch.specs.Growth.{NetGrows}
-use Rattle.xs_stretch.specs.Components.{IsListOf, IsNonOf, IsRuleIn, AreComponentsOf}
+use Rattle.xs_stretch.specs.Components.{IsListOf, IsNonOf, IsRuleIn}
 use Rattle.xs_stretch.specs.Laying.{entry_state, exit_state, LaysComponent, lays_component, LaysRules, lays_no_rule, lays_rule, lays_other_rule, LaysBody}
 use Rattle.xs_stretch.specs.Making.{IsRuleLaid, IsTaskDone}
 use Rattle.xs_stretch.specs.Parts.{part_items, IsPart}
-use Rattle.xs_stretch.specs.Tables.{AreTables}
 use Rattle.xs_stretch.specs.Walking.{IsHome, HasRoom, AreAllLaid}
 use Rattle.xs_stretch.specs.Weighing.{AreWeights}
-use Rattle.xs_stretch.specs.Work.{IsDone, IsTask}
+use Rattle.xs_stretch.specs.Work.{IsDone, IsSite, IsTask}
 use Rattle.xs_stretch.proofs.Bounds.{IsUpTo, up_to_own}
 use Rattle.xs_stretch.proofs.Gaining.{done_grows, done_then}
 use Rattle.xs_stretch.proofs.Growing.{grows_none}
@@ -85,41 +83,41 @@ pub record RulesPlaced (g : Grammar) (weights rules : List ℕ) (h : Home) (i at
   pub lays : (r : ℕ) → r ≤ length g.rules → IsUpTo rules i r → LaysRules g h.non h.first r at arcs place
   pub done : IsDone g weights arcs at place old olds new news
 
-module _ (g : Grammar) (built : IsBuilt g) (weights comps : List ℕ) (are : AreComponents g comps) (component : ℕ) (rules : List ℕ) (list : IsListOf (IsRuleIn g comps component) rules) (h : Home) (of : IsNonOf g comps component h.non) where
-  pub placed_none : (at : ℕ) (n : Graph) (ts : List Task) → RulesPlaced g weights rules h 0 at at n ts n ts
+module _ (site : Site) (is : IsSite site) (component : ℕ) (rules : List ℕ) (list : IsListOf (IsRuleIn site.g.now site.comps.now component) rules) (h : Home) (of : IsNonOf site.g.now site.comps.now component h.non) where
+  pub placed_none : (at : ℕ) (n : Graph) (ts : List Task) → RulesPlaced site.g.now site.tables.now.weights rules h 0 at at n ts n ts
   placed_none at n ts = record {
     arcs = [];
-    lays = λ r low up. others lays_no_rule r (omega arith) (λ q l m one. let found = passed g comps built.range are component rules list h.non of 0 r low up q m one in absurd (omega (arith, found.1)));
-    done = done_grows g weights ts (omega arith) (grows_none n);
+    lays = λ r low up. others lays_no_rule r (omega arith) (λ q l m one. let found = passed site.g.now site.comps.now is.built.range is.comps component rules list h.non of 0 r low up q m one in absurd (omega (arith, found.1)));
+    done = done_grows site.g.now site.tables.now.weights ts (omega arith) (grows_none n);
   }
 
   module _ (i p : ℕ) (low : i < length rules) (e : p ≡ get_or rules i 0) where
-    pub own_rule : IsRuleIn g comps component p
+    pub own_rule : IsRuleIn site.g.now site.comps.now component p
     own_rule = list.only p (subst (λ (x : ℕ). Contains rules x) (sym e) (Contains-get_or rules i 0 low))
 
-    pub own_member : AreOne g h.non (rule_of g p).non
+    pub own_member : AreOne site.g.now h.non (rule_of site.g.now p).non
     unfolding own_rule
-    own_member = one_there g comps are component h.non of (rule_of g p).non (built.range.rules p own_rule.0) own_rule.1
+    own_member = one_there site.g.now site.comps.now is.comps component h.non of (rule_of site.g.now p).non (is.built.range.rules p own_rule.0) own_rule.1
 
-    module _ (at place : ℕ) (old : Graph) (olds : List Task) (new : Graph) (news : List Task) (s : RulesPlaced g weights rules h i at place old olds new news) where
-      before_rule : LaysRules g h.non h.first p at s.arcs place
+    module _ (at place : ℕ) (old : Graph) (olds : List Task) (new : Graph) (news : List Task) (s : RulesPlaced site.g.now site.tables.now.weights rules h i at place old olds new news) where
+      before_rule : LaysRules site.g.now h.non h.first p at s.arcs place
       unfolding own_rule
       before_rule = s.lays p (omega (arith, own_rule.0)) (subst (λ (x : ℕ). IsUpTo rules i x) (sym e) (up_to_own rules list i low))
 
       -- the next rule has room
-      pub placed_room : (bound : ℕ) → IsWhole g h.non h.first at bound → HasRoom g bound (Some h) p 0 (spread g p) (record { before = place; at = suc place })
+      pub placed_room : (bound : ℕ) → IsWhole site.g.now h.non h.first at bound → HasRoom site.g.now bound (Some h) p 0 (spread site.g.now p) (record { before = place; at = suc place })
       unfolding own_rule own_member before_rule
       placed_room bound whole =
-          let inside = rule_inside g built whole.lays before_rule own_member own_rule.0 in
+          let inside = rule_inside site.g.now is.built whole.lays before_rule own_member own_rule.0 in
           record { arcs = inside.own; after = inside.last; next = inside.next; lays = inside.lays; within = omega (arith, inside.within, whole.within) }
 
-      pub placed_more : (next : ℕ) (newer : Graph) (newers : List Task) → IsRuleLaid g weights h p place next new news newer newers → RulesPlaced g weights rules h (i + 1) at next old olds newer newers
+      pub placed_more : (next : ℕ) (newer : Graph) (newers : List Task) → IsRuleLaid site.g.now site.tables.now.weights h p place next new news newer newers → RulesPlaced site.g.now site.tables.now.weights rules h (i + 1) at next old olds newer newers
       unfolding own_rule own_member before_rule
       placed_more next newer newers r = record {
         arcs = s.arcs ++ pass (entry_state h.first r.rank) place ∷ (r.own ++ pass r.last (exit_state h.first r.rank) ∷ []);
         lays = λ q bound up.
             let below : p < q = omega (arith, e, up.before i (omega arith)) in
-            others (lays_rule own_member r.members before_rule r.lays refl) q (omega arith) (λ m l k one. not_passed g comps built.range are component rules list h.non of i p q low e bound up m l k one);
+            others (lays_rule own_member r.members before_rule r.lays refl) q (omega arith) (λ m l k one. not_passed site.g.now site.comps.now is.built.range is.comps component rules list h.non of i p q low e bound up m l k one);
         done = done_then s.done r.done;
       }
 
@@ -206,28 +204,34 @@ module _ (g : Grammar) (built : IsBuilt g) (bound : ℕ) (h : Home) (p place : �
       }
 
 -- what is known of the component of a task, by the tables
-pub record TaskFacts (g : Grammar) (comps : List ℕ) (bound : ℕ) (t : Task) (component : ℕ) (rules : List ℕ) (count : ℕ) : Type 0 where
-  pub of : IsNonOf g comps component t.non
-  pub listed : IsListOf (IsRuleIn g comps component) rules
-  pub members : Members g t.non g.nons count
-  pub whole : IsWhole g t.non t.at (t.at + 2 * count) bound
-  pub home : IsHome g bound (Some (record { non = t.non; first = t.at }))
+pub record TaskFacts (site : Site) (bound : ℕ) (t : Task) (component count : ℕ) : Type 0 where
+  pub of : IsNonOf site.g.now site.comps.now component t.non
+  pub members : Members site.g.now t.non site.g.now.nons count
+  pub whole : IsWhole site.g.now t.non t.at (t.at + 2 * count) bound
+  pub home : IsHome site.g.now bound (Some (record { non = t.non; first = t.at }))
   pub room : t.at + 2 * count ≤ bound
+  pub rules_low : component < length site.tables.now.lists.rules.items
 
-pub task_facts : (g : Grammar) → IsBuilt g → (comps : List ℕ) → AreComponents g comps → (tables : Tables) → AreTables g comps tables → (bound : ℕ) → bound ≤ suc heaviest → (t : Task) → IsTask g tables.weights bound t → (component : ℕ) → slice_get comps t.non ≡ Some component → (members rules : List ℕ) → members ≡ get_or tables.lists.members.items component [] → rules ≡ get_or tables.lists.rules.items component [] → (count : ℕ) → count ≡ length members → TaskFacts g comps bound t component rules count
-task_facts g built comps are tables have bound few t is component e members rules m r count long =
-    let of : IsNonOf g comps component t.non = (is.there, sym (element_is comps t.non component 0 e)) in
-    let list : IsListOf (IsNonOf g comps component) members = subst (λ (xs : List ℕ). IsListOf (IsNonOf g comps component) xs) (sym m) (have.lists.members component) in
-    let own : Members g t.non g.nons count = subst (λ (k : ℕ). Members g t.non g.nons k) (sym long) (all_members g comps are component members list t.non of) in
+pub task_facts : (site : Site) → IsSite site → (bound : ℕ) → bound ≤ suc heaviest → (t : Task) → IsTask site.g.now site.tables.now.weights bound t → (component : ℕ) → slice_get site.comps.now t.non ≡ Some component → (members : List ℕ) → members ≡ get_or site.tables.now.lists.members.items component members → (count : ℕ) → count ≡ length members → TaskFacts site bound t component count
+task_facts site is bound few t task component e members at count long =
+    let g = site.g.now in
+    let comps = site.comps.now in
+    let lists = site.tables.now.lists in
+    let weights = site.tables.now.weights in
+    let own : component ≡ get_or comps t.non 0 = element_is comps t.non component 0 e in
+    let low : component < length lists.members.items = omega (arith, own, is.tables.lists.below t.non task.there) in
+    let row : members ≡ get_or lists.members.items component [] = get_or_read lists.members.items component members low at [] in
+    let list : IsListOf (IsNonOf g comps component) members = subst (λ (xs : List ℕ). IsListOf (IsNonOf g comps component) xs) (sym row) (is.tables.lists.members component) in
+    let all : Members g t.non g.nons count = subst (λ (k : ℕ). Members g t.non g.nons k) (sym long) (all_members g comps is.comps component members list t.non (task.there, sym own)) in
     record {
-      of = of;
-      listed = subst (λ (xs : List ℕ). IsListOf (IsRuleIn g comps component) xs) (sym r) (have.lists.rules component);
-      members = own;
-      whole = task_whole g built tables.weights have.weights bound t is few count own;
-      home = task_home g built tables.weights have.weights bound t is few count own;
-      room = task_room g built tables.weights have.weights bound t is few count own;
+      of = (task.there, sym own);
+      members = all;
+      whole = task_whole g is.built weights is.tables.weights bound t task few count all;
+      home = task_home g is.built weights is.tables.weights bound t task few count all;
+      room = task_room g is.built weights is.tables.weights bound t task few count all;
+      rules_low = omega (arith, low, is.tables.lists.counted);
     }
 
--- the component of a task has lists
-pub lists_low : (g : Grammar) (comps : List ℕ) (lists : Components) → AreComponentsOf g comps lists → (n component : ℕ) → n < g.nons → slice_get comps n ≡ Some component → component < length lists.members.items
-lists_low g comps lists are n component low e = omega (arith, element_is comps n component 0 e, are.below n low)
+-- the list that is read at a component has its rules
+pub rules_listed : (site : Site) → IsSite site → (component : ℕ) → component < length site.tables.now.lists.rules.items → (rules row : List ℕ) → rules ≡ row → row ≡ get_or site.tables.now.lists.rules.items component row → IsListOf (IsRuleIn site.g.now site.comps.now component) rules
+rules_listed site is component low rules row same at = subst (λ (xs : List ℕ). IsListOf (IsRuleIn site.g.now site.comps.now component) xs) (sym (same ∙ get_or_read site.tables.now.lists.rules.items component row low at [])) (is.tables.lists.rules component)
