@@ -1,10 +1,10 @@
 -- The parts of rows stay as they are where the lists that they stand in go on.
-use Rattle.std.proofs.Common.{◌≡◌, ℕ, ◌+◌, ◌-◌, ◌≤◌, List, [], ◌∷◌, ◌++◌, length, take, drop, slice_range, refl, sym, ◌∙◌, ap, arith}
-use Rattle.std.proofs.lemmas.List.{append-nil, drop_at, drop-append-le, length-drop, map-append, take-append-le, take_all}
+use Rattle.std.proofs.Common.{◌≡◌, ℕ, ◌-◌, ◌≤◌, List, [], ◌∷◌, ◌++◌, length, take, drop, slice_range, refl, sym, ◌∙◌, ap, arith}
+use Rattle.std.proofs.lemmas.List.{append-nil, drop_at, drop-append-le, length-append, length-drop, map-append, take-append-le, take_all}
 use Rattle.std.proofs.lemmas.List.Elements.{All-head, All-tail}
 use Rattle.xs_tree.specs.declared.parts.Row.{Row}
 use Rattle.xs_tree.specs.declared.parts.Row.TheVariants.{Word, Made}
-use Rattle.xs_tree.specs.Flat.{Leaf, Node}
+use Rattle.xs_tree.specs.Flat.{TreePart, Leaf, Node}
 use Rattle.xs_tree.specs.Rows.{row_part, row_parts, AreWithin, IsWithin}
 
 -- a stretch of a list that goes on
@@ -14,10 +14,10 @@ slice_append all more begin end le within =
     ap (take (end - begin)) (drop-append-le begin all more (omega arith)) ∙ take-append-le (end - begin) (drop begin all) more short
 
 -- the stretch that was appended
-pub slice_last : (all more : List ℕ) (end : ℕ) → end ≡ length all + length more → slice_range (all ++ more) (length all) end ≡ more
-slice_last all more end is =
-    let long : length more ≤ end - length all = omega (arith, is) in
-    ap (take (end - length all)) (drop_at all more (length all) refl) ∙ take_all (end - length all) more long
+slice_last : (all all' more : List ℕ) (begin end : ℕ) → all' ≡ all ++ more → begin ≡ length all → end ≡ length all' → slice_range all' begin end ≡ more
+slice_last all all' more begin end grown first last =
+    let long : length more ≤ end - begin = omega (arith, first, last, ap length grown ∙ length-append all more) in
+    ap (λ l. take (end - begin) (drop begin l)) grown ∙ ap (take (end - begin)) (drop_at all more begin (sym first)) ∙ take_all (end - begin) more long
 
 row_stays : (kids symbols more extra : List ℕ) (row : Row) → IsWithin (length kids) (length symbols) row → row_part (kids ++ more) (symbols ++ extra) row ≡ row_part kids symbols row
 row_stays kids symbols more extra (Word begin end) within = ap Leaf (slice_append symbols extra begin end within.0 within.1)
@@ -30,16 +30,21 @@ rows_stay kids symbols more extra (row ∷ rows) within =
     ap (λ part. part ∷ row_parts (kids ++ more) (symbols ++ extra) rows) (row_stays kids symbols more extra row (All-head P row rows within))
     ∙ ap (λ parts. row_part kids symbols row ∷ parts) (rows_stay kids symbols more extra rows (All-tail P row rows within))
 
+-- a new last row, where the lists go on
+row_pushed : (kids symbols more extra : List ℕ) (rows : List Row) (row : Row) (part : TreePart) → AreWithin kids symbols rows → row_part (kids ++ more) (symbols ++ extra) row ≡ part → row_parts (kids ++ more) (symbols ++ extra) (rows ++ row ∷ []) ≡ row_parts kids symbols rows ++ part ∷ []
+row_pushed kids symbols more extra rows row part within is =
+    map-append (row_part (kids ++ more) (symbols ++ extra)) rows (row ∷ [])
+    ∙ ap (λ p. row_parts (kids ++ more) (symbols ++ extra) rows ++ p ∷ []) is
+    ∙ ap (λ parts. parts ++ part ∷ []) (rows_stay kids symbols more extra rows within)
+
 -- a new last leaf
-pub leaf_pushed : (kids symbols word : List ℕ) (rows : List Row) (end : ℕ) → AreWithin kids symbols rows → end ≡ length symbols + length word → row_parts kids (symbols ++ word) (rows ++ Word (length symbols) end ∷ []) ≡ row_parts kids symbols rows ++ Leaf word ∷ []
-leaf_pushed kids symbols word rows end within is =
-    map-append (row_part kids (symbols ++ word)) rows (Word (length symbols) end ∷ [])
-    ∙ ap (λ w. row_parts kids (symbols ++ word) rows ++ Leaf w ∷ []) (slice_last symbols word end is)
-    ∙ ap (λ parts. parts ++ Leaf word ∷ []) (ap (λ ks. row_parts ks (symbols ++ word) rows) (sym (append-nil kids)) ∙ rows_stay kids symbols [] word rows within)
+pub leaf_pushed : (kids symbols symbols' word : List ℕ) (rows rows' : List Row) (begin end : ℕ) → AreWithin kids symbols rows → symbols' ≡ symbols ++ word → begin ≡ length symbols → end ≡ length symbols' → rows' ≡ rows ++ Word begin end ∷ [] → row_parts kids symbols' rows' ≡ row_parts kids symbols rows ++ Leaf word ∷ []
+leaf_pushed kids symbols symbols' word rows rows' begin end within grown first last pushed =
+    let part = ap Leaf (slice_last symbols symbols' word begin end grown first last) in
+    rw (pushed, grown) (ap (λ ks. row_parts ks (symbols ++ word) (rows ++ Word begin end ∷ [])) (sym (append-nil kids)) ∙ row_pushed kids symbols [] word rows (Word begin end) (Leaf word) within (rw (← grown) part))
 
 -- a new last node
-pub node_pushed : (kids symbols more : List ℕ) (rows : List Row) (production end : ℕ) → AreWithin kids symbols rows → end ≡ length kids + length more → row_parts (kids ++ more) symbols (rows ++ Made production (length kids) end ∷ []) ≡ row_parts kids symbols rows ++ Node production more ∷ []
-node_pushed kids symbols more rows production end within is =
-    map-append (row_part (kids ++ more) symbols) rows (Made production (length kids) end ∷ [])
-    ∙ ap (λ ks. row_parts (kids ++ more) symbols rows ++ Node production ks ∷ []) (slice_last kids more end is)
-    ∙ ap (λ parts. parts ++ Node production more ∷ []) (ap (λ ss. row_parts (kids ++ more) ss rows) (sym (append-nil symbols)) ∙ rows_stay kids symbols more [] rows within)
+pub node_pushed : (kids kids' symbols more : List ℕ) (rows rows' : List Row) (production begin end : ℕ) → AreWithin kids symbols rows → kids' ≡ kids ++ more → begin ≡ length kids → end ≡ length kids' → rows' ≡ rows ++ Made production begin end ∷ [] → row_parts kids' symbols rows' ≡ row_parts kids symbols rows ++ Node production more ∷ []
+node_pushed kids kids' symbols more rows rows' production begin end within grown first last pushed =
+    let part = ap (Node production) (slice_last kids kids' more begin end grown first last) in
+    rw (pushed, grown) (ap (λ ss. row_parts (kids ++ more) ss (rows ++ Made production begin end ∷ [])) (sym (append-nil symbols)) ∙ row_pushed kids symbols more [] rows (Made production begin end) (Node production more) within (rw (← grown) part))

@@ -31,7 +31,9 @@ impl Builder {
     pub fn new(alloc: Global) -> Result<Self, Memory>
         ensures { IfOk result (λ builder. builder ≡ []) }
     {
-        Builder::with_capacity(alloc, 0, 0, 0)
+        Ok(Builder {
+            parts: Parts::new(alloc),
+        })
     }
 
     /// No part yet, and room for that many parts, for the children of all nodes, and for the symbols
@@ -44,9 +46,9 @@ impl Builder {
     ) -> Result<Self, Memory>
         ensures { IfOk result (λ builder. builder ≡ []) }
     {
-        Ok(Builder {
-            parts: Parts::with_capacity(alloc, parts, kids, symbols)?,
-        })
+        let mut builder = Builder::new(alloc)?;
+        builder.parts.reserve(parts, kids, symbols)?;
+        Ok(builder)
     }
 
     /// A new leaf with a copy of the word, in time linear in the word; the answer is its number.

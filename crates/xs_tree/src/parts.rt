@@ -74,20 +74,25 @@ impl Model for Parts {
 }
 
 impl Parts {
-    /// No part yet, and room for that many parts, children in all, and symbols of leaves in all.
-    pub fn with_capacity(
-        alloc: Global,
-        parts: usize,
-        kids: usize,
-        symbols: usize,
-    ) -> Result<Self, Memory>
-        ensures { IfOk result (λ parts. parts ≡ []) }
+    /// No part yet, without memory.
+    pub fn new(alloc: Global) -> Self
+        ensures { result ≡ [] }
     {
-        Ok(Parts {
-            rows: Vec::with_capacity(alloc, parts)?,
-            kids: Vec::with_capacity(alloc, kids)?,
-            symbols: Vec::with_capacity(alloc, symbols)?,
-        })
+        Parts {
+            rows: Vec::new(alloc),
+            kids: Vec::new(alloc),
+            symbols: Vec::new(alloc),
+        }
+    }
+
+    /// Room for that many more parts, children in all, and symbols of leaves in all.
+    pub fn reserve(&mut self, parts: usize, kids: usize, symbols: usize) -> Result<(), Memory>
+        ensures { self.new ≡ self.old }
+    {
+        self.rows.reserve(parts)?;
+        self.kids.reserve(kids)?;
+        self.symbols.reserve(symbols)?;
+        Ok(())
     }
 
     /// The number of parts.
