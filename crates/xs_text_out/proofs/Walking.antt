@@ -12,10 +12,11 @@ use Rattle.xs_tree.specs.Counts.{capped}
 use Rattle.xs_text_out.specs.declared.pieces.Piece.{Piece}
 use Rattle.xs_text_out.specs.declared.pieces.Pieces.{Pieces}
 use Rattle.xs_text_out.specs.declared.pieces.Row.{Row}
+use Rattle.xs_text_out.specs.declared.walk.Entry.{Entry}
 use Rattle.xs_text_out.specs.declared.walk.Task.{Task}
 use Rattle.xs_text_out.specs.Pieces.{ArePieces, piece_word, pieces_word}
 use Rattle.xs_text_out.specs.Printed.{AreLengths, kid_word, rule_items, slot_word}
-use Rattle.xs_text_out.specs.Walk.{AreFalling, IsAside, base, entered_word, left_over, pending, rest_pieces, rest_word, slots_at}
+use Rattle.xs_text_out.specs.Walk.{AreFalling, IsAside, IsEntry, base, entered_word, entry_word, left_over, pending, rest_pieces, rest_word, slots_at}
 use Rattle.xs_text_out.proofs.Words.{no_items, part_prints}
 use Rattle.xs_text_out.proofs.Counting.{kid_length, leaf_counted, node_counted}
 
@@ -131,7 +132,7 @@ pending_aside g p f tasks pushed task false aside last =
     ap (pending g p f) aside ∙ sym (ap (λ (l : List Piece). pieces_word p.text.items l (slots_at g f task.part) ++ pending g p f tasks) (last refl))
 
 -- a child begins, and the node goes on after it
-pub pending_entered : (g : Grammar) (p : Pieces) (f : Flat) (kid : ℕ) (begun task : Task) (tasks pushed : List Task) (more : Bool) → rest_word g p f begun ≡ print g (common_at f kid) → IsAside more task tasks pushed → (more ≡ false → rest_pieces p task ≡ []) → rest_word g p f begun ++ pending g p f pushed ≡ (print g (common_at f kid) ++ rest_word g p f task) ++ pending g p f tasks
+pending_entered : (g : Grammar) (p : Pieces) (f : Flat) (kid : ℕ) (begun task : Task) (tasks pushed : List Task) (more : Bool) → rest_word g p f begun ≡ print g (common_at f kid) → IsAside more task tasks pushed → (more ≡ false → rest_pieces p task ≡ []) → rest_word g p f begun ++ pending g p f pushed ≡ (print g (common_at f kid) ++ rest_word g p f task) ++ pending g p f tasks
 pending_entered g p f kid begun task tasks pushed more is aside last =
     let child = print g (common_at f kid) in
     ap (λ l. l ++ pending g p f pushed) is
@@ -190,7 +191,7 @@ falling_lower n [] task other falling lt = (omega (arith, falling.0), tt)
 falling_lower n (first ∷ tasks) task other falling lt = (falling.0, falling_lower first.part tasks task other falling.1 lt)
 
 -- a child begins, and the nodes still fall
-pub falling_entered : (n : ℕ) (tasks pushed : List Task) (task rest begun : Task) (more : Bool) → AreFalling n (tasks ++ task ∷ []) → rest.part ≡ task.part → begun.part < task.part → IsAside more rest tasks pushed → AreFalling n (pushed ++ begun ∷ [])
+falling_entered : (n : ℕ) (tasks pushed : List Task) (task rest begun : Task) (more : Bool) → AreFalling n (tasks ++ task ∷ []) → rest.part ≡ task.part → begun.part < task.part → IsAside more rest tasks pushed → AreFalling n (pushed ++ begun ∷ [])
 falling_entered n tasks pushed task rest begun true falling same lt aside =
     let first = falling_on n tasks rest begun (falling_same n tasks task rest same falling) (omega (arith, same, lt)) in
     subst (AreFalling n) (sym (ap (λ (l : List Task). l ++ begun ∷ []) aside)) first
@@ -242,7 +243,7 @@ weight_less p part place next end less =
     spread k x = omega arith
 
 -- a child begins, and there is less to do
-pub less_entered : (p : Pieces) (tasks pushed : List Task) (part place next end : ℕ) (begun : Task) (more : Bool) → length (rest_pieces p (task_at part next end)) < length (rest_pieces p (task_at part place end)) → begun.part < part → IsAside more (task_at part next end) tasks pushed → left_over p (pushed ++ begun ∷ []) < left_over p (tasks ++ task_at part place end ∷ [])
+less_entered : (p : Pieces) (tasks pushed : List Task) (part place next end : ℕ) (begun : Task) (more : Bool) → length (rest_pieces p (task_at part next end)) < length (rest_pieces p (task_at part place end)) → begun.part < part → IsAside more (task_at part next end) tasks pushed → left_over p (pushed ++ begun ∷ []) < left_over p (tasks ++ task_at part place end ∷ [])
 less_entered p tasks pushed part place next end begun true less lt more =
     let child = digit_below p begun part lt in
     let node = weight_less p part place next end less in
@@ -254,6 +255,19 @@ less_entered p tasks pushed part place next end begun false less lt more =
     let node = weight_less p part place next end less in
     let same = ap (λ (l : List Task). left_over p (l ++ begun ∷ [])) more in
     omega (arith, child, node, same, left_over_push p tasks begun, left_over_push p tasks (task_at part place end))
+
+-- a child is entered: what is printed stays the same, the nodes fall on, and less is left over
+pub entered : (g : Grammar) (p : Pieces) (f : Flat) (task begun : Task) (entry : Entry) (tasks pushed : List Task) (out new : List ℕ) → IsFlat f → AreFalling (length f.parts) (tasks ++ task ∷ []) → IsEntry p f task entry → begun.part ≡ entry.kid → ((at : ℕ → List ℕ) → pieces_word p.text.items (rest_pieces p begun) at ≡ spelling g (rule_items g (production_of (slice_get f.parts entry.kid))) at) → IsAside entry.more (task_at task.part entry.next task.end) tasks pushed → new ++ entry_word g p f task (Some entry) ≡ out ++ rest_word g p f task → (new ++ (rest_word g p f begun ++ pending g p f pushed) ≡ out ++ (rest_word g p f task ++ pending g p f tasks)) × AreFalling (length f.parts) (pushed ++ begun ∷ []) × (left_over p (pushed ++ begun ∷ []) < left_over p (tasks ++ task ∷ []))
+entered g p f task begun entry tasks pushed out new flat falling is same prints aside printed =
+    let rest = task_at task.part entry.next task.end in
+    let last = falling_last (length f.parts) tasks task falling in
+    let below : begun.part < task.part = omega (arith, same, is.kid.before) in
+    let child = node_begun g p f entry.kid begun flat (omega (arith, last, is.kid.before)) is.kid.node same prints in
+    let ahead = pending_entered g p f entry.kid begun rest tasks pushed entry.more child aside is.last in (
+      ap (λ (l : List ℕ). new ++ l) ahead ∙ printed_before new out (print g (common_at f entry.kid) ++ rest_word g p f rest) (rest_word g p f task) (pending g p f tasks) printed,
+      falling_entered (length f.parts) tasks pushed task rest begun entry.more falling refl below aside,
+      less_entered p tasks pushed task.part task.place entry.next task.end begun entry.more is.less below aside,
+    )
 
 -- what is printed and what is still to be printed is the whole, and the next node is printed first
 pub next_whole : (g : Grammar) (p : Pieces) (f : Flat) (out whole : List ℕ) (all tasks : List Task) (task : Task) → out ++ pending g p f all ≡ whole → all ≡ tasks ++ task ∷ [] → out ++ (rest_word g p f task ++ pending g p f tasks) ≡ whole

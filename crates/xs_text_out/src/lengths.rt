@@ -7,7 +7,7 @@ ghost use Rattle.xs_text_out.specs.Printed.{AreLengths, print_length, slot_word}
 ghost use Rattle.xs_text_out.specs.Shares.{AreShares, slots_length};
 
 use crate::items::kid_at;
-use crate::shares::{Shares, share_at, shares_of, slots_between};
+use crate::shares::{Shares, shares_of};
 use std::alloc::Global;
 use xs_class::Memory;
 use xs_gram::Gram;
@@ -45,9 +45,8 @@ fn node_length(g: &Gram, shares: &Shares, production: u32, kids: &[u64], lengths
     if g.rules() <= production {
         return 0;
     }
-    let share = share_at(&shares.rows, production as usize);
-    let slots = slots_between(&shares.all, share.begin, share.end);
-    children_length(slots, kids, lengths, share.own)
+    let own = shares.owns[production as usize];
+    children_length(shares.slots.list(production as usize), kids, lengths, own)
 }
 
 /// The length of what a part prints, where those of the parts before it are given.

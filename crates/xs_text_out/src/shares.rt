@@ -1,4 +1,4 @@
-ghost use Rattle.std.specs.Prelude.{◌≡◌, ◌≤◌, ◌<◌, ◌++◌, ◌∷◌, [], Some, length, slice_get, slice_range, IfOk};
+ghost use Rattle.std.specs.Prelude.{◌≡◌, ◌++◌, ◌∷◌, [], IfOk};
 ghost use Rattle.xs_gram.specs.{NamesAreThere, slots};
 ghost use Rattle.xs_tree.specs.{capped};
 ghost use Rattle.xs_text_out.specs.Printed.{AreThere};
@@ -7,22 +7,14 @@ ghost use Rattle.xs_text_out.specs.Shares.{own_length, own_lengths, AreShares};
 use crate::items::items_of;
 use std::alloc::Global;
 use xs_class::Memory;
+use xs_flat::FlatLists;
 use xs_gram::{GItem, Gram};
 
-/// How many symbols a production prints by itself, and where its slots begin and end among those of
-/// all productions.
-#[derive(Clone, Copy)]
-pub struct Share {
-    pub own: u64,
-    pub begin: usize,
-    pub end: usize,
-}
-
-/// The shares of all productions, and the slots of their items in order.
+/// How many symbols each production prints by itself, and the slots of its items in order.
 #[derive(Drop)]
 pub struct Shares {
-    pub rows: Vec<Share>,
-    pub all: Vec<u32>,
+    pub owns: Vec<u64>,
+    pub slots: FlatLists<u32>,
 }
 
 /// The length of what an item prints by itself: nothing, where it has a slot.
@@ -82,32 +74,15 @@ fn push_slots(list: &mut Vec<u32>, items: &[GItem]) -> Result<(), Memory>
 pub fn shares_of(alloc: Global, g: &Gram) -> Result<Shares, Memory>
     ensures { IfOk result (AreShares g.now) }
 {
-    let mut rows = Vec::with_capacity(alloc, g.rules() as usize)?;
-    let mut all = Vec::new(alloc);
+    let mut owns = Vec::with_capacity(alloc, g.rules() as usize)?;
+    let mut slots = FlatLists::new(alloc);
+    let mut list = Vec::new(alloc);
     'rules: for rule in 0..g.rules() {
         let items = items_of(g, rule);
-        let begin = all.len();
-        push_slots(&mut all, items)?;
-        let end = all.len();
-        let own = own_lengths(g, items);
-        rows.push(Share { own, begin, end })?;
+        owns.push(own_lengths(g, items))?;
+        list.clear();
+        push_slots(&mut list, items)?;
+        slots.push(&list)?;
     }
-    Ok(Shares { rows, all })
-}
-
-/// The share of a production.
-pub fn share_at(rows: &[Share], production: usize) -> Share
-    requires { production < length rows.now }
-    ensures { slice_get rows.now production ≡ Some result }
-{
-    rows[production]
-}
-
-/// The slots from one place up to another.
-pub fn slots_between(all: &[u32], begin: usize, end: usize) -> &[u32]
-    requires risen { begin ≤ end }
-    requires within { end ≤ length all.now }
-    ensures { result.now ≡ slice_range all.now begin end }
-{
-    &all[begin..end]
+    Ok(Shares { owns, slots })
 }

@@ -1,8 +1,6 @@
-use Rattle.std.proofs.Common.{◌<◌, ◌∙◌, ◌++◌, [], List, ℕ, length, refl, ap, arith}
-use Rattle.xs_gram.specs.Common.{print}
-use Rattle.xs_tree.specs.Flat.{common_at}
+use Rattle.std.proofs.Common.{◌∙◌, ◌++◌, [], length, arith}
 use Rattle.xs_text_out.specs.Walk.{pending, rest_word}
-use Rattle.xs_text_out.proofs.Walking.{falling_entered, falling_front, falling_last, falling_length, less_entered, less_gone, next_room, node_begun, pending_entered, printed_before, task_at}
+use Rattle.xs_text_out.proofs.Walking.{entered, falling_front, falling_last, falling_length, less_gone, next_room, printed_before}
 use Rattle.xs_text_out.proofs.walk.perform.Goals as goal
 
 pub print_pieces-requires-clause-part : goal.print_pieces-requires-clause-part
@@ -28,28 +26,14 @@ put_aside-requires c =
 
 pub nodes-preserved : goal.nodes-preserved
 nodes-preserved c =
-    let g = c.args.g.now in
-    let p = c.args.pieces.now in
-    let f = c.args.t.now in
-    let task = c.nodes.task in
-    let entry = c.in-Some.entry in
-    let rest = task_at task.part entry.next task.end in
-    let begun = c.task_of-begun.result in
-    let tasks = c.nodes.tasks.items in
-    let pushed = c.put_aside.new.tasks.items in
-    let last = falling_last (length f.parts) tasks task c.nodes.invariant.falling in
-    let below : begun.part < task.part = omega (arith, c.task_of-begun.ensures.part, c.in-Some.ensures.entry.kid.before) in
-    let child = node_begun g p f entry.kid begun c.requires.flat (omega (arith, last, c.in-Some.ensures.entry.kid.before)) c.in-Some.ensures.entry.kid.node c.task_of-begun.ensures.part c.task_of-begun.ensures.prints in
-    let ahead = pending_entered g p f entry.kid begun rest tasks pushed entry.more child c.put_aside.ensures.aside c.in-Some.ensures.entry.last in
-    let less = less_entered p tasks pushed task.part task.place entry.next task.end begun entry.more c.in-Some.ensures.entry.less below c.put_aside.ensures.aside in
+    let known = c.nodes.invariant in
+    let next = entered c.args.g.now c.args.pieces.now c.args.t.now c.nodes.task c.task_of-begun.result c.in-Some.entry c.nodes.tasks.items c.put_aside.new.tasks.items c.nodes.symbols.items c.print_pieces.new.symbols.items c.requires.flat known.falling c.in-Some.ensures.entry c.task_of-begun.ensures.part c.task_of-begun.ensures.prints c.put_aside.ensures.aside c.in-Some.ensures.prints in
     record {
-      whole = ap (λ (l : List ℕ). c.print_pieces.new.symbols.items ++ l) ahead
-          ∙ printed_before c.print_pieces.new.symbols.items c.nodes.symbols.items (print g (common_at f entry.kid) ++ rest_word g p f rest) (rest_word g p f task) (pending g p f tasks) c.in-Some.ensures.prints
-          ∙ c.nodes.invariant.whole;
-      falling = falling_entered (length f.parts) tasks pushed task rest begun entry.more c.nodes.invariant.falling refl below c.put_aside.ensures.aside;
-      less = omega (arith, less, c.nodes.invariant.less);
-      room = omega (arith, c.in-Some.ensures.room, c.nodes.invariant.room);
-      stack = c.put_aside.ensures.stack ∙ c.nodes.invariant.stack;
+      whole = next.0 ∙ known.whole;
+      falling = next.1;
+      less = omega (arith, next.2, known.less);
+      room = omega (arith, c.in-Some.ensures.room, known.room);
+      stack = c.put_aside.ensures.stack ∙ known.stack;
     }
 
 pub nodes-smaller : goal.nodes-smaller
