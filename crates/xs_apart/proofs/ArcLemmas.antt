@@ -8,7 +8,8 @@ use Rattle.xs_coarse.specs.declared.arc.Arc.{Arc}
 use Rattle.xs_coarse.specs.Coarse.{Table, Net, IsTable, MayCall, HasArc, class_label, group_label, may_meet, view}
 use Rattle.xs_coarse.proofs.Views.{view_move_arc, view_edge_arc, view_call_arc}
 use Rattle.xs_apart.specs.declared.found.Found.{Found}
-use Rattle.xs_apart.specs.Arcs.{Slips, Steps, Goes, HasFound, MovesFirst, MovesSecond, Joins, HasAll}
+use Rattle.xs_apart.specs.Arcs.{Slips, Steps, Goes, HasFound, HasTarget, Joins, HasAll}
+use Rattle.xs_apart.proofs.Walks.{first_target, second_target}
 
 -- an arc of a net
 abbrev pub arc : ℕ → ℕ → ℕ → Arc
@@ -19,11 +20,11 @@ abbrev pub HasRow : Net → ℕ → List Arc → Type 0
 HasRow n a row = (label b : ℕ) → HasArc n a label b → Contains row (arc a label b)
 
 -- the targets of arcs that read nothing were visited beside the other state
-pub slips_on : (m n : Net) (a b : ℕ) (f g : Found) (row other : List Arc) → HasRow m a row → HasRow n b other → ((c d : ℕ) → HasFound f c d → HasFound g c d) → All (MovesFirst f b) row → All (MovesSecond g a) other → HasAll (Slips m n) a b g
+pub slips_on : (m n : Net) (a b : ℕ) (f g : Found) (row other : List Arc) → HasRow m a row → HasRow n b other → ((c d : ℕ) → HasFound f c d → HasFound g c d) → All (λ x. HasTarget f (first_target b x)) row → All (λ y. HasTarget g (second_target a y)) other → HasAll (Slips m n) a b g
 slips_on m n a b f g row other rows others more firsts seconds c d (inl x) =
-    rw x.still (more c b (All-contains (MovesFirst f b) row (arc a 0 c) firsts (rows 0 c x.arc) refl))
+    rw x.still (more c b (All-contains (λ x. HasTarget f (first_target b x)) row (arc a 0 c) firsts (rows 0 c x.arc)))
 slips_on m n a b f g row other rows others more firsts seconds c d (inr y) =
-    rw y.still (All-contains (MovesSecond g a) other (arc b 0 d) seconds (others 0 d y.arc) refl)
+    rw y.still (All-contains (λ y. HasTarget g (second_target a y)) other (arc b 0 d) seconds (others 0 d y.arc))
 
 -- the targets of each two arcs that may read a common word were visited
 pub steps_on : (t : Table) (m n : Net) (a b : ℕ) (f : Found) (row other : List Arc) → HasRow m a row → HasRow n b other → All (λ x. All (Joins t f x) other) row → HasAll (Steps t m n) a b f

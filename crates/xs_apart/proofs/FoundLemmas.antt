@@ -113,9 +113,9 @@ fits_none f room none blank = record {
 }
 
 -- the states of a pair that was found are states of the two nets
-pub found_inside : (m n : Net) (f g : Found) (k : ℕ) (p : Pair) → IsFor m n f → IsMore f g → Fits g → k < length g.pairs.items → p ≡ get_or g.pairs.items k p → IsInside m.states n.states p
-found_inside m n f g k p nets more fits l e =
-    let i = subst (λ (q : Pair). IsInside g.height g.width q) (sym e) (fits.inside k p l) in
+pub found_inside : (m n : Net) (f g : Found) (k : ℕ) (p : Pair) → IsFor m n f → IsMore f g → k < length g.pairs.items → p ≡ get_or g.pairs.items k p → IsInside m.states n.states p
+found_inside m n f g k p nets more l e =
+    let i = subst (λ (q : Pair). IsInside g.height g.width q) (sym e) (more.fits.inside k p l) in
     record { first = omega (arith, i.first, more.height, nets.height); second = omega (arith, i.second, more.width, nets.width) }
 
 -- the word of a pair that was found

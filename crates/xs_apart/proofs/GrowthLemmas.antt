@@ -35,11 +35,11 @@ shorter_at {xs} k p l low e =
     let here = slice_get-get_or xs k p low in
     here ∙ ap Some (some_same _ _ _ (longer_at k (get_or xs k p) l here) e)
 
-pub more_same : (f : Found) → IsMore f f
-more_same f = record { height = refl; width = refl; longer = longer_same f.pairs.items }
+pub more_same : (f : Found) → Fits f → IsMore f f
+more_same f fits = record { fits = fits; height = refl; width = refl; longer = longer_same f.pairs.items }
 
 pub more_then : {f g h : Found} → IsMore f g → IsMore g h → IsMore f h
-more_then a b = record { height = b.height ∙ a.height; width = b.width ∙ a.width; longer = longer_then a.longer b.longer }
+more_then a b = record { fits = b.fits; height = b.height ∙ a.height; width = b.width ∙ a.width; longer = longer_then a.longer b.longer }
 
 pub more_has : {f g : Found} → IsMore f g → (a b : ℕ) → HasPair f.pairs.items a b → HasPair g.pairs.items a b
 more_has m a b h = longer_has m.longer (pair a b) h

@@ -5,7 +5,7 @@ pub mod LayerLemmas
 pub mod Marks
 pub mod PartLemmas
 pub mod SetLemmas
-pub mod ShapeLemmas
 pub mod TailArcs
 pub mod TailLemmas
+pub mod Walks
 pub mod Windows

@@ -41,76 +41,66 @@ module _ (t : Table) (m n : Net) (e f b d : ℕ) (one other : Tail) (ps : List P
       let zero_is : 0 ≡ z - f = omega (arith, to) in
       subst (λ (k : ℕ). HasPair ps (x - e) k) zero_is (seconds (tail2.front (omega (arith, before))) (x - e) (omega (arith, low, above, tail.states)))
 
-  -- the states of a pair that is of both ends
-  both_ends : (z w : ℕ) → ((e ≤ z) → (f ≤ w) → HasPair ps (z - e) (w - f)) → (z < e) ⊎ ((w < f) ⊎ HasPair ps (z - e) (w - f))
-  both_ends z w h =
+  -- a pair that was found if it is of both ends
+  ends_at : (z w : ℕ) → z < m.states → w < n.states → ((e ≤ z) → (f ≤ w) → HasPair ps (z - e) (w - f)) → Ends z w
+  ends_at z w low low_too h = (
+    low,
+    (
+      low_too,
       elim (cases_lt z e) [
         | inl less ↦ inl less
         | inr more ↦ elim (cases_lt w f) [
           | inl less ↦ inr (inl less)
           | inr more_too ↦ inr (inr (h more more_too))
         ]
-      ]
+      ],
+    ),
+  )
 
   ends_closed : (x y z w : ℕ) → Ends x y → Goes t m n x y z w → Ends z w
   ends_closed x y z w h (inl (inl a)) =
       let low = (arc_within m x 0 z within_m a.arc).to in
-      let low_w : w < n.states = omega (arith, h.1.0, a.still) in (
-        low,
-        (
-          low_w,
-          both_ends z w (λ from above. elim h.1.1 [
-            | inl before ↦ enter_first w x z before from (tail.shut x 0 z a.arc before) low_w above
-            | inr (inl before) ↦ absurd (omega (arith, before, above, a.still))
-            | inr (inr has) ↦ elim (cases_lt x e) [
-              | inl before ↦ enter_first w x z before from (tail.shut x 0 z a.arc before) low_w above
-              | inr inside ↦ shut.closed (x - e) (y - f) (z - e) (w - f) has (inl (inl (record { arc = end_arc m b e one tail x 0 z a.arc inside from; still = ap (λ k. k - f) a.still }))) (omega (arith, low, from, tail.states)) (omega (arith, low_w, above, tail2.states))
-            ]
-          ]),
-        ),
-      )
+      let low_w : w < n.states = omega (arith, h.1.0, a.still) in
+      ends_at z w low low_w (λ from above. elim h.1.1 [
+        | inl before ↦ enter_first w x z before from (tail.shut x 0 z a.arc before) low_w above
+        | inr (inl before) ↦ absurd (omega (arith, before, above, a.still))
+        | inr (inr has) ↦ elim (cases_lt x e) [
+          | inl before ↦ enter_first w x z before from (tail.shut x 0 z a.arc before) low_w above
+          | inr inside ↦ shut.closed (x - e) (y - f) (z - e) (w - f) has (inl (inl (record { arc = end_arc m b e one tail x 0 z a.arc inside from; still = ap (λ k. k - f) a.still }))) (omega (arith, low, from, tail.states)) (omega (arith, low_w, above, tail2.states))
+        ]
+      ])
   ends_closed x y z w h (inl (inr a)) =
       let low = (arc_within n y 0 w within_n a.arc).to in
-      let low_z : z < m.states = omega (arith, h.0, a.still) in (
-        low_z,
-        (
-          low,
-          both_ends z w (λ from above. elim h.1.1 [
-            | inl before ↦ absurd (omega (arith, before, from, a.still))
-            | inr (inl before) ↦ enter_second z y w before above (tail2.shut y 0 w a.arc before) low_z from
-            | inr (inr has) ↦ elim (cases_lt y f) [
-              | inl before ↦ enter_second z y w before above (tail2.shut y 0 w a.arc before) low_z from
-              | inr inside ↦ shut.closed (x - e) (y - f) (z - e) (w - f) has (inl (inr (record { arc = end_arc n d f other tail2 y 0 w a.arc inside above; still = ap (λ k. k - e) a.still }))) (omega (arith, low_z, from, tail.states)) (omega (arith, low, above, tail2.states))
-            ]
-          ]),
-        ),
-      )
+      let low_z : z < m.states = omega (arith, h.0, a.still) in
+      ends_at z w low_z low (λ from above. elim h.1.1 [
+        | inl before ↦ absurd (omega (arith, before, from, a.still))
+        | inr (inl before) ↦ enter_second z y w before above (tail2.shut y 0 w a.arc before) low_z from
+        | inr (inr has) ↦ elim (cases_lt y f) [
+          | inl before ↦ enter_second z y w before above (tail2.shut y 0 w a.arc before) low_z from
+          | inr inside ↦ shut.closed (x - e) (y - f) (z - e) (w - f) has (inl (inr (record { arc = end_arc n d f other tail2 y 0 w a.arc inside above; still = ap (λ k. k - e) a.still }))) (omega (arith, low_z, from, tail.states)) (omega (arith, low, above, tail2.states))
+        ]
+      ])
   ends_closed x y z w h (inr s) =
       let low_z = (arc_within m x s.label z within_m s.first).to in
-      let low_w = (arc_within n y s.other w within_n s.second).to in (
-        low_z,
-        (
-          low_w,
-          both_ends z w (λ from above. elim (cases_lt x e) [
-            | inl before ↦ enter_first w x z before from (tail.shut x s.label z s.first before) low_w above
-            | inr inside ↦ elim (cases_lt y f) [
-              | inl before ↦ enter_second z y w before above (tail2.shut y s.other w s.second before) low_z from
-              | inr inside_too ↦ elim h.1.1 [
-                | inl before ↦ absurd (omega (arith, before, inside))
-                | inr (inl before) ↦ absurd (omega (arith, before, inside_too))
-                | inr (inr has) ↦ shut.closed (x - e) (y - f) (z - e) (w - f) has (inr (record { label = s.label; other = s.other; first = end_arc m b e one tail x s.label z s.first inside from; second = end_arc n d f other tail2 y s.other w s.second inside_too above; reads_first = s.reads_first; reads_second = s.reads_second; meet = s.meet })) (omega (arith, low_z, from, tail.states)) (omega (arith, low_w, above, tail2.states))
-              ]
-            ]
-          ]),
-        ),
-      )
+      let low_w = (arc_within n y s.other w within_n s.second).to in
+      ends_at z w low_z low_w (λ from above. elim (cases_lt x e) [
+        | inl before ↦ enter_first w x z before from (tail.shut x s.label z s.first before) low_w above
+        | inr inside ↦ elim (cases_lt y f) [
+          | inl before ↦ enter_second z y w before above (tail2.shut y s.other w s.second before) low_z from
+          | inr inside_too ↦ elim h.1.1 [
+            | inl before ↦ absurd (omega (arith, before, inside))
+            | inr (inl before) ↦ absurd (omega (arith, before, inside_too))
+            | inr (inr has) ↦ shut.closed (x - e) (y - f) (z - e) (w - f) has (inr (record { label = s.label; other = s.other; first = end_arc m b e one tail x s.label z s.first inside from; second = end_arc n d f other tail2 y s.other w s.second inside_too above; reads_first = s.reads_first; reads_second = s.reads_second; meet = s.meet })) (omega (arith, low_z, from, tail.states)) (omega (arith, low_w, above, tail2.states))
+          ]
+        ]
+      ])
 
   found_decides : Decides (λ x y. has ps (x - e) (y - f)) (λ x y. HasPair ps (x - e) (y - f))
   found_decides = record { mark = λ x y h. (has_decides ps).mark (x - e) (y - f) h; unmark = λ x y h. (has_decides ps).unmark (x - e) (y - f) h }
 
   pub ends_apart : AreApart (MayCall t) (view t m 0 b) (view t n 0 d)
   ends_apart = apart_by (MayCall t) (view t m 0 b) (view t n 0 d) (both_decide (firsts_below_decide m.states) (both_decide (seconds_below_decide n.states) (either_decides (firsts_below_decide e) (either_decides (seconds_below_decide f) found_decides)))) (record {
-    starts = λ x y g h. rw (← some_inj _ _ g, ← some_inj _ _ h) (omega (arith, tail.inside, tail.states), (omega (arith, tail2.inside, tail2.states), both_ends 0 0 (λ from above. starts_at from above)));
+    starts = λ x y g h. rw (← some_inj _ _ g, ← some_inj _ _ h) (ends_at 0 0 (omega (arith, tail.inside, tail.states)) (omega (arith, tail2.inside, tail2.states)) (λ from above. starts_at from above));
     closed = λ x y z w s leads. ends_closed x y z w s (goes_of t m n 0 b 0 d x y z w table leads);
     none = λ x y s p q.
         let first : x ≡ b = view_final_is t m 0 b x p in

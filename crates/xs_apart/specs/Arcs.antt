@@ -1,5 +1,6 @@
 -- How the arcs of two coarse nets lead from a pair of states to others.
-use Rattle.std.specs.Prelude.{◌≡◌, ℕ, ◌<◌, ◌≤◌, ◌⊎◌, true, List, slice_get, Some}
+use Rattle.std.specs.Prelude.{◌≡◌, ℕ, ◌<◌, ◌≤◌, ◌⊎◌, true, List, slice_get, Option, Some, None}
+use Rattle.std.specs.List.{All}
 use Rattle.xs_coarse.specs.declared.arc.Arc.{Arc}
 use Rattle.xs_coarse.specs.Coarse.{Table, Net, HasArc, may_meet}
 use Rattle.xs_apart.specs.declared.pair.Pair.{Pair}
@@ -42,12 +43,20 @@ HasWithin height width ps a b = a < height → b < width → HasPair ps a b
 abbrev pub HasFound : Found → ℕ → ℕ → Type 0
 HasFound f a b = HasWithin f.height f.width f.pairs.items a b
 
--- where the arc reads nothing, its target beside that state was found
-abbrev pub MovesFirst : Found → ℕ → Arc → Type 0
-MovesFirst f b x = x.label ≡ 0 → HasFound f x.to b
+-- the pair was found, if there is one
+abbrev pub HasTarget : Found → Option Pair → Type 0
+HasTarget f (Some p) = HasFound f p.first p.second
+HasTarget f None = Unit {0}
 
-abbrev pub MovesSecond : Found → ℕ → Arc → Type 0
-MovesSecond f a y = y.label ≡ 0 → HasFound f a y.to
+-- the pair that a function gives for an element was found, if it gives one
+pub record HasGiven {X : Type 0} (Gives : X → Option Pair → Type 0) (f : Found) (x : X) : Type 0 where
+  pub target : Option Pair
+  pub given : Gives x target
+  pub there : HasTarget f target
+
+-- so it is for each element
+pub record HasAllGiven {X : Type 0} (Gives : X → Option Pair → Type 0) (f : Found) (xs : List X) : Type 0 where
+  pub each : All (HasGiven Gives f) xs
 
 -- where both arcs read something, and may read a common word, their two targets were found
 abbrev pub Joins : Table → Found → Arc → Arc → Type 0

@@ -39,8 +39,9 @@ pub record IsLonger (old new : List Pair) : Type 0 where
   pub added : List Pair
   pub is : new ≡ old ++ added
 
--- the numbers of states are the same, and no pair is forgotten
+-- the map still fits, the numbers of states are the same, and no pair is forgotten
 pub record IsMore (old new : Found) : Type 0 where
+  pub fits : Fits new
   pub height : new.height ≡ old.height
   pub width : new.width ≡ old.width
   pub longer : IsLonger old.pairs.items new.pairs.items

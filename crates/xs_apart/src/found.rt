@@ -1,6 +1,6 @@
 ghost use Rattle.std.specs.Prelude.{◌≡◌, ℕ, ◌*◌, ◌<◌, ◌≤◌, [], true, false, length, IfOk, OnOk};
 ghost use Rattle.xs_auto.specs.{bit_of};
-ghost use Rattle.xs_apart.specs.Arcs.{HasFound};
+ghost use Rattle.xs_apart.specs.Arcs.{HasFound, HasTarget, HasAllGiven};
 ghost use Rattle.xs_apart.specs.Found.{Fits, IsMore, IsEmpty};
 
 use crate::pair::Pair;
@@ -37,8 +37,7 @@ impl Found {
 
     /// Adds a pair, unless it is marked already, or is of a state that is not looked at.
     pub fn visit(&mut self, first: u32, second: u32) -> Result<(), Memory>
-        requires fits { Fits self.old }
-        ensures fits { Fits self.new }
+        requires { Fits self.old }
         ensures more { IsMore self.old self.new }
         ensures ok { OnOk result (HasFound self.new first second) }
     {
@@ -52,6 +51,35 @@ impl Found {
         if (word >> bit) & 1 == 0 {
             self.pairs.push(Pair { first, second })?;
             self.words[place] = word | (1 << bit);
+        }
+        Ok(())
+    }
+
+    /// Adds a pair, if there is one.
+    fn visit_if(&mut self, target: Option<Pair>) -> Result<(), Memory>
+        requires { Fits self.old }
+        ensures more { IsMore self.old self.new }
+        ensures ok { OnOk result (HasTarget self.new target) }
+    {
+        match target {
+            Some(pair) => self.visit(pair.first, pair.second),
+            None => Ok(()),
+        }
+    }
+
+    /// Visits the pair that each of the items leads to, if it leads to one.
+    pub fn visit_each<T: Copy, F: Fn(T) -> Option<Pair>>(
+        &mut self,
+        items: &[T],
+        target: F,
+    ) -> Result<(), Memory>
+        requires fits { Fits self.old }
+        requires target { F.IsAlwaysCallable target }
+        ensures more { IsMore self.old self.new }
+        ensures ok { OnOk result (HasAllGiven (F.post target) self.new items.now) }
+    {
+        'items: for item in items {
+            self.visit_if(target(*item))?;
         }
         Ok(())
     }

@@ -32,11 +32,7 @@ impl Found {
             return Ok(false);
         }
         self.visit(0, 0)?;
-        let nowhere = Pair {
-            first: end,
-            second: end,
-        };
-        self.close(labels, net, net, nowhere)
+        self.close(labels, net, net, Pair::new(end, end))
     }
 
     /// From doubles of front states: where the first one is that of the cut, the second one beside
@@ -57,7 +53,10 @@ impl Found {
         if !self.begin(alloc, here + 1, states)? {
             return Ok(false);
         }
-        self.seed_turns(doubles, here)?;
+        self.visit_each(
+            doubles,
+            |p: Pair| (p.first == here).then_some(Pair::new(p.second, here)),
+        )?;
         self.close_slips(net, net)
     }
 
@@ -81,11 +80,7 @@ impl Found {
             return Ok(false);
         }
         self.seed_steps(labels, net, turns)?;
-        let nowhere = Pair {
-            first: states,
-            second: states,
-        };
-        self.close(labels, net, net, nowhere)
+        self.close(labels, net, net, Pair::new(states, states))
     }
 
     /// The same from all pairs of a state of the front's end and one of the rest; the end may be entered
@@ -115,11 +110,7 @@ impl Found {
         if gate > 0 {
             self.seed_firsts(gate, here + 1, states)?;
         }
-        let nowhere = Pair {
-            first: states,
-            second: states,
-        };
-        self.close(labels, net, net, nowhere)
+        self.close(labels, net, net, Pair::new(states, states))
     }
 
     /// From the middles: where the front state is that of the cut, that one beside the rest state,
@@ -143,11 +134,10 @@ impl Found {
         if !self.begin(alloc, states, states)? {
             return Ok(false);
         }
-        self.seed_returns(middles, here)?;
-        let end = Pair {
-            first: last,
-            second: last,
-        };
-        self.close(labels, net, net, end)
+        self.visit_each(
+            middles,
+            |p: Pair| (p.first == here).then_some(Pair::new(here, p.second)),
+        )?;
+        self.close(labels, net, net, Pair::new(last, last))
     }
 }

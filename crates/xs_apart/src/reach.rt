@@ -1,8 +1,8 @@
 ghost use Rattle.std.specs.Prelude.{◌≡◌, ◌<◌, true, IfOk, OnOk};
 ghost use Rattle.std.specs.List.{All};
-ghost use Rattle.xs_apart.specs.Arcs.{Slips, Steps, Goes, MovesFirst, MovesSecond, Joins, HasAll, IsClosedWithin, IsFor};
+ghost use Rattle.xs_apart.specs.Arcs.{Slips, Steps, Goes, Joins, HasAll, IsClosedWithin, IsFor};
 ghost use Rattle.xs_coarse.specs.declared.arc.Arc.{Arc as AnyArc};
-ghost use Rattle.xs_apart.specs.Found.{Fits, IsMore};
+ghost use Rattle.xs_apart.specs.Found.{Fits, IsInside, IsMore};
 ghost use Rattle.xs_apart.specs.Sets.{IsShut};
 
 use crate::found::Found;
@@ -11,62 +11,32 @@ use xs_class::Memory;
 use xs_coarse::{Arc, Coarse, Labels};
 
 impl Found {
-    /// Visits the targets of the arcs that read nothing, beside a state of the second net.
-    fn visit_firsts(&mut self, arcs: &[Arc], second: u32) -> Result<(), Memory>
-        requires { Fits self.old }
-        ensures fits { Fits self.new }
-        ensures more { IsMore self.old self.new }
-        ensures ok { OnOk result (All (MovesFirst self.new second) arcs.now) }
-    {
-        'arcs: for arc in arcs {
-            if arc.label == 0 {
-                self.visit(arc.to, second)?;
-            }
-        }
-        Ok(())
-    }
-
-    /// Visits a state of the first net beside the targets of the arcs that read nothing.
-    fn visit_seconds(&mut self, first: u32, arcs: &[Arc]) -> Result<(), Memory>
-        requires { Fits self.old }
-        ensures fits { Fits self.new }
-        ensures more { IsMore self.old self.new }
-        ensures ok { OnOk result (All (MovesSecond self.new first) arcs.now) }
-    {
-        'arcs: for arc in arcs {
-            if arc.label == 0 {
-                self.visit(first, arc.to)?;
-            }
-        }
-        Ok(())
-    }
-
     /// Visits the targets of an arc and of each other arc with which it may read a common word.
     fn visit_partners(&mut self, labels: &Labels, arc: Arc, others: &[Arc]) -> Result<(), Memory>
         requires { Fits self.old }
-        ensures fits { Fits self.new }
         ensures more { IsMore self.old self.new }
         ensures ok { OnOk result (All (Joins labels.now self.new arc) others.now) }
     {
-        'others: for other in others {
-            if labels.meet(arc.label, other.label) {
-                self.visit(arc.to, other.to)?;
-            }
+        if arc.label == 0 {
+            return Ok(());
         }
+        self.visit_each(
+            others,
+            |x: Arc| labels
+                .meet(arc.label, x.label)
+                .then_some(Pair::new(arc.to, x.to)),
+        )?;
         Ok(())
     }
 
     /// Visits the targets of each two arcs that may read a common word.
     fn visit_boths(&mut self, labels: &Labels, arcs: &[Arc], others: &[Arc]) -> Result<(), Memory>
         requires { Fits self.old }
-        ensures fits { Fits self.new }
         ensures more { IsMore self.old self.new }
         ensures ok { OnOk result (All (λ (x : AnyArc). All (Joins labels.now self.new x) others.now) arcs.now) }
     {
         'arcs: for arc in arcs {
-            if arc.label != 0 {
-                self.visit_partners(labels, *arc, others)?;
-            }
+            self.visit_partners(labels, *arc, others)?;
         }
         Ok(())
     }
@@ -74,14 +44,18 @@ impl Found {
     /// Visits the pairs to which an arc of either net that reads nothing leads from a pair.
     fn slip(&mut self, first: &Coarse, second: &Coarse, at: Pair) -> Result<(), Memory>
         requires fits { Fits self.old }
-        requires first { at.first < first.now.states }
-        requires second { at.second < second.now.states }
-        ensures fits { Fits self.new }
+        requires at { IsInside first.now.states second.now.states at }
         ensures more { IsMore self.old self.new }
         ensures ok { OnOk result (HasAll (Slips first.now second.now) at.first at.second self.new) }
     {
-        self.visit_firsts(first.row(at.first), at.second)?;
-        self.visit_seconds(at.first, second.row(at.second))?;
+        self.visit_each(
+            first.row(at.first),
+            |x: Arc| (x.label == 0).then_some(Pair::new(x.to, at.second)),
+        )?;
+        self.visit_each(
+            second.row(at.second),
+            |x: Arc| (x.label == 0).then_some(Pair::new(at.first, x.to)),
+        )?;
         Ok(())
     }
 
@@ -94,33 +68,11 @@ impl Found {
         at: Pair,
     ) -> Result<(), Memory>
         requires fits { Fits self.old }
-        requires first { at.first < first.now.states }
-        requires second { at.second < second.now.states }
-        ensures fits { Fits self.new }
+        requires at { IsInside first.now.states second.now.states at }
         ensures more { IsMore self.old self.new }
         ensures ok { OnOk result (HasAll (Steps labels.now first.now second.now) at.first at.second self.new) }
     {
         self.visit_boths(labels, first.row(at.first), second.row(at.second))?;
-        Ok(())
-    }
-
-    /// Visits all pairs to which a pair leads.
-    fn go(
-        &mut self,
-        labels: &Labels,
-        first: &Coarse,
-        second: &Coarse,
-        at: Pair,
-    ) -> Result<(), Memory>
-        requires fits { Fits self.old }
-        requires first { at.first < first.now.states }
-        requires second { at.second < second.now.states }
-        ensures fits { Fits self.new }
-        ensures more { IsMore self.old self.new }
-        ensures ok { OnOk result (HasAll (Goes labels.now first.now second.now) at.first at.second self.new) }
-    {
-        self.slip(first, second, at)?;
-        self.step(labels, first, second, at)?;
         Ok(())
     }
 
@@ -134,7 +86,6 @@ impl Found {
     ) -> Result<bool, Memory>
         requires nets { IsFor first.now second.now self.old }
         requires fits { Fits self.old }
-        ensures fits { Fits self.new }
         ensures more { IsMore self.old self.new }
         ensures ok { IfOk result (λ closed. closed ≡ true → IsShut (Goes labels.now first.now second.now) goal self.new.height self.new.width self.new.pairs.items) }
     {
@@ -146,7 +97,8 @@ impl Found {
             if at == goal {
                 return Ok(false);
             }
-            self.go(labels, first, second, at)?;
+            self.slip(first, second, at)?;
+            self.step(labels, first, second, at)?;
         }
         Ok(false)
     }
@@ -155,7 +107,6 @@ impl Found {
     pub fn close_slips(&mut self, first: &Coarse, second: &Coarse) -> Result<bool, Memory>
         requires nets { IsFor first.now second.now self.old }
         requires fits { Fits self.old }
-        ensures fits { Fits self.new }
         ensures more { IsMore self.old self.new }
         ensures ok { IfOk result (λ closed. closed ≡ true → IsClosedWithin (Slips first.now second.now) self.new.height self.new.width self.new.pairs.items) }
     {

@@ -77,11 +77,7 @@ impl Search {
             return Ok(false);
         }
         self.found.visit(a, c)?;
-        let end = Pair {
-            first: b,
-            second: d,
-        };
-        self.found.close(labels, first, second, end)
+        self.found.close(labels, first, second, Pair::new(b, d))
     }
 
     /// The pairs of states up to the top that two paths from state 0 of a net come to by words that may
@@ -200,10 +196,7 @@ impl Search {
         if other.has_front {
             self.found.seed_seconds(one.net.len(), 0)?;
         }
-        let end = Pair {
-            first: one.last,
-            second: other.last,
-        };
+        let end = Pair::new(one.last, other.last);
         self.found.close(labels, &one.net, &other.net, end)
     }
 }

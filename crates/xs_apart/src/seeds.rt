@@ -3,7 +3,6 @@ ghost use Rattle.std.specs.List.{All};
 ghost use Rattle.xs_apart.specs.declared.pair.Pair.{Pair as AnyPair};
 ghost use Rattle.xs_apart.specs.Arcs.{HasFound, HasAll, Steps};
 ghost use Rattle.xs_apart.specs.Found.{Fits, IsInside, IsMore};
-ghost use Rattle.xs_apart.specs.Sets.{Turns, Returns};
 
 use crate::found::Found;
 use crate::pair::Pair;
@@ -11,40 +10,6 @@ use xs_class::Memory;
 use xs_coarse::{Coarse, Labels};
 
 impl Found {
-    /// Visits, for each pair with that first state, its second state beside that one.
-    pub fn seed_turns(&mut self, pairs: &[Pair], here: u32) -> Result<(), Memory>
-        requires fits { Fits self.old }
-        requires height { self.old.height ≡ here + 1 }
-        requires width { here < self.old.width }
-        ensures fits { Fits self.new }
-        ensures more { IsMore self.old self.new }
-        ensures ok { OnOk result (All (Turns self.new.pairs.items here) pairs.now) }
-    {
-        'pairs: for pair in pairs {
-            if pair.first == here {
-                self.visit(pair.second, here)?;
-            }
-        }
-        Ok(())
-    }
-
-    /// Visits, for each pair with that first state, that one beside its second state.
-    pub fn seed_returns(&mut self, pairs: &[Pair], here: u32) -> Result<(), Memory>
-        requires fits { Fits self.old }
-        requires inside { All (λ (p : AnyPair). p.second < self.old.width) pairs.now }
-        requires here { here < self.old.height }
-        ensures fits { Fits self.new }
-        ensures more { IsMore self.old self.new }
-        ensures ok { OnOk result (All (Returns self.new.pairs.items here) pairs.now) }
-    {
-        'pairs: for pair in pairs {
-            if pair.first == here {
-                self.visit(here, pair.second)?;
-            }
-        }
-        Ok(())
-    }
-
     /// Visits where arcs that may read a common word lead from the pairs.
     pub fn seed_steps(
         &mut self,
@@ -54,7 +19,6 @@ impl Found {
     ) -> Result<(), Memory>
         requires fits { Fits self.old }
         requires inside { All (IsInside net.now.states net.now.states) pairs.now }
-        ensures fits { Fits self.new }
         ensures more { IsMore self.old self.new }
         ensures ok { OnOk result (All (λ (p : AnyPair). HasAll (Steps labels.now net.now net.now) p.first p.second self.new) pairs.now) }
     {
@@ -67,7 +31,6 @@ impl Found {
     /// Visits that first state beside each second one from one on, before an end.
     pub fn seed_firsts(&mut self, first: u32, begin: u32, end: u32) -> Result<(), Memory>
         requires { Fits self.old }
-        ensures fits { Fits self.new }
         ensures more { IsMore self.old self.new }
         ensures ok { OnOk result ((b : ℕ) → begin ≤ b → b < end → HasFound self.new first b) }
     {
@@ -80,7 +43,6 @@ impl Found {
     /// Visits each first state before an end beside that second one.
     pub fn seed_seconds(&mut self, end: u32, second: u32) -> Result<(), Memory>
         requires { Fits self.old }
-        ensures fits { Fits self.new }
         ensures more { IsMore self.old self.new }
         ensures ok { OnOk result ((a : ℕ) → a < end → HasFound self.new a second) }
     {

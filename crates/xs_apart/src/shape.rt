@@ -7,34 +7,19 @@ use xs_coarse::Coarse;
 pub fn never_returns(net: &Coarse, state: u32) -> bool
     ensures { result ≡ true → NeverReturns net.now (state + 1) }
 {
-    'arcs: for x in net.arcs() {
-        if x.from > state && x.to <= state {
-            return false;
-        }
-    }
-    true
+    net.arcs().iter().all(|x| x.from <= state || x.to > state)
 }
 
 /// Whether each arc from a state, or those after it, leads to one after it. In time linear in the arcs.
 pub fn is_source(net: &Coarse, state: u32) -> bool
     ensures { result ≡ true → IsSource net.now state }
 {
-    'arcs: for x in net.arcs() {
-        if x.from >= state && x.to <= state {
-            return false;
-        }
-    }
-    true
+    net.arcs().iter().all(|x| x.from < state || x.to > state)
 }
 
 /// Whether no arc leads over a state. In time linear in the arcs.
 pub fn is_gate(net: &Coarse, state: u32) -> bool
     ensures { result ≡ true → IsGate net.now state }
 {
-    'arcs: for x in net.arcs() {
-        if x.from < state && x.to > state {
-            return false;
-        }
-    }
-    true
+    net.arcs().iter().all(|x| x.from >= state || x.to <= state)
 }

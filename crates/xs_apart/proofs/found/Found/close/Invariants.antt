@@ -1,10 +1,9 @@
 use Rattle.xs_apart.specs.Arcs.{Goes, IsClosedBelow}
-use Rattle.xs_apart.specs.Found.{Fits, IsMore, IsNotBelow}
+use Rattle.xs_apart.specs.Found.{IsMore, IsNotBelow}
 use Rattle.xs_apart.proofs.found.Found.close.Given as goal
 
 abbrev pub invariant-places : goal.invariant-places
 invariant-places l = record {
-  fits : Fits l.self;
   more : IsMore l.initial.self l.self;
   closed : IsClosedBelow (Goes l.labels l.first l.second) l.place l.self;
   without : IsNotBelow l.goal l.place l.self.pairs.items;

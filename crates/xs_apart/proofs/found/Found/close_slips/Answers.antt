@@ -6,16 +6,12 @@ use Rattle.xs_apart.proofs.found.Found.close_slips.Goals as goal
 
 pub places-init : goal.places-init
 places-init c = record {
-  fits = c.requires.fits;
-  more = more_same c.args.self.now;
+  more = more_same c.args.self.now c.requires.fits;
   closed = λ i p l. absurd (omega arith);
 }
 
-pub slip-requires-clause-first : goal.slip-requires-clause-first
-slip-requires-clause-first c = (found_inside c.args.first.now c.args.second.now c.args.self.now c.places.self c.places.place c.index-at.result.now c.requires.nets c.places.invariant.more c.places.invariant.fits (omega (arith, c.if-place-len.false, c.len.ensures, c.places.self.pairs.ok)) c.index-at.ensures).first
-
-pub slip-requires-clause-second : goal.slip-requires-clause-second
-slip-requires-clause-second c = (found_inside c.args.first.now c.args.second.now c.args.self.now c.places.self c.places.place c.index-at.result.now c.requires.nets c.places.invariant.more c.places.invariant.fits (omega (arith, c.if-place-len.false, c.len.ensures, c.places.self.pairs.ok)) c.index-at.ensures).second
+pub slip-requires-clause-at : goal.slip-requires-clause-at
+slip-requires-clause-at c = found_inside c.args.first.now c.args.second.now c.args.self.now c.places.self c.places.place c.index-at.result.now c.requires.nets c.places.invariant.more (omega (arith, c.if-place-len.false, c.len.ensures, c.places.self.pairs.ok)) c.index-at.ensures
 
 pub places-preserved : goal.places-preserved
 places-preserved c =
@@ -23,7 +19,6 @@ places-preserved c =
     let p = c.index-at.result.now in
     let here = read_at c.places.self.pairs.items c.places.place p (omega (arith, c.if-place-len.false, c.len.ensures, c.places.self.pairs.ok)) c.index-at.ensures in
     record {
-      fits = c.slip.ensures.fits;
       more = more_then known.more c.slip.ensures.more;
       closed = closed_more (Slips c.args.first.now c.args.second.now) p here known.closed c.slip.ensures.more c.in_ok-slip.ensures.ok;
     }

@@ -1,10 +1,9 @@
 use Rattle.xs_apart.specs.Arcs.{Slips, IsClosedBelow}
-use Rattle.xs_apart.specs.Found.{Fits, IsMore}
+use Rattle.xs_apart.specs.Found.{IsMore}
 use Rattle.xs_apart.proofs.found.Found.close_slips.Given as goal
 
 abbrev pub invariant-places : goal.invariant-places
 invariant-places l = record {
-  fits : Fits l.self;
   more : IsMore l.initial.self l.self;
   closed : IsClosedBelow (Slips l.first l.second) l.place l.self;
 }

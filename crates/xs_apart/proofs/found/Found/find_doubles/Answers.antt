@@ -10,4 +10,4 @@ close-requires-clause-nets c = more_for c.args.net.now c.args.net.now c.begin.ne
 pub returns-clause-ok : goal.returns-clause-ok
 returns-clause-ok c =
     let looks : LooksAt (c.args.top + 1) (c.args.top + 1) c.begin.new.self = looks_of (c.in_ok-begin.ensures.ok c.if-not-branch.false) in
-    IfOk-weaker c.close.result _ _ (λ closed shut yes. doubles_from c.args.labels.now c.args.net.now c.args.top _ looks c.visit.ensures.more c.close.ensures.more c.close.ensures.fits (c.never_returns.ensures c.if-not-never_returns.false) c.in_ok-visit.ensures.ok (shut yes)) c.close.ensures.ok
+    IfOk-weaker c.close.result _ _ (λ closed shut yes. doubles_from c.args.labels.now c.args.net.now c.args.top _ looks c.visit.ensures.more c.close.ensures.more (c.never_returns.ensures c.if-not-never_returns.false) c.in_ok-visit.ensures.ok (shut yes)) c.close.ensures.ok

@@ -10,4 +10,4 @@ close-requires-clause-nets c = more_for c.args.net.now c.args.net.now c.begin.ne
 pub returns-clause-ok : goal.returns-clause-ok
 returns-clause-ok c =
     let looks : LooksAt (c.args.here + 1) c.args.net.now.states c.begin.new.self = rw (← c.len-states.ensures.states) (looks_of (c.in_ok-begin.ensures.ok c.if-not-branch.false)) in
-    IfOk-weaker c.close.result _ _ (λ closed shut yes. middles_from c.args.labels.now c.args.net.now c.args.here c.args.turns.now _ looks c.seed_steps.ensures.more c.close.ensures.more c.close.ensures.fits c.in_ok-seed_steps.ensures.ok (shut yes)) c.close.ensures.ok
+    IfOk-weaker c.close.result _ _ (λ closed shut yes. middles_from c.args.labels.now c.args.net.now c.args.here c.args.turns.now _ looks c.seed_steps.ensures.more c.close.ensures.more c.in_ok-seed_steps.ensures.ok (shut yes)) c.close.ensures.ok

@@ -5,11 +5,10 @@ use Rattle.xs_apart.proofs.GrowthLemmas.{more_same, more_then, more_found}
 use Rattle.xs_apart.proofs.found.Found.seed_firsts.Goals as goal
 
 pub states-init : goal.states-init
-states-init c = record { fits = c.requires; more = more_same c.args.self.now; there = λ b from before. absurd (omega (arith, from, before)) }
+states-init c = record { more = more_same c.args.self.now c.requires; there = λ b from before. absurd (omega (arith, from, before)) }
 
 pub states-preserved : goal.states-preserved
 states-preserved c = record {
-  fits = c.visit.ensures.fits;
   more = more_then c.states.invariant.more c.visit.ensures.more;
   there = λ b from before. elim (cases_lt b c.states.second) [
     | inl less ↦ more_found c.visit.ensures.more c.args.first b (c.states.invariant.there b from less)

@@ -1,11 +1,10 @@
 use Rattle.std.proofs.Common.{ℕ, ◌<◌, ◌≤◌}
 use Rattle.xs_apart.specs.Arcs.{HasFound}
-use Rattle.xs_apart.specs.Found.{Fits, IsMore}
+use Rattle.xs_apart.specs.Found.{IsMore}
 use Rattle.xs_apart.proofs.found.Found.seed_firsts.Given as goal
 
 abbrev pub invariant-states : goal.invariant-states
 invariant-states l = record {
-  fits : Fits l.self;
   more : IsMore l.initial.self l.self;
   there : (b : ℕ) → l.begin ≤ b → b < l.second → HasFound l.self l.first b;
 }

@@ -1,12 +1,7 @@
-use Rattle.std.proofs.Common.{take}
 use Rattle.std.specs.List.{All}
 use Rattle.xs_apart.specs.Arcs.{Joins}
-use Rattle.xs_apart.specs.Found.{Fits, IsMore}
+use Rattle.xs_apart.proofs.Walks.{Walked}
 use Rattle.xs_apart.proofs.found.Found.visit_boths.Given as goal
 
 abbrev pub invariant-arcs : goal.invariant-arcs
-invariant-arcs l = record {
-  fits : Fits l.self;
-  more : IsMore l.initial.self l.self;
-  there : All (λ x. All (Joins l.labels l.self x) l.others) (take l.arc-index l.arcs);
-}
+invariant-arcs l = Walked (λ f x. All (Joins l.labels f x) l.others) l.arcs l.initial.self l.arc-index l.self

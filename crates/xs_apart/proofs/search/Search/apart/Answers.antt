@@ -16,4 +16,4 @@ returns c =
     let looks : LooksAt c.args.first.now.states c.args.second.now.states c.begin.new.self = rw (← c.len.ensures.states, ← c.len-2.ensures.states) (looks_of (c.in_ok-begin.ensures.ok c.if-not-branch.false)) in
     let visited = looks_on looks c.visit.ensures.more in
     let starts = c.in_ok-visit.ensures.ok (omega (arith, visited.height, c.requires.first)) (omega (arith, visited.width, c.requires.second)) in
-    IfOk-weaker c.close.result _ _ (λ closed shut yes. shut_apart c.args.labels.now c.args.first.now c.args.second.now c.args.a c.args.b c.args.c c.args.d c.close.new.self.pairs.items c.see_table.ensures c.len.ensures.within c.len-2.ensures.within (more_has c.close.ensures.more c.args.a c.args.c starts) (shut_from (Goes c.args.labels.now c.args.first.now c.args.second.now) (pair c.args.b c.args.d) looks c.visit.ensures.more c.close.ensures.more (shut yes))) c.close.ensures.ok
+    IfOk-weaker c.close.result _ _ (λ closed shut yes. shut_apart c.args.labels.now c.args.first.now c.args.second.now c.args.a c.args.b c.args.c c.args.d c.close.new.self.pairs.items c.see_table.ensures c.len.ensures.within c.len-2.ensures.within (more_has c.close.ensures.more c.args.a c.args.c starts) (shut_from (Goes c.args.labels.now c.args.first.now c.args.second.now) (pair c.args.b c.args.d) looks c.visit.ensures.more c.close.ensures.more (rw c.new.ensures at (shut yes)))) c.close.ensures.ok

@@ -2,7 +2,7 @@ use Rattle.std.proofs.Common.{ℕ, ◌≡◌, ◌<◌, true, sym, ◌∙◌, ari
 use Rattle.std.proofs.lemmas.Bool.{true≢false}
 use Rattle.std.proofs.lemmas.Result.{IfOk-weaker}
 use Rattle.xs_apart.specs.Arcs.{Goes, IsFor}
-use Rattle.xs_apart.specs.Found.{IsMore, HasPair, pair}
+use Rattle.xs_apart.specs.Found.{Fits, IsMore, HasPair, pair}
 use Rattle.xs_apart.proofs.FoundLemmas.{begun, more_for}
 use Rattle.xs_apart.proofs.GrowthLemmas.{more_same, more_then, more_has}
 use Rattle.xs_apart.proofs.LayerLemmas.{LooksAt, looks_of, looks_on, shut_from}
@@ -25,6 +25,17 @@ close-requires-clause-nets c =
       | else-other w ↦ rw w.self-inside-is first
     ]
 
+pub close-requires-clause-fits : goal.close-requires-clause-fits
+close-requires-clause-fits c =
+    let first : Fits c.if-one.self-inside.found = elim c.if-one.branch [
+      | then-one+in_ok-seed_firsts w ↦ rw w.self-inside-is w.seed_firsts.ensures.more.fits
+      | else-one w ↦ rw w.self-inside-is c.visit.ensures.more.fits
+    ] in
+    elim c.if-other.branch [
+      | then-other+in_ok-seed_seconds w ↦ rw w.self-inside-is w.seed_seconds.ensures.more.fits
+      | else-other w ↦ rw w.self-inside-is first
+    ]
+
 pub returns : goal.returns
 returns c =
     let t = c.args.labels.now in
@@ -34,11 +45,11 @@ returns c =
     let visited = looks_on looks c.visit.ensures.more in
     let more1 : IsMore c.visit.new.self c.if-one.self-inside.found = elim c.if-one.branch [
       | then-one+in_ok-seed_firsts w ↦ rw w.self-inside-is w.seed_firsts.ensures.more
-      | else-one w ↦ rw w.self-inside-is (more_same c.visit.new.self)
+      | else-one w ↦ rw w.self-inside-is (more_same c.visit.new.self c.visit.ensures.more.fits)
     ] in
     let more2 : IsMore c.if-one.self-inside.found c.if-other.self-inside.found = elim c.if-other.branch [
       | then-other+in_ok-seed_seconds w ↦ rw w.self-inside-is w.seed_seconds.ensures.more
-      | else-other w ↦ rw w.self-inside-is (more_same c.if-one.self-inside.found)
+      | else-other w ↦ rw w.self-inside-is (more_same c.if-one.self-inside.found more1.fits)
     ] in
     let seeded = more_then (more_then c.visit.ensures.more more1) more2 in
     let firsts : one.has_front ≡ true → (k : ℕ) → k < other.net.states → HasPair c.if-one.self-inside.found.pairs.items 0 k = λ yes. elim c.if-one.branch [
@@ -59,4 +70,4 @@ returns c =
     (more_has c.close.ensures.more 0 0 (more_has more2 0 0 (more_has more1 0 0 starts)))
     (λ front k low. more_has c.close.ensures.more 0 k (more_has more2 0 k (firsts front k low)))
     (λ front k low. more_has c.close.ensures.more k 0 (seconds front k low))
-    (shut_from (Goes t one.net other.net) (pair one.last other.last) looks seeded c.close.ensures.more (shut yes))) c.close.ensures.ok
+    (shut_from (Goes t one.net other.net) (pair one.last other.last) looks seeded c.close.ensures.more (rw c.new-end.ensures at (shut yes)))) c.close.ensures.ok
