@@ -2,7 +2,7 @@ ghost use Rattle.std.specs.Prelude.{◌≡◌, ◌<◌, ◌⊎◌, true, OnOk, l
 ghost use Rattle.xs_auto.specs.{states, edges_of, calls_of};
 ghost use Rattle.xs_meet.specs.{Drifts, Strides, Leads, Marked};
 ghost use Rattle.xs_closed.specs.Rows.{marked};
-ghost use Rattle.xs_closed.specs.Search.{IsListed, IsFor, Adds, Closes};
+ghost use Rattle.xs_closed.specs.Search.{IsInside, IsListed, IsFor, Adds, Closes};
 
 use crate::PairSet;
 use crate::pair::Pair;
@@ -15,8 +15,7 @@ use xs_class::Memory;
 fn drift(set: &mut PairSet, pairs: &mut Vec<Pair>, m: &Net, n: &Net, at: Pair) -> Result<(), Memory>
     requires nets { IsFor m.now n.now set.old }
     requires listed { IsListed set.old pairs.old.items }
-    requires first { at.first < states m.now }
-    requires second { at.second < states n.now }
+    requires at { IsInside (states m.now) (states n.now) at }
     ensures listed { OnOk result (IsListed set.new pairs.new.items) }
     ensures ok { OnOk result (Adds (Drifts m.now n.now at.first at.second) set.old pairs.old.items set.new pairs.new.items) }
 {
@@ -36,8 +35,7 @@ fn is_still(net: &Net, a: u32) -> bool
 
 /// Whether edges and calls of both nets lead nowhere from a pair, since one state has none.
 fn are_still(m: &Net, n: &Net, at: Pair) -> bool
-    requires first { at.first < states m.now }
-    requires second { at.second < states n.now }
+    requires at { IsInside (states m.now) (states n.now) at }
     ensures edges { result ≡ true → (length (edges_of m.now at.first) ≡ 0) ⊎ (length (edges_of n.now at.second) ≡ 0) }
     ensures calls { result ≡ true → (length (calls_of m.now at.first) ≡ 0) ⊎ (length (calls_of n.now at.second) ≡ 0) }
 {
@@ -59,8 +57,7 @@ pub fn stride(
 ) -> Result<(), Memory>
     requires nets { IsFor m.now n.now set.old }
     requires listed { IsListed set.old pairs.old.items }
-    requires first { at.first < states m.now }
-    requires second { at.second < states n.now }
+    requires at { IsInside (states m.now) (states n.now) at }
     ensures listed { OnOk result (IsListed set.new pairs.new.items) }
     ensures ok { OnOk result (Adds (Strides (Marked (marked related.now)) m.now n.now at.first at.second) set.old pairs.old.items set.new pairs.new.items) }
 {
@@ -84,8 +81,7 @@ fn lead(
 ) -> Result<(), Memory>
     requires nets { IsFor m.now n.now set.old }
     requires listed { IsListed set.old pairs.old.items }
-    requires first { at.first < states m.now }
-    requires second { at.second < states n.now }
+    requires at { IsInside (states m.now) (states n.now) at }
     ensures listed { OnOk result (IsListed set.new pairs.new.items) }
     ensures ok { OnOk result (Adds (Leads (Marked (marked related.now)) m.now n.now at.first at.second) set.old pairs.old.items set.new pairs.new.items) }
 {
@@ -98,6 +94,7 @@ fn lead(
 }
 
 /// Marks and lists all pairs to which the pairs lead.
+#[tactic(auto, using(crate::proofs::CloseLemmas::for_more))]
 pub fn close(
     set: &mut PairSet,
     pairs: &mut Vec<Pair>,
@@ -121,6 +118,7 @@ pub fn close(
 }
 
 /// Marks and lists all pairs to which the pairs lead by empty moves alone.
+#[tactic(auto, using(crate::proofs::CloseLemmas::for_more))]
 pub fn close_drifts(
     set: &mut PairSet,
     pairs: &mut Vec<Pair>,

@@ -13,14 +13,8 @@ places-init c = record {
 pub returns-then-place-len-clause-ok : goal.returns-then-place-len-clause-ok
 returns-then-place-len-clause-ok c = goes_all (Leads (Marked (marked c.args.related.now)) c.args.m.now c.args.n.now) (omega (arith, c.if-place-len.true, c.len.ensures, c.places.pairs.ok)) c.places.invariant.listed c.places.invariant.goes
 
-pub lead-requires-clause-nets : goal.lead-requires-clause-nets
-lead-requires-clause-nets c = for_more c.requires.nets c.places.invariant.goes.size
-
-pub lead-requires-clause-first : goal.lead-requires-clause-first
-lead-requires-clause-first c = (inside_at c.args.m.now c.args.n.now c.places.set c.places.pairs.items c.places.place c.index-at.result.now (for_more c.requires.nets c.places.invariant.goes.size) c.places.invariant.listed (omega (arith, c.if-place-len.false, c.len.ensures, c.places.pairs.ok)) c.index-at.ensures).first
-
-pub lead-requires-clause-second : goal.lead-requires-clause-second
-lead-requires-clause-second c = (inside_at c.args.m.now c.args.n.now c.places.set c.places.pairs.items c.places.place c.index-at.result.now (for_more c.requires.nets c.places.invariant.goes.size) c.places.invariant.listed (omega (arith, c.if-place-len.false, c.len.ensures, c.places.pairs.ok)) c.index-at.ensures).second
+pub lead-requires-clause-at : goal.lead-requires-clause-at
+lead-requires-clause-at c = inside_at c.args.m.now c.args.n.now c.places.set c.places.pairs.items c.places.place c.index-at.result.now (for_more c.requires.nets c.places.invariant.goes.size) c.places.invariant.listed (omega (arith, c.if-place-len.false, c.len.ensures, c.places.pairs.ok)) c.index-at.ensures
 
 pub places-preserved : goal.places-preserved
 places-preserved c = record {

@@ -12,14 +12,8 @@ places-init c = record {
 pub returns-then-place-len-clause-ok : goal.returns-then-place-len-clause-ok
 returns-then-place-len-clause-ok c = goes_all (Drifts c.args.m.now c.args.n.now) (omega (arith, c.if-place-len.true, c.len.ensures, c.places.pairs.ok)) c.places.invariant.listed c.places.invariant.goes
 
-pub drift-requires-clause-nets : goal.drift-requires-clause-nets
-drift-requires-clause-nets c = for_more c.requires.nets c.places.invariant.goes.size
-
-pub drift-requires-clause-first : goal.drift-requires-clause-first
-drift-requires-clause-first c = (inside_at c.args.m.now c.args.n.now c.places.set c.places.pairs.items c.places.place c.index-at.result.now (for_more c.requires.nets c.places.invariant.goes.size) c.places.invariant.listed (omega (arith, c.if-place-len.false, c.len.ensures, c.places.pairs.ok)) c.index-at.ensures).first
-
-pub drift-requires-clause-second : goal.drift-requires-clause-second
-drift-requires-clause-second c = (inside_at c.args.m.now c.args.n.now c.places.set c.places.pairs.items c.places.place c.index-at.result.now (for_more c.requires.nets c.places.invariant.goes.size) c.places.invariant.listed (omega (arith, c.if-place-len.false, c.len.ensures, c.places.pairs.ok)) c.index-at.ensures).second
+pub drift-requires-clause-at : goal.drift-requires-clause-at
+drift-requires-clause-at c = inside_at c.args.m.now c.args.n.now c.places.set c.places.pairs.items c.places.place c.index-at.result.now (for_more c.requires.nets c.places.invariant.goes.size) c.places.invariant.listed (omega (arith, c.if-place-len.false, c.len.ensures, c.places.pairs.ok)) c.index-at.ensures
 
 pub places-preserved : goal.places-preserved
 places-preserved c = record {
