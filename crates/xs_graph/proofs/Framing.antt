@@ -1,5 +1,5 @@
 -- Laws of frames and of paths of them.
-use Rattle.std.proofs.Common.{◌≡◌, ◌∙◌, sym, ap, subst, ℕ, ◌<◌, ◌≤◌, min, List, [], ◌∷◌, length, get_or, arith, inl, inr}
+use Rattle.std.proofs.Common.{◌≡◌, ◌∙◌, sym, ap, subst, ℕ, ◌+◌, ◌<◌, ◌≤◌, min, List, [], ◌∷◌, length, get_or, arith, inl, inr}
 use Rattle.std.proofs.lemmas.List.{get_or_default}
 use Rattle.std.proofs.lemmas.Bool.{cases_lt}
 use Rattle.xs_graph.specs.declared.frame.Frame.{Frame}
@@ -37,20 +37,15 @@ path_kept graph old new v w top (f ∷ path) keeps same h = (
 
 -- an edge that leads to what is past the frame's least place is walked
 pub frame_passed : (graph : List (List ℕ)) (visits : List Visit) (w : List ℕ) (top : ℕ) (f : Frame) → IsPast f.least (visit_of visits (get_or (targets_of graph f.node) f.next 0)) → IsFrame graph visits w top f → IsFrame graph visits w top (passed f)
-frame_passed graph visits w top f past h = record {
-  below = h.below;
-  here = h.here;
-  least = h.least;
-  falls = h.falls;
-  gathers = h.gathers;
-  walked = λ k l m. elim (cases_lt k f.next) [
-    | inl below ↦ h.walked k below m
-    | inr above ↦
-        let same : f.next ≡ k = omega arith in
-        subst (λ (x : ℕ). IsPast f.least (visit_of visits (get_or (targets_of graph f.node) x 0))) same past
-  ];
-  finished = h.finished;
-}
+frame_passed graph visits w top f past h = record { below = h.below; here = h.here; least = h.least; falls = h.falls; gathers = h.gathers; walked = walked; finished = h.finished }
+  where
+    walked : (k : ℕ) → k < f.next + 1 → k < length (targets_of graph f.node) → IsPast f.least (visit_of visits (get_or (targets_of graph f.node) k 0))
+    walked k l m = elim (cases_lt k f.next) [
+      | inl below ↦ h.walked k below m
+      | inr above ↦
+          let same : f.next ≡ k = omega arith in
+          subst (λ (x : ℕ). IsPast f.least (visit_of visits (get_or (targets_of graph f.node) x 0))) same past
+    ]
 
 -- a place that the frame's node reaches may be its least one
 pub frame_lower : (graph : List (List ℕ)) (visits : List Visit) (w : List ℕ) (top place : ℕ) (f : Frame) → Reaches graph f.node (get_or w place 0) → IsFrame graph visits w top f → IsFrame graph visits w top (lower place f)

@@ -119,18 +119,8 @@ all_reach graph s f h k l = elim (cases_lt k f.place) [
 
 -- other frames in place of all, no more of them
 pub state_path : (graph : List (List ℕ)) (s : State) (path : List Frame) → length path ≤ length s.path → IsPath graph s.visits s.waiting (length s.waiting) path → IsState graph s → IsState graph (with_path path s)
-state_path graph s path fewer frames h = record {
-  sized = h.sized;
-  waits = h.waits;
-  open_below = h.open_below;
-  open_at = h.open_at;
-  ordered = h.ordered;
-  closed = h.closed;
-  counted = h.counted;
-  one = h.one;
-  path = frames;
-  room = omega (arith, h.room);
-}
+state_path graph s path fewer frames h =
+    record { sized = h.sized; waits = h.waits; open_below = h.open_below; open_at = h.open_at; ordered = h.ordered; closed = h.closed; counted = h.counted; one = h.one; path = frames; room = omega (arith, h.room) }
 
 -- another frame in place of the innermost one
 pub state_with : (graph : List (List ℕ)) (s : State) (f g : Frame) → g.place ≡ f.place → IsFrame graph s.visits s.waiting (length s.waiting) g → IsState graph (with_frame f s) → IsState graph (with_frame g s)

@@ -1,19 +1,20 @@
 -- Derivations with good leaves, and what clauses of rules make.
-use Rattle.std.proofs.Common.{◌≡◌, ◌↔◌, ℕ, zero, suc, ◌<◌, Bool, true, false, List, [], ◌∷◌, length, get_or, refl, sym, subst, arith}
+use Rattle.std.proofs.Common.{◌≡◌, ◌↔◌, ℕ, zero, suc, Bool, true, List, [], ◌∷◌, length, refl, sym, subst, arith}
 use Rattle.std.specs.Bool.{IsTrue}
 use Rattle.std.specs.List.{Contains}
 use Rattle.std.proofs.lemmas.Bool.{and_parts, and_from}
 use Rattle.std.proofs.lemmas.Option.{slice_get_read}
 use Rattle.xs_clauses.specs.declared.clause.Clause.{Clause}
-use Rattle.xs_clauses.specs.Made.{IsMade}
+use Rattle.xs_clauses.specs.Made.{IsMade, AreFlags}
 use Rattle.xs_clauses.proofs.Complete.{head_is_made, made_least}
 use Rattle.xs_gram.specs.declared.parts.GItem.{GItem}
 use Rattle.xs_gram.specs.declared.parts.GItem.TheVariants.{Fixed, Term, Non, Skip}
 use Rattle.xs_gram.specs.Grammar.{Grammar, items, ItemAt, IsTermWord, IsSkipWord}
-use Rattle.xs_gram.specs.Derivations.{Parts, done, fixed, leaf, skip, sub, Derivation, FitsItems, Fits}
+use Rattle.xs_gram.specs.Derivations.{Parts, done, fixed, leaf, skip, sub, FitsItems}
 use Rattle.xs_order.specs.declared.leaves.Leaves.{Leaves}
 use Rattle.xs_order.specs.Leaves.{is_good, all_good}
 use Rattle.xs_order.specs.Rules.{nons_of, clause_at, AreClauses, AreMadeFlags}
+use Rattle.xs_order.specs.Wanted.{AllLeaves, IsDerived}
 use Rattle.xs_class.proofs.Lists.{first_in, rest_in}
 
 -- the item, if it is no nonterminal, has a word of which W holds
@@ -22,18 +23,6 @@ HasWord g W (Fixed f) = W f
 HasWord g W (Term t s) = (u : List ℕ) × IsTermWord g t u × W u
 HasWord g W (Non n s) = Unit {0}
 HasWord g W (Skip k) = (u : List ℕ) × IsSkipWord g k u × W u
-
--- W holds of each word of a fixed word, a terminal or an ignorable in the parts
-abbrev pub AllLeaves : (List ℕ → Type 0) → Parts → Type 0
-AllLeaves W done = Unit {0}
-AllLeaves W (fixed u ps) = W u × AllLeaves W ps
-AllLeaves W (leaf u ps) = W u × AllLeaves W ps
-AllLeaves W (skip u ps) = W u × AllLeaves W ps
-AllLeaves W (sub q qs ps) = AllLeaves W qs × AllLeaves W ps
-
--- the nonterminal has a derivation with such words alone
-abbrev pub IsDerived : Grammar → (List ℕ → Type 0) → ℕ → Type 0
-IsDerived g W n = (d : Derivation) × Fits g n d × AllLeaves W d.parts
 
 -- the good items of rules are exactly those that have such a word
 abbrev pub AreGood : Grammar → (List ℕ → Type 0) → Leaves → Type 0
@@ -112,7 +101,10 @@ derived_is_made g W l clauses good are n (d, fits, leaves) =
     subst (λ (m : ℕ). IsMade clauses m) fits.0.1 (head_is_made clauses (clause_at g d.rule) (are.there d.rule (record { rule = fits.0.0; good = inner.0 })) inner.1)
 
 -- so the flags are exact
-pub flags_are_exact : (g : Grammar) (W : List ℕ → Type 0) (l : Leaves) (flags : List Bool) → AreGood g W l → AreMadeFlags g l flags → (n : ℕ) → n < g.nons → IsTrue (get_or flags n false) ↔ IsDerived g W n
-flags_are_exact g W l flags good made n lt =
-    let exact = made.made.exact n lt in
-    (λ s. made_is_derived g W l made.clauses good made.are n (exact.0 s), λ d. exact.1 (derived_is_made g W l made.clauses good made.are n d))
+pub flags_are_exact : (g : Grammar) (W : List ℕ → Type 0) (l : Leaves) (flags : List Bool) → AreGood g W l → AreMadeFlags g l flags → AreFlags (IsDerived g W) g.nons flags
+flags_are_exact g W l flags good made = record {
+  counted = made.made.counted;
+  exact = λ n lt.
+      let exact = made.made.exact n lt in
+      (λ s. made_is_derived g W l made.clauses good made.are n (exact.0 s), λ d. exact.1 (derived_is_made g W l made.clauses good made.are n d));
+}

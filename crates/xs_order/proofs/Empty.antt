@@ -5,16 +5,13 @@ use Rattle.xs_regex.specs.declared.regex.Regex.{Regex}
 use Rattle.xs_regex.specs.declared.position.Position.{Position}
 use Rattle.xs_regex.specs.Matches.{Matches}
 use Rattle.xs_regex.specs.Automaton.{Accepts}
+use Rattle.xs_clauses.specs.Made.{AreFlags}
 use Rattle.xs_gram.specs.Grammar.{Grammar}
 use Rattle.xs_gram.specs.Derivations.{Parts, done, fixed, leaf, skip, sub, parts_yield}
-use Rattle.xs_gram.specs.Sound.{IsAutomaton, IsBuilt}
-use Rattle.xs_order.specs.declared.leaves.Leaves.{Leaves}
+use Rattle.xs_gram.specs.Sound.{IsAutomaton}
 use Rattle.xs_order.specs.Order.{AreNullable}
 use Rattle.xs_order.specs.declared.wanted.Wanted.TheVariants.{EmptyWord}
-use Rattle.xs_order.specs.Rules.{AreMadeFlags}
-use Rattle.xs_order.specs.Wanted.{IsWanted, AreWith}
-use Rattle.xs_order.proofs.Deriving.{AllLeaves, flags_are_exact}
-use Rattle.xs_order.proofs.Good.{are_good}
+use Rattle.xs_order.specs.Wanted.{IsWanted, AllLeaves, IsDerived}
 use Rattle.xs_class.proofs.Lists.{front_empty, rest_empty}
 use Rattle.xs_regex.proofs.Runs.{no_run}
 
@@ -57,10 +54,9 @@ accepts_wanted a = (
   λ h. (accepts_empty a).1 (subst (λ (w : List ℕ). Accepts a w) h.2 h.1),
 )
 
-pub are_nullable : (g : Grammar) (l : Leaves) (flags : List Bool) → IsBuilt g → AreWith g EmptyWord l → AreMadeFlags g l flags → AreNullable g flags
-are_nullable g l flags built leaves made = record {
-  counted = made.made.counted;
-  exact = λ n lt.
-      let exact = flags_are_exact g (IsWanted EmptyWord) l flags (are_good g EmptyWord l built leaves) made n lt in
-      (λ s. let d = exact.0 s in (d.0, d.1, yields_empty d.0.parts d.2), λ d. exact.1 (d.0, d.1, leaves_empty d.0.parts d.2));
+-- derivations with empty leaves alone are those of the empty word
+pub are_nullable : (g : Grammar) (flags : List Bool) → AreFlags (IsDerived g (IsWanted EmptyWord)) g.nons flags → AreNullable g flags
+are_nullable g flags made = record {
+  counted = made.counted;
+  exact = λ n lt. let exact = made.exact n lt in (λ s. let d = exact.0 s in (d.0, d.1, yields_empty d.0.parts d.2), λ d. exact.1 (d.0, d.1, leaves_empty d.0.parts d.2));
 }

@@ -5,9 +5,7 @@ use Rattle.std.proofs.lemmas.Bool.{cases_lt}
 use Rattle.std.proofs.lemmas.List.{get_or_append_left, get_or_push, length_push}
 use Rattle.xs_clauses.specs.Made.{AreFlags}
 
-pub flags_none : (P : ℕ → Type 0) → AreFlags P 0 []
-flags_none P = record { counted = omega arith; exact = λ n l. absurd (omega arith) }
-
+-- one flag more
 pub flags_more : (P : ℕ → Type 0) (k : ℕ) (flags : List Bool) (b : Bool) → IsTrue b ↔ P k → AreFlags P k flags → AreFlags P (k + 1) (flags ++ b ∷ [])
 flags_more P k flags b exact known = record {
   counted = omega (arith, length_push flags b, known.counted);

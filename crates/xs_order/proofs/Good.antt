@@ -2,13 +2,9 @@
 use Rattle.std.proofs.Common.{◌≡◌, ◌↔◌, ℕ, ◌<◌, Bool, List, length, refl}
 use Rattle.std.specs.Bool.{IsTrue}
 use Rattle.std.proofs.lemmas.Bool.{both_ways}
-use Rattle.xs_regex.specs.declared.regex.Regex.{Regex}
-use Rattle.xs_regex.specs.declared.position.Position.{Position}
-use Rattle.xs_regex.specs.Automaton.{Accepts}
-use Rattle.xs_regex.specs.Matches.{Matches}
 use Rattle.xs_gram.specs.declared.parts.GItem.TheVariants.{Fixed, Term, Non, Skip}
 use Rattle.xs_gram.specs.Grammar.{Grammar}
-use Rattle.xs_gram.specs.Sound.{IsAutomaton, IsBuilt}
+use Rattle.xs_gram.specs.Sound.{IsBuilt}
 use Rattle.xs_order.specs.declared.leaves.Leaves.{Leaves}
 use Rattle.xs_order.specs.declared.wanted.Wanted.{Wanted}
 use Rattle.xs_order.specs.declared.wanted.Wanted.TheVariants.{EmptyWord, AnyWord}
@@ -16,13 +12,7 @@ use Rattle.xs_order.specs.Wanted.{IsWanted, AreWith, is_any}
 use Rattle.xs_order.proofs.Deriving.{AreGood}
 use Rattle.xs_class.proofs.Lists.{some_length}
 
--- an automaton of a regex accepts a wanted word exactly where the regex matches one
-pub matches_wanted : {regex : Regex} {a : Position} (wanted : Wanted) (answer : Bool) → IsAutomaton regex a → (IsTrue answer ↔ ((w : List ℕ) × Accepts a w × IsWanted wanted w)) → IsTrue answer ↔ ((w : List ℕ) × Matches regex w × IsWanted wanted w)
-matches_wanted wanted answer automaton known = (
-  λ s. let h = known.0 s in (h.0, (automaton.accepts h.0).1 h.1, h.2),
-  λ h. known.1 (h.0, (automaton.accepts h.0).0 h.1, h.2),
-)
-
+-- a fixed word is good exactly where it is wanted
 fixed_is_good : (wanted : Wanted) (f : List ℕ) (fixed : Bool) → 0 < length f → fixed ≡ is_any wanted → IsTrue fixed ↔ IsWanted wanted f
 fixed_is_good EmptyWord f fixed some is = (λ e. absurd (both_ways fixed is e), λ e. absurd (some_length f some e))
 fixed_is_good AnyWord f fixed some is = (λ e. tt, λ e. is)

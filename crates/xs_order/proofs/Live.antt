@@ -8,15 +8,10 @@ use Rattle.xs_regex.specs.Automaton.{Accepts, IsWellFormed}
 use Rattle.xs_clauses.specs.Made.{AreFlags}
 use Rattle.xs_gram.specs.Grammar.{Grammar}
 use Rattle.xs_gram.specs.Derivations.{Parts, done, fixed, leaf, skip, sub}
-use Rattle.xs_gram.specs.Sound.{IsBuilt}
-use Rattle.xs_order.specs.declared.leaves.Leaves.{Leaves}
 use Rattle.xs_order.specs.Order.{AreProductive}
-use Rattle.xs_order.specs.Rules.{AreMadeFlags}
 use Rattle.xs_order.specs.Runs.{IsReached}
 use Rattle.xs_order.specs.declared.wanted.Wanted.TheVariants.{AnyWord}
-use Rattle.xs_order.specs.Wanted.{IsWanted, AreWith}
-use Rattle.xs_order.proofs.Deriving.{AllLeaves, flags_are_exact}
-use Rattle.xs_order.proofs.Good.{are_good}
+use Rattle.xs_order.specs.Wanted.{IsWanted, AllLeaves, IsDerived}
 
 -- an automaton that is not nullable has a word exactly where a last position is reached
 pub word_by_last : (a : Position) (flags : List Bool) (answer : Bool) → IsWellFormed a → a.nullable ≡ false → AreFlags (IsReached a) (length a.classes) flags → (IsTrue answer ↔ ((k : ℕ) × Contains a.last k × IsTrue (get_or flags k false))) → IsTrue answer ↔ ((w : List ℕ) × Accepts a w)
@@ -43,10 +38,9 @@ leaves_any (leaf u ps) = (tt, leaves_any ps)
 leaves_any (skip u ps) = (tt, leaves_any ps)
 leaves_any (sub q qs ps) = (leaves_any qs, leaves_any ps)
 
-pub are_productive : (g : Grammar) (l : Leaves) (flags : List Bool) → IsBuilt g → AreWith g AnyWord l → AreMadeFlags g l flags → AreProductive g flags
-are_productive g l flags built leaves made = record {
-  counted = made.made.counted;
-  exact = λ n lt.
-      let exact = flags_are_exact g (IsWanted AnyWord) l flags (are_good g AnyWord l built leaves) made n lt in
-      (λ s. let d = exact.0 s in (d.0, d.1), λ d. exact.1 (d.0, d.1, leaves_any d.0.parts));
+-- so such derivations are all there are
+pub are_productive : (g : Grammar) (flags : List Bool) → AreFlags (IsDerived g (IsWanted AnyWord)) g.nons flags → AreProductive g flags
+are_productive g flags made = record {
+  counted = made.counted;
+  exact = λ n lt. let exact = made.exact n lt in (λ s. let d = exact.0 s in (d.0, d.1), λ d. exact.1 (d.0, d.1, leaves_any d.0.parts));
 }

@@ -1,6 +1,8 @@
 ghost use Rattle.std.specs.Prelude.{IfOk};
+ghost use Rattle.xs_clauses.specs.{AreFlags};
 ghost use Rattle.xs_gram.specs.{IsBuilt};
 ghost use Rattle.xs_order.specs.Order.{AreNullable, AreProductive};
+ghost use Rattle.xs_order.specs.Wanted.{IsDerived, IsWanted};
 
 use crate::rules::made_nons;
 use crate::wanted::{Wanted, leaves_with};
@@ -16,8 +18,7 @@ pub fn nullable(alloc: Global, g: &Gram) -> Result<Flags, Memory>
     requires { IsBuilt g.now }
     ensures { IfOk result (AreNullable g.now) }
 {
-    let leaves = leaves_with(alloc, g, Wanted::EmptyWord)?;
-    let flags = made_nons(alloc, g, &leaves)?;
+    let flags = derived_with(alloc, g, Wanted::EmptyWord)?;
     Ok(flags)
 }
 
@@ -28,7 +29,16 @@ pub fn productive(alloc: Global, g: &Gram) -> Result<Flags, Memory>
     requires { IsBuilt g.now }
     ensures { IfOk result (AreProductive g.now) }
 {
-    let leaves = leaves_with(alloc, g, Wanted::AnyWord)?;
+    let flags = derived_with(alloc, g, Wanted::AnyWord)?;
+    Ok(flags)
+}
+
+/// Which nonterminals have derivations whose leaves have wanted words alone.
+fn derived_with(alloc: Global, g: &Gram, wanted: Wanted) -> Result<Flags, Memory>
+    requires { IsBuilt g.now }
+    ensures { IfOk result (AreFlags (IsDerived g.now (IsWanted wanted)) g.now.nons) }
+{
+    let leaves = leaves_with(alloc, g, wanted)?;
     let flags = made_nons(alloc, g, &leaves)?;
     Ok(flags)
 }

@@ -2,7 +2,7 @@ ghost use Rattle.std.specs.Prelude.{◌≡◌, ℕ, ◌<◌, ◌↔◌, ◌^◌,
 ghost use Rattle.xs_clauses.specs.{AreFlags};
 ghost use Rattle.xs_gram.specs.{IsBuilt};
 ghost use Rattle.xs_regex.specs.{Accepts, IsWellFormed};
-ghost use Rattle.xs_order.specs.Wanted.{IsWanted, HasTermWord, HasSkipWord, AreWith, is_any};
+ghost use Rattle.xs_order.specs.Wanted.{IsWanted, HasWanted, AreWith, count_of, is_any};
 
 use crate::leaves::Leaves;
 use crate::words::has_word;
@@ -30,13 +30,20 @@ impl Wanted {
     }
 }
 
+/// The kinds of leaves that have automata.
+#[derive(Clone, Copy)]
+enum Kind {
+    Terminals,
+    Ignorables,
+}
+
 /// The leaves that have a wanted word, in time linear in the steps of the automata.
 pub fn leaves_with(alloc: Global, g: &Gram, wanted: Wanted) -> Result<Leaves, Memory>
     requires { IsBuilt g.now }
     ensures { IfOk result (AreWith g.now wanted) }
 {
-    let terms = terms_with(alloc, g, wanted)?;
-    let skips = skips_with(alloc, g, wanted)?;
+    let terms = flags_of(alloc, g, Kind::Terminals, wanted)?;
+    let skips = flags_of(alloc, g, Kind::Ignorables, wanted)?;
     Ok(Leaves {
         fixed: wanted.is_any(),
         terms,
@@ -44,30 +51,47 @@ pub fn leaves_with(alloc: Global, g: &Gram, wanted: Wanted) -> Result<Leaves, Me
     })
 }
 
-/// For each terminal whether it has a wanted word.
-fn terms_with(alloc: Global, g: &Gram, wanted: Wanted) -> Result<Vec<bool>, Memory>
+/// For each leaf of the kind whether it has a wanted word.
+fn flags_of(alloc: Global, g: &Gram, kind: Kind, wanted: Wanted) -> Result<Vec<bool>, Memory>
     requires { IsBuilt g.now }
-    ensures { IfOk result (λ flags. AreFlags (HasTermWord g.now wanted) (length g.now.terms) flags.items) }
+    ensures { IfOk result (λ flags. AreFlags (HasWanted g.now kind wanted) (count_of g.now kind) flags.items) }
 {
-    let mut flags = Vec::with_capacity(alloc, g.terms() as usize)?;
-    'terms: for term in 0..g.terms() {
-        let has = accepts(alloc, g.term(term), wanted)?;
+    let count = count_of(g, kind);
+    let mut flags = Vec::with_capacity(alloc, count as usize)?;
+    'leaves: for leaf in 0..count {
+        let has = has_wanted(alloc, g, kind, leaf, wanted)?;
         flags.push(has)?;
     }
     Ok(flags)
 }
 
-/// For each ignorable whether it has a wanted word.
-fn skips_with(alloc: Global, g: &Gram, wanted: Wanted) -> Result<Vec<bool>, Memory>
-    requires { IsBuilt g.now }
-    ensures { IfOk result (λ flags. AreFlags (HasSkipWord g.now wanted) (length g.now.skips) flags.items) }
+/// How many leaves of the kind there are.
+fn count_of(g: &Gram, kind: Kind) -> u32
+    ensures { result ≡ count_of g.now kind }
 {
-    let mut flags = Vec::with_capacity(alloc, g.skips() as usize)?;
-    'skips: for skip in 0..g.skips() {
-        let has = accepts(alloc, g.skip(skip), wanted)?;
-        flags.push(has)?;
+    match kind {
+        Kind::Terminals => g.terms(),
+        Kind::Ignorables => g.skips(),
     }
-    Ok(flags)
+}
+
+/// Whether the leaf of this kind and number has a wanted word.
+fn has_wanted(
+    alloc: Global,
+    g: &Gram,
+    kind: Kind,
+    leaf: u32,
+    wanted: Wanted,
+) -> Result<bool, Memory>
+    requires built { IsBuilt g.now }
+    requires leaf { leaf < count_of g.now kind }
+    ensures { IfOk result (λ b. IsTrue b ↔ HasWanted g.now kind wanted leaf) }
+{
+    let has = match kind {
+        Kind::Terminals => accepts(alloc, g.term(leaf), wanted)?,
+        Kind::Ignorables => accepts(alloc, g.skip(leaf), wanted)?,
+    };
+    Ok(has)
 }
 
 /// Whether an automaton accepts a wanted word.
