@@ -9,18 +9,18 @@ use Rattle.std.specs.declared.option.Option.{Option}
 use Rattle.xs_regex.specs.declared.position.Position.{Position}
 use Rattle.xs_regex.specs.Automaton.{Accepts, IsWellFormed}
 use Rattle.xs_regex.specs.Matches.{joined, Each, AtMost, Repeats}
-use Rattle.xs_regex.specs.Parts.{bare, optional, IsThen, IsRound, IsAutomaton, IsSure}
+use Rattle.xs_regex.specs.Parts.{bare, optional, CanJoin, IsThen, IsRound, IsAutomaton, IsSure}
 use Rattle.xs_regex.specs.Size.{times, copies, IsInOrder}
 use Rattle.xs_regex.proofs.Repetition.{each_weaker}
 use Rattle.xs_regex.proofs.Words.{all_empty, empty_words, length-times, times-nil}
 use Rattle.xs_regex.proofs.Built.{restated, itself, of_bare, round_is, optional_is, any_number, number_any, copy_is, free_copy_is, no_run}
 
 -- there is room for one copy more
-pub room : (one all : Position) (Word : List ℕ → Type 0) (Sure : Type 0) (n most : ℕ) → n < most → most * length one.classes ≤ 512 → IsAutomaton Word (times n one.classes) Sure all → length one.classes + length all.classes ≤ 512
-room one all Word Sure n most l small a =
+pub room : (one all : Position) (Word : List ℕ → Type 0) (Sure : Type 0) (n most : ℕ) → IsWellFormed one → n < most → most * length one.classes ≤ 512 → IsAutomaton Word (times n one.classes) Sure all → CanJoin one all
+room one all Word Sure n most formed l small a =
     let e : length all.classes ≡ n * length one.classes = ap (λ (x : List (List (ℕ × ℕ))). length x) a.classes_are ∙ length-times n one.classes in
     let h : suc n ≤ most = omega arith in
-    omega (arith, mul-le-mul_left (length one.classes) h)
+    record { front = formed; rest = a.formed; small = omega (arith, mul-le-mul_left (length one.classes) h) }
 
 pub at_least_init : (one last r : Position) (least : ℕ) → IsWellFormed one → IsRound one last → r ≡ (if nat_eq least 0 then optional last else last) → IsAutomaton (Repeats (Accepts one) (min 1 least) None) (one.classes ++ []) (IsSure one least None) r
 at_least_init one last r least f t is = elim (eqb_tells least 0) [

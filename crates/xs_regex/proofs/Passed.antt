@@ -8,11 +8,11 @@ use Rattle.xs_regex.specs.declared.regex.Regex.{Regex}
 use Rattle.xs_regex.specs.declared.regex.Regex.TheVariants.{Empty, Set, Then', Or', Star', Times'}
 use Rattle.xs_regex.specs.Automaton.{Accepts, IsWellFormed, ClassesHaveMembers}
 use Rattle.xs_regex.specs.Matches.{InTurn, OfEither, Joined, Matches}
-use Rattle.xs_regex.specs.Parts.{IsThen, IsEither, IsTrim, IsAutomaton, AreJoined, AreParts}
+use Rattle.xs_regex.specs.Parts.{CanJoin, IsThen, IsEither, IsTrim, IsAutomaton, AreJoined, AreParts}
 use Rattle.xs_regex.specs.Size.{sets, size, IsBounded}
 use Rattle.xs_regex.specs.Links.{Shape, turn, choice, joined_shape, shape, HasLinks}
 use Rattle.xs_regex.proofs.Built.{restated, itself, then_is, either_is}
-use Rattle.xs_regex.proofs.Places.{length-sets}
+use Rattle.xs_regex.proofs.Places.{length-sets, size_is}
 use Rattle.xs_regex.proofs.Shapes.{turn_again, choice_again}
 
 -- how many nodes the regex has, which bounds the calls
@@ -43,12 +43,12 @@ IsPassedOf join a b all rest = (nodes rest ≤ nodes b) × IsPassed (Joined join
 -- what is known of a regex by the two parts that are joined in it
 pub record IsMadeOf (join : Join) (r x y : Regex) : Type 0 where
   pub nodes_are : nodes r ≡ 1 + nodes x + nodes y
-  pub size_is : size r ≡ size x + size y
+  pub size_adds : size r ≡ size x + size y
   pub passed : (a b : Regex) (all : Position) → IsPassedOf join a b all r → IsPassed (Joined join) (Joined join (Matches a) (Matches b)) (sets a ++ sets b) (IsBounded a × IsBounded b) all (Joined join (Matches x) (Matches y)) (sets x ++ sets y) (IsBounded x × IsBounded y) × ArePassed (joined_shape join) (joined_shape join (shape a) (shape b)) all (joined_shape join (shape x) (shape y))
 
 pub made_of : (join : Join) (r x y : Regex) → AreParts join r x y → IsMadeOf join r x y
-made_of Turn (Then' p v q w) x y e = rw (e.0, e.1) (record { nodes_are = refl; size_is = refl; passed = λ a b all h. (h.1, h.2) })
-made_of Choice (Or' p v q w) x y e = rw (e.0, e.1) (record { nodes_are = refl; size_is = refl; passed = λ a b all h. (h.1, h.2) })
+made_of Turn (Then' p v q w) x y e = rw (e.0, e.1) (record { nodes_are = refl; size_adds = refl; passed = λ a b all h. (h.1, h.2) })
+made_of Choice (Or' p v q w) x y e = rw (e.0, e.1) (record { nodes_are = refl; size_adds = refl; passed = λ a b all h. (h.1, h.2) })
 made_of Turn Empty x y e = absurd e
 made_of Turn (Set _) x y e = absurd e
 made_of Turn (Or' p v q w) x y e = absurd e
@@ -132,6 +132,10 @@ choice_places whole s t all next h f = (choice h.0 s, f h.0 h.1, λ q k. h.2 q (
 
 pub places_ended : (join : Shape → Shape → Shape) (whole t : Shape) (all r : Position) → ArePassed join whole all t → ((u : Shape) → HasLinks u all → HasLinks (join u t) r) → HasLinks whole r
 places_ended join whole t all r h f = h.2 r (f h.0 h.1)
+
+-- the automaton of a part joins those before it
+pub part_joins : (part : Regex) (all next : Position) → IsWellFormed all → length all.classes + size part ≤ 512 → IsAutomaton (Matches part) (sets part) (IsBounded part) next → CanJoin all next
+part_joins part all next formed small x = record { front = formed; rest = x.formed; small = omega (arith, small, size_is part _ _ next x) }
 
 -- two regexes that are joined: at the start, after one part more and at the end
 pub joined_begun : (join : Join) (a b : Regex) (p : Position) → IsAutomaton (Matches a) (sets a) (IsBounded a) p → HasLinks (shape a) p → IsPassedOf join a b p b

@@ -1,5 +1,5 @@
 -- How automata are put together.
-use Rattle.std.specs.Prelude.{◌≡◌, ◌⊎◌, ◌&&◌, ◌||◌, ℕ, ◌+◌, ◌<◌, Bool, true, false, List, [], ◌∷◌, ◌++◌, length, map, slice_get, Contains, IsSomeAnd, IsTrue, if◌then◌else◌}
+use Rattle.std.specs.Prelude.{◌≡◌, ◌⊎◌, ◌&&◌, ◌||◌, ℕ, ◌+◌, ◌<◌, ◌≤◌, Bool, true, false, List, [], ◌∷◌, ◌++◌, length, map, slice_get, Contains, IsSomeAnd, IsTrue, if◌then◌else◌}
 use Rattle.std.specs.declared.option.Option.{Option}
 use Rattle.xs_regex.specs.declared.forms.Join.{Join}
 use Rattle.xs_regex.specs.declared.forms.Join.TheVariants.{Turn, Choice}
@@ -41,6 +41,12 @@ pub record IsEither (p q r : Position) : Type 0 where
   pub last : r.last ≡ p.last ++ shift (length p.classes) q.last
   pub nullable : r.nullable ≡ p.nullable || q.nullable
   pub follow : r.follow ≡ p.follow ++ map (shift (length p.classes)) q.follow
+
+-- both automata are well formed, and together they have at most 512 positions
+pub record CanJoin (p q : Position) : Type 0 where
+  pub front : IsWellFormed p
+  pub rest : IsWellFormed q
+  pub small : length p.classes + length q.classes ≤ 512
 
 -- r is p and q, joined so
 abbrev pub AreJoined : Join → Position → Position → Position → Type 0

@@ -1,6 +1,6 @@
-ghost use Rattle.std.specs.Prelude.{◌≡◌, ◌+◌, ◌≤◌, false, length, IfOk};
+ghost use Rattle.std.specs.Prelude.{◌≡◌, false, IfOk};
 ghost use Rattle.xs_regex.specs.Automaton.{IsWellFormed};
-ghost use Rattle.xs_regex.specs.Parts.{bare, of_class, optional, IsThen, IsEither, IsRound};
+ghost use Rattle.xs_regex.specs.Parts.{bare, of_class, optional, CanJoin, IsThen, IsEither, IsRound};
 
 use crate::lists::{append, extended, link, link_after, push_rows, push_shifted};
 use crate::{Follows, Numbers, Position};
@@ -44,9 +44,7 @@ fn add_class(alloc: Global, p: &mut Position, class: &Class) -> Result<(), Memor
 
 /// Puts another automaton, which is used up, after one.
 pub fn sequence(alloc: Global, p: &mut Position, q: &mut Position) -> Result<(), Memory>
-    requires front { IsWellFormed p.old }
-    requires rest { IsWellFormed q.old }
-    requires small { length p.old.classes + length q.old.classes ≤ 512 }
+    requires { CanJoin p.old q.old }
     ensures { IfOk result (λ _. IsThen p.old q.old p.new) }
 {
     let by = p.classes.len() as u32;
@@ -71,9 +69,7 @@ pub fn sequence(alloc: Global, p: &mut Position, q: &mut Position) -> Result<(),
 
 /// Puts another automaton, which is used up, beside one.
 pub fn either(alloc: Global, p: &mut Position, q: &mut Position) -> Result<(), Memory>
-    requires front { IsWellFormed p.old }
-    requires rest { IsWellFormed q.old }
-    requires small { length p.old.classes + length q.old.classes ≤ 512 }
+    requires { CanJoin p.old q.old }
     ensures { IfOk result (λ _. IsEither p.old q.old p.new) }
 {
     let by = p.classes.len() as u32;

@@ -1,4 +1,4 @@
-ghost use Rattle.std.specs.Prelude.{◌≡◌, ◌↔◌, ℕ, length, IfOk};
+ghost use Rattle.std.specs.Prelude.{◌≡◌, ◌↔◌, ℕ, length, IfOk, if◌then◌else◌};
 ghost use Rattle.xs_class.specs.{Has, HaveSame, IsClass, set_named, HasMembersOf, IsChar, char_table};
 ghost use Rattle.xs_regex.specs.Characters.{known, known_item, items_at, sorted, bracket_at, one_at, one_set, set_at};
 ghost use Rattle.xs_regex.specs.Characters as spec;
@@ -125,29 +125,18 @@ fn apart(alloc: Global, ranges: &[(u32, u32)]) -> Result<Class, Memory>
     Ok(class)
 }
 
-/// The characters of the items up to a closing bracket, and what is left after it.
-fn some_of(alloc: Global, cs: &[char]) -> Result<(Class, &[char]), RegexFault>
-    ensures { IsReported (sorted spec.some_of (items_at (length cs.now) cs.now)) (λ a x. (a.1 ≡ x.1.now) × IsClassOf a.0 x.0) result }
+/// The characters of the items up to a closing bracket, or those of none of them, and what is left
+/// after it.
+fn of_items(alloc: Global, none: bool, cs: &[char]) -> Result<(Class, &[char]), RegexFault>
+    ensures { IsReported (sorted (if none then spec.none_of else spec.some_of) (items_at (length cs.now) cs.now)) (λ a x. (a.1 ≡ x.1.now) × IsClassOf a.0 x.0) result }
 {
     let mut ranges = Vec::new(alloc);
     match items(alloc, cs.len(), cs, &mut ranges) {
         Ok(left) => {
-            let class = among(alloc, &ranges)?;
-            Ok((class, left))
-        }
-        Err(fault) => Err(fault),
-    }
-}
-
-/// The characters of none of the items up to a closing bracket, and what is left after it.
-fn none_of(alloc: Global, cs: &[char]) -> Result<(Class, &[char]), RegexFault>
-    ensures { IsReported (sorted spec.none_of (items_at (length cs.now) cs.now)) (λ a x. (a.1 ≡ x.1.now) × IsClassOf a.0 x.0) result }
-{
-    let mut ranges = Vec::new(alloc);
-    match items(alloc, cs.len(), cs, &mut ranges) {
-        Ok(left) => {
-            let class = apart(alloc, &ranges)?;
-            Ok((class, left))
+            if none {
+                return Ok((apart(alloc, &ranges)?, left));
+            }
+            Ok((among(alloc, &ranges)?, left))
         }
         Err(fault) => Err(fault),
     }
@@ -195,8 +184,8 @@ fn bracket(alloc: Global, cs: &[char]) -> Result<(Class, &[char]), RegexFault>
         return Err(RegexFault::BadRegex);
     };
     if c == '^' {
-        none_of(alloc, rest)
+        of_items(alloc, true, rest)
     } else {
-        some_of(alloc, cs)
+        of_items(alloc, false, cs)
     }
 }

@@ -4,8 +4,8 @@ use Rattle.xs_regex.specs.Size.{copies}
 use Rattle.xs_regex.proofs.Built.{class_is, star_is}
 use Rattle.xs_regex.proofs.Copies.{times_is}
 use Rattle.xs_regex.proofs.Links.{class_links, then_links, either_links, round_links, optional_links}
-use Rattle.xs_regex.proofs.Passed.{made_of, passed_size, joined_begun, joined_next, joined_ended, places_ended}
-use Rattle.xs_regex.proofs.Places.{ok_weaker, copies_small, size_is}
+use Rattle.xs_regex.proofs.Passed.{part_joins, made_of, passed_size, joined_begun, joined_next, joined_ended, places_ended}
+use Rattle.xs_regex.proofs.Places.{ok_weaker, copies_small}
 use Rattle.xs_regex.proofs.Shapes.{no_copy}
 use Rattle.xs_regex.proofs.automaton.+built.Goals as goal
 
@@ -53,11 +53,11 @@ counted-returns-clause-automaton t c = ok_weaker c.repeated.result _ _ (λ r e. 
 pub counted-returns-clause-links : goal.counted-returns-clause-links
 counted-returns-clause-links t c = ok_weaker c.repeated.result _ _ (λ r e. e (shape c.args.a.now) c.in_ok-p.ensures.links) c.repeated.ensures.links
 
-pub add-sequence-requires-clause-small : goal.add-sequence-requires-clause-small
-add-sequence-requires-clause-small t c = omega (arith, c.requires.small, size_is c.args.part.now _ _ c.in_ok-next.next c.in_ok-next.ensures.automaton)
+pub add-sequence-requires : goal.add-sequence-requires
+add-sequence-requires t c = part_joins c.args.part.now c.args.all.now c.in_ok-next.next c.requires.formed c.requires.small c.in_ok-next.ensures.automaton
 
-pub add-either-requires-clause-small : goal.add-either-requires-clause-small
-add-either-requires-clause-small t c = omega (arith, c.requires.small, size_is c.args.part.now _ _ c.in_ok-next.next c.in_ok-next.ensures.automaton)
+pub add-either-requires : goal.add-either-requires
+add-either-requires t c = part_joins c.args.part.now c.args.all.now c.in_ok-next.next c.requires.formed c.requires.small c.in_ok-next.ensures.automaton
 
 pub add-returns-in-Turn-clause-part : goal.add-returns-in-Turn-clause-part
 add-returns-in-Turn-clause-part t c = rw c.in-Turn.is (ok_weaker c.sequence.result _ _ (λ _ e. (c.in_ok-next.next, c.in_ok-next.ensures.automaton, e)) c.sequence.ensures)
@@ -79,7 +79,7 @@ joined-add-requires t c =
     let is = made_of c.args.join c.parts.rest.now c.in-Some.part.now c.in-Some.next.now c.in-Some.ensures in
     let m = passed_size c.args.a.now c.args.b.now c.parts.rest.now c.parts.all c.parts.invariant.1.classes_are in (
       omega (arith, c.decreases, is.nodes_are, c.parts.invariant.0),
-      (c.parts.invariant.1.formed, omega (arith, is.size_is, m, c.requires)),
+      (c.parts.invariant.1.formed, omega (arith, is.size_adds, m, c.requires)),
     )
 
 pub joined-parts-preserved : goal.joined-parts-preserved

@@ -10,10 +10,10 @@ copies-init c = (
   λ s h. least_begun c.args.least c.requires.formed (rw c.in_ok-last.ensures at c.in_ok-round.ensures) c.maybe_if-all.ensures h,
 )
 
-pub sequence-requires-clause-small : goal.sequence-requires-clause-small
-sequence-requires-clause-small c =
+pub sequence-requires : goal.sequence-requires
+sequence-requires c =
     let few : c.copies.later < max c.args.least 1 = omega arith in
-    rw c.in_ok-more.ensures (room c.args.one.now c.copies.all _ _ c.copies.later (max c.args.least 1) few c.requires.small c.copies.invariant.1)
+    rw c.in_ok-more.ensures (room c.args.one.now c.copies.all _ _ c.copies.later (max c.args.least 1) c.requires.formed few c.requires.small c.copies.invariant.1)
 
 pub copies-preserved : goal.copies-preserved
 copies-preserved c = (

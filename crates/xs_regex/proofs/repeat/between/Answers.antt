@@ -9,8 +9,8 @@ copies-init c = (
   λ s h. between_begun s c.args.least c.args.most c.nothing-all.ensures,
 )
 
-pub sequence-requires-clause-small : goal.sequence-requires-clause-small
-sequence-requires-clause-small c = rw c.in_ok-more.ensures (room c.args.one.now c.copies.all _ _ c.copies.later c.args.most (omega arith) c.requires.small c.copies.invariant.0)
+pub sequence-requires : goal.sequence-requires
+sequence-requires c = rw c.in_ok-more.ensures (room c.args.one.now c.copies.all _ _ c.copies.later c.args.most c.requires.formed (omega arith) c.requires.small c.copies.invariant.0)
 
 pub copies-preserved : goal.copies-preserved
 copies-preserved c = (
