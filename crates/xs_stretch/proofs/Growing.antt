@@ -1,12 +1,12 @@
 -- How nets grow, arc by arc.
-use Rattle.std.proofs.Common.{◌≡◌, ◌⊎◌, ℕ, List, [], ◌∷◌, ◌++◌, refl, sym, subst, ◌∙◌, inl, inr, arith}
+use Rattle.std.proofs.Common.{◌≡◌, ◌≢◌, ◌⊎◌, ℕ, List, [], ◌∷◌, ◌++◌, refl, sym, ap, subst, ◌∙◌, inl, inr, arith}
 use Rattle.std.specs.List.{Contains}
 use Rattle.std.proofs.lemmas.Bool.{cases_eq}
 use Rattle.std.proofs.lemmas.List.Elements.{Contains-append_left, Contains-append_right, Contains-append_cases, Contains-push, Contains-push_cases}
 use Rattle.xs_class.specs.Classes.{Has, HaveSame, IsClass}
 use Rattle.xs_auto.specs.declared.call.Call.{Call}
 use Rattle.xs_auto.specs.Edges.{Edge}
-use Rattle.xs_auto.specs.Nets.{Graph, edges_of, moves_of, calls_of, AddsEdge, AddsMove, AddsCall}
+use Rattle.xs_auto.specs.Nets.{Graph, edges_of, moves_of, calls_of, KeepsStates, AddsEdge, AddsMove, AddsCall}
 use Rattle.xs_stretch.specs.Arcs.{Label, reads, passes, calls, Arc, read, pass, call}
 use Rattle.xs_stretch.specs.Growth.{HasLabel, HasArc, GrowsBy, NetGrows}
 
@@ -38,105 +38,75 @@ grows_then {xs} {ys} first second = record {
 only_one : (x y : Arc) → Contains (y ∷ []) x → y ≡ x
 only_one x y h = elim (Contains-push_cases [] y x h) [ inl none ↦ absurd (omega (arith, none.1)) | inr e ↦ e ]
 
-one_there : (y : Arc) → Contains (y ∷ []) y
-one_there y = Contains-push [] y
+-- of the lists of all states that of one has one element more
+module _ {X : Type 0} (old new : ℕ → List X) (s : ℕ) (x : X) (more : new s ≡ old s ++ x ∷ []) (others : (a : ℕ) → a ≢ s → new a ≡ old a) where
+  row_kept : (a : ℕ) (y : X) → Contains (old a) y → Contains (new a) y
+  row_kept a y h = elim (cases_eq a s) [
+    | inl e ↦ rw (e, more) (Contains-append_left (old s) (x ∷ []) y (rw e at h))
+    | inr ne ↦ rw (others a ne) h
+  ]
 
--- an arc that is the only one of a list is there where that one is
-from_one : (n : Graph) (x y : Arc) → Contains (y ∷ []) x → HasArc n y → HasArc n x
-from_one n x y h at = subst (λ (z : Arc). HasArc n z) (only_one x y h) at
+  row_only : (a : ℕ) (y : X) → Contains (new a) y → Contains (old a) y ⊎ ((s ≡ a) × (x ≡ y))
+  row_only a y h = elim (cases_eq a s) [
+    | inl e ↦ elim (Contains-push_cases (old s) x y (rw (e, more) at h)) [ inl before ↦ inl (rw e before) | inr last ↦ inr (sym e, last) ]
+    | inr ne ↦ inl (rw (others a ne) at h)
+  ]
+
+-- one more arc of a net that keeps its states
+arc_grows : (old new : Graph) (y : Arc) → KeepsStates old new → ((a : ℕ) (l : Label) (b : ℕ) → HasLabel old a l b → HasLabel new a l b) → HasArc new y → ((a : ℕ) (l : Label) (b : ℕ) → HasLabel new a l b → HasLabel old a l b ⊎ (y ≡ record { from = a; label = l; to = b })) → NetGrows (y ∷ []) old new
+arc_grows old new y keeps kept there only = record {
+  states = keeps.states;
+  start = keeps.start;
+  finals = keeps.finals;
+  kept = λ x h. kept x.from x.label x.to h;
+  there = λ x h. subst (λ (z : Arc). HasArc new z) (only_one x y h) there;
+  only = λ x h. elim (only x.from x.label x.to h) [ inl before ↦ inl before | inr same ↦ inr (subst (λ (z : Arc). Contains (y ∷ []) z) same (Contains-push [] y)) ];
+}
 
 -- one more empty move
 module _ (old new : Graph) (s t : ℕ) (adds : AddsMove old new s t) where
   move_kept : (a : ℕ) (l : Label) (b : ℕ) → HasLabel old a l b → HasLabel new a l b
   move_kept a (reads class) b h = rw (adds.edges a) h
-  move_kept a passes b h = elim (cases_eq a s) [
-    | inl e ↦ rw (e, adds.moves) (Contains-append_left (moves_of old s) (t ∷ []) b (rw e at h))
-    | inr ne ↦ rw (adds.others a ne) h
-  ]
+  move_kept a passes b h = row_kept (moves_of old) (moves_of new) s t adds.moves adds.others a b h
   move_kept a (calls group) b h = rw (adds.calls a) h
 
-  move_only : (a : ℕ) (l : Label) (b : ℕ) → HasLabel new a l b → HasLabel old a l b ⊎ Contains (pass s t ∷ []) (record { from = a; label = l; to = b })
+  move_only : (a : ℕ) (l : Label) (b : ℕ) → HasLabel new a l b → HasLabel old a l b ⊎ (pass s t ≡ record { from = a; label = l; to = b })
   move_only a (reads class) b h = inl (rw (adds.edges a) at h)
-  move_only a passes b h = elim (cases_eq a s) [
-    | inl e ↦ elim (Contains-push_cases (moves_of old s) t b (rw (e, adds.moves) at h)) [
-      | inl before ↦ inl (rw e before)
-      | inr last ↦ inr (rw (e, sym last) (one_there (pass s t)))
-    ]
-    | inr ne ↦ inl (rw (adds.others a ne) at h)
-  ]
+  move_only a passes b h = elim (row_only (moves_of old) (moves_of new) s t adds.moves adds.others a b h) [ inl before ↦ inl before | inr same ↦ inr (rw (same.0, same.1) refl) ]
   move_only a (calls group) b h = inl (rw (adds.calls a) at h)
 
   pub move_grows : NetGrows (pass s t ∷ []) old new
-  move_grows = record {
-    states = adds.keeps.states;
-    start = adds.keeps.start;
-    finals = adds.keeps.finals;
-    kept = λ x h. move_kept x.from x.label x.to h;
-    there = λ x h. from_one new x (pass s t) h (rw adds.moves (Contains-push (moves_of old s) t));
-    only = λ x h. move_only x.from x.label x.to h;
-  }
+  move_grows = arc_grows old new (pass s t) adds.keeps move_kept (rw adds.moves (Contains-push (moves_of old s) t)) move_only
 
 -- one more edge
 module _ (old new : Graph) (s : ℕ) (edge : Edge) (adds : AddsEdge old new s edge) where
   edge_kept : (a : ℕ) (l : Label) (b : ℕ) → HasLabel old a l b → HasLabel new a l b
-  edge_kept a (reads class) b h = elim (cases_eq a s) [
-    | inl e ↦ rw (e, adds.edges) (Contains-append_left (edges_of old s) (edge ∷ []) (record { class = class; to = b }) (rw e at h))
-    | inr ne ↦ rw (adds.others a ne) h
-  ]
+  edge_kept a (reads class) b h = row_kept (edges_of old) (edges_of new) s edge adds.edges adds.others a (record { class = class; to = b }) h
   edge_kept a passes b h = rw (adds.moves a) h
   edge_kept a (calls group) b h = rw (adds.calls a) h
 
-  edge_only : (a : ℕ) (l : Label) (b : ℕ) → HasLabel new a l b → HasLabel old a l b ⊎ Contains (read s edge.class edge.to ∷ []) (record { from = a; label = l; to = b })
-  edge_only a (reads class) b h = elim (cases_eq a s) [
-    | inl e ↦ elim (Contains-push_cases (edges_of old s) edge (record { class = class; to = b }) (rw (e, adds.edges) at h)) [
-      | inl before ↦ inl (rw e before)
-      | inr last ↦ inr (subst (λ (x : Edge). Contains (read s edge.class edge.to ∷ []) (read a x.class x.to)) last (rw e (one_there (read s edge.class edge.to))))
-    ]
-    | inr ne ↦ inl (rw (adds.others a ne) at h)
-  ]
+  edge_only : (a : ℕ) (l : Label) (b : ℕ) → HasLabel new a l b → HasLabel old a l b ⊎ (read s edge.class edge.to ≡ record { from = a; label = l; to = b })
+  edge_only a (reads class) b h = elim (row_only (edges_of old) (edges_of new) s edge adds.edges adds.others a (record { class = class; to = b }) h) [ inl before ↦ inl before | inr same ↦ inr (rw same.0 (ap (λ (x : Edge). read a x.class x.to) same.1)) ]
   edge_only a passes b h = inl (rw (adds.moves a) at h)
   edge_only a (calls group) b h = inl (rw (adds.calls a) at h)
 
   pub edge_grows : NetGrows (read s edge.class edge.to ∷ []) old new
-  edge_grows = record {
-    states = adds.keeps.states;
-    start = adds.keeps.start;
-    finals = adds.keeps.finals;
-    kept = λ x h. edge_kept x.from x.label x.to h;
-    there = λ x h. from_one new x (read s edge.class edge.to) h (rw adds.edges (Contains-push (edges_of old s) edge));
-    only = λ x h. edge_only x.from x.label x.to h;
-  }
+  edge_grows = arc_grows old new (read s edge.class edge.to) adds.keeps edge_kept (rw adds.edges (Contains-push (edges_of old s) edge)) edge_only
 
 -- one more call
 module _ (old new : Graph) (s : ℕ) (k : Call) (adds : AddsCall old new s k) where
   call_kept : (a : ℕ) (l : Label) (b : ℕ) → HasLabel old a l b → HasLabel new a l b
   call_kept a (reads class) b h = rw (adds.edges a) h
   call_kept a passes b h = rw (adds.moves a) h
-  call_kept a (calls group) b h = elim (cases_eq a s) [
-    | inl e ↦ rw (e, adds.calls) (Contains-append_left (calls_of old s) (k ∷ []) (record { group = group; to = b }) (rw e at h))
-    | inr ne ↦ rw (adds.others a ne) h
-  ]
+  call_kept a (calls group) b h = row_kept (calls_of old) (calls_of new) s k adds.calls adds.others a (record { group = group; to = b }) h
 
-  call_only : (a : ℕ) (l : Label) (b : ℕ) → HasLabel new a l b → HasLabel old a l b ⊎ Contains (call s k.group k.to ∷ []) (record { from = a; label = l; to = b })
+  call_only : (a : ℕ) (l : Label) (b : ℕ) → HasLabel new a l b → HasLabel old a l b ⊎ (call s k.group k.to ≡ record { from = a; label = l; to = b })
   call_only a (reads class) b h = inl (rw (adds.edges a) at h)
   call_only a passes b h = inl (rw (adds.moves a) at h)
-  call_only a (calls group) b h = elim (cases_eq a s) [
-    | inl e ↦ elim (Contains-push_cases (calls_of old s) k (record { group = group; to = b }) (rw (e, adds.calls) at h)) [
-      | inl before ↦ inl (rw e before)
-      | inr last ↦ inr (subst (λ (x : Call). Contains (call s k.group k.to ∷ []) (call a x.group x.to)) last (rw e (one_there (call s k.group k.to))))
-    ]
-    | inr ne ↦ inl (rw (adds.others a ne) at h)
-  ]
+  call_only a (calls group) b h = elim (row_only (calls_of old) (calls_of new) s k adds.calls adds.others a (record { group = group; to = b }) h) [ inl before ↦ inl before | inr same ↦ inr (rw same.0 (ap (λ (x : Call). call a x.group x.to) same.1)) ]
 
   pub call_grows : NetGrows (call s k.group k.to ∷ []) old new
-  call_grows = record {
-    states = adds.keeps.states;
-    start = adds.keeps.start;
-    finals = adds.keeps.finals;
-    kept = λ x h. call_kept x.from x.label x.to h;
-    there = λ x h. from_one new x (call s k.group k.to) h (rw adds.calls (Contains-push (calls_of old s) k));
-    only = λ x h. call_only x.from x.label x.to h;
-  }
+  call_grows = arc_grows old new (call s k.group k.to) adds.keeps call_kept (rw adds.calls (Contains-push (calls_of old s) k)) call_only
 
 -- a class of one symbol is one range
 pub one_symbol : (s : ℕ) (class : List (ℕ × ℕ)) → IsClass class → HaveSame class ((s, s) ∷ []) → class ≡ (s, s) ∷ []

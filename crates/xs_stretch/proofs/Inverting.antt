@@ -47,33 +47,27 @@ pub record GroupOff (g : Grammar) (home : Option Home) (p k : ℕ) (inside later
   pub split : all ≡ call s.before (group_number g p k) s.at ∷ pass s.at (suc s.at) ∷ rest
 
 module _ (g : Grammar) where
+  first_off : (home : Option Home) (p k : ℕ) (i j : GItem) (is js : List GItem) (s next : Spot) (all own rest : List Arc) (after end : ℕ) → j ∷ js ≡ i ∷ is → LaysItem g j s.before s.at own next.before next.at → Lays g home p (suc k) js next rest after end → all ≡ own ++ rest → ItemOff g home p k i is s all after end
+  first_off home p k i j is js s next all own rest after end e item later h = record {
+    own = own;
+    rest = rest;
+    next = next;
+    item = subst (λ (x : GItem). LaysItem g x s.before s.at own next.before next.at) (cons_parts e).0 item;
+    later = subst (λ (xs : List GItem). Lays g home p (suc k) xs next rest after end) (cons_parts e).1 later;
+    split = h;
+  }
+
   part_item : {p k : ℕ} {i : GItem} {is js : List GItem} {b at t n : ℕ} {xs : List Arc} → LaysPart g p k js b at xs t n → js ≡ i ∷ is → IsPlain g.fences i → ItemOff g None p k i is (record { before = b; at = at }) xs t n
   part_item part_none e plain = absurd cc
-  part_item {p} {k} {b = b} {at = at} {t = t} {n = n} (part_then {between = between} {then = then} {own = own} {rest = rest} q item later h) e plain =
-      let c = cons_parts e in
-      record {
-        own = own;
-        rest = rest;
-        next = record { before = between; at = then };
-        item = subst (λ (x : GItem). LaysItem g x b at own between then) c.0 item;
-        later = subst (λ (xs : List GItem). LaysPart g p (suc k) xs between then rest t n) c.1 later;
-        split = h;
-      }
+  part_item {p} {k} {i} {is} {b = b} {at = at} {t = t} {n = n} {xs = xs} (part_then {between = between} {then = then} {i = j} {is = js} {own = own} {rest = rest} q item later h) e plain =
+      first_off None p k i j is js (record { before = b; at = at }) (record { before = between; at = then }) xs own rest t n e item later h
   part_item (part_group f l later split h) e plain = absurd (plain_not_group f plain (sym e ∙ split))
 
   body_item : {c first p k : ℕ} {i : GItem} {is js : List GItem} {b at t n : ℕ} {xs : List Arc} → LaysBody g c first p k js b at xs t n → js ≡ i ∷ is → IsPlain g.fences i → (IsMember g c i → ⊥) → ItemOff g (Some (record { non = c; first = first })) p k i is (record { before = b; at = at }) xs t n
   body_item lays_no_body e plain out = absurd cc
   body_item {c} (lays_member one j later h) e plain out = absurd (out (subst (λ (x : GItem). IsMember g c x) (cons_parts e).0 one))
-  body_item {c} {first} {p} {k} {b = b} {at = at} {t = t} {n = n} (lays_other {between = between} {then = then} {own = own} {rest = rest} q x item later h) e plain out =
-      let parts = cons_parts e in
-      record {
-        own = own;
-        rest = rest;
-        next = record { before = between; at = then };
-        item = subst (λ (x : GItem). LaysItem g x b at own between then) parts.0 item;
-        later = subst (λ (xs : List GItem). LaysBody g c first p (suc k) xs between then rest t n) parts.1 later;
-        split = h;
-      }
+  body_item {c} {first} {p} {k} {i} {is} {b = b} {at = at} {t = t} {n = n} {xs = xs} (lays_other {between = between} {then = then} {i = j} {is = js} {own = own} {rest = rest} q x item later h) e plain out =
+      first_off (Some (record { non = c; first = first })) p k i j is js (record { before = b; at = at }) (record { before = between; at = then }) xs own rest t n e item later h
   body_item (lays_group f l later split h) e plain out = absurd (plain_not_group f plain (sym e ∙ split))
 
   pub item_off : (home : Option Home) (p k : ℕ) (i : GItem) (is : List GItem) (s : Spot) (all : List Arc) (after end : ℕ) → Lays g home p k (i ∷ is) s all after end → IsPlain g.fences i → (IsOwn g home i → ⊥) → ItemOff g home p k i is s all after end

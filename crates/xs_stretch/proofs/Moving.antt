@@ -121,8 +121,8 @@ module _ (g : Grammar) (built : IsBuilt g) (weights : List ℕ) where
       let lays : LaysItem g i s.before s.at (automaton_arcs a s.before s.at) t.before t.at = subst (λ (x : GItem). LaysItem g x s.before s.at (automaton_arcs a s.before s.at) t.before t.at) (sym e) (lays_skip {k = k} (ap (λ (x : Position). automaton_arcs x s.before s.at) same) after at) in
       laid_by ts lays there low (omega (arith, at, after, fits)) grows
 
-pub member_grows : (first entry j : ℕ) (s : Spot) (l m n : Graph) → entry ≡ entry_state first j → NetGrows (pass s.before entry ∷ []) l m → NetGrows (pass (entry + 1) s.at ∷ []) m n → NetGrows (pass s.before (entry_state first j) ∷ pass (exit_state first j) s.at ∷ []) l n
-member_grows first entry j s l m n e a b = grows_two (subst (λ (x : ℕ). NetGrows (pass s.before x ∷ []) l m) e a) b (pass_from (omega (arith, e)))
+pub member_grows : (first entry j : ℕ) (s : Spot) (l n : Graph) → entry ≡ entry_state first j → NetGrows (pass s.before entry ∷ pass (suc entry) s.at ∷ []) l n → NetGrows (pass s.before (entry_state first j) ∷ pass (exit_state first j) s.at ∷ []) l n
+member_grows first entry j s l n e grows = subst (λ (x : ℕ). NetGrows (pass s.before x ∷ pass (suc x) s.at ∷ []) l n) e grows
 
 module _ (g : Grammar) (built : IsBuilt g) (weights : List ℕ) where
   -- a member was laid, before others that are laid

@@ -18,7 +18,7 @@ use crate::Part;
 use crate::blocks::{lay_automaton, lay_word};
 use crate::growth::{call, pass};
 use crate::members::member_of;
-use crate::site::{Home, Next, Site, Spot, Task};
+use crate::site::{Home, Laid, Next, Site, Spot, Task, Walk};
 use crate::tables::after_place;
 use std::alloc::Global;
 use xs_auto::Draft;
@@ -26,76 +26,154 @@ use xs_class::{Memory, Sym};
 use xs_gram::GItem;
 use xs_regex::Position;
 
-/// Lays the outer items and groups of a part one after another, and gives the spot after them.
-pub fn lay_items(
-    net: &mut Draft,
-    tasks: &mut Vec<Task>,
-    alloc: Global,
-    site: &Site<'_>,
-    home: Option<Home>,
-    part: Part,
-    spot: Spot,
-) -> Result<Spot, Memory>
-    requires site { IsSite site.now }
-    requires few { states net.old ≤ suc heaviest }
-    requires before { spot.before < states net.old }
-    requires home { IsHome site.now.g.now (states net.old) home }
-    requires part { IsPart site.now.g.now part }
-    requires room { HasRoom site.now.g.now (states net.old) home part.rule part.start (part_items site.now.g.now part) spot }
-    ensures { IfOk result (AreAllLaid site.now.g.now site.now.tables.now.weights home part.rule part.start (part_items site.now.g.now part) spot net.old tasks.old.items net.new tasks.new.items) }
-{
-    let mut number = *site.tables.groups.at(part.rule as usize);
-    let mut next = Next {
-        spot,
-        place: part.start,
-    };
-    'items: for place in 0..part.end {
-        let here = number;
-        number = after_place(site.g, part.rule, place, number);
-        if place < next.place {
-            continue;
+impl Walk<'_, '_> {
+    /// Lays the outer items and groups of a part one after another, and gives the spot after them.
+    pub fn lay_items(&self, into: &mut Laid, part: Part, spot: Spot) -> Result<Spot, Memory>
+        requires site { IsSite self.now.site.now }
+        requires few { states into.old.net ≤ suc heaviest }
+        requires before { spot.before < states into.old.net }
+        requires home { IsHome self.now.site.now.g.now (states into.old.net) self.now.home }
+        requires part { IsPart self.now.site.now.g.now part }
+        requires room { HasRoom self.now.site.now.g.now (states into.old.net) self.now.home part.rule part.start (part_items self.now.site.now.g.now part) spot }
+        ensures { IfOk result (AreAllLaid self.now.site.now.g.now self.now.site.now.tables.now.weights self.now.home part.rule part.start (part_items self.now.site.now.g.now part) spot into.old.net into.old.tasks.items into.new.net into.new.tasks.items) }
+    {
+        let mut number = *self.site.tables.groups.at(part.rule as usize);
+        let mut next = Next {
+            spot,
+            place: part.start,
+        };
+        'items: for place in 0..part.end {
+            let here = number;
+            number = after_place(self.site.g, part.rule, place, number);
+            if place < next.place {
+                continue;
+            }
+            next = self.lay_next(into, part.rule, place, here, next.spot)?;
         }
-        next = lay_next(
-            net, tasks, alloc, site, home, part.rule, place, here, next.spot,
-        )?;
+        Ok(next.spot)
     }
-    Ok(next.spot)
+
+    /// Lays the outer item or the group at a place of a rule, whose number is given, and says where
+    /// to go on.
+    fn lay_next(
+        &self,
+        into: &mut Laid,
+        rule: u32,
+        place: u32,
+        number: u32,
+        spot: Spot,
+    ) -> Result<Next, Memory>
+        requires site { IsSite self.now.site.now }
+        requires few { states into.old.net ≤ suc heaviest }
+        requires before { spot.before < states into.old.net }
+        requires home { IsHome self.now.site.now.g.now (states into.old.net) self.now.home }
+        requires rule { rule < length self.now.site.now.g.now.rules }
+        requires place { place < length (spread self.now.site.now.g.now rule) }
+        requires number { number ≡ group_number self.now.site.now.g.now rule place }
+        requires room { (items : List Item) × StandsAt self.now.site.now.g.now rule place items × HasRoom self.now.site.now.g.now (states into.old.net) self.now.home rule place items spot }
+        ensures low { IfOk result (λ t. t.spot.before < states into.old.net) }
+        ensures stepped { IfOk result (λ t. (items : List Item) (all : List Arc) (after end : ℕ) → StandsAt self.now.site.now.g.now rule place items → Lays self.now.site.now.g.now self.now.home rule place items spot all after end → IsStepped self.now.site.now.g.now self.now.site.now.tables.now.weights self.now.home rule place items spot all after end into.old.net into.old.tasks.items into.new.net into.new.tasks.items t) }
+    {
+        let item = &self.site.g.spread(rule)[place as usize];
+        match self.site.g.partner(rule, place) {
+            Some(partner) => Ok(Next {
+                spot: lay_group(&mut into.net, number, spot)?,
+                place: partner + 1,
+            }),
+            None => Ok(Next {
+                spot: self.lay_outer(into, item, spot)?,
+                place: place + 1,
+            }),
+        }
+    }
+
+    /// Lays an outer item, in the component of its home if it has one.
+    fn lay_outer(&self, into: &mut Laid, item: &GItem, spot: Spot) -> Result<Spot, Memory>
+        requires site { IsSite self.now.site.now }
+        requires few { states into.old.net ≤ suc heaviest }
+        requires before { spot.before < states into.old.net }
+        requires home { IsHome self.now.site.now.g.now (states into.old.net) self.now.home }
+        requires there { NamesAreThere self.now.site.now.g.now item.now }
+        requires plain { IsPlain self.now.site.now.g.now.fences item.now }
+        requires room { (p k : ℕ) × (later : List Item) × AreNamed self.now.site.now.g.now later × HasRoom self.now.site.now.g.now (states into.old.net) self.now.home p k (item.now ∷ later) spot }
+        ensures low { IfOk result (λ t. t.before < states into.old.net) }
+        ensures onward { IfOk result (λ t. (p k : ℕ) (later : List Item) (all : List Arc) (after end : ℕ) → Lays self.now.site.now.g.now self.now.home p k (item.now ∷ later) spot all after end → IsOnward self.now.site.now.g.now self.now.site.now.tables.now.weights self.now.home p later spot all after end into.old.net into.old.tasks.items into.new.net into.new.tasks.items (suc k) t) }
+    {
+        match self.home {
+            Some(home) => self.site.lay_in(into, home, item, spot),
+            None => self.site.lay_item(into, item, spot),
+        }
+    }
 }
 
-/// Lays the outer item or the group at a place of a rule, whose number is given, and says where to
-/// go on.
-fn lay_next(
-    net: &mut Draft,
-    tasks: &mut Vec<Task>,
-    alloc: Global,
-    site: &Site<'_>,
-    home: Option<Home>,
-    rule: u32,
-    place: u32,
-    number: u32,
-    spot: Spot,
-) -> Result<Next, Memory>
-    requires site { IsSite site.now }
-    requires few { states net.old ≤ suc heaviest }
-    requires before { spot.before < states net.old }
-    requires home { IsHome site.now.g.now (states net.old) home }
-    requires rule { rule < length site.now.g.now.rules }
-    requires place { place < length (spread site.now.g.now rule) }
-    requires number { number ≡ group_number site.now.g.now rule place }
-    requires room { (items : List Item) × StandsAt site.now.g.now rule place items × HasRoom site.now.g.now (states net.old) home rule place items spot }
-    ensures low { IfOk result (λ t. t.spot.before < states net.old) }
-    ensures stepped { IfOk result (λ t. (items : List Item) (all : List Arc) (after end : ℕ) → StandsAt site.now.g.now rule place items → Lays site.now.g.now home rule place items spot all after end → IsStepped site.now.g.now site.now.tables.now.weights home rule place items spot all after end net.old tasks.old.items net.new tasks.new.items t) }
-{
-    let item = &site.g.spread(rule)[place as usize];
-    match site.g.partner(rule, place) {
-        Some(partner) => Ok(Next {
-            spot: lay_group(net, number, spot)?,
-            place: partner + 1,
-        }),
-        None => Ok(Next {
-            spot: lay_outer(net, tasks, alloc, site, home, item, spot)?,
-            place: place + 1,
-        }),
+impl Site<'_> {
+    /// Lays an outer item of a rule in the component of its home.
+    fn lay_in(&self, into: &mut Laid, home: Home, item: &GItem, spot: Spot) -> Result<Spot, Memory>
+        requires site { IsSite self.now }
+        requires few { states into.old.net ≤ suc heaviest }
+        requires before { spot.before < states into.old.net }
+        requires home { IsHome self.now.g.now (states into.old.net) (Some home) }
+        requires there { NamesAreThere self.now.g.now item.now }
+        requires plain { IsPlain self.now.g.now.fences item.now }
+        requires room { (p k : ℕ) × (later : List Item) × AreNamed self.now.g.now later × HasRoom self.now.g.now (states into.old.net) (Some home) p k (item.now ∷ later) spot }
+        ensures low { IfOk result (λ t. t.before < states into.old.net) }
+        ensures onward { IfOk result (λ t. (p k : ℕ) (later : List Item) (all : List Arc) (after end : ℕ) → Lays self.now.g.now (Some home) p k (item.now ∷ later) spot all after end → IsOnward self.now.g.now self.now.tables.now.weights (Some home) p later spot all after end into.old.net into.old.tasks.items into.new.net into.new.tasks.items (suc k) t) }
+    {
+        let component = *self.comps.at(home.non as usize) as usize;
+        match member_of(self.comps, component, item) {
+            Some(member) => lay_member(&mut into.net, self.entry_of(home, member), spot),
+            None => self.lay_item(into, item, spot),
+        }
+    }
+
+    /// The entry of a member of the component of its home, which is before the exit.
+    pub fn entry_of(&self, home: Home, member: u32) -> u32
+        requires site { IsSite self.now }
+        requires there { member < self.now.g.now.nons }
+        requires member { AreOne self.now.g.now home.non member }
+        requires home { IsHome self.now.g.now (suc heaviest) (Some home) }
+        ensures entry { (j : ℕ) → Members self.now.g.now home.non member j → result ≡ entry_state home.first j }
+        ensures exit { (bound : ℕ) → IsHome self.now.g.now bound (Some home) → suc result < bound }
+    {
+        let rank = *self.tables.ranks.at(member as usize);
+        home.first + 2 * rank
+    }
+
+    /// Lays an item whole; a nonterminal's component is left to a task.
+    fn lay_item(&self, into: &mut Laid, item: &GItem, spot: Spot) -> Result<Spot, Memory>
+        requires site { IsSite self.now }
+        requires few { states into.old.net ≤ suc heaviest }
+        requires before { spot.before < states into.old.net }
+        requires there { NamesAreThere self.now.g.now item.now }
+        requires room { HasItemRoom self.now.g.now (states into.old.net) item.now spot }
+        ensures { IfOk result (λ t. IsItemLaid self.now.g.now self.now.tables.now.weights item.now spot into.old.net into.old.tasks.items into.new.net into.new.tasks.items t) }
+    {
+        match item {
+            GItem::Fixed(word) => lay_fixed(&mut into.net, self.alloc, word.as_slice(), spot),
+            GItem::Term { term, .. } => lay_regular(&mut into.net, self.g.term(*term), spot),
+            GItem::Skip { skip } => lay_regular(&mut into.net, self.g.skip(*skip), spot),
+            GItem::Non { non, .. } => self.leave(into, *non, spot),
+        }
+    }
+
+    /// Leads to the entry of a nonterminal, and leaves its component to a task.
+    fn leave(&self, into: &mut Laid, non: u32, spot: Spot) -> Result<Spot, Memory>
+        requires site { IsSite self.now }
+        requires few { states into.old.net ≤ suc heaviest }
+        requires before { spot.before < states into.old.net }
+        requires there { non < self.now.g.now.nons }
+        requires room { (slot : ℕ) × HasItemRoom self.now.g.now (states into.old.net) (NonItem non slot) spot }
+        ensures { IfOk result (λ t. (slot : ℕ) → IsItemLaid self.now.g.now self.now.tables.now.weights (NonItem non slot) spot into.old.net into.old.tasks.items into.new.net into.new.tasks.items t) }
+    {
+        let rank = *self.tables.ranks.at(non as usize);
+        let weight = *self.tables.weights.at(non as usize) as u32;
+        let entry = spot.at + 2 * rank;
+        pass(&mut into.net, spot.before, entry)?;
+        into.tasks.push(Task { non, at: spot.at })?;
+        Ok(Spot {
+            before: entry + 1,
+            at: spot.at + weight,
+        })
     }
 }
 
@@ -116,122 +194,22 @@ fn lay_group(net: &mut Draft, number: u32, spot: Spot) -> Result<Spot, Memory>
     })
 }
 
-/// Lays an outer item, in the component of its home if it has one.
-fn lay_outer(
-    net: &mut Draft,
-    tasks: &mut Vec<Task>,
-    alloc: Global,
-    site: &Site<'_>,
-    home: Option<Home>,
-    item: &GItem,
-    spot: Spot,
-) -> Result<Spot, Memory>
-    requires site { IsSite site.now }
-    requires few { states net.old ≤ suc heaviest }
-    requires before { spot.before < states net.old }
-    requires home { IsHome site.now.g.now (states net.old) home }
-    requires there { NamesAreThere site.now.g.now item.now }
-    requires plain { IsPlain site.now.g.now.fences item.now }
-    requires room { (p k : ℕ) × (later : List Item) × AreNamed site.now.g.now later × HasRoom site.now.g.now (states net.old) home p k (item.now ∷ later) spot }
-    ensures low { IfOk result (λ t. t.before < states net.old) }
-    ensures onward { IfOk result (λ t. (p k : ℕ) (later : List Item) (all : List Arc) (after end : ℕ) → Lays site.now.g.now home p k (item.now ∷ later) spot all after end → IsOnward site.now.g.now site.now.tables.now.weights home p later spot all after end net.old tasks.old.items net.new tasks.new.items (suc k) t) }
-{
-    match home {
-        Some(home) => lay_in(net, tasks, alloc, site, home, item, spot),
-        None => lay_item(net, tasks, alloc, site, item, spot),
-    }
-}
-
-/// Lays an outer item of a rule in the component of its home.
-fn lay_in(
-    net: &mut Draft,
-    tasks: &mut Vec<Task>,
-    alloc: Global,
-    site: &Site<'_>,
-    home: Home,
-    item: &GItem,
-    spot: Spot,
-) -> Result<Spot, Memory>
-    requires site { IsSite site.now }
-    requires few { states net.old ≤ suc heaviest }
-    requires before { spot.before < states net.old }
-    requires home { IsHome site.now.g.now (states net.old) (Some home) }
-    requires there { NamesAreThere site.now.g.now item.now }
-    requires plain { IsPlain site.now.g.now.fences item.now }
-    requires room { (p k : ℕ) × (later : List Item) × AreNamed site.now.g.now later × HasRoom site.now.g.now (states net.old) (Some home) p k (item.now ∷ later) spot }
-    ensures low { IfOk result (λ t. t.before < states net.old) }
-    ensures onward { IfOk result (λ t. (p k : ℕ) (later : List Item) (all : List Arc) (after end : ℕ) → Lays site.now.g.now (Some home) p k (item.now ∷ later) spot all after end → IsOnward site.now.g.now site.now.tables.now.weights (Some home) p later spot all after end net.old tasks.old.items net.new tasks.new.items (suc k) t) }
-{
-    let component = *site.comps.at(home.non as usize) as usize;
-    match member_of(site.comps, component, item) {
-        Some(member) => lay_member(net, site, home, member, spot),
-        None => lay_item(net, tasks, alloc, site, item, spot),
-    }
-}
-
-/// Lays a member of the component of its home: one state, which is after it.
-fn lay_member(
-    net: &mut Draft,
-    site: &Site<'_>,
-    home: Home,
-    member: u32,
-    spot: Spot,
-) -> Result<Spot, Memory>
-    requires site { IsSite site.now }
+/// Lays a member of the component of its home, whose entry is given: one state, which is after it.
+fn lay_member(net: &mut Draft, entry: u32, spot: Spot) -> Result<Spot, Memory>
     requires few { states net.old ≤ suc heaviest }
     requires before { spot.before < states net.old }
     requires at { spot.at < states net.old }
-    requires there { member < site.now.g.now.nons }
-    requires member { AreOne site.now.g.now home.non member }
-    requires home { IsHome site.now.g.now (states net.old) (Some home) }
+    requires exit { suc entry < states net.old }
     ensures before { IfOk result (λ t. t.before ≡ spot.at) }
     ensures at { IfOk result (λ t. t.at ≡ suc spot.at) }
-    ensures grows { OnOk result ((j : ℕ) → Members site.now.g.now home.non member j → NetGrows (pass_arc spot.before (entry_state home.first j) ∷ pass_arc (exit_state home.first j) spot.at ∷ []) net.old net.new) }
+    ensures grows { OnOk result (NetGrows (pass_arc spot.before entry ∷ pass_arc (suc entry) spot.at ∷ []) net.old net.new) }
 {
-    let entry = entry_of(site, home, member);
     pass(net, spot.before, entry)?;
     pass(net, entry + 1, spot.at)?;
     Ok(Spot {
         before: spot.at,
         at: spot.at + 1,
     })
-}
-
-/// The entry of a member of the component of its home, which is before the exit.
-pub fn entry_of(site: &Site<'_>, home: Home, member: u32) -> u32
-    requires site { IsSite site.now }
-    requires there { member < site.now.g.now.nons }
-    requires member { AreOne site.now.g.now home.non member }
-    requires home { IsHome site.now.g.now (suc heaviest) (Some home) }
-    ensures entry { (j : ℕ) → Members site.now.g.now home.non member j → result ≡ entry_state home.first j }
-    ensures exit { (bound : ℕ) → IsHome site.now.g.now bound (Some home) → suc result < bound }
-{
-    let rank = *site.tables.ranks.at(member as usize);
-    home.first + 2 * rank
-}
-
-/// Lays an item whole; a nonterminal's component is left to a task.
-fn lay_item(
-    net: &mut Draft,
-    tasks: &mut Vec<Task>,
-    alloc: Global,
-    site: &Site<'_>,
-    item: &GItem,
-    spot: Spot,
-) -> Result<Spot, Memory>
-    requires site { IsSite site.now }
-    requires few { states net.old ≤ suc heaviest }
-    requires before { spot.before < states net.old }
-    requires there { NamesAreThere site.now.g.now item.now }
-    requires room { HasItemRoom site.now.g.now (states net.old) item.now spot }
-    ensures { IfOk result (λ t. IsItemLaid site.now.g.now site.now.tables.now.weights item.now spot net.old tasks.old.items net.new tasks.new.items t) }
-{
-    match item {
-        GItem::Fixed(word) => lay_fixed(net, alloc, word.as_slice(), spot),
-        GItem::Term { term, .. } => lay_regular(net, site.g.term(*term), spot),
-        GItem::Skip { skip } => lay_regular(net, site.g.skip(*skip), spot),
-        GItem::Non { non, .. } => leave(net, tasks, site, *non, spot),
-    }
 }
 
 /// Lays a fixed word.
@@ -264,31 +242,5 @@ fn lay_regular(net: &mut Draft, automaton: &Position, spot: Spot) -> Result<Spot
     Ok(Spot {
         before,
         at: before + 1,
-    })
-}
-
-/// Leads to the entry of a nonterminal, and leaves its component to a task.
-fn leave(
-    net: &mut Draft,
-    tasks: &mut Vec<Task>,
-    site: &Site<'_>,
-    non: u32,
-    spot: Spot,
-) -> Result<Spot, Memory>
-    requires site { IsSite site.now }
-    requires few { states net.old ≤ suc heaviest }
-    requires before { spot.before < states net.old }
-    requires there { non < site.now.g.now.nons }
-    requires room { (slot : ℕ) × HasItemRoom site.now.g.now (states net.old) (NonItem non slot) spot }
-    ensures { IfOk result (λ t. (slot : ℕ) → IsItemLaid site.now.g.now site.now.tables.now.weights (NonItem non slot) spot net.old tasks.old.items net.new tasks.new.items t) }
-{
-    let rank = *site.tables.ranks.at(non as usize);
-    let weight = *site.tables.weights.at(non as usize) as u32;
-    let entry = spot.at + 2 * rank;
-    pass(net, spot.before, entry)?;
-    tasks.push(Task { non, at: spot.at })?;
-    Ok(Spot {
-        before: entry + 1,
-        at: spot.at + weight,
     })
 }

@@ -36,16 +36,21 @@ pub fn nest_by(alloc: Global, g: &Gram, comps: &Comps, tables: &Tables) -> Resul
     ensures nest { IfOk result (IsNestOf g.now) }
     ensures fault { IfErr result (IsNestCause g.now) }
 {
-    let site = Site { g, comps, tables };
+    let site = Site {
+        alloc,
+        g,
+        comps,
+        tables,
+    };
     let mut nest = Nest::new(alloc)?;
     'rules: for rule in 0..g.rules() {
-        add_groups(&mut nest, alloc, &site, rule)?;
+        add_groups(&mut nest, &site, rule)?;
     }
     Ok(nest)
 }
 
 /// Adds the groups of a rule.
-fn add_groups(nest: &mut Nest, alloc: Global, site: &Site<'_>, rule: u32) -> Result<(), LooseFault>
+fn add_groups(nest: &mut Nest, site: &Site<'_>, rule: u32) -> Result<(), LooseFault>
     requires site { IsSite site.now }
     requires rule { rule < length site.now.g.now.rules }
     requires nest { IsNestBefore site.now.g.now rule 0 nest.old }
@@ -53,19 +58,13 @@ fn add_groups(nest: &mut Nest, alloc: Global, site: &Site<'_>, rule: u32) -> Res
     ensures fault { IfErr result (IsNestCause site.now.g.now) }
 {
     'items: for place in 0..site.g.spread(rule).len() as u32 {
-        add_group(nest, alloc, site, rule, place)?;
+        add_group(nest, site, rule, place)?;
     }
     Ok(())
 }
 
 /// Adds the group whose left fence is a rule's spread item, if it is one.
-fn add_group(
-    nest: &mut Nest,
-    alloc: Global,
-    site: &Site<'_>,
-    rule: u32,
-    place: u32,
-) -> Result<(), LooseFault>
+fn add_group(nest: &mut Nest, site: &Site<'_>, rule: u32, place: u32) -> Result<(), LooseFault>
     requires site { IsSite site.now }
     requires rule { rule < length site.now.g.now.rules }
     requires place { place < length (spread site.now.g.now rule) }
@@ -84,7 +83,7 @@ fn add_group(
         start: place + 1,
         end: partner,
     };
-    let content = net_by(alloc, site.g, site.comps, site.tables, &inside)?;
+    let content = net_by(site.alloc, site.g, site.comps, site.tables, &inside)?;
     nest.group(left, right, content)?;
     Ok(())
 }

@@ -9,9 +9,7 @@ ghost use Rattle.xs_stretch.specs.Parts.{IsPart, part_items, IsCause};
 ghost use Rattle.xs_stretch.specs.Tables.{AreTables};
 ghost use Rattle.xs_stretch.specs.Work.{IsSite};
 
-use crate::laying::lay_items;
-use crate::site::{Site, Spot};
-use crate::tasks::lay_tasks;
+use crate::site::{Laid, Site, Spot, Walk};
 use crate::weighing::weight_by;
 use crate::{LooseFault, Part, Tables};
 use std::alloc::Global;
@@ -58,13 +56,18 @@ pub fn net_by(
     if weight > HEAVIEST {
         return Err(LooseFault::Heavy { weight });
     }
-    let site = Site { g, comps, tables };
-    let net = light_net(alloc, &site, *part, weight as u32)?;
+    let site = Site {
+        alloc,
+        g,
+        comps,
+        tables,
+    };
+    let net = light_net(&site, *part, weight as u32)?;
     Ok(net)
 }
 
 /// The net of a light part, by its weight.
-fn light_net(alloc: Global, site: &Site<'_>, part: Part, weight: u32) -> Result<Net, Memory>
+fn light_net(site: &Site<'_>, part: Part, weight: u32) -> Result<Net, Memory>
     requires site { IsSite site.now }
     requires part { IsPart site.now.g.now part }
     requires weighs { PartWeighs site.now.g.now (part_items site.now.g.now part) weight }
@@ -72,13 +75,15 @@ fn light_net(alloc: Global, site: &Site<'_>, part: Part, weight: u32) -> Result<
     ensures net { IfOk result (IsNetOf site.now.g.now part) }
     ensures states { IfOk result (λ n. states n ≡ suc weight) }
 {
-    let mut net = blank(alloc, weight + 1)?;
-    let mut tasks = Vec::new(alloc);
+    let net = blank(site.alloc, weight + 1)?;
+    let tasks = Vec::new(site.alloc);
+    let mut laid = Laid { net, tasks };
+    let walk = Walk { site, home: None };
     let first = Spot { before: 0, at: 1 };
-    let last = lay_items(&mut net, &mut tasks, alloc, site, None, part, first)?;
-    lay_tasks(&mut net, &mut tasks, alloc, site)?;
-    net.set_final(last.before)?;
-    let done = net.finish()?;
+    let last = walk.lay_items(&mut laid, part, first)?;
+    site.lay_tasks(&mut laid)?;
+    laid.net.set_final(last.before)?;
+    let done = laid.net.finish()?;
     Ok(done)
 }
 

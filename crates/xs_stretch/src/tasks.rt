@@ -8,88 +8,72 @@ ghost use Rattle.xs_stretch.specs.Work.{Gains, IsSite, IsTask, AreTasks};
 
 use crate::Part;
 use crate::growth::pass;
-use crate::laying::{entry_of, lay_items};
-use crate::site::{Home, Site, Spot, Task};
-use std::alloc::Global;
-use xs_auto::Draft;
+use crate::site::{Home, Laid, Site, Spot, Task, Walk};
 use xs_class::Memory;
 
-/// Lays all components that were left to tasks, and those that they leave in turn.
-pub fn lay_tasks(
-    net: &mut Draft,
-    tasks: &mut Vec<Task>,
-    alloc: Global,
-    site: &Site<'_>,
-) -> Result<(), Memory>
-    requires site { IsSite site.now }
-    requires few { states net.old ≤ suc heaviest }
-    requires tasks { AreTasks site.now.g.now site.now.tables.now.weights (states net.old) tasks.old.items }
-    ensures { OnOk result (Gains site.now.g.now [] net.old tasks.old.items net.new []) }
-{
-    'tasks: while let Some(task) = tasks.pop() {
-        lay_component(net, tasks, alloc, site, task)?;
+impl Site<'_> {
+    /// Lays all components that were left to tasks, and those that they leave in turn.
+    pub fn lay_tasks(&self, into: &mut Laid) -> Result<(), Memory>
+        requires site { IsSite self.now }
+        requires few { states into.old.net ≤ suc heaviest }
+        requires tasks { AreTasks self.now.g.now self.now.tables.now.weights (states into.old.net) into.old.tasks.items }
+        ensures { OnOk result (Gains self.now.g.now [] into.old.net into.old.tasks.items into.new.net []) }
+    {
+        'tasks: while let Some(task) = into.tasks.pop() {
+            self.lay_component(into, task)?;
+        }
+        Ok(())
     }
-    Ok(())
-}
 
-/// Lays the component of a task: the rules of its members, one after another.
-fn lay_component(
-    net: &mut Draft,
-    tasks: &mut Vec<Task>,
-    alloc: Global,
-    site: &Site<'_>,
-    task: Task,
-) -> Result<(), Memory>
-    requires site { IsSite site.now }
-    requires few { states net.old ≤ suc heaviest }
-    requires task { IsTask site.now.g.now site.now.tables.now.weights (states net.old) task }
-    ensures { OnOk result (IsTaskDone site.now.g.now site.now.tables.now.weights task net.old tasks.old.items net.new tasks.new.items) }
-{
-    let component = *site.comps.at(task.non as usize) as usize;
-    let members = site.tables.lists.members[component].len() as u32;
-    let rules = site.tables.lists.rules[component].as_slice();
-    let home = Home {
-        non: task.non,
-        first: task.at,
-    };
-    let mut place = task.at + 2 * members;
-    'rules: for rule in rules {
-        place = lay_rule(net, tasks, alloc, site, home, *rule, place)?;
+    /// Lays the component of a task: the rules of its members, one after another.
+    fn lay_component(&self, into: &mut Laid, task: Task) -> Result<(), Memory>
+        requires site { IsSite self.now }
+        requires few { states into.old.net ≤ suc heaviest }
+        requires task { IsTask self.now.g.now self.now.tables.now.weights (states into.old.net) task }
+        ensures { OnOk result (IsTaskDone self.now.g.now self.now.tables.now.weights task into.old.net into.old.tasks.items into.new.net into.new.tasks.items) }
+    {
+        let component = *self.comps.at(task.non as usize) as usize;
+        let members = self.tables.lists.members[component].len() as u32;
+        let rules = self.tables.lists.rules[component].as_slice();
+        let home = Home {
+            non: task.non,
+            first: task.at,
+        };
+        let mut place = task.at + 2 * members;
+        'rules: for rule in rules {
+            place = self.lay_rule(into, home, *rule, place)?;
+        }
+        Ok(())
     }
-    Ok(())
-}
 
-/// Lays a rule of a member of the component of its home, whose place 0 is given, and gives the next
-/// free state: a move from the entry of its nonterminal, its items, and a move to the exit.
-fn lay_rule(
-    net: &mut Draft,
-    tasks: &mut Vec<Task>,
-    alloc: Global,
-    site: &Site<'_>,
-    home: Home,
-    rule: u32,
-    place: u32,
-) -> Result<u32, Memory>
-    requires site { IsSite site.now }
-    requires few { states net.old ≤ suc heaviest }
-    requires home { IsHome site.now.g.now (states net.old) (Some home) }
-    requires rule { rule < length site.now.g.now.rules }
-    requires member { AreOne site.now.g.now home.non (rule_of site.now.g.now rule).non }
-    requires room { HasRoom site.now.g.now (states net.old) (Some home) rule 0 (spread site.now.g.now rule) (record { before = place; at = suc place }) }
-    ensures { IfOk result (λ next. IsRuleLaid site.now.g.now site.now.tables.now.weights home rule place next net.old tasks.old.items net.new tasks.new.items) }
-{
-    let entry = entry_of(site, home, site.g.non_of(rule));
-    pass(net, entry, place)?;
-    let part = Part {
-        rule,
-        start: 0,
-        end: site.g.spread(rule).len() as u32,
-    };
-    let spot = Spot {
-        before: place,
-        at: place + 1,
-    };
-    let last = lay_items(net, tasks, alloc, site, Some(home), part, spot)?;
-    pass(net, last.before, entry + 1)?;
-    Ok(last.at)
+    /// Lays a rule of a member of the component of its home, whose place 0 is given, and gives the
+    /// next free state: a move from the entry of its nonterminal, its items, and a move to the exit.
+    fn lay_rule(&self, into: &mut Laid, home: Home, rule: u32, place: u32) -> Result<u32, Memory>
+        requires site { IsSite self.now }
+        requires few { states into.old.net ≤ suc heaviest }
+        requires home { IsHome self.now.g.now (states into.old.net) (Some home) }
+        requires rule { rule < length self.now.g.now.rules }
+        requires member { AreOne self.now.g.now home.non (rule_of self.now.g.now rule).non }
+        requires room { HasRoom self.now.g.now (states into.old.net) (Some home) rule 0 (spread self.now.g.now rule) (record { before = place; at = suc place }) }
+        ensures { IfOk result (λ next. IsRuleLaid self.now.g.now self.now.tables.now.weights home rule place next into.old.net into.old.tasks.items into.new.net into.new.tasks.items) }
+    {
+        let entry = self.entry_of(home, self.g.non_of(rule));
+        pass(&mut into.net, entry, place)?;
+        let part = Part {
+            rule,
+            start: 0,
+            end: self.g.spread(rule).len() as u32,
+        };
+        let spot = Spot {
+            before: place,
+            at: place + 1,
+        };
+        let walk = Walk {
+            site: self,
+            home: Some(home),
+        };
+        let last = walk.lay_items(into, part, spot)?;
+        pass(&mut into.net, last.before, entry + 1)?;
+        Ok(last.at)
+    }
 }
