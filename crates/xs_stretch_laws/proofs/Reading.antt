@@ -1,11 +1,13 @@
 -- What a path of the net reads is loose: by induction on the length of words, and for one length by
 -- recursion on how items are laid.
-use Rattle.std.proofs.Common.{◌≡◌, ◌⊎◌, ℕ, zero, suc, ◌+◌, ◌*◌, ◌<◌, ◌≤◌, List, [], ◌∷◌, ◌++◌, length, refl, sym, ap, subst, ◌∙◌, inl, inr, arith, append_assoc, append-nil, length-append, Some, slice_get}
+use Rattle.std.proofs.Common.{◌≡◌, ◌⊎◌, ℕ, zero, suc, ◌+◌, ◌*◌, ◌<◌, ◌≤◌, List, [], ◌∷◌, ◌++◌, length, refl, sym, ap, subst, ◌∙◌, inl, inr, arith, append_assoc, append-nil, length-append, Some}
 use Rattle.std.proofs.lemmas.Bool.{cases_lt}
+use Rattle.xs_regex.specs.declared.position.Position.{Position}
+use Rattle.xs_regex.specs.Automaton as R
 use Rattle.xs_auto.specs.Nets.{Graph}
 use Rattle.xs_auto.specs.Nests.{Group, AcceptsNested, Crossing, stands, drifts, takes, enters}
 use Rattle.xs_gram.specs.declared.parts.GItem.{GItem}
-use Rattle.xs_gram.specs.declared.parts.GItem.TheVariants.{Fixed, Non}
+use Rattle.xs_gram.specs.declared.parts.GItem.TheVariants.{Fixed, Term, Non, Skip}
 use Rattle.xs_gram.specs.Grammar.{Grammar, rule_of, term_of, skip_of}
 use Rattle.xs_gram.specs.Sound.{IsBuilt}
 use Rattle.xs_gram.specs.Building.{NamesAreThere}
@@ -16,7 +18,7 @@ use Rattle.xs_gram.proofs.Levels.{group_split, length_grouped, level_append, out
 use Rattle.xs_gram.proofs.Spreading.{spread_names}
 use Rattle.xs_check_laws.specs.Weights.{Members, no_member, member_next, other_next}
 use Rattle.xs_check_laws.proofs.Walks.{one_same}
-use Rattle.xs_stretch.specs.Arcs.{Label, reads, passes, calls, Arc, read, pass, call}
+use Rattle.xs_stretch.specs.Arcs.{Label, reads, passes, calls, Arc, read, pass, call, automaton_arcs, after_automaton}
 use Rattle.xs_stretch.specs.Groups.{group_number}
 use Rattle.xs_stretch.specs.Laying.{entry_state, exit_state, LaysItem, lays_fixed, lays_term, lays_skip, lays_non, LaysComponent, lays_component, LaysRules, lays_no_rule, lays_rule, lays_other_rule, LaysBody, lays_no_body, lays_member, lays_other, lays_group, LaysPart, part_none, part_then, part_group}
 use Rattle.xs_stretch.specs.Nets.{IsNumbered, IsNestOf}
@@ -27,7 +29,7 @@ use Rattle.xs_stretch_laws.proofs.Paths.{Path, stays, goes, path_one, path_map_w
 use Rattle.xs_stretch_laws.proofs.Blocks.{Reads, Along}
 use Rattle.xs_check_laws.proofs.Weights.{members_once}
 use Rattle.xs_stretch_laws.proofs.Finding.{SameGroup, group_once}
-use Rattle.xs_stretch_laws.proofs.Spelling.{Stands, after_item, after_group, group_here, inside_stands, loose_is_accepted}
+use Rattle.xs_stretch_laws.proofs.Spelling.{Stands, first_named, after_item, after_group, group_here, inside_stands, loose_is_accepted}
 use Rattle.xs_stretch_laws.proofs.Cells.{Cell, IsIn, point, Chain, chain_rises, chain_within, chain_once, chain_on, IsFine, point_fine, LaidArc, jumps, rests, CellBefore, AreCells, cells_reached}
 use Rattle.xs_stretch_laws.proofs.Pieces.{Short, Leads, ends_lead, word_ends, after_in, first_arc, in_turn, empty_path, word_read, automaton_ends, automaton_read}
 
@@ -450,6 +452,15 @@ module _ (g : Grammar) (built : IsBuilt g) (nest : List Group) (nested : IsNestO
           let less = members_less members own (one_same {m = c}) low in
           walk_of (cells_reached T (Step g c) none (IsPlace c first count r.cells) arcs are (point (entry c) (entry_state first j)) (point (exit c) (exit_state first j)) w (inl (entry_cell c j (one_same {m = c}) own less refl)) refl (inl (exit_cell c j (one_same {m = c}) own less refl)) path)
 
+  -- an item that an automaton reads
+  automaton_sound : (i : GItem) (p : Position) {before start after next : ℕ} {arcs : List Arc} → R.IsWellFormed p → ((w : List ℕ) → R.Accepts p w → LooseItem g i w) → arcs ≡ automaton_arcs p before start → after ≡ after_automaton p start → next ≡ suc after → before < start → ItemSound i before start after next arcs
+  automaton_sound i p {before} {start} formed loose e a n below = sound_as e a (n ∙ ap suc a) record {
+    leads = ends_lead (automaton_ends p before start formed);
+    low = omega arith;
+    high = omega arith;
+    read = λ w path. loose w (automaton_read nest k p before start formed below path);
+  }
+
   mutual
     item_sound : {i : GItem} {before start after next : ℕ} {arcs : List Arc} → LaysItem g i before start arcs after next → NamesAreThere g i → before < start → ItemSound i before start after next arcs
     item_sound {before = before} {start = start} (lays_fixed {f = f} e a n) named below =
@@ -460,22 +471,12 @@ module _ (g : Grammar) (built : IsBuilt g) (nest : List Group) (nested : IsNestO
           high = far.1;
           read = λ w path. subst (λ (x : List ℕ). LooseItem g (Fixed f) x) (sym (word_read nest k f before start below path)) loose_fixed;
         }
-    item_sound {before = before} {start = start} (lays_term {t = t} e a n) named below =
+    item_sound (lays_term {t = t} {s = s} e a n) named below =
         let auto = built.automata.terms t named in
-        sound_as e a (n ∙ ap suc a) record {
-          leads = ends_lead (automaton_ends (term_of g t).automaton before start auto.formed);
-          low = omega arith;
-          high = omega arith;
-          read = λ w path. loose_term ((auto.accepts w).1 (automaton_read nest k (term_of g t).automaton before start auto.formed below path));
-        }
-    item_sound {before = before} {start = start} (lays_skip {k = skip} e a n) named below =
+        automaton_sound (Term t s) (term_of g t).automaton auto.formed (λ w accepts. loose_term ((auto.accepts w).1 accepts)) e a n below
+    item_sound (lays_skip {k = skip} e a n) named below =
         let auto = built.automata.skips skip named in
-        sound_as e a (n ∙ ap suc a) record {
-          leads = ends_lead (automaton_ends (skip_of g skip).automaton before start auto.formed);
-          low = omega arith;
-          high = omega arith;
-          read = λ w path. loose_skip ((auto.accepts w).1 (automaton_read nest k (skip_of g skip).automaton before start auto.formed below path));
-        }
+        automaton_sound (Skip skip) (skip_of g skip).automaton auto.formed (λ w accepts. loose_skip ((auto.accepts w).1 accepts)) e a n below
     item_sound {before = before} {start = start} {next = next} (lays_non {n = n} {s = s} {k = j} {own = own} members comp e a) named below =
         non_sound before start next n s j own members named below (component_sound comp) e a
 
@@ -538,17 +539,10 @@ module _ (g : Grammar) (built : IsBuilt g) (nest : List Group) (nested : IsNestO
   part_as : {is : List GItem} {before start after next : ℕ} {arcs own : List Arc} → arcs ≡ own → PartSound is before start after next own → PartSound is before start after next arcs
   part_as {is} {before} {start} {after} {next} e h = subst (λ (x : List Arc). PartSound is before start after next x) (sym e) h
 
-  name_here : {p j : ℕ} {i : GItem} {is : List GItem} → Stands g p j (i ∷ is) → NamesAreThere g i
-  name_here {p} {j} {i} {is} s = spread_names g built.range p j i (ap (λ (x : List GItem). slice_get x j) s.split ∙ ap (λ (n : ℕ). slice_get (s.before ++ (i ∷ (is ++ s.after))) n) s.place ∙ seam s.before (is ++ s.after))
-    where
-      seam : (before after : List GItem) → slice_get (before ++ i ∷ after) (length before) ≡ Some i
-      seam [] after = refl
-      seam (x ∷ xs) after = seam xs after
-
   part_sound : {p j before start after next : ℕ} {is : List GItem} {arcs : List Arc} → LaysPart g p j is before start arcs after next → p < length g.rules → Stands g p j is → before < start → PartSound is before start after next arcs
   part_sound part_none rule place below = record { leads = λ a w b t. absurd (none a w b t); low = omega arith; last = inl refl; read = λ w path. subst (λ (x : List ℕ). IsLoose g [] x) (sym (empty_path nest k path)) loose_none }
   part_sound {p} {j} {before} {start} {after} {next} (part_then {between = between} {then = high} {i = i} {is = more} {own = own} {rest = others} plain lays rest e) rule place below =
-      let s = item_sound lays (name_here place) below in
+      let s = item_sound lays (first_named built place) below in
       let q = part_sound rest rule (after_item place) s.high in
       part_as e record {
         leads = joined_leads own others before start between high next s.leads q.leads s.low s.high q.low;

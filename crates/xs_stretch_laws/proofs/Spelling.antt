@@ -38,6 +38,14 @@ pub record Stands (g : Grammar) (p k : ℕ) (is : List GItem) : Type 0 where
 pub after_item : {g : Grammar} {p k : ℕ} {i : GItem} {is : List GItem} → Stands g p k (i ∷ is) → Stands g p (suc k) is
 after_item {i = i} {is = is} s = record { before = s.before ++ i ∷ []; after = s.after; split = s.split ∙ sym (append_assoc s.before (i ∷ []) (is ++ s.after)); place = omega (arith, s.place, length-append s.before (i ∷ [])) }
 
+seam : (before after : List GItem) (i : GItem) → slice_get (before ++ i ∷ after) (length before) ≡ Some i
+seam [] after i = refl
+seam (x ∷ xs) after i = seam xs after i
+
+-- what the first of the items names is there
+pub first_named : {g : Grammar} {p k : ℕ} {i : GItem} {is : List GItem} → IsBuilt g → Stands g p k (i ∷ is) → NamesAreThere g i
+first_named {g} {p} {k} {i} {is} built s = spread_names g built.range p k i (ap (λ (x : List GItem). slice_get x k) s.split ∙ ap (λ (n : ℕ). slice_get (s.before ++ (i ∷ (is ++ s.after))) n) s.place ∙ seam s.before (is ++ s.after) i)
+
 later_group : (before : List GItem) (l : ℕ) (inside : List GItem) (r : ℕ) (later after : List GItem) → before ++ (grouped l inside r later ++ after) ≡ (before ++ grouped l inside r []) ++ (later ++ after)
 later_group before l inside r later after = ap (λ (x : List GItem). before ++ x) (group_more l inside r later after) ∙ group_split before l inside r (later ++ after)
 
@@ -102,13 +110,6 @@ module _ (g : Grammar) (built : IsBuilt g) (nest : List Group) (nested : IsNestO
 
   names : (p : ℕ) {k : ℕ} {i : GItem} → OuterAt g.fences (spread g p) k i → NamesAreThere g i
   names p {k} {i} o = spread_names g built.range p k i (outer_at o)
-
-  name_here : {p k : ℕ} {i : GItem} {is : List GItem} → Stands g p k (i ∷ is) → NamesAreThere g i
-  name_here {p} {k} {i} {is} s = spread_names g built.range p k i (ap (λ (x : List GItem). slice_get x k) s.split ∙ ap (λ (n : ℕ). slice_get (s.before ++ (i ∷ (is ++ s.after))) n) s.place ∙ seam s.before (is ++ s.after))
-    where
-      seam : (before after : List GItem) → slice_get (before ++ i ∷ after) (length before) ≡ Some i
-      seam [] after = refl
-      seam (x ∷ xs) after = seam xs after
 
   -- the places to which a step leads have states
   state_there : {c first start next count : ℕ} {arcs : List Arc} {x y : Spot} {w : List ℕ} (d : LaysRules g c first (length g.rules) start arcs next) → Members g c g.nons count → Step g c x w y → (a : ℕ) × StateOf d y a
@@ -205,7 +206,7 @@ module _ (g : Grammar) (built : IsBuilt g) (nest : List Group) (nested : IsNestO
     part_path {before = before} {after = after} {all = all} (loose_then plain l t h) s (part_then {i = i} {own = own} {rest = more} p lays rest e) rule place within =
         let c = cons_parts s in
         let opened : Within (own ++ more) all = within_as e within in
-        let first = item_as c.0 (λ lays'. item_path l lays' (name_as (sym c.0) (name_here place)) (within_left own more opened)) lays in
+        let first = item_as c.0 (λ lays'. item_path l lays' (name_as (sym c.0) (first_named built place)) (within_left own more opened)) lays in
         subst (λ (x : List ℕ). Path (Along nest all) before x after) (sym h) (path_on first (part_path t c.1 rest rule (after_item place) (within_right own opened)))
     part_path (loose_then plain l t h) s (part_group f v rest split e) rule place within = absurd (plain_not_group f plain (s ∙ split))
     part_path (loose_group f i t split h) s part_none rule place within = absurd (no_group (sym s ∙ split))

@@ -1,5 +1,5 @@
 -- No class of an edge has a fence symbol, so the nest of a grammar and its nets may be searched.
-use Rattle.std.proofs.Common.{◌≡◌, inl, inr, ℕ, zero, suc, List, [], ◌∷◌, ◌++◌, length, refl, sym, ap, subst, ◌∙◌, arith, append-nil, false, slice_get, slice_index_or, Some}
+use Rattle.std.proofs.Common.{◌≡◌, inl, inr, ℕ, zero, suc, List, [], ◌∷◌, ◌++◌, refl, sym, ap, subst, ◌∙◌, arith, append-nil, false, slice_index_or}
 use Rattle.std.specs.Prelude.{IsSome}
 use Rattle.std.specs.declared.option.Option.{Option}
 use Rattle.std.specs.List.{Contains}
@@ -17,14 +17,13 @@ use Rattle.xs_gram.specs.Building.{NamesAreThere}
 use Rattle.xs_gram.specs.Fences.{spread, is_left, is_right, is_fence, IsFence, IsPlain, IsUnfenced}
 use Rattle.xs_gram.proofs.Fences.{is_left_of, is_right_of, one_right, one_left, sides_apart}
 use Rattle.xs_gram.proofs.Classes.{term_unfenced, skip_unfenced}
-use Rattle.xs_gram.proofs.Spreading.{spread_names}
 use Rattle.xs_stretch.specs.Arcs.{Label, reads, passes, calls, Arc, read, pass, call, word_arcs, automaton_arcs}
 use Rattle.xs_stretch.specs.Groups.{group_number}
 use Rattle.xs_stretch.specs.Laying.{entry_state, exit_state, LaysItem, lays_fixed, lays_term, lays_skip, lays_non, lays_component, LaysRules, lays_no_rule, lays_rule, lays_other_rule, LaysBody, lays_no_body, lays_member, lays_other, lays_group, LaysPart, part_none, part_then, part_group}
 use Rattle.xs_stretch.specs.Nets.{IsNumbered, IsNestOf}
 use Rattle.xs_stretch_laws.specs.Laws.{NestsAreFenced, NetsAreTame}
 use Rattle.xs_stretch_laws.proofs.Among.{Among, nothing, first_or_rest, among_either, of_contains}
-use Rattle.xs_stretch_laws.proofs.Spelling.{Stands, after_item, after_group, inside_stands}
+use Rattle.xs_stretch_laws.proofs.Spelling.{Stands, first_named, after_item, after_group, inside_stands}
 use Rattle.xs_stretch_laws.proofs.Pieces.{AutomatonArc, leads_in, leads_on, leads_out, leads_past, automaton_only}
 
 -- the label reads no fence symbol
@@ -73,13 +72,6 @@ automaton_clear fs p before first each = record { each = λ x h. by_kind x (auto
     by_kind x (leads_past n e) = subst (λ (z : Arc). IsClear fs z.label) e tt
 
 module _ (g : Grammar) (built : IsBuilt g) where
-  name_of : {p j : ℕ} {i : GItem} {is : List GItem} → Stands g p j (i ∷ is) → NamesAreThere g i
-  name_of {p} {j} {i} {is} s = spread_names g built.range p j i (ap (λ (x : List GItem). slice_get x j) s.split ∙ ap (λ (n : ℕ). slice_get (s.before ++ (i ∷ (is ++ s.after))) n) s.place ∙ seam s.before (is ++ s.after))
-    where
-      seam : (before after : List GItem) → slice_get (before ++ i ∷ after) (length before) ≡ Some i
-      seam [] after = refl
-      seam (x ∷ xs) after = seam xs after
-
   mutual
     item_clear : {i : GItem} {before start after next : ℕ} {arcs : List Arc} → LaysItem g i before start arcs after next → IsPlain g.fences i → NamesAreThere g i → AreClear g.fences arcs
     item_clear {before = before} {start = start} (lays_fixed {f = f} e a n) plain named = clear_as e (word_clear g.fences f before start plain)
@@ -97,12 +89,12 @@ module _ (g : Grammar) (built : IsBuilt g) where
     body_clear : {c first p j before start after next : ℕ} {is : List GItem} {arcs : List Arc} → LaysBody g c first p j is before start arcs after next → Stands g p j is → AreClear g.fences arcs
     body_clear lays_no_body place = no_arc
     body_clear {first = first} {before = before} {start = start} (lays_member {j = i} one members rest e) place = clear_as e (one_more (pass before (entry_state first i)) tt (one_more (pass (exit_state first i) start) tt (body_clear rest (after_item place))))
-    body_clear (lays_other {own = own} {rest = others} plain apart lays rest e) place = clear_as e (both_clear own others (item_clear lays plain (name_of place)) (body_clear rest (after_item place)))
+    body_clear (lays_other {own = own} {rest = others} plain apart lays rest e) place = clear_as e (both_clear own others (item_clear lays plain (first_named built place)) (body_clear rest (after_item place)))
     body_clear {p = p} {j = j} {before = before} {start = start} (lays_group {r = r} {inside = inside} f v rest opened e) place = clear_as e (one_more (call before (group_number g p j) start) tt (one_more (pass start (suc start)) tt (body_clear rest (after_group inside r opened place))))
 
   part_clear : {p j before start after next : ℕ} {is : List GItem} {arcs : List Arc} → LaysPart g p j is before start arcs after next → Stands g p j is → AreClear g.fences arcs
   part_clear part_none place = no_arc
-  part_clear (part_then {own = own} {rest = others} plain lays rest e) place = clear_as e (both_clear own others (item_clear lays plain (name_of place)) (part_clear rest (after_item place)))
+  part_clear (part_then {own = own} {rest = others} plain lays rest e) place = clear_as e (both_clear own others (item_clear lays plain (first_named built place)) (part_clear rest (after_item place)))
   part_clear {p} {j} {before} {start} (part_group {r = r} {inside = inside} f v rest opened e) place = clear_as e (one_more (call before (group_number g p j) start) tt (one_more (pass start (suc start)) tt (part_clear rest (after_group inside r opened place))))
 
   -- a symbol that no fence has is none of a group's
