@@ -92,11 +92,7 @@ module _ (g : Grammar) (built : IsBuilt g) where
 
 -- of items that can be laid below the bound those before an item were, up to a spot
 pub record Gone (g : Grammar) (weights : List ℕ) (home : Option Home) (p start : ℕ) (items : List GItem) (s : Spot) (bound place : ℕ) (t : Spot) (old : Graph) (olds : List Task) (new : Graph) (news : List Task) : Type 0 where
-  pub all : List Arc
-  pub after : ℕ
-  pub end : ℕ
-  pub whole : Lays g home p start items s all after end
-  pub within : end ≤ bound
+  pub room : HasRoom g bound home p start items s
   pub front : List GItem
   pub rest : List GItem
   pub split : items ≡ front ++ rest
@@ -104,17 +100,13 @@ pub record Gone (g : Grammar) (weights : List ℕ) (home : Option Home) (p start
   pub level : IsLevel g.fences rest
   pub first : List Arc
   pub todo : List Arc
-  pub arcs : all ≡ first ++ todo
-  pub lays : Lays g home p place rest t todo after end
+  pub arcs : room.arcs ≡ first ++ todo
+  pub lays : Lays g home p place rest t todo room.after room.next
   pub done : IsDone g weights first s.at t.at old olds new news
 
 pub gone_none : (g : Grammar) (weights : List ℕ) (home : Option Home) (p start : ℕ) (items : List GItem) (s : Spot) (bound : ℕ) (n : Graph) (ts : List Task) → IsLevel g.fences items → HasRoom g bound home p start items s → Gone g weights home p start items s bound start s n ts n ts
 gone_none g weights home p start items s bound n ts level room = record {
-  all = room.arcs;
-  after = room.after;
-  end = room.next;
-  whole = room.lays;
-  within = room.within;
+  room = room;
   front = [];
   rest = items;
   split = refl;
@@ -133,19 +125,15 @@ module _ (g : Grammar) (weights : List ℕ) (home : Option Home) (p start : ℕ)
 
   -- what is left stands in the rule, with room for it
   pub gone_room : (place : ℕ) (t : Spot) (new : Graph) (news : List Task) → IsStretch g p start items → place < start + length items → Gone g weights home p start items s bound place t old olds new news → (rest : List GItem) × StandsAt g p place rest × HasRoom g bound home p place rest t
-  gone_room place t new news stretch low h = (h.rest, stretch_rest g p start place items h.front h.rest stretch h.split h.at h.level (omega (arith, gone_long place t new news h, h.at)), record { arcs = h.todo; after = h.after; next = h.end; lays = h.lays; within = h.within })
+  gone_room place t new news stretch low h = (h.rest, stretch_rest g p start place items h.front h.rest stretch h.split h.at h.level (omega (arith, gone_long place t new news h, h.at)), record { arcs = h.todo; after = h.room.after; next = h.room.next; lays = h.lays; within = h.room.within })
 
   pub gone_more : (place : ℕ) (t : Spot) (new newer : Graph) (news newers : List Task) (n : Next) → IsStretch g p start items → place < start + length items → Gone g weights home p start items s bound place t old olds new news → ((rest : List GItem) (all : List Arc) (after end : ℕ) → StandsAt g p place rest → Lays g home p place rest t all after end → IsStepped g weights home p place rest t all after end new news newer newers n) → Gone g weights home p start items s bound n.place n.spot old olds newer newers × (place < n.place) × (n.place ≤ start + length items)
   unfolding gone_room
   gone_more place t new newer news newers n stretch low h step =
-      let own = step h.rest h.todo h.after h.end (gone_room place t new news stretch low h).1 h.lays in
+      let own = step h.rest h.todo h.room.after h.room.next (gone_room place t new news stretch low h).1 h.lays in
       let piece : length h.rest ≡ length own.piece + length own.later = ap length own.is.split ∙ length-append own.piece own.later in (
         record {
-          all = h.all;
-          after = h.after;
-          end = h.end;
-          whole = h.whole;
-          within = h.within;
+          room = h.room;
           front = h.front ++ own.piece;
           rest = own.later;
           split = h.split ∙ ap (λ (xs : List GItem). h.front ++ xs) own.is.split ∙ sym (append_assoc h.front own.piece own.later);
@@ -180,10 +168,10 @@ module _ (g : Grammar) (weights : List ℕ) (home : Option Home) (p start : ℕ)
 
   pub gone_done : (place : ℕ) (t : Spot) (new : Graph) (news : List Task) → t.before < states old → start + length items ≤ place → Gone g weights home p start items s bound place t old olds new news → AreAllLaid g weights home p start items s old olds new news t
   gone_done place t new news low ends h =
-      let none = none_left home place h.rest t h.todo h.after h.end h.lays (omega (arith, gone_long place t new news h, h.at)) in
-      let arcs : h.all ≡ h.first = h.arcs ∙ ap (λ (xs : List Arc). h.first ++ xs) none.0 ∙ append-nil h.first in
-      let at_arcs : Lays g home p start items s h.first h.after h.end = subst (λ (xs : List Arc). Lays g home p start items s xs h.after h.end) arcs h.whole in
-      let at_after : Lays g home p start items s h.first t.before h.end = subst (λ (x : ℕ). Lays g home p start items s h.first x h.end) none.1 at_arcs in
+      let none = none_left home place h.rest t h.todo h.room.after h.room.next h.lays (omega (arith, gone_long place t new news h, h.at)) in
+      let arcs : h.room.arcs ≡ h.first = h.arcs ∙ ap (λ (xs : List Arc). h.first ++ xs) none.0 ∙ append-nil h.first in
+      let at_arcs : Lays g home p start items s h.first h.room.after h.room.next = subst (λ (xs : List Arc). Lays g home p start items s xs h.room.after h.room.next) arcs h.room.lays in
+      let at_after : Lays g home p start items s h.first t.before h.room.next = subst (λ (x : ℕ). Lays g home p start items s h.first x h.room.next) none.1 at_arcs in
       record {
         arcs = h.first;
         lays = subst (λ (x : ℕ). Lays g home p start items s h.first t.before x) none.2 at_after;

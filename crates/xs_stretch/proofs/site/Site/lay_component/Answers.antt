@@ -1,4 +1,4 @@
-use Rattle.std.proofs.Common.{◌≡◌, ℕ, suc, ◌+◌, ◌*◌, length, get_or, refl, sym, subst, arith, Some}
+use Rattle.std.proofs.Common.{ℕ, suc, ◌+◌, ◌*◌, length, get_or, refl, sym, subst, arith, Some}
 use Rattle.xs_auto.specs.Nets.{states}
 use Rattle.xs_gram.specs.Fences.{spread}
 use Rattle.xs_stretch.specs.Walking.{IsHome, HasRoom}
