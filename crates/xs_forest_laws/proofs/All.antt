@@ -83,26 +83,33 @@ module _ (g : Grammar) (w : List ℕ) (f : Forest) where
     regroup : (p d i j : ℕ) (a b c : Parts) → FrontRead p d i j (parts_then (parts_then a b) c) → FrontRead p d i j (parts_then a (parts_then b c))
     regroup p d i j a b c h = rw (then_assoc a b c) at h
 
+    word_row : (item : GItem) (i j : ℕ) (o : Option ℕ) → IsWord item → ItemRow f item i j o → o ≡ None
+    word_row (Fixed v) i j o h row = row
+    word_row (Term t v) i j o h row = row
+    word_row (Skip t) i j o h row = row
+    word_row (Non n v) i j o h row = absurd h
+
+    -- an item whose part is a word, and what is read after it
+    passed : (p d i j k : ℕ) (item : GItem) (bs one ps : Parts) (u : List ℕ) → FrontRead p d i j bs → ItemAt g p d item → IsWord item → FitsItems g (item ∷ []) one → parts_yield one ≡ u → Reads w j (u ++ parts_yield ps) k → (m : ℕ) × FrontRead p (suc d) i m (parts_then bs one) × Reads w m (parts_yield ps) k
+    passed p d i j k item bs one ps u h at word fits is r =
+        let s = Reads-split w j u (parts_yield ps) k r in
+        let spans : Spans g w (item ∷ []) j s.0 one = (fits, Reads-same w j u (parts_yield one) s.0 (sym is) s.1) in
+        (s.0, step p d i j s.0 item bs one h at spans (λ o row. word_from item j s.0 one word spans o (word_row item j s.0 o word row)), s.2)
+
     pub walk : (p d i j : ℕ) (is : List GItem) (ps : Parts) (post : List GItem) (k : ℕ) (bs : Parts) → drop d (items g p) ≡ is ++ post → FitsItems g is ps → FrontRead p d i j bs → Reads w j (parts_yield ps) k → FrontRead p (after d is) i k (parts_then bs ps)
     walk p d i j [] done post k bs e f h r = rw (then_done bs, ← r) h
     walk p d i j (Fixed v ∷ is) (fixed u ps) post k bs e f h r =
         let at = drop_get (items g p) d (Fixed v) (is ++ post) e in
-        let s = Reads-split w j u (parts_yield ps) k r in
-        let one : Spans g w (Fixed v ∷ []) j s.0 (fixed u done) = ((f.0, tt), Reads-same w j u (u ++ []) s.0 (sym (append-nil u)) s.1) in
-        let h' = step p d i j s.0 (Fixed v) bs (fixed u done) h at.0 one (λ o. word_from (Fixed v) j s.0 (fixed u done) tt one o) in
-        regroup p (after (suc d) is) i k bs (fixed u done) ps (walk p (suc d) i s.0 is ps post k (parts_then bs (fixed u done)) at.1 f.1 h' s.2)
+        let s = passed p d i j k (Fixed v) bs (fixed u done) ps u h at.0 tt (f.0, tt) (append-nil u) r in
+        regroup p (after (suc d) is) i k bs (fixed u done) ps (walk p (suc d) i s.0 is ps post k (parts_then bs (fixed u done)) at.1 f.1 s.1 s.2)
     walk p d i j (Term t v ∷ is) (leaf u ps) post k bs e f h r =
         let at = drop_get (items g p) d (Term t v) (is ++ post) e in
-        let s = Reads-split w j u (parts_yield ps) k r in
-        let one : Spans g w (Term t v ∷ []) j s.0 (leaf u done) = ((f.0, tt), Reads-same w j u (u ++ []) s.0 (sym (append-nil u)) s.1) in
-        let h' = step p d i j s.0 (Term t v) bs (leaf u done) h at.0 one (λ o. word_from (Term t v) j s.0 (leaf u done) tt one o) in
-        regroup p (after (suc d) is) i k bs (leaf u done) ps (walk p (suc d) i s.0 is ps post k (parts_then bs (leaf u done)) at.1 f.1 h' s.2)
+        let s = passed p d i j k (Term t v) bs (leaf u done) ps u h at.0 tt (f.0, tt) (append-nil u) r in
+        regroup p (after (suc d) is) i k bs (leaf u done) ps (walk p (suc d) i s.0 is ps post k (parts_then bs (leaf u done)) at.1 f.1 s.1 s.2)
     walk p d i j (Skip t ∷ is) (skip u ps) post k bs e f h r =
         let at = drop_get (items g p) d (Skip t) (is ++ post) e in
-        let s = Reads-split w j u (parts_yield ps) k r in
-        let one : Spans g w (Skip t ∷ []) j s.0 (skip u done) = ((f.0, tt), Reads-same w j u (u ++ []) s.0 (sym (append-nil u)) s.1) in
-        let h' = step p d i j s.0 (Skip t) bs (skip u done) h at.0 one (λ o. word_from (Skip t) j s.0 (skip u done) tt one o) in
-        regroup p (after (suc d) is) i k bs (skip u done) ps (walk p (suc d) i s.0 is ps post k (parts_then bs (skip u done)) at.1 f.1 h' s.2)
+        let s = passed p d i j k (Skip t) bs (skip u done) ps u h at.0 tt (f.0, tt) (append-nil u) r in
+        regroup p (after (suc d) is) i k bs (skip u done) ps (walk p (suc d) i s.0 is ps post k (parts_then bs (skip u done)) at.1 f.1 s.1 s.2)
     walk p d i j (Non m v ∷ is) (sub q qs ps) post k bs e f h r =
         let at = drop_get (items g p) d (Non m v) (is ++ post) e in
         let s = Reads-split w j (parts_yield qs) (parts_yield ps) k r in

@@ -1,5 +1,5 @@
 -- Each alternative's children have unfoldings, so each row that has one has one by the first alternatives.
-use Rattle.std.proofs.Common.{◌≡◌, ℕ, zero, suc, ◌<◌, List, [], ◌∷◌, length, take, Option, Some, None, refl, arith, inl, inr, ◌⊎◌}
+use Rattle.std.proofs.Common.{◌≡◌, ℕ, zero, suc, ◌<◌, List, [], ◌∷◌, length, take, Option, Some, None, refl, arith}
 use Rattle.std.proofs.Math.Seq.{take-length}
 use Rattle.std.specs.Prelude.{Contains}
 use Rattle.xs_class.proofs.Lists.{contains_of}
@@ -12,6 +12,7 @@ use Rattle.xs_forest_laws.specs.declared.span.What.{What}
 use Rattle.xs_forest_laws.specs.declared.span.What.TheVariants.{Whole, Front}
 use Rattle.xs_forest_laws.specs.Forest.{Forest, key_of, alts_of, IsRow, Unfolding, bare, pick, Unfolds, items_of, IsSpelt, FrontAt, ItemRow, IsAlt, IsRight}
 use Rattle.xs_forest_laws.specs.First.{IsFirst}
+use Rattle.xs_forest_laws.proofs.Children.{IsBefore, children_before}
 use Rattle.xs_forest_laws.proofs.Read.{any_slot}
 use Rattle.xs_forest_laws.proofs.All.{fitting_is_unfolded}
 
@@ -54,16 +55,7 @@ module _ (g : Grammar) (w : List ℕ) (f : Forest) (right : IsRight g w f) where
       let k = key_of f r in
       alt_unfolds k.what k.start k.end a (right.sound r k.what k.start k.end a (lt, refl) c)
 
-  -- a child that is a row stands before row n
-  abbrev IsBefore : Option ℕ → ℕ → Type 0
-  IsBefore None n = Unit {0}
-  IsBefore (Some r) n = (r < n) × (r < length f)
-
-  before : (r n : ℕ) (a : Alt) → r < suc n → r < length f → Contains (alts_of f r) a → (o : Option ℕ) → ((c : ℕ) → o ≡ Some c → (a.left ≡ Some c) ⊎ (a.right ≡ Some c)) → IsBefore o n
-  before r n a lt lf c None h = tt
-  before r n a lt lf c (Some m) h = let b = right.below r m a lf c (h m refl) in (omega arith, omega arith)
-
-  first_of : (n : ℕ) (o : Option ℕ) → IsBefore o n → HasUnfolding o → (v : Unfolding) × IsFirst f o v
+  first_of : (n : ℕ) (o : Option ℕ) → IsBefore f o n → HasUnfolding o → (v : Unfolding) × IsFirst f o v
   first_of n None h u = (bare, tt)
   first_of zero (Some r) h u = absurd (omega (arith, h.0))
   first_of (suc n) (Some r) h (bare, u) = absurd u
@@ -71,8 +63,9 @@ module _ (g : Grammar) (w : List ℕ) (f : Forest) (right : IsRight g w f) where
       let a = get_some (alts_of f r) 0 (omega (arith, u.1.1)) in
       let there = contains_of (alts_of f r) 0 a.0 a.1 in
       let c = children_unfold r a.0 h.1 there in
-      let l = first_of n a.0.left (before r n a.0 h.0 h.1 there a.0.left (λ m e. inl e)) c.0 in
-      let t = first_of n a.0.right (before r n a.0 h.0 h.1 there a.0.right (λ m e. inr e)) c.1 in
+      let before = children_before g w f right r n a.0 h.0 h.1 there in
+      let l = first_of n a.0.left before.0 c.0 in
+      let t = first_of n a.0.right before.1 c.1 in
       (pick a.0 l.0 t.0, (h.1, a.1, l.1, t.1))
 
   pub has_first : (r : ℕ) (u : Unfolding) → Unfolds f (Some r) u → (v : Unfolding) × IsFirst f (Some r) v

@@ -1,4 +1,5 @@
 pub mod Read
+pub mod Children
 pub mod All
 pub mod Once
 pub mod Root

@@ -1,13 +1,14 @@
 -- Each number below the count is that of an unfolding, different numbers are of different unfoldings, and where the count is below the cap each unfolding has one.
-use Rattle.std.proofs.Common.{◌≡◌, ℕ, zero, suc, ◌+◌, ◌-◌, ◌*◌, ◌<◌, ◌≤◌, List, [], ◌∷◌, length, take, Option, Some, None, refl, sym, ap, ◌∙◌, arith, subst, inl, inr, ◌⊎◌}
+use Rattle.std.proofs.Common.{◌≡◌, ℕ, zero, suc, ◌+◌, ◌-◌, ◌*◌, ◌<◌, ◌≤◌, List, [], ◌∷◌, length, take, Option, Some, None, refl, sym, ap, ◌∙◌, arith, subst, inl, inr}
 use Rattle.std.proofs.Math.Nat.{suc-mul}
 use Rattle.std.proofs.lemmas.Bool.{cases_lt}
-use Rattle.std.specs.Prelude.{slice_get, Contains}
+use Rattle.std.specs.Prelude.{slice_get}
 use Rattle.xs_class.proofs.Lists.{get_of, contains_of, one_cell}
 use Rattle.xs_gram.specs.Grammar.{Grammar}
 use Rattle.xs_forest.specs.declared.row.Alt.{Alt}
 use Rattle.xs_forest_laws.specs.Forest.{Forest, alts_of, Unfolding, bare, pick, Unfolds, IsRight}
 use Rattle.xs_forest_laws.specs.Number.{count_of, alt_count, alts_count, alts_sum, IsCounted, At}
+use Rattle.xs_forest_laws.proofs.Children.{IsBefore, children_before}
 use Rattle.xs_forest_laws.proofs.Once.{pick_is}
 pub use Rattle.xs_class.proofs.Lists.{one_cell as place_one}
 pub use Rattle.xs_class.proofs.Lists.{contains_of}
@@ -115,16 +116,8 @@ module _ (g : Grammar) (w : List ℕ) (f : Forest) (right : IsRight g w f) (cap 
       ek ∙ rw (en, ex, ey) (sym ek')
 
   module _ (counted : IsCounted f cap cs) where
-    abbrev IsUnder : Option ℕ → ℕ → Type 0
-    IsUnder None n = Unit {0}
-    IsUnder (Some r) n = (r < n) × (r < length f)
-
-    under : (r n : ℕ) (a : Alt) → r < suc n → r < length f → Contains (alts_of f r) a → (o : Option ℕ) → ((c : ℕ) → o ≡ Some c → (a.left ≡ Some c) ⊎ (a.right ≡ Some c)) → IsUnder o n
-    under r n a lt lf c None h = tt
-    under r n a lt lf c (Some m) h = let b = right.below r m a lf c (h m refl) in (omega arith, omega arith)
-
     -- each number below the count is that of an unfolding
-    pub number : (n : ℕ) (o : Option ℕ) (k : ℕ) → IsUnder o n → k < count_of cs o → (u : Unfolding) × At f cap cs o k u
+    pub number : (n : ℕ) (o : Option ℕ) (k : ℕ) → IsBefore f o n → k < count_of cs o → (u : Unfolding) × At f cap cs o k u
     number n None k h lt = (bare, omega arith)
     number zero (Some r) k h lt = absurd (omega (arith, h.0))
     number (suc n) (Some r) k h lt =
@@ -133,11 +126,12 @@ module _ (g : Grammar) (w : List ℕ) (f : Forest) (right : IsRight g w f) (cap 
         let a = c.1 in
         let there = contains_of (alts_of f r) c.0 a c.3 in
         let p = place_of (count_of cs a.left) (count_of cs a.right) c.2 (omega (arith, c.5)) in
-        let l = number n a.left p.0 (under r n a h.0 h.1 there a.left (λ m e. inl e)) p.2 in
-        let t = number n a.right p.1 (under r n a h.0 h.1 there a.right (λ m e. inr e)) p.3 in
+        let before = children_before g w f right r n a h.0 h.1 there in
+        let l = number n a.left p.0 before.0 p.2 in
+        let t = number n a.right p.1 before.1 p.3 in
         (pick a l.0 t.0, (h.1, c.0, p.0, p.1, c.3, p.3, omega (arith, p.4, c.5), c.4 ∙ ap (λ z. alts_sum cap cs (take c.0 (alts_of f r)) + z) p.4, l.1, t.1))
 
-    pub numbered : (o : Option ℕ) → IsUnder o (length f) → (k : ℕ) → k < count_of cs o → (u : Unfolding) × At f cap cs o k u
+    pub numbered : (o : Option ℕ) → IsBefore f o (length f) → (k : ℕ) → k < count_of cs o → (u : Unfolding) × At f cap cs o k u
     numbered o h k lt = number (length f) o k h lt
 
     -- what has an unfolding has a count
