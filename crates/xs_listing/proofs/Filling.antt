@@ -1,5 +1,5 @@
 -- Kids at the slots of a rule: which are the children of a node, in the order of the slots.
-use Rattle.std.proofs.Common.{◌≡◌, inl, inr, ℕ, zero, suc, ◌+◌, ◌<◌, ◌≤◌, List, [], ◌∷◌, ◌++◌, length, Some, sym, ◌∙◌, ap, arith, subst, drop, drop-cons, add-one, get_or-set_same, get_or-set_other, All, take, append-nil, append_assoc, length-append}
+use Rattle.std.proofs.Common.{◌≡◌, inl, inr, ℕ, zero, suc, ◌+◌, ◌<◌, List, [], ◌∷◌, ◌++◌, length, Some, sym, ◌∙◌, ap, arith, subst, drop, drop-cons, add-one, get_or-set_same, get_or-set_other, All, take, append-nil}
 use Rattle.std.proofs.Math.ListN.{length-set}
 use Rattle.std.proofs.Math.Seq.{get_or-append_seam}
 use Rattle.std.specs.Prelude.{slice_index, slice_set}
@@ -14,6 +14,7 @@ use Rattle.xs_gram.specs.Laws.{IsNumbered}
 use Rattle.xs_gram.proofs.Lookup.{length-keys}
 use Rattle.xs_gram.proofs.Entries.{keys_are, lookup_same, lookup_other, found}
 use Rattle.xs_tree.specs.Flat.{TreePart, tree_at, kids_at, tree_of, trees_of}
+use Rattle.xs_tree.proofs.Longer.{longer_length}
 use Rattle.xs_tree.proofs.Trees.{trees_onward, tree_stays, trees_push, length-trees}
 use Rattle.xs_listing.specs.Making.{Extends, Fills}
 
@@ -35,22 +36,13 @@ last_tree parts part =
     let e = ap (λ l. tree_at l (length parts)) (trees_push parts part) in
     e ∙ ap (tree_at (trees_of parts ++ tree_of (trees_of parts) part ∷ [])) (sym (length-trees parts)) ∙ get_or-append_seam (trees_of parts) (tree_of (trees_of parts) part) [] (word [])
 
-pub extends_none : (parts : List TreePart) → Extends parts parts
-extends_none parts = ([], sym (append-nil parts))
-
-pub extends_all : (a b c : List TreePart) → Extends a b → Extends b c → Extends a c
-extends_all a b c (xs, e) (ys, h) = (xs ++ ys, h ∙ ap (λ (l : List TreePart). l ++ ys) e ∙ simp (append_assoc))
-
-pub extends_longer : (a b : List TreePart) → Extends a b → length a ≤ length b
-extends_longer a b (xs, e) = let n = ap length e in omega (arith, length-append a xs)
-
 pub tree_extends : (a b : List TreePart) (v : ℕ) → Extends a b → v < length a → tree_at (trees_of b) v ≡ tree_at (trees_of a) v
 tree_extends a b v (xs, e) lt = ap (λ (l : List TreePart). tree_at (trees_of l) v) e ∙ tree_more a xs v lt
 
 pub fills_more : (a b : List TreePart) (kids : List ℕ) (es : List (ℕ × Common)) → Extends a b → Fills a kids es → Fills b kids es
 fills_more a b kids es ex fills s t e =
     let h = fills s t e in
-    let le = extends_longer a b ex in
+    let le = longer_length a b ex in
     (h.0, omega (arith, h.1), tree_extends a b (slice_index kids s) ex h.1 ∙ h.2)
 
 pub fills_none : (parts : List TreePart) (kids : List ℕ) → Fills parts kids []

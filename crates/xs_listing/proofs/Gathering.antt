@@ -1,8 +1,9 @@
 -- The kids of a node, from the last item of its rule to the first.
-use Rattle.std.proofs.Common.{◌≡◌, ℕ, zero, suc, ◌<◌, ◌≤◌, List, [], ◌∷◌, ◌++◌, length, Option, Some, None, refl, sym, ◌∙◌, ap, arith, subst, drop, length-append}
+use Rattle.std.proofs.Common.{◌≡◌, ℕ, zero, suc, ◌-◌, ◌<◌, ◌≤◌, List, [], ◌∷◌, ◌++◌, length, get_or, Option, Some, None, refl, sym, ◌∙◌, ap, arith, subst, drop, length-append}
 use Rattle.std.specs.Prelude.{slice_get, slice_index, slice_set, slice_range}
 use Rattle.std.proofs.Math.ListN.{length-set}
 use Rattle.std.proofs.lemmas.List.{drop_all}
+use Rattle.std.proofs.lemmas.Option.{slice_get_read}
 use Rattle.xs_gram.specs.declared.parts.GItem.{GItem}
 use Rattle.xs_gram.specs.declared.parts.GItem.TheVariants.{Fixed, Term, Non, Skip}
 use Rattle.xs_gram.specs.Grammar.{Grammar, items, slots, ItemAt}
@@ -13,6 +14,7 @@ use Rattle.xs_chart_laws.proofs.Words.{get_drop, Reads-is}
 use Rattle.xs_chart_laws.specs.Parts.{parts_then}
 use Rattle.xs_forest.specs.declared.row.Alt.{Alt}
 use Rattle.xs_tree.specs.Flat.{TreePart, Leaf, tree_at, trees_of}
+use Rattle.xs_tree.proofs.Longer.{longer_none, longer_length}
 use Rattle.xs_forest_laws.specs.declared.span.SpanKey.{SpanKey}
 use Rattle.xs_forest_laws.specs.declared.span.What.TheVariants.{Front}
 use Rattle.xs_forest_laws.specs.Forest.{Forest, key_of, alts_of, IsRow, Unfolding, bare, pick, last_part, read, end_of, IsSpelt, FrontAt, ItemRow, FrontAlt, IsRight}
@@ -25,7 +27,7 @@ use Rattle.xs_listing.specs.declared.rows.FirstAlternative.{FirstAlternative}
 use Rattle.xs_listing.specs.Marks.{IsFirstAlt}
 use Rattle.xs_listing.specs.Making.{IsFirstAlternative, IsTreeOf, IsMade, IsMadeChild, IsPrepared, CanGather, Extends, Fills, CanPlace, IsPlaced}
 use Rattle.xs_listing.proofs.Children.{spelt_inside}
-use Rattle.xs_listing.proofs.Filling.{extends_none, extends_longer, tree_extends, fills_more, fills_none, fills_put, last_tree}
+use Rattle.xs_listing.proofs.Filling.{tree_extends, fills_more, fills_none, fills_put, last_tree}
 
 -- there is only one unfolding by first alternatives
 pub one_first : (f : Forest) (o : Option ℕ) (u v : Unfolding) → IsFirst f o u → IsFirst f o v → u ≡ v
@@ -44,7 +46,7 @@ module _ (g : Grammar) (w : List ℕ) (f : Forest) where
   -- what is made stays made where the list goes on
   pub made_more : (a b : List TreePart) (r v : ℕ) → Extends a b → IsMade g w f a r v → IsMade g w f b r v
   made_more a b r v ex made =
-      let le = extends_longer a b ex in
+      let le = longer_length a b ex in
       let there = made.there in
       record {
         there = omega arith;
@@ -148,11 +150,11 @@ module _ (g : Grammar) (w : List ℕ) (f : Forest) (right : IsRight g w f) (q : 
   new_filled (Skip k) is tail m j (Some c) t step parts parts' kids kids' row made first re se ee can placed fills = cc
   new_filled (Term n s) is tail m j (Some c) t step parts parts' kids kids' row made first re se ee can placed fills = cc
   new_filled (Fixed v) is tail m j None t step parts parts' kids kids' row made first re se ee can placed fills = (
-    subst (λ (l : List TreePart). Extends parts l) (sym placed.0) (extends_none parts),
+    subst (λ (l : List TreePart). Extends parts l) (sym placed.0) (longer_none parts),
     subst (λ (l : List TreePart). Fills l kids' (named g is tail)) (sym placed.0) (subst (λ (l : List ℕ). Fills parts l (named g is tail)) (sym placed.1) fills),
   )
   new_filled (Skip k) is tail m j None t step parts parts' kids kids' row made first re se ee can placed fills = (
-    subst (λ (l : List TreePart). Extends parts l) (sym placed.0) (extends_none parts),
+    subst (λ (l : List TreePart). Extends parts l) (sym placed.0) (longer_none parts),
     subst (λ (l : List TreePart). Fills l kids' (named g is tail)) (sym placed.0) (subst (λ (l : List ℕ). Fills parts l (named g is tail)) (sym placed.1) fills),
   )
   new_filled (Term n s) is tail m j None t step parts parts' kids kids' row made first re se ee can placed fills = (ex, done_here)
@@ -186,12 +188,12 @@ module _ (g : Grammar) (w : List ℕ) (f : Forest) (right : IsRight g w f) (q : 
       let put = fills_put parts kids (named g is tail) s v (tree_at (trees_of parts) v) fills can.0 made.1.there refl in
       let entry : Fills parts (slice_set kids s v) (named g (Non n s ∷ is) (sub is_tree.rule is_tree.parts tail)) = subst (λ x. Fills parts (slice_set kids s v) ((s, x) ∷ named g is tail)) is_tree.tree_is put in
       let named_is : Fills parts (slice_set kids s v) (named g (Non n s ∷ is) (parts_then (read g w f (Some c) t) tail)) = subst (λ x. Fills parts (slice_set kids s v) (named g (Non n s ∷ is) (parts_then x tail))) (sym is_tree.parts_are) entry in (
-        subst (λ (l : List TreePart). Extends parts l) (sym pe) (extends_none parts),
+        subst (λ (l : List TreePart). Extends parts l) (sym pe) (longer_none parts),
         subst (λ (l : List TreePart). Fills l kids' (named g (Non n s ∷ is) (parts_then (read g w f (Some c) t) tail))) (sym pe) (subst (λ (l : List ℕ). Fills parts l (named g (Non n s ∷ is) (parts_then (read g w f (Some c) t) tail))) (sym kids_is) named_is),
       )
 
   -- one item more
-  pub step_on : (d row : ℕ) (front : Option ℕ) (item : GItem) (step : FirstAlternative) (parts parts' : List TreePart) (kids kids' : List ℕ) → Gathers g w f q left numbers (suc d) front parts kids → front ≡ Some row → IsFirstAlternative f row step → ItemAt g q d item → CanPlace w numbers (length kids) item step → IsPlaced w numbers item step parts kids parts' kids' → Extends parts parts' × Gathers g w f q left numbers d step.left parts' kids'
+  step_on : (d row : ℕ) (front : Option ℕ) (item : GItem) (step : FirstAlternative) (parts parts' : List TreePart) (kids kids' : List ℕ) → Gathers g w f q left numbers (suc d) front parts kids → front ≡ Some row → IsFirstAlternative f row step → ItemAt g q d item → CanPlace w numbers (length kids) item step → IsPlaced w numbers item step parts kids parts' kids' → Extends parts parts' × Gathers g w f q left numbers d step.left parts' kids'
   step_on d row front item step parts parts' kids kids' so at st item_at can placed = (filled.0, gathers)
     where
       same_row : so.front_is.0 ≡ row
@@ -273,7 +275,7 @@ module _ (g : Grammar) (w : List ℕ) (f : Forest) (right : IsRight g w f) (q : 
   can_place_item d m j (Some c) (Non n s) step count parts at slots le sp row made re se ee =
       (at_slot (λ x. x < count) (items g q) d (Non n s) at slots, c, re, made.0)
 
-  pub can_place : (d row : ℕ) (front : Option ℕ) (item : GItem) (step : FirstAlternative) (parts : List TreePart) (kids : List ℕ) → IsNumbered (slots (items g q)) → length kids ≡ length (slots (items g q)) → Gathers g w f q left numbers (suc d) front parts kids → front ≡ Some row → IsFirstAlternative f row step → ItemAt g q d item → CanPlace w numbers (length kids) item step
+  can_place : (d row : ℕ) (front : Option ℕ) (item : GItem) (step : FirstAlternative) (parts : List TreePart) (kids : List ℕ) → IsNumbered (slots (items g q)) → length kids ≡ length (slots (items g q)) → Gathers g w f q left numbers (suc d) front parts kids → front ≡ Some row → IsFirstAlternative f row step → ItemAt g q d item → CanPlace w numbers (length kids) item step
   can_place d row front item step parts kids numbered long so at st item_at =
       let same_row : so.front_is.0 ≡ row = let e = so.front_is.1 in cc in
       let is_row : IsRow f row (Front q (suc d)) so.start so.stop = subst (λ r. IsRow f r (Front q (suc d)) so.start so.stop) same_row so.front_is.2 in
@@ -289,3 +291,17 @@ module _ (g : Grammar) (w : List ℕ) (f : Forest) (right : IsRight g w f) (q : 
       let inside = spelt_inside g w f right _ so.start last.m last.by.before so.inside in
       let can = can_place_item d last.m so.stop last.alt.right last.item step (length kids) parts last.by.item_is below inside last.by.last last.by.right_is prepared.0 right_is start_is stop_is in
       subst (λ x. CanPlace w numbers (length kids) x step) same_item can
+
+  -- the item before the dot is placed, where the loop over a rule's items has come down to it
+  module _ (is : List GItem) (same : is ≡ items g q) (numbered : IsNumbered (slots (items g q))) (dot row : ℕ) (front : Option ℕ) (item : GItem) (step : FirstAlternative) (parts : List TreePart) (kids : List ℕ) (some : 0 < dot) (within : dot ≤ length is) (read_at : item ≡ get_or is (dot - 1) item) (long : length kids ≡ length (slots is)) (so : Gathers g w f q left numbers dot front parts kids) (at : front ≡ Some row) (st : IsFirstAlternative f row step) where
+    so_next : Gathers g w f q left numbers (suc (dot - 1)) front parts kids
+    so_next = let one : dot ≡ suc (dot - 1) = omega arith in subst (λ n. Gathers g w f q left numbers n front parts kids) one so
+
+    item_at : ItemAt g q (dot - 1) item
+    item_at = subst (λ (l : List GItem). slice_get l (dot - 1) ≡ Some item) same (slice_get_read is (length is) (dot - 1) item refl (omega arith) read_at)
+
+    pub can_place_next : CanPlace w numbers (length kids) item step
+    can_place_next = can_place (dot - 1) row front item step parts kids numbered (long ∙ ap (λ l. length (slots l)) same) so_next at st item_at
+
+    pub step_on_next : (parts' : List TreePart) (kids' : List ℕ) → IsPlaced w numbers item step parts kids parts' kids' → Extends parts parts' × Gathers g w f q left numbers (dot - 1) step.left parts' kids'
+    step_on_next parts' kids' placed = step_on (dot - 1) row front item step parts parts' kids kids' so_next at st item_at can_place_next placed

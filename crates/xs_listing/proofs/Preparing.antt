@@ -1,9 +1,9 @@
 -- What the node of a row needs is made where the rows before it are.
-use Rattle.std.proofs.Common.{◌≡◌, ℕ, zero, suc, ◌<◌, List, [], ◌∷◌, ◌++◌, length, Bool, Option, Some, None, refl, sym, ◌∙◌, ap, arith, subst, All, inl, inr, length-append}
+use Rattle.std.proofs.Common.{◌≡◌, ℕ, zero, suc, ◌<◌, List, [], ◌∷◌, ◌++◌, length, get_or, Bool, Option, Some, None, refl, sym, ◌∙◌, ap, arith, subst, All, inl, inr, length-append}
 use Rattle.std.specs.Prelude.{slice_index}
 use Rattle.std.proofs.Math.Seq.{take-length, get_or-append_seam}
 use Rattle.std.proofs.lemmas.Bool.{cases_lt}
-use Rattle.std.proofs.lemmas.List.{get_or_append_left}
+use Rattle.std.proofs.lemmas.List.{get_or_append_left, get_or_read}
 use Rattle.xs_gram.specs.declared.parts.GItem.{GItem}
 use Rattle.xs_gram.specs.declared.parts.GItem.TheVariants.{Fixed, Term, Non, Skip}
 use Rattle.xs_gram.specs.Grammar.{Grammar, items, slots}
@@ -153,16 +153,16 @@ module _ (g : Grammar) (w : List ℕ) (f : Forest) (right : IsRight g w f) where
       }
 
   -- one more row has its number
-  pub made_next : (marks : List Bool) (parts parts' : List TreePart) (numbers : List ℕ) (v : ℕ) → AreMade g w f marks parts numbers → Extends parts parts' → (IsMarked marks (length numbers) → IsWhole f (length numbers) → IsMade g w f parts' (length numbers) v) → AreMade g w f marks parts' (numbers ++ v ∷ [])
-  made_next marks parts parts' numbers v all ex new r lt mark whole = elim (cases_lt r (length numbers)) [
+  pub made_next : (marks : List Bool) (parts parts' : List TreePart) (numbers new : List ℕ) (v : ℕ) → AreMade g w f marks parts numbers → Extends parts parts' → (IsMarked marks (length numbers) → IsWhole f (length numbers) → IsMade g w f parts' (length numbers) v) → new ≡ numbers ++ v ∷ [] → AreMade g w f marks parts' new
+  made_next marks parts parts' numbers new v all ex made_here grown = rw grown (λ r lt mark whole. elim (cases_lt r (length numbers)) [
     | inl old ↦ subst (λ n. IsMade g w f parts' r n) (sym (get_or_append_left numbers (v ∷ []) 0 r old)) (made_more g w f parts parts' r (slice_index numbers r) ex (all r old mark whole))
     | inr ge ↦
         let e = length-append numbers (v ∷ []) in
         let is : r ≡ length numbers = omega arith in
         let here : slice_index (numbers ++ v ∷ []) r ≡ v = ap (slice_index (numbers ++ v ∷ [])) is ∙ get_or-append_seam numbers v [] 0 in
-        let made_here = new (subst (λ x. IsMarked marks x) is mark) (subst (λ x. IsWhole f x) is whole) in
-        subst (λ n. IsMade g w f parts' r n) (sym here) (subst (λ x. IsMade g w f parts' x v) (sym is) made_here)
-  ]
+        let last = made_here (subst (λ x. IsMarked marks x) is mark) (subst (λ x. IsWhole f x) is whole) in
+        subst (λ n. IsMade g w f parts' r n) (sym here) (subst (λ x. IsMade g w f parts' x v) (sym is) last)
+  ])
 
   -- the root has an unfolding by first alternatives, and its tree is that of a derivation
   module _ (root : ℕ) (row : IsRoot g w f root) where
@@ -177,8 +177,15 @@ module _ (g : Grammar) (w : List ℕ) (f : Forest) (right : IsRight g w f) where
         let start = root_start in
         record { chosen = v.0; first = v.1; inside = omega arith }
 
-    pub root_whole : IsWhole f root
+    root_whole : IsWhole f root
     root_whole = (g.start, ap (λ (k : SpanKey). k.what) row.1)
+
+    -- and it is made by the part of its number
+    pub root_made : (marks : List Bool) (parts : List TreePart) (numbers : List ℕ) (number : ℕ) → AreMade g w f marks parts numbers → length numbers ≡ length f → IsMarked marks root → number ≡ get_or numbers root number → IsMade g w f parts root number
+    root_made marks parts numbers number made_all long mark read_at =
+        let there = row.0 in
+        let at : number ≡ slice_index numbers root = get_or_read numbers root number (omega arith) read_at 0 in
+        subst (λ v. IsMade g w f parts root v) (sym at) (made_all root (omega arith) mark root_whole)
 
     pub root_tree : (parts : List TreePart) (v : ℕ) → IsReady w f root → IsMade g w f parts root v → HasTree g w (tree_at (trees_of parts) v)
     root_tree parts v ready made_root =

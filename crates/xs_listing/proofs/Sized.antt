@@ -80,14 +80,15 @@ module _ (g : Grammar) (w : List ℕ) (f : Forest) (right : IsRight g w f) (size
   no_size r n e (pick b l t) (lt, at, hl, ht) = cc
 
   -- one more row
-  pub next_size : (n : ℕ) → IsSize g w f (length sizes) n → AreSizes g w f (sizes ++ n ∷ [])
-  next_size n h r lt = elim (cases_lt r (length sizes)) [
+  pub next_size : (new : List ℕ) (row n : ℕ) → length sizes ≡ row → IsSize g w f row n → new ≡ sizes ++ n ∷ [] → AreSizes g w f new
+  next_size new row n counted h grown = rw grown (λ r lt. elim (cases_lt r (length sizes)) [
     | inl old ↦ subst (λ x. IsSize g w f r x) (sym (get_or_append_left sizes (n ∷ []) 0 r old)) (are r old)
-    | inr new ↦
+    | inr later ↦
         let long = length-append sizes (n ∷ []) in
-        let is : length sizes ≡ r = omega arith in
-        subst (λ z. IsSize g w f z (slice_index_or (sizes ++ n ∷ []) z 0)) is (subst (λ x. IsSize g w f (length sizes) x) (sym (get_or-append_seam sizes n [] 0)) h)
-  ]
+        let here : length sizes ≡ r = omega arith in
+        let last : IsSize g w f (length sizes) n = rw counted h in
+        subst (λ z. IsSize g w f z (slice_index_or (sizes ++ n ∷ []) z 0)) here (subst (λ x. IsSize g w f (length sizes) x) (sym (get_or-append_seam sizes n [] 0)) last)
+  ])
 
 pub no_sizes : (g : Grammar) (w : List ℕ) (f : Forest) → AreSizes g w f []
 no_sizes g w f r lt = absurd (omega arith)

@@ -1,6 +1,4 @@
-use Rattle.std.proofs.Common.{◌≡◌, ◌++◌, ◌∷◌, [], length, List, ℕ, sym, ap, subst, arith, length-append}
-use Rattle.xs_listing.specs.Marks.{IsMarked}
-use Rattle.xs_listing.specs.Making.{IsWhole, IsMade, AreMade}
+use Rattle.std.proofs.Common.{◌≡◌, [], length, ap, arith, rules}
 use Rattle.xs_listing.proofs.Preparing.{made_next}
 use Rattle.xs_listing.proofs.nodes.number_rows.Goals as goal
 
@@ -17,25 +15,13 @@ number_row-requires-clause-there c =
     omega arith
 
 pub number_row-requires-clause-made : goal.number_row-requires-clause-made
-number_row-requires-clause-made c = subst (λ (l : List ℕ). AreMade c.args.g.now c.args.doc.now c.args.forest.now c.args.marks.now c.rows.builder l) (sym c.deref.ensures.value) c.rows.invariant.made
+number_row-requires-clause-made c = rw c.deref.ensures.value c.rows.invariant.made
 
 pub rows-preserved : goal.rows-preserved
-rows-preserved c =
-    let g = c.args.g.now in
-    let w = c.args.doc.now in
-    let f = c.args.forest.now in
-    let m = c.args.marks.now in
-    let numbers = c.rows.numbers.items in
-    let v = c.in_ok-number.number in
-    let new : c.push.new.self.items ≡ numbers ++ v ∷ [] = c.in_ok-push.ensures.items in
-    let more = length-append numbers (v ∷ []) in
-    let same = ap length new in
-    let long = c.rows.invariant.long in
-    let made_here = subst (λ (l : List ℕ). IsMarked m (length l) → IsWhole f (length l) → IsMade g w f c.number_row.new.builder (length l) v) c.deref.ensures.value c.in_ok-number.ensures.made in
-    record {
-      long = omega arith;
-      made = subst (λ (l : List ℕ). AreMade g w f m c.number_row.new.builder l) (sym new) (made_next g w f c.requires.right m c.rows.builder c.number_row.new.builder numbers v c.rows.invariant.made c.in_ok-number.ensures.extends made_here);
-    }
+rows-preserved c = record {
+  long = search rules;
+  made = made_next c.args.g.now c.args.doc.now c.args.forest.now c.requires.right c.args.marks.now c.rows.builder c.number_row.new.builder c.rows.numbers.items c.push.new.self.items c.in_ok-number.number c.rows.invariant.made c.in_ok-number.ensures.extends (rw c.deref.ensures.value at c.in_ok-number.ensures.made) c.in_ok-push.ensures.items;
+}
 
 pub returns-clause-long : goal.returns-clause-long
 returns-clause-long c =

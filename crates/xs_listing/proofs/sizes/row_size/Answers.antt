@@ -1,4 +1,4 @@
-use Rattle.std.proofs.Common.{◌≡◌, ◌+◌, ◌<◌, ◌≤◌, ℕ, Some, List, length, sym, ◌∙◌, ap, subst, arith}
+use Rattle.std.proofs.Common.{◌≡◌, ◌+◌, ◌<◌, ◌≤◌, ℕ, Some, List, length, sym, ◌∙◌, ap, arith}
 use Rattle.std.specs.Prelude.{slice_get}
 use Rattle.xs_gram.specs.Grammar.{Grammar}
 use Rattle.xs_forest.specs.declared.row.Alt.{Alt}
@@ -7,7 +7,7 @@ use Rattle.xs_forest_laws.specs.declared.span.SpanKey.{SpanKey}
 use Rattle.xs_forest_laws.specs.Forest.{Forest, key_of, alts_of, IsRight}
 use Rattle.xs_listing.proofs.Children.{children_earlier}
 use Rattle.xs_tree.specs.Counts.{capped}
-use Rattle.xs_listing.specs.Sizes.{size_at, last_count, IsSize}
+use Rattle.xs_listing.specs.Sizes.{size_at, last_count, IsSize, AreSizes}
 use Rattle.xs_listing.proofs.Sizing.{dots_within}
 use Rattle.xs_listing.proofs.Sized.{row_size}
 use Rattle.xs_listing.proofs.sizes.row_size.Goals as goal
@@ -31,17 +31,11 @@ pub last_size-last-requires-clause-dotted : goal.last_size-last-requires-clause-
 last_size-last-requires-clause-dotted c p d e =
     dots_within c.args.g.now c.args.doc.now c.args.forest.now c.requires.right c.args.row c.requires.there p d (ap (λ (k : SpanKey). k.what) (sym c.label_at.ensures) ∙ e)
 
+-- the row's size is that of the left child and what comes after it
+row_sized : (g : Grammar) (w : List ℕ) (f : Forest) → IsRight g w f → (r : ℕ) (sizes : List ℕ) → AreSizes g w f sizes → r < length f → r ≤ length sizes → (alts : List Alt) (a : Alt) → alts ≡ alts_of f r → Some a ≡ slice_get alts 0 → (left last size : ℕ) (key : SpanKey) → key ≡ key_of f r → left ≡ size_at sizes a.left → last ≡ last_count g sizes key.what a → size ≡ capped (left + last) → IsSize g w f r size
+row_sized g w f right r sizes are there le alts a same at left last size key key_is left_is last_is size_is =
+    let e = first_earlier g w f right r (length sizes) alts a same at there le in
+    rw (size_is, left_is, last_is, key_is) (row_size g w f right sizes are r a e.1 e.2 e.0)
+
 pub returns-in-Some : goal.returns-in-Some
-returns-in-Some c =
-    let g = c.args.g.now in
-    let w = c.args.doc.now in
-    let f = c.args.forest.now in
-    let r = c.args.row in
-    let sizes = c.args.sizes.now in
-    let alt = c.in-Some.alt.now in
-    let right = c.requires.right in
-    let e = first_earlier g w f right r (length sizes) _ alt c.alts_at.ensures c.in-Some.ensures.value c.requires.there c.requires.before in
-    let before : c.child_size-left.result ≡ size_at sizes alt.left = c.child_size-left.ensures in
-    let last : c.last_size-last.result ≡ last_count g sizes (key_of f r).what alt = c.last_size-last.ensures ∙ ap (λ (k : SpanKey). last_count g sizes k.what alt) c.label_at.ensures in
-    let size : c.saturating_add.result ≡ capped (size_at sizes alt.left + last_count g sizes (key_of f r).what alt) = omega arith in
-    subst (λ n. IsSize g w f r n) (sym size) (row_size g w f right sizes c.requires.sizes r alt e.1 e.2 e.0)
+returns-in-Some c = row_sized c.args.g.now c.args.doc.now c.args.forest.now c.requires.right c.args.row c.args.sizes.now c.requires.sizes c.requires.there c.requires.before _ c.in-Some.alt.now c.alts_at.ensures c.in-Some.ensures.value c.child_size-left.result c.last_size-last.result c.saturating_add.result c.label_at.result c.label_at.ensures c.child_size-left.ensures c.last_size-last.ensures (omega arith)
