@@ -4,26 +4,36 @@ use Rattle.std.proofs.lemmas.Bool.{eq-eqb, ne_eqb}
 use Rattle.std.proofs.lemmas.List.{take_more, take_all}
 use Rattle.std.proofs.lemmas.Option.{none-some}
 use Rattle.std.specs.List.{All, Contains}
-use Rattle.xs_class.proofs.Lists.{first_in, get_push}
+use Rattle.xs_class.proofs.Lists.{first_in, get_push, one_longer}
+use Rattle.xs_auto.specs.Nets.{Walks}
 use Rattle.xs_coarse.specs.declared.arc.Arc.{Arc}
 use Rattle.xs_coarse.specs.Coarse.{Table, Net, IsWithin, HasArc, joined, one_arc}
 use Rattle.xs_coarse_net.specs.Going.{Goes, goes_none, goes_move, goes_read}
 use Rattle.xs_coarse_net.specs.Joining.{Joins}
+use Rattle.xs_coarse_net.specs.Leaves.{AreNetsOf}
 use Rattle.xs_coarse_net.specs.Placing.{Placed, inner_state}
-use Rattle.xs_coarse_net.specs.Stretches.{last_state}
+use Rattle.xs_coarse_net.specs.Stretches.{last_state, open_view}
 use Rattle.xs_coarse_net.proofs.Covering.{joined_second}
 use Rattle.xs_coarse_net.proofs.Extending.{joins_arc}
 use Rattle.xs_coarse_net.proofs.Going.{goes_on, goes_as}
+use Rattle.xs_coarse_net.proofs.Viewing.{goes_walks}
 
--- what holds of each net by its number, where there is none, and where one more is made
-pub nets_none : (P : ℕ → Net → Type 0) (i : ℕ) (n : Net) → slice_get {X = Net} [] i ≡ Some n → P i n
-nets_none P i n e = absurd (none-some n e)
+-- the nets of the numbers before one
+pub record AreNetsBefore (IsWord : ℕ → List ℕ → Type 0) (t : Table) (i : ℕ) (nets : List Net) : Type 0 where
+  pub long : length nets ≡ i
+  pub each : AreNetsOf IsWord t nets
 
-pub nets_more : (P : ℕ → Net → Type 0) (nets : List Net) (n : Net) (i : ℕ) → length nets ≡ i → P i n → ((k : ℕ) (m : Net) → slice_get nets k ≡ Some m → P k m) → (k : ℕ) (m : Net) → slice_get (nets ++ n ∷ []) k ≡ Some m → P k m
-nets_more P nets n i long here was k m at = elim (get_push nets n m k at) [
-  | inl e ↦ was k m e
-  | inr e ↦ subst (λ (x : Net). P k x) e.1 (subst (λ (j : ℕ). P j n) (sym (e.0 ∙ long)) here)
-]
+pub nets_none : (IsWord : ℕ → List ℕ → Type 0) (t : Table) → AreNetsBefore IsWord t 0 []
+nets_none IsWord t = record { long = refl; each = λ i n e. absurd (none-some n e) }
+
+pub nets_next : {IsWord : ℕ → List ℕ → Type 0} {t : Table} {i : ℕ} {nets : List Net} (n : Net) → AreNetsBefore IsWord t i nets → ((w : List ℕ) → IsWord i w → Goes t n 0 w (last_state n)) → AreNetsBefore IsWord t (i + 1) (nets ++ n ∷ [])
+nets_next {IsWord} {t} {i} {nets} n before here = record {
+  long = omega (arith, one_longer nets n, before.long);
+  each = λ k m at. elim (get_push nets n m k at) [
+    | inl e ↦ before.each k m e
+    | inr e ↦ subst (λ (x : Net). (w : List ℕ) → IsWord k w → Goes t x 0 w (last_state x)) e.1 (subst (λ (j : ℕ). (w : List ℕ) → IsWord j w → Goes t n 0 w (last_state n)) (sym (e.0 ∙ before.long)) here)
+  ];
+}
 
 -- a path is there too where each arc is, between other states
 pub goes_moved : {t : Table} {m n : Net} (f : ℕ → ℕ) → ((x : Arc) → Contains m.arcs x → HasArc n (f x.from) x.label (f x.to)) → {a b : ℕ} {w : List ℕ} → Goes t m a w b → Goes t n (f a) w (f b)
@@ -60,6 +70,9 @@ joins_goes m n o j t w p = at_joined o j.is j.within
         let from : last_state m + 0 ≡ last_state m = omega arith in
         let to : last_state m + last_state n ≡ last_state (joined m n) = omega (arith, j.some, j.more) in
         subst (λ (z : Net). Goes t z (last_state m) w (last_state z)) (sym is) (goes_as from refl to there)
+
+pub joins_walks : {t : Table} (m n o : Net) (w : List ℕ) → Joins m n o → Goes t n 0 w (last_state n) → Walks (open_view t o) (last_state m) w (last_state o)
+joins_walks {t} m n o w j p = goes_walks 0 0 j.within (joins_goes m n o j t w p)
 
 pub joins_step : (m o : Net) (l : ℕ) → Joins m (one_arc l) o → HasArc o (last_state m) l (last_state o)
 joins_step m o l j = joins_arc m (one_arc l) o l j refl (first_in _ [])

@@ -1,5 +1,5 @@
 -- From paths by arcs to walks over the view of a net, and nets that stand in other nets.
-use Rattle.std.proofs.Common.{◌≡◌, ℕ, ◌<◌, List, refl, sym, subst}
+use Rattle.std.proofs.Common.{◌≡◌, ℕ, ◌<◌, List, [], refl, sym, subst}
 use Rattle.std.specs.List.{All, Contains}
 use Rattle.std.proofs.lemmas.List.Elements.{All-contains}
 use Rattle.xs_class.specs.Classes.{Has}
@@ -8,6 +8,7 @@ use Rattle.xs_auto.specs.Nests.{Group, Crossing, stands, drifts, takes, enters}
 use Rattle.xs_gram.specs.declared.parts.GItem.{GItem}
 use Rattle.xs_gram.specs.declared.parts.GItem.TheVariants.{Fixed, Term, Non, Skip}
 use Rattle.xs_gram.specs.Grammar.{Grammar}
+use Rattle.xs_meet.proofs.WalkLemmas.{walk_crosses, crosses_walk}
 use Rattle.xs_coarse.specs.Coarse.{Table, Net, IsWithin, HasArc, class_label, group_label, class_at, view}
 use Rattle.xs_coarse.specs.Covers.{CoversLeaf, IsLeaf}
 use Rattle.xs_coarse.proofs.Views.{view_move, view_move_arc, view_edge, view_edge_arc, view_call, view_call_arc}
@@ -37,18 +38,6 @@ pub record Stands (m n : Net) (H : ℕ → ℕ → Type 0) : Type 0 where
   pub arc : (x u l y : ℕ) → H x u → HasArc m x l y → (v : ℕ) × H y v × HasArc n u l v
 
 module _ (t : Table) {m n : Net} {H : ℕ → ℕ → Type 0} (k : Stands m n H) (s e i j : ℕ) where
-  pub stands_walks : {x y : ℕ} {w : List ℕ} → Walks (view t m s e) x w y → (u : ℕ) → H x u → (v : ℕ) × H y v × Walks (view t n i j) u w v
-  stands_walks rests u h = (u, h, rests)
-  stands_walks (passes {a = a} {b = b} c p) u h =
-      let to = k.arc a u 0 b h (view_move_arc t m s e a b c).1 in
-      let rest = stands_walks p to.0 to.1 in
-      (rest.0, rest.1, passes (view_move t n i j u to.0 (from_low n u 0 to.0 k.within to.2) to.2) rest.2)
-  stands_walks (reads {a = a} {s = z} x c has p) u h =
-      let arc = view_edge_arc t m s e a x c in
-      let to = k.arc a u (class_label arc.number) x.to h arc.arc in
-      let rest = stands_walks p to.0 to.1 in
-      (rest.0, rest.1, reads (record { class = class_at t arc.number; to = to.0 }) (view_edge t n i j u arc.number to.0 (from_low n u (class_label arc.number) to.0 k.within to.2) arc.below to.2) (subst (λ (l : List (ℕ × ℕ)). Has l z) arc.class has) rest.2)
-
   pub stands_crossing : {nest : List Group} {x y : ℕ} {w : List ℕ} → Crossing nest (view t m s e) x w y → (u : ℕ) → H x u → (v : ℕ) × H y v × Crossing nest (view t n i j) u w v
   stands_crossing stands u h = (u, h, stands)
   stands_crossing (drifts {a = a} {b = b} c p) u h =
@@ -65,6 +54,9 @@ module _ (t : Table) {m n : Net} {H : ℕ → ℕ → Type 0} (k : Stands m n H)
       let to = k.arc a u (group_label t x.group) x.to h arc.1 in
       let rest = stands_crossing p to.0 to.1 in
       (rest.0, rest.1, enters (record { group = x.group; to = to.0 }) group (view_call t n i j u x.group to.0 (from_low n u (group_label t x.group) to.0 k.within to.2) to.2) is starts content final rest.2 split)
+
+  pub stands_walks : {x y : ℕ} {w : List ℕ} → Walks (view t m s e) x w y → (u : ℕ) → H x u → (v : ℕ) × H y v × Walks (view t n i j) u w v
+  stands_walks p u h = let to = stands_crossing (walk_crosses [] p) u h in (to.0, to.1, crosses_walk to.2)
 
 -- a state is that with a new number
 abbrev IsImage : (ℕ → ℕ) → ℕ → ℕ → Type 0

@@ -2,6 +2,7 @@ pub mod Contents
 pub mod Covers
 pub mod Fragments
 pub mod Going
+pub mod Grounds
 pub mod Having
 pub mod Joining
 pub mod Leaves

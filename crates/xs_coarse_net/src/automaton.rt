@@ -5,8 +5,8 @@ ghost use Rattle.xs_coarse.specs.{HasArc};
 ghost use Rattle.xs_coarse_net.specs.Going.{Grows, IsLaidIn};
 
 use crate::draft::Draft;
-use crate::stop::Stop;
 use std::alloc::Global;
+use xs_coarse::Stop;
 use xs_regex::Position;
 
 /// Leads from a state to another by an automaton, whose positions have these labels.
@@ -26,26 +26,8 @@ pub(crate) fn lay_automaton(
     ensures grows { OnOk result (Grows draft.old draft.new) }
     ensures laid { OnOk result ((states : List ℕ) × IsLaidIn draft.new automaton.now labels.now states from to) }
 {
-    let states = states_of(draft, alloc, automaton, to)?;
-    lay_at(draft, labels, &states, automaton, from, to)?;
-    Ok(())
-}
-
-/// The same, with a state for each position.
-fn lay_at(
-    draft: &mut Draft,
-    labels: &[u32],
-    states: &[u32],
-    automaton: &Position,
-    from: u32,
-    to: u32,
-) -> Result<(), Stop>
-    requires formed { IsWellFormed automaton.now }
-    requires labels { length labels.now ≡ length automaton.now.classes }
-    requires states { length states.now ≡ length automaton.now.classes }
-    ensures grows { OnOk result (Grows draft.old draft.new) }
-    ensures laid { OnOk result (IsLaidIn draft.new automaton.now labels.now states.now from to) }
-{
+    let made = states_of(draft, alloc, automaton, to)?;
+    let states = made.as_slice();
     lay_row(draft, labels, states, from, automaton.first.as_slice())?;
     lay_follows(draft, labels, states, automaton)?;
     lay_lasts(draft, states, automaton.last.as_slice(), to)?;

@@ -2,18 +2,14 @@ ghost use Rattle.std.specs.Prelude.{◌+◌, ◌<◌, length, IfOk, OnOk};
 ghost use Rattle.xs_gram.specs.{spread};
 ghost use Rattle.xs_coarse.specs.{CoversGroups};
 ghost use Rattle.xs_coarse_net.specs.Contents.{nest_of, HasContentsBefore};
+ghost use Rattle.xs_coarse_net.specs.Grounds.{IsGround};
 ghost use Rattle.xs_coarse_net.specs.Joining.{AreFragments};
-ghost use Rattle.xs_coarse_net.specs.Sites.{IsSite};
-ghost use Rattle.xs_coarse_net.specs.Whole.{IsWhole};
 
 use crate::Cover;
-use crate::site::Site;
-use crate::stop::Stop;
+use crate::ground::Ground;
 use crate::stretch::cover_part;
-use crate::whole::Whole;
-use std::alloc::Global;
 use xs_class::Sym;
-use xs_coarse::Coarse;
+use xs_coarse::{Coarse, Stop};
 use xs_gram::fence_symbol;
 use xs_stretch::Part;
 
@@ -28,19 +24,16 @@ pub struct Content {
 /// The contents of all groups of a grammar, by their numbers.
 pub(crate) fn contents_of(
     kept: &mut Vec<Option<Coarse>>,
-    alloc: Global,
-    site: &Site<'_>,
-    whole: &Whole,
+    ground: &Ground<'_>,
 ) -> Result<Vec<Content>, Stop>
-    requires site { IsSite site.now }
-    requires whole { IsWhole site.now.g.now site.now.labels.now whole.now }
-    requires kept { AreFragments site.now.g.now site.now.labels.now kept.old.items }
-    ensures kept { AreFragments site.now.g.now site.now.labels.now kept.new.items }
-    ensures contents { IfOk result (λ cs. CoversGroups site.now.g.now (nest_of site.now.labels.now cs.items)) }
+    requires ground { IsGround ground.now }
+    requires kept { AreFragments ground.now.site.g.now ground.now.site.labels.now kept.old.items }
+    ensures kept { AreFragments ground.now.site.g.now ground.now.site.labels.now kept.new.items }
+    ensures contents { IfOk result (λ cs. CoversGroups ground.now.site.g.now (nest_of ground.now.site.labels.now cs.items)) }
 {
-    let mut contents = Vec::new(alloc);
-    'rules: for rule in 0..site.g.rules() {
-        add_contents(&mut contents, kept, alloc, site, whole, rule)?;
+    let mut contents = Vec::new(ground.alloc);
+    'rules: for rule in 0..ground.site.g.rules() {
+        add_contents(&mut contents, kept, ground, rule)?;
     }
     Ok(contents)
 }
@@ -49,21 +42,18 @@ pub(crate) fn contents_of(
 fn add_contents(
     contents: &mut Vec<Content>,
     kept: &mut Vec<Option<Coarse>>,
-    alloc: Global,
-    site: &Site<'_>,
-    whole: &Whole,
+    ground: &Ground<'_>,
     rule: u32,
 ) -> Result<(), Stop>
-    requires site { IsSite site.now }
-    requires whole { IsWhole site.now.g.now site.now.labels.now whole.now }
-    requires rule { rule < length site.now.g.now.rules }
-    requires kept { AreFragments site.now.g.now site.now.labels.now kept.old.items }
-    requires contents { HasContentsBefore site.now.g.now rule 0 (nest_of site.now.labels.now contents.old.items) }
-    ensures kept { AreFragments site.now.g.now site.now.labels.now kept.new.items }
-    ensures contents { OnOk result (HasContentsBefore site.now.g.now (rule + 1) 0 (nest_of site.now.labels.now contents.new.items)) }
+    requires ground { IsGround ground.now }
+    requires rule { rule < length ground.now.site.g.now.rules }
+    requires kept { AreFragments ground.now.site.g.now ground.now.site.labels.now kept.old.items }
+    requires contents { HasContentsBefore ground.now.site.g.now rule 0 (nest_of ground.now.site.labels.now contents.old.items) }
+    ensures kept { AreFragments ground.now.site.g.now ground.now.site.labels.now kept.new.items }
+    ensures contents { OnOk result (HasContentsBefore ground.now.site.g.now (rule + 1) 0 (nest_of ground.now.site.labels.now contents.new.items)) }
 {
-    'items: for place in 0..site.g.spread(rule).len() as u32 {
-        add_content(contents, kept, alloc, site, whole, rule, place)?;
+    'items: for place in 0..ground.site.g.spread(rule).len() as u32 {
+        add_content(contents, kept, ground, rule, place)?;
     }
     Ok(())
 }
@@ -72,25 +62,22 @@ fn add_contents(
 fn add_content(
     contents: &mut Vec<Content>,
     kept: &mut Vec<Option<Coarse>>,
-    alloc: Global,
-    site: &Site<'_>,
-    whole: &Whole,
+    ground: &Ground<'_>,
     rule: u32,
     place: u32,
 ) -> Result<(), Stop>
-    requires site { IsSite site.now }
-    requires whole { IsWhole site.now.g.now site.now.labels.now whole.now }
-    requires rule { rule < length site.now.g.now.rules }
-    requires place { place < length (spread site.now.g.now rule) }
-    requires kept { AreFragments site.now.g.now site.now.labels.now kept.old.items }
-    requires contents { HasContentsBefore site.now.g.now rule place (nest_of site.now.labels.now contents.old.items) }
-    ensures kept { AreFragments site.now.g.now site.now.labels.now kept.new.items }
-    ensures contents { OnOk result (HasContentsBefore site.now.g.now rule (place + 1) (nest_of site.now.labels.now contents.new.items)) }
+    requires ground { IsGround ground.now }
+    requires rule { rule < length ground.now.site.g.now.rules }
+    requires place { place < length (spread ground.now.site.g.now rule) }
+    requires kept { AreFragments ground.now.site.g.now ground.now.site.labels.now kept.old.items }
+    requires contents { HasContentsBefore ground.now.site.g.now rule place (nest_of ground.now.site.labels.now contents.old.items) }
+    ensures kept { AreFragments ground.now.site.g.now ground.now.site.labels.now kept.new.items }
+    ensures contents { OnOk result (HasContentsBefore ground.now.site.g.now rule (place + 1) (nest_of ground.now.site.labels.now contents.new.items)) }
 {
-    let Some(partner) = site.g.partner(rule, place) else {
+    let Some(partner) = ground.site.g.partner(rule, place) else {
         return Ok(());
     };
-    let items = site.g.spread(rule);
+    let items = ground.site.g.spread(rule);
     let left = fence_symbol(&items[place as usize]);
     let right = fence_symbol(&items[partner as usize]);
     let part = Part {
@@ -98,7 +85,7 @@ fn add_content(
         start: place + 1,
         end: partner,
     };
-    let cover = cover_part(kept, alloc, site, whole, part)?;
+    let cover = cover_part(kept, ground, part)?;
     contents.push(Content { left, right, cover })?;
     Ok(())
 }

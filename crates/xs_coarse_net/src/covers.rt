@@ -1,20 +1,20 @@
-ghost use Rattle.std.specs.Prelude.{◌≡◌, ℕ, ◌<◌, length, slice_get, Some, IfOk, IfSome};
-ghost use Rattle.xs_gram.specs.{IsBuilt};
-ghost use Rattle.xs_stretch.specs.{IsPart, AreNumbersBefore};
-ghost use Rattle.xs_coarse.specs.{Net, IsLabelsOf};
+ghost use Rattle.std.specs.Prelude.{◌≡◌, ℕ, slice_get, Some, IfOk, IfSome};
+ghost use Rattle.xs_stretch.specs.{IsPart};
+ghost use Rattle.xs_coarse.specs.{Net};
 ghost use Rattle.xs_coarse_net.specs.Covers.{IsCoverOf};
 ghost use Rattle.xs_coarse_net.specs.Having.{IsCovers};
+ghost use Rattle.xs_coarse_net.specs.Sites.{IsReady};
 
 use crate::contents::contents_of;
+use crate::ground::Ground;
 use crate::leaves::leaves_of;
 use crate::site::Site;
-use crate::stop::Stop;
 use crate::stretch::cover_part;
 use crate::whole::{Whole, whole_net};
 use crate::{Content, Cover, Leaves};
 use std::alloc::Global;
 use xs_class::Memory;
-use xs_coarse::{Coarse, Labels};
+use xs_coarse::{Coarse, Labels, Stop, fitting};
 use xs_gram::Gram;
 use xs_regex::Numbers;
 use xs_stretch::Part;
@@ -37,16 +37,10 @@ impl Covers {
         labels: &Labels,
         groups: &Numbers,
     ) -> Result<Option<Covers>, Memory>
-        requires built { IsBuilt g.now }
-        requires labels { IsLabelsOf g.now labels.now }
-        requires groups { AreNumbersBefore g.now (length g.now.rules) groups.now }
+        requires { IsReady g.now labels.now groups.now }
         ensures { IfOk result (λ found. IfSome found (IsCovers g.now labels.now)) }
     {
-        match covers_of(alloc, g, labels, groups) {
-            Ok(covers) => Ok(Some(covers)),
-            Err(Stop::Wide) => Ok(None),
-            Err(Stop::Memory) => Err(Memory),
-        }
+        fitting(covers_of(alloc, g, labels, groups))
     }
 
     /// The cover of a level stretch, or none where it would be too large. Fragments that it needs are
@@ -59,9 +53,7 @@ impl Covers {
         groups: &Numbers,
         part: &Part,
     ) -> Result<Option<Cover>, Memory>
-        requires built { IsBuilt g.now }
-        requires labels { IsLabelsOf g.now labels.now }
-        requires groups { AreNumbersBefore g.now (length g.now.rules) groups.now }
+        requires ready { IsReady g.now labels.now groups.now }
         requires covers { IsCovers g.now labels.now self.old }
         requires part { IsPart g.now part.now }
         ensures covers { IsCovers g.now labels.now self.new }
@@ -75,19 +67,18 @@ impl Covers {
             leaves: &self.leaves,
             groups,
         };
-        match cover_part(&mut self.kept, alloc, &site, &self.whole, *part) {
-            Ok(cover) => Ok(Some(cover)),
-            Err(Stop::Wide) => Ok(None),
-            Err(Stop::Memory) => Err(Memory),
-        }
+        let ground = Ground {
+            alloc,
+            site,
+            whole: &self.whole,
+        };
+        fitting(cover_part(&mut self.kept, &ground, *part))
     }
 }
 
 /// The covers of a grammar.
 fn covers_of(alloc: Global, g: &Gram, labels: &Labels, groups: &Numbers) -> Result<Covers, Stop>
-    requires built { IsBuilt g.now }
-    requires labels { IsLabelsOf g.now labels.now }
-    requires groups { AreNumbersBefore g.now (length g.now.rules) groups.now }
+    requires { IsReady g.now labels.now groups.now }
     ensures { IfOk result (IsCovers g.now labels.now) }
 {
     let leaves = leaves_of(alloc, g, labels)?;
@@ -99,7 +90,12 @@ fn covers_of(alloc: Global, g: &Gram, labels: &Labels, groups: &Numbers) -> Resu
     };
     let whole = whole_net(alloc, &site)?;
     let mut kept = no_fragments(alloc, g.nons())?;
-    let contents = contents_of(&mut kept, alloc, &site, &whole)?;
+    let ground = Ground {
+        alloc,
+        site,
+        whole: &whole,
+    };
+    let contents = contents_of(&mut kept, &ground)?;
     Ok(Covers {
         whole,
         leaves,

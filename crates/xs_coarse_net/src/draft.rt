@@ -3,11 +3,10 @@ ghost use Rattle.std.specs.List.{All};
 ghost use Rattle.xs_coarse.specs.{IsWithin};
 ghost use Rattle.xs_coarse_net.specs.Going.{Grows, Adds};
 
-use crate::stop::Stop;
 use std::alloc::Global;
 use std::marker::Model;
 use xs_class::Memory;
-use xs_coarse::{Arc, Coarse};
+use xs_coarse::{Arc, Coarse, Stop};
 
 /// The most states, and the most arcs, that a net may have.
 pub(crate) const MOST: u32 = 1 << 20;
@@ -47,7 +46,7 @@ impl Draft {
         ensures { self.new ≡ self.old }
     {
         if self.next >= self.states {
-            return Err(Stop::Wide);
+            return Err(Stop::Unfit);
         }
         let state = self.next;
         self.next = state + 1;
@@ -60,7 +59,7 @@ impl Draft {
         ensures small { IfOk result (λ first. first + count < 2 ^ 32) }
     {
         if count > self.states || self.next > self.states - count {
-            return Err(Stop::Wide);
+            return Err(Stop::Unfit);
         }
         let first = self.next;
         self.next = first + count;
@@ -100,7 +99,7 @@ pub(crate) fn net_of(alloc: Global, states: u32, arcs: Vec<Arc>) -> Result<Coars
     ensures { IfOk result (Grows (record { states = states; arcs = arcs.items })) }
 {
     if states == 0 || states > MOST || arcs.len() > MOST as usize || !are_within(&arcs, states) {
-        return Err(Stop::Wide);
+        return Err(Stop::Unfit);
     }
     let net = Coarse::of(alloc, states, arcs)?;
     Ok(net)

@@ -9,10 +9,9 @@ ghost use Rattle.xs_coarse_net.specs.Fragments.{AreNamed, Reaches, IsCopied, Are
 use crate::draft::{MOST, net_of};
 use crate::reach::has_at;
 use crate::rule::RETURNS;
-use crate::stop::Stop;
 use std::alloc::Global;
 use xs_class::Memory;
-use xs_coarse::{Arc, Coarse};
+use xs_coarse::{Arc, Coarse, Stop};
 
 /// For how many arcs there is room before any is copied.
 const ROOM: usize = 128;
@@ -44,7 +43,7 @@ pub(crate) fn fragment(
     let first = tracer.name(start)?;
     let done = tracer.copy_rows(whole, has)?;
     if done < tracer.order.len() {
-        return Err(Stop::Wide);
+        return Err(Stop::Unfit);
     }
     let net = tracer.close(alloc, first, end)?;
     let _states = net.len();
@@ -75,7 +74,7 @@ impl Tracer {
             return Ok(name);
         }
         if self.order.len() >= MOST as usize {
-            return Err(Stop::Wide);
+            return Err(Stop::Unfit);
         }
         self.order.push(state)?;
         let name = self.order.len() as u32;
@@ -127,7 +126,7 @@ impl Tracer {
     {
         let state = self.order[place as usize];
         if state >= whole.len() || place >= MOST {
-            return Err(Stop::Wide);
+            return Err(Stop::Unfit);
         }
         let row = whole.row(state);
         'arcs: for x in row {
@@ -162,7 +161,7 @@ impl Tracer {
         ensures arcs { IfOk result (λ n. (x : AnyArc) → Contains self.arcs.items x → Contains n.arcs x) }
     {
         if self.order.len() >= MOST as usize {
-            return Err(Stop::Wide);
+            return Err(Stop::Unfit);
         }
         let last = self.order.len() as u32 + 1;
         self.arcs.push(Arc {

@@ -5,10 +5,9 @@ ghost use Rattle.xs_coarse_net.specs.Going.{LabelReads, AreLabelsOf};
 ghost use Rattle.xs_coarse_net.specs.Sites.{IsSite};
 
 use crate::site::Site;
-use crate::stop::Stop;
 use std::alloc::Global;
 use xs_class::Sym;
-use xs_coarse::Labels;
+use xs_coarse::{Labels, Stop};
 use xs_regex::Position;
 
 /// The label of a symbol, if it has one.
@@ -41,7 +40,7 @@ pub(crate) fn position_labels(
     'positions: for position in 0..count {
         match labels.class(automaton.classes.at(position)) {
             Some(label) => names.push(label)?,
-            None => return Err(Stop::Wide),
+            None => return Err(Stop::Unfit),
         }
     }
     Ok(names)

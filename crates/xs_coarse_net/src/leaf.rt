@@ -1,8 +1,8 @@
 ghost use Rattle.std.specs.Prelude.{◌≡◌, ℕ, ◌+◌, ◌<◌, ◌≤◌, ◌^◌, List, false, true, length, OnOk};
 ghost use Rattle.xs_gram.specs.declared.parts.GItem.TheVariants.{Fixed as FixedItem};
-ghost use Rattle.xs_gram.specs.{IsTermWord, IsSkipWord, NamesAreThere, is_fence, IsPlain};
-ghost use Rattle.xs_coarse.specs.{Table, HasArc, IsLeaf};
-ghost use Rattle.xs_coarse_net.specs.Going.{Goes, Grows, LabelReads, LeafGoes};
+ghost use Rattle.xs_gram.specs.{is_fence, IsPlain};
+ghost use Rattle.xs_coarse.specs.{Table, HasArc};
+ghost use Rattle.xs_coarse_net.specs.Going.{Goes, Grows, LabelReads};
 ghost use Rattle.xs_coarse_net.specs.Placing.{inner_state};
 ghost use Rattle.xs_coarse_net.specs.Sites.{IsSite};
 ghost use Rattle.xs_coarse_net.specs.Stretches.{last_state};
@@ -10,34 +10,9 @@ ghost use Rattle.xs_coarse_net.specs.Stretches.{last_state};
 use crate::draft::{Draft, MOST};
 use crate::labelled::symbol_label;
 use crate::site::Site;
-use crate::stop::Stop;
 use xs_class::Sym;
-use xs_coarse::Coarse;
+use xs_coarse::{Coarse, Stop};
 use xs_gram::GItem;
-
-/// Leads from a state to another by an item that is no nonterminal; a right fence leads nowhere.
-pub(crate) fn lay_leaf(
-    draft: &mut Draft,
-    site: &Site<'_>,
-    item: &GItem,
-    from: u32,
-    to: u32,
-) -> Result<(), Stop>
-    requires site { IsSite site.now }
-    requires there { NamesAreThere site.now.g.now item.now }
-    ensures grows { OnOk result (Grows draft.old draft.new) }
-    ensures goes { OnOk result (IsPlain site.now.g.now.fences item.now → IsLeaf item.now → LeafGoes site.now.g.now site.now.labels.now draft.new item.now from to) }
-{
-    match item {
-        GItem::Fixed(word) => {
-            lay_word(draft, site, word.as_slice(), from, to)?;
-            Ok(())
-        }
-        GItem::Term { term, .. } => lay_term(draft, site, *term, from, to),
-        GItem::Skip { skip } => lay_skip(draft, site, *skip, from, to),
-        GItem::Non { .. } => Ok(()),
-    }
-}
 
 /// How many states between its ends an item takes that is no nonterminal, as far as they can be counted.
 pub(crate) fn states_inside(site: &Site<'_>, item: &GItem) -> u32 {
@@ -58,7 +33,7 @@ fn inner_states(net: Option<&Coarse>) -> u32 {
 }
 
 /// A fixed word, by a state between each two symbols.
-fn lay_word(
+pub(crate) fn lay_word(
     draft: &mut Draft,
     site: &Site<'_>,
     word: &[Sym],
@@ -100,7 +75,7 @@ fn lay_symbol(
             if is_fence_symbol(site.g.fences(), symbol) {
                 Ok(())
             } else {
-                Err(Stop::Wide)
+                Err(Stop::Unfit)
             }
         }
     }
@@ -121,44 +96,14 @@ fn is_fence_symbol(fences: &[(Sym, Sym)], symbol: Sym) -> bool
     false
 }
 
-/// The words of a terminal.
-fn lay_term(draft: &mut Draft, site: &Site<'_>, term: u32, from: u32, to: u32) -> Result<(), Stop>
-    requires site { IsSite site.now }
-    ensures grows { OnOk result (Grows draft.old draft.new) }
-    ensures goes { OnOk result ((w : List ℕ) → IsTermWord site.now.g.now term w → Goes site.now.labels.now draft.new from w to) }
-{
-    match site.leaves.terms.get(term as usize) {
-        Some(leaf) => {
-            lay_net(draft, leaf, from, to)?;
-            Ok(())
-        }
-        None => Err(Stop::Wide),
-    }
-}
-
-/// The words of an ignorable.
-fn lay_skip(draft: &mut Draft, site: &Site<'_>, skip: u32, from: u32, to: u32) -> Result<(), Stop>
-    requires site { IsSite site.now }
-    ensures grows { OnOk result (Grows draft.old draft.new) }
-    ensures goes { OnOk result ((w : List ℕ) → IsSkipWord site.now.g.now skip w → Goes site.now.labels.now draft.new from w to) }
-{
-    match site.leaves.skips.get(skip as usize) {
-        Some(leaf) => {
-            lay_net(draft, leaf, from, to)?;
-            Ok(())
-        }
-        None => Err(Stop::Wide),
-    }
-}
-
 /// Leads from a state to another as a net does from its first to its last state.
-fn lay_net(draft: &mut Draft, net: &Coarse, from: u32, to: u32) -> Result<(), Stop>
+pub(crate) fn lay_net(draft: &mut Draft, net: &Coarse, from: u32, to: u32) -> Result<(), Stop>
     ensures grows { OnOk result (Grows draft.old draft.new) }
     ensures goes { OnOk result ((t : Table) (w : List ℕ) → Goes t net.now 0 w (last_state net.now) → Goes t draft.new from w to) }
 {
     let last = net.len() - 1;
     if last == 0 {
-        return Err(Stop::Wide);
+        return Err(Stop::Unfit);
     }
     let base = draft.take(last - 1)?;
     'arcs: for x in net.arcs() {

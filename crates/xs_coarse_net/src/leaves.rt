@@ -1,16 +1,15 @@
-ghost use Rattle.std.specs.Prelude.{◌≡◌, ℕ, List, length, IfOk};
+ghost use Rattle.std.specs.Prelude.{◌≡◌, ℕ, List, Some, length, slice_get, IfOk};
 ghost use Rattle.xs_regex.specs.{Accepts, IsWellFormed};
 ghost use Rattle.xs_gram.specs.{IsBuilt};
 ghost use Rattle.xs_coarse_net.specs.Going.{Goes};
-ghost use Rattle.xs_coarse_net.specs.Leaves.{AreLeaves, AreTermNets, AreSkipNets};
+ghost use Rattle.xs_coarse_net.specs.Leaves.{AreLeaves};
 ghost use Rattle.xs_coarse_net.specs.Stretches.{last_state};
 
 use crate::automaton::lay_automaton;
 use crate::draft::Draft;
 use crate::labelled::position_labels;
-use crate::stop::Stop;
 use std::alloc::Global;
-use xs_coarse::{Coarse, Labels};
+use xs_coarse::{Coarse, Labels, Stop};
 use xs_gram::Gram;
 use xs_regex::Position;
 
@@ -22,40 +21,32 @@ pub struct Leaves {
     pub skips: Vec<Coarse>,
 }
 
+/// The net with a number, if there is one.
+pub(crate) fn leaf_at(nets: &[Coarse], number: u32) -> Result<&Coarse, Stop>
+    ensures { IfOk result (λ net. slice_get nets.now number ≡ Some net.now) }
+{
+    match nets.get(number as usize) {
+        Some(net) => Ok(net),
+        None => Err(Stop::Unfit),
+    }
+}
+
 /// The nets of a grammar's terminals and ignorables, in time linear in their automata.
 pub(crate) fn leaves_of(alloc: Global, g: &Gram, labels: &Labels) -> Result<Leaves, Stop>
     requires { IsBuilt g.now }
     ensures { IfOk result (AreLeaves g.now labels.now) }
 {
-    let terms = term_nets(alloc, g, labels)?;
-    let skips = skip_nets(alloc, g, labels)?;
-    Ok(Leaves { terms, skips })
-}
-
-/// The nets of the terminals.
-fn term_nets(alloc: Global, g: &Gram, labels: &Labels) -> Result<Vec<Coarse>, Stop>
-    requires { IsBuilt g.now }
-    ensures { IfOk result (λ nets. AreTermNets g.now labels.now nets.items) }
-{
-    let mut nets = Vec::with_capacity(alloc, g.terms() as usize)?;
+    let mut terms = Vec::with_capacity(alloc, g.terms() as usize)?;
     'terms: for term in 0..g.terms() {
         let net = automaton_net(alloc, labels, g.term(term))?;
-        nets.push(net)?;
+        terms.push(net)?;
     }
-    Ok(nets)
-}
-
-/// The nets of the ignorables.
-fn skip_nets(alloc: Global, g: &Gram, labels: &Labels) -> Result<Vec<Coarse>, Stop>
-    requires { IsBuilt g.now }
-    ensures { IfOk result (λ nets. AreSkipNets g.now labels.now nets.items) }
-{
-    let mut nets = Vec::with_capacity(alloc, g.skips() as usize)?;
+    let mut skips = Vec::with_capacity(alloc, g.skips() as usize)?;
     'skips: for skip in 0..g.skips() {
         let net = automaton_net(alloc, labels, g.skip(skip))?;
-        nets.push(net)?;
+        skips.push(net)?;
     }
-    Ok(nets)
+    Ok(Leaves { terms, skips })
 }
 
 /// A net that goes from its first to its last state by each word that an automaton accepts.

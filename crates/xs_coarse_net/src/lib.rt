@@ -15,6 +15,7 @@ mod cover;
 mod covers;
 mod draft;
 mod fragment;
+mod ground;
 mod join;
 mod labelled;
 mod leaf;
@@ -24,7 +25,6 @@ mod reach;
 mod room;
 mod rule;
 mod site;
-mod stop;
 mod stretch;
 mod whole;
 

@@ -1,24 +1,23 @@
-ghost use Rattle.std.specs.Prelude.{◌≡◌, ℕ, ◌+◌, ◌<◌, List, [], ◌∷◌, length, IfOk, OnOk};
+ghost use Rattle.std.specs.Prelude.{◌≡◌, ◌<◌, Some, List, [], ◌∷◌, length, slice_get, IfOk, OnOk};
 ghost use Rattle.xs_gram.specs.declared.parts.GItem.{GItem as Item};
-ghost use Rattle.xs_gram.specs.{spread, IsTermWord, IsSkipWord};
+ghost use Rattle.xs_gram.specs.{spread};
 ghost use Rattle.xs_stretch.specs.{group_number, groups_count, StandsAt};
-ghost use Rattle.xs_coarse.specs.{Net, HasArc, group_label, CoversItem};
+ghost use Rattle.xs_coarse.specs.{HasArc, group_label, CoversItem};
 ghost use Rattle.xs_coarse_net.specs.Going.{Goes};
-ghost use Rattle.xs_coarse_net.specs.Joining.{Joins, IsFragment, AreFragments};
+ghost use Rattle.xs_coarse_net.specs.Grounds.{IsGround};
+ghost use Rattle.xs_coarse_net.specs.Joining.{AreFragments};
 ghost use Rattle.xs_coarse_net.specs.Placing.{Placed};
 ghost use Rattle.xs_coarse_net.specs.Sites.{IsSite};
 ghost use Rattle.xs_coarse_net.specs.Stretches.{open_view, last_state, Extends};
-ghost use Rattle.xs_coarse_net.specs.Whole.{IsWhole};
 
+use crate::ground::Ground;
 use crate::join::{join_net, step_net};
 use crate::labelled::{label_of_group, symbol_label};
+use crate::leaves::leaf_at;
 use crate::reach::block;
 use crate::site::Site;
-use crate::stop::Stop;
-use crate::whole::Whole;
-use std::alloc::Global;
 use xs_class::Sym;
-use xs_coarse::Coarse;
+use xs_coarse::{Coarse, Stop};
 use xs_gram::GItem;
 
 /// Goes on by the outer item or the group at a place of a rule, and gives the place after it.
@@ -79,15 +78,15 @@ fn add_item(
             Ok(())
         }
         GItem::Term { term, .. } => {
-            add_term(net, site, *term)?;
+            join_net(net, leaf_at(&site.leaves.terms, *term)?)?;
             Ok(())
         }
         GItem::Skip { skip } => {
-            add_skip(net, site, *skip)?;
+            join_net(net, leaf_at(&site.leaves.skips, *skip)?)?;
             Ok(())
         }
         GItem::Non { non, .. } => {
-            add_non(net, kept, site, *non)?;
+            join_net(net, fragment_at(kept, *non)?)?;
             Ok(())
         }
     }
@@ -115,71 +114,36 @@ fn add_symbol(net: &mut Coarse, site: &Site<'_>, symbol: Sym) -> Result<(), Stop
             step_net(net, label)?;
             Ok(())
         }
-        None => Err(Stop::Wide),
+        None => Err(Stop::Unfit),
     }
 }
 
-/// Goes on by the words of a terminal.
-fn add_term(net: &mut Coarse, site: &Site<'_>, term: u32) -> Result<(), Stop>
-    requires { IsSite site.now }
-    ensures joins { OnOk result ((other : Net) × Joins net.old other net.new × ((w : List ℕ) → IsTermWord site.now.g.now term w → Goes site.now.labels.now other 0 w (last_state other))) }
-{
-    match site.leaves.terms.get(term as usize) {
-        Some(leaf) => {
-            join_net(net, leaf)?;
-            Ok(())
-        }
-        None => Err(Stop::Wide),
-    }
-}
-
-/// Goes on by the words of an ignorable.
-fn add_skip(net: &mut Coarse, site: &Site<'_>, skip: u32) -> Result<(), Stop>
-    requires { IsSite site.now }
-    ensures joins { OnOk result ((other : Net) × Joins net.old other net.new × ((w : List ℕ) → IsSkipWord site.now.g.now skip w → Goes site.now.labels.now other 0 w (last_state other))) }
-{
-    match site.leaves.skips.get(skip as usize) {
-        Some(leaf) => {
-            join_net(net, leaf)?;
-            Ok(())
-        }
-        None => Err(Stop::Wide),
-    }
-}
-
-/// Goes on by a nonterminal, whose fragment is kept.
-fn add_non(net: &mut Coarse, kept: &[Option<Coarse>], site: &Site<'_>, non: u32) -> Result<(), Stop>
-    requires kept { AreFragments site.now.g.now site.now.labels.now kept.now }
-    ensures joins { OnOk result ((other : Net) × Joins net.old other net.new × IsFragment site.now.g.now site.now.labels.now non other) }
+/// The fragment of a nonterminal, if it is kept.
+fn fragment_at(kept: &[Option<Coarse>], non: u32) -> Result<&Coarse, Stop>
+    ensures { IfOk result (λ net. slice_get kept.now non ≡ Some (Some net.now)) }
 {
     match kept.get(non as usize) {
-        Some(Some(fragment)) => {
-            join_net(net, fragment)?;
-            Ok(())
-        }
-        _ => Err(Stop::Wide),
+        Some(Some(fragment)) => Ok(fragment),
+        _ => Err(Stop::Unfit),
     }
 }
 
 /// Makes the fragment of a nonterminal, if it is not kept yet.
 pub(crate) fn keep_fragment(
     kept: &mut Vec<Option<Coarse>>,
-    alloc: Global,
-    site: &Site<'_>,
-    whole: &Whole,
+    ground: &Ground<'_>,
     non: u32,
 ) -> Result<(), Stop>
-    requires site { IsSite site.now }
-    requires whole { IsWhole site.now.g.now site.now.labels.now whole.now }
-    requires kept { AreFragments site.now.g.now site.now.labels.now kept.old.items }
+    requires ground { IsGround ground.now }
+    requires kept { AreFragments ground.now.site.g.now ground.now.site.labels.now kept.old.items }
     ensures long { OnOk result (non < length kept.new.items) }
-    ensures kept { AreFragments site.now.g.now site.now.labels.now kept.new.items }
+    ensures kept { AreFragments ground.now.site.g.now ground.now.site.labels.now kept.new.items }
 {
     if non as usize >= kept.len() {
-        return Err(Stop::Wide);
+        return Err(Stop::Unfit);
     }
     if kept[non as usize].is_none() {
-        let made = block(alloc, site, whole, non)?;
+        let made = block(ground, non)?;
         kept[non as usize] = Some(made);
     }
     Ok(())

@@ -1,33 +1,30 @@
 ghost use Rattle.std.specs.Prelude.{◌≡◌, ℕ, false, get_or, IsTrue, IfOk, OnOk};
 ghost use Rattle.std.specs.List.{Contains};
 ghost use Rattle.xs_coarse.specs.declared.arc.Arc.{Arc as AnyArc};
+ghost use Rattle.xs_coarse_net.specs.Grounds.{IsGround};
 ghost use Rattle.xs_coarse_net.specs.Joining.{IsFragment};
 ghost use Rattle.xs_coarse_net.specs.Reaching.{IsIn, IsClosedIn, AreUses, HasUse, HasUses};
-ghost use Rattle.xs_coarse_net.specs.Sites.{IsSite};
-ghost use Rattle.xs_coarse_net.specs.Whole.{IsWhole};
 
 use crate::fragment::fragment;
+use crate::ground::Ground;
 use crate::rule::states_of;
-use crate::site::Site;
-use crate::stop::Stop;
 use crate::whole::Whole;
 use std::alloc::Global;
 use xs_class::Memory;
-use xs_coarse::{Arc, Coarse};
+use xs_coarse::{Arc, Coarse, Stop};
 
 /// A net for a nonterminal, which covers what it reaches: the part of the grammar's net that is reached
 /// from its entry, where no arc leads back into a rule of a nonterminal that it does not reach.
-pub(crate) fn block(alloc: Global, site: &Site<'_>, whole: &Whole, non: u32) -> Result<Coarse, Stop>
-    requires site { IsSite site.now }
-    requires whole { IsWhole site.now.g.now site.now.labels.now whole.now }
-    ensures { IfOk result (IsFragment site.now.g.now site.now.labels.now non) }
+pub(crate) fn block(ground: &Ground<'_>, non: u32) -> Result<Coarse, Stop>
+    requires ground { IsGround ground.now }
+    ensures { IfOk result (IsFragment ground.now.site.g.now ground.now.site.labels.now non) }
 {
     let (entry, exit) = states_of(non)?;
-    let has = reached(alloc, whole, non)?;
-    if exit >= whole.net.len() {
-        return Err(Stop::Wide);
+    let has = reached(ground.alloc, ground.whole, non)?;
+    if exit >= ground.whole.net.len() {
+        return Err(Stop::Unfit);
     }
-    let made = fragment(alloc, &whole.net, &has, entry, exit)?;
+    let made = fragment(ground.alloc, &ground.whole.net, &has, entry, exit)?;
     Ok(made)
 }
 
@@ -39,7 +36,7 @@ fn reached(alloc: Global, whole: &Whole, non: u32) -> Result<Vec<bool>, Stop>
 {
     let has = guess(alloc, &whole.uses, non)?;
     if !has_at(&has, non) || !is_closed(&whole.uses, &has) {
-        return Err(Stop::Wide);
+        return Err(Stop::Unfit);
     }
     Ok(has)
 }

@@ -1,17 +1,14 @@
 ghost use Rattle.std.specs.Prelude.{◌≡◌, ◌<◌, length};
 ghost use Rattle.xs_gram.specs.{spread};
 ghost use Rattle.xs_stretch.specs.{IsPart};
+ghost use Rattle.xs_coarse_net.specs.Grounds.{IsGround};
 ghost use Rattle.xs_coarse_net.specs.Joining.{AreFragments};
-ghost use Rattle.xs_coarse_net.specs.Sites.{IsSite};
-ghost use Rattle.xs_coarse_net.specs.Whole.{IsWhole};
 
 use crate::draft::MOST;
+use crate::ground::Ground;
 use crate::pieces::keep_fragment;
 use crate::site::Site;
-use crate::stop::Stop;
-use crate::whole::Whole;
-use std::alloc::Global;
-use xs_coarse::Coarse;
+use xs_coarse::{Coarse, Stop};
 use xs_gram::GItem;
 use xs_stretch::Part;
 
@@ -54,16 +51,13 @@ impl Room {
 /// yet.
 pub(crate) fn room_for(
     kept: &mut Vec<Option<Coarse>>,
-    alloc: Global,
-    site: &Site<'_>,
-    whole: &Whole,
+    ground: &Ground<'_>,
     part: Part,
 ) -> Result<Room, Stop>
-    requires site { IsSite site.now }
-    requires whole { IsWhole site.now.g.now site.now.labels.now whole.now }
-    requires part { IsPart site.now.g.now part }
-    requires kept { AreFragments site.now.g.now site.now.labels.now kept.old.items }
-    ensures { AreFragments site.now.g.now site.now.labels.now kept.new.items }
+    requires ground { IsGround ground.now }
+    requires part { IsPart ground.now.site.g.now part }
+    requires kept { AreFragments ground.now.site.g.now ground.now.site.labels.now kept.old.items }
+    ensures { AreFragments ground.now.site.g.now ground.now.site.labels.now kept.new.items }
 {
     let mut room = Room::one();
     let mut next = part.start;
@@ -71,8 +65,8 @@ pub(crate) fn room_for(
         if place < next {
             continue;
         }
-        room = room_with(room, kept, alloc, site, whole, part.rule, place)?;
-        next = place_after(site, part.rule, place);
+        room = room_with(room, kept, ground, part.rule, place)?;
+        next = place_after(&ground.site, part.rule, place);
     }
     Ok(room)
 }
@@ -92,25 +86,28 @@ fn place_after(site: &Site<'_>, rule: u32, place: u32) -> u32
 fn room_with(
     room: Room,
     kept: &mut Vec<Option<Coarse>>,
-    alloc: Global,
-    site: &Site<'_>,
-    whole: &Whole,
+    ground: &Ground<'_>,
     rule: u32,
     place: u32,
 ) -> Result<Room, Stop>
-    requires site { IsSite site.now }
-    requires whole { IsWhole site.now.g.now site.now.labels.now whole.now }
-    requires rule { rule < length site.now.g.now.rules }
-    requires place { place < length (spread site.now.g.now rule) }
-    requires kept { AreFragments site.now.g.now site.now.labels.now kept.old.items }
-    ensures { AreFragments site.now.g.now site.now.labels.now kept.new.items }
+    requires ground { IsGround ground.now }
+    requires rule { rule < length ground.now.site.g.now.rules }
+    requires place { place < length (spread ground.now.site.g.now rule) }
+    requires kept { AreFragments ground.now.site.g.now ground.now.site.labels.now kept.old.items }
+    ensures { AreFragments ground.now.site.g.now ground.now.site.labels.now kept.new.items }
 {
-    match &site.g.spread(rule)[place as usize] {
+    match &ground.site.g.spread(rule)[place as usize] {
         GItem::Fixed(word) => Ok(room.with(word.len(), word.len())),
-        GItem::Term { term, .. } => Ok(room_with_leaf(room, site.leaves.terms.get(*term as usize))),
-        GItem::Skip { skip } => Ok(room_with_leaf(room, site.leaves.skips.get(*skip as usize))),
+        GItem::Term { term, .. } => Ok(room_with_leaf(
+            room,
+            ground.site.leaves.terms.get(*term as usize),
+        )),
+        GItem::Skip { skip } => Ok(room_with_leaf(
+            room,
+            ground.site.leaves.skips.get(*skip as usize),
+        )),
         GItem::Non { non, .. } => {
-            keep_fragment(kept, alloc, site, whole, *non)?;
+            keep_fragment(kept, ground, *non)?;
             Ok(room_with_kept(room, &kept[*non as usize]))
         }
     }

@@ -8,9 +8,10 @@ ghost use Rattle.xs_coarse_net.specs.Whole.{entry_state, exit_state, rule_base, 
 
 use crate::draft::{Draft, MOST};
 use crate::labelled::label_of_group;
-use crate::leaf::lay_leaf;
+use crate::leaf::{lay_net, lay_word};
+use crate::leaves::leaf_at;
 use crate::site::Site;
-use crate::stop::Stop;
+use xs_coarse::Stop;
 use xs_gram::{GItem, cuts_are_one};
 
 /// The least label of an arc back from the exit of a nonterminal; the number of the nonterminal into
@@ -30,7 +31,7 @@ pub(crate) fn lay_rule(draft: &mut Draft, site: &Site<'_>, rule: u32, base: u32)
     'places: for place in 0..end {
         let here = number;
         number = number_after(site, rule, place, here)?;
-        lay_outer(draft, site, rule, base, place, here)?;
+        lay_place(draft, site, rule, base, place, here)?;
     }
     lay_ends(draft, site, rule, end)?;
     Ok(())
@@ -55,7 +56,7 @@ pub(crate) fn states_of(non: u32) -> Result<(u32, u32), Stop>
     ensures exit { IfOk result (λ s. s.1 ≡ exit_state non) }
 {
     if non > MOST {
-        return Err(Stop::Wide);
+        return Err(Stop::Unfit);
     }
     Ok((2 * non, 2 * non + 1))
 }
@@ -70,7 +71,7 @@ pub(crate) fn number_after(site: &Site<'_>, rule: u32, place: u32, number: u32) 
     match site.g.partner(rule, place) {
         Some(_) => {
             if number == u32::MAX {
-                return Err(Stop::Wide);
+                return Err(Stop::Unfit);
             }
             Ok(number + 1)
         }
@@ -92,32 +93,9 @@ fn state_at(site: &Site<'_>, rule: u32, base: u32, place: u32) -> Result<u32, St
         return Ok(exit);
     }
     if base > MOST || place > MOST {
-        return Err(Stop::Wide);
+        return Err(Stop::Unfit);
     }
     Ok(base + place)
-}
-
-/// Lays what stands at a place of a rule, unless that is inside a group.
-fn lay_outer(
-    draft: &mut Draft,
-    site: &Site<'_>,
-    rule: u32,
-    base: u32,
-    place: u32,
-    number: u32,
-) -> Result<(), Stop>
-    requires site { IsSite site.now }
-    requires rule { rule < length site.now.g.now.rules }
-    requires base { base ≡ rule_base site.now.g.now rule }
-    requires place { place < length (spread site.now.g.now rule) }
-    requires number { number ≡ group_number site.now.g.now rule place }
-    ensures grows { OnOk result (Grows draft.old draft.new) }
-    ensures laid { OnOk result (PlaceLaid site.now.g.now site.now.labels.now draft.new rule place) }
-{
-    if is_enclosed(site, rule, place) {
-        return Ok(());
-    }
-    lay_place(draft, site, rule, base, place, number)
 }
 
 /// Whether a place of a rule is inside a group.
@@ -138,7 +116,7 @@ fn is_enclosed(site: &Site<'_>, rule: u32, place: u32) -> bool
     true
 }
 
-/// Lays the outer item or the group at a place of a rule.
+/// Lays the outer item or the group at a place of a rule, unless that is inside a group.
 fn lay_place(
     draft: &mut Draft,
     site: &Site<'_>,
@@ -155,6 +133,9 @@ fn lay_place(
     ensures grows { OnOk result (Grows draft.old draft.new) }
     ensures laid { OnOk result (PlaceLaid site.now.g.now site.now.labels.now draft.new rule place) }
 {
+    if is_enclosed(site, rule, place) {
+        return Ok(());
+    }
     let item = &site.g.spread(rule)[place as usize];
     let from = state_at(site, rule, base, place)?;
     match site.g.partner(rule, place) {
@@ -173,7 +154,7 @@ fn lay_place(
 }
 
 /// Leads from a state to another by an item of a rule of a nonterminal; by a nonterminal, to its entry
-/// and back from its exit.
+/// and back from its exit. A right fence leads nowhere.
 fn lay_item(
     draft: &mut Draft,
     site: &Site<'_>,
@@ -188,8 +169,19 @@ fn lay_item(
     ensures laid { OnOk result (ItemLaid site.now.g.now site.now.labels.now draft.new own item.now from to) }
 {
     match item {
+        GItem::Fixed(word) => {
+            lay_word(draft, site, word.as_slice(), from, to)?;
+            Ok(())
+        }
+        GItem::Term { term, .. } => {
+            lay_net(draft, leaf_at(&site.leaves.terms, *term)?, from, to)?;
+            Ok(())
+        }
+        GItem::Skip { skip } => {
+            lay_net(draft, leaf_at(&site.leaves.skips, *skip)?, from, to)?;
+            Ok(())
+        }
         GItem::Non { non, .. } => lay_call(draft, own, *non, from, to),
-        _ => lay_leaf(draft, site, item, from, to),
     }
 }
 
@@ -201,7 +193,7 @@ fn lay_call(draft: &mut Draft, own: u32, non: u32, from: u32, to: u32) -> Result
     ensures returns { OnOk result (HasArc draft.new (exit_state non) (return_label own) to) }
 {
     if own > MOST {
-        return Err(Stop::Wide);
+        return Err(Stop::Unfit);
     }
     let (entry, exit) = states_of(non)?;
     draft.add(from, 0, entry)?;

@@ -10,10 +10,9 @@ use crate::draft::{Draft, MOST, net_of};
 use crate::leaf::states_inside;
 use crate::rule::{RETURNS, lay_rule};
 use crate::site::Site;
-use crate::stop::Stop;
 use std::alloc::Global;
 use xs_class::Memory;
-use xs_coarse::{Arc, Coarse};
+use xs_coarse::{Arc, Coarse, Stop};
 
 /// The net that covers all rules of a grammar, whose arcs back from the exit of a nonterminal tell into
 /// a rule of which nonterminal they lead; and, as a net too, which nonterminals the rules of each use.
@@ -29,7 +28,7 @@ pub(crate) fn whole_net(alloc: Global, site: &Site<'_>) -> Result<Whole, Stop>
     ensures { IfOk result (IsWhole site.now.g.now site.now.labels.now) }
 {
     if site.g.nons() > MOST {
-        return Err(Stop::Wide);
+        return Err(Stop::Unfit);
     }
     let first = 2 * site.g.nons();
     let (places, states) = counts(site, first)?;
@@ -79,7 +78,7 @@ fn base_after(site: &Site<'_>, rule: u32, base: u32) -> Result<u32, Stop>
 {
     let count = site.g.spread(rule).len();
     if base > MOST || count > MOST as usize {
-        return Err(Stop::Wide);
+        return Err(Stop::Unfit);
     }
     Ok(base + count as u32)
 }

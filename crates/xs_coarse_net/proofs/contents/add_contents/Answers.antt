@@ -5,5 +5,5 @@ use Rattle.xs_coarse_net.proofs.contents.add_contents.Goals as goal
 
 pub returns-clause-contents : goal.returns-clause-contents
 returns-clause-contents c =
-    let t = c.args.site.now.labels.now in
-    groups_next c.args.site.now.g.now c.args.rule c.items.place (nest_of t c.items.contents.items) (omega (arith, c.items-test.false, ap length c.spread.ensures.items)) c.items.invariant.contents
+    let t = c.args.ground.now.site.labels.now in
+    groups_next c.args.ground.now.site.g.now c.args.rule c.items.place (nest_of t c.items.contents.items) (omega (arith, c.items-test.false, ap length c.spread.ensures.items)) c.items.invariant.contents

@@ -4,6 +4,6 @@ use Rattle.xs_coarse_net.proofs.contents.add_contents.Given as goal
 
 abbrev pub invariant-items : goal.invariant-items
 invariant-items l = record {
-  kept : AreFragments l.site.g.now l.site.labels.now l.kept.items;
-  contents : HasContentsBefore l.site.g.now l.rule l.place (nest_of l.site.labels.now l.contents.items);
+  kept : AreFragments l.ground.site.g.now l.ground.site.labels.now l.kept.items;
+  contents : HasContentsBefore l.ground.site.g.now l.rule l.place (nest_of l.ground.site.labels.now l.contents.items);
 }

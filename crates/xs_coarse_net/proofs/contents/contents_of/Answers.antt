@@ -6,10 +6,10 @@ use Rattle.xs_coarse_net.proofs.contents.contents_of.Goals as goal
 
 pub rules-init : goal.rules-init
 rules-init c =
-    let t = c.args.site.now.labels.now in
-    record { kept = c.requires.kept; contents = rw c.new-contents.ensures.items (groups_none c.args.site.now.g.now) }
+    let t = c.args.ground.now.site.labels.now in
+    record { kept = c.requires.kept; contents = rw c.new-contents.ensures.items (groups_none c.args.ground.now.site.g.now) }
 
 pub returns-clause-contents : goal.returns-clause-contents
 returns-clause-contents c =
-    let t = c.args.site.now.labels.now in
-    contents_all c.args.site.now.g.now c.requires.site.built.proper c.rules.rule (nest_of t c.rules.contents.items) (omega (arith, c.rules-test.false, c.rules.auto.rule-end, c.rules-rule-end.ensures)) c.rules.invariant.contents
+    let t = c.args.ground.now.site.labels.now in
+    contents_all c.args.ground.now.site.g.now c.requires.ground.site.ready.built.proper c.rules.rule (nest_of t c.rules.contents.items) (omega (arith, c.rules-test.false, c.rules.auto.rule-end, c.rules-rule-end.ensures)) c.rules.invariant.contents

@@ -4,6 +4,6 @@ use Rattle.xs_coarse_net.proofs.contents.contents_of.Given as goal
 
 abbrev pub invariant-rules : goal.invariant-rules
 invariant-rules l = record {
-  kept : AreFragments l.site.g.now l.site.labels.now l.kept.items;
-  contents : HasContentsBefore l.site.g.now l.rule 0 (nest_of l.site.labels.now l.contents.items);
+  kept : AreFragments l.ground.site.g.now l.ground.site.labels.now l.kept.items;
+  contents : HasContentsBefore l.ground.site.g.now l.rule 0 (nest_of l.ground.site.labels.now l.contents.items);
 }

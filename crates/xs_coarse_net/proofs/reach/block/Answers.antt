@@ -9,20 +9,20 @@ use Rattle.xs_coarse_net.proofs.reach.block.Goals as goal
 
 pub returns : goal.returns
 returns c =
-    let t = c.args.site.now.labels.now in
+    let t = c.args.ground.now.site.labels.now in
     let has = c.deref.result.now in
-    let net = left_net has c.args.whole.now.net in
+    let net = left_net has c.args.ground.now.whole.now.net in
     let made = c.in_ok-made.made in
     let from = open_view t net in
     let to = open_view t made in
     let same = sym c.deref.ensures.value in
     let own : IsIn has c.args.non = subst (λ (bits : List Bool). IsIn bits c.args.non) same c.in_ok-has.ensures.own in
-    let closed : IsClosedIn c.args.whole.now.net has = subst (λ (bits : List Bool). IsClosedIn c.args.whole.now.net bits) same c.in_ok-has.ensures.closed in
+    let closed : IsClosedIn c.args.ground.now.whole.now.net has = subst (λ (bits : List Bool). IsClosedIn c.args.ground.now.whole.now.net bits) same c.in_ok-has.ensures.closed in
     let follows : Follows from c.in_ok-entry.entry c.in_ok-entry.exit to 0 (last_state made) = c.in_ok-made.ensures t in
     record {
       block = from;
-      state = spot_state c.args.site.now.g.now;
+      state = spot_state c.args.ground.now.site.g.now;
       has = λ m. get_or has m false;
-      covers = covers_from c.requires.site.labels c.requires.whole.laid (left_restricted has c.args.whole.now.net) (left_within has c.args.whole.now.net c.requires.whole.within) c.args.non own closed;
+      covers = covers_from c.requires.ground.site.ready.labels c.requires.ground.whole.laid (left_restricted has c.args.ground.now.whole.now.net) (left_within has c.args.ground.now.whole.now.net c.requires.ground.whole.within) c.args.non own closed;
       follows = subst (λ (a : ℕ). Follows from a (exit_state c.args.non) to 0 (last_state made)) c.in_ok-entry.ensures.entry (subst (λ (b : ℕ). Follows from c.in_ok-entry.entry b to 0 (last_state made)) c.in_ok-entry.ensures.exit follows);
     }

@@ -4,11 +4,14 @@ use Rattle.xs_stretch.proofs.Items.{item_there}
 use Rattle.xs_stretch.proofs.Numbering.{left_counts, number_low}
 use Rattle.xs_stretch.proofs.Stepping.{read_there}
 use Rattle.xs_coarse_net.specs.Whole.{ItemLaid}
-use Rattle.xs_coarse_net.proofs.Places.{place_group, place_item}
+use Rattle.xs_coarse_net.proofs.Places.{place_enclosed, place_group, place_item}
 use Rattle.xs_coarse_net.proofs.rule.lay_place.Goals as goal
 
+pub returns-then-is_enclosed-clause-laid : goal.returns-then-is_enclosed-clause-laid
+returns-then-is_enclosed-clause-laid c = place_enclosed c.args.site.now.g.now c.args.site.now.labels.now c.args.draft.now c.args.rule c.args.place (c.is_enclosed.ensures c.if-is_enclosed.true)
+
 pub lay_item-requires-clause-there : goal.lay_item-requires-clause-there
-lay_item-requires-clause-there c = item_there c.args.site.now.g.now c.requires.site.built.range c.args.rule c.args.place c.spread.result.now c.index-spread-place.result c.spread.ensures.items c.requires.place c.index-spread-place.is
+lay_item-requires-clause-there c = item_there c.args.site.now.g.now c.requires.site.ready.built.range c.args.rule c.args.place c.spread.result.now c.index-spread-place.result c.spread.ensures.items c.requires.place c.index-spread-place.is
 
 pub label_of_group-requires-clause-there : goal.label_of_group-requires-clause-there
 label_of_group-requires-clause-there c =

@@ -6,7 +6,7 @@ use Rattle.xs_coarse_net.proofs.rule.lay_rule.Goals as goal
 
 pub places-init : goal.places-init
 places-init c = record {
-  number = omega (arith, element_is c.args.site.now.groups.now c.args.rule c.at-number.result.now 0 c.at-number.ensures, c.requires.site.groups.each c.args.rule c.requires.rule);
+  number = omega (arith, element_is c.args.site.now.groups.now c.args.rule c.at-number.result.now 0 c.at-number.ensures, c.requires.site.ready.groups.each c.args.rule c.requires.rule);
   grows = grows_none;
   laid = λ j low. absurd (omega (arith, low));
 }
@@ -14,8 +14,8 @@ places-init c = record {
 pub places-preserved : goal.places-preserved
 places-preserved c = record {
   number = c.in_ok-number.ensures;
-  grows = grows_on c.places.invariant.grows c.in_ok-lay_outer.ensures.grows;
-  laid = places_more c.places.place c.in_ok-lay_outer.ensures.grows c.places.invariant.laid c.in_ok-lay_outer.ensures.laid;
+  grows = grows_on c.places.invariant.grows c.in_ok-lay_place.ensures.grows;
+  laid = places_more c.places.place c.in_ok-lay_place.ensures.grows c.places.invariant.laid c.in_ok-lay_place.ensures.laid;
 }
 
 pub returns-clause-grows : goal.returns-clause-grows

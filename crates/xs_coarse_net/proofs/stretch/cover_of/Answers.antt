@@ -10,20 +10,20 @@ use Rattle.xs_coarse_net.proofs.stretch.cover_of.Goals as goal
 
 pub items-init : goal.items-init
 items-init c =
-    let g = c.args.site.now.g.now in
-    let t = c.args.site.now.labels.now in
+    let g = c.args.ground.now.site.g.now in
+    let t = c.args.ground.now.site.labels.now in
     let part = c.args.part in
     record {
       later = omega arith;
       within = c.requires.part.order;
-      number = omega (arith, element_is c.args.site.now.groups.now part.rule c.at-number.result.now 0 c.at-number.ensures, c.requires.site.groups.each part.rule c.requires.part.rule);
+      number = omega (arith, element_is c.args.ground.now.site.groups.now part.rule c.at-number.result.now 0 c.at-number.ensures, c.requires.ground.site.ready.groups.each part.rule c.requires.part.rule);
       covered = rw c.in_ok-places.ensures.items (covered_none g t _ part.rule part.start (part_items g part) c.in_ok-net.ensures.states c.requires.part.level);
     }
 
 pub items-preserved : goal.items-preserved
 items-preserved c =
-    let g = c.args.site.now.g.now in
-    let t = c.args.site.now.labels.now in
+    let g = c.args.ground.now.site.g.now in
+    let t = c.args.ground.now.site.labels.now in
     let part = c.args.part in
     let is = part_items g part in
     let place : c.items.next ≡ c.items.place = omega (arith, c.items.invariant.later, c.if-place-next.false) in
@@ -42,8 +42,8 @@ items-preserved c =
 
 pub returns : goal.returns
 returns c =
-    let g = c.args.site.now.g.now in
-    let t = c.args.site.now.labels.now in
+    let g = c.args.ground.now.site.g.now in
+    let t = c.args.ground.now.site.labels.now in
     let o : Outer = record { place = c.args.part.end; state = c.len-last.result - 1 } in
     let cover : Cover = record { net = c.items.net; places = c.push-2.new.self; last = c.len-last.result - 1 } in
     let next : c.args.part.end ≡ c.items.next = omega (arith, c.items.invariant.later, c.items.invariant.within, c.items-test.false) in

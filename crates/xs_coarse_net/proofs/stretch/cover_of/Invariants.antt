@@ -9,6 +9,6 @@ abbrev pub invariant-items : goal.invariant-items
 invariant-items l = record {
   later : l.place ≤ l.next;
   within : l.next ≤ l.part.end;
-  number : l.number ≡ groups_before l.site.g.now l.part.rule + lefts l.site.g.now.fences (take l.place (spread l.site.g.now l.part.rule));
-  covered : IsCovered l.site.g.now l.site.labels.now l.net l.part.rule l.part.start (part_items l.site.g.now l.part) l.next l.places.items;
+  number : l.number ≡ groups_before l.ground.site.g.now l.part.rule + lefts l.ground.site.g.now.fences (take l.place (spread l.ground.site.g.now l.part.rule));
+  covered : IsCovered l.ground.site.g.now l.ground.site.labels.now l.net l.part.rule l.part.start (part_items l.ground.site.g.now l.part) l.next l.places.items;
 }
