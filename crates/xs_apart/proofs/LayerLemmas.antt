@@ -7,7 +7,7 @@ use Rattle.xs_apart.specs.declared.pair.Pair.{Pair}
 use Rattle.xs_apart.specs.declared.found.Found.{Found}
 use Rattle.xs_apart.specs.Arcs.{Slips, Steps, Goes, HasFound, HasTarget, HasAll, IsClosedWithin, NeverReturns}
 use Rattle.xs_apart.specs.Found.{IsInside, IsMore, pair}
-use Rattle.xs_apart.specs.Sets.{IsShut, AreDoubles, AreTurns, AreMiddles, AreLastMiddles, AreRests, AreEndPairs, Turns, Returns, Leaves}
+use Rattle.xs_apart.specs.Sets.{IsShut, AreDoubles, AreTurns, AreMiddles, AreLastMiddles, AreRests, AreEndPairs, Leaves}
 use Rattle.xs_apart.specs.Tails.{IsWithinAll}
 use Rattle.xs_apart.proofs.GrowthLemmas.{more_then, more_has}
 use Rattle.xs_apart.proofs.Walks.{given_same, turn_target, return_target}
