@@ -25,10 +25,10 @@ pub mod RegexFrames
 pub mod FenceOrders
 pub mod Lists
 pub mod Nested
+pub mod Said
 pub mod Strings
 pub mod Known
 pub mod FlatElements
-pub mod LowMarks
 pub mod Levels
 pub mod TextFences
 pub mod XmlFences

@@ -9,21 +9,16 @@ use Rattle.xs_class.proofs.Truth.{and_true, lt_is, false_true}
 use Rattle.xs_gram.specs.Laws.{Every}
 use Rattle.xs_gram.specs.Building.{EachOf}
 use Rattle.xs_lex.specs.declared.kind.Kind.{Kind}
-use Rattle.xs_lex.specs.declared.kind.Kind.TheVariants.{Quoted, AngleEnd, SlashEnd, Equals}
+use Rattle.xs_lex.specs.declared.kind.Kind.TheVariants.{Quoted}
 use Rattle.xs_lex.specs.Between.{Blank, white, comment, spelt_blanks}
-use Rattle.xs_lex.specs.Reading.{Lexeme, Extent, AreTokensFrom, AreTokens, valid, after_mark, extent_of}
+use Rattle.xs_lex.specs.Reading.{Lexeme, Extent, AreTokensFrom, valid, after_mark, extent_of}
 use Rattle.xs_lex.specs.Spelling.{IsQuoted}
 use Rattle.xs_lex.specs.Units.{QuotedUnit, plain, escaped, coded, is_quoted_unit, is_hex, is_scalar, escape_char, number, spelt_quoted, meaning}
-use Rattle.xs_sheet.specs.declared.piece.Piece.{Piece}
-use Rattle.xs_sheet.specs.declared.item.Item.{Item}
-use Rattle.xs_sheet.specs.declared.item.Item.TheVariants.{Fixed, Named, Skip}
-use Rattle.xs_sheet.specs.declared.x_item.Attr.{Attr}
-use Rattle.xs_sheet.specs.declared.unit.Unit.{Unit as SheetUnit}
 use Rattle.xs_sheet.specs.declared.sheet.Sheet.{Sheet}
-use Rattle.xs_sheet.specs.Outline.{Content, nothing, item, element, UnitOutline, terminal, ignorable, production, fence, unit_outline}
-use Rattle.xs_sheet.specs.Pieces.{IsPiece, ArePieces, IsTextOf}
-use Rattle.xs_sheet.specs.Grammar.{IsString, ReadsItem, ReadsItems, ReadsAttr, ReadsAttrs, ReadsOpening, ReadsClosing, ReadsSign, ReadsContent, ReadsUnit, ReadsUnits, IsSheetOf}
-use Rattle.xs_pair.proofs.Lists.{each_of_map}
+use Rattle.xs_sheet.specs.Pieces.{IsTextOf}
+use Rattle.xs_sheet.specs.Grammar.{IsSheetOf}
+use Rattle.xs_pair.specs.Listing.{rules_of}
+use Rattle.xs_pair.proofs.Said.{IsSaidOfToken, IsSaidOfRule, said_of_rules}
 
 -- each symbol is below the marks
 abbrev pub AreLow : List ℕ → Type 0
@@ -93,17 +88,6 @@ blanks_low [] rest low = low
 blanks_low (white c ∷ bs) rest low = blanks_low bs rest low.1
 blanks_low (comment body ∷ bs) rest low = blanks_low bs rest (low_back body (spelt_blanks bs rest) low.1)
 
-abbrev IsLowToken : Lexeme → Type 0
-IsLowToken t = AreLow t.word
-
-tokens_low : (x : Extent) (text : List ℕ) (ts : List Lexeme) → AreTokensFrom x text ts → AreLow text → EachOf IsLowToken ts
-tokens_low x text [] are low = absurd are
-tokens_low x text (t ∷ ts) (rest, apart, stands, inl last) low = (subst AreLow (sym last.1.word) tt, subst (EachOf IsLowToken) (sym last.0) tt)
-tokens_low x text (t ∷ ts) (rest, apart, stands, inr more) low =
-    let here : AreLow rest = blanks_low apart.blanks rest (subst AreLow apart.is low) in
-    let split : AreLow (t.word ++ more.0) = subst AreLow more.1.begins.is here in
-    (low_front t.word more.0 split, tokens_low x more.0 ts more.2 (low_back t.word more.0 split))
-
 escape_low : (c : ℕ) → c < 1114112 → escape_char c < 1114112
 escape_low c low = first (c == 110)
   where
@@ -133,114 +117,25 @@ units_low (coded ds ∷ us) rest each low =
 quoted_low : (word text : List ℕ) → IsQuoted word text → AreLow word → AreLow text
 quoted_low word text q low = subst AreLow (sym q.means) (units_low q.units (34 ∷ []) q.each (subst AreLow q.is low).1)
 
--- a string is low
-abbrev IsLowPiece : Piece → Type 0
-IsLowPiece p = p.kind ≡ Quoted → AreLow p.text
+-- a string's text is low
+abbrev pub IsLowText : Kind → List ℕ → Type 0
+IsLowText Quoted text = AreLow text
+IsLowText kind text = Unit {0}
 
-piece_low : (t : Lexeme) (p : Piece) → IsPiece t p → AreLow t.word → IsLowPiece p
-piece_low t p is low quoted = quoted_low t.word p.text (subst (λ (k : Kind). IsTextOf k t.word p.text) (sym is.kind ∙ quoted) is.text) low
+text_low : (k : Kind) (word text : List ℕ) → IsTextOf k word text → AreLow word → IsLowText k text
+text_low Quoted word text is low = quoted_low word text is low
+text_low kind word text is low = tt
 
-pieces_low : (ts : List Lexeme) (ps : List Piece) → ArePieces ts ps → EachOf IsLowToken ts → EachOf IsLowPiece ps
-pieces_low [] [] are each = tt
-pieces_low (t ∷ ts) (p ∷ ps) are each = (piece_low t p are.0 each.0, pieces_low ts ps are.1 each.1)
-pieces_low ts ps are each = absurd are
+tokens_low : (x : Extent) (text : List ℕ) (ts : List Lexeme) → AreTokensFrom x text ts → AreLow text → EachOf (IsSaidOfToken IsLowText) ts
+tokens_low x text [] are low = absurd are
+tokens_low x text (t ∷ ts) (rest, apart, stands, inl last) low = (λ z is. text_low t.kind t.word z is (subst AreLow (sym last.1.word) tt), subst (EachOf (IsSaidOfToken IsLowText)) (sym last.0) tt)
+tokens_low x text (t ∷ ts) (rest, apart, stands, inr more) low =
+    let here : AreLow rest = blanks_low apart.blanks rest (subst AreLow apart.is low) in
+    let split : AreLow (t.word ++ more.0) = subst AreLow more.1.begins.is here in
+    (λ z is. text_low t.kind t.word z is (low_front t.word more.0 split), tokens_low x more.0 ts more.2 (low_back t.word more.0 split))
 
-file_low : (bytes : List ℕ) (ts : List Lexeme) (ps : List Piece) → AreTokens bytes ts → ArePieces ts ps → EachOf IsLowPiece ps
-file_low bytes ts ps tokens pieces =
+-- the strings of a sheet that bytes spell have characters alone
+pub rules_low : (bytes : List ℕ) (s : Sheet) → IsSheetOf bytes s → EachOf (IsSaidOfRule IsLowText) (rules_of s.units)
+rules_low bytes s is =
     let low : AreLow (chars (valid bytes)) = scalars_low (chars (valid bytes)) (scalars-chars (valid bytes) (valid_text bytes)) in
-    pieces_low ts ps pieces (tokens_low (extent_of bytes) (after_mark (chars (valid bytes))) ts tokens (marked_low (chars (valid bytes)) low))
-
--- what is read
-abbrev pub IsLowItem : Item → Type 0
-IsLowItem (Fixed text) = AreLow text
-IsLowItem (Named name slot) = Unit {0}
-IsLowItem (Skip name) = Unit {0}
-
-abbrev pub IsLowAttr : Attr → Type 0
-IsLowAttr a = EachOf IsLowItem a.value
-
--- the strings of content are low
-abbrev pub HasLow : Content → Type 0
-HasLow nothing = Unit {0}
-HasLow (item before i) = HasLow before × IsLowItem i
-HasLow (element before tag attrs inner) = HasLow before × EachOf IsLowAttr attrs × HasLow inner
-
-abbrev Fine : List Piece → Type 0
-Fine ps = EachOf IsLowPiece ps
-
-string_is : (p : Piece) (text : List ℕ) → IsLowPiece p → IsString p text → AreLow text
-string_is p text fine is = subst AreLow is.text_is (fine is.kind)
-
-item_read : (i : Item) (ps rest : List Piece) → ReadsItem i ps rest → Fine ps → IsLowItem i × Fine rest
-item_read (Fixed text) ps rest reads fine = let here = subst Fine reads.1 fine in (string_is reads.0 text here.0 reads.2, here.1)
-item_read (Named name slot) ps rest reads fine = (tt, (subst Fine reads.4 fine).1.1.1.1)
-item_read (Skip name) ps rest reads fine = (tt, (subst Fine reads.3 fine).1.1.1)
-
-items_read : (is : List Item) (ps rest : List Piece) → ReadsItems is ps rest → Fine ps → EachOf IsLowItem is × Fine rest
-items_read [] ps rest reads fine = (tt, subst Fine reads fine)
-items_read (i ∷ is) ps rest reads fine =
-    let first = item_read i ps reads.0 reads.1 fine in
-    let more = items_read is reads.0 rest reads.2 first.1 in
-    ((first.0, more.0), more.1)
-
-attr_read : (a : Attr) (ps rest : List Piece) → ReadsAttr a ps rest → Fine ps → IsLowAttr a × Fine rest
-attr_read a ps rest reads fine = items_read a.value reads.next rest reads.value (subst Fine reads.is fine).1.1
-
-attrs_read : (attrs : List Attr) (ps rest : List Piece) → ReadsAttrs attrs ps rest → Fine ps → EachOf IsLowAttr attrs × Fine rest
-attrs_read [] ps rest reads fine = (tt, subst Fine reads fine)
-attrs_read (a ∷ attrs) ps rest reads fine =
-    let first = attr_read a ps reads.0 reads.1 fine in
-    let more = attrs_read attrs reads.0 rest reads.2 first.1 in
-    ((first.0, more.0), more.1)
-
-after_opening : (tag : List ℕ) (ps rest : List Piece) → ReadsOpening tag ps rest → Fine ps → Fine rest
-after_opening tag ps rest reads fine = (subst Fine reads.is fine).1.1
-
-after_sign : (kind : Kind) (ps rest : List Piece) → ReadsSign kind ps rest → Fine ps → Fine rest
-after_sign kind ps rest reads fine = (subst Fine reads.is fine).1
-
-after_closing : (tag : List ℕ) (ps rest : List Piece) → ReadsClosing tag ps rest → Fine ps → Fine rest
-after_closing tag ps rest reads fine = (subst Fine reads.is fine).1.1.1
-
-content_read : (depth : ℕ) (c : Content) (ps rest : List Piece) → ReadsContent depth c ps rest → Fine ps → HasLow c × Fine rest
-content_read depth nothing ps rest reads fine = (tt, subst Fine reads fine)
-content_read depth (item before i) ps rest reads fine =
-    let first = content_read depth before ps reads.0 reads.1 fine in
-    let last = item_read i reads.0 rest reads.2 first.1 in
-    ((first.0, last.0), last.1)
-content_read depth (element before tag attrs inner) ps rest reads fine =
-    let first = content_read depth before ps reads.0 reads.1 fine in
-    let opening = after_opening tag reads.0 reads.3 reads.4 first.1 in
-    let all = attrs_read attrs reads.3 reads.5 reads.6 opening in
-    let inside = by reads.7 all.1 (λ (qs last : List Piece) (r : ReadsContent (depth + 1) inner qs last) (f : Fine qs). content_read (depth + 1) inner qs last r f) in
-    ((first.0, all.0, inside.0), inside.1)
-  where
-    by : {ended : List Piece} → ((inner ≡ nothing) × ReadsSign SlashEnd ended rest) ⊎ ((inside : List Piece) × ReadsSign AngleEnd ended inside × (closing : List Piece) × ReadsContent (depth + 1) inner inside closing × ReadsClosing tag closing rest) → Fine ended → ((qs last : List Piece) → ReadsContent (depth + 1) inner qs last → Fine qs → HasLow inner × Fine last) → HasLow inner × Fine rest
-    by {ended = ended} (inl empty) f within = (subst HasLow (sym empty.0) tt, after_sign SlashEnd ended rest empty.1 f)
-    by {ended = ended} (inr full) f within =
-        let x = within full.0 full.2 full.3 (after_sign AngleEnd ended full.0 full.1 f) in (x.0, after_closing tag full.2 rest full.4 x.1)
-
--- the strings of the XML side of a production are low
-abbrev pub UnitHasLow : UnitOutline → Type 0
-UnitHasLow (terminal name pattern line) = Unit {0}
-UnitHasLow (ignorable name pattern normal line) = Unit {0}
-UnitHasLow (fence left right line) = Unit {0}
-UnitHasLow (production name left right line) = HasLow right
-
-unit_read : (u : UnitOutline) (ps rest : List Piece) → ReadsUnit u ps rest → Fine ps → UnitHasLow u × Fine rest
-unit_read (terminal name pattern line) ps rest reads fine = (tt, (subst Fine reads.is fine).1.1.1.1)
-unit_read (ignorable name pattern normal line) ps rest reads fine = (tt, (subst Fine reads.is fine).1.1.1.1.1)
-unit_read (fence left right line) ps rest reads fine = (tt, (subst Fine reads.is fine).1.1.1)
-unit_read (production name left right line) ps rest reads fine =
-    let here = (subst Fine reads.is fine).1.1 in
-    content_read 0 right reads.inside rest reads.right_is (after_sign Equals reads.mid reads.inside reads.equals_is (items_read left reads.next reads.mid reads.left_is here).1)
-
-units_read : (us : List UnitOutline) (ps rest : List Piece) → ReadsUnits us ps rest → Fine ps → EachOf UnitHasLow us
-units_read [] ps rest reads fine = tt
-units_read (u ∷ us) ps rest reads fine = let first = unit_read u ps reads.0 reads.1 fine in (first.0, units_read us reads.0 rest reads.2 first.1)
-
--- the strings of the XML sides of a sheet that was read are low
-pub sheet_low : (bytes : List ℕ) (s : Sheet) → IsSheetOf bytes s → EachOf (λ (u : SheetUnit). UnitHasLow (unit_outline u)) s.units
-sheet_low bytes s is =
-    let fine : Fine is.pieces = file_low bytes is.tokens is.pieces is.tokens_are is.pieces_are in
-    each_of_map UnitHasLow unit_outline s.units (units_read (map unit_outline s.units) is.reads.next is.reads.mid is.reads.units_are (subst Fine is.reads.is fine).1.1.1)
+    said_of_rules IsLowText bytes s is (tokens_low (extent_of bytes) (after_mark (chars (valid bytes))) is.tokens is.tokens_are (marked_low (chars (valid bytes)) low))

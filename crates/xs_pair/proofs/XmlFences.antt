@@ -42,11 +42,11 @@ use Rattle.xs_pair.proofs.FlatElements.{flat_element}
 use Rattle.xs_pair.proofs.Known.{AreKnown, known_names}
 use Rattle.xs_pair.proofs.Levels.{IsBare, items_word, words_append, balanced_level}
 use Rattle.xs_pair.proofs.Lists.{each_front, each_back}
-use Rattle.xs_pair.proofs.LowMarks.{IsLowMark, marks_low}
 use Rattle.xs_pair.proofs.Nested as N
 use Rattle.xs_pair.proofs.Nested.{IsNested, all_nested}
 use Rattle.xs_pair.proofs.Numbering.{number_bound}
-use Rattle.xs_pair.proofs.Strings.{AreLow, IsLowItem}
+use Rattle.xs_pair.proofs.Said.{IsSaidOfItem, IsSaidOfMark, IsSaidOfRule}
+use Rattle.xs_pair.proofs.Strings.{AreLow, IsLowText, rules_low}
 
 -- the symbols of the pairs of the k-th name and the later ones
 symbols_above : (k count bound : ℕ) → bound ≤ 1114114 + 3 * k → Every (λ s. bound ≤ s) (fence_symbols (mark_pairs k count))
@@ -175,13 +175,16 @@ balanced_append fs u v (balanced_then {w = w} plain a) b = balanced_then plain (
 balanced_append fs u v (balanced_group l r {inside = inside} {after = after} pair a d is) b =
     balanced_group l r pair a (balanced_append fs after v d b) (ap (λ (z : List ℕ). z ++ v) is ∙ ap (λ (z : List ℕ). l ∷ z) (append_assoc inside (r ∷ after) v))
 
+abbrev IsLowMark : Mark → Type 0
+IsLowMark m = IsSaidOfMark IsLowText m
+
 -- the word of an item of a sheet, of an attribute, and of items and elements that stand in each other
 module _ (n : Numbering) (slots : List (List ℕ)) where
   low_bare : (w : List ℕ) → AreLow w → IsBare (mark_pairs 0 (length n.names)) w
   low_bare [] low = tt
   low_bare (c ∷ w) low = let first = low.0 in (low_fence 0 (length n.names) c (omega arith), low_bare w low.1)
 
-  item_bare : (i : Item) → IsLowItem i → IsBare (mark_pairs 0 (length n.names)) (items_word (flat_item n slots i))
+  item_bare : (i : Item) → IsSaidOfItem IsLowText i → IsBare (mark_pairs 0 (length n.names)) (items_word (flat_item n slots i))
   item_bare (I.Fixed []) low = tt
   item_bare (I.Fixed (c ∷ cs)) low = subst (IsBare (mark_pairs 0 (length n.names))) (sym (append-nil (c ∷ cs))) (low_bare (c ∷ cs) low)
   item_bare (I.Skip name) low = tt
@@ -236,7 +239,7 @@ module _ (n : Numbering) (slots : List (List ℕ)) where
       (nested_balanced more (each_back (AreKnown n.names) inner (Closing tag ∷ rest) known_rest).1 (each_back IsLowMark inner (Closing tag ∷ rest) low_rest).1)
       (element_word (opening_mark k) (closing_mark k) as_ (flat_marks n slots inner) (flat_marks n slots rest) (flat_marks n slots whole) (ap (λ (ms : List Mark). flat_marks n slots ms) is ∙ flat_element n slots tag attrs inner rest))
 
-rules_level : (n : Numbering) (us : List Unit) → EachOf (λ (r : Rule). EachOf (AreKnown n.names) r.right) (rules_of us) → EachOf (λ (r : Rule). EachOf IsLowMark r.right) (rules_of us) → EachOf (λ (r : RulePart). IsLevel (mark_pairs 0 (length n.names)) (spread_items (mark_pairs 0 (length n.names)) r.items)) (rule_parts n Xml (rules_of us))
+rules_level : (n : Numbering) (us : List Unit) → EachOf (λ (r : Rule). EachOf (AreKnown n.names) r.right) (rules_of us) → EachOf (IsSaidOfRule IsLowText) (rules_of us) → EachOf (λ (r : RulePart). IsLevel (mark_pairs 0 (length n.names)) (spread_items (mark_pairs 0 (length n.names)) r.items)) (rule_parts n Xml (rules_of us))
 rules_level n [] known low = tt
 rules_level n (V.Terminal name pattern regex line ∷ us) known low = rules_level n us known low
 rules_level n (V.Ignorable name pattern regex normal line ∷ us) known low = rules_level n us known low
@@ -244,12 +247,12 @@ rules_level n (V.Fence left right line ∷ us) known low = rules_level n us know
 rules_level n (V.Production name left right line ∷ us) known low =
     let slots = slot_names (map Content left) in
     let ms = all_marks right.all.items in
-    (balanced_level (mark_pairs 0 (length n.names)) (flat_marks n slots ms) (marks_apart 0 (length n.names)) (nested_balanced n slots (all_nested right.all.items) known.0 low.0), rules_level n us known.1 low.1)
+    (balanced_level (mark_pairs 0 (length n.names)) (flat_marks n slots ms) (marks_apart 0 (length n.names)) (nested_balanced n slots (all_nested right.all.items) known.0 low.0.1), rules_level n us known.1 low.1)
 
 pub xml_proper : (bytes : List ℕ) (s : Sheet) (names : List (List ℕ)) (parts : GramParts) → IsSheetOf bytes s → AreNamesOf (names_in (rules_of s.units)) names → ArePartsOf s names Xml parts → parts.fences ≡ mark_pairs 0 (length names) → HasProperFences parts
 xml_proper bytes s names parts of named are is =
     let fs = mark_pairs 0 (length names) in
-    let level = rules_level (numbering s.units names) s.units (known_names (rules_of s.units) names named) (marks_low bytes s of) in record {
+    let level = rules_level (numbering s.units names) s.units (known_names (rules_of s.units) names named) (rules_low bytes s of) in record {
       once = subst (λ (z : List (ℕ × ℕ)). IsDistinct (fence_symbols z)) (sym is) (marks_once 0 (length names));
       each_term = subst (λ (z : List (ℕ × ℕ)). EachOf (AvoidsFences z) parts.terms) (sym is) (terms_avoid (length names) s.units parts.terms are.terms);
       each_skip = subst (λ (z : List (ℕ × ℕ)). EachOf (λ (k : SkipPart). AvoidsFences z k.regex) parts.skips) (sym is) (skips_avoid (length names) s.units parts.skips are.skips);

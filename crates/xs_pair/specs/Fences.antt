@@ -121,21 +121,10 @@ IsOpen fs (Fence left right line) = ⊥
 
 -- one of the last three rules, those on fences, fails at the line
 abbrev pub FenceFails : List Unit → IllRule → ℕ → Type 0
-FenceFails us L.Twice line = ⊥
-FenceFails us L.Undefined line = ⊥
-FenceFails us L.NoStart line = ⊥
-FenceFails us L.NameOnce line = ⊥
-FenceFails us L.Kind line = ⊥
-FenceFails us L.AttrTwice line = ⊥
-FenceFails us L.RootShape line = ⊥
-FenceFails us L.EmptyClass line = ⊥
-FenceFails us L.NotChar line = ⊥
-FenceFails us L.Normal line = ⊥
-FenceFails us L.Unproductive line = ⊥
-FenceFails us L.Loop line = ⊥
 FenceFails us L.FenceChar line = IsLineWhere (λ k u. IsUsed (fence_letters (take k us)) u) unit_line us line
 FenceFails us L.FenceInside line = IsLineWhere (λ k u. IsInside (fence_letters us) u) unit_line us line
 FenceFails us L.FenceOpen line = IsLineWhere (λ k u. IsOpen (fence_pairs us) u) unit_line us line
+FenceFails us rule line = ⊥
 
 -- the first of these rules that fails, at the least line at which it does, or none where none fails
 abbrev pub IsFenceIll : List Unit → Option Ill → Type 0

@@ -32,11 +32,11 @@ IsTwice us k (Ignorable name pattern regex normal line) = IsAmong (names_of S.An
 IsTwice us k (Production name left right line) = IsAmong (names_of S.Lexical (take k us)) name
 IsTwice us k (Fence left right line) = ⊥
 
--- an item's name is the name of no unit
+-- an item's name is none of the names
 abbrev pub IsNameless : List (List ℕ) → Item → Type 0
-IsNameless units (I.Fixed text) = ⊥
-IsNameless units (I.Named name slot) = IsAbsent units name
-IsNameless units (I.Skip name) = IsAbsent units name
+IsNameless names (I.Fixed text) = ⊥
+IsNameless names (I.Named name slot) = IsAbsent names name
+IsNameless names (I.Skip name) = IsAbsent names name
 
 abbrev pub IsUndefined : List (List ℕ) → Mark → Type 0
 IsUndefined units (Opening tag names) = ⊥
@@ -62,19 +62,13 @@ IsMisnamed skips (I.Fixed text) = ⊥
 IsMisnamed skips (I.Named name slot) = IsAmong skips name
 IsMisnamed skips (I.Skip name) = IsAbsent skips name
 
--- an item whose name is no terminal
-abbrev pub IsNoTerminal : List (List ℕ) → Item → Type 0
-IsNoTerminal terms (I.Fixed text) = ⊥
-IsNoTerminal terms (I.Named name slot) = IsAbsent terms name
-IsNoTerminal terms (I.Skip name) = IsAbsent terms name
-
 -- an item of another kind than its form asks for, or in an attribute's value one that is no terminal
 abbrev pub IsMiskinded : List (List ℕ) → List (List ℕ) → Mark → Type 0
 IsMiskinded terms skips (Opening tag names) = ⊥
 IsMiskinded terms skips (Attribute name) = ⊥
 IsMiskinded terms skips AttributeEnd = ⊥
 IsMiskinded terms skips (Closing tag) = ⊥
-IsMiskinded terms skips (Value i) = IsMisnamed skips i ⊎ IsNoTerminal terms i
+IsMiskinded terms skips (Value i) = IsMisnamed skips i ⊎ IsNameless terms i
 IsMiskinded terms skips (Content i) = IsMisnamed skips i
 
 -- one slot with two names of units on the two sides

@@ -23,26 +23,14 @@ unit_line (Fence left right line) = line
 -- the unit is of this sort: any unit that has a name, one that is no production, a terminal, an ignorable, a
 -- production; a fence is of none
 abbrev pub is_of : Sort → Unit → Bool
-is_of S.Any (Terminal name pattern regex line) = true
-is_of S.Any (Ignorable name pattern regex normal line) = true
-is_of S.Any (Production name left right line) = true
+is_of S.Any (Fence left right line) = false
+is_of S.Any u = true
 is_of S.Lexical (Terminal name pattern regex line) = true
 is_of S.Lexical (Ignorable name pattern regex normal line) = true
-is_of S.Lexical (Production name left right line) = false
 is_of S.Terminal (Terminal name pattern regex line) = true
-is_of S.Terminal (Ignorable name pattern regex normal line) = false
-is_of S.Terminal (Production name left right line) = false
-is_of S.Ignorable (Terminal name pattern regex line) = false
 is_of S.Ignorable (Ignorable name pattern regex normal line) = true
-is_of S.Ignorable (Production name left right line) = false
-is_of S.Production (Terminal name pattern regex line) = false
-is_of S.Production (Ignorable name pattern regex normal line) = false
 is_of S.Production (Production name left right line) = true
-is_of S.Any (Fence left right line) = false
-is_of S.Lexical (Fence left right line) = false
-is_of S.Terminal (Fence left right line) = false
-is_of S.Ignorable (Fence left right line) = false
-is_of S.Production (Fence left right line) = false
+is_of sort u = false
 
 -- the names of the units of a sort, in the order of the units
 abbrev pub names_of : Sort → List Unit → List (List ℕ)

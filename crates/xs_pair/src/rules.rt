@@ -3,7 +3,7 @@ ghost use Rattle.xs_pair.specs.declared.ill.IllRule.TheVariants as R;
 ghost use Rattle.xs_pair.specs.declared.names.Sort.TheVariants as S;
 ghost use Rattle.xs_pair.specs.Units as U;
 ghost use Rattle.xs_pair.specs.Weights.{mark_weight, marks_weight, rule_weight, AreLight};
-ghost use Rattle.xs_pair.specs.Rules.{SomeOf, IsNameless, IsUndefined, IsMisnamed, IsNoTerminal, IsMiskinded, RepeatsAttribute, IsTwice, IsAbsent};
+ghost use Rattle.xs_pair.specs.Rules.{SomeOf, IsNameless, IsUndefined, IsMisnamed, IsMiskinded, RepeatsAttribute, IsTwice, IsAbsent};
 ghost use Rattle.xs_pair.specs.Verdict.{IsIllMark, FailsIn, FailsAmong, FailsAt, IsFirstLine, IsLineWhere, NoneBefore, NoneFails, IsRefusal, IsOutlineOf, IsTaken, order, tables_in};
 
 use crate::least::with_line;
@@ -42,26 +42,26 @@ fn repeats_attribute(alloc: Global, mark: &Mark) -> Result<bool, Memory>
     }
 }
 
-impl Outline {
-    /// Whether the item's name is the name of no unit.
-    fn is_nameless(&self, item: &Item) -> bool
-        ensures { IsTrue result ↔ IsNameless self.now.units item.now }
-    {
-        match item {
-            Item::Fixed(_) => false,
-            Item::Named { name, .. } => self.units.lacks(name.as_str()),
-            Item::Skip { name } => self.units.lacks(name.as_str()),
-        }
+/// Whether the item has a name that is none of these.
+fn is_nameless(names: &Directory, item: &Item) -> bool
+    ensures { IsTrue result ↔ IsNameless names.now item.now }
+{
+    match item {
+        Item::Fixed(_) => false,
+        Item::Named { name, .. } => names.lacks(name.as_str()),
+        Item::Skip { name } => names.lacks(name.as_str()),
     }
+}
 
+impl Outline {
     fn is_undefined(&self, mark: &Mark) -> bool
         ensures { IsTrue result ↔ IsUndefined self.now.units mark.now }
     {
         match mark {
             Mark::Opening { .. } | Mark::Attribute(_) | Mark::AttributeEnd => false,
             Mark::Closing(_) => false,
-            Mark::Value(item) => self.is_nameless(item),
-            Mark::Content(item) => self.is_nameless(item),
+            Mark::Value(item) => is_nameless(&self.units, item),
+            Mark::Content(item) => is_nameless(&self.units, item),
         }
     }
 
@@ -76,23 +76,13 @@ impl Outline {
         }
     }
 
-    fn is_no_terminal(&self, item: &Item) -> bool
-        ensures { IsTrue result ↔ IsNoTerminal self.now.terms item.now }
-    {
-        match item {
-            Item::Fixed(_) => false,
-            Item::Named { name, .. } => self.terms.lacks(name.as_str()),
-            Item::Skip { name } => self.terms.lacks(name.as_str()),
-        }
-    }
-
     fn is_miskinded(&self, mark: &Mark) -> bool
         ensures { IsTrue result ↔ IsMiskinded self.now.terms self.now.skips mark.now }
     {
         match mark {
             Mark::Opening { .. } | Mark::Attribute(_) | Mark::AttributeEnd => false,
             Mark::Closing(_) => false,
-            Mark::Value(item) => self.is_misnamed(item) || self.is_no_terminal(item),
+            Mark::Value(item) => self.is_misnamed(item) || is_nameless(&self.terms, item),
             Mark::Content(item) => self.is_misnamed(item),
         }
     }

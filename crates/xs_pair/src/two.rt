@@ -165,25 +165,6 @@ impl Outline {
             slots,
         })
     }
-
-    /// The two grammars, where no rule fails.
-    fn checked(self, alloc: Global, sheet: &Sheet) -> Result<Two, PairFault>
-        requires outline { IsOutlineOf sheet.now self }
-        requires light { AreLight self.rules.items }
-        requires few { length sheet.now.units < 65536 }
-        requires small { weight sheet.now.units < 65536 }
-        requires bytes { IsOfBytes sheet.now }
-        ensures two { IfOk result (IsPairOf sheet.now) }
-        ensures text { IfOk result (λ p. IsBuilt p.text) }
-        ensures xml { IfOk result (λ p. IsBuilt p.xml) }
-        ensures trees { IfOk result (λ p. HaveSameTrees p.text p.xml) }
-        ensures passed { OnOk result (NoneFails (FailsAt sheet.now)) }
-        ensures ill { IfErr result (IsRefusal sheet.now) }
-    {
-        self.check(alloc, sheet)?;
-        let two = self.two(alloc, sheet)?;
-        Ok(two)
-    }
 }
 
 /// The two grammars of a sheet.
@@ -201,5 +182,7 @@ pub fn both(alloc: Global, sheet: &Sheet) -> Result<Two, PairFault>
     ensures ill { IfErr result (IsRefusal sheet.now) }
 {
     let outline = Outline::of(alloc, sheet)?;
-    outline.checked(alloc, sheet)
+    outline.check(alloc, sheet)?;
+    let two = outline.two(alloc, sheet)?;
+    Ok(two)
 }
