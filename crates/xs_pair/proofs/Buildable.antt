@@ -87,12 +87,9 @@ item_numbers n sl (I.Named name slot) = by_case (place_of n.terms name)
     by_case (Some t) = refl
 
 mark_numbers : (n : Numbering) (sl : List (List ℕ)) (m : Mark) → slots (flat_mark n sl m) ≡ map (number_of sl) (map (λ (s : List ℕ × List ℕ). s.0) (mark_slots m))
-mark_numbers n sl (Opening tag as_) = refl
-mark_numbers n sl (Attribute name) = refl
-mark_numbers n sl AttributeEnd = refl
-mark_numbers n sl (Closing tag) = refl
 mark_numbers n sl (Value i) = item_numbers n sl i
 mark_numbers n sl (Content i) = item_numbers n sl i
+mark_numbers n sl m = refl
 
 pub flat_slots : (n : Numbering) (sl : List (List ℕ)) (ms : List Mark) → slots (flat_marks n sl ms) ≡ map (number_of sl) (slot_names ms)
 flat_slots n sl [] = refl

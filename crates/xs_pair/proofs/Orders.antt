@@ -19,20 +19,7 @@ rule_at n = if n == 0 then Twice else (if n == 1 then Undefined else (if n == 2 
 at_order : (rule : IllRule) → rule_at (order rule) ≡ rule
 unfolding rule_at
 at_order Twice = refl
-at_order Undefined = refl
-at_order NoStart = refl
-at_order NameOnce = refl
-at_order Kind = refl
-at_order AttrTwice = refl
-at_order RootShape = refl
-at_order EmptyClass = refl
-at_order NotChar = refl
-at_order Normal = refl
-at_order Unproductive = refl
-at_order Loop = refl
-at_order FenceChar = refl
-at_order FenceInside = refl
-at_order FenceOpen = refl
+at_order rule = refl
 
 same_order : (a b : IllRule) → order a ≡ order b → a ≡ b
 same_order a b e = sym (at_order a) ∙ ap rule_at e ∙ at_order b

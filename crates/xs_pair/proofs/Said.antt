@@ -16,7 +16,7 @@ use Rattle.xs_sheet.specs.declared.x_item.XItems.{XItems}
 use Rattle.xs_sheet.specs.declared.unit.Unit.{Unit as SheetUnit}
 use Rattle.xs_sheet.specs.declared.unit.Unit.TheVariants.{Terminal, Ignorable, Production, Fence}
 use Rattle.xs_sheet.specs.declared.sheet.Sheet.{Sheet}
-use Rattle.xs_sheet.specs.Outline.{Content, nothing, item, element, UnitOutline, terminal, ignorable, production, fence, laid, with_item, content_of, unit_outline}
+use Rattle.xs_sheet.specs.Outline.{Content, nothing, item, element, UnitOutline, terminal, ignorable, production, fence, laid, with_item, unit_outline}
 use Rattle.xs_sheet.specs.Pieces.{IsTextOf, IsPiece, ArePieces}
 use Rattle.xs_sheet.specs.Grammar.{IsUnitName, IsName, ReadsEach, ReadsItem, ReadsAttr, ReadsOpening, ReadsClosing, ReadsSign, ReadsContent, ReadsUnit, IsSheetOf}
 use Rattle.xs_sheet.proofs.ContentLaws.{with_plain, with_element}

@@ -55,12 +55,9 @@ item_kinds n sl (I.Named name slot) = by_case (place_of n.terms name)
     by_case (Some t) = refl
 
 mark_kinds : (n : Numbering) (sl : List (List ℕ)) (m : Mark) → kinds (flat_mark n sl m) ≡ map (numbered n sl) (mark_slots m)
-mark_kinds n sl (Opening tag as_) = refl
-mark_kinds n sl (Attribute name) = refl
-mark_kinds n sl AttributeEnd = refl
-mark_kinds n sl (Closing tag) = refl
 mark_kinds n sl (Value i) = item_kinds n sl i
 mark_kinds n sl (Content i) = item_kinds n sl i
+mark_kinds n sl m = refl
 
 pub flat_kinds : (n : Numbering) (sl : List (List ℕ)) (ms : List Mark) → kinds (flat_marks n sl ms) ≡ map (numbered n sl) (slots_of ms)
 flat_kinds n sl [] = refl

@@ -8,7 +8,7 @@ ghost use Rattle.xs_pair.specs.Listing.{rules_of, names_in as listed_names};
 ghost use Rattle.xs_pair.specs.Marks.{slot_names};
 ghost use Rattle.xs_pair.specs.Units.{nons_of};
 ghost use Rattle.xs_pair.specs.Verdict.{FailsAt, NoneFails, IsRefusal, IsOutlineOf};
-ghost use Rattle.xs_pair.specs.Weights.{weight, AreLight, IsOfBytes};
+ghost use Rattle.xs_pair.specs.Weights.{weight, IsOfBytes};
 
 use crate::PairFault;
 use crate::outline::Outline;
