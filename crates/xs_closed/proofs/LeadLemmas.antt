@@ -1,12 +1,14 @@
 -- What the pairs that were visited say of how a pair leads to others.
-use Rattle.std.proofs.Common.{◌≡◌, ℕ, ◌⊎◌, List, length, arith, refl, sym, inl, inr}
+use Rattle.std.proofs.Common.{◌≡◌, ℕ, ◌⊎◌, List, length, arith, refl, sym, subst, inl, inr}
 use Rattle.xs_auto.specs.declared.call.Call.{Call}
 use Rattle.xs_auto.specs.Edges.{Edge}
 use Rattle.xs_auto.specs.Nets.{Graph, edges_of, moves_of, calls_of}
 use Rattle.xs_meet.specs.Closed.{Marked, Drifts, Strides}
+use Rattle.xs_closed.specs.declared.moves.Moves.{Moves}
+use Rattle.xs_closed.specs.declared.moves.Moves.TheVariants.{Empty, Every}
 use Rattle.xs_closed.specs.declared.pair.Pair.{Pair}
 use Rattle.xs_closed.specs.Rows.{Grid, marked}
-use Rattle.xs_closed.specs.Search.{Adds, IsPair, OneOf, Meets, Joins}
+use Rattle.xs_closed.specs.Search.{Adds, IsPair, OneOf, Meets, Joins, LeadsBy}
 use Rattle.xs_closed.proofs.AddLemmas.{adds_then, adds_as, adds_known}
 
 -- the pairs that the moves of the first net give, and then those that the moves of the second give
@@ -74,3 +76,10 @@ joins_new R h k r g = adds_as (IsPair h.to k.to) (Joins R h k) (λ c d p. record
 
 pub joins_none : (R : ℕ → ℕ → Type 0) (h k : Call) (z : Grid) (ps : List Pair) → (R h.group k.group → ⊥) → Adds (Joins R h k) z ps z ps
 joins_none R h k z ps none = adds_known (Joins R h k) z ps (λ c d j. absurd (none j.related))
+
+-- where all of the moves lead
+pub led_empty : (moves : Moves) (R : ℕ → ℕ → Type 0) (m n : Graph) (a b : ℕ) {x y : Grid} {ps qs : List Pair} → moves ≡ Empty → Adds (Drifts m n a b) x ps y qs → Adds (LeadsBy moves R m n a b) x ps y qs
+led_empty moves R m n a b {x} {y} {ps} {qs} e g = subst (λ (k : Moves). Adds (LeadsBy k R m n a b) x ps y qs) (sym e) g
+
+pub led_all : (moves : Moves) (R : ℕ → ℕ → Type 0) (m n : Graph) (a b : ℕ) {x y z : Grid} {ps qs rs : List Pair} → moves ≡ Every → Adds (Drifts m n a b) x ps y qs → Adds (Strides R m n a b) y qs z rs → Adds (LeadsBy moves R m n a b) x ps z rs
+led_all moves R m n a b {x} {y} {z} {ps} {qs} {rs} e g h = subst (λ (k : Moves). Adds (LeadsBy k R m n a b) x ps z rs) (sym e) (adds_then (Drifts m n a b) (Strides R m n a b) g h)

@@ -6,8 +6,10 @@ use Rattle.xs_auto.specs.declared.call.Call.{Call}
 use Rattle.xs_auto.specs.Edges.{Edge}
 use Rattle.xs_auto.specs.Nets.{Graph, states, final_at}
 use Rattle.xs_meet.specs.declared.seat.Seat.{Seat}
-use Rattle.xs_meet.specs.Closed.{Marked}
+use Rattle.xs_meet.specs.Closed.{Marked, Drifts, Leads}
 use Rattle.xs_meet.specs.Seats.{start_of, other_of}
+use Rattle.xs_closed.specs.declared.moves.Moves.{Moves}
+use Rattle.xs_closed.specs.declared.moves.Moves.TheVariants.{Empty, Every}
 use Rattle.xs_closed.specs.declared.pair.Pair.{Pair}
 use Rattle.xs_closed.specs.Rows.{Grid, marked, IsSized}
 use Rattle.xs_closed.specs.Least.{Reach, IsTableOf}
@@ -87,6 +89,11 @@ pub record IsFor (m n : Graph) (z : Grid) : Type 0 where
 -- where a pair before place k leads is listed
 abbrev pub IsClosedBelow : (ℕ → ℕ → ℕ → ℕ → Type 0) → ℕ → List Pair → Type 0
 IsClosedBelow L k ps = (i : ℕ) (p : Pair) → i < k → slice_get ps i ≡ Some p → (c d : ℕ) → L p.first p.second c d → HasPair ps c d
+
+-- where these moves lead
+abbrev pub LeadsBy : Moves → (ℕ → ℕ → Type 0) → Graph → Graph → ℕ → ℕ → ℕ → ℕ → Type 0
+LeadsBy Empty R m n = Drifts m n
+LeadsBy Every R m n = Leads R m n
 
 -- the table marks all that is reached from what it marked before
 pub record Closes (L : ℕ → ℕ → ℕ → ℕ → Type 0) (old new : Grid) : Type 0 where

@@ -6,9 +6,10 @@ ghost use Rattle.xs_closed.specs.Rows.{marked};
 ghost use Rattle.xs_closed.specs.Least.{Reach, IsPastFront, IsStride, IsPastMiddle, Meeting, IsTableOf, AreLeastOf};
 ghost use Rattle.xs_closed.specs.Search.{IsInside, HasPair, AreFound};
 
+use crate::moves::Moves;
 use crate::pair::Pair;
 use crate::seeds::{seed_ends, seed_middles, seed_starts};
-use crate::spread::{close, close_drifts};
+use crate::spread::close;
 use crate::{CutSets, PairSet};
 use std::alloc::Global;
 use xs_auto::Net;
@@ -46,7 +47,7 @@ pub fn least_clear(
     ensures { OnOk result (AreLeastOf (Marked (marked related.now)) front.now rest.now sets.new) }
 {
     let fronts = find_meeting(alloc, related, front, front, &mut sets.fronts)?;
-    let pauses = find_pauses(alloc, front, rest, &fronts, &mut sets.pauses)?;
+    let pauses = find_pauses(alloc, related, front, rest, &fronts, &mut sets.pauses)?;
     let middles = find_middles(alloc, related, front, rest, &pauses, &mut sets.middles)?;
     find_rests(alloc, related, front, rest, &middles, &mut sets.rests)
 }
@@ -64,13 +65,14 @@ fn find_meeting(
     let mut pairs = Vec::new(alloc);
     set.reset(m.len(), n.len())?;
     seed_starts(set, &mut pairs, m, n)?;
-    close(set, &mut pairs, related, m, n)?;
+    close(set, &mut pairs, Moves::Every, related, m, n)?;
     Ok(pairs)
 }
 
 /// The pairs of a front and a rest state before a middle word is read, from pairs of front states.
 fn find_pauses(
     alloc: Global,
+    related: &PairSet,
     front: &Net,
     rest: &Net,
     fronts: &[Pair],
@@ -82,7 +84,7 @@ fn find_pauses(
     let mut pairs = Vec::new(alloc);
     set.reset(front.len(), rest.len())?;
     seed_ends(set, &mut pairs, Seat::Second, front, rest, fronts)?;
-    close_drifts(set, &mut pairs, front, rest)?;
+    close(set, &mut pairs, Moves::Empty, related, front, rest)?;
     Ok(pairs)
 }
 
@@ -101,7 +103,7 @@ fn find_middles(
     let mut pairs = Vec::new(alloc);
     set.reset(front.len(), rest.len())?;
     seed_middles(set, &mut pairs, related, front, rest, pauses)?;
-    close(set, &mut pairs, related, front, rest)?;
+    close(set, &mut pairs, Moves::Every, related, front, rest)?;
     Ok(pairs)
 }
 
@@ -120,6 +122,6 @@ fn find_rests(
     let mut pairs = Vec::new(alloc);
     set.reset(rest.len(), rest.len())?;
     seed_ends(set, &mut pairs, Seat::First, front, rest, middles)?;
-    close(set, &mut pairs, related, rest, rest)?;
+    close(set, &mut pairs, Moves::Every, related, rest, rest)?;
     Ok(())
 }

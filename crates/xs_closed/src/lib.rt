@@ -12,6 +12,7 @@
 mod laws;
 mod least;
 mod least_laws;
+mod moves;
 mod pair;
 mod pair_set;
 mod seeds;

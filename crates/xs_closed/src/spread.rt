@@ -1,10 +1,11 @@
 ghost use Rattle.std.specs.Prelude.{◌≡◌, ◌<◌, ◌⊎◌, true, OnOk, length};
 ghost use Rattle.xs_auto.specs.{states, edges_of, calls_of};
-ghost use Rattle.xs_meet.specs.{Drifts, Strides, Leads, Marked};
+ghost use Rattle.xs_meet.specs.{Drifts, Strides, Marked};
 ghost use Rattle.xs_closed.specs.Rows.{marked};
-ghost use Rattle.xs_closed.specs.Search.{IsInside, IsListed, IsFor, Adds, Closes};
+ghost use Rattle.xs_closed.specs.Search.{IsInside, IsListed, IsFor, Adds, Closes, LeadsBy};
 
 use crate::PairSet;
+use crate::moves::Moves;
 use crate::pair::Pair;
 use crate::visits::{visit_boths, visit_calls, visit_firsts, visit_seconds};
 use xs_auto::Net;
@@ -61,6 +62,9 @@ pub fn stride(
     ensures listed { OnOk result (IsListed set.new pairs.new.items) }
     ensures ok { OnOk result (Adds (Strides (Marked (marked related.now)) m.now n.now at.first at.second) set.old pairs.old.items set.new pairs.new.items) }
 {
+    if are_still(m, n, at) {
+        return Ok(());
+    }
     let edges = m.edges(at.first);
     let others = n.edges(at.second);
     visit_boths(set, pairs, &edges, &others)?;
@@ -68,36 +72,12 @@ pub fn stride(
     Ok(())
 }
 
-/// Visits the pairs to which an empty move of either net, or edges or calls of both, lead from a
-/// pair.
-#[inline(always)]
-fn lead(
-    set: &mut PairSet,
-    pairs: &mut Vec<Pair>,
-    related: &PairSet,
-    m: &Net,
-    n: &Net,
-    at: Pair,
-) -> Result<(), Memory>
-    requires nets { IsFor m.now n.now set.old }
-    requires listed { IsListed set.old pairs.old.items }
-    requires at { IsInside (states m.now) (states n.now) at }
-    ensures listed { OnOk result (IsListed set.new pairs.new.items) }
-    ensures ok { OnOk result (Adds (Leads (Marked (marked related.now)) m.now n.now at.first at.second) set.old pairs.old.items set.new pairs.new.items) }
-{
-    drift(set, pairs, m, n, at)?;
-    if are_still(m, n, at) {
-        return Ok(());
-    }
-    stride(set, pairs, related, m, n, at)?;
-    Ok(())
-}
-
-/// Marks and lists all pairs to which the pairs lead.
+/// Marks and lists all pairs to which the pairs lead by these moves.
 #[tactic(auto, using(crate::proofs::CloseLemmas::for_more))]
 pub fn close(
     set: &mut PairSet,
     pairs: &mut Vec<Pair>,
+    moves: Moves,
     related: &PairSet,
     m: &Net,
     n: &Net,
@@ -105,30 +85,7 @@ pub fn close(
     requires nets { IsFor m.now n.now set.old }
     requires listed { IsListed set.old pairs.old.items }
     ensures listed { OnOk result (IsListed set.new pairs.new.items) }
-    ensures ok { OnOk result (Closes (Leads (Marked (marked related.now)) m.now n.now) set.old set.new) }
-{
-    'places: for place in 0..usize::MAX {
-        if place >= pairs.len() {
-            return Ok(());
-        }
-        let at = pairs[place];
-        lead(set, pairs, related, m, n, at)?;
-    }
-    Ok(())
-}
-
-/// Marks and lists all pairs to which the pairs lead by empty moves alone.
-#[tactic(auto, using(crate::proofs::CloseLemmas::for_more))]
-pub fn close_drifts(
-    set: &mut PairSet,
-    pairs: &mut Vec<Pair>,
-    m: &Net,
-    n: &Net,
-) -> Result<(), Memory>
-    requires nets { IsFor m.now n.now set.old }
-    requires listed { IsListed set.old pairs.old.items }
-    ensures listed { OnOk result (IsListed set.new pairs.new.items) }
-    ensures ok { OnOk result (Closes (Drifts m.now n.now) set.old set.new) }
+    ensures ok { OnOk result (Closes (LeadsBy moves (Marked (marked related.now)) m.now n.now) set.old set.new) }
 {
     'places: for place in 0..usize::MAX {
         if place >= pairs.len() {
@@ -136,6 +93,10 @@ pub fn close_drifts(
         }
         let at = pairs[place];
         drift(set, pairs, m, n, at)?;
+        match moves {
+            Moves::Empty => {}
+            Moves::Every => stride(set, pairs, related, m, n, at)?,
+        }
     }
     Ok(())
 }
