@@ -47,9 +47,15 @@ pub fn least_clear(
     ensures { OnOk result (AreLeastOf (Marked (marked related.now)) front.now rest.now sets.new) }
 {
     let fronts = find_meeting(alloc, related, front, front, &mut sets.fronts)?;
-    let pauses = find_pauses(alloc, related, front, rest, &fronts, &mut sets.pauses)?;
-    let middles = find_middles(alloc, related, front, rest, &pauses, &mut sets.middles)?;
-    find_rests(alloc, related, front, rest, &middles, &mut sets.rests)
+    let cut = Cut {
+        alloc,
+        related,
+        front,
+        rest,
+    };
+    let pauses = cut.find_pauses(&fronts, &mut sets.pauses)?;
+    let middles = cut.find_middles(&pauses, &mut sets.middles)?;
+    cut.find_rests(&middles, &mut sets.rests)
 }
 
 /// The pairs that the starts of two nets lead to.
@@ -69,59 +75,55 @@ fn find_meeting(
     Ok(pairs)
 }
 
-/// The pairs of a front and a rest state before a middle word is read, from pairs of front states.
-fn find_pauses(
+/// A cut: the nets of its front and its rest, and the groups that are said to share a word.
+#[derive(Clone, Copy)]
+pub struct Cut<'c> {
     alloc: Global,
-    related: &PairSet,
-    front: &Net,
-    rest: &Net,
-    fronts: &[Pair],
-    set: &mut PairSet,
-) -> Result<Vec<Pair>, Memory>
-    requires { All (IsInside (states front.now) (states front.now)) fronts.now }
-    ensures { IfOk result (λ ps. AreFound (Reach (IsPastFront front.now rest.now (HasPair fronts.now)) (Drifts front.now rest.now)) front.now rest.now set.new ps.items) }
-{
-    let mut pairs = Vec::new(alloc);
-    set.reset(front.len(), rest.len())?;
-    seed_ends(set, &mut pairs, Seat::Second, front, rest, fronts)?;
-    close(set, &mut pairs, Moves::Empty, related, front, rest)?;
-    Ok(pairs)
+    related: &'c PairSet,
+    front: &'c Net,
+    rest: &'c Net,
 }
 
-/// The pairs of a front and a rest state within a middle word, from those before it.
-fn find_middles(
-    alloc: Global,
-    related: &PairSet,
-    front: &Net,
-    rest: &Net,
-    pauses: &[Pair],
-    set: &mut PairSet,
-) -> Result<Vec<Pair>, Memory>
-    requires { All (IsInside (states front.now) (states rest.now)) pauses.now }
-    ensures { IfOk result (λ ps. AreFound (Reach (IsStride (Marked (marked related.now)) front.now rest.now (HasPair pauses.now)) (Leads (Marked (marked related.now)) front.now rest.now)) front.now rest.now set.new ps.items) }
-{
-    let mut pairs = Vec::new(alloc);
-    set.reset(front.len(), rest.len())?;
-    seed_middles(set, &mut pairs, related, front, rest, pauses)?;
-    close(set, &mut pairs, Moves::Every, related, front, rest)?;
-    Ok(pairs)
-}
+impl<'c> Cut<'c> {
+    /// The pairs of a front and a rest state before a middle word is read, from pairs of front
+    /// states.
+    fn find_pauses(&self, fronts: &[Pair], set: &mut PairSet) -> Result<Vec<Pair>, Memory>
+        requires { All (IsInside (states self.now.front.now) (states self.now.front.now)) fronts.now }
+        ensures { IfOk result (λ ps. AreFound (Reach (IsPastFront self.now.front.now self.now.rest.now (HasPair fronts.now)) (Drifts self.now.front.now self.now.rest.now)) self.now.front.now self.now.rest.now set.new ps.items) }
+    {
+        let front = self.front;
+        let rest = self.rest;
+        let mut pairs = Vec::new(self.alloc);
+        set.reset(front.len(), rest.len())?;
+        seed_ends(set, &mut pairs, Seat::Second, front, rest, fronts)?;
+        close(set, &mut pairs, Moves::Empty, self.related, front, rest)?;
+        Ok(pairs)
+    }
 
-/// Marks the pairs of rest states after a middle word, from the pairs within it.
-fn find_rests(
-    alloc: Global,
-    related: &PairSet,
-    front: &Net,
-    rest: &Net,
-    middles: &[Pair],
-    set: &mut PairSet,
-) -> Result<(), Memory>
-    requires { All (IsInside (states front.now) (states rest.now)) middles.now }
-    ensures { OnOk result (IsTableOf (Reach (IsPastMiddle front.now rest.now (HasPair middles.now)) (Leads (Marked (marked related.now)) rest.now rest.now)) rest.now rest.now set.new) }
-{
-    let mut pairs = Vec::new(alloc);
-    set.reset(rest.len(), rest.len())?;
-    seed_ends(set, &mut pairs, Seat::First, front, rest, middles)?;
-    close(set, &mut pairs, Moves::Every, related, rest, rest)?;
-    Ok(())
+    /// The pairs of a front and a rest state within a middle word, from those before it.
+    fn find_middles(&self, pauses: &[Pair], set: &mut PairSet) -> Result<Vec<Pair>, Memory>
+        requires { All (IsInside (states self.now.front.now) (states self.now.rest.now)) pauses.now }
+        ensures { IfOk result (λ ps. AreFound (Reach (IsStride (Marked (marked self.now.related.now)) self.now.front.now self.now.rest.now (HasPair pauses.now)) (Leads (Marked (marked self.now.related.now)) self.now.front.now self.now.rest.now)) self.now.front.now self.now.rest.now set.new ps.items) }
+    {
+        let front = self.front;
+        let rest = self.rest;
+        let mut pairs = Vec::new(self.alloc);
+        set.reset(front.len(), rest.len())?;
+        seed_middles(set, &mut pairs, self.related, front, rest, pauses)?;
+        close(set, &mut pairs, Moves::Every, self.related, front, rest)?;
+        Ok(pairs)
+    }
+
+    /// Marks the pairs of rest states after a middle word, from the pairs within it.
+    fn find_rests(&self, middles: &[Pair], set: &mut PairSet) -> Result<(), Memory>
+        requires { All (IsInside (states self.now.front.now) (states self.now.rest.now)) middles.now }
+        ensures { OnOk result (IsTableOf (Reach (IsPastMiddle self.now.front.now self.now.rest.now (HasPair middles.now)) (Leads (Marked (marked self.now.related.now)) self.now.rest.now self.now.rest.now)) self.now.rest.now self.now.rest.now set.new) }
+    {
+        let rest = self.rest;
+        let mut pairs = Vec::new(self.alloc);
+        set.reset(rest.len(), rest.len())?;
+        seed_ends(set, &mut pairs, Seat::First, self.front, rest, middles)?;
+        close(set, &mut pairs, Moves::Every, self.related, rest, rest)?;
+        Ok(())
+    }
 }

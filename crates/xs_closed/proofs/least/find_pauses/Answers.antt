@@ -1,8 +1,0 @@
-use Rattle.xs_meet.specs.Closed.{Drifts}
-use Rattle.xs_closed.specs.Least.{IsPastFront}
-use Rattle.xs_closed.specs.Search.{HasPair}
-use Rattle.xs_closed.proofs.FoundLemmas.{found}
-use Rattle.xs_closed.proofs.least.find_pauses.Goals as goal
-
-pub returns : goal.returns
-returns c = found (IsPastFront c.args.front.now c.args.rest.now (HasPair c.args.fronts.now)) (Drifts c.args.front.now c.args.rest.now) c.args.front.now c.args.rest.now c.len.result c.len-2.result c.in_ok-reset.ensures c.len.ensures c.len-2.ensures c.in_ok-seed_ends.ensures.ok c.in_ok-close.ensures.ok c.in_ok-close.ensures.listed
