@@ -206,6 +206,12 @@ module _ (g : Grammar) (w : List ℕ) (s : ℕ) (sets : List (List Item)) (chart
           | inl lt ↦ (let within = st.4 in not_next c i j (omega (arith, lt, within, end)) st)
         ]
 
+-- a word that is begun by an item is begun in another document too, as far as its symbols are read there, where the item is there
+begun_over : {g : Grammar} {w v : List ℕ} {sets more : List (List Item)} {k m state origin count n : ℕ} → (b : IsBegun g w sets k state origin count) → set_at more b.from ≡ set_at sets b.from → n < length b.word → b.from + n ≡ m → Reads v b.from (take n b.word) m → IsBegun g v more m state origin n
+begun_over {state = state} {origin = origin} b same long is reads =
+    let there = subst (λ (l : List Item). Contains l (record { state = state; origin = origin })) (sym same) b.there in
+    record { from = b.from; place = b.place; word = b.word; number = b.number; outside = b.outside; item = b.item; there = there; more = long; is = is; reads = reads }
+
 -- fixed words that are begun, with the symbol after them
 module _ (g : Grammar) (w : List ℕ) (s : ℕ) (sets : List (List Item)) (state origin count : ℕ) where
   next_reads : (b : IsBegun g w sets (length w) state origin count) → slice_get b.word count ≡ Some s → Reads (w ++ s ∷ []) b.from (take (suc count) b.word) (suc (length w))
@@ -215,18 +221,7 @@ module _ (g : Grammar) (w : List ℕ) (s : ℕ) (sets : List (List Item)) (state
 
   -- one more symbol is read, and the word has more
   pub begun_on : (more : List (List Item)) → ((j : ℕ) → j ≤ length w → set_at more j ≡ set_at sets j) → (b : IsBegun g w sets (length w) state origin count) → slice_get b.word count ≡ Some s → suc count < length b.word → IsBegun g (w ++ s ∷ []) more (suc (length w)) state origin (suc count)
-  begun_on more same b at long = record {
-    from = b.from;
-    place = b.place;
-    word = b.word;
-    number = b.number;
-    outside = b.outside;
-    item = b.item;
-    there = (let e = b.is in subst (λ (l : List Item). Contains l (record { state = state; origin = origin })) (sym (same b.from (omega (arith, e)))) b.there);
-    more = long;
-    is = (let e = b.is in omega (arith, e));
-    reads = next_reads b at;
-  }
+  begun_on more same b at long = let e = b.is in begun_over b (same b.from (omega (arith, e))) long (omega (arith, e)) (next_reads b at)
 
   -- or it was the last one
   pub begun_due : (b : IsBegun g w sets (length w) state origin count) → slice_get b.word count ≡ Some s → suc count ≡ length b.word → IsDue g (w ++ s ∷ []) sets (suc (length w)) (next_of b.place) origin
@@ -238,19 +233,10 @@ module _ (g : Grammar) (w : List ℕ) (s : ℕ) (sets : List (List Item)) (state
       let x = get_some word count lt in
       let r' = Reads-split (w ++ s ∷ []) from (take count word) (x.0 ∷ []) (suc (length w)) (subst (λ f. Reads (w ++ s ∷ []) from f (suc (length w))) (get_take word count x.0 x.1) r) in
       let at : r'.0 ≡ length w = let e = r'.2.1 in omega (arith, e) in
-      let here : x.0 ≡ s = some_same (slice_get (w ++ s ∷ []) (length w)) x.0 s (subst (λ n. slice_get (w ++ s ∷ []) n ≡ Some x.0) at r'.2.0) (get_last w s) in (
-        record {
-          from = from;
-          place = place;
-          word = word;
-          number = number;
-          outside = outside;
-          item = item;
-          there = subst (λ (l : List Item). Contains l (record { state = state; origin = origin })) (same from (omega (arith, is))) there;
-          more = lt;
-          is = is;
-          reads = reads_shorter w (s ∷ []) from (take count word) (length w) (omega arith) (subst (λ n. Reads (w ++ s ∷ []) from (take count word) n) at r'.1);
-        },
+      let here : x.0 ≡ s = some_same (slice_get (w ++ s ∷ []) (length w)) x.0 s (subst (λ n. slice_get (w ++ s ∷ []) n ≡ Some x.0) at r'.2.0) (get_last w s) in
+      let kept = subst (λ (l : List Item). Contains l (record { state = state; origin = origin })) (same from (omega (arith, is))) there in
+      let read = reads_shorter w (s ∷ []) from (take count word) (length w) (omega arith) (subst (λ n. Reads (w ++ s ∷ []) from (take count word) n) at r'.1) in (
+        record { from = from; place = place; word = word; number = number; outside = outside; item = item; there = kept; more = lt; is = is; reads = read },
         refl,
         refl,
         subst (λ y. slice_get word count ≡ Some y) here x.1,
@@ -261,32 +247,10 @@ module _ (g : Grammar) (w : List ℕ) (s : ℕ) (sets : List (List Item)) (state
 
 -- a word that is begun at a place of a shorter document is begun there in the longer one, and the other way round
 pub begun_longer : (g : Grammar) (w v : List ℕ) (sets more : List (List Item)) (k state origin count : ℕ) → k ≤ length w → ((j : ℕ) → j ≤ k → set_at more j ≡ set_at sets j) → IsBegun g w sets k state origin count → IsBegun g (w ++ v) more k state origin count
-begun_longer g w v sets more k state origin count le same b = record {
-  from = b.from;
-  place = b.place;
-  word = b.word;
-  number = b.number;
-  outside = b.outside;
-  item = b.item;
-  there = (let e = b.is in subst (λ (l : List Item). Contains l (record { state = state; origin = origin })) (sym (same b.from (omega (arith, e)))) b.there);
-  more = b.more;
-  is = b.is;
-  reads = reads_longer w v b.from (take count b.word) k b.reads;
-}
+begun_longer g w v sets more k state origin count le same b = let e = b.is in begun_over b (same b.from (omega (arith, e))) b.more e (reads_longer w v b.from (take count b.word) k b.reads)
 
 pub begun_shorter : (g : Grammar) (w v : List ℕ) (sets more : List (List Item)) (k state origin count : ℕ) → k ≤ length w → ((j : ℕ) → j ≤ k → set_at more j ≡ set_at sets j) → IsBegun g (w ++ v) more k state origin count → IsBegun g w sets k state origin count
-begun_shorter g w v sets more k state origin count le same b = record {
-  from = b.from;
-  place = b.place;
-  word = b.word;
-  number = b.number;
-  outside = b.outside;
-  item = b.item;
-  there = (let e = b.is in subst (λ (l : List Item). Contains l (record { state = state; origin = origin })) (same b.from (omega (arith, e))) b.there);
-  more = b.more;
-  is = b.is;
-  reads = reads_shorter w v b.from (take count b.word) k le b.reads;
-}
+begun_shorter g w v sets more k state origin count le same b = let e = b.is in begun_over b (sym (same b.from (omega (arith, e)))) b.more e (reads_shorter w v b.from (take count b.word) k le b.reads)
 
 -- the first sets are the chart of a front of the document
 pub chart_shorter : (g : Grammar) (w v : List ℕ) (sets : List (List Item)) → IsChartOf g (w ++ v) sets → IsChartOf g w (take (suc (length w)) sets)
