@@ -5,32 +5,11 @@ use Rattle.std.proofs.lemmas.Bool.{cases_eq, false≢true}
 use Rattle.std.proofs.lemmas.List.Elements.{Contains-append_left, Contains-append_right, Contains-append_cases, Contains-push, Contains-push_cases}
 use Rattle.xs_chart.specs.declared.item.Item.{Item}
 use Rattle.xs_chart.specs.Charted.{Charted, items_of, last_set, with_item, with_items}
+use Rattle.xs_chart.proofs.Advancing.{no_element, contains_cases}
 use Rattle.xs_gram.specs.declared.places.Place.{Place}
 use Rattle.xs_gram.specs.Grammar.{Grammar}
 use Rattle.xs_chart_laws.specs.Charts.{IsNumber, set_at}
 use Rattle.xs_earley.specs.Adding.{Puts, IsOf, Adds, Is}
-
-pub no_element : {X : Type 0} (x : X) → Contains [] x → ⊥
-no_element x h = absurd (omega (arith, h.1))
-
-same_fields : (a b c d : ℕ) → a ≡ c → b ≡ d → ◌≡◌ {A = Item} (record { state = a; origin = b }) (record { state = c; origin = d })
-same_fields a b c d e f = cc
-
-item_cases : (x y : Item) → (x ≡ y) ⊎ (x ≡ y → ⊥)
-item_cases x y = elim (cases_eq x.state y.state) [
-  | inl s ↦ elim (cases_eq x.origin y.origin) [ inl o ↦ inl (same_fields x.state x.origin y.state y.origin s o) | inr n ↦ inr (λ e. n (ap (λ (z : Item). z.origin) e)) ]
-  | inr n ↦ inr (λ e. n (ap (λ (z : Item). z.state) e))
-]
-
-contains_cases : (items : List Item) (item : Item) → Contains items item ⊎ (Contains items item → ⊥)
-contains_cases [] item = inr (no_element item)
-contains_cases (x ∷ items) item = elim (item_cases x item) [
-  | inl e ↦ inl (Contains-append_left (x ∷ []) items item (0, omega arith, e))
-  | inr n ↦ elim (contains_cases items item) [
-    | inl h ↦ inl (Contains-append_right (x ∷ []) items item h)
-    | inr never ↦ inr (λ h. elim (Contains-append_cases (x ∷ []) items item h) [ inl one ↦ n (elim (Contains-push_cases [] x item one) [ inl none ↦ absurd (no_element item none) | inr e ↦ e ]) | inr rest ↦ never rest ])
-  ]
-]
 
 -- nothing is added
 pub puts_none : (at : ℕ) (P : Item → Type 0) (a : List (List Item)) → Puts at P a a

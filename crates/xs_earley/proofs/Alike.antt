@@ -1,6 +1,6 @@
 -- Symbols of one atom: an item leads to the same by each of them.
 use Rattle.std.proofs.Common.{◌≡◌, ℕ, ◌+◌, ◌<◌, ◌&&◌, not, List, [], ◌∷◌, ◌++◌, length, Option, Some, None, if◌then◌else◌, refl, sym, ◌∙◌, ap, subst, arith, inl, inr}
-use Rattle.std.specs.Prelude.{Contains, slice_get, nat_eq, IfSome}
+use Rattle.std.specs.Prelude.{Contains, slice_get, slice_index_or, nat_eq, IfSome}
 use Rattle.std.proofs.lemmas.Bool.{cases_eq, ne_eqb}
 use Rattle.xs_class.proofs.Lists.{some_same, first_in, rest_in, contains_of}
 use Rattle.xs_chart.specs.declared.item.Item.{Item}
@@ -10,7 +10,7 @@ use Rattle.xs_gram.specs.Sound.{IsBuilt}
 use Rattle.xs_gram.specs.Places.{all_places}
 use Rattle.xs_gram.specs.declared.places.Place.{Place}
 use Rattle.xs_atoms.specs.declared.atoms.Atoms.{Atoms}
-use Rattle.xs_atoms.specs.Alphabet.{AreAtoms, atom_of, term_classes, skip_classes}
+use Rattle.xs_atoms.specs.Alphabet.{AreAtoms, atom_of, class_has, term_classes, skip_classes}
 use Rattle.xs_atoms.specs.Fixed.{IsFixed}
 use Rattle.xs_chart_laws.proofs.Words.{get_some}
 use Rattle.xs_chart_laws.specs.Charts.{IsNumber}
@@ -63,19 +63,15 @@ module _ (g : Grammar) (f : Facts) (built : IsBuilt g) (facts : AreFacts g f) (a
     there : (c : Place) × IsNumber g item.state c
     there = get_some (all_places g) item.state lt
 
+    -- an automaton whose classes tell of a symbol whether a position has it has both there or neither
+    lex_told : (p : Position) (classes : List ℕ) (k : ℕ) → ((x atom : ℕ) → IsAtom f x atom → class_has atoms (slice_index_or classes k 0) atom ≡ at_has p k x) → at_has p k s ≡ at_has p k t
+    lex_told p classes k tells = sym (tells s (atom_of atoms s) (own_atom s (atom_of atoms s) refl)) ∙ tells t (atom_of atoms s) (own_atom t (atom_of atoms s) same)
+
     term_alike : (term k : ℕ) → (row_at f.rows.items item.state).stand ≡ AtTerm term → Contains (positions_at (term_of g term).automaton item.state (row_at f.rows.items item.state).base) k → at_has (term_of g term).automaton k s ≡ at_has (term_of g term).automaton k t
-    term_alike term k e h =
-        let classes = term_classes atoms term in
-        let row = λ (a : Atoms) (is : f.atoms ≡ Some a). ap (λ (x : Atoms). term_classes x term) (some_same f.atoms atoms a told is) in
-        sym (term_told g f built facts item.state lt term s (atom_of atoms s) classes e (own_atom s (atom_of atoms s) refl) row k h atoms told)
-        ∙ term_told g f built facts item.state lt term t (atom_of atoms s) classes e (own_atom t (atom_of atoms s) same) row k h atoms told
+    term_alike term k e h = lex_told (term_of g term).automaton (term_classes atoms term) k (λ x atom own. term_told g f built facts item.state lt term x atom (term_classes atoms term) e own (λ a is. ap (λ (y : Atoms). term_classes y term) (some_same f.atoms atoms a told is)) k h atoms told)
 
     skip_alike : (skip k : ℕ) → (row_at f.rows.items item.state).stand ≡ AtSkip skip → Contains (positions_at (skip_of g skip).automaton item.state (row_at f.rows.items item.state).base) k → at_has (skip_of g skip).automaton k s ≡ at_has (skip_of g skip).automaton k t
-    skip_alike skip k e h =
-        let classes = skip_classes atoms skip in
-        let row = λ (a : Atoms) (is : f.atoms ≡ Some a). ap (λ (x : Atoms). skip_classes x skip) (some_same f.atoms atoms a told is) in
-        sym (skip_told g f built facts item.state lt skip s (atom_of atoms s) classes e (own_atom s (atom_of atoms s) refl) row k h atoms told)
-        ∙ skip_told g f built facts item.state lt skip t (atom_of atoms s) classes e (own_atom t (atom_of atoms s) same) row k h atoms told
+    skip_alike skip k e h = lex_told (skip_of g skip).automaton (skip_classes atoms skip) k (λ x atom own. skip_told g f built facts item.state lt skip x atom (skip_classes atoms skip) e own (λ a is. ap (λ (y : Atoms). skip_classes y skip) (some_same f.atoms atoms a told is)) k h atoms told)
 
     stands : IsStand g f.letters.items there.0 (row_at f.rows.items item.state).stand
     stands = (facts.rows.each item.state there.0 lt there.1).stand

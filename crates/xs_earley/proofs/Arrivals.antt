@@ -295,6 +295,10 @@ word_stand g letters c (AtSkip k) f h at = absurd (not_skip (one_of_place g c (F
     not_skip : Fixed f ≡ Skip k → ⊥
     not_skip e = cc
 
+contains_either : {A : Type 0} (xs ys : List A) (x : A) → Contains xs x ⊎ Contains ys x → Contains (xs ++ ys) x
+contains_either xs ys x (inl h) = Contains-append_left xs ys x h
+contains_either xs ys x (inr h) = Contains-append_right xs ys x h
+
 module _ (g : Grammar) (w : List ℕ) (s : ℕ) (sets : List (List Item)) (chart : IsChartOf g w sets) (built : IsBuilt g) (f : Facts) (facts : AreFacts g f) (begun : List Begun) (exact : AreBegun g w sets (length w) begun) where
   -- all that is gathered
   abbrev pub Gathered : Item → Type 0
@@ -314,18 +318,7 @@ module _ (g : Grammar) (w : List ℕ) (s : ℕ) (sets : List (List Item)) (chart
 
   -- an item before a fixed word, of which nothing was read
   abbrev unread : (item : Item) (c : Place) (u : List ℕ) → Contains (set_at sets (length w)) item → IsNumber g item.state c → c.inside ≡ None → ItemAt g c.rule c.dot (Fixed u) → IsBegun g w sets (length w) item.state item.origin 0
-  unread item c u has num none at = record {
-    from = length w;
-    place = c;
-    word = u;
-    number = num;
-    outside = none;
-    item = at;
-    there = has;
-    more = built.range.words c.rule c.dot u at;
-    is = omega arith;
-    reads = refl;
-  }
+  unread item c u has num none at = record { from = length w; place = c; word = u; number = num; outside = none; item = at; there = has; more = built.range.words c.rule c.dot u at; is = omega arith; reads = refl }
 
   zero_add : (n : ℕ) → n + 0 ≡ n
   zero_add n = omega arith
@@ -385,6 +378,10 @@ module _ (g : Grammar) (w : List ℕ) (s : ℕ) (sets : List (List Item)) (chart
       by (AtTerm t) k there = absurd (no_begun b there)
       by (AtSkip j) k there = absurd (no_begun b there)
 
+  -- the row of a begun word is that of the word
+  row_spells : {state origin count : ℕ} (a : IsBegun g w sets (length w) state origin count) (from end : ℕ) → IsStand g f.letters.items a.place (AtWord from end) → IsSpelt f.letters.items from end a.word
+  row_spells a from end k = subst (λ u. IsSpelt f.letters.items from end u) (same_word k.0 a.word (one_of_place g a.place (Fixed k.0) (Fixed a.word) k.2 a.item)) k.3
+
   -- what a begun word gives is due
   rest_sound : (b : Begun) → IsBegun g w sets (length w) b.state b.origin b.count → (x : Item) → Contains (more_due f s b) x → Due x
   rest_sound b a x h = by (row_at f.rows.items b.state).stand is.stand h
@@ -397,8 +394,7 @@ module _ (g : Grammar) (w : List ℕ) (s : ℕ) (sets : List (List Item)) (chart
       by (AtNon n) k there = absurd (no_item x there)
       by (AtWord from end) k there =
           let r = word_in f.letters.items s (from + b.count) end (record { state = (row_at f.rows.items b.state).next; origin = b.origin }) x there in
-          let same : k.0 ≡ a.word = same_word k.0 a.word (one_of_place g a.place (Fixed k.0) (Fixed a.word) k.2 a.item) in
-          let spelt = subst (λ u. IsSpelt f.letters.items from end u) same k.3 in
+          let spelt = row_spells a from end k in
           let long = spelt_length f.letters.items from end a.word spelt in
           let last : suc b.count ≡ length a.word = omega (arith, long, r.1) in
           let letter : slice_get a.word b.count ≡ Some s = letter_spelt f.letters.items from end a.word b.count s spelt a.more r.0 in
@@ -417,8 +413,7 @@ module _ (g : Grammar) (w : List ℕ) (s : ℕ) (sets : List (List Item)) (chart
       by (AtNon n) k there = absurd (no_begun y there)
       by (AtWord from end) k there =
           let r = begun_in f.letters.items s (from + b.count) end (record { state = b.state; origin = b.origin; count = b.count + 1 }) y there in
-          let same : k.0 ≡ a.word = same_word k.0 a.word (one_of_place g a.place (Fixed k.0) (Fixed a.word) k.2 a.item) in
-          let spelt = subst (λ u. IsSpelt f.letters.items from end u) same k.3 in
+          let spelt = row_spells a from end k in
           let long = spelt_length f.letters.items from end a.word spelt in
           let under = a.more in
           let more : suc b.count < length a.word = omega (arith, long, r.1, under) in
@@ -437,6 +432,15 @@ module _ (g : Grammar) (w : List ℕ) (s : ℕ) (sets : List (List Item)) (chart
     is_word : (from : ℕ) × (end : ℕ) × ((row_at f.rows.items state).stand ≡ AtWord from end) × IsSpelt f.letters.items from end a.word
     is_word = word_stand g f.letters.items a.place (row_at f.rows.items state).stand a.word at_row.stand a.item
 
+    abbrev from : ℕ
+    from = is_word.0
+
+    abbrev end : ℕ
+    end = is_word.1
+
+    at : slice_get f.letters.items (from + count) ≡ Some s
+    at = spelt_letter f.letters.items is_word.0 is_word.1 a.word count s is_word.3 letter
+
     -- it is an item of the last set, or one of the begun words
     from_item : count ≡ 0 → Contains (set_at sets (length w)) (record { state = state; origin = origin })
     from_item none = let e = a.is in subst (λ n. Contains (set_at sets n) (record { state = state; origin = origin })) (omega (arith, e, none)) a.there
@@ -450,17 +454,8 @@ module _ (g : Grammar) (w : List ℕ) (s : ℕ) (sets : List (List Item)) (chart
     pub gives_due : suc count ≡ length a.word → Gathered next_item
     gives_due last = elim (cases_eq count 0) [ inl none ↦ inl (first none) | inr some ↦ inr (later (omega arith)) ]
       where
-        from : ℕ
-        from = is_word.0
-
-        end : ℕ
-        end = is_word.1
-
         ends : from + count + 1 ≡ end
         ends = omega (arith, last, spelt_length f.letters.items is_word.0 is_word.1 a.word is_word.3)
-
-        at : slice_get f.letters.items (from + count) ≡ Some s
-        at = spelt_letter f.letters.items is_word.0 is_word.1 a.word count s is_word.3 letter
 
         there : Contains (word_due f.letters.items s (from + count) end next_item) next_item
         there = word_has f.letters.items s (from + count) end next_item at ends
@@ -479,20 +474,11 @@ module _ (g : Grammar) (w : List ℕ) (s : ℕ) (sets : List (List Item)) (chart
     pub gives_begun : suc count < length a.word → Begins (record { state = state; origin = origin; count = suc count })
     gives_begun long = elim (cases_eq count 0) [ inl none ↦ inl (first none) | inr some ↦ inr (later (omega arith)) ]
       where
-        from : ℕ
-        from = is_word.0
-
-        end : ℕ
-        end = is_word.1
-
         next : Begun
         next = record { state = state; origin = origin; count = suc count }
 
         more : from + count + 1 ≢ end
         more = let e = spelt_length f.letters.items is_word.0 is_word.1 a.word is_word.3 in omega (arith, long, e)
-
-        at : slice_get f.letters.items (from + count) ≡ Some s
-        at = spelt_letter f.letters.items is_word.0 is_word.1 a.word count s is_word.3 letter
 
         there : (b : Begun) → Contains (word_begun f.letters.items s (from + count) end b) b
         there b = begun_has f.letters.items s (from + count) end b at more
@@ -592,25 +578,17 @@ module _ (g : Grammar) (w : List ℕ) (s : ℕ) (sets : List (List Item)) (chart
       omega (arith, long, within, few, more)
 
   -- so the lists that were gathered are exact
-  pub due_iff : (due first : List Item) → first ≡ gathered (item_due g f s) (set_at sets (length w)) → due ≡ first ++ gathered (more_due f s) begun → (x : Item) → Contains due x ↔ ((d : Place) × IsNumber g x.state d × IsDue g (w ++ s ∷ []) sets (suc (length w)) d x.origin)
-  due_iff due first a b x =
-      let is : due ≡ gathered (item_due g f s) (set_at sets (length w)) ++ gathered (more_due f s) begun = b ∙ ap (λ (l : List Item). l ++ gathered (more_due f s) begun) a in (
-        (λ h. gathered_due x (Contains-append_cases (gathered (item_due g f s) (set_at sets (length w))) (gathered (more_due f s) begun) x (subst (λ (l : List Item). Contains l x) is h))),
-        (λ h. subst (λ (l : List Item). Contains l x) (sym is) (elim (due_gathered x h) [
-          | inl y ↦ Contains-append_left (gathered (item_due g f s) (set_at sets (length w))) (gathered (more_due f s) begun) x y
-          | inr y ↦ Contains-append_right (gathered (item_due g f s) (set_at sets (length w))) (gathered (more_due f s) begun) x y
-        ])),
-      )
+  pub due_iff : (due : List Item) → due ≡ gathered (item_due g f s) (set_at sets (length w)) ++ gathered (more_due f s) begun → (x : Item) → Contains due x ↔ ((d : Place) × IsNumber g x.state d × IsDue g (w ++ s ∷ []) sets (suc (length w)) d x.origin)
+  due_iff due is x = (
+    λ h. gathered_due x (Contains-append_cases (gathered (item_due g f s) (set_at sets (length w))) (gathered (more_due f s) begun) x (subst (λ (l : List Item). Contains l x) is h)),
+    λ h. subst (λ (l : List Item). Contains l x) (sym is) (contains_either (gathered (item_due g f s) (set_at sets (length w))) (gathered (more_due f s) begun) x (due_gathered x h)),
+  )
 
-  pub fresh_iff : (fresh first : List Begun) → first ≡ gathered (item_begun f s) (set_at sets (length w)) → fresh ≡ first ++ gathered (more_begun f s) begun → AreBegun g (w ++ s ∷ []) sets (suc (length w)) fresh
-  fresh_iff fresh first a b x =
-      let is : fresh ≡ gathered (item_begun f s) (set_at sets (length w)) ++ gathered (more_begun f s) begun = b ∙ ap (λ (l : List Begun). l ++ gathered (more_begun f s) begun) a in (
-        (λ h. gathered_fresh x (Contains-append_cases (gathered (item_begun f s) (set_at sets (length w))) (gathered (more_begun f s) begun) x (subst (λ (l : List Begun). Contains l x) is h))),
-        (λ h. subst (λ (l : List Begun). Contains l x) (sym is) (elim (fresh_gathered x h) [
-          | inl y ↦ Contains-append_left (gathered (item_begun f s) (set_at sets (length w))) (gathered (more_begun f s) begun) x y
-          | inr y ↦ Contains-append_right (gathered (item_begun f s) (set_at sets (length w))) (gathered (more_begun f s) begun) x y
-        ])),
-      )
+  pub fresh_iff : (fresh : List Begun) → fresh ≡ gathered (item_begun f s) (set_at sets (length w)) ++ gathered (more_begun f s) begun → AreBegun g (w ++ s ∷ []) sets (suc (length w)) fresh
+  fresh_iff fresh is x = (
+    λ h. gathered_fresh x (Contains-append_cases (gathered (item_begun f s) (set_at sets (length w))) (gathered (more_begun f s) begun) x (subst (λ (l : List Begun). Contains l x) is h)),
+    λ h. subst (λ (l : List Begun). Contains l x) (sym is) (contains_either (gathered (item_begun f s) (set_at sets (length w))) (gathered (more_begun f s) begun) x (fresh_gathered x h)),
+  )
 
 same_truth : (b c : Bool) (P : Type 0) → IsTrue b ↔ P → IsTrue c ↔ P → b ≡ c
 same_truth true true P x y = refl

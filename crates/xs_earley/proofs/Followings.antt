@@ -196,10 +196,10 @@ last_goes g w s f chart begun marks run = (to, from)
     fresh = all_begun g f s (set_at chart.sets (length w)) (slice_index_or begun (length w) [])
 
     are_due : AreDue g w s chart.sets due
-    are_due = due_iff g w s chart.sets run.chart run.sound.built f run.facts words exact due (gathered (item_due g f s) items) refl refl
+    are_due = due_iff g w s chart.sets run.chart run.sound.built f run.facts words exact due refl
 
     are_fresh : AreBegun g (w ++ s ∷ []) chart.sets (suc (length w)) fresh
-    are_fresh = fresh_iff g w s chart.sets run.chart run.sound.built f run.facts words exact fresh (gathered (item_begun f s) items) refl refl
+    are_fresh = fresh_iff g w s chart.sets run.chart run.sound.built f run.facts words exact fresh refl
 
     some : IsGone due fresh → due ≡ [] → fresh ≡ [] → ⊥
     some (inl x) a b = no_item x.0 (subst (λ (l : List Item). Contains l x.0) a x.1)

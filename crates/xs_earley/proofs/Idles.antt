@@ -56,14 +56,14 @@ module _ (g : Grammar) (f : Facts) (facts : AreFacts g f) where
       false≢true (sym none.1 ∙ ap leads_on (before_stand g f.letters.items c row.stand non is.stand h.2.2))
 
   -- past idle items all that is before is settled where it was
-  pub settled_past : (sets : List (List Item)) (at from to : ℕ) → ((k : ℕ) → from ≤ k → k < to → IsIdle f.acts.items (set_at sets at) k) → ((m : ℕ) → m < from → IsSettledAt g sets at m) → (m : ℕ) → m < to → IsSettledAt g sets at m
+  settled_past : (sets : List (List Item)) (at from to : ℕ) → ((k : ℕ) → from ≤ k → k < to → IsIdle f.acts.items (set_at sets at) k) → ((m : ℕ) → m < from → IsSettledAt g sets at m) → (m : ℕ) → m < to → IsSettledAt g sets at m
   settled_past sets at from to idle before m below = elim (cases_lt m from) [
     | inl lt ↦ before m lt
     | inr le ↦ idle_settled sets at m (idle m le below)
   ]
 
   -- and the waiting lists have all that is before
-  pub waits_past : (chart : Charted) (at from to : ℕ) → from ≤ to → ((k : ℕ) → from ≤ k → k < to → IsIdle f.acts.items (items_of chart at) k) → WaitsBelow g chart at from → WaitsBelow g chart at to
+  waits_past : (chart : Charted) (at from to : ℕ) → from ≤ to → ((k : ℕ) → from ≤ k → k < to → IsIdle f.acts.items (items_of chart at) k) → WaitsBelow g chart at from → WaitsBelow g chart at to
   waits_past chart at from to le idle waits = record {
     exact = λ non n. (
       (λ h. let x = (waits.exact non n).0 h in (omega (arith, x.0, le), x.1)),
@@ -74,3 +74,10 @@ module _ (g : Grammar) (f : Facts) (facts : AreFacts g f) where
     );
     once = waits.once;
   }
+
+  -- both, by what a search for the next item that acts was given and has found
+  pub past_idle : (chart : Charted) (at from to : ℕ) (acts : List Bool) (items : List Item) → acts ≡ f.acts.items → items ≡ items_of chart at → from ≤ to → ((k : ℕ) → from ≤ k → k < to → IsIdle acts items k) → ((m : ℕ) → m < from → IsSettledAt g chart.sets at m) → WaitsBelow g chart at from
+      → ((m : ℕ) → m < to → IsSettledAt g chart.sets at m) × WaitsBelow g chart at to
+  past_idle chart at from to acts items same is le idle settled waits =
+      let own : (k : ℕ) → from ≤ k → k < to → IsIdle f.acts.items (items_of chart at) k = λ k above below. subst (λ (l : List Item). IsIdle f.acts.items l k) is (subst (λ (l : List Bool). IsIdle l items k) same (idle k above below)) in
+      (settled_past chart.sets at from to own settled, waits_past chart at from to le own waits)

@@ -127,27 +127,24 @@ module _ (g : Grammar) (f : Facts) (state mask : ℕ) where
           let below : atom < count_of atoms = subst (λ n. n < count_of atoms) (sym (is atoms at)) (exact.below s) in
           kept_out (class_has atoms class atom) (has_bit mask atom) (λ h. covers atom (known class atom below h)) none
 
+      -- an automaton whose classes tell of each symbol which positions have it does not go on by such an atom, where the mask has all their bits
+      lex_idle : (p : Position) (classes : List ℕ) → ((s atom : ℕ) → IsAtom f s atom → (k : ℕ) → Contains (positions_at p state (row_at f.rows.items state).base) k → class_has atoms (slice_index_or classes k 0) atom ≡ at_has p k s)
+          → ((k n : ℕ) → Contains (positions_at p state (row_at f.rows.items state).base) k → IsTrue (has_bit (mask_of masks (slice_index_or classes k 0)) n) → IsTrue (has_bit mask n)) → (s atom origin : ℕ) → IsAtom f s atom → has_bit mask atom ≡ false → lex_due p s state (row_at f.rows.items state).base origin ≡ []
+      lex_idle p classes told covers s atom origin is none = lex_none p s state (row_at f.rows.items state).base origin (λ k h. sym (told s atom is k h) ∙ class_out (slice_index_or classes k 0) s atom is (λ n. covers k n h) none)
+
       pub term_idle : (term : ℕ) → (row_at f.rows.items state).stand ≡ AtTerm term → ((k n : ℕ) → Contains (positions_at (term_of g term).automaton state (row_at f.rows.items state).base) k → IsTrue (has_bit (mask_of masks (slice_index_or (term_classes atoms term) k 0)) n) → IsTrue (has_bit mask n)) → IsMask g f state mask
-      term_idle term e covers s atom origin is none = (
-        ap (λ (st : Stand). due_at g f.letters.items s (record { state = state; origin = origin }) (row_at f.rows.items state) st) e ∙ lex_none (term_of g term).automaton s state (row_at f.rows.items state).base origin out,
-        ap (λ (st : Stand). begun_at f.letters.items s (record { state = state; origin = origin }) st) e,
-      )
-        where
-          out : (k : ℕ) → Contains (positions_at (term_of g term).automaton state (row_at f.rows.items state).base) k → at_has (term_of g term).automaton k s ≡ false
-          out k h =
-              let told = term_told g f built facts state lt term s atom (term_classes atoms term) e is (λ other o. ap (λ (x : Atoms). term_classes x term) (some_same f.atoms atoms other at o)) k h atoms at in
-              sym told ∙ class_out (slice_index_or (term_classes atoms term) k 0) s atom is (λ n. covers k n h) none
+      term_idle term e covers s atom origin is none =
+          let told = λ (x y : ℕ) (own : IsAtom f x y) (k : ℕ) (h : Contains (positions_at (term_of g term).automaton state (row_at f.rows.items state).base) k). term_told g f built facts state lt term x y (term_classes atoms term) e own (λ other o. ap (λ (a : Atoms). term_classes a term) (some_same f.atoms atoms other at o)) k h atoms at in (
+            ap (λ (st : Stand). due_at g f.letters.items s (record { state = state; origin = origin }) (row_at f.rows.items state) st) e ∙ lex_idle (term_of g term).automaton (term_classes atoms term) told covers s atom origin is none,
+            ap (λ (st : Stand). begun_at f.letters.items s (record { state = state; origin = origin }) st) e,
+          )
 
       pub skip_idle : (skip : ℕ) → (row_at f.rows.items state).stand ≡ AtSkip skip → ((k n : ℕ) → Contains (positions_at (skip_of g skip).automaton state (row_at f.rows.items state).base) k → IsTrue (has_bit (mask_of masks (slice_index_or (skip_classes atoms skip) k 0)) n) → IsTrue (has_bit mask n)) → IsMask g f state mask
-      skip_idle skip e covers s atom origin is none = (
-        ap (λ (st : Stand). due_at g f.letters.items s (record { state = state; origin = origin }) (row_at f.rows.items state) st) e ∙ lex_none (skip_of g skip).automaton s state (row_at f.rows.items state).base origin out,
-        ap (λ (st : Stand). begun_at f.letters.items s (record { state = state; origin = origin }) st) e,
-      )
-        where
-          out : (k : ℕ) → Contains (positions_at (skip_of g skip).automaton state (row_at f.rows.items state).base) k → at_has (skip_of g skip).automaton k s ≡ false
-          out k h =
-              let told = skip_told g f built facts state lt skip s atom (skip_classes atoms skip) e is (λ other o. ap (λ (x : Atoms). skip_classes x skip) (some_same f.atoms atoms other at o)) k h atoms at in
-              sym told ∙ class_out (slice_index_or (skip_classes atoms skip) k 0) s atom is (λ n. covers k n h) none
+      skip_idle skip e covers s atom origin is none =
+          let told = λ (x y : ℕ) (own : IsAtom f x y) (k : ℕ) (h : Contains (positions_at (skip_of g skip).automaton state (row_at f.rows.items state).base) k). skip_told g f built facts state lt skip x y (skip_classes atoms skip) e own (λ other o. ap (λ (a : Atoms). skip_classes a skip) (some_same f.atoms atoms other at o)) k h atoms at in (
+            ap (λ (st : Stand). due_at g f.letters.items s (record { state = state; origin = origin }) (row_at f.rows.items state) st) e ∙ lex_idle (skip_of g skip).automaton (skip_classes atoms skip) told covers s atom origin is none,
+            ap (λ (st : Stand). begun_at f.letters.items s (record { state = state; origin = origin }) st) e,
+          )
 
 -- the letter that stands at a place has its bit
 pub letter_out : (atoms : Atoms) (o : Option ℕ) (letter mask s : ℕ) → o ≡ Some letter → IsTrue (has_bit mask (atom_of atoms letter)) → has_bit mask (atom_of atoms s) ≡ false → is_letter o s ≡ false

@@ -21,7 +21,8 @@ use Rattle.xs_earley.specs.declared.rows.Stand.TheVariants.{AtNon}
 use Rattle.xs_earley.specs.Facts.{row_at, IsStand, AreFacts}
 use Rattle.xs_earley.proofs.Settlings.{row_is, before_stand}
 use Rattle.xs_earley.specs.Waiting.{Waited, IsWaiting, WaitsBelow}
-use Rattle.xs_earley.proofs.Additions.{no_element, last_at}
+use Rattle.xs_chart.proofs.Advancing.{no_element}
+use Rattle.xs_earley.proofs.Additions.{last_at}
 use Rattle.xs_earley.proofs.Completing.{before_at, waiting_same}
 use Rattle.xs_earley.proofs.Growths.{put_item, put_item_more}
 use Rattle.xs_chart_laws.proofs.Settling.{same_non}

@@ -1,6 +1,6 @@
 -- A run whose last set is repeated by each symbol of an atom.
 use Rattle.std.proofs.Common.{◌≡◌, ◌≢◌, ℕ, suc, ◌+◌, ◌<◌, ◌≤◌, Bool, true, List, [], ◌∷◌, ◌++◌, length, take, Some, if◌then◌else◌, refl, sym, ◌∙◌, ap, subst, arith, ◌↔◌, inl, inr, append-nil}
-use Rattle.std.specs.Prelude.{Contains, slice_get, slice_index_or}
+use Rattle.std.specs.Prelude.{Contains, slice_get, slice_index_or, IsTrue}
 use Rattle.std.proofs.lemmas.Bool.{cases_eq, false≢true}
 use Rattle.std.proofs.lemmas.List.{get_or_append_left, get_or_at, get_or-take}
 use Rattle.xs_class.proofs.Lists.{one_longer}
@@ -25,6 +25,7 @@ use Rattle.xs_chart_laws.proofs.Repeats.{chart_again}
 use Rattle.xs_earley.specs.declared.begun.Begun.{Begun}
 use Rattle.xs_earley.specs.declared.facts.Facts.{Facts}
 use Rattle.xs_earley.specs.Arriving.{gathered, item_due, item_begun, more_due, more_begun, AreBegun}
+use Rattle.xs_earley.specs.Facts.{IsAtom}
 use Rattle.xs_earley.specs.Growing.{IsExact}
 use Rattle.xs_earley.specs.Running.{Running, unsteady, IsSteady, IsRunOf}
 use Rattle.xs_earley.specs.Stages.{AreDueAt, AreDue}
@@ -124,11 +125,11 @@ module _ (g : Grammar) (w : List ℕ) (s atom : ℕ) (f : Facts) (old : Charted)
 
   -- what is due by the symbol
   pub due_again : AreDue g w s old.sets steady.due
-  due_again = due_iff g w s old.sets run.chart run.sound.built f run.facts (slice_index_or begun (length w) []) (run.begun (length w) (omega arith)) steady.due (gathered (item_due g f s) (set_at old.sets (length w))) refl
+  due_again = due_iff g w s old.sets run.chart run.sound.built f run.facts (slice_index_or begun (length w) []) (run.begun (length w) (omega arith)) steady.due
       (sym (steady.next s is) ∙ sym (append-nil (gathered (item_due g f s) (set_at old.sets (length w)))) ∙ sym (ap (λ (l : List Begun). gathered (item_due g f s) (set_at old.sets (length w)) ++ gathered (more_due f s) l) row))
 
   pub begun_again : AreBegun g (w ++ s ∷ []) old.sets (suc (length w)) []
-  begun_again = fresh_iff g w s old.sets run.chart run.sound.built f run.facts (slice_index_or begun (length w) []) (run.begun (length w) (omega arith)) [] (gathered (item_begun f s) (set_at old.sets (length w))) refl
+  begun_again = fresh_iff g w s old.sets run.chart run.sound.built f run.facts (slice_index_or begun (length w) []) (run.begun (length w) (omega arith)) []
       (sym (steady.idle s is) ∙ sym (append-nil (gathered (item_begun f s) (set_at old.sets (length w)))) ∙ sym (ap (λ (l : List Begun). gathered (item_begun f s) (set_at old.sets (length w)) ++ gathered (more_begun f s) l) row))
 
   pub front_again : IsFront g (w ++ s ∷ [])
@@ -200,7 +201,7 @@ module _ (g : Grammar) (w : List ℕ) (s atom : ℕ) (f : Facts) (old : Charted)
           | inr ne ↦ run.waiters.once j non a b n (subst (λ (l : List ℕ). slice_get l a ≡ Some n) (kept j non ne) x) (subst (λ (l : List ℕ). slice_get l b ≡ Some n) (kept j non ne) y)
         ]
 
-    pub run_again : length w + 1 < set_limit → (word : List ℕ) → word ≡ w ++ s ∷ [] → IsRunOf g (unsteady word new on f marks)
+    run_again : length w + 1 < set_limit → (word : List ℕ) → word ≡ w ++ s ∷ [] → IsRunOf g (unsteady word new on f marks)
     run_again few word same_word = subst (λ (u : List ℕ). IsRunOf g (unsteady u new on f marks)) (sym same_word) (record {
       sound = run.sound;
       facts = run.facts;
@@ -215,7 +216,7 @@ module _ (g : Grammar) (w : List ℕ) (s atom : ℕ) (f : Facts) (old : Charted)
       steady = λ e. absurd (false≢true e);
     })
 
-    pub steady_again : (word : List ℕ) → word ≡ w ++ s ∷ [] → IsSteady g atom word new on f
+    steady_again : (word : List ℕ) → word ≡ w ++ s ∷ [] → IsSteady g atom word new on f
     steady_again word same_word = subst (λ (u : List ℕ). IsSteady g atom u new on f) (sym same_word) (record {
       atoms = steady.atoms;
       told = steady.told;
@@ -232,18 +233,30 @@ module _ (g : Grammar) (w : List ℕ) (s atom : ℕ) (f : Facts) (old : Charted)
 
 -- THE NEXT SET, WHERE IT REPEATS THE LAST ONE
 
-pub sets_repeated : (g : Grammar) (w : List ℕ) (old new : Charted) (repeats : Bool) → IsChartOf g w old.sets → repeats ≡ true → new.sets ≡ old.sets ++ (if repeats then items_of old (last_set old) else []) ∷ [] → new.sets ≡ old.sets ++ items_of old (length w) ∷ []
+sets_repeated : (g : Grammar) (w : List ℕ) (old new : Charted) (repeats : Bool) → IsChartOf g w old.sets → repeats ≡ true → new.sets ≡ old.sets ++ (if repeats then items_of old (last_set old) else []) ∷ [] → new.sets ≡ old.sets ++ items_of old (length w) ∷ []
 sets_repeated g w old new repeats chart is_on is =
     let last : last_set old ≡ length w = let c = chart.counted in omega (arith, c) in
     is ∙ ap (λ b. old.sets ++ (if b then items_of old (last_set old) else []) ∷ []) is_on ∙ ap (λ k. old.sets ++ items_of old k ∷ []) last
 
-pub waits_repeated : (g : Grammar) (w : List ℕ) (old new : Charted) (repeats : Bool) → IsChartOf g w old.sets → repeats ≡ true → ((non : ℕ) → waiting_of new (length old.sets) non ≡ (if repeats then waiting_of old (last_set old) non else [])) → (non : ℕ) → waiting_of new (suc (length w)) non ≡ waiting_of old (length w) non
+waits_repeated : (g : Grammar) (w : List ℕ) (old new : Charted) (repeats : Bool) → IsChartOf g w old.sets → repeats ≡ true → ((non : ℕ) → waiting_of new (length old.sets) non ≡ (if repeats then waiting_of old (last_set old) non else [])) → (non : ℕ) → waiting_of new (suc (length w)) non ≡ waiting_of old (length w) non
 waits_repeated g w old new repeats chart is_on own non =
     let last : last_set old ≡ length w = let c = chart.counted in omega (arith, c) in
     ap (λ k. waiting_of new k non) (sym chart.counted) ∙ own non ∙ ap (λ b. if b then waiting_of old (last_set old) non else []) is_on ∙ ap (λ k. waiting_of old k non) last
 
-pub waits_kept : (g : Grammar) (w : List ℕ) (old new : Charted) → IsChartOf g w old.sets → ((j non : ℕ) → j ≢ length old.sets → waiting_of new j non ≡ waiting_of old j non) → (j non : ℕ) → j ≢ suc (length w) → waiting_of new j non ≡ waiting_of old j non
+waits_kept : (g : Grammar) (w : List ℕ) (old new : Charted) → IsChartOf g w old.sets → ((j non : ℕ) → j ≢ length old.sets → waiting_of new j non ≡ waiting_of old j non) → (j non : ℕ) → j ≢ suc (length w) → waiting_of new j non ≡ waiting_of old j non
 waits_kept g w old new chart same j non ne = same j non (subst (λ n. j ≢ n) (sym chart.counted) ne)
+
+-- so the run goes on, and stays steady
+pub repeats_again : (g : Grammar) (w : List ℕ) (s atom : ℕ) (f : Facts) (old new : Charted) (begun on : List (List Begun)) (marks : ℕ) (repeats : Bool) (fresh : List Begun) (word : List ℕ) → IsRunOf g (unsteady w old begun f marks) → IsSteady g atom w old begun f → IsAtom f s atom → repeats ≡ true → (IsTrue repeats → fresh ≡ [])
+    → new.sets ≡ old.sets ++ (if repeats then items_of old (last_set old) else []) ∷ [] → ((j non : ℕ) → j ≢ length old.sets → waiting_of new j non ≡ waiting_of old j non) → ((non : ℕ) → waiting_of new (length old.sets) non ≡ (if repeats then waiting_of old (last_set old) non else []))
+    → on ≡ begun ++ fresh ∷ [] → word ≡ w ++ s ∷ [] → (length w + 1 < set_limit → IsRunOf g (unsteady word new on f marks)) × IsSteady g atom word new on f
+repeats_again g w s atom f old new begun on marks repeats fresh word run steady is it none sets waiting last on_is word_is = (
+  λ few. run_again g w s atom f old begun marks run steady own new on (sets_repeated g w old new repeats run.chart it sets) (waits_kept g w old new run.chart waiting) (waits_repeated g w old new repeats run.chart it last) (on_is ∙ ap (λ (l : List Begun). begun ++ l ∷ []) (none it)) few word word_is,
+  steady_again g w s atom f old begun marks run steady own new on (sets_repeated g w old new repeats run.chart it sets) (waits_kept g w old new run.chart waiting) (waits_repeated g w old new repeats run.chart it last) (on_is ∙ ap (λ (l : List Begun). begun ++ l ∷ []) (none it)) word word_is,
+)
+  where
+    own : atom_of steady.atoms s ≡ atom
+    own = sym (is steady.atoms steady.told)
 
 -- what a step keeps of the sets before
 pub kept_before : (g : Grammar) (w : List ℕ) (old new : Charted) → IsChartOf g w old.sets → take (length old.sets) new.sets ≡ old.sets → (j : ℕ) → j ≤ length w → set_at new.sets j ≡ set_at old.sets j

@@ -3,7 +3,7 @@ use Rattle.std.proofs.Common.{◌≡◌, ◌≢◌, ℕ, zero, suc, ◌+◌, ◌
 use Rattle.std.specs.Prelude.{Contains, slice_get, slice_index_or}
 use Rattle.std.proofs.lemmas.Bool.{cases_eq, cases_lt, false≢true}
 use Rattle.std.proofs.lemmas.List.{take_all, get_or_past, get_or_append_left, get_or_at, get_or-take, length-take-le}
-use Rattle.xs_class.proofs.Lists.{contains_of, get_of, first_in}
+use Rattle.xs_class.proofs.Lists.{contains_of, get_of, first_in, one_longer}
 use Rattle.xs_chart.specs.declared.item.Item.{Item}
 use Rattle.xs_chart.specs.declared.waiting.Waiter.{Waiter}
 use Rattle.xs_chart.specs.Different.{AreDifferent}
@@ -25,7 +25,7 @@ use Rattle.xs_chart_laws.proofs.Longer.{stands_longer, front_shorter}
 use Rattle.xs_chart_laws.proofs.Nexts.{chart_first, due_front, begun_front, no_front, due_stands, chart_more, begun_longer, begun_shorter, chart_shorter}
 use Rattle.xs_earley.specs.declared.begun.Begun.{Begun}
 use Rattle.xs_earley.specs.declared.facts.Facts.{Facts}
-use Rattle.xs_earley.specs.Adding.{Puts, Adds, Calls}
+use Rattle.xs_earley.specs.Adding.{Puts, Adds, AreCalled, Calls}
 use Rattle.xs_earley.specs.Arriving.{AreBegun}
 use Rattle.xs_earley.specs.Masks.{AreMasks}
 use Rattle.xs_earley.specs.Facts.{AreFacts}
@@ -33,10 +33,11 @@ use Rattle.xs_earley.specs.Growing.{Standing, Grown, IsSettledAt, IsExact, IsOpe
 use Rattle.xs_earley.specs.Running.{Running, unsteady, IsRunOf}
 use Rattle.xs_earley.specs.Stages.{AreDue, KeepsFirst}
 use Rattle.xs_earley.specs.Waiting.{WaitsBelow}
-use Rattle.xs_earley.proofs.Additions.{no_element, puts_kept}
+use Rattle.xs_chart.proofs.Advancing.{no_element}
+use Rattle.xs_earley.proofs.Additions.{puts_kept}
 use Rattle.xs_earley.proofs.Completing.{waiting_same}
 use Rattle.xs_earley.proofs.Growths.{grown_stand, exact_same}
-use Rattle.xs_earley.proofs.Predicting.{arrives_later}
+use Rattle.xs_earley.proofs.Predicting.{arrives_later, called_none}
 use Rattle.xs_earley.proofs.Queues.{waits_exact, waits_none}
 use Rattle.xs_earley.proofs.Settlings.{adds_grown}
 
@@ -70,10 +71,10 @@ waits_beyond g chart waiters j non le = no_elements (waiting_of chart j non) nev
         no_element x.0 (contains_of [] n x.0 (subst (λ (l : List Item). slice_get l n ≡ Some x.0) (get_or_past chart.sets j [] le) x.1))
 
 -- a set that is opened and does not repeat the last one is empty, and nothing waits in it
-pub sets_opened : (old new : List (List Item)) (repeats : Bool) (last : List Item) → repeats ≡ false → new ≡ old ++ (if repeats then last else []) ∷ [] → new ≡ old ++ [] ∷ []
+sets_opened : (old new : List (List Item)) (repeats : Bool) (last : List Item) → repeats ≡ false → new ≡ old ++ (if repeats then last else []) ∷ [] → new ≡ old ++ [] ∷ []
 sets_opened old new repeats last off is = subst (λ b. new ≡ old ++ (if b then last else []) ∷ []) off is
 
-pub waits_opened : (g : Grammar) (old new : Charted) (repeats : Bool) (last : ℕ → List ℕ) → HasWaiters g old → repeats ≡ false → ((j non : ℕ) → j ≢ length old.sets → waiting_of new j non ≡ waiting_of old j non) → ((non : ℕ) → waiting_of new (length old.sets) non ≡ (if repeats then last non else [])) → (j non : ℕ) → waiting_of new j non ≡ waiting_of old j non
+waits_opened : (g : Grammar) (old new : Charted) (repeats : Bool) (last : ℕ → List ℕ) → HasWaiters g old → repeats ≡ false → ((j non : ℕ) → j ≢ length old.sets → waiting_of new j non ≡ waiting_of old j non) → ((non : ℕ) → waiting_of new (length old.sets) non ≡ (if repeats then last non else [])) → (j non : ℕ) → waiting_of new j non ≡ waiting_of old j non
 waits_opened g old new repeats last waiters off kept own j non = elim (cases_eq j (length old.sets)) [
   | inr ne ↦ kept j non ne
   | inl e ↦ (
@@ -206,52 +207,84 @@ module _ (g : Grammar) (w : List ℕ) (s : ℕ) (old new : List (List Item)) (be
 
 -- ONE SYMBOL MORE
 
-module _ (g : Grammar) (w : List ℕ) (s : ℕ) (f : Facts) (old : Charted) (begun : List (List Begun)) (marks : ℕ) (run : IsRunOf g (unsteady w old begun f marks)) (due : List Item) (are_due : AreDue g w s old.sets due) (pushed mid : Charted) (sets : pushed.sets ≡ old.sets ++ [] ∷ []) (waiting : (j non : ℕ) → waiting_of pushed j non ≡ waiting_of old j non) (puts : Puts (suc (length w)) (Contains due) pushed.sets mid.sets) (there : (item : Item) → Contains due item → Contains (items_of mid (suc (length w))) item) (same : mid.waits ≡ pushed.waits) where
-  at : ℕ
-  at = suc (length w)
+-- a set more was opened, `at` is its number, and it has got what is due there
+pub record Opens (g : Grammar) (w : List ℕ) (s : ℕ) (f : Facts) (old : Charted) (begun : List (List Begun)) (marks : ℕ) (due : List Item) (pushed mid : Charted) (at : ℕ) : Type 0 where
+  pub run : IsRunOf g (unsteady w old begun f marks)
+  pub are_due : AreDue g w s old.sets due
+  pub sets : pushed.sets ≡ old.sets ++ [] ∷ []
+  pub waiting : (j non : ℕ) → waiting_of pushed j non ≡ waiting_of old j non
+  pub is_at : at ≡ suc (length w)
+  pub puts : Puts (suc (length w)) (Contains due) pushed.sets mid.sets
+  pub there : (item : Item) → Contains due item → Contains (items_of mid (suc (length w))) item
+  pub same : mid.waits ≡ pushed.waits
 
+-- by what a step does where it repeats no set
+pub next_opened : (g : Grammar) (w : List ℕ) (s : ℕ) (f : Facts) (old : Charted) (begun : List (List Begun)) (marks : ℕ) (due : List Item) (pushed mid : Charted) (at : ℕ) (word : List ℕ) (repeats : Bool) → IsRunOf g (unsteady w old begun f marks) → repeats ≡ false → (repeats ≡ false → AreDue g w s old.sets due)
+    → pushed.sets ≡ old.sets ++ (if repeats then items_of old (last_set old) else []) ∷ [] → ((j non : ℕ) → j ≢ length old.sets → waiting_of pushed j non ≡ waiting_of old j non) → ((non : ℕ) → waiting_of pushed (length old.sets) non ≡ (if repeats then waiting_of old (last_set old) non else []))
+    → at ≡ length word → word ≡ w ++ s ∷ [] → Puts at (Contains due) pushed.sets mid.sets → ((item : Item) → Contains due item → Contains (items_of mid at) item) → mid.waits ≡ pushed.waits → Opens g w s f old begun marks due pushed mid at
+next_opened g w s f old begun marks due pushed mid at word repeats run off are_due sets waiting last long is puts there same =
+    let e : at ≡ suc (length w) = long ∙ ap (λ (l : List ℕ). length l) is ∙ one_longer w s in
+    record {
+      run = run;
+      are_due = are_due off;
+      sets = sets_opened old.sets pushed.sets repeats (items_of old (last_set old)) off sets;
+      waiting = waits_opened g old pushed repeats (waiting_of old (last_set old)) run.waiters off waiting last;
+      is_at = e;
+      puts = subst (λ k. Puts k (Contains due) pushed.sets mid.sets) e puts;
+      there = subst (λ k. (item : Item) → Contains due item → Contains (items_of mid k) item) e there;
+      same = same;
+    }
+
+module _ {g : Grammar} {w : List ℕ} {s : ℕ} {f : Facts} {old : Charted} {begun : List (List Begun)} {marks : ℕ} {due : List Item} {pushed mid : Charted} {at : ℕ} (o : Opens g w s f old begun marks due pushed mid at) where
   end : length (w ++ s ∷ []) ≡ suc (length w)
   end = let e = length-append w (s ∷ []) in omega (arith, e)
 
   mid_items : (j : ℕ) → j ≢ suc (length w) → items_of mid j ≡ items_of old j
-  mid_items j ne = puts.others j ne ∙ ap (λ (l : List (List Item)). set_at l j) sets ∙ set_pushed old.sets j
+  mid_items j ne = o.puts.others j ne ∙ ap (λ (l : List (List Item)). set_at l j) o.sets ∙ set_pushed old.sets j
 
   mid_waits : (j non : ℕ) → waiting_of mid j non ≡ waiting_of old j non
-  mid_waits j non = waiting_same pushed mid j non same ∙ waiting j non
+  mid_waits j non = waiting_same pushed mid j non o.same ∙ o.waiting j non
 
   mid_counted : length mid.sets ≡ suc (suc (length w))
-  mid_counted = puts.counted ∙ ap (λ (l : List (List Item)). length l) sets ∙ (let e = length-append old.sets ([] ∷ []) in let c = run.chart.counted in omega (arith, e, c))
+  mid_counted = o.puts.counted ∙ ap (λ (l : List (List Item)). length l) o.sets ∙ (let e = length-append old.sets ([] ∷ []) in let c = o.run.chart.counted in omega (arith, e, c))
 
-  mid_last : set_at mid.sets (suc (length w)) ≡ puts.more
+  mid_last : set_at mid.sets (suc (length w)) ≡ o.puts.more
   mid_last =
-      let none : set_at pushed.sets (suc (length w)) ≡ [] = ap (λ (l : List (List Item)). set_at l (suc (length w))) sets ∙ set_pushed old.sets (suc (length w)) ∙ get_or_past old.sets (suc (length w)) [] (let c = run.chart.counted in omega (arith, c)) in
-      puts.last ∙ ap (λ (l : List Item). l ++ puts.more) none
+      let none : set_at pushed.sets (suc (length w)) ≡ [] = ap (λ (l : List (List Item)). set_at l (suc (length w))) o.sets ∙ set_pushed old.sets (suc (length w)) ∙ get_or_past old.sets (suc (length w)) [] (let c = o.run.chart.counted in omega (arith, c)) in
+      o.puts.last ∙ ap (λ (l : List Item). l ++ o.puts.more) none
 
   due_stand : (item : Item) → Contains due item → ItemStands g (w ++ s ∷ []) item (suc (length w))
-  due_stand item h = let d = (are_due item).0 h in (d.0, d.1, due_stands g w s old.sets run.chart run.sound.built d.0 item.origin (suc (length w)) d.2)
+  due_stand item h = let d = (o.are_due item).0 h in (d.0, d.1, due_stands g w s old.sets o.run.chart o.run.sound.built d.0 item.origin (suc (length w)) d.2)
 
   mid_stand : AllItemsStand g (w ++ s ∷ []) mid.sets
   mid_stand j item h = elim (cases_eq j (suc (length w))) [
-    | inl e ↦ subst (λ k. ItemStands g (w ++ s ∷ []) item k) (sym e) (due_stand item (puts.each item (subst (λ (l : List Item). Contains l item) mid_last (subst (λ k. Contains (set_at mid.sets k) item) e h))))
-    | inr ne ↦ (let st = (run.chart.stand j item).0 (subst (λ (l : List Item). Contains l item) (mid_items j ne) h) in (st.0, st.1, stands_longer g w (s ∷ []) st.0 item.origin j st.2))
+    | inl e ↦ subst (λ k. ItemStands g (w ++ s ∷ []) item k) (sym e) (due_stand item (o.puts.each item (subst (λ (l : List Item). Contains l item) mid_last (subst (λ k. Contains (set_at mid.sets k) item) e h))))
+    | inr ne ↦ (let st = (o.run.chart.stand j item).0 (subst (λ (l : List Item). Contains l item) (mid_items j ne) h) in (st.0, st.1, stands_longer g w (s ∷ []) st.0 item.origin j st.2))
   ]
 
-  pub next_open : IsOpen g (w ++ s ∷ []) (suc (length w)) mid
-  next_open = record {
+  mid_open : IsOpen g (w ++ s ∷ []) (suc (length w)) mid
+  mid_open = record {
     last = mid_counted;
     within = omega (arith, end);
     stand = mid_stand;
-    waiting = λ j non lt. let ne : j ≢ suc (length w) = omega arith in exact_same g old mid j non (mid_items j ne) (mid_waits j non) (run.waiters.exact j non);
+    waiting = λ j non lt. let ne : j ≢ suc (length w) = omega arith in exact_same g old mid j non (mid_items j ne) (mid_waits j non) (o.run.waiters.exact j non);
   }
 
   -- no rule is begun there
-  pub next_unbegun : (item : Item) (q : ℕ) → Contains (set_at mid.sets (suc (length w))) item → IsNumber g item.state (at_dot q 0) → ⊥
-  next_unbegun item q h num =
-      let d = (are_due item).0 (puts.each item (subst (λ (l : List Item). Contains l item) mid_last h)) in
+  mid_unbegun : (item : Item) (q : ℕ) → Contains (set_at mid.sets (suc (length w))) item → IsNumber g item.state (at_dot q 0) → ⊥
+  mid_unbegun item q h num =
+      let d = (o.are_due item).0 (o.puts.each item (subst (λ (l : List Item). Contains l item) mid_last h)) in
       arrives_later g (w ++ s ∷ []) d.2.0 d.2.1 (suc (length w)) d.0 d.2.3 q (one_place g item.state d.0 (at_dot q 0) d.1 num)
 
-  pub next_waits : WaitsBelow g mid (suc (length w)) 0
-  next_waits = waits_none g mid (suc (length w)) (λ non. mid_waits (suc (length w)) non ∙ waits_beyond g old run.waiters (suc (length w)) non (let c = run.chart.counted in omega (arith, c)))
+  pub next_waits : WaitsBelow g mid at 0
+  next_waits = subst (λ k. WaitsBelow g mid k 0) (sym o.is_at)
+      (waits_none g mid (suc (length w)) (λ non. mid_waits (suc (length w)) non ∙ waits_beyond g old o.run.waiters (suc (length w)) non (let c = o.run.chart.counted in omega (arith, c))))
+
+  pub next_open : (doc : List ℕ) → doc ≡ w ++ s ∷ [] → IsOpen g doc at mid
+  next_open doc is = subst (λ (u : List ℕ). IsOpen g u at mid) (sym is) (subst (λ k. IsOpen g (w ++ s ∷ []) k mid) (sym o.is_at) mid_open)
+
+  pub next_called : (called : List Bool) → ((non : ℕ) → slice_index_or called non false ≡ false) → AreCalled g at mid.sets called
+  next_called called unmarked = subst (λ k. AreCalled g k mid.sets called) (sym o.is_at) (called_none g (suc (length w)) mid.sets called unmarked mid_unbegun)
 
   module _ (new : Charted) (grown : Grown g (w ++ s ∷ []) (suc (length w)) mid.sets new.sets) (settled : (k : ℕ) → k < length (items_of new (suc (length w))) → IsSettledAt g new.sets (suc (length w)) k) (earlier : (j non : ℕ) → j ≢ suc (length w) → waiting_of new j non ≡ waiting_of mid j non) (waits : WaitsBelow g new (suc (length w)) (length (items_of new (suc (length w))))) (different : (j : ℕ) → AreDifferent (set_at new.sets j)) where
     new_items : (j : ℕ) → j ≢ suc (length w) → items_of new j ≡ items_of old j
@@ -261,7 +294,7 @@ module _ (g : Grammar) (w : List ℕ) (s : ℕ) (f : Facts) (old : Charted) (beg
     before j le = let ne : j ≢ suc (length w) = omega arith in new_items j ne
 
     next_chart : IsChartOf g (w ++ s ∷ []) new.sets
-    next_chart = chart_more g w s old.sets run.chart run.sound.built new.sets (grown.counted ∙ mid_counted) before
+    next_chart = chart_more g w s old.sets o.run.chart o.run.sound.built new.sets (grown.counted ∙ mid_counted) before
         (λ item h. grown_stand g (w ++ s ∷ []) (suc (length w)) mid.sets new.sets grown mid_stand (suc (length w)) item h)
         (different (suc (length w)))
         (λ d i x. placed d i x)
@@ -269,23 +302,23 @@ module _ (g : Grammar) (w : List ℕ) (s : ℕ) (f : Facts) (old : Charted) (beg
       where
         placed : (d : Place) (i : ℕ) → IsDue g (w ++ s ∷ []) old.sets (suc (length w)) d i → HasPlace g new.sets (suc (length w)) d i
         placed d i x =
-            let st = due_stands g w s old.sets run.chart run.sound.built d i (suc (length w)) x in
+            let st = due_stands g w s old.sets o.run.chart o.run.sound.built d i (suc (length w)) x in
             let n = has_number g d (stands_at_place g (w ++ s ∷ []) d i (suc (length w)) st) in
             let item : Item = record { state = n.0; origin = i } in
-            let h = there item ((are_due item).1 (d, n.1, x)) in
+            let h = o.there item ((o.are_due item).1 (d, n.1, x)) in
             (n.0, n.1, puts_kept (suc (length w)) (Standing g (w ++ s ∷ []) (suc (length w))) mid.sets new.sets grown (suc (length w)) item h)
 
     pub next_run : (fresh : List Begun) → AreBegun g (w ++ s ∷ []) old.sets (suc (length w)) fresh → (on : List (List Begun)) → on ≡ begun ++ fresh ∷ [] → length w + 1 < set_limit → IsFront g (w ++ s ∷ []) → (word : List ℕ) → word ≡ w ++ s ∷ [] → (more : ℕ) → more ≡ marks → IsRunOf g (unsteady word new on f more)
     next_run fresh exact on is few front word same_word more same_marks = subst (λ (u : List ℕ). IsRunOf g (unsteady u new on f more)) (sym same_word) (record {
-      sound = run.sound;
-      facts = run.facts;
-      masks = run.masks;
-      marks = same_marks ∙ run.marks;
+      sound = o.run.sound;
+      facts = o.run.facts;
+      masks = o.run.masks;
+      marks = same_marks ∙ o.run.marks;
       few = omega (arith, end, few);
       chart = next_chart;
-      waiters = waiters_more g old new (suc (length w)) run.waiters new_items (λ j non ne. earlier j non ne ∙ mid_waits j non) waits;
-      counted = ap (λ (l : List (List Begun)). length l) is ∙ (let e = length-append begun (fresh ∷ []) in let c = run.counted in omega (arith, e, c, end));
-      begun = begun_next g w s old.sets new.sets begun run.counted run.begun before fresh exact on is;
+      waiters = waiters_more g old new (suc (length w)) o.run.waiters new_items (λ j non ne. earlier j non ne ∙ mid_waits j non) waits;
+      counted = ap (λ (l : List (List Begun)). length l) is ∙ (let e = length-append begun (fresh ∷ []) in let c = o.run.counted in omega (arith, e, c, end));
+      begun = begun_next g w s old.sets new.sets begun o.run.counted o.run.begun before fresh exact on is;
       front = front;
       steady = never_steady;
     })

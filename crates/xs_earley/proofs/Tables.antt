@@ -12,7 +12,7 @@ use Rattle.xs_gram.specs.Places.{at_dot}
 use Rattle.xs_chart_laws.specs.Charts.{IsNumber}
 use Rattle.xs_chart_laws.proofs.Numbers.{one_place}
 use Rattle.xs_earley.specs.Starts.{IsStart, AreStarts}
-use Rattle.xs_earley.proofs.Additions.{no_element}
+use Rattle.xs_chart.proofs.Advancing.{no_element}
 
 -- one empty list more
 pub empty_more : {X : Type 0} (rows : List (List X)) → ((k : ℕ) → get_or rows k [] ≡ []) → (k : ℕ) → get_or (rows ++ [] ∷ []) k [] ≡ []

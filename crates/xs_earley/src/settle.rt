@@ -19,30 +19,6 @@ use xs_chart::{Chart, Item};
 use xs_class::{Memory, Sym};
 use xs_gram::Gram;
 
-/// At the end of a rule of a nonterminal that began in an earlier set, completes it there.
-#[inline(always)]
-fn end_rule(
-    chart: &mut Chart,
-    g: &Gram,
-    facts: &Facts,
-    at: u32,
-    non: u32,
-    origin: u32,
-) -> Result<(), Memory>
-    requires facts { AreFacts g.now facts.now }
-    requires last { length chart.old.sets ≡ suc at }
-    requires waiting { origin < at → IsExact g.now chart.old origin non }
-    ensures adds { IfOk result (λ _. Adds g.now at (λ c i. (origin < at) × Completes g.now chart.old.sets origin non c i) chart.old.sets chart.new.sets) }
-    ensures waits { chart.new.waits ≡ chart.old.waits }
-    ensures before { before_last chart.new ≡ before_last chart.old }
-{
-    if origin >= at {
-        return Ok(());
-    }
-    complete(chart, g, facts, at, origin, non)?;
-    Ok(())
-}
-
 /// Adds what the item of a place leads to, beside what may be passed over. Before a nonterminal it
 /// puts the item's number in the waiting list of that one.
 #[inline(always)]
@@ -73,7 +49,7 @@ fn lead(
 {
     match row.stand {
         Stand::AtEnd(non) => {
-            end_rule(chart, g, facts, at, non, item.origin)?;
+            complete(chart, g, facts, at, item.origin, non)?;
             Ok(())
         }
         Stand::AtNon(non) => {

@@ -41,8 +41,8 @@ pub fn predict(
     Ok(())
 }
 
-/// Adds to the last set what is after the nonterminal for each item that waits for it in an earlier
-/// set.
+/// At the end of a rule of a nonterminal that began in an earlier set, adds to the last set what is
+/// after the nonterminal for each item that waits for it there.
 #[inline(always)]
 pub fn complete(
     chart: &mut Chart,
@@ -54,12 +54,14 @@ pub fn complete(
 ) -> Result<(), Memory>
     requires facts { AreFacts g.now facts.now }
     requires last { length chart.old.sets ≡ suc at }
-    requires from { from < at }
-    requires waiting { IsExact g.now chart.old from non }
-    ensures adds { IfOk result (λ _. Adds g.now at (Completes g.now chart.old.sets from non) chart.old.sets chart.new.sets) }
+    requires waiting { from < at → IsExact g.now chart.old from non }
+    ensures adds { IfOk result (λ _. Adds g.now at (λ c i. (from < at) × Completes g.now chart.old.sets from non c i) chart.old.sets chart.new.sets) }
     ensures waits { chart.new.waits ≡ chart.old.waits }
     ensures before { before_last chart.new ≡ before_last chart.old }
 {
+    if from >= at {
+        return Ok(());
+    }
     chart.advance(from, non, &facts.nexts)?;
     Ok(())
 }

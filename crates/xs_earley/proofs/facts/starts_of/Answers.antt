@@ -10,17 +10,15 @@ number-state-requires c = first_place c.args.g.now c.rules.rule (omega arith)
 
 pub rules-preserved : goal.rules-preserved
 rules-preserved c =
-    let g = c.args.g.now in
     let rows = c.rules.rows.items in
     let count = c.rules.rule in
     let m = c.non_of.result in
-    let state = c.number-state.result in
-    let lt : count < length g.rules = omega arith in
-    let within : m < g.nons = subst (λ n. n < g.nons) (sym c.non_of.ensures) (c.requires.built.range.rules count lt) in
+    let lt : count < length c.args.g.now.rules = omega arith in
+    let within : m < c.args.g.now.nons = subst (λ n. n < c.args.g.now.nons) (sym c.non_of.ensures) (c.requires.built.range.rules count lt) in
     let there : m < length rows = subst (λ n. m < n) (sym c.rules.invariant.counted) within in
     let row : c.index_mut-row.result.now ≡ get_or rows m [] = c.index_mut-row.ensures.value ∙ get_or_default rows m c.index_mut-row.result.now [] there in
-    let new : c.push.new.self ≡ get_or rows m [] ++ state ∷ [] = c.in_ok-push.ensures.ok ∙ ap (λ (l : List ℕ). l ++ state ∷ []) row in
-    subst (λ (l : List ℕ). AreStarts g (count + 1) (set rows m l)) (sym new) (starts_more g count m state rows lt c.non_of.ensures within c.number-state.ensures.found c.number-state.ensures.once c.rules.invariant)
+    let new : c.push.new.self ≡ get_or rows m [] ++ c.number-state.result ∷ [] = c.in_ok-push.ensures.ok ∙ ap (λ (l : List ℕ). l ++ c.number-state.result ∷ []) row in
+    subst (λ (l : List ℕ). AreStarts c.args.g.now (count + 1) (set rows m l)) (sym new) (starts_more c.args.g.now count m c.number-state.result rows lt c.non_of.ensures within c.number-state.ensures.found c.number-state.ensures.once c.rules.invariant)
 
 pub returns : goal.returns
 returns c =

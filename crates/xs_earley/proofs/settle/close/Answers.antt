@@ -1,5 +1,5 @@
 use Rattle.std.proofs.Common.{◌≡◌, ◌≢◌, ◌<◌, ◌≤◌, ◌+◌, ◌∙◌, ℕ, Bool, List, length, refl, sym, subst, arith, inl, inr}
-use Rattle.std.specs.Prelude.{Contains}
+use Rattle.std.specs.Prelude.{Contains, slice_get, Some}
 use Rattle.std.proofs.lemmas.Bool.{cases_lt}
 use Rattle.std.proofs.lemmas.Option.{slice_get_within}
 use Rattle.xs_class.proofs.Lists.{contains_of}
@@ -7,13 +7,13 @@ use Rattle.xs_chart.specs.declared.item.Item.{Item}
 use Rattle.xs_chart.specs.Charted.{items_of}
 use Rattle.xs_gram.specs.Grammar.{Grammar}
 use Rattle.xs_gram.specs.Places.{all_places}
-use Rattle.xs_chart_laws.specs.Charts.{set_at}
+use Rattle.xs_gram.specs.declared.places.Place.{Place}
+use Rattle.xs_chart_laws.specs.Charts.{IsNumber, HasPlace, set_at}
+use Rattle.xs_chart_laws.specs.Steps.{IsSettled}
 use Rattle.xs_chart_laws.proofs.Words.{get_lt}
-use Rattle.xs_earley.specs.declared.facts.Facts.{Facts}
 use Rattle.xs_earley.specs.Growing.{Standing, Grown, IsSettledAt}
-use Rattle.xs_earley.specs.Waiting.{IsIdle}
 use Rattle.xs_earley.proofs.Growths.{grown_none, grown_then, grown_stand, settled_at_more, open_more, put_item_more}
-use Rattle.xs_earley.proofs.Idles.{acts_there, settled_past, waits_past}
+use Rattle.xs_earley.proofs.Idles.{acts_there, past_idle}
 use Rattle.xs_earley.proofs.Queues.{waits_more}
 use Rattle.xs_earley.proofs.Settlings.{row_there, settled_by_place}
 use Rattle.xs_earley.proofs.settle.close.Goals as goal
@@ -47,65 +47,58 @@ pub act-requires-clause-stands : goal.act-requires-clause-stands
 act-requires-clause-stands c =
     c.acting.invariant.ready.stand c.args.at c.item-item.result (contains_of (items_of c.acting.chart c.args.at) c.acting.k c.item-item.result c.item-item.ensures)
 
-settled_below : (g : Grammar) (w : List ℕ) (at k : ℕ) (old new : List (List Item)) → Grown g w at old new → k < length (set_at old at) → ((m : ℕ) → m < k → IsSettledAt g old at m) → IsSettledAt g new at k → (m : ℕ) → m < k + 1 → IsSettledAt g new at m
-settled_below g w at k old new grown lt before here m below = elim (cases_lt m k) [
-  | inl less ↦ settled_at_more g w at old new grown m (omega arith) (before m less)
-  | inr le ↦ (let e : k ≡ m = omega arith in subst (λ n. IsSettledAt g new at n) e here)
-]
-
--- items between are idle by what the loop was given
-idle_same : (f : Facts) (acts : List Bool) (items these : List Item) → acts ≡ f.acts.items → items ≡ these → (from to : ℕ) → ((k : ℕ) → from ≤ k → k < to → IsIdle acts items k) → (k : ℕ) → from ≤ k → k < to → IsIdle f.acts.items these k
-idle_same f acts items these same is from to idle k le lt = subst (λ (l : List Item). IsIdle f.acts.items l k) is (subst (λ (l : List Bool). IsIdle l items k) same (idle k le lt))
+-- all items below one and that one are settled
+settled_below : (g : Grammar) (w : List ℕ) (at k : ℕ) (old new : List (List Item)) (item : Item) → Grown g w at old new → slice_get (set_at old at) k ≡ Some item → ((m : ℕ) → m < k → IsSettledAt g old at m) → ((c : Place) → IsNumber g item.state c → IsSettled g (HasPlace g new) at c item.origin)
+    → (m : ℕ) → m < k + 1 → IsSettledAt g new at m
+settled_below g w at k old new item grown there before here m below =
+    let lt : k < length (set_at old at) = slice_get_within (set_at old at) k item there in
+    elim (cases_lt m k) [
+      | inl less ↦ settled_at_more g w at old new grown m (omega arith) (before m less)
+      | inr le ↦ (let e : k ≡ m = omega arith in subst (λ n. IsSettledAt g new at n) e (settled_by_place g w old new at k item grown lt there here))
+    ]
 
 pub acting-init : goal.acting-init
 acting-init c =
-    let g = c.args.g.now in
-    let f = c.args.facts.now in
-    let chart = c.args.chart.now in
     let at = c.args.at in
+    let chart = c.args.chart.now in
     let next = c.next_acting-k in
-    let idle = idle_same f c.deref.result.now c.items.result.now (items_of chart at) c.deref.ensures.value c.items.ensures 0 next.result next.ensures.idle in
+    let past = past_idle c.args.g.now c.args.facts.now c.requires.facts chart at 0 next.result c.deref.result.now c.items.result.now c.deref.ensures.value c.items.ensures (omega arith) next.ensures.idle (λ m lt. absurd (omega (arith, lt))) c.requires.waits in
     record {
       within = subst (λ (l : List Item). next.result ≤ length l) c.items.ensures next.ensures.within;
-      grown = grown_none g c.args.doc.now at chart.sets;
+      grown = grown_none c.args.g.now c.args.doc.now at chart.sets;
       ready = c.requires.open;
       marks = refl;
       called = c.requires.called;
-      settled = settled_past g f c.requires.facts chart.sets at 0 next.result idle (λ m lt. absurd (omega (arith, lt)));
+      settled = past.0;
       earlier = λ j non ne. refl;
-      waits = waits_past g f c.requires.facts chart at 0 next.result (omega arith) idle c.requires.waits;
+      waits = past.1;
       before = refl;
     }
 
 pub acting-preserved : goal.acting-preserved
 acting-preserved c =
     let g = c.args.g.now in
-    let f = c.args.facts.now in
-    let w = c.args.doc.now in
     let at = c.args.at in
     let k = c.acting.k in
     let old = c.acting.chart in
     let new = c.act.new.chart in
-    let first = c.args.chart.now in
     let inv = c.acting.invariant in
     let item = c.item-item.result in
     let there = c.item-item.ensures in
-    let lt : k < length (items_of old at) = slice_get_within (items_of old at) k item there in
     let done = c.in_ok-act.ensures in
     let grown = done.grown in
-    let here = settled_by_place g w old.sets new.sets at k item grown lt there done.settled in
-    let settled = settled_below g w at k old.sets new.sets grown lt inv.settled here in
-    let waits = waits_more g w old new at k item inv.waits there done.waited grown in
+    let settled = settled_below g c.args.doc.now at k old.sets new.sets item grown there inv.settled done.settled in
+    let waits = waits_more g c.args.doc.now old new at k item inv.waits there done.waited grown in
     let next = c.next_acting-k-in-acting in
-    let idle = idle_same f c.deref-in-acting.result.now c.items-in-acting-2.result.now (items_of new at) c.deref-in-acting.ensures.value c.items-in-acting-2.ensures (k + 1) next.result next.ensures.idle in
+    let past = past_idle g c.args.facts.now c.requires.facts new at (k + 1) next.result c.deref-in-acting.result.now c.items-in-acting-2.result.now c.deref-in-acting.ensures.value c.items-in-acting-2.ensures next.ensures.from next.ensures.idle settled waits in
     record {
       within = subst (λ (l : List Item). next.result ≤ length l) c.items-in-acting-2.ensures next.ensures.within;
-      grown = grown_then g w at first.sets old.sets new.sets inv.grown grown;
-      ready = open_more g w at old new grown (λ j non below. let ne : j ≢ at = omega arith in done.waited.elsewhere j non ne) inv.ready;
+      grown = grown_then g c.args.doc.now at c.args.chart.now.sets old.sets new.sets inv.grown grown;
+      ready = open_more g c.args.doc.now at old new grown (λ j non below. let ne : j ≢ at = omega arith in done.waited.elsewhere j non ne) inv.ready;
       marks = c.act.ensures.marks ∙ inv.marks;
       called = done.called;
-      settled = settled_past g f c.requires.facts new.sets at (k + 1) next.result idle settled;
+      settled = past.0;
       earlier = λ j non ne. done.waited.elsewhere j non ne ∙ inv.earlier j non ne;
-      waits = waits_past g f c.requires.facts new at (k + 1) next.result next.ensures.from idle waits;
+      waits = past.1;
       before = c.act.ensures.before ∙ inv.before;
     }

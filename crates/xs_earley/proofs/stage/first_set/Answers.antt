@@ -6,7 +6,7 @@ use Rattle.xs_chart.specs.declared.waiting.Waiter.{Waiter}
 use Rattle.xs_chart.specs.Charted.{Charted, waiting_for, waiting_of}
 use Rattle.xs_gram.specs.Grammar.{Grammar}
 use Rattle.xs_earley.specs.Adding.{Adds, Calls}
-use Rattle.xs_earley.proofs.Additions.{no_element}
+use Rattle.xs_chart.proofs.Advancing.{no_element}
 use Rattle.xs_earley.proofs.Predicting.{called_none}
 use Rattle.xs_earley.proofs.Steppings.{first_open, first_waits, first_chart, first_waiters}
 use Rattle.xs_earley.proofs.stage.first_set.Goals as goal

@@ -39,9 +39,6 @@ something_goes g w s f chart begun marks run due fresh are_due are_fresh false i
 
 pub returns-clause-next : goal.returns-clause-next
 returns-clause-next c =
-    let g = c.args.g.now in
-    let w = c.args.word.now in
-    let f = c.args.facts.now in
     let nothing = c.is_nothing.ensures in
-    something_goes g w c.args.symbol f c.args.chart.now c.args.begun.now g.nons c.requires.run c.gather.new.due.items c.gather.new.fresh.items c.in_ok-gather.ensures.due c.in_ok-gather.ensures.fresh c.is_nothing.result
+    something_goes c.args.g.now c.args.word.now c.args.symbol c.args.facts.now c.args.chart.now c.args.begun.now c.args.g.now.nons c.requires.run c.gather.new.due.items c.gather.new.fresh.items c.in_ok-gather.ensures.due c.in_ok-gather.ensures.fresh c.is_nothing.result
     ((λ t. let both = nothing.0 t in (sym c.deref.ensures.value ∙ both.0, sym c.deref-2.ensures.value ∙ both.1)), (λ both. nothing.1 (c.deref.ensures.value ∙ both.0, c.deref-2.ensures.value ∙ both.1)))
