@@ -3,12 +3,20 @@ ghost use Rattle.std.specs.Char.{IsScalar};
 ghost use Rattle.std.specs.Str.{chars};
 ghost use Rattle.std.specs.String.{string_bytes};
 ghost use Rattle.xs_xml.specs.{is_name_char};
-ghost use Rattle.xs_class.specs.Marks as mark;
 ghost use Rattle.xs_class.specs.{place_of};
 ghost use Rattle.xs_xml.specs.{all_of, is_name, marked};
+ghost use Rattle.xs_form.specs.Marks.{numbered};
 
 use std::alloc::Global;
 use xs_class::{Memory, Names, STRANGE, Sym};
+
+/// The marks of a name: where an element opens, where an attribute begins, where an element closes.
+#[derive(Clone, Copy)]
+pub enum Mark {
+    Opening,
+    Attribute,
+    Closing,
+}
 
 /// Appends a character.
 fn push_scalar(text: &mut String, symbol: Sym) -> Result<(), Memory>
@@ -134,35 +142,17 @@ impl Guesses {
     }
 }
 
-/// The mark that opens an element of the name at this place.
-pub fn opening_mark(place: Option<u32>) -> Sym
+/// A mark of the name at this place.
+pub fn mark_of(mark: Mark, place: Option<u32>) -> Sym
     requires { IfSome place (λ k. k < 65536) }
-    ensures { result ≡ marked mark.opening_mark place }
+    ensures { result ≡ marked (numbered mark) place }
 {
-    match place {
-        None => STRANGE,
-        Some(k) => Sym::opening(k),
-    }
-}
-
-/// The mark that closes an element of the name at this place.
-pub fn closing_mark(place: Option<u32>) -> Sym
-    requires { IfSome place (λ k. k < 65536) }
-    ensures { result ≡ marked mark.closing_mark place }
-{
-    match place {
-        None => STRANGE,
-        Some(k) => Sym::closing(k),
-    }
-}
-
-/// The mark that begins an attribute of the name at this place.
-pub fn attribute_mark(place: Option<u32>) -> Sym
-    requires { IfSome place (λ k. k < 65536) }
-    ensures { result ≡ marked mark.attribute_mark place }
-{
-    match place {
-        None => STRANGE,
-        Some(k) => Sym::attribute(k),
+    let Some(k) = place else {
+        return STRANGE;
+    };
+    match mark {
+        Mark::Opening => Sym::opening(k),
+        Mark::Attribute => Sym::attribute(k),
+        Mark::Closing => Sym::closing(k),
     }
 }

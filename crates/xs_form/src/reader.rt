@@ -4,7 +4,7 @@ ghost use Rattle.xs_form.specs.Sorted.{shown_ordered, entry_symbols};
 ghost use Rattle.xs_form.specs.Seen.{declared, letter, given, begins, stands, ends, aside, section, shown_event};
 ghost use Rattle.xs_form.specs.State.{next_run as next_run_of, initial, line_symbols, state_of, is_inside, IsRun, texted, step, taken, finished, is_named};
 
-use crate::marks::{Guesses, closing_mark, opening_mark};
+use crate::marks::{Guesses, Mark, mark_of};
 use crate::pieces::Event;
 use crate::runs::{bare_run, equal, white};
 use crate::sorted::{Ordered, push_ordered};
@@ -61,7 +61,7 @@ fn push_opening(
     ensures { OnOk result (word.new ≡ word.old ++ opening names.now name.now ∷ entry_symbols names.now (shown_ordered attributes.entry)) }
 {
     let place = guesses.place(alloc, names, name)?;
-    word.push(opening_mark(place))?;
+    word.push(mark_of(Mark::Opening, place))?;
     push_ordered(word, guesses, alloc, names, attributes)
 }
 
@@ -77,7 +77,7 @@ fn push_closing(
     ensures { OnOk result (word.new ≡ word.old ++ closing names.now name.now ∷ []) }
 {
     let place = guesses.place(alloc, names, name)?;
-    word.push(closing_mark(place))?;
+    word.push(mark_of(Mark::Closing, place))?;
     Ok(())
 }
 

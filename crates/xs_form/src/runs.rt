@@ -1,4 +1,4 @@
-ghost use Rattle.std.specs.Prelude.{◌≡◌, ◌==◌, ◌<◌, map, length};
+ghost use Rattle.std.specs.Prelude.{◌≡◌, ◌==◌, ◌<◌, ℕ, Bool, map, length};
 ghost use Rattle.std.specs.Option.{option_map, option_copied};
 ghost use Rattle.xs_xml.specs.{is_char, is_name_char, is_white, is_digit, is_hex, is_quote, is_name, all_of, same, lower, after, span, cut};
 ghost use Rattle.xs_form.specs.State.{is_bare};
@@ -89,37 +89,102 @@ pub fn in_name(symbol: Sym) -> bool
     is_name_char(number)
 }
 
+/// A kind of symbols, by a test.
+trait Kind {
+    /// Whether a symbol is of this kind.
+    ghost test: { ℕ → Bool };
+
+    /// Whether the symbol is of this kind.
+    fn has(symbol: Sym) -> bool
+        ensures { result ≡ test symbol };
+}
+
+/// The characters of names.
+struct NameCharacters;
+
+impl Kind for NameCharacters {
+    ghost test = { is_name_char };
+
+    fn has(symbol: Sym) -> bool {
+        in_name(symbol)
+    }
+}
+
+/// White space.
+struct WhiteSpace;
+
+impl Kind for WhiteSpace {
+    ghost test = { is_white };
+
+    fn has(symbol: Sym) -> bool {
+        white(symbol)
+    }
+}
+
+/// The characters that stand for themselves in content.
+struct BareCharacters;
+
+impl Kind for BareCharacters {
+    ghost test = { is_bare };
+
+    fn has(symbol: Sym) -> bool {
+        bare(symbol)
+    }
+}
+
+/// The symbols whose numbers are those of a Char.
+struct Characters;
+
+impl Kind for Characters {
+    ghost test = { is_char };
+
+    fn has(symbol: Sym) -> bool {
+        allowed(symbol.number())
+    }
+}
+
+/// The symbols of a kind at the front, and the rest.
+fn run<K: Kind>(text: &[Sym]) -> (&[Sym], &[Sym])
+    ensures { (result.0.now, result.1.now) ≡ span K.test text.now }
+{
+    let mut end = 0;
+    'run: while end < text.len() && K::has(text[end]) {
+        end += 1;
+    }
+    (&text[..end], &text[end..])
+}
+
+/// Whether each symbol is of a kind.
+fn all<K: Kind>(text: &[Sym]) -> bool
+    ensures { result ≡ all_of K.test text.now }
+{
+    'symbols: for symbol in text {
+        if !K::has(*symbol) {
+            return false;
+        }
+    }
+    true
+}
+
 /// The characters of names at the front, and the rest.
 pub fn name_run(text: &[Sym]) -> (&[Sym], &[Sym])
     ensures { (result.0.now, result.1.now) ≡ span is_name_char text.now }
 {
-    let mut end = 0;
-    'run: while end < text.len() && in_name(text[end]) {
-        end += 1;
-    }
-    (&text[..end], &text[end..])
+    run::<NameCharacters>(text)
 }
 
 /// The white space at the front, and the rest.
 pub fn white_run(text: &[Sym]) -> (&[Sym], &[Sym])
     ensures { (result.0.now, result.1.now) ≡ span is_white text.now }
 {
-    let mut end = 0;
-    'run: while end < text.len() && white(text[end]) {
-        end += 1;
-    }
-    (&text[..end], &text[end..])
+    run::<WhiteSpace>(text)
 }
 
 /// The characters at the front that stand for themselves in content, and the rest.
 pub fn bare_run(text: &[Sym]) -> (&[Sym], &[Sym])
     ensures { (result.0.now, result.1.now) ≡ span is_bare text.now }
 {
-    let mut end = 0;
-    'run: while end < text.len() && bare(text[end]) {
-        end += 1;
-    }
-    (&text[..end], &text[end..])
+    run::<BareCharacters>(text)
 }
 
 /// What stands after the prefix, where the text begins with it.
@@ -160,24 +225,7 @@ pub fn cut_at<'a>(text: &'a [Sym], delimiter: &[u8]) -> Option<(&'a [Sym], &'a [
 pub fn all_allowed(text: &[Sym]) -> bool
     ensures { result ≡ all_of is_char text.now }
 {
-    'symbols: for symbol in text {
-        if !allowed(symbol.number()) {
-            return false;
-        }
-    }
-    true
-}
-
-/// Whether each character may stand in a Name.
-fn all_in_name(text: &[Sym]) -> bool
-    ensures { result ≡ all_of is_name_char text.now }
-{
-    'symbols: for symbol in text {
-        if !in_name(*symbol) {
-            return false;
-        }
-    }
-    true
+    all::<Characters>(text)
 }
 
 /// Whether the text is a Name.
@@ -186,7 +234,7 @@ pub fn is_name_text(text: &[Sym]) -> bool
 {
     match text {
         [] => false,
-        [first, rest @ ..] => begins_name(*first) && all_in_name(rest),
+        [first, rest @ ..] => begins_name(*first) && all::<NameCharacters>(rest),
     }
 }
 
@@ -201,19 +249,10 @@ pub fn equal(one: &[Sym], other: &[Sym]) -> bool
 pub fn spells(text: &[Sym], word: &[u8]) -> bool
     ensures { result ≡ same text.now word.now }
 {
-    let mut rest = word;
-    'symbols: for symbol in text {
-        match rest {
-            [] => return false,
-            [first, others @ ..] => {
-                if !is(*symbol, *first) {
-                    return false;
-                }
-                rest = others;
-            }
-        }
+    match after_prefix(text, word) {
+        None => false,
+        Some(rest) => rest.is_empty(),
     }
-    rest.is_empty()
 }
 
 /// An ASCII letter in lower case, and any other symbol as it is.
