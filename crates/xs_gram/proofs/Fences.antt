@@ -72,29 +72,25 @@ apart_among (f ∷ fs) l r m s once (inl h) (inr k) e = (symbols_among (λ (n : 
 apart_among (f ∷ fs) l r m s once (inr h) (inl k) e = (symbols_among (λ (n : ℕ). n ≢ f.1) fs l r h once.1.0).0 (e ∙ sym k.1)
 apart_among (f ∷ fs) l r m s once (inr h) (inr k) e = apart_among fs l r m s once.1.1 h k e
 
-right_among_one : (fs : List (ℕ × ℕ)) (l r m s : ℕ) → IsDistinct (fence_symbols fs) → IsAmong fs l r → IsAmong fs m s → l ≡ m → r ≡ s
-right_among_one [] l r m s once h k e = absurd h
-right_among_one (f ∷ fs) l r m s once (inl h) (inl k) e = sym h.1 ∙ k.1
-right_among_one (f ∷ fs) l r m s once (inl h) (inr k) e = absurd ((symbols_among (λ (n : ℕ). n ≢ f.0) fs m s k once.0.1).0 (sym e ∙ sym h.0))
-right_among_one (f ∷ fs) l r m s once (inr h) (inl k) e = absurd ((symbols_among (λ (n : ℕ). n ≢ f.0) fs l r h once.0.1).0 (e ∙ sym k.0))
-right_among_one (f ∷ fs) l r m s once (inr h) (inr k) e = right_among_one fs l r m s once.1.1 h k e
-
-left_among_one : (fs : List (ℕ × ℕ)) (l r m s : ℕ) → IsDistinct (fence_symbols fs) → IsAmong fs l r → IsAmong fs m s → r ≡ s → l ≡ m
-left_among_one [] l r m s once h k e = absurd h
-left_among_one (f ∷ fs) l r m s once (inl h) (inl k) e = sym h.0 ∙ k.0
-left_among_one (f ∷ fs) l r m s once (inl h) (inr k) e = absurd ((symbols_among (λ (n : ℕ). n ≢ f.1) fs m s k once.1.0).1 (sym e ∙ sym h.1))
-left_among_one (f ∷ fs) l r m s once (inr h) (inl k) e = absurd ((symbols_among (λ (n : ℕ). n ≢ f.1) fs l r h once.1.0).1 (e ∙ sym k.1))
-left_among_one (f ∷ fs) l r m s once (inr h) (inr k) e = left_among_one fs l r m s once.1.1 h k e
+-- two fences that share a symbol are one
+one_among : (fs : List (ℕ × ℕ)) (l r m s : ℕ) → IsDistinct (fence_symbols fs) → IsAmong fs l r → IsAmong fs m s → (l ≡ m) ⊎ (r ≡ s) → (l ≡ m) × (r ≡ s)
+one_among [] l r m s once h k e = absurd h
+one_among (f ∷ fs) l r m s once (inl h) (inl k) e = (sym h.0 ∙ k.0, sym h.1 ∙ k.1)
+one_among (f ∷ fs) l r m s once (inl h) (inr k) (inl e) = absurd ((symbols_among (λ (n : ℕ). n ≢ f.0) fs m s k once.0.1).0 (sym e ∙ sym h.0))
+one_among (f ∷ fs) l r m s once (inl h) (inr k) (inr e) = absurd ((symbols_among (λ (n : ℕ). n ≢ f.1) fs m s k once.1.0).1 (sym e ∙ sym h.1))
+one_among (f ∷ fs) l r m s once (inr h) (inl k) (inl e) = absurd ((symbols_among (λ (n : ℕ). n ≢ f.0) fs l r h once.0.1).0 (e ∙ sym k.0))
+one_among (f ∷ fs) l r m s once (inr h) (inl k) (inr e) = absurd ((symbols_among (λ (n : ℕ). n ≢ f.1) fs l r h once.1.0).1 (e ∙ sym k.1))
+one_among (f ∷ fs) l r m s once (inr h) (inr k) e = one_among fs l r m s once.1.1 h k e
 
 -- no symbol is a left and a right one, and each has one partner
 pub sides_apart : {fs : List (ℕ × ℕ)} {l r m s : ℕ} → IsDistinct (fence_symbols fs) → IsFence fs l r → IsFence fs m s → l ≡ s → ⊥
 sides_apart {fs} {l} {r} {m} {s} once f h e = apart_among fs l r m s once (among fs l r f) (among fs m s h) e
 
 pub one_right : {fs : List (ℕ × ℕ)} {l r m s : ℕ} → IsDistinct (fence_symbols fs) → IsFence fs l r → IsFence fs m s → l ≡ m → r ≡ s
-one_right {fs} {l} {r} {m} {s} once f h e = right_among_one fs l r m s once (among fs l r f) (among fs m s h) e
+one_right {fs} {l} {r} {m} {s} once f h e = (one_among fs l r m s once (among fs l r f) (among fs m s h) (inl e)).1
 
 pub one_left : {fs : List (ℕ × ℕ)} {l r m s : ℕ} → IsDistinct (fence_symbols fs) → IsFence fs l r → IsFence fs m s → r ≡ s → l ≡ m
-one_left {fs} {l} {r} {m} {s} once f h e = left_among_one fs l r m s once (among fs l r f) (among fs m s h) e
+one_left {fs} {l} {r} {m} {s} once f h e = (one_among fs l r m s once (among fs l r f) (among fs m s h) (inr e)).0
 
 -- a left one has a partner
 has_right : (fs : List (ℕ × ℕ)) (l : ℕ) → is_left fs l ≡ true → (r : ℕ) × IsAmong fs l r

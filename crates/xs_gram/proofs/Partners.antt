@@ -15,21 +15,13 @@ use Rattle.xs_gram.proofs.Fences.{is_left_of, is_right_of, left_not_right, right
 use Rattle.xs_gram.proofs.Levels.{group_more, group_opened}
 
 -- a plain item is no fence
-plain_opens : (fs : List (ℕ × ℕ)) (i : GItem) → IsPlain fs i → opens fs i ≡ false
-plain_opens fs (Fixed []) plain = refl
-plain_opens fs (Fixed (s ∷ [])) plain = (or_false (is_left fs s) (is_right fs s) (plain s (0, omega arith, refl))).0
-plain_opens fs (Fixed (s ∷ t ∷ w)) plain = refl
-plain_opens fs (Term t s) plain = refl
-plain_opens fs (Non n s) plain = refl
-plain_opens fs (Skip k) plain = refl
-
-plain_closes : (fs : List (ℕ × ℕ)) (i : GItem) → IsPlain fs i → closes fs i ≡ false
-plain_closes fs (Fixed []) plain = refl
-plain_closes fs (Fixed (s ∷ [])) plain = (or_false (is_left fs s) (is_right fs s) (plain s (0, omega arith, refl))).1
-plain_closes fs (Fixed (s ∷ t ∷ w)) plain = refl
-plain_closes fs (Term t s) plain = refl
-plain_closes fs (Non n s) plain = refl
-plain_closes fs (Skip k) plain = refl
+plain_neither : (fs : List (ℕ × ℕ)) (i : GItem) → IsPlain fs i → (opens fs i ≡ false) × (closes fs i ≡ false)
+plain_neither fs (Fixed []) plain = (refl, refl)
+plain_neither fs (Fixed (s ∷ [])) plain = or_false (is_left fs s) (is_right fs s) (plain s (0, omega arith, refl))
+plain_neither fs (Fixed (s ∷ t ∷ w)) plain = (refl, refl)
+plain_neither fs (Term t s) plain = (refl, refl)
+plain_neither fs (Non n s) plain = (refl, refl)
+plain_neither fs (Skip k) plain = (refl, refl)
 
 waiting_plain : (fs : List (ℕ × ℕ)) (place : ℕ) (i : GItem) (later : List ℕ) → closes fs i ≡ false → opens fs i ≡ false → waiting_from fs place i later ≡ later
 waiting_plain fs place i later c o = if_false (closes fs i) (place ∷ later) _ c ∙ if_false (opens fs i) (after_first later) later o
@@ -45,7 +37,7 @@ module _ (fs : List (ℕ × ℕ)) (once : IsDistinct (fence_symbols fs)) where
   waiting_level : {is : List GItem} → IsLevel fs is → (place : ℕ) (rest : List GItem) → waiting fs place (is ++ rest) ≡ waiting fs (place + length is) rest
   waiting_level level_none place rest = ap (λ (k : ℕ). waiting fs k rest) (omega arith)
   waiting_level (level_then {i = i} {is = js} plain l) place rest =
-      waiting_plain fs place i (waiting fs (place + 1) (js ++ rest)) (plain_closes fs i plain) (plain_opens fs i plain) ∙ waiting_level l (place + 1) rest ∙ ap (λ (k : ℕ). waiting fs k rest) (omega arith)
+      waiting_plain fs place i (waiting fs (place + 1) (js ++ rest)) (plain_neither fs i plain).1 (plain_neither fs i plain).0 ∙ waiting_level l (place + 1) rest ∙ ap (λ (k : ℕ). waiting fs k rest) (omega arith)
   waiting_level {is} (level_group {l = l} {r = r} {inside = inside} {after = after} f i t e) place rest =
       let opened : is ++ rest ≡ grouped l inside r (after ++ rest) = ap (λ (x : List GItem). x ++ rest) e ∙ group_more l inside r after rest in
       let more = waiting_level t (place + 1 + length inside + 1) rest in
@@ -124,7 +116,7 @@ module _ (fs : List (ℕ × ℕ)) (once : IsDistinct (fence_symbols fs)) where
   has_partner (level_then {i = j} plain l) zero i at o = absurd (no_left j i plain (some_one at) o)
     where
       no_left : (j i : GItem) → IsPlain fs j → j ≡ i → opens fs i ≡ true → ⊥
-      no_left j i plain e o = let p = plain_opens fs j plain in let q = ap (λ (x : GItem). opens fs x) e in cc
+      no_left j i plain e o = let p = (plain_neither fs j plain).0 in let q = ap (λ (x : GItem). opens fs x) e in cc
   has_partner (level_then {i = j} {is = js} plain l) (suc k) i at o =
       let h = has_partner l k i at o in
       (suc h.0, record { left = h.1.left; inside = h.1.inside; right = h.1.right; group = group_after j h.1.group })

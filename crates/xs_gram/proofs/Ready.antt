@@ -22,21 +22,18 @@ long_map f (x ∷ xs) = ap suc (long_map f xs)
 among : (a b c a' b' c' : ℕ) (rs rs' : List RulePart) → a ≡ a' → b ≡ b' → c ≡ c' → rs ≡ rs' → EachOf (IsRuleAmong a' b' c') rs' → EachOf (IsRuleAmong a b c) rs
 among a b c a' b' c' rs rs' e f g h each = subst (λ l. EachOf (IsRuleAmong a b c) l) (sym h) (subst (λ n. EachOf (IsRuleAmong n b c) rs') (sym e) (subst (λ n. EachOf (IsRuleAmong a' n c) rs') (sym f) (subst (λ n. EachOf (IsRuleAmong a' b' n) rs') (sym g) each)))
 
+-- a count of one rule is at most that of all rules
+one_within : (f : RulePart → ℕ) (total : List RulePart → ℕ) → f no_rule ≡ 0 → ((r : RulePart) (rs : List RulePart) → total (r ∷ rs) ≡ f r + total rs) → (rs : List RulePart) (p : ℕ) → f (slice_index_or rs p no_rule) ≤ total rs
+one_within f total none more [] zero = omega (arith, none)
+one_within f total none more [] (suc p) = omega (arith, none)
+one_within f total none more (r ∷ rs) zero = omega (arith, more r rs)
+one_within f total none more (r ∷ rs) (suc p) = omega (arith, more r rs, one_within f total none more rs p)
+
 items_within : (rs : List RulePart) (p : ℕ) → length (slice_index_or rs p no_rule).items ≤ items_count rs
-items_within [] zero = omega arith
-items_within [] (suc p) = omega arith
-items_within (r ∷ rs) zero = omega arith
-items_within (r ∷ rs) (suc p) =
-    let rest = items_within rs p in
-    omega arith
+items_within rs p = one_within (λ r. length r.items) items_count refl (λ r rs. refl) rs p
 
 symbols_within : (rs : List RulePart) (p : ℕ) → fixed_symbols (slice_index_or rs p no_rule).items ≤ symbols_count rs
-symbols_within [] zero = omega arith
-symbols_within [] (suc p) = omega arith
-symbols_within (r ∷ rs) zero = omega arith
-symbols_within (r ∷ rs) (suc p) =
-    let rest = symbols_within rs p in
-    omega arith
+symbols_within rs p = one_within (λ r. fixed_symbols r.items) symbols_count refl (λ r rs. refl) rs p
 
 -- at most 513 places for an item, and one for a rule's end
 rule_small : (g : Grammar) (p n : ℕ) (is : List GItem) → ((i : GItem) → positions_of g i ≤ 512) → length (rule_places g p n is) ≤ suc (length is * 513)
