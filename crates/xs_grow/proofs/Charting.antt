@@ -1,5 +1,5 @@
 -- The candidates that are gathered of a chart's items are the chart's candidates.
-use Rattle.std.proofs.Common.{◌≡◌, ℕ, suc, ◌<◌, List, [], ◌++◌, length, slice_get, Some, refl, sym, ap, ◌∙◌, subst, arith, inl, inr}
+use Rattle.std.proofs.Common.{◌≡◌, ℕ, ◌<◌, List, [], length, slice_get, Some, refl, sym, ap, ◌∙◌, subst, arith}
 use Rattle.std.specs.Prelude.{Contains}
 use Rattle.std.proofs.lemmas.Option.{slice_get_within}
 use Rattle.xs_class.proofs.Lists.{get_of, contains_of}
@@ -15,15 +15,28 @@ use Rattle.xs_chart_laws.specs.Charts.{IsNumber, HasPlace, IsChartOf, set_at}
 use Rattle.xs_chart_laws.proofs.Numbers.{one_place}
 use Rattle.xs_chart_laws.proofs.Charts.{chart_all_stand, chart_has_all}
 use Rattle.xs_chart_laws.proofs.Language.{whole_of}
-use Rattle.xs_forest_laws.specs.declared.span.SpanKey.{SpanKey}
-use Rattle.xs_forest_laws.specs.declared.span.What.TheVariants.{Whole, Front}
+use Rattle.xs_forest_laws.specs.declared.span.What.TheVariants.{Whole}
 use Rattle.xs_forest_laws.specs.Forest.{key_at}
 use Rattle.xs_forest_laws.specs.Grown.{IsFinished, ItemOver}
 use Rattle.xs_grow.specs.declared.call.Call.{Call}
 use Rattle.xs_grow.specs.Lists.{HasAllOf}
-use Rattle.xs_grow.specs.Candidates.{Candidate, call_at, WholeCandidate, FrontCandidate, WholeAt, EndsAt, FrontFrom, InSets, CallIn, AreCallsOf, HasPlaces, IsLater}
+use Rattle.xs_grow.specs.Candidates.{Candidate, call_at, WholeCandidate, FrontCandidate, WholeAt, EndsAt, FrontFrom, InSets, AreCallsOf, HasPlaces, IsLater}
 use Rattle.xs_grow.specs.Making.{stands_at, IsLabel}
 use Rattle.xs_grow.proofs.ListLemmas.{all_none, all_same}
+
+-- candidates by the items that are there are candidates where more items are
+module _ (g : Grammar) (w : List ℕ) (has more : ℕ → Place → ℕ → Type 0) (also : (j : ℕ) (c : Place) (i : ℕ) → has j c i → more j c i) where
+  over_also : (item : GItem) (m j : ℕ) → ItemOver g w has item m j → ItemOver g w more item m j
+  over_also (Fixed v) m j h = h
+  over_also (Term t s) m j h = h
+  over_also (Skip k) m j h = h
+  over_also (Non n s) m j (q, of, ended) = (q, of, also j (at_dot q (length (items g q))) m ended)
+
+  whole_also : (c : Candidate) → WholeCandidate g has c → WholeCandidate g more c
+  whole_also c h = record { non = h.non; rule = h.rule; start = h.start; end = h.end; is = h.is; of = h.of; ended = also h.end (at_dot h.rule (length (items g h.rule))) h.start h.ended }
+
+  front_also : (c : Candidate) → FrontCandidate g w has c → FrontCandidate g w more c
+  front_also c h = record { rule = h.rule; dot = h.dot; start = h.start; end = h.end; split = h.split; item = h.item; is = h.is; later = h.later; searched = h.searched; at = h.at; before = also h.split (at_dot h.rule h.dot) h.start h.before; last = over_also h.item h.split h.end h.last }
 
 module _ (g : Grammar) (w : List ℕ) (sets : List (List Item)) (chart : IsChartOf g w sets) where
   abbrev has : ℕ → Place → ℕ → Type 0
@@ -48,6 +61,13 @@ module _ (g : Grammar) (w : List ℕ) (sets : List (List Item)) (chart : IsChart
   set_within : (j : ℕ) (c : Place) (i : ℕ) → has j c i → j < length sets
   set_within j c i h = let st = chart_all_stand g w sets chart c i j h in let n = chart.counted in omega (arith, st.4)
 
+  -- what holds of a place that is there holds of an item of the sets
+  in_sets : (P : ℕ → Item → Candidate → Type 0) (c : Candidate) (j i : ℕ) (place : Place) (h : has j place i) → P j (record { state = h.0; origin = i }) c → InSets P sets (length sets) c
+  in_sets P c j i place h holds =
+      let it : Item = record { state = h.0; origin = i } in
+      let at = get_of (set_at sets j) it h.2 in
+      (j, set_within j place i h, (at.0, slice_get_within (set_at sets j) at.0 it at.1, it, at.1, holds))
+
   -- the items at the end of their rule
   pub wholes_marked : (candidates : List Candidate) → HasAllOf (InSets (WholeAt g) sets (length sets)) candidates → HasAllOf (WholeCandidate g has) candidates
   wholes_marked candidates all = all_same (InSets (WholeAt g) sets (length sets)) (WholeCandidate g has) candidates to from all
@@ -67,25 +87,8 @@ module _ (g : Grammar) (w : List ℕ) (sets : List (List Item)) (chart : IsChart
 
       from : (c : Candidate) → WholeCandidate g has c → InSets (WholeAt g) sets (length sets) c
       from c h =
-          let lt = set_within h.end (at_dot h.rule (length (items g h.rule))) h.start h.ended in
-          let it : Item = record { state = h.ended.0; origin = h.start } in
-          let at = get_of (set_at sets h.end) it h.ended.2 in (
-            h.end,
-            lt,
-            (
-              at.0,
-              slice_get_within (set_at sets h.end) at.0 it at.1,
-              it,
-              at.1,
-              record {
-                place = at_dot h.rule (length (items g h.rule));
-                numbered = h.ended.1;
-                plain = refl;
-                whole = refl;
-                is = h.is ∙ ap (λ n. (key_at (Whole n) h.start h.end, h.rule)) (sym h.of.1);
-              },
-            ),
-          )
+          let is : c ≡ (key_at (Whole (rule_of g h.rule).non) h.start h.end, h.rule) = h.is ∙ ap (λ n. (key_at (Whole n) h.start h.end, h.rule)) (sym h.of.1) in
+          in_sets (WholeAt g) c h.end h.start (at_dot h.rule (length (items g h.rule))) h.ended (record { place = at_dot h.rule (length (items g h.rule)); numbered = h.ended.1; plain = refl; whole = refl; is = is })
 
   module _ (wholes : List Candidate) (all : HasAllOf (WholeCandidate g has) wholes) (calls : List (Call × ℕ)) (called : AreCallsOf wholes calls) where
     none_whole : (n m : ℕ) → Whole n ≡ Whole m → n ≡ m
@@ -124,84 +127,29 @@ module _ (g : Grammar) (w : List ℕ) (sets : List (List Item)) (chart : IsChart
     fronts_marked candidates fronts = all_same (InSets (FrontFrom g w calls) sets (length sets)) (FrontCandidate g w has) candidates to from fronts
       where
         to : (c : Candidate) → InSets (FrontFrom g w calls) sets (length sets) c → FrontCandidate g w has c
-        to c (j, lt, (k, below, it, at, p)) = record {
-          rule = p.place.rule;
-          dot = p.place.dot;
-          start = it.origin;
-          end = p.end;
-          split = j;
-          item = p.item;
-          is = p.is;
-          later = p.later;
-          searched = p.searched;
-          at = p.at;
-          before = subst (λ (z : Place). has j z it.origin) (sym (as_dot p.place p.plain)) (item_has j k it p.place at p.numbered);
-          last = ends_over p.item j p.end p.last;
-        }
+        to c (j, lt, (k, below, it, at, p)) =
+            let before = subst (λ (z : Place). has j z it.origin) (sym (as_dot p.place p.plain)) (item_has j k it p.place at p.numbered) in
+            record { rule = p.place.rule; dot = p.place.dot; start = it.origin; end = p.end; split = j; item = p.item; is = p.is; later = p.later; searched = p.searched; at = p.at; before = before; last = ends_over p.item j p.end p.last }
 
         from : (c : Candidate) → FrontCandidate g w has c → InSets (FrontFrom g w calls) sets (length sets) c
         from c h =
-            let lt = set_within h.split (at_dot h.rule h.dot) h.start h.before in
-            let it : Item = record { state = h.before.0; origin = h.start } in
-            let at = get_of (set_at sets h.split) it h.before.2 in (
-              h.split,
-              lt,
-              (
-                at.0,
-                slice_get_within (set_at sets h.split) at.0 it at.1,
-                it,
-                at.1,
-                record {
-                  place = at_dot h.rule h.dot;
-                  numbered = h.before.1;
-                  plain = refl;
-                  item = h.item;
-                  later = h.later;
-                  searched = h.searched;
-                  at = h.at;
-                  end = h.end;
-                  last = over_ends h.item h.split h.end h.last;
-                  is = h.is;
-                },
-              ),
-            )
+            let last = over_ends h.item h.split h.end h.last in
+            in_sets (FrontFrom g w calls) c h.split h.start (at_dot h.rule h.dot) h.before (record { place = at_dot h.rule h.dot; numbered = h.before.1; plain = refl; item = h.item; later = h.later; searched = h.searched; at = h.at; end = h.end; last = last; is = h.is })
 
   -- by what stands
-  finished_stands : (n i j : ℕ) → IsFinished g has n i j → IsFinished g (stands_at g w) n i j
-  finished_stands n i j (q, of, ended) = (q, of, chart_all_stand g w sets chart (at_dot q (length (items g q))) i j ended)
+  stand : (j : ℕ) (c : Place) (i : ℕ) → has j c i → stands_at g w j c i
+  stand j c i h = chart_all_stand g w sets chart c i j h
 
-  finished_has : (n i j : ℕ) → IsFinished g (stands_at g w) n i j → IsFinished g has n i j
-  finished_has n i j (q, of, ended) = (q, of, chart_has_all g w sets chart (at_dot q (length (items g q))) i j ended)
-
-  over_stands : (item : GItem) (m j : ℕ) → ItemOver g w has item m j → ItemOver g w (stands_at g w) item m j
-  over_stands (Fixed v) m j h = h
-  over_stands (Term t s) m j h = h
-  over_stands (Skip k) m j h = h
-  over_stands (Non n s) m j h = finished_stands n m j h
-
-  over_has : (item : GItem) (m j : ℕ) → ItemOver g w (stands_at g w) item m j → ItemOver g w has item m j
-  over_has (Fixed v) m j h = h
-  over_has (Term t s) m j h = h
-  over_has (Skip k) m j h = h
-  over_has (Non n s) m j h = finished_has n m j h
-
-  whole_stands : (c : Candidate) → WholeCandidate g has c → WholeCandidate g (stands_at g w) c
-  whole_stands c h = record { non = h.non; rule = h.rule; start = h.start; end = h.end; is = h.is; of = h.of; ended = chart_all_stand g w sets chart (at_dot h.rule (length (items g h.rule))) h.start h.end h.ended }
-
-  whole_has : (c : Candidate) → WholeCandidate g (stands_at g w) c → WholeCandidate g has c
-  whole_has c h = record { non = h.non; rule = h.rule; start = h.start; end = h.end; is = h.is; of = h.of; ended = chart_has_all g w sets chart (at_dot h.rule (length (items g h.rule))) h.start h.end h.ended }
-
-  front_stands : (c : Candidate) → FrontCandidate g w has c → FrontCandidate g w (stands_at g w) c
-  front_stands c h = record { rule = h.rule; dot = h.dot; start = h.start; end = h.end; split = h.split; item = h.item; is = h.is; later = h.later; searched = h.searched; at = h.at; before = chart_all_stand g w sets chart (at_dot h.rule h.dot) h.start h.split h.before; last = over_stands h.item h.split h.end h.last }
-
-  front_has : (c : Candidate) → FrontCandidate g w (stands_at g w) c → FrontCandidate g w has c
-  front_has c h = record { rule = h.rule; dot = h.dot; start = h.start; end = h.end; split = h.split; item = h.item; is = h.is; later = h.later; searched = h.searched; at = h.at; before = chart_has_all g w sets chart (at_dot h.rule h.dot) h.start h.split h.before; last = over_has h.item h.split h.end h.last }
+  have : (j : ℕ) (c : Place) (i : ℕ) → stands_at g w j c i → has j c i
+  have j c i h = chart_has_all g w sets chart c i j h
 
   pub wholes_stand : (marks : List Candidate) → HasAllOf (InSets (WholeAt g) sets (length sets)) marks → HasAllOf (WholeCandidate g (stands_at g w)) marks
-  wholes_stand marks all = all_same (WholeCandidate g has) (WholeCandidate g (stands_at g w)) marks whole_stands whole_has (wholes_marked marks all)
+  wholes_stand marks all = all_same (WholeCandidate g has) (WholeCandidate g (stands_at g w)) marks (whole_also g w has (stands_at g w) stand) (whole_also g w (stands_at g w) has have) (wholes_marked marks all)
 
   pub fronts_stand : (wholes : List Candidate) → HasAllOf (WholeCandidate g (stands_at g w)) wholes → (calls : List (Call × ℕ)) → AreCallsOf wholes calls → (marks : List Candidate) → HasAllOf (InSets (FrontFrom g w calls) sets (length sets)) marks → HasAllOf (FrontCandidate g w (stands_at g w)) marks
-  fronts_stand wholes all calls called marks fronts = all_same (FrontCandidate g w has) (FrontCandidate g w (stands_at g w)) marks front_stands front_has (fronts_marked wholes (all_same (WholeCandidate g (stands_at g w)) (WholeCandidate g has) wholes whole_has whole_stands all) calls called marks fronts)
+  fronts_stand wholes all calls called marks fronts =
+      let charted = all_same (WholeCandidate g (stands_at g w)) (WholeCandidate g has) wholes (whole_also g w (stands_at g w) has have) (whole_also g w has (stands_at g w) stand) all in
+      all_same (FrontCandidate g w has) (FrontCandidate g w (stands_at g w)) marks (front_also g w has (stands_at g w) stand) (front_also g w (stands_at g w) has have) (fronts_marked wholes charted calls called marks fronts)
 
 -- a document of the language has the label of its start
 pub start_label : (g : Grammar) (w : List ℕ) → InLang g w → IsLabel g w (key_at (Whole g.start) 0 (length w))

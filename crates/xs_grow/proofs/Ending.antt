@@ -1,8 +1,8 @@
 -- Where an item may end that begins at a place of the document.
 use Rattle.std.proofs.Common.{◌≡◌, ◌⊎◌, ◌↔◌, ℕ, zero, suc, ◌+◌, ◌<◌, ◌≤◌, Bool, true, false, List, [], ◌∷◌, length, take, slice_get, Some, refl, sym, ap, ◌∙◌, subst, arith, inl, inr, true≢false}
-use Rattle.std.specs.Prelude.{Contains, IsTrue, slice_range}
+use Rattle.std.specs.Prelude.{IsTrue, slice_range}
 use Rattle.std.proofs.lemmas.Option.{none-some, same_Some}
-use Rattle.xs_gram.specs.declared.parts.GItem.TheVariants.{Term, Non, Skip}
+use Rattle.xs_gram.specs.declared.parts.GItem.TheVariants.{Term, Skip}
 use Rattle.xs_gram.specs.Grammar.{Grammar, term_of, skip_of, ItemAt}
 use Rattle.xs_gram.specs.Sound.{IsBuilt}
 use Rattle.xs_chart_laws.specs.Reading.{Reads}

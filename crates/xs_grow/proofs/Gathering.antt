@@ -13,15 +13,12 @@ use Rattle.xs_gram.specs.Places.{at_dot}
 use Rattle.xs_gram.proofs.Numbers.{place_once, as_dot}
 use Rattle.xs_chart_laws.specs.Charts.{IsNumber, set_at}
 use Rattle.xs_chart_laws.proofs.Numbers.{one_place}
-use Rattle.xs_chart_laws.proofs.Words.{get_lt}
-use Rattle.xs_forest_laws.specs.declared.span.SpanKey.{SpanKey}
 use Rattle.xs_forest_laws.specs.declared.span.What.{What}
 use Rattle.xs_forest_laws.specs.declared.span.What.TheVariants.{Whole, Front}
 use Rattle.xs_forest_laws.specs.Forest.{key_at}
 use Rattle.xs_grow.specs.declared.call.Call.{Call}
 use Rattle.xs_grow.specs.Lists.{AreOnce, HasAllOf, Appends}
-use Rattle.xs_grow.specs.Marked.{IsFirst, IsAgain}
-use Rattle.xs_grow.specs.Candidates.{Candidate, call_at, WholeAt, IsSearched, IsLater, EndsAt, FrontFrom, InSet, InSets, CallIn, called, IsCallPushed}
+use Rattle.xs_grow.specs.Candidates.{Candidate, call_at, WholeAt, IsSearched, IsLater, EndsAt, FrontFrom, InSet, InSets, CallIn, IsCallPushed}
 use Rattle.xs_grow.proofs.ListLemmas.{all_none, all_push, all_same, appends_none, appends_one, appends_more}
 
 module _ (P : ℕ → Item → Candidate → Type 0) (sets : List (List Item)) where

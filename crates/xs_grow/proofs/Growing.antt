@@ -1,13 +1,13 @@
 -- A row that is made of the numbers of its label fits the grown forest, and the finished forest is the document's.
-use Rattle.std.proofs.Common.{◌≡◌, ◌⊎◌, ℕ, zero, suc, ◌-◌, ◌<◌, ◌≤◌, List, [], ◌∷◌, ◌++◌, length, slice_get, Option, None, Some, refl, sym, ap, ◌∙◌, subst, arith, inl, inr, append-nil, append_assoc, length-append}
-use Rattle.std.specs.Prelude.{Contains, slice_index_or}
+use Rattle.std.proofs.Common.{◌≡◌, ℕ, zero, suc, ◌-◌, ◌<◌, ◌≤◌, List, [], ◌∷◌, ◌++◌, length, slice_get, Option, Some, refl, sym, ap, ◌∙◌, subst, arith, inl, inr, append-nil, append_assoc, length-append}
+use Rattle.std.specs.Prelude.{Contains, MatchOption, slice_index_or}
 use Rattle.std.proofs.lemmas.List.Elements.{All-nil, All-append}
 use Rattle.std.proofs.lemmas.Option.{none-some, same_Some, slice_get_within}
 use Rattle.xs_class.proofs.Lists.{get_of, contains_of, one_longer, get_left, get_last, get_push}
 use Rattle.xs_gram.specs.declared.parts.GItem.{GItem}
 use Rattle.xs_gram.specs.declared.parts.GItem.TheVariants.{Fixed, Term, Non, Skip}
 use Rattle.xs_gram.specs.declared.places.Place.{Place}
-use Rattle.xs_gram.specs.Grammar.{Grammar, items, IsRuleOf, ItemAt}
+use Rattle.xs_gram.specs.Grammar.{Grammar, items, ItemAt}
 use Rattle.xs_gram.specs.Places.{at_dot}
 use Rattle.xs_chart_laws.proofs.Words.{get_some}
 use Rattle.xs_forest.specs.declared.row.Alt.{Alt}
@@ -25,7 +25,7 @@ use Rattle.xs_forest_laws.proofs.Rows.{row_at, alts_earlier}
 use Rattle.xs_forest_laws.proofs.Placed.{empty_at}
 use Rattle.xs_forest_laws.proofs.Grows.{grown_is_right}
 use Rattle.xs_forest_laws.proofs.Root.{exact as root_exact}
-use Rattle.xs_grow.specs.Making.{stands_at, IsLabel, IsNumberOf, AreNumbersOf, IsFront, IsItem, IsMade, AreMade, Misses}
+use Rattle.xs_grow.specs.Making.{stands_at, IsLabel, IsNumberOf, AreNumbersOf, IsRowOf, front_label, item_label, IsMade, AreMade, Misses}
 use Rattle.xs_grow.proofs.Numbering.{exact}
 
 -- the row of a label
@@ -89,27 +89,66 @@ misses_done g w P a b h le = go h.more h.is h.done
     go [] e p = (p refl, e ∙ append-nil a)
     go (x ∷ more) e p = let l = ap length e in let m = length-append a (x ∷ more) in absurd (omega arith)
 
--- the alternative of a front, by the rows of its children
-pub front_made : (g : Grammar) (w : List ℕ) (f : Forest) (x : What) (p dot i j m : ℕ) (items' : List GItem) (item : GItem) (left right : Option ℕ) → x ≡ Front p dot → IsNumberOf g w (stands_at g w) x i j m → items' ≡ items g p → item ≡ slice_index_or items' (dot - 1) item → IsFront f p (dot - 1) i m left → IsItem f item m j right → IsMade g f x i j m (record { rule = p; left = left; right = right })
-front_made g w f x p dot i j m items' item left right e number same is front last = subst (λ z. IsMade g f z i j m (record { rule = p; left = left; right = right })) (sym e) (go dot (subst (λ z. IsNumberOf g w (stands_at g w) z i j m) e number) is front)
-  where
-    go : (dot : ℕ) → IsNumberOf g w (stands_at g w) (Front p dot) i j m → item ≡ slice_index_or items' (dot - 1) item → IsFront f p (dot - 1) i m left → IsMade g f (Front p dot) i j m (record { rule = p; left = left; right = right })
-    go zero h is front = absurd h
-    go (suc d) (other, at, before, over) is front =
-        let one : suc d - 1 ≡ d = omega arith in
-        let there : item ≡ other = is ∙ (ap (λ z. slice_index_or items' z item) one ∙ ap (λ (z : List GItem). slice_index_or z d item) same ∙ get_or_is (items g p) d other item at) in
-        (refl, subst (λ z. IsFront f p z i m left) one front, subst (λ z. IsItem f z m j right) (there ∙ sym (get_or_is (items g p) d other (Skip zero) at)) last)
+-- first items that stand have their label
+front_is : (g : Grammar) (w : List ℕ) (p d i j : ℕ) → stands_at g w j (at_dot p d) i → MatchOption (front_label p d i j) (Unit {0}) (IsLabel g w)
+front_is g w p zero i j h = tt
+front_is g w p (suc d) i j h = (omega arith, h)
+
+-- and so has an item over its stretch
+item_is : (g : Grammar) (w : List ℕ) (item : GItem) (m j : ℕ) → ItemOver g w (stands_at g w) item m j → MatchOption (item_label item m j) (Unit {0}) (IsLabel g w)
+item_is g w (Fixed v) m j h = tt
+item_is g w (Term t s) m j h = tt
+item_is g w (Skip k) m j h = tt
+item_is g w (Non n s) m j h = h
+
+-- the labels and the alternative of first items, whose last item is read
+module _ (g : Grammar) (w : List ℕ) (x : What) (p dot i j m : ℕ) (front : x ≡ Front p dot) (number : IsNumberOf g w (stands_at g w) x i j m) (items' : List GItem) (same : items' ≡ items g p) (item : GItem) (read : item ≡ slice_index_or items' (dot - 1) item) where
+  -- the number stands for a place before the last item
+  pub record IsSplit (d : ℕ) : Type 0 where
+    pub is : dot ≡ suc d
+    pub before : stands_at g w m (at_dot p d) i
+    pub at : ItemAt g p d item
+    pub over : ItemOver g w (stands_at g w) item m j
+
+  split : IsSplit (dot - 1)
+  split = go dot refl (rw front at number)
+    where
+      go : (n : ℕ) → dot ≡ n → IsNumberOf g w (stands_at g w) (Front p n) i j m → IsSplit (dot - 1)
+      go zero e h = absurd h
+      go (suc d) e (other, there, before, over) =
+          let one : d ≡ dot - 1 = omega arith in
+          let there' : ItemAt g p (dot - 1) other = subst (λ k. ItemAt g p k other) one there in
+          let item_same : other ≡ item = sym (read ∙ (ap (λ (z : List GItem). slice_index_or z (dot - 1) item) same ∙ get_or_is (items g p) (dot - 1) other item there')) in
+          record {
+            is = omega arith;
+            before = subst (λ k. stands_at g w m (at_dot p k) i) one before;
+            at = subst (λ z. ItemAt g p (dot - 1) z) item_same there';
+            over = subst (λ z. ItemOver g w (stands_at g w) z m j) item_same over;
+          }
+
+  pub before_label : (label : Option SpanKey) → label ≡ front_label p (dot - 1) i m → MatchOption label (Unit {0}) (IsLabel g w)
+  before_label label is = rw is (front_is g w p (dot - 1) i m split.before)
+
+  pub last_label : (label : Option SpanKey) → label ≡ item_label item m j → MatchOption label (Unit {0}) (IsLabel g w)
+  last_label label is = rw is (item_is g w item m j split.over)
+
+  pub front_made : (f : Forest) (before last : Option SpanKey) (left right : Option ℕ) → before ≡ front_label p (dot - 1) i m → last ≡ item_label item m j → IsRowOf f before left → IsRowOf f last right → IsMade g f x i j m (record { rule = p; left = left; right = right })
+  front_made f before last left right before_is last_is a b =
+      let left_row : IsRowOf f (front_label p (dot - 1) i m) left = subst (λ l. IsRowOf f l left) before_is a in
+      let right_row : IsRowOf f (item_label item m j) right = subst (λ l. IsRowOf f l right) last_is b in
+      let right_row' : IsRowOf f (item_label (item_of g p (dot - 1)) m j) right = subst (λ z. IsRowOf f (item_label z m j) right) (sym (get_or_is (items g p) (dot - 1) item (Skip zero) split.at)) right_row in
+      rw (front, split.is) (refl, left_row, right_row')
 
 module _ (g : Grammar) (w : List ℕ) (f : Forest) where
   abbrev has : ℕ → Place → ℕ → Type 0
   has = stands_at g w
 
   -- the children of an alternative are the rows of their labels
-  front_at : (p d i j : ℕ) (o : Option ℕ) → IsFront f p d i j o → has j (at_dot p d) i → FrontAt f p d i j o
+  front_at : (p d i j : ℕ) (o : Option ℕ) → IsRowOf f (front_label p d i j) o → has j (at_dot p d) i → FrontAt f p d i j o
   front_at p zero i j o h there = (h, empty_at g w has (exact g w) p i j there)
   front_at p (suc d) i j o (r, e, row) there = (r, e, label_row f r (Front p (suc d)) i j row)
 
-  item_row : (item : GItem) (m j : ℕ) (o : Option ℕ) → IsItem f item m j o → ItemRow f item m j o
+  item_row : (item : GItem) (m j : ℕ) (o : Option ℕ) → IsRowOf f (item_label item m j) o → ItemRow f item m j o
   item_row (Fixed v) m j o h = h
   item_row (Term t s) m j o h = h
   item_row (Skip k) m j o h = h
@@ -121,7 +160,7 @@ module _ (g : Grammar) (w : List ℕ) (f : Forest) where
   front_by : (p d i j m : ℕ) (item : GItem) (a : Alt) → ItemAt g p d item → has m (at_dot p d) i → ItemOver g w has item m j → IsMade g f (Front p (suc d)) i j m a → FrontBy g w has f p d i j m item a
   front_by p d i j m item a at before last made =
       let same : item_of g p d ≡ item = get_or_is (items g p) d item (Skip zero) at in
-      record { rule_is = made.0; item_is = at; before = before; last = last; left_is = front_at p d i m a.left made.1 before; right_is = item_row item m j a.right (subst (λ z. IsItem f z m j a.right) same made.2) }
+      record { rule_is = made.0; item_is = at; before = before; last = last; left_is = front_at p d i m a.left made.1 before; right_is = item_row item m j a.right (subst (λ z. IsRowOf f (item_label z m j) a.right) same made.2) }
 
   alt_by : (x : What) (i j n : ℕ) (a : Alt) → IsNumberOf g w has x i j n → IsMade g f x i j n a → IsAltBy g w has f x i j a
   alt_by (Whole m) i j n a h made = subst (λ z. WholeBy g has f m i j z a) (sym made.0) (whole_by m i j n a h made)

@@ -9,6 +9,8 @@ use Rattle.xs_gram.specs.declared.parts.GItem.TheVariants.{Fixed, Term, Non, Ski
 use Rattle.xs_gram.specs.declared.places.Place.{Place}
 use Rattle.xs_gram.specs.Grammar.{Grammar, rule_of, items, IsRuleOf, ItemAt, IsTermWord, IsSkipWord}
 use Rattle.xs_gram.specs.Places.{at_dot, all_places}
+use Rattle.xs_gram.specs.Sound.{IsBuilt}
+use Rattle.xs_chart.specs.Charted.{set_limit}
 use Rattle.xs_chart_laws.specs.Reading.{Reads}
 use Rattle.xs_chart_laws.specs.Charts.{IsNumber, set_at}
 use Rattle.xs_forest_laws.specs.declared.span.SpanKey.{SpanKey}
@@ -16,7 +18,7 @@ use Rattle.xs_forest_laws.specs.declared.span.What.TheVariants.{Whole, Front}
 use Rattle.xs_forest_laws.specs.Forest.{key_at}
 use Rattle.xs_forest_laws.specs.Grown.{ItemOver}
 use Rattle.xs_grow.specs.declared.call.Call.{Call}
-use Rattle.xs_grow.specs.Lists.{HasAllOf}
+use Rattle.xs_grow.specs.Lists.{AreOnce, HasAllOf}
 use Rattle.xs_grow.specs.Marked.{IsFirst, IsAgain}
 
 -- a label, and a number that belongs to it
@@ -66,6 +68,12 @@ pub record WholeAt (g : Grammar) (j : ℕ) (it : Item) (c : Candidate) : Type 0 
   pub plain : place.inside ≡ None
   pub whole : place.dot ≡ length (items g place.rule)
   pub is : c ≡ (key_at (Whole (rule_of g place.rule).non) it.origin j, place.rule)
+
+-- the ends of items can be looked for: the grammar is built, the document is short, and no call is noted twice
+pub record CanEnd (g : Grammar) (w : List ℕ) (calls : List (Call × ℕ)) : Type 0 where
+  pub built : IsBuilt g
+  pub once : AreOnce calls
+  pub short : length w < set_limit
 
 -- where the item, begun at place m, ends: a nonterminal at one of the places that its call has
 abbrev pub EndsAt : Grammar → List ℕ → List (Call × ℕ) → GItem → ℕ → ℕ → Type 0

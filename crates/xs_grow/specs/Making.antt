@@ -1,6 +1,6 @@
 -- What the rows of a forest are made of: for each label the numbers that stand for its alternatives, and for
 -- each number the alternative with the rows of its children.
-use Rattle.std.specs.Prelude.{◌≡◌, ◌⊎◌, ℕ, zero, suc, ◌<◌, List, [], ◌∷◌, ◌++◌, length, All, None, Some, slice_get, MatchOption}
+use Rattle.std.specs.Prelude.{◌≡◌, ℕ, zero, suc, ◌<◌, List, [], ◌++◌, length, All, None, Some, slice_get}
 use Rattle.std.specs.declared.option.Option.{Option}
 use Rattle.xs_gram.specs.declared.parts.GItem.{GItem}
 use Rattle.xs_gram.specs.declared.parts.GItem.TheVariants.{Fixed, Term, Non, Skip}
@@ -47,23 +47,28 @@ pub record IsSource (s : Source) : Type 0 where
   pub wholes : HasAllOf (WholeCandidate s.g.now (stands_at s.g.now s.doc.now)) s.wholes.now
   pub splits : HasAllOf (FrontCandidate s.g.now s.doc.now (stands_at s.g.now s.doc.now)) s.splits.now
 
--- o is the row of the first d items of rule p over the stretch, and no row where d is 0
-abbrev pub IsFront : Forest → ℕ → ℕ → ℕ → ℕ → Option ℕ → Type 0
-IsFront f p zero i j o = o ≡ None
-IsFront f p (suc d) i j o = (r : ℕ) × (o ≡ Some r) × HasLabel f r (key_at (Front p (suc d)) i j)
+-- the label of the first d items of rule p over the stretch, and no label where d is 0
+abbrev pub front_label : ℕ → ℕ → ℕ → ℕ → Option SpanKey
+front_label p zero i j = None
+front_label p (suc d) i j = Some (key_at (Front p (suc d)) i j)
 
--- o is the row of the item over the stretch where it is a nonterminal, and else no row
-abbrev pub IsItem : Forest → GItem → ℕ → ℕ → Option ℕ → Type 0
-IsItem f (Fixed v) i j o = o ≡ None
-IsItem f (Term t s) i j o = o ≡ None
-IsItem f (Skip k) i j o = o ≡ None
-IsItem f (Non n s) i j o = (r : ℕ) × (o ≡ Some r) × HasLabel f r (key_at (Whole n) i j)
+-- the label of the item over the stretch where it is a nonterminal, and else no label
+abbrev pub item_label : GItem → ℕ → ℕ → Option SpanKey
+item_label (Fixed v) i j = None
+item_label (Term t s) i j = None
+item_label (Skip k) i j = None
+item_label (Non n s) i j = Some (key_at (Whole n) i j)
+
+-- o is the row of the label, and no row where there is no label
+abbrev pub IsRowOf : Forest → Option SpanKey → Option ℕ → Type 0
+IsRowOf f None o = o ≡ None
+IsRowOf f (Some key) o = (r : ℕ) × (o ≡ Some r) × HasLabel f r key
 
 -- the alternative that a number of the label stands for
 abbrev pub IsMade : Grammar → Forest → What → ℕ → ℕ → ℕ → Alt → Type 0
-IsMade g f (Whole n) i j q a = (a.rule ≡ q) × IsFront f q (length (items g q)) i j a.left × (a.right ≡ None)
+IsMade g f (Whole n) i j q a = (a.rule ≡ q) × IsRowOf f (front_label q (length (items g q)) i j) a.left × (a.right ≡ None)
 IsMade g f (Front p zero) i j m a = ⊥
-IsMade g f (Front p (suc d)) i j m a = (a.rule ≡ p) × IsFront f p d i m a.left × IsItem f (item_of g p d) m j a.right
+IsMade g f (Front p (suc d)) i j m a = (a.rule ≡ p) × IsRowOf f (front_label p d i m) a.left × IsRowOf f (item_label (item_of g p d) m j) a.right
 
 -- the alternatives that the numbers stand for, in their order
 pub record AreMade (g : Grammar) (f : Forest) (key : SpanKey) (numbers : List ℕ) (alts : List Alt) : Type 0 where

@@ -1,9 +1,9 @@
 ghost use Rattle.std.specs.Prelude.{◌↔◌, ◌<◌, ◌≤◌, ◌+◌, ℕ, length, IfOk, IsTrue};
 ghost use Rattle.xs_chart.specs.{set_limit};
-ghost use Rattle.xs_gram.specs.{IsBuilt, ItemAt};
+ghost use Rattle.xs_gram.specs.{ItemAt};
 ghost use Rattle.xs_chart_laws.specs.{Reads};
-ghost use Rattle.xs_grow.specs.Lists.{AreOnce, HasAllOf};
-ghost use Rattle.xs_grow.specs.Candidates.{EndsAt};
+ghost use Rattle.xs_grow.specs.Lists.{HasAllOf};
+ghost use Rattle.xs_grow.specs.Candidates.{CanEnd, EndsAt};
 
 use crate::call::Call;
 use crate::marks::Marks;
@@ -50,10 +50,8 @@ pub(crate) fn ends_of(
     item: &GItem,
     at: u32,
 ) -> Result<Vec<u32>, Memory>
-    requires built { IsBuilt g.now }
+    requires ends { CanEnd g.now doc.now calls.now }
     requires item { (p : ℕ) × (n : ℕ) × ItemAt g.now p n item.now }
-    requires once { AreOnce calls.now }
-    requires short { length doc.now < set_limit }
     requires within { at ≤ length doc.now }
     ensures { IfOk result (λ ends. HasAllOf (EndsAt g.now doc.now calls.now item.now at) ends.items) }
 {

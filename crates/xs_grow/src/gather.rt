@@ -1,10 +1,9 @@
 ghost use Rattle.std.specs.Prelude.{◌≡◌, ◌↔◌, ◌<◌, ◌≤◌, ℕ, ◌++◌, ◌+◌, None, length, map, OnOk, IsTrue, MatchBool};
-ghost use Rattle.xs_chart.specs.{set_limit};
-ghost use Rattle.xs_gram.specs.{IsBuilt, items, all_places, IsPlace};
+ghost use Rattle.xs_gram.specs.{items, all_places, IsPlace};
 ghost use Rattle.xs_chart_laws.specs.{set_at};
 ghost use Rattle.xs_forest_laws.specs.{key_at};
-ghost use Rattle.xs_grow.specs.Lists.{AreOnce, Appends};
-ghost use Rattle.xs_grow.specs.Candidates.{WholeAt, FrontFrom, InSet, InSets, IsLater, HasPlaces};
+ghost use Rattle.xs_grow.specs.Lists.{Appends};
+ghost use Rattle.xs_grow.specs.Candidates.{CanEnd, WholeAt, FrontFrom, InSet, InSets, IsLater, HasPlaces};
 
 use crate::call::Call;
 use crate::ends::ends_of;
@@ -148,9 +147,7 @@ fn fronts_at(
     item: Item,
     candidates: &mut Marks<SpanKey>,
 ) -> Result<(), Memory>
-    requires built { IsBuilt g.now }
-    requires once { AreOnce calls.now }
-    requires short { length doc.now < set_limit }
+    requires ends { CanEnd g.now doc.now calls.now }
     requires within { set ≤ length doc.now }
     requires place { item.state < length (all_places g.now) }
     ensures { OnOk result (Appends (FrontFrom g.now doc.now calls.now set item) candidates.old candidates.new) }
@@ -184,9 +181,7 @@ fn fronts_in(
     set: u32,
     candidates: &mut Marks<SpanKey>,
 ) -> Result<(), Memory>
-    requires built { IsBuilt g.now }
-    requires once { AreOnce calls.now }
-    requires short { length doc.now < set_limit }
+    requires ends { CanEnd g.now doc.now calls.now }
     requires within { set ≤ length doc.now }
     requires set { set < length chart.now.sets }
     requires places { HasPlaces g.now chart.now.sets }
@@ -208,9 +203,7 @@ pub(crate) fn fronts(
     calls: &Marks<Call>,
     candidates: &mut Marks<SpanKey>,
 ) -> Result<(), Memory>
-    requires built { IsBuilt g.now }
-    requires once { AreOnce calls.now }
-    requires short { length doc.now < set_limit }
+    requires ends { CanEnd g.now doc.now calls.now }
     requires counted { length chart.now.sets ≤ length doc.now + 1 }
     requires places { HasPlaces g.now chart.now.sets }
     ensures { OnOk result (Appends (InSets (FrontFrom g.now doc.now calls.now) chart.now.sets (length chart.now.sets)) candidates.old candidates.new) }

@@ -1,8 +1,7 @@
 ghost use Rattle.std.specs.Prelude.{◌≡◌, ◌⊎◌, ◌<◌, ◌++◌, ◌∷◌, [], ℕ, zero, suc, None, Some, length, Contains, IfOk, OnOk, MatchOption};
-ghost use Rattle.xs_gram.specs.{at_dot};
 ghost use Rattle.xs_forest.specs.{HasLabel};
-ghost use Rattle.xs_forest_laws.specs.{IsRow, item_of, IsGrown, ItemOver};
-ghost use Rattle.xs_grow.specs.Making.{stands_at, IsSource, IsLabel, IsNumberOf, AreNumbersOf, IsFront, IsItem, IsMade, AreMade, Misses};
+ghost use Rattle.xs_forest_laws.specs.{IsRow, item_of, IsGrown};
+ghost use Rattle.xs_grow.specs.Making.{stands_at, IsSource, IsLabel, IsNumberOf, AreNumbersOf, IsRowOf, front_label, item_label, IsMade, AreMade, Misses};
 
 use crate::numbers::numbers_of;
 use crate::source::Source;
@@ -11,17 +10,20 @@ use xs_forest::{AddFault, Alt, Builder};
 use xs_forest_laws::{SpanKey, What};
 use xs_gram::{GItem, Gram};
 
-/// The row of a label, which is missing where there is none.
+/// The row of a label, if there is one, which is missing where it has no row.
 #[inline(always)]
 fn child(
     source: &Source<'_>,
     forest: &Builder<SpanKey>,
-    key: SpanKey,
+    label: Option<SpanKey>,
     missing: &mut Vec<SpanKey>,
 ) -> Result<Option<u32>, Memory>
-    requires { IsLabel source.now.g.now source.now.doc.now key }
-    ensures { IfOk result (λ row. Misses source.now.g.now source.now.doc.now ((r : ℕ) × (row ≡ Some r) × HasLabel forest.now r key) missing.old.items missing.new.items) }
+    requires { MatchOption label (Unit {0}) (IsLabel source.now.g.now source.now.doc.now) }
+    ensures { IfOk result (λ row. Misses source.now.g.now source.now.doc.now (IsRowOf forest.now label row) missing.old.items missing.new.items) }
 {
+    let Some(key) = label else {
+        return Ok(None);
+    };
     match forest.find(key) {
         Some(row) => Ok(Some(row)),
         None => {
@@ -31,54 +33,31 @@ fn child(
     }
 }
 
-/// The row of the first `dot` items of a rule over a stretch, none where there are none.
-fn front_row(
-    source: &Source<'_>,
-    forest: &Builder<SpanKey>,
-    rule: u32,
-    dot: u32,
-    start: u32,
-    end: u32,
-    missing: &mut Vec<SpanKey>,
-) -> Result<Option<u32>, Memory>
-    requires { stands_at source.now.g.now source.now.doc.now end (at_dot rule dot) start }
-    ensures { IfOk result (λ row. Misses source.now.g.now source.now.doc.now (IsFront forest.now rule dot start end row) missing.old.items missing.new.items) }
+/// The label of the first `dot` items of a rule over a stretch, none where there are none.
+fn front_label(rule: u32, dot: u32, start: u32, end: u32) -> Option<SpanKey>
+    ensures { result ≡ front_label rule dot start end }
 {
     if dot == 0 {
-        return Ok(None);
+        return None;
     }
-    let key = SpanKey {
+    Some(SpanKey {
         what: What::Front { rule, dot },
         start,
         end,
-    };
-    let row = child(source, forest, key, missing)?;
-    Ok(row)
+    })
 }
 
-/// The row of an item over a stretch, none where it is no nonterminal.
-fn item_row(
-    source: &Source<'_>,
-    forest: &Builder<SpanKey>,
-    item: &GItem,
-    start: u32,
-    end: u32,
-    missing: &mut Vec<SpanKey>,
-) -> Result<Option<u32>, Memory>
-    requires { ItemOver source.now.g.now source.now.doc.now (stands_at source.now.g.now source.now.doc.now) item.now start end }
-    ensures { IfOk result (λ row. Misses source.now.g.now source.now.doc.now (IsItem forest.now item.now start end row) missing.old.items missing.new.items) }
+/// The label of an item over a stretch, none where it is no nonterminal.
+fn item_label(item: &GItem, start: u32, end: u32) -> Option<SpanKey>
+    ensures { result ≡ item_label item.now start end }
 {
     match item {
-        GItem::Fixed(_) | GItem::Term { .. } | GItem::Skip { .. } => Ok(None),
-        GItem::Non { non, .. } => {
-            let key = SpanKey {
-                what: What::Whole(*non),
-                start,
-                end,
-            };
-            let row = child(source, forest, key, missing)?;
-            Ok(row)
-        }
+        GItem::Fixed(_) | GItem::Term { .. } | GItem::Skip { .. } => None,
+        GItem::Non { non, .. } => Some(SpanKey {
+            what: What::Whole(*non),
+            start,
+            end,
+        }),
     }
 }
 
@@ -98,7 +77,8 @@ fn alternative(
     match key.what {
         What::Whole(_) => {
             let dot = source.g.items(number).len() as u32;
-            let left = front_row(source, forest, number, dot, key.start, key.end, missing)?;
+            let label = front_label(number, dot, key.start, key.end);
+            let left = child(source, forest, label, missing)?;
             Ok(Alt {
                 rule: number,
                 left,
@@ -108,8 +88,10 @@ fn alternative(
         What::Front { rule, dot } => {
             let before = dot - 1;
             let item = &source.g.items(rule)[before as usize];
-            let left = front_row(source, forest, rule, before, key.start, number, missing)?;
-            let right = item_row(source, forest, item, number, key.end, missing)?;
+            let front = front_label(rule, before, key.start, number);
+            let left = child(source, forest, front, missing)?;
+            let last = item_label(item, number, key.end);
+            let right = child(source, forest, last, missing)?;
             Ok(Alt { rule, left, right })
         }
     }

@@ -1,4 +1,4 @@
-use Rattle.std.proofs.Common.{length, subst, [], List}
+use Rattle.std.proofs.Common.{length, subst, List}
 use Rattle.xs_grow.specs.Lists.{Appends}
 use Rattle.xs_grow.specs.Candidates.{Candidate, FrontFrom, InSets}
 use Rattle.xs_grow.proofs.ListLemmas.{appends_all}

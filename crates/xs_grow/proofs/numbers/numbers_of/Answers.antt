@@ -1,4 +1,4 @@
-use Rattle.std.proofs.Common.{List, ℕ, [], subst}
+use Rattle.std.proofs.Common.{List, ℕ, subst}
 use Rattle.std.specs.Prelude.{Contains}
 use Rattle.xs_grow.specs.Lists.{Appends}
 use Rattle.xs_grow.proofs.Numbering.{whole_of}

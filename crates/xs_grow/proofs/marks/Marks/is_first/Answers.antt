@@ -1,4 +1,4 @@
-use Rattle.std.proofs.Common.{Option, None, Some, subst}
+use Rattle.std.proofs.Common.{None, subst}
 use Rattle.xs_forest.specs.Indexed.{IsLatest}
 use Rattle.xs_grow.proofs.Marking.{mark_label, latest_mark, again}
 use Rattle.xs_grow.proofs.marks.Marks.is_first.Goals as goal

@@ -1,4 +1,4 @@
-use Rattle.std.proofs.Common.{ℕ, suc, zero}
+use Rattle.std.proofs.Common.{suc, zero}
 use Rattle.std.specs.Option.{option_map_or}
 use Rattle.xs_grow.proofs.Marking.{IsDown}
 use Rattle.xs_grow.proofs.marks.Marks.numbers.Given as goal
