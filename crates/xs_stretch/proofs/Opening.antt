@@ -39,17 +39,7 @@ group_first fs once xs rest post k m p at level some = by_level rest level at so
         let a = p.group in
         let both : grouped l inside r (after ++ post) ≡ grouped p.left p.inside p.right a.after = sym (group_more l inside r after post) ∙ ap (λ (x : List GItem). x ++ post) (sym split) ∙ sym e ∙ (group_opened a).0 in
         let o = level_once fs once i a.within f a.fence (cons_parts both).1 in
-        record {
-          left = l;
-          right = r;
-          inside = inside;
-          later = after;
-          fence = f;
-          within = i;
-          level = t;
-          split = split;
-          partner = a.partner ∙ ap (λ (x : List GItem). suc (k + length x)) (sym o.inside);
-        }
+        record { left = l; right = r; inside = inside; later = after; fence = f; within = i; level = t; split = split; partner = a.partner ∙ ap (λ (x : List GItem). suc (k + length x)) (sym o.inside) }
 
 pub item_first : (fs : List (ℕ × ℕ)) (xs rest post : List GItem) (k : ℕ) (i : GItem) → k < length xs → i ≡ get_or xs k i → (IsLeftFence fs xs k → ⊥) → drop k xs ≡ rest ++ post → IsLevel fs rest → 0 < length rest → ItemFirst fs rest i
 item_first fs xs rest post k i low is other at level some = by_front rest level at some

@@ -244,19 +244,7 @@ rule_found {g} {c} {first} {arcs = arcs} (lays_rule {p = p} {k = count} {place =
     ending = within_rest later
 
     here : RuleFound g c first arcs p (λ k. if p == p then body_state body k else rule_state rest p k)
-    here = record {
-      count = count;
-      place = place;
-      last = last;
-      next = next;
-      own = within;
-      members = m;
-      body = body;
-      same = λ k. if_true (p == p) (body_state body k) (rule_state rest p k) (eq_self p);
-      start = within_first later;
-      within = within_left within (pass last (exit_state first count) ∷ []) ending;
-      end = within_first (within_right within ending);
-    }
+    here = record { count = count; place = place; last = last; next = next; own = within; members = m; body = body; same = λ k. if_true (p == p) (body_state body k) (rule_state rest p k) (eq_self p); start = within_first later; within = within_left within (pass last (exit_state first count) ∷ []) ending; end = within_first (within_right within ending) }
 
     by_case : (b : Bool) → (q == p) ≡ b → (q < p → RuleFound g c first (before) q (rule_state rest q)) → RuleFound g c first arcs q (λ k. if q == p then body_state body k else rule_state rest q k)
     by_case true same deeper = subst (λ (n : ℕ). RuleFound g c first arcs n (λ k. if n == p then body_state body k else rule_state rest n k)) (sym (eqb-true q p same)) here

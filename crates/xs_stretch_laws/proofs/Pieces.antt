@@ -235,51 +235,34 @@ module _ (nest : List Group) (k : ℕ) (p : Position) (before first : ℕ) (form
     at_position : (j : ℕ) → a ≡ first + j → j < length p.classes → R.Runs p v j → Gone a v
     at_end : a ≡ after_automaton p first → R.Accepts p v → Gone a v
 
+  -- nothing was read at the state before, and what was read at a position leads to it
+  none_read : (a : ℕ) (v : List ℕ) → before ≡ a → Gone a v → v ≡ []
+  none_read a v from (at_start q n) = n
+  none_read a v from (at_position i q lt run) = absurd (omega (arith, from, q, below))
+  none_read a v from (at_end q acc) = absurd (omega (arith, from, q, below))
+
+  runs_to : (a i : ℕ) (v : List ℕ) → first + i ≡ a → i < length p.classes → Gone a v → R.Runs p v i
+  runs_to a i v from low (at_start q n) = absurd (omega (arith, from, q, below))
+  runs_to a i v from low (at_position m q lt run) = let same : m ≡ i = omega (arith, from, q) in subst (λ (n : ℕ). R.Runs p v n) same run
+  runs_to a i v from low (at_end q acc) = absurd (omega (arith, from, q, low))
+
   gone_on : {a b : ℕ} {v : List ℕ} (u : List ℕ) (label : Label) → Gone a v → AutomatonArc p before first (record { from = a; label = label; to = b }) → Reads nest label u → Gone b (v ++ u)
-  gone_on {a} {b} {v} u label h (leads_in j c e) r = by_place h
-    where
-      from : before ≡ a
-      from = ap (λ (x : Arc). x.from) e
-
-      by_place : Gone a v → Gone b (v ++ u)
-      by_place (at_start q n) =
-          let s = reads_class nest e r in
-          at_position j (sym (ap (λ (x : Arc). x.to) e)) (formed.first_in j c) (R.begins s.0 c (has_class p.classes j s.0 (formed.first_in j c) s.1) (ap (λ (l : List ℕ). l ++ u) n ∙ s.2))
-      by_place (at_position i q lt run) = absurd (omega (arith, from, q, below))
-      by_place (at_end q acc) = absurd (omega (arith, from, q, below))
-  gone_on {a} {b} {v} u label h (leads_on i j l e) r = by_place h
-    where
-      from : first + i ≡ a
-      from = ap (λ (x : Arc). x.from) e
-
-      by_place : Gone a v → Gone b (v ++ u)
-      by_place (at_start q n) = absurd (omega (arith, from, q, below))
-      by_place (at_position m q lt run) =
-          let s = reads_class nest e r in
-          let same : i ≡ m = omega (arith, from, q) in
-          at_position j (sym (ap (λ (x : Arc). x.to) e)) (formed.follow_in i j l) (R.goes v m s.0 run (subst (λ (n : ℕ). R.Leads p n j) same l) (has_class p.classes j s.0 (formed.follow_in i j l) s.1) (ap (λ (x : List ℕ). v ++ x) s.2))
-      by_place (at_end q acc) = let n = row_low p.follow i j l in absurd (omega (arith, from, q, n, formed.rows))
-  gone_on {a} {b} {v} u label h (leads_out i c e) r = by_place h
-    where
-      from : first + i ≡ a
-      from = ap (λ (x : Arc). x.from) e
-
-      by_place : Gone a v → Gone b (v ++ u)
-      by_place (at_start q n) = absurd (omega (arith, from, q, below))
-      by_place (at_position m q lt run) =
-          let same : i ≡ m = omega (arith, from, q) in
-          let stay : v ≡ v ++ u = sym (ap (λ (x : List ℕ). v ++ x) (reads_nothing nest e r) ∙ append-nil v) in
-          at_end (sym (ap (λ (x : Arc). x.to) e)) (inr (m, subst (λ (x : List ℕ). R.Runs p x m) stay run, subst (λ (n : ℕ). Contains p.last n) same c))
-      by_place (at_end q acc) = let n = formed.last_in i c in absurd (omega (arith, from, q, n))
-  gone_on {a} {b} {v} u label h (leads_past n e) r = by_place h
-    where
-      from : before ≡ a
-      from = ap (λ (x : Arc). x.from) e
-
-      by_place : Gone a v → Gone b (v ++ u)
-      by_place (at_start q m) = at_end (sym (ap (λ (x : Arc). x.to) e)) (inl (ap (λ (l : List ℕ). l ++ u) m ∙ reads_nothing nest e r, n))
-      by_place (at_position i q lt run) = absurd (omega (arith, from, q, below))
-      by_place (at_end q acc) = absurd (omega (arith, from, q, below))
+  gone_on {a} {b} {v} u label h (leads_in j c e) r =
+      let s = reads_class nest e r in
+      let none = none_read a v (ap (λ (x : Arc). x.from) e) h in
+      at_position j (sym (ap (λ (x : Arc). x.to) e)) (formed.first_in j c) (R.begins s.0 c (has_class p.classes j s.0 (formed.first_in j c) s.1) (ap (λ (l : List ℕ). l ++ u) none ∙ s.2))
+  gone_on {a} {b} {v} u label h (leads_on i j l e) r =
+      let s = reads_class nest e r in
+      let low : i < length p.classes = let n = row_low p.follow i j l in omega (arith, n, formed.rows) in
+      let run = runs_to a i v (ap (λ (x : Arc). x.from) e) low h in
+      at_position j (sym (ap (λ (x : Arc). x.to) e)) (formed.follow_in i j l) (R.goes v i s.0 run l (has_class p.classes j s.0 (formed.follow_in i j l) s.1) (ap (λ (x : List ℕ). v ++ x) s.2))
+  gone_on {a} {b} {v} u label h (leads_out i c e) r =
+      let run = runs_to a i v (ap (λ (x : Arc). x.from) e) (formed.last_in i c) h in
+      let stay : v ≡ v ++ u = sym (ap (λ (x : List ℕ). v ++ x) (reads_nothing nest e r) ∙ append-nil v) in
+      at_end (sym (ap (λ (x : Arc). x.to) e)) (inr (i, subst (λ (x : List ℕ). R.Runs p x i) stay run, c))
+  gone_on {a} {b} {v} u label h (leads_past n e) r =
+      let none = none_read a v (ap (λ (x : Arc). x.from) e) h in
+      at_end (sym (ap (λ (x : Arc). x.to) e)) (inl (ap (λ (l : List ℕ). l ++ u) none ∙ reads_nothing nest e r, n))
 
   gone_path : {a b : ℕ} {v w : List ℕ} → Gone a v → Path (Short nest k (automaton_arcs p before first)) a w b → Gone b (v ++ w)
   gone_path {a} {v = v} h stays = subst (λ (l : List ℕ). Gone a l) (sym (append-nil v)) h
