@@ -1,4 +1,3 @@
-use std::alloc::{AllocError, AllocFailed};
 use xs_class::Memory;
 
 /// Why a pattern gives no regex.
@@ -16,28 +15,6 @@ impl From<Memory> for RegexFault {
     ghost from_gives = { λ _ e. e ≡ fault.Memory };
 
     fn from(_: Memory) -> Self {
-        RegexFault::Memory
-    }
-}
-
-impl From<AllocError> for RegexFault {
-    ghost use Rattle.std.specs.Prelude.{◌≡◌};
-    ghost use Rattle.xs_regex.specs.declared.fault.RegexFault.TheVariants as fault;
-
-    ghost from_gives = { λ _ e. e ≡ fault.Memory };
-
-    fn from(_: AllocError) -> Self {
-        RegexFault::Memory
-    }
-}
-
-impl<T: Drop> From<AllocFailed<T>> for RegexFault {
-    ghost use Rattle.std.specs.Prelude.{◌≡◌};
-    ghost use Rattle.xs_regex.specs.declared.fault.RegexFault.TheVariants as fault;
-
-    ghost from_gives = { λ _ e. e ≡ fault.Memory };
-
-    fn from(_: AllocFailed<T>) -> Self {
         RegexFault::Memory
     }
 }

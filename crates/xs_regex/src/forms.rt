@@ -1,4 +1,4 @@
-ghost use Rattle.std.specs.Prelude.{List, IfOk};
+ghost use Rattle.std.specs.Prelude.{◌≡◌, ◌∷◌, [], ◌++◌, List, IfOk, OnOk};
 ghost use Rattle.xs_regex.specs.Meaning.{Means, MeanEach, leaning, tree_of};
 ghost use Rattle.xs_regex.specs.Pattern as pattern;
 ghost use Rattle.xs_regex.specs.Pattern.{Tree};
@@ -24,6 +24,14 @@ fn joined(alloc: Global, join: Join, a: Regex, b: Regex) -> Result<Regex, Memory
         Join::Turn => Ok(Regex::Then(first, second)),
         Join::Choice => Ok(Regex::Or(first, second)),
     }
+}
+
+/// Adds a part after the others.
+pub fn push(front: &mut Vec<Regex>, part: Regex) -> Result<(), Memory>
+    ensures items { OnOk result (front.new.items ≡ front.old.items ++ part ∷ []) }
+{
+    front.push(part)?;
+    Ok(())
 }
 
 /// The regexes and the last, joined from the right.

@@ -8,7 +8,7 @@ ghost use Rattle.xs_regex.specs.Scan.{count_after, class_of, closed, regex_at, p
 ghost use Rattle.xs_regex.specs.Reported.{IsReported};
 
 use crate::characters::{counts, next};
-use crate::forms::{Join, all_joined, any, times};
+use crate::forms::{Join, all_joined, any, push, times};
 use crate::sets::set;
 use crate::{Regex, RegexFault};
 use std::alloc::Global;
@@ -36,7 +36,7 @@ pub fn regex(
                     let whole = all_joined(alloc, Join::Choice, front, part)?;
                     return Ok((whole, left));
                 };
-                front.push(part)?;
+                push(&mut front, part)?;
                 here = rest;
             }
             Err(fault) => return Err(fault),
@@ -100,7 +100,7 @@ fn pieces(
                     let whole = all_joined(alloc, Join::Turn, front, part)?;
                     return Ok((whole, left));
                 }
-                front.push(part)?;
+                push(&mut front, part)?;
                 here = left;
             }
             Err(fault) => return Err(fault),

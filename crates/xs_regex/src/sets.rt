@@ -1,4 +1,4 @@
-ghost use Rattle.std.specs.Prelude.{◌≡◌, ◌↔◌, ℕ, length, IfOk, if◌then◌else◌};
+ghost use Rattle.std.specs.Prelude.{◌≡◌, ◌↔◌, ◌++◌, ℕ, length, IfOk, OnOk, if◌then◌else◌};
 ghost use Rattle.xs_class.specs.{Has, HaveSame, IsClass, set_named, HasMembersOf, IsChar, char_table};
 ghost use Rattle.xs_regex.specs.Characters.{known, known_item, items_at, sorted, bracket_at, one_at, one_set, set_at};
 ghost use Rattle.xs_regex.specs.Characters as spec;
@@ -34,18 +34,26 @@ fn text_of(alloc: Global, letters: &[char]) -> Result<Text, Memory>
     Ok(text)
 }
 
+/// Adds the ranges.
+fn extend(into: &mut Vec<(u32, u32)>, ranges: &[(u32, u32)]) -> Result<(), Memory>
+    ensures items { OnOk result (into.new.items ≡ into.old.items ++ ranges.now) }
+{
+    into.extend_from_slice(ranges)?;
+    Ok(())
+}
+
 /// Adds the characters of an item.
 fn add(alloc: Global, piece: Piece, into: &mut Vec<(u32, u32)>) -> Result<(), RegexFault>
     ensures { IsReported (known (item_of piece.entry)) (λ a x. Adds into.old.items into.new.items (IsOfItem a)) result }
 {
     match piece {
         Piece::Span(low, high) => {
-            into.push((low, high))?;
+            extend(into, &[(low, high)])?;
             Ok(())
         }
         Piece::Named(letters) => match class_named(alloc, letters) {
             Ok(class) => {
-                into.extend_from_slice(class.ranges())?;
+                extend(into, class.ranges())?;
                 Ok(())
             }
             Err(fault) => Err(fault),
