@@ -3,7 +3,7 @@ ghost use Rattle.std.specs.Str.{chars};
 ghost use Rattle.xs_class.specs.Named.{set_named, HasMembersOf};
 
 use crate::{Class, Memory, letters};
-use std::alloc::{AllocError, Global};
+use std::alloc::Global;
 use unicode::sets::{Set, by_name, normalize};
 
 /// Why a name gives no class.
@@ -25,17 +25,6 @@ impl From<Memory> for NameFault {
     }
 }
 
-impl From<AllocError> for NameFault {
-    ghost use Rattle.std.specs.Prelude.{◌≡◌};
-    ghost use Rattle.xs_class.specs.declared.named.NameFault.TheVariants as fault;
-
-    ghost from_gives = { λ _ e. e ≡ fault.Memory };
-
-    fn from(_: AllocError) -> Self {
-        NameFault::Memory
-    }
-}
-
 impl Class {
     /// The members of the set that the name stands for: a binary property, a general category or a
     /// script, by its name in the Unicode Character Database. Case, spaces, hyphens and underscores
@@ -44,20 +33,30 @@ impl Class {
         ensures found { IfOk result (λ c. IsSomeAnd (set_named (chars name.now)) (HasMembersOf c)) }
         ensures absent { IfErr result (λ e. e ≡ NameFault.NoSuchClass → IsNone (set_named (chars name.now))) }
     {
-        let letters = letters(alloc, name)?;
-        let normal = normalize(alloc, &letters)?;
-        match by_name(&normal) {
-            Ok(set) => class_of(alloc, set),
-            Err(_) => Err(NameFault::NoSuchClass),
+        match set_of(alloc, name)? {
+            Some(set) => Ok(class_of(alloc, set)?),
+            None => Err(NameFault::NoSuchClass),
         }
     }
 }
 
+/// The set that the name stands for.
+fn set_of(alloc: Global, name: &str) -> Result<Option<Set>, Memory>
+    ensures { IfOk result (λ set. set ≡ set_named (chars name.now)) }
+{
+    let letters = letters(alloc, name)?;
+    let normal = normalize(alloc, &letters)?;
+    match by_name(&normal) {
+        Ok(set) => Ok(Some(set)),
+        Err(_) => Ok(None),
+    }
+}
+
 /// The class of the members of the set.
-fn class_of(alloc: Global, set: Set) -> Result<Class, NameFault>
-    ensures found { IfOk result (λ c. HasMembersOf c set) }
-    ensures memory { IfErr result (λ e. e ≡ NameFault.Memory) }
+fn class_of(alloc: Global, set: Set) -> Result<Class, Memory>
+    ensures { IfOk result (λ c. HasMembersOf c set) }
 {
     let ranges = set.ranges(alloc)?;
-    Ok(Class::from_ranges(alloc, &ranges)?)
+    let class = Class::from_ranges(alloc, &ranges)?;
+    Ok(class)
 }
