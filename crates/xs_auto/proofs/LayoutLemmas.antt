@@ -220,20 +220,24 @@ states_kept start finals classes classes' es es' ms ms' ks ks' = record {
   finals = λ i. draft_final start finals classes' es' ms' ks' i ∙ sym (draft_final start finals classes es ms ks i);
 }
 
--- one edge more
-pub edge_drafted : (n : ℕ) (start : Option ℕ) (entered : List ℕ) (classes : List (List (ℕ × ℕ))) (es : List (Leaving EdgeRow)) (ms : List (Leaving ℕ)) (ks : List (Leaving Call)) (a b number : ℕ) → IsDrafted n start entered classes es ms ks → a < n → b < n → number < length classes → IsDrafted n start entered classes (es ++ record { from = a; arc = record { class = number; to = b } } ∷ []) ms ks
-edge_drafted n start entered classes es ms ks a b number h from to below = record {
+-- other arcs over the same states and classes
+arcs_drafted : (n : ℕ) (start : Option ℕ) (entered : List ℕ) (classes : List (List (ℕ × ℕ))) (es es' : List (Leaving EdgeRow)) (ms ms' : List (Leaving ℕ)) (ks ks' : List (Leaving Call)) → IsDrafted n start entered classes es ms ks → All (LeavesBelow n) es' × All (λ x. x.arc.to < n) es' × All (λ x. NamesBelow (length classes) x.arc) es' → All (LeavesBelow n) ms' × All (λ x. x.arc < n) ms' → All (LeavesBelow n) ks' × All (λ x. x.arc.to < n) ks' → IsDrafted n start entered classes es' ms' ks'
+arcs_drafted n start entered classes es es' ms ms' ks ks' h edges moves calls = record {
   few = h.few;
   begins = h.begins;
   entries = h.entries;
-  edges = one_more (LeavesBelow n) es _ h.edges from;
-  edges_to = one_more (λ x. x.arc.to < n) es _ h.edges_to to;
-  named = one_more (λ x. NamesBelow (length classes) x.arc) es _ h.named below;
-  moves = h.moves;
-  moves_to = h.moves_to;
-  calls = h.calls;
-  calls_to = h.calls_to;
+  edges = edges.0;
+  edges_to = edges.1;
+  named = edges.2;
+  moves = moves.0;
+  moves_to = moves.1;
+  calls = calls.0;
+  calls_to = calls.1;
 }
+
+-- one edge more
+pub edge_drafted : (n : ℕ) (start : Option ℕ) (entered : List ℕ) (classes : List (List (ℕ × ℕ))) (es : List (Leaving EdgeRow)) (ms : List (Leaving ℕ)) (ks : List (Leaving Call)) (a b number : ℕ) → IsDrafted n start entered classes es ms ks → a < n → b < n → number < length classes → IsDrafted n start entered classes (es ++ record { from = a; arc = record { class = number; to = b } } ∷ []) ms ks
+edge_drafted n start entered classes es ms ks a b number h from to below = arcs_drafted n start entered classes es (es ++ record { from = a; arc = record { class = number; to = b } } ∷ []) ms ms ks ks h (one_more (LeavesBelow n) es _ h.edges from, one_more (λ x. x.arc.to < n) es _ h.edges_to to, one_more (λ x. NamesBelow (length classes) x.arc) es _ h.named below) (h.moves, h.moves_to) (h.calls, h.calls_to)
 
 pub edge_added : (start : Option ℕ) (finals : List Bool) (entered : List ℕ) (old new : List (List (ℕ × ℕ))) (es : List (Leaving EdgeRow)) (ms : List (Leaving ℕ)) (ks : List (Leaving Call)) (a b number : ℕ) (class : List (ℕ × ℕ)) → IsDrafted (length finals) start entered old es ms ks → a < length finals → KeepsNumbers old new → HasNumber new number class → AddsEdge (draft_of start finals old es ms ks) (draft_of start finals new (es ++ record { from = a; arc = record { class = number; to = b } } ∷ []) ms ks) a (record { class = class; to = b })
 edge_added start finals entered old new es ms ks a b number class h l keeps has = record {
@@ -255,18 +259,7 @@ edge_added start finals entered old new es ms ks a b number class h l keeps has 
 
 -- one move more
 pub move_drafted : (n : ℕ) (start : Option ℕ) (entered : List ℕ) (classes : List (List (ℕ × ℕ))) (es : List (Leaving EdgeRow)) (ms : List (Leaving ℕ)) (ks : List (Leaving Call)) (a b : ℕ) → IsDrafted n start entered classes es ms ks → a < n → b < n → IsDrafted n start entered classes es (ms ++ record { from = a; arc = b } ∷ []) ks
-move_drafted n start entered classes es ms ks a b h from to = record {
-  few = h.few;
-  begins = h.begins;
-  entries = h.entries;
-  edges = h.edges;
-  edges_to = h.edges_to;
-  named = h.named;
-  moves = one_more (LeavesBelow n) ms _ h.moves from;
-  moves_to = one_more (λ x. x.arc < n) ms _ h.moves_to to;
-  calls = h.calls;
-  calls_to = h.calls_to;
-}
+move_drafted n start entered classes es ms ks a b h from to = arcs_drafted n start entered classes es es ms (ms ++ record { from = a; arc = b } ∷ []) ks ks h (h.edges, h.edges_to, h.named) (one_more (LeavesBelow n) ms _ h.moves from, one_more (λ x. x.arc < n) ms _ h.moves_to to) (h.calls, h.calls_to)
 
 pub move_added : (start : Option ℕ) (finals : List Bool) (entered : List ℕ) (classes : List (List (ℕ × ℕ))) (es : List (Leaving EdgeRow)) (ms : List (Leaving ℕ)) (ks : List (Leaving Call)) (a b : ℕ) → IsDrafted (length finals) start entered classes es ms ks → a < length finals → AddsMove (draft_of start finals classes es ms ks) (draft_of start finals classes es (ms ++ record { from = a; arc = b } ∷ []) ks) a b
 move_added start finals entered classes es ms ks a b h l = record {
@@ -288,18 +281,7 @@ move_added start finals entered classes es ms ks a b h l = record {
 
 -- one call more
 pub call_drafted : (n : ℕ) (start : Option ℕ) (entered : List ℕ) (classes : List (List (ℕ × ℕ))) (es : List (Leaving EdgeRow)) (ms : List (Leaving ℕ)) (ks : List (Leaving Call)) (a : ℕ) (k : Call) → IsDrafted n start entered classes es ms ks → a < n → k.to < n → IsDrafted n start entered classes es ms (ks ++ record { from = a; arc = k } ∷ [])
-call_drafted n start entered classes es ms ks a k h from to = record {
-  few = h.few;
-  begins = h.begins;
-  entries = h.entries;
-  edges = h.edges;
-  edges_to = h.edges_to;
-  named = h.named;
-  moves = h.moves;
-  moves_to = h.moves_to;
-  calls = one_more (LeavesBelow n) ks _ h.calls from;
-  calls_to = one_more (λ x. x.arc.to < n) ks _ h.calls_to to;
-}
+call_drafted n start entered classes es ms ks a k h from to = arcs_drafted n start entered classes es es ms ms ks (ks ++ record { from = a; arc = k } ∷ []) h (h.edges, h.edges_to, h.named) (h.moves, h.moves_to) (one_more (LeavesBelow n) ks _ h.calls from, one_more (λ x. x.arc.to < n) ks _ h.calls_to to)
 
 pub call_added : (start : Option ℕ) (finals : List Bool) (entered : List ℕ) (classes : List (List (ℕ × ℕ))) (es : List (Leaving EdgeRow)) (ms : List (Leaving ℕ)) (ks : List (Leaving Call)) (a : ℕ) (k : Call) → IsDrafted (length finals) start entered classes es ms ks → a < length finals → AddsCall (draft_of start finals classes es ms ks) (draft_of start finals classes es ms (ks ++ record { from = a; arc = k } ∷ [])) a k
 call_added start finals entered classes es ms ks a k h l = record {

@@ -7,9 +7,9 @@ use xs_class::Memory;
 /// A set of numbers below a bound, one bit a number.
 #[derive(Debug, Drop)]
 pub struct BitSet {
-    words: Vec<u64>,
-    used: usize,
     bound: u64,
+    used: usize,
+    words: Vec<u64>,
 }
 
 impl Model for BitSet {
@@ -31,9 +31,9 @@ impl BitSet {
         let count = (bound / 64 + 1) as usize;
         let words = vec![in alloc; 0; count]?;
         Ok(BitSet {
-            words,
-            used: 0,
             bound,
+            used: 0,
+            words,
         })
     }
 
