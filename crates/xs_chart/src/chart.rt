@@ -13,6 +13,17 @@ use std::marker::Model;
 use xs_class::Memory;
 use xs_flat::FlatLists;
 
+/// The sets that a chart keeps, with their waiting lists: those that are finished, and the last one
+/// where it is open.
+#[derive(Drop)]
+struct Kept {
+    items: FlatLists<Item>,
+    waits: FlatLists<Waiter>,
+    last: Table,
+    waiting: Vec<Waiter>,
+    is_open: bool,
+}
+
 /// A list of sets, each a list of different items, with the waiting lists of each.
 ///
 /// Sets, and the places in a set, are numbered from 0.
@@ -21,12 +32,8 @@ use xs_flat::FlatLists;
 /// that many items are completed by is searched for once.
 #[derive(Drop)]
 pub struct Chart {
-    items: FlatLists<Item>,
-    waits: FlatLists<Waiter>,
-    last: Table,
-    waiting: Vec<Waiter>,
+    kept: Kept,
     found: Vec<Waiting>,
-    is_open: bool,
 }
 
 impl Model for Chart {
@@ -35,9 +42,9 @@ impl Model for Chart {
 
     ghost Value = { Charted };
 
-    ghost view = { λ c. seen c.is_open c.items c.last c.waits c.waiting.items };
+    ghost view = { λ c. seen c.kept.is_open c.kept.items c.kept.last c.kept.waits c.kept.waiting.items };
 
-    ghost invariant = { λ c. IsCharted c.is_open c.items c.last c.waits c.found.items };
+    ghost invariant = { λ c. IsCharted c.kept.is_open c.kept.items c.kept.last c.kept.waits c.found.items };
 }
 
 /// Puts the items of a set in the table, in place of what it has.
@@ -53,78 +60,61 @@ fn refill(last: &mut Table, set: u32, items: &[Item]) -> Result<(), Memory>
     Ok(())
 }
 
-/// Opens the last set again, where the sets after it were removed.
-#[inline(always)]
-fn reopen(
-    is_open: &mut bool,
-    items: &mut FlatLists<Item>,
-    waits: &mut FlatLists<Waiter>,
-    last: &mut Table,
-    waiting: &mut Vec<Waiter>,
-) -> Result<(), Memory>
-    requires kept { IsKept is_open.old items.old last.old waits.old }
-    requires some { 0 < length (opened is_open.old items.old last.old) }
-    ensures open { OnOk result (is_open.new ≡ true) }
-    ensures same { seen is_open.new items.new last.new waits.new waiting.new.items ≡ seen is_open.old items.old last.old waits.old waiting.old.items }
-    ensures kept { IsKept is_open.new items.new last.new waits.new }
-    ensures found { StaysFound is_open.old waits.old is_open.new waits.new }
-{
-    if *is_open {
-        return Ok(());
+impl Kept {
+    /// Opens the last set again, where the sets after it were removed.
+    #[inline(always)]
+    fn reopen(&mut self) -> Result<(), Memory>
+        requires kept { IsKept self.old.is_open self.old.items self.old.last self.old.waits }
+        requires some { 0 < length (opened self.old.is_open self.old.items self.old.last) }
+        ensures open { OnOk result (self.new.is_open ≡ true) }
+        ensures same { seen self.new.is_open self.new.items self.new.last self.new.waits self.new.waiting.items ≡ seen self.old.is_open self.old.items self.old.last self.old.waits self.old.waiting.items }
+        ensures kept { IsKept self.new.is_open self.new.items self.new.last self.new.waits }
+        ensures found { StaysFound self.old.is_open self.old.waits self.new.is_open self.new.waits }
+    {
+        if self.is_open {
+            return Ok(());
+        }
+        self.open_last()?;
+        Ok(())
     }
-    open_last(is_open, items, waits, last, waiting)?;
-    Ok(())
-}
 
-/// Makes the last finished set the open one.
-#[cold]
-#[inline(never)]
-fn open_last(
-    is_open: &mut bool,
-    items: &mut FlatLists<Item>,
-    waits: &mut FlatLists<Waiter>,
-    last: &mut Table,
-    waiting: &mut Vec<Waiter>,
-) -> Result<(), Memory>
-    requires closed { is_open.old ≡ false }
-    requires kept { IsKept is_open.old items.old last.old waits.old }
-    requires some { 0 < length (opened is_open.old items.old last.old) }
-    ensures open { OnOk result (is_open.new ≡ true) }
-    ensures same { seen is_open.new items.new last.new waits.new waiting.new.items ≡ seen is_open.old items.old last.old waits.old waiting.old.items }
-    ensures kept { IsKept is_open.new items.new last.new waits.new }
-    ensures found { StaysFound is_open.old waits.old is_open.new waits.new }
-{
-    let set = items.len() - 1;
-    refill(last, set as u32, items.list(set))?;
-    waiting.clear();
-    waiting.extend_from_slice(waits.list(set))?;
-    items.truncate(set);
-    waits.truncate(set);
-    *is_open = true;
-    Ok(())
-}
-
-/// Opens the last set again if it is to be repeated.
-#[inline(always)]
-fn reopen_if(
-    repeats: bool,
-    is_open: &mut bool,
-    items: &mut FlatLists<Item>,
-    waits: &mut FlatLists<Waiter>,
-    last: &mut Table,
-    waiting: &mut Vec<Waiter>,
-) -> Result<(), Memory>
-    requires kept { IsKept is_open.old items.old last.old waits.old }
-    requires some { IsTrue repeats → 0 < length (opened is_open.old items.old last.old) }
-    ensures open { OnOk result (IsTrue repeats → is_open.new ≡ true) }
-    ensures same { seen is_open.new items.new last.new waits.new waiting.new.items ≡ seen is_open.old items.old last.old waits.old waiting.old.items }
-    ensures kept { IsKept is_open.new items.new last.new waits.new }
-    ensures found { StaysFound is_open.old waits.old is_open.new waits.new }
-{
-    if repeats {
-        reopen(is_open, items, waits, last, waiting)?;
+    /// Makes the last finished set the open one.
+    #[cold]
+    #[inline(never)]
+    fn open_last(&mut self) -> Result<(), Memory>
+        requires kept { IsKept self.old.is_open self.old.items self.old.last self.old.waits }
+        requires closed { self.old.is_open ≡ false }
+        requires some { 0 < length (opened self.old.is_open self.old.items self.old.last) }
+        ensures open { OnOk result (self.new.is_open ≡ true) }
+        ensures same { seen self.new.is_open self.new.items self.new.last self.new.waits self.new.waiting.items ≡ seen self.old.is_open self.old.items self.old.last self.old.waits self.old.waiting.items }
+        ensures kept { IsKept self.new.is_open self.new.items self.new.last self.new.waits }
+        ensures found { StaysFound self.old.is_open self.old.waits self.new.is_open self.new.waits }
+    {
+        let set = self.items.len() - 1;
+        refill(&mut self.last, set as u32, self.items.list(set))?;
+        self.waiting.clear();
+        self.waiting.extend_from_slice(self.waits.list(set))?;
+        self.items.truncate(set);
+        self.waits.truncate(set);
+        self.is_open = true;
+        Ok(())
     }
-    Ok(())
+
+    /// Opens the last set again if it is to be repeated.
+    #[inline(always)]
+    fn reopen_if(&mut self, repeats: bool) -> Result<(), Memory>
+        requires kept { IsKept self.old.is_open self.old.items self.old.last self.old.waits }
+        requires some { IsTrue repeats → 0 < length (opened self.old.is_open self.old.items self.old.last) }
+        ensures open { OnOk result (IsTrue repeats → self.new.is_open ≡ true) }
+        ensures same { seen self.new.is_open self.new.items self.new.last self.new.waits self.new.waiting.items ≡ seen self.old.is_open self.old.items self.old.last self.old.waits self.old.waiting.items }
+        ensures kept { IsKept self.new.is_open self.new.items self.new.last self.new.waits }
+        ensures found { StaysFound self.old.is_open self.old.waits self.new.is_open self.new.waits }
+    {
+        if repeats {
+            self.reopen()?;
+        }
+        Ok(())
+    }
 }
 
 /// Finishes the last set if it is open.
@@ -195,13 +185,16 @@ impl Chart {
         ensures sets { IfOk result (λ chart. chart.sets ≡ []) }
         ensures waits { IfOk result (λ chart. chart.waits ≡ []) }
     {
-        Ok(Chart {
+        let kept = Kept {
             items: FlatLists::new(alloc),
             waits: FlatLists::new(alloc),
             last: Table::new(alloc, states)?,
             waiting: Vec::new(alloc),
-            found: none_found(alloc)?,
             is_open: false,
+        };
+        Ok(Chart {
+            kept,
+            found: none_found(alloc)?,
         })
     }
 
@@ -216,28 +209,21 @@ impl Chart {
         ensures last { OnOk result ((non : ℕ) → waiting_of self.new (length self.old.sets) non ≡ (if repeats then waiting_of self.old (last_set self.old) non else [])) }
         ensures err { OnErr result (self.new.sets ≡ self.old.sets) }
     {
-        reopen_if(
-            repeats,
-            &mut self.is_open,
-            &mut self.items,
-            &mut self.waits,
-            &mut self.last,
-            &mut self.waiting,
-        )?;
+        self.kept.reopen_if(repeats)?;
         finish(
-            self.is_open,
-            &mut self.items,
-            &mut self.waits,
-            self.last.as_slice(),
-            &mut self.waiting,
+            self.kept.is_open,
+            &mut self.kept.items,
+            &mut self.kept.waits,
+            self.kept.last.as_slice(),
+            &mut self.kept.waiting,
         )?;
         empty_unless(
             repeats,
-            self.items.len() as u32,
-            &mut self.last,
-            &mut self.waiting,
+            self.kept.items.len() as u32,
+            &mut self.kept.last,
+            &mut self.kept.waiting,
         );
-        self.is_open = true;
+        self.kept.is_open = true;
         Ok(())
     }
 
@@ -250,14 +236,8 @@ impl Chart {
         ensures before { before_last self.new ≡ before_last self.old }
         ensures err { OnErr result (self.new ≡ self.old) }
     {
-        reopen(
-            &mut self.is_open,
-            &mut self.items,
-            &mut self.waits,
-            &mut self.last,
-            &mut self.waiting,
-        )?;
-        let added = self.last.add(item)?;
+        self.kept.reopen()?;
+        let added = self.kept.last.add(item)?;
         Ok(added)
     }
 
@@ -272,14 +252,8 @@ impl Chart {
         ensures before { before_last self.new ≡ before_last self.old }
         ensures err { OnErr result (self.new ≡ self.old) }
     {
-        reopen(
-            &mut self.is_open,
-            &mut self.items,
-            &mut self.waits,
-            &mut self.last,
-            &mut self.waiting,
-        )?;
-        self.last.append_all(states, origin)?;
+        self.kept.reopen()?;
+        self.kept.last.append_all(states, origin)?;
         Ok(())
     }
 
@@ -294,18 +268,12 @@ impl Chart {
         ensures waits { self.new.waits ≡ self.old.waits }
         ensures before { before_last self.new ≡ before_last self.old }
     {
-        reopen(
-            &mut self.is_open,
-            &mut self.items,
-            &mut self.waits,
-            &mut self.last,
-            &mut self.waiting,
-        )?;
-        let (first, count) = find_again(&mut self.found, &self.waits, from, non);
-        let waits = self.waits.list(from as usize);
+        self.kept.reopen()?;
+        let (first, count) = find_again(&mut self.found, &self.kept.waits, from, non);
+        let waits = self.kept.waits.list(from as usize);
         add_after(
-            &mut self.last,
-            self.items.list(from as usize),
+            &mut self.kept.last,
+            self.kept.items.list(from as usize),
             &waits[first..first + count],
             next,
         )?;
@@ -318,10 +286,10 @@ impl Chart {
         requires { set < length self.now.sets }
         ensures { result.now ≡ items_of self.now set }
     {
-        if set as usize == self.items.len() {
-            self.last.as_slice()
+        if set as usize == self.kept.items.len() {
+            self.kept.last.as_slice()
         } else {
-            self.items.list(set as usize)
+            self.kept.items.list(set as usize)
         }
     }
 
@@ -331,8 +299,8 @@ impl Chart {
         requires { set < length self.now.sets }
         ensures { IsTrue result ↔ Contains (items_of self.now set) item }
     {
-        if set as usize == self.items.len() {
-            self.last.has(item)
+        if set as usize == self.kept.items.len() {
+            self.kept.last.has(item)
         } else {
             self.items(set).contains(&item)
         }
@@ -361,8 +329,12 @@ impl Chart {
         ensures len { result ≡ length self.now.sets }
         ensures different { (set : ℕ) → AreDifferent (items_of self.now set) }
     {
-        let finished = self.items.len() as u32;
-        if self.is_open { finished + 1 } else { finished }
+        let finished = self.kept.items.len() as u32;
+        if self.kept.is_open {
+            finished + 1
+        } else {
+            finished
+        }
     }
 
     /// Puts the number k of an item of the last set last in the nonterminal's waiting list there.
@@ -376,16 +348,10 @@ impl Chart {
         ensures before { before_last self.new ≡ before_last self.old }
         ensures err { OnErr result (self.new ≡ self.old) }
     {
-        reopen(
-            &mut self.is_open,
-            &mut self.items,
-            &mut self.waits,
-            &mut self.last,
-            &mut self.waiting,
-        )?;
+        self.kept.reopen()?;
         match u32::try_from(k) {
             Ok(number) => {
-                self.waiting.push(Waiter { non, number })?;
+                self.kept.waiting.push(Waiter { non, number })?;
                 Ok(())
             }
             Err(_) => Err(Memory),
@@ -398,11 +364,11 @@ impl Chart {
         ensures { self.new ≡ first_sets sets self.old }
     {
         let count = sets as usize;
-        if count <= self.items.len() {
-            self.items.truncate(count);
-            self.waits.truncate(count);
+        if count <= self.kept.items.len() {
+            self.kept.items.truncate(count);
+            self.kept.waits.truncate(count);
             forget(&mut self.found);
-            self.is_open = false;
+            self.kept.is_open = false;
         }
     }
 
@@ -415,7 +381,7 @@ impl Chart {
         ensures non { result.non ≡ non }
         ensures is { IsWaiting self.now result }
     {
-        let (from, count) = find(self.waits.list(set as usize), non);
+        let (from, count) = find(self.kept.waits.list(set as usize), non);
         Waiting {
             set,
             non,
@@ -431,7 +397,7 @@ impl Chart {
         requires n { n < waiting.count }
         ensures { slice_get (waiting_of self.now waiting.set waiting.non) n ≡ Some result }
     {
-        let waits = self.waits.list(waiting.set as usize);
+        let waits = self.kept.waits.list(waiting.set as usize);
         u64::from(waits[waiting.from + n].number)
     }
 }

@@ -11,24 +11,31 @@ use xs_class::Memory;
 /// How many slots the table of a new list has.
 const FIRST_SLOTS: usize = 32;
 
-/// Different items in the order in which they were added, with two tables by which one is found.
+/// Two tables by which the items of a list are found.
 ///
 /// Items of the origin `own` are found by their states: `marks` has for each state below its length the
 /// number of the item of that state and origin. The others are found by a hash: a slot of `heads` has
-/// the number of its last item, and beside each item stands that of an earlier one; so the items of a
-/// slot are a chain. Numbers go on from list to list: those of this one begin after `base`, and a
-/// number up to `base` is none, so that a list is cleared by raising `base`. There are no more items
-/// than slots, and the lists of items and of earlier numbers have room for as many as there are slots,
-/// so that an item is put last by one comparison.
+/// the number of its last item, and beside each item stands in `earlier` that of an earlier one; so the
+/// items of a slot are a chain. Numbers go on from list to list: those of this one begin after `base`,
+/// and a number up to `base` is none, so that a list is cleared by raising `base`.
 #[derive(Drop)]
-pub struct Table {
-    alloc: Global,
-    items: Vec<Item>,
+struct Links {
     earlier: Vec<u32>,
     heads: Vec<u32>,
     marks: Vec<u32>,
     base: u32,
     own: u32,
+}
+
+/// Different items in the order in which they were added, with the tables by which one is found.
+///
+/// There are no more items than slots, and the lists of items and of earlier numbers have room for as
+/// many as there are slots, so that an item is put last by one comparison.
+#[derive(Drop)]
+pub struct Table {
+    alloc: Global,
+    items: Vec<Item>,
+    links: Links,
 }
 
 impl Model for Table {
@@ -40,7 +47,7 @@ impl Model for Table {
 
     ghost view = { λ t. t.items.items };
 
-    ghost invariant = { λ t. IsRoomy t.base t.own t.items.items t.earlier.items t.heads.items t.marks.items (vec_capacity t.items) (vec_capacity t.earlier) };
+    ghost invariant = { λ t. IsRoomy t.links.base t.links.own t.items.items t.links.earlier.items t.links.heads.items t.links.marks.items (vec_capacity t.items) (vec_capacity t.links.earlier) };
 }
 
 /// The slot of an item among that many.
@@ -175,53 +182,23 @@ fn note_all(
 }
 
 /// Doubles the slots, and the room of the lists.
-fn double(
-    alloc: Global,
-    items: &mut Vec<Item>,
-    earlier: &mut Vec<u32>,
-    heads: &mut Vec<u32>,
-    marks: &mut Vec<u32>,
-    base: &mut u32,
-    own: u32,
-) -> Result<(), Memory>
-    requires roomy { IsRoomy base.old own items.old.items earlier.old.items heads.old.items marks.old.items (vec_capacity items.old) (vec_capacity earlier.old) }
-    ensures roomy { IsRoomy base.new own items.new.items earlier.new.items heads.new.items marks.new.items (vec_capacity items.new) (vec_capacity earlier.new) }
+#[cold]
+#[inline(never)]
+fn double(alloc: Global, items: &mut Vec<Item>, links: &mut Links) -> Result<(), Memory>
+    requires roomy { IsRoomy links.old.base links.old.own items.old.items links.old.earlier.items links.old.heads.items links.old.marks.items (vec_capacity items.old) (vec_capacity links.old.earlier) }
+    ensures roomy { IsRoomy links.new.base links.new.own items.new.items links.new.earlier.items links.new.heads.items links.new.marks.items (vec_capacity items.new) (vec_capacity links.new.earlier) }
     ensures same { items.new.items ≡ items.old.items }
-    ensures wider { OnOk result (length heads.old.items < length heads.new.items) }
+    ensures wider { OnOk result (length links.old.heads.items < length links.new.heads.items) }
 {
-    let count = heads.len() * 2;
+    let count = links.heads.len() * 2;
     if count > u32::MAX as usize {
         return Err(Memory);
     }
     items.reserve(count - items.len())?;
-    let (new_earlier, new_heads) = note_all(alloc, items, marks, own, count)?;
-    *earlier = new_earlier;
-    *heads = new_heads;
-    *base = 0;
-    Ok(())
-}
-
-/// Doubles the slots until there are that many more than items.
-#[cold]
-#[inline(never)]
-fn widen(
-    alloc: Global,
-    items: &mut Vec<Item>,
-    earlier: &mut Vec<u32>,
-    heads: &mut Vec<u32>,
-    marks: &mut Vec<u32>,
-    base: &mut u32,
-    own: u32,
-    more: usize,
-) -> Result<(), Memory>
-    requires roomy { IsRoomy base.old own items.old.items earlier.old.items heads.old.items marks.old.items (vec_capacity items.old) (vec_capacity earlier.old) }
-    ensures roomy { IsRoomy base.new own items.new.items earlier.new.items heads.new.items marks.new.items (vec_capacity items.new) (vec_capacity earlier.new) }
-    ensures same { items.new.items ≡ items.old.items }
-    ensures space { OnOk result (length items.new.items + more ≤ length heads.new.items) }
-{
-    'doublings: while heads.len() - items.len() < more {
-        double(alloc, items, earlier, heads, marks, base, own)?;
-    }
+    let (earlier, heads) = note_all(alloc, items, &mut links.marks, links.own, count)?;
+    links.earlier = earlier;
+    links.heads = heads;
+    links.base = 0;
     Ok(())
 }
 
@@ -230,43 +207,29 @@ fn widen(
 fn spread(
     alloc: Global,
     items: &mut Vec<Item>,
-    earlier: &mut Vec<u32>,
-    heads: &mut Vec<u32>,
-    marks: &mut Vec<u32>,
-    base: &mut u32,
-    own: u32,
+    links: &mut Links,
     more: usize,
 ) -> Result<(), Memory>
-    requires roomy { IsRoomy base.old own items.old.items earlier.old.items heads.old.items marks.old.items (vec_capacity items.old) (vec_capacity earlier.old) }
-    ensures roomy { IsRoomy base.new own items.new.items earlier.new.items heads.new.items marks.new.items (vec_capacity items.new) (vec_capacity earlier.new) }
+    requires roomy { IsRoomy links.old.base links.old.own items.old.items links.old.earlier.items links.old.heads.items links.old.marks.items (vec_capacity items.old) (vec_capacity links.old.earlier) }
+    ensures roomy { IsRoomy links.new.base links.new.own items.new.items links.new.earlier.items links.new.heads.items links.new.marks.items (vec_capacity items.new) (vec_capacity links.new.earlier) }
     ensures same { items.new.items ≡ items.old.items }
-    ensures space { OnOk result (length items.new.items + more ≤ length heads.new.items) }
+    ensures space { OnOk result (length items.new.items + more ≤ length links.new.heads.items) }
 {
-    if more <= heads.len() - items.len() {
-        return Ok(());
+    'doublings: while links.heads.len() - items.len() < more {
+        double(alloc, items, links)?;
     }
-    widen(alloc, items, earlier, heads, marks, base, own, more)?;
     Ok(())
 }
 
 /// Puts items of these states last, all with one origin; they are not there yet, and there is room for
 /// them.
 #[inline(always)]
-fn put_all(
-    items: &mut Vec<Item>,
-    earlier: &mut Vec<u32>,
-    heads: &mut Vec<u32>,
-    marks: &mut Vec<u32>,
-    base: u32,
-    own: u32,
-    states: &[u32],
-    origin: u32,
-)
-    requires roomy { IsRoomy base own items.old.items earlier.old.items heads.old.items marks.old.items (vec_capacity items.old) (vec_capacity earlier.old) }
-    requires space { length items.old.items + length states.now ≤ length heads.old.items }
+fn put_all(items: &mut Vec<Item>, links: &mut Links, states: &[u32], origin: u32)
+    requires roomy { IsRoomy links.old.base links.old.own items.old.items links.old.earlier.items links.old.heads.items links.old.marks.items (vec_capacity items.old) (vec_capacity links.old.earlier) }
+    requires space { length items.old.items + length states.now ≤ length links.old.heads.items }
     requires different { AreDifferent states.now }
     requires absent { (state : ℕ) → Contains states.now state → Contains items.old.items (item_from origin state) → ⊥ }
-    ensures roomy { IsRoomy base own items.new.items earlier.new.items heads.new.items marks.new.items (vec_capacity items.new) (vec_capacity earlier.new) }
+    ensures roomy { IsRoomy links.new.base links.new.own items.new.items links.new.earlier.items links.new.heads.items links.new.marks.items (vec_capacity items.new) (vec_capacity links.new.earlier) }
     ensures items { items.new.items ≡ items.old.items ++ items_from origin states.now }
 {
     'states: for state in states {
@@ -274,7 +237,14 @@ fn put_all(
             state: *state,
             origin,
         };
-        note(earlier, heads, marks, base, own, item);
+        note(
+            &mut links.earlier,
+            &mut links.heads,
+            &mut links.marks,
+            links.base,
+            links.own,
+            item,
+        );
         items.push_reserved(item);
     }
 }
@@ -298,14 +268,17 @@ impl Table {
     pub fn new(alloc: Global, states: usize) -> Result<Self, Memory>
         ensures { IfOk result (λ table. table ≡ []) }
     {
-        Ok(Table {
-            alloc,
-            items: Vec::with_capacity(alloc, FIRST_SLOTS)?,
+        let links = Links {
             earlier: Vec::with_capacity(alloc, FIRST_SLOTS)?,
             heads: vec![in alloc; 0; FIRST_SLOTS]?,
             marks: vec![in alloc; 0; states]?,
             base: 0,
             own: 0,
+        };
+        Ok(Table {
+            alloc,
+            items: Vec::with_capacity(alloc, FIRST_SLOTS)?,
+            links,
         })
     }
 
@@ -324,11 +297,17 @@ impl Table {
         ensures is { IsTrue result ↔ Contains self.now item }
         ensures different { AreDifferent self.now }
     {
-        if is_own(&self.marks, self.own, item) {
-            return is_marked(&self.marks, self.base, item.state);
+        if is_own(&self.links.marks, self.links.own, item) {
+            return is_marked(&self.links.marks, self.links.base, item.state);
         }
-        let start = self.heads[slot(item, self.heads.len())];
-        seek(&self.items, &self.earlier, self.base, start, item)
+        let start = self.links.heads[slot(item, self.links.heads.len())];
+        seek(
+            &self.items,
+            &self.links.earlier,
+            self.links.base,
+            start,
+            item,
+        )
     }
 
     /// Puts the item last, unless it is there; true exactly where it was not there.
@@ -339,25 +318,16 @@ impl Table {
         ensures different { AreDifferent self.new }
         ensures err { OnErr result (self.new ≡ self.old) }
     {
-        spread(
-            self.alloc,
-            &mut self.items,
-            &mut self.earlier,
-            &mut self.heads,
-            &mut self.marks,
-            &mut self.base,
-            self.own,
-            1,
-        )?;
+        spread(self.alloc, &mut self.items, &mut self.links, 1)?;
         if self.has(item) {
             return Ok(false);
         }
         note(
-            &mut self.earlier,
-            &mut self.heads,
-            &mut self.marks,
-            self.base,
-            self.own,
+            &mut self.links.earlier,
+            &mut self.links.heads,
+            &mut self.links.marks,
+            self.links.base,
+            self.links.own,
             item,
         );
         self.items.push_reserved(item);
@@ -374,26 +344,8 @@ impl Table {
         ensures different { AreDifferent self.new }
         ensures err { OnErr result (self.new ≡ self.old) }
     {
-        spread(
-            self.alloc,
-            &mut self.items,
-            &mut self.earlier,
-            &mut self.heads,
-            &mut self.marks,
-            &mut self.base,
-            self.own,
-            states.len(),
-        )?;
-        put_all(
-            &mut self.items,
-            &mut self.earlier,
-            &mut self.heads,
-            &mut self.marks,
-            self.base,
-            self.own,
-            states,
-            origin,
-        );
+        spread(self.alloc, &mut self.items, &mut self.links, states.len())?;
+        put_all(&mut self.items, &mut self.links, states, origin);
         Ok(())
     }
 
@@ -402,12 +354,16 @@ impl Table {
     pub fn clear(&mut self, own: u32)
         ensures { self.new ≡ [] }
     {
-        self.base += self.items.len() as u32;
-        if self.base as usize > u32::MAX as usize - self.heads.len() {
-            empty(&mut self.heads, &mut self.marks, &mut self.base);
+        self.links.base += self.items.len() as u32;
+        if self.links.base as usize > u32::MAX as usize - self.links.heads.len() {
+            empty(
+                &mut self.links.heads,
+                &mut self.links.marks,
+                &mut self.links.base,
+            );
         }
         self.items.clear();
-        self.earlier.clear();
-        self.own = own;
+        self.links.earlier.clear();
+        self.links.own = own;
     }
 }

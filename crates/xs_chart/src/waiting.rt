@@ -76,16 +76,17 @@ pub(crate) fn keep(
 #[inline(always)]
 fn group_end(waits: &[Waiter], from: usize, non: u32) -> usize
     requires { from ≤ length waits.now }
-    ensures from { from ≤ result }
     ensures within { result ≤ length waits.now }
+    ensures from { from ≤ result }
     ensures same { (k : ℕ) (d : AnyWaiter) → from ≤ k → k < result → non_of (slice_index_or waits.now k d) ≡ non }
     ensures other { (d : AnyWaiter) → result < length waits.now → non_of (slice_index_or waits.now result d) ≢ non }
 {
-    let mut end = from;
-    'entries: while end < waits.len() && waits[end].non == non {
-        end += 1;
+    'entries: for end in from..waits.len() {
+        if waits[end].non != non {
+            return end;
+        }
     }
-    end
+    waits.len()
 }
 
 /// Where the entries of a nonterminal begin among those that are grouped, and how many there are.

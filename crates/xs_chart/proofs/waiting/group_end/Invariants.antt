@@ -1,14 +1,7 @@
-use Rattle.std.proofs.Common.{◌≡◌, ℕ, ◌-◌, ◌<◌, ◌≤◌, length, get_or}
+use Rattle.std.proofs.Common.{◌≡◌, ℕ, ◌<◌, ◌≤◌, get_or}
 use Rattle.xs_chart.specs.declared.waiting.Waiter.{Waiter}
 use Rattle.xs_chart.specs.Charted.{non_of}
 use Rattle.xs_chart.proofs.waiting.group_end.Given as goal
 
 abbrev pub invariant-entries : goal.invariant-entries
-invariant-entries l = record {
-  from : l.from ≤ l.end;
-  within : l.end ≤ length l.waits;
-  same : (k : ℕ) (d : Waiter) → l.from ≤ k → k < l.end → non_of (get_or l.waits k d) ≡ l.non;
-}
-
-abbrev pub decreases-entries : goal.decreases-entries
-decreases-entries l = length l.waits - l.end
+invariant-entries l = (k : ℕ) (d : Waiter) → l.from ≤ k → k < l.end → non_of (get_or l.waits k d) ≡ l.non

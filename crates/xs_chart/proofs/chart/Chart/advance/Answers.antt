@@ -9,12 +9,12 @@ use Rattle.xs_chart.proofs.chart.Chart.advance.Goals as goal
 pub add_after-requires-clause-there : goal.add_after-requires-clause-there
 add_after-requires-clause-there c =
     let e = c.in_ok-reopen.ensures in
-    let is = earlier_set c.reopen.new.waiting.items e.kept e.open (e.same ∙ c.self.view_is) c.args.from c.args.non c.requires.from in
+    let is = earlier_set c.reopen.new.self.waiting.items e.kept e.open (e.same ∙ c.self.view_is) c.args.from c.args.non c.requires.from in
     rw (c.list.ensures, c.list-waits.ensures, ← c.find_again-first.ensures.is, ← is.0, ← is.1) c.requires.there
 
 pub returns-clause-advanced : goal.returns-clause-advanced
 returns-clause-advanced c =
-    let r = c.reopen.new in
+    let r = c.reopen.new.self in
     let e = c.in_ok-reopen.ensures in
     let same = e.same ∙ c.self.view_is in
     let is = earlier_set r.waiting.items e.kept e.open same c.args.from c.args.non c.requires.from in

@@ -11,10 +11,10 @@ append_all-requires-clause-absent c state among there =
     let item : Item = item_from c.args.origin state in
     c.requires.absent state among
     (subst (λ (x : Charted). Contains (items_of x (last_set x)) item) (e.same ∙ c.self.view_is)
-    (subst (λ (l : List Item). Contains l item) (sym (last_items c.reopen.new.waiting.items e.kept e.open)) there))
+    (subst (λ (l : List Item). Contains l item) (sym (last_items c.reopen.new.self.waiting.items e.kept e.open)) there))
 
 pub returns-clause-last : goal.returns-clause-last
 returns-clause-last c =
     let e = c.in_ok-reopen.ensures in
     let same = e.same ∙ c.self.view_is in
-    rw (← same) (items_more c.reopen.new.waiting.items e.kept e.open (items_from c.args.origin c.args.states.now) c.append_all.new.self c.in_ok-append_all.ensures.items)
+    rw (← same) (items_more c.reopen.new.self.waiting.items e.kept e.open (items_from c.args.origin c.args.states.now) c.append_all.new.self c.in_ok-append_all.ensures.items)

@@ -1,6 +1,6 @@
 use Rattle.std.proofs.Common.{◌-◌, arith}
 use Rattle.xs_chart.proofs.Sets.{kept_reopened}
-use Rattle.xs_chart.proofs.chart.open_last.Goals as goal
+use Rattle.xs_chart.proofs.chart.Kept.open_last.Goals as goal
 
 pub returns-in_err-refill-clause-kept : goal.returns-in_err-refill-clause-kept
 returns-in_err-refill-clause-kept c =
@@ -9,8 +9,8 @@ returns-in_err-refill-clause-kept c =
 
 pub returns-clause-kept : goal.returns-clause-kept
 returns-clause-kept c =
-    let items = c.args.items.now in
-    let waits = c.args.waits.now in
+    let items = c.args.self.now.items in
+    let waits = c.args.self.now.waits in
     let set = c.len-set.result - 1 in
     let some = rw c.requires.closed at c.requires.some in
-    rw (c.truncate.ensures, c.truncate-2.ensures) (kept_reopened set items c.args.last.now c.refill.new.last waits (omega (arith, some, c.len-set.ensures)) (rw c.requires.closed at c.requires.kept) c.in_ok-refill.ensures.different)
+    rw (c.truncate.ensures, c.truncate-2.ensures) (kept_reopened set items c.args.self.now.last c.refill.new.last waits (omega (arith, some, c.len-set.ensures)) (rw c.requires.closed at c.requires.kept) c.in_ok-refill.ensures.different)
