@@ -28,15 +28,15 @@ fn clauses_of(alloc: Global, g: &Gram, leaves: &Leaves) -> Result<Vec<Clause>, M
 {
     let mut clauses = Vec::new(alloc);
     'rules: for rule in 0..g.rules() {
-        add_rule(&mut clauses, alloc, g, leaves, rule)?;
+        add_rule(alloc, &mut clauses, g, leaves, rule)?;
     }
     Ok(clauses)
 }
 
 /// Adds the clause of a rule, if all its items are good.
 fn add_rule(
-    clauses: &mut Vec<Clause>,
     alloc: Global,
+    clauses: &mut Vec<Clause>,
     g: &Gram,
     leaves: &Leaves,
     rule: u32,
