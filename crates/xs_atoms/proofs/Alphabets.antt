@@ -16,7 +16,7 @@ use Rattle.xs_atoms.specs.Turns.{odd, flips, at_symbol, HasTurnAt, AreKept, AreT
 use Rattle.xs_atoms.specs.Stretches.{flag, row_of, start_of, IsAtomOf, IsSwept}
 use Rattle.xs_atoms.specs.Pages.{IsAtomIn}
 use Rattle.xs_atoms.specs.Fixed.{rules_ranges}
-use Rattle.xs_atoms.specs.Classed.{StayAll, AreTermNumbers, AreSkipNumbers}
+use Rattle.xs_atoms.specs.Classed.{AreTermNumbers, AreSkipNumbers}
 use Rattle.xs_atoms.specs.Alphabet.{atom_of, term_class, skip_class, class_has, AreAtoms}
 use Rattle.xs_atoms.proofs.Fixing.{fixed_has}
 
@@ -50,9 +50,6 @@ turn_there s (t ∷ ts) h = elim (cases_eq t.place s) [
 pub turns_kept : (classes : List (List (ℕ × ℕ))) (fixed class : List (ℕ × ℕ)) (turns : List Turn) → ((r : ℕ × ℕ) (i : ℕ) → slice_get fixed i ≡ Some r → r.0 ≡ r.1) → AreTurnsOf classes fixed turns → slice_get classes 0 ≡ Some class → HaveSame class fixed → AreKept turns
 turns_kept classes fixed class turns single are there same s t =
     turn_there s turns (are.kept s ((same s).0 ((are.members 0 s class there).0 t)) single)
-
-pub later_terms : (g : Grammar) (old new : List (List (ℕ × ℕ))) (rows : List (List ℕ)) → AreTermNumbers g old rows → StayAll old new → AreTermNumbers g new rows
-later_terms g old new rows h stay t l k class e = stay (get_or (get_or rows t []) k 0) class (h t l k class e)
 
 -- a class has a symbol exactly where its row has the atom
 has_atom : (classes : List (List (ℕ × ℕ))) (fixed : List (ℕ × ℕ)) (turns : List Turn) (rows : List Bool) (firsts : List ℕ) (width s atom c : ℕ) (class : List (ℕ × ℕ)) → width ≡ length classes → AreTurnsOf classes fixed turns → IsAtomOf turns (length classes) rows firsts s atom → slice_get classes c ≡ Some class → Has class s ↔ IsTrue (get_or rows (width * atom + c) false)

@@ -4,7 +4,7 @@ ghost use Rattle.xs_atoms.specs.Pages.{cell_of};
 use crate::distinct::Distinct;
 use crate::fault::AtomsFault;
 use crate::fixed::fixed_ranges;
-use crate::numbers::{skip_numbers, term_numbers};
+use crate::numbers::leaf_numbers;
 use crate::pages::pages_of;
 use crate::sweep::sweep;
 use crate::turns::turns_of;
@@ -70,8 +70,7 @@ impl Atoms {
         let fixed = fixed_ranges(alloc, g)?;
         let class = Class::from_ranges(alloc, &fixed)?;
         let mut distinct = Distinct::one(alloc, class)?;
-        let terms = term_numbers(alloc, g, &mut distinct)?;
-        let skips = skip_numbers(alloc, g, &mut distinct)?;
+        let leaves = leaf_numbers(alloc, g, &mut distinct)?;
         let turns = turns_of(alloc, &distinct.classes, &fixed)?;
         let Some(draft) = sweep(alloc, distinct.classes.len(), &turns)? else {
             return Err(AtomsFault::TooMany);
@@ -87,8 +86,8 @@ impl Atoms {
             width,
             count: draft.firsts.len() as u16,
             rows: draft.rows,
-            terms,
-            skips,
+            terms: leaves.terms,
+            skips: leaves.skips,
         })
     }
 

@@ -9,8 +9,8 @@ use xs_class::{Class, Memory};
 /// Classes, seldom one twice, by their numbers.
 #[derive(Drop)]
 pub struct Distinct {
-    pub classes: Vec<Class>,
     found: HashMap<u64, u32>,
+    pub classes: Vec<Class>,
 }
 
 impl Distinct {
@@ -21,8 +21,8 @@ impl Distinct {
         let mut classes = Vec::new(alloc);
         classes.push(class)?;
         Ok(Distinct {
-            classes,
             found: HashMap::new(alloc),
+            classes,
         })
     }
 

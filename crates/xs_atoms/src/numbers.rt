@@ -8,38 +8,34 @@ use xs_class::Class;
 use xs_gram::Gram;
 use xs_regex::Numbers;
 
-/// For each terminal of the grammar the numbers of the classes at its positions.
-pub fn term_numbers(
-    alloc: Global,
-    g: &Gram,
-    distinct: &mut Distinct,
-) -> Result<Vec<Numbers>, AtomsFault>
-    ensures stay { IfOk result (λ _. StayAll distinct.old.classes.items distinct.new.classes.items) }
-    ensures numbers { IfOk result (λ rows. AreTermNumbers g.now distinct.new.classes.items rows.items) }
-{
-    let mut rows = Vec::with_capacity(alloc, g.terms() as usize)?;
-    'terms: for term in 0..g.terms() {
-        let row = numbers_of(alloc, g.term(term).classes.as_slice(), distinct)?;
-        rows.push(row)?;
-    }
-    Ok(rows)
+/// For each terminal and for each ignorable of a grammar the numbers of the classes at its positions.
+#[derive(Drop)]
+pub struct LeafNumbers {
+    pub terms: Vec<Numbers>,
+    pub skips: Vec<Numbers>,
 }
 
-/// For each ignorable of the grammar the numbers of the classes at its positions.
-pub fn skip_numbers(
+/// The numbers of the classes of the grammar's terminals and ignorables.
+pub fn leaf_numbers(
     alloc: Global,
     g: &Gram,
     distinct: &mut Distinct,
-) -> Result<Vec<Numbers>, AtomsFault>
+) -> Result<LeafNumbers, AtomsFault>
     ensures stay { IfOk result (λ _. StayAll distinct.old.classes.items distinct.new.classes.items) }
-    ensures numbers { IfOk result (λ rows. AreSkipNumbers g.now distinct.new.classes.items rows.items) }
+    ensures terms { IfOk result (λ leaves. AreTermNumbers g.now distinct.new.classes.items leaves.terms.items) }
+    ensures skips { IfOk result (λ leaves. AreSkipNumbers g.now distinct.new.classes.items leaves.skips.items) }
 {
-    let mut rows = Vec::with_capacity(alloc, g.skips() as usize)?;
+    let mut terms = Vec::with_capacity(alloc, g.terms() as usize)?;
+    'terms: for term in 0..g.terms() {
+        let row = numbers_of(alloc, g.term(term).classes.as_slice(), distinct)?;
+        terms.push(row)?;
+    }
+    let mut skips = Vec::with_capacity(alloc, g.skips() as usize)?;
     'skips: for skip in 0..g.skips() {
         let row = numbers_of(alloc, g.skip(skip).classes.as_slice(), distinct)?;
-        rows.push(row)?;
+        skips.push(row)?;
     }
-    Ok(rows)
+    Ok(LeafNumbers { terms, skips })
 }
 
 /// The numbers of these classes.

@@ -14,9 +14,9 @@ const MOST_SYMBOLS: u64 = 1 << 40;
 /// atom of all symbols on later pages.
 #[derive(Debug, Drop)]
 pub struct Pages {
+    pub rest: u16,
     pub pages: Vec<u32>,
     pub cells: Vec<u16>,
-    pub rest: u16,
 }
 
 /// The last stretch from one on that begins at a symbol or before it.
@@ -129,9 +129,9 @@ pub fn pages_of(alloc: Global, stretches: &[Stretch], atoms: usize) -> Result<Pa
         last.start / 256 + 1,
     )?;
     Ok(Pages {
+        rest: last.atom,
         pages,
         cells,
-        rest: last.atom,
     })
 }
 

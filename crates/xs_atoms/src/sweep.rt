@@ -25,10 +25,10 @@ pub struct Stretch {
 /// first symbol that has it.
 #[derive(Drop)]
 pub struct Draft {
+    found: HashMap<u64, u16>,
     pub stretches: Vec<Stretch>,
     pub rows: Vec<bool>,
     pub firsts: Vec<u64>,
-    found: HashMap<u64, u16>,
 }
 
 impl Draft {
@@ -38,10 +38,10 @@ impl Draft {
         ensures firsts { result.firsts.items ≡ [] }
     {
         Draft {
+            found: HashMap::new(alloc),
             stretches: Vec::new(alloc),
             rows: Vec::new(alloc),
             firsts: Vec::new(alloc),
-            found: HashMap::new(alloc),
         }
     }
 

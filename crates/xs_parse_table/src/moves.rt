@@ -168,8 +168,8 @@ fn cell_of(start: u32, number: usize, width: u32) -> Option<u32>
 /// where there are too many cells.
 fn push_moves(
     alloc: Global,
-    classes: &[u32],
     atoms: &Atoms,
+    classes: &[u32],
     start: u32,
     may: &[u32],
     sets: &mut Sets,
@@ -215,7 +215,7 @@ fn push_row(
     ensures room { IfOk result (λ _. length flags.new ≡ length flags.old) }
 {
     let may = may_come(alloc, p, &sets.sets, row, flags)?;
-    if !push_moves(alloc, classes, atoms, start, &may, sets, cells)? {
+    if !push_moves(alloc, atoms, classes, start, &may, sets, cells)? {
         return Ok(false);
     }
     let end = end_cell(may_end(p, &sets.sets, row));

@@ -2,22 +2,22 @@ use Rattle.std.proofs.Common.{◌≡◌, ◌∙◌, ℕ, ◌<◌, List, length, 
 use Rattle.std.proofs.lemmas.Option.{slice_get_within}
 use Rattle.std.specs.Prelude.{slice_get}
 use Rattle.xs_class.proofs.Lists.{len_is}
-use Rattle.xs_atoms.proofs.Alphabets.{turns_kept, alphabet, later_terms, some_stretch, first_begins}
+use Rattle.xs_atoms.proofs.Alphabets.{turns_kept, alphabet, some_stretch, first_begins}
 use Rattle.xs_atoms.proofs.Fixing.{rules_single}
 use Rattle.xs_atoms.proofs.atoms.Atoms.made.Goals as goal
 
 pub sweep-requires-clause-width : goal.sweep-requires-clause-width
 sweep-requires-clause-width c =
-    let classes = c.skip_numbers.new.distinct.classes.items in
+    let classes = c.leaf_numbers.new.distinct.classes.items in
     let class = c.in_ok-class.class in
-    let there : slice_get classes 0 ≡ Some class = c.in_ok-skips.ensures.stay 0 class (c.in_ok-terms.ensures.stay 0 class (ap (λ (cs : List (List (ℕ × ℕ))). slice_get cs 0) c.in_ok-distinct.ensures)) in
+    let there : slice_get classes 0 ≡ Some class = c.in_ok-leaves.ensures.stay 0 class (ap (λ (cs : List (List (ℕ × ℕ))). slice_get cs 0) c.in_ok-distinct.ensures) in
     omega (arith, slice_get_within classes 0 class there, c.len.ensures)
 
 pub sweep-requires-clause-kept : goal.sweep-requires-clause-kept
 sweep-requires-clause-kept c =
-    let classes = c.skip_numbers.new.distinct.classes.items in
+    let classes = c.leaf_numbers.new.distinct.classes.items in
     let class = c.in_ok-class.class in
-    let there : slice_get classes 0 ≡ Some class = c.in_ok-skips.ensures.stay 0 class (c.in_ok-terms.ensures.stay 0 class (ap (λ (cs : List (List (ℕ × ℕ))). slice_get cs 0) c.in_ok-distinct.ensures)) in
+    let there : slice_get classes 0 ≡ Some class = c.in_ok-leaves.ensures.stay 0 class (ap (λ (cs : List (List (ℕ × ℕ))). slice_get cs 0) c.in_ok-distinct.ensures) in
     rw c.deref-4.ensures.value
     (turns_kept classes _ class c.in_ok-turns.turns.items (rules_single c.args.g.now.rules) (rw (c.deref-2.ensures.value, c.deref-3.ensures.value, c.in_ok-fixed.ensures) at c.in_ok-turns.ensures.turns) there (rw (c.deref.ensures.value, c.in_ok-fixed.ensures) at c.in_ok-class.ensures))
 
@@ -36,9 +36,9 @@ overflow_cast-result c =
 
 pub returns : goal.returns
 returns c =
-    let classes = c.skip_numbers.new.distinct.classes.items in
+    let classes = c.leaf_numbers.new.distinct.classes.items in
     let class = c.in_ok-class.class in
-    let there : slice_get classes 0 ≡ Some class = c.in_ok-skips.ensures.stay 0 class (c.in_ok-terms.ensures.stay 0 class (ap (λ (cs : List (List (ℕ × ℕ))). slice_get cs 0) c.in_ok-distinct.ensures)) in
-    let wide : c.len.result ≡ length classes = c.len.ensures ∙ len_is c.skip_numbers.new.distinct.classes in
+    let there : slice_get classes 0 ≡ Some class = c.in_ok-leaves.ensures.stay 0 class (ap (λ (cs : List (List (ℕ × ℕ))). slice_get cs 0) c.in_ok-distinct.ensures) in
+    let wide : c.len.result ≡ length classes = c.len.ensures ∙ len_is c.leaf_numbers.new.distinct.classes in
     let swept = rw (c.in-Some.is, c.deref-4.ensures.value, wide) at c.in_ok-draft.ensures in
-    alphabet c.args.g.now _ c.in-Some.draft classes class c.in_ok-turns.turns.items (c.len-4.ensures ∙ len_is c.in-Some.draft.firsts) refl (c.in-Ok.ensures.1 ∙ c.len-2.ensures ∙ len_is c.skip_numbers.new.distinct.classes) swept (rw (c.deref-2.ensures.value, c.deref-3.ensures.value, c.in_ok-fixed.ensures) at c.in_ok-turns.ensures.turns) (rw c.deref-5.ensures.value at c.in_ok-pages.ensures) (later_terms c.args.g.now c.term_numbers.new.distinct.classes.items classes c.in_ok-terms.terms.items c.in_ok-terms.ensures.numbers c.in_ok-skips.ensures.stay) c.in_ok-skips.ensures.numbers there (rw (c.deref.ensures.value, c.in_ok-fixed.ensures) at c.in_ok-class.ensures)
+    alphabet c.args.g.now _ c.in-Some.draft classes class c.in_ok-turns.turns.items (c.len-4.ensures ∙ len_is c.in-Some.draft.firsts) refl (c.in-Ok.ensures.1 ∙ c.len-2.ensures ∙ len_is c.leaf_numbers.new.distinct.classes) swept (rw (c.deref-2.ensures.value, c.deref-3.ensures.value, c.in_ok-fixed.ensures) at c.in_ok-turns.ensures.turns) (rw c.deref-5.ensures.value at c.in_ok-pages.ensures) c.in_ok-leaves.ensures.terms c.in_ok-leaves.ensures.skips there (rw (c.deref.ensures.value, c.in_ok-fixed.ensures) at c.in_ok-class.ensures)
