@@ -95,7 +95,7 @@ impl<'a> Automaton<'a> {
     /// Fills a goto cell of an LR state's row.
     pub fn fill_goto(&mut self, row: u32, cell: u32) -> Result<(), Memory> {
         let non = cell.wrapping_sub(self.grammar.actions());
-        let symbol = self.grammar.rules.tokens.wrapping_add(non);
+        let symbol = self.grammar.rules.symbol(non);
         let lr = self.states.of_row(row);
         let state = self.after(lr, symbol)?;
         let goto = self.states.goto(&self.grammar, state);

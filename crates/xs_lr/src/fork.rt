@@ -9,11 +9,11 @@ use std::mem;
 use xs_class::Memory;
 
 /// A head: a vertex, and a row of its LR state or of a scanning state in it, or an action that is to be
-/// done at the next place.
+/// done at it.
 #[derive(Clone, Copy)]
-pub struct Head {
-    pub vertex: u32,
-    pub what: u32,
+struct Head {
+    vertex: u32,
+    what: u32,
 }
 
 /// What a fork reads: a document's atoms, and the entries of the stack at which it began.
@@ -25,14 +25,15 @@ pub struct Input<'d> {
 
 /// A fork: a document is read in all the ways that its actions allow, place by place.
 #[derive(Drop)]
-pub struct Fork {
-    pub graph: Graph,
-    pub heads: Vec<Head>,
-    pub at: u32,
-    pub accepted: Option<u32>,
+pub struct Fork<'d> {
+    input: Input<'d>,
+    graph: Graph,
+    heads: Vec<Head>,
+    at: u32,
+    accepted: Option<u32>,
     /// The way down that was found: entries from the top on, and the one below them.
-    pub way: Vec<Entry>,
-    pub bottom: u32,
+    way: Vec<Entry>,
+    bottom: u32,
     next: Vec<Head>,
     taken: Vec<Head>,
     done: usize,
@@ -40,15 +41,32 @@ pub struct Fork {
     wait: usize,
 }
 
-impl Fork {
+/// What a fork found: its graph, the entries of the way down from the top on, the one below them, how
+/// far the document is read, and the row from which it is to be read on, if not to its end.
+#[derive(Drop)]
+pub struct Found {
+    pub graph: Graph,
+    pub way: Vec<Entry>,
+    pub bottom: u32,
+    pub at: u32,
+    pub row: Option<u32>,
+}
+
+impl<'d> Fork<'d> {
     /// Begins where reading has come to, with this much work to do.
-    pub fn new(alloc: Global, course: Course, work: usize) -> Result<Self, Memory> {
+    pub fn new(
+        alloc: Global,
+        input: Input<'d>,
+        course: Course,
+        work: usize,
+    ) -> Result<Self, Memory> {
         let mut heads = Vec::new(alloc);
         heads.push(Head {
             vertex: course.depth.wrapping_sub(1),
             what: course.row,
         })?;
         Ok(Fork {
+            input,
             graph: Graph::new(alloc, course.depth, work),
             heads,
             at: course.at,
@@ -63,12 +81,28 @@ impl Fork {
         })
     }
 
+    /// The work that is left to do.
+    pub fn work(&self) -> usize {
+        self.graph.work()
+    }
+
+    /// What was found, once a way is.
+    pub fn into_found(self) -> Found {
+        let row = match self.heads.as_slice() {
+            [head] if self.accepted.is_none() => Some(head.what),
+            _ => None,
+        };
+        Found {
+            graph: self.graph,
+            way: self.way,
+            bottom: self.bottom,
+            at: self.at,
+            row,
+        }
+    }
+
     /// Does all that may be done at this place.
-    pub fn settle(
-        &mut self,
-        input: Input<'_>,
-        automaton: &mut Automaton<'_>,
-    ) -> Result<(), Memory> {
+    fn settle(&mut self, automaton: &mut Automaton<'_>) -> Result<(), Memory> {
         'heads: for _ in 0..self.graph.work() {
             if self.graph.is_spent() {
                 break;
@@ -76,10 +110,10 @@ impl Fork {
             if let Some(head) = self.heads.get(self.done) {
                 let head = *head;
                 self.done = self.done.wrapping_add(1);
-                self.see_to(input, automaton, head, false)?;
+                self.see_to(automaton, head, false)?;
             } else if self.again {
                 self.again = false;
-                self.reduce_again(input, automaton)?;
+                self.reduce_again(automaton)?;
             } else {
                 break;
             }
@@ -88,17 +122,13 @@ impl Fork {
     }
 
     /// Does once more the reductions of all heads, since there are new ways down.
-    fn reduce_again(
-        &mut self,
-        input: Input<'_>,
-        automaton: &mut Automaton<'_>,
-    ) -> Result<(), Memory> {
+    fn reduce_again(&mut self, automaton: &mut Automaton<'_>) -> Result<(), Memory> {
         'heads: for place in 0..self.heads.len() {
             let Some(head) = self.heads.get(place) else {
                 break;
             };
             let head = *head;
-            self.see_to(input, automaton, head, true)?;
+            self.see_to(automaton, head, true)?;
         }
         Ok(())
     }
@@ -106,49 +136,44 @@ impl Fork {
     /// Does the actions of a head, or only the reductions among them.
     fn see_to(
         &mut self,
-        input: Input<'_>,
         automaton: &mut Automaton<'_>,
         head: Head,
         again: bool,
     ) -> Result<(), Memory> {
         self.graph.spend();
-        let action = action_at(automaton, input.doc, head.what, self.at)?;
+        let action = action_at(automaton, self.input.doc, head.what, self.at)?;
         match fork_of(action) {
             Some(number) if action & KIND == 0 => {
                 'actions: for place in 0..automaton.forks.at(number).len() {
-                    let action = automaton.forked(number, place);
-                    self.act(input, automaton, head.vertex, action, again)?;
+                    let what = automaton.forked(number, place);
+                    if !again || is_reduction(what) {
+                        self.act(automaton, Head { what, ..head })?;
+                    }
                 }
                 Ok(())
             }
-            _ => self.act(input, automaton, head.vertex, action, again),
+            _ if again && !is_reduction(action) => Ok(()),
+            _ => self.act(
+                automaton,
+                Head {
+                    what: action,
+                    ..head
+                },
+            ),
         }
     }
 
-    /// Does an action at a vertex, or only if it is a reduction.
-    fn act(
-        &mut self,
-        input: Input<'_>,
-        automaton: &mut Automaton<'_>,
-        vertex: u32,
-        action: u32,
-        again: bool,
-    ) -> Result<(), Memory> {
-        if action & KIND == REDUCE || action & KIND == REDUCE | TOKEN {
-            return self.reduce(input, automaton, vertex, action);
-        }
-        if again {
-            return Ok(());
-        }
-        if action & SHIFT != 0 {
-            self.next.push(Head {
-                vertex,
-                what: action,
-            })?;
+    /// Does the action of a head.
+    fn act(&mut self, automaton: &mut Automaton<'_>, head: Head) -> Result<(), Memory> {
+        let action = head.what;
+        if is_reduction(action) {
+            self.reduce(automaton, head)?;
+        } else if action & SHIFT != 0 {
+            self.next.push(head)?;
         } else if action & TOKEN != 0 {
-            self.push(action >> 3, vertex, self.at)?;
+            self.push(action >> 3, head.vertex, self.at)?;
         } else if action == ACCEPT {
-            self.accepted = Some(vertex);
+            self.accepted = Some(head.vertex);
         }
         Ok(())
     }
@@ -163,23 +188,18 @@ impl Fork {
         Ok(())
     }
 
-    /// Ends a production on all ways down from a vertex.
-    fn reduce(
-        &mut self,
-        input: Input<'_>,
-        automaton: &mut Automaton<'_>,
-        vertex: u32,
-        action: u32,
-    ) -> Result<(), Memory> {
+    /// Ends a production on all ways down from a head.
+    fn reduce(&mut self, automaton: &mut Automaton<'_>, head: Head) -> Result<(), Memory> {
+        let action = head.what;
         let cell = automaton.states.production_cell(action >> 3);
         let token = (action & TOKEN) >> 1;
         let length = (cell & MOST_ITEMS).saturating_sub(token);
-        self.graph.find(input.stack, vertex, length)?;
+        self.graph.find(self.input.stack, head.vertex, length)?;
         'ways: for way in 0..self.graph.bottoms.len() {
             if self.graph.is_spent() {
                 break;
             }
-            self.reduce_way(input, automaton, way, length, action)?;
+            self.reduce_way(automaton, way, length, action)?;
         }
         Ok(())
     }
@@ -187,7 +207,6 @@ impl Fork {
     /// Ends a production on one way down.
     fn reduce_way(
         &mut self,
-        input: Input<'_>,
         automaton: &mut Automaton<'_>,
         way: usize,
         length: u32,
@@ -197,7 +216,7 @@ impl Fork {
             return Ok(());
         };
         let bottom = *bottom;
-        let below = self.graph.entry(input.stack, bottom);
+        let below = self.graph.entry(self.input.stack, bottom);
         let token = (action & TOKEN) >> 1;
         let reduction = Reduction {
             production: action >> 3,
@@ -249,7 +268,7 @@ impl Fork {
     }
 
     /// Goes to the next place with the actions that took a symbol.
-    pub fn step(&mut self, input: Input<'_>, automaton: &mut Automaton<'_>) -> Result<(), Memory> {
+    fn step(&mut self, automaton: &mut Automaton<'_>) -> Result<(), Memory> {
         self.at = self.at.wrapping_add(1);
         self.heads.clear();
         self.done = 0;
@@ -262,49 +281,40 @@ impl Fork {
                 break;
             };
             let head = *head;
-            self.take(input, automaton, head)?;
+            self.take(automaton, head)?;
         }
         Ok(())
     }
 
     /// Does what is left of an action that took a symbol.
-    fn take(
-        &mut self,
-        input: Input<'_>,
-        automaton: &mut Automaton<'_>,
-        head: Head,
-    ) -> Result<(), Memory> {
-        if head.what & KIND != SHIFT {
-            return self.act(input, automaton, head.vertex, head.what & !SHIFT, false);
+    fn take(&mut self, automaton: &mut Automaton<'_>, head: Head) -> Result<(), Memory> {
+        let Head { vertex, what } = head;
+        if what & KIND != SHIFT {
+            let what = what & !SHIFT;
+            return self.act(automaton, Head { vertex, what });
         }
-        self.heads.push(Head {
-            vertex: head.vertex,
-            what: head.what >> 3,
-        })?;
+        let what = what >> 3;
+        self.heads.push(Head { vertex, what })?;
         Ok(())
     }
 
     /// Reads on until the document is read, all heads are gone, or one head is left whose way down is the
     /// only one; reports whether there is a way.
-    pub fn read(
-        &mut self,
-        input: Input<'_>,
-        automaton: &mut Automaton<'_>,
-    ) -> Result<bool, Memory> {
-        'places: for _ in 0..input.doc.len() {
-            self.settle(input, automaton)?;
+    pub fn read(&mut self, automaton: &mut Automaton<'_>) -> Result<bool, Memory> {
+        'places: for _ in 0..self.input.doc.len() {
+            self.settle(automaton)?;
             if self.graph.is_spent() || automaton.is_spent() {
                 return Ok(false);
             }
             if let Some(vertex) = self.accepted {
-                return self.find_way(input, vertex);
+                return self.find_way(vertex);
             }
-            self.step(input, automaton)?;
+            self.step(automaton)?;
             match self.heads.as_slice() {
                 [] => return Ok(false),
                 [head] => {
                     let vertex = head.vertex;
-                    if self.wait == 0 && self.find_way(input, vertex)? {
+                    if self.wait == 0 && self.find_way(vertex)? {
                         return Ok(true);
                     }
                     self.wait = self.wait.saturating_sub(1);
@@ -316,9 +326,12 @@ impl Fork {
     }
 
     /// Finds the only way down from a vertex, and reports whether there is one.
-    fn find_way(&mut self, input: Input<'_>, vertex: u32) -> Result<bool, Memory> {
+    fn find_way(&mut self, vertex: u32) -> Result<bool, Memory> {
         self.way.clear();
-        match self.graph.way_down(input.stack, vertex, &mut self.way)? {
+        match self
+            .graph
+            .way_down(self.input.stack, vertex, &mut self.way)?
+        {
             Some(bottom) => {
                 self.bottom = bottom;
                 Ok(true)
@@ -329,6 +342,11 @@ impl Fork {
             }
         }
     }
+}
+
+/// Whether an action ends a production, at the last symbol that was read or after it.
+fn is_reduction(action: u32) -> bool {
+    action & KIND == REDUCE || action & KIND == REDUCE | TOKEN
 }
 
 /// The action of a row at a place of the document, after all lookahead.

@@ -58,7 +58,7 @@ pub enum Added {
 /// base, and those from the base on its own.
 #[derive(Drop)]
 pub struct Graph {
-    pub base: u32,
+    base: u32,
     pub reductions: Vec<Reduction>,
     pub parts: Vec<u32>,
     /// Of the last search for ways down: the vertices at which they end, and the parts on each, from

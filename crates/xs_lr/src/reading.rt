@@ -1,7 +1,7 @@
 use crate::action::{KIND, LOOK};
 use crate::automaton::{Automaton, MOST_LOOKAHEAD};
 use crate::course::{Course, Entry, Stop};
-use crate::fork::{Fork, Input};
+use crate::fork::{Fork, Found, Input};
 use crate::made::Made;
 use crate::straight::read_on;
 use crate::tree::{Tree, grow, put};
@@ -123,37 +123,38 @@ impl<'d> Reading<'d> {
 
     /// Reads in all ways that are allowed, until there is one.
     fn fork(&mut self, automaton: &mut Automaton<'_>) -> Result<Outcome, Memory> {
-        let mut fork = Fork::new(self.alloc, self.course, self.work)?;
         let input = Input {
             doc: self.doc,
             stack: &self.stack,
         };
-        let found = fork.read(input, automaton)?;
-        self.work = fork.graph.work();
-        if !found {
+        let mut fork = Fork::new(self.alloc, input, self.course, self.work)?;
+        let is_found = fork.read(automaton)?;
+        self.work = fork.work();
+        if !is_found {
             return Ok(Outcome::GiveUp);
         }
-        self.join(&fork)?;
-        match fork.heads.as_slice() {
-            [head] if fork.accepted.is_none() => {
-                self.course.row = head.what;
+        let found = fork.into_found();
+        self.join(&found)?;
+        match found.row {
+            None => Ok(Outcome::Read),
+            Some(row) => {
+                self.course.row = row;
                 Ok(Outcome::GoOn)
             }
-            _ => Ok(Outcome::Read),
         }
     }
 
     /// Takes over the way that a fork found: its nodes, and its entries on the stack.
-    fn join(&mut self, fork: &Fork) -> Result<(), Memory> {
-        let mut made = Made::new(self.alloc, &fork.graph)?;
-        'entries: for entry in &fork.way {
+    fn join(&mut self, found: &Found) -> Result<(), Memory> {
+        let mut made = Made::new(self.alloc, &found.graph)?;
+        'entries: for entry in &found.way {
             made.want(entry.part)?;
         }
-        made.close(&fork.graph)?;
-        made.put(&fork.graph, &mut self.tree)?;
-        self.course.at = fork.at;
-        self.course.depth = fork.bottom.wrapping_add(1);
-        'way: for entry in fork.way.iter().rev() {
+        made.close(&found.graph)?;
+        made.put(&found.graph, &mut self.tree)?;
+        self.course.at = found.at;
+        self.course.depth = found.bottom.wrapping_add(1);
+        'way: for entry in found.way.iter().rev() {
             self.put_entry(Entry {
                 part: made.part(entry.part),
                 ..*entry

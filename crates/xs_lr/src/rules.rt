@@ -30,7 +30,7 @@ pub struct Production {
 /// places of a production stand in a row, and after its last item that of its end.
 #[derive(Drop)]
 pub struct Rules {
-    pub tokens: u32,
+    tokens: u32,
     pub nons: u32,
     pub productions: Vec<Production>,
     pub places: Vec<Place>,
@@ -92,6 +92,11 @@ impl Rules {
     /// The last production, that of the new start nonterminal.
     pub fn whole(&self) -> u32 {
         capped(self.productions.len()).wrapping_sub(1)
+    }
+
+    /// The symbol of a nonterminal.
+    pub fn symbol(&self, non: u32) -> u32 {
+        self.tokens.wrapping_add(non)
     }
 
     /// The number of a symbol as a nonterminal, or None for a token.

@@ -98,7 +98,7 @@ impl Sets {
     /// Joins what a production can begin with to FIRST of its nonterminal.
     fn join_first(&mut self, rules: &Rules, production: u32) -> bool {
         let production = rules.production(production);
-        let head = rules.tokens.wrapping_add(production.head);
+        let head = rules.symbol(production.head);
         let mut changed = false;
         'items: for item in 0..production.length {
             let symbol = rules.place(production.start.wrapping_add(item)).symbol;

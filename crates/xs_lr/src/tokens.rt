@@ -11,17 +11,17 @@ const MOST_STEPS: usize = 1 << 22;
 
 /// What a position reads: an atom of a class, or one atom.
 #[derive(Clone, Copy)]
-pub enum Reads {
+enum Reads {
     Class(u32),
     Atom(u16),
 }
 
 /// A state of the automaton of a token: its token, what it reads, and whether a word may end there.
 #[derive(Clone, Copy)]
-pub struct State {
-    pub token: u32,
-    pub reads: Reads,
-    pub is_last: bool,
+struct State {
+    token: u32,
+    reads: Reads,
+    is_last: bool,
 }
 
 /// The tokens of a grammar: its terminals, its ignorables, and each distinct fixed word once.
@@ -32,7 +32,7 @@ pub struct Tokens {
     pub count: u32,
     pub nullable: Vec<bool>,
     pub first: Lists<u32>,
-    pub positions: Vec<State>,
+    positions: Vec<State>,
     pub follow: Lists<u32>,
     steps: usize,
     ignorables: u32,
@@ -68,12 +68,7 @@ impl Tokens {
     /// Appends the tokens of the terminals.
     fn push_terminals(&mut self, alloc: Global, g: &Gram, atoms: &Atoms) -> Result<(), Memory> {
         'terminals: for term in 0..g.terms() {
-            let automaton = g.term(term);
-            let from = capped(self.positions.len());
-            'positions: for position in 0..capped(automaton.classes.len()) {
-                self.push_position(Reads::Class(atoms.term_class(term, position)))?;
-            }
-            self.push_token(alloc, automaton, from)?;
+            self.push_leaf(alloc, g.term(term), atoms.term_classes(term))?;
         }
         Ok(())
     }
@@ -81,13 +76,24 @@ impl Tokens {
     /// Appends the tokens of the ignorables.
     fn push_ignorables(&mut self, alloc: Global, g: &Gram, atoms: &Atoms) -> Result<(), Memory> {
         'ignorables: for skip in 0..g.skips() {
-            let automaton = g.skip(skip);
-            let from = capped(self.positions.len());
-            'positions: for position in 0..capped(automaton.classes.len()) {
-                self.push_position(Reads::Class(atoms.skip_class(skip, position)))?;
-            }
-            self.push_token(alloc, automaton, from)?;
+            self.push_leaf(alloc, g.skip(skip), atoms.skip_classes(skip))?;
         }
+        Ok(())
+    }
+
+    /// Appends the token of an automaton whose positions have classes of these numbers.
+    fn push_leaf(
+        &mut self,
+        alloc: Global,
+        automaton: &Position,
+        classes: &[u32],
+    ) -> Result<(), Memory> {
+        let from = capped(self.positions.len());
+        'positions: for position in 0..automaton.classes.len() {
+            let class = classes.get(position).copied().unwrap_or(0);
+            self.push_position(Reads::Class(class))?;
+        }
+        self.push_token(alloc, automaton, from)?;
         Ok(())
     }
 
