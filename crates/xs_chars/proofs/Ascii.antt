@@ -7,7 +7,7 @@ use Rattle.std.proofs.lemmas.Str.{chars-IsAscii}
 use Rattle.std.proofs.lemmas.Str.Ascii.{All-from_ascii}
 use Rattle.unicode_normalization.specs.Forms.{Nfc as composed, Nfd as decomposed}
 use Rattle.unicode_normalization.proofs.FormsLemmas.{normalize-ascii}
-use Rattle.xs_chars.specs.Forms.{in_form}
+use Rattle.xs_chars.specs.Text.{in_form}
 use Rattle.xs_chars.specs.declared.form.Form.{Form}
 use Rattle.xs_chars.specs.declared.form.Form.TheVariants.{AsIs, Nfc, Nfd}
 

@@ -1,4 +1,3 @@
-pub mod Forms
 pub mod Text
 pub mod Laws
 -- what other crates' contracts cite

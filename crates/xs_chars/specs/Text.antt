@@ -1,8 +1,9 @@
 -- Text documents: the characters of bytes, and the bytes of characters.
 use Rattle.std.specs.Prelude.{◌≡◌, ℕ, ◌≤◌, ◌==◌, List, [], ◌∷◌, length, take, Bool, true, false, encode_utf8_all, if◌then◌else◌}
 use Rattle.std.specs.Str.{chars, IsUtf8, all_scalars}
+use Rattle.unicode_normalization.specs.Forms.{nfc as composed, nfd as decomposed}
 use Rattle.xs_chars.specs.declared.form.Form.{Form}
-use Rattle.xs_chars.specs.Forms.{in_form}
+use Rattle.xs_chars.specs.declared.form.Form.TheVariants.{AsIs, Nfc, Nfd}
 
 -- no text is read that has that many symbols, so that each place in one has a number of 32 bits
 abbrev pub symbol_limit : ℕ
@@ -11,6 +12,12 @@ symbol_limit = 4294967295
 -- each symbol is a character: a Unicode scalar value
 abbrev pub AreCharacters : List ℕ → Type 0
 AreCharacters w = all_scalars w ≡ true
+
+-- the characters in a normal form of Unicode (UAX 15), or as they are
+abbrev pub in_form : Form → List ℕ → List ℕ
+in_form AsIs w = w
+in_form Nfc w = composed w
+in_form Nfd w = decomposed w
 
 -- the byte order mark, U+FEFF
 abbrev pub byte_order_mark : ℕ

@@ -1,7 +1,6 @@
-ghost use Rattle.std.specs.Prelude.{◌≡◌, ◌<◌, length, string_bytes, encode_utf8_all, IsTrue, IfOk};
+ghost use Rattle.std.specs.Prelude.{◌≡◌, ◌<◌, length, string_bytes, encode_utf8_all, MatchOption, IfOk};
 ghost use Rattle.std.specs.Str.{chars};
-ghost use Rattle.xs_chars.specs.Forms.{in_form};
-ghost use Rattle.xs_chars.specs.Text.{symbol_limit, AreCharacters};
+ghost use Rattle.xs_chars.specs.Text.{in_form, symbol_limit, AreCharacters};
 
 use crate::strings::{ascii_word, utf8_of, word_of};
 use std::alloc::Global;
@@ -20,25 +19,21 @@ pub enum Form {
 /// How many symbols a form may have, so that each place has a number of 32 bits.
 const MOST_SYMBOLS: usize = 4_294_967_294;
 
-/// Whether a quick look shows that the text is in the form.
-fn is_surely_in(text: &str, form: Form) -> bool
-    ensures { IsTrue result → in_form form (chars text.now) ≡ chars text.now }
+/// The text in the form: none where it is to stay as it is, or a quick look shows that it is in
+/// the form already.
+fn put_into(alloc: Global, text: &str, form: Form) -> Result<Option<String>, Memory>
+    ensures { IfOk result (λ put. MatchOption put (in_form form (chars text.now) ≡ chars text.now) (λ t. string_bytes t ≡ encode_utf8_all (in_form form (chars text.now)))) }
 {
     match form {
-        Form::AsIs => true,
-        Form::Nfc => matches!(is_nfc_quick(text.chars()), QuickCheck::Yes),
-        Form::Nfd => matches!(is_nfd_quick(text.chars()), QuickCheck::Yes),
-    }
-}
-
-/// The text in the form.
-fn put_into(alloc: Global, text: &str, form: Form) -> Result<String, Memory>
-    ensures { IfOk result (λ t. string_bytes t ≡ encode_utf8_all (in_form form (chars text.now))) }
-{
-    match form {
-        Form::AsIs => Ok(String::from_str(alloc, text)?),
-        Form::Nfc => Ok(to_nfc(alloc, text)?),
-        Form::Nfd => Ok(to_nfd(alloc, text)?),
+        Form::AsIs => Ok(None),
+        Form::Nfc => match is_nfc_quick(text.chars()) {
+            QuickCheck::Yes => Ok(None),
+            _ => Ok(Some(to_nfc(alloc, text)?)),
+        },
+        Form::Nfd => match is_nfd_quick(text.chars()) {
+            QuickCheck::Yes => Ok(None),
+            _ => Ok(Some(to_nfd(alloc, text)?)),
+        },
     }
 }
 
@@ -50,11 +45,10 @@ fn changed(alloc: Global, text: &str, form: Form) -> Result<Word, Memory>
     if text.is_ascii() {
         return ascii_word(alloc, text);
     }
-    if is_surely_in(text, form) {
-        return word_of(alloc, text);
+    match put_into(alloc, text, form)? {
+        None => word_of(alloc, text),
+        Some(put) => word_of(alloc, put.as_str()),
     }
-    let put = put_into(alloc, text, form)?;
-    word_of(alloc, put.as_str())
 }
 
 /// The text's characters in the form.

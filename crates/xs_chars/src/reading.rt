@@ -20,9 +20,9 @@ pub enum DecodeFault {
 
 impl From<Memory> for DecodeFault {
     ghost use Rattle.std.specs.Prelude.{◌≡◌};
-    ghost use Rattle.xs_chars.specs.declared.reading.DecodeFault.TheVariants.{Memory};
+    ghost use Rattle.xs_chars.specs.declared.reading.DecodeFault.TheVariants as fault;
 
-    ghost from_gives = { λ _ e. e ≡ Memory };
+    ghost from_gives = { λ _ e. e ≡ fault.Memory };
 
     fn from(_: Memory) -> Self {
         DecodeFault::Memory

@@ -2,7 +2,7 @@ use Rattle.std.proofs.Common.{◌≡◌, ◌∙◌, ap, rules, encode_utf8_all}
 use Rattle.std.specs.Str.{chars}
 use Rattle.std.proofs.lemmas.Str.{chars-encodes}
 use Rattle.std.proofs.lemmas.Result.{IfOk-weaker}
-use Rattle.xs_chars.specs.Forms.{in_form}
+use Rattle.xs_chars.specs.Text.{in_form}
 use Rattle.xs_chars.proofs.form.in_form.Goals as goal
 
 pub returns-clause-form : goal.returns-clause-form

@@ -1,9 +1,0 @@
-use Rattle.std.proofs.Common.{chars, refl}
-use Rattle.unicode_normalization.proofs.IterLemmas.{Spells-chars}
-use Rattle.xs_chars.proofs.form.is_surely_in.Goals as goal
-
-pub returns-in-Yes : goal.returns-in-Yes
-returns-in-Yes c = λ t. rw c.in-Nfc.is (c.in-Yes.ensures.yes (chars c.args.text.now) (Spells-chars c.chars.result _ c.utf8.text c.chars.ensures.rest) refl)
-
-pub returns-in-Yes-matches : goal.returns-in-Yes-matches
-returns-in-Yes-matches c = λ t. rw c.in-Nfd.is (c.in-Yes-matches.ensures.yes (chars c.args.text.now) (Spells-chars c.chars-in-Nfd.result _ c.utf8.text c.chars-in-Nfd.ensures.rest) refl)
