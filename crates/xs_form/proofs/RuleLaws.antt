@@ -1,7 +1,7 @@
 -- The rules of a legal list, when one more piece goes on it.
 use Rattle.std.proofs.Common.{◌≡◌, ℕ, List, [], ◌∷◌, ◌++◌, append-nil, append_assoc, Bool, true, false, not, ◌==◌, ◌&&◌, ◌||◌, if◌then◌else◌, Some, None, refl, sym, ◌∙◌, ap}
 use Rattle.std.specs.declared.option.Option.{Option}
-use Rattle.xs_xml.specs.Piece.{Piece, declaration, character, line_end, reference, start_tag, empty_tag, end_tag, comment, instruction, cdata}
+use Rattle.xs_xml.specs.Piece.{Piece, declaration}
 use Rattle.xs_xml.specs.Legal.{Spot, no_declaration, is_first, passed, all_passed, is_that, no_section_end}
 use Rattle.xs_xml.specs.Reads.{symbols, all_symbols}
 use Rattle.xs_class.proofs.Truth.{and_no}
@@ -18,15 +18,7 @@ is_nil (p ∷ ps) = false
 
 declaration_one : (p : Piece) (ps : List Piece) → no_declaration (p ∷ ps) ≡ (not (is_declaration p) && no_declaration ps)
 declaration_one (declaration as_ gap) ps = refl
-declaration_one (character c) ps = refl
-declaration_one line_end ps = refl
-declaration_one (reference body) ps = refl
-declaration_one (start_tag n as_ gap) ps = refl
-declaration_one (empty_tag n as_ gap) ps = refl
-declaration_one (end_tag n gap) ps = refl
-declaration_one (comment body) ps = refl
-declaration_one (instruction n body) ps = refl
-declaration_one (cdata body) ps = refl
+declaration_one p ps = refl
 
 and_assoc : (x y z : Bool) → (x && (y && z)) ≡ ((x && y) && z)
 and_assoc true y z = refl

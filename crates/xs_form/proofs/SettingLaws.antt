@@ -4,7 +4,7 @@ use Rattle.std.specs.declared.option.Option.{Option}
 use Rattle.std.specs.Option.{option_map}
 use Rattle.std.proofs.lemmas.Bool.Decides.{nat_tests}
 use Rattle.xs_xml.specs.Tables.{is_white}
-use Rattle.xs_xml.specs.Piece.{Attribute, Bit, plain, ref, declaration, is_piece, same, lower, all_of, is_text, lower_bits, is_version, is_encoding, is_standalone, are_settings, are_attributes}
+use Rattle.xs_xml.specs.Piece.{Attribute, Bit, plain, declaration, is_piece, same, lower, all_of, is_text, lower_bits, is_version, is_encoding, is_standalone, are_settings, are_attributes}
 use Rattle.xs_xml.specs.Reads.{value}
 use Rattle.xs_xml.specs.Scan.{after, span, ◌>>=◌, kept, attrs_at, declaration_end, declaration_attrs}
 use Rattle.xs_xml.proofs.Reading.{white_cases}
@@ -52,15 +52,12 @@ text_one c d e w x y true plain_c white_e same_d is = rw (other c e plain_c (whi
 text_one c d e w x y false plain_c white_e same_d is = rw (is refl, same_d refl, swap e c) (and_swap (c == e) w y)
 
 text_is : (t : List ℕ) (bits : List Bit) → is_plain t ≡ true → is_text t bits ≡ (all_written bits && same (value false bits) t)
-text_is [] [] is = refl
 text_is [] (plain d ∷ bs) is = rw (and_no (d == 10), and_no (all_written bs)) refl
-text_is [] (ref body ∷ bs) is = refl
-text_is (c ∷ t) [] is = refl
-text_is (c ∷ t) (ref body ∷ bs) is = refl
 text_is (c ∷ t) (plain d ∷ bs) is =
     let p = and_true (not (is_white c)) (is_plain t) is in
     let again = text_is t bs p.1 in
     rw (and_no (d == 10)) (text_one c d d (all_written bs) (is_text t bs) (same (value (d == 13) bs) t) (is_white d) (not_true (is_white c) p.0) (λ e. e) (λ e. refl) (λ e. again ∙ ap (λ (r : Bool). all_written bs && same (value r bs) t) (sym (return_white d e))))
+text_is t bits is = refl
 
 -- the same for the value in lower case
 lower_one : (c d : ℕ) (w x y : Bool) (s : Bool) → is_white d ≡ s → is_white c ≡ false → (s ≡ false → x ≡ (w && y)) → (c == lower d && x) ≡ (w && (lower (if s then 32 else d) == c && y))
@@ -68,15 +65,12 @@ lower_one c d w x y true e plain_c is = rw (lower_white d e, other c d plain_c e
 lower_one c d w x y false e plain_c is = rw (is refl, swap (lower d) c) (and_swap (c == lower d) w y)
 
 lower_is : (t : List ℕ) (bits : List Bit) → is_plain t ≡ true → is_text t (lower_bits bits) ≡ (all_written bits && same (map lower (value false bits)) t)
-lower_is [] [] is = refl
 lower_is [] (plain d ∷ bs) is = rw (and_no (d == 10), and_no (all_written bs)) refl
-lower_is [] (ref body ∷ bs) is = refl
-lower_is (c ∷ t) [] is = refl
-lower_is (c ∷ t) (ref body ∷ bs) is = refl
 lower_is (c ∷ t) (plain d ∷ bs) is =
     let p = and_true (not (is_white c)) (is_plain t) is in
     let again = lower_is t bs p.1 in
     rw (and_no (d == 10)) (lower_one c d (all_written bs) (is_text t (lower_bits bs)) (same (map lower (value (d == 13) bs)) t) (is_white d) refl (not_true (is_white c) p.0) (λ e. again ∙ ap (λ (r : Bool). all_written bs && same (map lower (value r bs)) t) (sym (return_white d e))))
+lower_is t bits is = refl
 
 -- the settings
 plain_texts : (is_plain (codes "1.0") ≡ true) × (is_plain (codes "utf-8") ≡ true) × (is_plain (codes "yes") ≡ true) × (is_plain (codes "no") ≡ true)

@@ -70,15 +70,15 @@ end_step names st n gap ahead is = rw is refl
 end_step names st n gap (inside m ms) is = rw is refl
 end_step names st n gap beyond is = rw is refl
 
-comment_step : (names : List (List ℕ)) (st : State) (body : List ℕ) (s : Spot) → st.spot ≡ s → step names st (seen (comment body)) ≡ next names st (comment body)
-comment_step names st body ahead is = rw is refl
-comment_step names st body (inside m ms) is = rw is refl
-comment_step names st body beyond is = rw is refl
-
 instruction_step : (names : List (List ℕ)) (st : State) (n body : List ℕ) (s : Spot) → st.spot ≡ s → step names st (seen (instruction n body)) ≡ next names st (instruction n body)
 instruction_step names st n body ahead is = rw is refl
 instruction_step names st n body (inside m ms) is = rw is refl
 instruction_step names st n body beyond is = rw is refl
+
+comment_step : (names : List (List ℕ)) (st : State) (body : List ℕ) (s : Spot) → st.spot ≡ s → step names st (seen (comment body)) ≡ next names st (comment body)
+comment_step names st body ahead is = rw is refl
+comment_step names st body (inside m ms) is = rw is refl
+comment_step names st body beyond is = rw is refl
 
 section_step : (names : List (List ℕ)) (st : State) (body : List ℕ) (s : Spot) → st.spot ≡ s → step names st (seen (cdata body)) ≡ next names st (cdata body)
 section_step names st body ahead is = rw is refl

@@ -100,8 +100,8 @@ unfolding is_char
 kept_letter q c other above below = rw other (grind (arith, nat_tests))
 
 record IsKept (q c : ℕ) : Type 0 where
-  other : (c == q) ≡ false
   char : is_char c ≡ true
+  other : (c == q) ≡ false
   no_tag : (c == 60) ≡ false
   no_reference : (c == 38) ≡ false
   no_tab : (c == 9) ≡ false
@@ -116,7 +116,7 @@ kept_parts q c is =
     let b = or_false (c == 38) (c == 9 || (c == 10 || c == 13)) a.1 in
     let d = or_false (c == 9) (c == 10 || c == 13) b.1 in
     let e = or_false (c == 10) (c == 13) d.1 in
-    record { other = not_true (c == q) o.0; char = p.0; no_tag = a.0; no_reference = b.0; no_tab = d.0; no_feed = e.0; no_return = e.1 }
+    record { char = p.0; other = not_true (c == q) o.0; no_tag = a.0; no_reference = b.0; no_tab = d.0; no_feed = e.0; no_return = e.1 }
 
 kept_at : (q c : ℕ) (cs : List ℕ) → IsKept q c → Some (Written c, cs) ≡ option_map kept_part (bit_at q (c ∷ cs))
 kept_at q c cs is = rw (is.no_reference, is.char, is.no_tag, is.other) refl

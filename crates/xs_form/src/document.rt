@@ -19,9 +19,9 @@ pub enum XmlFault {
 
 impl From<Memory> for XmlFault {
     ghost use Rattle.std.specs.Prelude.{◌≡◌};
-    ghost use Rattle.xs_form.specs.declared.document.XmlFault.TheVariants.{Memory};
+    ghost use Rattle.xs_form.specs.declared.document.XmlFault.TheVariants as fault;
 
-    ghost from_gives = { λ _ e. e ≡ Memory };
+    ghost from_gives = { λ _ e. e ≡ fault.Memory };
 
     fn from(_: Memory) -> Self {
         XmlFault::Memory

@@ -86,17 +86,6 @@ fn end_tag(text: &[Sym]) -> Option<(Event<'_>, &[Sym])>
     Some((Event::End(name), rest))
 }
 
-/// A CDATA section, after its `<![CDATA[`.
-fn section(text: &[Sym]) -> Option<(Event<'_>, &[Sym])>
-    ensures { option_map shown_found result ≡ option_map found (in_cdata text.now) }
-{
-    let (body, rest) = cut_at(text, b"]]>")?;
-    if !all_allowed(body) {
-        return None;
-    }
-    Some((Event::Section(body), rest))
-}
-
 /// A comment, after its `<!--`.
 fn comment(text: &[Sym]) -> Option<(Event<'_>, &[Sym])>
     ensures { option_map shown_found result ≡ option_map found (in_comment text.now) }
@@ -107,6 +96,17 @@ fn comment(text: &[Sym]) -> Option<(Event<'_>, &[Sym])>
         return None;
     }
     Some((Event::Aside, rest))
+}
+
+/// A CDATA section, after its `<![CDATA[`.
+fn section(text: &[Sym]) -> Option<(Event<'_>, &[Sym])>
+    ensures { option_map shown_found result ≡ option_map found (in_cdata text.now) }
+{
+    let (body, rest) = cut_at(text, b"]]>")?;
+    if !all_allowed(body) {
+        return None;
+    }
+    Some((Event::Section(body), rest))
 }
 
 /// A comment or a CDATA section, after its <!.

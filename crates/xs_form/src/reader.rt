@@ -1,4 +1,4 @@
-ghost use Rattle.std.specs.Prelude.{◌≡◌, ◌∷◌, ◌++◌, [], false, true, IfOk, IfSome, OnOk};
+ghost use Rattle.std.specs.Prelude.{◌≡◌, ◌∷◌, ◌++◌, [], false, true, if◌then◌else◌, IfOk, IfSome, OnOk};
 ghost use Rattle.xs_xml.specs.{is_name, opening, closing, lines};
 ghost use Rattle.xs_form.specs.Sorted.{shown_ordered, entry_symbols};
 ghost use Rattle.xs_form.specs.Seen.{declared, letter, given, begins, stands, ends, aside, section, shown_event};
@@ -179,50 +179,23 @@ impl<'a> Reader<'a> {
         Ok(true)
     }
 
-    /// Takes a start tag, where it may stand here.
-    fn start(
+    /// Takes a start tag or an empty tag, where it may stand here.
+    fn tag(
         &mut self,
         alloc: Global,
         names: &Names,
         name: &'a [Sym],
         attributes: Ordered<'a>,
+        empty: bool,
     ) -> Result<bool, Memory>
         requires { is_name name.now ≡ true }
-        ensures { IfOk result (λ b. taken b (state_of self.new) ≡ step names.now (state_of self.old) (begins name.now (shown_ordered attributes.entry))) }
-    {
-        if self.names.is_empty() && self.ended {
-            return Ok(false);
-        }
-        push_opening(
-            &mut self.word,
-            &mut self.guesses,
-            alloc,
-            names,
-            name,
-            attributes,
-        )?;
-        self.names.push(name)?;
-        self.fresh = false;
-        self.run = 0;
-        Ok(true)
-    }
-
-    /// Takes an empty tag, where it may stand here.
-    fn empty(
-        &mut self,
-        alloc: Global,
-        names: &Names,
-        name: &'a [Sym],
-        attributes: Ordered<'a>,
-    ) -> Result<bool, Memory>
-        requires { is_name name.now ≡ true }
-        ensures { IfOk result (λ b. taken b (state_of self.new) ≡ step names.now (state_of self.old) (stands name.now (shown_ordered attributes.entry))) }
+        ensures { IfOk result (λ b. taken b (state_of self.new) ≡ step names.now (state_of self.old) (if empty then stands name.now (shown_ordered attributes.entry) else begins name.now (shown_ordered attributes.entry))) }
     {
         if self.names.is_empty() {
             if self.ended {
                 return Ok(false);
             }
-            self.ended = true;
+            self.ended = empty;
         }
         push_opening(
             &mut self.word,
@@ -232,7 +205,11 @@ impl<'a> Reader<'a> {
             name,
             attributes,
         )?;
-        push_closing(&mut self.word, &mut self.guesses, alloc, names, name)?;
+        if empty {
+            push_closing(&mut self.word, &mut self.guesses, alloc, names, name)?;
+        } else {
+            self.names.push(name)?;
+        }
         self.fresh = false;
         self.run = 0;
         Ok(true)
@@ -278,8 +255,8 @@ impl<'a> Reader<'a> {
             Event::Declaration => Ok(self.declaration()),
             Event::Character(c) => self.character(c),
             Event::Reference(c) => self.reference(c),
-            Event::Start { name, attributes } => self.start(alloc, names, name, attributes),
-            Event::Empty { name, attributes } => self.empty(alloc, names, name, attributes),
+            Event::Start { name, attributes } => self.tag(alloc, names, name, attributes, false),
+            Event::Empty { name, attributes } => self.tag(alloc, names, name, attributes, true),
             Event::End(name) => self.end(alloc, names, name),
             Event::Aside => {
                 self.aside();

@@ -1,10 +1,20 @@
-ghost use Rattle.std.specs.Prelude.{◌≡◌, ◌==◌, ◌<◌, ℕ, Bool, map, length};
+ghost use Rattle.std.specs.Prelude.{◌≡◌, ◌==◌, ◌<◌, ◌≤◌, ℕ, Bool, map, length, IsTrue};
 ghost use Rattle.std.specs.Option.{option_map, option_copied};
 ghost use Rattle.xs_xml.specs.{is_char, is_name_char, is_white, is_digit, is_hex, is_quote, is_name, all_of, same, lower, after, span, cut};
 ghost use Rattle.xs_form.specs.State.{is_bare};
 ghost use Rattle.xs_class.specs.{is_name_start};
 
 use xs_class::{Sym, is_char, is_name_char, is_name_start};
+
+/// A kind of symbols, by a test.
+trait Kind {
+    /// Whether a symbol is of this kind.
+    ghost test: { ℕ → Bool };
+
+    /// Whether the symbol is of this kind.
+    fn has(symbol: Sym) -> bool
+        ensures { result ≡ test symbol };
+}
 
 /// Whether the symbol is this ASCII character.
 pub fn is(symbol: Sym, byte: u8) -> bool
@@ -20,6 +30,17 @@ pub fn white(symbol: Sym) -> bool
 {
     let number = symbol.number();
     9 <= number && number <= 10 || number == 13 || number == 32
+}
+
+/// White space.
+struct WhiteSpace;
+
+impl Kind for WhiteSpace {
+    ghost test = { is_white };
+
+    fn has(symbol: Sym) -> bool {
+        white(symbol)
+    }
 }
 
 /// Whether the symbol is a quote.
@@ -55,6 +76,17 @@ pub fn allowed(number: u32) -> bool
     is_char(number)
 }
 
+/// The symbols whose numbers are those of a Char.
+struct Characters;
+
+impl Kind for Characters {
+    ghost test = { is_char };
+
+    fn has(symbol: Sym) -> bool {
+        allowed(symbol.number())
+    }
+}
+
 /// Whether the character stands for itself in content, whatever stands around it.
 pub fn bare(symbol: Sym) -> bool
     ensures { result ≡ is_bare symbol }
@@ -65,60 +97,6 @@ pub fn bare(symbol: Sym) -> bool
     }
     allowed(number)
         && !(number == 60 || number == 38 || number == 62 || number == 93 || number == 13)
-}
-
-/// Whether a Name may begin with the symbol.
-pub fn begins_name(symbol: Sym) -> bool
-    ensures { result ≡ is_name_start symbol }
-{
-    let number = symbol.number();
-    if 97 <= number && number <= 122 {
-        return true;
-    }
-    is_name_start(number)
-}
-
-/// Whether the symbol may stand in a Name.
-pub fn in_name(symbol: Sym) -> bool
-    ensures { result ≡ is_name_char symbol }
-{
-    let number = symbol.number();
-    if 97 <= number && number <= 122 {
-        return true;
-    }
-    is_name_char(number)
-}
-
-/// A kind of symbols, by a test.
-trait Kind {
-    /// Whether a symbol is of this kind.
-    ghost test: { ℕ → Bool };
-
-    /// Whether the symbol is of this kind.
-    fn has(symbol: Sym) -> bool
-        ensures { result ≡ test symbol };
-}
-
-/// The characters of names.
-struct NameCharacters;
-
-impl Kind for NameCharacters {
-    ghost test = { is_name_char };
-
-    fn has(symbol: Sym) -> bool {
-        in_name(symbol)
-    }
-}
-
-/// White space.
-struct WhiteSpace;
-
-impl Kind for WhiteSpace {
-    ghost test = { is_white };
-
-    fn has(symbol: Sym) -> bool {
-        white(symbol)
-    }
 }
 
 /// The characters that stand for themselves in content.
@@ -132,14 +110,37 @@ impl Kind for BareCharacters {
     }
 }
 
-/// The symbols whose numbers are those of a Char.
-struct Characters;
+/// Whether the number is that of a small letter of ASCII.
+fn small(number: u32) -> bool
+    ensures { IsTrue result → (97 ≤ number) × (number ≤ 122) }
+{
+    97 <= number && number <= 122
+}
 
-impl Kind for Characters {
-    ghost test = { is_char };
+/// Whether a Name may begin with the symbol.
+pub fn begins_name(symbol: Sym) -> bool
+    ensures { result ≡ is_name_start symbol }
+{
+    let number = symbol.number();
+    small(number) || is_name_start(number)
+}
+
+/// Whether the symbol may stand in a Name.
+pub fn in_name(symbol: Sym) -> bool
+    ensures { result ≡ is_name_char symbol }
+{
+    let number = symbol.number();
+    small(number) || is_name_char(number)
+}
+
+/// The characters of names.
+struct NameCharacters;
+
+impl Kind for NameCharacters {
+    ghost test = { is_name_char };
 
     fn has(symbol: Sym) -> bool {
-        allowed(symbol.number())
+        in_name(symbol)
     }
 }
 

@@ -38,32 +38,27 @@ take-requires c = event_named c.pieces.rest.now c.in-Some-2.more.now (shown_even
 
 pub returns-then-not-branch-clause-fault : goal.returns-then-not-branch-clause-fault
 returns-then-not-branch-clause-fault c =
-    let names = c.args.names.now in
-    let doc = c.args.doc.now in
     let rest = c.pieces.rest.now in
     let st = state_of c.pieces.reader in
     let s = shown_event c.in-Some-2.event in
     let is = event_is _ c.in-Some-2.event c.in-Some-2.more _ c.in-Some-2.is c.in_ok-event_at.ensures in
     let filled : (length rest == 0) ≡ false = sym c.is_empty.ensures ∙ c.pieces-test.true in
-    let at = at_doc _ doc rest c.broken-then-not-branch.result c.as_slice-whole.ensures c.broken-then-not-branch.ensures in
-    let step_is : taken c.in_ok-take-in-Some-2.field-0 (state_of c.take.new.self) ≡ step names st s = c.in_ok-take-in-Some-2.ensures in
-    let refused : None ≡ step names st s = ap (λ (b : Bool). taken b (state_of c.take.new.self)) (sym c.if-not-branch.true) ∙ step_is in
-    broken_of names doc rest st c.broken-then-not-branch.result c.pieces.invariant (piece_refused names doc rest c.in-Some-2.more.now st s c.pieces.invariant is refused) (λ e b. no_empty_list rest filled e) at
+    let at = at_doc _ c.args.doc.now rest c.broken-then-not-branch.result c.as_slice-whole.ensures c.broken-then-not-branch.ensures in
+    let step_is : taken c.in_ok-take-in-Some-2.field-0 (state_of c.take.new.self) ≡ step c.args.names.now st s = c.in_ok-take-in-Some-2.ensures in
+    let refused : None ≡ step c.args.names.now st s = ap (λ (b : Bool). taken b (state_of c.take.new.self)) (sym c.if-not-branch.true) ∙ step_is in
+    broken_of _ _ rest st c.broken-then-not-branch.result c.pieces.invariant (piece_refused c.args.names.now c.args.doc.now rest c.in-Some-2.more.now st s c.pieces.invariant is refused) (λ e b. no_empty_list rest filled e) at
 
 pub pieces-smaller : goal.pieces-smaller
 pieces-smaller c = event_shorter c.pieces.rest.now c.in-Some-2.more.now (shown_event c.in-Some-2.event) (event_is _ c.in-Some-2.event c.in-Some-2.more _ c.in-Some-2.is c.in_ok-event_at.ensures)
 
 pub pieces-preserved : goal.pieces-preserved
 pieces-preserved c =
-    let names = c.args.names.now in
-    let doc = c.args.doc.now in
-    let rest = c.pieces.rest.now in
     let st = state_of c.pieces.reader in
     let s = shown_event c.in-Some-2.event in
     let is = event_is _ c.in-Some-2.event c.in-Some-2.more _ c.in-Some-2.is c.in_ok-event_at.ensures in
-    let step_is : taken c.in_ok-take-in-Some-2.field-0 (state_of c.take.new.self) ≡ step names st s = c.in_ok-take-in-Some-2.ensures in
-    let to : Some (state_of c.take.new.self) ≡ step names st s = ap (λ (b : Bool). taken b (state_of c.take.new.self)) (sym c.if-not-branch.false) ∙ step_is in
-    piece_more names doc rest c.in-Some-2.more.now st (state_of c.take.new.self) s c.pieces.invariant is to
+    let step_is : taken c.in_ok-take-in-Some-2.field-0 (state_of c.take.new.self) ≡ step c.args.names.now st s = c.in_ok-take-in-Some-2.ensures in
+    let to : Some (state_of c.take.new.self) ≡ step c.args.names.now st s = ap (λ (b : Bool). taken b (state_of c.take.new.self)) (sym c.if-not-branch.false) ∙ step_is in
+    piece_more c.args.names.now c.args.doc.now c.pieces.rest.now c.in-Some-2.more.now st (state_of c.take.new.self) s c.pieces.invariant is to
 
 pub returns-in-Some-finish-clause-read : goal.returns-in-Some-finish-clause-read
 returns-in-Some-finish-clause-read c =

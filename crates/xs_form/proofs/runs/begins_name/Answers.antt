@@ -1,11 +1,11 @@
-use Rattle.std.proofs.Common.{ap, ◌∙◌, arith}
+use Rattle.std.proofs.Common.{refl, ap, ◌∙◌}
 use Rattle.xs_xml.proofs.TableLaws.{name_start_is}
 use Rattle.xs_form.proofs.NameLaws.{small_start}
 use Rattle.xs_form.proofs.runs.begins_name.Goals as goal
 use Rattle.xs_class.specs.Tables.{is_name_start}
 
-pub returns-then-number-le122 : goal.returns-then-number-le122
-returns-then-number-le122 c = small_start c.number-number.result (omega arith) (omega arith) ∙ ap is_name_start c.number-number.ensures
+pub returns-then-small : goal.returns-then-small
+returns-then-small c = c.if-small.true ∙ small_start c.number-number.result (c.if-small.ensures refl).0 (c.if-small.ensures refl).1 ∙ ap is_name_start c.number-number.ensures
 
-pub returns : goal.returns
-returns c = name_start_is c.is_name_start.result c.number-number.result c.is_name_start.ensures ∙ ap is_name_start c.number-number.ensures
+pub returns-else-small : goal.returns-else-small
+returns-else-small c = name_start_is c.is_name_start.result c.number-number.result c.is_name_start.ensures ∙ ap is_name_start c.number-number.ensures
