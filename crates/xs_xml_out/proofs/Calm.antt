@@ -27,28 +27,12 @@ calm_first [] calm = refl
 calm_first (p ∷ ps) calm = calm_declaration ps (and_true (is_calm p) (are_calm ps) calm).1
 
 calm_greater : (p : Piece) → is_calm p ≡ true → is_that 62 p ≡ false
-calm_greater (declaration bs gap) calm = refl
 calm_greater (character c) calm = not_true (62 == c) (and_true (not (62 == c)) (not (c == 13)) calm).0
-calm_greater line_end calm = refl
-calm_greater (reference body) calm = refl
-calm_greater (start_tag m bs gap) calm = refl
-calm_greater (empty_tag m bs gap) calm = refl
-calm_greater (end_tag m gap) calm = refl
-calm_greater (comment body) calm = refl
-calm_greater (instruction m body) calm = refl
-calm_greater (cdata body) calm = refl
+calm_greater p calm = refl
 
 calm_alone : (p : Piece) (rest : List ℕ) → is_calm p ≡ true → is_alone p rest ≡ true
-calm_alone (declaration bs gap) rest calm = refl
 calm_alone (character c) rest calm = rw (not_true (c == 13) (and_true (not (62 == c)) (not (c == 13)) calm).1) refl
-calm_alone line_end rest calm = refl
-calm_alone (reference body) rest calm = refl
-calm_alone (start_tag m bs gap) rest calm = refl
-calm_alone (empty_tag m bs gap) rest calm = refl
-calm_alone (end_tag m gap) rest calm = refl
-calm_alone (comment body) rest calm = refl
-calm_alone (instruction m body) rest calm = refl
-calm_alone (cdata body) rest calm = refl
+calm_alone p rest calm = refl
 
 all_calm_alone : (ps : List Piece) (rest : List ℕ) → are_calm ps ≡ true → are_alone ps rest ≡ true
 all_calm_alone [] rest calm = refl

@@ -3,7 +3,6 @@ use Rattle.std.proofs.Common.{◌≡◌, ℕ, ◌<◌, List, [], ◌∷◌, ◌+
 use Rattle.std.specs.Prelude.{slice_get}
 use lib.Utf8.{scalar, scalars}
 use Rattle.std.proofs.lemmas.Bool.Decides.{nat_tests}
-use Rattle.std.proofs.lemmas.Str.{chars-encodes}
 use Rattle.std.proofs.lemmas.List.Elements.{All-head, All-tail, All-get_or}
 use Rattle.xs_class.specs.Marks.{opening_mark, closing_mark}
 use Rattle.xs_xml.specs.Tables.{is_name_char}
@@ -15,7 +14,7 @@ use Rattle.xs_xml_out.specs.declared.mode.Mode.TheVariants.{Content, Tag, Value}
 use Rattle.xs_xml_out.specs.Balanced.{attributes_word, IsBalanced}
 use Rattle.xs_xml_out.specs.Written.{symbol_kind, name_at, content_char, value_char, put, next, written, xml_chars}
 use Rattle.xs_xml_out.specs.Spelling.{IsKnown, IsKnownSymbol, AreKnown}
-use Rattle.xs_xml_out.specs.Laws.{AreNames, IsDecoded, BeginsWithTag}
+use Rattle.xs_xml_out.specs.Laws.{AreNames, BeginsWithTag}
 use Rattle.xs_xml_out.proofs.Known.{balanced_known}
 use Rattle.xs_xml_out.proofs.SymbolKinds.{symbol_kind-opening_mark}
 use Rattle.xs_class.proofs.Truth.{and_true, both_true}
@@ -96,9 +95,6 @@ module _ (names : List (List ℕ)) (are_names : AreNames names) where
 
 opening_first : (names : List (List ℕ)) (k : ℕ) (rest : List ℕ) → slice_get (xml_chars names (opening_mark k ∷ rest)) 0 ≡ Some 60
 opening_first names k rest = rw (symbol_kind-opening_mark k) refl
-
-pub is_decoded : IsDecoded
-is_decoded names word are_names balanced = chars-encodes (xml_chars names word) (xml_scalars names are_names word balanced)
 
 pub begins_with_tag : BeginsWithTag
 begins_with_tag names word balanced = subst (λ (z : List ℕ). slice_get (xml_chars names z) 0 ≡ Some 60) (sym balanced.is) (opening_first names balanced.name (attributes_word balanced.attributes (balanced.content ++ closing_mark balanced.name ∷ [])))

@@ -63,12 +63,13 @@ fn content_char(c: char) -> Body
 fn value_char(c: char) -> Body
     ensures { body_bytes result ≡ encode_utf8_all (value_char c) }
 {
-    match c {
-        '"' => Body::Text("&quot;"),
-        '\t' => Body::Text("&#x9;"),
-        '\n' => Body::Text("&#xA;"),
-        _ => content_char(c),
-    }
+    let text = match c {
+        '"' => "&quot;",
+        '\t' => "&#x9;",
+        '\n' => "&#xA;",
+        _ => return content_char(c),
+    };
+    Body::Text(text)
 }
 
 /// Appends what is written for a character.
@@ -106,8 +107,7 @@ fn put_attribute(out: &mut String, tags: &Tags, mode: Mode, k: u32) -> Result<()
 {
     match mode {
         Mode::Tag => put_text(out, tags.attribute(k)),
-        Mode::Content => Ok(()),
-        Mode::Value => Ok(()),
+        Mode::Content | Mode::Value => Ok(()),
     }
 }
 
@@ -129,8 +129,7 @@ fn put_value_end(out: &mut String, mode: Mode) -> Result<(), Memory>
 {
     match mode {
         Mode::Value => put_text(out, "\""),
-        Mode::Content => Ok(()),
-        Mode::Tag => Ok(()),
+        Mode::Content | Mode::Tag => Ok(()),
     }
 }
 

@@ -12,13 +12,13 @@ use xs_class::{Memory, Names, Text};
 #[derive(Debug, Drop)]
 pub struct NameTags {
     /// The opening of an element, up to its name.
-    pub opening: Text,
+    opening: Text,
     /// The end of a start tag, and the opening of an element in it.
-    pub nested: Text,
+    nested: Text,
     /// An attribute up to its value.
-    pub attribute: Text,
+    attribute: Text,
     /// An end tag.
-    pub closing: Text,
+    closing: Text,
 }
 
 /// The texts of the tags of names, which contracts see as the list of the names.
