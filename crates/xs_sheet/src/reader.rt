@@ -29,9 +29,10 @@ pub enum SheetFault {
 }
 
 impl From<Memory> for SheetFault {
-    ghost use Rattle.xs_sheet.specs.declared.reader.SheetFault.TheVariants as F;
+    ghost use Rattle.std.specs.Prelude.{◌≡◌};
+    ghost use Rattle.xs_sheet.specs.declared.reader.SheetFault.TheVariants as fault;
 
-    ghost from_gives = { λ _ e. e ≡ F.Memory };
+    ghost from_gives = { λ _ e. e ≡ fault.Memory };
 
     fn from(_: Memory) -> Self {
         SheetFault::Memory

@@ -21,9 +21,9 @@ pub enum Stop {
 
 impl From<Memory> for Stop {
     ghost use Rattle.std.specs.Prelude.{◌≡◌};
-    ghost use Rattle.xs_top.specs.declared.stop.Stop.TheVariants as S;
+    ghost use Rattle.xs_top.specs.declared.stop.Stop.TheVariants as fault;
 
-    ghost from_gives = { λ _ e. e ≡ S.Memory };
+    ghost from_gives = { λ _ e. e ≡ fault.Memory };
 
     fn from(_: Memory) -> Self {
         Stop::Memory

@@ -13,9 +13,9 @@ pub enum TurnFault {
 
 impl From<Memory> for TurnFault {
     ghost use Rattle.std.specs.Prelude.{◌≡◌};
-    ghost use Rattle.xs_turn.specs.declared.fault.TurnFault.TheVariants as F;
+    ghost use Rattle.xs_turn.specs.declared.fault.TurnFault.TheVariants as fault;
 
-    ghost from_gives = { λ _ e. e ≡ F.Memory };
+    ghost from_gives = { λ _ e. e ≡ fault.Memory };
 
     fn from(_: Memory) -> Self {
         TurnFault::Memory

@@ -22,9 +22,9 @@ pub enum WfFault {
 
 impl From<Memory> for WfFault {
     ghost use Rattle.std.specs.Prelude.{◌≡◌};
-    ghost use Rattle.xs_wf.specs.declared.well.WfFault.TheVariants as F;
+    ghost use Rattle.xs_wf.specs.declared.well.WfFault.TheVariants as fault;
 
-    ghost from_gives = { λ _ e. e ≡ F.Memory };
+    ghost from_gives = { λ _ e. e ≡ fault.Memory };
 
     fn from(_: Memory) -> Self {
         WfFault::Memory
