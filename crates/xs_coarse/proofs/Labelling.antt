@@ -1,21 +1,27 @@
 -- The left fence symbols by the numbers of groups, and the bits of the labels.
-use Rattle.std.proofs.Common.{◌≡◌, ℕ, zero, suc, ◌+◌, ◌*◌, ◌/◌, ◌%◌, ◌<◌, ◌≤◌, inl, inr, Bool, true, false, cond, List, [], ◌∷◌, ◌++◌, length, length-append, map, set, get_or, take, slice_get, Some, refl, sym, ap, subst, ◌∙◌, zero-add, arith}
+use Rattle.std.proofs.Common.{◌≡◌, ℕ, zero, suc, ◌+◌, ◌*◌, ◌/◌, ◌%◌, ◌<◌, ◌≤◌, inl, inr, Bool, true, false, cond, List, [], ◌∷◌, ◌++◌, length, length-append, append-nil, map, set, get_or, take, slice_get, Some, refl, sym, ap, subst, ◌∙◌, zero-add, arith}
 use Rattle.std.specs.List.{filter}
 use Rattle.std.specs.Prelude.{◌==◌}
 use Rattle.std.proofs.Math.Nat.{mul-le-mul_left}
 use Rattle.std.proofs.lemmas.Bool.{cases_lt, ne_eqb}
-use Rattle.std.proofs.lemmas.List.{get_or-set_other, length-set}
+use Rattle.std.proofs.lemmas.List.{get_or-set_other, length-set, map-append, take_more}
+use Rattle.std.proofs.lemmas.List.Elements.{filter-append}
 use Rattle.std.proofs.lemmas.Nat.{div-mul-add, div-add-mod'}
-use Rattle.std.proofs.lemmas.Option.{same_Some, slice_get_within, get_or_from_slice_get}
+use Rattle.std.proofs.lemmas.Option.{same_Some, slice_get-get_or, slice_get_within, get_or_from_slice_get}
 use Rattle.xs_class.specs.Classes.{Has}
 use Rattle.xs_class.proofs.Lists.{get_left, one_cell}
 use Rattle.xs_class.proofs.Truth.{neither}
 use Rattle.xs_gram.specs.declared.parts.GItem.{GItem}
 use Rattle.xs_gram.specs.declared.parts.GItem.TheVariants.{Fixed}
 use Rattle.xs_gram.specs.Grammar.{Grammar}
-use Rattle.xs_gram.specs.Fences.{spread, is_left, is_right, IsUnfenced}
+use Rattle.xs_gram.specs.Fences.{spread, is_left, is_right, IsLeftFence, IsUnfenced}
 use Rattle.xs_gram.specs.Spreading.{opens}
+use Rattle.xs_gram.proofs.Fences.{is_left_of}
+use Rattle.xs_stretch.specs.declared.part.Fenced.{Fenced}
 use Rattle.xs_stretch.specs.Groups.{lefts, groups_before, group_number}
+use Rattle.xs_stretch.specs.Parts.{IsFencedAt}
+use Rattle.xs_stretch.proofs.Nesting.{left_at}
+use Rattle.xs_stretch.proofs.Numbering.{other_at}
 use Rattle.xs_coarse.specs.Coarse.{Table, group_label, label_count}
 use Rattle.xs_coarse.specs.Labels.{first_symbol, lefts_of, lefts_before, AllUnfenced, IsCell, AreNewLabels, AreKept, cell, parted}
 
@@ -31,6 +37,24 @@ lefts_long fs (i ∷ is) = step (opens fs i) (lefts_long fs is)
 pub before_long : (g : Grammar) (p : ℕ) → length (lefts_before g p) ≡ groups_before g p
 before_long g zero = refl
 before_long g (suc p) = omega (arith, length-append (lefts_before g p) (lefts_of g.fences (spread g p)), before_long g p, lefts_long g.fences (spread g p))
+
+-- the left fences before the next place
+lefts_next : (fs : List (ℕ × ℕ)) (is : List GItem) (k : ℕ) (i : GItem) → k < length is → slice_get is k ≡ Some i → lefts_of fs (take (k + 1) is) ≡ lefts_of fs (take k is) ++ lefts_of fs (i ∷ [])
+lefts_next fs is k i low e =
+    let here : get_or is k i ≡ i = same_Some _ _ (sym (slice_get-get_or is k i low) ∙ e) in
+    ap (λ (xs : List GItem). lefts_of fs xs) (take_more is k i low ∙ ap (λ (j : GItem). take k is ++ j ∷ []) here)
+    ∙ ap (λ (xs : List GItem). map first_symbol xs) (filter-append (opens fs) (take k is) (i ∷ []))
+    ∙ map-append first_symbol (filter (opens fs) (take k is)) (filter (opens fs) (i ∷ []))
+
+pub lefts_more : (g : Grammar) (p k : ℕ) (f : Fenced) → IsFencedAt g p k f → k < length (spread g p) → lefts_of g.fences (take (k + 1) (spread g p)) ≡ lefts_of g.fences (take k (spread g p)) ++ f.left ∷ []
+lefts_more g p k f is low =
+    lefts_next g.fences (spread g p) k (Fixed (f.left ∷ [])) low (left_at is.at)
+    ∙ ap (λ (b : Bool). lefts_of g.fences (take k (spread g p)) ++ map first_symbol (cond b (Fixed (f.left ∷ []) ∷ []) [])) (is_left_of is.at.fence)
+
+pub lefts_same : (fs : List (ℕ × ℕ)) (is : List GItem) (k : ℕ) → k < length is → (IsLeftFence fs is k → ⊥) → lefts_of fs (take (k + 1) is) ≡ lefts_of fs (take k is)
+lefts_same fs is k low other =
+    let found = other_at fs is k low other in
+    lefts_next fs is k found.0 low found.1 ∙ ap (λ (b : Bool). lefts_of fs (take k is) ++ map first_symbol (cond b (found.0 ∷ []) [])) found.2 ∙ append-nil (lefts_of fs (take k is))
 
 -- a left fence's symbol stands at the number of left fences before it
 left_there : (fs : List (ℕ × ℕ)) (is : List GItem) (k l : ℕ) → slice_get is k ≡ Some (Fixed (l ∷ [])) → is_left fs l ≡ true → slice_get (lefts_of fs is) (lefts fs (take k is)) ≡ Some l

@@ -4,6 +4,7 @@ use Rattle.std.proofs.lemmas.Bool.{cases_eq}
 use Rattle.std.proofs.lemmas.List.{drop_at, take_at, take_all}
 use Rattle.std.proofs.lemmas.Option.{slice_get-get_or, get_or_from_slice_get, same_Some}
 use Rattle.xs_class.proofs.Lists.{get_push, get_last, get_left, cons_parts}
+use Rattle.xs_auto.specs.Nets.{Graph}
 use Rattle.xs_auto.specs.Nests.{Group, IsGroup}
 use Rattle.xs_gram.specs.declared.parts.GItem.{GItem}
 use Rattle.xs_gram.specs.declared.parts.GItem.TheVariants.{Fixed}
@@ -16,12 +17,13 @@ use Rattle.xs_gram.proofs.Levels.{fixed_one, level_once, group_opened}
 use Rattle.xs_check_laws.specs.Acceptance.{IsBefore}
 use Rattle.xs_check_laws.specs.Weights.{PartWeighs}
 use Rattle.xs_stretch.specs.declared.part.Part.{Part}
+use Rattle.xs_stretch.specs.declared.part.Fenced.{Fenced}
 use Rattle.xs_stretch.specs.declared.fault.LooseFault.{LooseFault}
 use Rattle.xs_stretch.specs.declared.fault.LooseFault.TheVariants.{Heavy, Memory}
 use Rattle.xs_stretch.specs.Groups.{lefts, groups_before, group_number, HasFewGroups}
 use Rattle.xs_stretch.specs.Nesting.{HasGroupsBefore, IsNestBefore}
 use Rattle.xs_stretch.specs.Nets.{IsNumbered, IsNetOf, HasItsWeight, IsGroupOf, IsNestOf, HasInside, IsNestCause}
-use Rattle.xs_stretch.specs.Parts.{part_items, IsPart, AreLight, IsCause}
+use Rattle.xs_stretch.specs.Parts.{part_items, IsPart, IsFencedAt, AreLight, IsCause}
 use Rattle.xs_stretch.proofs.Numbering.{item_at, left_counts, other_counts, number_low}
 
 -- the fences of a group, and its inside, by their places
@@ -79,14 +81,40 @@ inside_part g p k m part rule partner a b c = rw_part (part.rule) part.start par
       level = subst (λ (xs : List GItem). IsLevel g.fences xs) (sym (inside_is g.fences (spread g p) k m partner.left partner.right partner.inside at)) at.within;
     })
 
--- what is read at the right fence of a group
+-- what is read at the fences of a group
+pub left_read : (fs : List (ℕ × ℕ)) (xs items : List GItem) (k m : ℕ) (i : GItem) → IsPartner fs xs k m → items ≡ xs → i ≡ get_or items k i → (s : ℕ) × (i ≡ Fixed (s ∷ []))
+left_read fs xs items k m i p e is =
+    let there : slice_get items k ≡ Some (Fixed (p.left ∷ [])) = ap (λ (ys : List GItem). slice_get ys k) e ∙ left_at p.group in
+    (p.left, is ∙ get_or_from_slice_get items k (Fixed (p.left ∷ [])) i there)
+
 pub right_read : (fs : List (ℕ × ℕ)) (xs items : List GItem) (k m : ℕ) (i : GItem) → IsPartner fs xs k m → items ≡ xs → i ≡ get_or items m i → (s : ℕ) × (i ≡ Fixed (s ∷ []))
 right_read fs xs items k m i p e is =
     let there : slice_get items m ≡ Some (Fixed (p.right ∷ [])) = ap (λ (ys : List GItem). slice_get ys m) e ∙ right_at fs xs k m p.left p.right p.inside p.group in
     (p.right, is ∙ get_or_from_slice_get items m (Fixed (p.right ∷ [])) i there)
 
-pub item_read : (xs items : List GItem) (k : ℕ) (i : GItem) → items ≡ xs → k < length xs → i ≡ get_or items k i → slice_get items k ≡ Some i
-item_read xs items k i e low is = slice_get-get_or items k i (omega (arith, ap length e)) ∙ ap (λ (x : GItem). Some x) (sym is)
+item_read : (xs items : List GItem) (k : ℕ) (i : GItem) → items ≡ xs → k < length xs → i ≡ get_or items k i → slice_get xs k ≡ Some i
+item_read xs items k i e low is = ap (λ (ys : List GItem). slice_get ys k) (sym e) ∙ slice_get-get_or items k i (omega (arith, ap length e)) ∙ ap (λ (x : GItem). Some x) (sym is)
+
+-- what was read at the fences of a group, and the part between them, are the group
+pub fenced_is : (g : Grammar) (p k m left right : ℕ) (items : List GItem) (i j : GItem) → p < length g.rules → IsPartner g.fences (spread g p) k m → items ≡ spread g p → i ≡ get_or items k i → j ≡ get_or items m j → i ≡ Fixed (left ∷ []) → j ≡ Fixed (right ∷ []) → IsFencedAt g p k (record { left = left; right = right; inside = record { rule = p; start = k + 1; end = m } })
+fenced_is g p k m left right items i j low partner same first second a b = record {
+  at = subst (λ (is : List GItem). GroupAt g.fences (spread g p) k m left is right) (sym (inside_is g.fences (spread g p) k m partner.left partner.right partner.inside partner.group)) (subst (λ (s : ℕ). GroupAt g.fences (spread g p) k m left partner.inside s) rights (subst (λ (s : ℕ). GroupAt g.fences (spread g p) k m s partner.inside partner.right) lefts partner.group));
+  rule = refl;
+  start = omega arith;
+  part = inside_part g p k m (record { rule = p; start = k + 1; end = m }) low partner refl refl refl;
+}
+  where
+    within : (k < m) × (m < length (spread g p))
+    within = partner_low g.fences (spread g p) k m partner.left partner.right partner.inside partner.group
+
+    lefts : partner.left ≡ left
+    lefts = fixed_one (same_Some _ _ (sym (left_at partner.group) ∙ item_read (spread g p) items k i same (omega (arith, within.0, within.1)) first ∙ ap (λ (x : GItem). Some x) a))
+
+    rights : partner.right ≡ right
+    rights = fixed_one (same_Some _ _ (sym (right_at g.fences (spread g p) k m partner.left partner.right partner.inside partner.group) ∙ item_read (spread g p) items m j same within.1 second ∙ ap (λ (x : GItem). Some x) b))
+
+pub partner_of : {g : Grammar} {p k : ℕ} {f : Fenced} → IsFencedAt g p k f → IsPartner g.fences (spread g p) k f.inside.end
+partner_of {g} {p} {k} {f} is = record { left = f.left; inside = part_items g f.inside; right = f.right; group = is.at }
 
 -- one more group can be numbered
 pub group_low : (g : Grammar) (p k m n : ℕ) → p < length g.rules → HasFewGroups g → IsPartner g.fences (spread g p) k m → n ≡ group_number g p k → n < 2 ^ 32 - 1
@@ -162,32 +190,16 @@ module _ {P : ℕ → ℕ → Group → Type 0} (g : Grammar) where
         | inr none ↦ absurd (omega (arith, none.1))
       ]
 
--- what was read at the fences of a group is the group
-module _ (g : Grammar) (p k m : ℕ) (rule : p < length g.rules) (partner : IsPartner g.fences (spread g p) k m) where
-  pub group_is : (group : Group) (part : Part) (items : List GItem) (i j : GItem) → items ≡ spread g p → slice_get items k ≡ Some i → slice_get items m ≡ Some j → i ≡ Fixed (group.left ∷ []) → j ≡ Fixed (group.right ∷ []) → part.rule ≡ p → part.start ≡ k + 1 → IsNetOf g part group.content → part_items g part ≡ partner.inside → HasItsWeight g (part_items g part) group.content → IsGroupOf g p k group
-  group_is group part items i j same first second left right a b net inside weight = record {
-    rule = rule;
-    inside = partner.inside;
-    partner = m;
-    at = subst (λ (s : ℕ). GroupAt g.fences (spread g p) k m group.left partner.inside s) (fence partner.right group.right (sym right_there ∙ second_there)) (subst (λ (s : ℕ). GroupAt g.fences (spread g p) k m s partner.inside partner.right) (fence partner.left group.left (sym left_there ∙ first_there)) partner.group);
-    content = subst (λ (xs : List GItem). IsNumbered g p (suc k) xs group.content) inside (subst (λ (s : ℕ). IsNumbered g p s (part_items g part) group.content) (b ∙ omega arith) (subst (λ (q : ℕ). IsNumbered g q part.start (part_items g part) group.content) a net));
-    weight = subst (λ (xs : List GItem). HasItsWeight g xs group.content) inside weight;
-  }
-    where
-      fence : (s t : ℕ) → Some (Fixed (s ∷ [])) ≡ Some (Fixed (t ∷ [])) → s ≡ t
-      fence s t e = fixed_one (same_Some _ _ e)
-
-      left_there : slice_get (spread g p) k ≡ Some (Fixed (partner.left ∷ []))
-      left_there = left_at partner.group
-
-      right_there : slice_get (spread g p) m ≡ Some (Fixed (partner.right ∷ []))
-      right_there = right_at g.fences (spread g p) k m partner.left partner.right partner.inside partner.group
-
-      first_there : slice_get (spread g p) k ≡ Some (Fixed (group.left ∷ []))
-      first_there = ap (λ (xs : List GItem). slice_get xs k) (sym same) ∙ first ∙ ap (λ (x : GItem). Some x) left
-
-      second_there : slice_get (spread g p) m ≡ Some (Fixed (group.right ∷ []))
-      second_there = ap (λ (xs : List GItem). slice_get xs m) (sym same) ∙ second ∙ ap (λ (x : GItem). Some x) right
+-- a group, with the net of its inside
+pub group_is : (g : Grammar) (p k : ℕ) (f : Fenced) (n : Graph) → p < length g.rules → IsFencedAt g p k f → IsNetOf g f.inside n → HasItsWeight g (part_items g f.inside) n → IsGroupOf g p k (record { left = f.left; right = f.right; content = n })
+group_is g p k f n rule is net weight = record {
+  rule = rule;
+  inside = part_items g f.inside;
+  partner = f.inside.end;
+  at = is.at;
+  content = subst (λ (s : ℕ). IsNumbered g p s (part_items g f.inside) n) is.start (subst (λ (q : ℕ). IsNumbered g q f.inside.start (part_items g f.inside) n) is.rule net);
+  weight = weight;
+}
 
 pub nest_all : (g : Grammar) (p : ℕ) (nest : List Group) → p ≡ length g.rules → IsNestBefore g p 0 nest → IsNestOf g nest
 nest_all g p nest end was = record {
@@ -197,13 +209,13 @@ nest_all g p nest end was = record {
 }
 
 -- the first group whose inside is heavy
-pub nest_fault : (g : Grammar) → IsBuilt g → (p k m : ℕ) → p < length g.rules → (partner : IsPartner g.fences (spread g p) k m) → (nest : List Group) → IsNestBefore g p k nest → (items : List GItem) → items ≡ partner.inside → (fault : LooseFault) → IsCause g items fault → IsNestCause g fault
-nest_fault g built p k m rule partner nest was items e (Heavy weight) cause = record {
+pub nest_fault : (g : Grammar) → IsBuilt g → (p k : ℕ) (f : Fenced) → p < length g.rules → IsFencedAt g p k f → (nest : List Group) → IsNestBefore g p k nest → (fault : LooseFault) → IsCause g (part_items g f.inside) fault → IsNestCause g fault
+nest_fault g built p k f rule at nest was (Heavy weight) cause = record {
   rule = p;
   place = k;
-  inside = partner.inside;
-  is = record { rule = rule; partner = m; left = partner.left; right = partner.right; at = partner.group };
-  weighs = subst (λ (xs : List GItem). PartWeighs g xs weight) e cause.0;
+  inside = part_items g f.inside;
+  is = record { rule = rule; partner = f.inside.end; left = f.left; right = f.right; at = at.at };
+  weighs = cause.0;
   heavy = cause.1;
   before = λ q j other inside h. light q j other inside h;
 }
@@ -215,4 +227,4 @@ nest_fault g built p k m rule partner nest was items e (Heavy weight) cause = re
         let is : IsGroupOf g q j group = found.2 in
         let same : is.inside ≡ other = inside_once g.fences built.proper.once (spread g q) j is.partner inside.partner group.left group.right inside.left inside.right is.inside other is.at inside.at in
         (is.weight.weight, subst (λ (xs : List GItem). PartWeighs g xs is.weight.weight) same is.weight.weighs, is.weight.light)
-nest_fault g built p k m rule partner nest was items e Memory cause = tt
+nest_fault g built p k f rule at nest was Memory cause = tt

@@ -62,8 +62,9 @@ left_counts fs xs k m p =
     let at : slice_get xs k ≡ Some first = ap (λ (ys : List GItem). slice_get ys k) a.split ∙ ap (λ (n : ℕ). slice_get (a.before ++ first ∷ rest) n) a.place ∙ item_at a.before rest first in
     lefts_next fs xs k first low at ∙ ap (λ (n : ℕ). lefts fs (take k xs) + n) (left_is_one fs first (is_left_of a.fence))
 
-pub other_counts : (fs : List (ℕ × ℕ)) (xs : List GItem) (k : ℕ) → k < length xs → (IsLeftFence fs xs k → ⊥) → lefts fs (take (k + 1) xs) ≡ lefts fs (take k xs)
-other_counts fs xs k low other = by_case (opens fs i) refl
+-- the item that stands where no left fence does
+pub other_at : (fs : List (ℕ × ℕ)) (xs : List GItem) (k : ℕ) → k < length xs → (IsLeftFence fs xs k → ⊥) → (i : GItem) × (slice_get xs k ≡ Some i) × (opens fs i ≡ false)
+other_at fs xs k low other = (i, at, by_case (opens fs i) refl)
   where
     i : GItem
     i = get_or xs k (Non 0 0)
@@ -71,9 +72,14 @@ other_counts fs xs k low other = by_case (opens fs i) refl
     at : slice_get xs k ≡ Some i
     at = slice_get-get_or xs k (Non 0 0) low
 
-    by_case : (b : Bool) → opens fs i ≡ b → lefts fs (take (k + 1) xs) ≡ lefts fs (take k xs)
+    by_case : (b : Bool) → opens fs i ≡ b → opens fs i ≡ false
     by_case true e = let l = opens_item fs i e in absurd (other (record { symbol = l.0; item = at ∙ ap (λ (x : GItem). Some x) l.1; left = l.2 }))
-    by_case false e = omega (arith, lefts_next fs xs k i low at, other_is_none fs i e)
+    by_case false e = e
+
+pub other_counts : (fs : List (ℕ × ℕ)) (xs : List GItem) (k : ℕ) → k < length xs → (IsLeftFence fs xs k → ⊥) → lefts fs (take (k + 1) xs) ≡ lefts fs (take k xs)
+other_counts fs xs k low other =
+    let found = other_at fs xs k low other in
+    omega (arith, lefts_next fs xs k found.0 low found.1, other_is_none fs found.0 found.2)
 
 -- the numbers of a rule's groups are below that of all groups
 lefts_take : (fs : List (ℕ × ℕ)) (xs : List GItem) (k : ℕ) → lefts fs (take k xs) ≤ lefts fs xs

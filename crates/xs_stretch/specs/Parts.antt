@@ -1,10 +1,11 @@
 -- Stretches of a rule's spread items: which they are, and when they are light.
-use Rattle.std.specs.Prelude.{◌≡◌, ℕ, ◌<◌, ◌≤◌, List, ◌++◌, length, slice_range}
+use Rattle.std.specs.Prelude.{◌≡◌, ℕ, suc, ◌<◌, ◌≤◌, List, ◌++◌, length, slice_range}
 use Rattle.xs_gram.specs.declared.parts.GItem.{GItem}
 use Rattle.xs_gram.specs.Grammar.{Grammar}
-use Rattle.xs_gram.specs.Fences.{spread, IsLevel}
+use Rattle.xs_gram.specs.Fences.{spread, IsLevel, GroupAt}
 use Rattle.xs_check_laws.specs.Weights.{heaviest, PartWeighs}
 use Rattle.xs_stretch.specs.declared.part.Part.{Part}
+use Rattle.xs_stretch.specs.declared.part.Fenced.{Fenced}
 use Rattle.xs_stretch.specs.declared.fault.LooseFault.{LooseFault}
 use Rattle.xs_stretch.specs.declared.fault.LooseFault.TheVariants.{Heavy, Memory}
 
@@ -18,6 +19,13 @@ pub record IsPart (g : Grammar) (part : Part) : Type 0 where
   pub order : part.start ≤ part.end
   pub within : part.end ≤ length (spread g part.rule)
   pub level : IsLevel g.fences (part_items g part)
+
+-- the group whose left fence is spread item k of rule p
+pub record IsFencedAt (g : Grammar) (p k : ℕ) (f : Fenced) : Type 0 where
+  pub at : GroupAt g.fences (spread g p) k f.inside.end f.left (part_items g f.inside) f.right
+  pub rule : f.inside.rule ≡ p
+  pub start : f.inside.start ≡ suc k
+  pub part : IsPart g f.inside
 
 -- the items are a level stretch of rule p's spread items, from item k on
 pub record IsStretch (g : Grammar) (p k : ℕ) (is : List GItem) : Type 0 where

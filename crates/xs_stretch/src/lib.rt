@@ -31,6 +31,6 @@ pub use fault::LooseFault;
 pub use laws::laid_in_one_way;
 pub use nest::{nest_by, nest_of};
 pub use net::{HEAVIEST, net_by, net_of};
-pub use part::Part;
+pub use part::{Fenced, Part};
 pub use tables::Tables;
 pub use weighing::{CAP, Weights, weight_by, weight_of, weights};

@@ -8,10 +8,10 @@ ghost use Rattle.xs_stretch.specs.Work.{IsSite};
 
 use crate::net::net_by;
 use crate::site::Site;
-use crate::{LooseFault, Part, Tables};
+use crate::{Fenced, LooseFault, Tables};
 use std::alloc::Global;
 use xs_auto::Nest;
-use xs_gram::{Comps, Gram, fence_symbol};
+use xs_gram::{Comps, Gram};
 
 /// The nest of a grammar's groups, each with the net of the stretch inside; by rule, and in a rule by
 /// the place of the left fence, as their numbers go.
@@ -72,18 +72,10 @@ fn add_group(nest: &mut Nest, site: &Site<'_>, rule: u32, place: u32) -> Result<
     ensures nest { OnOk result (IsNestBefore site.now.g.now rule (place + 1) nest.new) }
     ensures fault { IfErr result (IsNestCause site.now.g.now) }
 {
-    let Some(partner) = site.g.partner(rule, place) else {
+    let Some(fenced) = Fenced::at(site.g, rule, place) else {
         return Ok(());
     };
-    let items = site.g.spread(rule);
-    let left = fence_symbol(&items[place as usize]);
-    let right = fence_symbol(&items[partner as usize]);
-    let inside = Part {
-        rule,
-        start: place + 1,
-        end: partner,
-    };
-    let content = net_by(site.alloc, site.g, site.comps, site.tables, &inside)?;
-    nest.group(left, right, content)?;
+    let content = net_by(site.alloc, site.g, site.comps, site.tables, &fenced.inside)?;
+    nest.group(fenced.left, fenced.right, content)?;
     Ok(())
 }

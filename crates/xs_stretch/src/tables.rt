@@ -4,7 +4,7 @@ ghost use Rattle.xs_stretch.specs.Groups.{groups_before, lefts, HasFewGroups};
 ghost use Rattle.xs_stretch.specs.Tables.{AreRanks, AreNumbersBefore, AreTables};
 
 use crate::components::Components;
-use crate::weighing::{Weights, weights_by};
+use crate::weighing::Weights;
 use std::alloc::Global;
 use xs_class::Memory;
 use xs_gram::{Comps, Gram};
@@ -34,7 +34,7 @@ impl Tables {
         ensures few { OnOk result (HasFewGroups g.now) }
     {
         let lists = Components::of(alloc, g, comps)?;
-        let weights = weights_by(alloc, g, comps, &lists)?;
+        let weights = lists.weights(alloc, g, comps)?;
         let ranks = ranks(alloc, g, comps, lists.members.len())?;
         let groups = groups(alloc, g)?;
         Ok(Tables {

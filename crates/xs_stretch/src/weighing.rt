@@ -26,29 +26,26 @@ pub fn weights(alloc: Global, g: &Gram, comps: &Comps) -> Result<Weights, Memory
     ensures { IfOk result (AreWeights g.now) }
 {
     let lists = Components::of(alloc, g, comps)?;
-    weights_by(alloc, g, comps, &lists)
+    lists.weights(alloc, g, comps)
 }
 
-/// The same, by the lists of the components.
-pub(crate) fn weights_by(
-    alloc: Global,
-    g: &Gram,
-    comps: &Comps,
-    lists: &Components,
-) -> Result<Weights, Memory>
-    requires built { IsBuilt g.now }
-    requires comps { AreComponents g.now comps.now }
-    requires lists { AreComponentsOf g.now comps.now lists.now }
-    ensures { IfOk result (AreWeights g.now) }
-{
-    let mut weights = vec![in alloc; 0u64; g.nons() as usize]?;
-    'components: for component in 0..lists.members.len() {
-        let members = lists.members[component].as_slice();
-        let rules = lists.rules[component].as_slice();
-        let weight = component_weight(g, comps, component, members, rules, &weights);
-        set_each(&mut weights, members, weight);
+impl Components {
+    /// The weights of all components of the grammar that they are of.
+    pub fn weights(&self, alloc: Global, g: &Gram, comps: &Comps) -> Result<Weights, Memory>
+        requires built { IsBuilt g.now }
+        requires comps { AreComponents g.now comps.now }
+        requires lists { AreComponentsOf g.now comps.now self.now }
+        ensures { IfOk result (AreWeights g.now) }
+    {
+        let mut weights = vec![in alloc; 0u64; g.nons() as usize]?;
+        'components: for component in 0..self.members.len() {
+            let members = self.members[component].as_slice();
+            let rules = self.rules[component].as_slice();
+            let weight = component_weight(g, comps, component, members, rules, &weights);
+            set_each(&mut weights, members, weight);
+        }
+        Ok(Weights::from_vec(weights))
     }
-    Ok(Weights::from_vec(weights))
 }
 
 /// The weight of a stretch, without memory: in time linear in its items, by the weights of all
