@@ -16,10 +16,10 @@ const MOST_PAIRS: u64 = 1 << 28;
 /// The states below `height` of the first net are looked at, and those below `width` of the second.
 #[derive(Debug, Drop)]
 pub struct Found {
-    pub words: Vec<u64>,
     pub pairs: Vec<Pair>,
     pub height: u32,
     pub width: u32,
+    pub words: Vec<u64>,
 }
 
 impl Found {

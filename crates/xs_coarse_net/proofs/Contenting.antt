@@ -10,13 +10,14 @@ use Rattle.xs_gram.specs.Grammar.{Grammar}
 use Rattle.xs_gram.specs.Fences.{spread, GroupAt, IsPartner}
 use Rattle.xs_gram.specs.Sound.{IsProper}
 use Rattle.xs_gram.proofs.Levels.{fixed_one}
-use Rattle.xs_stretch.specs.declared.part.Part.{Part}
-use Rattle.xs_stretch.specs.Parts.{part_items}
+use Rattle.xs_stretch.specs.declared.part.Fenced.{Fenced}
+use Rattle.xs_stretch.specs.Parts.{part_items, IsFencedAt}
 use Rattle.xs_stretch.proofs.Nesting.{left_at, right_at, inside_once, groups_more}
 use Rattle.xs_coarse.specs.Coarse.{Table, Net, view}
 use Rattle.xs_coarse.specs.Covers.{CoversPart, CoversGroup, CoversGroups, IsUnfencedNet, AreUnfenced}
 use Rattle.xs_coarse.proofs.Views.{view_edge_arc, view_final}
-use Rattle.xs_coarse_net.specs.declared.contents.Content.{Content}
+use Rattle.xs_coarse_net.specs.declared.cover.Content.{Content}
+use Rattle.xs_coarse_net.specs.declared.cover.Cover.{Cover}
 use Rattle.xs_coarse_net.specs.Covers.{cover_view, IsCoverOf}
 use Rattle.xs_coarse_net.specs.Contents.{group_of, nest_of, IsContentOf, HasContentsBefore}
 
@@ -24,33 +25,24 @@ use Rattle.xs_coarse_net.specs.Contents.{group_of, nest_of, IsContentOf, HasCont
 pub view_unfenced : (g : Grammar) (t : Table) (n : Net) (s e : ℕ) → AreUnfenced g t → IsUnfencedNet g (view t n s e)
 view_unfenced g t n s e un = λ a z x c has. let arc = view_edge_arc t n s e a x c in un arc.number z (subst (λ (l : List (ℕ × ℕ)). Has l z) arc.class has)
 
--- what was read at the two fences of a group and the cover of its inside are its content
-pub content_is : (g : Grammar) (t : Table) → AreUnfenced g t → (p k m : ℕ) → p < length g.rules → (partner : IsPartner g.fences (spread g p) k m) → (c : Content) (part : Part) (i j : GItem) → slice_get (spread g p) k ≡ Some i → slice_get (spread g p) m ≡ Some j → i ≡ Fixed (c.left ∷ []) → j ≡ Fixed (c.right ∷ []) → part.rule ≡ p → part.start ≡ k + 1 → part_items g part ≡ partner.inside → IsCoverOf g t part c.cover → IsContentOf g p k (group_of t c)
-content_is g t un p k m rule partner c part i j first second left right a b inside is = record {
+-- a group and the cover of its inside are its content
+pub content_is : (g : Grammar) (t : Table) → AreUnfenced g t → (p k : ℕ) (f : Fenced) (cover : Cover) → p < length g.rules → IsFencedAt g p k f → IsCoverOf g t f.inside cover → IsContentOf g p k (group_of t (record { left = f.left; right = f.right; cover = cover }))
+content_is g t un p k f cover rule at is = record {
   rule = rule;
-  inside = partner.inside;
-  partner = m;
-  at = there;
+  inside = part_items g f.inside;
+  partner = f.inside.end;
+  at = at.at;
   covers = record {
     left = refl;
     right = refl;
     first = 0;
-    last = c.cover.last;
+    last = cover.last;
     starts = refl;
-    final = view_final t c.cover.net 0 c.cover.last is.last;
-    content = subst (λ (xs : List GItem). CoversPart g (cover_view t c.cover) p (suc k) xs 0 c.cover.last) inside (subst (λ (s : ℕ). CoversPart g (cover_view t c.cover) p s (part_items g part) 0 c.cover.last) (b ∙ omega arith) (subst (λ (q : ℕ). CoversPart g (cover_view t c.cover) q part.start (part_items g part) 0 c.cover.last) a is.covers));
+    final = view_final t cover.net 0 cover.last is.last;
+    content = subst (λ (s : ℕ). CoversPart g (cover_view t cover) p s (part_items g f.inside) 0 cover.last) at.start (subst (λ (q : ℕ). CoversPart g (cover_view t cover) q f.inside.start (part_items g f.inside) 0 cover.last) at.rule is.covers);
   };
-  plain = view_unfenced g t c.cover.net 0 c.cover.last un;
+  plain = view_unfenced g t cover.net 0 cover.last un;
 }
-  where
-    lefts_same : partner.left ≡ c.left
-    lefts_same = fixed_one (same_Some _ _ (sym (left_at partner.group) ∙ first ∙ ap (λ (x : GItem). Some x) left))
-
-    rights_same : partner.right ≡ c.right
-    rights_same = fixed_one (same_Some _ _ (sym (right_at g.fences (spread g p) k m partner.left partner.right partner.inside partner.group) ∙ second ∙ ap (λ (x : GItem). Some x) right))
-
-    there : GroupAt g.fences (spread g p) k m c.left partner.inside c.right
-    there = subst (λ (s : ℕ). GroupAt g.fences (spread g p) k m c.left partner.inside s) rights_same (subst (λ (s : ℕ). GroupAt g.fences (spread g p) k m s partner.inside partner.right) lefts_same partner.group)
 
 module _ (g : Grammar) where
   -- one more content

@@ -12,10 +12,10 @@ use Rattle.xs_stretch.specs.Groups.{group_number}
 use Rattle.xs_stretch.specs.Parts.{part_items}
 use Rattle.xs_coarse.specs.Coarse.{Table, Net, HasArc, view}
 use Rattle.xs_coarse.specs.Covers.{CoversPart, CoversCut, CoversNon, CoversGroups}
-use Rattle.xs_coarse_net.specs.declared.contents.Content.{Content}
+use Rattle.xs_coarse_net.specs.declared.cover.Content.{Content}
 use Rattle.xs_coarse_net.specs.declared.cover.Cover.{Cover}
-use Rattle.xs_coarse_net.specs.declared.covers.Covers.{Covers}
-use Rattle.xs_coarse_net.specs.declared.whole.Whole.{Whole}
+use Rattle.xs_coarse_net.specs.declared.cover.Covers.{Covers}
+use Rattle.xs_coarse_net.specs.declared.cover.Whole.{Whole}
 use Rattle.xs_coarse_net.specs.Contents.{nest_of}
 use Rattle.xs_coarse_net.specs.Covers.{IsCoverOf}
 use Rattle.xs_coarse_net.specs.Going.{LabelReads, Goes, goes_none, goes_move, goes_read, LeafGoes}

@@ -7,7 +7,7 @@ use Rattle.xs_gram.specs.Fences.{spread, GroupAt}
 use Rattle.xs_stretch.specs.Nesting.{HasGroupsBefore}
 use Rattle.xs_coarse.specs.Coarse.{Table}
 use Rattle.xs_coarse.specs.Covers.{CoversGroup, IsUnfencedNet}
-use Rattle.xs_coarse_net.specs.declared.contents.Content.{Content}
+use Rattle.xs_coarse_net.specs.declared.cover.Content.{Content}
 use Rattle.xs_coarse_net.specs.Covers.{cover_view}
 
 -- the group of a content

@@ -2,7 +2,7 @@
 use Rattle.xs_gram.specs.Grammar.{Grammar}
 use Rattle.xs_coarse.specs.Coarse.{Table}
 use Rattle.xs_coarse.specs.Covers.{CoversGroups}
-use Rattle.xs_coarse_net.specs.declared.covers.Covers.{Covers}
+use Rattle.xs_coarse_net.specs.declared.cover.Covers.{Covers}
 use Rattle.xs_coarse_net.specs.Contents.{nest_of}
 use Rattle.xs_coarse_net.specs.Joining.{AreFragments}
 use Rattle.xs_coarse_net.specs.Leaves.{AreLeaves}

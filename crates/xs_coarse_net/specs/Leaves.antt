@@ -2,7 +2,7 @@
 use Rattle.std.specs.Prelude.{◌≡◌, ℕ, List, slice_get, Some}
 use Rattle.xs_gram.specs.Grammar.{Grammar, IsTermWord, IsSkipWord}
 use Rattle.xs_coarse.specs.Coarse.{Table, Net}
-use Rattle.xs_coarse_net.specs.declared.leaves.Leaves.{Leaves}
+use Rattle.xs_coarse_net.specs.declared.cover.Leaves.{Leaves}
 use Rattle.xs_coarse_net.specs.Going.{Goes}
 use Rattle.xs_coarse_net.specs.Stretches.{last_state}
 

@@ -8,7 +8,7 @@ use Rattle.xs_gram.specs.Loose.{Spot, entry, exit, at}
 use Rattle.xs_stretch.specs.Groups.{group_number}
 use Rattle.std.specs.List.{All}
 use Rattle.xs_coarse.specs.Coarse.{Table, Net, IsWithin, HasArc, group_label}
-use Rattle.xs_coarse_net.specs.declared.whole.Whole.{Whole}
+use Rattle.xs_coarse_net.specs.declared.cover.Whole.{Whole}
 use Rattle.xs_coarse.specs.Covers.{IsLeaf}
 use Rattle.xs_coarse_net.specs.Going.{LeafGoes}
 use Rattle.xs_coarse_net.specs.Reaching.{AreUses}

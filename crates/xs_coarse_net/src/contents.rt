@@ -5,21 +5,11 @@ ghost use Rattle.xs_coarse_net.specs.Contents.{nest_of, HasContentsBefore};
 ghost use Rattle.xs_coarse_net.specs.Grounds.{IsGround};
 ghost use Rattle.xs_coarse_net.specs.Joining.{AreFragments};
 
-use crate::Cover;
+use crate::Content;
 use crate::ground::Ground;
 use crate::stretch::cover_part;
-use xs_class::Sym;
 use xs_coarse::{Coarse, Stop};
-use xs_gram::fence_symbol;
-use xs_stretch::Part;
-
-/// A group: the two symbols of its fence, and the cover of what is inside.
-#[derive(Debug, Drop)]
-pub struct Content {
-    pub left: Sym,
-    pub right: Sym,
-    pub cover: Cover,
-}
+use xs_stretch::Fenced;
 
 /// The contents of all groups of a grammar, by their numbers.
 pub(crate) fn contents_of(
@@ -74,18 +64,14 @@ fn add_content(
     ensures kept { AreFragments ground.now.site.g.now ground.now.site.labels.now kept.new.items }
     ensures contents { OnOk result (HasContentsBefore ground.now.site.g.now rule (place + 1) (nest_of ground.now.site.labels.now contents.new.items)) }
 {
-    let Some(partner) = ground.site.g.partner(rule, place) else {
+    let Some(fenced) = Fenced::at(ground.site.g, rule, place) else {
         return Ok(());
     };
-    let items = ground.site.g.spread(rule);
-    let left = fence_symbol(&items[place as usize]);
-    let right = fence_symbol(&items[partner as usize]);
-    let part = Part {
-        rule,
-        start: place + 1,
-        end: partner,
-    };
-    let cover = cover_part(kept, ground, part)?;
-    contents.push(Content { left, right, cover })?;
+    let cover = cover_part(kept, ground, &fenced.inside)?;
+    contents.push(Content {
+        left: fenced.left,
+        right: fenced.right,
+        cover,
+    })?;
     Ok(())
 }

@@ -10,24 +10,14 @@ use crate::ground::Ground;
 use crate::leaves::leaves_of;
 use crate::site::Site;
 use crate::stretch::cover_part;
-use crate::whole::{Whole, whole_net};
-use crate::{Content, Cover, Leaves};
+use crate::whole::whole_net;
+use crate::{Cover, Covers};
 use std::alloc::Global;
 use xs_class::Memory;
 use xs_coarse::{Coarse, Labels, Stop, fitting};
 use xs_gram::Gram;
 use xs_regex::Numbers;
 use xs_stretch::Part;
-
-/// The net that covers all rules of a grammar, the nets of its terminals and ignorables, the fragments
-/// that were made, by nonterminal, and the contents of the grammar's groups, by their numbers.
-#[derive(Debug, Drop)]
-pub struct Covers {
-    pub whole: Whole,
-    pub leaves: Leaves,
-    pub kept: Vec<Option<Coarse>>,
-    pub contents: Vec<Content>,
-}
 
 impl Covers {
     /// The covers of a grammar whose groups are numbered, or none where one would be too large.
@@ -72,7 +62,7 @@ impl Covers {
             site,
             whole: &self.whole,
         };
-        fitting(cover_part(&mut self.kept, &ground, *part))
+        fitting(cover_part(&mut self.kept, &ground, part))
     }
 }
 

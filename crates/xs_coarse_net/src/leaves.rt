@@ -5,6 +5,7 @@ ghost use Rattle.xs_coarse_net.specs.Going.{Goes};
 ghost use Rattle.xs_coarse_net.specs.Leaves.{AreLeaves};
 ghost use Rattle.xs_coarse_net.specs.Stretches.{last_state};
 
+use crate::Leaves;
 use crate::automaton::lay_automaton;
 use crate::draft::Draft;
 use crate::labelled::position_labels;
@@ -12,14 +13,6 @@ use std::alloc::Global;
 use xs_coarse::{Coarse, Labels, Stop};
 use xs_gram::Gram;
 use xs_regex::Position;
-
-/// A net for each terminal and each ignorable of a grammar, by their numbers: each of its words leads
-/// from state 0 to the last state.
-#[derive(Debug, Drop)]
-pub struct Leaves {
-    pub terms: Vec<Coarse>,
-    pub skips: Vec<Coarse>,
-}
 
 /// The net with a number, if there is one.
 pub(crate) fn leaf_at(nets: &[Coarse], number: u32) -> Result<&Coarse, Stop>

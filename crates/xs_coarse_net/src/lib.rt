@@ -28,8 +28,4 @@ mod site;
 mod stretch;
 mod whole;
 
-pub use contents::Content;
-pub use cover::{Cover, Outer};
-pub use covers::Covers;
-pub use leaves::Leaves;
-pub use whole::Whole;
+pub use cover::{Content, Cover, Covers, Leaves, Outer, Whole};

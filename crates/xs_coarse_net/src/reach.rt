@@ -5,10 +5,10 @@ ghost use Rattle.xs_coarse_net.specs.Grounds.{IsGround};
 ghost use Rattle.xs_coarse_net.specs.Joining.{IsFragment};
 ghost use Rattle.xs_coarse_net.specs.Reaching.{IsIn, IsClosedIn, AreUses, HasUse, HasUses};
 
+use crate::Whole;
 use crate::fragment::fragment;
 use crate::ground::Ground;
 use crate::rule::states_of;
-use crate::whole::Whole;
 use std::alloc::Global;
 use xs_class::Memory;
 use xs_coarse::{Arc, Coarse, Stop};

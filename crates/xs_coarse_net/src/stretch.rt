@@ -17,16 +17,16 @@ use xs_stretch::Part;
 pub(crate) fn cover_part(
     kept: &mut Vec<Option<Coarse>>,
     ground: &Ground<'_>,
-    part: Part,
+    part: &Part,
 ) -> Result<Cover, Stop>
     requires ground { IsGround ground.now }
-    requires part { IsPart ground.now.site.g.now part }
+    requires part { IsPart ground.now.site.g.now part.now }
     requires kept { AreFragments ground.now.site.g.now ground.now.site.labels.now kept.old.items }
     ensures kept { AreFragments ground.now.site.g.now ground.now.site.labels.now kept.new.items }
-    ensures cover { IfOk result (IsCoverOf ground.now.site.g.now ground.now.site.labels.now part) }
+    ensures cover { IfOk result (IsCoverOf ground.now.site.g.now ground.now.site.labels.now part.now) }
 {
-    let room = room_for(kept, ground, part)?;
-    let cover = cover_of(kept.as_slice(), ground, part, room)?;
+    let room = room_for(kept, ground, *part)?;
+    let cover = cover_of(kept.as_slice(), ground, *part, room)?;
     Ok(cover)
 }
 

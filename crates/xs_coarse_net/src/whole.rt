@@ -6,6 +6,7 @@ ghost use Rattle.xs_coarse_net.specs.Reaching.{AreUses, IsUsed};
 ghost use Rattle.xs_coarse_net.specs.Sites.{IsSite};
 ghost use Rattle.xs_coarse_net.specs.Whole.{rule_base, IsWhole};
 
+use crate::Whole;
 use crate::draft::{Draft, MOST, net_of};
 use crate::leaf::states_inside;
 use crate::rule::{RETURNS, lay_rule};
@@ -13,14 +14,6 @@ use crate::site::Site;
 use std::alloc::Global;
 use xs_class::Memory;
 use xs_coarse::{Arc, Coarse, Stop};
-
-/// The net that covers all rules of a grammar, whose arcs back from the exit of a nonterminal tell into
-/// a rule of which nonterminal they lead; and, as a net too, which nonterminals the rules of each use.
-#[derive(Debug, Drop)]
-pub struct Whole {
-    pub net: Coarse,
-    pub uses: Coarse,
-}
 
 /// The net of a whole grammar, in time linear in its spread items and automata.
 pub(crate) fn whole_net(alloc: Global, site: &Site<'_>) -> Result<Whole, Stop>

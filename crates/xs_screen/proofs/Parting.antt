@@ -12,7 +12,7 @@ use Rattle.xs_auto.specs.Nests.{Group, IsGroup}
 use Rattle.xs_meet.specs.Closed.{AreSettled, IsSettled, AreApart, Marked}
 use Rattle.xs_coarse.specs.Coarse.{Table, MayCall, may_meet, group_label, label_count}
 use Rattle.xs_coarse.specs.Labels.{parted, cell}
-use Rattle.xs_coarse_net.specs.declared.contents.Content.{Content}
+use Rattle.xs_coarse_net.specs.declared.cover.Content.{Content}
 use Rattle.xs_coarse_net.specs.Contents.{group_of, nest_of}
 use Rattle.xs_coarse_net.specs.Covers.{cover_view}
 use Rattle.xs_apart.proofs.PartLemmas.{apart_fewer, call_part}

@@ -24,12 +24,12 @@ use Rattle.xs_meet.specs.Closed.{AreApart, IsSettled}
 use Rattle.xs_coarse.specs.Coarse.{Table, MayCall, view}
 use Rattle.xs_coarse.specs.Covers.{CoversCut}
 use Rattle.xs_coarse_laws.specs.Laws.{Covering, ApartSharesNone, ClearOverlapsNot}
-use Rattle.xs_coarse_net.specs.declared.contents.Content.{Content}
+use Rattle.xs_coarse_net.specs.declared.cover.Content.{Content}
 use Rattle.xs_coarse_net.specs.declared.cover.Cover.{Cover}
 use Rattle.xs_coarse_net.specs.Contents.{nest_of}
 use Rattle.xs_coarse_net.specs.Covers.{IsCoverOf, cover_view}
 use Rattle.xs_coarse_net.specs.Having.{IsCovers}
-use Rattle.xs_coarse_net.specs.declared.covers.Covers.{Covers}
+use Rattle.xs_coarse_net.specs.declared.cover.Covers.{Covers}
 use Rattle.xs_coarse_net.proofs.Keeping.{covers_same}
 use Rattle.xs_coarse.specs.Labels.{IsLabelsOf}
 use Rattle.xs_apart.specs.declared.tail.Tail.{Tail}

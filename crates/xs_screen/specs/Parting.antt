@@ -2,7 +2,7 @@
 use Rattle.std.specs.Prelude.{◌≡◌, ℕ, ◌<◌, ◌≤◌, List}
 use Rattle.xs_meet.specs.Closed.{AreSettled}
 use Rattle.xs_coarse.specs.Coarse.{Table, MayCall}
-use Rattle.xs_coarse_net.specs.declared.contents.Content.{Content}
+use Rattle.xs_coarse_net.specs.declared.cover.Content.{Content}
 use Rattle.xs_coarse_net.specs.Contents.{nest_of}
 use Rattle.xs_apart.specs.Parts.{IsParted}
 

@@ -1,7 +1,7 @@
 use Rattle.std.proofs.Common.{ap, sym, subst, ◌∙◌, arith, Some}
 use Rattle.std.proofs.lemmas.Option.{slice_get-get_or}
 use Rattle.xs_coarse.specs.Coarse.{Table}
-use Rattle.xs_coarse_net.specs.declared.contents.Content.{Content}
+use Rattle.xs_coarse_net.specs.declared.cover.Content.{Content}
 use Rattle.xs_screen.specs.Parting.{AreBothSettled, StaySettled, AreTheTwo}
 use Rattle.xs_screen.proofs.Parting.{stay_parted, parted_settled}
 use Rattle.xs_screen.proofs.groups.part_pair.Goals as goal

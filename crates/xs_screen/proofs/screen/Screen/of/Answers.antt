@@ -2,7 +2,7 @@ use Rattle.std.proofs.Common.{ℕ, List, rules, subst}
 use Rattle.xs_meet.specs.Closed.{IsSettled}
 use Rattle.xs_coarse.specs.Coarse.{MayCall}
 use Rattle.xs_coarse.specs.Labels.{AreNewLabels}
-use Rattle.xs_coarse_net.specs.declared.contents.Content.{Content}
+use Rattle.xs_coarse_net.specs.declared.cover.Content.{Content}
 use Rattle.xs_coarse_net.specs.Contents.{nest_of}
 use Rattle.xs_coarse_net.specs.Having.{IsCovers}
 use Rattle.xs_screen.specs.Screens.{AreNone}
