@@ -57,8 +57,8 @@ skips_more us u old new are fit added =
     subst (λ ks. AreSkipsOf (us ++ u ∷ []) ks × EachOf (λ (k : SkipPart). IsFit k.regex) ks) (sym more.3) (skips_append us (u ∷ []) old more.0 are more.1, each)
 
 -- the same, over the front of a list that grows by its next unit
-pub terms_next : (us : List Unit) (i : ℕ) (u : Unit) (old new : List Regex) → i < length us → u ≡ get_or us i u → AreTermsOf (take i us) old → EachOf IsFit old → IsTermAdded u old new → AreTermsOf (take (i + 1) us) new × EachOf IsFit new
-terms_next us i u old new lt at are fit added = subst (λ l. AreTermsOf l new × EachOf IsFit new) (sym (take_next us i u lt at)) (terms_more (take i us) u old new are fit added)
+pub terms_next : (us : List Unit) (i : ℕ) (u : Unit) (old new : List Regex) → i < length us → u ≡ get_or us i u → AreTermsOf (take i us) old × EachOf IsFit old → IsTermAdded u old new → AreTermsOf (take (i + 1) us) new × EachOf IsFit new
+terms_next us i u old new lt at both added = subst (λ l. AreTermsOf l new × EachOf IsFit new) (sym (take_next us i u lt at)) (terms_more (take i us) u old new both.0 both.1 added)
 
-pub skips_next : (us : List Unit) (i : ℕ) (u : Unit) (old new : List SkipPart) → i < length us → u ≡ get_or us i u → AreSkipsOf (take i us) old → EachOf (λ (k : SkipPart). IsFit k.regex) old → IsSkipAdded u old new → AreSkipsOf (take (i + 1) us) new × EachOf (λ (k : SkipPart). IsFit k.regex) new
-skips_next us i u old new lt at are fit added = subst (λ l. AreSkipsOf l new × EachOf (λ (k : SkipPart). IsFit k.regex) new) (sym (take_next us i u lt at)) (skips_more (take i us) u old new are fit added)
+pub skips_next : (us : List Unit) (i : ℕ) (u : Unit) (old new : List SkipPart) → i < length us → u ≡ get_or us i u → AreSkipsOf (take i us) old × EachOf (λ (k : SkipPart). IsFit k.regex) old → IsSkipAdded u old new → AreSkipsOf (take (i + 1) us) new × EachOf (λ (k : SkipPart). IsFit k.regex) new
+skips_next us i u old new lt at both added = subst (λ l. AreSkipsOf l new × EachOf (λ (k : SkipPart). IsFit k.regex) new) (sym (take_next us i u lt at)) (skips_more (take i us) u old new both.0 both.1 added)

@@ -24,7 +24,7 @@ use Rattle.xs_pair.specs.declared.names.Sort.TheVariants as S
 use Rattle.xs_pair.specs.Directories.{IsDistinct}
 use Rattle.xs_pair.specs.Grammars.{numbering, Numbering, flat_item, flat_mark, flat_marks, named_item}
 use Rattle.xs_pair.specs.Marks.{item_slots, mark_slots, slots_of, slot_names}
-use Rattle.xs_pair.specs.Rules.{SomeOf, IsAmong, IsNameless, IsUndefined, IsMisnamed, IsMiskinded, HasRepeat}
+use Rattle.xs_pair.specs.Rules.{SomeOf, IsAmong, HasOtherName, IsUndefined, IsMisnamed, IsMiskinded, HasRepeat}
 use Rattle.xs_pair.specs.Units.{names_of, nons_of, terms_of, skips_of, number_of}
 use Rattle.xs_pair.specs.Weights.{item_weight, mark_weight, marks_weight}
 use Rattle.xs_pair.proofs.Places.{found_there, not_both, among_if}
@@ -35,7 +35,7 @@ There : List Unit → GItem → Type 0
 There us i = NamesThere (length (nons_of us)) (length (terms_of us)) (length (skips_of us)) i
 
 -- what the items of an item name is there
-item_there : (us : List Unit) (names sl : List (List ℕ)) (i : Item) → (IsNameless (names_of S.Any us) i → ⊥) → (IsMisnamed (skips_of us) i → ⊥) → EachOf (NamesThere (length (nons_of us)) (length (terms_of us)) (length (skips_of us))) (flat_item (numbering us names) sl i)
+item_there : (us : List Unit) (names sl : List (List ℕ)) (i : Item) → (HasOtherName (names_of S.Any us) i → ⊥) → (IsMisnamed (skips_of us) i → ⊥) → EachOf (NamesThere (length (nons_of us)) (length (terms_of us)) (length (skips_of us))) (flat_item (numbering us names) sl i)
 item_there us names sl (I.Fixed []) named kind = tt
 item_there us names sl (I.Fixed (c ∷ cs)) named kind = (omega arith, tt)
 item_there us names sl (I.Skip name) named kind = (number_bound (skips_of us) name (among_if (skips_of us) name kind), tt)

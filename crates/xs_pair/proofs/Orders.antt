@@ -70,6 +70,19 @@ among_back s o rule is line fails = subst (λ rs. FailsAmong (tables_in o) rs ru
 pub among_same : (s : Sheet) (o : Outline) (rule : IllRule) (p : Option ℕ) → IsOutlineOf s o → IsFirstLine (FailsAmong (tables_in o) o.rules.items rule) p → IsFirstLine (FailsAmong (tables_of s) (rules_of s.units) rule) p
 among_same s o rule p is first = first_same (FailsAmong (tables_in o) o.rules.items rule) (FailsAmong (tables_of s) (rules_of s.units) rule) p (among_forth s o rule is) (among_back s o rule is) first
 
-pub among_ok : (s : Sheet) (o : Outline) (rule : IllRule) (res : Result (Option ℕ) Memory) → IsOutlineOf s o → IfOk res (IsFirstLine (FailsAmong (tables_in o) o.rules.items rule)) → IfOk res (IsFirstLine (FailsAmong (tables_of s) (rules_of s.units) rule))
-among_ok s o rule (Ok p) is first = among_same s o rule p is first
-among_ok s o rule (Err e) is first = first
+-- the first line at which one of the rules on productions fails
+among_first : (s : Sheet) (o : Outline) (rule : IllRule) (res : Result (Option ℕ) Memory) → IsOutlineOf s o → IfOk res (IsFirstLine (FailsAmong (tables_in o) o.rules.items rule)) → IfOk res (IsFirstLine (FailsAmong (tables_of s) (rules_of s.units) rule))
+among_first s o rule (Ok p) is first = among_same s o rule p is first
+among_first s o rule (Err e) is first = first
+
+among_is : (s : Sheet) (o : Outline) (rule kind : IllRule) (res : Result (Option ℕ) Memory) → (IfOk res (IsFirstLine (FailsAmong (tables_of s) (rules_of s.units) kind)) → IfOk res (IsFirstLine (FailsAt s kind))) → rule ≡ kind → IsOutlineOf s o → IfOk res (IsFirstLine (FailsAmong (tables_in o) o.rules.items rule)) → IfOk res (IsFirstLine (FailsAt s rule))
+among_is s o rule kind res same is of first =
+    subst (λ r. IfOk res (IsFirstLine (FailsAt s r))) (sym is)
+    (same (among_first s o kind res of (subst (λ r. IfOk res (IsFirstLine (FailsAmong (tables_in o) o.rules.items r))) is first)))
+
+pub among_ok : (s : Sheet) (o : Outline) (rule : IllRule) (res : Result (Option ℕ) Memory) → (rule ≡ Undefined) ⊎ ((rule ≡ NameOnce) ⊎ ((rule ≡ Kind) ⊎ ((rule ≡ AttrTwice) ⊎ (rule ≡ RootShape)))) → IsOutlineOf s o → IfOk res (IsFirstLine (FailsAmong (tables_in o) o.rules.items rule)) → IfOk res (IsFirstLine (FailsAt s rule))
+among_ok s o rule res (inl is) of first = among_is s o rule Undefined res (λ h. h) is of first
+among_ok s o rule res (inr (inl is)) of first = among_is s o rule NameOnce res (λ h. h) is of first
+among_ok s o rule res (inr (inr (inl is))) of first = among_is s o rule Kind res (λ h. h) is of first
+among_ok s o rule res (inr (inr (inr (inl is)))) of first = among_is s o rule AttrTwice res (λ h. h) is of first
+among_ok s o rule res (inr (inr (inr (inr is)))) of first = among_is s o rule RootShape res (λ h. h) is of first

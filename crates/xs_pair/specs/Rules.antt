@@ -32,19 +32,19 @@ IsTwice us k (Ignorable name pattern regex normal line) = IsAmong (names_of S.An
 IsTwice us k (Production name left right line) = IsAmong (names_of S.Lexical (take k us)) name
 IsTwice us k (Fence left right line) = ⊥
 
--- an item's name is none of the names
-abbrev pub IsNameless : List (List ℕ) → Item → Type 0
-IsNameless names (I.Fixed text) = ⊥
-IsNameless names (I.Named name slot) = IsAbsent names name
-IsNameless names (I.Skip name) = IsAbsent names name
+-- the item has a name, and it is none of the names
+abbrev pub HasOtherName : List (List ℕ) → Item → Type 0
+HasOtherName names (I.Fixed text) = ⊥
+HasOtherName names (I.Named name slot) = IsAbsent names name
+HasOtherName names (I.Skip name) = IsAbsent names name
 
 abbrev pub IsUndefined : List (List ℕ) → Mark → Type 0
 IsUndefined units (Opening tag names) = ⊥
 IsUndefined units (Attribute name) = ⊥
 IsUndefined units AttributeEnd = ⊥
 IsUndefined units (Closing tag) = ⊥
-IsUndefined units (Value i) = IsNameless units i
-IsUndefined units (Content i) = IsNameless units i
+IsUndefined units (Value i) = HasOtherName units i
+IsUndefined units (Content i) = HasOtherName units i
 
 -- the slot stands exactly once
 abbrev pub IsOnce : List (List ℕ) → List ℕ → Type 0
@@ -68,7 +68,7 @@ IsMiskinded terms skips (Opening tag names) = ⊥
 IsMiskinded terms skips (Attribute name) = ⊥
 IsMiskinded terms skips AttributeEnd = ⊥
 IsMiskinded terms skips (Closing tag) = ⊥
-IsMiskinded terms skips (Value i) = IsMisnamed skips i ⊎ IsNameless terms i
+IsMiskinded terms skips (Value i) = IsMisnamed skips i ⊎ HasOtherName terms i
 IsMiskinded terms skips (Content i) = IsMisnamed skips i
 
 -- one slot with two names of units on the two sides

@@ -82,15 +82,14 @@ fn push_item(alloc: Global, item: &Item, out: &mut Vec<char>) -> Result<(), Memo
     }
 }
 
-/// The characters of the strings of a text side, in order.
-pub fn side_letters(alloc: Global, items: &[Item]) -> Result<Vec<char>, Memory>
-    ensures { IfOk result (λ v. v.items ≡ F.side_letters items.now) }
+/// Appends the characters of the strings of a text side, in order.
+pub fn push_side(alloc: Global, items: &[Item], out: &mut Vec<char>) -> Result<(), Memory>
+    ensures { OnOk result (out.new.items ≡ out.old.items ++ F.side_letters items.now) }
 {
-    let mut letters = Vec::new(alloc);
     'items: for item in items {
-        push_item(alloc, item, &mut letters)?;
+        push_item(alloc, item, out)?;
     }
-    Ok(letters)
+    Ok(())
 }
 
 /// Whether the fence characters of a production's text side are not balanced.
@@ -100,7 +99,8 @@ fn is_open(alloc: Global, pairs: &[(char, char)], unit: &Unit) -> Result<bool, M
 {
     match unit {
         Unit::Production { left, .. } => {
-            let letters = side_letters(alloc, left.as_slice())?;
+            let mut letters = Vec::new(alloc);
+            push_side(alloc, left.as_slice(), &mut letters)?;
             let closes = closes(alloc, pairs, &letters)?;
             Ok(!closes)
         }

@@ -89,8 +89,8 @@ fn copied_ignorable(
     name: &Text,
     pattern: &Text,
     regex: &Regex,
-    normal: &Text,
     line: u32,
+    normal: &Text,
 ) -> Result<Unit, Memory>
     requires { IsPatternOf pattern.now regex.now }
     ensures outline { IfOk result (λ u. unit_outline u ≡ ignorable name.now pattern.now normal.now line) }
@@ -157,7 +157,7 @@ fn copied_unit(alloc: Global, unit: &Unit) -> Result<Unit, Memory>
             regex,
             normal,
             line,
-        } => copied_ignorable(alloc, name, pattern, regex, normal, *line),
+        } => copied_ignorable(alloc, name, pattern, regex, *line, normal),
         Unit::Production {
             name,
             left,

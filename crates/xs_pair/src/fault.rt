@@ -13,9 +13,9 @@ pub enum PairFault {
 
 impl From<Memory> for PairFault {
     ghost use Rattle.std.specs.Prelude.{◌≡◌};
-    ghost use Rattle.xs_pair.specs.declared.fault.PairFault.TheVariants as F;
+    ghost use Rattle.xs_pair.specs.declared.fault.PairFault.TheVariants as fault;
 
-    ghost from_gives = { λ _ e. e ≡ F.Memory };
+    ghost from_gives = { λ _ e. e ≡ fault.Memory };
 
     fn from(_: Memory) -> Self {
         PairFault::Memory

@@ -17,6 +17,8 @@ use xs_sheet::{Sheet, Unit};
 pub struct Outline {
     /// The names of all units, in their order.
     pub units: Directory,
+    /// The productions, in their order.
+    pub rules: Vec<Slotted>,
     /// The names of terminals and ignorables.
     pub lexical: Directory,
     pub terms: Directory,
@@ -25,7 +27,6 @@ pub struct Outline {
     pub heads: Directory,
     /// The nonterminals, in the order of their first productions.
     pub nons: Directory,
-    pub rules: Vec<Slotted>,
     pub start: Text,
     pub start_line: u32,
 }
@@ -109,12 +110,12 @@ impl Outline {
         let names = unit_names(alloc, units)?;
         Ok(Outline {
             units: names.units,
+            rules: productions.rules,
             lexical: names.lexical,
             terms: names.terms,
             skips: names.skips,
             heads: productions.heads,
             nons: productions.nons,
-            rules: productions.rules,
             start,
             start_line: sheet.start_line,
         })

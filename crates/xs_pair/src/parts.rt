@@ -50,9 +50,7 @@ fn push_regex(alloc: Global, unit: &Unit, regexes: &mut Vec<Regex>) -> Result<()
             regexes.push(regex)?;
             Ok(())
         }
-        Unit::Ignorable { .. } => Ok(()),
-        Unit::Production { .. } => Ok(()),
-        Unit::Fence { .. } => Ok(()),
+        Unit::Ignorable { .. } | Unit::Production { .. } | Unit::Fence { .. } => Ok(()),
     }
 }
 
@@ -80,9 +78,7 @@ fn push_skip(alloc: Global, unit: &Unit, parts: &mut Vec<SkipPart>) -> Result<()
             parts.push(SkipPart { regex, normal })?;
             Ok(())
         }
-        Unit::Terminal { .. } => Ok(()),
-        Unit::Production { .. } => Ok(()),
-        Unit::Fence { .. } => Ok(()),
+        Unit::Terminal { .. } | Unit::Production { .. } | Unit::Fence { .. } => Ok(()),
     }
 }
 

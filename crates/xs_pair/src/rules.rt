@@ -3,7 +3,7 @@ ghost use Rattle.xs_pair.specs.declared.ill.IllRule.TheVariants as R;
 ghost use Rattle.xs_pair.specs.declared.names.Sort.TheVariants as S;
 ghost use Rattle.xs_pair.specs.Units as U;
 ghost use Rattle.xs_pair.specs.Weights.{mark_weight, marks_weight, rule_weight, AreLight};
-ghost use Rattle.xs_pair.specs.Rules.{SomeOf, IsNameless, IsUndefined, IsMisnamed, IsMiskinded, RepeatsAttribute, IsTwice, IsAbsent};
+ghost use Rattle.xs_pair.specs.Rules.{SomeOf, HasOtherName, IsUndefined, IsMisnamed, IsMiskinded, RepeatsAttribute, IsTwice, IsAbsent};
 ghost use Rattle.xs_pair.specs.Verdict.{IsIllMark, FailsIn, FailsAmong, FailsAt, IsFirstLine, IsLineWhere, NoneBefore, NoneFails, IsRefusal, IsOutlineOf, IsTaken, order, tables_in};
 
 use crate::least::with_line;
@@ -43,8 +43,8 @@ fn repeats_attribute(alloc: Global, mark: &Mark) -> Result<bool, Memory>
 }
 
 /// Whether the item has a name that is none of these.
-fn is_nameless(names: &Directory, item: &Item) -> bool
-    ensures { IsTrue result ↔ IsNameless names.now item.now }
+fn has_other_name(names: &Directory, item: &Item) -> bool
+    ensures { IsTrue result ↔ HasOtherName names.now item.now }
 {
     match item {
         Item::Fixed(_) => false,
@@ -60,8 +60,8 @@ impl Outline {
         match mark {
             Mark::Opening { .. } | Mark::Attribute(_) | Mark::AttributeEnd => false,
             Mark::Closing(_) => false,
-            Mark::Value(item) => is_nameless(&self.units, item),
-            Mark::Content(item) => is_nameless(&self.units, item),
+            Mark::Value(item) => has_other_name(&self.units, item),
+            Mark::Content(item) => has_other_name(&self.units, item),
         }
     }
 
@@ -82,7 +82,7 @@ impl Outline {
         match mark {
             Mark::Opening { .. } | Mark::Attribute(_) | Mark::AttributeEnd => false,
             Mark::Closing(_) => false,
-            Mark::Value(item) => self.is_misnamed(item) || is_nameless(&self.terms, item),
+            Mark::Value(item) => self.is_misnamed(item) || has_other_name(&self.terms, item),
             Mark::Content(item) => self.is_misnamed(item),
         }
     }
@@ -248,12 +248,12 @@ impl Outline {
     {
         match rule {
             IllRule::Twice => Ok(self.least_twice(sheet.units.as_slice())),
-            IllRule::Undefined => self.least_among(alloc, IllRule::Undefined),
             IllRule::NoStart => Ok(self.no_start()),
-            IllRule::NameOnce => self.least_among(alloc, IllRule::NameOnce),
-            IllRule::Kind => self.least_among(alloc, IllRule::Kind),
-            IllRule::AttrTwice => self.least_among(alloc, IllRule::AttrTwice),
-            IllRule::RootShape => self.least_among(alloc, IllRule::RootShape),
+            IllRule::Undefined
+            | IllRule::NameOnce
+            | IllRule::Kind
+            | IllRule::AttrTwice
+            | IllRule::RootShape => self.least_among(alloc, rule),
             IllRule::EmptyClass => Ok(None),
             IllRule::NotChar => Ok(None),
             IllRule::Normal => Ok(None),

@@ -32,9 +32,9 @@ pub struct Two {
 }
 
 impl Model for Two {
+    ghost use Rattle.std.specs.Coded.{codes};
     ghost use Rattle.xs_pair.specs.Grammars.{Pair};
     ghost use Rattle.xs_regex.specs.contracts.regex.Regex as e;
-    ghost use Rattle.std.specs.Coded.{codes};
 
     ghost Value = { Pair };
 
@@ -129,8 +129,8 @@ impl Outline {
         names: &Names,
         side: Side,
     ) -> Result<Gram, Memory>
-        requires outline { IsOutlineOf sheet.now self.now }
         requires passed { NoneFails (FailsAt sheet.now) }
+        requires outline { IsOutlineOf sheet.now self.now }
         requires small { weight sheet.now.units < 65536 }
         requires bytes { IsOfBytes sheet.now }
         requires named { AreNamesOf (listed_names (rules_of sheet.now.units)) names.now }

@@ -1,10 +1,10 @@
-ghost use Rattle.std.specs.Prelude.{◌≡◌, ◌++◌, true, IfOk, OnOk};
+ghost use Rattle.std.specs.Prelude.{◌≡◌, ◌++◌, IfOk, OnOk};
 ghost use Rattle.xs_sheet.specs.{HaveRegexes, IsReadable};
 ghost use Rattle.xs_pair.specs.Upgrades as U;
 ghost use Rattle.xs_pair.specs.Upgrades.{IsTried, AreTried, AreUpgraded, IsUpgrade, brackets};
 ghost use Rattle.xs_pair.specs.Weights.{IsOfBytes};
 
-use crate::balance::side_letters;
+use crate::balance::push_side;
 use crate::copying::copied_units;
 use crate::fence_rules::ill_of;
 use crate::fences::is_one_of;
@@ -17,11 +17,7 @@ fn push_left(alloc: Global, unit: &Unit, out: &mut Vec<char>) -> Result<(), Memo
     ensures { OnOk result (out.new.items ≡ out.old.items ++ U.left_letters unit.now) }
 {
     match unit {
-        Unit::Production { left, .. } => {
-            let letters = side_letters(alloc, left.as_slice())?;
-            out.extend_from_slice(&letters)?;
-            Ok(())
-        }
+        Unit::Production { left, .. } => push_side(alloc, left.as_slice(), out),
         Unit::Terminal { .. } | Unit::Ignorable { .. } | Unit::Fence { .. } => Ok(()),
     }
 }
@@ -56,31 +52,8 @@ fn fence_of(alloc: Global, pair: (char, char), line: u32) -> Result<Unit, Memory
     Ok(Unit::Fence { left, right, line })
 }
 
-/// Adds the fence of a pair that stands in a text side, unless a rule on fences then fails.
-fn fence_in(
-    alloc: Global,
-    units: &mut Vec<Unit>,
-    pair: (char, char),
-    line: u32,
-) -> Result<(), Memory>
-    requires regexes { HaveRegexes units.old.items }
-    requires there { U.is_there units.old.items pair ≡ true }
-    ensures tried { OnOk result (IsTried line pair units.old.items units.new.items) }
-    ensures regexes { OnOk result (HaveRegexes units.new.items) }
-{
-    let fence = fence_of(alloc, pair, line)?;
-    units.push(fence)?;
-    let ill = ill_of(alloc, units)?;
-    match ill {
-        None => Ok(()),
-        Some(_) => {
-            units.pop();
-            Ok(())
-        }
-    }
-}
-
-/// Tries a pair: its fence is added where it can be one.
+/// Tries a pair: its fence is added where one of its characters stands in a text side, unless a rule
+/// on fences then fails.
 fn try_pair(
     alloc: Global,
     units: &mut Vec<Unit>,
@@ -91,10 +64,19 @@ fn try_pair(
     ensures tried { OnOk result (IsTried line pair units.old.items units.new.items) }
     ensures regexes { OnOk result (HaveRegexes units.new.items) }
 {
-    if is_there(alloc, units, pair)? {
-        return fence_in(alloc, units, pair, line);
+    if !is_there(alloc, units, pair)? {
+        return Ok(());
     }
-    Ok(())
+    let fence = fence_of(alloc, pair, line)?;
+    units.push(fence)?;
+    let ill = ill_of(alloc, units)?;
+    match ill {
+        None => Ok(()),
+        Some(_) => {
+            units.pop();
+            Ok(())
+        }
+    }
 }
 
 /// Tries the four pairs of brackets, one after the other.

@@ -14,12 +14,11 @@ units-preserved c =
     let us = c.args.units.now in
     let i = c.units.unit-index in
     let u = c.unit-item.result in
-    let before = c.units.invariant in
-    let earlier : c.deref.result.now ≡ fence_letters (take i us) = c.deref.ensures.value ∙ before.letters in
+    let earlier : c.deref.result.now ≡ fence_letters (take i us) = c.deref.ensures.value ∙ c.units.invariant.letters in
     let test : IsTrue c.in_ok-fails.fails ↔ IsUsed (fence_letters (take i us)) u = subst (λ (ls : List ℕ). IsTrue c.in_ok-fails.fails ↔ IsUsed ls u) earlier c.in_ok-fails.ensures in
     record {
-      letters = letters_next us i u c.units.earlier.items c.push_fence_letters.new.out.items c.units-test.true c.unit-item.is before.letters c.in_ok-push_fence_letters.ensures;
-      first = take_tested (λ (k : ℕ) (v : Unit). IsUsed (fence_letters (take k us)) v) unit_line us i u c.units.least c.with_line-least.result c.unit_line.result c.in_ok-fails.fails c.units-test.true c.unit-item.is c.unit_line.ensures test c.with_line-least.ensures before.first;
+      letters = letters_next us i u c.units.earlier.items c.push_fence_letters.new.out.items c.units-test.true c.unit-item.is c.units.invariant.letters c.in_ok-push_fence_letters.ensures;
+      first = take_tested (λ (k : ℕ) (v : Unit). IsUsed (fence_letters (take k us)) v) unit_line us i u c.units.least c.with_line-least.result c.unit_line.result c.in_ok-fails.fails c.units-test.true c.unit-item.is c.unit_line.ensures test c.with_line-least.ensures c.units.invariant.first;
     }
 
 pub returns : goal.returns

@@ -4,7 +4,4 @@ use Rattle.xs_pair.specs.Grammars.{AreTermsOf}
 use Rattle.xs_pair.proofs.parts.regexes.Given as goal
 
 abbrev pub invariant-units : goal.invariant-units
-invariant-units l = record {
-  of : AreTermsOf (take l.unit-index l.units) l.regexes.items;
-  fit : EachOf IsFit l.regexes.items;
-}
+invariant-units l = AreTermsOf (take l.unit-index l.units) l.regexes.items × EachOf IsFit l.regexes.items

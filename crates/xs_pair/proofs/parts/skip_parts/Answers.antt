@@ -6,6 +6,4 @@ pub push_skip-requires : goal.push_skip-requires
 push_skip-requires c = has_regex c.args.units.now c.units.unit-index c.unit-item.result c.requires (get_at c.args.units.now c.units.unit-index c.unit-item.result c.units-test.true c.unit-item.is)
 
 pub units-preserved : goal.units-preserved
-units-preserved c =
-    let added = skips_next c.args.units.now c.units.unit-index c.unit-item.result c.units.parts.items c.push_skip.new.parts.items c.units-test.true c.unit-item.is c.units.invariant.of c.units.invariant.fit c.in_ok-push_skip.ensures in
-    record { of = added.0; fit = added.1 }
+units-preserved c = skips_next c.args.units.now c.units.unit-index c.unit-item.result c.units.parts.items c.push_skip.new.parts.items c.units-test.true c.unit-item.is c.units.invariant c.in_ok-push_skip.ensures

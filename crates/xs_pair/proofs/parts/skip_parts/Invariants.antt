@@ -5,7 +5,4 @@ use Rattle.xs_pair.specs.Grammars.{AreSkipsOf}
 use Rattle.xs_pair.proofs.parts.skip_parts.Given as goal
 
 abbrev pub invariant-units : goal.invariant-units
-invariant-units l = record {
-  of : AreSkipsOf (take l.unit-index l.units) l.parts.items;
-  fit : EachOf (λ (k : SkipPart). IsFit k.regex) l.parts.items;
-}
+invariant-units l = AreSkipsOf (take l.unit-index l.units) l.parts.items × EachOf (λ (k : SkipPart). IsFit k.regex) l.parts.items
