@@ -13,7 +13,6 @@ use Rattle.xs_gram.specs.Laws.{HasNumberedSlots}
 use Rattle.xs_gram.specs.Sound.{IsSound}
 use Rattle.xs_tree.specs.Flat.{tree_at, kids_at}
 use Rattle.xs_cover.specs.declared.prices.Prices.{Prices}
-use Rattle.xs_cover.specs.declared.contexts.Step.{Step}
 use Rattle.xs_cover.specs.declared.contexts.Contexts.{Contexts}
 use Rattle.xs_cover.specs.Sizes.{capped, size, weight, Uses, IsLeast, IsLeastTree}
 use Rattle.xs_cover.specs.Costs.{kind_cost, rule_cost}
@@ -120,7 +119,3 @@ take_next (y ∷ xs) zero x e = ap (λ z. z ∷ []) (same_Some y x e)
 take_next (y ∷ xs) (suc n) x e =
     let next : suc n + 1 ≡ suc (n + 1) = omega arith in
     ap (λ k. take k (y ∷ xs)) next ∙ ap (λ l. y ∷ l) (take_next xs n x e)
-
-pub holds_moved : (g h : Grammar) (p : Prices) (numbers : List ℕ) (steps : List Step) (rule most place place' number number' : ℕ) (trees trees' : List Common) → place ≡ place' → trees ≡ trees' → number ≡ number' → HoldsAt g h p numbers steps rule most place trees number → HoldsAt g h p numbers steps rule most place' trees' number'
-holds_moved g h p numbers steps rule most place place' number number' trees trees' a b c holds =
-    subst (λ k. HoldsAt g h p numbers steps rule most place' trees' k) c (subst (λ ts. HoldsAt g h p numbers steps rule most place' ts number) b (subst (λ k. HoldsAt g h p numbers steps rule most k trees number) a holds))

@@ -15,28 +15,17 @@ use Rattle.xs_cover.specs.Tables.{at}
 pub item_read : (g : Grammar) (q n : ℕ) (is : List GItem) (i : GItem) → is ≡ items g q → n < length is → i ≡ get_or is n i → ItemAt g q n i
 item_read g q n is i e h is_item = subst (λ l. slice_get l n ≡ Some i) e (slice_get_read is (length is) n i refl h is_item)
 
--- the slot of an item is one of the slots
-pub term_slot : (P : ℕ → Type 0) (is : List GItem) (n t s : ℕ) → Every P (slots is) → slice_get is n ≡ Some (Term t s) → P s
-term_slot P [] n t s every e = absurd (none-some (Term t s) e)
-term_slot P (i ∷ is) zero t s every e = first (i) (same_Some i (Term t s) e) every
-  where
-    first : (j : GItem) → j ≡ Term t s → Every P (slots (j ∷ is)) → P s
-    first j is_j all = (subst (λ k. Every P (slots (k ∷ is))) is_j all).0
-term_slot P (Fixed f ∷ is) (suc n) t s every e = term_slot P is n t s every e
-term_slot P (Term u k ∷ is) (suc n) t s every e = term_slot P is n t s every.1 e
-term_slot P (Non u k ∷ is) (suc n) t s every e = term_slot P is n t s every.1 e
-term_slot P (Skip k ∷ is) (suc n) t s every e = term_slot P is n t s every e
-
-pub non_slot : (P : ℕ → Type 0) (is : List GItem) (n m s : ℕ) → Every P (slots is) → slice_get is n ≡ Some (Non m s) → P s
-non_slot P [] n m s every e = absurd (none-some (Non m s) e)
-non_slot P (i ∷ is) zero m s every e = first (i) (same_Some i (Non m s) e) every
-  where
-    first : (j : GItem) → j ≡ Non m s → Every P (slots (j ∷ is)) → P s
-    first j is_j all = (subst (λ k. Every P (slots (k ∷ is))) is_j all).0
-non_slot P (Fixed f ∷ is) (suc n) m s every e = non_slot P is n m s every e
-non_slot P (Term u k ∷ is) (suc n) m s every e = non_slot P is n m s every.1 e
-non_slot P (Non u k ∷ is) (suc n) m s every e = non_slot P is n m s every.1 e
-non_slot P (Skip k ∷ is) (suc n) m s every e = non_slot P is n m s every e
+-- what holds of each slot holds of an item's
+pub item_slots : (P : ℕ → Type 0) (is : List GItem) (n : ℕ) (item : GItem) → Every P (slots is) → slice_get is n ≡ Some item → Every P (slots (item ∷ []))
+item_slots P [] n item every e = absurd (none-some item e)
+item_slots P (Fixed f ∷ is) zero item every e = subst (λ j. Every P (slots (j ∷ []))) (same_Some (Fixed f) item e) tt
+item_slots P (Term t s ∷ is) zero item every e = subst (λ j. Every P (slots (j ∷ []))) (same_Some (Term t s) item e) (every.0, tt)
+item_slots P (Non m s ∷ is) zero item every e = subst (λ j. Every P (slots (j ∷ []))) (same_Some (Non m s) item e) (every.0, tt)
+item_slots P (Skip k ∷ is) zero item every e = subst (λ j. Every P (slots (j ∷ []))) (same_Some (Skip k) item e) tt
+item_slots P (Fixed f ∷ is) (suc n) item every e = item_slots P is n item every e
+item_slots P (Term t s ∷ is) (suc n) item every e = item_slots P is n item every.1 e
+item_slots P (Non m s ∷ is) (suc n) item every e = item_slots P is n item every.1 e
+item_slots P (Skip k ∷ is) (suc n) item every e = item_slots P is n item every e
 
 -- what holds of each slot with its kind holds of an item's
 entry_of : (P : ℕ × Kind → Type 0) (is : List GItem) (n m s : ℕ) → AllOf P (kinds is) → slice_get is n ≡ Some (Non m s) → P (s, of_non m)

@@ -12,4 +12,5 @@ pub mod Showing
 pub mod Stepping
 pub mod Leaves
 pub mod Chains
+pub mod LeastTrees
 pub mod Sweeping

@@ -1,5 +1,5 @@
 -- Steps that are added to a list of steps.
-use Rattle.std.proofs.Common.{◌≡◌, ◌≢◌, ◌⊎◌, inl, inr, ℕ, ◌+◌, ◌-◌, ◌<◌, ◌≤◌, List, [], ◌∷◌, ◌++◌, length, length-append, append_assoc, append-nil, refl, sym, subst, ◌∙◌, ap, arith, set, replicate}
+use Rattle.std.proofs.Common.{◌≡◌, ◌≢◌, ◌⊎◌, inl, inr, ℕ, ◌+◌, ◌-◌, ◌<◌, ◌≤◌, List, [], ◌∷◌, ◌++◌, length, length-append, refl, sym, subst, ◌∙◌, ap, arith, set, replicate}
 use Rattle.std.proofs.lemmas.Bool.{cases_lt}
 use Rattle.std.proofs.lemmas.List.{get_or_append_left, length-replicate}
 use Rattle.std.proofs.Math.ListN.{length-set}
@@ -18,12 +18,6 @@ use Rattle.xs_cover.specs.Steps.{no_step, step_at, rest_cost, IsStep, AreSteps, 
 use Rattle.xs_cover.specs.Tables.{at}
 use Rattle.xs_cover.proofs.Counting.{non_found, at_replicate, at_replicate_low}
 use Rattle.xs_cover.proofs.Ways.{at_set}
-
-pub grown_none : (a : List Step) → HasGrown a a
-grown_none a = ([], sym (append-nil a))
-
-pub grown_all : (a b c : List Step) → HasGrown a b → HasGrown b c → HasGrown a c
-grown_all a b c (xs, e) (ys, f) = (xs ++ ys, f ∙ ap (λ (l : List Step). l ++ ys) e ∙ simp (append_assoc))
 
 step_on : (a more : List Step) (k : ℕ) → k < length a → step_at (a ++ more) k ≡ step_at a k
 step_on a more k h = get_or_append_left a more no_step k h

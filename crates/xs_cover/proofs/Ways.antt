@@ -95,12 +95,25 @@ pub settled_low : (p : Position) (rests : List ℕ) (j next : ℕ) (row : List �
 settled_low p rests j next row get low h = λ has k leads. omega (arith, h, lowest_of row rests next k low (row_of p j k row get leads))
 
 -- what follows with the least to come has less to come
-pub next_less : (p : Position) (rests : List ℕ) (j next : ℕ) (row : List ℕ) → AreRests p rests → j < length p.classes → at rests j < 1000 → 0 < at rests j → slice_get p.follow j ≡ Some row → IsLowest row rests next → at rests next < at rests j
+next_less : (p : Position) (rests : List ℕ) (j next : ℕ) (row : List ℕ) → AreRests p rests → j < length p.classes → at rests j < 1000 → 0 < at rests j → slice_get p.follow j ≡ Some row → IsLowest row rests next → at rests next < at rests j
 next_less p rests j next row known h near some get low = by (known.onward j h near)
   where
     by : IsOnTheWay p rests j → at rests next < at rests j
     by (inl last) = absurd (omega (arith, some, known.ends j last (known.symbols j near h)))
     by (inr way) = omega (arith, way.2, lowest_of row rests next way.0 low (row_of p j way.0 row get way.1))
+
+-- a position that follows j, and from which there is less to come
+pub record IsNext (p : Position) (rests : List ℕ) (j next : ℕ) : Type 0 where
+  pub leads : Leads p j next
+  pub within : next < length p.classes
+  pub less : at rests next < at rests j
+
+pub is_next : (p : Position) (rests : List ℕ) (j next : ℕ) (row : List ℕ) → IsWellFormed p → AreRests p rests → j < length p.classes → at rests j < 1000 → 0 < at rests j → slice_get p.follow j ≡ Some row → IsLowest row rests next → IsNext p rests j next
+is_next p rests j next row formed known h near some get low = record {
+  leads = in_row p j next row get low.among;
+  within = follow_below p j (length p.classes) row formed refl get next low.among;
+  less = next_less p rests j next row known h near some get low;
+}
 
 -- a position from which an end is known and something is to come has one that follows
 pub some_next : (p : Position) (rests : List ℕ) (j : ℕ) (row : List ℕ) → AreRests p rests → j < length p.classes → at rests j < 1000 → 0 < at rests j → slice_get p.follow j ≡ Some row → row ≡ [] → ⊥
@@ -138,14 +151,6 @@ false_true e = cc
 
 never : (b : Bool) → b ≡ false → IsTrue b → ⊥
 never b e t = false_true (sym e ∙ t)
-
-pub true_false : true ≡ false → ⊥
-true_false e = cc
-
--- a table that was lowered or kept has no greater sum
-pub sum_kept : (b : Bool) (now old : List ℕ) → (b ≡ true → total now < total old) → (b ≡ false → now ≡ old) → total now ≤ total old
-sum_kept true now old lowered kept = omega (arith, lowered refl)
-sum_kept false now old lowered kept = omega (arith, ap total (kept refl))
 
 -- the shortest word asks for as much as stands at the best first position
 pub accepted_long : (p : Position) (rests w : List ℕ) (first : ℕ) → IsWellFormed p → AreRests p rests → p.nullable ≡ false → ((j : ℕ) → j < length p.classes → IsSettled p rests j) → IsLowest p.first rests first → Accepts p w → at rests first + 1 ≤ length w

@@ -1,17 +1,20 @@
 -- When tables of costs, trees and steps are complete, and what they then say.
 use Rattle.std.specs.Prelude.{◌≡◌, ℕ, ◌+◌, ◌<◌, ◌≤◌, List, length, None, slice_index_or}
 use Rattle.std.specs.declared.option.Option.{Option}
-use Rattle.xs_gram.specs.Grammar.{Grammar}
+use Rattle.xs_gram.specs.Grammar.{Grammar, rule_of}
 use Rattle.xs_gram.specs.Common.{Common, TreeFits}
 use Rattle.xs_pair.specs.Grammars.{Pair}
 use Rattle.xs_tree.specs.Flat.{tree_at, trees_of}
 use Rattle.xs_cover.specs.declared.prices.Prices.{Prices}
 use Rattle.xs_cover.specs.declared.contexts.Step.{Step}
 use Rattle.xs_cover.specs.declared.contexts.Contexts.{Contexts}
+use Rattle.xs_cover.specs.declared.covers.Tables.{Tables}
 use Rattle.xs_cover.specs.declared.covers.Covers.{Covers}
 use Rattle.xs_cover.specs.Sizes.{capped, weight, Uses, IsLeast, IsLeastSize}
-use Rattle.xs_cover.specs.Prices.{AreLow, HaveTrees, IsClosed}
+use Rattle.xs_cover.specs.Costs.{rule_cost}
+use Rattle.xs_cover.specs.Prices.{costs_of, AreLow, HaveTrees, IsClosed}
 use Rattle.xs_cover.specs.Steps.{step_at, AreContexts, IsPassed}
+use Rattle.xs_cover.specs.Tables.{at}
 
 -- no rule gives a lower cost, and no step leads to less
 pub record AreComplete (g h : Grammar) (p : Prices) (numbers : List ℕ) (trees : List Common) (c : Contexts) : Type 0 where
@@ -21,6 +24,10 @@ pub record AreComplete (g h : Grammar) (p : Prices) (numbers : List ℕ) (trees 
   pub contexts : AreContexts g h p c
   pub passed : (q : ℕ) → q < length g.rules → IsPassed g h p c.arounds.items q
 
+-- the tables of two grammars are complete
+abbrev pub AreTables : Pair → Tables → Type 0
+AreTables two t = AreComplete two.text two.xml t.prices t.numbers.items (trees_of t.tree.parts) t.contexts
+
 -- the least sizes, by production
 abbrev pub sizes_of : Covers → List (Option ℕ)
 sizes_of c = c.sizes.items
@@ -29,7 +36,7 @@ sizes_of c = c.sizes.items
 pub record AreCoversOf (two : Pair) (c : Covers) : Type 0 where
   pub counted : length (sizes_of c) ≡ length two.text.rules
   pub sizes : (p : ℕ) → p < length two.text.rules → IsLeastSize two.text two.xml p (slice_index_or (sizes_of c) p None)
-  pub complete : AreComplete two.text two.xml c.prices c.numbers.items (trees_of c.tree.parts) c.contexts
+  pub complete : AreTables two c.tables
 
 -- Tree `number` fits the nonterminal to which step `place` leads, it shows the production, and
 -- weighs, with what stands around it, at most so much.
@@ -40,6 +47,14 @@ pub record HoldsAt (g h : Grammar) (p : Prices) (numbers : List ℕ) (steps : Li
   pub fits : TreeFits g (step_at steps place).non (tree_at trees number)
   pub uses : Uses (tree_at trees number) rule
   pub light : (step_at steps place).cost + capped (weight g h (tree_at trees number)) ≤ most
+
+-- what stands around a production, and what it costs
+abbrev pub shown_cost : Pair → Tables → ℕ → ℕ
+shown_cost two t rule = at t.contexts.arounds.items (rule_of two.text rule).non + rule_cost two.text two.xml (costs_of t.prices) rule
+
+-- tree `number` of the list can stand where step `place` of the tables leads
+abbrev pub IsShownAt : Pair → Tables → ℕ → ℕ → List Common → ℕ → Type 0
+IsShownAt two t rule place trees number = HoldsAt two.text two.xml t.prices t.numbers.items t.contexts.steps.items rule (shown_cost two t rule) place trees number
 
 -- some tree shows the production, and a least one is not too long
 abbrev pub IsShort : Grammar → Grammar → ℕ → Type 0

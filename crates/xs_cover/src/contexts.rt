@@ -4,7 +4,7 @@ ghost use Rattle.xs_gram.specs.{ItemAt, IsSound};
 ghost use Rattle.xs_gram.specs.Grammar.{Grammar};
 ghost use Rattle.xs_pair.specs.{IsSoundPair};
 ghost use Rattle.xs_cover.specs.Steps.{IsStep, AreContexts, IsPassed, HasGrown, IsPassing, IsPassedItem, IsItemOf};
-ghost use Rattle.xs_cover.specs.Tables.{at, total};
+ghost use Rattle.xs_cover.specs.Tables.{at, IsLowered};
 
 use crate::prices::{MOST, Prices, number_at, sum_of};
 use std::alloc::Global;
@@ -14,6 +14,15 @@ use xs_pair::Two;
 
 /// What stands around a nonterminal that is not reached.
 const FAR: u64 = MOST + 1;
+
+/// What stands around nonterminals in the trees of the start, as far as it is known: what it costs,
+/// and the place of the step that leads there.
+#[derive(Drop)]
+pub struct Contexts {
+    pub arounds: Vec<u64>,
+    pub places: Vec<u64>,
+    pub steps: Vec<Step>,
+}
 
 /// A step from the nonterminal of an earlier step, its parent, to the one at a slot of a rule of
 /// it, and what stands around that one costs.
@@ -33,15 +42,6 @@ struct Passing {
     parent: u64,
     around: u64,
     cost: u64,
-}
-
-/// What stands around nonterminals in the trees of the start, as far as it is known: what it costs,
-/// and the place of the step that leads there.
-#[derive(Drop)]
-pub struct Contexts {
-    pub arounds: Vec<u64>,
-    pub places: Vec<u64>,
-    pub steps: Vec<Step>,
 }
 
 impl Contexts {
@@ -79,8 +79,7 @@ impl Contexts {
         requires step { IsStep two.now.text two.now.xml prices.now self.old.steps.items (length self.old.steps.items) step }
         ensures contexts { OnOk result (AreContexts two.now.text two.now.xml prices.now self.new) }
         ensures grown { OnOk result (HasGrown self.old.steps.items self.new.steps.items) }
-        ensures lowered { IfOk result (λ b. b ≡ true → total self.new.arounds.items < total self.old.arounds.items) }
-        ensures kept { IfOk result (λ b. b ≡ false → self.new.arounds.items ≡ self.old.arounds.items) }
+        ensures lowered { IfOk result (λ b. IsLowered b self.old.arounds.items self.new.arounds.items) }
         ensures low { IfOk result (λ b. b ≡ false → at self.old.arounds.items step.non ≤ step.cost) }
     {
         let non = step.non as usize;
@@ -108,8 +107,7 @@ impl Contexts {
         requires item { IsItemOf two.now.text from.rule item.now }
         ensures contexts { OnOk result (AreContexts two.now.text two.now.xml prices.now self.new) }
         ensures grown { OnOk result (HasGrown self.old.steps.items self.new.steps.items) }
-        ensures lowered { IfOk result (λ b. b ≡ true → total self.new.arounds.items < total self.old.arounds.items) }
-        ensures kept { IfOk result (λ b. b ≡ false → self.new.arounds.items ≡ self.old.arounds.items) }
+        ensures lowered { IfOk result (λ b. IsLowered b self.old.arounds.items self.new.arounds.items) }
         ensures passed { IfOk result (λ b. b ≡ false → IsPassedItem prices.now self.old.arounds.items from item.now) }
     {
         match item {
@@ -135,16 +133,12 @@ impl Contexts {
         requires contexts { AreContexts two.now.text two.now.xml prices.now self.old }
         requires passing { IsPassing two.now.text two.now.xml prices.now self.old.steps.items from }
         ensures contexts { OnOk result (AreContexts two.now.text two.now.xml prices.now self.new) }
-        ensures lowered { IfOk result (λ b. b ≡ true → total self.new.arounds.items < total self.old.arounds.items) }
-        ensures kept { IfOk result (λ b. b ≡ false → self.new.arounds.items ≡ self.old.arounds.items) }
+        ensures lowered { IfOk result (λ b. IsLowered b self.old.arounds.items self.new.arounds.items) }
         ensures passed { IfOk result (λ b. b ≡ false → (n : ℕ) (item : GItem) → ItemAt two.now.text from.rule n item → IsPassedItem prices.now self.old.arounds.items from item) }
     {
         let mut lowered = false;
         'items: for item in two.gram(Side::Text).items(from.rule) {
-            let less = self.pass_item(two, prices, from, item)?;
-            if less {
-                lowered = true;
-            }
+            lowered |= self.pass_item(two, prices, from, item)?;
         }
         Ok(lowered)
     }
@@ -155,8 +149,7 @@ impl Contexts {
         requires contexts { AreContexts two.now.text two.now.xml prices.now self.old }
         requires rule { rule < length two.now.text.rules }
         ensures contexts { OnOk result (AreContexts two.now.text two.now.xml prices.now self.new) }
-        ensures lowered { IfOk result (λ b. b ≡ true → total self.new.arounds.items < total self.old.arounds.items) }
-        ensures kept { IfOk result (λ b. b ≡ false → self.new.arounds.items ≡ self.old.arounds.items) }
+        ensures lowered { IfOk result (λ b. IsLowered b self.old.arounds.items self.new.arounds.items) }
         ensures passed { IfOk result (λ b. b ≡ false → IsPassed two.now.text two.now.xml prices.now self.old.arounds.items rule) }
     {
         let non = two.gram(Side::Text).non_of(rule);
@@ -179,15 +172,12 @@ impl Contexts {
         requires sound { IsSoundPair two.now }
         requires contexts { AreContexts two.now.text two.now.xml prices.now self.old }
         ensures contexts { OnOk result (AreContexts two.now.text two.now.xml prices.now self.new) }
-        ensures lowered { IfOk result (λ b. b ≡ true → total self.new.arounds.items < total self.old.arounds.items) }
+        ensures lowered { IfOk result (λ b. IsLowered b self.old.arounds.items self.new.arounds.items) }
         ensures passed { IfOk result (λ b. b ≡ false → (p : ℕ) → p < length two.now.text.rules → IsPassed two.now.text two.now.xml prices.now self.new.arounds.items p) }
     {
         let mut lowered = false;
         'rules: for rule in 0..two.gram(Side::Text).rules() {
-            let less = self.pass(two, prices, rule)?;
-            if less {
-                lowered = true;
-            }
+            lowered |= self.pass(two, prices, rule)?;
         }
         Ok(lowered)
     }

@@ -1,8 +1,7 @@
-ghost use Rattle.std.specs.Prelude.{◌≡◌, ◌<◌, ℕ, None, Some, length, slice_get, slice_index_or, IfOk};
+ghost use Rattle.std.specs.Prelude.{◌≡◌, ◌<◌, Some, length, slice_get, IfOk};
 ghost use Rattle.xs_gram.specs.Grammar.{Grammar};
 ghost use Rattle.xs_pair.specs.{IsSoundPair};
-ghost use Rattle.xs_tree.specs.{trees_of};
-ghost use Rattle.xs_cover.specs.Kept.{AreComplete, AreCoversOf, sizes_of};
+ghost use Rattle.xs_cover.specs.Kept.{AreTables, AreCoversOf, sizes_of};
 ghost use Rattle.xs_cover.specs.Sizes.{IsLeastSize};
 
 use crate::contexts::Contexts;
@@ -19,26 +18,23 @@ use xs_tree::Tree;
 /// pairs are made of.
 #[derive(Drop)]
 pub struct Covers {
-    pub(crate) prices: Prices,
-    pub(crate) numbers: Vec<u64>,
-    pub(crate) tree: Tree,
-    pub(crate) contexts: Contexts,
+    pub(crate) tables: Tables,
     pub(crate) sizes: Vec<Option<u64>>,
 }
 
 /// Trees that cost least, and a leaf of its own as the root.
 #[derive(Drop)]
-struct Tables {
-    prices: Prices,
-    numbers: Vec<u64>,
-    tree: Tree,
-    contexts: Contexts,
+pub(crate) struct Tables {
+    pub prices: Prices,
+    pub numbers: Vec<u64>,
+    pub tree: Tree,
+    pub contexts: Contexts,
 }
 
 /// Costs that no rule and no step lowers.
 fn tables_of(alloc: Global, two: &Two) -> Result<Tables, Memory>
     requires { IsSoundPair two.now }
-    ensures { IfOk result (λ s. AreComplete two.now.text two.now.xml s.prices s.numbers.items (trees_of s.tree.parts) s.contexts) }
+    ensures { IfOk result (AreTables two.now) }
 {
     let mut kids = Vec::new(alloc);
     let mut trees = Trees::new(alloc, two)?;
@@ -65,7 +61,7 @@ fn tables_of(alloc: Global, two: &Two) -> Result<Tables, Memory>
 /// the production costs.
 fn size_of(two: &Two, tables: &Tables, rule: u32) -> Option<u64>
     requires sound { IsSoundPair two.now }
-    requires complete { AreComplete two.now.text two.now.xml tables.now.prices tables.now.numbers.items (trees_of tables.now.tree.parts) tables.now.contexts }
+    requires complete { AreTables two.now tables.now }
     requires rule { rule < length two.now.text.rules }
     ensures { IsLeastSize two.now.text two.now.xml rule result }
 {
@@ -75,22 +71,6 @@ fn size_of(two: &Two, tables: &Tables, rule: u32) -> Option<u64>
         return None;
     }
     Some(sum_of(around, tables.prices.rule_cost(two, rule)))
-}
-
-/// The least sizes, by production.
-fn sizes_in(alloc: Global, two: &Two, tables: &Tables) -> Result<Vec<Option<u64>>, Memory>
-    requires sound { IsSoundPair two.now }
-    requires complete { AreComplete two.now.text two.now.xml tables.now.prices tables.now.numbers.items (trees_of tables.now.tree.parts) tables.now.contexts }
-    ensures counted { IfOk result (λ sizes. length sizes.items ≡ length two.now.text.rules) }
-    ensures sizes { IfOk result (λ sizes. (p : ℕ) → p < length two.now.text.rules → IsLeastSize two.now.text two.now.xml p (slice_index_or sizes.items p None)) }
-{
-    let count = two.gram(Side::Text).rules();
-    let mut sizes = Vec::with_capacity(alloc, count as usize)?;
-    'rules: for rule in 0..count {
-        let size = size_of(two, tables, rule);
-        sizes.push(size)?;
-    }
-    Ok(sizes)
 }
 
 /// Smallest documents for each production of a sheet.
@@ -103,20 +83,12 @@ pub fn cover(alloc: Global, two: &Two) -> Result<Covers, Memory>
     ensures { IfOk result (AreCoversOf two.now) }
 {
     let tables = tables_of(alloc, two)?;
-    let sizes = sizes_in(alloc, two, &tables)?;
-    let Tables {
-        prices,
-        numbers,
-        tree,
-        contexts,
-    } = tables;
-    Ok(Covers {
-        prices,
-        numbers,
-        tree,
-        contexts,
-        sizes,
-    })
+    let count = two.gram(Side::Text).rules();
+    let mut sizes = Vec::with_capacity(alloc, count as usize)?;
+    'rules: for rule in 0..count {
+        sizes.push(size_of(two, &tables, rule))?;
+    }
+    Ok(Covers { tables, sizes })
 }
 
 impl Covers {

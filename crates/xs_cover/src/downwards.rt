@@ -1,4 +1,4 @@
-ghost use Rattle.std.specs.Prelude.{OnOk};
+ghost use Rattle.std.specs.Prelude.{◌<◌, length, OnOk};
 ghost use Rattle.xs_pair.specs.{IsSoundPair};
 ghost use Rattle.xs_cover.specs.Steps.{AreContexts};
 
@@ -36,37 +36,15 @@ fn set_flag(flags: &mut Vec<bool>, non: u32) -> bool {
 }
 
 /// Adds the nonterminals among a rule's items.
-fn push_items(items: &[GItem], arounds: &[u64], reached: &mut Reached) -> Result<(), Memory> {
-    'items: for item in items {
+fn push_items(two: &Two, rule: u32, arounds: &[u64], reached: &mut Reached) -> Result<(), Memory>
+    requires { rule < length two.now.text.rules }
+{
+    'items: for item in two.gram(Side::Text).items(rule) {
         if let GItem::Non { non, .. } = item {
             let left = MOST.saturating_sub(number_at(arounds, *non));
             reached.push((left, *non))?;
         }
     }
-    Ok(())
-}
-
-/// Takes the steps to the nonterminals in a rule.
-fn pass_rule(
-    two: &Two,
-    prices: &Prices,
-    contexts: &mut Contexts,
-    rule: u32,
-    reached: &mut Reached,
-) -> Result<(), Memory>
-    requires sound { IsSoundPair two.now }
-    requires contexts { AreContexts two.now.text two.now.xml prices.now contexts.old }
-    ensures { OnOk result (AreContexts two.now.text two.now.xml prices.now contexts.new) }
-{
-    let g = two.gram(Side::Text);
-    if g.rules() <= rule {
-        return Ok(());
-    }
-    let lowered = contexts.pass(two, prices, rule)?;
-    if !lowered {
-        return Ok(());
-    }
-    push_items(g.items(rule), &contexts.arounds, reached)?;
     Ok(())
 }
 
@@ -83,10 +61,14 @@ fn pass_all(
     requires contexts { AreContexts two.now.text two.now.xml prices.now contexts.old }
     ensures { OnOk result (AreContexts two.now.text two.now.xml prices.now contexts.new) }
 {
-    let count = row_length(rules, non);
-    'rules: for place in 0..count {
+    'rules: for place in 0..row_length(rules, non) {
         let rule = row_at(rules, non, place);
-        pass_rule(two, prices, contexts, rule, reached)?;
+        if two.gram(Side::Text).rules() <= rule {
+            continue;
+        }
+        if contexts.pass(two, prices, rule)? {
+            push_items(two, rule, &contexts.arounds, reached)?;
+        }
     }
     Ok(())
 }

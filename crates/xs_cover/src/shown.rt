@@ -53,15 +53,15 @@ impl Covers {
         requires short { IsShort two.now.text two.now.xml rule }
         ensures { IfOk result (λ t. IsLeastTree two.now.text two.now.xml rule (common_of t)) }
     {
-        let g = two.gram(Side::Text);
-        let mut builder = copy_of(alloc, &self.tree)?;
+        let tables = &self.tables;
+        let mut builder = copy_of(alloc, &tables.tree)?;
         let mut kids = Vec::new(alloc);
-        place_kids(g, rule, &self.numbers, &mut kids)?;
+        place_kids(two, rule, &tables.numbers, &mut kids)?;
         let mut number = builder.node(rule, &kids)?;
-        let mut place = self.contexts.places[g.non_of(rule) as usize];
+        let mut place = tables.contexts.places[two.gram(Side::Text).non_of(rule) as usize];
         'steps: while place > 0 {
-            let step = self.contexts.steps[place as usize];
-            place_kids(g, step.rule, &self.numbers, &mut kids)?;
+            let step = tables.contexts.steps[place as usize];
+            place_kids(two, step.rule, &tables.numbers, &mut kids)?;
             kids[step.slot as usize] = number;
             number = builder.node(step.rule, &kids)?;
             place = step.parent;

@@ -1,26 +1,26 @@
 ghost use Rattle.std.specs.Prelude.{◌≡◌, ◌+◌, ℕ, ◌<◌, ◌≤◌, true, false, length, IfOk, OnOk};
-ghost use Rattle.xs_gram.specs.{items, rule_of, IsSound};
+ghost use Rattle.xs_gram.specs.{items};
 ghost use Rattle.xs_pair.specs.{IsSoundPair};
 ghost use Rattle.xs_cover.specs.Prices.{AreLow, AreTrees, AreKids, IsClosed};
-ghost use Rattle.xs_cover.specs.Tables.{total};
+ghost use Rattle.xs_cover.specs.Tables.{IsLowered};
 
 use crate::prices::{MOST, Prices};
 use crate::words::least_word;
 use std::alloc::Global;
 use xs_class::{Memory, Side, Word};
-use xs_gram::{GItem, Gram, slot_count};
+use xs_gram::{GItem, slot_count};
 use xs_pair::Two;
 use xs_tree::Builder;
 
 /// Puts the numbers of trees at the slots of a rule's items, where the first trees are those of the
 /// terminals, and the numbers of those of the nonterminals are given.
-pub fn place_kids(g: &Gram, rule: u32, numbers: &[u64], kids: &mut Vec<u64>) -> Result<(), Memory>
-    requires sound { IsSound g.now }
-    requires rule { rule < length g.now.rules }
-    requires numbers { length numbers.now ≡ g.now.nons }
-    ensures { OnOk result (AreKids numbers.now (items g.now rule) kids.new.items) }
+pub fn place_kids(two: &Two, rule: u32, numbers: &[u64], kids: &mut Vec<u64>) -> Result<(), Memory>
+    requires sound { IsSoundPair two.now }
+    requires rule { rule < length two.now.text.rules }
+    requires numbers { length numbers.now ≡ two.now.text.nons }
+    ensures { OnOk result (AreKids numbers.now (items two.now.text rule) kids.new.items) }
 {
-    let items = g.items(rule);
+    let items = two.gram(Side::Text).items(rule);
     kids.resize(slot_count(items), 0)?;
     'items: for item in items {
         match item {
@@ -83,17 +83,15 @@ impl Trees {
         requires trees { AreTrees two.now.text two.now.xml self.old }
         ensures trees { OnOk result (AreTrees two.now.text two.now.xml self.new) }
         ensures terms { OnOk result (self.new.prices.terms.items ≡ self.old.prices.terms.items) }
-        ensures lowered { IfOk result (λ b. b ≡ true → total self.new.prices.nons.items < total self.old.prices.nons.items) }
-        ensures kept { IfOk result (λ b. b ≡ false → self.new.prices.nons.items ≡ self.old.prices.nons.items) }
+        ensures lowered { IfOk result (λ b. IsLowered b self.old.prices.nons.items self.new.prices.nons.items) }
         ensures closed { IfOk result (λ b. b ≡ false → IsClosed two.now.text two.now.xml self.old.prices rule) }
     {
-        let g = two.gram(Side::Text);
         let cost = self.prices.rule_cost(two, rule);
-        let non = g.non_of(rule) as usize;
+        let non = two.gram(Side::Text).non_of(rule) as usize;
         if self.prices.nons[non] <= cost {
             return Ok(false);
         }
-        place_kids(g, rule, &self.numbers, kids)?;
+        place_kids(two, rule, &self.numbers, kids)?;
         let number = self.builder.node(rule, kids)?;
         self.prices.nons[non] = cost;
         self.numbers[non] = number;
@@ -106,15 +104,12 @@ impl Trees {
         requires trees { AreTrees two.now.text two.now.xml self.old }
         ensures trees { OnOk result (AreTrees two.now.text two.now.xml self.new) }
         ensures terms { OnOk result (self.new.prices.terms.items ≡ self.old.prices.terms.items) }
-        ensures lowered { IfOk result (λ b. b ≡ true → total self.new.prices.nons.items < total self.old.prices.nons.items) }
+        ensures lowered { IfOk result (λ b. IsLowered b self.old.prices.nons.items self.new.prices.nons.items) }
         ensures closed { IfOk result (λ b. b ≡ false → (p : ℕ) → p < length two.now.text.rules → IsClosed two.now.text two.now.xml self.new.prices p) }
     {
         let mut lowered = false;
         'rules: for rule in 0..two.gram(Side::Text).rules() {
-            let less = self.lower(two, rule, kids)?;
-            if less {
-                lowered = true;
-            }
+            lowered |= self.lower(two, rule, kids)?;
         }
         Ok(lowered)
     }

@@ -91,31 +91,6 @@ impl Waiting {
     }
 }
 
-/// Makes a tree of a rule, if its nonterminal has none that costs as little.
-fn make(
-    two: &Two,
-    trees: &mut Trees,
-    kids: &mut Vec<u64>,
-    waiting: &mut Waiting,
-    rule: u32,
-) -> Result<(), Memory>
-    requires sound { IsSoundPair two.now }
-    requires trees { AreTrees two.now.text two.now.xml trees.old }
-    ensures trees { OnOk result (AreTrees two.now.text two.now.xml trees.new) }
-    ensures terms { OnOk result (trees.new.prices.terms.items ≡ trees.old.prices.terms.items) }
-{
-    let g = two.gram(Side::Text);
-    if g.rules() <= rule {
-        return Ok(());
-    }
-    let made = trees.lower(two, rule, kids)?;
-    if !made {
-        return Ok(());
-    }
-    waiting.release(two, &trees.prices, g.non_of(rule))?;
-    Ok(())
-}
-
 /// Makes trees by rules in ascending order of what they cost, so that each nonterminal's first tree
 /// is a least one, as by Knuth's generalization of Dijkstra's algorithm. In time n log n in the
 /// rules and their items.
@@ -139,7 +114,12 @@ pub fn make_in_order(
         let Some((_, rule)) = waiting.ready.pop() else {
             return Ok(());
         };
-        make(two, trees, kids, &mut waiting, rule)?;
+        if g.rules() <= rule {
+            continue;
+        }
+        if trees.lower(two, rule, kids)? {
+            waiting.release(two, &trees.prices, g.non_of(rule))?;
+        }
     }
     Ok(())
 }

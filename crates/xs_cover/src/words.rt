@@ -1,6 +1,6 @@
-ghost use Rattle.std.specs.Prelude.{◌≡◌, ◌<◌, ◌≤◌, ◌+◌, ◌^◌, ◌∷◌, ◌++◌, ℕ, [], true, false, length, Contains, IfOk, OnOk, MatchOption};
+ghost use Rattle.std.specs.Prelude.{◌≡◌, ◌<◌, ◌≤◌, ◌+◌, ◌^◌, ◌∷◌, ◌++◌, ℕ, [], true, false, Some, length, slice_get, Contains, IfOk, OnOk, MatchOption};
 ghost use Rattle.xs_regex.specs.{Accepts, HasAt, IsBelow, IsWellFormed};
-ghost use Rattle.xs_cover.specs.Tables.{at, total};
+ghost use Rattle.xs_cover.specs.Tables.{at, IsLowered};
 ghost use Rattle.xs_cover.specs.Shortest.{HasSymbol, IsLowest, AreRests, IsSettled, IsShortest, HasShortWord};
 
 use std::alloc::Global;
@@ -50,6 +50,15 @@ fn has_symbol(automaton: &Position, position: u32) -> bool
     }
 }
 
+/// The positions that follow a position.
+fn followers(automaton: &Position, position: u32) -> &[u32]
+    requires formed { IsWellFormed automaton.now }
+    requires position { position < length automaton.now.classes }
+    ensures { slice_get automaton.now.follow position ≡ Some result.now }
+{
+    automaton.follow.at(position as usize).as_slice()
+}
+
 /// What is known at first: nothing is to come after last positions. Positions whose classes have no
 /// symbol are left out.
 fn ends_of(alloc: Global, automaton: &Position) -> Result<Vec<u64>, Memory>
@@ -73,15 +82,14 @@ fn lower(automaton: &Position, rests: &mut [u64], position: u32) -> bool
     requires rests { AreRests automaton.now rests.old }
     requires position { position < length automaton.now.classes }
     ensures rests { AreRests automaton.now rests.new }
-    ensures lowered { result ≡ true → total rests.new < total rests.old }
-    ensures kept { result ≡ false → rests.new ≡ rests.old }
+    ensures lowered { IsLowered result rests.old rests.new }
     ensures settled { result ≡ false → IsSettled automaton.now rests.old position }
 {
     if !has_symbol(automaton, position) {
         return false;
     }
     let place = position as usize;
-    let Some(next) = lowest(automaton.follow.at(place).as_slice(), rests) else {
+    let Some(next) = lowest(followers(automaton, position), rests) else {
         return false;
     };
     let rest = rests[next as usize] + 1;
@@ -98,16 +106,13 @@ fn sweep(automaton: &Position, rests: &mut [u64]) -> bool
     requires formed { IsWellFormed automaton.now }
     requires rests { AreRests automaton.now rests.old }
     ensures rests { AreRests automaton.now rests.new }
-    ensures lowered { result ≡ true → total rests.new < total rests.old }
-    ensures kept { result ≡ false → rests.new ≡ rests.old }
+    ensures lowered { IsLowered result rests.old rests.new }
     ensures settled { result ≡ false → (j : ℕ) → j < length automaton.now.classes → IsSettled automaton.now rests.old j }
 {
     let count = rests.len() as u32;
     let mut lowered = false;
     'positions: for done in 0..count {
-        if lower(automaton, rests, count - 1 - done) {
-            lowered = true;
-        }
+        lowered |= lower(automaton, rests, count - 1 - done);
     }
     lowered
 }
@@ -163,8 +168,7 @@ fn word_from(alloc: Global, automaton: &Position, rests: &[u64], first: u32) -> 
     push_symbol(automaton, first, &mut word)?;
     let mut position = first;
     'positions: while rests[position as usize] > 0 {
-        let following = automaton.follow.at(position as usize).as_slice();
-        let Some(next) = lowest(following, rests) else {
+        let Some(next) = lowest(followers(automaton, position), rests) else {
             unreachable!()
         };
         push_symbol(automaton, next, &mut word)?;

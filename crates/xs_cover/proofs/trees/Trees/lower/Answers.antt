@@ -15,13 +15,12 @@ node-requires c =
     let g = c.args.two.now.text in
     let h = c.args.two.now.xml in
     let rule = c.args.rule in
-    let non : c.non_of-non.result ≡ (rule_of g rule).non = c.non_of-non.ensures ∙ ap (λ (k : Grammar). (rule_of k rule).non) c.gram-g.ensures in
+    let non : c.non_of-non.result ≡ (rule_of g rule).non = c.non_of-non.ensures ∙ ap (λ (k : Grammar). (rule_of k rule).non) c.gram.ensures in
     let read : c.index.result.now ≡ at self.prices.nons.items c.non_of-non.result = get_or_read self.prices.nons.items c.non_of-non.result c.index.result.now (omega (arith, non, c.requires.sound.text.built.range.rules rule c.requires.rule, c.requires.trees.nons_counted)) c.index.ensures 0 in
-    let kids = c.deref-2.result.now in
-    let placed : AreKids c.deref.result.now (items g rule) kids = subst (λ (l : List ℕ). AreKids c.deref.result.now (items g rule) l) (sym c.deref-2.ensures.value) (subst (λ (k : Grammar). AreKids c.deref.result.now (items k rule) c.place_kids.new.kids.items) c.gram-g.ensures c.in_ok-place_kids.ensures) in
-    let are : AreKids self.numbers.items (items g rule) kids = subst (λ (l : List ℕ). AreKids l (items g rule) kids) c.deref.ensures.value placed in
+    let kids = c.place_kids.new.kids.items in
+    let are : AreKids self.numbers.items (items g rule) kids = rw c.deref.ensures.value at c.in_ok-place_kids.ensures in
     let there = kids_there g h self.prices self.numbers.items (trees_of self.builder) c.requires.sound.text c.requires.trees rule (omega (arith, c.if-index-cost.false, read, c.rule_cost-cost.ensures, c.requires.trees.low c.non_of-non.result)) kids are in
-    subst (λ (n : ℕ). All (λ k. k < n) kids) (length-trees self.builder) there
+    rw c.deref-2.ensures.value (subst (λ (n : ℕ). All (λ k. k < n) kids) (length-trees self.builder) there)
 
 pub returns-clause-trees : goal.returns-clause-trees
 returns-clause-trees c =
@@ -34,14 +33,13 @@ returns-clause-trees c =
     let nons = self.prices.nons.items in
     let numbers = self.numbers.items in
     let trees : List Common = trees_of self.builder in
-    let non : c.non_of-non.result ≡ (rule_of g rule).non = c.non_of-non.ensures ∙ ap (λ (k : Grammar). (rule_of k rule).non) c.gram-g.ensures in
+    let non : c.non_of-non.result ≡ (rule_of g rule).non = c.non_of-non.ensures ∙ ap (λ (k : Grammar). (rule_of k rule).non) c.gram.ensures in
     let read : c.index.result.now ≡ at self.prices.nons.items c.non_of-non.result = get_or_read self.prices.nons.items c.non_of-non.result c.index.result.now (omega (arith, non, c.requires.sound.text.built.range.rules rule c.requires.rule, c.requires.trees.nons_counted)) c.index.ensures 0 in
-    let kids = c.deref-2.result.now in
-    let placed : AreKids c.deref.result.now (items g rule) kids = subst (λ (l : List ℕ). AreKids c.deref.result.now (items g rule) l) (sym c.deref-2.ensures.value) (subst (λ (k : Grammar). AreKids c.deref.result.now (items k rule) c.place_kids.new.kids.items) c.gram-g.ensures c.in_ok-place_kids.ensures) in
-    let are : AreKids self.numbers.items (items g rule) kids = subst (λ (l : List ℕ). AreKids l (items g rule) kids) c.deref.ensures.value placed in
+    let kids = c.place_kids.new.kids.items in
+    let are : AreKids self.numbers.items (items g rule) kids = rw c.deref.ensures.value at c.in_ok-place_kids.ensures in
     let less : cost < at nons (rule_of g rule).non = omega (arith, c.if-index-cost.false, read, ap (λ k. at nons k) non) in
     let base = have_more g h self.prices numbers trees rule cost kids c.requires.sound.text c.requires.trees c.requires.rule are c.rule_cost-cost.ensures less in
     let number : length trees ≡ c.in_ok-number.number = length-trees self.builder ∙ sym c.in_ok-number.ensures.number in
     subst (λ (k : ℕ). HaveTrees g h (trees_of c.node.new.self) terms (set nons k cost) (set numbers k c.in_ok-number.number)) (sym non)
     (subst (λ (n : ℕ). HaveTrees g h (trees_of c.node.new.self) terms (set nons (rule_of g rule).non cost) (set numbers (rule_of g rule).non n)) number
-    (subst (λ (ts : List Common). HaveTrees g h ts terms (set nons (rule_of g rule).non cost) (set numbers (rule_of g rule).non (length trees))) (sym c.in_ok-number.ensures.means) base))
+    (subst (λ (ts : List Common). HaveTrees g h ts terms (set nons (rule_of g rule).non cost) (set numbers (rule_of g rule).non (length trees))) (sym (rw c.deref-2.ensures.value at c.in_ok-number.ensures.means)) base))

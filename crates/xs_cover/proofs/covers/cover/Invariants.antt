@@ -1,6 +1,6 @@
 use Rattle.std.proofs.Common.{◌≡◌, ◌<◌, ℕ, length, None, get_or}
 use Rattle.xs_cover.specs.Sizes.{IsLeastSize}
-use Rattle.xs_cover.proofs.covers.sizes_in.Given as goal
+use Rattle.xs_cover.proofs.covers.cover.Given as goal
 
 abbrev pub invariant-rules : goal.invariant-rules
 invariant-rules l = record {
