@@ -20,7 +20,7 @@ use Rattle.xs_outline.specs.declared.reader.Reader.{Reader}
 use Rattle.xs_outline.specs.Lines.{Entry, line}
 use Rattle.xs_outline.specs.Shapes.{names_of, slot_count, kind_at, root_name}
 use Rattle.xs_outline.specs.Machine.{Frame, at_start, within, enter, EntryFits, IsWelcome, MayCome}
-use Rattle.xs_outline.specs.Tables.{known, name_list, IsTable}
+use Rattle.xs_outline.specs.Tables.{known, name_list, IsTable, AreTables}
 use Rattle.xs_outline.specs.Reader.{child_at, tree_in, frame_of, frames_onto, frames, IsThere, state, state_at, state_within, AreOpen, IsKept, IsPlaceFor, NoPlaceFor}
 use Rattle.xs_outline.proofs.Keeping.{frames_push, open_pop, cell_at, none_there}
 
@@ -151,9 +151,22 @@ pub kind_there : (p : Pair) (q s : ℕ) (kind : Kind) → IsBuilt p.text → kin
 kind_there p q s (of_term t) built is = slot_there p.text (items p.text q) s (of_term t) is (λ n u r e. built.range.terms q n u r e) t refl
 kind_there p q s (of_non n) built is = tt
 
+-- the row of a production that the code reads, and that of the innermost node's production
+pub row_is : (p : Pair) (rows : List SlotTable) (q : ℕ) (row : SlotTable) → AreTables p rows → q < length p.text.rules → row ≡ get_or rows q row → IsTable p q row
+row_is p rows q row are lt is = are.each q row (row_at rows q row (omega (arith, are.long)) is)
+
+pub top_row : (p : Pair) (r : Reader) (front : List Open) (top : Open) (bound : ℕ) (rows : List SlotTable) (row : SlotTable) → r.open.items ≡ front ++ top ∷ [] → IsKept p bound r → AreTables p rows → row ≡ get_or rows top.rule row → IsTable p top.rule row
+top_row p r front top bound rows row are kept tables is = row_is p rows top.rule row tables (top_rule p r front top bound are kept) is
+
 -- a place by a table's row
 pub named_by : (p : Pair) (q : ℕ) (row : SlotTable) (name : List ℕ) (o : Option ℕ) → IsTable p q row → o ≡ place_of (name_list row.names.keys) name → place_of (names_of p q) name ≡ o
 named_by p q row name o table is = sym (is ∙ ap (λ ns. place_of ns name) table.names)
 
 pub kind_by : (p : Pair) (q slot : ℕ) (row : SlotTable) (x : Option Known) → IsTable p q row → slot < slot_count p q → slice_get row.kinds.items slot ≡ Some x → kind_at p q slot ≡ known x
 kind_by p q slot row x table lt at = sym (table.kinds slot lt) ∙ ap known (get_or_from_slice_get row.kinds.items slot x None at)
+
+-- what may stand at a slot of the innermost node, as the code reads it
+pub top_kind : (p : Pair) (r : Reader) (front : List Open) (top : Open) (row : SlotTable) (slot : ℕ) (name : List ℕ) (x : Option Known) → r.root ≡ None → r.open.items ≡ front ++ top ∷ [] → IsTable p top.rule row → place_of (names_of p top.rule) name ≡ Some slot → x ≡ get_or row.kinds.items slot x → kind_at p top.rule slot ≡ known x
+top_kind p r front top row slot name x root are table named is =
+    let below = slot_below p r front top root are slot name named in
+    kind_by p top.rule slot row x table below (row_at row.kinds.items slot x (omega (arith, below, table.long)) is)

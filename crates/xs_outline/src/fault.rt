@@ -12,9 +12,9 @@ pub enum OutlineFault {
 
 impl From<Memory> for OutlineFault {
     ghost use Rattle.std.specs.Prelude.{◌≡◌};
-    ghost use Rattle.xs_outline.specs.declared.fault.OutlineFault.TheVariants as F;
+    ghost use Rattle.xs_outline.specs.declared.fault.OutlineFault.TheVariants as fault;
 
-    ghost from_gives = { λ _ e. e ≡ F.Memory };
+    ghost from_gives = { λ _ e. e ≡ fault.Memory };
 
     fn from(_: Memory) -> Self {
         OutlineFault::Memory

@@ -61,12 +61,12 @@ fn coded(text: &[Sym]) -> Option<(Sym, &[Sym])>
     ensures shorter { IfSome result (λ r. length r.1.now < length text.now) }
 {
     match text {
-        [] => None,
         [first, rest @ ..] => if first.number() == 0x7B {
             digits(rest)
         } else {
             None
         },
+        [] => None,
     }
 }
 
@@ -94,12 +94,12 @@ fn unit(text: &[Sym]) -> Option<(Sym, &[Sym])>
     ensures shorter { IfSome result (λ r. length r.1.now < length text.now) }
 {
     match text {
-        [] => None,
         [first, rest @ ..] => match first.number() {
             BACKSLASH => escaped(rest),
             QUOTE | LINE_FEED => None,
             _ => Some((*first, rest)),
         },
+        [] => None,
     }
 }
 

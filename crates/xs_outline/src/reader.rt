@@ -27,13 +27,13 @@ pub struct Open {
     pub missing: usize,
 }
 
-/// What was read of an outline: the parts of its tree so far, the nodes that are open, the
-/// innermost last, the children that nodes have, those of the node that was closed last, and the
-/// root, once the tree is whole.
+/// What was read of an outline: the nodes that are open, the innermost last, the parts of its tree so
+/// far, the children that nodes have, those of the node that was closed last, and the root, once the
+/// tree is whole.
 #[derive(Drop)]
 pub struct Reader {
-    pub parts: Builder,
     pub open: Vec<Open>,
+    pub parts: Builder,
     pub children: Children,
     pub kids: Vec<u64>,
     pub root: Option<u64>,

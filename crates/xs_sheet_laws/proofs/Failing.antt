@@ -42,18 +42,14 @@ empty_kept (Fence x y l) (Fence x' y' l') a h = absurd h
 empty_kept u v a h = absurd a
 
 strange_kept : (u v : Unit) → AreAlikeUnits u v → IsStrangeUnit u → IsStrangeUnit v
-strange_kept (Terminal n p r l) (Terminal n' p' r' l') a h = absurd h
 strange_kept (Ignorable n p r m l) (Ignorable n' p' r' m' l') a h = subst (λ x. HasStrange x) a.3 h
-strange_kept (Production n x y l) (Production n' x' y' l') a h = absurd h
-strange_kept (Fence x y l) (Fence x' y' l') a h = absurd h
-strange_kept u v a h = absurd a
+strange_kept (Ignorable n p r m l) v a h = absurd a
+strange_kept u v a h = absurd h
 
 unmatched_kept : (u v : Unit) → AreAlikeUnits u v → IsUnmatchedUnit u → IsUnmatchedUnit v
-unmatched_kept (Terminal n p r l) (Terminal n' p' r' l') a h = absurd h
 unmatched_kept (Ignorable n p r m l) (Ignorable n' p' r' m' l') a h = subst (λ x. IsUnmatched p' x) a.3 (subst (λ x. IsUnmatched x m) a.1 h)
-unmatched_kept (Production n x y l) (Production n' x' y' l') a h = absurd h
-unmatched_kept (Fence x y l) (Fence x' y' l') a h = absurd h
-unmatched_kept u v a h = absurd a
+unmatched_kept (Ignorable n p r m l) v a h = absurd a
+unmatched_kept u v a h = absurd h
 
 tables_same : (s t : Sheet) → AreAlike s t → tables_of s ≡ tables_of t
 tables_same s t alike = rw (names_same S.Any s.units t.units alike.units, names_same S.Terminal s.units t.units alike.units, names_same S.Ignorable s.units t.units alike.units, alike.start) refl

@@ -15,30 +15,21 @@ use Rattle.xs_sheet_laws.specs.Sheets.{AreAlikeUnits, AllAlike, AreAlike}
 use Rattle.xs_sheet_laws.proofs.Twins.{twins, twin_at, fronts}
 use Rattle.xs_sheet_laws.proofs.Sheets.{alike_back}
 
--- fences that are alike have the same texts
-letters_alike : (u v : Unit) → AreAlikeUnits u v → letters_in u ≡ letters_in v
-letters_alike (Terminal n p r l) (Terminal n' p' r' l') a = refl
-letters_alike (Ignorable n p r m l) (Ignorable n' p' r' m' l') a = refl
-letters_alike (Production n x y l) (Production n' x' y' l') a = refl
-letters_alike (Fence x y l) (Fence x' y' l') a = rw (a.0, a.1) refl
-letters_alike u v a = absurd a
+-- units that are alike have the same fence characters and the same pair
+fence_alike : (u v : Unit) → AreAlikeUnits u v → (letters_in u ≡ letters_in v) × (pair_in u ≡ pair_in v)
+fence_alike (Terminal n p r l) (Terminal n' p' r' l') a = (refl, refl)
+fence_alike (Ignorable n p r m l) (Ignorable n' p' r' m' l') a = (refl, refl)
+fence_alike (Production n x y l) (Production n' x' y' l') a = (refl, refl)
+fence_alike (Fence x y l) (Fence x' y' l') a = (rw (a.0, a.1) refl, rw (a.0, a.1) refl)
+fence_alike u v a = absurd a
 
-letters_same : (us vs : List Unit) → AllAlike us vs → fence_letters us ≡ fence_letters vs
-letters_same [] [] a = refl
-letters_same (u ∷ us) (v ∷ vs) a = ap (λ (z : List ℕ). z ++ fence_letters us) (letters_alike u v a.0) ∙ ap (λ (z : List ℕ). letters_in v ++ z) (letters_same us vs a.1)
-letters_same us vs a = absurd a
-
-pair_alike : (u v : Unit) → AreAlikeUnits u v → pair_in u ≡ pair_in v
-pair_alike (Terminal n p r l) (Terminal n' p' r' l') a = refl
-pair_alike (Ignorable n p r m l) (Ignorable n' p' r' m' l') a = refl
-pair_alike (Production n x y l) (Production n' x' y' l') a = refl
-pair_alike (Fence x y l) (Fence x' y' l') a = rw (a.0, a.1) refl
-pair_alike u v a = absurd a
-
-pairs_same : (us vs : List Unit) → AllAlike us vs → fence_pairs us ≡ fence_pairs vs
-pairs_same [] [] a = refl
-pairs_same (u ∷ us) (v ∷ vs) a = ap (λ (z : List (ℕ × ℕ)). z ++ fence_pairs us) (pair_alike u v a.0) ∙ ap (λ (z : List (ℕ × ℕ)). pair_in v ++ z) (pairs_same us vs a.1)
-pairs_same us vs a = absurd a
+fences_alike : (us vs : List Unit) → AllAlike us vs → (fence_letters us ≡ fence_letters vs) × (fence_pairs us ≡ fence_pairs vs)
+fences_alike [] [] a = (refl, refl)
+fences_alike (u ∷ us) (v ∷ vs) a =
+    let first = fence_alike u v a.0 in
+    let more = fences_alike us vs a.1 in
+    (ap (λ (z : List ℕ). z ++ fence_letters us) first.0 ∙ ap (λ (z : List ℕ). letters_in v ++ z) more.0, ap (λ (z : List (ℕ × ℕ)). z ++ fence_pairs us) first.1 ∙ ap (λ (z : List (ℕ × ℕ)). pair_in v ++ z) more.1)
+fences_alike us vs a = absurd a
 
 used_kept : (earlier : List ℕ) (u v : Unit) → AreAlikeUnits u v → IsUsed earlier u → IsUsed earlier v
 used_kept earlier (Terminal n p r l) (Terminal n' p' r' l') a h = absurd h
@@ -69,9 +60,9 @@ line_kept us vs P Q all kept line (k, u, at, holds, is) =
 
 -- a rule on fences that fails fails in the other sheet too
 pub fence_kept : (us vs : List Unit) → AllAlike us vs → (rule : IllRule) (line : ℕ) → FenceFails us rule line → FenceFails vs rule line
-fence_kept us vs all I.FenceChar line h = line_kept us vs (λ k u. IsUsed (fence_letters (take k us)) u) (λ k u. IsUsed (fence_letters (take k vs)) u) all (λ k u v a used. used_kept (fence_letters (take k vs)) u v a (subst (λ (cs : List ℕ). IsUsed cs u) (letters_same (take k us) (take k vs) (fronts k us vs all)) used)) line h
-fence_kept us vs all I.FenceInside line h = line_kept us vs (λ k u. IsInside (fence_letters us) u) (λ k u. IsInside (fence_letters vs) u) all (λ k u v a inside. inside_kept (fence_letters vs) u v a (subst (λ (cs : List ℕ). IsInside cs u) (letters_same us vs all) inside)) line h
-fence_kept us vs all I.FenceOpen line h = line_kept us vs (λ k u. IsOpen (fence_pairs us) u) (λ k u. IsOpen (fence_pairs vs) u) all (λ k u v a open_. open_kept (fence_pairs vs) u v a (subst (λ (fs : List (ℕ × ℕ)). IsOpen fs u) (pairs_same us vs all) open_)) line h
+fence_kept us vs all I.FenceChar line h = line_kept us vs (λ k u. IsUsed (fence_letters (take k us)) u) (λ k u. IsUsed (fence_letters (take k vs)) u) all (λ k u v a used. used_kept (fence_letters (take k vs)) u v a (subst (λ (cs : List ℕ). IsUsed cs u) (fences_alike (take k us) (take k vs) (fronts k us vs all)).0 used)) line h
+fence_kept us vs all I.FenceInside line h = line_kept us vs (λ k u. IsInside (fence_letters us) u) (λ k u. IsInside (fence_letters vs) u) all (λ k u v a inside. inside_kept (fence_letters vs) u v a (subst (λ (cs : List ℕ). IsInside cs u) (fences_alike us vs all).0 inside)) line h
+fence_kept us vs all I.FenceOpen line h = line_kept us vs (λ k u. IsOpen (fence_pairs us) u) (λ k u. IsOpen (fence_pairs vs) u) all (λ k u v a open_. open_kept (fence_pairs vs) u v a (subst (λ (fs : List (ℕ × ℕ)). IsOpen fs u) (fences_alike us vs all).1 open_)) line h
 fence_kept us vs all rule line h = absurd h
 
 none_kept : (s t : Sheet) → AreAlike s t → NoneFails (FenceFails s.units) → NoneFails (FenceFails t.units)
@@ -79,7 +70,7 @@ none_kept s t alike none rule line h = none rule line (fence_kept t.units s.unit
 
 -- they have the same fences
 pub fences_kept : (s t : Sheet) (names : List (List ℕ)) (side : Side) (fs : List (ℕ × ℕ)) → AreAlike s t → AreFences s names side fs → AreFences t names side fs
-fences_kept s t names Text fs alike (inl (none, is)) = inl (none_kept s t alike none, is ∙ pairs_same s.units t.units alike.units)
+fences_kept s t names Text fs alike (inl (none, is)) = inl (none_kept s t alike none, is ∙ (fences_alike s.units t.units alike.units).1)
 fences_kept s t names Text fs alike (inr (some, is)) = inr (λ none. some (none_kept t s (alike_back s t alike) none), is)
 fences_kept s t names Xml fs alike (inl (two, is)) = inl (sym alike.version ∙ two, is)
 fences_kept s t names Xml fs alike (inr (one, is)) = inr (λ two. one (alike.version ∙ two), is)

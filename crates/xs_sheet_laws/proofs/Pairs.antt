@@ -55,21 +55,9 @@ terms_kept (V.Terminal n p r l ∷ us) (V.Terminal n' p' r' l' ∷ vs) [] alike 
 terms_kept (V.Terminal n p r l ∷ us) (V.Terminal n' p' r' l' ∷ vs) (q ∷ rs) alike are = (subst (λ x. IsPatternOf x q) alike.0.1 are.0, terms_kept us vs rs alike.1 are.1)
 terms_kept (V.Ignorable n p r m l ∷ us) (V.Ignorable n' p' r' m' l' ∷ vs) rs alike are = terms_kept us vs rs alike.1 are
 terms_kept (V.Production n a b l ∷ us) (V.Production n' a' b' l' ∷ vs) rs alike are = terms_kept us vs rs alike.1 are
-terms_kept (V.Terminal n p r l ∷ us) (V.Ignorable n' p' r' m' l' ∷ vs) rs alike are = absurd alike.0
-terms_kept (V.Terminal n p r l ∷ us) (V.Production n' a' b' l' ∷ vs) rs alike are = absurd alike.0
-terms_kept (V.Ignorable n p r m l ∷ us) (V.Terminal n' p' r' l' ∷ vs) rs alike are = absurd alike.0
-terms_kept (V.Ignorable n p r m l ∷ us) (V.Production n' a' b' l' ∷ vs) rs alike are = absurd alike.0
-terms_kept (V.Production n a b l ∷ us) (V.Terminal n' p' r' l' ∷ vs) rs alike are = absurd alike.0
-terms_kept (V.Production n a b l ∷ us) (V.Ignorable n' p' r' m' l' ∷ vs) rs alike are = absurd alike.0
 terms_kept (V.Fence a b l ∷ us) (V.Fence a' b' l' ∷ vs) rs alike are = terms_kept us vs rs alike.1 are
-terms_kept (V.Terminal n p r l ∷ us) (V.Fence a' b' l' ∷ vs) rs alike are = absurd alike.0
-terms_kept (V.Ignorable n p r m l ∷ us) (V.Fence a' b' l' ∷ vs) rs alike are = absurd alike.0
-terms_kept (V.Production n a b l ∷ us) (V.Fence a' b' l' ∷ vs) rs alike are = absurd alike.0
-terms_kept (V.Fence a b l ∷ us) (V.Terminal n' p' r' l' ∷ vs) rs alike are = absurd alike.0
-terms_kept (V.Fence a b l ∷ us) (V.Ignorable n' p' r' m' l' ∷ vs) rs alike are = absurd alike.0
-terms_kept (V.Fence a b l ∷ us) (V.Production n' a' b' l' ∷ vs) rs alike are = absurd alike.0
-terms_kept [] (v ∷ vs) rs alike are = absurd alike
-terms_kept (u ∷ us) [] rs alike are = absurd alike
+terms_kept (u ∷ us) (v ∷ vs) rs alike are = absurd alike.0
+terms_kept us vs rs alike are = absurd alike
 
 skips_kept : (us vs : List Unit) (ks : List SkipPart) → AllAlike us vs → AreSkipsOf us ks → AreSkipsOf vs ks
 skips_kept [] [] ks alike are = are
@@ -78,21 +66,9 @@ skips_kept (V.Ignorable n p r m l ∷ us) (V.Ignorable n' p' r' m' l' ∷ vs) (k
     (subst (λ x. IsPatternOf x k.regex) alike.0.1 are.0, are.1 ∙ alike.0.3, skips_kept us vs ks alike.1 are.2)
 skips_kept (V.Terminal n p r l ∷ us) (V.Terminal n' p' r' l' ∷ vs) ks alike are = skips_kept us vs ks alike.1 are
 skips_kept (V.Production n a b l ∷ us) (V.Production n' a' b' l' ∷ vs) ks alike are = skips_kept us vs ks alike.1 are
-skips_kept (V.Terminal n p r l ∷ us) (V.Ignorable n' p' r' m' l' ∷ vs) ks alike are = absurd alike.0
-skips_kept (V.Terminal n p r l ∷ us) (V.Production n' a' b' l' ∷ vs) ks alike are = absurd alike.0
-skips_kept (V.Ignorable n p r m l ∷ us) (V.Terminal n' p' r' l' ∷ vs) ks alike are = absurd alike.0
-skips_kept (V.Ignorable n p r m l ∷ us) (V.Production n' a' b' l' ∷ vs) ks alike are = absurd alike.0
-skips_kept (V.Production n a b l ∷ us) (V.Terminal n' p' r' l' ∷ vs) ks alike are = absurd alike.0
-skips_kept (V.Production n a b l ∷ us) (V.Ignorable n' p' r' m' l' ∷ vs) ks alike are = absurd alike.0
 skips_kept (V.Fence a b l ∷ us) (V.Fence a' b' l' ∷ vs) ks alike are = skips_kept us vs ks alike.1 are
-skips_kept (V.Terminal n p r l ∷ us) (V.Fence a' b' l' ∷ vs) ks alike are = absurd alike.0
-skips_kept (V.Ignorable n p r m l ∷ us) (V.Fence a' b' l' ∷ vs) ks alike are = absurd alike.0
-skips_kept (V.Production n a b l ∷ us) (V.Fence a' b' l' ∷ vs) ks alike are = absurd alike.0
-skips_kept (V.Fence a b l ∷ us) (V.Terminal n' p' r' l' ∷ vs) ks alike are = absurd alike.0
-skips_kept (V.Fence a b l ∷ us) (V.Ignorable n' p' r' m' l' ∷ vs) ks alike are = absurd alike.0
-skips_kept (V.Fence a b l ∷ us) (V.Production n' a' b' l' ∷ vs) ks alike are = absurd alike.0
-skips_kept [] (v ∷ vs) ks alike are = absurd alike
-skips_kept (u ∷ us) [] ks alike are = absurd alike
+skips_kept (u ∷ us) (v ∷ vs) ks alike are = absurd alike.0
+skips_kept us vs ks alike are = absurd alike
 
 gram_kept : (s t : Sheet) (names : List (List ℕ)) (side : Side) (g : Grammar) → AreAlike s t → IsGramOf s names side g → IsGramOf t names side g
 gram_kept s t names side g alike of =

@@ -8,5 +8,4 @@ pub mod Heads
 pub mod Good
 pub mod Documents
 pub mod NameWords
-pub mod NamesRead
 pub mod Names

@@ -1,18 +1,15 @@
--- The words of tokens that are names are Names of XML.
-use Rattle.std.proofs.Common.{◌≡◌, ◌⊎◌, ℕ, List, [], ◌∷◌, ◌++◌, Bool, true, false, ◌==◌, not, refl, sym, subst, inl, inr, if◌then◌else◌}
+-- The texts of tokens that are names are Names of XML.
+use Rattle.std.proofs.Common.{◌≡◌, ◌⊎◌, ℕ, List, [], ◌∷◌, ◌++◌, true, ◌==◌, not, refl, sym, subst, inl, inr}
 use Rattle.std.specs.List.{list_all}
 use Rattle.xs_class.specs.Classes.{Has}
 use Rattle.xs_class.specs.Tables.{name_start_table, name_more_table, in_ranges, is_name_start}
 use Rattle.xs_class.proofs.Adding.{has_append}
 use Rattle.xs_lex.specs.declared.kind.Kind.{Kind}
-use Rattle.xs_lex.specs.declared.kind.Kind.TheVariants.{Plain, Qual, End, Bad}
+use Rattle.xs_lex.specs.declared.kind.Kind.TheVariants.{Plain, Qual}
 use Rattle.xs_lex.specs.Classes as L
 use Rattle.xs_lex.specs.Classes.{is_plain}
 use Rattle.xs_lex.specs.Spelling.{IsQual, Spells}
-use Rattle.xs_lex.specs.Reading.{Lexeme, Extent, AreTokens, AreTokensFrom}
-use Rattle.xs_gram.specs.Building.{EachOf}
-use Rattle.xs_sheet.specs.declared.piece.Piece.{Piece}
-use Rattle.xs_sheet.specs.Pieces.{IsPiece, IsTextOf, ArePieces}
+use Rattle.xs_sheet.specs.Pieces.{IsTextOf}
 use Rattle.xs_xml.specs.Tables as P
 use Rattle.xs_xml.specs.Piece.{is_name, all_of}
 use Rattle.xs_class.proofs.TableLaws.{in_is, is_in}
@@ -76,46 +73,13 @@ plain_name (c ∷ cs) is =
 qual_name : (w : List ℕ) → IsQual w → is_name w ≡ true
 qual_name w q = subst (λ v. is_name v ≡ true) (sym q.is) (with_more q.prefix (58 ∷ q.local) q.plain_prefix (both_true (P.is_name_char 58) (all_of P.is_name_char q.local) colon_is (plain_all q.local q.plain_local)))
 
-abbrev IsNameKind : Kind → Type 0
-IsNameKind k = (k ≡ Plain) ⊎ (k ≡ Qual)
+-- a plain or qualified name is a Name
+abbrev pub IsNameText : Kind → List ℕ → Type 0
+IsNameText Plain text = is_name text ≡ true
+IsNameText Qual text = is_name text ≡ true
+IsNameText kind text = Unit {0}
 
-name_word : (k : Kind) (w : List ℕ) → IsNameKind k → Spells k w → is_name w ≡ true
-name_word k w (inl e) spells = plain_name w (subst (λ (x : Kind). Spells x w) e spells)
-name_word k w (inr e) spells = qual_name w (subst (λ (x : Kind). Spells x w) e spells)
-
--- a token that is a name is a Name
-abbrev IsNameToken : Lexeme → Type 0
-IsNameToken t = IsNameKind t.kind → is_name t.word ≡ true
-
-last_is_none : (k : Kind) (b : Bool) → k ≡ (if b then End else Bad) → IsNameKind k → ⊥
-last_is_none k true e (inl plain) = cc
-last_is_none k true e (inr qual) = cc
-last_is_none k false e (inl plain) = cc
-last_is_none k false e (inr qual) = cc
-
-tokens_named : (extent : Extent) (text : List ℕ) (ts : List Lexeme) → AreTokensFrom extent text ts → EachOf IsNameToken ts
-tokens_named extent text [] are = absurd are
-tokens_named extent text (t ∷ ts) (rest, apart, stands, inl last) = (λ kind. absurd (last_is_none t.kind _ last.1.kind kind), subst (EachOf IsNameToken) (sym last.0) tt)
-tokens_named extent text (t ∷ ts) (rest, apart, stands, inr more) = (λ kind. name_word t.kind t.word kind more.1.begins.spells, tokens_named extent more.0 ts more.2)
-
--- a piece that is a name is a Name
-abbrev pub IsNamePiece : Piece → Type 0
-IsNamePiece p = (p.kind ≡ Plain) ⊎ (p.kind ≡ Qual) → is_name p.text ≡ true
-
-same_text : (k : Kind) (word text : List ℕ) → IsNameKind k → IsTextOf k word text → text ≡ word
-same_text k word text (inl e) is = subst (λ (x : Kind). IsTextOf x word text) e is
-same_text k word text (inr e) is = subst (λ (x : Kind). IsTextOf x word text) e is
-
-piece_named : (t : Lexeme) (p : Piece) → IsPiece t p → IsNameToken t → IsNamePiece p
-piece_named t p is named kind =
-    let same : IsNameKind t.kind = subst IsNameKind is.kind kind in
-    subst (λ w. is_name w ≡ true) (sym (same_text t.kind t.word p.text same is.text)) (named same)
-
-pieces_named : (ts : List Lexeme) (ps : List Piece) → ArePieces ts ps → EachOf IsNameToken ts → EachOf IsNamePiece ps
-pieces_named [] [] are each = tt
-pieces_named (t ∷ ts) (p ∷ ps) are each = (piece_named t p are.0 each.0, pieces_named ts ps are.1 each.1)
-pieces_named ts ps are each = absurd are
-
--- the pieces of a file that are names are Names
-pub file_named : (bytes : List ℕ) (ts : List Lexeme) (ps : List Piece) → AreTokens bytes ts → ArePieces ts ps → EachOf IsNamePiece ps
-file_named bytes ts ps tokens pieces = pieces_named ts ps pieces (tokens_named _ _ ts tokens)
+pub spelt_named : (k : Kind) (word text : List ℕ) → Spells k word → IsTextOf k word text → IsNameText k text
+spelt_named Plain word text spells is = subst (λ w. is_name w ≡ true) (sym is) (plain_name word spells)
+spelt_named Qual word text spells is = subst (λ w. is_name w ≡ true) (sym is) (qual_name word spells)
+spelt_named kind word text spells is = tt
