@@ -2,6 +2,7 @@
 use Rattle.std.proofs.Common.{◌≡◌, ℕ, zero, suc, ◌<◌, ◌+◌, ◌-◌, List, [], ◌∷◌, ◌++◌, length, map, Some, refl, sym, ◌∙◌, ap, subst, append_assoc, arith}
 use Rattle.std.specs.Prelude.{codes, decimal, slice_get, slice_range}
 use Rattle.std.proofs.lemmas.List.{append-nil, length-append}
+use Rattle.std.proofs.lemmas.Option.{same_Some}
 use Rattle.xs_gram.specs.declared.parts.GItem.{GItem}
 use Rattle.xs_gram.specs.declared.parts.GItem.TheVariants.{Fixed, Term, Non, Skip as Ignored}
 use Rattle.xs_gram.specs.Grammar.{items}
@@ -18,27 +19,23 @@ use Rattle.xs_talk.specs.Derivations.{node_text, parts_text, derivation_line}
 use Rattle.xs_talk.specs.Slots.{AreNamed, HasSlotNames}
 use Rattle.xs_talk.specs.Walk.{IsSpelt, IsLineOf, label, IsOpened, CanWrite, IsWritten, HasKid, IsKidWritten, CanDo, IsDone}
 
+-- parts that are one part of a flat list are one
+flat_same : (r s : SpeltPart) → flat_of r ≡ flat_of s → r ≡ s
+flat_same (Node p ls) (Node q ks) e = cc
+flat_same (Node p ls) (Leaf i j) e = cc
+flat_same (Node p ls) (Skip i j) e = cc
+flat_same (Leaf a b) (Node q ks) e = cc
+flat_same (Leaf a b) (Leaf i j) e = cc
+flat_same (Leaf a b) (Skip i j) e = cc
+flat_same (Skip a b) (Node q ks) e = cc
+flat_same (Skip a b) (Leaf i j) e = cc
+flat_same (Skip a b) (Skip i j) e = cc
+
 -- what stands in the flat list where a part is
-leaf_there : (ss : List SpeltPart) (v i j : ℕ) → slice_get (map flat_of ss) v ≡ Some (leaf_at i j) → slice_get ss v ≡ Some (Leaf i j)
-leaf_there [] v i j e = cc
-leaf_there (Node q ks ∷ ss) zero i j e = cc
-leaf_there (Leaf a b ∷ ss) zero i j e = cc
-leaf_there (Skip a b ∷ ss) zero i j e = cc
-leaf_there (s ∷ ss) (suc v) i j e = leaf_there ss v i j e
-
-skip_there : (ss : List SpeltPart) (v i j : ℕ) → slice_get (map flat_of ss) v ≡ Some (skip_at i j) → slice_get ss v ≡ Some (Skip i j)
-skip_there [] v i j e = cc
-skip_there (Node q ks ∷ ss) zero i j e = cc
-skip_there (Leaf a b ∷ ss) zero i j e = cc
-skip_there (Skip a b ∷ ss) zero i j e = cc
-skip_there (s ∷ ss) (suc v) i j e = skip_there ss v i j e
-
-node_there : (ss : List SpeltPart) (v q : ℕ) (ks : List ℕ) → slice_get (map flat_of ss) v ≡ Some (node q ks) → slice_get ss v ≡ Some (Node q ks)
-node_there [] v q ks e = cc
-node_there (Node p ls ∷ ss) zero q ks e = cc
-node_there (Leaf a b ∷ ss) zero q ks e = cc
-node_there (Skip a b ∷ ss) zero q ks e = cc
-node_there (s ∷ ss) (suc v) q ks e = node_there ss v q ks e
+part_there : (ss : List SpeltPart) (v : ℕ) (s : SpeltPart) → slice_get (map flat_of ss) v ≡ Some (flat_of s) → slice_get ss v ≡ Some s
+part_there [] v s e = cc
+part_there (r ∷ ss) zero s e = ap (λ (x : SpeltPart). Some x) (flat_same r s (same_Some (flat_of r) (flat_of s) e))
+part_there (r ∷ ss) (suc v) s e = part_there ss v s e
 
 at_last : (ss : List SpeltPart) (s : SpeltPart) → slice_get (ss ++ s ∷ []) (length ss) ≡ Some s
 at_last [] s = refl
@@ -98,13 +95,13 @@ module _ (p : Pair) (w : List ℕ) (spelt : List SpeltPart) where
   can_do names order rule [] ps vs fitting = tt
   can_do names order rule (Fixed f ∷ is) ps vs fitting = tt
   can_do names order rule (Term t s ∷ is) (leaf u ps) vs (fits, (v, i, j, us, e, at, r, more), (named, later)) =
-      let there = leaf_there spelt v i j at in
+      let there = part_there spelt v (Leaf i j) at in
       subst (λ l. HasKid p w spelt rule (Term t s) l) (sym e) (named, subst (λ o. CanWrite p w o) (sym there) (order v (Leaf i j) there))
   can_do names order rule (Non n s ∷ is) (sub q qs ps) vs ((rule_of, fits, others), (v, ks, us, e, at, inner, more), (named, later)) =
-      let there = node_there spelt v q ks at in
+      let there = part_there spelt v (Node q ks) at in
       subst (λ l. HasKid p w spelt rule (Non n s) l) (sym e) (named, subst (λ o. CanWrite p w o) (sym there) rule_of.0)
   can_do names order rule (Ignored k ∷ is) (skip u ps) vs (fits, (v, i, j, us, e, at, r, more), (named, later)) =
-      let there = skip_there spelt v i j at in
+      let there = part_there spelt v (Skip i j) at in
       subst (λ l. HasKid p w spelt rule (Ignored k) l) (sym e) (named, subst (λ o. CanWrite p w o) (sym there) (order v (Skip i j) there))
   can_do names order rule (item ∷ is) ps vs (fits, at, named) = absurd fits
 
@@ -134,17 +131,17 @@ module _ (p : Pair) (w : List ℕ) (spelt : List SpeltPart) where
       (rest_text rule is ps ++ u, opened rule is vs ps old new u (more, at, later) o pending, ap (λ (l : List ℕ). l ++ (rest_text rule is ps ++ u)) (sym written))
   done_goes names rule (Term t s ∷ is) (leaf x ps) vs old new out out' u ((fits, more), (v, i, j, us, e, at, r, rest), (named, later)) pending d =
       let h = subst (λ l. IsKidWritten p w spelt rule (Term t s) is l old out new out') e d in
-      let there = leaf_there spelt v i j at in
+      let there = part_there spelt v (Leaf i j) at in
       let written = subst (λ o. IsWritten p w o h.0 (out ++ label p rule (Term t s)) new out') there h.2 in
       word_goes out out' (label p rule (Term t s)) x (slice_range w i j) (parts_text p rule is ps) u h.0 new (opened rule is us ps old h.0 u (more, rest, later) h.1 pending) written r
   done_goes names rule (Ignored k ∷ is) (skip x ps) vs old new out out' u ((fits, more), (v, i, j, us, e, at, r, rest), (named, later)) pending d =
       let h = subst (λ l. IsKidWritten p w spelt rule (Ignored k) is l old out new out') e d in
-      let there = skip_there spelt v i j at in
+      let there = part_there spelt v (Skip i j) at in
       let written = subst (λ o. IsWritten p w o h.0 (out ++ label p rule (Ignored k)) new out') there h.2 in
       word_goes out out' (label p rule (Ignored k)) x (slice_range w i j) (parts_text p rule is ps) u h.0 new (opened rule is us ps old h.0 u (more, rest, later) h.1 pending) written r
   done_goes names rule (Non n s ∷ is) (sub q qs ps) vs old new out out' u ((rule_of, inner, more), (v, ks, us, e, at, inside, rest), (named, later)) pending d =
       let h = subst (λ l. IsKidWritten p w spelt rule (Non n s) is l old out new out') e d in
-      let there = node_there spelt v q ks at in
+      let there = part_there spelt v (Node q ks) at in
       let written = subst (λ o. IsWritten p w o h.0 (out ++ label p rule (Non n s)) new out') there h.2 in
       let after : List ℕ = rest_text rule is ps ++ u in
       let text : List ℕ = node_text q (parts_text p q (items p.text q) qs) in

@@ -37,13 +37,10 @@ rule_words FenceOpen = codes "fence not closed"
 abbrev pub ill_line : Ill → List ℕ
 ill_line ill = numbered (codes "sheet: line ") ill.line (codes ": ") ++ rule_words ill.rule ++ codes "\n"
 
-abbrev pub side_word : Side → List ℕ
-side_word Text = codes "text"
-side_word Xml = codes "xml"
-
 -- the beginning of a report: the side and the nonterminal
 abbrev pub report_begin : Side → List ℕ → List ℕ
-report_begin side name = codes "suspect: " ++ side_word side ++ codes ": " ++ encode_utf8_all name
+report_begin Text name = codes "suspect: text: " ++ encode_utf8_all name
+report_begin Xml name = codes "suspect: xml: " ++ encode_utf8_all name
 
 -- what two rules at these lines share
 abbrev pub shared : List (List ℕ) → ℕ → ℕ → List ℕ → List ℕ

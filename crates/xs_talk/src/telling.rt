@@ -1,7 +1,7 @@
 ghost use Rattle.std.specs.Prelude.{◌≡◌, ◌++◌, IfOk, OnOk};
-ghost use Rattle.xs_talk.specs.Lines.{line as line_at, numbered as numbered_as, rule_words as words_of_rule, ill_line as line_of_ill, side_word as word_of_side, report_begin, shared, cut_at, cut_words, report_line};
+ghost use Rattle.xs_talk.specs.Lines.{line as line_at, numbered as numbered_as, rule_words as words_of_rule, ill_line as line_of_ill, report_begin, shared, cut_at, cut_words, report_line};
 
-use crate::words::{push_decimal, push_quoted, push_three};
+use crate::words::{push_decimal, push_quoted};
 use crate::{Outcome, Report};
 use std::alloc::Global;
 use xs_class::{Bytes, Memory, Names, Side, Text, Word};
@@ -64,21 +64,15 @@ fn ill_line(alloc: Global, ill: Ill) -> Result<Bytes, Memory>
     Ok(line)
 }
 
-fn side_word(side: Side) -> &'static [u8]
-    ensures { result.now ≡ word_of_side side }
-{
-    match side {
-        Side::Text => b"text",
-        Side::Xml => b"xml",
-    }
-}
-
 /// The beginning of a report: the side and the nonterminal.
 fn begun(alloc: Global, side: Side, name: &Text) -> Result<Bytes, Memory>
     ensures { IfOk result (λ line. line ≡ report_begin side name.now) }
 {
-    let mut line = Bytes::of(alloc, b"suspect: ")?;
-    push_three(&mut line, side_word(side), b": ", name.as_str().as_bytes())?;
+    let mut line = match side {
+        Side::Text => Bytes::of(alloc, b"suspect: text: ")?,
+        Side::Xml => Bytes::of(alloc, b"suspect: xml: ")?,
+    };
+    line.extend(name.as_str().as_bytes())?;
     Ok(line)
 }
 

@@ -8,6 +8,13 @@ use std::alloc::Global;
 use xs_class::{Memory, Sym};
 use xs_gram::{GItem, Gram};
 
+/// Where the pieces of a production begin and end among those of all productions.
+#[derive(Clone, Copy)]
+pub struct Row {
+    pub begin: usize,
+    pub end: usize,
+}
+
 /// A part of what a production prints: a stretch of the text of all productions, and then what
 /// stands at a slot, if the piece has one.
 #[derive(Clone, Copy)]
@@ -15,13 +22,6 @@ pub struct Piece {
     pub begin: usize,
     pub end: usize,
     pub slot: Option<u32>,
-}
-
-/// Where the pieces of a production begin and end among those of all productions.
-#[derive(Clone, Copy)]
-pub struct Row {
-    pub begin: usize,
-    pub end: usize,
 }
 
 /// What all productions print: the pieces of each, and the text that they print by themselves. Fixed

@@ -74,9 +74,9 @@ fn push_slots(list: &mut Vec<u32>, items: &[GItem]) -> Result<(), Memory>
 pub fn shares_of(alloc: Global, g: &Gram) -> Result<Shares, Memory>
     ensures { IfOk result (AreShares g.now) }
 {
+    let mut list = Vec::new(alloc);
     let mut owns = Vec::with_capacity(alloc, g.rules() as usize)?;
     let mut slots = FlatLists::new(alloc);
-    let mut list = Vec::new(alloc);
     'rules: for rule in 0..g.rules() {
         let items = items_of(g, rule);
         owns.push(own_lengths(g, items))?;
