@@ -20,7 +20,7 @@ use xs_wf::WfFault;
 
 /// How many sheets are refused, and accepted with fences and without; and how many changes of a
 /// byte leave no certificate.
-#[derive(Debug, Drop)]
+#[derive(Debug, Default, Drop)]
 struct Counts {
     refused: u32,
     fenced: u32,
@@ -112,12 +112,7 @@ fn expect_seed(rt: &impl Abort, alloc: Global, seed: u32, counts: &mut Counts) -
 
 #[test]
 fn drawn_sheets_are_certified_where_they_are_accepted(rt: HostRuntime) -> Result<(), Fail> {
-    let mut counts = Counts {
-        refused: 0,
-        fenced: 0,
-        plain: 0,
-        damaged: 0,
-    };
+    let mut counts = Counts::default();
     for seed in 1..=3_000 {
         expect_seed(&rt, rt.alloc(), seed, &mut counts)?;
     }

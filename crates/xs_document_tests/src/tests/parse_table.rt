@@ -20,12 +20,11 @@ const SHEET: &[u8] = b"xsugar-1\nstart s\nterminal d = /[0-9]+/\nignorable w = /
     t : \"ab\" = <ab/>\n\
     u : \"ab\" = <u/>\n";
 
-/// The production of a node, the place of its first part, and the places of the document from which
-/// and up to which it goes.
-type NodeRow = (u32, u32, u32, u32);
-
 /// What is tried, a document, and the nodes and the parts of a table.
-type Row<'t> = (&'t str, &'t str, &'t [NodeRow], &'t [u32]);
+///
+/// A node is four numbers: its production, the place of its first part, and the places of the
+/// document from which and up to which it goes. Two spaces stand between nodes.
+type Row<'t> = (&'t str, &'t str, &'t str, &'t str);
 
 /// Whether the table passes the check of the document.
 pub fn passes(
@@ -43,17 +42,36 @@ pub fn passes(
     Ok(validator.validate(g, doc, &word, table))
 }
 
-fn table_of(alloc: Global, rows: &[NodeRow], parts: &[u32]) -> Result<ParseTable, Memory> {
-    let mut nodes = Vec::new(alloc);
-    for row in rows {
-        nodes.push(Node {
-            production: row.0,
-            parts: row.1,
-            from: row.2,
-            to: row.3,
-        })?;
+fn numbers_of(alloc: Global, text: &str) -> Result<Vec<u32>, Memory> {
+    let mut numbers = Vec::new(alloc);
+    for word in text.split_whitespace() {
+        match word.parse::<u32>() {
+            Ok(number) => numbers.push(number)?,
+            Err(_) => return Err(Memory),
+        }
     }
-    let parts = Vec::from_slice(alloc, parts)?;
+    Ok(numbers)
+}
+
+fn node_of(numbers: &[u32]) -> Result<Node, Memory> {
+    match numbers {
+        [production, parts, from, to] => Ok(Node {
+            production: *production,
+            parts: *parts,
+            from: *from,
+            to: *to,
+        }),
+        _ => Err(Memory),
+    }
+}
+
+fn table_of(alloc: Global, nodes: &str, parts: &str) -> Result<ParseTable, Memory> {
+    let numbers = numbers_of(alloc, nodes)?;
+    let mut nodes = Vec::new(alloc);
+    for node in numbers.chunks(4) {
+        nodes.push(node_of(node)?)?;
+    }
+    let parts = numbers_of(alloc, parts)?;
     Ok(ParseTable { nodes, parts })
 }
 
@@ -83,20 +101,143 @@ const RIGHT: &[Row<'static>] = &[
     (
         "a nest",
         "(ab) ->12",
-        &[(3, 0, 1, 3), (2, 1, 0, 4), (0, 4, 0, 9)],
-        &[3, 1, 0, 4, 1, 5, 7, 9],
+        "3 0 1 3  2 1 0 4  0 4 0 9",
+        "3 1 0 4 1 5 7 9",
     ),
     (
         "no spaces, and parts in another order",
         "ab->1",
-        &[(3, 4, 0, 2), (0, 0, 0, 5)],
-        &[0, 2, 4, 5, 2],
+        "3 4 0 2  0 0 0 5",
+        "0 2 4 5 2",
     ),
     (
         "a node that is used twice over",
         "!ab",
-        &[(4, 0, 1, 3), (4, 0, 1, 3), (1, 1, 0, 3)],
-        &[3, 1, 0],
+        "4 0 1 3  4 0 1 3  1 1 0 3",
+        "3 1 0",
+    ),
+];
+
+const WRONG_NODES: &[Row<'static>] = &[
+    ("an empty table", "(ab) ->12", "", ""),
+    (
+        "a child that begins one place later",
+        "((ab) ->12",
+        "3 0 2 4  2 1 0 5  0 4 0 10",
+        "4 1 0 5 1 6 8 10",
+    ),
+    (
+        "a child that begins one place earlier",
+        "ab) ->12",
+        "3 0 0 2  2 1 0 3  0 4 0 8",
+        "2 1 0 3 1 4 6 8",
+    ),
+    (
+        "a child of another nonterminal",
+        "(ab) ->12",
+        "4 0 1 3  2 1 0 4  0 4 0 9",
+        "3 1 0 4 1 5 7 9",
+    ),
+    (
+        "a child twice as long as its parts",
+        "(abab) ->12",
+        "3 0 1 5  2 1 0 6  0 4 0 11",
+        "3 1 0 6 1 7 9 11",
+    ),
+    (
+        "a child that comes later",
+        "(ab) ->12",
+        "2 1 0 4  3 0 1 3  0 4 0 9",
+        "3 1 1 4 0 5 7 9",
+    ),
+    (
+        "a child beyond the nodes",
+        "(ab) ->12",
+        "3 0 1 3  2 1 0 4  0 4 0 9",
+        "3 1 7 4 1 5 7 9",
+    ),
+    (
+        "a production that is not there",
+        "(ab) ->12",
+        "5 0 1 3  2 1 0 4  0 4 0 9",
+        "3 1 0 4 1 5 7 9",
+    ),
+    (
+        "the root of another nonterminal",
+        "(ab)",
+        "3 0 1 3  2 1 0 4",
+        "3 1 0 4",
+    ),
+    (
+        "a root that ends before the document",
+        "(ab) ->12 ",
+        "3 0 1 3  2 1 0 4  0 4 0 9",
+        "3 1 0 4 1 5 7 9",
+    ),
+    (
+        "a root that begins after the document's beginning",
+        " ab->1",
+        "3 0 1 3  0 1 1 6",
+        "3 0 3 5 6",
+    ),
+];
+
+const WRONG_PARTS: &[Row<'static>] = &[
+    (
+        "a letter in the digits",
+        "ab->1x",
+        "3 0 0 2  0 1 0 6",
+        "2 0 2 4 6",
+    ),
+    ("no digit", "ab->", "3 0 0 2  0 1 0 4", "2 0 2 4 4"),
+    (
+        "a letter in the spaces",
+        "ab x->1",
+        "3 0 0 2  0 1 0 7",
+        "2 0 4 6 7",
+    ),
+    (
+        "a fixed word with another last symbol",
+        "ac->1",
+        "3 0 0 2  0 1 0 5",
+        "2 0 2 4 5",
+    ),
+    (
+        "a fixed word that is twice as long",
+        "abab->1",
+        "3 0 0 4  0 1 0 7",
+        "4 0 4 6 7",
+    ),
+    (
+        "a fixed word that is cut off",
+        "a->1",
+        "3 0 0 1  0 1 0 4",
+        "1 0 1 3 4",
+    ),
+    (
+        "a terminal's part beyond the end",
+        "ab->1",
+        "3 0 0 2  0 1 0 6",
+        "2 0 2 4 6",
+    ),
+    (
+        "a fixed word's part beyond the end",
+        "(ab) ->12",
+        "3 0 1 3  2 1 0 4  0 4 0 9",
+        "3 1 0 40 1 5 7 9",
+    ),
+    (
+        "a part before the one before it",
+        "ab->1",
+        "3 0 0 2  0 1 0 5",
+        "2 0 2 1 5",
+    ),
+    ("too few parts", "ab->1", "3 0 0 2  0 1 0 5", "2 0 2 4"),
+    (
+        "parts that begin beyond all numbers",
+        "ab->1",
+        "3 4294967295 0 2  0 1 0 5",
+        "2 0 2 4 5",
     ),
 ];
 
@@ -105,143 +246,10 @@ fn tables_of_derivations(rt: HostRuntime) -> Result<(), Fail> {
     expect_all(&rt, rt.alloc(), RIGHT, true)
 }
 
-const WRONG_NODES: &[Row<'static>] = &[
-    ("an empty table", "(ab) ->12", &[], &[]),
-    (
-        "a child that begins one place later",
-        "((ab) ->12",
-        &[(3, 0, 2, 4), (2, 1, 0, 5), (0, 4, 0, 10)],
-        &[4, 1, 0, 5, 1, 6, 8, 10],
-    ),
-    (
-        "a child that begins one place earlier",
-        "ab) ->12",
-        &[(3, 0, 0, 2), (2, 1, 0, 3), (0, 4, 0, 8)],
-        &[2, 1, 0, 3, 1, 4, 6, 8],
-    ),
-    (
-        "a child of another nonterminal",
-        "(ab) ->12",
-        &[(4, 0, 1, 3), (2, 1, 0, 4), (0, 4, 0, 9)],
-        &[3, 1, 0, 4, 1, 5, 7, 9],
-    ),
-    (
-        "a child twice as long as its parts",
-        "(abab) ->12",
-        &[(3, 0, 1, 5), (2, 1, 0, 6), (0, 4, 0, 11)],
-        &[3, 1, 0, 6, 1, 7, 9, 11],
-    ),
-    (
-        "a child that comes later",
-        "(ab) ->12",
-        &[(2, 1, 0, 4), (3, 0, 1, 3), (0, 4, 0, 9)],
-        &[3, 1, 1, 4, 0, 5, 7, 9],
-    ),
-    (
-        "a child beyond the nodes",
-        "(ab) ->12",
-        &[(3, 0, 1, 3), (2, 1, 0, 4), (0, 4, 0, 9)],
-        &[3, 1, 7, 4, 1, 5, 7, 9],
-    ),
-    (
-        "a production that is not there",
-        "(ab) ->12",
-        &[(5, 0, 1, 3), (2, 1, 0, 4), (0, 4, 0, 9)],
-        &[3, 1, 0, 4, 1, 5, 7, 9],
-    ),
-    (
-        "the root of another nonterminal",
-        "(ab)",
-        &[(3, 0, 1, 3), (2, 1, 0, 4)],
-        &[3, 1, 0, 4],
-    ),
-    (
-        "a root that ends before the document",
-        "(ab) ->12 ",
-        &[(3, 0, 1, 3), (2, 1, 0, 4), (0, 4, 0, 9)],
-        &[3, 1, 0, 4, 1, 5, 7, 9],
-    ),
-    (
-        "a root that begins after the document's beginning",
-        " ab->1",
-        &[(3, 0, 1, 3), (0, 1, 1, 6)],
-        &[3, 0, 3, 5, 6],
-    ),
-];
-
 #[test]
 fn tables_with_a_wrong_node(rt: HostRuntime) -> Result<(), Fail> {
     expect_all(&rt, rt.alloc(), WRONG_NODES, false)
 }
-
-const WRONG_PARTS: &[Row<'static>] = &[
-    (
-        "a letter in the digits",
-        "ab->1x",
-        &[(3, 0, 0, 2), (0, 1, 0, 6)],
-        &[2, 0, 2, 4, 6],
-    ),
-    (
-        "no digit",
-        "ab->",
-        &[(3, 0, 0, 2), (0, 1, 0, 4)],
-        &[2, 0, 2, 4, 4],
-    ),
-    (
-        "a letter in the spaces",
-        "ab x->1",
-        &[(3, 0, 0, 2), (0, 1, 0, 7)],
-        &[2, 0, 4, 6, 7],
-    ),
-    (
-        "a fixed word with another last symbol",
-        "ac->1",
-        &[(3, 0, 0, 2), (0, 1, 0, 5)],
-        &[2, 0, 2, 4, 5],
-    ),
-    (
-        "a fixed word that is twice as long",
-        "abab->1",
-        &[(3, 0, 0, 4), (0, 1, 0, 7)],
-        &[4, 0, 4, 6, 7],
-    ),
-    (
-        "a fixed word that is cut off",
-        "a->1",
-        &[(3, 0, 0, 1), (0, 1, 0, 4)],
-        &[1, 0, 1, 3, 4],
-    ),
-    (
-        "a terminal's part beyond the end",
-        "ab->1",
-        &[(3, 0, 0, 2), (0, 1, 0, 6)],
-        &[2, 0, 2, 4, 6],
-    ),
-    (
-        "a fixed word's part beyond the end",
-        "(ab) ->12",
-        &[(3, 0, 1, 3), (2, 1, 0, 4), (0, 4, 0, 9)],
-        &[3, 1, 0, 40, 1, 5, 7, 9],
-    ),
-    (
-        "a part before the one before it",
-        "ab->1",
-        &[(3, 0, 0, 2), (0, 1, 0, 5)],
-        &[2, 0, 2, 1, 5],
-    ),
-    (
-        "too few parts",
-        "ab->1",
-        &[(3, 0, 0, 2), (0, 1, 0, 5)],
-        &[2, 0, 2, 4],
-    ),
-    (
-        "parts that begin beyond all numbers",
-        "ab->1",
-        &[(3, 4294967295, 0, 2), (0, 1, 0, 5)],
-        &[2, 0, 2, 4, 5],
-    ),
-];
 
 #[test]
 fn tables_with_a_wrong_part(rt: HostRuntime) -> Result<(), Fail> {

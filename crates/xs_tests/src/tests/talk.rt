@@ -84,16 +84,6 @@ fn lines_of_outcomes(rt: HostRuntime) -> Result<(), Memory> {
     expect_told(&rt, rt.alloc(), &rows)
 }
 
-fn vertical(alloc: Global) -> Result<Outcome, Memory> {
-    Ok(Outcome::Suspect(Report::Vertical {
-        side: Side::Text,
-        name: Text::of(alloc, "s")?,
-        line: 4,
-        line2: 5,
-        word: Word::of(alloc, &[Sym(97)])?,
-    }))
-}
-
 /// A quote, a line feed, a surrogate, the end of an attribute, a strange name, the marks of `p`, an
 /// attribute of the other name, and a mark of no name.
 const MARKS: [Sym; 9] = [
@@ -108,18 +98,6 @@ const MARKS: [Sym; 9] = [
     Sym(0x110008),
 ];
 
-fn horizontal(alloc: Global) -> Result<Outcome, Memory> {
-    Ok(Outcome::Suspect(Report::Horizontal {
-        side: Side::Xml,
-        name: Text::of(alloc, "s")?,
-        line: 4,
-        cut: 1,
-        x: Word::new(alloc),
-        a: Word::of(alloc, &[Sym(97)])?,
-        y: Word::of(alloc, &MARKS)?,
-    }))
-}
-
 const SHARED: &str = "suspect: text: s: lines 4 and 5 share \"a\"\n";
 
 const CUT: &str =
@@ -128,7 +106,26 @@ const CUT: &str =
 #[test]
 fn lines_of_suspects(rt: HostRuntime) -> Result<(), Memory> {
     let alloc = rt.alloc();
-    let rows = [(vertical(alloc)?, SHARED), (horizontal(alloc)?, CUT)];
+    let vertical = Report::Vertical {
+        side: Side::Text,
+        name: Text::of(alloc, "s")?,
+        line: 4,
+        line2: 5,
+        word: Word::of(alloc, &[Sym(97)])?,
+    };
+    let horizontal = Report::Horizontal {
+        side: Side::Xml,
+        name: Text::of(alloc, "s")?,
+        line: 4,
+        cut: 1,
+        x: Word::new(alloc),
+        a: Word::of(alloc, &[Sym(97)])?,
+        y: Word::of(alloc, &MARKS)?,
+    };
+    let rows = [
+        (Outcome::Suspect(vertical), SHARED),
+        (Outcome::Suspect(horizontal), CUT),
+    ];
     expect_told(&rt, alloc, &rows)
 }
 

@@ -197,17 +197,17 @@ fn expect_retraced(rt: &impl Abort, alloc: Global, sheet: &[u8], text: &[u8]) ->
 }
 
 #[test]
+fn runs_over_a_made_text(rt: HostRuntime) -> Result<(), Fail> {
+    let text = make_text(rt.alloc(), 1, 2)?;
+    expect_retraced(&rt, rt.alloc(), leiden_sheet(), text.as_slice())
+}
+
+#[test]
 fn runs_over_the_examples(rt: HostRuntime) -> Result<(), Fail> {
     for (sheet, text) in &EXAMPLES {
         expect_retraced(&rt, rt.alloc(), sheet.as_bytes(), text.as_bytes())?;
     }
     Ok(())
-}
-
-#[test]
-fn runs_over_a_made_text(rt: HostRuntime) -> Result<(), Fail> {
-    let text = make_text(rt.alloc(), 1, 2)?;
-    expect_retraced(&rt, rt.alloc(), leiden_sheet(), text.as_slice())
 }
 
 /// A sheet by which the sets of a long word soon are the same from letter to letter, and are repeated.

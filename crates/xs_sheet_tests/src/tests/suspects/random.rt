@@ -196,31 +196,25 @@ fn is_first(found: Place, shown: Option<Place>, is_short: bool) -> bool {
     }
 }
 
-/// Whether what was found is right beside what is shown.
+/// Whether a suspect that was found is right beside what is shown.
 fn is_right_vertical(
     alloc: Global,
     drawn: &Drawn,
-    found: &Option<Vert>,
+    vert: &Vert,
     shown: Option<Place>,
 ) -> Result<bool, Memory> {
-    let Some(vert) = found else {
-        return Ok(shown.is_none());
-    };
     let is_short = vert.word.len() <= LONGEST;
     let is_first = is_first((vert.rule, vert.rule2), shown, is_short);
     Ok(is_first && is_vertical(alloc, drawn, vert)?)
 }
 
-/// Whether what was found is right beside what is shown.
+/// Whether a suspect that was found is right beside what is shown.
 fn is_right_horizontal(
     alloc: Global,
     drawn: &Drawn,
-    found: &Option<Horiz>,
+    horiz: &Horiz,
     shown: Option<Place>,
 ) -> Result<bool, Memory> {
-    let Some(horiz) = found else {
-        return Ok(shown.is_none());
-    };
     let front = horiz.x.len().saturating_add(horiz.a.len());
     let rest = horiz.a.len().saturating_add(horiz.y.len());
     let is_short = front <= LONGEST && rest <= LONGEST;
@@ -242,7 +236,7 @@ fn derived_words(slow: &Slow, drawn: &Drawn) -> Result<Option<usize>, Memory> {
 
 /// How many grammars have a suspect of each kind, and none, and how many words up to six letters
 /// are derived in those that have none.
-#[derive(Debug, Drop)]
+#[derive(Debug, Default, Drop)]
 struct Counts {
     vertical: u32,
     horizontal: u32,
@@ -288,14 +282,16 @@ fn expect_right(
     let shown = shown_of(alloc, &slows.loose, drawn)?;
     counts.add(vertical.is_some(), horizontal.is_some());
     let seed = drawn.seed;
-    assert!(rt;
-        is_right_vertical(alloc, drawn, &vertical, shown.vertical)?,
-        "of {seed}"
-    );
-    assert!(rt;
-        is_right_horizontal(alloc, drawn, &horizontal, shown.horizontal)?,
-        "of {seed}"
-    );
+    let is_right = match &vertical {
+        None => shown.vertical.is_none(),
+        Some(vert) => is_right_vertical(alloc, drawn, vert, shown.vertical)?,
+    };
+    assert!(rt; is_right, "of {seed}");
+    let is_right = match &horizontal {
+        None => shown.horizontal.is_none(),
+        Some(horiz) => is_right_horizontal(alloc, drawn, horiz, shown.horizontal)?,
+    };
+    assert!(rt; is_right, "of {seed}");
     assert!(rt; are_weighed(alloc, drawn, gram, &comps)?, "of {seed}");
     if vertical.is_none() && horizontal.is_none() {
         let words = derived_words(&slows.derived, drawn)?;
@@ -326,12 +322,7 @@ fn suspects_are_those_of_the_definitions(rt: HostRuntime) -> Result<(), Fail> {
         loose: Slow::of(rt.alloc(), words_up_to(rt.alloc(), LONGEST as u32, 1)?)?,
         derived: Slow::of(rt.alloc(), words_up_to(rt.alloc(), 6, 2)?)?,
     };
-    let mut counts = Counts {
-        vertical: 0,
-        horizontal: 0,
-        neither: 0,
-        words: 0,
-    };
+    let mut counts = Counts::default();
     for seed in 1..=3_000 {
         expect_seed(&rt, rt.alloc(), &slows, seed, &mut counts)?;
     }

@@ -8,6 +8,12 @@ use std::test::Fail;
 use xs_class::{Bytes, Memory, Text};
 use xs_test_tools::{EMPTY, PAIR};
 
+/// The line that reports a sheet that cannot be read.
+const UNREAD_SHEET: &[u8] = b"sheet: cannot be read\n";
+
+/// The line that reports an input that cannot be read.
+const UNREAD_INPUT: &[u8] = b"input: cannot be read\n";
+
 /// Words, an input, the calls of `input`, `out` and `notes` that fail, how many bytes a call moves,
 /// what `out` and `notes` take, and how the run breaks off.
 type Row = (
@@ -21,15 +27,7 @@ type Row = (
 );
 
 const ROWS: &[Row] = &[
-    (
-        TO_XML,
-        b"(3,7)",
-        [2, 0, 0],
-        5,
-        b"",
-        b"input: cannot be read\n",
-        (0, 0),
-    ),
+    (TO_XML, b"(3,7)", [2, 0, 0], 5, b"", UNREAD_INPUT, (0, 0)),
     (
         TO_XML,
         b"(3,7)",
@@ -150,24 +148,12 @@ fn expect_faults(
         shelf: call,
         ..none
     };
-    expect_end(
-        rt,
-        alloc,
-        shelf,
-        call <= calls[0],
-        b"sheet: cannot be read\n",
-    )?;
+    expect_end(rt, alloc, shelf, call <= calls[0], UNREAD_SHEET)?;
     let input = Failures {
         input: call,
         ..none
     };
-    expect_end(
-        rt,
-        alloc,
-        input,
-        call <= calls[1],
-        b"input: cannot be read\n",
-    )?;
+    expect_end(rt, alloc, input, call <= calls[1], UNREAD_INPUT)?;
     let notes = Failures {
         notes: call,
         ..none
@@ -261,33 +247,16 @@ type Fault = (
     &'static [u8],
 );
 
-/// Each call of `out` and `notes` moves at most seven bytes. The sheet takes the first two calls of
-/// the shelf, and the certificate the next two.
+/// A call of the shelf that fails, and the line that reports it: the sheet takes the first two calls,
+/// and the certificate the next two.
+const UNREAD: &[(u64, &[u8])] = &[
+    (2, UNREAD_SHEET),
+    (3, b"certificate: cannot be read\n"),
+    (4, b"certificate: cannot be read\n"),
+];
+
+/// Each call of `out` and `notes` moves at most seven bytes.
 const FAULTS: &[Fault] = &[
-    (
-        CERTIFY,
-        [2, 0, 0],
-        6,
-        (0, 0),
-        b"",
-        b"sheet: cannot be read\n",
-    ),
-    (
-        CERTIFY,
-        [3, 0, 0],
-        6,
-        (0, 0),
-        b"",
-        b"certificate: cannot be read\n",
-    ),
-    (
-        CERTIFY,
-        [4, 0, 0],
-        6,
-        (0, 0),
-        b"",
-        b"certificate: cannot be read\n",
-    ),
     (CERTIFY, [5, 0, 0], 0, (0, 0), ACCEPTED, b""),
     (CERTIFY, [3, 0, 3], 6, (6, 14), b"", b"certificate: c"),
     (
@@ -330,6 +299,10 @@ fn expect_fault(rt: &impl Abort, alloc: Global, fault: Fault) -> Result<(), Fail
 
 #[test]
 fn failing_calls_over_a_certificate_are_reported(rt: HostRuntime) -> Result<(), Fail> {
+    for (call, line) in UNREAD {
+        let fault: Fault = (CERTIFY, [*call, 0, 0], 6, (0, 0), b"", *line);
+        expect_fault(&rt, rt.alloc(), fault)?;
+    }
     for fault in FAULTS {
         expect_fault(&rt, rt.alloc(), *fault)?;
     }

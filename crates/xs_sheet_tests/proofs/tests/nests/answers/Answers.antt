@@ -5,20 +5,20 @@ use Rattle.xs_sheet_tests.proofs.tests.nests.answers.Goals as goal
 pub of-requires-clause-fenced : goal.of-requires-clause-fenced
 of-requires-clause-fenced c = fenced c.in_ok-nest.nest c.in_ok-nest.ensures
 
-pub of-requires-clause-room : goal.of-requires-clause-room
-of-requires-clause-room c = room c.in_ok-nest.nest _ (omega (arith, c.in_ok-pairs.ensures.cells)) c.in_ok-nest.ensures
-
 pub meet_nested-requires-clause-fenced : goal.meet_nested-requires-clause-fenced
 meet_nested-requires-clause-fenced c = fenced c.in_ok-nest.nest c.in_ok-nest.ensures
+
+pub overlap_nested-requires-clause-fenced : goal.overlap_nested-requires-clause-fenced
+overlap_nested-requires-clause-fenced c = fenced c.in_ok-nest.nest c.in_ok-nest.ensures
+
+pub of-requires-clause-room : goal.of-requires-clause-room
+of-requires-clause-room c = room c.in_ok-nest.nest _ (omega (arith, c.in_ok-pairs.ensures.cells)) c.in_ok-nest.ensures
 
 pub meet_nested-requires-clause-tame_a : goal.meet_nested-requires-clause-tame_a
 meet_nested-requires-clause-tame_a c = tame c.in_ok-nest.nest c.in_ok-a.a c.in_ok-nest.ensures c.in_ok-a.ensures
 
 pub meet_nested-requires-clause-tame_b : goal.meet_nested-requires-clause-tame_b
 meet_nested-requires-clause-tame_b c = tame c.in_ok-nest.nest c.in_ok-b.b c.in_ok-nest.ensures c.in_ok-b.ensures
-
-pub overlap_nested-requires-clause-fenced : goal.overlap_nested-requires-clause-fenced
-overlap_nested-requires-clause-fenced c = fenced c.in_ok-nest.nest c.in_ok-nest.ensures
 
 pub overlap_nested-requires-clause-tame_a : goal.overlap_nested-requires-clause-tame_a
 overlap_nested-requires-clause-tame_a c = tame c.in_ok-nest.nest c.in_ok-a.a c.in_ok-nest.ensures c.in_ok-a.ensures
