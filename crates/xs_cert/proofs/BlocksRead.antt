@@ -5,7 +5,7 @@ use Rattle.xs_auto.specs.Nests.{Group, group_at}
 use Rattle.xs_gram.specs.Grammar.{Grammar}
 use Rattle.xs_gram.specs.Sound.{IsBuilt}
 use Rattle.xs_gram.specs.Cuts.{CutsAreOne}
-use Rattle.xs_stretch.specs.Laws.{IsLaidOnce}
+use Rattle.xs_loose.specs.Laws.{IsLaidOnce}
 use Rattle.xs_closed.specs.Rows.{Row}
 use Rattle.xs_cert_lines.specs.Lines.{Lines, set_lines, ended}
 use Rattle.xs_cert_lines.specs.Runs.{GoesOn}

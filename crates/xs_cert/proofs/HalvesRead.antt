@@ -7,8 +7,8 @@ use Rattle.xs_auto.specs.Nests.{Group, group_at}
 use Rattle.xs_gram.specs.Grammar.{Grammar}
 use Rattle.xs_gram.specs.Sound.{IsBuilt}
 use Rattle.xs_meet.specs.Closed.{Marked}
-use Rattle.xs_stretch.specs.Nets.{IsNestOf}
-use Rattle.xs_stretch.specs.Laws.{IsLaidOnce}
+use Rattle.xs_loose.specs.Nets.{IsNestOf}
+use Rattle.xs_loose.specs.Laws.{IsLaidOnce}
 use Rattle.xs_closed.specs.Rows.{Grid, marked, blank}
 use Rattle.xs_closed.proofs.FoundLemmas.{blank_row}
 use Rattle.xs_cert_lines.specs.Lines.{Lines}

@@ -12,12 +12,12 @@ use Rattle.xs_gram.specs.Fences.{spread, IsLevel}
 use Rattle.xs_gram.specs.Loose.{IsLoose}
 use Rattle.xs_gram.specs.Sound.{IsBuilt}
 use Rattle.xs_gram.specs.Suspects.{IsVertical, IsHorizontal, Overlaps}
-use Rattle.xs_stretch.proofs.Stretches.{slice_stretch}
+use Rattle.xs_loose.proofs.Stretches.{slice_stretch}
 use Rattle.xs_gram.proofs.Cuts.{cut_level}
 use Rattle.xs_meet.specs.Closed.{Marked}
-use Rattle.xs_stretch.specs.Nets.{IsNumbered, IsNestOf}
-use Rattle.xs_stretch.specs.Parts.{IsStretch}
-use Rattle.xs_stretch_laws.proofs.Reading.{nets_accept_loose}
+use Rattle.xs_loose.specs.Nets.{IsNumbered, IsNestOf}
+use Rattle.xs_loose.specs.Parts.{IsStretch}
+use Rattle.xs_loose.proofs.Reading.{nets_accept_loose}
 use Rattle.xs_closed.specs.Rows.{Grid, marked}
 use Rattle.xs_closed.specs.Laws.{ReachedIsShared, ReachedIsOverlap}
 use Rattle.xs_cert_laws.specs.Blocks.{AreRuleNets, AreCutNets}

@@ -1,6 +1,6 @@
 -- A certificate of grammars whose rules are light is not refused.
 use Rattle.std.proofs.Common.{refl, inl, inr}
-use Rattle.xs_light.proofs.Lightness.{not_heavy}
+use Rattle.xs_searches.proofs.Lightness.{not_heavy}
 use Rattle.xs_cert.specs.Laws.{ProofPasses}
 use Rattle.xs_cert.specs.declared.fault.CertFault.TheVariants as F
 

@@ -15,13 +15,13 @@ use Rattle.xs_gram.specs.Sound.{IsBuilt}
 use Rattle.xs_gram.specs.Fences.{spread}
 use Rattle.xs_gram.specs.Cuts.{CutsAt, CutsAreOne}
 use Rattle.xs_meet.specs.Closed.{Drifts, Strides, Leads}
-use Rattle.xs_stretch.specs.Arcs.{Arc, read, pass, call}
-use Rattle.xs_stretch.specs.Groups.{group_number}
-use Rattle.xs_stretch.specs.Nets.{IsNumbered, IsGroupOf, IsNestOf}
-use Rattle.xs_stretch.specs.Laws.{IsLaidOnce}
+use Rattle.xs_loose.specs.Arcs.{Arc, read, pass, call}
+use Rattle.xs_loose.specs.Groups.{group_number}
+use Rattle.xs_loose.specs.Nets.{IsNumbered, IsGroupOf, IsNestOf}
+use Rattle.xs_loose.specs.Laws.{IsLaidOnce}
 use Rattle.xs_closed.specs.Rows.{Row, IsSet}
 use Rattle.xs_cert_laws.specs.Blocks.{ShowsApart, ShowsClear, AreRuleNets, AreCutNets}
-use Rattle.xs_stretch_laws.proofs.Finding.{group_once}
+use Rattle.xs_loose.proofs.Finding.{group_once}
 
 -- where the new net leads, the old one does, and it has as many states
 pub record Follows (old new : Graph) : Type 0 where

@@ -2,9 +2,9 @@
 use Rattle.std.proofs.Common.{◌≡◌, inl, inr, subst, Result, Ok, Err, IfErr}
 use Rattle.xs_gram.specs.Grammar.{Grammar}
 use Rattle.xs_check_laws.specs.Acceptance.{IsLight, IsHeaviness}
-use Rattle.xs_light.specs.declared.fault.CheckFault.{CheckFault}
-use Rattle.xs_light.specs.declared.fault.CheckFault.TheVariants as C
-use Rattle.xs_light.specs.Causes.{IsCause}
+use Rattle.xs_searches.specs.declared.fault.CheckFault.{CheckFault}
+use Rattle.xs_searches.specs.declared.fault.CheckFault.TheVariants as C
+use Rattle.xs_searches.specs.Causes.{IsCause}
 use Rattle.xs_pair.specs.Grammars.{Pair}
 use Rattle.xs_cert.specs.Reasons.{IsWeighty}
 

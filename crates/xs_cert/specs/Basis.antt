@@ -1,8 +1,8 @@
 -- What the blocks of a side are read by.
 use Rattle.std.specs.Prelude.{List}
 use Rattle.xs_meet.specs.Closed.{Marked}
-use Rattle.xs_stretch.specs.Nets.{IsNestOf}
-use Rattle.xs_light.specs.Spaces.{IsSite}
+use Rattle.xs_loose.specs.Nets.{IsNestOf}
+use Rattle.xs_searches.specs.Spaces.{IsSite}
 use Rattle.xs_closed.specs.Rows.{marked}
 use Rattle.xs_cert_laws.specs.Blocks.{Head}
 use Rattle.xs_cert.specs.declared.place.Place.{Place}

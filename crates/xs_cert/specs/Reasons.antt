@@ -2,8 +2,8 @@
 use Rattle.std.specs.Prelude.{ℕ, List}
 use Rattle.xs_pair.specs.Grammars.{Pair}
 use Rattle.xs_check_laws.specs.Acceptance.{IsLight, IsFirstHeavy}
-use Rattle.xs_light.specs.declared.fault.CheckFault.{CheckFault}
-use Rattle.xs_light.specs.declared.fault.CheckFault.TheVariants as C
+use Rattle.xs_searches.specs.declared.fault.CheckFault.{CheckFault}
+use Rattle.xs_searches.specs.declared.fault.CheckFault.TheVariants as C
 use Rattle.xs_cert_laws.specs.Certificates.{IsBadAt}
 use Rattle.xs_cert.specs.declared.fault.CertFault.{CertFault}
 use Rattle.xs_cert.specs.declared.fault.CertFault.TheVariants as F

@@ -2,7 +2,7 @@
 use Rattle.std.specs.Prelude.{◌≡◌, ◌⊎◌, ℕ, suc, ◌+◌, ◌≤◌, List, [], ◌∷◌, ◌++◌, length, map, drop, codes}
 use Rattle.xs_auto.specs.Nests.{Group}
 use Rattle.xs_gram.specs.Grammar.{Grammar}
-use Rattle.xs_stretch.specs.Nets.{IsNestOf}
+use Rattle.xs_loose.specs.Nets.{IsNestOf}
 use Rattle.xs_cert_lines.specs.Lines.{Lines, written}
 use Rattle.xs_cert_laws.specs.Blocks.{Head, Block, head, IsRight, block_lines}
 use Rattle.xs_cert_laws.specs.Certificates.{AreShares, Shares, heads, share_line}

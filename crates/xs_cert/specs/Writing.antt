@@ -8,7 +8,7 @@ use Rattle.xs_gram.specs.Sound.{IsBuilt}
 use Rattle.xs_check_laws.specs.Acceptance.{HasNoSuspect}
 use Rattle.xs_meet.specs.Sharing.{Sharing, has_at}
 use Rattle.xs_meet.specs.Closed.{Marked, IsApart, IsClear}
-use Rattle.xs_stretch.specs.Nets.{IsNestOf}
+use Rattle.xs_loose.specs.Nets.{IsNestOf}
 use Rattle.xs_closed.specs.Rows.{Grid, Row, marked}
 use Rattle.xs_closed.specs.Least.{Meeting, Rests}
 use Rattle.xs_closed.specs.Laws.{IsWithin}

@@ -1,6 +1,6 @@
 use xs_auto::Nest;
 use xs_closed::PairSet;
-use xs_light::Site;
+use xs_searches::Site;
 
 /// What the blocks of a side are read by: the bytes, the grammar, the nest of its groups, and which
 /// of them are said to share a word.

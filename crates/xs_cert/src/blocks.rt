@@ -3,7 +3,7 @@ ghost use Rattle.xs_auto.specs.{group_at};
 ghost use Rattle.xs_gram.specs.{spread};
 ghost use Rattle.xs_closed.specs.{marked};
 ghost use Rattle.xs_cert_laws.specs.{AreRuleNets, for_groups, for_rules, for_cut, rule_heads, cut_heads};
-ghost use Rattle.xs_light.specs.{IsRuleNet};
+ghost use Rattle.xs_searches.specs.{IsRuleNet};
 ghost use Rattle.xs_cert.specs.Basis.{IsBasis, IsIn, AreReadBy};
 ghost use Rattle.xs_cert.specs.Rows.{reading_of};
 ghost use Rattle.xs_cert.specs.Sides.{open_heads, all_group_heads, all_rule_heads, all_cut_heads, side_heads};
@@ -17,7 +17,7 @@ use xs_auto::Net;
 use xs_class::Memory;
 use xs_closed::{CutSets, PairSet};
 use xs_gram::cuts_are_one;
-use xs_stretch::laid_in_one_way;
+use xs_loose::laid_in_one_way;
 
 /// How far a block was read by its last rows, where only that many lines are good if none are
 /// right.

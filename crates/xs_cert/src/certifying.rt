@@ -7,22 +7,21 @@ ghost use Rattle.xs_cert.specs.Halves.{IsHalfReading, IsTextRead, IsTextReading,
 ghost use Rattle.xs_cert.specs.Places.{IsPlace};
 ghost use Rattle.xs_cert.specs.Reasons.{IsCertReason};
 
-use crate::CertFault;
 use crate::half::read_half;
 use crate::place::{Place, Reading};
 use crate::titles::title;
 use crate::weighing::weigh;
+use crate::{CertFault, Certified};
 use std::alloc::Global;
 use xs_cert_laws::certified_is_accepted;
 use xs_cert_lines::read_line;
 use xs_check_laws::accepted_is_unique;
 use xs_class::{Memory, Side};
 use xs_gram::Gram;
-use xs_light::Site;
+use xs_loose::Tables;
 use xs_order::components;
 use xs_pair::Two;
-use xs_stretch::Tables;
-use xs_unique::Accepted;
+use xs_searches::Site;
 
 /// Certifies the two grammars of a sheet where no rule weighs more than 8,192 and the bytes are a
 /// certificate of them whose blocks are all right.
@@ -33,7 +32,7 @@ use xs_unique::Accepted;
 ///
 /// Takes time linear in the bytes and the nets, beside what `longest_apart` and `longest_clear` take;
 /// memory for the nets of a grammar's groups, and for the nets and sets of one block.
-pub fn certify<'t>(alloc: Global, two: &'t Two, bytes: &[u8]) -> Result<Accepted<'t>, CertFault>
+pub fn certify<'t>(alloc: Global, two: &'t Two, bytes: &[u8]) -> Result<Certified<'t>, CertFault>
     requires text { IsSound two.now.text }
     requires xml { IsSound two.now.xml }
     ensures two { IfOk result (λ c. c ≡ two.now) }
@@ -53,7 +52,7 @@ pub fn certify<'t>(alloc: Global, two: &'t Two, bytes: &[u8]) -> Result<Accepted
 }
 
 /// The two grammars, which were shown to be accepted.
-fn shown(two: &Two) -> Accepted<'_>
+fn shown(two: &Two) -> Certified<'_>
     requires text { IsBuilt two.now.text }
     requires xml { IsBuilt two.now.xml }
     requires accepted { IsAccepted two.now.text two.now.xml }
@@ -62,7 +61,7 @@ fn shown(two: &Two) -> Accepted<'_>
     ensures unique_xml { IsUnique two.now.xml }
 {
     accepted_is_unique();
-    Accepted::of(two)
+    Certified::of(two)
 }
 
 /// The first line after the longest good front, counted from 1, of bytes that are no certificate;

@@ -1,5 +1,5 @@
 use xs_class::Memory;
-use xs_light::CheckFault;
+use xs_searches::CheckFault;
 
 /// Why bytes do not certify two grammars.
 #[derive(Debug, Drop)]

@@ -1,6 +1,6 @@
 // A side of a certificate.
 ghost use Rattle.std.specs.Prelude.{IfOk};
-ghost use Rattle.xs_light.specs.{IsSite};
+ghost use Rattle.xs_searches.specs.{IsSite};
 ghost use Rattle.xs_cert.specs.Places.{IsPlace};
 ghost use Rattle.xs_cert.specs.Halves.{IsHalfReading};
 
@@ -9,8 +9,8 @@ use crate::place::{Place, Reading};
 use crate::sharing::read_shares;
 use xs_class::Memory;
 use xs_closed::PairSet;
-use xs_light::Site;
-use xs_stretch::laid_in_one_way;
+use xs_loose::laid_in_one_way;
+use xs_searches::Site;
 
 /// Reads a side from a place on.
 pub fn read_half(site: Site<'_>, bytes: &[u8], place: Place) -> Result<Reading, Memory>

@@ -8,6 +8,7 @@
 
 mod basis;
 mod blocks;
+mod certified;
 mod certifying;
 mod fault;
 mod half;
@@ -22,8 +23,9 @@ mod titles;
 mod weighing;
 mod writer;
 
+pub use certified::Certified;
 pub use certifying::certify;
 pub use fault::CertFault;
 pub use laws::proof_passes;
-pub use proving::prove;
+pub use proving::{ProveFault, prove};
 pub use weighing::weigh;

@@ -11,22 +11,25 @@ use std::alloc::Global;
 use xs_class::{Bytes, Memory, Side};
 use xs_closed::PairSet;
 use xs_gram::Gram;
-use xs_light::SearchSpace;
+use xs_loose::Tables;
 use xs_order::components;
 use xs_pair::Two;
-use xs_stretch::Tables;
+use xs_searches::SearchSpace;
 use xs_unique::{AcceptFault, accept};
+
+/// Why there is no certificate of two grammars: they are not accepted, or want of memory.
+pub type ProveFault = AcceptFault;
 
 /// Writes the certificate of the two grammars of a sheet, where they are accepted: exactly the
 /// groups that share a word, and the least sets.
 ///
-/// Fails as `accept` does: with `Heavy` exactly where a rule weighs more than 8,192, with `Suspect`
+/// Fails as `xs_unique::accept` does: with `Heavy` exactly where a rule weighs more than 8,192, with `Suspect`
 /// exactly where none does and there is a suspect.
 ///
 /// Takes the time of the search, and time linear in the pairs of the sets times what leads from
 /// them; memory for the certificate, the nets of a grammar's groups, and the nets and sets of one
 /// block.
-pub fn prove(alloc: Global, two: &Two) -> Result<Bytes, AcceptFault>
+pub fn prove(alloc: Global, two: &Two) -> Result<Bytes, ProveFault>
     requires text { IsSound two.now.text }
     requires xml { IsSound two.now.xml }
     ensures accepted { OnOk result (IsAccepted two.now.text two.now.xml) }

@@ -1,16 +1,16 @@
 ghost use Rattle.std.specs.Prelude.{OnOk, IfErr};
 ghost use Rattle.xs_gram.specs.{IsBuilt, IsSound};
 ghost use Rattle.xs_check_laws.specs.{IsLight};
-ghost use Rattle.xs_light.specs.{IsCause};
+ghost use Rattle.xs_searches.specs.{IsCause};
 ghost use Rattle.xs_cert.specs.Reasons.{IsWeighty};
 
 use std::alloc::Global;
 use xs_class::Side;
 use xs_gram::Gram;
-use xs_light::{CheckFault, light};
+use xs_loose::Tables;
 use xs_order::components;
 use xs_pair::Two;
-use xs_stretch::Tables;
+use xs_searches::{CheckFault, light};
 
 /// Makes sure that no rule of the two grammars of a sheet weighs more than 8,192.
 ///

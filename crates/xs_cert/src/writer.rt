@@ -8,7 +8,7 @@ ghost use Rattle.xs_cert_laws.specs.{for_groups, for_rules, for_cut, AreContents
 ghost use Rattle.xs_cert.specs.Heads.{is_open, is_of_one};
 ghost use Rattle.xs_cert.specs.Sides.{open_heads, side_heads};
 ghost use Rattle.xs_cert.specs.Writing.{IsSource, AddsApart, AddsBlock, AddsBlocks, MeetNowhere, OverlapNowhere};
-ghost use Rattle.xs_light.specs.{IsSite, IsRuleNet};
+ghost use Rattle.xs_searches.specs.{IsSite, IsRuleNet};
 
 use crate::heads::{group_partners, rule_partners};
 use std::alloc::Global;
@@ -18,7 +18,7 @@ use xs_class::{Bytes, Memory};
 use xs_closed::{
     CutSets, PairSet, least_apart, least_clear, least_sets_are_right, reached_shows, rows_are_marks,
 };
-use xs_light::Site;
+use xs_searches::Site;
 
 /// A grammar that is accepted, as it is written: its nest, and which two groups share a word.
 #[derive(Clone, Copy)]

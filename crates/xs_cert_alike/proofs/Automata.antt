@@ -3,10 +3,10 @@ use Rattle.std.proofs.Common.{◌≡◌, ◌∙◌, ◌↔◌, ℕ, ◌+◌, Lis
 use Rattle.std.specs.List.{Contains}
 use Rattle.xs_regex.specs.declared.position.Position.{Position}
 use Rattle.xs_regex.specs.Links.{AreLinkedAlike}
-use Rattle.xs_stretch.specs.Arcs.{Arc, read, pass, class_at, after_automaton, automaton_arcs}
-use Rattle.xs_stretch_laws.proofs.Among.{Among, among_left, among_right, among_either, of_contains, to_contains}
-use Rattle.xs_stretch_laws.proofs.Blocks.{Within, first_arc, next_arc, last_arc, past_arc}
-use Rattle.xs_stretch_laws.proofs.Pieces.{AutomatonArc, leads_in, leads_on, leads_out, leads_past, automaton_only}
+use Rattle.xs_loose.specs.Arcs.{Arc, read, pass, class_at, after_automaton, automaton_arcs}
+use Rattle.xs_loose.proofs.Among.{Among, among_left, among_right, among_either, of_contains, to_contains}
+use Rattle.xs_loose.proofs.Along.{Within, first_arc, next_arc, last_arc, past_arc}
+use Rattle.xs_loose.proofs.Pieces.{AutomatonArc, leads_in, leads_on, leads_out, leads_past, automaton_only}
 
 -- the lists have the same arcs
 pub record AreSame (xs ys : List Arc) : Type 0 where

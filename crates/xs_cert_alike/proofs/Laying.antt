@@ -5,9 +5,9 @@ use Rattle.xs_gram.specs.declared.parts.Terminal.{Terminal}
 use Rattle.xs_gram.specs.declared.parts.Ignorable.{Ignorable}
 use Rattle.xs_gram.specs.Grammar.{Grammar, rule_of, term_of, skip_of}
 use Rattle.xs_regex.specs.Links.{AreLinkedAlike}
-use Rattle.xs_stretch.specs.Arcs.{Arc, pass, call, automaton_arcs}
-use Rattle.xs_stretch.specs.Groups.{group_number}
-use Rattle.xs_stretch.specs.Laying.{entry_state, exit_state, LaysItem, lays_fixed, lays_term, lays_skip, lays_non, LaysComponent, lays_component, LaysRules, lays_no_rule, lays_rule, lays_other_rule, LaysBody, lays_no_body, lays_member, lays_other, lays_group, LaysPart, part_none, part_then, part_group}
+use Rattle.xs_loose.specs.Arcs.{Arc, pass, call, automaton_arcs}
+use Rattle.xs_loose.specs.Groups.{group_number}
+use Rattle.xs_loose.specs.Laying.{entry_state, exit_state, LaysItem, lays_fixed, lays_term, lays_skip, lays_non, LaysComponent, lays_component, LaysRules, lays_no_rule, lays_rule, lays_other_rule, LaysBody, lays_no_body, lays_member, lays_other, lays_group, LaysPart, part_none, part_then, part_group}
 use Rattle.xs_sheet_laws.proofs.Other.{with_parts}
 use Rattle.xs_sheet_laws.proofs.LooseKept.{one, one_back, member_back}
 use Rattle.xs_sheet_laws.proofs.Weighed.{members_kept}

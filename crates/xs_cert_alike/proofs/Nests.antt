@@ -7,8 +7,8 @@ use Rattle.xs_gram.specs.declared.parts.Terminal.{Terminal}
 use Rattle.xs_gram.specs.declared.parts.Ignorable.{Ignorable}
 use Rattle.xs_gram.specs.Grammar.{Grammar}
 use Rattle.xs_gram.specs.Fences.{spread}
-use Rattle.xs_stretch.specs.Arcs.{read, pass, call}
-use Rattle.xs_stretch.specs.Nets.{IsNumbered, IsGroupOf, IsNestOf}
+use Rattle.xs_loose.specs.Arcs.{read, pass, call}
+use Rattle.xs_loose.specs.Nets.{IsNumbered, IsGroupOf, IsNestOf}
 use Rattle.xs_cert_laws.specs.Blocks.{Block, of_groups, of_rules, of_cut, IsRight}
 use Rattle.xs_cert_laws.specs.Certificates.{Half, Shares, IsHalf}
 use Rattle.xs_cert_laws.specs.Blocks.{Head}

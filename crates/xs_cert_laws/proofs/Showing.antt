@@ -22,11 +22,11 @@ use Rattle.xs_pair.specs.Grammars.{Pair}
 use Rattle.xs_check_laws.specs.Acceptance.{IsLight, HasNoSuspect, IsAccepted}
 use Rattle.xs_check_laws.specs.Freedom.{HasNoVertical, HasNoHorizontal}
 use Rattle.xs_check_laws.proofs.Words.{loose_level}
-use Rattle.xs_stretch.specs.Nets.{IsNumbered, IsNestOf}
-use Rattle.xs_stretch.specs.Parts.{IsStretch}
-use Rattle.xs_stretch.proofs.Stretches.{slice_stretch}
-use Rattle.xs_stretch_laws.proofs.Reading.{nets_accept_loose}
-use Rattle.xs_stretch_laws.proofs.Taming.{nets_are_tame, nests_are_fenced}
+use Rattle.xs_loose.specs.Nets.{IsNumbered, IsNestOf}
+use Rattle.xs_loose.specs.Parts.{IsStretch}
+use Rattle.xs_loose.proofs.Stretches.{slice_stretch}
+use Rattle.xs_loose.proofs.Reading.{nets_accept_loose}
+use Rattle.xs_loose.proofs.Taming.{nets_are_tame, nests_are_fenced}
 use Rattle.xs_cert_laws.specs.Blocks.{Head, for_groups, for_rules, for_cut, Block, of_groups, of_rules, of_cut, head, Pairs, IsRight, ShowsApart, ShowsClear, AreContents, AreRuleNets, AreCutNets}
 use Rattle.xs_cert_laws.specs.Certificates.{between, one_fence, has_pair, is_shared, Shares, Half, IsHalf, heads, group_heads, rule_heads, cut_heads, IsCertificate}
 use Rattle.xs_cert_laws.specs.Laws.{CertifiedIsAccepted}

@@ -6,7 +6,7 @@ use Rattle.xs_gram.specs.Grammar.{Grammar}
 use Rattle.xs_gram.specs.Fences.{spread}
 use Rattle.xs_gram.specs.Cuts.{CutsAt}
 use Rattle.xs_meet.specs.Closed.{Marked, IsApart, IsClear}
-use Rattle.xs_stretch.specs.Nets.{IsNumbered}
+use Rattle.xs_loose.specs.Nets.{IsNumbered}
 use Rattle.xs_closed.specs.Rows.{Row, IsSet, holds}
 use Rattle.xs_cert_lines.specs.Lines.{Lines, spaced, set_lines}
 

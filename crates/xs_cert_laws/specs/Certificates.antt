@@ -6,7 +6,7 @@ use Rattle.xs_gram.specs.Grammar.{Grammar, rule_of}
 use Rattle.xs_gram.specs.Fences.{spread}
 use Rattle.xs_pair.specs.Grammars.{Pair}
 use Rattle.xs_check_laws.specs.Acceptance.{IsBefore}
-use Rattle.xs_stretch.specs.Nets.{IsNestOf}
+use Rattle.xs_loose.specs.Nets.{IsNestOf}
 use Rattle.xs_cert_lines.specs.Lines.{Lines, spaced, written}
 use Rattle.xs_cert_laws.specs.Blocks.{Head, for_groups, for_rules, for_cut, Block, head, IsRight, block_lines}
 

@@ -1,5 +1,5 @@
 -- Items after others, added to a list one after another.
-use Rattle.std.proofs.Common.{◌≡◌, ◌≢◌, ℕ, zero, suc, ◌+◌, ◌<◌, Bool, true, false, List, [], ◌∷◌, ◌++◌, length, get_or, take, map, if◌then◌else◌, ◌↔◌, ◌⊎◌, inl, inr, Some, refl, sym, ◌∙◌, ap, subst, arith, append_assoc, append-nil}
+use Rattle.std.proofs.Common.{◌≡◌, ◌≢◌, ℕ, zero, suc, ◌+◌, ◌<◌, Bool, true, false, List, [], ◌∷◌, ◌++◌, length, get_or, take, map, if◌then◌else◌, ◌↔◌, ◌⊎◌, inl, inr, Some, refl, sym, ◌∙◌, ap, subst, arith, append_assoc}
 use Rattle.std.specs.Prelude.{Contains, slice_get, IsTrue}
 use Rattle.std.proofs.lemmas.Bool.{cases_eq, false≢true}
 use Rattle.std.proofs.lemmas.Option.{same_Some, get_or_from_slice_get}
@@ -9,7 +9,7 @@ use Rattle.xs_chart.specs.declared.item.Item.{Item}
 use Rattle.xs_chart.specs.declared.waiting.Waiter.{Waiter}
 use Rattle.xs_chart.specs.Charted.{item_from, number_of}
 use Rattle.xs_chart.specs.Advancing.{after, HasMore, IsAfter, AreThere}
-use Rattle.xs_chart.proofs.Linking.{no_item}
+use Rattle.xs_chart.proofs.Different.{no_item}
 
 pub no_element : {A : Type 0} (x : A) → Contains [] x → ⊥
 no_element x h = absurd (omega (arith, h.1))
@@ -37,10 +37,6 @@ contains_cases (x ∷ items) item = elim (item_cases x item) [
     | inr never ↦ inr (λ h. elim (Contains-append_cases (x ∷ []) items item h) [ inl one ↦ n (elim (Contains-push_cases [] x item one) [ inl none ↦ absurd (no_element item none) | inr e ↦ e ]) | inr rest ↦ never rest ])
   ]
 ]
-
--- nothing more
-pub more_none : (P : Item → Type 0) (items : List Item) → ((item : Item) → P item → ⊥) → HasMore P items items
-more_none P items none = record { more = []; is = sym (append-nil items); each = λ item h. absurd (no_element item h); there = λ item p. absurd (none item p) }
 
 -- one more, unless it was there
 pub more_one : (P Q : Item → Type 0) (old now new : List Item) (x : Item) (added : Bool) → ((item : Item) → P item → Q item) → Q x → ((item : Item) → Q item → P item ⊎ (item ≡ x)) → HasMore P old now → IsTrue added ↔ (Contains now x → ⊥) → new ≡ (if added then now ++ x ∷ [] else now) → HasMore Q old new

@@ -1,5 +1,5 @@
 pub mod Advancing
+pub mod Different
 pub mod Grouping
-pub mod Linking
 pub mod Sets
 pub mod States

@@ -6,7 +6,7 @@ use Rattle.std.proofs.lemmas.List.Elements.{Contains-append_cases, Contains-get_
 use Rattle.xs_chart.specs.declared.item.Item.{Item}
 use Rattle.xs_chart.specs.Charted.{item_from, items_from}
 use Rattle.xs_chart.specs.Different.{AreDifferent}
-use Rattle.xs_chart.proofs.Linking.{not_before}
+use Rattle.xs_chart.proofs.Different.{not_before}
 
 -- each is the item of one of them
 pub state_of : (origin : ℕ) (states : List ℕ) (item : Item) → Contains (items_from origin states) item → (state : ℕ) × Contains states state × (item ≡ item_from origin state)

@@ -1,10 +1,10 @@
 -- What contracts see of a chart: its sets, and who waits in each.
-use Rattle.std.specs.Prelude.{◌≡◌, ℕ, suc, ◌+◌, ◌-◌, ◌<◌, ◌≤◌, List, [], ◌∷◌, ◌++◌, length, map, filter, nat_eq, slice_index_or, slice_range, slice_set, take}
+use Rattle.std.specs.Prelude.{ℕ, ◌-◌, List, [], ◌∷◌, ◌++◌, length, map, filter, nat_eq, nat_lt, slice_index_or, slice_set, take, if◌then◌else◌}
 use Rattle.xs_chart.specs.declared.item.Item.{Item}
 use Rattle.xs_chart.specs.declared.waiting.Waiter.{Waiter}
-use Rattle.xs_chart.specs.declared.waiting.Waiting.{Waiting}
 
--- each set is the list of its items in the order in which they were added; beside each stand the entries of its waiting lists
+-- Each set is the list of its items in the order in which they were added. Beside each stand the entries of its waiting lists, grouped by
+-- the nonterminals in ascending order; those of one nonterminal stand in the order in which they were put there.
 pub record Charted : Type 0 where
   pub sets : List (List Item)
   pub waits : List (List Waiter)
@@ -30,6 +30,16 @@ non_of waiter = waiter.non
 -- the numbers that wait for the nonterminal, in the order of the entries
 abbrev pub waiting_for : List Waiter → ℕ → List ℕ
 waiting_for waits non = map number_of (filter (λ waiter. nat_eq non waiter.non) waits)
+
+-- the entry before those of its own nonterminal and of greater ones
+abbrev pub put_first : Waiter → List Waiter → List Waiter
+put_first w [] = w ∷ []
+put_first w (x ∷ xs) = if nat_lt x.non w.non then x ∷ put_first w xs else w ∷ x ∷ xs
+
+-- the entries grouped by their nonterminals; those of one keep their order
+abbrev pub grouped : List Waiter → List Waiter
+grouped [] = []
+grouped (w ∷ waits) = put_first w (grouped waits)
 
 -- the entries of a set's waiting lists
 abbrev pub waits_of : Charted → ℕ → List Waiter
@@ -65,9 +75,3 @@ item_from origin state = record { state = state; origin = origin }
 -- the items of the states in their order, all with this origin
 abbrev pub items_from : ℕ → List ℕ → List Item
 items_from origin states = map (item_from origin) states
-
--- the entries of a nonterminal's waiting list in a set, which is not the last, are these
-pub record IsWaiting (chart : Charted) (w : Waiting) : Type 0 where
-  pub finished : suc w.set < length chart.waits
-  pub within : w.from + w.count ≤ length (waits_of chart w.set)
-  pub is : waiting_of chart w.set w.non ≡ map number_of (slice_range (waits_of chart w.set) w.from (w.from + w.count))

@@ -4,7 +4,7 @@ use Rattle.std.specs.List.Sorted.{IsNonDecreasingBy}
 use Rattle.xs_chart.specs.declared.item.Item.{Item}
 use Rattle.xs_chart.specs.declared.waiting.Waiter.{Waiter}
 use Rattle.xs_chart.specs.declared.waiting.Waiting.{Waiting}
-use Rattle.xs_chart.specs.Charted.{Charted, waiting_for, number_of, non_of}
+use Rattle.xs_chart.specs.Charted.{Charted, waiting_for, number_of, non_of, grouped}
 use Rattle.xs_chart.specs.Different.{AreDifferent}
 
 -- the finished lists, and then the last one if it is open
@@ -14,7 +14,7 @@ opened true finished last = finished ++ last ∷ []
 
 -- what contracts see of such sets and the entries of their waiting lists
 abbrev pub seen : Bool → List (List Item) → List Item → List (List Waiter) → List Waiter → Charted
-seen o items last waits entries = record { sets = opened o items last; waits = opened o waits entries }
+seen o items last waits entries = record { sets = opened o items last; waits = opened o waits (grouped entries) }
 
 -- the entries are grouped by their nonterminals
 abbrev pub IsGrouped : List Waiter → Type 0
@@ -28,13 +28,6 @@ pub record IsKept (is_open : Bool) (items : List (List Item)) (last : List Item)
   pub different : All AreDifferent items
   pub last_different : AreDifferent last
   pub grouped : All IsGrouped waits
-
--- the new lists are the old ones, and one more with these entries grouped
-pub record KeepsWaiting (old : List (List Waiter)) (entries : List Waiter) (new : List (List Waiter)) : Type 0 where
-  pub last : List Waiter
-  pub is : new ≡ old ++ last ∷ []
-  pub grouped : IsGrouped last
-  pub same : (non : ℕ) → waiting_for last non ≡ waiting_for entries non
 
 -- the number of no set
 abbrev pub no_set : ℕ

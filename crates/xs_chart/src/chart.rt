@@ -1,13 +1,14 @@
-ghost use Rattle.std.specs.Prelude.{◌≡◌, ◌<◌, ◌≤◌, ◌+◌, ◌↔◌, ◌≢◌, suc, ℕ, [], ◌∷◌, ◌++◌, length, true, false, slice_get, if◌then◌else◌, slice_index_or, Contains, IsTrue, IfOk, OnOk, OnErr, List, map};
+ghost use Rattle.std.specs.Prelude.{◌≡◌, ◌<◌, ◌≤◌, ◌↔◌, ◌≢◌, suc, ℕ, [], ◌∷◌, ◌++◌, length, true, false, slice_get, if◌then◌else◌, Contains, IsTrue, IfOk, OnOk, OnErr, List};
 ghost use Rattle.xs_chart.specs.declared.item.Item.{Item as AnyItem};
-ghost use Rattle.xs_chart.specs.Charted.{number_of, waiting_for, set_limit};
-ghost use Rattle.xs_chart.specs.Advancing.{HasMore, IsAfter, AreThere, Advanced};
+ghost use Rattle.xs_chart.specs.Charted.{set_limit, grouped};
+ghost use Rattle.xs_chart.specs.Advancing.{AreThere, Advanced};
 ghost use Rattle.xs_chart.specs.Different.{AreDifferent};
 ghost use Rattle.xs_chart.specs.Kept.{opened, seen, IsKept, StaysFound};
 
-use crate::table::Table;
-use crate::waiting::{find, find_again, forget, keep, none_found};
+use crate::set::{add, add_after, append_all, empty, has, refill};
+use crate::waiting::{count, find, find_again, forget, keep, none_found, nth};
 use crate::{Item, Waiter, Waiting};
+use indexmap::IndexSet;
 use std::alloc::Global;
 use std::marker::Model;
 use xs_class::Memory;
@@ -17,9 +18,10 @@ use xs_flat::FlatLists;
 /// where it is open.
 #[derive(Drop)]
 struct Kept {
+    alloc: Global,
     items: FlatLists<Item>,
     waits: FlatLists<Waiter>,
-    last: Table,
+    last: IndexSet<Item>,
     waiting: Vec<Waiter>,
     is_open: bool,
 }
@@ -42,33 +44,20 @@ impl Model for Chart {
 
     ghost Value = { Charted };
 
-    ghost view = { λ c. seen c.kept.is_open c.kept.items c.kept.last c.kept.waits c.kept.waiting.items };
+    ghost view = { λ c. seen c.kept.is_open c.kept.items c.kept.last.keys c.kept.waits c.kept.waiting.items };
 
-    ghost invariant = { λ c. IsCharted c.kept.is_open c.kept.items c.kept.last c.kept.waits c.found.items };
-}
-
-/// Puts the items of a set in the table, in place of what it has.
-fn refill(last: &mut Table, set: u32, items: &[Item]) -> Result<(), Memory>
-    requires { AreDifferent items.now }
-    ensures items { OnOk result (last.new ≡ items.now) }
-    ensures different { AreDifferent last.new }
-{
-    last.clear(set);
-    'items: for item in items {
-        last.add(*item)?;
-    }
-    Ok(())
+    ghost invariant = { λ c. IsCharted c.kept.is_open c.kept.items c.kept.last.keys c.kept.waits c.found.items };
 }
 
 impl Kept {
     /// Opens the last set again, where the sets after it were removed.
     #[inline(always)]
     fn reopen(&mut self) -> Result<(), Memory>
-        requires kept { IsKept self.old.is_open self.old.items self.old.last self.old.waits }
-        requires some { 0 < length (opened self.old.is_open self.old.items self.old.last) }
+        requires kept { IsKept self.old.is_open self.old.items self.old.last.keys self.old.waits }
+        requires some { 0 < length (opened self.old.is_open self.old.items self.old.last.keys) }
         ensures open { OnOk result (self.new.is_open ≡ true) }
-        ensures same { seen self.new.is_open self.new.items self.new.last self.new.waits self.new.waiting.items ≡ seen self.old.is_open self.old.items self.old.last self.old.waits self.old.waiting.items }
-        ensures kept { IsKept self.new.is_open self.new.items self.new.last self.new.waits }
+        ensures same { seen self.new.is_open self.new.items self.new.last.keys self.new.waits self.new.waiting.items ≡ seen self.old.is_open self.old.items self.old.last.keys self.old.waits self.old.waiting.items }
+        ensures kept { IsKept self.new.is_open self.new.items self.new.last.keys self.new.waits }
         ensures found { StaysFound self.old.is_open self.old.waits self.new.is_open self.new.waits }
     {
         if self.is_open {
@@ -82,16 +71,16 @@ impl Kept {
     #[cold]
     #[inline(never)]
     fn open_last(&mut self) -> Result<(), Memory>
-        requires kept { IsKept self.old.is_open self.old.items self.old.last self.old.waits }
+        requires kept { IsKept self.old.is_open self.old.items self.old.last.keys self.old.waits }
         requires closed { self.old.is_open ≡ false }
-        requires some { 0 < length (opened self.old.is_open self.old.items self.old.last) }
+        requires some { 0 < length (opened self.old.is_open self.old.items self.old.last.keys) }
         ensures open { OnOk result (self.new.is_open ≡ true) }
-        ensures same { seen self.new.is_open self.new.items self.new.last self.new.waits self.new.waiting.items ≡ seen self.old.is_open self.old.items self.old.last self.old.waits self.old.waiting.items }
-        ensures kept { IsKept self.new.is_open self.new.items self.new.last self.new.waits }
+        ensures same { seen self.new.is_open self.new.items self.new.last.keys self.new.waits self.new.waiting.items ≡ seen self.old.is_open self.old.items self.old.last.keys self.old.waits self.old.waiting.items }
+        ensures kept { IsKept self.new.is_open self.new.items self.new.last.keys self.new.waits }
         ensures found { StaysFound self.old.is_open self.old.waits self.new.is_open self.new.waits }
     {
         let set = self.items.len() - 1;
-        refill(&mut self.last, set as u32, self.items.list(set))?;
+        refill(&mut self.last, self.items.list(set))?;
         self.waiting.clear();
         self.waiting.extend_from_slice(self.waits.list(set))?;
         self.items.truncate(set);
@@ -99,25 +88,9 @@ impl Kept {
         self.is_open = true;
         Ok(())
     }
-
-    /// Opens the last set again if it is to be repeated.
-    #[inline(always)]
-    fn reopen_if(&mut self, repeats: bool) -> Result<(), Memory>
-        requires kept { IsKept self.old.is_open self.old.items self.old.last self.old.waits }
-        requires some { IsTrue repeats → 0 < length (opened self.old.is_open self.old.items self.old.last) }
-        ensures open { OnOk result (IsTrue repeats → self.new.is_open ≡ true) }
-        ensures same { seen self.new.is_open self.new.items self.new.last self.new.waits self.new.waiting.items ≡ seen self.old.is_open self.old.items self.old.last self.old.waits self.old.waiting.items }
-        ensures kept { IsKept self.new.is_open self.new.items self.new.last self.new.waits }
-        ensures found { StaysFound self.old.is_open self.old.waits self.new.is_open self.new.waits }
-    {
-        if repeats {
-            self.reopen()?;
-        }
-        Ok(())
-    }
 }
 
-/// Finishes the last set if it is open.
+/// Finishes the last set if it is open; its items and its waiting lists stand in the chart as they did.
 #[inline(always)]
 fn finish(
     is_open: bool,
@@ -129,10 +102,10 @@ fn finish(
     requires kept { IsKept is_open items.old last.now waits.old }
     requires few { length (opened is_open items.old last.now) < set_limit }
     ensures items { OnOk result (items.new ≡ opened is_open items.old last.now) }
-    ensures waits { OnOk result ((set non : ℕ) → waiting_for (slice_index_or waits.new set []) non ≡ waiting_for (slice_index_or (opened is_open waits.old waiting.old.items) set []) non) }
+    ensures waits { OnOk result (waits.new ≡ opened is_open waits.old (grouped waiting.old.items)) }
     ensures kept { OnOk result ((next : List AnyItem) → AreDifferent next → IsKept true items.new next waits.new) }
     ensures found { OnOk result (StaysFound is_open waits.old true waits.new) }
-    ensures same { (non : ℕ) → waiting_for waiting.new.items non ≡ waiting_for waiting.old.items non }
+    ensures same { grouped waiting.new.items ≡ grouped waiting.old.items }
     ensures err { OnErr result (items.new ≡ items.old) }
     ensures waits_err { OnErr result (waits.new ≡ waits.old) }
 {
@@ -142,53 +115,19 @@ fn finish(
     Ok(())
 }
 
-/// Empties what the last set has, which is finished, unless it is to be repeated.
-#[inline(always)]
-fn empty_unless(repeats: bool, set: u32, last: &mut Table, waiting: &mut Vec<Waiter>)
-    requires { AreDifferent last.old }
-    ensures items { last.new ≡ (if repeats then last.old else []) }
-    ensures different { AreDifferent last.new }
-    ensures waiting { waiting.new.items ≡ (if repeats then waiting.old.items else []) }
-{
-    if !repeats {
-        last.clear(set);
-        waiting.clear();
-    }
-}
-
-/// Puts last, each unless it is there, what is after the items of these entries: the items of the
-/// states after theirs, with their origins.
-#[inline(always)]
-fn add_after(last: &mut Table, items: &[Item], waits: &[Waiter], next: &[u32]) -> Result<(), Memory>
-    requires there { AreThere next.now items.now (map number_of waits.now) }
-    requires different { AreDifferent last.old }
-    ensures more { OnOk result (HasMore (IsAfter next.now items.now (map number_of waits.now)) last.old last.new) }
-    ensures different { AreDifferent last.new }
-    ensures kept { (more : List AnyItem) × (last.new ≡ last.old ++ more) }
-{
-    'waiters: for waiter in waits {
-        let item = items[waiter.number as usize];
-        last.add(Item {
-            state: next[item.state as usize],
-            origin: item.origin,
-        })?;
-    }
-    Ok(())
-}
-
 impl Chart {
-    ghost use Rattle.xs_chart.specs.Charted.{items_of, last_set, waiting_of, with_item, with_items, item_from, items_from, first_sets, before_last, IsWaiting};
+    ghost use Rattle.xs_chart.specs.Charted.{items_of, last_set, waiting_of, with_item, with_items, item_from, items_from, first_sets, before_last};
 
-    /// The chart without sets. Of items that begin in the last set, those of states below that number are
-    /// found in it the soonest.
-    pub fn new(alloc: Global, states: usize) -> Result<Self, Memory>
+    /// The chart without sets.
+    pub fn new(alloc: Global) -> Result<Self, Memory>
         ensures sets { IfOk result (λ chart. chart.sets ≡ []) }
         ensures waits { IfOk result (λ chart. chart.waits ≡ []) }
     {
         let kept = Kept {
+            alloc,
             items: FlatLists::new(alloc),
             waits: FlatLists::new(alloc),
-            last: Table::new(alloc, states)?,
+            last: IndexSet::new(alloc),
             waiting: Vec::new(alloc),
             is_open: false,
         };
@@ -198,18 +137,17 @@ impl Chart {
         })
     }
 
-    /// A new last set: one with the items and the waiting lists of the last one where it is repeated,
-    /// an empty one else. The waiting lists of the one before it are finished.
+    /// A new last set, which is empty and in which nothing waits. Nothing is added to the one before
+    /// it any more.
     #[inline(always)]
-    pub fn push_set(&mut self, repeats: bool) -> Result<(), Memory>
-        requires few { length self.old.sets < set_limit }
-        requires some { IsTrue repeats → 0 < length self.old.sets }
-        ensures sets { OnOk result (self.new.sets ≡ self.old.sets ++ (if repeats then items_of self.old (last_set self.old) else []) ∷ []) }
+    pub fn push_set(&mut self) -> Result<(), Memory>
+        requires { length self.old.sets < set_limit }
+        ensures sets { OnOk result (self.new.sets ≡ self.old.sets ++ [] ∷ []) }
         ensures waiting { (set non : ℕ) → set ≢ length self.old.sets → waiting_of self.new set non ≡ waiting_of self.old set non }
-        ensures last { OnOk result ((non : ℕ) → waiting_of self.new (length self.old.sets) non ≡ (if repeats then waiting_of self.old (last_set self.old) non else [])) }
-        ensures err { OnErr result (self.new.sets ≡ self.old.sets) }
+        ensures last { OnOk result ((non : ℕ) → waiting_of self.new (length self.old.sets) non ≡ []) }
+        ensures before { first_sets (length self.old.sets) self.new ≡ self.old }
+        ensures err { OnErr result (self.new ≡ self.old) }
     {
-        self.kept.reopen_if(repeats)?;
         finish(
             self.kept.is_open,
             &mut self.kept.items,
@@ -217,13 +155,31 @@ impl Chart {
             self.kept.last.as_slice(),
             &mut self.kept.waiting,
         )?;
-        empty_unless(
-            repeats,
-            self.kept.items.len() as u32,
-            &mut self.kept.last,
-            &mut self.kept.waiting,
-        );
+        empty(self.kept.alloc, &mut self.kept.last);
+        self.kept.waiting.clear();
         self.kept.is_open = true;
+        Ok(())
+    }
+
+    /// A new last set with the items and the waiting lists of the one before it.
+    #[inline(always)]
+    pub fn repeat_set(&mut self) -> Result<(), Memory>
+        requires few { length self.old.sets < set_limit }
+        requires some { 0 < length self.old.sets }
+        ensures sets { OnOk result (self.new.sets ≡ self.old.sets ++ items_of self.old (last_set self.old) ∷ []) }
+        ensures waiting { (set non : ℕ) → set ≢ length self.old.sets → waiting_of self.new set non ≡ waiting_of self.old set non }
+        ensures last { OnOk result ((non : ℕ) → waiting_of self.new (length self.old.sets) non ≡ waiting_of self.old (last_set self.old) non) }
+        ensures before { first_sets (length self.old.sets) self.new ≡ self.old }
+        ensures err { OnErr result (self.new ≡ self.old) }
+    {
+        self.kept.reopen()?;
+        finish(
+            self.kept.is_open,
+            &mut self.kept.items,
+            &mut self.kept.waits,
+            self.kept.last.as_slice(),
+            &mut self.kept.waiting,
+        )?;
         Ok(())
     }
 
@@ -237,12 +193,12 @@ impl Chart {
         ensures err { OnErr result (self.new ≡ self.old) }
     {
         self.kept.reopen()?;
-        let added = self.kept.last.add(item)?;
+        let added = add(&mut self.kept.last, item)?;
         Ok(added)
     }
 
     /// Puts items of these states last in the last set, all with one origin; no state stands twice, and
-    /// none of the items is there. None of them is looked for.
+    /// none of the items is there.
     #[inline(always)]
     pub fn append_all(&mut self, states: &[u32], origin: u32) -> Result<(), Memory>
         requires some { 0 < length self.old.sets }
@@ -253,7 +209,7 @@ impl Chart {
         ensures err { OnErr result (self.new ≡ self.old) }
     {
         self.kept.reopen()?;
-        self.kept.last.append_all(states, origin)?;
+        append_all(&mut self.kept.last, states, origin)?;
         Ok(())
     }
 
@@ -267,6 +223,7 @@ impl Chart {
         ensures advanced { OnOk result (Advanced next.now from non self.old self.new) }
         ensures waits { self.new.waits ≡ self.old.waits }
         ensures before { before_last self.new ≡ before_last self.old }
+        ensures err { OnErr result (self.new ≡ self.old) }
     {
         self.kept.reopen()?;
         let (first, count) = find_again(&mut self.found, &self.kept.waits, from, non);
@@ -300,7 +257,7 @@ impl Chart {
         ensures { IsTrue result ↔ Contains (items_of self.now set) item }
     {
         if set as usize == self.kept.items.len() {
-            self.kept.last.has(item)
+            has(&self.kept.last, item)
         } else {
             self.items(set).contains(&item)
         }
@@ -349,13 +306,8 @@ impl Chart {
         ensures err { OnErr result (self.new ≡ self.old) }
     {
         self.kept.reopen()?;
-        match u32::try_from(k) {
-            Ok(number) => {
-                self.kept.waiting.push(Waiter { non, number })?;
-                Ok(())
-            }
-            Err(_) => Err(Memory),
-        }
+        self.kept.waiting.push(Waiter { non, number: k })?;
+        Ok(())
     }
 
     /// Keeps the first sets, with their waiting lists; takes no memory.
@@ -372,32 +324,30 @@ impl Chart {
         }
     }
 
-    /// The nonterminal's waiting list in a set before the last one, in time linear in it and
-    /// logarithmic in the entries of the set's lists.
-    #[inline(always)]
-    pub fn waiting(&self, set: u32, non: u32) -> Waiting
-        requires { suc set < length self.now.sets }
-        ensures set { result.set ≡ set }
-        ensures non { result.non ≡ non }
-        ensures is { IsWaiting self.now result }
+    /// The length of the nonterminal's waiting list in the set: in time linear in it and logarithmic in
+    /// the entries of the set's lists, or linear in these where the set is the last one.
+    pub fn waiting(&self, set: u32, non: u32) -> u64
+        requires { set < length self.now.sets }
+        ensures { result ≡ length (waiting_of self.now set non) }
     {
-        let (from, count) = find(self.kept.waits.list(set as usize), non);
-        Waiting {
-            set,
-            non,
-            from,
-            count,
+        if set as usize == self.kept.items.len() {
+            return count(&self.kept.waiting, non) as u64;
         }
+        let (_, count) = find(self.kept.waits.list(set as usize), non);
+        count as u64
     }
 
-    /// Entry n of a waiting list: a number of an item of the set.
-    #[inline(always)]
-    pub fn waiter(&self, waiting: Waiting, n: usize) -> u64
-        requires is { IsWaiting self.now waiting }
-        requires n { n < waiting.count }
-        ensures { slice_get (waiting_of self.now waiting.set waiting.non) n ≡ Some result }
+    /// Entry n of the nonterminal's waiting list in the set: a number of an item of the set. In the time
+    /// that `waiting` takes.
+    pub fn waiter(&self, set: u32, non: u32, n: u64) -> u64
+        requires { n < length (waiting_of self.now set non) }
+        ensures { slice_get (waiting_of self.now set non) n ≡ Some result }
     {
-        let waits = self.kept.waits.list(waiting.set as usize);
-        u64::from(waits[waiting.from + n].number)
+        if set as usize == self.kept.items.len() {
+            return nth(&self.kept.waiting, non, n);
+        }
+        let waits = self.kept.waits.list(set as usize);
+        let (first, _) = find(waits, non);
+        waits[first + n as usize].number
     }
 }

@@ -1,7 +1,7 @@
-ghost use Rattle.std.specs.Prelude.{◌≡◌, ◌≢◌, ◌<◌, ◌≤◌, ◌+◌, ◌++◌, ℕ, true, [], ◌∷◌, map, length, All, slice_index_or, slice_range, IfOk, OnOk, OnErr};
+ghost use Rattle.std.specs.Prelude.{◌≡◌, ◌≢◌, ◌<◌, ◌≤◌, ◌+◌, ◌++◌, ℕ, Some, true, [], ◌∷◌, map, length, All, slice_get, slice_index_or, slice_range, IfOk, OnOk, OnErr};
 ghost use Rattle.std.specs.List.Sorted.{IsNonDecreasingBy};
-ghost use Rattle.xs_chart.specs.Charted.{waiting_for, number_of, non_of};
-ghost use Rattle.xs_chart.specs.Kept.{KeepsWaiting, IsGrouped, IsNone, IsFinding, no_set, found_count};
+ghost use Rattle.xs_chart.specs.Charted.{waiting_for, number_of, non_of, grouped};
+ghost use Rattle.xs_chart.specs.Kept.{IsGrouped, IsNone, IsFinding, no_set, found_count};
 ghost use Rattle.xs_chart.specs.declared.waiting.Waiter.{Waiter as AnyWaiter};
 
 use crate::Item;
@@ -13,10 +13,10 @@ use xs_flat::FlatLists;
 #[derive(Clone, Copy, Debug)]
 pub struct Waiter {
     pub non: u32,
-    pub number: u32,
+    pub number: u64,
 }
 
-/// The waiting list of a nonterminal in a set: where its entries stand.
+/// The waiting list of a nonterminal in a finished set: where its entries stand.
 #[derive(Clone, Copy, Debug)]
 pub struct Waiting {
     pub set: u32,
@@ -41,14 +41,17 @@ const NONE: Waiting = Waiting {
 
 /// Groups the entries by their nonterminals; those of one stay in their order.
 fn group(waits: &mut Vec<Waiter>) -> Result<(), Memory>
-    ensures same { (non : ℕ) → waiting_for waits.new.items non ≡ waiting_for waits.old.items non }
-    ensures grouped { OnOk result (IsNonDecreasingBy non_of waits.new.items) }
+    ensures grouped { OnOk result (waits.new.items ≡ grouped waits.old.items) }
+    ensures rising { OnOk result (IsGrouped waits.new.items) }
+    ensures err { OnErr result (waits.new.items ≡ waits.old.items) }
 {
     waits.sort_by_key(|waiter| waiter.non)?;
     Ok(())
 }
 
-/// Keeps a set that is finished: its items, and the entries of its waiting lists grouped.
+/// Keeps a set that is finished: its items, and the entries of its waiting lists grouped. These are then
+/// grouped in the list too.
+#[inline(always)]
 pub(crate) fn keep(
     items: &mut FlatLists<Item>,
     waits: &mut FlatLists<Waiter>,
@@ -56,8 +59,9 @@ pub(crate) fn keep(
     waiting: &mut Vec<Waiter>,
 ) -> Result<(), Memory>
     ensures items { OnOk result (items.new ≡ items.old ++ last.now ∷ []) }
-    ensures waits { OnOk result (KeepsWaiting waits.old waiting.old.items waits.new) }
-    ensures same { (non : ℕ) → waiting_for waiting.new.items non ≡ waiting_for waiting.old.items non }
+    ensures waits { OnOk result (waits.new ≡ waits.old ++ grouped waiting.old.items ∷ []) }
+    ensures rising { OnOk result (IsGrouped (grouped waiting.old.items)) }
+    ensures same { grouped waiting.new.items ≡ grouped waiting.old.items }
     ensures err { OnErr result (items.new ≡ items.old) }
     ensures waits_err { OnErr result (waits.new ≡ waits.old) }
 {
@@ -70,6 +74,36 @@ pub(crate) fn keep(
             Err(memory)
         }
     }
+}
+
+/// How many of the entries wait for the nonterminal.
+pub(crate) fn count(waits: &[Waiter], non: u32) -> usize
+    ensures { result ≡ length (waiting_for waits.now non) }
+{
+    let mut count = 0;
+    'entries: for waiter in waits {
+        if waiter.non == non {
+            count += 1;
+        }
+    }
+    count
+}
+
+/// The number of entry n of those that wait for the nonterminal.
+pub(crate) fn nth(waits: &[Waiter], non: u32, n: u64) -> u64
+    requires { n < length (waiting_for waits.now non) }
+    ensures { slice_get (waiting_for waits.now non) n ≡ Some result }
+{
+    let mut left = n;
+    'entries: for waiter in waits {
+        if waiter.non == non {
+            if left == 0 {
+                return waiter.number;
+            }
+            left -= 1;
+        }
+    }
+    unreachable!()
 }
 
 /// Where the entries of a nonterminal end that stand from one on; there may be none.

@@ -56,25 +56,28 @@ impl Text {
         Ok(())
     }
 
-    /// Appends the characters of a string.
+    /// Appends the characters of a string, or leaves the text as it was.
     pub fn push_str(&mut self, piece: &str) -> Result<(), Memory>
-        ensures { OnOk result (self.new ≡ self.old ++ chars piece.now) }
+        ensures ok { OnOk result (self.new ≡ self.old ++ chars piece.now) }
+        ensures err { OnErr result (self.new ≡ self.old) }
     {
         self.text.push_str(piece)?;
         Ok(())
     }
 
-    /// Appends ASCII characters.
+    /// Appends ASCII characters, or leaves the text as it was.
     pub fn push_ascii(&mut self, word: &str) -> Result<(), Memory>
         requires { list_all (λ b. nat_lt b 128) word.now ≡ true }
-        ensures { OnOk result (self.new ≡ self.old ++ word.now) }
+        ensures ok { OnOk result (self.new ≡ self.old ++ word.now) }
+        ensures err { OnErr result (self.new ≡ self.old) }
     {
         self.push_str(word)
     }
 
-    /// Appends a text.
+    /// Appends a text, or leaves the one before as it was.
     pub fn push_text(&mut self, text: &Text) -> Result<(), Memory>
-        ensures { OnOk result (self.new ≡ self.old ++ text.now) }
+        ensures ok { OnOk result (self.new ≡ self.old ++ text.now) }
+        ensures err { OnErr result (self.new ≡ self.old) }
     {
         self.push_str(text.as_str())
     }

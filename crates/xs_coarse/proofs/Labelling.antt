@@ -17,11 +17,11 @@ use Rattle.xs_gram.specs.Grammar.{Grammar}
 use Rattle.xs_gram.specs.Fences.{spread, is_left, is_right, IsLeftFence, IsUnfenced}
 use Rattle.xs_gram.specs.Spreading.{opens}
 use Rattle.xs_gram.proofs.Fences.{is_left_of}
-use Rattle.xs_stretch.specs.declared.part.Fenced.{Fenced}
-use Rattle.xs_stretch.specs.Groups.{lefts, groups_before, group_number}
-use Rattle.xs_stretch.specs.Parts.{IsFencedAt}
-use Rattle.xs_stretch.proofs.Nesting.{left_at}
-use Rattle.xs_stretch.proofs.Numbering.{other_at}
+use Rattle.xs_loose.specs.declared.part.Fenced.{Fenced}
+use Rattle.xs_loose.specs.Groups.{lefts, groups_before, group_number}
+use Rattle.xs_loose.specs.Parts.{IsFencedAt}
+use Rattle.xs_loose.proofs.Nesting.{left_at}
+use Rattle.xs_loose.proofs.Numbering.{other_at}
 use Rattle.xs_coarse.specs.Coarse.{Table, group_label, label_count}
 use Rattle.xs_coarse.specs.Labels.{first_symbol, lefts_of, lefts_before, AllUnfenced, IsCell, AreNewLabels, AreKept, cell, parted}
 

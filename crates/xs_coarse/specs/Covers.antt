@@ -13,7 +13,7 @@ use Rattle.xs_gram.specs.declared.parts.GItem.TheVariants.{Fixed, Term, Non, Ski
 use Rattle.xs_gram.specs.Grammar.{Grammar, rule_of, IsTermWord, IsSkipWord}
 use Rattle.xs_gram.specs.Fences.{spread, IsFence, IsPlain, IsLevel, grouped, is_fence, OuterAt, GroupAt, OuterGroupAt}
 use Rattle.xs_gram.specs.Loose.{Spot, entry, exit, at, Uses}
-use Rattle.xs_stretch.specs.Groups.{group_number}
+use Rattle.xs_loose.specs.Groups.{group_number}
 use Rattle.xs_coarse.specs.Coarse.{Table, class_at}
 
 -- each word of an item that is no nonterminal leads from a state to another

@@ -7,7 +7,7 @@ use Rattle.xs_gram.specs.declared.parts.GItem.TheVariants.{Fixed, Term, Non, Ski
 use Rattle.xs_gram.specs.Grammar.{Grammar}
 use Rattle.xs_gram.specs.Fences.{spread, is_left, IsUnfenced}
 use Rattle.xs_gram.specs.Spreading.{opens}
-use Rattle.xs_stretch.specs.Groups.{groups_count, group_number}
+use Rattle.xs_loose.specs.Groups.{groups_count, group_number}
 use Rattle.xs_coarse.specs.Coarse.{Table, class_label, group_label, label_count, MayCall, IsTable}
 use Rattle.xs_coarse.specs.Covers.{AreUnfenced}
 

@@ -5,7 +5,7 @@ ghost use Rattle.xs_coarse.specs.Labels.{lefts_of, lefts_before};
 use std::alloc::Global;
 use xs_class::Memory;
 use xs_gram::Gram;
-use xs_stretch::Fenced;
+use xs_loose::Fenced;
 
 /// The left fence symbols of a grammar's groups, by the numbers of the groups.
 pub fn lefts(alloc: Global, g: &Gram) -> Result<Vec<u32>, Memory>

@@ -12,7 +12,7 @@ use Rattle.xs_gram.specs.Fences.{spread, IsLevel, OuterAt, GroupAt}
 use Rattle.xs_gram.specs.Loose.{Spot, entry, exit, at, Reaches, here as at_once, onward, AreOne, LooseItem, loose_fixed, loose_term, loose_skip, loose_non, IsLoose, loose_none, loose_then, loose_group, Step, begins, passes, encloses, calls, ends, returns, Walk, stays, goes}
 use Rattle.xs_gram.proofs.Levels.{no_group, plain_not_group, level_once}
 use Rattle.xs_check_laws.proofs.Words.{loose_level}
-use Rattle.xs_stretch.specs.Parts.{IsStretch}
+use Rattle.xs_loose.specs.Parts.{IsStretch}
 use Rattle.xs_coarse.specs.Covers.{call_of, CoversFrom, CoversItem, CoversPart, covers_none, covers_then, covers_group}
 use Rattle.xs_coarse_laws.specs.Laws.{Covering, CoversAcceptLoose}
 use Rattle.xs_coarse_laws.proofs.Stretches.{past_item, past_group, its_group, its_inside}

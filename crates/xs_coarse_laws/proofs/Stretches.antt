@@ -5,7 +5,7 @@ use Rattle.xs_gram.specs.declared.parts.GItem.TheVariants.{Fixed}
 use Rattle.xs_gram.specs.Grammar.{Grammar}
 use Rattle.xs_gram.specs.Fences.{spread, IsFence, IsPlain, IsLevel, grouped, GroupAt}
 use Rattle.xs_gram.proofs.Levels.{group_more, group_split, length_grouped, level_tail}
-use Rattle.xs_stretch.specs.Parts.{IsStretch}
+use Rattle.xs_loose.specs.Parts.{IsStretch}
 
 pub past_item : {g : Grammar} {p k : ℕ} {i : GItem} {is : List GItem} → IsPlain g.fences i → IsStretch g p k (i ∷ is) → IsStretch g p (suc k) is
 past_item {i = i} {is = is} plain s = record {

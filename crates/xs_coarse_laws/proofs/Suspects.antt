@@ -15,7 +15,7 @@ use Rattle.xs_gram.proofs.Levels.{no_group}
 use Rattle.xs_check_laws.proofs.Words.{loose_level}
 use Rattle.xs_coarse.specs.Coarse.{MayCall, view}
 use Rattle.xs_coarse_laws.specs.Laws.{ApartSharesNone, ClearOverlapsNot}
-use Rattle.xs_stretch.proofs.Stretches.{slice_stretch}
+use Rattle.xs_loose.proofs.Stretches.{slice_stretch}
 use Rattle.xs_coarse_laws.proofs.Spelling.{covers_accept_loose}
 use Rattle.xs_coarse_laws.proofs.Taming.{fenced, tame_view}
 use Rattle.xs_coarse_laws.proofs.Views.{crosses_same, views_same, view_accepts}

@@ -9,7 +9,7 @@ use Rattle.xs_gram.specs.Fences.{spread}
 use Rattle.xs_gram.specs.Sound.{IsBuilt}
 use Rattle.xs_gram.specs.Loose.{IsLoose}
 use Rattle.xs_gram.specs.Suspects.{Overlaps}
-use Rattle.xs_stretch.specs.Parts.{IsStretch}
+use Rattle.xs_loose.specs.Parts.{IsStretch}
 use Rattle.xs_meet.specs.Closed.{IsClear, Marked, AreApart, IsSettled}
 use Rattle.xs_coarse.specs.Coarse.{Table, MayCall, Net, view}
 use Rattle.xs_coarse.specs.Covers.{CoversPart, CoversCut, CoversGroups, AreUnfenced}

@@ -10,9 +10,9 @@ use Rattle.xs_gram.specs.Grammar.{Grammar}
 use Rattle.xs_gram.specs.Fences.{spread, GroupAt, IsPartner}
 use Rattle.xs_gram.specs.Sound.{IsProper}
 use Rattle.xs_gram.proofs.Levels.{fixed_one}
-use Rattle.xs_stretch.specs.declared.part.Fenced.{Fenced}
-use Rattle.xs_stretch.specs.Parts.{part_items, IsFencedAt}
-use Rattle.xs_stretch.proofs.Nesting.{left_at, right_at, inside_once, groups_more}
+use Rattle.xs_loose.specs.declared.part.Fenced.{Fenced}
+use Rattle.xs_loose.specs.Parts.{part_items, IsFencedAt}
+use Rattle.xs_loose.proofs.Nesting.{left_at, right_at, inside_once, groups_more}
 use Rattle.xs_coarse.specs.Coarse.{Table, Net, view}
 use Rattle.xs_coarse.specs.Covers.{CoversPart, CoversGroup, CoversGroups, IsUnfencedNet, AreUnfenced}
 use Rattle.xs_coarse.proofs.Views.{view_edge_arc, view_final}

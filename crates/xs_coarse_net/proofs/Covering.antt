@@ -10,11 +10,11 @@ use Rattle.xs_gram.specs.declared.parts.GItem.TheVariants.{Fixed, Term, Non, Ski
 use Rattle.xs_gram.specs.Grammar.{Grammar}
 use Rattle.xs_gram.specs.Fences.{spread, IsLevel}
 use Rattle.xs_gram.proofs.Levels.{group_more}
-use Rattle.xs_stretch.specs.Groups.{group_number}
-use Rattle.xs_stretch.specs.Steps.{StandsAt}
-use Rattle.xs_stretch.specs.declared.part.Part.{Part}
-use Rattle.xs_stretch.specs.Parts.{part_items, IsPart, IsStretch}
-use Rattle.xs_stretch.proofs.Stretches.{part_stretch, part_long, stretch_rest, nothing_left}
+use Rattle.xs_loose.specs.Groups.{group_number}
+use Rattle.xs_loose.specs.Steps.{StandsAt}
+use Rattle.xs_loose.specs.declared.part.Part.{Part}
+use Rattle.xs_loose.specs.Parts.{part_items, IsPart, IsStretch}
+use Rattle.xs_loose.proofs.Stretches.{part_stretch, part_long, stretch_rest, nothing_left}
 use Rattle.xs_coarse.specs.declared.arc.Arc.{Arc}
 use Rattle.xs_coarse.specs.Coarse.{Table, Net, IsWithin, shifted, joined, view}
 use Rattle.xs_coarse.specs.Covers.{CoversItem, CoversPart, covers_none, covers_then, covers_group, CoversCut}

@@ -7,10 +7,10 @@ use Rattle.xs_gram.specs.declared.parts.GItem.{GItem}
 use Rattle.xs_gram.specs.Grammar.{Grammar}
 use Rattle.xs_gram.specs.Fences.{spread, IsPlain, grouped, IsPartner, IsLeftFence}
 use Rattle.xs_gram.specs.Sound.{IsProper}
-use Rattle.xs_stretch.specs.Groups.{group_number}
-use Rattle.xs_stretch.specs.Steps.{StandsAt}
-use Rattle.xs_stretch.proofs.Opening.{group_first, item_first}
-use Rattle.xs_stretch.proofs.Stepping.{group_piece, item_piece}
+use Rattle.xs_loose.specs.Groups.{group_number}
+use Rattle.xs_loose.specs.Steps.{StandsAt}
+use Rattle.xs_loose.proofs.Opening.{group_first, item_first}
+use Rattle.xs_loose.proofs.Stepping.{group_piece, item_piece}
 use Rattle.xs_coarse.specs.Coarse.{Table, Net, IsWithin, HasArc, group_label, joined}
 use Rattle.xs_coarse.specs.Covers.{CoversItem, covers_none, covers_then, covers_group}
 use Rattle.xs_coarse.proofs.Views.{view_call}

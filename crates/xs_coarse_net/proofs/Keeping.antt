@@ -7,9 +7,9 @@ use Rattle.xs_auto.specs.Nests.{Group}
 use Rattle.xs_gram.specs.declared.parts.GItem.{GItem}
 use Rattle.xs_gram.specs.declared.parts.GItem.TheVariants.{Fixed, Term, Non, Skip}
 use Rattle.xs_gram.specs.Grammar.{Grammar}
-use Rattle.xs_stretch.specs.declared.part.Part.{Part}
-use Rattle.xs_stretch.specs.Groups.{group_number}
-use Rattle.xs_stretch.specs.Parts.{part_items}
+use Rattle.xs_loose.specs.declared.part.Part.{Part}
+use Rattle.xs_loose.specs.Groups.{group_number}
+use Rattle.xs_loose.specs.Parts.{part_items}
 use Rattle.xs_coarse.specs.Coarse.{Table, Net, HasArc, view}
 use Rattle.xs_coarse.specs.Covers.{CoversPart, CoversCut, CoversNon, CoversGroups}
 use Rattle.xs_coarse_net.specs.declared.cover.Content.{Content}

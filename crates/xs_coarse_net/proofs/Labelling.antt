@@ -9,7 +9,7 @@ use Rattle.std.proofs.lemmas.Bool.{cases_eq}
 use Rattle.xs_regex.specs.declared.position.Position.{Position}
 use Rattle.xs_regex.specs.Automaton.{HasAt}
 use Rattle.xs_class.specs.Classes.{Has}
-use Rattle.xs_stretch.proofs.Pushing.{element_is}
+use Rattle.xs_loose.proofs.Pushing.{element_is}
 use Rattle.xs_coarse.specs.Coarse.{Table}
 use Rattle.xs_coarse.specs.Labels.{IsClassLabel}
 use Rattle.xs_coarse_net.specs.Going.{LabelReads}

@@ -10,8 +10,8 @@ use Rattle.xs_gram.specs.Cuts.{CutsAt, CutsAreOne}
 use Rattle.xs_gram.specs.Sound.{IsProper}
 use Rattle.xs_gram.proofs.Fences.{left_not_plain}
 use Rattle.xs_gram.proofs.Levels.{outer_at, level_rest}
-use Rattle.xs_stretch.specs.Groups.{group_number}
-use Rattle.xs_stretch.proofs.Nesting.{left_at, left_opens, inside_once}
+use Rattle.xs_loose.specs.Groups.{group_number}
+use Rattle.xs_loose.proofs.Nesting.{left_at, left_opens, inside_once}
 use Rattle.xs_coarse.specs.Coarse.{Table, Net, HasArc, group_label}
 use Rattle.xs_coarse.specs.Covers.{IsLeaf}
 use Rattle.xs_coarse_net.specs.Going.{LeafGoes}

@@ -10,8 +10,8 @@ use Rattle.xs_gram.specs.Grammar.{Grammar, rule_of}
 use Rattle.xs_gram.specs.Fences.{spread, OuterAt, OuterGroupAt}
 use Rattle.xs_gram.specs.Loose.{Uses}
 use Rattle.xs_gram.proofs.Levels.{group_opened}
-use Rattle.xs_stretch.specs.Groups.{group_number}
-use Rattle.xs_stretch.proofs.Numbering.{long_before, left_counts, number_low}
+use Rattle.xs_loose.specs.Groups.{group_number}
+use Rattle.xs_loose.proofs.Numbering.{long_before, left_counts, number_low}
 use Rattle.xs_coarse.specs.Coarse.{Table, Net, IsWithin, HasArc, label_count, view}
 use Rattle.xs_coarse.specs.Covers.{CoversFrom, call_of}
 use Rattle.xs_coarse.specs.Labels.{IsLabelsOf}

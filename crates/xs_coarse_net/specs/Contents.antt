@@ -4,7 +4,7 @@ use Rattle.xs_auto.specs.Nests.{Group}
 use Rattle.xs_gram.specs.declared.parts.GItem.{GItem}
 use Rattle.xs_gram.specs.Grammar.{Grammar}
 use Rattle.xs_gram.specs.Fences.{spread, GroupAt}
-use Rattle.xs_stretch.specs.Nesting.{HasGroupsBefore}
+use Rattle.xs_loose.specs.Nesting.{HasGroupsBefore}
 use Rattle.xs_coarse.specs.Coarse.{Table}
 use Rattle.xs_coarse.specs.Covers.{CoversGroup, IsUnfencedNet}
 use Rattle.xs_coarse_net.specs.declared.cover.Content.{Content}

@@ -3,8 +3,8 @@ use Rattle.std.specs.Prelude.{◌<◌}
 use Rattle.std.specs.List.{All}
 use Rattle.xs_auto.specs.Nets.{Graph}
 use Rattle.xs_gram.specs.Grammar.{Grammar}
-use Rattle.xs_stretch.specs.declared.part.Part.{Part}
-use Rattle.xs_stretch.specs.Parts.{part_items}
+use Rattle.xs_loose.specs.declared.part.Part.{Part}
+use Rattle.xs_loose.specs.Parts.{part_items}
 use Rattle.xs_coarse.specs.Coarse.{Table, view}
 use Rattle.xs_coarse.specs.Covers.{CoversPart, CoversCut}
 use Rattle.xs_coarse_net.specs.declared.cover.Cover.{Cover}

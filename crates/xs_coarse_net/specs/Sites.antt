@@ -2,7 +2,7 @@
 use Rattle.std.specs.Prelude.{ℕ, List, length}
 use Rattle.xs_gram.specs.Grammar.{Grammar}
 use Rattle.xs_gram.specs.Sound.{IsBuilt}
-use Rattle.xs_stretch.specs.Tables.{AreNumbersBefore}
+use Rattle.xs_loose.specs.Tables.{AreNumbersBefore}
 use Rattle.xs_coarse.specs.Coarse.{Table}
 use Rattle.xs_coarse.specs.Labels.{IsLabelsOf}
 use Rattle.xs_coarse_net.specs.declared.site.Site.{Site}

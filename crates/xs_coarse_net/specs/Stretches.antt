@@ -5,7 +5,7 @@ use Rattle.xs_auto.specs.Nets.{Graph}
 use Rattle.xs_gram.specs.declared.parts.GItem.{GItem}
 use Rattle.xs_gram.specs.Grammar.{Grammar}
 use Rattle.xs_gram.specs.Fences.{IsLevel}
-use Rattle.xs_stretch.specs.Steps.{IsPiece}
+use Rattle.xs_loose.specs.Steps.{IsPiece}
 use Rattle.xs_coarse.specs.Coarse.{Table, Net, view}
 use Rattle.xs_coarse.specs.Covers.{CoversPart}
 use Rattle.xs_coarse_net.specs.declared.cover.Outer.{Outer}

@@ -5,7 +5,7 @@ use Rattle.xs_gram.specs.declared.parts.GItem.TheVariants.{Fixed, Term, Non, Ski
 use Rattle.xs_gram.specs.Grammar.{Grammar, rule_of}
 use Rattle.xs_gram.specs.Fences.{spread, IsPlain, IsLevel, OuterAt, OuterGroupAt}
 use Rattle.xs_gram.specs.Loose.{Spot, entry, exit, at}
-use Rattle.xs_stretch.specs.Groups.{group_number}
+use Rattle.xs_loose.specs.Groups.{group_number}
 use Rattle.std.specs.List.{All}
 use Rattle.xs_coarse.specs.Coarse.{Table, Net, IsWithin, HasArc, group_label}
 use Rattle.xs_coarse_net.specs.declared.cover.Whole.{Whole}

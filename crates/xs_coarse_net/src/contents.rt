@@ -9,7 +9,7 @@ use crate::Content;
 use crate::ground::Ground;
 use crate::stretch::cover_part;
 use xs_coarse::{Coarse, Stop};
-use xs_stretch::Fenced;
+use xs_loose::Fenced;
 
 /// The contents of all groups of a grammar, by their numbers.
 pub(crate) fn contents_of(

@@ -1,5 +1,5 @@
 ghost use Rattle.std.specs.Prelude.{◌≡◌, ℕ, slice_get, Some, IfOk, IfSome};
-ghost use Rattle.xs_stretch.specs.{IsPart};
+ghost use Rattle.xs_loose.specs.{IsPart};
 ghost use Rattle.xs_coarse.specs.{Net};
 ghost use Rattle.xs_coarse_net.specs.Covers.{IsCoverOf};
 ghost use Rattle.xs_coarse_net.specs.Having.{IsCovers};
@@ -16,8 +16,8 @@ use std::alloc::Global;
 use xs_class::Memory;
 use xs_coarse::{Coarse, Labels, Stop, fitting};
 use xs_gram::Gram;
+use xs_loose::Part;
 use xs_regex::Numbers;
-use xs_stretch::Part;
 
 impl Covers {
     /// The covers of a grammar whose groups are numbered, or none where one would be too large.

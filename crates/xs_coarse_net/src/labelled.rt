@@ -1,5 +1,5 @@
 ghost use Rattle.std.specs.Prelude.{◌≡◌, ◌<◌, length, IfSome, IfOk};
-ghost use Rattle.xs_stretch.specs.{groups_count};
+ghost use Rattle.xs_loose.specs.{groups_count};
 ghost use Rattle.xs_coarse.specs.{group_label};
 ghost use Rattle.xs_coarse_net.specs.Going.{LabelReads, AreLabelsOf};
 ghost use Rattle.xs_coarse_net.specs.Sites.{IsSite};

@@ -1,7 +1,7 @@
 ghost use Rattle.std.specs.Prelude.{◌≡◌, ◌<◌, Some, List, [], ◌∷◌, length, slice_get, IfOk, OnOk};
 ghost use Rattle.xs_gram.specs.declared.parts.GItem.{GItem as Item};
 ghost use Rattle.xs_gram.specs.{spread};
-ghost use Rattle.xs_stretch.specs.{group_number, groups_count, StandsAt};
+ghost use Rattle.xs_loose.specs.{group_number, groups_count, StandsAt};
 ghost use Rattle.xs_coarse.specs.{HasArc, group_label, CoversItem};
 ghost use Rattle.xs_coarse_net.specs.Going.{Goes};
 ghost use Rattle.xs_coarse_net.specs.Grounds.{IsGround};

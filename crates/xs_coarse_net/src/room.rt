@@ -1,6 +1,6 @@
 ghost use Rattle.std.specs.Prelude.{◌≡◌, ◌<◌, length};
 ghost use Rattle.xs_gram.specs.{spread};
-ghost use Rattle.xs_stretch.specs.{IsPart};
+ghost use Rattle.xs_loose.specs.{IsPart};
 ghost use Rattle.xs_coarse_net.specs.Grounds.{IsGround};
 ghost use Rattle.xs_coarse_net.specs.Joining.{AreFragments};
 
@@ -10,7 +10,7 @@ use crate::pieces::keep_fragment;
 use crate::site::Site;
 use xs_coarse::{Coarse, Stop};
 use xs_gram::GItem;
-use xs_stretch::Part;
+use xs_loose::Part;
 
 /// How many states, arcs and outer places a cover takes, as far as they can be counted. What is counted
 /// is only asked for at once: a cover may take more.

@@ -1,6 +1,6 @@
 ghost use Rattle.std.specs.Prelude.{◌≡◌, true, ℕ, suc, ◌+◌, ◌<◌, ◌≤◌, ◌^◌, length, take, IfOk, OnOk};
 ghost use Rattle.xs_gram.specs.{rule_of, NamesAreThere, spread};
-ghost use Rattle.xs_stretch.specs.{group_number, groups_before, lefts};
+ghost use Rattle.xs_loose.specs.{group_number, groups_before, lefts};
 ghost use Rattle.xs_coarse.specs.{HasArc};
 ghost use Rattle.xs_coarse_net.specs.Going.{Grows};
 ghost use Rattle.xs_coarse_net.specs.Sites.{IsSite};

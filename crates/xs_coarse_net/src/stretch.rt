@@ -1,5 +1,5 @@
 ghost use Rattle.std.specs.Prelude.{◌≡◌, ℕ, ◌+◌, ◌<◌, length, IfOk};
-ghost use Rattle.xs_stretch.specs.{IsPart};
+ghost use Rattle.xs_loose.specs.{IsPart};
 ghost use Rattle.xs_coarse_net.specs.Covers.{IsCoverOf};
 ghost use Rattle.xs_coarse_net.specs.Grounds.{IsGround};
 ghost use Rattle.xs_coarse_net.specs.Joining.{AreFragments};
@@ -10,7 +10,7 @@ use crate::room::{Room, room_for};
 use crate::rule::number_after;
 use crate::{Cover, Outer};
 use xs_coarse::{Coarse, Stop};
-use xs_stretch::Part;
+use xs_loose::Part;
 
 /// The cover of a level stretch, in time linear in its rule's places and the cover. Fragments that it
 /// needs are kept.

@@ -32,7 +32,7 @@ module _ (g h : Grammar) (p : Prices) (numbers : List ℕ) (known : List Common)
       → HoldsAt g h p numbers cs.steps.items rule most (at cs.places.items (rule_of g rule).non) (trees ++ made rule (kids_at trees kids) ∷ []) (length trees)
   holds_first rule most trees kids there have are low short =
       let to = complete.contexts.reached (rule_of g rule).non (sound.built.range.rules rule there) (omega (arith, low, short)) in
-      let node : IsFilled g h rule (kids_at trees kids) (rule_cost g h (costs_of p) rule) = node_made g h p numbers trees sound have rule (omega (arith, low, short)) kids are in
+      let node : IsFilled g h rule (kids_at trees kids) (rule_cost g h (costs_of p) rule) = node_made g h p.terms.items p.nons.items numbers trees sound have rule (omega (arith, low, short)) kids are in
       let t : Common = made rule (kids_at trees kids) in
       let last : tree_at (trees ++ t ∷ []) (length trees) ≡ t = get_or-append_seam trees t [] (word []) in
       record {
@@ -67,8 +67,8 @@ module _ (g h : Grammar) (p : Prices) (numbers : List ℕ) (known : List Common)
       let below = slot_below (items g s.rule) s.slot (of_non s.non) (sound.built.slots s.rule) step.found in
       let cheap = step_rule_cheap rule most place number trees short some holds in
       let f = λ (j : ℕ). tree_at trees (at kids j) in
-      let node = node_with g h p numbers known cs sound complete s inner f (kids_chosen g h p numbers trees sound holds.have s.rule cheap kids are) step.found holds.fits in
-      let kids_are = kids_but g h p numbers trees sound holds.have s.rule cheap kids are s.slot number below in
+      let node = node_with g h p numbers known cs sound complete s inner f (kids_chosen g h p.terms.items p.nons.items numbers trees sound holds.have s.rule cheap kids are) step.found holds.fits in
+      let kids_are = kids_but g h p.terms.items p.nons.items numbers trees sound holds.have s.rule cheap kids are s.slot number below in
       let node_kids : IsAroundTree g h (costs_of p) s.rule s.slot inner (kids_at trees (set kids s.slot number)) = subst (λ ks. IsAroundTree g h (costs_of p) s.rule s.slot inner ks) (sym kids_are) node in
       let t : Common = made s.rule (kids_at trees (set kids s.slot number)) in
       let last : tree_at (trees ++ t ∷ []) (length trees) ≡ t = get_or-append_seam trees t [] (word []) in

@@ -10,7 +10,13 @@ pub mod Counting
 pub mod Around
 pub mod Showing
 pub mod Stepping
-pub mod Leaves
+pub mod Starting
 pub mod Chains
 pub mod LeastTrees
 pub mod Sweeping
+pub mod Knowing
+pub mod Growing
+pub mod Holding
+pub mod Making
+pub mod Reading
+pub mod Passing

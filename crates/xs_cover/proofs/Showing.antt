@@ -14,11 +14,10 @@ use Rattle.xs_gram.specs.Sound.{IsSound}
 use Rattle.xs_gram.proofs.Printed.{kinds_long}
 use Rattle.xs_gram.proofs.Entries.{lookup_same, lookup_other}
 use Rattle.xs_tree.specs.Flat.{tree_at, kids_at}
-use Rattle.xs_cover.specs.declared.prices.Prices.{Prices}
 use Rattle.xs_cover.specs.Sizes.{capped, weight}
 use Rattle.xs_cover.specs.Costs.{kind_cost, rule_cost}
 use Rattle.xs_cover.specs.Tables.{at}
-use Rattle.xs_cover.specs.Prices.{costs_of, Stands, HaveTrees, AreKids, number_for, placed}
+use Rattle.xs_cover.specs.Prices.{costs_in, Stands, HaveTrees, AreKids, number_for, placed}
 use Rattle.xs_cover.proofs.Costs.{item_of}
 use Rattle.xs_cover.proofs.Filling.{fill, but, but_here, but_other, filled_at, kind_at, IsFilled, IsChoice, node_filled}
 use Rattle.xs_cover.proofs.Existing.{KindIn, kind_in, some_kind, no_kind}
@@ -81,15 +80,15 @@ have_on g h a more terms nons numbers have = record {
   nodes = λ n there less. stands_on g h a more (of_non n) (at nons n) (at numbers n) (have.nodes n there less);
 }
 
-module _ (g h : Grammar) (p : Prices) (numbers : List ℕ) (trees : List Common) (sound : IsSound g) (have : HaveTrees g h trees p.terms.items p.nons.items numbers) (q : ℕ) (cheap : rule_cost g h (costs_of p) q < 1000000000) (kids : List ℕ) (are : AreKids numbers (items g q) kids) where
-  stands_for : (s : ℕ) (kind : Kind) → KindIn g kind → lookup s (kinds (items g q)) ≡ Some kind → Stands g h trees kind (kind_cost (costs_of p) (Some kind)) (number_for numbers kind)
+module _ (g h : Grammar) (terms nons : List ℕ) (numbers : List ℕ) (trees : List Common) (sound : IsSound g) (have : HaveTrees g h trees terms nons numbers) (q : ℕ) (cheap : rule_cost g h (costs_in terms nons []) q < 1000000000) (kids : List ℕ) (are : AreKids numbers (items g q) kids) where
+  stands_for : (s : ℕ) (kind : Kind) → KindIn g kind → lookup s (kinds (items g q)) ≡ Some kind → Stands g h trees kind (kind_cost (costs_in terms nons []) (Some kind)) (number_for numbers kind)
   stands_for s (of_term t) there e = have.leaves t there
   stands_for s (of_non n) there e =
       let item = item_of (items g q) s n e in
-      have.nodes n there (omega (arith, cheap, item_cheap (costs_of p) (items g q) item.dot n item.slot item.at))
+      have.nodes n there (omega (arith, cheap, item_cheap (costs_in terms nons []) (items g q) item.dot n item.slot item.at))
 
-  stands_at : (s : ℕ) (kind : Kind) → lookup s (kinds (items g q)) ≡ Some kind → Stands g h trees kind (kind_cost (costs_of p) (Some kind)) (at kids s)
-  stands_at s kind e = subst (λ k. Stands g h trees kind (kind_cost (costs_of p) (Some kind)) k) (sym (are.each s kind e)) (stands_for s kind (kind_in g sound.built.range q s kind e) e)
+  stands_at : (s : ℕ) (kind : Kind) → lookup s (kinds (items g q)) ≡ Some kind → Stands g h trees kind (kind_cost (costs_in terms nons []) (Some kind)) (at kids s)
+  stands_at s kind e = subst (λ k. Stands g h trees kind (kind_cost (costs_in terms nons []) (Some kind)) k) (sym (are.each s kind e)) (stands_for s kind (kind_in g sound.built.range q s kind e) e)
 
   found_at : (s : ℕ) → s < length (kinds (items g q)) → (kind : Kind) × (lookup s (kinds (items g q)) ≡ Some kind)
   found_at s below = kind_at (items g q) (sound.built.slots q) s below
@@ -99,10 +98,10 @@ module _ (g h : Grammar) (p : Prices) (numbers : List ℕ) (trees : List Common)
   kids_there = All-from_get_or (λ k. k < length trees) kids 0 (λ s below. let k = found_at s (omega (arith, below, are.counted, kinds_long (items g q))) in (stands_at s k.0 k.1).there)
 
   -- what stands at the slots
-  pub kids_chosen : IsChoice g h (costs_of p) (items g q) (λ s. tree_at trees (at kids s))
+  pub kids_chosen : IsChoice g h (costs_in terms nons []) (items g q) (λ s. tree_at trees (at kids s))
   kids_chosen = record {
     fits = λ s below. let k = found_at s below in subst (λ o. KidFits g o (tree_at trees (at kids s))) (sym k.1) (stands_at s k.0 k.1).fits;
-    light = λ s below. let k = found_at s below in subst (λ o. capped (weight g h (tree_at trees (at kids s))) ≤ kind_cost (costs_of p) o) (sym k.1) (stands_at s k.0 k.1).light;
+    light = λ s below. let k = found_at s below in subst (λ o. capped (weight g h (tree_at trees (at kids s))) ≤ kind_cost (costs_in terms nons []) o) (sym k.1) (stands_at s k.0 k.1).light;
   }
 
   pub kids_long_is : length kids ≡ length (kinds (items g q))
@@ -111,8 +110,8 @@ module _ (g h : Grammar) (p : Prices) (numbers : List ℕ) (trees : List Common)
   pub kids_are : kids_at trees kids ≡ fill (λ s. tree_at trees (at kids s)) 0 (length (kinds (items g q)))
   kids_are = filled_at trees (λ s. tree_at trees (at kids s)) 0 kids (λ j. ap (λ k. tree_at trees (at kids k)) (omega arith)) ∙ ap (fill (λ s. tree_at trees (at kids s)) 0) kids_long_is
 
-  pub node_made : IsFilled g h q (kids_at trees kids) (rule_cost g h (costs_of p) q)
-  node_made = subst (λ ks. IsFilled g h q ks (rule_cost g h (costs_of p) q)) (sym kids_are) (node_filled g h (costs_of p) q (λ s. tree_at trees (at kids s)) sound.built.slots kids_chosen)
+  pub node_made : IsFilled g h q (kids_at trees kids) (rule_cost g h (costs_in terms nons []) q)
+  node_made = subst (λ ks. IsFilled g h q ks (rule_cost g h (costs_in terms nons []) q)) (sym kids_are) (node_filled g h (costs_in terms nons []) q (λ s. tree_at trees (at kids s)) sound.built.slots kids_chosen)
 
   -- another number put at one slot
   pub kids_but : (s number : ℕ) → s < length (kinds (items g q)) → kids_at trees (set kids s number) ≡ fill (but s (tree_at trees number) (λ j. tree_at trees (at kids j))) 0 (length (kinds (items g q)))
@@ -128,27 +127,27 @@ module _ (g h : Grammar) (p : Prices) (numbers : List ℕ) (trees : List Common)
       ]
 
 -- one more node, for the nonterminal of its rule
-pub have_more : (g h : Grammar) (p : Prices) (numbers : List ℕ) (trees : List Common) (q cost : ℕ) (kids : List ℕ) → IsSound g → HaveTrees g h trees p.terms.items p.nons.items numbers → q < length g.rules → AreKids numbers (items g q) kids → cost ≡ capped (rule_cost g h (costs_of p) q) → cost < at p.nons.items (rule_of g q).non
-    → HaveTrees g h (trees ++ made q (kids_at trees kids) ∷ []) p.terms.items (set p.nons.items (rule_of g q).non cost) (set numbers (rule_of g q).non (length trees))
-have_more g h p numbers trees q cost kids sound have there are is less = record {
+pub have_more : (g h : Grammar) (terms nons : List ℕ) (numbers : List ℕ) (trees : List Common) (q cost : ℕ) (kids : List ℕ) → IsSound g → HaveTrees g h trees terms nons numbers → q < length g.rules → AreKids numbers (items g q) kids → cost ≡ capped (rule_cost g h (costs_in terms nons []) q) → cost < at nons (rule_of g q).non
+    → HaveTrees g h (trees ++ made q (kids_at trees kids) ∷ []) terms (set nons (rule_of g q).non cost) (set numbers (rule_of g q).non (length trees))
+have_more g h terms nons numbers trees q cost kids sound have there are is less = record {
   terms_counted = have.terms_counted;
-  nons_counted = length-set p.nons.items (rule_of g q).non cost ∙ have.nons_counted;
+  nons_counted = length-set nons (rule_of g q).non cost ∙ have.nons_counted;
   numbers_counted = length-set numbers (rule_of g q).non (length trees) ∙ have.numbers_counted;
-  low = λ n. low n (at_set p.nons.items (rule_of g q).non n cost in_nons);
-  leaves = λ t in_terms. stands_on g h trees (made q (kids_at trees kids) ∷ []) (of_term t) (at p.terms.items t) t (have.leaves t in_terms);
-  nodes = λ n in_g cheap. nodes n in_g cheap (at_set p.nons.items (rule_of g q).non n cost in_nons) (at_set numbers (rule_of g q).non n (length trees) in_numbers);
+  low = λ n. low n (at_set nons (rule_of g q).non n cost in_nons);
+  leaves = λ t in_terms. stands_on g h trees (made q (kids_at trees kids) ∷ []) (of_term t) (at terms t) t (have.leaves t in_terms);
+  nodes = λ n in_g cheap. nodes n in_g cheap (at_set nons (rule_of g q).non n cost in_nons) (at_set numbers (rule_of g q).non n (length trees) in_numbers);
 }
   where
-    in_nons : (rule_of g q).non < length p.nons.items
+    in_nons : (rule_of g q).non < length nons
     in_nons = omega (arith, sound.built.range.rules q there, have.nons_counted)
 
     in_numbers : (rule_of g q).non < length numbers
     in_numbers = omega (arith, sound.built.range.rules q there, have.numbers_counted)
 
-    node : IsFilled g h q (kids_at trees kids) (rule_cost g h (costs_of p) q)
-    node = node_made g h p numbers trees sound have q (omega (arith, is, less, have.low (rule_of g q).non)) kids are
+    node : IsFilled g h q (kids_at trees kids) (rule_cost g h (costs_in terms nons []) q)
+    node = node_made g h terms nons numbers trees sound have q (omega (arith, is, less, have.low (rule_of g q).non)) kids are
 
-    low : (n : ℕ) → ((n ≡ (rule_of g q).non) × (at (set p.nons.items (rule_of g q).non cost) n ≡ cost)) ⊎ ((n ≢ (rule_of g q).non) × (at (set p.nons.items (rule_of g q).non cost) n ≡ at p.nons.items n)) → at (set p.nons.items (rule_of g q).non cost) n ≤ 1000000000
+    low : (n : ℕ) → ((n ≡ (rule_of g q).non) × (at (set nons (rule_of g q).non cost) n ≡ cost)) ⊎ ((n ≢ (rule_of g q).non) × (at (set nons (rule_of g q).non cost) n ≡ at nons n)) → at (set nons (rule_of g q).non cost) n ≤ 1000000000
     low n (inl here) = omega (arith, here.1, less, have.low (rule_of g q).non)
     low n (inr other) = omega (arith, other.1, have.low n)
 
@@ -162,13 +161,13 @@ have_more g h p numbers trees q cost kids sound have there are is less = record 
       light = omega (arith, ap (λ t. capped (weight g h t)) last, node.light, is);
     }
 
-    moved : (n : ℕ) → (rule_of g q).non ≡ n → cost ≡ at (set p.nons.items (rule_of g q).non cost) n → length trees ≡ at (set numbers (rule_of g q).non (length trees)) n → Stands g h (trees ++ made q (kids_at trees kids) ∷ []) (of_non (rule_of g q).non) cost (length trees) → Stands g h (trees ++ made q (kids_at trees kids) ∷ []) (of_non n) (at (set p.nons.items (rule_of g q).non cost) n) (at (set numbers (rule_of g q).non (length trees)) n)
-    moved n a b c s = subst (λ k. Stands g h (trees ++ made q (kids_at trees kids) ∷ []) (of_non n) (at (set p.nons.items (rule_of g q).non cost) n) k) c (subst (λ k. Stands g h (trees ++ made q (kids_at trees kids) ∷ []) (of_non n) k (length trees)) b (subst (λ m. Stands g h (trees ++ made q (kids_at trees kids) ∷ []) (of_non m) cost (length trees)) a s))
+    moved : (n : ℕ) → (rule_of g q).non ≡ n → cost ≡ at (set nons (rule_of g q).non cost) n → length trees ≡ at (set numbers (rule_of g q).non (length trees)) n → Stands g h (trees ++ made q (kids_at trees kids) ∷ []) (of_non (rule_of g q).non) cost (length trees) → Stands g h (trees ++ made q (kids_at trees kids) ∷ []) (of_non n) (at (set nons (rule_of g q).non cost) n) (at (set numbers (rule_of g q).non (length trees)) n)
+    moved n a b c s = subst (λ k. Stands g h (trees ++ made q (kids_at trees kids) ∷ []) (of_non n) (at (set nons (rule_of g q).non cost) n) k) c (subst (λ k. Stands g h (trees ++ made q (kids_at trees kids) ∷ []) (of_non n) k (length trees)) b (subst (λ m. Stands g h (trees ++ made q (kids_at trees kids) ∷ []) (of_non m) cost (length trees)) a s))
 
-    nodes : (n : ℕ) → n < g.nons → at (set p.nons.items (rule_of g q).non cost) n < 1000000000 → ((n ≡ (rule_of g q).non) × (at (set p.nons.items (rule_of g q).non cost) n ≡ cost)) ⊎ ((n ≢ (rule_of g q).non) × (at (set p.nons.items (rule_of g q).non cost) n ≡ at p.nons.items n)) → ((n ≡ (rule_of g q).non) × (at (set numbers (rule_of g q).non (length trees)) n ≡ length trees)) ⊎ ((n ≢ (rule_of g q).non) × (at (set numbers (rule_of g q).non (length trees)) n ≡ at numbers n)) → Stands g h (trees ++ made q (kids_at trees kids) ∷ []) (of_non n) (at (set p.nons.items (rule_of g q).non cost) n) (at (set numbers (rule_of g q).non (length trees)) n)
+    nodes : (n : ℕ) → n < g.nons → at (set nons (rule_of g q).non cost) n < 1000000000 → ((n ≡ (rule_of g q).non) × (at (set nons (rule_of g q).non cost) n ≡ cost)) ⊎ ((n ≢ (rule_of g q).non) × (at (set nons (rule_of g q).non cost) n ≡ at nons n)) → ((n ≡ (rule_of g q).non) × (at (set numbers (rule_of g q).non (length trees)) n ≡ length trees)) ⊎ ((n ≢ (rule_of g q).non) × (at (set numbers (rule_of g q).non (length trees)) n ≡ at numbers n)) → Stands g h (trees ++ made q (kids_at trees kids) ∷ []) (of_non n) (at (set nons (rule_of g q).non cost) n) (at (set numbers (rule_of g q).non (length trees)) n)
     nodes n in_g cheap (inl here) (inl same) = moved n (sym here.0) (sym here.1) (sym same.1) stands
     nodes n in_g cheap (inl here) (inr apart) = absurd (apart.0 here.0)
     nodes n in_g cheap (inr apart) (inl same) = absurd (apart.0 same.0)
     nodes n in_g cheap (inr other) (inr apart) =
-        let old = stands_on g h trees (made q (kids_at trees kids) ∷ []) (of_non n) (at p.nons.items n) (at numbers n) (have.nodes n in_g (omega (arith, other.1, cheap))) in
-        subst (λ k. Stands g h (trees ++ made q (kids_at trees kids) ∷ []) (of_non n) (at (set p.nons.items (rule_of g q).non cost) n) k) (sym apart.1) (subst (λ c. Stands g h (trees ++ made q (kids_at trees kids) ∷ []) (of_non n) c (at numbers n)) (sym other.1) old)
+        let old = stands_on g h trees (made q (kids_at trees kids) ∷ []) (of_non n) (at nons n) (at numbers n) (have.nodes n in_g (omega (arith, other.1, cheap))) in
+        subst (λ k. Stands g h (trees ++ made q (kids_at trees kids) ∷ []) (of_non n) (at (set nons (rule_of g q).non cost) n) k) (sym apart.1) (subst (λ c. Stands g h (trees ++ made q (kids_at trees kids) ∷ []) (of_non n) c (at numbers n)) (sym other.1) old)

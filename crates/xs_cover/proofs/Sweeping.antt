@@ -1,36 +1,20 @@
 -- One more rule or item that lowers nothing.
-use Rattle.std.proofs.Common.{◌≡◌, inl, inr, ℕ, ◌+◌, ◌<◌, ◌≤◌, Bool, false, ◌||◌, List, [], sym, subst, ◌∙◌, arith}
+use Rattle.std.proofs.Common.{◌≡◌, inl, inr, ℕ, ◌+◌, ◌<◌, Bool, false, ◌||◌, List, sym, subst, ◌∙◌, arith}
 use Rattle.std.proofs.lemmas.Bool.{cases_lt, or_parts}
 use Rattle.std.proofs.lemmas.Option.{same_Some}
 use Rattle.xs_gram.specs.declared.parts.GItem.{GItem}
-use Rattle.xs_gram.specs.Grammar.{Grammar, rule_of, ItemAt}
+use Rattle.xs_gram.specs.Grammar.{Grammar, ItemAt}
 use Rattle.xs_cover.specs.declared.prices.Prices.{Prices}
 use Rattle.xs_cover.specs.declared.contexts.Passing.{Passing}
-use Rattle.xs_cover.specs.Costs.{rule_cost}
-use Rattle.xs_cover.specs.Prices.{costs_in, IsClosed}
 use Rattle.xs_cover.specs.Steps.{IsPassed, IsPassedItem}
-use Rattle.xs_cover.specs.Tables.{at, IsLowered}
+use Rattle.xs_cover.specs.Tables.{IsLowered}
 
 -- what holds of all numbers below n, and of n, holds of all up to it
-up_to : (P : ℕ → Type 0) (n : ℕ) → ((k : ℕ) → k < n → P k) → P n → (k : ℕ) → k < n + 1 → P k
+pub up_to : (P : ℕ → Type 0) (n : ℕ) → ((k : ℕ) → k < n → P k) → P n → (k : ℕ) → k < n + 1 → P k
 up_to P n before here k below = elim (cases_lt k n) [
   | inl earlier ↦ before k earlier
   | inr later ↦ (let is : n ≡ k = omega arith in subst P is here)
 ]
-
--- the rule costs at least what its nonterminal does, by these tables
-abbrev IsClosedBy : Grammar → Grammar → ℕ → List ℕ → List ℕ → Type 0
-IsClosedBy g h rule terms nons = at nons (rule_of g rule).non ≤ rule_cost g h (costs_in terms nons []) rule
-
-closed_same : (g h : Grammar) (p q : Prices) (rule : ℕ) → q.terms.items ≡ p.terms.items → q.nons.items ≡ p.nons.items → IsClosed g h p rule → IsClosed g h q rule
-closed_same g h p q rule terms nons closed =
-    let with_terms : IsClosedBy g h rule q.terms.items p.nons.items = subst (λ t. IsClosedBy g h rule t p.nons.items) (sym terms) closed in
-    subst (λ n. IsClosedBy g h rule q.terms.items n) (sym nons) with_terms
-
-pub closed_more : (g h : Grammar) (p q : Prices) (rule : ℕ) (lowered less : Bool) → q.terms.items ≡ p.terms.items → IsLowered less p.nons.items q.nons.items → (lowered ≡ false → (k : ℕ) → k < rule → IsClosed g h p k) → (less ≡ false → IsClosed g h p rule) → (lowered || less) ≡ false → (k : ℕ) → k < rule + 1 → IsClosed g h q k
-closed_more g h p q rule lowered less terms now before here none k below =
-    let each = or_parts lowered less none in
-    closed_same g h p q k terms (now.kept each.1) (up_to (IsClosed g h p) rule (before each.0) (here each.1) k below)
 
 pub passed_more : (g h : Grammar) (p : Prices) (now new : List ℕ) (rule : ℕ) (lowered less : Bool) → IsLowered less now new → (lowered ≡ false → (k : ℕ) → k < rule → IsPassed g h p now k) → (less ≡ false → IsPassed g h p now rule) → (lowered || less) ≡ false → (k : ℕ) → k < rule + 1 → IsPassed g h p new k
 passed_more g h p now new rule lowered less done before here none k below =

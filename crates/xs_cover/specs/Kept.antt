@@ -9,9 +9,13 @@ use Rattle.xs_cover.specs.declared.prices.Prices.{Prices}
 use Rattle.xs_cover.specs.declared.contexts.Step.{Step}
 use Rattle.xs_cover.specs.declared.contexts.Contexts.{Contexts}
 use Rattle.xs_cover.specs.declared.covers.Tables.{Tables}
+use Rattle.xs_cover.specs.declared.trees.Trees.{Trees}
 use Rattle.xs_cover.specs.declared.covers.Covers.{Covers}
 use Rattle.xs_cover.specs.Sizes.{capped, weight, Uses, IsLeast, IsLeastSize}
 use Rattle.xs_cover.specs.Costs.{rule_cost}
+use Rattle.xs_cover.specs.Leaves.{AreLeaves}
+use Rattle.xs_cover.specs.Picks.{HaveRows}
+use Rattle.xs_cover.specs.Reading.{IsReadTo}
 use Rattle.xs_cover.specs.Prices.{costs_of, AreLow, HaveTrees, IsClosed}
 use Rattle.xs_cover.specs.Steps.{step_at, AreContexts, IsPassed}
 use Rattle.xs_cover.specs.Tables.{at}
@@ -24,9 +28,21 @@ pub record AreComplete (g h : Grammar) (p : Prices) (numbers : List ℕ) (trees 
   pub contexts : AreContexts g h p c
   pub passed : (q : ℕ) → q < length g.rules → IsPassed g h p c.arounds.items q
 
--- the tables of two grammars are complete
-abbrev pub AreTables : Pair → Tables → Type 0
-AreTables two t = AreComplete two.text two.xml t.prices t.numbers.items (trees_of t.tree.parts) t.contexts
+-- trees that cost what the tables of two grammars say, by which these are complete
+abbrev pub HaveRead : Pair → Tables → List ℕ → List Common → Type 0
+HaveRead two t numbers trees = AreComplete two.text two.xml t.prices numbers trees t.contexts
+
+-- the trees of the rows before a place are read
+abbrev pub IsReadIn : Pair → Tables → Trees → ℕ → Type 0
+IsReadIn two t trees place = IsReadTo two.text two.xml t.prices.terms.items t.prices.nons.items t.forest (trees_of trees.builder) trees.numbers.items place
+
+-- the tables of two grammars are complete, and the forest has a row for each known cost
+pub record AreTables (two : Pair) (t : Tables) : Type 0 where
+  pub leaves : AreLeaves two.text t.words.items t.prices.terms.items
+  pub rows : HaveRows two.text two.xml t.prices.terms.items t.prices.nons.items t.forest
+  pub numbers : List ℕ
+  pub trees : List Common
+  pub read : HaveRead two t numbers trees
 
 -- the least sizes, by production
 abbrev pub sizes_of : Covers → List (Option ℕ)
@@ -53,8 +69,8 @@ abbrev pub shown_cost : Pair → Tables → ℕ → ℕ
 shown_cost two t rule = at t.contexts.arounds.items (rule_of two.text rule).non + rule_cost two.text two.xml (costs_of t.prices) rule
 
 -- tree `number` of the list can stand where step `place` of the tables leads
-abbrev pub IsShownAt : Pair → Tables → ℕ → ℕ → List Common → ℕ → Type 0
-IsShownAt two t rule place trees number = HoldsAt two.text two.xml t.prices t.numbers.items t.contexts.steps.items rule (shown_cost two t rule) place trees number
+abbrev pub IsShownAt : Pair → Tables → List ℕ → ℕ → ℕ → List Common → ℕ → Type 0
+IsShownAt two t numbers rule place trees number = HoldsAt two.text two.xml t.prices numbers t.contexts.steps.items rule (shown_cost two t rule) place trees number
 
 -- some tree shows the production, and a least one is not too long
 abbrev pub IsShort : Grammar → Grammar → ℕ → Type 0

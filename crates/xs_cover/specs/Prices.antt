@@ -4,9 +4,8 @@ use Rattle.xs_gram.specs.declared.parts.GItem.{GItem}
 use Rattle.xs_gram.specs.declared.parts.GItem.TheVariants.{Fixed, Term, Non, Skip}
 use Rattle.xs_gram.specs.Grammar.{Grammar, rule_of, slots, IsTermWord}
 use Rattle.xs_gram.specs.Common.{Common, Kind, of_term, of_non, kinds, lookup, KidFits}
-use Rattle.xs_tree.specs.Flat.{tree_at, trees_of}
+use Rattle.xs_tree.specs.Flat.{tree_at}
 use Rattle.xs_cover.specs.declared.prices.Prices.{Prices}
-use Rattle.xs_cover.specs.declared.trees.Trees.{Trees}
 use Rattle.xs_cover.specs.Sizes.{capped, weight}
 use Rattle.xs_cover.specs.Costs.{Costs, rule_cost}
 use Rattle.xs_cover.specs.Tables.{at}
@@ -42,9 +41,6 @@ pub record HaveTrees (g h : Grammar) (trees : List Common) (terms nons numbers :
   pub low : (n : ℕ) → at nons n ≤ 1000000000
   pub leaves : (t : ℕ) → t < length g.terms → Stands g h trees (of_term t) (at terms t) t
   pub nodes : (n : ℕ) → n < g.nons → at nons n < 1000000000 → Stands g h trees (of_non n) (at nons n) (at numbers n)
-
-abbrev pub AreTrees : Grammar → Grammar → Trees → Type 0
-AreTrees g h t = HaveTrees g h (trees_of t.builder) t.prices.terms.items t.prices.nons.items t.numbers.items
 
 -- the rule costs at least as much as its nonterminal
 abbrev pub IsClosed : Grammar → Grammar → Prices → ℕ → Type 0

@@ -1,13 +1,16 @@
-ghost use Rattle.std.specs.Prelude.{◌≡◌, ◌+◌, ℕ, ◌<◌, ◌≤◌, true, false, length, IfOk, OnOk};
+ghost use Rattle.std.specs.Prelude.{◌≡◌, ◌+◌, ◌<◌, length, IfOk, OnOk};
+ghost use Rattle.xs_forest.specs.Rows.{AreBelow, AreOnce};
 ghost use Rattle.xs_gram.specs.{items};
 ghost use Rattle.xs_pair.specs.{IsSoundPair};
-ghost use Rattle.xs_cover.specs.Prices.{AreLow, AreTrees, AreKids, IsClosed};
-ghost use Rattle.xs_cover.specs.Tables.{IsLowered};
+ghost use Rattle.xs_tree.specs.{trees_of};
+ghost use Rattle.xs_cover.specs.Kept.{AreTables, HaveRead, IsReadIn};
+ghost use Rattle.xs_cover.specs.Prices.{AreKids};
 
-use crate::prices::{MOST, Prices};
-use crate::words::least_word;
+use crate::Pick;
+use crate::covers::Tables;
+use crate::leaves::leaf_parts;
 use std::alloc::Global;
-use xs_class::{Memory, Side, Word};
+use xs_class::{Memory, Side};
 use xs_gram::{GItem, slot_count};
 use xs_pair::Two;
 use xs_tree::Builder;
@@ -32,97 +35,58 @@ pub fn place_kids(two: &Two, rule: u32, numbers: &[u64], kids: &mut Vec<u64>) ->
     Ok(())
 }
 
-/// What a leaf costs: its word stands once on each side.
-fn term_cost(word: &Word) -> u64
-    requires { length word.now ≤ 512 }
-    ensures { result ≡ length word.now + length word.now }
-{
-    let length = word.len() as u64;
-    length + length
-}
-
-/// Least trees of nonterminals, as far as they are known: what they cost, and their numbers.
+/// Least trees of nonterminals: their parts, and the number of each nonterminal's.
 #[derive(Drop)]
 pub struct Trees {
-    pub prices: Prices,
-    pub numbers: Vec<u64>,
     pub builder: Builder,
+    pub numbers: Vec<u64>,
 }
 
 impl Trees {
-    /// Trees of the terminals alone.
-    pub fn new(alloc: Global, two: &Two) -> Result<Trees, Memory>
-        requires { IsSoundPair two.now }
-        ensures trees { IfOk result (AreTrees two.now.text two.now.xml) }
-        ensures low { IfOk result (λ t. AreLow two.now.text t.prices.terms.items) }
+    /// Adds the tree of a row, if the row is of a nonterminal.
+    fn read(
+        &mut self,
+        two: &Two,
+        tables: &Tables<'_>,
+        at: u64,
+        kids: &mut Vec<u64>,
+    ) -> Result<(), Memory>
+        requires sound { IsSoundPair two.now }
+        requires tables { AreTables two.now tables.now }
+        requires below { AreBelow tables.now.forest }
+        requires once { AreOnce tables.now.forest }
+        requires row { at < length tables.now.forest }
+        requires read { IsReadIn two.now tables.now self.old at }
+        ensures { OnOk result (IsReadIn two.now tables.now self.new (at + 1)) }
     {
-        let g = two.gram(Side::Text);
-        let mut builder = Builder::new(alloc)?;
-        let mut terms = Vec::with_capacity(alloc, g.terms() as usize)?;
-        'terms: for term in 0..g.terms() {
-            let word = least_word(alloc, g.term(term))?;
-            let cost = term_cost(&word);
-            builder.leaf(word.as_slice())?;
-            terms.push(cost)?;
+        let row = tables.forest.row(at);
+        match row.label {
+            Pick::Front { .. } => Ok(()),
+            Pick::Whole(non) => {
+                let rule = row.alts[0].rule;
+                place_kids(two, rule, &self.numbers, kids)?;
+                let number = self.builder.node(rule, kids)?;
+                self.numbers[non as usize] = number;
+                Ok(())
+            }
         }
-        let count = g.nons() as usize;
-        let nons = vec![in alloc; MOST; count]?;
-        let numbers = vec![in alloc; 0; count]?;
-        Ok(Trees {
-            prices: Prices { terms, nons },
-            numbers,
-            builder,
-        })
     }
 
-    /// Makes a tree of a rule where it is less than what its nonterminal costs; false where no cost
-    /// is lowered.
-    pub fn lower(&mut self, two: &Two, rule: u32, kids: &mut Vec<u64>) -> Result<bool, Memory>
+    /// The trees of the forest's rows.
+    pub fn of(alloc: Global, two: &Two, tables: &Tables<'_>) -> Result<Trees, Memory>
         requires sound { IsSoundPair two.now }
-        requires rule { rule < length two.now.text.rules }
-        requires trees { AreTrees two.now.text two.now.xml self.old }
-        ensures trees { OnOk result (AreTrees two.now.text two.now.xml self.new) }
-        ensures terms { OnOk result (self.new.prices.terms.items ≡ self.old.prices.terms.items) }
-        ensures lowered { IfOk result (λ b. IsLowered b self.old.prices.nons.items self.new.prices.nons.items) }
-        ensures closed { IfOk result (λ b. b ≡ false → IsClosed two.now.text two.now.xml self.old.prices rule) }
+        requires tables { AreTables two.now tables.now }
+        ensures { IfOk result (λ t. HaveRead two.now tables.now t.numbers.items (trees_of t.builder)) }
     {
-        let cost = self.prices.rule_cost(two, rule);
-        let non = two.gram(Side::Text).non_of(rule) as usize;
-        if self.prices.nons[non] <= cost {
-            return Ok(false);
+        let count = two.gram(Side::Text).nons() as usize;
+        let mut trees = Trees {
+            builder: leaf_parts(alloc, &tables.words)?,
+            numbers: vec![in alloc; 0; count]?,
+        };
+        let mut kids = Vec::new(alloc);
+        'rows: for at in 0..tables.forest.len() {
+            trees.read(two, tables, at, &mut kids)?;
         }
-        place_kids(two, rule, &self.numbers, kids)?;
-        let number = self.builder.node(rule, kids)?;
-        self.prices.nons[non] = cost;
-        self.numbers[non] = number;
-        Ok(true)
-    }
-
-    /// Looks at all rules once; false where no cost is lowered.
-    fn sweep(&mut self, two: &Two, kids: &mut Vec<u64>) -> Result<bool, Memory>
-        requires sound { IsSoundPair two.now }
-        requires trees { AreTrees two.now.text two.now.xml self.old }
-        ensures trees { OnOk result (AreTrees two.now.text two.now.xml self.new) }
-        ensures terms { OnOk result (self.new.prices.terms.items ≡ self.old.prices.terms.items) }
-        ensures lowered { IfOk result (λ b. IsLowered b self.old.prices.nons.items self.new.prices.nons.items) }
-        ensures closed { IfOk result (λ b. b ≡ false → (p : ℕ) → p < length two.now.text.rules → IsClosed two.now.text two.now.xml self.new.prices p) }
-    {
-        let mut lowered = false;
-        'rules: for rule in 0..two.gram(Side::Text).rules() {
-            lowered |= self.lower(two, rule, kids)?;
-        }
-        Ok(lowered)
-    }
-
-    /// Lowers costs until no rule gives a lower one.
-    pub fn settle(&mut self, two: &Two, kids: &mut Vec<u64>) -> Result<(), Memory>
-        requires sound { IsSoundPair two.now }
-        requires trees { AreTrees two.now.text two.now.xml self.old }
-        ensures trees { OnOk result (AreTrees two.now.text two.now.xml self.new) }
-        ensures terms { OnOk result (self.new.prices.terms.items ≡ self.old.prices.terms.items) }
-        ensures closed { OnOk result ((p : ℕ) → p < length two.now.text.rules → IsClosed two.now.text two.now.xml self.new.prices p) }
-    {
-        'sweeps: while self.sweep(two, kids)? {}
-        Ok(())
+        Ok(trees)
     }
 }

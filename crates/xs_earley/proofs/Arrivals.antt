@@ -8,6 +8,7 @@ use Rattle.std.proofs.lemmas.Option.{slice_get-get_or, get_or_from_slice_get}
 use Rattle.xs_class.specs.Classes.{Has}
 use Rattle.xs_class.proofs.Lists.{some_same, first_in, rest_in, get_of, get_last, get_drop}
 use Rattle.xs_chart.specs.declared.item.Item.{Item}
+use Rattle.xs_chart.specs.Charted.{set_limit}
 use Rattle.xs_regex.specs.declared.position.Position.{Position}
 use Rattle.xs_regex.specs.Automaton.{HasAt, Leads, IsWellFormed}
 use Rattle.xs_gram.specs.declared.parts.GItem.TheVariants.{Fixed, Term, Non, Skip}
@@ -560,22 +561,15 @@ module _ (g : Grammar) (w : List ℕ) (s : ℕ) (sets : List (List Item)) (chart
           let same : x.state ≡ (row_at f.rows.items has.0).next = place_once g d x.state (row_at f.rows.items has.0).next num (subst (λ p. IsNumber g (row_at f.rows.items has.0).next p) (sym is) next) in
           subst (λ m. Gathered (record { state = m; origin = x.origin })) (sym same) g'
 
-  -- each item of the last set has a row, and each begun word has one and is shorter than all letters
+  -- each item of the last set has a row, and each begun word has one and is no longer than the document
   pub item_number : (item : Item) → Contains (set_at sets (length w)) item → item.state < length (all_places g)
   item_number item h = let st = (chart.stand (length w) item).0 h in get_lt (all_places g) item.state st.0 st.1
 
   pub begun_number : (b : Begun) → Contains begun b → b.state < length f.rows.items
   begun_number b h = let a = ((exact b).0 h).1 in let e = facts.rows.counted in let lt = get_lt (all_places g) b.state a.place a.number in omega (arith, e, lt)
 
-  pub begun_few : (b : Begun) → Contains begun b → b.count + 1 < 2 ^ 32
-  begun_few b h =
-      let a = ((exact b).0 h).1 in
-      let k = word_stand g f.letters.items a.place (row_at f.rows.items b.state).stand a.word (row b.state a.place a.number).stand a.item in
-      let long = spelt_length f.letters.items k.0 k.1 a.word k.3 in
-      let within = k.3.within in
-      let few = facts.letters_few in
-      let more = a.more in
-      omega (arith, long, within, few, more)
+  pub begun_few : length w < set_limit → (b : Begun) → Contains begun b → b.count + 1 < 2 ^ 32
+  begun_few few b h = let at = ((exact b).0 h).1.is in omega (arith, at, few)
 
   -- so the lists that were gathered are exact
   pub due_iff : (due : List Item) → due ≡ gathered (item_due g f s) (set_at sets (length w)) ++ gathered (more_due f s) begun → (x : Item) → Contains due x ↔ ((d : Place) × IsNumber g x.state d × IsDue g (w ++ s ∷ []) sets (suc (length w)) d x.origin)
@@ -608,6 +602,18 @@ class_told atoms a classes row k s atom same is iff =
     ap (λ (l : List ℕ). class_has atoms (slice_index_or l k 0) atom) same
     ∙ ap (λ n. class_has atoms (slice_index_or row k 0) n) is
     ∙ same_truth (class_has atoms (slice_index_or row k 0) (atom_of atoms s)) (at_has a k s) (HasAt a k s) ((λ h. iff.1 h), (λ h. iff.0 h)) (at_has_iff a k s)
+
+-- a fixed word begins at a number of 63 bits
+pub word_few : (g : Grammar) (f : Facts) → AreFacts g f → (state : ℕ) → state < length f.rows.items → (from end : ℕ) → (row_at f.rows.items state).stand ≡ AtWord from end → from < 2 ^ 63
+word_few g f facts state lt from end e =
+    let counted = facts.rows.counted in
+    let below : state < length (all_places g) = omega (arith, lt, counted) in
+    let there = get_some (all_places g) state below in
+    let k = subst (λ st. IsStand g f.letters.items there.0 st) e (facts.rows.each state there.0 below there.1).stand in
+    let some = k.3.some in
+    let within = k.3.within in
+    let few = facts.letters_few in
+    omega (arith, some, within, few)
 
 -- a state's terminal or ignorable is there, and so are the numbers of its positions, and whether they have a symbol
 module _ (g : Grammar) (f : Facts) (built : IsBuilt g) (facts : AreFacts g f) (state : ℕ) (lt : state < length (all_places g)) where

@@ -1,5 +1,5 @@
 -- A run whose last set is repeated by each symbol of an atom.
-use Rattle.std.proofs.Common.{◌≡◌, ◌≢◌, ℕ, suc, ◌+◌, ◌<◌, ◌≤◌, Bool, true, List, [], ◌∷◌, ◌++◌, length, take, Some, if◌then◌else◌, refl, sym, ◌∙◌, ap, subst, arith, ◌↔◌, inl, inr, append-nil}
+use Rattle.std.proofs.Common.{◌≡◌, ◌≢◌, ℕ, suc, ◌+◌, ◌<◌, ◌≤◌, Bool, true, List, [], ◌∷◌, ◌++◌, length, take, Some, if◌then◌else◌, sym, ◌∙◌, ap, subst, arith, ◌↔◌, inl, inr, append-nil}
 use Rattle.std.specs.Prelude.{Contains, slice_get, slice_index_or, IsTrue}
 use Rattle.std.proofs.lemmas.Bool.{cases_eq, false≢true}
 use Rattle.std.proofs.lemmas.List.{get_or_append_left, get_or_at, get_or-take}

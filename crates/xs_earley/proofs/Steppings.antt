@@ -101,13 +101,6 @@ waiters_more g old new at waiters items same waits = record { exact = exact; onc
       | inr ne ↦ waiters.once j non a b n (subst (λ (l : List ℕ). slice_get l a ≡ Some n) (same j non ne) x) (subst (λ (l : List ℕ). slice_get l b ≡ Some n) (same j non ne) y)
     ]
 
--- the same sets and waiting lists
-waiters_same : (g : Grammar) (old new : Charted) → HasWaiters g old → ((j : ℕ) → items_of new j ≡ items_of old j) → ((j non : ℕ) → waiting_of new j non ≡ waiting_of old j non) → HasWaiters g new
-waiters_same g old new waiters items same = record {
-  exact = λ j non. exact_same g old new j non (items j) (same j non) (waiters.exact j non);
-  once = λ j non a b n x y. waiters.once j non a b n (subst (λ (l : List ℕ). slice_get l a ≡ Some n) (same j non) x) (subst (λ (l : List ℕ). slice_get l b ≡ Some n) (same j non) y);
-}
-
 -- THE FIRST SET
 
 module _ (g : Grammar) (sound : IsSound g) (pushed begun new : Charted) (sets : pushed.sets ≡ [] ∷ []) (none : (j non : ℕ) → waiting_of pushed j non ≡ []) (adds : Adds g 0 (Calls g 0 g.start) pushed.sets begun.sets) (same : begun.waits ≡ pushed.waits) where
@@ -325,22 +318,6 @@ module _ {g : Grammar} {w : List ℕ} {s : ℕ} {f : Facts} {old : Charted} {beg
 
 -- BACK
 
--- the chart of the same sets and waiting lists, of which those beyond the sets are left out
-pub run_same : (g : Grammar) (w : List ℕ) (f : Facts) (old new : Charted) (begun : List (List Begun)) (marks : ℕ) → IsRunOf g (unsteady w old begun f marks) → new.sets ≡ old.sets → ((j non : ℕ) → waiting_of new j non ≡ waiting_of old j non) → IsRunOf g (unsteady w new begun f marks)
-run_same g w f old new begun marks run sets same = record {
-  sound = run.sound;
-  facts = run.facts;
-  masks = run.masks;
-  marks = run.marks;
-  few = run.few;
-  chart = subst (λ (s : List (List Item)). IsChartOf g w s) (sym sets) run.chart;
-  waiters = waiters_same g old new run.waiters (λ j. ap (λ (s : List (List Item)). set_at s j) sets) same;
-  counted = run.counted;
-  begun = λ k le. subst (λ (s : List (List Item)). AreBegun g w s k (slice_index_or begun k [])) (sym sets) (run.begun k le);
-  front = run.front;
-  steady = never_steady;
-}
-
 module _ (g : Grammar) (w : List ℕ) (f : Facts) (chart : Charted) (begun : List (List Begun)) (marks : ℕ) (run : IsRunOf g (unsteady w chart begun f marks)) (len : ℕ) (within : len ≤ length w) where
   all : take len w ++ drop len w ≡ w
   all = take-append-drop len w
@@ -417,36 +394,18 @@ module _ (g : Grammar) (w : List ℕ) (f : Facts) (chart : Charted) (begun : Lis
             (λ x. subst (λ (l : List Begun). Contains l b) (sym row) (iff.1 (x.0, longer k b.state b.origin b.count under x.1))),
           )
 
--- what a step keeps while it adds
-keeps_of : (word more : List ℕ) (begun on : List (List Begun)) (old new : Charted) → take (length word) more ≡ word → length word ≤ length more → take (length begun) on ≡ begun → length begun ≤ length on → length old.sets ≤ length new.sets → take (length old.sets) new.sets ≡ old.sets → ((j non : ℕ) → j < length old.sets → waiting_of (first_sets (length old.sets) new) j non ≡ waiting_of old j non) → KeepsFirst word more begun on old new
-keeps_of word more begun on old new a b c d e f h = record { word_kept = a; begun_kept = c; long = e; longer = b; wide = d; sets_kept = f; waits_kept = h }
+-- WHAT A STEP KEEPS WHILE IT ADDS
 
-pub all_taken : {A : Type 0} (xs : List A) → take (length xs) xs ≡ xs
-all_taken xs = take_all (length xs) xs (omega arith)
-
-pub push_taken : {A : Type 0} (xs more : List A) (y : A) → more ≡ xs ++ y ∷ [] → (take (length xs) more ≡ xs) × (length xs ≤ length more)
-push_taken {A} xs more y is = (ap (λ (l : List A). take (length xs) l) is ∙ front xs, (let e = length-append xs (y ∷ []) in let f = ap (λ (l : List A). length l) is in omega (arith, e, f)))
+pub push_taken : {A : Type 0} (xs more : List A) (y : A) → more ≡ xs ++ y ∷ [] → take (length xs) more ≡ xs
+push_taken {A} xs more y is = ap (λ (l : List A). take (length xs) l) is ∙ front xs
   where
     front : (zs : List A) → take (length zs) (zs ++ y ∷ []) ≡ zs
     front [] = refl
     front (z ∷ zs) = ap (λ l. z ∷ l) (front zs)
 
-waiting_taken : (chart : Charted) (n j non : ℕ) → j < n → waiting_of (first_sets n chart) j non ≡ waiting_of chart j non
-waiting_taken chart n j non lt = ap (λ (l : List Waiter). waiting_for l non) (get_or-take n chart.waits j [] lt)
-
--- nothing was added to the chart
-pub keeps_chart : (word more : List ℕ) (begun on : List (List Begun)) (old new : Charted) → (take (length word) more ≡ word) × (length word ≤ length more) → (take (length begun) on ≡ begun) × (length begun ≤ length on) → new.sets ≡ old.sets → ((j non : ℕ) → j ≢ length old.sets → waiting_of new j non ≡ waiting_of old j non) → KeepsFirst word more begun on old new
-keeps_chart word more begun on old new w b is same =
-    keeps_of word more begun on old new w.0 w.1 b.0 b.1 (let e = ap (λ (l : List (List Item)). length l) is in omega (arith, e)) (ap (λ (l : List (List Item)). take (length old.sets) l) is ∙ all_taken old.sets) (λ j non lt. let ne : j ≢ length old.sets = omega arith in waiting_taken new (length old.sets) j non lt ∙ same j non ne)
-
--- a set was added, and what is before it stayed
-pub keeps_pushed : (word more : List ℕ) (begun on : List (List Begun)) (old new : Charted) (set : List Item) → (take (length word) more ≡ word) × (length word ≤ length more) → (take (length begun) on ≡ begun) × (length begun ≤ length on) → new.sets ≡ old.sets ++ set ∷ [] → ((j non : ℕ) → j ≢ length old.sets → waiting_of new j non ≡ waiting_of old j non) → KeepsFirst word more begun on old new
-keeps_pushed word more begun on old new set w b sets same =
-    keeps_of word more begun on old new w.0 w.1 b.0 b.1 (let e = ap (λ (l : List (List Item)). length l) sets in let f = length-append old.sets (set ∷ []) in omega (arith, e, f)) (ap (λ (l : List (List Item)). take (length old.sets) l) sets ∙ (push_taken old.sets (old.sets ++ set ∷ []) set refl).0) (λ j non lt. let ne : j ≢ length old.sets = omega arith in waiting_taken new (length old.sets) j non lt ∙ same j non ne)
-
--- and something was added to it
-pub keeps_before : (word more : List ℕ) (begun on : List (List Begun)) (old pushed new : Charted) (set : List Item) → (take (length word) more ≡ word) × (length word ≤ length more) → (take (length begun) on ≡ begun) × (length begun ≤ length on) → pushed.sets ≡ old.sets ++ set ∷ [] → ((j non : ℕ) → j ≢ length old.sets → waiting_of pushed j non ≡ waiting_of old j non) → before_last new ≡ before_last pushed → KeepsFirst word more begun on old new
-keeps_before word more begun on old pushed new set w b sets same before = keeps_of word more begun on old new w.0 w.1 b.0 b.1 long kept waits
+-- a set was added, and then something to it alone
+pub firsts_kept : (old pushed new : Charted) (set : List Item) → pushed.sets ≡ old.sets ++ set ∷ [] → first_sets (length old.sets) pushed ≡ old → before_last new ≡ before_last pushed → first_sets (length old.sets) new ≡ old
+firsts_kept old pushed new set sets kept before = ap (λ n. first_sets n new) (sym last) ∙ before ∙ ap (λ n. first_sets n pushed) at ∙ kept
   where
     at : last_set pushed ≡ length old.sets
     at = let e = ap (λ (l : List (List Item)). length l) sets in let f = length-append old.sets (set ∷ []) in omega (arith, e, f)
@@ -457,46 +416,18 @@ keeps_before word more begun on old pushed new set w b sets same before = keeps_
     last : last_set new ≡ length old.sets
     last = sym (firsts_long new.sets) ∙ ap (λ (c : Charted). length c.sets) before ∙ firsts_long pushed.sets ∙ at
 
-    long : length old.sets ≤ length new.sets
-    long = omega (arith, last)
+-- a run with these facts
+abbrev pub running : Facts → ℕ → Bool → List ℕ → Charted → List (List Begun) → ℕ → Running
+running facts atom steady word chart begun marks = record { word = word; chart = chart; begun = begun; facts = facts; marks = marks; atom = atom; steady = steady }
 
-    firsts : first_sets (length old.sets) new ≡ first_sets (length old.sets) pushed
-    firsts = ap (λ n. first_sets n new) (sym last) ∙ before ∙ ap (λ n. first_sets n pushed) at
-
-    kept : take (length old.sets) new.sets ≡ old.sets
-    kept = ap (λ (c : Charted). c.sets) firsts ∙ ap (λ (l : List (List Item)). take (length old.sets) l) sets ∙ (push_taken old.sets (old.sets ++ set ∷ []) set refl).0
-
-    waits : (j non : ℕ) → j < length old.sets → waiting_of (first_sets (length old.sets) new) j non ≡ waiting_of old j non
-    waits j non lt = let ne : j ≢ length old.sets = omega arith in ap (λ (c : Charted). waiting_of c j non) firsts ∙ waiting_taken pushed (length old.sets) j non lt ∙ same j non ne
-
--- what was kept in a step that failed is the run before it
-pub run_kept : (g : Grammar) (w more : List ℕ) (f : Facts) (old new : Charted) (begun on : List (List Begun)) (marks others : ℕ) → IsRunOf g (unsteady w old begun f marks) → KeepsFirst w more begun on old new → others ≡ marks → (n : ℕ) → n ≡ length w → IsRunOf g (unsteady (take n more) (first_sets (n + 1) new) (take (n + 1) on) f others)
-run_kept g w more f old new begun on marks others run kept same n is =
-    subst (λ (m : ℕ). IsRunOf g (unsteady (take n more) (first_sets (n + 1) new) (take (n + 1) on) f m)) (sym same)
-    (subst (λ (b : List (List Begun)). IsRunOf g (unsteady (take n more) (first_sets (n + 1) new) b f marks)) (sym words)
-    (subst (λ (u : List ℕ). IsRunOf g (unsteady u (first_sets (n + 1) new) begun f marks)) (sym word)
-    (run_same g w f old (first_sets (n + 1) new) begun marks run sets waits)))
-  where
-    long : n + 1 ≡ length old.sets
-    long = let c = run.chart.counted in omega (arith, c, is)
-
-    wide : n + 1 ≡ length begun
-    wide = let c = run.counted in omega (arith, c, is)
-
-    word : take n more ≡ w
-    word = subst (λ m. take m more ≡ w) (sym is) kept.word_kept
-
-    words : take (n + 1) on ≡ begun
-    words = subst (λ m. take m on ≡ begun) (sym wide) kept.begun_kept
-
-    sets : take (n + 1) new.sets ≡ old.sets
-    sets = subst (λ m. take m new.sets ≡ old.sets) (sym long) kept.sets_kept
-
-    waits : (j non : ℕ) → waiting_of (first_sets (n + 1) new) j non ≡ waiting_of old j non
-    waits j non = elim (cases_lt j (length old.sets)) [
-      | inl lt ↦ subst (λ m. waiting_of (first_sets m new) j non ≡ waiting_of old j non) (sym long) (kept.waits_kept j non lt)
-      | inr le ↦ ap (λ (l : List Waiter). waiting_for l non) (get_or_past (take (n + 1) new.waits) j [] (omega (arith, le, long, length-take-most (n + 1) new.waits))) ∙ sym (waits_beyond g old run.waiters j non le)
-    ]
+-- what a step that failed leaves is the run before it
+pub same_run : (f : Facts) (atom : ℕ) (steady : Bool) (w more : List ℕ) (old new : Charted) (begun on : List (List Begun)) (marks others n : ℕ) → KeepsFirst w more begun on old new → others ≡ marks → n ≡ length w → n + 1 ≡ length old.sets → n + 1 ≡ length begun
+    → running f atom steady (take n more) (first_sets (n + 1) new) (take (n + 1) on) others ≡ running f atom steady w old begun marks
+same_run f atom steady w more old new begun on marks others n kept same is sets rows =
+    ap (λ u. running f atom steady u (first_sets (n + 1) new) (take (n + 1) on) others) (ap (λ m. take m more) is ∙ kept.word_kept)
+    ∙ ap (λ c. running f atom steady w c (take (n + 1) on) others) (ap (λ m. first_sets m new) sets ∙ kept.chart_kept)
+    ∙ ap (λ b. running f atom steady w old b others) (ap (λ m. take m on) rows ∙ kept.begun_kept)
+    ∙ ap (λ m. running f atom steady w old begun m) same
 
 -- LANGUAGE
 

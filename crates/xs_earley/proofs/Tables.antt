@@ -1,17 +1,17 @@
--- Rows of numbers: the empty ones, and those of the states in which a nonterminal's rules begin.
+-- Rows of numbers: the empty ones, those of the states in which a nonterminal's rules begin, and those of the ends of the start's rules.
 use Rattle.std.proofs.Common.{◌≡◌, ◌≢◌, ℕ, zero, suc, ◌+◌, ◌<◌, List, [], ◌∷◌, ◌++◌, length, get_or, set, refl, sym, ◌∙◌, ap, subst, arith, inl, inr, length-set, get_or-set_same, get_or-set_other}
 use Rattle.std.specs.Prelude.{Contains}
 use Rattle.std.proofs.lemmas.Bool.{cases_eq}
 use Rattle.std.proofs.lemmas.List.Elements.{Contains-append_left, Contains-push, Contains-push_cases}
 use Rattle.xs_class.proofs.Lists.{contains_of}
 use Rattle.xs_chart.specs.Different.{AreDifferent}
-use Rattle.xs_chart.proofs.Linking.{different_more}
+use Rattle.xs_chart.proofs.Different.{different_more}
 use Rattle.xs_gram.specs.declared.places.Place.{Place}
-use Rattle.xs_gram.specs.Grammar.{Grammar, rule_of}
+use Rattle.xs_gram.specs.Grammar.{Grammar, items, rule_of}
 use Rattle.xs_gram.specs.Places.{at_dot}
 use Rattle.xs_chart_laws.specs.Charts.{IsNumber}
 use Rattle.xs_chart_laws.proofs.Numbers.{one_place}
-use Rattle.xs_earley.specs.Starts.{IsStart, AreStarts}
+use Rattle.xs_earley.specs.Starts.{IsStart, AreStarts, IsEnd, AreEnds}
 use Rattle.xs_chart.proofs.Advancing.{no_element}
 
 -- one empty list more
@@ -89,3 +89,35 @@ starts_more g count m state rows lt is within number once known = record {
         let not_new = λ (e : h.0.0 ≡ count). ne (sym h.0.1.1 ∙ ap (λ n. (rule_of g n).non) e ∙ sym is) in
         let before : h.0.0 < count = elim (cases_eq h.0.0 count) [ inl e ↦ absurd (not_new e) | inr less ↦ omega arith ] in
         subst (λ (l : List ℕ). Contains l s) (sym (other non ne)) ((known.exact non s below).1 (h.0, before))
+
+-- one rule of the start more
+pub ends_more : (g : Grammar) (count state : ℕ) (ends : List ℕ) → count < length g.rules → (rule_of g count).non ≡ g.start → IsNumber g state (at_dot count (length (items g count))) → ((k : ℕ) → IsNumber g k (at_dot count (length (items g count))) → k ≡ state)
+    → AreEnds g count ends → AreEnds g (count + 1) (ends ++ state ∷ [])
+ends_more g count state ends lt is number once known s = (to, from)
+  where
+    to : Contains (ends ++ state ∷ []) s → (end : IsEnd g s) × (end.0 < count + 1)
+    to h = elim (Contains-push_cases ends state s h) [
+      | inl old ↦ let r = (known s).0 old in (r.0, (let less : r.0.0 < count = r.1 in omega arith))
+      | inr new ↦ ((count, (lt, is), subst (λ n. IsNumber g n (at_dot count (length (items g count)))) new number), omega arith)
+    ]
+
+    from : ((end : IsEnd g s) × (end.0 < count + 1)) → Contains (ends ++ state ∷ []) s
+    from h = elim (cases_eq h.0.0 count) [
+      | inl same ↦
+          let one : s ≡ state = once s (subst (λ n. IsNumber g s (at_dot n (length (items g n)))) same h.0.2) in
+          subst (λ n. Contains (ends ++ state ∷ []) n) (sym one) (Contains-push ends state)
+      | inr less ↦
+          let le : h.0.0 < count + 1 = h.1 in
+          let before : h.0.0 < count = omega arith in
+          Contains-append_left ends (state ∷ []) s ((known s).1 (h.0, before))
+    ]
+
+-- one rule more that is not of the start
+pub ends_other : (g : Grammar) (count : ℕ) (ends : List ℕ) → (rule_of g count).non ≢ g.start → AreEnds g count ends → AreEnds g (count + 1) ends
+ends_other g count ends ne known s = (
+  λ h. let r = (known s).0 h in (r.0, (let less : r.0.0 < count = r.1 in omega arith)),
+  λ h.
+      let le : h.0.0 < count + 1 = h.1 in
+      let before : h.0.0 < count = elim (cases_eq h.0.0 count) [ inl e ↦ absurd (ne (subst (λ n. (rule_of g n).non ≡ g.start) e h.0.1.1)) | inr less ↦ omega arith ] in
+      (known s).1 (h.0, before),
+)

@@ -1,19 +1,17 @@
 -- Whether a whole rule of the start is read over the document.
-use Rattle.std.proofs.Common.{◌≡◌, ℕ, ◌<◌, List, length, sym, subst}
+use Rattle.std.proofs.Common.{◌↔◌, ℕ, List, length}
+use Rattle.std.specs.Prelude.{Contains}
 use Rattle.xs_chart.specs.declared.item.Item.{Item}
-use Rattle.xs_gram.specs.Grammar.{Grammar, items, IsRuleOf}
+use Rattle.xs_chart.specs.Charted.{item_from}
+use Rattle.xs_gram.specs.Grammar.{Grammar}
 use Rattle.xs_gram.specs.Languages.{InLang}
-use Rattle.xs_gram.specs.Places.{at_dot}
-use Rattle.xs_chart_laws.specs.Charts.{HasPlace, IsChartOf}
+use Rattle.xs_chart_laws.specs.Charts.{set_at, IsChartOf}
 use Rattle.xs_chart_laws.proofs.Charts.{chart_language}
+use Rattle.xs_earley.specs.Starts.{AreEnds}
 
-module _ (g : Grammar) (w : List ℕ) (sets : List (List Item)) (at : ℕ) (chart : IsChartOf g w sets) (end : at ≡ length w) where
-  -- one is
-  pub whole_found : (p : ℕ) → IsRuleOf g g.start p → HasPlace g sets at (at_dot p (length (items g p))) 0 → InLang g w
-  whole_found p rule has = (chart_language g w sets chart).1 (p, rule, subst (λ j. HasPlace g sets j (at_dot p (length (items g p))) 0) end has)
-
-  -- none of the rules is
-  pub whole_missed : ((p : ℕ) → p < length g.rules → IsRuleOf g g.start p × HasPlace g sets at (at_dot p (length (items g p))) 0 → ⊥) → InLang g w → ⊥
-  whole_missed never h =
-      let e = (chart_language g w sets chart).0 h in
-      never e.0 e.1.0 (e.1, subst (λ j. HasPlace g sets j (at_dot e.0 (length (items g e.0))) 0) (sym end) e.2)
+-- one is, exactly where its end is in the last set, from the front
+pub whole_iff : (g : Grammar) (w : List ℕ) (sets : List (List Item)) (ends : List ℕ) → IsChartOf g w sets → AreEnds g (length g.rules) ends → ((state : ℕ) × Contains ends state × Contains (set_at sets (length w)) (item_from 0 state)) ↔ InLang g w
+whole_iff g w sets ends chart are = (
+  λ h. let e = ((are h.0).0 h.1).0 in (chart_language g w sets chart).1 (e.0, e.1, (h.0, e.2, h.2)),
+  λ h. let e = (chart_language g w sets chart).0 h in let k = e.2 in (k.0, (are k.0).1 ((e.0, e.1, k.1), e.1.0), k.2),
+)

@@ -15,7 +15,7 @@ use Rattle.xs_earley.specs.declared.rows.Row.{Row}
 use Rattle.xs_earley.specs.declared.rows.Stand.{Stand}
 use Rattle.xs_earley.specs.declared.rows.Stand.TheVariants.{AtEnd, AtNon, AtWord, AtTerm, AtSkip}
 use Rattle.xs_earley.specs.declared.facts.Facts.{Facts}
-use Rattle.xs_earley.specs.Starts.{AreStarts}
+use Rattle.xs_earley.specs.Starts.{AreStarts, AreEnds}
 
 -- what stands for a row that is not there
 abbrev pub no_row : Row
@@ -84,11 +84,12 @@ acts_at row = row.passes || leads_on row.stand
 pub record AreFacts (g : Grammar) (facts : Facts) : Type 0 where
   pub nulls : AreNullable g facts.nulls
   pub starts : AreStarts g (length g.rules) facts.starts.items
+  pub ends : AreEnds g (length g.rules) facts.ends.items
   pub rows : AreRows g facts.letters.items (length (all_places g)) facts.rows.items
   pub nexts : facts.nexts.items ≡ map next_at facts.rows.items
   pub acts : facts.acts.items ≡ map acts_at facts.rows.items
   pub few : length (all_places g) < 2 ^ 32
-  pub letters_few : length facts.letters.items < 2 ^ 32
+  pub letters_few : length facts.letters.items < 2 ^ 63
   pub atoms : IfSome facts.atoms (AreAtoms g)
 
 -- the grammar has atoms

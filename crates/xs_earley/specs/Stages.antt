@@ -1,7 +1,7 @@
 -- The parts of a step by one symbol.
-use Rattle.std.specs.Prelude.{◌≡◌, ◌↔◌, ℕ, suc, ◌<◌, ◌≤◌, List, [], ◌∷◌, ◌++◌, length, take, Contains}
+use Rattle.std.specs.Prelude.{◌≡◌, ◌↔◌, ℕ, suc, List, [], ◌∷◌, ◌++◌, length, take, Contains}
 use Rattle.xs_chart.specs.declared.item.Item.{Item}
-use Rattle.xs_chart.specs.Charted.{Charted, waiting_of, first_sets}
+use Rattle.xs_chart.specs.Charted.{Charted, first_sets}
 use Rattle.xs_gram.specs.declared.places.Place.{Place}
 use Rattle.xs_gram.specs.Grammar.{Grammar}
 use Rattle.xs_chart_laws.specs.Charts.{IsNumber}
@@ -20,8 +20,4 @@ AreDue g w s sets due = AreDueAt g (w ++ s ∷ []) sets (suc (length w)) due
 pub record KeepsFirst (word more : List ℕ) (begun on : List (List Begun)) (old new : Charted) : Type 0 where
   pub word_kept : take (length word) more ≡ word
   pub begun_kept : take (length begun) on ≡ begun
-  pub long : length old.sets ≤ length new.sets
-  pub longer : length word ≤ length more
-  pub wide : length begun ≤ length on
-  pub sets_kept : take (length old.sets) new.sets ≡ old.sets
-  pub waits_kept : (j non : ℕ) → j < length old.sets → waiting_of (first_sets (length old.sets) new) j non ≡ waiting_of old j non
+  pub chart_kept : first_sets (length old.sets) new ≡ old

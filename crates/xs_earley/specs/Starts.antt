@@ -1,7 +1,7 @@
--- The states in which the rules of each nonterminal begin.
+-- The states in which the rules of each nonterminal begin, and those in which the start's rules end.
 use Rattle.std.specs.Prelude.{◌≡◌, ◌↔◌, ℕ, ◌<◌, List, [], length, slice_index_or, Contains}
 use Rattle.xs_chart.specs.Different.{AreDifferent}
-use Rattle.xs_gram.specs.Grammar.{Grammar, IsRuleOf}
+use Rattle.xs_gram.specs.Grammar.{Grammar, items, IsRuleOf}
 use Rattle.xs_gram.specs.Places.{at_dot}
 use Rattle.xs_chart_laws.specs.Charts.{IsNumber}
 
@@ -14,3 +14,11 @@ pub record AreStarts (g : Grammar) (count : ℕ) (rows : List (List ℕ)) : Type
   pub counted : length rows ≡ g.nons
   pub exact : (non state : ℕ) → non < g.nons → Contains (slice_index_or rows non []) state ↔ ((start : IsStart g non state) × (start.0 < count))
   pub different : (non : ℕ) → AreDifferent (slice_index_or rows non [])
+
+-- a rule of the start ends in the state
+abbrev pub IsEnd : Grammar → ℕ → Type 0
+IsEnd g state = (q : ℕ) × IsRuleOf g g.start q × IsNumber g state (at_dot q (length (items g q)))
+
+-- the states in which the start's rules among that many first ones end are these
+abbrev pub AreEnds : Grammar → ℕ → List ℕ → Type 0
+AreEnds g count ends = (state : ℕ) → Contains ends state ↔ ((end : IsEnd g state) × (end.0 < count))

@@ -1,6 +1,7 @@
 ghost use Rattle.std.specs.Prelude.{◌≡◌, ◌<◌, ◌≤◌, ◌+◌, ◌++◌, ◌^◌, [], ◌∷◌, ℕ, length, false, slice_get, slice_index_or, Contains, IfOk};
 ghost use Rattle.xs_chart.specs.declared.item.Item.{Item as AnyItem};
 ghost use Rattle.xs_gram.specs.{IsBuilt, all_places};
+ghost use Rattle.xs_gram.specs.Grammar.{Grammar};
 ghost use Rattle.xs_earley.specs.declared.begun.Begun.{Begun as AnyBegun};
 ghost use Rattle.xs_earley.specs.Facts.{AreFacts, IsAtom};
 ghost use Rattle.xs_earley.specs.Masks.{has_bit as is_in, AreMasks};
@@ -160,7 +161,7 @@ fn read_letter(
     item: Item,
     begun: Begun,
 ) -> Result<(), Memory>
-    requires { at < 2 ^ 34 }
+    requires { at + 1 < 2 ^ 64 }
     ensures due { IfOk result (λ _. due.new.items ≡ due.old.items ++ word_due letters.now symbol at end item) }
     ensures fresh { IfOk result (λ _. fresh.new.items ≡ fresh.old.items ++ word_begun letters.now symbol at end begun) }
 {
@@ -207,16 +208,7 @@ fn arrive(
                 origin: item.origin,
                 count: 1,
             };
-            read_letter(
-                due,
-                fresh,
-                &facts.letters,
-                symbol,
-                from as usize,
-                end as usize,
-                next,
-                begun,
-            )?;
+            read_letter(due, fresh, &facts.letters, symbol, from, end, next, begun)?;
             Ok(())
         }
         Stand::AtTerm(term) => {
@@ -312,6 +304,7 @@ fn read_on(
     symbol: Sym,
     begun: Begun,
 ) -> Result<(), Memory>
+    requires facts { (g : Grammar) × AreFacts g facts.now }
     requires state { begun.state < length facts.now.rows.items }
     requires count { begun.count + 1 < 2 ^ 32 }
     ensures due { IfOk result (λ _. due.new.items ≡ due.old.items ++ more_due facts.now symbol begun) }
@@ -336,8 +329,8 @@ fn read_on(
                 fresh,
                 &facts.letters,
                 symbol,
-                from as usize + begun.count as usize,
-                end as usize,
+                from + begun.count as usize,
+                end,
                 next,
                 more,
             )?;
@@ -356,6 +349,7 @@ pub fn read_all(
     symbol: Sym,
     begun: &[Begun],
 ) -> Result<(), Memory>
+    requires facts { (g : Grammar) × AreFacts g facts.now }
     requires states { (b : AnyBegun) → Contains begun.now b → b.state < length facts.now.rows.items }
     requires counts { (b : AnyBegun) → Contains begun.now b → b.count + 1 < 2 ^ 32 }
     ensures due { IfOk result (λ _. due.new.items ≡ due.old.items ++ gathered (more_due facts.now symbol) begun.now) }

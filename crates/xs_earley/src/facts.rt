@@ -4,7 +4,7 @@ ghost use Rattle.xs_atoms.specs.{term_classes, skip_classes};
 ghost use Rattle.xs_atoms.specs.declared.atoms.Atoms.{Atoms as AnyAtoms};
 ghost use Rattle.xs_gram.specs.{all_places, IsBuilt};
 ghost use Rattle.xs_order.specs.{AreNullable};
-ghost use Rattle.xs_earley.specs.Starts.{IsStart, AreStarts};
+ghost use Rattle.xs_earley.specs.Starts.{IsStart, AreStarts, AreEnds};
 ghost use Rattle.xs_earley.specs.Facts.{AreFacts, IsAtom, row_at};
 ghost use Rattle.xs_earley.specs.Masks.{AreMasks};
 
@@ -18,13 +18,14 @@ use xs_order::{Flags, nullable};
 use xs_regex::Numbers;
 
 /// Of each nonterminal, whether it derives the empty word, and the states in which its rules begin;
-/// of each place a row, the number of the place after its item, and whether an item there may lead on
+/// the states in which the rules of the start end; of each place a row, the number of the place after its item, and whether an item there may lead on
 /// within its set; the symbols of all fixed words; the grammar's atoms, where it has few; and of each
 /// place a mask, by which most items that cannot read a symbol are passed over.
 #[derive(Drop)]
 pub struct Facts {
     pub nulls: Flags,
     pub starts: Vec<Numbers>,
+    pub ends: Vec<u32>,
     pub rows: Vec<Row>,
     pub nexts: Vec<u32>,
     pub acts: Vec<bool>,
@@ -51,6 +52,25 @@ fn starts_of(alloc: Global, g: &Gram) -> Result<Vec<Numbers>, Memory>
     Ok(rows)
 }
 
+/// The states in which the rules of the start end.
+fn ends_of(alloc: Global, g: &Gram) -> Result<Vec<u32>, Memory>
+    requires built { IsBuilt g.now }
+    ensures { IfOk result (λ ends. AreEnds g.now (length g.now.rules) ends.items) }
+{
+    let mut ends = Vec::new(alloc);
+    'rules: for rule in 0..g.rules() {
+        if g.non_of(rule) == g.start() {
+            let dot = g.items(rule).len() as u32;
+            ends.push(g.number(Place {
+                rule,
+                dot,
+                inside: None,
+            }))?;
+        }
+    }
+    Ok(ends)
+}
+
 impl Facts {
     /// The facts of a grammar; linear in its nonterminals, rules, places, fixed words and automata,
     /// beyond its atoms with their classes and the nonterminals that derive the empty word.
@@ -61,6 +81,7 @@ impl Facts {
     {
         let nulls = nullable(alloc, g)?;
         let starts = starts_of(alloc, g)?;
+        let ends = ends_of(alloc, g)?;
         let (rows, letters) = rows_of(alloc, g, &nulls)?;
         let nexts = nexts_of(alloc, &rows)?;
         let acts = acts_of(alloc, &rows)?;
@@ -69,6 +90,7 @@ impl Facts {
         let mut facts = Facts {
             nulls,
             starts,
+            ends,
             rows,
             nexts,
             acts,

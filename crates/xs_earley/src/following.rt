@@ -2,6 +2,7 @@ ghost use Rattle.std.specs.Prelude.{◌≡◌, ◌<◌, ◌≤◌, ◌+◌, ◌�
 ghost use Rattle.xs_class.specs.{Has};
 ghost use Rattle.xs_chart.specs.declared.item.Item.{Item as AnyItem};
 ghost use Rattle.xs_gram.specs.{IsFront, all_places, IsBuilt};
+ghost use Rattle.xs_gram.specs.Grammar.{Grammar};
 ghost use Rattle.xs_earley.specs.declared.begun.Begun.{Begun as AnyBegun};
 ghost use Rattle.xs_earley.specs.Arriving.{gathered};
 ghost use Rattle.xs_earley.specs.Facts.{AreFacts};
@@ -77,7 +78,7 @@ fn add_item(ranges: &mut Ranges, g: &Gram, facts: &Facts, item: Item) -> Result<
         Stand::AtEnd(_) => Ok(()),
         Stand::AtNon(_) => Ok(()),
         Stand::AtWord(from, _) => {
-            add_letter(ranges, &facts.letters, from as usize)?;
+            add_letter(ranges, &facts.letters, from)?;
             Ok(())
         }
         Stand::AtTerm(term) => {
@@ -106,6 +107,7 @@ fn add_items(ranges: &mut Ranges, g: &Gram, facts: &Facts, items: &[Item]) -> Re
 
 /// Appends the symbol by which a begun word goes on.
 fn add_rest(ranges: &mut Ranges, facts: &Facts, begun: Begun) -> Result<(), Memory>
+    requires facts { (g : Grammar) × AreFacts g facts.now }
     requires state { begun.state < length facts.now.rows.items }
     ensures { IfOk result (λ _. ranges.new.items ≡ ranges.old.items ++ more_next facts.now begun) }
 {
@@ -114,8 +116,7 @@ fn add_rest(ranges: &mut Ranges, facts: &Facts, begun: Begun) -> Result<(), Memo
         Stand::AtEnd(_) => Ok(()),
         Stand::AtNon(_) => Ok(()),
         Stand::AtWord(from, _) => {
-            let place = from as usize + begun.count as usize;
-            add_letter(ranges, &facts.letters, place)?;
+            add_letter(ranges, &facts.letters, from + begun.count as usize)?;
             Ok(())
         }
         Stand::AtTerm(_) => Ok(()),
@@ -125,6 +126,7 @@ fn add_rest(ranges: &mut Ranges, facts: &Facts, begun: Begun) -> Result<(), Memo
 
 /// Appends the symbols by which the begun words go on.
 fn add_rests(ranges: &mut Ranges, facts: &Facts, begun: &[Begun]) -> Result<(), Memory>
+    requires facts { (g : Grammar) × AreFacts g facts.now }
     requires states { (b : AnyBegun) → Contains begun.now b → b.state < length facts.now.rows.items }
     ensures { IfOk result (λ _. ranges.new.items ≡ ranges.old.items ++ gathered (more_next facts.now) begun.now) }
 {

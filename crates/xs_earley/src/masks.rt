@@ -113,7 +113,7 @@ fn state_mask(g: &Gram, facts: &Facts, atoms: &Atoms, masks: &[u64], state: u32)
     match row.stand {
         Stand::AtEnd(_) => 0,
         Stand::AtNon(_) => 0,
-        Stand::AtWord(from, _) => letter_mask(atoms, &facts.letters, from as usize),
+        Stand::AtWord(from, _) => letter_mask(atoms, &facts.letters, from),
         Stand::AtTerm(term) => {
             let positions = next_positions(g.term(term), state, row.base);
             positions_mask(masks, atoms.term_classes(term), positions)

@@ -35,7 +35,7 @@ pub fn recognise(alloc: Global, g: &Gram, doc: &Word) -> Result<Chart, SeeFault>
             return Err(SeeFault::Foreign { viable });
         }
     }
-    if run.whole(g) {
+    if run.whole() {
         return Ok(run.into_chart());
     }
     let viable = doc.len() as u64;

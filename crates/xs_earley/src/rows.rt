@@ -20,7 +20,7 @@ use xs_regex::Position;
 pub enum Stand {
     AtEnd(u32),
     AtNon(u32),
-    AtWord(u32, u32),
+    AtWord(usize, usize),
     AtTerm(u32),
     AtSkip(u32),
 }
@@ -65,25 +65,17 @@ fn is_passed(g: &Gram, nulls: &Flags, place: Place, item: &GItem) -> bool
 fn push_word(letters: &mut Vec<Sym>, word: &Word) -> Result<Stand, Memory>
     requires { 0 < length word.now }
     ensures letters { IfOk result (λ _. letters.new.items ≡ letters.old.items ++ word.now) }
-    ensures few { IfOk result (λ _. length letters.new.items < 2 ^ 32) }
     ensures stand { IfOk result (IsKind letters.new.items (Fixed word.now)) }
 {
-    let Ok(from) = u32::try_from(letters.len()) else {
-        return Err(Memory);
-    };
+    let from = letters.len();
     letters.extend_from_slice(word.as_slice())?;
-    let Ok(end) = u32::try_from(letters.len()) else {
-        return Err(Memory);
-    };
-    Ok(Stand::AtWord(from, end))
+    Ok(Stand::AtWord(from, letters.len()))
 }
 
 /// What the item is; the symbols of a fixed word are appended.
 fn stand_of(letters: &mut Vec<Sym>, item: &GItem) -> Result<Stand, Memory>
     requires words { (f : List ℕ) → item.now ≡ Fixed f → 0 < length f }
-    requires few { length letters.old.items < 2 ^ 32 }
     ensures letters { IfOk result (λ _. (more : List ℕ) × (letters.new.items ≡ letters.old.items ++ more)) }
-    ensures few { IfOk result (λ _. length letters.new.items < 2 ^ 32) }
     ensures stand { IfOk result (IsKind letters.new.items item.now) }
 {
     match item {
@@ -102,9 +94,7 @@ fn row_of(g: &Gram, nulls: &Flags, letters: &mut Vec<Sym>, place: Place) -> Resu
     requires built { IsBuilt g.now }
     requires nulls { AreNullable g.now nulls.now }
     requires place { IsPlace g.now place }
-    requires few { length letters.old.items < 2 ^ 32 }
     ensures letters { IfOk result (λ _. (more : List ℕ) × (letters.new.items ≡ letters.old.items ++ more)) }
-    ensures few { IfOk result (λ _. length letters.new.items < 2 ^ 32) }
     ensures row { IfOk result (IsRow g.now letters.new.items place) }
 {
     let base = g.number(Place {
@@ -138,7 +128,7 @@ pub fn rows_of(alloc: Global, g: &Gram, nulls: &Flags) -> Result<(Vec<Row>, Vec<
     requires built { IsBuilt g.now }
     requires nulls { AreNullable g.now nulls.now }
     ensures rows { IfOk result (λ r. AreRows g.now r.1.items (length (all_places g.now)) r.0.items) }
-    ensures few { IfOk result (λ r. length r.1.items < 2 ^ 32) }
+    ensures few { IfOk result (λ r. length r.1.items < 2 ^ 63) }
 {
     let mut letters = Vec::new(alloc);
     let mut rows = Vec::with_capacity(alloc, g.places() as usize)?;
@@ -146,6 +136,7 @@ pub fn rows_of(alloc: Global, g: &Gram, nulls: &Flags) -> Result<(Vec<Row>, Vec<
         let row = row_of(g, nulls, &mut letters, g.place(number))?;
         rows.push(row)?;
     }
+    let _few = letters.len();
     Ok((rows, letters))
 }
 

@@ -1,9 +1,8 @@
-ghost use Rattle.std.specs.Prelude.{◌≡◌, ◌<◌, ◌≤◌, ◌+◌, ◌↔◌, ◌^◌, suc, ℕ, false, [], ◌∷◌, ◌++◌, length, take, true, ◌⊎◌, slice_index_or, IsTrue, IfOk, OnErr};
+ghost use Rattle.std.specs.Prelude.{◌≡◌, ◌<◌, ◌≤◌, ◌+◌, ◌↔◌, ◌^◌, suc, ℕ, false, [], ◌∷◌, ◌++◌, length, take, true, ◌⊎◌, slice_index_or, Contains, IsTrue, IfOk, OnErr};
 ghost use Rattle.xs_class.specs.{Has};
-ghost use Rattle.xs_chart.specs.{set_limit, items_of};
-ghost use Rattle.xs_gram.specs.{items, IsRuleOf, InLang, IsFront, at_dot, IsSound};
+ghost use Rattle.xs_chart.specs.{set_limit, items_of, item_from};
+ghost use Rattle.xs_gram.specs.{InLang, IsFront, IsSound};
 ghost use Rattle.xs_gram.specs.Grammar.{Grammar};
-ghost use Rattle.xs_chart_laws.specs.{HasPlace, IsChartOf, HasWaiters};
 ghost use Rattle.xs_earley.specs.Facts.{HasAtoms};
 ghost use Rattle.xs_earley.specs.Running.{IsRunOf};
 
@@ -17,7 +16,7 @@ use std::marker::Model;
 use xs_chart::{Chart, Item};
 use xs_class::{Class, Memory, Sym};
 use xs_flat::FlatLists;
-use xs_gram::{Gram, Place};
+use xs_gram::Gram;
 
 /// A recogniser that reads a document symbol by symbol, and can go back.
 ///
@@ -49,35 +48,19 @@ impl Model for Run {
     ghost view = { λ r. record { word = r.word.items; chart = r.chart; begun = r.begun; facts = r.facts; marks = length r.called; atom = r.atom; steady = r.steady } };
 }
 
-/// Whether the rule is one of the start, and set `at` of the chart has it at its end, from the front of
-/// the document.
-fn has_whole(g: &Gram, chart: &Chart, at: u32, rule: u32) -> bool
-    requires rule { rule < length g.now.rules }
+/// Whether set `at` has the item of one of these states from the front of the document.
+fn has_any(chart: &Chart, at: u32, states: &[u32]) -> bool
     requires at { at < length chart.now.sets }
-    ensures { IsTrue result ↔ (IsRuleOf g.now g.now.start rule × HasPlace g.now chart.now.sets at (at_dot rule (length (items g.now rule))) 0) }
+    ensures { IsTrue result ↔ ((state : ℕ) × Contains states.now state × Contains (items_of chart.now at) (item_from 0 state)) }
 {
-    if g.non_of(rule) != g.start() {
-        return false;
-    }
-    let place = Place {
-        rule,
-        dot: g.items(rule).len() as u32,
-        inside: None,
-    };
-    let state = g.number(place);
-    chart.has(at, Item { state, origin: 0 })
-}
-
-/// Whether a whole rule of the start is read over the document.
-fn is_whole(g: &Gram, doc: &[Sym], chart: &Chart) -> bool
-    requires sound { IsSound g.now }
-    requires chart { IsChartOf g.now doc.now chart.now.sets }
-    requires few { length doc.now < set_limit }
-    ensures { IsTrue result ↔ InLang g.now doc.now }
-{
-    let at = doc.len() as u32;
-    'rules: for rule in 0..g.rules() {
-        if has_whole(g, chart, at, rule) {
+    'states: for state in states {
+        if chart.has(
+            at,
+            Item {
+                state: *state,
+                origin: 0,
+            },
+        ) {
             return true;
         }
     }
@@ -165,7 +148,7 @@ impl Run {
     {
         let facts = Facts::of(alloc, g)?;
         let mut called = Called::new(alloc, g.nons() as usize)?;
-        let mut chart = Chart::new(alloc, g.places() as usize)?;
+        let mut chart = Chart::new(alloc)?;
         first_set(&mut chart, &mut called, g, &facts)?;
         let mut begun = FlatLists::new(alloc);
         begun.push(&[])?;
@@ -183,8 +166,8 @@ impl Run {
     }
 
     /// Reads one symbol more; true exactly where the word so far, followed by the symbol, begins a
-    /// word of the language. Where it does not, the run is unchanged; after `Memory` it has the word
-    /// and the sets that it had. In time linear in what the last set and the new one lead to.
+    /// word of the language. Where it does not, and after `Memory`, the run is unchanged. In time linear
+    /// in what the last set and the new one lead to.
     pub fn step(&mut self, g: &Gram, symbol: Sym) -> Result<bool, Memory>
         requires run { IsRunOf g.now self.old }
         requires more { length self.old.word + 1 < set_limit }
@@ -192,8 +175,7 @@ impl Run {
         ensures run { IsRunOf g.now self.new }
         ensures word { IfOk result (λ next. IsTrue next → self.new.word ≡ self.old.word ++ symbol ∷ []) }
         ensures unchanged { IfOk result (λ next. next ≡ false → self.new ≡ self.old) }
-        ensures err { OnErr result (self.new.word ≡ self.old.word) }
-        ensures err_sets { OnErr result (self.new.chart.sets ≡ self.old.chart.sets) }
+        ensures err { OnErr result (self.new ≡ self.old) }
     {
         let atom = self.facts.atom(symbol);
         let repeats = repeats_last(self.steady, atom, self.atom);
@@ -239,7 +221,6 @@ impl Run {
                 Ok(true)
             }
             Err(memory) => {
-                self.steady = false;
                 self.word.truncate(length);
                 self.chart.truncate(length as u32 + 1);
                 self.begun.truncate(length + 1);
@@ -287,12 +268,13 @@ impl Run {
         self.word.len()
     }
 
-    /// Whether the word so far is of the language.
-    pub fn whole(&self, g: &Gram) -> bool
-        requires { IsRunOf g.now self.now }
-        ensures { IsTrue result ↔ InLang g.now self.now.word }
+    /// Whether the word so far is of the language; takes no memory. In constant expected time for each
+    /// rule of the start, and after `back` in time linear in the last set for each.
+    pub fn whole(&self) -> bool
+        requires run { (g : Grammar) × IsRunOf g self.now }
+        ensures { (g : Grammar) → IsRunOf g self.now → IsTrue result ↔ InLang g self.now.word }
     {
-        is_whole(g, &self.word, &self.chart)
+        has_any(&self.chart, self.word.len() as u32, &self.facts.ends)
     }
 
     /// The chart of the word so far.

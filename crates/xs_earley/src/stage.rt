@@ -1,5 +1,5 @@
-ghost use Rattle.std.specs.Prelude.{◌≡◌, ◌<◌, ◌+◌, ◌↔◌, suc, ℕ, [], ◌∷◌, ◌++◌, length, false, slice_index_or, IsTrue, IfOk};
-ghost use Rattle.xs_chart.specs.{set_limit, items_of};
+ghost use Rattle.std.specs.Prelude.{◌≡◌, ◌≢◌, ◌<◌, ◌+◌, ◌↔◌, suc, ℕ, [], ◌∷◌, ◌++◌, length, false, if◌then◌else◌, slice_index_or, IsTrue, IfOk, OnOk};
+ghost use Rattle.xs_chart.specs.{set_limit, items_of, waiting_of, last_set, first_sets};
 ghost use Rattle.xs_gram.specs.{IsFront, IsSound};
 ghost use Rattle.xs_chart_laws.specs.{IsChartOf, HasWaiters};
 ghost use Rattle.xs_earley.specs.Arriving.{gathered, item_due, item_begun, more_due, more_begun, AreBegun};
@@ -36,7 +36,7 @@ pub fn first_set(
     ensures waiters { IfOk result (λ _. HasWaiters g.now chart.new) }
     ensures marks { length called.new ≡ length called.old }
 {
-    chart.push_set(false)?;
+    chart.push_set()?;
     predict(chart, called, g, facts, 0, g.start())?;
     close(chart, called, g, facts, &[], 0)?;
     let _different = chart.sets();
@@ -110,6 +110,24 @@ pub fn goes_on(
     Ok(!is_nothing(due, fresh))
 }
 
+/// Opens the next set: with what the last one has where that is repeated, else an empty one.
+#[inline(always)]
+fn open_set(chart: &mut Chart, repeats: bool) -> Result<(), Memory>
+    requires few { length chart.old.sets < set_limit }
+    requires some { IsTrue repeats → 0 < length chart.old.sets }
+    ensures sets { OnOk result (chart.new.sets ≡ chart.old.sets ++ (if repeats then items_of chart.old (last_set chart.old) else []) ∷ []) }
+    ensures waiting { (set non : ℕ) → set ≢ length chart.old.sets → waiting_of chart.new set non ≡ waiting_of chart.old set non }
+    ensures last { OnOk result ((non : ℕ) → waiting_of chart.new (length chart.old.sets) non ≡ (if repeats then waiting_of chart.old (last_set chart.old) non else [])) }
+    ensures before { first_sets (length chart.old.sets) chart.new ≡ chart.old }
+{
+    if repeats {
+        chart.repeat_set()?;
+        return Ok(());
+    }
+    chart.push_set()?;
+    Ok(())
+}
+
 /// Fills the next set: with the last set once more where the symbol repeats it, else with what is due,
 /// and all that it leads to there.
 pub fn next_set(
@@ -138,9 +156,9 @@ pub fn next_set(
     ensures marks { length called.new ≡ length called.old }
     ensures kept { KeepsFirst word.old.items word.new.items begun.old begun.new chart.old chart.new }
 {
+    open_set(chart, repeats)?;
     word.push(symbol)?;
     begun.push(fresh)?;
-    chart.push_set(repeats)?;
     if repeats {
         return Ok(());
     }

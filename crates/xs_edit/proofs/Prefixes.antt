@@ -9,7 +9,7 @@ use Rattle.xs_pair.specs.Grammars.{Pair}
 use Rattle.xs_chart_laws.proofs.Words.{get_take, get_lt}
 use Rattle.xs_earley.specs.Running.{Running, IsRunOf}
 use Rattle.xs_earley.proofs.Steppings.{viable_stop, viable_whole}
-use Rattle.xs_edit.specs.Edits.{edited, document_limit}
+use Rattle.xs_edit.specs.Edits.{edited}
 use Rattle.xs_edit.specs.Sessions.{HasRead, IsFollowing, IsKept, IsNext}
 
 -- what is taken of a part that is taken

@@ -10,6 +10,7 @@
 #![tactic(auto)]
 
 mod changing;
+mod derivation;
 mod fault;
 mod session;
 

@@ -1,17 +1,18 @@
-ghost use Rattle.std.specs.Prelude.{◌≡◌, ◌<◌, ◌≤◌, [], length, IfOk, IfErr, OnOk, MatchOption};
+ghost use Rattle.std.specs.Prelude.{◌≡◌, [], IfOk, IfErr, OnOk};
 ghost use Rattle.xs_gram.specs.{IsViable, IsSound};
 ghost use Rattle.xs_edit.specs.Edits.{edited, CanEdit, IsUndone};
 ghost use Rattle.xs_edit.specs.Sessions.{IsTreeOf, IsNext};
 
 use crate::EditFault;
 use crate::changing::change;
+use crate::derivation::{derivation, renew};
+use bumpalo::Bump;
 use std::alloc::Global;
 use std::marker::Model;
 use std::mem;
 use xs_class::{Class, Memory, Side, Word};
 use xs_earley::Run;
-use xs_grow::grow;
-use xs_listing::{Spelt, list_trees};
+use xs_listing::Spelt;
 use xs_pair::Two;
 
 /// How many symbols a document may have.
@@ -20,12 +21,15 @@ const DOCUMENT_LIMIT: usize = 1_048_576;
 /// A document of the text side of two grammars that is edited.
 ///
 /// Contracts see the grammars and the document. Beside the document a run of the recogniser is kept,
-/// which has read its longest viable prefix.
+/// which has read its longest viable prefix, and the arena in which forests are grown, whose memory is
+/// used again.
 #[derive(Drop)]
 pub struct Session<'t> {
+    alloc: Global,
     two: &'t Two,
     doc: Word,
     run: Run,
+    arena: Bump<Global>,
 }
 
 impl<'t> Model for Session<'t> {
@@ -53,9 +57,11 @@ impl<'t> Session<'t> {
     {
         let run = Run::begin(alloc, two.gram(Side::Text))?;
         Ok(Session {
+            alloc,
             two,
             doc: Word::new(alloc),
             run,
+            arena: Bump::new(alloc),
         })
     }
 
@@ -72,7 +78,7 @@ impl<'t> Session<'t> {
     /// document would have more than 1,048,576 symbols; then the session is as it was. After
     /// `Memory` the document is empty. In time linear in what the sets from the place on lead to;
     /// those before it are kept.
-    pub fn edit(&mut self, alloc: Global, at: u32, cut: u32, put: &Word) -> Result<(), EditFault>
+    pub fn edit(&mut self, at: u32, cut: u32, put: &Word) -> Result<(), EditFault>
         ensures document { OnOk result (self.new.document ≡ edited self.old.document at cut put.now) }
         ensures can { OnOk result (CanEdit self.old.document at cut put.now) }
         ensures fault { IfErr result (IsUndone self.old.document at cut put.now self.new.document) }
@@ -87,8 +93,8 @@ impl<'t> Session<'t> {
             return Err(EditFault::Long);
         }
         let g = self.two.gram(Side::Text);
-        let doc = mem::replace(&mut self.doc, Word::new(alloc));
-        match change(alloc, &mut self.run, g, doc, at, cut, put.as_slice()) {
+        let doc = mem::replace(&mut self.doc, Word::new(self.alloc));
+        match change(self.alloc, &mut self.run, g, doc, at, cut, put.as_slice()) {
             Ok(new) => {
                 self.doc = new;
                 Ok(())
@@ -110,29 +116,26 @@ impl<'t> Session<'t> {
 
     /// A derivation of the document; None exactly where it is foreign. In time linear in the chart
     /// and the forest that is grown from it.
-    pub fn tree(&self, alloc: Global) -> Result<Option<Spelt>, Memory>
-        ensures { IfOk result (IsTreeOf self.now.pair.text self.now.document) }
+    pub fn tree(&mut self) -> Result<Option<Spelt>, Memory>
+        ensures tree { IfOk result (IsTreeOf self.old.pair.text self.old.document) }
+        ensures unchanged { self.new ≡ self.old }
     {
         let g = self.two.gram(Side::Text);
-        if self.run.len() < self.doc.len() || !self.run.whole(g) {
-            return Ok(None);
-        }
-        let grown = grow(alloc, g, self.run.chart(), &self.doc)?;
-        let listing = list_trees(alloc, &grown, g, &self.doc, 1)?;
-        let mut trees = listing.trees.into_vec();
-        Ok(trees.pop())
+        let tree = derivation(self.alloc, &self.arena, g, &self.run, &self.doc);
+        renew(self.alloc, &mut self.arena);
+        tree
     }
 
     /// The symbols that may come after the first `at` symbols of the document; None exactly where
     /// `at` exceeds `viable`. In time n log n of the ranges of the classes by which their set goes
     /// on.
-    pub fn next(&self, alloc: Global, at: u32) -> Result<Option<Class>, Memory>
+    pub fn next(&self, at: u32) -> Result<Option<Class>, Memory>
         ensures { IfOk result (IsNext self.now.pair.text self.now.document at) }
     {
         if at as usize > self.run.len() {
             return Ok(None);
         }
-        let class = self.run.next(alloc, self.two.gram(Side::Text), at)?;
+        let class = self.run.next(self.alloc, self.two.gram(Side::Text), at)?;
         Ok(Some(class))
     }
 }

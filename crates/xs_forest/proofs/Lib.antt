@@ -1,3 +1,3 @@
+pub mod Labels
+pub mod Pushed
 pub mod Refused
-pub mod Zipped
-pub mod Indexing

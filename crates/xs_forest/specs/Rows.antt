@@ -1,15 +1,15 @@
 -- What contracts see of a forest: the list of its rows.
-use Rattle.std.specs.Prelude.{◌≡◌, ℕ, ◌<◌, List, [], ◌∷◌, length, Option, None, Some, slice_get}
-use Rattle.std.specs.List.{zip}
+use Rattle.std.specs.Prelude.{◌≡◌, ℕ, ◌<◌, List, [], ◌∷◌, Option, None, Some, map, slice_get}
+use Rattle.std.specs.Borrow.{Bor}
 use Rattle.xs_forest.specs.declared.row.Alt.{Alt}
 
 -- each row is its label with its alternatives
 abbrev pub Rows : Type 0 → Type 0
 Rows L = List (L × List Alt)
 
--- the rows of these labels with these alternatives
-abbrev pub rows_of : {L : Type 0} → List L → List (List Alt) → Rows L
-rows_of labels lists = zip labels lists
+-- the rows whose alternatives the references point to
+abbrev pub rows_of : {L : Type 0} → List (L × Bor (List Alt)) → Rows L
+rows_of entries = map (λ e. (e.0, e.1.now)) entries
 
 -- a child's number is below the number of rows
 abbrev pub IsEarlier : Option ℕ → ℕ → Type 0
@@ -32,9 +32,3 @@ AreOnce {L} rows = (j k : ℕ) (label : L) → HasLabel rows j label → HasLabe
 -- the children of each row stand before it
 abbrev pub AreBelow : {L : Type 0} → Rows L → Type 0
 AreBelow {L} rows = (at : ℕ) (label : L) (alts : List Alt) → slice_get rows at ≡ Some (label, alts) → AreEarlier alts at
-
--- What a forest keeps: as many lists of alternatives as labels, children first, and no label twice.
-pub record AreKept {L : Type 0} (labels : List L) (lists : List (List Alt)) : Type 0 where
-  pub long : length lists ≡ length labels
-  pub below : AreBelow (rows_of labels lists)
-  pub once : AreOnce (rows_of labels lists)

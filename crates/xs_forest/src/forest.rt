@@ -1,46 +1,91 @@
-ghost use Rattle.std.specs.Prelude.{◌≡◌, ◌<◌, length, slice_get};
+ghost use Rattle.std.specs.Prelude.{◌≡◌, ◌↔◌, ◌<◌, ℕ, [], ◌∷◌, ◌++◌, length, slice_get, IfOk, OnOk, OnErr, MatchOption};
 
-use crate::{Alt, Label, Row};
+use crate::{AddFault, Alt, Label, Row};
+use bumpalo::Bump;
+use bumpalo::collections::into_bump_slice;
+use indexmap::IndexMap;
+use std::alloc::{AllocError, Global};
 use std::marker::Model;
-use xs_flat::FlatLists;
+use xs_class::Memory;
 
-/// A list of rows with different labels. It takes no memory beside the labels and the alternatives
-/// but a number for each row.
-#[derive(Drop)]
-pub struct Forest<L: Label> {
-    labels: Vec<L>,
-    lists: FlatLists<Alt>,
+/// The slice's alternatives, copied into the arena.
+fn kept<'b>(bump: &'b Bump<Global>, alts: &[Alt]) -> Result<&'b [Alt], AllocError>
+    ensures { IfOk result (λ kept. kept.now ≡ alts.now) }
+{
+    let mut list = Vec::with_capacity(bump, alts.len())?;
+    list.extend_from_slice(alts)?;
+    Ok(into_bump_slice(list))
 }
 
-impl<L: Label> Model for Forest<L> {
-    ghost use Rattle.xs_forest.specs.Rows.{Rows, rows_of, AreKept};
+/// A list of rows with different labels, whose alternatives lie in an arena.
+#[derive(Drop)]
+pub struct Forest<'b, L: Label> {
+    bump: &'b Bump<Global>,
+    rows: IndexMap<L, &'b [Alt]>,
+}
+
+impl<'b, L: Label> Model for Forest<'b, L> {
+    ghost use Rattle.xs_forest.specs.Rows.{Rows, rows_of, AreBelow};
 
     ghost Value = { Rows L };
 
-    ghost view = { λ f. rows_of f.labels.items f.lists };
+    ghost view = { λ f. rows_of f.rows.entries };
 
-    ghost invariant = { λ f. AreKept f.labels.items f.lists };
+    ghost invariant = { λ f. AreBelow (rows_of f.rows.entries) };
 }
 
-impl<L: Label> Forest<L> {
-    ghost use Rattle.xs_forest.specs.Rows.{AreBelow, AreOnce, AreKept, rows_of};
+impl<'b, L: Label> Forest<'b, L> {
+    ghost use Rattle.xs_forest.specs.Rows.{AreBelow, AreEarlier, AreOnce, HasLabel};
 
-    /// The forest of these rows.
-    pub(crate) fn of(labels: Vec<L>, lists: FlatLists<Alt>) -> Self
-        requires { AreKept labels.items lists }
-        ensures { result ≡ rows_of labels.items lists }
+    /// The forest without rows, over the arena.
+    pub fn new(alloc: Global, bump: &'b Bump<Global>) -> Result<Self, Memory>
+        ensures { IfOk result (λ forest. forest ≡ []) }
     {
-        Forest { labels, lists }
+        Ok(Forest {
+            bump,
+            rows: IndexMap::new(alloc),
+        })
+    }
+
+    /// The number of the row that has the label, or None where no row has it.
+    ///
+    /// It takes constant expected time. The hash has no secret seed, so labels that are chosen for it
+    /// can make this linear in the rows, here and in `add_row`.
+    pub fn find(&self, label: L) -> Option<u64>
+        ensures found { MatchOption result ((at : ℕ) → HasLabel self.now at label → ⊥) (λ at. HasLabel self.now at label) }
+    {
+        let at = self.rows.get_index_of(&label)?;
+        Some(at as u64)
+    }
+
+    /// A new last row, in expected time linear in its alternatives; the answer is its number.
+    ///
+    /// The answer is `Repeated` exactly where a row has this label.
+    pub fn add_row(&mut self, label: L, alts: &[Alt]) -> Result<u64, AddFault>
+        requires { AreEarlier alts.now (length self.old) }
+        ensures number { IfOk result (λ number. number ≡ length self.old) }
+        ensures added { OnOk result (self.new ≡ self.old ++ (label, alts.now) ∷ []) }
+        ensures repeated { (at : ℕ) → (result ≡ Err (AddFault.Repeated at)) ↔ HasLabel self.old at label }
+        ensures err { OnErr result (self.new ≡ self.old) }
+    {
+        if let Some(at) = self.rows.get_index_of(&label) {
+            return Err(AddFault::Repeated { at: at as u64 });
+        }
+        let alts = kept(self.bump, alts)?;
+        let number = self.rows.len() as u64;
+        self.rows.insert(label, alts)?;
+        Ok(number)
     }
 
     /// The row of a number.
-    pub fn row(&self, i: u64) -> Row<'_, L>
+    pub fn row(&self, i: u64) -> Row<'b, L>
         requires { i < length self.now }
         ensures { slice_get self.now i ≡ Some (result.label, result.alts.now) }
     {
+        let (label, alts) = self.rows.get_index(i as usize).unwrap();
         Row {
-            label: self.labels[i as usize],
-            alts: self.lists.list(i as usize),
+            label: *label,
+            alts: *alts,
         }
     }
 
@@ -50,6 +95,6 @@ impl<L: Label> Forest<L> {
         ensures once { AreOnce self.now }
         ensures below { AreBelow self.now }
     {
-        self.labels.len() as u64
+        self.rows.len() as u64
     }
 }

@@ -2,13 +2,13 @@
 #[derive(Clone, Copy, Debug, PartialEq, Eq)]
 pub struct Alt {
     pub rule: u32,
-    pub left: Option<u32>,
-    pub right: Option<u32>,
+    pub left: Option<u64>,
+    pub right: Option<u64>,
 }
 
-/// A row of a forest; its alternatives lie in the forest.
+/// A row of a forest; its alternatives lie in the forest's arena.
 #[derive(Clone, Copy, Debug)]
-pub struct Row<'f, L> {
+pub struct Row<'b, L> {
     pub label: L,
-    pub alts: &'f [Alt],
+    pub alts: &'b [Alt],
 }

@@ -8,7 +8,6 @@ pub mod Number
 pub mod Listing
 pub mod Walk
 pub mod Laws
-pub mod Spread
 -- what other crates' contracts cite
 pub use Rattle.xs_forest_laws.specs.Forest.{IsRight, IsRow, Unfolding, alts_of, end_of, item_of, key_at, key_of, read}
 pub use Rattle.xs_forest_laws.specs.Grown.{IsGrown, ItemOver}

@@ -2,13 +2,13 @@
 use Rattle.std.proofs.Common.{◌≡◌, ℕ, zero, suc, ◌≤◌, ◌<◌, List, [], ◌∷◌, ◌++◌, append-nil, append_assoc, length, map, codes, Bool, true, false, not, ◌==◌, ◌&&◌, if◌then◌else◌, Some, None, refl, sym, ◌∙◌, ap, subst, arith}
 use Rattle.std.specs.declared.option.Option.{Option}
 use Rattle.std.specs.Option.{option_map}
-use Rattle.xs_xml.specs.Tables.{is_white, is_name_char, is_quote}
-use Rattle.xs_xml.specs.Piece.{Attribute, Bit, plain, ref, is_name, is_gap, is_bit, are_bits, is_attribute, are_attributes, all_of, spelt_attribute}
-use Rattle.xs_xml.specs.Reads.{value}
-use Rattle.xs_xml.specs.Scan.{span, after, cut, ◌>>=◌, bit_if, as_ref, bit_at, bits_at, more, attr_if, as_attr, attr_quote, attr_right, attr_at, attrs_at}
-use Rattle.xs_xml.proofs.Steps.{run_all}
-use Rattle.xs_xml.proofs.Tags.{attr_long}
-use Rattle.xs_xml.proofs.TagSoundness.{attr_sound}
+use Rattle.xs_xml_laws.specs.Tables.{is_white, is_name_char, is_quote}
+use Rattle.xs_xml_laws.specs.Piece.{Attribute, Bit, plain, ref, is_name, is_gap, is_bit, are_bits, is_attribute, are_attributes, all_of, spelt_attribute}
+use Rattle.xs_xml_laws.specs.Reads.{value}
+use Rattle.xs_xml_laws.specs.Scan.{span, after, cut, ◌>>=◌, bit_if, as_ref, bit_at, bits_at, more, attr_if, as_attr, attr_quote, attr_right, attr_at, attrs_at}
+use Rattle.xs_xml_laws.proofs.Steps.{run_all}
+use Rattle.xs_xml_laws.proofs.Tags.{attr_long}
+use Rattle.xs_xml_laws.proofs.TagSoundness.{attr_sound}
 use Rattle.xs_form.specs.Values.{all_written}
 use Rattle.xs_form.specs.Attributes.{Held, held, kept_attribute, Head, head_quote, head_right, head_at}
 use Rattle.xs_class.proofs.Truth.{both_true}

@@ -2,10 +2,10 @@
 use Rattle.std.proofs.Common.{◌≡◌, ℕ, ◌<◌, List, [], ◌∷◌, ◌++◌, append-nil, append_assoc, length, length-append, Bool, true, false, not, ◌==◌, ◌||◌, if◌then◌else◌, Some, refl, sym, ◌∙◌, ap, subst, arith}
 use Rattle.std.specs.Option.{option_map}
 use Rattle.std.proofs.lemmas.Bool.Decides.{nat_tests}
-use Rattle.xs_xml.specs.Tables.{is_char}
-use Rattle.xs_xml.specs.Piece.{character}
-use Rattle.xs_xml.specs.Scan.{span, piece_at}
-use Rattle.xs_xml.proofs.PieceSoundness.{span_is}
+use Rattle.xs_xml_laws.specs.Tables.{is_char}
+use Rattle.xs_xml_laws.specs.Piece.{character}
+use Rattle.xs_xml_laws.specs.Scan.{span, piece_at}
+use Rattle.xs_xml_laws.proofs.PieceSoundness.{span_is}
 use Rattle.xs_class.proofs.Truth.{and_true, or_false, not_true}
 use Rattle.xs_form.specs.Seen.{found, letter}
 use Rattle.xs_form.specs.State.{State, is_inside, step, is_bare, IsRun, texted}

@@ -5,11 +5,11 @@ use Rattle.std.specs.declared.cmp.Ordering.{Ordering}
 use Rattle.std.specs.declared.cmp.Ordering.TheVariants.{Less, Equal, Greater}
 use Rattle.std.specs.Ordering.{match_ordering}
 use Rattle.xs_class.specs.Marks.{attr_end}
-use Rattle.xs_xml.specs.Tables.{is_white}
-use Rattle.xs_xml.specs.Piece.{Piece, Attribute, Bit, plain, ref, declaration, character, line_end, reference, start_tag, empty_tag, end_tag, comment, instruction, cdata, spelt, spelt_bits, spelt_attribute, spelt_attributes}
-use Rattle.xs_xml.specs.Legal.{Spot, ahead, inside, beyond, passed, spelt_all}
-use Rattle.xs_xml.specs.Reads.{Reads, lines, value, closing, name_order, placed, in_order, attribute_symbols, char_symbols, symbols, all_symbols}
-use Rattle.xs_xml.proofs.Greatest.{all_long, piece_long}
+use Rattle.xs_xml_laws.specs.Tables.{is_white}
+use Rattle.xs_xml_laws.specs.Piece.{Piece, Attribute, Bit, plain, ref, declaration, character, line_end, reference, start_tag, empty_tag, end_tag, comment, instruction, cdata, spelt, spelt_bits, spelt_attribute, spelt_attributes}
+use Rattle.xs_xml_laws.specs.Legal.{Spot, ahead, inside, beyond, passed, spelt_all}
+use Rattle.xs_xml_laws.specs.Reads.{Reads, lines, value, closing, name_order, placed, in_order, attribute_symbols, char_symbols, symbols, all_symbols}
+use Rattle.xs_xml_laws.proofs.Greatest.{all_long, piece_long}
 use Rattle.xs_class.proofs.Lists.{after_long}
 
 if_short : (t : Bool) (x y : List ℕ) (k : ℕ) → length x ≤ k → length y ≤ k → length (if t then x else y) ≤ k

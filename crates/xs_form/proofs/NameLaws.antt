@@ -5,9 +5,9 @@ use Rattle.std.specs.Char.{IsScalar}
 use Rattle.std.specs.Str.{chars, all_scalars}
 use Rattle.std.proofs.lemmas.Str.{chars-encodes}
 use Rattle.std.proofs.lemmas.Bool.Decides.{nat_tests}
-use Rattle.xs_xml.specs.Tables.{is_name_char}
-use Rattle.xs_xml.specs.Piece.{all_of, is_name}
-use Rattle.xs_xml.proofs.Reading.{name_chars}
+use Rattle.xs_xml_laws.specs.Tables.{is_name_char}
+use Rattle.xs_xml_laws.specs.Piece.{all_of, is_name}
+use Rattle.xs_xml_laws.proofs.Reading.{name_chars}
 use Rattle.xs_form.proofs.Numbers.{drop_next}
 use Rattle.xs_class.proofs.Truth.{and_true, both_true}
 use Rattle.xs_class.specs.Tables.{is_name_start}

@@ -2,8 +2,8 @@
 use Rattle.std.proofs.Common.{◌≡◌, ℕ, suc, ◌+◌, ◌*◌, ◌≤◌, ◌<◌, nat_le, min, add-one, List, [], ◌∷◌, length, drop, get_or, drop-cons, drop_of_length-le, Bool, true, false, ◌&&◌, refl, sym, ◌∙◌, ap, arith}
 use Rattle.std.proofs.Math.Nat.{mul-le-mul_left}
 use Rattle.std.proofs.lemmas.Bool.Decides.{nat_tests}
-use Rattle.xs_xml.specs.Tables.{is_char, is_hex, is_digit}
-use Rattle.xs_xml.specs.Piece.{number, when, all_of}
+use Rattle.xs_xml_laws.specs.Tables.{is_char, is_hex, is_digit}
+use Rattle.xs_xml_laws.specs.Piece.{number, when, all_of}
 use Rattle.xs_form.specs.declared.references.Base.{Base}
 use Rattle.xs_form.specs.declared.references.Base.TheVariants.{Decimal, Hexadecimal}
 use Rattle.xs_form.specs.Digits.{is_digit_of}

@@ -3,12 +3,12 @@ use Rattle.std.proofs.Common.{◌≡◌, ℕ, List, [], ◌∷◌, ◌++◌, map
 use Rattle.std.specs.declared.option.Option.{Option}
 use Rattle.std.specs.Option.{option_map}
 use Rattle.std.proofs.lemmas.Bool.Decides.{nat_tests}
-use Rattle.xs_xml.specs.Tables.{is_char, is_white, is_name_char}
-use Rattle.xs_xml.specs.Piece.{Piece, Attribute, character, line_end, start_tag, empty_tag, is_piece, is_name, all_of, starts, ends_not, same, lower, is_apart, are_attributes, distinct}
-use Rattle.xs_xml.specs.Scan.{after, span, cut, joined, ◌>>=◌, kept, char_at, end_at, in_cdata, in_comment, attrs_at, tag_end, tag_name, tag_at}
+use Rattle.xs_xml_laws.specs.Tables.{is_char, is_white, is_name_char}
+use Rattle.xs_xml_laws.specs.Piece.{Piece, Attribute, character, line_end, start_tag, empty_tag, is_piece, is_name, all_of, starts, ends_not, same, lower, is_apart, are_attributes, distinct}
+use Rattle.xs_xml_laws.specs.Scan.{after, span, cut, joined, ◌>>=◌, kept, char_at, end_at, in_cdata, in_comment, attrs_at, tag_end, tag_name, tag_at}
 use Rattle.xs_class.proofs.Lists.{some_inj}
-use Rattle.xs_xml.proofs.PieceSoundness.{cut_is}
-use Rattle.xs_xml.proofs.Steps.{run_all, cut_free}
+use Rattle.xs_xml_laws.proofs.PieceSoundness.{cut_is}
+use Rattle.xs_xml_laws.proofs.Steps.{run_all, cut_free}
 use Rattle.xs_form.specs.Attributes.{Held, held}
 use Rattle.xs_form.specs.Sorted.{held_distinct, held_in_order, keyed, sorted_entries}
 use Rattle.xs_form.specs.Seen.{Seen, found, ends, letter, aside, section, past_feed, instruction_body, tag_ends, empty_end, made}

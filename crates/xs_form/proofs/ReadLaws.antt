@@ -4,16 +4,16 @@ use Rattle.std.specs.declared.option.Option.{Option}
 use Rattle.std.specs.Option.{option_map}
 use Rattle.std.specs.Borrow.{Bor}
 use Rattle.std.proofs.lemmas.Bool.Decides.{nat_tests}
-use Rattle.xs_xml.specs.Piece.{Piece, is_piece}
-use Rattle.xs_xml.specs.Legal.{Spot, ahead, inside, beyond, is_first, passed, then_passed, is_that, no_section_end, IsLegal}
-use Rattle.xs_xml.specs.Reads.{symbols, all_symbols, Reads}
-use Rattle.xs_xml.specs.Scan.{piece_at}
+use Rattle.xs_xml_laws.specs.Piece.{Piece, is_piece}
+use Rattle.xs_xml_laws.specs.Legal.{Spot, ahead, inside, beyond, is_first, passed, then_passed, is_that, no_section_end, IsLegal}
+use Rattle.xs_xml_laws.specs.Reads.{symbols, all_symbols, Reads}
+use Rattle.xs_xml_laws.specs.Scan.{piece_at}
 use Rattle.xs_class.proofs.Truth.{and_true, or_false, not_true, both_true}
 use Rattle.xs_class.proofs.Lists.{some_inj}
-use Rattle.xs_xml.proofs.TagSoundness.{read_is_spelt}
-use Rattle.xs_xml.proofs.Greatest.{IsStuck, all_long, piece_long, stuck_is_broken}
-use Rattle.xs_xml.proofs.Stuck.{stuck_unless, reads_whole}
-use Rattle.xs_xml.proofs.More.{legal_more, passed_append}
+use Rattle.xs_xml_laws.proofs.TagSoundness.{read_is_spelt}
+use Rattle.xs_xml_laws.proofs.Greatest.{IsStuck, all_long, piece_long, stuck_is_broken}
+use Rattle.xs_xml_laws.proofs.Stuck.{stuck_unless, reads_whole}
+use Rattle.xs_xml_laws.proofs.More.{legal_more, passed_append}
 use Rattle.xs_form.specs.declared.document.XmlFault.{XmlFault}
 use Rattle.xs_form.specs.declared.document.XmlFault.TheVariants.{NotXml, Memory}
 use Rattle.xs_form.specs.Fault.{IsFault, IsAt}

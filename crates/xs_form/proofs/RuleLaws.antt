@@ -1,11 +1,11 @@
 -- The rules of a legal list, when one more piece goes on it.
 use Rattle.std.proofs.Common.{◌≡◌, ℕ, List, [], ◌∷◌, ◌++◌, append-nil, append_assoc, Bool, true, false, not, ◌==◌, ◌&&◌, ◌||◌, if◌then◌else◌, Some, None, refl, sym, ◌∙◌, ap}
 use Rattle.std.specs.declared.option.Option.{Option}
-use Rattle.xs_xml.specs.Piece.{Piece, declaration}
-use Rattle.xs_xml.specs.Legal.{Spot, no_declaration, is_first, passed, all_passed, is_that, no_section_end}
-use Rattle.xs_xml.specs.Reads.{symbols, all_symbols}
+use Rattle.xs_xml_laws.specs.Piece.{Piece, declaration}
+use Rattle.xs_xml_laws.specs.Legal.{Spot, no_declaration, is_first, passed, all_passed, is_that, no_section_end}
+use Rattle.xs_xml_laws.specs.Reads.{symbols, all_symbols}
 use Rattle.xs_class.proofs.Truth.{and_no}
-use Rattle.xs_xml.proofs.Greatest.{none_passed}
+use Rattle.xs_xml_laws.proofs.Greatest.{none_passed}
 
 -- the first piece alone may be a declaration
 abbrev pub is_declaration : Piece → Bool

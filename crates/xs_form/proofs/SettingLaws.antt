@@ -3,13 +3,13 @@ use Rattle.std.proofs.Common.{◌≡◌, ◌⊎◌, inl, inr, ℕ, List, [], ◌
 use Rattle.std.specs.declared.option.Option.{Option}
 use Rattle.std.specs.Option.{option_map}
 use Rattle.std.proofs.lemmas.Bool.Decides.{nat_tests}
-use Rattle.xs_xml.specs.Tables.{is_white}
-use Rattle.xs_xml.specs.Piece.{Attribute, Bit, plain, declaration, is_piece, same, lower, all_of, is_text, lower_bits, is_version, is_encoding, is_standalone, are_settings, are_attributes}
-use Rattle.xs_xml.specs.Reads.{value}
-use Rattle.xs_xml.specs.Scan.{after, span, ◌>>=◌, kept, attrs_at, declaration_end, declaration_attrs}
-use Rattle.xs_xml.proofs.Reading.{white_cases}
+use Rattle.xs_xml_laws.specs.Tables.{is_white}
+use Rattle.xs_xml_laws.specs.Piece.{Attribute, Bit, plain, declaration, is_piece, same, lower, all_of, is_text, lower_bits, is_version, is_encoding, is_standalone, are_settings, are_attributes}
+use Rattle.xs_xml_laws.specs.Reads.{value}
+use Rattle.xs_xml_laws.specs.Scan.{after, span, ◌>>=◌, kept, attrs_at, declaration_end, declaration_attrs}
+use Rattle.xs_xml_laws.proofs.Reading.{white_cases}
 use Rattle.xs_class.proofs.Truth.{and_true, and_no, not_true, no_other}
-use Rattle.xs_xml.proofs.Steps.{run_all}
+use Rattle.xs_xml_laws.proofs.Steps.{run_all}
 use Rattle.xs_form.specs.Values.{all_written}
 use Rattle.xs_form.specs.Attributes.{Held, held}
 use Rattle.xs_form.specs.Seen.{Seen, found, declared, held_version, held_encoding, held_standalone, held_settings}

@@ -1,7 +1,7 @@
 -- The steps of the reader.
 use Rattle.std.proofs.Common.{◌≡◌, ℕ, ◌+◌, ◌<◌, List, [], ◌∷◌, ◌++◌, append_assoc, length, drop, get_or, Bool, true, false, ◌==◌, ◌&&◌, if◌then◌else◌, refl, sym, ◌∙◌, ap, arith}
 use Rattle.std.proofs.lemmas.Bool.Decides.{nat_tests}
-use Rattle.xs_xml.specs.Reads.{lines}
+use Rattle.xs_xml_laws.specs.Reads.{lines}
 use Rattle.xs_form.specs.State.{line_symbols}
 use Rattle.xs_form.proofs.Numbers.{drop_next}
 

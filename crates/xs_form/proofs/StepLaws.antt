@@ -1,10 +1,10 @@
 -- A step over a piece, and the rules.
 use Rattle.std.proofs.Common.{◌≡◌, ℕ, List, map, Bool, true, false, not, ◌==◌, ◌&&◌, ◌||◌, if◌then◌else◌, None, refl, sym, ◌∙◌, ap, eqb-true}
 use Rattle.std.specs.declared.option.Option.{Option}
-use Rattle.xs_xml.specs.Tables.{is_white}
-use Rattle.xs_xml.specs.Piece.{Piece, Attribute, declaration, character, line_end, reference, start_tag, empty_tag, end_tag, comment, instruction, cdata, is_piece, is_name, are_attributes, distinct, all_of}
-use Rattle.xs_xml.specs.Legal.{Spot, ahead, inside, beyond, passed, is_that}
-use Rattle.xs_xml.specs.Reads.{symbols, in_order, attribute_symbols}
+use Rattle.xs_xml_laws.specs.Tables.{is_white}
+use Rattle.xs_xml_laws.specs.Piece.{Piece, Attribute, declaration, character, line_end, reference, start_tag, empty_tag, end_tag, comment, instruction, cdata, is_piece, is_name, are_attributes, distinct, all_of}
+use Rattle.xs_xml_laws.specs.Legal.{Spot, ahead, inside, beyond, passed, is_that}
+use Rattle.xs_xml_laws.specs.Reads.{symbols, in_order, attribute_symbols}
 use Rattle.xs_class.proofs.Truth.{and_true}
 use Rattle.xs_form.specs.Attributes.{held}
 use Rattle.xs_form.specs.Sorted.{keyed, held_in_order, entry_symbols}

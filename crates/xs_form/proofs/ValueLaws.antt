@@ -3,13 +3,13 @@ use Rattle.std.proofs.Common.{◌≡◌, ◌⊎◌, inl, inr, ℕ, zero, suc, �
 use Rattle.std.specs.declared.option.Option.{Option}
 use Rattle.std.specs.Option.{option_map}
 use Rattle.std.proofs.lemmas.Bool.Decides.{nat_tests}
-use Rattle.xs_xml.specs.Tables.{is_char, is_white}
-use Rattle.xs_xml.specs.Piece.{Bit, plain, ref, spelt_bit}
-use Rattle.xs_xml.specs.Reads.{value}
-use Rattle.xs_xml.specs.Scan.{span, bit_at, bits_at}
-use Rattle.xs_xml.proofs.Tags.{bit_long}
-use Rattle.xs_xml.proofs.TagSoundness.{bit_is}
-use Rattle.xs_xml.proofs.Reading.{white_cases}
+use Rattle.xs_xml_laws.specs.Tables.{is_char, is_white}
+use Rattle.xs_xml_laws.specs.Piece.{Bit, plain, ref, spelt_bit}
+use Rattle.xs_xml_laws.specs.Reads.{value}
+use Rattle.xs_xml_laws.specs.Scan.{span, bit_at, bits_at}
+use Rattle.xs_xml_laws.proofs.Tags.{bit_long}
+use Rattle.xs_xml_laws.proofs.TagSoundness.{bit_is}
+use Rattle.xs_xml_laws.proofs.Reading.{white_cases}
 use Rattle.xs_form.specs.declared.values.ValuePart.{ValuePart}
 use Rattle.xs_form.specs.declared.values.ValuePart.TheVariants.{Written}
 use Rattle.xs_form.specs.Values.{part_of, kept_part, part_symbols, is_return, is_written, all_written, is_kept, IsSoFar}

@@ -2,11 +2,11 @@
 use Rattle.std.specs.Prelude.{◌≡◌, ℕ, List, [], ◌∷◌, length, map, codes, Bool, true, false, not, ◌&&◌, if◌then◌else◌, Some, None}
 use Rattle.std.specs.declared.option.Option.{Option}
 use Rattle.std.specs.Borrow.{Bor}
-use Rattle.xs_xml.specs.Tables.{is_white, is_name_char, is_quote}
-use Rattle.xs_xml.specs.Piece as piece
-use Rattle.xs_xml.specs.Piece.{is_name, are_attributes}
-use Rattle.xs_xml.specs.Reads.{value}
-use Rattle.xs_xml.specs.Scan.{span, after, ◌>>=◌, attrs_at}
+use Rattle.xs_xml_laws.specs.Tables.{is_white, is_name_char, is_quote}
+use Rattle.xs_xml_laws.specs.Piece as piece
+use Rattle.xs_xml_laws.specs.Piece.{is_name, are_attributes}
+use Rattle.xs_xml_laws.specs.Reads.{value}
+use Rattle.xs_xml_laws.specs.Scan.{span, after, ◌>>=◌, attrs_at}
 use Rattle.xs_form.specs.Values.{all_written, value_symbols, value_written}
 use Rattle.xs_form.specs.declared.attribute.Attribute.{Attribute}
 use Rattle.xs_form.specs.declared.attributes.Head.{Head as CodeHead}

@@ -1,6 +1,6 @@
 -- The digits of a reference by a number.
 use Rattle.std.specs.Prelude.{ℕ, Bool}
-use Rattle.xs_xml.specs.Tables.{is_digit, is_hex}
+use Rattle.xs_xml_laws.specs.Tables.{is_digit, is_hex}
 use Rattle.xs_form.specs.declared.references.Base.{Base}
 use Rattle.xs_form.specs.declared.references.Base.TheVariants.{Decimal, Hexadecimal}
 

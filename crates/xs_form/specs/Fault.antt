@@ -1,6 +1,6 @@
 -- Why a document has no symbols.
 use Rattle.std.specs.Prelude.{◌≡◌, ℕ, ◌+◌, List}
-use Rattle.xs_xml.specs.Reads.{Reads, IsBrokenAt}
+use Rattle.xs_xml_laws.specs.Reads.{Reads, IsBrokenAt}
 use Rattle.xs_form.specs.declared.document.XmlFault.{XmlFault}
 use Rattle.xs_form.specs.declared.document.XmlFault.TheVariants.{NotXml, Memory}
 

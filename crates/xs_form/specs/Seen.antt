@@ -3,8 +3,8 @@ use Rattle.std.specs.Prelude.{ℕ, List, [], ◌∷◌, map, codes, Bool, true, 
 use Rattle.std.specs.declared.option.Option.{Option}
 use Rattle.std.specs.Option.{option_map}
 use Rattle.std.specs.Borrow.{Bor}
-use Rattle.xs_xml.specs.Piece.{Piece, declaration, character, line_end, reference, start_tag, empty_tag, end_tag, comment, instruction, cdata, named, ref_char, same, lower}
-use Rattle.xs_xml.specs.Scan.{Found, after, cut, ◌>>=◌, as_instruction}
+use Rattle.xs_xml_laws.specs.Piece.{Piece, declaration, character, line_end, reference, start_tag, empty_tag, end_tag, comment, instruction, cdata, named, ref_char, same, lower}
+use Rattle.xs_xml_laws.specs.Scan.{Found, after, cut, ◌>>=◌, as_instruction}
 use Rattle.xs_form.specs.Attributes.{Held, held}
 use Rattle.xs_form.specs.Sorted.{keyed, held_in_order, shown_ordered}
 use Rattle.xs_form.specs.declared.pieces.Event.{Event}

@@ -2,11 +2,11 @@
 use Rattle.std.specs.Prelude.{◌≡◌, ℕ, ◌<◌, List, [], ◌∷◌, ◌++◌, length, map, reverse, Bool, true, false, not, ◌==◌, ◌&&◌, ◌||◌, if◌then◌else◌, Some, None}
 use Rattle.std.specs.declared.option.Option.{Option}
 use Rattle.std.specs.Borrow.{Bor}
-use Rattle.xs_xml.specs.Tables.{is_char, is_white}
-use Rattle.xs_xml.specs.Piece.{is_name, same}
-use Rattle.xs_xml.specs.Legal.{Spot, ahead, inside, beyond, opened, closed}
-use Rattle.xs_xml.specs.Reads.{opening, closing, lines}
-use Rattle.xs_xml.specs.Scan.{span}
+use Rattle.xs_xml_laws.specs.Tables.{is_char, is_white}
+use Rattle.xs_xml_laws.specs.Piece.{is_name, same}
+use Rattle.xs_xml_laws.specs.Legal.{Spot, ahead, inside, beyond, opened, closed}
+use Rattle.xs_xml_laws.specs.Reads.{opening, closing, lines}
+use Rattle.xs_xml_laws.specs.Scan.{span}
 use Rattle.xs_form.specs.Sorted.{entry_symbols}
 use Rattle.xs_form.specs.Seen.{Seen, declared, letter, given, begins, stands, ends, aside, section}
 use Rattle.xs_form.specs.declared.reader.Reader.{Reader}

@@ -1,10 +1,10 @@
 -- What the reader keeps of an attribute's value.
 use Rattle.std.specs.Prelude.{◌≡◌, ℕ, ◌≤◌, List, [], ◌∷◌, ◌++◌, length, Bool, true, false, not, ◌==◌, ◌&&◌, ◌||◌, if◌then◌else◌, unwrap_or}
 use Rattle.std.specs.Borrow.{Bor}
-use Rattle.xs_xml.specs.Tables.{is_char, is_white}
-use Rattle.xs_xml.specs.Piece.{Bit, plain, ref, ref_char}
-use Rattle.xs_xml.specs.Reads.{value}
-use Rattle.xs_xml.specs.Scan.{bits_at}
+use Rattle.xs_xml_laws.specs.Tables.{is_char, is_white}
+use Rattle.xs_xml_laws.specs.Piece.{Bit, plain, ref, ref_char}
+use Rattle.xs_xml_laws.specs.Reads.{value}
+use Rattle.xs_xml_laws.specs.Scan.{bits_at}
 use Rattle.xs_form.specs.declared.values.ValuePart.{ValuePart}
 use Rattle.xs_form.specs.declared.values.ValuePart.TheVariants.{Written, Given}
 use Rattle.xs_form.specs.declared.values.Value.{Value}

@@ -1,5 +1,5 @@
 ghost use Rattle.std.specs.Prelude.{◌≡◌, true};
-ghost use Rattle.xs_xml.specs.{is_name};
+ghost use Rattle.xs_xml_laws.specs.{is_name};
 
 use crate::values::Value;
 use xs_class::Sym;

@@ -1,6 +1,6 @@
 ghost use Rattle.std.specs.Prelude.{◌≡◌, ◌∷◌, [], IfOk};
 ghost use Rattle.std.specs.Option.{option_map, option_copied};
-ghost use Rattle.xs_xml.specs.{after, attr_at};
+ghost use Rattle.xs_xml_laws.specs.{after, attr_at};
 ghost use Rattle.xs_form.specs.Attributes.{head_at, shown_head, kept_attribute, shown_attribute, AreAttributes};
 
 use crate::attribute::Attribute;

@@ -1,5 +1,5 @@
 ghost use Rattle.std.specs.Prelude.{◌≡◌, ◌+◌, ◌≤◌, length, IfOk, IfErr};
-ghost use Rattle.xs_xml.specs.Reads.{Reads};
+ghost use Rattle.xs_xml_laws.specs.Reads.{Reads};
 ghost use Rattle.xs_form.specs.Fault.{IsFault, IsAt};
 
 use crate::pieces::event_at;
@@ -47,7 +47,7 @@ fn broken(doc: &[Sym], text: &[Sym]) -> XmlFault
 /// An element gives its opening, its attributes in ascending order of the UTF-8 bytes of their
 /// names, its content and its closing, as XML 1.0, fifth edition, reads them without a document
 /// type. A name that the list does not have gives `STRANGE`. The symbols are no more than the
-/// characters. The pieces of a document and the rules for their lists are those of `xs_xml`.
+/// characters. The pieces of a document and the rules for their lists are those of `xs_xml_laws`.
 ///
 /// Fails with `NotXml` exactly where no list of pieces is a reading of the document; then `at` is
 /// the greatest total length of a legal list of pieces that begins the document. The time is linear

@@ -2,9 +2,9 @@ ghost use Rattle.std.specs.Prelude.{◌≡◌, ◌<◌, true, ◌++◌, IsTrue, 
 ghost use Rattle.std.specs.Char.{IsScalar};
 ghost use Rattle.std.specs.Str.{chars};
 ghost use Rattle.std.specs.String.{string_bytes};
-ghost use Rattle.xs_xml.specs.{is_name_char};
+ghost use Rattle.xs_xml_laws.specs.{is_name_char};
 ghost use Rattle.xs_class.specs.{place_of};
-ghost use Rattle.xs_xml.specs.{all_of, is_name, marked};
+ghost use Rattle.xs_xml_laws.specs.{all_of, is_name, marked};
 ghost use Rattle.xs_form.specs.Marks.{numbered};
 
 use std::alloc::Global;

@@ -1,6 +1,6 @@
 ghost use Rattle.std.specs.Prelude.{◌≡◌, ◌||◌, codes, length, map, IfOk};
 ghost use Rattle.std.specs.Option.{option_map};
-ghost use Rattle.xs_xml.specs.{same, is_apart, char_at, reference_at, end_at, in_cdata, in_comment, bang_at, attrs_at, tag_at, declaration_attrs, instruction_at, markup_at, piece_at};
+ghost use Rattle.xs_xml_laws.specs.{same, is_apart, char_at, reference_at, end_at, in_cdata, in_comment, bang_at, attrs_at, tag_at, declaration_attrs, instruction_at, markup_at, piece_at};
 ghost use Rattle.xs_form.specs.Attributes.{shown};
 ghost use Rattle.xs_form.specs.Seen.{found, shown_found, shown_end, tag_ends, past_feed, held_version, held_encoding, held_standalone, held_settings, instruction_body};
 
@@ -288,7 +288,7 @@ fn markup(alloc: Global, text: &[Sym]) -> Result<Option<(Event<'_>, &[Sym])>, Me
 }
 
 /// What the piece that the text begins with says, and the rest.
-#[tactic(auto, unfolding(xs_xml::specs::Scan::piece_at))]
+#[tactic(auto, unfolding(xs_xml_laws::specs::Scan::piece_at))]
 pub fn event_at(alloc: Global, text: &[Sym]) -> Result<Option<(Event<'_>, &[Sym])>, Memory>
     ensures { IfOk result (λ o. option_map shown_found o ≡ option_map found (piece_at text.now)) }
 {

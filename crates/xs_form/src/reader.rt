@@ -1,5 +1,5 @@
 ghost use Rattle.std.specs.Prelude.{◌≡◌, ◌∷◌, ◌++◌, [], false, true, if◌then◌else◌, IfOk, IfSome, OnOk};
-ghost use Rattle.xs_xml.specs.{is_name, opening, closing, lines};
+ghost use Rattle.xs_xml_laws.specs.{is_name, opening, closing, lines};
 ghost use Rattle.xs_form.specs.Sorted.{shown_ordered, entry_symbols};
 ghost use Rattle.xs_form.specs.Seen.{declared, letter, given, begins, stands, ends, aside, section, shown_event};
 ghost use Rattle.xs_form.specs.State.{next_run as next_run_of, initial, line_symbols, state_of, is_inside, IsRun, texted, step, taken, finished, is_named};

@@ -1,5 +1,5 @@
 ghost use Rattle.std.specs.Prelude.{◌≡◌, ◌<◌, ◌≤◌, ◌+◌, ◌*◌, ◌&&◌, min, true, []};
-ghost use Rattle.xs_xml.specs.{is_char, is_hex, number, when, numbered, ref_char, all_of};
+ghost use Rattle.xs_xml_laws.specs.{is_char, is_hex, number, when, numbered, ref_char, all_of};
 ghost use Rattle.xs_form.specs.Digits.{radix_of, is_digit_of};
 ghost use Rattle.xs_form.specs.Seen.{named_reference};
 ghost use Rattle.xs_class.specs.{hex_value};
@@ -125,7 +125,7 @@ fn named_char(text: &[Sym]) -> Option<u32>
 }
 
 /// The character of a reference, by what stands between `&` and `;`.
-#[tactic(auto, unfolding(xs_xml::specs::Piece::ref_char))]
+#[tactic(auto, unfolding(xs_xml_laws::specs::Piece::ref_char))]
 pub fn reference_char(text: &[Sym]) -> Option<u32>
     ensures { result ≡ ref_char text.now }
 {

@@ -1,6 +1,6 @@
 ghost use Rattle.std.specs.Prelude.{◌≡◌, ◌==◌, ◌<◌, ◌≤◌, ℕ, Bool, map, length, IsTrue};
 ghost use Rattle.std.specs.Option.{option_map, option_copied};
-ghost use Rattle.xs_xml.specs.{is_char, is_name_char, is_white, is_digit, is_hex, is_quote, is_name, all_of, same, lower, after, span, cut};
+ghost use Rattle.xs_xml_laws.specs.{is_char, is_name_char, is_white, is_digit, is_hex, is_quote, is_name, all_of, same, lower, after, span, cut};
 ghost use Rattle.xs_form.specs.State.{is_bare};
 ghost use Rattle.xs_class.specs.{is_name_start};
 
@@ -24,7 +24,7 @@ pub fn is(symbol: Sym, byte: u8) -> bool
 }
 
 /// Whether the symbol is white space.
-#[tactic(auto, unfolding(xs_xml::specs::Tables::is_white))]
+#[tactic(auto, unfolding(xs_xml_laws::specs::Tables::is_white))]
 pub fn white(symbol: Sym) -> bool
     ensures { result ≡ is_white symbol }
 {
@@ -44,7 +44,7 @@ impl Kind for WhiteSpace {
 }
 
 /// Whether the symbol is a quote.
-#[tactic(auto, unfolding(xs_xml::specs::Tables::is_quote))]
+#[tactic(auto, unfolding(xs_xml_laws::specs::Tables::is_quote))]
 pub fn quotes(symbol: Sym) -> bool
     ensures { result ≡ is_quote symbol }
 {
@@ -52,7 +52,7 @@ pub fn quotes(symbol: Sym) -> bool
 }
 
 /// Whether the symbol is a decimal digit.
-#[tactic(auto, unfolding(xs_xml::specs::Tables::is_digit))]
+#[tactic(auto, unfolding(xs_xml_laws::specs::Tables::is_digit))]
 pub fn digit(symbol: Sym) -> bool
     ensures { result ≡ is_digit symbol }
 {
@@ -61,7 +61,7 @@ pub fn digit(symbol: Sym) -> bool
 }
 
 /// Whether the symbol is a hexadecimal digit.
-#[tactic(auto, unfolding(xs_xml::specs::Tables::is_hex))]
+#[tactic(auto, unfolding(xs_xml_laws::specs::Tables::is_hex))]
 pub fn hexadecimal(symbol: Sym) -> bool
     ensures { result ≡ is_hex symbol }
 {

@@ -1,6 +1,6 @@
 ghost use Rattle.std.specs.Prelude.{◌≡◌, ◌++◌, ℕ, List, false, true, OnOk, IfOk};
 ghost use Rattle.std.specs.Option.{option_map};
-ghost use Rattle.xs_xml.specs.{bit_at, span};
+ghost use Rattle.xs_xml_laws.specs.{bit_at, span};
 ghost use Rattle.xs_form.specs.Values.{kept_part, shown_part, part_symbols, is_return, is_written, is_kept, value_symbols, value_written, IsSoFar, IsValue};
 
 use crate::references::reference_char;

@@ -1,7 +1,7 @@
 -- A row that is made of the numbers of its label fits the grown forest, and the finished forest is the document's.
-use Rattle.std.proofs.Common.{◌≡◌, ℕ, zero, suc, ◌-◌, ◌<◌, ◌≤◌, List, [], ◌∷◌, ◌++◌, length, slice_get, Option, Some, refl, sym, ap, ◌∙◌, subst, arith, inl, inr, append-nil, append_assoc, length-append}
+use Rattle.std.proofs.Common.{◌≡◌, ℕ, zero, suc, ◌-◌, ◌<◌, List, [], ◌∷◌, ◌++◌, length, slice_get, Option, Some, refl, sym, ap, ◌∙◌, subst, arith, inl, inr, append-nil, append_assoc}
 use Rattle.std.specs.Prelude.{Contains, MatchOption, slice_index_or}
-use Rattle.std.proofs.lemmas.List.Elements.{All-nil, All-append}
+use Rattle.std.proofs.lemmas.List.Elements.{All-nil, All-cons, All-append}
 use Rattle.std.proofs.lemmas.Option.{none-some, same_Some, slice_get_within}
 use Rattle.xs_class.proofs.Lists.{get_of, contains_of, one_longer, get_left, get_last, get_push}
 use Rattle.xs_gram.specs.declared.parts.GItem.{GItem}
@@ -25,7 +25,7 @@ use Rattle.xs_forest_laws.proofs.Rows.{row_at, alts_earlier}
 use Rattle.xs_forest_laws.proofs.Placed.{empty_at}
 use Rattle.xs_forest_laws.proofs.Grows.{grown_is_right}
 use Rattle.xs_forest_laws.proofs.Root.{exact as root_exact}
-use Rattle.xs_grow.specs.Making.{stands_at, IsLabel, IsNumberOf, AreNumbersOf, IsRowOf, front_label, item_label, IsMade, AreMade, Misses}
+use Rattle.xs_grow.specs.Making.{stands_at, IsLabel, IsNumberOf, AreNumbersOf, IsRowOf, front_label, item_label, IsMade, AreMade, HasNoRow, Misses}
 use Rattle.xs_grow.proofs.Numbering.{exact}
 
 -- the row of a label
@@ -59,11 +59,12 @@ module _ (g : Grammar) (f : Forest) (key : SpanKey) where
       ]
 
 -- first those that one part misses, and then those of another one
-pub misses_then : (g : Grammar) (w : List ℕ) (P Q R : Type 0) (a b c : List SpanKey) → Misses g w P a b → Misses g w Q b c → (P → Q → R) → Misses g w R a c
-misses_then g w P Q R a b c one two both = record {
+pub misses_then : (g : Grammar) (w : List ℕ) (f : Forest) (P Q R : Type 0) (a b c : List SpanKey) → Misses g w f P a b → Misses g w f Q b c → (P → Q → R) → Misses g w f R a c
+misses_then g w f P Q R a b c one two both = record {
   more = one.more ++ two.more;
   is = two.is ∙ (ap (λ (z : List SpanKey). z ++ two.more) one.is ∙ append_assoc a one.more two.more);
   labels = All-append (IsLabel g w) one.more two.more one.labels two.labels;
+  rowless = All-append (HasNoRow f) one.more two.more one.rowless two.rowless;
   done = λ none. both (one.done (front_none one.more two.more none)) (two.done (rest_none one.more two.more none));
 }
   where
@@ -75,19 +76,18 @@ misses_then g w P Q R a b c one two both = record {
     rest_none [] v e = e
     rest_none (x ∷ u) v e = cc
 
-pub misses_none : (g : Grammar) (w : List ℕ) (P : Type 0) (a : List SpanKey) → P → Misses g w P a a
-misses_none g w P a p = record { more = []; is = sym (append-nil a); labels = All-nil (IsLabel g w); done = λ e. p }
+pub misses_none : (g : Grammar) (w : List ℕ) (f : Forest) (P : Type 0) (a : List SpanKey) → P → Misses g w f P a a
+misses_none g w f P a p = record { more = []; is = sym (append-nil a); labels = All-nil (IsLabel g w); rowless = All-nil (HasNoRow f); done = λ e. p }
 
-pub misses_as : (g : Grammar) (w : List ℕ) (P Q : Type 0) (a b : List SpanKey) → Misses g w P a b → (P → Q) → Misses g w Q a b
-misses_as g w P Q a b h to = record { more = h.more; is = h.is; labels = h.labels; done = λ e. to (h.done e) }
-
--- where the list is no longer, nothing is missed
-pub misses_done : (g : Grammar) (w : List ℕ) (P : Type 0) (a b : List SpanKey) → Misses g w P a b → length b ≤ length a → P × (b ≡ a)
-misses_done g w P a b h le = go h.more h.is h.done
-  where
-    go : (more : List SpanKey) → b ≡ a ++ more → (more ≡ [] → P) → P × (b ≡ a)
-    go [] e p = (p refl, e ∙ append-nil a)
-    go (x ∷ more) e p = let l = ap length e in let m = length-append a (x ∷ more) in absurd (omega arith)
+-- one label without a row
+pub misses_one : (g : Grammar) (w : List ℕ) (f : Forest) (P : Type 0) (label : Option SpanKey) (key : SpanKey) (old new : List SpanKey) → label ≡ Some key → MatchOption label (Unit {0}) (IsLabel g w) → HasNoRow f key → new ≡ old ++ key ∷ [] → Misses g w f P old new
+misses_one g w f P label key old new is labelled rowless e = record {
+  more = key ∷ [];
+  is = e;
+  labels = All-cons (IsLabel g w) key [] (subst (λ z. MatchOption z (Unit {0}) (IsLabel g w)) is labelled) (All-nil (IsLabel g w));
+  rowless = All-cons (HasNoRow f) key [] rowless (All-nil (HasNoRow f));
+  done = λ none. cc;
+}
 
 -- first items that stand have their label
 front_is : (g : Grammar) (w : List ℕ) (p d i j : ℕ) → stands_at g w j (at_dot p d) i → MatchOption (front_label p d i j) (Unit {0}) (IsLabel g w)
@@ -193,7 +193,7 @@ module _ (g : Grammar) (w : List ℕ) (f : Forest) where
     sound : (a : Alt) → Contains alts a → IsAltBy g w has f x i j a
     sound a c = let at = get_of alts a c in let n = made_of at.0 a at.1 in alt_by x i j n.0 a n.2 n.3
 
-    next : ((at : ℕ) → HasLabel f at (key_at x i j) → ⊥) → IsNext g w has f x i j alts
+    next : HasNoRow f (key_at x i j) → IsNext g w has f x i j alts
     next missing = record {
       label = label;
       new_label = λ r lt e. missing r (row_label f r (key_at x i j) lt e);
@@ -216,7 +216,7 @@ module _ (g : Grammar) (w : List ℕ) (f : Forest) where
     pub earlier : AreEarlier alts (length f)
     earlier = alts_earlier g w has f x i j alts sound
 
-    pub grown_more : ((at : ℕ) → HasLabel f at (key_at x i j) → ⊥) → (longer : Forest) → longer ≡ f ++ (key_at x i j, alts) ∷ [] → IsGrown g w has f → IsGrown g w has longer
+    pub grown_more : HasNoRow f (key_at x i j) → (longer : Forest) → longer ≡ f ++ (key_at x i j, alts) ∷ [] → IsGrown g w has f → IsGrown g w has longer
     grown_more missing longer e grown = subst (λ (z : Forest). IsGrown g w has z) (sym e) (added g w has f x i j alts grown (next missing))
 
   -- the finished forest

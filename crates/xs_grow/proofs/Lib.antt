@@ -1,8 +1,10 @@
 pub mod ListLemmas
 pub mod Marking
+pub mod Sorting
 pub mod Runnings
 pub mod Gathering
 pub mod Ending
 pub mod Charting
 pub mod Numbering
 pub mod Growing
+pub mod Stacking

@@ -1,9 +1,9 @@
 -- Lists by their places, and lists that have exactly what a fact holds of.
-use Rattle.std.proofs.Common.{◌≡◌, ◌⊎◌, ℕ, zero, suc, ◌+◌, ◌<◌, List, [], ◌∷◌, ◌++◌, length, slice_get, Some, refl, sym, ap, ◌∙◌, subst, arith, inl, inr, append-nil, append_assoc}
-use Rattle.std.specs.Prelude.{Contains, slice_set}
-use Rattle.std.proofs.lemmas.Option.{none-some, same_Some, slice_get_within}
+use Rattle.std.proofs.Common.{◌≡◌, ◌⊎◌, ℕ, zero, suc, ◌+◌, List, [], ◌∷◌, ◌++◌, length, slice_get, Some, refl, sym, ap, ◌∙◌, subst, arith, inl, inr, append-nil, append_assoc}
+use Rattle.std.specs.Prelude.{Contains}
+use Rattle.std.proofs.lemmas.Option.{none-some, same_Some}
 use Rattle.std.proofs.lemmas.List.Elements.{Contains-append_left, Contains-append_right, Contains-append_cases}
-use Rattle.xs_class.proofs.Lists.{get_of, contains_of, get_left, get_last}
+use Rattle.xs_class.proofs.Lists.{get_of, contains_of}
 use Rattle.xs_grow.specs.Lists.{AreOnce, HasAllOf, Appends}
 
 module _ {X : Type 0} where
@@ -28,18 +28,6 @@ module _ {X : Type 0} where
     | inr h ↦ let is : k ≡ length xs + h.0 = h.1 in inr (h.0, omega arith, h.2)
   ]
 
-  pub set_same : (xs : List X) (r : ℕ) (v y : X) → slice_get xs r ≡ Some y → slice_get (slice_set xs r v) r ≡ Some v
-  set_same [] r v y e = absurd (none-some y e)
-  set_same (x ∷ xs) zero v y e = refl
-  set_same (x ∷ xs) (suc r) v y e = set_same xs r v y e
-
-  pub set_other : (xs : List X) (r s : ℕ) (v : X) → (s ≡ r → ⊥) → slice_get (slice_set xs r v) s ≡ slice_get xs s
-  set_other [] r s v ne = refl
-  set_other (x ∷ xs) zero zero v ne = absurd (ne refl)
-  set_other (x ∷ xs) zero (suc s) v ne = refl
-  set_other (x ∷ xs) (suc r) zero v ne = refl
-  set_other (x ∷ xs) (suc r) (suc s) v ne = set_other xs r s v (λ e. ne (ap suc e))
-
   pub once_none : AreOnce {X = X} []
   once_none k l x e f = absurd (none-some x e)
 
@@ -56,19 +44,6 @@ module _ {X : Type 0} where
   once_one y zero zero x e f = refl
   once_one y zero (suc l) x e f = absurd (none-some x f)
   once_one y (suc k) l x e f = absurd (none-some x e)
-
-  pub once_push : (xs : List X) (y : X) → AreOnce xs → (Contains xs y → ⊥) → AreOnce (xs ++ y ∷ [])
-  once_push xs y a new = once_append xs (y ∷ []) a (once_one y) (λ x h i. new (subst (λ z. Contains xs z) (sym (one_contained y x i)) h))
-
-  pub once_front : (xs : List X) (y : X) → AreOnce (xs ++ y ∷ []) → AreOnce xs
-  once_front xs y a k l x e f = a k l x (get_left xs (y ∷ []) k x e) (get_left xs (y ∷ []) l x f)
-
-  pub once_last : (xs : List X) (y : X) → AreOnce (xs ++ y ∷ []) → Contains xs y → ⊥
-  once_last xs y a h =
-      let at = get_of xs y h in
-      let same : at.0 ≡ length xs = a at.0 (length xs) y (get_left xs (y ∷ []) at.0 y at.1) (get_last xs y) in
-      let lt : at.0 < length xs = slice_get_within xs at.0 y at.1 in
-      absurd (omega arith)
 
 module _ {X : Type 0} where
   pub all_none : (P : X → Type 0) → ((x : X) → P x → ⊥) → HasAllOf P []

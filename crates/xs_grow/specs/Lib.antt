@@ -1,6 +1,6 @@
 pub mod Lists
 pub mod Marked
-pub mod Spread
+pub mod Sorted
 pub mod Running
 pub mod Candidates
 pub mod Making

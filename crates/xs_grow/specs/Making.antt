@@ -1,6 +1,6 @@
 -- What the rows of a forest are made of: for each label the numbers that stand for its alternatives, and for
 -- each number the alternative with the rows of its children.
-use Rattle.std.specs.Prelude.{◌≡◌, ℕ, zero, suc, ◌<◌, List, [], ◌++◌, length, All, None, Some, slice_get}
+use Rattle.std.specs.Prelude.{◌≡◌, ℕ, zero, suc, ◌<◌, ◌≤◌, Bool, true, List, [], ◌++◌, length, All, None, Some, slice_get}
 use Rattle.std.specs.declared.option.Option.{Option}
 use Rattle.xs_gram.specs.declared.parts.GItem.{GItem}
 use Rattle.xs_gram.specs.declared.parts.GItem.TheVariants.{Fixed, Term, Non, Skip}
@@ -15,7 +15,7 @@ use Rattle.xs_forest.specs.Rows.{HasLabel}
 use Rattle.xs_forest_laws.specs.declared.span.SpanKey.{SpanKey}
 use Rattle.xs_forest_laws.specs.declared.span.What.{What}
 use Rattle.xs_forest_laws.specs.declared.span.What.TheVariants.{Whole, Front}
-use Rattle.xs_forest_laws.specs.Forest.{Forest, key_at, item_of}
+use Rattle.xs_forest_laws.specs.Forest.{Forest, key_at, item_of, IsRow}
 use Rattle.xs_forest_laws.specs.Grown.{ItemOver, IsLabelBy}
 use Rattle.xs_grow.specs.declared.source.Source.{Source}
 use Rattle.xs_grow.specs.Lists.{HasAllOf}
@@ -75,14 +75,27 @@ pub record AreMade (g : Grammar) (f : Forest) (key : SpanKey) (numbers : List �
   pub long : length alts ≡ length numbers
   pub each : (k n : ℕ) → slice_get numbers k ≡ Some n → (a : Alt) × (slice_get alts k ≡ Some a) × IsMade g f key.what key.start key.end n a
 
--- The list goes on by labels of the chart that have no row yet; where it goes on by none, P holds.
-pub record Misses (g : Grammar) (w : List ℕ) (P : Type 0) (old new : List SpanKey) : Type 0 where
+-- no row has the label
+abbrev pub HasNoRow : Forest → SpanKey → Type 0
+HasNoRow f key = (at : ℕ) → HasLabel f at key → ⊥
+
+-- The list goes on by labels of the chart that have no row; where it goes on by none, P holds.
+pub record Misses (g : Grammar) (w : List ℕ) (f : Forest) (P : Type 0) (old new : List SpanKey) : Type 0 where
   pub more : List SpanKey
   pub is : new ≡ old ++ more
   pub labels : All (IsLabel g w) more
+  pub rowless : All (HasNoRow f) more
   pub done : more ≡ [] → P
 
--- the labels that are still to be made are those of the chart, the root first
-pub record AreOwed (g : Grammar) (w : List ℕ) (root : SpanKey) (stack : List SpanKey) : Type 0 where
+-- What a visit of a label leaves: where it answers no row, the forest as it was and a longer list of labels; or
+-- the label's row and the list as it was. Of a new label the row is made, and comes last.
+abbrev pub IsVisited : Grammar → List ℕ → SpanKey → Bool → Forest → Forest → List SpanKey → List SpanKey → Option ℕ → Type 0
+IsVisited g w key is_new f f' old new None = (f' ≡ f) × (length old < length new) × Misses g w f (Unit {0}) old new
+IsVisited g w key is_new f f' old new (Some r) = IsRow f' r key.what key.start key.end × (new ≡ old) × (length f ≤ length f') × (is_new ≡ true → r ≡ length f)
+
+-- The labels that are still to be made are those of the chart, the root first. A new one, which is the last, has
+-- no row.
+pub record AreOwed (g : Grammar) (w : List ℕ) (f : Forest) (root : SpanKey) (is_new : Bool) (stack : List SpanKey) : Type 0 where
   pub labels : All (IsLabel g w) stack
   pub root_first : slice_get stack 0 ≡ Some root
+  pub rowless : (k : ℕ) (key : SpanKey) → is_new ≡ true → suc k ≡ length stack → slice_get stack k ≡ Some key → HasNoRow f key

@@ -11,7 +11,7 @@ use xs_forest_laws::{SpanKey, What};
 /// earlier mark is of the same stretch.
 fn push_call(
     wholes: &Marks<SpanKey>,
-    t: u64,
+    t: usize,
     key: SpanKey,
     number: u32,
     calls: &mut Marks<Call>,
@@ -35,11 +35,22 @@ fn push_call(
     }
 }
 
+/// These marks, in which those of a label are found.
+pub(crate) fn marks_of(alloc: Global, list: &[(SpanKey, u32)]) -> Result<Marks<SpanKey>, Memory>
+    ensures { IfOk result (λ marks. marks ≡ list.now) }
+{
+    let mut marks = Marks::new(alloc);
+    'list: for mark in list {
+        marks.push(mark.0, mark.1)?;
+    }
+    Ok(marks)
+}
+
 /// The places where each nonterminal ends that begins at a place, each once.
 pub(crate) fn calls_of(alloc: Global, wholes: &Marks<SpanKey>) -> Result<Marks<Call>, Memory>
     ensures { IfOk result (AreCallsOf wholes.now) }
 {
-    let mut calls = Marks::new(alloc, wholes.len() as usize)?;
+    let mut calls = Marks::new(alloc);
     'marks: for t in 0..wholes.len() {
         let (key, number) = wholes.at(t);
         push_call(wholes, t, key, number, &mut calls)?;

@@ -14,16 +14,6 @@ use xs_class::{Memory, Word};
 use xs_forest_laws::{SpanKey, What};
 use xs_gram::{GItem, Gram, Place};
 
-/// How many items the chart has, as far as a number goes: about as many marks and rows there are
-/// at most.
-pub(crate) fn room(chart: &Chart) -> usize {
-    let mut count: usize = 0;
-    'sets: for set in 0..chart.sets() {
-        count = count.saturating_add(chart.len(set) as usize);
-    }
-    count
-}
-
 /// Whether the place stands at the end of its rule.
 fn is_end(g: &Gram, place: Place) -> bool
     requires { IsPlace g.now place }
@@ -33,9 +23,14 @@ fn is_end(g: &Gram, place: Place) -> bool
 }
 
 /// Adds the candidate of an item that stands at the end of its rule.
-fn whole_at(g: &Gram, set: u32, item: Item, candidates: &mut Marks<SpanKey>) -> Result<(), Memory>
+fn whole_at(
+    g: &Gram,
+    set: u32,
+    item: Item,
+    candidates: &mut Vec<(SpanKey, u32)>,
+) -> Result<(), Memory>
     requires { item.state < length (all_places g.now) }
-    ensures { OnOk result (Appends (WholeAt g.now set item) candidates.old candidates.new) }
+    ensures { OnOk result (Appends (WholeAt g.now set item) candidates.old.items candidates.new.items) }
 {
     let place = g.place(item.state);
     if is_end(g, place) {
@@ -44,7 +39,7 @@ fn whole_at(g: &Gram, set: u32, item: Item, candidates: &mut Marks<SpanKey>) -> 
             start: item.origin,
             end: set,
         };
-        candidates.push(key, place.rule)?;
+        candidates.push((key, place.rule))?;
     }
     Ok(())
 }
@@ -54,11 +49,11 @@ fn wholes_in(
     g: &Gram,
     chart: &Chart,
     set: u32,
-    candidates: &mut Marks<SpanKey>,
+    candidates: &mut Vec<(SpanKey, u32)>,
 ) -> Result<(), Memory>
     requires set { set < length chart.now.sets }
     requires places { HasPlaces g.now chart.now.sets }
-    ensures { OnOk result (Appends (InSet (WholeAt g.now) chart.now.sets set (length (set_at chart.now.sets set))) candidates.old candidates.new) }
+    ensures { OnOk result (Appends (InSet (WholeAt g.now) chart.now.sets set (length (set_at chart.now.sets set))) candidates.old.items candidates.new.items) }
 {
     'items: for k in 0..chart.len(set) {
         whole_at(g, set, chart.item(set, k), candidates)?;
@@ -68,9 +63,13 @@ fn wholes_in(
 
 /// Adds the candidates of the rules that are finished: a label for each stretch of a nonterminal,
 /// with the rule.
-pub(crate) fn wholes(g: &Gram, chart: &Chart, candidates: &mut Marks<SpanKey>) -> Result<(), Memory>
+pub(crate) fn wholes(
+    g: &Gram,
+    chart: &Chart,
+    candidates: &mut Vec<(SpanKey, u32)>,
+) -> Result<(), Memory>
     requires places { HasPlaces g.now chart.now.sets }
-    ensures { OnOk result (Appends (InSets (WholeAt g.now) chart.now.sets (length chart.now.sets)) candidates.old candidates.new) }
+    ensures { OnOk result (Appends (InSets (WholeAt g.now) chart.now.sets (length chart.now.sets)) candidates.old.items candidates.new.items) }
 {
     'sets: for set in 0..chart.sets() {
         wholes_in(g, chart, set, candidates)?;
@@ -84,9 +83,9 @@ fn push_ends(
     start: u32,
     place: u32,
     ends: &[u32],
-    candidates: &mut Marks<SpanKey>,
+    candidates: &mut Vec<(SpanKey, u32)>,
 ) -> Result<(), Memory>
-    ensures { OnOk result (candidates.new ≡ candidates.old ++ map (λ end. (key_at what start end, place)) ends.now) }
+    ensures { OnOk result (candidates.new.items ≡ candidates.old.items ++ map (λ end. (key_at what start end, place)) ends.now) }
 {
     'ends: for end in ends {
         let key = SpanKey {
@@ -94,7 +93,7 @@ fn push_ends(
             start,
             end: *end,
         };
-        candidates.push(key, place)?;
+        candidates.push((key, place))?;
     }
     Ok(())
 }
@@ -145,12 +144,12 @@ fn fronts_at(
     calls: &Marks<Call>,
     set: u32,
     item: Item,
-    candidates: &mut Marks<SpanKey>,
+    candidates: &mut Vec<(SpanKey, u32)>,
 ) -> Result<(), Memory>
     requires ends { CanEnd g.now doc.now calls.now }
     requires within { set ≤ length doc.now }
     requires place { item.state < length (all_places g.now) }
-    ensures { OnOk result (Appends (FrontFrom g.now doc.now calls.now set item) candidates.old candidates.new) }
+    ensures { OnOk result (Appends (FrontFrom g.now doc.now calls.now set item) candidates.old.items candidates.new.items) }
 {
     let place = g.place(item.state);
     let items = g.items(place.rule);
@@ -179,13 +178,13 @@ fn fronts_in(
     doc: &Word,
     calls: &Marks<Call>,
     set: u32,
-    candidates: &mut Marks<SpanKey>,
+    candidates: &mut Vec<(SpanKey, u32)>,
 ) -> Result<(), Memory>
     requires ends { CanEnd g.now doc.now calls.now }
     requires within { set ≤ length doc.now }
     requires set { set < length chart.now.sets }
     requires places { HasPlaces g.now chart.now.sets }
-    ensures { OnOk result (Appends (InSet (FrontFrom g.now doc.now calls.now) chart.now.sets set (length (set_at chart.now.sets set))) candidates.old candidates.new) }
+    ensures { OnOk result (Appends (InSet (FrontFrom g.now doc.now calls.now) chart.now.sets set (length (set_at chart.now.sets set))) candidates.old.items candidates.new.items) }
 {
     'items: for k in 0..chart.len(set) {
         fronts_at(alloc, g, doc, calls, set, chart.item(set, k), candidates)?;
@@ -201,12 +200,12 @@ pub(crate) fn fronts(
     chart: &Chart,
     doc: &Word,
     calls: &Marks<Call>,
-    candidates: &mut Marks<SpanKey>,
+    candidates: &mut Vec<(SpanKey, u32)>,
 ) -> Result<(), Memory>
     requires ends { CanEnd g.now doc.now calls.now }
     requires counted { length chart.now.sets ≤ length doc.now + 1 }
     requires places { HasPlaces g.now chart.now.sets }
-    ensures { OnOk result (Appends (InSets (FrontFrom g.now doc.now calls.now) chart.now.sets (length chart.now.sets)) candidates.old candidates.new) }
+    ensures { OnOk result (Appends (InSets (FrontFrom g.now doc.now calls.now) chart.now.sets (length chart.now.sets)) candidates.old.items candidates.new.items) }
 {
     'sets: for set in 0..chart.sets() {
         fronts_in(alloc, g, chart, doc, calls, set, candidates)?;

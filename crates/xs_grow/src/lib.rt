@@ -4,8 +4,9 @@
 //! label does not show by itself (`gather`): which rules are finished over each stretch of a
 //! nonterminal, and for two or more first items of a rule of which the last is no fixed word, where
 //! that may begin. For that each such item of the chart is looked at forwards: an automaton runs on
-//! from it (`runs`), and where a nonterminal ends is looked up by its call (`calls`). What was found
-//! are marks, flat lists in which the numbers of a label are found (`marks`).
+//! from it (`runs`), and where a nonterminal ends is looked up by its call (`calls`, in hashed
+//! `marks`). What was found are flat lists in the order of the labels' stretches, in which the
+//! numbers of a label are found by halving (`sorted`).
 //!
 //! Then rows are made from the root on, with a stack of labels (`forest`): the numbers of the last
 //! label are found (`numbers`), each stands for an alternative, and where all children have rows the
@@ -21,6 +22,7 @@ mod marks;
 mod numbers;
 mod rows;
 mod runs;
+mod sorted;
 mod source;
 
 pub use forest::{grow, grow_last};

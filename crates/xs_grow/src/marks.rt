@@ -1,89 +1,109 @@
 ghost use Rattle.std.specs.Prelude.{◌≡◌, ◌<◌, ◌++◌, ◌∷◌, [], ℕ, length, Some, slice_get, Contains, IfOk, OnOk, MatchBool};
 ghost use Rattle.xs_grow.specs.Lists.{AreOnce, Appends};
-ghost use Rattle.xs_grow.specs.Marked.{IsFirst, IsAgain};
+ghost use Rattle.xs_grow.specs.Marked.{IsFirst, IsAgain, IsLatest};
 
+use indexmap::IndexMap;
 use std::alloc::Global;
 use std::marker::Model;
 use xs_class::Memory;
-use xs_forest::{Index, Label};
+use xs_forest::Label;
 
-/// Labels with numbers, in which the numbers of a label are found.
+/// Labels with numbers, in which the numbers of a label are found: by its last mark, and by the
+/// mark before each one that has the same label.
 #[derive(Drop)]
 pub struct Marks<L: Label> {
-    labels: Index<L>,
-    numbers: Vec<u32>,
+    marks: Vec<(L, u32)>,
+    befores: Vec<Option<usize>>,
+    lasts: IndexMap<L, usize>,
 }
 
 impl<L: Label> Model for Marks<L> {
-    ghost use Rattle.std.specs.Prelude.{◌≡◌, List, ℕ, length};
-    ghost use Rattle.std.specs.List.{zip};
+    ghost use Rattle.std.specs.Prelude.{List, ℕ};
+    ghost use Rattle.std.specs.Map.{lookup};
+    ghost use Rattle.xs_grow.specs.Marked.{AreLinked};
 
     ghost Value = { List (L × ℕ) };
 
-    ghost view = { λ m. zip m.labels m.numbers.items };
+    ghost view = { λ m. m.marks.items };
 
-    ghost invariant = { λ m. length m.numbers.items ≡ length m.labels };
+    ghost invariant = { λ m. AreLinked (λ label. lookup (L.eq label) m.lasts.entries) m.marks.items m.befores.items };
 }
 
 impl<L: Label> Marks<L> {
-    /// No mark, and room for about that many.
-    pub(crate) fn new(alloc: Global, room: usize) -> Result<Self, Memory>
-        ensures { IfOk result (λ marks. marks ≡ []) }
+    /// No mark.
+    pub(crate) fn new(alloc: Global) -> Self
+        ensures { result ≡ [] }
     {
-        let labels = Index::new(alloc, room)?;
-        Ok(Marks {
-            labels,
-            numbers: Vec::new(alloc),
-        })
+        Marks {
+            marks: Vec::new(alloc),
+            befores: Vec::new(alloc),
+            lasts: IndexMap::new(alloc),
+        }
     }
 
     /// The number of marks.
-    pub(crate) fn len(&self) -> u64
+    pub(crate) fn len(&self) -> usize
         ensures { result ≡ length self.now }
     {
-        self.labels.len()
+        self.marks.len()
     }
 
     /// A new last mark.
-    #[inline(always)]
     pub(crate) fn push(&mut self, label: L, number: u32) -> Result<(), Memory>
         ensures { OnOk result (self.new ≡ self.old ++ (label, number) ∷ []) }
     {
-        self.numbers.reserve(1)?;
-        self.labels.push(label)?;
-        self.numbers.push_reserved(number);
+        self.marks.reserve(1)?;
+        self.befores.reserve(1)?;
+        let before = self.lasts.insert(label, self.marks.len())?;
+        self.marks.push_reserved((label, number));
+        self.befores.push_reserved(before);
         Ok(())
     }
 
     /// The mark at a place.
-    pub(crate) fn at(&self, k: u64) -> (L, u32)
+    pub(crate) fn at(&self, k: usize) -> (L, u32)
         requires { k < length self.now }
         ensures { slice_get self.now k ≡ Some (result.0, result.1) }
     {
-        (self.labels.as_slice()[k as usize], self.numbers[k as usize])
+        let mark = &self.marks[k];
+        (mark.0, mark.1)
+    }
+
+    /// The last mark of the label.
+    fn last(&self, label: L) -> Option<usize>
+        ensures { IsLatest self.now (length self.now) label result }
+    {
+        self.lasts.get(&label).copied()
+    }
+
+    /// The last mark before place k of the label, which the mark there has.
+    fn earlier(&self, label: L, k: usize) -> Option<usize>
+        requires { (n : ℕ) × (slice_get self.now k ≡ Some (label, n)) }
+        ensures { IsLatest self.now k label result }
+    {
+        self.befores[k]
     }
 
     /// Whether no mark before place k has the label, which the mark there has.
-    pub(crate) fn is_first(&self, label: L, k: u64) -> bool
+    pub(crate) fn is_first(&self, label: L, k: usize) -> bool
         requires { (n : ℕ) × (slice_get self.now k ≡ Some (label, n)) }
         ensures { MatchBool result (IsFirst self.now k label) (IsAgain self.now k label) }
     {
-        match self.labels.earlier(label, k) {
+        match self.earlier(label, k) {
             None => true,
             Some(_) => false,
         }
     }
 
     /// Appends the numbers of a label, in time linear in them.
-    #[inline(always)]
     pub(crate) fn numbers(&self, label: L, out: &mut Vec<u32>) -> Result<(), Memory>
         requires { AreOnce self.now }
         ensures { OnOk result (Appends (λ n. Contains self.now (label, n)) out.old.items out.new.items) }
     {
-        let mut place = self.labels.last(label);
+        let mut place = self.last(label);
         'places: while let Some(k) = place {
-            out.push(self.numbers[k as usize])?;
-            place = self.labels.earlier(label, k as u64);
+            out.push(self.marks[k].1)?;
+            place = self.earlier(label, k);
         }
         Ok(())
     }

@@ -1,12 +1,12 @@
-ghost use Rattle.std.specs.Prelude.{◌≡◌, ◌⊎◌, ◌<◌, ◌++◌, ◌∷◌, [], ℕ, zero, suc, None, Some, length, Contains, IfOk, OnOk, MatchOption};
+ghost use Rattle.std.specs.Prelude.{◌≡◌, ◌<◌, ◌++◌, ◌∷◌, [], ℕ, zero, suc, true, None, Some, length, Contains, IfOk, OnOk, MatchOption};
 ghost use Rattle.xs_forest.specs.{HasLabel};
 ghost use Rattle.xs_forest_laws.specs.{IsRow, item_of, IsGrown};
-ghost use Rattle.xs_grow.specs.Making.{stands_at, IsSource, IsLabel, IsNumberOf, AreNumbersOf, IsRowOf, front_label, item_label, IsMade, AreMade, Misses};
+ghost use Rattle.xs_grow.specs.Making.{stands_at, IsSource, IsLabel, IsNumberOf, AreNumbersOf, IsRowOf, front_label, item_label, IsMade, AreMade, Misses, HasNoRow, IsVisited};
 
 use crate::numbers::numbers_of;
 use crate::source::Source;
 use xs_class::Memory;
-use xs_forest::{AddFault, Alt, Builder};
+use xs_forest::{AddFault, Alt, Forest};
 use xs_forest_laws::{SpanKey, What};
 use xs_gram::{GItem, Gram};
 
@@ -14,12 +14,12 @@ use xs_gram::{GItem, Gram};
 #[inline(always)]
 fn child(
     source: &Source<'_>,
-    forest: &Builder<SpanKey>,
+    forest: &Forest<'_, SpanKey>,
     label: Option<SpanKey>,
     missing: &mut Vec<SpanKey>,
-) -> Result<Option<u32>, Memory>
+) -> Result<Option<u64>, Memory>
     requires { MatchOption label (Unit {0}) (IsLabel source.now.g.now source.now.doc.now) }
-    ensures { IfOk result (λ row. Misses source.now.g.now source.now.doc.now (IsRowOf forest.now label row) missing.old.items missing.new.items) }
+    ensures { IfOk result (λ row. Misses source.now.g.now source.now.doc.now forest.now (IsRowOf forest.now label row) missing.old.items missing.new.items) }
 {
     let Some(key) = label else {
         return Ok(None);
@@ -65,14 +65,14 @@ fn item_label(item: &GItem, start: u32, end: u32) -> Option<SpanKey>
 /// children that have no row go to those that are missing.
 fn alternative(
     source: &Source<'_>,
-    forest: &Builder<SpanKey>,
+    forest: &Forest<'_, SpanKey>,
     key: SpanKey,
     number: u32,
     missing: &mut Vec<SpanKey>,
 ) -> Result<Alt, Memory>
     requires source { IsSource source.now }
     requires number { IsNumberOf source.now.g.now source.now.doc.now (stands_at source.now.g.now source.now.doc.now) key.what key.start key.end number }
-    ensures { IfOk result (λ alt. Misses source.now.g.now source.now.doc.now (IsMade source.now.g.now forest.now key.what key.start key.end number alt) missing.old.items missing.new.items) }
+    ensures { IfOk result (λ alt. Misses source.now.g.now source.now.doc.now forest.now (IsMade source.now.g.now forest.now key.what key.start key.end number alt) missing.old.items missing.new.items) }
 {
     match key.what {
         What::Whole(_) => {
@@ -100,7 +100,7 @@ fn alternative(
 /// Puts the alternatives that the numbers of the label stand for in place of others.
 fn alternatives(
     source: &Source<'_>,
-    forest: &Builder<SpanKey>,
+    forest: &Forest<'_, SpanKey>,
     key: SpanKey,
     numbers: &[u32],
     alts: &mut Vec<Alt>,
@@ -108,7 +108,7 @@ fn alternatives(
 ) -> Result<(), Memory>
     requires source { IsSource source.now }
     requires numbers { AreNumbersOf source.now.g.now source.now.doc.now key numbers.now }
-    ensures { OnOk result (Misses source.now.g.now source.now.doc.now (AreMade source.now.g.now forest.now key numbers.now alts.new.items) missing.old.items missing.new.items) }
+    ensures { OnOk result (Misses source.now.g.now source.now.doc.now forest.now (AreMade source.now.g.now forest.now key numbers.now alts.new.items) missing.old.items missing.new.items) }
 {
     alts.clear();
     'numbers: for number in numbers {
@@ -118,26 +118,27 @@ fn alternatives(
     Ok(())
 }
 
-/// The row of a label, which is added by its numbers and the alternatives that they stand for unless
-/// there is one.
+/// Adds the row of a label that has none, by its numbers and the alternatives that they stand for.
 fn add(
     source: &Source<'_>,
-    forest: &mut Builder<SpanKey>,
+    forest: &mut Forest<'_, SpanKey>,
     key: SpanKey,
     numbers: &[u32],
     alts: &[Alt],
-) -> Result<u32, Memory>
+) -> Result<u64, Memory>
     requires source { IsSource source.now }
     requires grown { IsGrown source.now.g.now source.now.doc.now (stands_at source.now.g.now source.now.doc.now) forest.old }
     requires label { IsLabel source.now.g.now source.now.doc.now key }
+    requires rowless { HasNoRow forest.old key }
     requires numbers { AreNumbersOf source.now.g.now source.now.doc.now key numbers.now }
     requires made { AreMade source.now.g.now forest.old key numbers.now alts.now }
     ensures grown { OnOk result (IsGrown source.now.g.now source.now.doc.now (stands_at source.now.g.now source.now.doc.now) forest.new) }
     ensures row { IfOk result (λ row. IsRow forest.new row key.what key.start key.end) }
+    ensures last { IfOk result (λ row. row ≡ length forest.old) }
 {
     match forest.add_row(key, alts) {
         Ok(row) => Ok(row),
-        Err(AddFault::Repeated { at }) => Ok(at),
+        Err(AddFault::Repeated { .. }) => unreachable!(),
         Err(AddFault::Memory) => Err(Memory),
     }
 }
@@ -150,22 +151,21 @@ pub(crate) struct Buffers {
 }
 
 /// The row of a label, which is made if its children have rows; where some have none it is no row,
-/// and their labels go to those that are missing. Of a new label no row is looked for first.
+/// and their labels go to those that are missing. A new label has no row, so none is looked for.
 pub(crate) fn visit(
     source: &Source<'_>,
-    forest: &mut Builder<SpanKey>,
+    forest: &mut Forest<'_, SpanKey>,
     key: SpanKey,
     is_new: bool,
     buffers: &mut Buffers,
     missing: &mut Vec<SpanKey>,
-) -> Result<Option<u32>, Memory>
+) -> Result<Option<u64>, Memory>
     requires source { IsSource source.now }
     requires grown { IsGrown source.now.g.now source.now.doc.now (stands_at source.now.g.now source.now.doc.now) forest.old }
     requires label { IsLabel source.now.g.now source.now.doc.now key }
+    requires rowless { is_new ≡ true → HasNoRow forest.old key }
     ensures grown { OnOk result (IsGrown source.now.g.now source.now.doc.now (stands_at source.now.g.now source.now.doc.now) forest.new) }
-    ensures row { IfOk result (λ row. MatchOption row (Unit {0}) (λ r. IsRow forest.new r key.what key.start key.end)) }
-    ensures same { IfOk result (λ row. MatchOption row (Unit {0}) (λ r. missing.new.items ≡ missing.old.items)) }
-    ensures missing { OnOk result (Misses source.now.g.now source.now.doc.now (Unit {0}) missing.old.items missing.new.items) }
+    ensures visited { IfOk result (IsVisited source.now.g.now source.now.doc.now key is_new forest.old forest.new missing.old.items missing.new.items) }
 {
     if !is_new {
         if let Some(row) = forest.find(key) {

@@ -1,6 +1,5 @@
-use crate::marks::Marks;
+use crate::sorted::Sorted;
 use xs_class::Word;
-use xs_forest_laws::SpanKey;
 use xs_gram::Gram;
 
 /// What rows are made of: the grammar, the document, and the marks of its chart, which are the
@@ -10,6 +9,6 @@ use xs_gram::Gram;
 pub struct Source<'s> {
     pub g: &'s Gram,
     pub doc: &'s Word,
-    pub wholes: &'s Marks<SpanKey>,
-    pub splits: &'s Marks<SpanKey>,
+    pub wholes: &'s Sorted,
+    pub splits: &'s Sorted,
 }

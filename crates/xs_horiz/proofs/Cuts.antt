@@ -4,9 +4,9 @@ use Rattle.xs_gram.specs.Grammar.{Grammar}
 use Rattle.xs_gram.specs.Fences.{spread}
 use Rattle.xs_check_laws.specs.Freedom.{HasNoHorizontal}
 use Rattle.xs_check_laws.specs.Acceptance.{ShowsHorizontal}
-use Rattle.xs_light.specs.First.{HasNoneInRow, HasNoneInRows}
-use Rattle.xs_light.specs.Searching.{OverlapsAt}
-use Rattle.xs_light.proofs.First.{none_before}
+use Rattle.xs_searches.specs.First.{HasNoneInRow, HasNoneInRows}
+use Rattle.xs_searches.specs.Searching.{OverlapsAt}
+use Rattle.xs_searches.proofs.First.{none_before}
 use Rattle.xs_horiz.specs.declared.search.Horiz.{Horiz}
 use Rattle.xs_horiz.specs.Cuts.{HasNoCut, IsFirstCut}
 

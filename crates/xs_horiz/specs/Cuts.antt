@@ -2,8 +2,8 @@
 use Rattle.std.specs.Prelude.{◌≡◌, ℕ}
 use Rattle.xs_gram.specs.Grammar.{Grammar}
 use Rattle.xs_gram.specs.Suspects.{IsHorizontal}
-use Rattle.xs_light.specs.First.{HasNoneInRow}
-use Rattle.xs_light.specs.Searching.{OverlapsAt}
+use Rattle.xs_searches.specs.First.{HasNoneInRow}
+use Rattle.xs_searches.specs.Searching.{OverlapsAt}
 use Rattle.xs_horiz.specs.declared.search.Horiz.{Horiz}
 
 -- none do at any cut of rule p

@@ -7,4 +7,4 @@
 mod search;
 
 pub use search::{Horiz, first_horizontal, horizontal};
-pub use xs_light::CheckFault;
+pub use xs_searches::CheckFault;

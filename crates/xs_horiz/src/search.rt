@@ -1,16 +1,16 @@
 ghost use Rattle.std.specs.Prelude.{◌≡◌, ◌<◌, true, get_or, length, IfOk, IfErr, IfSome, IfNone, OnOk};
 ghost use Rattle.xs_gram.specs.{spread, AreComponents, IsBuilt, IsHorizontal};
 ghost use Rattle.xs_check_laws.specs.{HasNoHorizontal, IsLight, ShowsHorizontal};
-ghost use Rattle.xs_light.specs.{IsCause, OverlapsAt};
+ghost use Rattle.xs_searches.specs.{IsCause, OverlapsAt};
 ghost use Rattle.xs_screen.specs.{AreDoubts};
 ghost use Rattle.xs_horiz.specs.Cuts.{IsFirstCut, HasNoCut};
 
 use std::alloc::Global;
 use xs_class::{Memory, Word};
 use xs_gram::{Comps, Gram};
-use xs_light::{CheckFault, Searches, light};
+use xs_loose::Tables;
 use xs_meet::Overlap;
-use xs_stretch::Tables;
+use xs_searches::{CheckFault, Searches, light};
 
 /// A cut of a rule, with words x, a and y, a not empty: x and xa are loose for its front, y and ay
 /// for its rest. The cut is the number of spread items before it; front and rest go back and on to

@@ -18,6 +18,10 @@ mem_name_faults s = file_faults s.folder
 abbrev pub mem_calls : MemShelf → CallLog
 mem_calls s = s.calls
 
+-- how many bytes its calls gave
+abbrev pub mem_given : MemShelf → ℕ
+mem_given s = s.given
+
 -- the bytes of the file of this name
 abbrev pub sure_file : SureShelf → List ℕ → Option (List ℕ)
 sure_file s = file_in s.folder

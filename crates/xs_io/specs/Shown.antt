@@ -1,5 +1,5 @@
 -- What a shelf shows of its files.
-use Rattle.std.specs.Prelude.{◌≡◌, ◌≢◌, ℕ, ◌≤◌, ◌<◌, ◌-◌, List, [], ◌++◌, length, drop, min, ⊤, None, Some, IsSome}
+use Rattle.std.specs.Prelude.{◌≡◌, ◌≢◌, ℕ, ◌+◌, ◌≤◌, ◌<◌, ◌-◌, List, [], ◌++◌, length, drop, min, ⊤, None, Some, IsSome, Result, MatchResult}
 use Rattle.std.specs.declared.option.Option.{Option}
 use Rattle.xs_io.specs.Causes.{Rose}
 
@@ -26,6 +26,10 @@ IsFull (Some bytes) at room n = n ≡ min room (length bytes - at)
 abbrev pub StandIn : Files → List ℕ → ℕ → List ℕ → Type 0
 StandIn None name at piece = ⊤
 StandIn (Some files) name at piece = StandAt (files name) at piece
+
+-- a count of the bytes given went up by no more than a call answered, and not where it failed
+abbrev pub GivesAtMost : {E : Type 0} → ℕ → ℕ → Result ℕ E → Type 0
+GivesAtMost before now result = MatchResult result (λ n. now ≤ before + n) (λ _. now ≤ before)
 
 -- a name failed in a call: the count rose, and that of the file of this name where there is one
 pub record NameFailed (files : Files) (name : List ℕ) (before now own_before own_now : ℕ) : Type 0 where

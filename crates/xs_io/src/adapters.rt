@@ -3,7 +3,7 @@ ghost use Rattle.std.specs.Io.{ReadsAtMost, WritesAtMost};
 ghost use Rattle.std.specs.Io.KnownBytes.{ReadConsumes, WriteAppends};
 ghost use Rattle.xs_io.specs.CallLog.{IsCounted};
 ghost use Rattle.xs_io.specs.Causes.{HasCause};
-ghost use Rattle.xs_io.specs.Shown.{StandIn, NameFailed};
+ghost use Rattle.xs_io.specs.Shown.{StandIn, GivesAtMost, NameFailed};
 
 use crate::device::PIECE;
 use crate::{Failed, Shelf, Sink, Source};
@@ -81,85 +81,93 @@ fn counted(answer: Result<usize, Failed>, faults: &mut u64) -> Result<usize, Fai
     answer
 }
 
-/// A device of the outside, and how often a call of it failed.
+/// A source over a reader, such as the standard input.
 ///
-/// A call that is interrupted is tried again, at most 1,000 times, and then fails.
+/// A call that is interrupted is tried again, at most 1,000 times, and then fails. It shows what
+/// is left only where the reader does, as one over bytes in memory.
 #[derive(Drop)]
-pub struct Adapter<D> {
-    device: D,
+pub struct FromReader<R: Read> {
+    reader: R,
     faults: u64,
 }
 
-impl<D> Adapter<D> {
-    ghost use Rattle.xs_io.specs.Adapters.{device_of, device_faults};
+impl<R: Read> FromReader<R> {
+    ghost use Rattle.xs_io.specs.Adapters.{reader_of, reader_faults};
 
-    /// This device, of which no call failed yet.
-    pub fn new(device: D) -> Self
-        ensures device { device_of result ≡ device }
-        ensures faults { device_faults result ≡ 0 }
+    /// A source over this reader.
+    pub fn new(reader: R) -> Self
+        ensures reader { reader_of result ≡ reader }
+        ensures faults { reader_faults result ≡ 0 }
     {
-        Adapter { device, faults: 0 }
+        FromReader { reader, faults: 0 }
     }
 }
 
-/// A source over a reader, such as the standard input.
-///
-/// It shows what is left only where the reader does, as one over bytes in memory.
-pub type FromReader<R> = Adapter<R>;
+impl<R: Read> Source for FromReader<R> {
+    ghost use Rattle.xs_io.specs.Adapters.{reader_of, reader_faults};
 
-/// A sink over a writer.
-///
-/// A write that takes nothing fails. What the sink took is what the writer took: nothing is
-/// flushed, so give it a writer without a buffer, as the runtime's `stdout()` and `stderr()` are.
-/// It shows what it took only where the writer does, as a vector.
-pub type ToWriter<W> = Adapter<W>;
+    ghost left = { λ s. R.remaining (reader_of s) };
 
-/// The files of a file system. A name is a path from the folder in which the program was started.
-///
-/// Each call opens its file. Its contracts say nothing of what the files hold.
-pub type DirShelf<'r, R> = Adapter<&'r R>;
-
-impl<R: Read> Source for Adapter<R> {
-    ghost use Rattle.xs_io.specs.Adapters.{device_of, device_faults};
-
-    ghost left = { λ s. R.remaining (device_of s) };
-
-    ghost faults = { λ s. device_faults s };
+    ghost faults = { λ s. reader_faults s };
 
     fn read(&mut self, buf: &mut [u8]) -> Result<usize, Failed>
         requires { 0 < length buf.old }
         ensures bound { ReadsAtMost result buf.new }
-        ensures bytes { ReadConsumes (R.remaining (device_of self.old))
-            (R.remaining (device_of self.new)) result buf.new }
+        ensures bytes { ReadConsumes (R.remaining (reader_of self.old))
+            (R.remaining (reader_of self.new)) result buf.new }
         ensures kept { OnErr result (buf.new ≡ buf.old) }
-        ensures cause { HasCause (device_faults self.old) (device_faults self.new) result }
+        ensures cause { HasCause (reader_faults self.old) (reader_faults self.new) result }
 
         // Its count rises where it fails, and stays elsewhere.
-        ensures faults { IsCounted (device_faults self.old) (device_faults self.new) result }
+        ensures faults { IsCounted (reader_faults self.old) (reader_faults self.new) result }
     {
-        counted(read_whole(&mut self.device, buf), &mut self.faults)
+        counted(read_whole(&mut self.reader, buf), &mut self.faults)
     }
 }
 
-impl<W: Write> Sink for Adapter<W> {
-    ghost use Rattle.xs_io.specs.Adapters.{device_of, device_faults};
+/// A sink over a writer.
+///
+/// A call that is interrupted is tried again, at most 1,000 times, and then fails. So does a write
+/// that takes nothing. What the sink took is what the writer took: nothing is flushed, so give it
+/// a writer without a buffer, as the runtime's `stdout()` and `stderr()` are. It shows what it
+/// took only where the writer does, as a vector.
+#[derive(Drop)]
+pub struct ToWriter<W: Write> {
+    writer: W,
+    faults: u64,
+}
 
-    ghost taken = { λ s. W.contents (device_of s) };
+impl<W: Write> ToWriter<W> {
+    ghost use Rattle.xs_io.specs.Adapters.{writer_of, writer_faults};
 
-    ghost faults = { λ s. device_faults s };
+    /// A sink over this writer.
+    pub fn new(writer: W) -> Self
+        ensures writer { writer_of result ≡ writer }
+        ensures faults { writer_faults result ≡ 0 }
+    {
+        ToWriter { writer, faults: 0 }
+    }
+}
+
+impl<W: Write> Sink for ToWriter<W> {
+    ghost use Rattle.xs_io.specs.Adapters.{writer_of, writer_faults};
+
+    ghost taken = { λ s. W.contents (writer_of s) };
+
+    ghost faults = { λ s. writer_faults s };
 
     fn write(&mut self, piece: &[u8]) -> Result<usize, Failed>
         requires { 0 < length piece.now }
         ensures bound { WritesAtMost result piece.now }
         ensures some { IfOk result (λ n. 0 < n) }
-        ensures bytes { WriteAppends (W.contents (device_of self.old))
-            (W.contents (device_of self.new)) result piece.now }
-        ensures cause { HasCause (device_faults self.old) (device_faults self.new) result }
+        ensures bytes { WriteAppends (W.contents (writer_of self.old))
+            (W.contents (writer_of self.new)) result piece.now }
+        ensures cause { HasCause (writer_faults self.old) (writer_faults self.new) result }
 
         // Its count rises where it fails, and stays elsewhere.
-        ensures faults { IsCounted (device_faults self.old) (device_faults self.new) result }
+        ensures faults { IsCounted (writer_faults self.old) (writer_faults self.new) result }
     {
-        counted(write_again(&mut self.device, piece), &mut self.faults)
+        counted(write_again(&mut self.writer, piece), &mut self.faults)
     }
 }
 
@@ -179,33 +187,57 @@ impl<R: Files> Read for FileFrom<'_, R> {
     }
 }
 
-impl<'r, R: Files> Shelf for Adapter<&'r R> {
-    ghost use Rattle.xs_io.specs.Adapters.{device_faults, dir_name_faults};
+/// The files of a file system. A name is a path from the folder in which the program was started.
+///
+/// Each call opens its file. A call that is interrupted is tried again, at most 1,000 times, and
+/// then fails. Its contracts say nothing of what the files hold, and it counts no bytes.
+#[derive(Drop)]
+pub struct DirShelf<'r, R: Files> {
+    rt: &'r R,
+    faults: u64,
+}
+
+impl<'r, R: Files> DirShelf<'r, R> {
+    ghost use Rattle.xs_io.specs.Adapters.{dir_faults};
+
+    /// A shelf over the files of this runtime.
+    pub fn new(rt: &'r R) -> Self
+        ensures { dir_faults result ≡ 0 }
+    {
+        DirShelf { rt, faults: 0 }
+    }
+}
+
+impl<'r, R: Files> Shelf for DirShelf<'r, R> {
+    ghost use Rattle.xs_io.specs.Adapters.{dir_faults, dir_name_faults};
 
     ghost files = { λ _. None };
 
-    ghost faults = { λ s. device_faults s };
+    ghost faults = { λ s. dir_faults s };
 
     ghost name_faults = { λ s name. dir_name_faults s name };
+
+    ghost given = { λ _. 0 };
 
     fn read_at(&mut self, name: &str, at: u64, buf: &mut [u8]) -> Result<usize, Failed>
         requires { 0 < length buf.old }
         ensures bound { ReadsAtMost result buf.new }
         ensures bytes { IfOk result (λ n. StandIn None name.now at (take n buf.new)) }
         ensures kept { OnErr result (buf.new ≡ buf.old) }
-        ensures later { device_faults self.old ≤ device_faults self.new }
+        ensures later { dir_faults self.old ≤ dir_faults self.new }
         ensures name_later { dir_name_faults self.old name.now ≤ dir_name_faults self.new name.now }
         ensures unmoved { OnOk result (dir_name_faults self.new name.now
             ≡ dir_name_faults self.old name.now) }
+        ensures given { GivesAtMost 0 0 result }
         ensures failed { OnErr result (NameFailed None name.now
-            (device_faults self.old) (device_faults self.new)
+            (dir_faults self.old) (dir_faults self.new)
             (dir_name_faults self.old name.now) (dir_name_faults self.new name.now)) }
 
         // Its count rises where it fails, and stays elsewhere.
-        ensures faults { IsCounted (device_faults self.old) (device_faults self.new) result }
+        ensures faults { IsCounted (dir_faults self.old) (dir_faults self.new) result }
     {
         let mut file = FileFrom {
-            rt: self.device,
+            rt: self.rt,
             name,
             at,
         };

@@ -3,7 +3,7 @@ ghost use Rattle.std.specs.declared.option.Option.{Option};
 ghost use Rattle.std.specs.Io.{ReadsAtMost, WritesAtMost};
 ghost use Rattle.std.specs.Io.KnownBytes.{ReadConsumes, WriteAppends};
 ghost use Rattle.xs_io.specs.Causes.{HasCause};
-ghost use Rattle.xs_io.specs.Shown.{Files, StandIn, NameFailed};
+ghost use Rattle.xs_io.specs.Shown.{Files, StandIn, GivesAtMost, NameFailed};
 
 /// How many bytes one read asks for at most, and moves at most.
 pub(crate) const PIECE: usize = 65_536;
@@ -59,6 +59,9 @@ pub trait Shelf {
     /// How often a call on the file of this name has failed.
     ghost name_faults: { Self → List ℕ → ℕ };
 
+    /// How many bytes its calls have given so far; 0 where the shelf does not count them.
+    ghost given: { Self → ℕ };
+
     /// Copies what stands in the file from the place `at` on to the front of the buffer, and
     /// answers how many bytes: 0 exactly at or past the file's end. A name that is not there is a
     /// failure, which no file's own count records.
@@ -74,6 +77,7 @@ pub trait Shelf {
             ≡ name_faults self.old other }
         ensures unmoved { OnOk result (name_faults self.new name.now
             ≡ name_faults self.old name.now) }
+        ensures given { GivesAtMost (given self.old) (given self.new) result }
         ensures failed { OnErr result (NameFailed (files self.old) name.now
             (faults self.old) (faults self.new)
             (name_faults self.old name.now) (name_faults self.new name.now)) };

@@ -1,8 +1,8 @@
-ghost use Rattle.std.specs.Prelude.{◌≡◌, ◌≢◌, ◌≤◌, ◌<◌, ◌↔◌, ◌⊎◌, List, ℕ, None, length, take, IfOk, IsErr, OnOk, OnErr, encode_utf8_all};
+ghost use Rattle.std.specs.Prelude.{◌≡◌, ◌≢◌, ◌≤◌, ◌<◌, ◌+◌, ◌-◌, ◌^◌, ◌↔◌, ◌⊎◌, List, ℕ, None, length, min, take, IfOk, IsErr, OnOk, OnErr, encode_utf8_all};
 ghost use Rattle.std.specs.Io.{ReadsAtMost};
 ghost use Rattle.xs_io.specs.CallLog.{IsListed, Begins, IsCounted, fails_of, made_of, faults_of};
 ghost use Rattle.xs_io.specs.Puts.{Puts};
-ghost use Rattle.xs_io.specs.Shown.{StandIn, IsFull, NameFailed};
+ghost use Rattle.xs_io.specs.Shown.{StandIn, IsFull, GivesAtMost, NameFailed};
 
 use crate::call_log::CallLog;
 use crate::folder::Folder;
@@ -16,10 +16,11 @@ use xs_class::{Bytes, Memory, Text};
 pub struct MemShelf {
     folder: Folder,
     calls: CallLog,
+    given: u64,
 }
 
 impl MemShelf {
-    ghost use Rattle.xs_io.specs.Shelves.{mem_file, mem_name_faults, mem_calls};
+    ghost use Rattle.xs_io.specs.Shelves.{mem_file, mem_name_faults, mem_calls, mem_given};
 
     /// A shelf without files. `fails` lists the numbers, from 1, of the calls that fail.
     pub fn new(alloc: Global, fails: Vec<u64>) -> Self
@@ -27,10 +28,12 @@ impl MemShelf {
         ensures fails { fails_of (mem_calls result) ≡ fails.items }
         ensures made { made_of (mem_calls result) ≡ 0 }
         ensures faults { faults_of (mem_calls result) ≡ 0 }
+        ensures given { mem_given result ≡ 0 }
     {
         MemShelf {
             folder: Folder::new(alloc),
             calls: CallLog::new(fails),
+            given: 0,
         }
     }
 
@@ -44,20 +47,30 @@ impl MemShelf {
         ensures name_faults { (other : List ℕ) → mem_name_faults self.new other
             ≡ mem_name_faults self.old other }
         ensures calls { mem_calls self.new ≡ mem_calls self.old }
+        ensures given { mem_given self.new ≡ mem_given self.old }
     {
         self.folder.put(name, bytes)
+    }
+
+    /// How many bytes its calls have given so far. The count stops at 2^64 - 1.
+    pub fn given(&self) -> u64
+        ensures { result ≡ mem_given self.now }
+    {
+        self.given
     }
 }
 
 impl Shelf for MemShelf {
     ghost use Rattle.std.specs.Prelude.{Some};
-    ghost use Rattle.xs_io.specs.Shelves.{mem_file, mem_name_faults, mem_calls};
+    ghost use Rattle.xs_io.specs.Shelves.{mem_file, mem_name_faults, mem_calls, mem_given};
 
     ghost files = { λ s. Some (mem_file s) };
 
     ghost faults = { λ s. faults_of (mem_calls s) };
 
     ghost name_faults = { λ s name. mem_name_faults s name };
+
+    ghost given = { λ s. mem_given s };
 
     /// Gives as many bytes as stand there and fit the buffer.
     fn read_at(&mut self, name: &str, at: u64, buf: &mut [u8]) -> Result<usize, Failed>
@@ -73,6 +86,7 @@ impl Shelf for MemShelf {
             ≡ mem_name_faults self.old other }
         ensures unmoved { OnOk result (mem_name_faults self.new name.now
             ≡ mem_name_faults self.old name.now) }
+        ensures given { GivesAtMost (mem_given self.old) (mem_given self.new) result }
         ensures failed { OnErr result (NameFailed (Some (mem_file self.old)) name.now
             (faults_of (mem_calls self.old)) (faults_of (mem_calls self.new))
             (mem_name_faults self.old name.now) (mem_name_faults self.new name.now)) }
@@ -85,19 +99,22 @@ impl Shelf for MemShelf {
         ensures counted { Begins (mem_calls self.old) (mem_calls self.new) }
         ensures faults { IsCounted (faults_of (mem_calls self.old)) (faults_of (mem_calls self.new))
             result }
+        ensures sum { IfOk result (λ n. mem_given self.new ≡ min (mem_given self.old + n)
+            (2 ^ 64 - 1)) }
     {
         if let Err(failed) = self.calls.begin() {
             self.folder.raise(name);
             return Err(failed);
         }
-        match self.folder.read_at(name, at, buf) {
-            Some(count) => Ok(count),
-            None => Err(self.calls.fail()),
-        }
+        let Some(count) = self.folder.read_at(name, at, buf) else {
+            return Err(self.calls.fail());
+        };
+        self.given = self.given.saturating_add(count as u64);
+        Ok(count)
     }
 }
 
-/// A shelf in memory whose calls fail exactly where their names are not there.
+/// A shelf in memory whose calls fail exactly where their names are not there. It counts no bytes.
 #[derive(Debug, Drop)]
 pub struct SureShelf {
     folder: Folder,
@@ -141,6 +158,8 @@ impl Shelf for SureShelf {
 
     ghost name_faults = { λ _ _. 0 };
 
+    ghost given = { λ _. 0 };
+
     /// Gives as many bytes as stand there and fit the buffer.
     fn read_at(&mut self, name: &str, at: u64, buf: &mut [u8]) -> Result<usize, Failed>
         requires { 0 < length buf.old }
@@ -150,6 +169,7 @@ impl Shelf for SureShelf {
         ensures kept { OnErr result (buf.new ≡ buf.old) }
         ensures same { Some (sure_file self.new) ≡ Some (sure_file self.old) }
         ensures later { sure_faults self.old ≤ sure_faults self.new }
+        ensures given { GivesAtMost 0 0 result }
         ensures failed { OnErr result (NameFailed (Some (sure_file self.old)) name.now
             (sure_faults self.old) (sure_faults self.new) 0 0) }
 

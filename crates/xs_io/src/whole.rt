@@ -105,8 +105,8 @@ fn read_pieces<S: Source>(
 /// All the bytes of the file of this name, of which there are at most `limit`.
 ///
 /// `ReadFault` comes only where that name failed in this call, and `TooLong` exactly where the
-/// file has more than `limit` bytes and no fault came first. No more than `limit + 1` bytes are
-/// read, in pieces of up to 64 KiB.
+/// file has more than `limit` bytes and no fault came first. The shelf gives at most `limit + 1`
+/// bytes, in pieces of up to 64 KiB.
 pub fn read_file<H: Shelf>(
     alloc: Global,
     shelf: &mut H,
@@ -118,6 +118,7 @@ pub fn read_file<H: Shelf>(
     ensures fault { IsErrOf result ReadStop.ReadFault → NameFailed (H.files shelf.old) name.now
         (H.faults shelf.old) (H.faults shelf.new) (H.name_faults shelf.old name.now)
         (H.name_faults shelf.new name.now) }
+    ensures taken { H.given shelf.new ≤ H.given shelf.old + (limit + 1) }
     ensures same { H.files shelf.new ≡ H.files shelf.old }
     ensures later { H.faults shelf.old ≤ H.faults shelf.new }
     ensures name_later { H.name_faults shelf.old name.now ≤ H.name_faults shelf.new name.now }
@@ -137,6 +138,7 @@ fn read_file_pieces<H: Shelf>(
     buf: &mut [u8],
 ) -> Result<Bytes, ReadStop>
     requires { 0 < length buf.old }
+    ensures taken { H.given shelf.new ≤ H.given shelf.old + (limit + 1) }
     ensures whole { IfOk result (λ bytes. IsFile (H.files shelf.old) name.now bytes limit) }
     ensures long { IsErrOf result ReadStop.TooLong → IsLongFile (H.files shelf.old) name.now limit }
     ensures fault { IsErrOf result ReadStop.ReadFault → NameFailed (H.files shelf.old) name.now

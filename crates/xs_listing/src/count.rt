@@ -10,7 +10,7 @@ use xs_forest::{Alt, Forest};
 use xs_forest_laws::SpanKey;
 
 /// How many unfoldings a child has: one where there is no child.
-pub(crate) fn child_count(counts: &[u64], child: Option<u32>) -> u64
+pub(crate) fn child_count(counts: &[u64], child: Option<u64>) -> u64
     requires { IsEarlier child (length counts.now) }
     ensures { result ≡ count_of counts.now child }
 {
@@ -46,7 +46,7 @@ fn all_count(counts: &[u64], alts: &[Alt], cap: u64) -> u64
 /// How many unfoldings each row has, and no more than the cap, in time linear in the alternatives.
 pub(crate) fn count_rows(
     alloc: Global,
-    forest: &Forest<SpanKey>,
+    forest: &Forest<'_, SpanKey>,
     cap: u64,
 ) -> Result<Vec<u64>, Memory>
     ensures long { IfOk result (λ counts. length counts.items ≡ length forest.now) }

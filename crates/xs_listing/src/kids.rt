@@ -47,12 +47,12 @@ fn place(
     Ok(())
 }
 
-/// Puts the parts of a node's kids, in the order of the slots, in place of others, with a new leaf for each word of a
-/// terminal, in time linear in the rule's items and the words.
+/// Puts the parts of a node's kids, in the order of the slots, in place of others, with a new leaf
+/// for each word of a terminal, in time linear in the rule's items and the words.
 pub(crate) fn kids_of(
     g: &Gram,
     doc: &Word,
-    forest: &Forest<SpanKey>,
+    forest: &Forest<'_, SpanKey>,
     numbers: &[u64],
     alt: Alt,
     builder: &mut Builder,
@@ -73,7 +73,7 @@ pub(crate) fn kids_of(
     let mut front = alt.left;
     'fronts: while dot > 0 {
         dot -= 1;
-        let step = first_step(forest, front.unwrap() as u64);
+        let step = first_step(forest, front.unwrap());
         place(doc, numbers, &items[dot], &step, builder, kids)?;
         front = step.left;
     }

@@ -15,7 +15,7 @@ use xs_forest_laws::Grown;
 use xs_gram::Gram;
 
 /// The derivation of a number.
-fn spell(alloc: Global, source: &Source<'_>, root: u64, number: u64) -> Result<Spelt, Memory>
+fn spell(alloc: Global, source: &Source<'_, '_>, root: u64, number: u64) -> Result<Spelt, Memory>
     requires source { IsSource source.now }
     requires root { IsRoot source.now.g.now source.now.doc.now source.now.forest.now root }
     requires within { number < count_of source.now.counts.now (Some root) }
@@ -34,7 +34,12 @@ fn spell(alloc: Global, source: &Source<'_>, root: u64, number: u64) -> Result<S
 }
 
 /// That many first derivations.
-fn spell_all(alloc: Global, source: &Source<'_>, root: u64, count: u64) -> Result<Spelts, Memory>
+fn spell_all(
+    alloc: Global,
+    source: &Source<'_, '_>,
+    root: u64,
+    count: u64,
+) -> Result<Spelts, Memory>
     requires source { IsSource source.now }
     requires root { IsRoot source.now.g.now source.now.doc.now source.now.forest.now root }
     requires within { count ≤ count_of source.now.counts.now (Some root) }
@@ -56,7 +61,7 @@ fn spell_all(alloc: Global, source: &Source<'_>, root: u64, count: u64) -> Resul
 /// larger than any memory the answer is want of memory at once.
 pub fn list_trees(
     alloc: Global,
-    grown: &Grown,
+    grown: &Grown<'_>,
     g: &Gram,
     doc: &Word,
     max: u32,

@@ -11,7 +11,7 @@ use xs_forest::Forest;
 use xs_forest_laws::SpanKey;
 
 /// Marks a child.
-fn mark(child: Option<u32>, marks: &mut [bool])
+fn mark(child: Option<u64>, marks: &mut [bool])
     requires { IsEarlier child (length marks.old) }
     ensures { marks.new ≡ with_mark child marks.old }
 {
@@ -22,7 +22,7 @@ fn mark(child: Option<u32>, marks: &mut [bool])
 }
 
 /// Marks the children of a marked row's first alternative.
-fn mark_children(forest: &Forest<SpanKey>, row: u64, marks: &mut [bool])
+fn mark_children(forest: &Forest<'_, SpanKey>, row: u64, marks: &mut [bool])
     requires there { row < length forest.now }
     requires marks { row < length marks.old }
     requires below { AreBelow forest.now }
@@ -43,7 +43,7 @@ fn mark_children(forest: &Forest<SpanKey>, row: u64, marks: &mut [bool])
 /// root.
 pub(crate) fn mark_rows(
     alloc: Global,
-    forest: &Forest<SpanKey>,
+    forest: &Forest<'_, SpanKey>,
     root: u64,
 ) -> Result<Vec<bool>, Memory>
     requires { root < length forest.now }

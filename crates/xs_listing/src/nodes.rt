@@ -17,7 +17,7 @@ use xs_tree::Builder;
 fn add_node(
     g: &Gram,
     doc: &Word,
-    forest: &Forest<SpanKey>,
+    forest: &Forest<'_, SpanKey>,
     numbers: &[u64],
     row: u64,
     builder: &mut Builder,
@@ -41,7 +41,7 @@ fn add_node(
 fn number_row(
     g: &Gram,
     doc: &Word,
-    forest: &Forest<SpanKey>,
+    forest: &Forest<'_, SpanKey>,
     marks: &[bool],
     numbers: &[u64],
     builder: &mut Builder,
@@ -75,7 +75,7 @@ pub(crate) fn number_rows(
     alloc: Global,
     g: &Gram,
     doc: &Word,
-    forest: &Forest<SpanKey>,
+    forest: &Forest<'_, SpanKey>,
     marks: &[bool],
     builder: &mut Builder,
 ) -> Result<Vec<u64>, Memory>

@@ -8,7 +8,7 @@ use xs_forest::{Alt, Forest};
 use xs_forest_laws::SpanKey;
 
 /// The label of a row.
-pub(crate) fn label_at(forest: &Forest<SpanKey>, row: u64) -> SpanKey
+pub(crate) fn label_at(forest: &Forest<'_, SpanKey>, row: u64) -> SpanKey
     requires { row < length forest.now }
     ensures { result ≡ key_of forest.now row }
 {
@@ -16,7 +16,7 @@ pub(crate) fn label_at(forest: &Forest<SpanKey>, row: u64) -> SpanKey
 }
 
 /// The alternatives of a row.
-pub(crate) fn alts_at(forest: &Forest<SpanKey>, row: u64) -> &[Alt]
+pub(crate) fn alts_at<'b>(forest: &Forest<'b, SpanKey>, row: u64) -> &'b [Alt]
     requires { row < length forest.now }
     ensures { result.now ≡ alts_of forest.now row }
 {
@@ -24,13 +24,13 @@ pub(crate) fn alts_at(forest: &Forest<SpanKey>, row: u64) -> &[Alt]
 }
 
 /// The place of the document where a left child ends, and `start` where there is none.
-pub(crate) fn end_of(forest: &Forest<SpanKey>, start: u32, left: Option<u32>) -> u32
+pub(crate) fn end_of(forest: &Forest<'_, SpanKey>, start: u32, left: Option<u64>) -> u32
     requires { IsEarlier left (length forest.now) }
     ensures { result ≡ end_of forest.now start left }
 {
     match left {
         None => start,
-        Some(row) => label_at(forest, row as u64).end,
+        Some(row) => label_at(forest, row).end,
     }
 }
 
@@ -38,14 +38,14 @@ pub(crate) fn end_of(forest: &Forest<SpanKey>, start: u32, left: Option<u32>) ->
 /// item.
 #[derive(Clone, Copy)]
 pub(crate) struct FirstAlternative {
-    pub left: Option<u32>,
-    pub right: Option<u32>,
+    pub left: Option<u64>,
+    pub right: Option<u64>,
     pub start: u32,
     pub end: u32,
 }
 
 /// The first alternative of a row.
-pub(crate) fn first_alt(forest: &Forest<SpanKey>, row: u64) -> Alt
+pub(crate) fn first_alt(forest: &Forest<'_, SpanKey>, row: u64) -> Alt
     requires there { row < length forest.now }
     requires some { 0 < length (alts_of forest.now row) }
     ensures { IsFirstAlt forest.now row result }
@@ -54,7 +54,7 @@ pub(crate) fn first_alt(forest: &Forest<SpanKey>, row: u64) -> Alt
 }
 
 /// The step of a row.
-pub(crate) fn first_step(forest: &Forest<SpanKey>, row: u64) -> FirstAlternative
+pub(crate) fn first_step(forest: &Forest<'_, SpanKey>, row: u64) -> FirstAlternative
     requires there { row < length forest.now }
     requires some { 0 < length (alts_of forest.now row) }
     requires below { AreBelow forest.now }

@@ -27,7 +27,7 @@ fn word_size(item: &GItem) -> u64
 }
 
 /// How many parts a child's unfolding by first alternatives has.
-fn child_size(sizes: &[u64], child: Option<u32>) -> u64
+fn child_size(sizes: &[u64], child: Option<u64>) -> u64
     requires { IsEarlier child (length sizes.now) }
     ensures { result ≡ size_at sizes.now child }
 {
@@ -54,7 +54,7 @@ fn last_size(g: &Gram, sizes: &[u64], what: What, alt: Alt) -> u64
 
 /// How many parts the unfolding of a row by first alternatives has, by the sizes of the rows before
 /// it.
-fn row_size(g: &Gram, doc: &Word, forest: &Forest<SpanKey>, sizes: &[u64], row: u64) -> u64
+fn row_size(g: &Gram, doc: &Word, forest: &Forest<'_, SpanKey>, sizes: &[u64], row: u64) -> u64
     requires right { IsRight g.now doc.now forest.now }
     requires there { row < length forest.now }
     requires before { row ≤ length sizes.now }
@@ -77,7 +77,7 @@ pub(crate) fn first_sizes(
     alloc: Global,
     g: &Gram,
     doc: &Word,
-    forest: &Forest<SpanKey>,
+    forest: &Forest<'_, SpanKey>,
 ) -> Result<Vec<u64>, Memory>
     requires { IsRight g.now doc.now forest.now }
     ensures long { IfOk result (λ sizes. length sizes.items ≡ length forest.now) }
@@ -93,7 +93,7 @@ pub(crate) fn first_sizes(
 }
 
 /// How many parts a task writes at once; what it leaves to be counted goes to the tasks.
-fn count_task(source: &Source<'_>, task: Task, tasks: &mut Vec<Task>) -> Result<u64, Memory>
+fn count_task(source: &Source<'_, '_>, task: Task, tasks: &mut Vec<Task>) -> Result<u64, Memory>
     requires source { IsSource source.now }
     requires can { CanDo source.now task 0 }
     requires all { All (λ t. CanDo source.now t 0) tasks.old.items }
@@ -116,8 +116,8 @@ fn count_task(source: &Source<'_>, task: Task, tasks: &mut Vec<Task>) -> Result<
 /// first alternatives are not walked through, so that the time is linear in the rows.
 pub(crate) fn size_of(
     alloc: Global,
-    source: &Source<'_>,
-    child: Option<u32>,
+    source: &Source<'_, '_>,
+    child: Option<u64>,
     number: u64,
 ) -> Result<u64, Memory>
     requires source { IsSource source.now }

@@ -1,4 +1,4 @@
-ghost use Rattle.std.specs.Prelude.{◌≡◌, IfOk};
+ghost use Rattle.std.specs.Prelude.{◌≡◌, ◌<◌, ◌++◌, ◌∷◌, [], length, slice_get, IfOk, OnOk, OnErr};
 
 use smallvec::SmallVec;
 use std::alloc::Global;
@@ -20,6 +20,15 @@ impl Model for Kids {
 }
 
 impl Kids {
+    /// The empty list, without memory.
+    pub fn new(alloc: Global) -> Self
+        ensures { result ≡ [] }
+    {
+        Kids {
+            all: SmallVec::new(alloc),
+        }
+    }
+
     /// The kids at these places.
     pub(crate) fn of(alloc: Global, places: &[u64]) -> Result<Self, Memory>
         ensures { IfOk result (λ kids. kids ≡ places.now) }
@@ -28,11 +37,35 @@ impl Kids {
         Ok(Kids { all })
     }
 
+    /// Appends a place, or leaves the list as it was.
+    pub fn push(&mut self, place: u64) -> Result<(), Memory>
+        ensures ok { OnOk result (self.new ≡ self.old ++ place ∷ []) }
+        ensures err { OnErr result (self.new ≡ self.old) }
+    {
+        self.all.push(place)?;
+        Ok(())
+    }
+
     /// The places in order.
     pub fn as_slice(&self) -> &[u64]
         ensures { result.now ≡ self.now }
     {
         self.all.as_slice()
+    }
+
+    /// The number of kids.
+    pub fn len(&self) -> usize
+        ensures { result ≡ length self.now }
+    {
+        self.all.len()
+    }
+
+    /// The place of a kid, by its number from 0 on.
+    pub fn at(&self, kid: usize) -> u64
+        requires { kid < length self.now }
+        ensures { slice_get self.now kid ≡ Some result }
+    {
+        self.all.as_slice()[kid]
     }
 }
 

@@ -15,7 +15,7 @@ use xs_tree::{Builder, Tree};
 ///
 /// Each row of a nonterminal is one part, however often its tree stands in the whole, so that the
 /// work is linear in the rows and the document even where the tree is larger than any memory.
-pub fn one_tree(alloc: Global, grown: &Grown, g: &Gram, doc: &Word) -> Result<Tree, Memory>
+pub fn one_tree(alloc: Global, grown: &Grown<'_>, g: &Gram, doc: &Word) -> Result<Tree, Memory>
     requires built { IsBuilt g.now }
     requires forest { IsForestOf g.now doc.now grown.now.forest grown.now.root }
     requires in_language { InLang g.now doc.now }

@@ -18,10 +18,10 @@ use xs_gram::{GItem, Gram};
 /// The forest of a document, with the number of unfoldings of each row up to a cap, and the number
 /// of parts of the row's unfolding by first alternatives.
 #[derive(Drop)]
-pub(crate) struct Source<'s> {
+pub(crate) struct Source<'s, 'b> {
     pub g: &'s Gram,
     pub doc: &'s Word,
-    pub forest: &'s Forest<SpanKey>,
+    pub forest: &'s Forest<'b, SpanKey>,
     pub counts: &'s [u64],
     pub sizes: &'s [u64],
     pub cap: u64,
@@ -32,7 +32,7 @@ pub(crate) struct Source<'s> {
 pub(crate) enum Task {
     /// An unfolding of a row, by its number.
     Visit {
-        row: u32,
+        row: u64,
         number: u64,
     },
     /// An item of a rule whose word is a stretch of the document.
@@ -95,7 +95,7 @@ fn write_node(alloc: Global, rule: u32, from: u64, written: &mut Written) -> Res
 }
 
 /// An unfolding of a child is to be written next.
-fn push_child(child: Option<u32>, number: u64, tasks: &mut Vec<Task>) -> Result<(), Memory>
+fn push_child(child: Option<u64>, number: u64, tasks: &mut Vec<Task>) -> Result<(), Memory>
     ensures { OnOk result (tasks.new.items ≡ tasks.old.items ++ child_task child number) }
 {
     match child {
@@ -110,7 +110,7 @@ fn push_child(child: Option<u32>, number: u64, tasks: &mut Vec<Task>) -> Result<
 /// An unfolding of a child is all that is to be written.
 pub(crate) fn first_tasks(
     alloc: Global,
-    child: Option<u32>,
+    child: Option<u64>,
     number: u64,
 ) -> Result<Vec<Task>, Memory>
     ensures { IfOk result (λ tasks. tasks.items ≡ child_task child number) }
@@ -121,7 +121,7 @@ pub(crate) fn first_tasks(
 }
 
 /// What is to be written after the left child.
-fn task_after(forest: &Forest<SpanKey>, label: SpanKey, chosen: Chosen, from: u64) -> Task
+fn task_after(forest: &Forest<'_, SpanKey>, label: SpanKey, chosen: Chosen, from: u64) -> Task
     requires left { IsEarlier chosen.alt.left (length forest.now) }
     requires dotted { (p d : ℕ) → label.what ≡ Front p d → 0 < d }
     ensures { result ≡ last_task forest.now label.what label chosen from }
@@ -149,8 +149,8 @@ fn task_after(forest: &Forest<SpanKey>, label: SpanKey, chosen: Chosen, from: u6
 /// An unfolding of a row is taken apart.
 #[inline(always)]
 pub(crate) fn visit(
-    source: &Source<'_>,
-    row: u32,
+    source: &Source<'_, '_>,
+    row: u64,
     number: u64,
     from: u64,
     tasks: &mut Vec<Task>,
@@ -159,8 +159,8 @@ pub(crate) fn visit(
     requires visit { CanVisit source.now row number }
     ensures { OnOk result (IsVisited source.now.forest.now source.now.cap source.now.counts.now row number from tasks.old.items tasks.new.items) }
 {
-    let alts = alts_at(source.forest, row as u64);
-    let label = label_at(source.forest, row as u64);
+    let alts = alts_at(source.forest, row);
+    let label = label_at(source.forest, row);
     let chosen = choose(source.counts, alts, source.cap, number);
     tasks.push(task_after(source.forest, label, chosen, from))?;
     push_child(chosen.alt.left, chosen.left, tasks)?;
@@ -170,7 +170,7 @@ pub(crate) fn visit(
 /// One task is done.
 fn perform(
     alloc: Global,
-    source: &Source<'_>,
+    source: &Source<'_, '_>,
     task: Task,
     tasks: &mut Vec<Task>,
     written: &mut Written,
@@ -201,8 +201,8 @@ fn perform(
 /// it has.
 pub(crate) fn write_front(
     alloc: Global,
-    source: &Source<'_>,
-    front: Option<u32>,
+    source: &Source<'_, '_>,
+    front: Option<u64>,
     number: u64,
 ) -> Result<Written, Memory>
     requires source { IsSource source.now }

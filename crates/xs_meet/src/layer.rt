@@ -4,7 +4,7 @@ ghost use Rattle.xs_meet.specs.Searches.{step as step_of, Fits, Extends, Among, 
 ghost use Rattle.xs_meet.specs.Sharing.{AreKnown};
 
 use crate::reached_pair::ReachedPair;
-use crate::shared::Shared;
+use crate::sharing::Shared;
 use std::alloc::Global;
 use xs_auto::{Call, Edge, Edges, Net, Pairs};
 use xs_class::Memory;

@@ -16,12 +16,14 @@ mod reached_pair;
 mod rounds;
 mod seat;
 mod seeds;
-mod shared;
 mod shared_groups;
+mod sharing;
 mod spread;
 mod trace;
 
 pub use meet::{meet_nested, meet_word};
 pub use overlap::{Overlap, overlap_nested, overlap_word};
+pub use rounds::shared;
 pub use seat::Seat;
-pub use shared::Shared;
+pub use sharing::Shared;
+pub use xs_auto::{Call, Nest};

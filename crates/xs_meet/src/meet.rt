@@ -9,7 +9,7 @@ ghost use Rattle.xs_meet.specs.Traces.{IsSeeded, IsRoot, ArePieces};
 use crate::layer::Layer;
 use crate::piece::Piece;
 use crate::reached_pair::ReachedPair;
-use crate::shared::Shared;
+use crate::sharing::Shared;
 use crate::trace::read_trace;
 use std::alloc::Global;
 use xs_auto::{Nest, Net, Pairs};

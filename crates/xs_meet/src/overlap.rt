@@ -11,7 +11,7 @@ use crate::meet::{final_pair, reach};
 use crate::piece::Piece;
 use crate::reached_pair::ReachedPair;
 use crate::seat::Seat;
-use crate::shared::Shared;
+use crate::sharing::Shared;
 use crate::trace::{piece_between, read_trace};
 use std::alloc::Global;
 use xs_auto::{Nest, Net, Pairs};

@@ -4,29 +4,29 @@ ghost use Rattle.xs_meet.specs.Rounds.{CanTry, Tries, AreThese, AreFrom, AreWith
 ghost use Rattle.xs_meet.specs.Sharing.{has_at, HasRoom, IsSharedOf};
 
 use crate::meet::meet_pieces;
-use crate::shared::Shared;
+use crate::sharing::Shared;
 use std::alloc::Global;
 use xs_auto::{Nest, Pairs};
 use xs_class::Memory;
 
-impl Shared {
-    /// Which two groups of the nest have one fence and contents that accept a common word.
-    ///
-    /// Goes in rounds over the pairs of groups that have one fence and are not known to share a
-    /// word, until a round finds no more; so there is at most one round more than there are pairs
-    /// that share one. The pairs of states are marked in the first map.
-    pub fn of(alloc: Global, nest: &Nest, pairs: &mut Pairs) -> Result<Shared, Memory>
-        requires fenced { IsFenced nest.now }
-        requires room { HasRoom nest.now pairs.old.cells }
-        ensures cells { pairs.new.cells ≡ pairs.old.cells }
-        ensures ok { IfOk result (IsSharedOf nest.now) }
-        ensures exact { IfOk result (λ s. (g h : ℕ) → (has_at s g h ≡ true) ↔ AreShared nest.now g h) }
-    {
-        let mut shared = Shared::blank(alloc, nest.len())?;
-        'rounds: while shared.try_all(alloc, nest, pairs)? {}
-        Ok(shared)
-    }
+/// Which two groups of the nest have one fence and contents that accept a common word.
+///
+/// Goes in rounds over the pairs of groups that have one fence and are not known to share a word,
+/// until a round finds no more; so there is at most one round more than there are pairs that share
+/// one. The pairs of states are marked in the first map.
+pub fn shared(alloc: Global, nest: &Nest, pairs: &mut Pairs) -> Result<Shared, Memory>
+    requires fenced { IsFenced nest.now }
+    requires room { HasRoom nest.now pairs.old.cells }
+    ensures cells { pairs.new.cells ≡ pairs.old.cells }
+    ensures ok { IfOk result (IsSharedOf nest.now) }
+    ensures exact { IfOk result (λ s. (g h : ℕ) → (has_at s g h ≡ true) ↔ AreShared nest.now g h) }
+{
+    let mut shared = Shared::blank(alloc, nest.len())?;
+    'rounds: while shared.try_all(alloc, nest, pairs)? {}
+    Ok(shared)
+}
 
+impl Shared {
     /// One round: tries each two groups, and says whether any were found to share a word.
     fn try_all(&mut self, alloc: Global, nest: &Nest, pairs: &mut Pairs) -> Result<bool, Memory>
         requires ready { CanTry nest.now pairs.old.cells self.old }

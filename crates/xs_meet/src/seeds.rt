@@ -7,7 +7,7 @@ ghost use Rattle.xs_meet.specs.Sharing.{AreKnown};
 use crate::layer::Layer;
 use crate::reached_pair::ReachedPair;
 use crate::seat::Seat;
-use crate::shared::Shared;
+use crate::sharing::Shared;
 use xs_auto::{Net, Pairs};
 use xs_class::Memory;
 

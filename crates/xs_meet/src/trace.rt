@@ -8,7 +8,7 @@ ghost use Rattle.xs_meet.specs.Traces.{Bridges, IsTrace};
 use crate::layer::Layer;
 use crate::piece::Piece;
 use crate::reached_pair::ReachedPair;
-use crate::shared::Shared;
+use crate::sharing::Shared;
 use std::alloc::Global;
 use xs_auto::{Call, Edge, Edges, Net};
 use xs_class::{Memory, Sym};

@@ -21,7 +21,8 @@ unfolding rule_at
 at_order Twice = refl
 at_order rule = refl
 
-same_order : (a b : IllRule) → order a ≡ order b → a ≡ b
+-- a rule is known by its place in the order
+pub same_order : (a b : IllRule) → order a ≡ order b → a ≡ b
 same_order a b e = sym (at_order a) ∙ ap rule_at e ∙ at_order b
 
 pub none_at_first : (Fails : IllRule → ℕ → Type 0) → NoneBefore Fails 0

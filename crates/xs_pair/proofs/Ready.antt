@@ -36,6 +36,7 @@ use Rattle.xs_pair.proofs.Numbering.{number_bound, among_at, firsts_have, rule_i
 use Rattle.xs_pair.proofs.Once.{once_left, once_right, once_back, once_forth}
 use Rattle.xs_pair.proofs.Shorter.{names_short}
 use Rattle.xs_pair.proofs.TextFences.{text_proper}
+use Rattle.xs_pair.proofs.Strings.{rules_low}
 use Rattle.xs_pair.proofs.XmlFences.{xml_proper}
 use Rattle.xs_pair.proofs.Buildable.{marks_there, flat_slots, are_numbered, marks_short}
 
@@ -177,7 +178,7 @@ unfenced parts none = record {
 proper : (bytes : List ℕ) (s : Sheet) (names : List (List ℕ)) (side : Side) (parts : GramParts) → IsSheetOf bytes s → AreNamesOf (names_in (rules_of s.units)) names → ArePartsOf s names side parts → AreFences s names side parts.fences → HasProperFences parts
 proper bytes s names Text parts of named are (inl (none, is)) = text_proper s names parts are none is
 proper bytes s names Text parts of named are (inr (some, is)) = unfenced parts is
-proper bytes s names Xml parts of named are (inl (two, is)) = xml_proper bytes s names parts of named are is
+proper bytes s names Xml parts of named are (inl (two, is)) = xml_proper s.units names parts (rules_low bytes s of) named are.rules are.terms are.skips is
 proper bytes s names Xml parts of named are (inr (one, is)) = unfenced parts is
 
 pub can_build : (bytes : List ℕ) (s : Sheet) (names : List (List ℕ)) (side : Side) (parts : GramParts) → IsSheetOf bytes s → AreNamesOf (names_in (rules_of s.units)) names → ArePartsOf s names side parts → EachOf IsFit parts.terms → EachOf (λ k. IsFit k.regex) parts.skips → NoneFails (FailsAt s) → weight s.units < 65536 → CanBuild parts

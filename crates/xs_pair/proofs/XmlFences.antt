@@ -17,8 +17,6 @@ use Rattle.xs_sheet.specs.declared.item.Item.TheVariants as I
 use Rattle.xs_sheet.specs.declared.x_item.Attr.{Attr}
 use Rattle.xs_sheet.specs.declared.unit.Unit.{Unit}
 use Rattle.xs_sheet.specs.declared.unit.Unit.TheVariants as V
-use Rattle.xs_sheet.specs.declared.sheet.Sheet.{Sheet}
-use Rattle.xs_sheet.specs.Grammar.{IsSheetOf}
 use Rattle.xs_gram.specs.declared.parts.GItem.{GItem}
 use Rattle.xs_gram.specs.declared.parts.GItem.TheVariants.{Fixed}
 use Rattle.xs_gram.specs.declared.parts.RulePart.{RulePart}
@@ -32,7 +30,7 @@ use Rattle.xs_pair.specs.declared.mark.Mark.TheVariants.{AttributeEnd, Closing, 
 use Rattle.xs_pair.specs.declared.production.Rule.{Rule}
 use Rattle.xs_pair.specs.Balance.{right_of, AreApart}
 use Rattle.xs_pair.specs.Fences.{IsPair, IsBalanced, balanced_none, balanced_then, balanced_group, mark_pairs}
-use Rattle.xs_pair.specs.Grammars.{Numbering, numbering, named_item, flat_item, flat_mark, flat_marks, rule_parts, AreTermsOf, AreSkipsOf, ArePartsOf}
+use Rattle.xs_pair.specs.Grammars.{Numbering, numbering, named_item, flat_item, flat_mark, flat_marks, rule_parts, AreTermsOf, AreSkipsOf}
 use Rattle.xs_pair.specs.Listing.{rules_of, names_in}
 use Rattle.xs_pair.specs.Marks.{all_marks, attr_marks, attrs_marks, by_name, opening_marks, slot_names}
 use Rattle.xs_pair.specs.Rules.{IsAmong}
@@ -46,7 +44,7 @@ use Rattle.xs_pair.proofs.Nested as N
 use Rattle.xs_pair.proofs.Nested.{IsNested, all_nested}
 use Rattle.xs_pair.proofs.Numbering.{number_bound}
 use Rattle.xs_pair.proofs.Said.{IsSaidOfItem, IsSaidOfMark, IsSaidOfRule}
-use Rattle.xs_pair.proofs.Strings.{AreLow, IsLowText, rules_low}
+use Rattle.xs_pair.proofs.Strings.{AreLow, IsLowText}
 
 -- the symbols of the pairs of the k-th name and the later ones
 symbols_above : (k count bound : ℕ) → bound ≤ 1114114 + 3 * k → Every (λ s. bound ≤ s) (fence_symbols (mark_pairs k count))
@@ -249,12 +247,14 @@ rules_level n (V.Production name left right line ∷ us) known low =
     let ms = all_marks right.all.items in
     (balanced_level (mark_pairs 0 (length n.names)) (flat_marks n slots ms) (marks_apart 0 (length n.names)) (nested_balanced n slots (all_nested right.all.items) known.0 low.0.1), rules_level n us known.1 low.1)
 
-pub xml_proper : (bytes : List ℕ) (s : Sheet) (names : List (List ℕ)) (parts : GramParts) → IsSheetOf bytes s → AreNamesOf (names_in (rules_of s.units)) names → ArePartsOf s names Xml parts → parts.fences ≡ mark_pairs 0 (length names) → HasProperFences parts
-xml_proper bytes s names parts of named are is =
+pub xml_proper :
+    (us : List Unit) (names : List (List ℕ)) (parts : GramParts) → EachOf (IsSaidOfRule IsLowText) (rules_of us) → AreNamesOf (names_in (rules_of us)) names
+    → parts.rules ≡ rule_parts (numbering us names) Xml (rules_of us) → AreTermsOf us parts.terms → AreSkipsOf us parts.skips → parts.fences ≡ mark_pairs 0 (length names) → HasProperFences parts
+xml_proper us names parts low named rules terms skips is =
     let fs = mark_pairs 0 (length names) in
-    let level = rules_level (numbering s.units names) s.units (known_names (rules_of s.units) names named) (rules_low bytes s of) in record {
+    let level = rules_level (numbering us names) us (known_names (rules_of us) names named) low in record {
       once = subst (λ (z : List (ℕ × ℕ)). IsDistinct (fence_symbols z)) (sym is) (marks_once 0 (length names));
-      each_term = subst (λ (z : List (ℕ × ℕ)). EachOf (AvoidsFences z) parts.terms) (sym is) (terms_avoid (length names) s.units parts.terms are.terms);
-      each_skip = subst (λ (z : List (ℕ × ℕ)). EachOf (λ (k : SkipPart). AvoidsFences z k.regex) parts.skips) (sym is) (skips_avoid (length names) s.units parts.skips are.skips);
-      each_rule = subst (λ (z : List (ℕ × ℕ)). EachOf (λ (r : RulePart). IsLevel z (spread_items z r.items)) parts.rules) (sym is) (subst (λ (rs : List RulePart). EachOf (λ (r : RulePart). IsLevel fs (spread_items fs r.items)) rs) (sym are.rules) level);
+      each_term = subst (λ (z : List (ℕ × ℕ)). EachOf (AvoidsFences z) parts.terms) (sym is) (terms_avoid (length names) us parts.terms terms);
+      each_skip = subst (λ (z : List (ℕ × ℕ)). EachOf (λ (k : SkipPart). AvoidsFences z k.regex) parts.skips) (sym is) (skips_avoid (length names) us parts.skips skips);
+      each_rule = subst (λ (z : List (ℕ × ℕ)). EachOf (λ (r : RulePart). IsLevel z (spread_items z r.items)) parts.rules) (sym is) (subst (λ (rs : List RulePart). EachOf (λ (r : RulePart). IsLevel fs (spread_items fs r.items)) rs) (sym rules) level);
     }

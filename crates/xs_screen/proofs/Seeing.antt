@@ -17,9 +17,9 @@ use Rattle.xs_gram.specs.Fences.{spread, IsLevel}
 use Rattle.xs_gram.specs.Cuts.{CutsAt, CutsAreOne}
 use Rattle.xs_gram.proofs.Levels.{no_group}
 use Rattle.xs_gram.specs.Loose.{IsLoose, loose_none, loose_then, loose_group}
-use Rattle.xs_stretch.specs.declared.part.Part.{Part}
-use Rattle.xs_stretch.specs.Parts.{IsPart, part_items}
-use Rattle.xs_stretch.proofs.Stretches.{part_stretch}
+use Rattle.xs_loose.specs.declared.part.Part.{Part}
+use Rattle.xs_loose.specs.Parts.{IsPart, part_items}
+use Rattle.xs_loose.proofs.Stretches.{part_stretch}
 use Rattle.xs_meet.specs.Closed.{AreApart, IsSettled}
 use Rattle.xs_coarse.specs.Coarse.{Table, MayCall, view}
 use Rattle.xs_coarse.specs.Covers.{CoversCut}

@@ -6,7 +6,7 @@ use Rattle.xs_gram.specs.Fences.{spread}
 use Rattle.xs_gram.specs.Loose.{IsLoose}
 use Rattle.xs_gram.specs.Suspects.{IsHorizontal}
 use Rattle.xs_meet.specs.Closed.{IsSettled, AreApart}
-use Rattle.xs_stretch.specs.declared.part.Part.{Part}
+use Rattle.xs_loose.specs.declared.part.Part.{Part}
 use Rattle.xs_coarse.specs.Coarse.{Table, Net, MayCall, view}
 use Rattle.xs_coarse.specs.Labels.{IsLabelsOf}
 use Rattle.xs_apart.specs.declared.tail.Tail.{Tail}

@@ -1,7 +1,7 @@
 ghost use Rattle.std.specs.Prelude.{◌≡◌, ◌<◌, ◌⊎◌, true, false, set, length, IfOk, OnOk, IfSome};
 ghost use Rattle.std.specs.List.{Contains};
 ghost use Rattle.xs_gram.specs.{IsBuilt};
-ghost use Rattle.xs_stretch.specs.{IsPart, AreNumbersBefore};
+ghost use Rattle.xs_loose.specs.{IsPart, AreNumbersBefore};
 ghost use Rattle.xs_coarse.specs.{MayCall, view};
 ghost use Rattle.xs_apart.specs.{AreDoubles, AreClear};
 ghost use Rattle.xs_coarse_net.specs.{IsCoverOf};
@@ -17,8 +17,8 @@ use xs_coarse::Labels;
 use xs_coarse_laws::closed_sets_show_none;
 use xs_coarse_net::{Cover, Outer};
 use xs_gram::{Gram, cuts_are_one};
+use xs_loose::Part;
 use xs_regex::Numbers;
-use xs_stretch::Part;
 
 /// The most states of an end of a front, or of a rest, that are looked at without what stands
 /// before.

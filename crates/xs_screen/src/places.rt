@@ -1,10 +1,10 @@
 ghost use Rattle.std.specs.Prelude.{◌≡◌, ◌<◌, true, length};
 ghost use Rattle.xs_gram.specs.{CutsAt, spread};
-ghost use Rattle.xs_stretch.specs.{IsPart};
+ghost use Rattle.xs_loose.specs.{IsPart};
 
 use xs_coarse_net::Cover;
 use xs_gram::{GItem, Gram};
-use xs_stretch::Part;
+use xs_loose::Part;
 
 /// Whether an outer place of a cover stands right after a nonterminal of its rule.
 pub fn follows_non(g: &Gram, rule: u32, cover: &Cover, index: usize) -> bool

@@ -1,6 +1,6 @@
 ghost use Rattle.std.specs.Prelude.{◌≡◌, ◌<◌, true, length, IfOk, IfSome};
 ghost use Rattle.xs_gram.specs.{spread, IsBuilt};
-ghost use Rattle.xs_stretch.specs.{IsPart, part_items, AreNumbersBefore};
+ghost use Rattle.xs_loose.specs.{IsPart, part_items, AreNumbersBefore};
 ghost use Rattle.xs_screen.specs.Screens.{IsScreen, IsWholeCover, AreEndsApart, ShareNone, whole_part};
 
 use crate::Screen;
@@ -13,8 +13,8 @@ use xs_coarse::Labels;
 use xs_coarse_laws::closed_sets_show_none;
 use xs_coarse_net::Cover;
 use xs_gram::Gram;
+use xs_loose::Part;
 use xs_regex::Numbers;
-use xs_stretch::Part;
 
 impl Screen {
     /// Whether it is seen that no word is loose for both rules. False says nothing.

@@ -1,6 +1,6 @@
 ghost use Rattle.std.specs.Prelude.{length, IfOk, IfSome};
 ghost use Rattle.xs_gram.specs.{IsBuilt};
-ghost use Rattle.xs_stretch.specs.{AreNumbersBefore};
+ghost use Rattle.xs_loose.specs.{AreNumbersBefore};
 ghost use Rattle.xs_screen.specs.Screens.{IsScreen};
 
 use crate::groups::part_groups;

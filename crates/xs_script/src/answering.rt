@@ -75,7 +75,6 @@ fn push_class(alloc: Global, out: &mut Bytes, names: &Names, class: &Class) -> R
 
 /// Edits the document, and appends the line that says how that went.
 fn put(
-    alloc: Global,
     session: &mut Session<'_>,
     at: u32,
     cut: u32,
@@ -85,7 +84,7 @@ fn put(
     ensures answer { OnOk result ((line : List ℕ) × IsPutAnswer session.old.document at cut put.now line session.new.document × (out.new ≡ out.old ++ line)) }
     ensures pair { session.new.pair ≡ session.old.pair }
 {
-    match session.edit(alloc, at, cut, put) {
+    match session.edit(at, cut, put) {
         Ok(()) => {
             push_number(out, b"ok ", session.document().len() as u64)?;
             Ok(())
@@ -103,12 +102,13 @@ fn put(
 }
 
 /// Appends the line of a derivation of the document, or how far it can be read.
-fn tree(alloc: Global, two: &Two, session: &Session<'_>, out: &mut Bytes) -> Result<(), Memory>
+fn tree(alloc: Global, two: &Two, session: &mut Session<'_>, out: &mut Bytes) -> Result<(), Memory>
     requires names { HasSlotNames two.now }
-    requires pair { session.now.pair ≡ two.now }
-    ensures { OnOk result ((line : List ℕ) × IsTreeAnswer two.now session.now.document line × (out.new ≡ out.old ++ line)) }
+    requires pair { session.old.pair ≡ two.now }
+    ensures answer { OnOk result ((line : List ℕ) × IsTreeAnswer two.now session.old.document line × (out.new ≡ out.old ++ line)) }
+    ensures unchanged { session.new ≡ session.old }
 {
-    match session.tree(alloc)? {
+    match session.tree()? {
         Some(spelt) => {
             let line = tree_line(alloc, two, &spelt, session.document())?;
             out.extend(line.as_slice())?;
@@ -129,7 +129,7 @@ fn next(
     requires { session.now.pair ≡ two.now }
     ensures { OnOk result ((line : List ℕ) × IsNextAnswer two.now session.now.document at line × (out.new ≡ out.old ++ line)) }
 {
-    match session.next(alloc, at)? {
+    match session.next(at)? {
         Some(class) => push_class(alloc, out, two.names(), &class)?,
         None => out.extend(b"no beyond\n")?,
     }
@@ -154,7 +154,7 @@ pub fn answer(
             at,
             cut,
             put: symbols,
-        } => put(alloc, session, *at, *cut, symbols, out),
+        } => put(session, *at, *cut, symbols, out),
         Request::Tree => tree(alloc, two, session, out),
         Request::Next { at } => next(alloc, two, session, *at, out),
     }

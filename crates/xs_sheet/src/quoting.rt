@@ -1,52 +1,54 @@
-ghost use Rattle.std.specs.Prelude.{◌≡◌, ◌<◌, ◌++◌, [], OnOk};
+ghost use Rattle.std.specs.Prelude.{◌≡◌, ◌<◌, ◌++◌, [], true, nat_lt, IfSome, OnOk, OnErr};
 ghost use Rattle.std.specs.Char.{digit_char};
+ghost use Rattle.std.specs.List.{list_all};
 ghost use Rattle.xs_lex.specs.{coded, spelt_quoted_unit};
 ghost use Rattle.xs_sheet.specs.Layout.{hex_digits, escape_sign, is_control, unit_of, quoted};
 
 use xs_class::{Memory, Text};
 
 /// The lower-case hexadecimal digit of a number.
-fn digit(number: u32) -> char
+fn digit(number: u32) -> u8
     requires { number < 16 }
-    ensures { result ≡ digit_char number }
+    ensures is { result ≡ digit_char number }
+    ensures ascii { result < 128 }
 {
-    char::from_digit(number, 16).unwrap()
+    char::from_digit(number, 16).unwrap() as u8
 }
 
-/// Writes a number without leading zeros.
+/// The string of these ASCII characters.
+fn ascii(bytes: &[u8]) -> &str
+    requires { list_all (λ b. nat_lt b 128) bytes.now ≡ true }
+    ensures { result.now ≡ bytes.now }
+{
+    str::from_utf8(bytes).unwrap()
+}
+
+/// Writes a character by its number, without leading zeros.
 #[tactic(auto, unfolding(crate::specs::Layout::hex_digits))]
-fn push_digits(page: &mut Text, number: u32) -> Result<(), Memory>
-    requires { number < 256 }
-    ensures { OnOk result (page.new ≡ page.old ++ hex_digits number) }
-{
-    if number < 16 {
-        return page.push(digit(number));
-    }
-    page.push(digit(number / 16))?;
-    page.push(digit(number % 16))
-}
-
-/// Writes a character by its number.
 fn push_number(page: &mut Text, number: u32) -> Result<(), Memory>
     requires { number < 256 }
-    ensures { OnOk result (page.new ≡ page.old ++ spelt_quoted_unit (coded (hex_digits number)) []) }
+    ensures ok { OnOk result (page.new ≡ page.old ++ spelt_quoted_unit (coded (hex_digits number)) []) }
+    ensures err { OnErr result (page.new ≡ page.old) }
 {
-    page.push_ascii("\\u{")?;
-    push_digits(page, number)?;
-    page.push('}')
+    if number < 16 {
+        return page.push_ascii(ascii(&[b'\\', b'u', b'{', digit(number), b'}']));
+    }
+    let (high, low) = (digit(number / 16), digit(number % 16));
+    page.push_ascii(ascii(&[b'\\', b'u', b'{', high, low, b'}']))
 }
 
 /// The sign that stands for the character after a backslash, if one does.
 #[tactic(auto, unfolding(crate::specs::Layout::escape_sign))]
-fn escape_sign(c: char) -> Option<char>
-    ensures { result ≡ escape_sign c }
+fn escape_sign(c: char) -> Option<u8>
+    ensures is { result ≡ escape_sign c }
+    ensures ascii { IfSome result (λ sign. sign < 128) }
 {
     match c {
-        '"' => Some('"'),
-        '\\' => Some('\\'),
-        '\n' => Some('n'),
-        '\t' => Some('t'),
-        '\r' => Some('r'),
+        '"' => Some(b'"'),
+        '\\' => Some(b'\\'),
+        '\n' => Some(b'n'),
+        '\t' => Some(b't'),
+        '\r' => Some(b'r'),
         _ => None,
     }
 }
@@ -59,13 +61,14 @@ fn is_control(c: char) -> bool
     c < ' ' || c == '\u{7F}'
 }
 
-/// Writes a character of a quoted string, as it is, escaped, or by its number.
+/// Writes a character of a quoted string, as it is, escaped, or by its number, or leaves the page
+/// as it was.
 pub fn push_quoted_character(page: &mut Text, c: char) -> Result<(), Memory>
-    ensures { OnOk result (page.new ≡ page.old ++ spelt_quoted_unit (unit_of c) []) }
+    ensures ok { OnOk result (page.new ≡ page.old ++ spelt_quoted_unit (unit_of c) []) }
+    ensures err { OnErr result (page.new ≡ page.old) }
 {
     if let Some(sign) = escape_sign(c) {
-        page.push('\\')?;
-        return page.push(sign);
+        return page.push_ascii(ascii(&[b'\\', sign]));
     }
     if is_control(c) {
         return push_number(page, c as u32);
@@ -74,7 +77,7 @@ pub fn push_quoted_character(page: &mut Text, c: char) -> Result<(), Memory>
 }
 
 /// Writes a quoted string that stands for these characters.
-pub fn push_quoted(page: &mut Text, text: &Text) -> Result<(), Memory>
+pub(crate) fn push_quoted(page: &mut Text, text: &Text) -> Result<(), Memory>
     ensures { OnOk result (page.new ≡ page.old ++ quoted text.now) }
 {
     page.push('"')?;

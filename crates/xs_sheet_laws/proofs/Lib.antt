@@ -11,3 +11,4 @@ pub mod Fencing
 pub mod Pairs
 pub mod Failing
 pub mod Meant
+mod Refusals

@@ -70,7 +70,7 @@ unit_alike (Production name left right line) (Ignorable name' pattern' regex' no
 first_outline : (x y : UnitOutline) (xs ys : List UnitOutline) → (x ∷ xs) ≡ y ∷ ys → (x ≡ y) × (xs ≡ ys)
 first_outline x y xs ys e = (cc, cc)
 
-units_alike : (us vs : List Unit) → map unit_outline us ≡ map unit_outline vs → HaveRegexes us → HaveRegexes vs → AllAlike us vs
+pub units_alike : (us vs : List Unit) → map unit_outline us ≡ map unit_outline vs → HaveRegexes us → HaveRegexes vs → AllAlike us vs
 units_alike [] [] e h k = tt
 units_alike [] (v ∷ vs) e h k = cc
 units_alike (u ∷ us) [] e h k = cc

@@ -4,3 +4,4 @@ pub mod Meanings
 pub mod Sheets
 pub mod Pairs
 pub mod Laws
+pub mod Refusals

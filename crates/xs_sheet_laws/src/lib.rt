@@ -5,13 +5,16 @@
 //! pairs of grammars are alike where they differ in that alone. The laws: bytes that spell two
 //! sheets spell sheets that are alike, two pairs of grammars of the same bytes are alike, and
 //! grammars that are alike have the same derivations, trees, prints, words, viable prefixes, weights
-//! and suspects, and are accepted alike.
+//! and suspects, and are accepted alike. A sheet that is refused is refused in one way.
 //!
 //! The statements stand in specs/. Each function here is a law, and does nothing when it runs.
 #![tactic(auto)]
 
 ghost use Rattle.xs_sheet_laws.specs.Meanings.{AlikeMeanTheSame, AlikeAreCheckedAlike};
+ghost use Rattle.xs_sheet_laws.specs.Refusals.{BrokenOnce, IllOnce, HeavyOnce, SuspectOnce};
 ghost use Rattle.xs_sheet_laws.specs.Laws.{OneSheet, AlikeSheetsMeanTheSame, OnePair, OnePairOfBytes, AlikePairsMeanTheSame};
+
+use xs_check_laws::weights_are_exact;
 
 /// Two sheets of the same bytes are alike.
 pub fn one_sheet()
@@ -44,3 +47,14 @@ pub fn alike_mean_the_same()
 pub fn alike_are_checked_alike()
     ensures { AlikeAreCheckedAlike }
 {}
+
+/// A sheet is refused in one way: bytes are broken at one place, one rule fails first and at one line,
+/// the first heavy rule has one weight, and the first suspect stands at one site.
+pub fn refused_once()
+    ensures broken { BrokenOnce }
+    ensures ill { IllOnce }
+    ensures heavy { HeavyOnce }
+    ensures suspect { SuspectOnce }
+{
+    weights_are_exact();
+}

@@ -3,7 +3,7 @@ use Rattle.std.proofs.Common.{◌≡◌, ℕ, ◌<◌, ◌≤◌, List, [], ◌�
 use Rattle.xs_gram.specs.Grammar.{Grammar}
 use Rattle.xs_gram.specs.Fences.{spread, IsLevel}
 use Rattle.xs_gram.proofs.Unfenced.{level_unfenced}
-use Rattle.xs_stretch.specs.Parts.{IsPart, part_items}
+use Rattle.xs_loose.specs.Parts.{IsPart, part_items}
 
 none_of : (fs : List (ℕ × ℕ)) → length fs ≤ 0 → fs ≡ []
 none_of [] e = refl

@@ -7,7 +7,7 @@ ghost use Rattle.xs_text_out.specs.Printed.{AreLengths, print_length, slot_word}
 ghost use Rattle.xs_text_out.specs.Shares.{AreShares, slots_length};
 
 use crate::items::kid_at;
-use crate::shares::{Shares, shares_of};
+use crate::shares::Shares;
 use std::alloc::Global;
 use xs_class::Memory;
 use xs_gram::Gram;
@@ -63,15 +63,15 @@ fn part_length(g: &Gram, shares: &Shares, t: &Tree, part: u64, lengths: &[u64]) 
 }
 
 /// The lengths of what the parts print, each as far as 64 bits can count, in time linear in the
-/// parts and their children, and in the items of the grammar.
-pub fn lengths_of(alloc: Global, g: &Gram, t: &Tree) -> Result<Vec<u64>, Memory>
+/// parts and their children.
+pub fn lengths_of(alloc: Global, g: &Gram, shares: &Shares, t: &Tree) -> Result<Vec<u64>, Memory>
+    requires { AreShares g.now shares.now }
     ensures { IfOk result (λ lengths. AreLengths g.now (trees_of t.now.parts) lengths.items) }
 {
-    let shares = shares_of(alloc, g)?;
     let count = t.len();
     let mut lengths = Vec::with_capacity(alloc, count as usize)?;
     'parts: for part in 0..count {
-        let length = part_length(g, &shares, t, part, &lengths);
+        let length = part_length(g, shares, t, part, &lengths);
         lengths.push(length)?;
     }
     Ok(lengths)

@@ -1,7 +1,7 @@
 -- What a run says of a certificate another run says too, and what `prove` wrote is taken.
 use Rattle.std.proofs.Common.{◌≡◌, ◌⊎◌, ◌∙◌, inl, inr, ℕ, ◌≤◌, List, suc, sym, subst, ap, refl, arith}
 use Rattle.xs_check_laws.specs.Laws.{RuleWeighsOnce}
-use Rattle.xs_xml.specs.Laws.{OneReading}
+use Rattle.xs_xml_laws.specs.Laws.{OneReading}
 use Rattle.xs_pair.specs.Grammars.{Pair}
 use Rattle.xs_cert_laws.specs.Certificates.{IsCertificate, IsBadAt}
 use Rattle.xs_cert_alike.specs.Laws.{AreBuilt}

@@ -4,7 +4,7 @@ use Rattle.xs_io.specs.Causes.{Rose}
 use Rattle.xs_class.specs.declared.side.Side.{Side}
 use Rattle.xs_class.specs.declared.side.Side.TheVariants.{Xml}
 use Rattle.xs_chars.specs.declared.form.Form.{Form}
-use Rattle.xs_xml.specs.Laws.{OneReading}
+use Rattle.xs_xml_laws.specs.Laws.{OneReading}
 use Rattle.xs_gram.specs.Languages.{InLang, IsViable}
 use Rattle.xs_check_laws.specs.Acceptance.{IsAccepted}
 use Rattle.xs_check_laws.specs.Laws.{RuleWeighsOnce}

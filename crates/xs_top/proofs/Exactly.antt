@@ -2,7 +2,7 @@
 use Rattle.std.proofs.Common.{◌≡◌, ◌⊎◌, ◌∙◌, inl, inr, ℕ, List, sym, subst}
 use Rattle.xs_class.specs.declared.side.Side.{Side}
 use Rattle.xs_chars.specs.declared.form.Form.{Form}
-use Rattle.xs_xml.specs.Laws.{OneReading}
+use Rattle.xs_xml_laws.specs.Laws.{OneReading}
 use Rattle.xs_gram.specs.Languages.{InLang}
 use Rattle.xs_check_laws.specs.Laws.{RuleWeighsOnce}
 use Rattle.xs_pair.specs.Grammars.{Pair, grammar_of}

@@ -2,7 +2,7 @@
 use Rattle.std.proofs.Common.{◌≡◌, ◌∙◌, ℕ, List, subst, ap}
 use Rattle.xs_class.specs.declared.side.Side.{Side}
 use Rattle.xs_chars.specs.declared.form.Form.TheVariants.{AsIs}
-use Rattle.xs_xml.specs.Laws.{OneReading}
+use Rattle.xs_xml_laws.specs.Laws.{OneReading}
 use Rattle.xs_gram.specs.Grammar.{Grammar}
 use Rattle.xs_gram.specs.Common.{Common, print, strip}
 use Rattle.xs_gram.specs.Derivations.{Derivation}

@@ -7,7 +7,7 @@ use Rattle.xs_class.specs.Ordered.{IsOrdered}
 use Rattle.xs_chars.specs.declared.form.Form.TheVariants.{AsIs}
 use Rattle.xs_chars.specs.Text.{text_of, text_bytes, without_mark}
 use Rattle.xs_chars.specs.Laws.{IsReadBack}
-use Rattle.xs_xml.specs.Reads.{Reads}
+use Rattle.xs_xml_laws.specs.Reads.{Reads}
 use Rattle.xs_xml_out.specs.Written.{xml_bytes, xml_chars}
 use Rattle.xs_xml_out.specs.Laws.{IsReadBack as XmlIsReadBack, IsDecoded, BeginsWithTag, AreNames}
 use Rattle.xs_form.specs.declared.document.XmlFault.{XmlFault}

@@ -1,20 +1,29 @@
 -- Two runs that check the same sheet tell the same of it.
-use Rattle.std.proofs.Common.{◌≡◌, ◌⊎◌, ◌∙◌, inl, inr, ℕ, List, None, Some, refl, sym, subst}
+use Rattle.std.proofs.Common.{◌≡◌, ◌⊎◌, ◌∙◌, inl, inr, ℕ, List, [], None, Some, refl, sym, ap, subst}
+use Rattle.std.specs.Prelude.{slice_index_or}
 use Rattle.xs_io.specs.Causes.{Rose}
 use Rattle.xs_class.specs.declared.side.Side.{Side}
-use Rattle.xs_class.specs.declared.side.Side.TheVariants.{Text}
+use Rattle.xs_class.specs.declared.side.Side.TheVariants.{Text, Xml}
 use Rattle.xs_chars.specs.declared.form.Form.{Form}
 use Rattle.xs_chars.specs.declared.form.Form.TheVariants.{AsIs}
-use Rattle.xs_xml.specs.Laws.{OneReading}
-use Rattle.xs_check_laws.specs.Acceptance.{IsAccepted, IsFirstHeavy}
+use Rattle.xs_xml_laws.specs.Laws.{OneReading}
+use Rattle.xs_gram.specs.declared.suspect.Suspect.{Suspect as Found}
+use Rattle.xs_gram.specs.declared.suspect.Suspect.TheVariants.{Vertical, Horizontal}
+use Rattle.xs_gram.specs.Grammar.{no_rule, rule_of}
+use Rattle.xs_unique.specs.Reasons.{shown as found_of}
+use Rattle.xs_check_laws.specs.Acceptance.{IsAccepted, IsFirstHeavy, Suspect as Site, vertical, horizontal}
 use Rattle.xs_check_laws.specs.Laws.{RuleWeighsOnce}
 use Rattle.xs_sheet.specs.declared.sheet.Sheet.{Sheet}
 use Rattle.xs_sheet.specs.Grammar.{IsSheetOf}
 use Rattle.xs_words.specs.Command.{Sheet as Named}
 use Rattle.xs_leiden.specs.Made.{made_text}
 use Rattle.xs_pair.specs.Grammars.{Pair}
-use Rattle.xs_wf.specs.Rules.{IsWell}
+use Rattle.xs_pair.specs.declared.ill.Ill.{Ill}
+use Rattle.xs_sheet_laws.specs.Laws.{OneSheet, AlikeSheetsMeanTheSame, OnePairOfBytes}
+use Rattle.xs_sheet_laws.specs.Pairs.{AreAlike}
+use Rattle.xs_sheet_laws.specs.Refusals.{BrokenOnce, IllOnce, HeavyOnce, site_of, SuspectOnce}
 use Rattle.xs_talk.specs.declared.outcome.Report.{Report}
+use Rattle.xs_talk.specs.declared.outcome.Report.TheVariants as R
 use Rattle.xs_talk.specs.declared.outcome.Outcome.{Outcome}
 use Rattle.xs_talk.specs.declared.outcome.Outcome.TheVariants.{Done, Foreign, SheetLong, SheetBad, SheetIll, Heavy, Suspect, NotUtf8, NotXml, SheetFault, ReadFault, WriteFault, NoteFault, DocLong, ScriptBad, OutlineBad, CertFault, CertLong, CertBad}
 use Rattle.xs_top.specs.declared.asking.Job.{Job}
@@ -22,12 +31,12 @@ use Rattle.xs_top.specs.declared.asking.Job.TheVariants.{Check, Turn, Trees, Mak
 use Rattle.xs_top.specs.Devices.{Shelves, Run, Input}
 use Rattle.xs_top.specs.Certifying.{IsUncertain}
 use Rattle.xs_top.specs.Known.{HasBytes}
-use Rattle.xs_top.specs.Sheets.{IsStopped, IsBadBytes, IsPairOfBytes, IsUnpaired}
-use Rattle.xs_top.specs.Checks.{IsReported, IsUnsure, IsSure}
+use Rattle.xs_top.specs.Sheets.{IsStopped, IsBadSheet, IsIllSheet, IsBadBytes, IsPairOfBytes, IsUnpaired}
+use Rattle.xs_top.specs.Checks.{name_at, line_at, report_at, IsReported, IsUnsure, IsSure}
 use Rattle.xs_top.specs.Answers.{IsUnread, IsNoOutline}
 use Rattle.xs_top.specs.Scripts.{IsNoScript}
 use Rattle.xs_top.specs.Ran.{IsUntaken, IsUnanswered, IsUnplayed, IsUnmade, IsUndone, IsAnswer, Took, Told}
-use Rattle.xs_top.specs.Runs.{AsksFor, AsksToUpgrade, AsksToCertify, Verdict, bad, ill, heavy, suspect, accepted}
+use Rattle.xs_top.specs.Runs.{AsksFor, AsksToUpgrade, AsksToCertify, wordless, Verdict, bad, ill, heavy, suspect, accepted}
 use Rattle.xs_top.specs.Laws.{PairsAgree, SheetsAgree, IsChecked, ChecksSheet, for_job, by_certificate, verdict, OneVerdict, RefusesSheet, CheckDecides, CheckDecidesUpgrades, CheckDecidesCertificates, CheckAccepts}
 use Rattle.xs_top.proofs.Known.{has_only, has_short, spelled_pair}
 use Rattle.xs_top.proofs.Agreeing.{sure_kept}
@@ -37,11 +46,50 @@ use Rattle.xs_top.proofs.Coming.{Came, before, of_job, with_answer, went_upgrade
 
 -- what a verdict means of the bytes
 abbrev Means : List ℕ → Verdict → Type 0
-Means bytes bad = (s : Sheet) → IsSheetOf bytes s → ⊥
-Means bytes ill = (s : Sheet) × IsSheetOf bytes s × (IsWell s → ⊥)
-Means bytes heavy = (p : Pair) × IsPairOfBytes bytes p × (weight : ℕ) × IsFirstHeavy p.text p.xml weight
-Means bytes suspect = (p : Pair) × IsPairOfBytes bytes p × (report : Report) × IsReported p report
+Means bytes (bad at) = IsBadSheet bytes at
+Means bytes (ill which) = IsIllSheet bytes which
+Means bytes (heavy weight) = (p : Pair) × IsPairOfBytes bytes p × IsFirstHeavy p.text p.xml weight
+Means bytes (suspect site) = (p : Pair) × IsPairOfBytes bytes p × (report : Report) × IsReported p report × (wordless report ≡ site)
 Means bytes accepted = (p : Pair) × IsPairOfBytes bytes p × IsAccepted p.text p.xml
+
+-- the laws by which a sheet is refused in one way
+pub record Refusing : Type 0 where
+  pub one_sheet : OneSheet
+  pub alike_sheets : AlikeSheetsMeanTheSame
+  pub one_pair : OnePairOfBytes
+  pub broken : BrokenOnce
+  pub ill : IllOnce
+  pub heavy : HeavyOnce
+  pub suspect : SuspectOnce
+
+-- what is reported of a site
+site_report : Pair → Site → Report
+site_report p (vertical side a b w) = R.Vertical side (name_at p side a) (line_at p a) (line_at p b) []
+site_report p (horizontal side a c x m y) = R.Horizontal side (name_at p side a) (line_at p a) c [] [] []
+
+site_reported : (p : Pair) (found : Found) → wordless (report_at p found) ≡ site_report p (site_of (found_of found))
+unfolding site_report
+site_reported p (Vertical side a b w) = refl
+site_reported p (Horizontal side a c x m y) = refl
+
+-- pairs of grammars that are alike have the same names and lines
+name_same : (p q : Pair) → AreAlike p q → (side : Side) (a : ℕ) → name_at p side a ≡ name_at q side a
+name_same p q alike Text a = ap (λ rs. slice_index_or p.nons (slice_index_or rs a no_rule).non []) alike.text.rules ∙ ap (λ ns. slice_index_or ns (rule_of q.text a).non []) alike.nons
+name_same p q alike Xml a = ap (λ rs. slice_index_or p.nons (slice_index_or rs a no_rule).non []) alike.xml.rules ∙ ap (λ ns. slice_index_or ns (rule_of q.xml a).non []) alike.nons
+
+line_same : (p q : Pair) → AreAlike p q → (a : ℕ) → line_at p a ≡ line_at q a
+line_same p q alike a = ap (λ ls. slice_index_or ls a 0) alike.lines
+
+verticals_same : (side : Side) (n m : List ℕ) (a b c d : ℕ) → n ≡ m → a ≡ c → b ≡ d → R.Vertical side n a b [] ≡ R.Vertical side m c d []
+verticals_same side n m a b c d e f g = cc
+
+horizontals_same : (side : Side) (n m : List ℕ) (a b cut : ℕ) → n ≡ m → a ≡ b → R.Horizontal side n a cut [] [] [] ≡ R.Horizontal side m b cut [] [] []
+horizontals_same side n m a b cut e f = cc
+
+reports_alike : (p q : Pair) → AreAlike p q → (site : Site) → site_report p site ≡ site_report q site
+unfolding site_report
+reports_alike p q alike (vertical side a b w) = verticals_same side _ _ _ _ _ _ (name_same p q alike side a) (line_same p q alike a) (line_same p q alike b)
+reports_alike p q alike (horizontal side a c x m y) = horizontals_same side _ _ _ _ c (name_same p q alike side a) (line_same p q alike a)
 
 some_verdict : (v w : Verdict) → Some v ≡ Some w → v ≡ w
 some_verdict v w e = cc
@@ -59,8 +107,8 @@ stopped_means run named sheet SheetLong v stopped is = absurd (none_verdict v is
 stopped_means run named sheet o v stopped is = absurd stopped
 
 bad_means : (sheet : List ℕ) (o : Outcome) (v : Verdict) → IsBadBytes sheet o → verdict o ≡ Some v → Means sheet v
-bad_means sheet (SheetBad at) v why is = as_verdict sheet bad v is why.none
-bad_means sheet (SheetIll which) v why is = as_verdict sheet ill v is (why.sheet, why.spelled, λ well. well which.rule which.line why.is_ill.line.fails)
+bad_means sheet (SheetBad at) v why is = as_verdict sheet (bad at) v is why
+bad_means sheet (SheetIll which) v why is = as_verdict sheet (ill which) v is why
 bad_means sheet o v why is = absurd why
 
 unpaired_means : (run : Run) (named : Named) (sheet : List ℕ) → HasBytes run.shelf.files named sheet → (o : Outcome) (v : Verdict) → IsUnpaired run.shelf named o → verdict o ≡ Some v → Means sheet v
@@ -69,8 +117,8 @@ unpaired_means run named sheet has o v (inr (bytes, are, why)) is = bad_means sh
 
 -- of the job
 unsure_means : (sheet : List ℕ) (p : Pair) → IsPairOfBytes sheet p → (o : Outcome) (v : Verdict) → IsUnsure p o → verdict o ≡ Some v → Means sheet v
-unsure_means sheet p is_p (Heavy weight) v why is = as_verdict sheet heavy v is (p, is_p, weight, why)
-unsure_means sheet p is_p (Suspect report) v why is = as_verdict sheet suspect v is (p, is_p, report, why)
+unsure_means sheet p is_p (Heavy weight) v why is = as_verdict sheet (heavy weight) v is (p, is_p, why)
+unsure_means sheet p is_p (Suspect report) v why is = as_verdict sheet (suspect (wordless report)) v is (p, is_p, report, why, refl)
 unsure_means sheet p is_p o v why is = absurd why
 
 untaken_accepted : (i : Input) (o : Outcome) → IsUntaken i o → verdict o ≡ Some accepted
@@ -158,7 +206,7 @@ told_means run sheet job asks checked o v told is = by_case (told_came run sheet
 
 -- of its check by a certificate
 uncertain_means : (sheet : List ℕ) (p : Pair) → IsPairOfBytes sheet p → (shelf : Shelves) (cert : List ℕ) (o : Outcome) (v : Verdict) → IsUncertain p shelf cert o → verdict o ≡ Some v → Means sheet v
-uncertain_means sheet p is_p shelf cert (Heavy weight) v why is = as_verdict sheet heavy v is (p, is_p, weight, why)
+uncertain_means sheet p is_p shelf cert (Heavy weight) v why is = as_verdict sheet (heavy weight) v is (p, is_p, why)
 uncertain_means sheet p is_p shelf cert CertFault v why is = absurd (none_verdict v is)
 uncertain_means sheet p is_p shelf cert CertLong v why is = absurd (none_verdict v is)
 uncertain_means sheet p is_p shelf cert (CertBad line) v why is = absurd (none_verdict v is)
@@ -182,66 +230,86 @@ checked_means run sheet (for_job job asks checked) o v told is = told_means run 
 checked_means run sheet (by_certificate asks) o v told is = told_tested_means run sheet asks o v told is
 
 module _ (law : OneReading) (weigh : RuleWeighsOnce) (agree : PairsAgree) (well : SheetsAgree) where
-  -- no two verdicts hold of the same bytes
-  bad_not : (sheet : List ℕ) → Means sheet bad → (p : Pair) → IsPairOfBytes sheet p → ⊥
-  bad_not sheet none p is_p = none is_p.sheet is_p.spelled
+  -- no two kinds of verdicts hold of the same bytes
+  bad_not : (sheet : List ℕ) (at : ℕ) → Means sheet (bad at) → (p : Pair) → IsPairOfBytes sheet p → ⊥
+  bad_not sheet at is p is_p = is.none is_p.sheet is_p.spelled
 
-  ill_not : (sheet : List ℕ) → Means sheet ill → (p : Pair) → IsPairOfBytes sheet p → ⊥
-  ill_not sheet (s, spelled, is) p is_p = is (well sheet is_p.sheet s is_p.spelled spelled is_p.well)
+  ill_not : (sheet : List ℕ) (which : Ill) → Means sheet (ill which) → (p : Pair) → IsPairOfBytes sheet p → ⊥
+  ill_not sheet which is p is_p = well sheet is_p.sheet is.sheet is_p.spelled is.spelled is_p.well which.rule which.line is.is_ill.line.fails
 
-  heavy_not_suspect : (sheet : List ℕ) → Means sheet heavy → Means sheet suspect → ⊥
-  heavy_not_suspect sheet (p, is_p, weight, is_heavy) (q, is_q, report, is) = by_case (((agree sheet p q is_p is_q).checked.heavy weight).0 is_heavy)
+  heavy_not_suspect : (sheet : List ℕ) (weight : ℕ) (site : Report) → Means sheet (heavy weight) → Means sheet (suspect site) → ⊥
+  heavy_not_suspect sheet weight site (p, is_p, is_heavy) (q, is_q, report, is, same) = by_case (((agree sheet p q is_p is_q).checked.heavy weight).0 is_heavy)
     where
       by_case : IsFirstHeavy q.text q.xml weight → ⊥
       by_case (inl one) = not_heavy_rule weigh q.text (once_in_text sheet q is_q) weight is.light_text one
       by_case (inr two) = not_heavy_rule weigh q.xml (once_in_xml sheet q is_q) weight is.light_xml two.1
 
-  heavy_not_accepted : (sheet : List ℕ) → Means sheet heavy → Means sheet accepted → ⊥
-  heavy_not_accepted sheet (p, is_p, weight, is_heavy) (q, is_q, is) = not_heavy weigh sheet q is_q weight is (((agree sheet p q is_p is_q).checked.heavy weight).0 is_heavy)
+  heavy_not_accepted : (sheet : List ℕ) (weight : ℕ) → Means sheet (heavy weight) → Means sheet accepted → ⊥
+  heavy_not_accepted sheet weight (p, is_p, is_heavy) (q, is_q, is) = not_heavy weigh sheet q is_q weight is (((agree sheet p q is_p is_q).checked.heavy weight).0 is_heavy)
 
-  suspect_not_accepted : (sheet : List ℕ) → Means sheet suspect → Means sheet accepted → ⊥
-  suspect_not_accepted sheet (p, is_p, report, is_suspect) (q, is_q, is) = not_shown p.text p.xml is_suspect.found ((agree sheet q p is_q is_p).checked.accepted.0 is) is_suspect.shows.1
+  suspect_not_accepted : (sheet : List ℕ) (site : Report) → Means sheet (suspect site) → Means sheet accepted → ⊥
+  suspect_not_accepted sheet site (p, is_p, report, is_suspect, same) (q, is_q, is) = not_shown p.text p.xml is_suspect.found ((agree sheet q p is_q is_p).checked.accepted.0 is) is_suspect.shows.1
 
-  one_meaning : (sheet : List ℕ) (v w : Verdict) → Means sheet v → Means sheet w → v ≡ w
-  one_meaning sheet bad bad m n = refl
-  one_meaning sheet bad ill m n = absurd (m n.0 n.1)
-  one_meaning sheet bad heavy m n = absurd (bad_not sheet m n.0 n.1)
-  one_meaning sheet bad suspect m n = absurd (bad_not sheet m n.0 n.1)
-  one_meaning sheet bad accepted m n = absurd (bad_not sheet m n.0 n.1)
-  one_meaning sheet ill bad m n = absurd (n m.0 m.1)
-  one_meaning sheet ill ill m n = refl
-  one_meaning sheet ill heavy m n = absurd (ill_not sheet m n.0 n.1)
-  one_meaning sheet ill suspect m n = absurd (ill_not sheet m n.0 n.1)
-  one_meaning sheet ill accepted m n = absurd (ill_not sheet m n.0 n.1)
-  one_meaning sheet heavy bad m n = absurd (bad_not sheet n m.0 m.1)
-  one_meaning sheet heavy ill m n = absurd (ill_not sheet n m.0 m.1)
-  one_meaning sheet heavy heavy m n = refl
-  one_meaning sheet heavy suspect m n = absurd (heavy_not_suspect sheet m n)
-  one_meaning sheet heavy accepted m n = absurd (heavy_not_accepted sheet m n)
-  one_meaning sheet suspect bad m n = absurd (bad_not sheet n m.0 m.1)
-  one_meaning sheet suspect ill m n = absurd (ill_not sheet n m.0 m.1)
-  one_meaning sheet suspect heavy m n = absurd (heavy_not_suspect sheet n m)
-  one_meaning sheet suspect suspect m n = refl
-  one_meaning sheet suspect accepted m n = absurd (suspect_not_accepted sheet m n)
-  one_meaning sheet accepted bad m n = absurd (bad_not sheet n m.0 m.1)
-  one_meaning sheet accepted ill m n = absurd (ill_not sheet n m.0 m.1)
-  one_meaning sheet accepted heavy m n = absurd (heavy_not_accepted sheet n m)
-  one_meaning sheet accepted suspect m n = absurd (suspect_not_accepted sheet n m)
-  one_meaning sheet accepted accepted m n = refl
+  -- and no two of one kind
+  bad_once : Refusing → (sheet : List ℕ) (at at' : ℕ) → Means sheet (bad at) → Means sheet (bad at') → bad at ≡ bad at'
+  bad_once laws sheet at at' m n = ap bad (laws.broken sheet at at' m.broken n.broken)
 
-  pub one_verdict_lem : OneVerdict
-  one_verdict_lem one two sheet asks also o q told_o told_q v w is_v is_w =
-      one_meaning sheet v w (checked_means one sheet asks o v told_o is_v) (checked_means two sheet also q w told_q is_w)
+  ill_once : Refusing → (sheet : List ℕ) (i j : Ill) → Means sheet (ill i) → Means sheet (ill j) → ill i ≡ ill j
+  ill_once laws sheet i j m n =
+      let same = (laws.alike_sheets n.sheet m.sheet (laws.one_sheet sheet n.sheet m.sheet n.spelled m.spelled)).ill j in
+      ap ill (laws.ill m.sheet i j m.is_ill (same.0 n.is_ill))
+
+  heavy_once : Refusing → (sheet : List ℕ) (v w : ℕ) → Means sheet (heavy v) → Means sheet (heavy w) → heavy v ≡ heavy w
+  heavy_once laws sheet v w (p, is_p, m) (q, is_q, n) =
+      ap heavy (laws.heavy q.text q.xml (once_in_text sheet q is_q) (once_in_xml sheet q is_q) v w (((agree sheet p q is_p is_q).checked.heavy v).0 m) n)
+
+  suspect_once : Refusing → (sheet : List ℕ) (r s : Report) → Means sheet (suspect r) → Means sheet (suspect s) → suspect r ≡ suspect s
+  suspect_once laws sheet r s (p, is_p, report, m, is_r) (q, is_q, other, n, is_s) =
+      let shows = ((agree sheet p q is_p is_q).checked.shows (found_of m.found)).0 m.shows in
+      let site = laws.suspect q.text q.xml (found_of m.found) (found_of n.found) shows.0 n.shows.0 in
+      let alike = laws.one_pair sheet is_p.sheet is_q.sheet p q is_p.spelled is_q.spelled is_p.pair is_q.pair in
+      ap suspect (sym is_r ∙ ap wordless m.is ∙ site_reported p m.found ∙ reports_alike p q alike (site_of (found_of m.found)) ∙ ap (site_report q) site ∙ sym (site_reported q n.found) ∙ sym (ap wordless n.is) ∙ is_s)
+
+  one_meaning : Refusing → (sheet : List ℕ) (v w : Verdict) → Means sheet v → Means sheet w → v ≡ w
+  one_meaning laws sheet (bad at) (bad at') m n = bad_once laws sheet at at' m n
+  one_meaning laws sheet (bad at) (ill which) m n = absurd (m.none n.sheet n.spelled)
+  one_meaning laws sheet (bad at) (heavy weight) m n = absurd (bad_not sheet at m n.0 n.1)
+  one_meaning laws sheet (bad at) (suspect site) m n = absurd (bad_not sheet at m n.0 n.1)
+  one_meaning laws sheet (bad at) accepted m n = absurd (bad_not sheet at m n.0 n.1)
+  one_meaning laws sheet (ill which) (bad at) m n = absurd (n.none m.sheet m.spelled)
+  one_meaning laws sheet (ill which) (ill other) m n = ill_once laws sheet which other m n
+  one_meaning laws sheet (ill which) (heavy weight) m n = absurd (ill_not sheet which m n.0 n.1)
+  one_meaning laws sheet (ill which) (suspect site) m n = absurd (ill_not sheet which m n.0 n.1)
+  one_meaning laws sheet (ill which) accepted m n = absurd (ill_not sheet which m n.0 n.1)
+  one_meaning laws sheet (heavy weight) (bad at) m n = absurd (bad_not sheet at n m.0 m.1)
+  one_meaning laws sheet (heavy weight) (ill which) m n = absurd (ill_not sheet which n m.0 m.1)
+  one_meaning laws sheet (heavy weight) (heavy other) m n = heavy_once laws sheet weight other m n
+  one_meaning laws sheet (heavy weight) (suspect site) m n = absurd (heavy_not_suspect sheet weight site m n)
+  one_meaning laws sheet (heavy weight) accepted m n = absurd (heavy_not_accepted sheet weight m n)
+  one_meaning laws sheet (suspect site) (bad at) m n = absurd (bad_not sheet at n m.0 m.1)
+  one_meaning laws sheet (suspect site) (ill which) m n = absurd (ill_not sheet which n m.0 m.1)
+  one_meaning laws sheet (suspect site) (heavy weight) m n = absurd (heavy_not_suspect sheet weight site n m)
+  one_meaning laws sheet (suspect site) (suspect other) m n = suspect_once laws sheet site other m n
+  one_meaning laws sheet (suspect site) accepted m n = absurd (suspect_not_accepted sheet site m n)
+  one_meaning laws sheet accepted (bad at) m n = absurd (bad_not sheet at n m.0 m.1)
+  one_meaning laws sheet accepted (ill which) m n = absurd (ill_not sheet which n m.0 m.1)
+  one_meaning laws sheet accepted (heavy weight) m n = absurd (heavy_not_accepted sheet weight n m)
+  one_meaning laws sheet accepted (suspect site) m n = absurd (suspect_not_accepted sheet site n m)
+  one_meaning laws sheet accepted accepted m n = refl
+
+  pub one_verdict_lem : Refusing → OneVerdict
+  one_verdict_lem laws one two sheet asks also o q told_o told_q v w is_v is_w =
+      one_meaning laws sheet v w (checked_means one sheet asks o v told_o is_v) (checked_means two sheet also q w told_q is_w)
 
   -- a run by a sheet that is accepted does not refuse it
   unpaired_not : (run : Run) (named : Named) (sheet : List ℕ) → HasBytes run.shelf.files named sheet → (p : Pair) → IsPairOfBytes sheet p → (o : Outcome) → IsUnpaired run.shelf named o → RefusesSheet o → ⊥
   unpaired_not run named sheet has p is_p SheetLong (inl stopped) refuses = has_short run.shelf.files named sheet has stopped
   unpaired_not run named sheet has p is_p (SheetBad at) (inr (bytes, are, why)) refuses =
       let moved = subst (λ (b : List ℕ). IsBadBytes b (SheetBad at)) (has_only run.shelf.files named sheet bytes has are) why in
-      bad_not sheet moved.none p is_p
+      bad_not sheet at moved p is_p
   unpaired_not run named sheet has p is_p (SheetIll which) (inr (bytes, are, why)) refuses =
       let moved = subst (λ (b : List ℕ). IsBadBytes b (SheetIll which)) (has_only run.shelf.files named sheet bytes has are) why in
-      ill_not sheet (moved.sheet, moved.spelled, λ w. w which.rule which.line moved.is_ill.line.fails) p is_p
+      ill_not sheet which moved p is_p
   unpaired_not run named sheet has p is_p (SheetBad at) (inl stopped) refuses = stopped
   unpaired_not run named sheet has p is_p (SheetIll which) (inl stopped) refuses = stopped
   unpaired_not run named sheet has p is_p SheetLong (inr (bytes, are, why)) refuses = why
@@ -253,21 +321,21 @@ module _ (law : OneReading) (weigh : RuleWeighsOnce) (agree : PairsAgree) (well 
 
   -- no outcome of a document refuses the sheet
   accepted_not : (o : Outcome) → verdict o ≡ Some accepted → RefusesSheet o → ⊥
-  accepted_not (SheetBad at) is refuses = not_bad (some_verdict bad accepted is)
+  accepted_not (SheetBad at) is refuses = not_bad (some_verdict (bad at) accepted is)
     where
-      not_bad : bad ≡ accepted → ⊥
+      not_bad : bad at ≡ accepted → ⊥
       not_bad e = cc
-  accepted_not (SheetIll which) is refuses = not_ill (some_verdict ill accepted is)
+  accepted_not (SheetIll which) is refuses = not_ill (some_verdict (ill which) accepted is)
     where
-      not_ill : ill ≡ accepted → ⊥
+      not_ill : ill which ≡ accepted → ⊥
       not_ill e = cc
-  accepted_not (Heavy weight) is refuses = not_heavy_one (some_verdict heavy accepted is)
+  accepted_not (Heavy weight) is refuses = not_heavy_one (some_verdict (heavy weight) accepted is)
     where
-      not_heavy_one : heavy ≡ accepted → ⊥
+      not_heavy_one : heavy weight ≡ accepted → ⊥
       not_heavy_one e = cc
-  accepted_not (Suspect report) is refuses = not_suspect (some_verdict suspect accepted is)
+  accepted_not (Suspect report) is refuses = not_suspect (some_verdict (suspect (wordless report)) accepted is)
     where
-      not_suspect : suspect ≡ accepted → ⊥
+      not_suspect : suspect (wordless report) ≡ accepted → ⊥
       not_suspect e = cc
   accepted_not SheetLong is refuses = none_verdict accepted is
   accepted_not o is refuses = refuses

@@ -1,8 +1,8 @@
 -- The words of a well-formed sheet's languages can be written.
 use Rattle.std.proofs.Common.{◌≡◌, ℕ, List, [], ◌∷◌, Bool, true, false, inl, inr, refl, sym, subst, ◌&&◌}
 use Rattle.xs_class.specs.Tables.{char_table}
-use Rattle.xs_xml.specs.Tables.{is_char}
-use Rattle.xs_xml.specs.Piece.{all_of}
+use Rattle.xs_xml_laws.specs.Tables.{is_char}
+use Rattle.xs_xml_laws.specs.Piece.{all_of}
 use Rattle.xs_sheet.specs.declared.item.Item.{Item}
 use Rattle.xs_sheet.specs.declared.item.Item.TheVariants.{Fixed, Named, Skip}
 use Rattle.xs_sheet.specs.declared.sheet.Sheet.{Sheet}

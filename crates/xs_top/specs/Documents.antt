@@ -6,7 +6,7 @@ use Rattle.xs_class.specs.declared.side.Side.TheVariants.{Text, Xml}
 use Rattle.xs_chars.specs.declared.form.Form.{Form}
 use Rattle.xs_chars.specs.declared.form.Form.TheVariants.{AsIs}
 use Rattle.xs_chars.specs.Text.{AreCharacters, IsUtf8BadAt, text_of, text_bytes}
-use Rattle.xs_xml.specs.Reads.{Reads, IsBrokenAt}
+use Rattle.xs_xml_laws.specs.Reads.{Reads, IsBrokenAt}
 use Rattle.xs_xml_out.specs.Balanced.{IsBalanced}
 use Rattle.xs_xml_out.specs.Written.{xml_bytes}
 use Rattle.xs_talk.specs.declared.outcome.Outcome.{Outcome}

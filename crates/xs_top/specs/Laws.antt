@@ -23,7 +23,7 @@ use Rattle.xs_top.specs.Documents.{IsDocument}
 use Rattle.xs_top.specs.Sheets.{IsPairOfBytes}
 use Rattle.xs_top.specs.Checks.{IsSure}
 use Rattle.xs_top.specs.Ran.{Told}
-use Rattle.xs_top.specs.Runs.{AsksFor, AsksToUpgrade, AsksToCertify, AsksWhether, IsToTurn, IsReadWhole, IsUnwritten, Answers, Turned, IsNormalOf, Verdict, bad, ill, heavy, suspect, accepted}
+use Rattle.xs_top.specs.Runs.{AsksFor, AsksToUpgrade, AsksToCertify, AsksWhether, IsToTurn, IsReadWhole, IsUnwritten, Answers, Turned, IsNormalOf, wordless, Verdict, bad, ill, heavy, suspect, accepted}
 
 -- two pairs of grammars of the same bytes mean the same
 abbrev pub PairsAgree : Type 0
@@ -114,10 +114,10 @@ IsChecked Prove = ⊤
 -- where a certificate could not be had or is none of the sheet (CertFault, CertLong, CertBad), which leaves open whether
 -- the sheet is accepted.
 abbrev pub verdict : Outcome → Option Verdict
-verdict (SheetBad at) = Some bad
-verdict (SheetIll which) = Some ill
-verdict (Heavy weight) = Some heavy
-verdict (Suspect report) = Some suspect
+verdict (SheetBad at) = Some (bad at)
+verdict (SheetIll which) = Some (ill which)
+verdict (Heavy weight) = Some (heavy weight)
+verdict (Suspect report) = Some (suspect (wordless report))
 verdict Done = Some accepted
 verdict (Foreign viable) = Some accepted
 verdict (NotUtf8 at) = Some accepted
@@ -140,7 +140,7 @@ pub data ChecksSheet (run : Run) (sheet : List ℕ) : Type 0 where
   for_job : (job : Job) → AsksFor run job sheet → IsChecked job → ChecksSheet run sheet
   by_certificate : AsksToCertify run sheet → ChecksSheet run sheet
 
--- two runs that check the same sheet tell the same of it
+-- two runs that check the same sheet tell the same of it, but for the words of a suspect
 abbrev pub OneVerdict : Type 0
 OneVerdict =
     (one two : Run) (sheet : List ℕ)

@@ -1,5 +1,5 @@
 -- What a run asks for and reads, where its devices tell it, and what it turned.
-use Rattle.std.specs.Prelude.{◌≡◌, ◌⊎◌, ℕ, ◌≤◌, List, ◌++◌, length, Some}
+use Rattle.std.specs.Prelude.{◌≡◌, ◌⊎◌, ℕ, ◌≤◌, List, [], ◌++◌, length, Some}
 use Rattle.std.specs.Io.KnownBytes.{Appends}
 use Rattle.xs_io.specs.Causes.{Rose}
 use Rattle.xs_class.specs.declared.side.Side.{Side}
@@ -8,6 +8,9 @@ use Rattle.xs_words.specs.Command.{Sheet as Named}
 use Rattle.xs_gram.specs.Derivations.{Parts, done, fixed, leaf, skip, sub, Derivation, yield, normal}
 use Rattle.xs_gram.specs.Languages.{Derives}
 use Rattle.xs_pair.specs.Grammars.{Pair, grammar_of}
+use Rattle.xs_pair.specs.declared.ill.Ill.{Ill}
+use Rattle.xs_talk.specs.declared.outcome.Report.{Report}
+use Rattle.xs_talk.specs.declared.outcome.Report.TheVariants as R
 use Rattle.xs_talk.specs.declared.outcome.Outcome.{Outcome}
 use Rattle.xs_talk.specs.declared.outcome.Outcome.TheVariants.{Done, WriteFault, NoteFault}
 use Rattle.xs_top.specs.declared.asking.Job.{Job}
@@ -98,10 +101,17 @@ pub record IsNormalOf (sheet : List ℕ) (side : Side) (form : Form) (document b
   pub is_normal : bytes ≡ document_bytes side pair.names (yield (normal (grammar_of pair side) derivation))
   pub same : HaveNoIgnorable derivation.parts → bytes ≡ document_bytes side pair.names word
 
--- what an outcome tells of the bytes of a sheet that is checked
+-- a report without the words of its suspect
+abbrev pub wordless : Report → Report
+wordless (R.Vertical side name line line2 word) = R.Vertical side name line line2 []
+wordless (R.Horizontal side name line cut x a y) = R.Horizontal side name line cut [] [] []
+
+-- What an outcome tells of the bytes of a sheet that is checked: the place at which they are broken; the first rule that
+-- fails, and its line; the weight of the first heavy rule; the report of the first suspect, without its words; or that the
+-- sheet is accepted.
 pub data Verdict : Type 0 where
-  bad : Verdict
-  ill : Verdict
-  heavy : Verdict
-  suspect : Verdict
+  bad : ℕ → Verdict
+  ill : Ill → Verdict
+  heavy : ℕ → Verdict
+  suspect : Report → Verdict
   accepted : Verdict

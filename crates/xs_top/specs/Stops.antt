@@ -13,8 +13,8 @@ use Rattle.xs_outline.specs.declared.fault.OutlineFault.{OutlineFault}
 use Rattle.xs_outline.specs.declared.fault.OutlineFault.TheVariants as L
 use Rattle.xs_script.specs.declared.fault.ScriptFault.{ScriptFault}
 use Rattle.xs_script.specs.declared.fault.ScriptFault.TheVariants as S
-use Rattle.xs_light.specs.declared.fault.CheckFault.{CheckFault}
-use Rattle.xs_light.specs.declared.fault.CheckFault.TheVariants as K
+use Rattle.xs_searches.specs.declared.fault.CheckFault.{CheckFault}
+use Rattle.xs_searches.specs.declared.fault.CheckFault.TheVariants as K
 use Rattle.xs_cert.specs.declared.fault.CertFault.{CertFault}
 use Rattle.xs_cert.specs.declared.fault.CertFault.TheVariants as C
 use Rattle.xs_talk.specs.declared.outcome.Outcome.{Outcome}

@@ -3,6 +3,7 @@ ghost use Rattle.xs_cover.specs.{AreCoversOf};
 ghost use Rattle.xs_pair.specs.{IsSoundPair};
 ghost use Rattle.xs_top.specs.Covering.{IsShown, AreShown, IsCovered};
 
+use bumpalo::Bump;
 use std::alloc::Global;
 use xs_class::{Bytes, Memory, Side};
 use xs_cover::{Covers, cover};
@@ -11,7 +12,7 @@ use xs_talk::{Shown, cover_text};
 use xs_text_out::print_syms;
 
 /// What is shown of a production: a smallest document pair that uses it, if it is not too long.
-fn shown_of(alloc: Global, two: &Two, covers: &Covers, rule: u32) -> Result<Shown, Memory>
+fn shown_of(alloc: Global, two: &Two, covers: &Covers<'_>, rule: u32) -> Result<Shown, Memory>
     requires sound { IsSoundPair two.now }
     requires covers { AreCoversOf two.now covers.now }
     requires rule { rule < length two.now.text.rules }
@@ -20,7 +21,7 @@ fn shown_of(alloc: Global, two: &Two, covers: &Covers, rule: u32) -> Result<Show
     let Some(size) = covers.size(rule) else {
         return Ok(Shown::Unreached);
     };
-    let Some(tree) = covers.tree(alloc, two, rule)? else {
+    let Some(tree) = covers.tree(two, rule)? else {
         return Ok(Shown::Long { size });
     };
     let text = print_syms(alloc, two.gram(Side::Text), &tree)?;
@@ -33,7 +34,8 @@ fn all_shown(alloc: Global, two: &Two) -> Result<Vec<Shown>, Memory>
     requires { IsSoundPair two.now }
     ensures { IfOk result (λ all. AreShown two.now all.items) }
 {
-    let covers = cover(alloc, two)?;
+    let bump = Bump::new(alloc);
+    let covers = cover(alloc, &bump, two)?;
     let count = two.gram(Side::Text).rules();
     let mut all = Vec::with_capacity(alloc, count as usize)?;
     'rules: for rule in 0..count {

@@ -3,8 +3,10 @@ ghost use Rattle.xs_top.specs.Laws.{PairsAgree, SheetsAgree, OutlinesAgree, Scri
 
 use xs_cert_alike::alike_have_same_certificates;
 use xs_check_laws::weights_are_exact;
-use xs_sheet_laws::{alike_pairs_mean_the_same, alike_sheets_mean_the_same, one_pair, one_sheet};
-use xs_xml::one_word;
+use xs_sheet_laws::{
+    alike_pairs_mean_the_same, alike_sheets_mean_the_same, one_pair, one_sheet, refused_once,
+};
+use xs_xml_laws::one_word;
 
 /// Two pairs of grammars of the same bytes mean the same, and so do two sheets; an outline is of the
 /// same tree by either pair, a script has the same answers, and pairs that are built have the same
@@ -62,9 +64,9 @@ pub fn refuses_exactly()
     bytes_agree();
 }
 
-/// Outcomes that tell different things of a sheet exclude each other; and once a check, with a
-/// certificate or without, or `prove` is done, no run refuses the sheet, and each word of either
-/// language has at most one derivation.
+/// Two runs that check a sheet tell the same of it: the same place, rule and line, weight, or suspect
+/// but for its words; and once a check, with a certificate or without, or `prove` is done, no run
+/// refuses the sheet, and each word of either language has at most one derivation.
 pub fn check_decides()
     ensures one { OneVerdict }
     ensures decides { CheckDecides }
@@ -75,6 +77,10 @@ pub fn check_decides()
     one_word();
     weights_are_exact();
     bytes_agree();
+    one_sheet();
+    alike_sheets_mean_the_same();
+    one_pair();
+    refused_once();
 }
 
 /// What `prove` wrote of a sheet is taken as its certificate by every check of that sheet. Of two

@@ -49,7 +49,7 @@ use xs_class::Memory;
 use xs_io::{Shelf, Sink, Source};
 pub use xs_talk::Outcome;
 use xs_talk::room;
-use xs_xml::one_word;
+use xs_xml_laws::one_word;
 
 /// The run of these words.
 ///

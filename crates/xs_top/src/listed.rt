@@ -8,6 +8,7 @@ ghost use Rattle.xs_top.specs.Stops.{StopsBy};
 
 use crate::documents::read_document;
 use crate::stop::Stop;
+use bumpalo::Bump;
 use std::alloc::Global;
 use xs_chars::Form;
 use xs_class::{Bytes, Side};
@@ -23,7 +24,8 @@ pub fn listed(alloc: Global, two: &Two, max: u32, bytes: &[u8]) -> Result<Bytes,
     ensures stop { IfErr result (StopsBy (IsUnread two.now S.Text F.AsIs bytes.now)) }
 {
     let doc = read_document(alloc, Side::Text, Form::AsIs, two.names(), bytes)?;
-    let grown = forest_of(alloc, two, Side::Text, &doc)?;
+    let bump = Bump::new(alloc);
+    let grown = forest_of(alloc, &bump, two, Side::Text, &doc)?;
     let answer = listing(alloc, two, &grown, &doc, max)?;
     Ok(answer)
 }

@@ -16,7 +16,7 @@ use xs_outline::{read_outline, write_outline};
 use xs_pair::Two;
 use xs_text_out::print_syms;
 use xs_turn::translate;
-use xs_xml::one_word;
+use xs_xml_laws::one_word;
 
 /// The outline of the tree of a document on side `from`.
 pub fn outlined(

@@ -10,7 +10,9 @@ use Rattle.xs_pair.specs.Grammars.{Pair, grammar_of, HaveSameTrees}
 use Rattle.xs_turn.specs.declared.fault.TurnFault.{TurnFault}
 use Rattle.xs_turn.specs.declared.fault.TurnFault.TheVariants as F
 use Rattle.xs_turn.specs.Stops.{IsStop}
-use Rattle.xs_turn.specs.Turned.{FitsBoth, IsRefusal}
+use Rattle.xs_turn.specs.Turned.{FitsBoth, IsRefusal, IsTreeIn}
+use Rattle.xs_forest_laws.specs.Forest.{Forest}
+use Rattle.xs_forest_laws.specs.Laws.{IsExact}
 use Rattle.xs_turn.proofs.Fitting.{stripped_fits_lem}
 
 side_sound : (p : Pair) → IsSound p.text → IsSound p.xml → (side : Side) → IsSound (grammar_of p side)
@@ -37,3 +39,15 @@ refusal_of p side w (F.Foreign viable) own_is stop =
     let sides = subst (λ g. IsStop g w (F.Foreign viable)) own_is stop in
     record { foreign = sides.0; longest = sides.1 }
 refusal_of p side w F.Memory own_is stop = tt
+
+-- the tree of a derivation of the document is that of one in its exact forest
+pub tree_in : {own : Grammar} (p : Pair) (side : Side) (w : List ℕ) (f : Forest) (root : ℕ) (tree : Common) → own ≡ grammar_of p side → IsExact own w f root → HasTree own w tree → IsTreeIn (grammar_of p side) w f root tree
+tree_in p side w f root tree own_is exact has =
+    let all = subst (λ (g : Grammar). IsExact g w f root) own_is exact in
+    let h = subst (λ (g : Grammar). HasTree g w tree) own_is has in
+    let u = all.unfolds h.0 h.1 in
+    (u.0, u.1, h.0, u.2, h.1, h.2)
+
+-- and the other way round
+pub has_tree : (g : Grammar) (w : List ℕ) (f : Forest) (root : ℕ) (tree : Common) → IsTreeIn g w f root tree → HasTree g w tree
+has_tree g w f root tree (u, unfolds, d, is, derives, stripped) = (d, derives, stripped)

@@ -1,8 +1,12 @@
--- A document that is translated, and one that is foreign.
-use Rattle.std.specs.Prelude.{◌≡◌, ⊤, ℕ, List}
+-- A document that is turned or translated, and one that is foreign.
+use Rattle.std.specs.Prelude.{◌≡◌, ⊤, ℕ, List, Some}
 use Rattle.xs_class.specs.declared.side.Side.{Side}
-use Rattle.xs_gram.specs.Common.{Common, TreeFits, print}
-use Rattle.xs_gram.specs.Languages.{InLang, HasTree, IsViable}
+use Rattle.xs_class.specs.declared.side.Side.TheVariants.{Text, Xml}
+use Rattle.xs_gram.specs.Grammar.{Grammar}
+use Rattle.xs_gram.specs.Derivations.{Derivation, done, sub}
+use Rattle.xs_gram.specs.Common.{Common, TreeFits, print, strip}
+use Rattle.xs_gram.specs.Languages.{Derives, InLang, HasTree, IsViable}
+use Rattle.xs_forest_laws.specs.Forest.{Forest, Unfolding, Unfolds, read}
 use Rattle.xs_pair.specs.Grammars.{Pair, grammar_of}
 use Rattle.xs_turn.specs.declared.fault.TurnFault.{TurnFault}
 use Rattle.xs_turn.specs.declared.fault.TurnFault.TheVariants as F
@@ -10,6 +14,15 @@ use Rattle.xs_turn.specs.declared.fault.TurnFault.TheVariants as F
 -- the tree fits the start on either side
 abbrev pub FitsBoth : Pair → Common → Type 0
 FitsBoth p tree = (side : Side) → TreeFits (grammar_of p side) (grammar_of p side).start tree
+
+-- the side that is not this one
+abbrev pub other_side : Side → Side
+other_side Text = Xml
+other_side Xml = Text
+
+-- the tree is that of a derivation of the document that is read from an unfolding of the forest's root
+abbrev pub IsTreeIn : Grammar → List ℕ → Forest → ℕ → Common → Type 0
+IsTreeIn g w f root tree = (u : Unfolding) × Unfolds f (Some root) u × (d : Derivation) × (read g w f (Some root) u ≡ sub d.rule d.parts done) × Derives g w d × (strip g d ≡ tree)
 
 -- the tree is that of a derivation of the document on one side, and the word is its print on another
 pub record IsTranslated (p : Pair) (from to : Side) (w : List ℕ) (tree : Common) (word : List ℕ) : Type 0 where

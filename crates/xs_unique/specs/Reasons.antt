@@ -6,8 +6,8 @@ use Rattle.xs_gram.specs.declared.suspect.Suspect.TheVariants.{Vertical, Horizon
 use Rattle.xs_gram.specs.Grammar.{Grammar}
 use Rattle.xs_check_laws.specs.Freedom.{HasNoVertical}
 use Rattle.xs_check_laws.specs.Acceptance.{IsLight, IsFirstHeavy, ShowsVertical, ShowsHorizontal, Suspect, vertical, horizontal, Shows}
-use Rattle.xs_light.specs.declared.fault.CheckFault.{CheckFault}
-use Rattle.xs_light.specs.declared.fault.CheckFault.TheVariants as C
+use Rattle.xs_searches.specs.declared.fault.CheckFault.{CheckFault}
+use Rattle.xs_searches.specs.declared.fault.CheckFault.TheVariants as C
 use Rattle.xs_unique.specs.declared.fault.AcceptFault.{AcceptFault}
 use Rattle.xs_unique.specs.declared.fault.AcceptFault.TheVariants as F
 

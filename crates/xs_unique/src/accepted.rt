@@ -28,8 +28,8 @@ impl<'t> Model for Accepted<'t> {
 }
 
 impl<'t> Accepted<'t> {
-    /// Two grammars that were shown to be accepted, by a search or by a certificate.
-    pub fn of(two: &'t Two) -> Self
+    /// Two grammars that were shown to be accepted.
+    pub(crate) fn of(two: &'t Two) -> Self
         requires accepted { IsAccepted two.now.text two.now.xml }
         requires text { IsUnique two.now.text }
         requires xml { IsUnique two.now.xml }

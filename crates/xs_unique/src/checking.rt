@@ -9,10 +9,10 @@ use std::alloc::Global;
 use xs_check_laws::accepted_is_unique;
 use xs_class::Side;
 use xs_gram::Gram;
-use xs_light::light;
+use xs_loose::Tables;
 use xs_order::components;
 use xs_pair::Two;
-use xs_stretch::Tables;
+use xs_searches::light;
 
 /// Accepts the two grammars of a sheet where no rule weighs more than 8,192 and there is no
 /// suspect.

@@ -1,6 +1,6 @@
 use xs_class::Memory;
 use xs_gram::Suspect;
-use xs_light::CheckFault;
+use xs_searches::CheckFault;
 
 /// Why two grammars are not accepted.
 #[derive(Debug, Drop)]

@@ -1,7 +1,7 @@
 ghost use Rattle.std.specs.Prelude.{IfErr, OnOk};
 ghost use Rattle.xs_gram.specs.{AreComponents, IsBuilt};
 ghost use Rattle.xs_check_laws.specs.{IsLight, HasNoSuspect};
-ghost use Rattle.xs_stretch.specs.{HasFewGroups, AreTables};
+ghost use Rattle.xs_loose.specs.{HasFewGroups, AreTables};
 ghost use Rattle.xs_unique.specs.Reasons.{IsUnclear};
 
 use crate::AcceptFault;
@@ -9,8 +9,8 @@ use std::alloc::Global;
 use xs_class::Side;
 use xs_gram::{Comps, Gram, Suspect};
 use xs_horiz::{Horiz, first_horizontal};
-use xs_light::Searches;
-use xs_stretch::Tables;
+use xs_loose::Tables;
+use xs_searches::Searches;
 use xs_vert::{Vert, first_vertical};
 
 /// Makes sure that the grammar of a side, whose rules are light, has no suspect.

@@ -1,26 +1,21 @@
--- A sheet with copies of its units is one of the same bytes.
+-- A sheet with copies of its units is like the sheet.
 use Rattle.std.proofs.Common.{◌≡◌, ◌∙◌, sym, ap, subst, ℕ, inl, inr, List, [], ◌∷◌, ◌++◌, map, refl, arith}
 use Rattle.xs_sheet.specs.declared.unit.Unit.{Unit}
 use Rattle.xs_sheet.specs.declared.unit.Unit.TheVariants.{Terminal, Ignorable, Production, Fence}
 use Rattle.xs_sheet.specs.declared.sheet.Sheet.{Sheet}
-use Rattle.xs_sheet.specs.Outline.{UnitOutline, unit_outline}
-use Rattle.xs_sheet.specs.Grammar.{IsVersion, AllMayStand, ReadsSheet, IsSheetOf}
+use Rattle.xs_sheet.specs.Outline.{unit_outline}
+use Rattle.xs_sheet.specs.Grammar.{IsVersion, AllMayStand, HaveRegexes}
 use Rattle.xs_pair.specs.Fences.{fence_pairs}
 use Rattle.xs_pair.specs.Upgrades.{AreCopies, fence_of}
+use Rattle.xs_sheet_laws.specs.Sheets.{AreAlike}
+use Rattle.xs_sheet_laws.proofs.Sheets.{units_alike}
 
 -- the sheet with these units
 abbrev pub with_units : Sheet → List Unit → Sheet
 with_units s us = record { version = s.version; start = s.start; start_line = s.start_line; units = us }
 
-pub copied_spelled : (bytes : List ℕ) (s : Sheet) (us : List Unit) → IsSheetOf bytes s → AreCopies s.units us → IsSheetOf bytes (with_units s us)
-copied_spelled bytes s us sheet copies = record {
-  tokens = sheet.tokens;
-  tokens_are = sheet.tokens_are;
-  pieces = sheet.pieces;
-  pieces_are = sheet.pieces_are;
-  reads = subst (λ (os : List UnitOutline). ReadsSheet sheet.pieces (record { version = s.version; start = s.start; start_line = s.start_line; units = os })) (sym copies.outlines) sheet.reads;
-  regexes = copies.regexes;
-}
+pub copy_alike : (s : Sheet) (us : List Unit) → HaveRegexes s.units → AreCopies s.units us → AreAlike s (with_units s us)
+copy_alike s us regexes copies = record { version = refl; start = refl; start_line = refl; units = units_alike s.units us (sym copies.outlines) regexes copies.regexes }
 
 -- in version 1 there is no fence
 version_1 : (v : ℕ) → IsVersion v → (v ≡ 2 → ⊥) → v ≡ 1
@@ -37,8 +32,8 @@ none_of (Ignorable n p r m l ∷ us) may = none_of us may.1
 none_of (Production n a b l ∷ us) may = none_of us may.1
 none_of (Fence a b l ∷ us) may = absurd (one_two may.0)
 
-pub no_fences : (bytes : List ℕ) (s : Sheet) → IsSheetOf bytes s → (s.version ≡ 2 → ⊥) → fence_pairs s.units ≡ []
-no_fences bytes s sheet not_two = none_of s.units (subst (λ (v : ℕ). AllMayStand v (map unit_outline s.units)) (version_1 s.version sheet.reads.version_is not_two) sheet.reads.units_may)
+pub no_fences : (version : ℕ) (us : List Unit) → IsVersion version → AllMayStand version (map unit_outline us) → (version ≡ 2 → ⊥) → fence_pairs us ≡ []
+no_fences version us is may not_two = none_of us (subst (λ (v : ℕ). AllMayStand v (map unit_outline us)) (version_1 version is not_two) may)
 
 -- the sheet as one of version 2, with fences after its units
 abbrev pub with_pairs : Sheet → ℕ → List (ℕ × ℕ) → Sheet

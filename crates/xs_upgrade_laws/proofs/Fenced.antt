@@ -1,13 +1,11 @@
--- A grammar with other fences: derivations do not see them, and without fences a grammar is built as well.
+-- A grammar with other fences: derivations do not see them, and with proper ones it is built as well.
 use Rattle.std.proofs.Common.{◌≡◌, ◌∙◌, ℕ, List, [], ◌∷◌, refl, ap}
 use Rattle.xs_gram.specs.declared.parts.GItem.{GItem}
 use Rattle.xs_gram.specs.declared.parts.GItem.TheVariants.{Fixed, Term, Non, Skip}
-use Rattle.xs_gram.specs.Grammar.{Grammar, items, term_of, skip_of, normal_word}
+use Rattle.xs_gram.specs.Grammar.{Grammar, items, normal_word}
 use Rattle.xs_gram.specs.Derivations.{Parts, done, fixed, leaf, skip, sub, Derivation, FitsItems, Fits, normal_parts, normal}
 use Rattle.xs_gram.specs.Languages.{Derives, IsUnique}
-use Rattle.xs_gram.specs.Fences.{spread}
-use Rattle.xs_gram.proofs.Unfenced.{level_unfenced, avoids_unfenced}
-use Rattle.xs_gram.specs.Sound.{IsBuilt, IsNullable, IsNullableItem, IsProductive, LeadsTo, LeadsOn, once, onward, DerivesItself}
+use Rattle.xs_gram.specs.Sound.{IsProper, IsBuilt, IsNullable, IsNullableItem, IsProductive, LeadsTo, LeadsOn, once, onward, DerivesItself}
 use Rattle.xs_sheet_laws.specs.Meanings.{HaveSameDerivations}
 
 -- the grammar with these fences in place of its own
@@ -87,11 +85,11 @@ derivations_join g h k one two = record {
   unique = (λ is. two.unique.0 (one.unique.0 is), λ is. one.unique.1 (two.unique.1 is));
 }
 
-pub built_without : (g : Grammar) → IsBuilt g → IsBuilt (with_fences g [])
-built_without g built = record {
+pub built_with : (g : Grammar) (fs : List (ℕ × ℕ)) → IsBuilt g → IsProper (with_fences g fs) → IsBuilt (with_fences g fs)
+built_with g fs built proper = record {
   range = record { start = built.range.start; rules = built.range.rules; terms = built.range.terms; nons = built.range.nons; skips = built.range.skips; words = built.range.words };
   small = record { rules = built.small.rules; items = built.small.items; terms = built.small.terms; skips = built.small.skips };
   slots = built.slots;
   automata = record { terms = built.automata.terms; skips = built.automata.skips; terms_bounded = built.automata.terms_bounded; skips_bounded = built.automata.skips_bounded };
-  proper = record { once = tt; terms = λ t lt. avoids_unfenced (term_of g t).regex; skips = λ k lt. avoids_unfenced (skip_of g k).regex; level = λ p. level_unfenced (spread (with_fences g []) p) };
+  proper = proper;
 }

@@ -60,6 +60,18 @@ module _ (line : ℕ) where
   terms_kept (Production n a b l ∷ us) fs rs are = terms_kept us fs rs are
   terms_kept (Fence a b l ∷ us) fs rs are = terms_kept us fs rs are
 
+  terms_still : (fs : List (ℕ × ℕ)) (rs : List Regex) → AreTermsOf [] rs → AreTermsOf (fences fs) rs
+  terms_still [] rs are = are
+  terms_still (f ∷ fs) rs are = terms_still fs rs are
+
+  pub terms_more : (us : List Unit) (fs : List (ℕ × ℕ)) (rs : List Regex) → AreTermsOf us rs → AreTermsOf (us ++ fences fs) rs
+  terms_more [] fs rs are = terms_still fs rs are
+  terms_more (Terminal n p x l ∷ us) fs [] are = absurd are
+  terms_more (Terminal n p x l ∷ us) fs (r ∷ rs) are = (are.0, terms_more us fs rs are.1)
+  terms_more (Ignorable n p x m l ∷ us) fs rs are = terms_more us fs rs are
+  terms_more (Production n a b l ∷ us) fs rs are = terms_more us fs rs are
+  terms_more (Fence a b l ∷ us) fs rs are = terms_more us fs rs are
+
   no_skips : (fs : List (ℕ × ℕ)) (ks : List SkipPart) → AreSkipsOf (fences fs) ks → AreSkipsOf [] ks
   no_skips [] ks are = are
   no_skips (f ∷ fs) ks are = no_skips fs ks are
@@ -71,6 +83,18 @@ module _ (line : ℕ) where
   skips_kept (Ignorable n p x m l ∷ us) fs (k ∷ ks) are = (are.0, are.1, skips_kept us fs ks are.2)
   skips_kept (Production n a b l ∷ us) fs ks are = skips_kept us fs ks are
   skips_kept (Fence a b l ∷ us) fs ks are = skips_kept us fs ks are
+
+  skips_still : (fs : List (ℕ × ℕ)) (ks : List SkipPart) → AreSkipsOf [] ks → AreSkipsOf (fences fs) ks
+  skips_still [] ks are = are
+  skips_still (f ∷ fs) ks are = skips_still fs ks are
+
+  pub skips_more : (us : List Unit) (fs : List (ℕ × ℕ)) (ks : List SkipPart) → AreSkipsOf us ks → AreSkipsOf (us ++ fences fs) ks
+  skips_more [] fs ks are = skips_still fs ks are
+  skips_more (Terminal n p x l ∷ us) fs ks are = skips_more us fs ks are
+  skips_more (Ignorable n p x m l ∷ us) fs [] are = absurd are
+  skips_more (Ignorable n p x m l ∷ us) fs (k ∷ ks) are = (are.0, are.1, skips_more us fs ks are.2)
+  skips_more (Production n a b l ∷ us) fs ks are = skips_more us fs ks are
+  skips_more (Fence a b l ∷ us) fs ks are = skips_more us fs ks are
 
   -- a unit among them is one of the sheet, or a fence
   found : (us : List Unit) (fs : List (ℕ × ℕ)) (k : ℕ) (u : Unit) → slice_get (us ++ fences fs) k ≡ Some u → (slice_get us k ≡ Some u) ⊎ ((f : ℕ × ℕ) × (fence_of line f ≡ u))

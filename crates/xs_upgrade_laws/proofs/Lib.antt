@@ -1,5 +1,7 @@
 pub mod Fenced
 pub mod Gained
-pub mod Copied
+pub mod Lined
+mod Copied
+mod Proper
 pub mod Failing
 pub mod Upgraded

@@ -1,7 +1,7 @@
 -- The laws of upgrading: well formed stays well formed, derivations stay, and accepted stays accepted.
-use Rattle.std.specs.Prelude.{◌≡◌, ℕ, List}
+use Rattle.std.specs.Prelude.{◌≡◌}
 use Rattle.xs_sheet.specs.declared.sheet.Sheet.{Sheet}
-use Rattle.xs_sheet.specs.Grammar.{IsSheetOf}
+use Rattle.xs_sheet.specs.Lines.{IsReadable}
 use Rattle.xs_gram.specs.Grammar.{Grammar}
 use Rattle.xs_check_laws.specs.Acceptance.{IsAccepted, IsLight}
 use Rattle.xs_pair.specs.Grammars.{Pair, IsPairOf}
@@ -10,10 +10,9 @@ use Rattle.xs_pair.specs.Upgrades.{IsUpgrade}
 use Rattle.xs_wf.specs.Rules.{IsWell}
 use Rattle.xs_sheet_laws.specs.Meanings.{HaveSameDerivations}
 
--- t is the upgrade of a well-formed sheet s that some bytes have
+-- t is the upgrade of a well-formed sheet s that, lines aside, some bytes have
 pub record Upgrades (s t : Sheet) : Type 0 where
-  pub bytes : List ℕ
-  pub spelled : IsSheetOf bytes s
+  pub readable : IsReadable s
   pub well : IsWell s
   pub upgrade : IsUpgrade s t
 
@@ -35,8 +34,8 @@ pub record KeepDerivations (p q : Pair) : Type 0 where
 abbrev pub UpgradeKeepsDerivations : Type 0
 UpgradeKeepsDerivations = (s t : Sheet) → Upgrades s t → (p q : Pair) → IsPairOf s p → IsPairOf t q → KeepDerivations p q
 
--- where a sheet is accepted its upgrade is, unless a rule of it is too heavy
+-- where a sheet is accepted, which is asked of sound grammars, its upgrade is, unless a rule of it is too heavy
 abbrev pub UpgradeStaysAccepted : Type 0
 UpgradeStaysAccepted =
-    (s t : Sheet) → Upgrades s t → (p q : Pair) → IsPairOf s p → IsPairOf t q → IsSoundPair q
+    (s t : Sheet) → Upgrades s t → (p q : Pair) → IsPairOf s p → IsPairOf t q → IsSoundPair p
     → IsAccepted p.text p.xml → IsLight q.text → IsLight q.xml → IsAccepted q.text q.xml

@@ -3,8 +3,8 @@ use Rattle.std.proofs.Common.{ℕ, ◌≤◌, length, sym, subst, arith}
 use Rattle.xs_gram.specs.Grammar.{Grammar}
 use Rattle.xs_check_laws.specs.Freedom.{HasNoVertical}
 use Rattle.xs_check_laws.specs.Acceptance.{ShowsVertical}
-use Rattle.xs_light.specs.First.{HasNoneInRow, HasNoneInRows}
-use Rattle.xs_light.proofs.First.{none_before}
+use Rattle.xs_searches.specs.First.{HasNoneInRow, HasNoneInRows}
+use Rattle.xs_searches.proofs.First.{none_before}
 use Rattle.xs_vert.specs.declared.search.Vert.{Vert}
 use Rattle.xs_vert.specs.Partners.{ArePartners, HasNoPartner, IsFirstPartner}
 

@@ -2,7 +2,7 @@
 use Rattle.std.specs.Prelude.{◌≡◌, ℕ, List}
 use Rattle.xs_gram.specs.Grammar.{Grammar}
 use Rattle.xs_gram.specs.Suspects.{IsVertical}
-use Rattle.xs_light.specs.First.{HasNoneInRow}
+use Rattle.xs_searches.specs.First.{HasNoneInRow}
 use Rattle.xs_vert.specs.declared.search.Vert.{Vert}
 
 -- a word is loose for the two rules of one nonterminal, the first of which is the smaller

@@ -7,4 +7,4 @@
 mod search;
 
 pub use search::{Vert, first_vertical, vertical};
-pub use xs_light::CheckFault;
+pub use xs_searches::CheckFault;

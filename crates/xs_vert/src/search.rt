@@ -1,14 +1,14 @@
 ghost use Rattle.std.specs.Prelude.{◌≡◌, ◌<◌, length, IfOk, IfErr, IfSome, IfNone, OnOk};
 ghost use Rattle.xs_gram.specs.{AreComponents, IsBuilt, IsVertical};
 ghost use Rattle.xs_check_laws.specs.{HasNoVertical, IsLight, ShowsVertical};
-ghost use Rattle.xs_light.specs.{IsCause};
+ghost use Rattle.xs_searches.specs.{IsCause};
 ghost use Rattle.xs_vert.specs.Partners.{ArePartners, IsFirstPartner, HasNoPartner};
 
 use std::alloc::Global;
 use xs_class::{Memory, Word};
 use xs_gram::{Comps, Gram};
-use xs_light::{CheckFault, Searches, light};
-use xs_stretch::Tables;
+use xs_loose::Tables;
+use xs_searches::{CheckFault, Searches, light};
 
 /// Two rules of one nonterminal, the smaller one first, and a word that is loose for both.
 #[derive(Debug, Drop)]

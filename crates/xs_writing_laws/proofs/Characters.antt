@@ -4,8 +4,8 @@ use Rattle.std.specs.Prelude.{nat_le}
 use Rattle.std.proofs.lemmas.Bool.Decides.{nat_tests}
 use lib.Utf8.{scalar, scalars}
 use Rattle.xs_class.specs.Tables.{IsChar, char_table}
-use Rattle.xs_xml.specs.Tables.{is_char}
-use Rattle.xs_xml.specs.Piece.{all_of}
+use Rattle.xs_xml_laws.specs.Tables.{is_char}
+use Rattle.xs_xml_laws.specs.Piece.{all_of}
 use Rattle.xs_chars.specs.Text.{AreCharacters}
 use Rattle.xs_writing_laws.specs.Laws.{AreChars}
 use Rattle.xs_class.proofs.Truth.{and_true, both_true}

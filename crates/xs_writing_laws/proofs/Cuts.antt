@@ -6,8 +6,8 @@ use Rattle.xs_gram.specs.Grammar.{Grammar}
 use Rattle.xs_gram.specs.Derivations.{Parts, done, fixed, leaf, skip, sub, FitsItems, parts_yield}
 use Rattle.xs_gram.specs.Building.{EachOf}
 use Rattle.xs_gram.proofs.Inversion.{fixed_parts}
-use Rattle.xs_xml.specs.Tables.{is_char}
-use Rattle.xs_xml.specs.Piece.{all_of}
+use Rattle.xs_xml_laws.specs.Tables.{is_char}
+use Rattle.xs_xml_laws.specs.Piece.{all_of}
 use Rattle.xs_xml_out.specs.Balanced.{IsContent, nothing, text, element, attributes_word, element_word}
 use Rattle.xs_xml_out.specs.Balanced.{Attribute as XAttribute}
 use Rattle.xs_class.specs.Marks.{attr_end, opening_mark, attribute_mark, closing_mark}

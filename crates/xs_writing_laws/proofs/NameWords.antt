@@ -10,8 +10,8 @@ use Rattle.xs_lex.specs.Classes as L
 use Rattle.xs_lex.specs.Classes.{is_plain}
 use Rattle.xs_lex.specs.Spelling.{IsQual, Spells}
 use Rattle.xs_sheet.specs.Pieces.{IsTextOf}
-use Rattle.xs_xml.specs.Tables as P
-use Rattle.xs_xml.specs.Piece.{is_name, all_of}
+use Rattle.xs_xml_laws.specs.Tables as P
+use Rattle.xs_xml_laws.specs.Piece.{is_name, all_of}
 use Rattle.xs_class.proofs.TableLaws.{in_is, is_in}
 use Rattle.xs_class.proofs.Truth.{and_true, both_true, or_left, or_right}
 

@@ -5,7 +5,7 @@ use Rattle.std.proofs.lemmas.List.Elements.{Contains-get_or}
 use Rattle.xs_class.specs.Ordered.{AreNamesOf}
 use Rattle.xs_gram.proofs.Each.{each_append}
 use Rattle.xs_gram.specs.Building.{EachOf}
-use Rattle.xs_xml.specs.Piece.{is_name}
+use Rattle.xs_xml_laws.specs.Piece.{is_name}
 use Rattle.xs_pair.specs.declared.mark.Mark.{Mark}
 use Rattle.xs_pair.specs.declared.mark.Mark.TheVariants.{Opening, Attribute}
 use Rattle.xs_pair.specs.declared.production.Rule.{Rule}

@@ -14,7 +14,7 @@ use Rattle.xs_gram.specs.declared.parts.Terminal.{Terminal as GTerminal}
 use Rattle.xs_gram.specs.declared.parts.Ignorable.{Ignorable as GIgnorable}
 use Rattle.xs_gram.specs.Grammar.{Grammar, IsTermWord, IsSkipWord, no_terminal, no_ignorable}
 use Rattle.xs_gram.specs.Building.{EachOf, skip_part}
-use Rattle.xs_xml.specs.Tables.{is_char}
+use Rattle.xs_xml_laws.specs.Tables.{is_char}
 use Rattle.xs_pair.specs.Grammars.{AreTermsOf, AreSkipsOf, IsGramOf}
 use Rattle.xs_writing_laws.specs.Laws.{AreChars}
 use Rattle.xs_pair.proofs.Lists.{each_of_map, each_at}

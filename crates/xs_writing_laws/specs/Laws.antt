@@ -1,8 +1,8 @@
 -- The words of a sheet's two languages can be written.
 use Rattle.std.specs.Prelude.{◌≡◌, ℕ, List, true, Some, slice_get}
 use Rattle.xs_chars.specs.Text.{AreCharacters}
-use Rattle.xs_xml.specs.Tables.{is_char}
-use Rattle.xs_xml.specs.Piece.{all_of}
+use Rattle.xs_xml_laws.specs.Tables.{is_char}
+use Rattle.xs_xml_laws.specs.Piece.{all_of}
 use Rattle.xs_sheet.specs.declared.item.Item.{Item}
 use Rattle.xs_sheet.specs.declared.item.Item.TheVariants.{Fixed, Named, Skip}
 use Rattle.xs_sheet.specs.declared.sheet.Sheet.{Sheet}

@@ -4,9 +4,9 @@ use Rattle.std.specs.declared.cmp.Ordering.TheVariants.{Less}
 use Rattle.std.proofs.lemmas.List.Elements.{All-get_or}
 use Rattle.xs_class.specs.Marks.{attr_end, attribute_mark}
 use Rattle.xs_class.specs.Ordered.{IsOrdered}
-use Rattle.xs_xml.specs.Tables.{is_char, is_white, is_quote}
-use Rattle.xs_xml.specs.Piece.{Attribute as TagAttribute, spelt_bits, spelt_attribute, spelt_attributes, same, is_name, all_of, is_attribute, are_attributes, distinct, among}
-use Rattle.xs_xml.specs.Reads.{attribute_symbols, attribute, in_order, placed, value, name_order}
+use Rattle.xs_xml_laws.specs.Tables.{is_char, is_white, is_quote}
+use Rattle.xs_xml_laws.specs.Piece.{Attribute as TagAttribute, spelt_bits, spelt_attribute, spelt_attributes, same, is_name, all_of, is_attribute, are_attributes, distinct, among}
+use Rattle.xs_xml_laws.specs.Reads.{attribute_symbols, attribute, in_order, placed, value, name_order}
 use Rattle.xs_xml_out.specs.declared.mode.Mode.TheVariants.{Tag, Value}
 use Rattle.xs_xml_out.specs.Balanced.{Attribute, attributes_word, AreAttributes, IsAscending}
 use Rattle.xs_xml_out.specs.Written.{name_at, written}

@@ -1,7 +1,7 @@
 -- Calm pieces that nest are a legal list.
 use Rattle.std.proofs.Common.{◌≡◌, ℕ, List, [], ◌∷◌, ◌++◌, Some, true, false, Bool, not, ◌&&◌, ◌==◌, refl}
-use Rattle.xs_xml.specs.Piece.{Piece, declaration, character, line_end, reference, start_tag, empty_tag, end_tag, comment, instruction, cdata}
-use Rattle.xs_xml.specs.Legal.{spelt_all, are_pieces, no_declaration, is_first, Spot, ahead, all_passed, is_that, no_section_end, is_alone, are_alone, IsLegal}
+use Rattle.xs_xml_laws.specs.Piece.{Piece, declaration, character, line_end, reference, start_tag, empty_tag, end_tag, comment, instruction, cdata}
+use Rattle.xs_xml_laws.specs.Legal.{spelt_all, are_pieces, no_declaration, is_first, Spot, ahead, all_passed, is_that, no_section_end, is_alone, are_alone, IsLegal}
 use Rattle.xs_xml_out.proofs.Content.{is_calm, are_calm}
 use Rattle.xs_class.proofs.Truth.{and_true, both_true, not_true, and_no}
 

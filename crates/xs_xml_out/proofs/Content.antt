@@ -1,10 +1,10 @@
 -- Content, as pieces that no rule on neighbours speaks of.
 use Rattle.std.proofs.Common.{◌≡◌, ℕ, List, [], ◌∷◌, ◌++◌, Some, true, false, Bool, not, ◌&&◌, if◌then◌else◌, ◌==◌, codes, refl, sym, ◌∙◌, ap, subst, arith, eqb-true}
 use Rattle.std.proofs.lemmas.Bool.Decides.{nat_tests}
-use Rattle.xs_xml.specs.Tables.{is_char, is_hex}
-use Rattle.xs_xml.specs.Piece.{Piece, declaration, character, reference, spelt, is_piece, ref_char}
-use Rattle.xs_xml.specs.Legal.{spelt_all, are_pieces, Spot, inside, passed, all_passed}
-use Rattle.xs_xml.specs.Reads.{symbols, all_symbols}
+use Rattle.xs_xml_laws.specs.Tables.{is_char, is_hex}
+use Rattle.xs_xml_laws.specs.Piece.{Piece, declaration, character, reference, spelt, is_piece, ref_char}
+use Rattle.xs_xml_laws.specs.Legal.{spelt_all, are_pieces, Spot, inside, passed, all_passed}
+use Rattle.xs_xml_laws.specs.Reads.{symbols, all_symbols}
 use Rattle.xs_xml_out.specs.declared.kind.SymbolKind.TheVariants.{Char}
 use Rattle.xs_xml_out.specs.declared.mode.Mode.TheVariants.{Content}
 use Rattle.xs_xml_out.specs.Written.{symbol_kind, content_char, written}

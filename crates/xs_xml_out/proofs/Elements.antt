@@ -2,9 +2,9 @@
 use Rattle.std.proofs.Common.{◌≡◌, ◌⊎◌, inl, inr, ℕ, ◌<◌, List, [], ◌∷◌, ◌++◌, length, append_assoc, Option, Some, true, codes, refl, sym, ◌∙◌, ap, subst}
 use Rattle.xs_class.specs.Marks.{attr_end, opening_mark, attribute_mark, closing_mark}
 use Rattle.xs_class.specs.Ordered.{IsOrdered}
-use Rattle.xs_xml.specs.Piece.{Piece, start_tag, empty_tag, end_tag, spelt, spelt_attributes, is_piece, is_tag}
-use Rattle.xs_xml.specs.Legal.{closed, spelt_all, are_pieces, Spot, inside, passed, all_passed}
-use Rattle.xs_xml.specs.Reads.{symbols, all_symbols, opening, closing}
+use Rattle.xs_xml_laws.specs.Piece.{Piece, start_tag, empty_tag, end_tag, spelt, spelt_attributes, is_piece, is_tag}
+use Rattle.xs_xml_laws.specs.Legal.{closed, spelt_all, are_pieces, Spot, inside, passed, all_passed}
+use Rattle.xs_xml_laws.specs.Reads.{symbols, all_symbols, opening, closing}
 use Rattle.xs_xml_out.specs.declared.mode.Mode.TheVariants.{Content, Tag}
 use Rattle.xs_xml_out.specs.Balanced.{Attribute, attributes_word, element_word, AreAttributes, IsAscending, IsContent, nothing, text, element}
 use Rattle.xs_xml_out.specs.Written.{name_at, written}
@@ -16,8 +16,8 @@ use Rattle.xs_xml_out.proofs.Content.{IsSpelt, spelt_nothing, spelt_text}
 use Rattle.xs_xml_out.proofs.Calm.{are_calm-append}
 use Rattle.xs_class.proofs.Truth.{both_true}
 use Rattle.xs_class.proofs.Words.{same_self}
-use Rattle.xs_xml.proofs.More.{pieces_append, passed_append}
-use Rattle.xs_xml.proofs.Greatest.{spelt_append}
+use Rattle.xs_xml_laws.proofs.More.{pieces_append, passed_append}
+use Rattle.xs_xml_laws.proofs.Greatest.{spelt_append}
 
 attributes_word-append : (as_ : List Attribute) (y x : List ℕ) → attributes_word as_ y ++ x ≡ attributes_word as_ (y ++ x)
 attributes_word-append [] y x = refl

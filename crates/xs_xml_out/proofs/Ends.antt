@@ -1,8 +1,8 @@
 -- The mode in which the writing of a word ends.
 use Rattle.std.proofs.Common.{◌≡◌, ℕ, List, [], ◌∷◌, ◌++◌, append_assoc, true, codes, refl, sym, ◌∙◌, ap}
 use Rattle.xs_class.specs.Marks.{attr_end, opening_mark, attribute_mark, closing_mark}
-use Rattle.xs_xml.specs.Tables.{is_char}
-use Rattle.xs_xml.specs.Piece.{all_of}
+use Rattle.xs_xml_laws.specs.Tables.{is_char}
+use Rattle.xs_xml_laws.specs.Piece.{all_of}
 use Rattle.xs_xml_out.specs.declared.mode.Mode.{Mode}
 use Rattle.xs_xml_out.specs.declared.mode.Mode.TheVariants.{Content, Tag, Value}
 use Rattle.xs_xml_out.specs.Balanced.{Attribute, attributes_word, element_word, AreAttributes}

@@ -4,9 +4,9 @@ use Rattle.std.specs.Prelude.{bytes_eq}
 use Rattle.std.specs.Option.{option_map}
 use Rattle.std.specs.Cmp.Lexicographic.{bytes_decides}
 use Rattle.xs_class.specs.Ordered.{IsBefore, IsOrdered, place_of}
-use Rattle.xs_xml.specs.Piece.{same}
+use Rattle.xs_xml_laws.specs.Piece.{same}
 use Rattle.xs_xml_out.specs.Written.{name_at}
-use Rattle.xs_xml.proofs.Reading.{same_is}
+use Rattle.xs_xml_laws.proofs.Reading.{same_is}
 use Rattle.xs_class.proofs.Places.{IsBefore_not_itself}
 
 -- a place at which the name stands, and before which it does not, is the one found

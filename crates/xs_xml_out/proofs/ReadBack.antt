@@ -1,10 +1,10 @@
 -- The law that XML is read back.
 use Rattle.std.proofs.Common.{◌≡◌, ◌⊎◌, inl, inr, ℕ, ◌<◌, List, [], ◌∷◌, ◌++◌, length, append-nil, Some, true, refl, sym, ◌∙◌, subst}
 use Rattle.xs_class.specs.Ordered.{IsOrdered}
-use Rattle.xs_xml.specs.Tables.{is_char, is_white}
-use Rattle.xs_xml.specs.Piece.{character, start_tag, empty_tag, end_tag, is_tag}
-use Rattle.xs_xml.specs.Legal.{ahead, inside, beyond, are_pieces, all_passed}
-use Rattle.xs_xml.specs.Reads.{Reads}
+use Rattle.xs_xml_laws.specs.Tables.{is_char, is_white}
+use Rattle.xs_xml_laws.specs.Piece.{character, start_tag, empty_tag, end_tag, is_tag}
+use Rattle.xs_xml_laws.specs.Legal.{ahead, inside, beyond, are_pieces, all_passed}
+use Rattle.xs_xml_laws.specs.Reads.{Reads}
 use Rattle.xs_xml_out.specs.Balanced.{Attribute, element_word, AreAttributes, IsAscending}
 use Rattle.xs_xml_out.specs.Written.{name_at, xml_chars}
 use Rattle.xs_xml_out.specs.Laws.{AreNames, IsReadBack}

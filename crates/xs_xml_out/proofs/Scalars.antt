@@ -5,8 +5,8 @@ use lib.Utf8.{scalar, scalars}
 use Rattle.std.proofs.lemmas.Bool.Decides.{nat_tests}
 use Rattle.std.proofs.lemmas.List.Elements.{All-head, All-tail, All-get_or}
 use Rattle.xs_class.specs.Marks.{opening_mark, closing_mark}
-use Rattle.xs_xml.specs.Tables.{is_name_char}
-use Rattle.xs_xml.specs.Piece.{is_name, all_of}
+use Rattle.xs_xml_laws.specs.Tables.{is_name_char}
+use Rattle.xs_xml_laws.specs.Piece.{is_name, all_of}
 use Rattle.xs_xml_out.specs.declared.kind.SymbolKind.{SymbolKind}
 use Rattle.xs_xml_out.specs.declared.kind.SymbolKind.TheVariants.{Char, ValueEnd, Strange, Opening, Attribute, Closing}
 use Rattle.xs_xml_out.specs.declared.mode.Mode.{Mode}

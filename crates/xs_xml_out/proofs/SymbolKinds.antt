@@ -3,7 +3,7 @@ use Rattle.std.proofs.Common.{◌≡◌, ℕ, ◌<◌, ◌+◌, ◌*◌, ◌-◌
 use Rattle.std.specs.Char.{IsScalar}
 use Rattle.std.proofs.lemmas.Bool.Decides.{nat_tests}
 use Rattle.xs_class.specs.Marks.{attr_end, opening_mark, attribute_mark, closing_mark}
-use Rattle.xs_xml.specs.Tables.{is_char}
+use Rattle.xs_xml_laws.specs.Tables.{is_char}
 use Rattle.xs_xml_out.specs.declared.kind.SymbolKind.TheVariants.{Char, ValueEnd, Opening, Attribute, Closing}
 use Rattle.xs_xml_out.specs.Written.{symbol_kind, kind_of_name}
 

@@ -2,10 +2,10 @@
 use Rattle.std.proofs.Common.{◌≡◌, ◌⊎◌, inl, inr, ℕ, List, [], ◌∷◌, ◌++◌, true, false, Bool, if◌then◌else◌, ◌==◌, codes, refl, sym, ◌∙◌, ap, arith, eqb-true, Some, unwrap_or, append_assoc}
 use Rattle.std.proofs.lemmas.Bool.Decides.{nat_tests}
 use Rattle.xs_class.specs.Marks.{attr_end}
-use Rattle.xs_xml.specs.Tables.{is_char, is_white, is_hex}
-use Rattle.xs_xml.specs.Piece.{Bit, plain, ref, spelt_bit, spelt_bits, all_of, ref_char, is_bit, are_bits}
-use Rattle.xs_xml.specs.Reads.{value}
-use Rattle.xs_xml.proofs.Reading.{white_cases}
+use Rattle.xs_xml_laws.specs.Tables.{is_char, is_white, is_hex}
+use Rattle.xs_xml_laws.specs.Piece.{Bit, plain, ref, spelt_bit, spelt_bits, all_of, ref_char, is_bit, are_bits}
+use Rattle.xs_xml_laws.specs.Reads.{value}
+use Rattle.xs_xml_laws.proofs.Reading.{white_cases}
 use Rattle.xs_xml_out.specs.declared.kind.SymbolKind.TheVariants.{Char}
 use Rattle.xs_xml_out.specs.declared.mode.Mode.TheVariants.{Tag, Value}
 use Rattle.xs_xml_out.specs.Written.{symbol_kind, value_char, written}

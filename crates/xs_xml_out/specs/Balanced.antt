@@ -1,8 +1,8 @@
 -- Balanced words: one element, with its attributes and its content.
 use Rattle.std.specs.Prelude.{◌≡◌, ℕ, ◌<◌, List, [], ◌∷◌, ◌++◌, length, true}
 use Rattle.xs_class.specs.Marks.{attr_end, opening_mark, attribute_mark, closing_mark}
-use Rattle.xs_xml.specs.Tables.{is_char}
-use Rattle.xs_xml.specs.Piece.{all_of}
+use Rattle.xs_xml_laws.specs.Tables.{is_char}
+use Rattle.xs_xml_laws.specs.Piece.{all_of}
 
 -- an attribute: the place of its name, and the characters of its value
 pub record Attribute : Type 0 where

@@ -3,8 +3,8 @@ use Rattle.std.specs.Prelude.{◌≡◌, ℕ, List, Some, true, slice_get}
 use Rattle.std.specs.List.{All}
 use Rattle.std.specs.Str.{chars}
 use Rattle.xs_class.specs.Ordered.{IsOrdered}
-use Rattle.xs_xml.specs.Piece.{is_name}
-use Rattle.xs_xml.specs.Reads.{Reads}
+use Rattle.xs_xml_laws.specs.Piece.{is_name}
+use Rattle.xs_xml_laws.specs.Reads.{Reads}
 use Rattle.xs_xml_out.specs.Balanced.{IsBalanced}
 use Rattle.xs_xml_out.specs.Written.{xml_chars, xml_bytes}
 

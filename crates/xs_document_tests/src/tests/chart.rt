@@ -1,4 +1,4 @@
-ghost use Rattle.std.specs.Prelude.{◌≡◌, ◌<◌, suc, [], length, OnOk};
+ghost use Rattle.std.specs.Prelude.{◌≡◌, ◌<◌, [], length, OnOk};
 ghost use Rattle.xs_chart.specs.{items_of, last_set};
 
 use std::process::Abort;
@@ -24,7 +24,7 @@ const THIRD: Item = Item {
 fn add_set(chart: &mut Chart) -> Result<(), Memory>
     requires { chart.old.sets ≡ [] }
 {
-    chart.push_set(false)?;
+    chart.push_set()?;
     chart.add(FIRST)?;
     chart.add(SECOND)?;
     Ok(())
@@ -46,7 +46,7 @@ fn expect_added_once(rt: &impl Abort, chart: &mut Chart) -> Result<(), Memory>
 {
     let again = chart.add(FIRST)?;
     assert!(rt; !again);
-    chart.push_set(false)?;
+    chart.push_set()?;
     let anew = chart.add(SECOND)?;
     assert!(rt; anew);
     assert!(rt; are_found(chart));
@@ -55,7 +55,7 @@ fn expect_added_once(rt: &impl Abort, chart: &mut Chart) -> Result<(), Memory>
 
 #[test]
 fn items_are_added_once_and_found(rt: HostRuntime) -> Result<(), Memory> {
-    let mut chart = Chart::new(rt.alloc(), 16)?;
+    let mut chart = Chart::new(rt.alloc())?;
     add_set(&mut chart)?;
     assert!(rt; chart.sets() == 1);
     expect_added_once(&rt, &mut chart)
@@ -63,27 +63,27 @@ fn items_are_added_once_and_found(rt: HostRuntime) -> Result<(), Memory> {
 
 /// Whether the nonterminal's waiting list in the set has these numbers.
 fn has_waiters(chart: &Chart, set: u32, non: u32, numbers: &[u64]) -> bool
-    requires { suc set < length chart.now.sets }
+    requires { set < length chart.now.sets }
 {
-    let waiting = chart.waiting(set, non);
-    if waiting.count != numbers.len() {
+    if chart.waiting(set, non) != numbers.len() as u64 {
         return false;
     }
-    for n in 0..waiting.count {
-        if chart.waiter(waiting, n) != numbers[n] {
+    for n in 0..numbers.len() {
+        if chart.waiter(set, non, n as u64) != numbers[n] {
             return false;
         }
     }
     true
 }
 
-/// Whether the first item waits for 5, and both, the second first, for 3, and none in the next set.
+/// Whether the first item waits for 5, and both, the second first, for 3, and none in the next sets.
 fn are_waiting(chart: &Chart) -> bool {
     chart.sets() == 3
         && has_waiters(chart, 0, 3, &[1, 0])
         && has_waiters(chart, 0, 5, &[0])
         && has_waiters(chart, 0, 4, &[])
         && has_waiters(chart, 1, 3, &[])
+        && has_waiters(chart, 2, 3, &[])
 }
 
 fn wait_thrice(chart: &mut Chart) -> Result<(), Memory>
@@ -98,12 +98,13 @@ fn wait_thrice(chart: &mut Chart) -> Result<(), Memory>
 
 #[test]
 fn waiting_lists_are_kept_by_set_and_nonterminal(rt: HostRuntime) -> Result<(), Memory> {
-    let mut chart = Chart::new(rt.alloc(), 16)?;
+    let mut chart = Chart::new(rt.alloc())?;
     add_set(&mut chart)?;
     assert!(rt; chart.sets() == 1 && chart.len(0) == 2);
     wait_thrice(&mut chart)?;
-    chart.push_set(false)?;
-    chart.push_set(false)?;
+    assert!(rt; has_waiters(&chart, 0, 3, &[1, 0]) && has_waiters(&chart, 0, 4, &[]));
+    chart.push_set()?;
+    chart.push_set()?;
     assert!(rt; are_waiting(&chart));
     Ok(())
 }
@@ -120,7 +121,7 @@ fn has_both(chart: &Chart, set: u32) -> bool
 }
 
 /// Whether the first set has the first two items, the second one the third too, and the second item
-/// waits for 3 in the first set.
+/// waits for 3 in both.
 fn is_repeated(chart: &Chart) -> bool {
     chart.sets() == 2
         && has_both(chart, 0)
@@ -129,6 +130,7 @@ fn is_repeated(chart: &Chart) -> bool {
         && chart.item(1, 1) == SECOND
         && chart.item(1, 2) == THIRD
         && has_waiters(chart, 0, 3, &[1])
+        && has_waiters(chart, 1, 3, &[1])
 }
 
 /// What is added after a set was repeated goes to the new one alone.
@@ -146,11 +148,11 @@ fn expect_added_to_new(rt: &impl Abort, chart: &mut Chart) -> Result<(), Memory>
 
 #[test]
 fn a_set_is_repeated(rt: HostRuntime) -> Result<(), Memory> {
-    let mut chart = Chart::new(rt.alloc(), 16)?;
+    let mut chart = Chart::new(rt.alloc())?;
     add_set(&mut chart)?;
     assert!(rt; chart.sets() == 1 && chart.len(0) == 2);
     chart.wait(3, 1)?;
-    chart.push_set(true)?;
+    chart.repeat_set()?;
     assert!(rt; chart.sets() == 2 && has_both(&chart, 0) && has_both(&chart, 1));
     expect_added_to_new(&rt, &mut chart)
 }

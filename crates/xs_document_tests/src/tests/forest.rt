@@ -1,5 +1,6 @@
+use bumpalo::Bump;
 use std::test::Fail;
-use xs_forest::{AddFault, Alt, Builder};
+use xs_forest::{AddFault, Alt, Forest};
 use xs_forest_laws::{SpanKey, What};
 
 const LEAF: Alt = Alt {
@@ -28,7 +29,9 @@ const SECOND: SpanKey = SpanKey {
 
 #[test]
 fn rows_are_numbered_and_labelled_once(rt: HostRuntime) -> Result<(), Fail> {
-    let mut forest = Builder::new(rt.alloc(), 1)?;
+    let bump = Bump::new(rt.alloc());
+    let mut forest = Forest::new(rt.alloc(), &bump)?;
+    assert!(rt; forest.find(FIRST) == None);
     assert!(rt; forest.len() == 0);
     assert!(rt; forest.add_row(FIRST, &[LEAF]) == Ok(0));
     assert!(rt; forest.len() == 1);
@@ -38,8 +41,6 @@ fn rows_are_numbered_and_labelled_once(rt: HostRuntime) -> Result<(), Fail> {
     assert!(rt; forest.len() == 2);
     assert!(rt; forest.find(FIRST) == Some(0));
     assert!(rt; forest.find(SECOND) == Some(1));
-    let forest = forest.finish();
-    assert!(rt; forest.len() == 2);
     let row = forest.row(1);
     assert!(rt; row.label == SECOND && row.alts == [PAIR, LEAF].as_slice());
     Ok(())

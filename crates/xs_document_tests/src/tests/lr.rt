@@ -9,6 +9,7 @@ mod languages;
 mod random;
 
 use crate::tests::parse_table::passes;
+use bumpalo::Bump;
 use std::alloc::Global;
 use std::process::Abort;
 use std::test::Fail;
@@ -83,7 +84,8 @@ pub fn exact_tree(alloc: Global, g: &Gram, doc: &Word) -> Result<Tree, TurnFault
     requires short { length doc.now < 4294967295 }
 {
     let chart = recognise(alloc, g, doc)?;
-    let grown = grow(alloc, g, &chart, doc)?;
+    let bump = Bump::new(alloc);
+    let grown = grow(alloc, &bump, g, &chart, doc)?;
     let tree = one_tree(alloc, &grown, g, doc)?;
     Ok(tree)
 }

@@ -6,7 +6,7 @@ use std::alloc::Global;
 use std::test::Fail;
 use xs_auto::{Draft, Nest, Net, Pairs};
 use xs_class::{Memory, Sym, Word};
-use xs_meet::{Overlap, Shared, meet_nested, overlap_nested};
+use xs_meet::{Overlap, meet_nested, overlap_nested, shared};
 use xs_test_tools::run_of;
 
 /// A net of two states that accepts one or more symbols of a range, from the letter `a` on.
@@ -52,7 +52,7 @@ fn answers(
 ) -> Result<(Option<Word>, Option<Overlap>), Memory> {
     let nest = brackets(alloc, first, second)?;
     let mut pairs = Pairs::with_room(alloc, 4)?;
-    let shared = Shared::of(alloc, &nest, &mut pairs)?;
+    let shared = shared(alloc, &nest, &mut pairs)?;
     let a = calls(alloc, 0)?;
     let b = calls(alloc, 1)?;
     let word = meet_nested(alloc, &nest, &shared, &a, &b, &mut pairs)?;

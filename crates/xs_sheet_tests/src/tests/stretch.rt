@@ -1,6 +1,6 @@
 ghost use Rattle.std.specs.Prelude.{IsSome, IfOk, IfSome};
 ghost use Rattle.xs_gram.specs.{IsBuilt};
-ghost use Rattle.xs_stretch.specs.{IsPart};
+ghost use Rattle.xs_loose.specs.{IsPart};
 
 mod shipped;
 
@@ -9,9 +9,9 @@ use std::test::Fail;
 use xs_auto::{Draft, Net, Pairs};
 use xs_class::{Class, Memory, Side};
 use xs_gram::Gram;
+use xs_loose::{LooseFault, Part, net_of, weight_by, weight_of, weights};
 use xs_meet::meet_word;
 use xs_order::components;
-use xs_stretch::{LooseFault, Part, net_of, weight_by, weight_of, weights};
 use xs_test_tools::pair_of;
 
 /// Digits with commas between them, in brackets: the rule of the brackets, of one digit, and of a

@@ -12,8 +12,8 @@ mod words;
 use std::alloc::Global;
 use xs_gram::Gram;
 use xs_horiz::{Horiz, horizontal};
-use xs_light::CheckFault;
 use xs_order::components;
+use xs_searches::CheckFault;
 use xs_vert::{Vert, vertical};
 
 /// The two rules and the word's length.

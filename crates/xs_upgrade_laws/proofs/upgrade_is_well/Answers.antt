@@ -2,4 +2,4 @@ use Rattle.xs_upgrade_laws.proofs.Upgraded.{well_lem}
 use Rattle.xs_upgrade_laws.proofs.upgrade_is_well.Goals as goal
 
 pub returns : goal.returns
-returns c = well_lem c.one_sheet.ensures c.alike_sheets_mean_the_same.ensures
+returns c = well_lem c.alike_sheets_mean_the_same.ensures

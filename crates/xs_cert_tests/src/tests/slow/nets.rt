@@ -1,15 +1,15 @@
 //! The nets of a side: of its groups, of its rules, and of the fronts and rests of their cuts.
 ghost use Rattle.std.specs.Prelude.{◌<◌, length};
 ghost use Rattle.xs_gram.specs.{IsBuilt};
-ghost use Rattle.xs_light.specs.{IsSite};
+ghost use Rattle.xs_searches.specs.{IsSite};
 
 use std::alloc::Global;
 use xs_auto::{Nest, Net};
 use xs_class::Memory;
 use xs_gram::Gram;
-use xs_light::{Site, light};
+use xs_loose::Tables;
 use xs_order::components;
-use xs_stretch::Tables;
+use xs_searches::{Site, light};
 
 /// A rule: its number, its nonterminal, and the net of all its spread items.
 #[derive(Drop)]

@@ -1,5 +1,5 @@
 use Rattle.std.proofs.Common.{arith}
-use Rattle.xs_stretch.proofs.Pushing.{row_leads}
+use Rattle.xs_loose.proofs.Pushing.{row_leads}
 use Rattle.xs_coarse_net.proofs.Going.{grows_none, grows_on}
 use Rattle.xs_coarse_net.proofs.Laying.{follows_more}
 use Rattle.xs_coarse_net.proofs.Rows.{leads_low}

@@ -1,4 +1,4 @@
-use Rattle.xs_stretch.proofs.Nesting.{groups_past, partner_of}
+use Rattle.xs_loose.proofs.Nesting.{groups_past, partner_of}
 use Rattle.xs_coarse_net.specs.declared.cover.Content.{Content}
 use Rattle.xs_coarse_net.specs.Contents.{nest_of}
 use Rattle.xs_coarse_net.proofs.Contenting.{contents_push, content_is}

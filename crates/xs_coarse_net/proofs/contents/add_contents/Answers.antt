@@ -1,6 +1,6 @@
 use Rattle.std.proofs.Common.{length, ap, arith}
 use Rattle.xs_coarse_net.specs.Contents.{nest_of}
-use Rattle.xs_stretch.proofs.Nesting.{groups_next}
+use Rattle.xs_loose.proofs.Nesting.{groups_next}
 use Rattle.xs_coarse_net.proofs.contents.add_contents.Goals as goal
 
 pub returns-clause-contents : goal.returns-clause-contents

@@ -1,6 +1,6 @@
 use Rattle.std.proofs.Common.{arith}
 use Rattle.xs_coarse_net.specs.Contents.{nest_of}
-use Rattle.xs_stretch.proofs.Nesting.{groups_none}
+use Rattle.xs_loose.proofs.Nesting.{groups_none}
 use Rattle.xs_coarse_net.proofs.Contenting.{contents_all}
 use Rattle.xs_coarse_net.proofs.contents.contents_of.Goals as goal
 

@@ -1,7 +1,7 @@
 use Rattle.std.proofs.Common.{◌+◌, arith}
 use Rattle.xs_gram.specs.Fences.{spread}
-use Rattle.xs_stretch.proofs.Numbering.{left_counts, number_low}
-use Rattle.xs_stretch.proofs.Stepping.{read_there}
+use Rattle.xs_loose.proofs.Numbering.{left_counts, number_low}
+use Rattle.xs_loose.proofs.Stepping.{read_there}
 use Rattle.xs_coarse_net.proofs.Extending.{extends_group, extends_item}
 use Rattle.xs_coarse_net.proofs.pieces.add_piece.Goals as goal
 

@@ -1,8 +1,8 @@
 use Rattle.std.proofs.Common.{ℕ, ◌+◌, subst, arith}
 use Rattle.xs_gram.specs.Fences.{spread}
-use Rattle.xs_stretch.proofs.Items.{item_there}
-use Rattle.xs_stretch.proofs.Numbering.{left_counts, number_low}
-use Rattle.xs_stretch.proofs.Stepping.{read_there}
+use Rattle.xs_loose.proofs.Items.{item_there}
+use Rattle.xs_loose.proofs.Numbering.{left_counts, number_low}
+use Rattle.xs_loose.proofs.Stepping.{read_there}
 use Rattle.xs_coarse_net.specs.Whole.{ItemLaid}
 use Rattle.xs_coarse_net.proofs.Places.{place_enclosed, place_group, place_item}
 use Rattle.xs_coarse_net.proofs.rule.lay_place.Goals as goal

@@ -1,5 +1,5 @@
 use Rattle.std.proofs.Common.{length, ap, arith}
-use Rattle.xs_stretch.proofs.Pushing.{element_is}
+use Rattle.xs_loose.proofs.Pushing.{element_is}
 use Rattle.xs_coarse_net.proofs.Going.{grows_none, grows_on}
 use Rattle.xs_coarse_net.proofs.Wholes.{places_more, place_grown}
 use Rattle.xs_coarse_net.proofs.rule.lay_rule.Goals as goal

@@ -1,6 +1,6 @@
 use Rattle.std.proofs.Common.{◌≡◌, ℕ, ◌+◌, ◌<◌, take}
 use Rattle.xs_gram.specs.Fences.{spread}
-use Rattle.xs_stretch.specs.Groups.{groups_before, lefts}
+use Rattle.xs_loose.specs.Groups.{groups_before, lefts}
 use Rattle.xs_coarse_net.specs.Going.{Grows}
 use Rattle.xs_coarse_net.specs.Whole.{PlaceLaid}
 use Rattle.xs_coarse_net.proofs.rule.lay_rule.Given as goal

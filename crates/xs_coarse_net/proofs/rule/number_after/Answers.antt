@@ -1,6 +1,6 @@
 use Rattle.std.proofs.Common.{arith}
 use Rattle.xs_gram.specs.Fences.{spread}
-use Rattle.xs_stretch.proofs.Numbering.{left_counts, other_counts}
+use Rattle.xs_loose.proofs.Numbering.{left_counts, other_counts}
 use Rattle.xs_coarse_net.proofs.rule.number_after.Goals as goal
 
 pub returns-else-number-eq4294967295 : goal.returns-else-number-eq4294967295

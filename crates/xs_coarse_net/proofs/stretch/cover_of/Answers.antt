@@ -1,7 +1,7 @@
 use Rattle.std.proofs.Common.{◌≡◌, ℕ, ◌-◌, ◌++◌, length, ap, subst, refl, arith, length-append}
-use Rattle.xs_stretch.specs.Parts.{part_items}
-use Rattle.xs_stretch.proofs.Pushing.{element_is}
-use Rattle.xs_stretch.proofs.Stretches.{part_stretch, part_long}
+use Rattle.xs_loose.specs.Parts.{part_items}
+use Rattle.xs_loose.proofs.Pushing.{element_is}
+use Rattle.xs_loose.proofs.Stretches.{part_stretch, part_long}
 use Rattle.xs_coarse_net.specs.declared.cover.Outer.{Outer}
 use Rattle.xs_coarse_net.specs.declared.cover.Cover.{Cover}
 use Rattle.xs_coarse_net.specs.Stretches.{IsCovered}

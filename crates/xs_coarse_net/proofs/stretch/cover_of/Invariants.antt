@@ -1,7 +1,7 @@
 use Rattle.std.proofs.Common.{◌≡◌, ◌+◌, ◌≤◌, take}
 use Rattle.xs_gram.specs.Fences.{spread}
-use Rattle.xs_stretch.specs.Groups.{groups_before, lefts}
-use Rattle.xs_stretch.specs.Parts.{part_items}
+use Rattle.xs_loose.specs.Groups.{groups_before, lefts}
+use Rattle.xs_loose.specs.Parts.{part_items}
 use Rattle.xs_coarse_net.specs.Stretches.{IsCovered}
 use Rattle.xs_coarse_net.proofs.stretch.cover_of.Given as goal
 

@@ -1,25 +1,29 @@
-use Rattle.std.proofs.Common.{List, ℕ, sym, subst, ap, ◌∙◌}
-use Rattle.xs_gram.specs.Common.{Common}
+use Rattle.std.proofs.Common.{List, ℕ, sym, subst}
 use Rattle.xs_gram.specs.Grammar.{Grammar}
-use Rattle.xs_tree.specs.Flat.{trees_of}
-use Rattle.xs_cover.specs.Prices.{AreLow, HaveTrees}
+use Rattle.xs_cover.specs.Leaves.{AreLeaves}
 use Rattle.xs_cover.specs.Steps.{AreContexts}
-use Rattle.xs_cover.proofs.Showing.{have_on}
+use Rattle.xs_cover.proofs.Making.{leaves_low}
 use Rattle.xs_cover.proofs.covers.tables_of.Goals as goal
 
 pub step_in_order-requires-clause-contexts : goal.step_in_order-requires-clause-contexts
-step_in_order-requires-clause-contexts c = subst (λ (g : Grammar). AreContexts g c.args.two.now.xml c.settle.new.self.prices c.in_ok-contexts.contexts) c.gram.ensures (c.in_ok-contexts.ensures c.args.two.now.xml)
+step_in_order-requires-clause-contexts c = subst (λ (g : Grammar). AreContexts g c.args.two.now.xml c.in_ok-prices.field-0.prices c.in_ok-contexts.contexts) c.gram.ensures (c.in_ok-contexts.ensures c.args.two.now.xml)
 
 pub returns : goal.returns
 returns c =
     let g = c.args.two.now.text in
-    let h = c.args.two.now.xml in
-    let t = c.settle.new.self in
-    let more = ap trees_of c.finish.ensures.parts ∙ c.in_ok-root.ensures.means in
+    let made = c.in_ok-prices.ensures in
+    let words = c.in_ok-words.field-0.words.items in
+    let leaves : AreLeaves g words c.in_ok-prices.field-0.prices.terms.items = subst (λ (l : List ℕ). AreLeaves g words l) (sym made.terms) c.in_ok-words.ensures in
     record {
-      have = subst (λ (ts : List Common). HaveTrees g h ts t.prices.terms.items t.prices.nons.items t.numbers.items) (sym more) (have_on g h (trees_of t.builder) _ t.prices.terms.items t.prices.nons.items t.numbers.items c.in_ok-settle.ensures.trees);
-      low = subst (λ (l : List ℕ). AreLow g l) (sym (c.in_ok-settle.ensures.terms ∙ c.in_ok-make_in_order.ensures.terms)) c.in_ok-trees.ensures.low;
-      closed = c.in_ok-settle.ensures.closed;
-      contexts = c.in_ok-settle-2.ensures.contexts;
-      passed = c.in_ok-settle-2.ensures.passed;
+      leaves = leaves;
+      rows = made.rows;
+      numbers = made.some.numbers;
+      trees = made.some.trees;
+      read = record {
+        have = made.some.have;
+        low = leaves_low g words c.in_ok-prices.field-0.prices.terms.items c.requires.text leaves;
+        closed = made.closed;
+        contexts = c.in_ok-settle.ensures.contexts;
+        passed = c.in_ok-settle.ensures.passed;
+      };
     }

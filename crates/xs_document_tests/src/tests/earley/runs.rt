@@ -1,5 +1,5 @@
 //! A run goes back to each length and on again: its charts are those of runs that never went back.
-ghost use Rattle.std.specs.Prelude.{◌<◌, suc, length, IfOk};
+ghost use Rattle.std.specs.Prelude.{◌<◌, length, IfOk};
 ghost use Rattle.xs_gram.specs.{IsSound};
 ghost use Rattle.xs_earley.specs.{IsRunOf};
 
@@ -79,12 +79,11 @@ fn are_same_sets(one: &Chart, other: &Chart) -> bool {
 
 /// The items that wait for a nonterminal in a set.
 fn waiters(alloc: Global, chart: &Chart, set: u32, non: u32) -> Result<Vec<Item>, Memory>
-    requires { suc set < length chart.now.sets }
+    requires { set < length chart.now.sets }
 {
-    let waiting = chart.waiting(set, non);
     let mut items = Vec::new(alloc);
-    for n in 0..waiting.count {
-        let k = chart.waiter(waiting, n);
+    for n in 0..chart.waiting(set, non) {
+        let k = chart.waiter(set, non, n);
         if k < chart.len(set) {
             items.push(chart.item(set, k))?;
         }
@@ -110,8 +109,8 @@ fn is_same_waiting(
     set: u32,
     nons: u32,
 ) -> Result<bool, Memory>
-    requires one { suc set < length one.now.sets }
-    requires other { suc set < length other.now.sets }
+    requires one { set < length one.now.sets }
+    requires other { set < length other.now.sets }
 {
     for non in 0..nons {
         let some = waiters(alloc, one, set, non)?;
@@ -123,7 +122,7 @@ fn is_same_waiting(
     Ok(true)
 }
 
-/// Whether the charts have the same sets, and before the last one the same waiting lists.
+/// Whether the charts have the same sets, with the same waiting lists.
 fn are_same(alloc: Global, one: &Chart, other: &Chart, nons: u32) -> Result<bool, Memory> {
     if !are_same_sets(one, other) {
         return Ok(false);
@@ -132,8 +131,8 @@ fn are_same(alloc: Global, one: &Chart, other: &Chart, nons: u32) -> Result<bool
     if other.sets() != sets {
         return Ok(false);
     }
-    for next in 1..sets {
-        if !is_same_waiting(alloc, one, other, next - 1, nons)? {
+    for set in 0..sets {
+        if !is_same_waiting(alloc, one, other, set, nons)? {
             return Ok(false);
         }
     }

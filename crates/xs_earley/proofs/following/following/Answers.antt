@@ -13,10 +13,8 @@ pub add_items-requires-clause-states : goal.add_items-requires-clause-states
 add_items-requires-clause-states c item h =
     item_there c.args.g.now c.args.word.now c.args.facts.now c.args.chart.now c.args.begun.now c.args.g.now.nons c.requires.run c.args.at item (subst (λ (l : List Item). Contains l item) c.items.ensures h)
 
-pub add_rests-requires : goal.add_rests-requires
-add_rests-requires c = record {
-  states = λ b h. begun_there c.args.g.now c.args.word.now c.args.facts.now c.args.chart.now c.args.begun.now c.args.g.now.nons c.requires.run c.args.at c.requires.at b (subst (λ (l : List Begun). Contains l b) c.list.ensures h);
-}
+pub add_rests-requires-clause-states : goal.add_rests-requires-clause-states
+add_rests-requires-clause-states c b h = begun_there c.args.g.now c.args.word.now c.args.facts.now c.args.chart.now c.args.begun.now c.args.g.now.nons c.requires.run c.args.at c.requires.at b (subst (λ (l : List Begun). Contains l b) c.list.ensures h)
 
 pub returns : goal.returns
 returns c s =

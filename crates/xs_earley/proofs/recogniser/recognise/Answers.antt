@@ -4,6 +4,7 @@ use Rattle.std.proofs.lemmas.Bool.{false≢true, not-true}
 use Rattle.std.proofs.lemmas.List.{take_all}
 use Rattle.std.proofs.lemmas.Option.{slice_get-get_or}
 use Rattle.std.proofs.lemmas.Result.{err_from_is_err_and}
+use Rattle.xs_gram.specs.Languages.{InLang}
 use Rattle.xs_earley.proofs.Steppings.{fault_stop, fault_whole}
 use Rattle.xs_earley.proofs.recogniser.recognise.Goals as goal
 
@@ -30,4 +31,12 @@ returns-clause-fault c =
     let doc = c.args.doc.now in
     let same = ap (λ (l : List ℕ). length l) c.as_slice-symbol-items.ensures in
     let all : c.symbols.run.word ≡ doc = c.symbols.invariant.word ∙ take_all c.symbols.symbol-index doc (omega (arith, same)) in
-    fault_whole g doc c.len-viable-2.result c.symbols.run all c.symbols.invariant.run c.len-viable-2.ensures (λ h. false≢true (sym c.if-whole.false ∙ c.whole.ensures.1 h))
+    fault_whole g doc c.len-viable-2.result c.symbols.run all c.symbols.invariant.run c.len-viable-2.ensures (λ h. false≢true (sym c.if-whole.false ∙ (c.whole.ensures g c.symbols.invariant.run).1 h))
+
+pub returns-then-whole-clause-language : goal.returns-then-whole-clause-language
+returns-then-whole-clause-language c =
+    let g = c.args.g.now in
+    let doc = c.args.doc.now in
+    let same = ap (λ (l : List ℕ). length l) c.as_slice-symbol-items.ensures in
+    let all : c.symbols.run.word ≡ doc = c.symbols.invariant.word ∙ take_all c.symbols.symbol-index doc (omega (arith, same)) in
+    subst (λ (w : List ℕ). InLang g w) all ((c.whole.ensures g c.symbols.invariant.run).0 c.if-whole.true)

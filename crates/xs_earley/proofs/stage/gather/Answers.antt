@@ -22,7 +22,7 @@ pub read_all-requires-clause-counts : goal.read_all-requires-clause-counts
 read_all-requires-clause-counts c b h =
     let run = c.requires.run in
     let w = c.args.word.now in
-    begun_few c.args.g.now w c.args.symbol c.args.chart.now.sets run.chart run.sound.built c.args.facts.now run.facts (slice_index_or c.args.begun.now (length w) []) (run.begun (length w) (omega arith)) b (subst (λ (l : List Begun). Contains l b) c.list.ensures h)
+    begun_few c.args.g.now w c.args.symbol c.args.chart.now.sets run.chart run.sound.built c.args.facts.now run.facts (slice_index_or c.args.begun.now (length w) []) (run.begun (length w) (omega arith)) run.few b (subst (λ (l : List Begun). Contains l b) c.list.ensures h)
 
 pub returns-clause-due_is : goal.returns-clause-due_is
 returns-clause-due_is c =

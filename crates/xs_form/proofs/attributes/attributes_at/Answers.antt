@@ -1,7 +1,7 @@
 use Rattle.std.proofs.Common.{◌≡◌, ◌++◌, ◌∷◌, [], map, List, sym, ◌∙◌, ap, subst}
 use Rattle.std.specs.Option.{option_map}
 use Rattle.std.proofs.lemmas.List.{map-append}
-use Rattle.xs_xml.specs.Scan.{attr_at}
+use Rattle.xs_xml_laws.specs.Scan.{attr_at}
 use Rattle.xs_form.specs.Attributes.{Held, shown, shown_attribute, kept_attribute}
 use Rattle.xs_form.proofs.AttributeLaws.{IsListSoFar, list_more, list_ends, attribute_shorter}
 use Rattle.xs_form.proofs.attributes.attributes_at.Goals as goal

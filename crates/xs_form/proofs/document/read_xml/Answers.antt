@@ -1,7 +1,7 @@
 use Rattle.std.proofs.Common.{◌≡◌, ◌≤◌, ℕ, List, [], length, Bool, false, ◌==◌, Some, None, sym, ◌∙◌, ap, subst}
 use Rattle.std.specs.Option.{option_map}
-use Rattle.xs_xml.specs.Reads.{Reads}
-use Rattle.xs_xml.specs.Scan.{piece_at}
+use Rattle.xs_xml_laws.specs.Reads.{Reads}
+use Rattle.xs_xml_laws.specs.Scan.{piece_at}
 use Rattle.xs_form.specs.Seen.{found, shown_event, shown_found}
 use Rattle.xs_form.specs.State.{State, state_of, step, taken}
 use Rattle.xs_form.proofs.BareLaws.{run_read, run_shorter}

@@ -1,5 +1,5 @@
 use Rattle.xs_class.specs.Ordered.{place_of}
-use Rattle.xs_xml.proofs.Reading.{name_chars}
+use Rattle.xs_xml_laws.proofs.Reading.{name_chars}
 use Rattle.xs_form.proofs.NameLaws.{known_back}
 use Rattle.xs_form.proofs.marks.looked_up.Goals as goal
 

@@ -1,7 +1,7 @@
 use Rattle.std.proofs.Common.{◌≡◌, ◌++◌, drop, true, encode_utf8_all}
 use Rattle.std.specs.String.{string_bytes}
-use Rattle.xs_xml.specs.Tables.{is_name_char}
-use Rattle.xs_xml.specs.Piece.{all_of}
+use Rattle.xs_xml_laws.specs.Tables.{is_name_char}
+use Rattle.xs_xml_laws.specs.Piece.{all_of}
 use Rattle.xs_form.proofs.marks.spelled.Given as goal
 
 abbrev pub invariant-symbols : goal.invariant-symbols

@@ -1,6 +1,6 @@
 use Rattle.std.proofs.Common.{◌≡◌, ℕ, Some, sym, ◌∙◌, subst}
 use Rattle.std.specs.Option.{option_map}
-use Rattle.xs_xml.specs.Scan.{char_at}
+use Rattle.xs_xml_laws.specs.Scan.{char_at}
 use Rattle.xs_form.specs.Seen.{found, letter, past_feed}
 use Rattle.xs_form.proofs.PieceLaws.{return_is}
 use Rattle.xs_form.proofs.pieces.character.Goals as goal

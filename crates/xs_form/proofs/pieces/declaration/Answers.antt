@@ -1,7 +1,7 @@
 use Rattle.std.proofs.Common.{◌≡◌, Bool, true, false, map, length, List, ℕ, Some, None, if◌then◌else◌, sym, ◌∙◌, ap, subst}
 use Rattle.std.specs.declared.option.Option.{Option}
 use Rattle.std.specs.Option.{option_map}
-use Rattle.xs_xml.specs.Scan.{attrs_at, declaration_attrs}
+use Rattle.xs_xml_laws.specs.Scan.{attrs_at, declaration_attrs}
 use Rattle.xs_form.specs.Attributes.{shown}
 use Rattle.xs_form.specs.Seen.{Seen, found, declared, held_settings}
 use Rattle.xs_form.proofs.SettingLaws.{declaration_is}

@@ -1,6 +1,6 @@
 use Rattle.std.proofs.Common.{◌++◌, ◌∷◌, [], ℕ, Option, ◌∙◌, ap}
 use Rattle.xs_class.specs.Marks.{closing_mark}
-use Rattle.xs_xml.specs.Reads.{marked}
+use Rattle.xs_xml_laws.specs.Reads.{marked}
 use Rattle.xs_form.proofs.reader.push_closing.Goals as goal
 
 pub returns : goal.returns

@@ -1,5 +1,5 @@
 use Rattle.std.proofs.Common.{◌≡◌, ◌++◌, drop, false}
-use Rattle.xs_xml.specs.Reads.{lines}
+use Rattle.xs_xml_laws.specs.Reads.{lines}
 use Rattle.xs_form.proofs.reader.push_lines.Given as goal
 
 abbrev pub invariant-symbols : goal.invariant-symbols

@@ -1,7 +1,7 @@
 use Rattle.std.proofs.Common.{◌≡◌, ◌++◌, ◌∷◌, [], List, ℕ, Option, ◌∙◌, ap, append_assoc}
 use Rattle.std.proofs.lemmas.Result.{on_ok_weaker}
 use Rattle.xs_class.specs.Marks.{opening_mark}
-use Rattle.xs_xml.specs.Reads.{marked}
+use Rattle.xs_xml_laws.specs.Reads.{marked}
 use Rattle.xs_form.specs.Sorted.{shown_ordered, entry_symbols}
 use Rattle.xs_form.proofs.reader.push_opening.Goals as goal
 

@@ -1,5 +1,5 @@
 use Rattle.std.proofs.Common.{◌≡◌, ◌≤◌, ◌+◌, ◌*◌, min, sym, ◌∙◌, ap, arith}
-use Rattle.xs_xml.specs.Piece.{number, all_of}
+use Rattle.xs_xml_laws.specs.Piece.{number, all_of}
 use Rattle.xs_form.specs.Digits.{radix_of, is_digit_of}
 use Rattle.xs_form.proofs.Numbers.{digit_of_hex, number_is, digit_step, digit_end}
 use Rattle.xs_form.proofs.references.digits_char.Goals as goal

@@ -1,5 +1,5 @@
 use Rattle.std.proofs.Common.{◌≡◌, ◌≤◌, min, drop}
-use Rattle.xs_xml.specs.Piece.{all_of, number}
+use Rattle.xs_xml_laws.specs.Piece.{all_of, number}
 use Rattle.xs_form.specs.Digits.{radix_of, is_digit_of}
 use Rattle.xs_form.proofs.references.digits_char.Given as goal
 

@@ -1,5 +1,5 @@
 use Rattle.std.proofs.Common.{drop, sym, ◌∙◌, arith, length-drop}
-use Rattle.xs_xml.proofs.Steps.{after_none}
+use Rattle.xs_xml_laws.proofs.Steps.{after_none}
 use Rattle.xs_form.proofs.runs.after_prefix.Goals as goal
 
 pub returns-in-empty : goal.returns-in-empty

@@ -1,5 +1,5 @@
 use Rattle.std.proofs.Common.{◌≡◌, drop}
-use Rattle.xs_xml.specs.Scan.{after}
+use Rattle.xs_xml_laws.specs.Scan.{after}
 use Rattle.xs_form.proofs.runs.after_prefix.Given as goal
 
 abbrev pub invariant-bytes : goal.invariant-bytes

@@ -1,5 +1,5 @@
 use Rattle.std.proofs.Common.{◌≡◌, drop}
-use Rattle.xs_xml.specs.Piece.{all_of}
+use Rattle.xs_xml_laws.specs.Piece.{all_of}
 use Rattle.xs_form.proofs.runs.all.Given as goal
 
 abbrev pub invariant-symbols : goal.invariant-symbols

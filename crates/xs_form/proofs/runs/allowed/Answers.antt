@@ -1,4 +1,4 @@
-use Rattle.xs_xml.proofs.TableLaws.{char_is}
+use Rattle.xs_xml_laws.proofs.TableLaws.{char_is}
 use Rattle.xs_form.proofs.runs.allowed.Goals as goal
 
 pub returns : goal.returns

@@ -1,5 +1,5 @@
 use Rattle.std.proofs.Common.{refl, ap, ◌∙◌}
-use Rattle.xs_xml.proofs.TableLaws.{name_start_is}
+use Rattle.xs_xml_laws.proofs.TableLaws.{name_start_is}
 use Rattle.xs_form.proofs.NameLaws.{small_start}
 use Rattle.xs_form.proofs.runs.begins_name.Goals as goal
 use Rattle.xs_class.specs.Tables.{is_name_start}

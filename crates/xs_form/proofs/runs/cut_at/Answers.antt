@@ -1,5 +1,5 @@
 use Rattle.std.proofs.Common.{arith}
-use Rattle.xs_xml.proofs.Steps.{cut_found, cut_kept, cut_none}
+use Rattle.xs_xml_laws.proofs.Steps.{cut_found, cut_kept, cut_none}
 use Rattle.xs_form.proofs.runs.cut_at.Goals as goal
 
 pub returns-in-Some : goal.returns-in-Some

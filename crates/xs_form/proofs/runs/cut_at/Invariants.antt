@@ -1,5 +1,5 @@
 use Rattle.std.proofs.Common.{◌≡◌, length, ◌-◌, ◌≤◌, take, drop}
-use Rattle.xs_xml.specs.Scan.{cut, fronted}
+use Rattle.xs_xml_laws.specs.Scan.{cut, fronted}
 use Rattle.xs_form.proofs.runs.cut_at.Given as goal
 
 abbrev pub invariant-places : goal.invariant-places

@@ -1,6 +1,6 @@
 use Rattle.std.proofs.Common.{refl, ap, ◌∙◌}
-use Rattle.xs_xml.specs.Tables.{is_name_char}
-use Rattle.xs_xml.proofs.TableLaws.{name_char_is}
+use Rattle.xs_xml_laws.specs.Tables.{is_name_char}
+use Rattle.xs_xml_laws.proofs.TableLaws.{name_char_is}
 use Rattle.xs_form.proofs.NameLaws.{small_letter}
 use Rattle.xs_form.proofs.runs.in_name.Goals as goal
 

@@ -1,5 +1,5 @@
 use Rattle.std.proofs.Common.{◌≡◌, length, ◌-◌, ◌≤◌, ◌++◌, take, drop}
-use Rattle.xs_xml.specs.Scan.{span}
+use Rattle.xs_xml_laws.specs.Scan.{span}
 use Rattle.xs_form.proofs.runs.run.Given as goal
 
 abbrev pub invariant-run : goal.invariant-run

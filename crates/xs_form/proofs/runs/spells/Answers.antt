@@ -1,7 +1,7 @@
 use Rattle.std.proofs.Common.{◌≡◌, ◌==◌, ℕ, suc, false, List, [], ◌∷◌, length, Some, None, inl, inr, refl, sym, ◌∙◌, arith, eqb-true}
 use Rattle.std.proofs.lemmas.Bool.{cases_Bool}
-use Rattle.xs_xml.specs.Piece.{same}
-use Rattle.xs_xml.specs.Scan.{after}
+use Rattle.xs_xml_laws.specs.Piece.{same}
+use Rattle.xs_xml_laws.specs.Scan.{after}
 use Rattle.xs_form.proofs.SettingLaws.{swap}
 use Rattle.xs_form.proofs.runs.spells.Goals as goal
 

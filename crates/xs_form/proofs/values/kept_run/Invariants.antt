@@ -1,6 +1,6 @@
 use Rattle.std.proofs.Common.{◌≡◌, length, ◌-◌, ◌≤◌, ◌++◌, take, drop}
 use Rattle.xs_form.specs.Values.{is_kept}
-use Rattle.xs_xml.specs.Scan.{span}
+use Rattle.xs_xml_laws.specs.Scan.{span}
 use Rattle.xs_form.proofs.values.kept_run.Given as goal
 
 abbrev pub invariant-run : goal.invariant-run

@@ -6,7 +6,7 @@ use Rattle.xs_grow.proofs.Gathering.{calls_none, calls_more}
 use Rattle.xs_grow.proofs.calls.calls_of.Goals as goal
 
 pub marks-init : goal.marks-init
-marks-init c = subst (λ (z : List (Call × ℕ)). HasAllOf (CallIn c.args.wholes.now 0) z) (sym c.in_ok-calls.ensures) (calls_none c.args.wholes.now)
+marks-init c = subst (λ (z : List (Call × ℕ)). HasAllOf (CallIn c.args.wholes.now 0) z) (sym c.new-calls.ensures) (calls_none c.args.wholes.now)
 
 pub marks-preserved : goal.marks-preserved
 marks-preserved c =

@@ -10,9 +10,9 @@ use Rattle.xs_grow.proofs.Charting.{start_label}
 use Rattle.xs_grow.proofs.Growing.{forest_of, exact_of}
 use Rattle.xs_grow.proofs.forest.grow_found.Goals as goal
 
-grown_of : (g : Grammar) (w : List ℕ) (f f' : Forest) (root row start len : ℕ) → f' ≡ f → root ≡ row → start ≡ g.start → len ≡ length w → IsGrown g w (stands_at g w) f → IsRow f row (Whole start) 0 len → IsForestOf g w f' root
-grown_of g w f f' root row start len e r s l grown is =
-    subst (λ (z : Forest). IsForestOf g w z root) (sym e) (subst (λ z. IsForestOf g w f z) (sym r) (forest_of g w f row grown (subst (λ z. IsRow f row (Whole g.start) 0 z) l (subst (λ z. IsRow f row (Whole z) 0 len) s is))))
+grown_of : (g : Grammar) (w : List ℕ) (f : Forest) (root start long : ℕ) → start ≡ g.start → long ≡ length w → IsGrown g w (stands_at g w) f → IsRow f root (Whole start) 0 long → IsForestOf g w f root
+grown_of g w f root start long s l grown is =
+    forest_of g w f root grown (subst (λ z. IsRow f root (Whole g.start) 0 z) l (subst (λ z. IsRow f root (Whole z) 0 long) s is))
 
 pub grow_rows-requires-clause-root : goal.grow_rows-requires-clause-root
 grow_rows-requires-clause-root c =
@@ -22,7 +22,7 @@ grow_rows-requires-clause-root c =
     subst (λ (z : SpanKey). IsLabel g w z) (sym key) (start_label g w c.requires.in_language)
 
 pub returns-clause-forest : goal.returns-clause-forest
-returns-clause-forest c = grown_of c.args.g.now c.args.doc.now c.grow_rows.new.forest c.finish.result c.from.result c.in_ok-row.row c.start.result c.len.result c.finish.ensures c.from.ensures c.start.ensures c.len.ensures c.in_ok-row.ensures.grown c.in_ok-row.ensures.row
+returns-clause-forest c = grown_of c.args.g.now c.args.doc.now c.grow_rows.new.forest c.in_ok-root.root c.start.result c.len.result c.start.ensures c.len.ensures c.in_ok-root.ensures.grown c.in_ok-root.ensures.row
 
 pub returns-clause-exact : goal.returns-clause-exact
-returns-clause-exact c = exact_of c.args.g.now c.args.doc.now c.finish.result c.from.result (grown_of c.args.g.now c.args.doc.now c.grow_rows.new.forest c.finish.result c.from.result c.in_ok-row.row c.start.result c.len.result c.finish.ensures c.from.ensures c.start.ensures c.len.ensures c.in_ok-row.ensures.grown c.in_ok-row.ensures.row)
+returns-clause-exact c = exact_of c.args.g.now c.args.doc.now c.grow_rows.new.forest c.in_ok-root.root (returns-clause-forest c)

@@ -12,4 +12,4 @@ pub returns : goal.returns
 returns c =
     let sets = c.args.chart.now.sets in
     let P = InSets (WholeAt c.args.g.now) sets (length sets) in
-    wholes_stand c.args.g.now c.args.doc.now sets c.requires.chart c.wholes.new.candidates (appends_all P c.wholes.new.candidates (subst (λ (z : List Candidate). Appends P z c.wholes.new.candidates) c.in_ok-marks.ensures c.in_ok-wholes.ensures))
+    wholes_stand c.args.g.now c.args.doc.now sets c.requires.chart c.wholes.new.candidates.items (appends_all P c.wholes.new.candidates.items (subst (λ (z : List Candidate). Appends P z c.wholes.new.candidates.items) c.new-marks.ensures.items c.in_ok-wholes.ensures))

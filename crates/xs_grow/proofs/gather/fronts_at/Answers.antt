@@ -9,12 +9,12 @@ use Rattle.xs_grow.proofs.Gathering.{front_inside, front_not, front_ends}
 use Rattle.xs_grow.proofs.gather.fronts_at.Goals as goal
 
 pub returns-in-Some : goal.returns-in-Some
-returns-in-Some c = front_inside c.args.g.now c.args.doc.now c.args.calls.now c.args.set c.args.item c.place-place.result _ c.args.candidates.now c.place-place.ensures.listed c.in-Some.is
+returns-in-Some c = front_inside c.args.g.now c.args.doc.now c.args.calls.now c.args.set c.args.item c.place-place.result _ c.args.candidates.now.items c.place-place.ensures.listed c.in-Some.is
 
 pub returns-then-not-is_later : goal.returns-then-not-is_later
 returns-then-not-is_later c =
     let place = c.place-place.result in
-    front_not c.args.g.now c.args.doc.now c.args.calls.now c.args.set c.args.item place c.args.candidates.now c.place-place.ensures.listed (λ h. c.if-not-is_later.ensures (subst (λ xs. IsLater xs place.dot) (sym c.items-items.ensures.items) h))
+    front_not c.args.g.now c.args.doc.now c.args.calls.now c.args.set c.args.item place c.args.candidates.now.items c.place-place.ensures.listed (λ h. c.if-not-is_later.ensures (subst (λ xs. IsLater xs place.dot) (sym c.items-items.ensures.items) h))
 
 pub bounds-items-place : goal.bounds-items-place
 bounds-items-place c = let h = c.if-not-is_later.ensures in slice_get_within c.items-items.result.now c.place-place.result.dot h.0 h.1
@@ -34,4 +34,4 @@ returns-in_ok-push_ends-in-None c =
     let at = read c.args.g.now place.rule place.dot c.items-items.result.now c.index-items-place.result c.items-items.ensures.items c.if-not-is_later.ensures c.index-items-place.is in
     let all = subst (λ xs. HasAllOf (EndsAt c.args.g.now c.args.doc.now c.args.calls.now c.index-items-place.result c.args.set) xs) (sym c.deref.ensures.value) c.in_ok-ends-in-None.ensures in
     let one : place.dot + 1 ≡ suc place.dot = omega arith in
-    front_ends c.args.g.now c.args.doc.now c.args.calls.now c.args.set c.args.item place c.index-items-place.result c.deref.result.now c.args.candidates.now c.push_ends.new.candidates (place.dot + 1) c.place-place.ensures.listed c.in-None.is later at all one c.in_ok-push_ends-in-None.ensures
+    front_ends c.args.g.now c.args.doc.now c.args.calls.now c.args.set c.args.item place c.index-items-place.result c.deref.result.now c.args.candidates.now.items c.push_ends.new.candidates.items (place.dot + 1) c.place-place.ensures.listed c.in-None.is later at all one c.in_ok-push_ends-in-None.ensures

@@ -5,7 +5,7 @@ use Rattle.xs_grow.proofs.Gathering.{sets_none, sets_more, whole_set}
 use Rattle.xs_grow.proofs.gather.wholes.Goals as goal
 
 pub sets-init : goal.sets-init
-sets-init c = sets_none (WholeAt c.args.g.now) c.args.chart.now.sets c.args.candidates.now
+sets-init c = sets_none (WholeAt c.args.g.now) c.args.chart.now.sets c.args.candidates.now.items
 
 pub sets-preserved : goal.sets-preserved
 sets-preserved c =
@@ -13,9 +13,9 @@ sets-preserved c =
     let sets = c.args.chart.now.sets in
     let n = c.sets.set in
     let one : n + 1 ≡ suc n = omega arith in
-    subst (λ (z : ℕ). Appends (InSets P sets z) c.args.candidates.now c.wholes_in.new.candidates) (sym one) (sets_more P sets n c.args.candidates.now c.sets.candidates c.wholes_in.new.candidates (whole_set c.args.g.now) c.sets.invariant c.in_ok-wholes_in.ensures)
+    subst (λ (z : ℕ). Appends (InSets P sets z) c.args.candidates.now.items c.wholes_in.new.candidates.items) (sym one) (sets_more P sets n c.args.candidates.now.items c.sets.candidates.items c.wholes_in.new.candidates.items (whole_set c.args.g.now) c.sets.invariant c.in_ok-wholes_in.ensures)
 
 pub returns : goal.returns
 returns c =
     let all : c.sets.set ≡ length c.args.chart.now.sets = omega arith in
-    subst (λ (z : ℕ). Appends (InSets (WholeAt c.args.g.now) c.args.chart.now.sets z) c.args.candidates.now c.sets.candidates) all c.sets.invariant
+    subst (λ (z : ℕ). Appends (InSets (WholeAt c.args.g.now) c.args.chart.now.sets z) c.args.candidates.now.items c.sets.candidates.items) all c.sets.invariant

@@ -7,7 +7,7 @@ use Rattle.xs_grow.proofs.Gathering.{set_none, set_more, whole_item}
 use Rattle.xs_grow.proofs.gather.wholes_in.Goals as goal
 
 pub items-init : goal.items-init
-items-init c = set_none (WholeAt c.args.g.now) c.args.chart.now.sets c.args.set c.args.candidates.now
+items-init c = set_none (WholeAt c.args.g.now) c.args.chart.now.sets c.args.set c.args.candidates.now.items
 
 pub whole_at-requires : goal.whole_at-requires
 whole_at-requires c = c.requires.places.placed c.args.set c.item.result (contains_of (set_at c.args.chart.now.sets c.args.set) c.items.k c.item.result c.item.ensures)
@@ -19,9 +19,9 @@ items-preserved c =
     let set = c.args.set in
     let k = c.items.k in
     let one : k + 1 ≡ suc k = omega arith in
-    subst (λ (z : ℕ). Appends (InSet P sets set z) c.args.candidates.now c.whole_at.new.candidates) (sym one) (set_more P sets set k c.item.result c.args.candidates.now c.items.candidates c.whole_at.new.candidates c.item.ensures (c.requires.places.different set) (whole_item c.args.g.now set) c.items.invariant c.in_ok-whole_at.ensures)
+    subst (λ (z : ℕ). Appends (InSet P sets set z) c.args.candidates.now.items c.whole_at.new.candidates.items) (sym one) (set_more P sets set k c.item.result c.args.candidates.now.items c.items.candidates.items c.whole_at.new.candidates.items c.item.ensures (c.requires.places.different set) (whole_item c.args.g.now set) c.items.invariant c.in_ok-whole_at.ensures)
 
 pub returns : goal.returns
 returns c =
     let all : c.items.k ≡ length (set_at c.args.chart.now.sets c.args.set) = omega arith in
-    subst (λ (z : ℕ). Appends (InSet (WholeAt c.args.g.now) c.args.chart.now.sets c.args.set z) c.args.candidates.now c.items.candidates) all c.items.invariant
+    subst (λ (z : ℕ). Appends (InSet (WholeAt c.args.g.now) c.args.chart.now.sets c.args.set z) c.args.candidates.now.items c.items.candidates.items) all c.items.invariant

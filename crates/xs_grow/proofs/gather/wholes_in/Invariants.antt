@@ -3,4 +3,4 @@ use Rattle.xs_grow.specs.Candidates.{WholeAt, InSet}
 use Rattle.xs_grow.proofs.gather.wholes_in.Given as goal
 
 abbrev pub invariant-items : goal.invariant-items
-invariant-items l = Appends (InSet (WholeAt l.g) l.chart.sets l.set l.k) l.initial.candidates l.candidates
+invariant-items l = Appends (InSet (WholeAt l.g) l.chart.sets l.set l.k) l.initial.candidates.items l.candidates.items

@@ -17,4 +17,4 @@ returns-in_ok-right-in-Front c =
     let left = c.in_ok-left-in-Front.left in
     let right = c.in_ok-right-in-Front.right in
     let alt : Alt = record { rule = c.in-Front.rule; left = left; right = right } in
-    misses_then s.g.now s.doc.now (IsRowOf f c.front_label-front.result left) (IsRowOf f c.item_label-last.result right) (IsMade s.g.now f k.what k.start k.end c.args.number alt) c.args.missing.now.items c.child-in-Front.new.missing.items c.child-in-Front-2.new.missing.items c.in_ok-left-in-Front.ensures c.in_ok-right-in-Front.ensures (λ a b. front_made c.args.source.now.g.now c.args.source.now.doc.now c.args.key.what c.in-Front.rule c.in-Front.dot c.args.key.start c.args.key.end c.args.number c.in-Front.is c.requires.number c.items-in-Front.result.now c.items-in-Front.ensures.items c.index-items-before.result c.index-items-before.is f c.front_label-front.result c.item_label-last.result left right c.front_label-front.ensures c.item_label-last.ensures a b)
+    misses_then s.g.now s.doc.now f (IsRowOf f c.front_label-front.result left) (IsRowOf f c.item_label-last.result right) (IsMade s.g.now f k.what k.start k.end c.args.number alt) c.args.missing.now.items c.child-in-Front.new.missing.items c.child-in-Front-2.new.missing.items c.in_ok-left-in-Front.ensures c.in_ok-right-in-Front.ensures (λ a b. front_made c.args.source.now.g.now c.args.source.now.doc.now c.args.key.what c.in-Front.rule c.in-Front.dot c.args.key.start c.args.key.end c.args.number c.in-Front.is c.requires.number c.items-in-Front.result.now c.items-in-Front.ensures.items c.index-items-before.result c.index-items-before.is f c.front_label-front.result c.item_label-last.result left right c.front_label-front.ensures c.item_label-last.ensures a b)

@@ -11,7 +11,7 @@ pub numbers-init : goal.numbers-init
 numbers-init c =
     let s = c.args.source.now in
     let f = c.args.forest.now in
-    misses_none s.g.now s.doc.now (AreMade s.g.now f c.args.key [] c.clear.new.self.items) c.args.missing.now.items (subst (λ (z : List Alt). AreMade s.g.now f c.args.key [] z) (sym c.clear.ensures.items) (none_made s.g.now f c.args.key))
+    misses_none s.g.now s.doc.now f (AreMade s.g.now f c.args.key [] c.clear.new.self.items) c.args.missing.now.items (subst (λ (z : List Alt). AreMade s.g.now f c.args.key [] z) (sym c.clear.ensures.items) (none_made s.g.now f c.args.key))
 
 pub numbers-preserved : goal.numbers-preserved
 numbers-preserved c =
@@ -22,10 +22,10 @@ numbers-preserved c =
     let all = c.args.numbers.now in
     let n : ℕ = slice_index_or all t 0 in
     let more : take (t + 1) all ≡ take t all ++ n ∷ [] = take_next all t n c.numbers-test.true (get_or_default all t 0 n c.numbers-test.true) in
-    misses_then s.g.now s.doc.now (AreMade s.g.now f k (take t all) c.numbers.alts.items) (IsMade s.g.now f k.what k.start k.end n c.in_ok-alt.alt) (AreMade s.g.now f k (take (t + 1) all) c.push.new.self.items) c.args.missing.now.items c.numbers.missing.items c.alternative.new.missing.items c.numbers.invariant c.in_ok-alt.ensures (λ a b. made_more s.g.now f k (take t all) (take (t + 1) all) c.numbers.alts.items c.push.new.self.items n c.in_ok-alt.alt more c.in_ok-push.ensures.items b a)
+    misses_then s.g.now s.doc.now f (AreMade s.g.now f k (take t all) c.numbers.alts.items) (IsMade s.g.now f k.what k.start k.end n c.in_ok-alt.alt) (AreMade s.g.now f k (take (t + 1) all) c.push.new.self.items) c.args.missing.now.items c.numbers.missing.items c.alternative.new.missing.items c.numbers.invariant c.in_ok-alt.ensures (λ a b. made_more s.g.now f k (take t all) (take (t + 1) all) c.numbers.alts.items c.push.new.self.items n c.in_ok-alt.alt more c.in_ok-push.ensures.items b a)
 
 pub returns : goal.returns
 returns c =
     let s = c.args.source.now in
     let all = c.args.numbers.now in
-    subst (λ (z : List ℕ). Misses s.g.now s.doc.now (AreMade s.g.now c.args.forest.now c.args.key z c.numbers.alts.items) c.args.missing.now.items c.numbers.missing.items) (take_all c.numbers.number-index all c.numbers-test.false) c.numbers.invariant
+    subst (λ (z : List ℕ). Misses s.g.now s.doc.now c.args.forest.now (AreMade s.g.now c.args.forest.now c.args.key z c.numbers.alts.items) c.args.missing.now.items c.numbers.missing.items) (take_all c.numbers.number-index all c.numbers-test.false) c.numbers.invariant

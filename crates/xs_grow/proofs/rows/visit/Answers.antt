@@ -1,5 +1,8 @@
-use Rattle.xs_grow.proofs.Growing.{misses_none}
 use Rattle.xs_grow.proofs.rows.visit.Goals as goal
+use Rattle.xs_grow.proofs.rows.visit.Goals.{then-not-is_new+in_default, else-not-is_new}
 
-pub returns-in-Some-clause-missing : goal.returns-in-Some-clause-missing
-returns-in-Some-clause-missing c = misses_none c.args.source.now.g.now c.args.source.now.doc.now (Unit {0}) c.args.missing.now.items tt
+pub add-requires-clause-rowless : goal.add-requires-clause-rowless
+add-requires-clause-rowless c = elim c.if-not-is_new.branch [
+  | then-not-is_new+in_default w ↦ w.in_default.ensures.found
+  | else-not-is_new w ↦ c.requires.rowless w.if-not-is_new.false
+]

@@ -2,8 +2,8 @@ use Rattle.std.proofs.Common.{Bool, List, ◌∙◌, sym, ap, length, below_more
 use Rattle.xs_gram.specs.Grammar.{Grammar}
 use Rattle.xs_gram.specs.Fences.{spread}
 use Rattle.xs_screen.specs.Screens.{AreDoubts}
-use Rattle.xs_light.specs.Searching.{OverlapsAt}
-use Rattle.xs_light.proofs.First.{at_none}
+use Rattle.xs_searches.specs.Searching.{OverlapsAt}
+use Rattle.xs_searches.proofs.First.{at_none}
 use Rattle.xs_horiz.proofs.Cuts.{none_in_row}
 use Rattle.xs_horiz.proofs.search.first_cut.Goals as goal
 

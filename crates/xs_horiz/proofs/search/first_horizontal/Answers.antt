@@ -1,7 +1,7 @@
 use Rattle.std.proofs.Common.{ℕ, ◌∙◌, ap, length, below_more, subst, arith}
 use Rattle.xs_gram.specs.Grammar.{Grammar}
-use Rattle.xs_light.specs.Searching.{OverlapsAt}
-use Rattle.xs_light.proofs.First.{at_none}
+use Rattle.xs_searches.specs.Searching.{OverlapsAt}
+use Rattle.xs_searches.proofs.First.{at_none}
 use Rattle.xs_horiz.specs.Cuts.{HasNoCut, IsFirstCut}
 use Rattle.xs_horiz.proofs.Cuts.{first_shows, none_in_all}
 use Rattle.xs_horiz.proofs.search.first_horizontal.Goals as goal

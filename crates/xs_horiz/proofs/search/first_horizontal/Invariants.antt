@@ -1,6 +1,6 @@
 use Rattle.std.proofs.Common.{◌≡◌}
-use Rattle.xs_light.specs.First.{HasNoneInRows}
-use Rattle.xs_light.specs.Searching.{OverlapsAt}
+use Rattle.xs_searches.specs.First.{HasNoneInRows}
+use Rattle.xs_searches.specs.Searching.{OverlapsAt}
 use Rattle.xs_horiz.proofs.search.first_horizontal.Given as goal
 
 abbrev pub invariant-rules : goal.invariant-rules

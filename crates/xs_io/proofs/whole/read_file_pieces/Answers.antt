@@ -6,6 +6,7 @@ use Rattle.xs_io.proofs.whole.read_file_pieces.Goals as goal
 pub pieces-init : goal.pieces-init
 pieces-init g c = record {
   within = rw c.new-bytes.ensures (omega arith);
+  given = rw c.new-bytes.ensures (omega arith);
   so_far = rw c.new-bytes.ensures (begins_none (g.H.Shelf.files c.args.shelf.now) c.args.name.now);
   touched = touches_none _ _ _ _;
 }
@@ -31,6 +32,7 @@ pieces-preserved g c =
     let fits : c.in_ok-count.count ≤ length c.read_at.new.buf = omega (arith, c.in_ok-count.ensures.bound) in
     record {
       within = rw (c.in_ok-extend.ensures.ok, take-append-le) (omega (arith, length-append c.pieces.bytes (take c.in_ok-count.count c.read_at.new.buf), length-take {A = ℕ}));
+      given = rw (c.in_ok-extend.ensures.ok, take-append-le) (omega (arith, length-append c.pieces.bytes (take c.in_ok-count.count c.read_at.new.buf), length-take {A = ℕ}, c.in_ok-count.ensures.given));
       so_far = rw (c.in_ok-extend.ensures.ok, take-append-le) (begins_more _ _ _ _ _ _ c.pieces.invariant.so_far c.pieces.invariant.touched.same c.len-in-pieces.ensures c.in_ok-count.ensures.bytes);
       touched = touches_more c.pieces.invariant.touched c.read_at.ensures.same c.read_at.ensures.later c.read_at.ensures.name_later c.read_at.ensures.others;
     }

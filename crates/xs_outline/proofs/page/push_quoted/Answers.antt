@@ -11,7 +11,7 @@ character-requires c =
 pub symbols-preserved : goal.symbols-preserved
 symbols-preserved c =
     page_step c.symbols.page c.push_quoted_character.new.page _ c.args.word.now c.symbols.symbol-index c.character.result c.symbol-item.result
-    c.symbols-test.true c.symbol-item.is c.character.ensures c.symbols.invariant c.in_ok-push_quoted_character.ensures
+    c.symbols-test.true c.symbol-item.is c.character.ensures c.symbols.invariant c.in_ok-push_quoted_character.ensures.ok
 
 pub returns : goal.returns
 returns c =

@@ -5,7 +5,7 @@ use Rattle.xs_sheet.proofs.Strings.{page_more, page_quoted, on_ok}
 use Rattle.xs_sheet.proofs.quoting.push_quoted.Goals as goal
 
 pub characters-preserved : goal.characters-preserved
-characters-preserved c = page_more c.push.new.self c.characters.page c.push_quoted_character.new.page c.characters.yielded c.in-Some.c c.characters.invariant c.in_ok-push_quoted_character.ensures
+characters-preserved c = page_more c.push.new.self c.characters.page c.push_quoted_character.new.page c.characters.yielded c.in-Some.c c.characters.invariant c.in_ok-push_quoted_character.ensures.ok
 
 pub returns : goal.returns
 returns c =

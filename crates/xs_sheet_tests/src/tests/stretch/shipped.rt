@@ -1,7 +1,7 @@
 //! What the first productions of the shipped sheets weigh.
 ghost use Rattle.std.specs.Prelude.{◌<◌, length, IfSome};
 ghost use Rattle.xs_gram.specs.{IsBuilt};
-ghost use Rattle.xs_stretch.specs.{IsPart};
+ghost use Rattle.xs_loose.specs.{IsPart};
 ghost use Rattle.xs_pair.specs.{IsSoundPair};
 
 use std::alloc::Global;
@@ -9,10 +9,10 @@ use std::test::Fail;
 use xs_class::{Memory, Side};
 use xs_gram::Gram;
 use xs_leiden::{leiden_sheet, leiden2_sheet};
+use xs_loose::{Part, weight_of};
 use xs_order::components;
 use xs_pair::Two;
 use xs_screen::whole;
-use xs_stretch::{Part, weight_of};
 use xs_test_tools::two_of;
 
 /// What the group that the first production begins with encloses, if it begins with one.

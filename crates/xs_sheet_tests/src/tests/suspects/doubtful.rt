@@ -8,10 +8,10 @@ use std::process::Abort;
 use std::test::Fail;
 use xs_class::Side;
 use xs_gram::Gram;
-use xs_light::CheckFault;
+use xs_loose::Tables;
 use xs_order::components;
 use xs_screen::Screen;
-use xs_stretch::Tables;
+use xs_searches::CheckFault;
 use xs_test_tools::pair_of;
 
 /// Two rules of one nonterminal, or a rule and its cut.

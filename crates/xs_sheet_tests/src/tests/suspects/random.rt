@@ -14,8 +14,8 @@ use std::test::Fail;
 use xs_class::{Memory, Side, Word};
 use xs_gram::Gram;
 use xs_horiz::{Horiz, horizontal};
-use xs_light::CheckFault;
 use xs_order::components;
+use xs_searches::CheckFault;
 use xs_test_tools::pair_of;
 use xs_vert::{Vert, vertical};
 

@@ -9,9 +9,9 @@ use std::test::Fail;
 use xs_class::{Memory, Side};
 use xs_gram::Gram;
 use xs_horiz::first_horizontal;
-use xs_light::{CheckFault, Searches, light};
+use xs_loose::Tables;
 use xs_order::components;
-use xs_stretch::Tables;
+use xs_searches::{CheckFault, Searches, light};
 use xs_test_tools::pair_of;
 use xs_vert::first_vertical;
 

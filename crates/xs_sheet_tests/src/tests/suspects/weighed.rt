@@ -1,15 +1,15 @@
 //! Weights by the definition, beside those that are computed.
 ghost use Rattle.std.specs.Prelude.{◌<◌, length};
 ghost use Rattle.xs_gram.specs.{spread, AreComponents, IsBuilt};
-ghost use Rattle.xs_stretch.specs.{IsPart, AreWeights};
+ghost use Rattle.xs_loose.specs.{IsPart, AreWeights};
 
 use super::drawn::{Drawn, MOST_NONS, Reached, non_of, partner, reached_in};
 use super::pieces::is_left;
 use std::alloc::Global;
 use xs_class::Memory;
 use xs_gram::{Comps, Gram};
+use xs_loose::{Part, Weights, weight_by, weights};
 use xs_screen::whole;
-use xs_stretch::{Part, Weights, weight_by, weights};
 
 /// The weights of nonterminals.
 type Table = [u64; 3];

@@ -1,7 +1,7 @@
 use Rattle.std.proofs.Common.{subst}
 use Rattle.xs_gram.specs.Grammar.{Grammar}
 use Rattle.xs_check_laws.specs.Freedom.{HasNoHorizontal}
-use Rattle.xs_light.proofs.First.{at_none}
+use Rattle.xs_searches.proofs.First.{at_none}
 use Rattle.xs_unique.proofs.suspects.search.Goals as goal
 
 pub returns-clause-clear : goal.returns-clause-clear

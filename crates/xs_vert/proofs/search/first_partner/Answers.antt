@@ -1,6 +1,6 @@
 use Rattle.std.proofs.Common.{◌∙◌, below_more, subst, ap, length, arith}
 use Rattle.xs_gram.specs.Grammar.{Grammar}
-use Rattle.xs_light.proofs.First.{at_none}
+use Rattle.xs_searches.proofs.First.{at_none}
 use Rattle.xs_vert.specs.Partners.{ArePartners}
 use Rattle.xs_vert.proofs.Partners.{none_in_row}
 use Rattle.xs_vert.proofs.search.first_partner.Goals as goal

@@ -1,5 +1,5 @@
 use Rattle.std.proofs.Common.{◌≡◌}
-use Rattle.xs_light.specs.First.{HasNoneInRow}
+use Rattle.xs_searches.specs.First.{HasNoneInRow}
 use Rattle.xs_vert.specs.Partners.{ArePartners}
 use Rattle.xs_vert.proofs.search.first_partner.Given as goal
 

@@ -1,6 +1,6 @@
 use Rattle.std.proofs.Common.{ℕ, ◌∙◌, below_more, subst, ap, length, arith}
 use Rattle.xs_gram.specs.Grammar.{Grammar}
-use Rattle.xs_light.proofs.First.{at_none}
+use Rattle.xs_searches.proofs.First.{at_none}
 use Rattle.xs_vert.specs.Partners.{ArePartners, HasNoPartner, IsFirstPartner}
 use Rattle.xs_vert.proofs.Partners.{first_shows, none_in_all}
 use Rattle.xs_vert.proofs.search.first_vertical.Goals as goal

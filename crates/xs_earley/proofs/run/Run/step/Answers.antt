@@ -4,14 +4,14 @@ use Rattle.std.proofs.lemmas.List.{get_or_append_left}
 use Rattle.std.proofs.lemmas.Bool.{false≢true}
 use Rattle.xs_class.proofs.Lists.{len_is}
 use Rattle.xs_chart.specs.declared.item.Item.{Item}
-use Rattle.xs_chart.specs.Charted.{items_of}
+use Rattle.xs_chart.specs.Charted.{Charted, items_of}
 use Rattle.xs_gram.specs.Languages.{IsFront}
 use Rattle.xs_earley.specs.declared.begun.Begun.{Begun}
 use Rattle.xs_earley.specs.Arriving.{gathered, item_due, item_begun, more_due, more_begun, AreBegun}
-use Rattle.xs_earley.specs.Running.{IsSteady}
+use Rattle.xs_earley.specs.Running.{Running, IsSteady, IsRunOf}
 use Rattle.xs_earley.specs.Stages.{AreDue}
 use Rattle.xs_earley.proofs.Steadiness.{at_rest_now, at_rest_read, steady_now, with_steady, steady_begins, kept_before}
-use Rattle.xs_earley.proofs.Steppings.{run_kept}
+use Rattle.xs_earley.proofs.Steppings.{same_run}
 use Rattle.xs_earley.proofs.run.Run.step.Goals as goal
 
 pub goes_on-requires-clause-run : goal.goes_on-requires-clause-run
@@ -78,15 +78,22 @@ returns-in-Ok-clause-run c =
             front
             (row_before i.begun n.begun said.fresh.items (length w) (let k = base.counted in omega (arith, k)) pushed (ap (λ k. slice_index_or n.begun k []) (sym at) ∙ h.2))
             (sym c.deref-in-Ok.ensures.value ∙ h.3)
-            n.chart n.begun (kept_before g w i.chart n.chart base.chart done.kept.sets_kept)
+            n.chart n.begun (kept_before g w i.chart n.chart base.chart (ap (λ (x : Charted). x.sets) done.kept.chart_kept))
             (subst (λ k. items_of n.chart (suc k) ≡ items_of n.chart k) at h.4)
             pushed h.1.0 h.1.1 atom (c.atom-atom.ensures h.1.0 h.1.1) n.word.items done.word
       ]
     ])
 
-pub returns-in-Err-clause-run : goal.returns-in-Err-clause-run
-returns-in-Err-clause-run c =
-    let g = c.args.g.now in
+pub returns-in-Err-clause-err : goal.returns-in-Err-clause-err
+returns-in-Err-clause-err c =
     let i = c.self.inside in
-    let base = at_rest_now g _ _ c.self.view_is c.requires.run in
-    rw (c.truncate.ensures.items, c.truncate-in-Err.ensures, c.truncate-in-Err-2.ensures) (with_steady g _ _ _ _ _ i.atom false (run_kept g i.word.items c.next_set-read.new.word.items i.facts i.chart c.next_set-read.new.chart i.begun c.next_set-read.new.begun (length i.called) (length c.next_set-read.new.called) base c.in-Err.ensures.kept c.next_set-read.ensures.marks c.len-length.result (c.len-length.ensures ∙ len_is i.word)) (λ e. absurd (false≢true e)))
+    let new = c.next_set-read.new in
+    let base = at_rest_now c.args.g.now _ _ c.self.view_is c.requires.run in
+    let sets = base.chart.counted in
+    let rows = base.counted in
+    let long : c.len-length.result ≡ length i.word.items = c.len-length.ensures ∙ len_is i.word in
+    rw (c.truncate.ensures.items, c.truncate-in-Err.ensures, c.truncate-in-Err-2.ensures)
+    (same_run i.facts i.atom i.steady i.word.items new.word.items i.chart new.chart i.begun new.begun (length i.called) (length new.called) c.len-length.result c.in-Err.ensures.kept c.next_set-read.ensures.marks long (omega (arith, long, sets)) (omega (arith, long, rows)) ∙ c.self.view_is)
+
+pub returns-in-Err-clause-run : goal.returns-in-Err-clause-run
+returns-in-Err-clause-run c = subst (λ (r : Running). IsRunOf c.args.g.now r) (sym (returns-in-Err-clause-err c)) c.requires.run

@@ -1,6 +1,6 @@
 use Rattle.std.proofs.Common.{◌+◌, refl, subst}
-use Rattle.xs_stretch.specs.declared.part.Part.{Part}
-use Rattle.xs_stretch.proofs.Nesting.{inside_part}
+use Rattle.xs_loose.specs.declared.part.Part.{Part}
+use Rattle.xs_loose.proofs.Nesting.{inside_part}
 use Rattle.xs_screen.specs.Screens.{AreDoubts}
 use Rattle.xs_screen.proofs.screen.Screen.doubts.Goals as goal
 

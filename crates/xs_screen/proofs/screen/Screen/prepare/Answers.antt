@@ -1,5 +1,5 @@
 use Rattle.std.proofs.Common.{refl, subst}
-use Rattle.xs_stretch.specs.declared.part.Part.{Part}
+use Rattle.xs_loose.specs.declared.part.Part.{Part}
 use Rattle.xs_coarse_net.specs.Covers.{IsCoverOf}
 use Rattle.xs_screen.proofs.Seeing.{screen_kept, kept_more}
 use Rattle.xs_screen.proofs.screen.Screen.prepare.Goals as goal

@@ -1,5 +1,5 @@
 use Rattle.std.proofs.Common.{refl, sym, subst, IfSome}
-use Rattle.xs_stretch.specs.declared.part.Part.{Part}
+use Rattle.xs_loose.specs.declared.part.Part.{Part}
 use Rattle.xs_coarse_net.specs.Covers.{IsCoverOf}
 use Rattle.xs_screen.proofs.Seeing.{screen_taken, taken_cover}
 use Rattle.xs_screen.proofs.screen.Screen.take_cover.Goals as goal

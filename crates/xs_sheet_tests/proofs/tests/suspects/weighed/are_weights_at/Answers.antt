@@ -1,4 +1,4 @@
-use Rattle.xs_light.proofs.Cutting.{front_part, rest_part}
+use Rattle.xs_searches.proofs.Cutting.{front_part, rest_part}
 use Rattle.xs_sheet_tests.proofs.tests.suspects.weighed.are_weights_at.Goals as goal
 
 pub is_weight-requires-clause-part : goal.is_weight-requires-clause-part

@@ -1,0 +1,6 @@
+use Rattle.std.proofs.Common.{◌≡◌, ◌+◌, length, take}
+use Rattle.xs_chart.specs.Charted.{waiting_for}
+use Rattle.xs_chart.proofs.waiting.nth.Given as goal
+
+abbrev pub invariant-entries : goal.invariant-entries
+invariant-entries l = l.left + length (waiting_for (take l.waiter-index l.waits) l.non) ≡ l.n

@@ -1,5 +1,0 @@
-use Rattle.xs_light.specs.Insides.{IsGreatest}
-use Rattle.xs_light.proofs.weights.insides_weight.Given as goal
-
-abbrev pub invariant-places : goal.invariant-places
-invariant-places l = IsGreatest l.g l.rule l.place l.greatest

@@ -1,7 +1,0 @@
-use Rattle.std.proofs.Common.{take}
-use Rattle.xs_stretch.specs.Arcs.{arcs_into}
-use Rattle.xs_stretch.specs.Growth.{NetGrows}
-use Rattle.xs_stretch.proofs.blocks.read_all.Given as goal
-
-abbrev pub invariant-targets : goal.invariant-targets
-invariant-targets l = NetGrows (arcs_into l.automaton l.first l.from (take l.target-index l.targets)) l.initial.net l.net

@@ -1,5 +1,0 @@
-use Rattle.xs_stretch.specs.Weighing.{AreWeightsBefore}
-use Rattle.xs_stretch.proofs.components.Components.weights.Given as goal
-
-abbrev pub invariant-components : goal.invariant-components
-invariant-components l = AreWeightsBefore l.g l.comps l.component l.weights.items

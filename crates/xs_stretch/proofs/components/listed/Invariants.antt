@@ -1,9 +1,0 @@
-use Rattle.std.proofs.Common.{◌≡◌, length}
-use Rattle.xs_stretch.specs.Components.{AreListed}
-use Rattle.xs_stretch.proofs.components.listed.Given as goal
-
-abbrev pub invariant-keys : goal.invariant-keys
-invariant-keys l = record {
-  counted : length l.lists.items ≡ l.count;
-  lists : AreListed l.keys l.place l.lists.items;
-}

@@ -1,5 +1,0 @@
-use Rattle.xs_stretch.proofs.Growing.{move_grows}
-use Rattle.xs_stretch.proofs.growth.pass.Goals as goal
-
-pub returns : goal.returns
-returns c = move_grows _ _ c.args.from c.args.to c.in_ok-pass.ensures.ok

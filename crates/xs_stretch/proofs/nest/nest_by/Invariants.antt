@@ -1,5 +1,0 @@
-use Rattle.xs_stretch.specs.Nesting.{IsNestBefore}
-use Rattle.xs_stretch.proofs.nest.nest_by.Given as goal
-
-abbrev pub invariant-rules : goal.invariant-rules
-invariant-rules l = IsNestBefore l.g l.rule 0 l.nest

@@ -1,5 +1,0 @@
-use Rattle.xs_stretch.specs.Making.{IsBlank}
-use Rattle.xs_stretch.proofs.net.blank.Given as goal
-
-abbrev pub invariant-states : goal.invariant-states
-invariant-states l = IsBlank l.counter l.net

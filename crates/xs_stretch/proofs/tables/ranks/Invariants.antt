@@ -1,5 +1,0 @@
-use Rattle.xs_stretch.proofs.Ranking.{AreRanked}
-use Rattle.xs_stretch.proofs.tables.ranks.Given as goal
-
-abbrev pub invariant-nons : goal.invariant-nons
-invariant-nons l = AreRanked l.g l.comps l.count l.non l.counts.items l.ranks.items

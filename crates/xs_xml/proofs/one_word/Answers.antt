@@ -1,5 +1,0 @@
-use Rattle.xs_xml.proofs.Cutting.{one_word}
-use Rattle.xs_xml.proofs.one_word.Goals as goal
-
-pub returns : goal.returns
-returns c = one_word
