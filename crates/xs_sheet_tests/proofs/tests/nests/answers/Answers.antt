@@ -2,8 +2,8 @@ use Rattle.std.proofs.Common.{arith}
 use Rattle.xs_sheet_tests.proofs.SmallLemmas.{tame, fenced, room}
 use Rattle.xs_sheet_tests.proofs.tests.nests.answers.Goals as goal
 
-pub of-requires-clause-fenced : goal.of-requires-clause-fenced
-of-requires-clause-fenced c = fenced c.in_ok-nest.nest c.in_ok-nest.ensures
+pub shared-requires-clause-fenced : goal.shared-requires-clause-fenced
+shared-requires-clause-fenced c = fenced c.in_ok-nest.nest c.in_ok-nest.ensures
 
 pub meet_nested-requires-clause-fenced : goal.meet_nested-requires-clause-fenced
 meet_nested-requires-clause-fenced c = fenced c.in_ok-nest.nest c.in_ok-nest.ensures
@@ -11,8 +11,8 @@ meet_nested-requires-clause-fenced c = fenced c.in_ok-nest.nest c.in_ok-nest.ens
 pub overlap_nested-requires-clause-fenced : goal.overlap_nested-requires-clause-fenced
 overlap_nested-requires-clause-fenced c = fenced c.in_ok-nest.nest c.in_ok-nest.ensures
 
-pub of-requires-clause-room : goal.of-requires-clause-room
-of-requires-clause-room c = room c.in_ok-nest.nest _ (omega (arith, c.in_ok-pairs.ensures.cells)) c.in_ok-nest.ensures
+pub shared-requires-clause-room : goal.shared-requires-clause-room
+shared-requires-clause-room c = room c.in_ok-nest.nest _ (omega (arith, c.in_ok-pairs.ensures.cells)) c.in_ok-nest.ensures
 
 pub meet_nested-requires-clause-tame_a : goal.meet_nested-requires-clause-tame_a
 meet_nested-requires-clause-tame_a c = tame c.in_ok-nest.nest c.in_ok-a.a c.in_ok-nest.ensures c.in_ok-a.ensures
