@@ -2,6 +2,7 @@ ghost use Rattle.std.specs.Prelude.{IsSome, IfOk, IfSome};
 ghost use Rattle.xs_gram.specs.{IsBuilt};
 ghost use Rattle.xs_loose.specs.{IsPart};
 
+mod groups;
 mod shipped;
 
 use std::alloc::Global;
