@@ -1,4 +1,4 @@
-ghost use Rattle.std.specs.Prelude.{◌≡◌, ◌≤◌, ◌⊎◌, ◌↔◌, ℕ, length, IsTrue, IfOk, Contains};
+ghost use Rattle.std.specs.Prelude.{◌≡◌, ◌≤◌, ◌⊎◌, ◌↔◌, ℕ, length, IsTrue, IfOk, OnErr, Contains};
 ghost use Rattle.xs_regex.specs.Automaton.{Accepts, IsBelow, IsWellFormed};
 ghost use Rattle.xs_regex.specs.Marked.{Marked, AreEntered, AreNext};
 ghost use Rattle.xs_regex.specs.Matches.{Matches};
@@ -6,6 +6,7 @@ ghost use Rattle.xs_regex.specs.Size.{size};
 
 use crate::{Position, Regex, positions};
 use std::alloc::Global;
+use std::marker::Model;
 use xs_class::{Memory, Sym, Word};
 
 /// Whether the regex, of size at most 512, matches the word.
@@ -29,6 +30,12 @@ pub struct Matcher {
     reached: Vec<bool>,
 }
 
+impl Model for Matcher {
+    ghost Value = { Unit {0} };
+
+    ghost view = { λ _. tt };
+}
+
 impl Matcher {
     /// A matcher without memory.
     pub fn new(alloc: Global) -> Self {
@@ -45,7 +52,8 @@ impl Matcher {
     /// reserved for an automaton of as many positions is used again.
     pub fn accepts(&mut self, p: &Position, word: &[Sym]) -> Result<bool, Memory>
         requires { IsWellFormed p.now }
-        ensures { IfOk result (λ b. IsTrue b ↔ Accepts p.now word.now) }
+        ensures accepted { IfOk result (λ b. IsTrue b ↔ Accepts p.now word.now) }
+        ensures err { OnErr result (self.new ≡ self.old) }
     {
         let count = p.classes.len();
         self.may.resize(count, false)?;
