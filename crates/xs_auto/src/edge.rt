@@ -10,7 +10,7 @@ use xs_class::{Class, Sym};
 /// An edge by the number of its class.
 #[derive(Clone, Copy, Debug)]
 pub struct EdgeRow {
-    pub class: u32,
+    pub class: usize,
     pub to: u32,
 }
 
@@ -59,11 +59,11 @@ impl<'n> Edge<'n> {
 
 /// The class of a number.
 #[inline(always)]
-fn class_at(classes: &[Class], number: u32) -> &Class
+fn class_at(classes: &[Class], number: usize) -> &Class
     requires { number < length classes.now }
     ensures { slice_get classes.now number ≡ Some result.now }
 {
-    &classes[number as usize]
+    &classes[number]
 }
 
 /// Row k, counted from 0.

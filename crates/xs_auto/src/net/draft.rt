@@ -11,30 +11,27 @@ use std::marker::Model;
 use xs_class::{Class, Memory};
 
 /// Whether that is the class of the number.
-fn is_at(classes: &[Class], number: u32, class: &Class) -> bool
+fn is_at(classes: &[Class], number: usize, class: &Class) -> bool
     ensures { IsTrue result → HasNumber classes.now number class.now }
 {
-    match classes.get(number as usize) {
+    match classes.get(number) {
         None => false,
         Some(known) => known.ranges() == class.ranges(),
     }
 }
 
 /// The number of a class: the known one, if that is its number, or else that of a new last class.
-fn number_of(classes: &mut Vec<Class>, known: u32, class: &Class) -> Result<u32, Memory>
+fn number_of(classes: &mut Vec<Class>, known: usize, class: &Class) -> Result<usize, Memory>
     ensures kept { KeepsNumbers classes.old.items classes.new.items }
     ensures number { IfOk result (λ k. HasNumber classes.new.items k class.now) }
 {
     if is_at(classes, known, class) {
         return Ok(known);
     }
-    let place = classes.len();
-    if place > u32::MAX as usize {
-        return Err(Memory);
-    }
+    let number = classes.len();
     let copy = class.copy()?;
     classes.push(copy)?;
-    Ok(place as u32)
+    Ok(number)
 }
 
 /// A net that is being built: its states, and what leads from them in the order in which it was
@@ -46,7 +43,7 @@ fn number_of(classes: &mut Vec<Class>, known: u32, class: &Class) -> Result<u32,
 pub struct Draft {
     start: Option<u32>,
     finals: Vec<bool>,
-    entered: Vec<u32>,
+    entered: Vec<usize>,
     classes: Vec<Class>,
     edges: Vec<Leaving<EdgeRow>>,
     moves: Vec<Leaving<u32>>,
