@@ -3,4 +3,5 @@ pub mod Rows
 pub mod Sweeping
 pub mod Fixing
 pub mod Paging
+pub mod Interning
 pub mod Alphabets

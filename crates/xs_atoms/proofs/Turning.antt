@@ -1,8 +1,8 @@
 -- How often classes turn up to a symbol.
-use Rattle.std.proofs.Common.{◌≡◌, ◌≢◌, ◌∙◌, ◌↔◌, ◌⊎◌, ℕ, zero, suc, ◌+◌, ◌<◌, ◌≤◌, Bool, true, false, not, List, [], ◌∷◌, ◌++◌, length, take, get_or, append_assoc, Some, None, refl, sym, ap, subst, inl, inr, arith, nat_le}
+use Rattle.std.proofs.Common.{◌≡◌, ◌≢◌, ◌∙◌, ◌↔◌, ◌⊎◌, ℕ, zero, suc, ◌+◌, ◌<◌, ◌≤◌, Bool, true, false, not, List, [], ◌∷◌, ◌++◌, length, take, get_or, append_assoc, Some, None, refl, sym, ap, inl, inr, arith, nat_le}
 use Rattle.std.proofs.lemmas.Bool.Decides.{nat_tests}
 use Rattle.std.proofs.lemmas.List.{take_more, length-take-le}
-use Rattle.std.proofs.lemmas.Option.{get_or_from_slice_get}
+use Rattle.std.proofs.lemmas.Option.{get_or_from_slice_get, slice_get_within}
 use Rattle.std.proofs.lemmas.List.Sums.{sum_by-append, sum_by-cons}
 use Rattle.std.proofs.lemmas.List.Sorted.{sum_by-IsPermutation}
 use Rattle.std.specs.Prelude.{slice_get, sum_by, IsTrue, Option, IsPermutation}
@@ -140,7 +140,7 @@ class_turns-append n m (x ∷ xs) ys e =
     ap (λ (ts : List Turn). range_turns (Some n) x ++ ts) (class_turns-append (n + 1) m xs ys (omega (arith, e)))
     ∙ sym (append_assoc (range_turns (Some n) x) (class_turns (n + 1) xs) (class_turns m ys))
 
--- the turns with those of one range, or class, more
+-- the turns with those of one range more
 pub span_pushed : (class : Option ℕ) (turns mid new old : List Turn) (rs : List (ℕ × ℕ)) (i : ℕ) (d : ℕ × ℕ) (a b : ℕ) → i < length rs → a ≡ (get_or rs i d).0 → b ≡ (get_or rs i d).1 → turns ≡ old ++ range_turns class (take i rs) → mid ≡ turns ++ record { place = a; class = class } ∷ [] → new ≡ mid ++ record { place = b + 1; class = class } ∷ [] → new ≡ old ++ range_turns class (take (i + 1) rs)
 span_pushed class turns mid new old rs i d a b l ea eb before e f =
     let two : new ≡ turns ++ record { place = a; class = class } ∷ record { place = b + 1; class = class } ∷ [] =
@@ -152,23 +152,16 @@ span_pushed class turns mid new old rs i d a b l ea eb before e f =
     ∙ ap (λ x. range_turns class (take i rs) ++ record { place = (get_or rs i d).0; class = class } ∷ record { place = x + 1; class = class } ∷ []) eb
     ∙ sym (ap (λ (x : List (ℕ × ℕ)). range_turns class x) (take_more rs i d l) ∙ range_turns-append class (take i rs) (get_or rs i d ∷ [])))
 
-pub class_pushed : (turns new old : List Turn) (classes : List (List (ℕ × ℕ))) (i number : ℕ) (class ranges : List (ℕ × ℕ)) → i < length classes → class ≡ get_or classes i class → ranges ≡ class → number ≡ i → turns ≡ old ++ class_turns 0 (take i classes) → new ≡ turns ++ range_turns (Some number) ranges → new ≡ old ++ class_turns 0 (take (i + 1) classes)
-class_pushed turns new old classes i number class ranges l there same n before e =
-    e ∙ ap (λ (ts : List Turn). ts ++ range_turns (Some number) ranges) before ∙ append_assoc old (class_turns 0 (take i classes)) (range_turns (Some number) ranges)
+-- and with those of one class more
+pub class_pushed : (turns new old : List Turn) (classes : List (List (ℕ × ℕ))) (i : ℕ) (class : List (ℕ × ℕ)) → slice_get classes i ≡ Some class → turns ≡ old ++ class_turns 0 (take i classes) → new ≡ turns ++ range_turns (Some i) class → new ≡ old ++ class_turns 0 (take (i + 1) classes)
+class_pushed turns new old classes i class at before e =
+    let l = slice_get_within classes i class at in
+    let there : class ≡ get_or classes i class = sym (get_or_from_slice_get classes i class class at) in
+    e ∙ ap (λ (ts : List Turn). ts ++ range_turns (Some i) class) before ∙ append_assoc old (class_turns 0 (take i classes)) (range_turns (Some i) class)
     ∙ ap (λ (ts : List Turn). old ++ ts)
-    (ap (λ k. class_turns 0 (take i classes) ++ range_turns (Some k) ranges) n ∙ ap (λ (x : List (ℕ × ℕ)). class_turns 0 (take i classes) ++ range_turns (Some i) x) (same ∙ there)
+    (ap (λ (x : List (ℕ × ℕ)). class_turns 0 (take i classes) ++ range_turns (Some i) x) there
     ∙ sym (ap (λ (x : List (List (ℕ × ℕ))). class_turns 0 x) (take_more classes i class l) ∙ class_turns-append 0 i (take i classes) (get_or classes i class ∷ []) (omega (arith, length-take-le i classes (omega arith))) ∙ ap (λ (ts : List Turn). class_turns 0 (take i classes) ++ ts) (no_more (range_turns (Some i) (get_or classes i class)))))
   where
     no_more : (ts : List Turn) → ts ++ [] ≡ ts
     no_more [] = refl
     no_more (t ∷ ts) = ap (λ (u : List Turn). t ∷ u) (no_more ts)
-
--- one more class
-pub class_formed : (classes : List (List (ℕ × ℕ))) (i : ℕ) (class : List (ℕ × ℕ)) → class ≡ get_or classes i class → IsClass class → ((k : ℕ) (c : List (ℕ × ℕ)) → k < i → slice_get classes k ≡ Some c → IsClass c) → (k : ℕ) (c : List (ℕ × ℕ)) → k < i + 1 → slice_get classes k ≡ Some c → IsClass c
-class_formed classes i class there is before k c l e = elim (below_or k i) [
-  | inl below ↦ before k c below e
-  | inr last ↦
-      let same : k ≡ i = omega arith in
-      let found : get_or classes i class ≡ c = ap (λ j. get_or classes j class) (sym same) ∙ get_or_from_slice_get classes k c class e in
-      subst (λ (x : List (ℕ × ℕ)). IsClass x) (there ∙ found) is
-]

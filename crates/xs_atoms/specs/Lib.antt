@@ -1,6 +1,7 @@
 pub mod Alphabet
 pub mod Classed
 pub mod Fixed
+pub mod Interned
 pub mod Pages
 pub mod Stretches
 pub mod Turns

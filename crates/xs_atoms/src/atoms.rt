@@ -69,13 +69,13 @@ impl Atoms {
     {
         let fixed = fixed_ranges(alloc, g)?;
         let class = Class::from_ranges(alloc, &fixed)?;
-        let mut distinct = Distinct::one(alloc, class)?;
+        let mut distinct = Distinct::one(alloc, &class)?;
         let leaves = leaf_numbers(alloc, g, &mut distinct)?;
-        let turns = turns_of(alloc, &distinct.classes, &fixed)?;
-        let Some(draft) = sweep(alloc, distinct.classes.len(), &turns)? else {
+        let turns = turns_of(alloc, &distinct, &fixed)?;
+        let Some(draft) = sweep(alloc, distinct.len(), &turns)? else {
             return Err(AtomsFault::TooMany);
         };
-        let Ok(width) = u32::try_from(distinct.classes.len()) else {
+        let Ok(width) = u32::try_from(distinct.len()) else {
             return Err(AtomsFault::TooMany);
         };
         let pages = pages_of(alloc, &draft.stretches, draft.firsts.len())?;

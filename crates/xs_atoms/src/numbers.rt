@@ -21,9 +21,9 @@ pub fn leaf_numbers(
     g: &Gram,
     distinct: &mut Distinct,
 ) -> Result<LeafNumbers, AtomsFault>
-    ensures stay { IfOk result (λ _. StayAll distinct.old.classes.items distinct.new.classes.items) }
-    ensures terms { IfOk result (λ leaves. AreTermNumbers g.now distinct.new.classes.items leaves.terms.items) }
-    ensures skips { IfOk result (λ leaves. AreSkipNumbers g.now distinct.new.classes.items leaves.skips.items) }
+    ensures stay { IfOk result (λ _. StayAll distinct.old distinct.new) }
+    ensures terms { IfOk result (λ leaves. AreTermNumbers g.now distinct.new leaves.terms.items) }
+    ensures skips { IfOk result (λ leaves. AreSkipNumbers g.now distinct.new leaves.skips.items) }
 {
     let mut terms = Vec::with_capacity(alloc, g.terms() as usize)?;
     'terms: for term in 0..g.terms() {
@@ -44,8 +44,8 @@ fn numbers_of(
     classes: &[Class],
     distinct: &mut Distinct,
 ) -> Result<Numbers, AtomsFault>
-    ensures stay { IfOk result (λ _. StayAll distinct.old.classes.items distinct.new.classes.items) }
-    ensures numbers { IfOk result (λ row. AreNumbersOf distinct.new.classes.items classes.now row) }
+    ensures stay { IfOk result (λ _. StayAll distinct.old distinct.new) }
+    ensures numbers { IfOk result (λ row. AreNumbersOf distinct.new classes.now row) }
 {
     let mut numbers = Vec::with_capacity(alloc, classes.len())?;
     'classes: for class in classes {

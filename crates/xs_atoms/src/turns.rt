@@ -2,9 +2,10 @@ ghost use Rattle.std.specs.Prelude.{◌≡◌, ◌++◌, None, IfOk};
 ghost use Rattle.std.specs.List.Sorted.{IsNonDecreasingBy};
 ghost use Rattle.xs_atoms.specs.Turns.{range_turns, class_turns, AreClasses, AreTurnsOf};
 
+use crate::distinct::Distinct;
 use crate::fault::AtomsFault;
 use std::alloc::Global;
-use xs_class::{Class, Memory};
+use xs_class::Memory;
 
 /// A symbol at which a class begins or ends, or without a class one before which symbols are kept
 /// apart.
@@ -18,29 +19,29 @@ pub struct Turn {
 /// ascending order.
 pub fn turns_of(
     alloc: Global,
-    classes: &[Class],
+    distinct: &Distinct,
     fixed: &[(u32, u32)],
 ) -> Result<Vec<Turn>, AtomsFault>
-    ensures turns { IfOk result (λ turns. AreTurnsOf classes.now fixed.now turns.items) }
+    ensures turns { IfOk result (λ turns. AreTurnsOf distinct.now fixed.now turns.items) }
     ensures sorted { IfOk result (λ turns. IsNonDecreasingBy (λ t. t.place) turns.items) }
 {
     let mut turns = Vec::new(alloc);
     push_turns(&mut turns, None, fixed)?;
-    push_classes(&mut turns, classes)?;
+    push_classes(&mut turns, distinct)?;
     turns.sort_unstable_by_key(|turn| turn.place);
     Ok(turns)
 }
 
 /// Appends the turns of the classes.
-fn push_classes(turns: &mut Vec<Turn>, classes: &[Class]) -> Result<(), AtomsFault>
-    ensures turns { IfOk result (λ _. turns.new.items ≡ turns.old.items ++ class_turns 0 classes.now) }
-    ensures formed { IfOk result (λ _. AreClasses classes.now) }
+fn push_classes(turns: &mut Vec<Turn>, distinct: &Distinct) -> Result<(), AtomsFault>
+    ensures turns { IfOk result (λ _. turns.new.items ≡ turns.old.items ++ class_turns 0 distinct.now) }
+    ensures formed { IfOk result (λ _. AreClasses distinct.now) }
 {
-    'classes: for (index, class) in classes.iter().enumerate() {
-        let Ok(number) = u32::try_from(index) else {
-            return Err(AtomsFault::TooMany);
-        };
-        push_turns(turns, Some(number), class.ranges())?;
+    let Ok(count) = u32::try_from(distinct.len()) else {
+        return Err(AtomsFault::TooMany);
+    };
+    'classes: for number in 0..count {
+        push_turns(turns, Some(number), distinct.at(number))?;
     }
     Ok(())
 }

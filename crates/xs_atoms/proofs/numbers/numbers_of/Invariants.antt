@@ -5,6 +5,6 @@ use Rattle.xs_atoms.proofs.numbers.numbers_of.Given as goal
 
 abbrev pub invariant-classes : goal.invariant-classes
 invariant-classes l =
-    StayAll l.initial.distinct.classes.items l.distinct.classes.items
+    StayAll l.initial.distinct l.distinct
     × (length l.numbers.items ≡ l.class-index)
-    × ((k : ℕ) (class : List (ℕ × ℕ)) → k < l.class-index → slice_get l.classes k ≡ Some class → slice_get l.distinct.classes.items (slice_index_or l.numbers.items k 0) ≡ Some class)
+    × ((k : ℕ) (class : List (ℕ × ℕ)) → k < l.class-index → slice_get l.classes k ≡ Some class → slice_get l.distinct (slice_index_or l.numbers.items k 0) ≡ Some class)

@@ -7,8 +7,8 @@ use Rattle.xs_atoms.proofs.turns.turns_of.Goals as goal
 
 pub returns-clause-turns : goal.returns-clause-turns
 returns-clause-turns c =
-    turns_are c.args.classes.now c.args.fixed.now _ _ c.in_ok-push_classes.ensures.formed
-    (c.in_ok-push_classes.ensures.turns ∙ ap (λ (ts : List Turn). ts ++ class_turns 0 c.args.classes.now) (c.in_ok-push_turns.ensures ∙ ap (λ (ts : List Turn). ts ++ range_turns None c.args.fixed.now) c.new-turns.ensures.items))
+    turns_are c.args.distinct.now c.args.fixed.now _ _ c.in_ok-push_classes.ensures.formed
+    (c.in_ok-push_classes.ensures.turns ∙ ap (λ (ts : List Turn). ts ++ class_turns 0 c.args.distinct.now) (c.in_ok-push_turns.ensures ∙ ap (λ (ts : List Turn). ts ++ range_turns None c.args.fixed.now) c.new-turns.ensures.items))
     c.sort_unstable_by_key.ensures.permutation
 
 pub returns-clause-sorted : goal.returns-clause-sorted
