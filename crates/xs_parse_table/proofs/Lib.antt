@@ -1,3 +1,4 @@
+pub mod Growing
 pub mod Building
 pub mod Items
 pub mod Marks

@@ -9,7 +9,7 @@ use crate::sets::Sets;
 use std::alloc::Global;
 use xs_atoms::Atoms;
 use xs_class::Memory;
-use xs_regex::{Numbers, Position};
+use xs_regex::Position;
 
 /// Marks no position.
 fn clear(flags: &mut [bool])
@@ -62,7 +62,7 @@ fn marked(alloc: Global, flags: &[bool]) -> Result<Vec<u32>, Memory>
 }
 
 /// Marks the positions that may come after the row of this number.
-fn mark_after(p: &Position, sets: &[Numbers], row: usize, flags: &mut [bool])
+fn mark_after(p: &Position, sets: &Sets, row: usize, flags: &mut [bool])
     requires { row ≤ length sets.now }
     ensures marked { (k : ℕ) → Marked flags.new k → Marked flags.old k ⊎ MayCome p.now (stand sets.now row) k }
     ensures length { length flags.new ≡ length flags.old }
@@ -71,14 +71,14 @@ fn mark_after(p: &Position, sets: &[Numbers], row: usize, flags: &mut [bool])
         mark(p.first.as_slice(), flags);
         return;
     }
-    mark_next(p, sets[row - 1].as_slice(), flags);
+    mark_next(p, sets.at(row - 1), flags);
 }
 
 /// The positions that may come after the row of this number, in ascending order.
 fn may_come(
     alloc: Global,
     p: &Position,
-    sets: &[Numbers],
+    sets: &Sets,
     row: usize,
     flags: &mut [bool],
 ) -> Result<Vec<u32>, Memory>
@@ -95,14 +95,14 @@ fn may_come(
 }
 
 /// Whether a run may end at the row of this number.
-fn may_end(p: &Position, sets: &[Numbers], row: usize) -> bool
+fn may_end(p: &Position, sets: &Sets, row: usize) -> bool
     requires { row ≤ length sets.now }
     ensures { IsTrue result → MayEnd p.now (stand sets.now row) }
 {
     if row == 0 {
         return p.nullable;
     }
-    has_common(sets[row - 1].as_slice(), p.last.as_slice())
+    has_common(sets.at(row - 1), p.last.as_slice())
 }
 
 /// Whether the lists have a number in common.
@@ -175,16 +175,16 @@ fn push_moves(
     sets: &mut Sets,
     cells: &mut Vec<u32>,
 ) -> Result<bool, Memory>
-    ensures sets { IfOk result (λ _. AreLonger sets.old.sets.items sets.new.sets.items) }
+    ensures sets { IfOk result (λ _. AreLonger sets.old sets.new) }
     ensures cells { IfOk result (λ _. AreLonger cells.old.items cells.new.items) }
     ensures count { IfOk result (λ few. IsTrue few → length cells.new.items ≡ length cells.old.items + atoms.now.count) }
-    ensures moves { IfOk result (λ few. IsTrue few → AreChoices atoms.now classes.now may.now start sets.new.sets.items cells.new.items (length cells.old.items) atoms.now.count) }
+    ensures moves { IfOk result (λ few. IsTrue few → AreChoices atoms.now classes.now may.now start sets.new cells.new.items (length cells.old.items) atoms.now.count) }
 {
     let mut chosen = Vec::new(alloc);
     let count = atoms.count();
     'atoms: for atom in 0..count {
         choose(atoms, classes, may, atom, &mut chosen)?;
-        let number = sets.number(alloc, &chosen)?;
+        let number = sets.number(&chosen)?;
         let Some(cell) = cell_of(start, number, count + 1) else {
             return Ok(false);
         };
@@ -205,20 +205,20 @@ fn push_row(
     sets: &mut Sets,
     cells: &mut Vec<u32>,
 ) -> Result<bool, Memory>
-    requires row { row ≤ length sets.old.sets.items }
+    requires row { row ≤ length sets.old }
     requires room { length flags.old ≡ length p.now.classes }
     requires classes { AreClassesOf p.now atoms.now classes.now }
-    ensures sets { IfOk result (λ _. AreLonger sets.old.sets.items sets.new.sets.items) }
+    ensures sets { IfOk result (λ _. AreLonger sets.old sets.new) }
     ensures cells { IfOk result (λ _. AreLonger cells.old.items cells.new.items) }
     ensures count { IfOk result (λ few. IsTrue few → length cells.new.items ≡ length cells.old.items + suc atoms.now.count) }
-    ensures row { IfOk result (λ few. IsTrue few → IsRow p.now atoms.now sets.new.sets.items start row cells.new.items (length cells.old.items)) }
+    ensures row { IfOk result (λ few. IsTrue few → IsRow p.now atoms.now sets.new start row cells.new.items (length cells.old.items)) }
     ensures room { IfOk result (λ _. length flags.new ≡ length flags.old) }
 {
-    let may = may_come(alloc, p, &sets.sets, row, flags)?;
+    let may = may_come(alloc, p, sets, row, flags)?;
     if !push_moves(alloc, atoms, classes, start, &may, sets, cells)? {
         return Ok(false);
     }
-    let end = end_cell(may_end(p, &sets.sets, row));
+    let end = end_cell(may_end(p, sets, row));
     cells.push(end)?;
     Ok(true)
 }
@@ -242,7 +242,7 @@ fn fill_rows(
     let mut sets = Sets::new(alloc);
     let most = flags.len().saturating_mul(2).saturating_add(16);
     'rows: for row in 0..most {
-        if row > sets.sets.len() {
+        if row > sets.len() {
             return Ok(true);
         }
         if !push_row(

@@ -1,4 +1,5 @@
-use Rattle.std.proofs.Common.{inl, inr}
+use Rattle.std.proofs.Common.{inl, inr, sym}
+use Rattle.std.proofs.lemmas.Option.{get_or_from_slice_get}
 use Rattle.xs_parse_table.proofs.Building.{come_first, come_next}
 use Rattle.xs_parse_table.proofs.moves.mark_after.Goals as goal
 
@@ -11,5 +12,5 @@ returns-then-row-eq0-clause-marked c = λ k m. elim (c.mark.ensures.marked k m) 
 pub returns-clause-marked : goal.returns-clause-marked
 returns-clause-marked c = λ k m. elim (c.mark_next.ensures.marked k m) [
   | inl a ↦ inl a
-  | inr b ↦ inr (come_next c.args.p.now c.args.sets.now c.args.row k c.index-sets-row.result c.if-row-eq0.false c.requires c.index-sets-row.is (rw c.as_slice-2.ensures at b))
+  | inr b ↦ inr (come_next c.args.p.now c.args.sets.now c.args.row k c.at.result.now c.if-row-eq0.false c.requires (sym (get_or_from_slice_get c.args.sets.now _ c.at.result.now c.at.result.now c.at.ensures)) b)
 ]

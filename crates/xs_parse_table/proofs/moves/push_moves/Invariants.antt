@@ -4,7 +4,7 @@ use Rattle.xs_parse_table.proofs.moves.push_moves.Given as goal
 
 abbrev pub invariant-atoms : goal.invariant-atoms
 invariant-atoms l =
-    AreLonger l.initial.sets.sets.items l.sets.sets.items
+    AreLonger l.initial.sets l.sets
     × AreLonger l.initial.cells.items l.cells.items
     × (length l.cells.items ≡ length l.initial.cells.items + l.atom)
-    × AreChoices l.fn.atoms l.classes l.may l.start l.sets.sets.items l.cells.items (length l.initial.cells.items) l.atom
+    × AreChoices l.fn.atoms l.classes l.may l.start l.sets l.cells.items (length l.initial.cells.items) l.atom
