@@ -47,6 +47,14 @@ impl<'b, L: Label> Forest<'b, L> {
         })
     }
 
+    /// The forest without rows, over the arena, with room for that many rows.
+    pub fn with_capacity(alloc: Global, bump: &'b Bump<Global>, rows: usize) -> Result<Self, Memory>
+        ensures { IfOk result (λ forest. forest ≡ []) }
+    {
+        let rows = IndexMap::with_capacity(alloc, rows)?;
+        Ok(Forest { bump, rows })
+    }
+
     /// The number of the row that has the label, or None where no row has it.
     ///
     /// It takes constant expected time. The hash has no secret seed, so labels that are chosen for it

@@ -160,7 +160,7 @@ fn grow_found<'b>(
         start: 0,
         end: doc.len() as u32,
     };
-    let mut forest = Forest::new(alloc, bump)?;
+    let mut forest = Forest::with_capacity(alloc, bump, found.wholes.len())?;
     let root = grow_rows(alloc, &source, &mut forest, key)?;
     Ok(Grown { forest, root })
 }

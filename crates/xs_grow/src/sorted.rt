@@ -73,6 +73,13 @@ impl Sorted {
         Sorted { marks }
     }
 
+    /// The number of marks.
+    pub(crate) fn len(&self) -> usize
+        ensures { result ≡ length self.now }
+    {
+        self.marks.len()
+    }
+
     /// Appends the numbers of a label, in time linear in the marks of its stretch but for the
     /// halving.
     pub(crate) fn numbers(&self, label: SpanKey, out: &mut Vec<u32>) -> Result<(), Memory>

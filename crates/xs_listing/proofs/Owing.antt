@@ -16,7 +16,7 @@ use Rattle.xs_listing.specs.declared.write.Source.{Source}
 use Rattle.xs_listing.specs.declared.write.Task.{Task}
 use Rattle.xs_listing.specs.declared.write.Task.TheVariants.{Visit}
 use Rattle.xs_listing.specs.Writing.{child_task, item_task, last_task, IsVisited, IsSource, HasChild, CanVisit, CanDo}
-use Rattle.xs_listing.specs.Sizes.{spelt_count, word_count}
+use Rattle.xs_listing.specs.Sizes.{spelt_count, word_count, AreSizes}
 use Rattle.xs_listing.specs.Owed.{Owes, AllOwe, IsCountedOff}
 use Rattle.xs_listing.proofs.Sizing.{dots_within}
 use Rattle.xs_listing.proofs.Sized.{count_then, count_word, first_at}
@@ -71,13 +71,12 @@ module _ (s : Source) where
     first_can (Some r) k h lt = All-cons (λ t. CanDo s t 0) (Visit r k) [] (record { there = h.0; within = subst (λ n. k < n) (is.counted r h.0) lt }) (All-nil (λ t. CanDo s t 0))
 
     -- a row's first unfolding is counted by the row's size
-    pub first_off : (r : ℕ) (old : List Task) → CanVisit s r 0 → IsCountedOff s (Visit r 0) old old (slice_index_or s.sizes.now r 0)
-    first_off r old can owed rest (u, at, e) all =
+    pub first_off : (sizes : List ℕ) (r : ℕ) (old : List Task) → length sizes ≡ length s.forest.now → AreSizes s.g.now s.doc.now s.forest.now sizes → CanVisit s r 0 → IsCountedOff s (Visit r 0) old old (slice_index_or sizes r 0)
+    first_off sizes r old sized sizes_are can owed rest (u, at, e) all =
         let there = can.there in
-        let sized = is.sized in
         let some = some_cap s.cap s.counts.now (alts_of s.forest.now r) 0 can.within in
         let first = first_at s.g.now s.doc.now s.forest.now is.right s.cap s.counts.now is.counted some (Some r) 0 u refl at in
-        let size = is.sizes_are r (omega arith) u first in
+        let size = sizes_are r (omega arith) u first in
         (rest, all, omega arith)
 
     -- a visit counts none

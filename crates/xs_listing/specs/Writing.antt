@@ -19,7 +19,6 @@ use Rattle.xs_listing.specs.declared.write.Source.{Source}
 use Rattle.xs_listing.specs.declared.write.Task.{Task}
 use Rattle.xs_listing.specs.declared.write.Task.TheVariants.{Visit, Word, Close}
 use Rattle.xs_listing.specs.Spelt.{flat_of, AreInOrder}
-use Rattle.xs_listing.specs.Sizes.{AreSizes}
 
 -- the task of a child's unfolding, and none where there is no child
 abbrev pub child_task : Option ℕ → ℕ → List Task
@@ -61,12 +60,10 @@ IsDone g f cap cs (Visit r k) tasks parts places tasks' parts' places' = IsVisit
 IsDone g f cap cs (Word p d i j) tasks parts places tasks' parts' places' = (tasks' ≡ tasks) × IsWordWritten (item_of g p d) i j parts places parts' places'
 IsDone g f cap cs (Close q n) tasks parts places tasks' parts' places' = (tasks' ≡ tasks) × Added parts (take n places) (Node q (drop n places)) parts' places'
 
--- the forest is right, each row's unfoldings are counted up to the cap, and each row has its size
+-- the forest is right, and each row's unfoldings are counted up to the cap
 pub record IsSource (s : Source) : Type 0 where
   pub right : IsRight s.g.now s.doc.now s.forest.now
   pub long : length s.counts.now ≡ length s.forest.now
-  pub sized : length s.sizes.now ≡ length s.forest.now
-  pub sizes_are : AreSizes s.g.now s.doc.now s.forest.now s.sizes.now
   pub counted : IsCounted s.forest.now s.cap s.counts.now
 
 -- the row that is a child, if there is one, is there and begins within the document

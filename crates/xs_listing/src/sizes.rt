@@ -93,8 +93,15 @@ pub(crate) fn first_sizes(
 }
 
 /// How many parts a task writes at once; what it leaves to be counted goes to the tasks.
-fn count_task(source: &Source<'_, '_>, task: Task, tasks: &mut Vec<Task>) -> Result<u64, Memory>
+fn count_task(
+    source: &Source<'_, '_>,
+    sizes: &[u64],
+    task: Task,
+    tasks: &mut Vec<Task>,
+) -> Result<u64, Memory>
     requires source { IsSource source.now }
+    requires sized { length sizes.now ≡ length source.now.forest.now }
+    requires sizes { AreSizes source.now.g.now source.now.doc.now source.now.forest.now sizes.now }
     requires can { CanDo source.now task 0 }
     requires all { All (λ t. CanDo source.now t 0) tasks.old.items }
     ensures can { OnOk result (All (λ t. CanDo source.now t 0) tasks.new.items) }
@@ -102,7 +109,7 @@ fn count_task(source: &Source<'_, '_>, task: Task, tasks: &mut Vec<Task>) -> Res
     ensures less { OnOk result (work_left tasks.new.items < work_left (tasks.old.items ++ task ∷ [])) }
 {
     match task {
-        Task::Visit { row, number: 0 } => Ok(source.sizes[row as usize]),
+        Task::Visit { row, number: 0 } => Ok(sizes[row as usize]),
         Task::Visit { row, number } => {
             visit(source, row, number, 0, tasks)?;
             Ok(0)
@@ -113,14 +120,17 @@ fn count_task(source: &Source<'_, '_>, task: Task, tasks: &mut Vec<Task>) -> Res
 }
 
 /// How many parts an unfolding of a child has by its number, at most 2^64 less 1. Unfoldings by
-/// first alternatives are not walked through, so that the time is linear in the rows.
+/// first alternatives, whose sizes are given, are not walked through, so that the time is linear in the rows.
 pub(crate) fn size_of(
     alloc: Global,
     source: &Source<'_, '_>,
+    sizes: &[u64],
     child: Option<u64>,
     number: u64,
 ) -> Result<u64, Memory>
     requires source { IsSource source.now }
+    requires sized { length sizes.now ≡ length source.now.forest.now }
+    requires sizes { AreSizes source.now.g.now source.now.doc.now source.now.forest.now sizes.now }
     requires child { HasChild source.now child }
     requires within { number < count_of source.now.counts.now child }
     ensures { IfOk result (λ size. (u : Unfolding) → At source.now.forest.now source.now.cap source.now.counts.now child number u → size ≡ capped (spelt_count (read source.now.g.now source.now.doc.now source.now.forest.now child u))) }
@@ -128,7 +138,7 @@ pub(crate) fn size_of(
     let mut size: u64 = 0;
     let mut tasks = first_tasks(alloc, child, number)?;
     'tasks: while let Some(task) = tasks.pop() {
-        size = size.saturating_add(count_task(source, task, &mut tasks)?);
+        size = size.saturating_add(count_task(source, sizes, task, &mut tasks)?);
     }
     Ok(size)
 }

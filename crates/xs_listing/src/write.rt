@@ -7,7 +7,6 @@ ghost use Rattle.xs_listing.specs.Writing.{child_task, last_task, IsVisited, Add
 
 use crate::count::{Chosen, choose};
 use crate::rows::{alts_at, end_of, label_at};
-use crate::sizes::size_of;
 use crate::{Kids, SpeltPart};
 use std::alloc::Global;
 use xs_class::{Memory, Word};
@@ -15,15 +14,13 @@ use xs_forest::Forest;
 use xs_forest_laws::{SpanKey, What};
 use xs_gram::{GItem, Gram};
 
-/// The forest of a document, with the number of unfoldings of each row up to a cap, and the number
-/// of parts of the row's unfolding by first alternatives.
+/// The forest of a document, with the number of unfoldings of each row up to a cap.
 #[derive(Drop)]
 pub(crate) struct Source<'s, 'b> {
     pub g: &'s Gram,
     pub doc: &'s Word,
     pub forest: &'s Forest<'b, SpanKey>,
     pub counts: &'s [u64],
-    pub sizes: &'s [u64],
     pub cap: u64,
 }
 
@@ -197,21 +194,21 @@ fn perform(
     }
 }
 
-/// The parts of a front's unfolding, by its number, in time linear in the parts and the rows that
-/// it has.
+/// The parts of a front's unfolding, by its number, with room for that many and the node that they
+/// are under, in time linear in the parts and the rows that it has.
 pub(crate) fn write_front(
     alloc: Global,
     source: &Source<'_, '_>,
     front: Option<u64>,
     number: u64,
+    room: u64,
 ) -> Result<Written, Memory>
     requires source { IsSource source.now }
     requires front { HasChild source.now front }
     requires within { number < count_of source.now.counts.now front }
     ensures { IfOk result (λ written. (u : Unfolding) → At source.now.forest.now source.now.cap source.now.counts.now front number u → AreWritten source.now.doc.now (read source.now.g.now source.now.doc.now source.now.forest.now front u) written.parts.items written.places.items) }
 {
-    let size = size_of(alloc, source, front, number)?;
-    let parts = Vec::with_capacity(alloc, size as usize)?;
+    let parts = Vec::with_capacity(alloc, (room as usize).saturating_add(1))?;
     let mut written = Written {
         parts,
         places: Vec::new(alloc),

@@ -2,7 +2,6 @@ use Rattle.std.proofs.Common.{◌≡◌, ◌+◌, ℕ, suc, min, ltb, length, Li
 use Rattle.std.specs.Prelude.{slice_index_or}
 use Rattle.std.proofs.lemmas.List.{get_or_read}
 use Rattle.xs_forest_laws.specs.Number.{count_of, IsCounted}
-use Rattle.xs_listing.specs.Sizes.{AreSizes}
 use Rattle.xs_listing.proofs.Spelling.{listing_is}
 use Rattle.xs_listing.proofs.list.list_trees.Goals as goal
 
@@ -22,9 +21,7 @@ returns c =
     let long : length c.deref.result.now ≡ length f = ap length value ∙ len in
     let counted : IsCounted f cap c.deref.result.now = subst (λ (l : List ℕ). IsCounted f cap l) (sym value) (c.in_ok-counts.ensures.counted g w c.requires.right) in
     let at : count ≡ slice_index_or counts root 0 = get_or_read counts _ _ (omega arith) c.index-count.ensures 0 in
-    let sized : length c.deref-2.result.now ≡ length f = ap length c.deref-2.ensures.value ∙ c.in_ok-sizes.ensures.long in
-    let sizes_are : AreSizes g w f c.deref-2.result.now = subst (λ (l : List ℕ). AreSizes g w f l) (sym c.deref-2.ensures.value) c.in_ok-sizes.ensures.sizes in
     let counts_is : count ≡ count_of c.deref.result.now (Some root) = at ∙ ap (λ (l : List ℕ). slice_index_or l root 0) (sym value) in
     let next : cap ≡ suc c.args.max = omega arith in
     let least : c.min.result ≡ min c.args.max count = omega arith in
-    listing_is _ root c.min.result _ c.in_ok-trees.ensures (record { right = c.requires.right; long = long; sized = sized; sizes_are = sizes_are; counted = counted }) c.args.max c.requires.root_is next count counts_is least (ap (λ n. ltb n count) same_max)
+    listing_is _ root c.min.result _ c.in_ok-trees.ensures (record { right = c.requires.right; long = long; counted = counted }) c.args.max c.requires.root_is next count counts_is least (ap (λ n. ltb n count) same_max)

@@ -41,7 +41,7 @@ returns-in-Visit-default-eq0-clause-counted c =
     let known = c.in-Visit-default-eq0.is in
     let none = c.in-Visit-default-eq0.number-is in
     let is : c.args.task ≡ Visit row 0 = cc in
-    subst (λ (t : Task). IsCountedOff s t old old (slice_index_or s.sizes.now row 0)) (sym is) (first_off s c.requires.source row old (subst (λ (t : Task). CanDo s t 0) is c.requires.can))
+    subst (λ (t : Task). IsCountedOff s t old old (slice_index_or c.args.sizes.now row 0)) (sym is) (first_off s c.requires.source c.args.sizes.now row old c.requires.sized c.requires.sizes (subst (λ (t : Task). CanDo s t 0) is c.requires.can))
 
 pub returns-in-Visit-default-eq0-clause-less : goal.returns-in-Visit-default-eq0-clause-less
 returns-in-Visit-default-eq0-clause-less c = gone_less c.args.tasks.now.items c.args.task
