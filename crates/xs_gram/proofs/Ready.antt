@@ -6,12 +6,12 @@ use Rattle.xs_gram.specs.declared.parts.GItem.TheVariants.{Fixed, Term, Non, Ski
 use Rattle.xs_gram.specs.declared.parts.RulePart.{RulePart}
 use Rattle.xs_gram.specs.declared.parts.Terminal.{Terminal}
 use Rattle.xs_gram.specs.declared.parts.GramParts.{GramParts}
-use Rattle.xs_gram.specs.Grammar.{Grammar, no_rule, no_terminal, no_ignorable, items, slots, term_of, skip_of}
+use Rattle.xs_gram.specs.Grammar.{Grammar, no_rule, no_terminal, no_ignorable, items, slots, term_of, skip_of, fixed_symbols, symbols_count}
 use Rattle.xs_gram.specs.Fences.{fence_symbols, spread_items, IsLevel, level_none, AvoidsFences}
 use Rattle.xs_gram.specs.Laws.{IsDistinct, IsNumbered, HasNumberedSlots}
 use Rattle.xs_gram.specs.Sound.{IsInRange, HasAutomata, IsProper}
 use Rattle.xs_gram.specs.Places.{positions_of, insides, rule_places, places_from}
-use Rattle.xs_gram.specs.Building.{EachOf, NamesAreThere, fixed_symbols, items_count, symbols_count, IsRuleAmong, IsFit, CanBuild, HasProperFences, IsOf, skip_part, TermHasAutomaton, SkipHasAutomaton, IsReady}
+use Rattle.xs_gram.specs.Building.{EachOf, NamesAreThere, items_count, IsRuleAmong, IsFit, CanBuild, HasProperFences, IsOf, skip_part, TermHasAutomaton, SkipHasAutomaton, IsReady}
 use Rattle.xs_gram.proofs.Numbers.{length-insides}
 use Rattle.xs_gram.proofs.Spreading.{spread_short}
 
@@ -124,6 +124,7 @@ ready parts g can of term_automata skip_automata =
           items = λ p. omega (arith, items_within g.rules p, many_items, can.items);
           terms = omega (arith, many_terms, can.terms);
           skips = omega (arith, many_skips, can.skips);
+          symbols = omega (arith, ap symbols_count of.rules, can.symbols);
         };
         slots = numbered g (each_weaker (IsRuleAmong g.nons (length g.terms) (length g.skips)) (λ r. IsNumbered (slots r.items)) (λ r a. a.slots) g.rules rules);
         automata = with_automata g term_automata skip_automata fit_terms fit_skips;

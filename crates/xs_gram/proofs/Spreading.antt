@@ -5,9 +5,9 @@ use Rattle.std.specs.declared.option.Option.{Option}
 use Rattle.xs_gram.specs.declared.parts.GItem.{GItem}
 use Rattle.xs_gram.specs.declared.parts.GItem.TheVariants.{Fixed, Term, Non, Skip}
 use Rattle.xs_gram.specs.Fences.{is_fence, after_word, split_word, spread_items, spread}
-use Rattle.xs_gram.specs.Grammar.{Grammar, items}
+use Rattle.xs_gram.specs.Grammar.{Grammar, items, fixed_symbols}
 use Rattle.xs_gram.specs.Sound.{IsInRange}
-use Rattle.xs_gram.specs.Building.{NamesAreThere, fixed_symbols}
+use Rattle.xs_gram.specs.Building.{NamesAreThere}
 use Rattle.xs_gram.specs.Spreading.{waiting, waiting_from, partner_from, partners}
 use Rattle.xs_class.proofs.Lists.{some_inj}
 use Rattle.xs_gram.proofs.Building.{drop_next}

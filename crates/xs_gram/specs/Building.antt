@@ -10,7 +10,7 @@ use Rattle.xs_gram.specs.declared.parts.SkipPart.{SkipPart}
 use Rattle.xs_gram.specs.declared.parts.Ignorable.{Ignorable}
 use Rattle.xs_gram.specs.declared.parts.GramParts.{GramParts}
 use Rattle.xs_gram.specs.declared.places.Place.{Place}
-use Rattle.xs_gram.specs.Grammar.{Grammar, items, slots}
+use Rattle.xs_gram.specs.Grammar.{Grammar, items, slots, symbols_count}
 use Rattle.xs_gram.specs.Laws.{IsDistinct, IsNumbered}
 use Rattle.xs_gram.specs.Fences.{fence_symbols, spread_items, spread, IsLevel, AvoidsFences}
 use Rattle.xs_gram.specs.Sound.{IsAutomaton, IsBuilt}
@@ -32,21 +32,10 @@ NamesThere nons terms skips (Skip k) = k < skips
 abbrev pub NamesAreThere : Grammar → GItem → Type 0
 NamesAreThere g i = NamesThere g.nons (length g.terms) (length g.skips) i
 
--- how many symbols the fixed words of items have, and how many items and such symbols rules have
-abbrev pub fixed_symbols : List GItem → ℕ
-fixed_symbols [] = 0
-fixed_symbols (Fixed f ∷ is) = length f + fixed_symbols is
-fixed_symbols (Term t s ∷ is) = fixed_symbols is
-fixed_symbols (Non n s ∷ is) = fixed_symbols is
-fixed_symbols (Skip k ∷ is) = fixed_symbols is
-
+-- how many items rules have
 abbrev pub items_count : List RulePart → ℕ
 items_count [] = 0
 items_count (r ∷ rs) = length r.items + items_count rs
-
-abbrev pub symbols_count : List RulePart → ℕ
-symbols_count [] = 0
-symbols_count (r ∷ rs) = fixed_symbols r.items + symbols_count rs
 
 -- the rule's nonterminal and what its items name are there, no fixed word is empty, and its slots
 -- are the numbers from 0 on, each once

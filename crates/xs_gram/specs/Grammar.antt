@@ -1,5 +1,5 @@
 -- One side of a sheet: its start, its rules, its terminals and ignorables, and its fences.
-use Rattle.std.specs.Prelude.{◌≡◌, ℕ, ◌<◌, List, [], ◌∷◌, length, false, slice_get, slice_index_or, Some}
+use Rattle.std.specs.Prelude.{◌≡◌, ℕ, ◌+◌, ◌<◌, List, [], ◌∷◌, length, false, slice_get, slice_index_or, Some}
 use Rattle.xs_regex.specs.declared.regex.Regex.TheVariants.{Empty}
 use Rattle.xs_regex.specs.declared.position.Position.{Position}
 use Rattle.xs_regex.specs.Matches.{Matches}
@@ -68,3 +68,15 @@ slots (Fixed w ∷ is) = slots is
 slots (Term t s ∷ is) = s ∷ slots is
 slots (Non n s ∷ is) = s ∷ slots is
 slots (Skip k ∷ is) = slots is
+
+-- how many symbols the fixed words of items have, and those of all rules
+abbrev pub fixed_symbols : List GItem → ℕ
+fixed_symbols [] = 0
+fixed_symbols (Fixed f ∷ is) = length f + fixed_symbols is
+fixed_symbols (Term t s ∷ is) = fixed_symbols is
+fixed_symbols (Non n s ∷ is) = fixed_symbols is
+fixed_symbols (Skip k ∷ is) = fixed_symbols is
+
+abbrev pub symbols_count : List RulePart → ℕ
+symbols_count [] = 0
+symbols_count (r ∷ rs) = fixed_symbols r.items + symbols_count rs

@@ -8,7 +8,7 @@ use Rattle.xs_regex.specs.Links.{IsGlushkov}
 use Rattle.xs_regex.specs.Size.{size, sets, IsBounded, HasMembers}
 use Rattle.xs_gram.specs.declared.parts.GItem.{GItem}
 use Rattle.xs_gram.specs.declared.parts.GItem.TheVariants.{Fixed, Term, Non, Skip}
-use Rattle.xs_gram.specs.Grammar.{Grammar, rule_of, term_of, skip_of, items, IsRuleOf, ItemAt, IsTermWord, IsSkipWord}
+use Rattle.xs_gram.specs.Grammar.{Grammar, rule_of, term_of, skip_of, items, IsRuleOf, ItemAt, IsTermWord, IsSkipWord, symbols_count}
 use Rattle.xs_gram.specs.Derivations.{Derivation, Fits, yield}
 use Rattle.xs_gram.specs.Fences.{fence_symbols, spread, IsLevel, AvoidsFences}
 use Rattle.xs_gram.specs.Laws.{IsDistinct, HasNumberedSlots}
@@ -34,12 +34,14 @@ pub record IsInRange (g : Grammar) : Type 0 where
   pub skips : (p n k : ℕ) → ItemAt g p n (Skip k) → k < length g.skips
   pub words : (p n : ℕ) (f : List ℕ) → ItemAt g p n (Fixed f) → 0 < length f
 
--- rules, their items, terminals and ignorables can be counted by 16 bits
+-- rules, the items of each, terminals, ignorables, and the symbols of all fixed words can be counted
+-- by 16 bits
 pub record IsSmall (g : Grammar) : Type 0 where
   pub rules : length g.rules < 65536
   pub items : (p : ℕ) → length (items g p) < 65536
   pub terms : length g.terms < 65536
   pub skips : length g.skips < 65536
+  pub symbols : symbols_count g.rules < 65536
 
 -- the regexes have at most 512 positions, no count out of order, and their automata beside them
 pub record HasAutomata (g : Grammar) : Type 0 where

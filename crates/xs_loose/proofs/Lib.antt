@@ -17,6 +17,7 @@ pub mod Moving
 pub mod Owning
 pub mod Going
 pub mod Numbering
+pub mod Counting
 pub mod Ranking
 pub mod Placing
 pub mod Finishing

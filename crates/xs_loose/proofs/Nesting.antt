@@ -20,10 +20,11 @@ use Rattle.xs_loose.specs.declared.part.Part.{Part}
 use Rattle.xs_loose.specs.declared.part.Fenced.{Fenced}
 use Rattle.xs_loose.specs.declared.fault.LooseFault.{LooseFault}
 use Rattle.xs_loose.specs.declared.fault.LooseFault.TheVariants.{Heavy, Memory}
-use Rattle.xs_loose.specs.Groups.{lefts, groups_before, group_number, HasFewGroups}
+use Rattle.xs_loose.specs.Groups.{lefts, groups_before, group_number}
 use Rattle.xs_loose.specs.Nesting.{HasGroupsBefore, IsNestBefore}
 use Rattle.xs_loose.specs.Nets.{IsNumbered, IsNetOf, HasItsWeight, IsGroupOf, IsNestOf, HasInside, IsNestCause}
 use Rattle.xs_loose.specs.Parts.{part_items, IsPart, IsFencedAt, AreLight, IsCause}
+use Rattle.xs_loose.proofs.Counting.{groups_few}
 use Rattle.xs_loose.proofs.Numbering.{item_at, left_counts, other_counts, number_low}
 
 -- the fences of a group, and its inside, by their places
@@ -117,8 +118,8 @@ pub partner_of : {g : Grammar} {p k : ℕ} {f : Fenced} → IsFencedAt g p k f �
 partner_of {g} {p} {k} {f} is = record { left = f.left; inside = part_items g f.inside; right = f.right; group = is.at }
 
 -- one more group can be numbered
-pub group_low : (g : Grammar) (p k m n : ℕ) → p < length g.rules → HasFewGroups g → IsPartner g.fences (spread g p) k m → n ≡ group_number g p k → n < 2 ^ 32 - 1
-group_low g p k m n low few partner e = omega (arith, few, left_counts g.fences (spread g p) k m partner, number_low g p (k + 1) low)
+pub group_low : (g : Grammar) (p k m n : ℕ) → p < length g.rules → IsBuilt g → IsPartner g.fences (spread g p) k m → n ≡ group_number g p k → n < 2 ^ 32 - 1
+group_low g p k m n low built partner e = omega (arith, groups_few g built, left_counts g.fences (spread g p) k m partner, number_low g p (k + 1) low)
 
 -- a pair before the next place is before this one, or this one
 before_next : (q j p k : ℕ) → IsBefore q j p (k + 1) → IsBefore q j p k ⊎ ((q ≡ p) × (j ≡ k))

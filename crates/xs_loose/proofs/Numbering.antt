@@ -13,7 +13,7 @@ use Rattle.xs_gram.proofs.Partners.{opens_item}
 use Rattle.xs_loose.specs.Groups.{lefts, groups_before, groups_count}
 
 -- one more where the test holds
-abbrev one_if : Bool → ℕ → ℕ
+abbrev pub one_if : Bool → ℕ → ℕ
 one_if b n = elim b [
   | true ↦ suc n
   | false ↦ n

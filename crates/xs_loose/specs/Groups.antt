@@ -1,5 +1,5 @@
 -- The numbers of a grammar's groups: by rule, and in a rule by the place of the left fence.
-use Rattle.std.specs.Prelude.{ℕ, zero, suc, ◌+◌, ◌-◌, ◌<◌, ◌^◌, List, [], ◌∷◌, length, take, true, false}
+use Rattle.std.specs.Prelude.{ℕ, zero, suc, ◌+◌, List, [], ◌∷◌, length, take, true, false}
 use Rattle.xs_gram.specs.declared.parts.GItem.{GItem}
 use Rattle.xs_gram.specs.Grammar.{Grammar}
 use Rattle.xs_gram.specs.Fences.{spread}
@@ -25,7 +25,3 @@ groups_count g = groups_before g (length g.rules)
 -- the number of the group whose left fence is spread item k of rule p
 abbrev pub group_number : Grammar → ℕ → ℕ → ℕ
 group_number g p k = groups_before g p + lefts g.fences (take k (spread g p))
-
--- the groups can be numbered by 32 bits
-abbrev pub HasFewGroups : Grammar → Type 0
-HasFewGroups g = groups_count g < 2 ^ 32 - 1

@@ -14,7 +14,7 @@ pub mod Walking
 pub mod Weighing
 pub mod Work
 -- what other crates' contracts cite
-pub use Rattle.xs_loose.specs.Groups.{HasFewGroups, group_number, groups_before, groups_count, lefts}
+pub use Rattle.xs_loose.specs.Groups.{group_number, groups_before, groups_count, lefts}
 pub use Rattle.xs_loose.specs.Nets.{IsNestOf, IsNetOf}
 pub use Rattle.xs_loose.specs.Parts.{AreLight, IsPart, part_items}
 pub use Rattle.xs_loose.specs.Steps.{StandsAt}

@@ -8,15 +8,13 @@ use Rattle.xs_gram.specs.Sound.{IsBuilt}
 use Rattle.xs_loose.specs.declared.site.Site.{Site}
 use Rattle.xs_loose.specs.declared.site.Task.{Task}
 use Rattle.xs_loose.specs.Arcs.{Arc}
-use Rattle.xs_loose.specs.Groups.{HasFewGroups}
 use Rattle.xs_loose.specs.Growth.{HasArc, GrowsBy}
 use Rattle.xs_loose.specs.Laying.{LaysComponent}
 use Rattle.xs_loose.specs.Tables.{AreTables}
 
--- a grammar that was built and has few groups, with its components and its tables
+-- a grammar that was built, with its components and its tables
 pub record IsSite (s : Site) : Type 0 where
   pub built : IsBuilt s.g.now
-  pub few : HasFewGroups s.g.now
   pub comps : AreComponents s.g.now s.comps.now
   pub tables : AreTables s.g.now s.comps.now s.tables.now
 

@@ -1,7 +1,6 @@
 ghost use Rattle.std.specs.Prelude.{◌+◌, ◌<◌, length, IfOk, IfErr, OnOk};
 ghost use Rattle.xs_auto.specs.{IsFenced};
 ghost use Rattle.xs_gram.specs.{spread, AreComponents, IsBuilt};
-ghost use Rattle.xs_loose.specs.Groups.{HasFewGroups};
 ghost use Rattle.xs_loose.specs.Nesting.{IsNestBefore};
 ghost use Rattle.xs_loose.specs.Nets.{IsNestOf, IsNestCause};
 ghost use Rattle.xs_loose.specs.Tables.{AreTables};
@@ -35,7 +34,6 @@ pub fn nest_by(alloc: Global, g: &Gram, comps: &Comps, tables: &Tables) -> Resul
     requires built { IsBuilt g.now }
     requires comps { AreComponents g.now comps.now }
     requires tables { AreTables g.now comps.now tables.now }
-    requires few { HasFewGroups g.now }
     ensures nest { IfOk result (IsNestOf g.now) }
     ensures fault { IfErr result (IsNestCause g.now) }
 {

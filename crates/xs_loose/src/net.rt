@@ -2,7 +2,6 @@ ghost use Rattle.std.specs.Prelude.{◌≡◌, suc, ◌<◌, ◌≤◌, IfOk, If
 ghost use Rattle.xs_auto.specs.{states};
 ghost use Rattle.xs_gram.specs.{AreComponents, IsBuilt};
 ghost use Rattle.xs_check_laws.specs.{heaviest, PartWeighs};
-ghost use Rattle.xs_loose.specs.Groups.{HasFewGroups};
 ghost use Rattle.xs_loose.specs.Laws.{AcceptsLooseWords, IsSearchable};
 ghost use Rattle.xs_loose.specs.Making.{IsBlank};
 ghost use Rattle.xs_loose.specs.Nets.{IsNetOf, HasItsWeight};
@@ -52,7 +51,6 @@ pub fn net_by(
     requires built { IsBuilt g.now }
     requires comps { AreComponents g.now comps.now }
     requires tables { AreTables g.now comps.now tables.now }
-    requires few { HasFewGroups g.now }
     requires part { IsPart g.now part.now }
     ensures net { IfOk result (IsNetOf g.now part.now) }
     ensures weight { IfOk result (HasItsWeight g.now (part_items g.now part.now)) }

@@ -1,6 +1,6 @@
-ghost use Rattle.std.specs.Prelude.{◌≡◌, ℕ, ◌+◌, ◌-◌, ◌<◌, ◌^◌, length, take, slice_index_or, IfOk, OnOk};
+ghost use Rattle.std.specs.Prelude.{◌≡◌, ℕ, ◌+◌, ◌-◌, ◌<◌, ◌^◌, length, take, slice_index_or, IfOk};
 ghost use Rattle.xs_gram.specs.{spread, AreComponents, IsBuilt};
-ghost use Rattle.xs_loose.specs.Groups.{groups_before, lefts, HasFewGroups};
+ghost use Rattle.xs_loose.specs.Groups.{groups_before, lefts};
 ghost use Rattle.xs_loose.specs.Tables.{AreRanks, AreNumbersBefore, AreTables};
 
 use crate::components::Components;
@@ -24,14 +24,10 @@ pub struct Tables {
 impl Tables {
     /// The tables of a grammar, in time linear in its nonterminals, its rules and their spread
     /// items.
-    ///
-    /// A grammar with 2^32 - 1 groups or more gives `Memory`, since groups are numbered by 32 bits;
-    /// its fence symbols alone take some 32 GiB.
     pub fn of(alloc: Global, g: &Gram, comps: &Comps) -> Result<Tables, Memory>
         requires built { IsBuilt g.now }
         requires comps { AreComponents g.now comps.now }
-        ensures tables { IfOk result (AreTables g.now comps.now) }
-        ensures few { OnOk result (HasFewGroups g.now) }
+        ensures { IfOk result (AreTables g.now comps.now) }
     {
         let lists = Components::of(alloc, g, comps)?;
         let weights = lists.weights(alloc, g, comps)?;
@@ -64,38 +60,32 @@ fn ranks(alloc: Global, g: &Gram, comps: &Comps, count: usize) -> Result<Numbers
     Ok(Numbers::from_vec(ranks))
 }
 
-/// For each rule how many groups the rules before it have; want of memory where the numbers of
-/// groups have run out.
+/// For each rule how many groups the rules before it have.
 fn groups(alloc: Global, g: &Gram) -> Result<Numbers, Memory>
-    ensures numbers { IfOk result (AreNumbersBefore g.now (length g.now.rules)) }
-    ensures few { OnOk result (HasFewGroups g.now) }
+    requires { IsBuilt g.now }
+    ensures { IfOk result (AreNumbersBefore g.now (length g.now.rules)) }
 {
     let mut groups = Vec::with_capacity(alloc, g.rules() as usize)?;
     let mut number = 0;
     'rules: for rule in 0..g.rules() {
         groups.push(number)?;
-        number = after_rule(g, rule, number)?;
+        number = after_rule(g, rule, number);
     }
     Ok(Numbers::from_vec(groups))
 }
 
-/// The number of the first group after a rule; want of memory where the numbers of groups have run
-/// out.
-fn after_rule(g: &Gram, rule: u32, number: u32) -> Result<u32, Memory>
+/// The number of the first group after a rule, by that of its first one.
+fn after_rule(g: &Gram, rule: u32, number: u32) -> u32
+    requires built { IsBuilt g.now }
     requires rule { rule < length g.now.rules }
     requires number { number ≡ groups_before g.now rule }
-    requires low { number < 2 ^ 32 - 1 }
-    ensures number { IfOk result (λ n. n ≡ groups_before g.now (rule + 1)) }
-    ensures low { IfOk result (λ n. n < 2 ^ 32 - 1) }
+    ensures { result ≡ groups_before g.now (rule + 1) }
 {
     let mut number = number;
     'items: for place in 0..g.spread(rule).len() as u32 {
         number = after_place(g, rule, place, number);
-        if number == u32::MAX {
-            return Err(Memory);
-        }
     }
-    Ok(number)
+    number
 }
 
 /// The number of the first group after a spread item's place, by that of the first one from there

@@ -14,10 +14,10 @@ use Rattle.xs_sheet.specs.declared.item.Item.TheVariants as I
 use Rattle.xs_sheet.specs.declared.unit.Unit.{Unit}
 use Rattle.xs_gram.specs.declared.parts.GItem.{GItem}
 use Rattle.xs_gram.specs.declared.parts.GItem.TheVariants.{Fixed, Term, Non, Skip}
-use Rattle.xs_gram.specs.Grammar.{slots}
+use Rattle.xs_gram.specs.Grammar.{slots, fixed_symbols}
 use Rattle.xs_gram.specs.Laws.{IsNumbered, Every}
 use Rattle.xs_gram.specs.Laws as L
-use Rattle.xs_gram.specs.Building.{EachOf, NamesThere, fixed_symbols}
+use Rattle.xs_gram.specs.Building.{EachOf, NamesThere}
 use Rattle.xs_pair.specs.declared.mark.Mark.{Mark}
 use Rattle.xs_pair.specs.declared.mark.Mark.TheVariants.{Opening, Attribute, AttributeEnd, Closing, Value, Content}
 use Rattle.xs_pair.specs.declared.names.Sort.TheVariants as S

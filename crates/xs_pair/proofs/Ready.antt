@@ -12,12 +12,12 @@ use Rattle.xs_sheet.specs.declared.unit.Unit.TheVariants as V
 use Rattle.xs_sheet.specs.Grammar.{IsSheetOf}
 use Rattle.xs_gram.specs.declared.parts.SkipPart.{SkipPart}
 use Rattle.xs_gram.specs.declared.parts.GramParts.{GramParts}
-use Rattle.xs_gram.specs.Grammar.{slots}
+use Rattle.xs_gram.specs.Grammar.{slots, symbols_count}
 use Rattle.xs_gram.specs.Laws.{IsDistinct, IsNumbered}
 use Rattle.xs_gram.specs.Fences.{fence_symbols, spread_items, IsLevel, AvoidsFences}
 use Rattle.xs_gram.proofs.Unfenced.{level_unfenced, avoids_unfenced}
 use Rattle.xs_gram.specs.Grammar.{Grammar}
-use Rattle.xs_gram.specs.Building.{EachOf, NamesThere, IsRuleAmong, IsFit, IsOf, CanBuild, HasProperFences, items_count, symbols_count}
+use Rattle.xs_gram.specs.Building.{EachOf, NamesThere, IsRuleAmong, IsFit, IsOf, CanBuild, HasProperFences, items_count}
 use Rattle.xs_pair.specs.declared.ill.IllRule.TheVariants.{Undefined, NoStart, NameOnce, Kind}
 use Rattle.xs_pair.specs.declared.mark.Mark.{Mark}
 use Rattle.xs_pair.specs.declared.mark.Mark.TheVariants.{Opening, Attribute, AttributeEnd, Closing, Value, Content}

@@ -9,7 +9,6 @@ use Rattle.xs_gram.specs.Loose.{AreComponents, IsLoose}
 use Rattle.xs_gram.specs.Suspects.{IsHorizontal}
 use Rattle.xs_check_laws.specs.Acceptance.{IsLight}
 use Rattle.xs_loose.specs.declared.tables.Tables.{Tables}
-use Rattle.xs_loose.specs.Groups.{HasFewGroups}
 use Rattle.xs_loose.specs.Tables.{AreTables}
 use Rattle.xs_screen.specs.declared.screen.Screen.{Screen}
 use Rattle.xs_screen.specs.Screens.{IsScreen}
@@ -36,7 +35,6 @@ pub record IsReady (g : Grammar) (cs : List ℕ) (ts : Tables) (quick : Option S
   pub built : IsBuilt g
   pub comps : AreComponents g cs
   pub tables : AreTables g cs ts
-  pub few : HasFewGroups g
   pub light : IsLight g
   pub screen : IfSome quick (IsScreen g)
   pub exact : IfSome searches (IsExactFor g)

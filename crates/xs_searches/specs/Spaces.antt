@@ -10,7 +10,6 @@ use Rattle.xs_gram.specs.Cuts.{CutsAt}
 use Rattle.xs_gram.specs.Loose.{AreComponents, IsLoose}
 use Rattle.xs_check_laws.specs.Acceptance.{IsLight}
 use Rattle.xs_meet.specs.Sharing.{IsSharedOf}
-use Rattle.xs_loose.specs.Groups.{HasFewGroups}
 use Rattle.xs_loose.specs.Nets.{IsNumbered, IsNestOf}
 use Rattle.xs_loose.specs.Tables.{AreTables}
 use Rattle.xs_searches.specs.declared.nets.CutNets.{CutNets}
@@ -22,7 +21,6 @@ pub record IsSite (s : Site) : Type 0 where
   pub built : IsBuilt s.g.now
   pub comps : AreComponents s.g.now s.comps.now
   pub tables : AreTables s.g.now s.comps.now s.tables.now
-  pub few : HasFewGroups s.g.now
   pub light : IsLight s.g.now
 
 -- the same with the nest of its groups, and which of them share a word

@@ -1,7 +1,7 @@
 ghost use Rattle.std.specs.Prelude.{ℕ, ◌≡◌, ◌<◌, List, length, IfOk, IfSome, IfNone};
 ghost use Rattle.xs_gram.specs.{spread, AreComponents, IsBuilt, IsHorizontal};
 ghost use Rattle.xs_check_laws.specs.{IsLight};
-ghost use Rattle.xs_loose.specs.{HasFewGroups, AreTables};
+ghost use Rattle.xs_loose.specs.{AreTables};
 ghost use Rattle.xs_searches.specs.Searching.{AreBothLoose, OverlapsAt, IsExactFor};
 ghost use Rattle.xs_searches.specs.Spaces.{IsSpace};
 
@@ -30,7 +30,6 @@ impl<'g> Exact<'g> {
         requires built { IsBuilt g.now }
         requires comps { AreComponents g.now comps.now }
         requires tables { AreTables g.now comps.now tables.now }
-        requires few { HasFewGroups g.now }
         requires light { IsLight g.now }
         ensures { IfOk result (IsExactFor g.now) }
     {

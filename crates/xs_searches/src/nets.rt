@@ -1,7 +1,7 @@
 ghost use Rattle.std.specs.Prelude.{◌≡◌, ◌<◌, length, IfOk};
 ghost use Rattle.xs_gram.specs.{spread, AreComponents, IsBuilt};
 ghost use Rattle.xs_check_laws.specs.{IsLight};
-ghost use Rattle.xs_loose.specs.{HasFewGroups, IsNetOf, IsNestOf, IsPart, part_items, AreLight, AreTables};
+ghost use Rattle.xs_loose.specs.{IsNetOf, IsNestOf, IsPart, part_items, AreLight, AreTables};
 ghost use Rattle.xs_searches.specs.Spaces.{IsSite, IsRuleNet, AreNumbered};
 
 use std::alloc::Global;

@@ -1,7 +1,7 @@
 ghost use Rattle.std.specs.Prelude.{ℕ, ◌≡◌, ◌<◌, true, List, length, IfOk, OnOk, IfSome, IfNone};
 ghost use Rattle.xs_gram.specs.{spread, AreComponents, IsBuilt, IsHorizontal};
 ghost use Rattle.xs_check_laws.specs.{IsLight};
-ghost use Rattle.xs_loose.specs.{HasFewGroups, AreTables};
+ghost use Rattle.xs_loose.specs.{AreTables};
 ghost use Rattle.xs_screen.specs.{ShareNone, AreDoubts};
 ghost use Rattle.xs_searches.specs.Searching.{AreBothLoose, OverlapsAt, IsExactFor};
 
@@ -56,7 +56,6 @@ impl<'g> Searches<'g> {
         requires built { IsBuilt g.now }
         requires comps { AreComponents g.now comps.now }
         requires tables { AreTables g.now comps.now tables.now }
-        requires few { HasFewGroups g.now }
         requires light { IsLight g.now }
         ensures { IfOk result (λ s. s ≡ g.now) }
     {
@@ -75,7 +74,6 @@ impl<'g> Searches<'g> {
         requires built { IsBuilt g.now }
         requires comps { AreComponents g.now comps.now }
         requires tables { AreTables g.now comps.now tables.now }
-        requires few { HasFewGroups g.now }
         requires light { IsLight g.now }
         ensures { IfOk result (λ s. s ≡ g.now) }
     {

@@ -3,7 +3,7 @@ ghost use Rattle.xs_auto.specs.{states, group_at, IsFenced};
 ghost use Rattle.xs_gram.specs.{AreComponents, IsBuilt};
 ghost use Rattle.xs_check_laws.specs.{IsLight};
 ghost use Rattle.xs_meet.specs.{IsSharedOf};
-ghost use Rattle.xs_loose.specs.{HasFewGroups, IsNestOf, AreTables};
+ghost use Rattle.xs_loose.specs.{IsNestOf, AreTables};
 ghost use Rattle.xs_gram.specs.{spread};
 ghost use Rattle.xs_searches.specs.Spaces.{IsSpace, AcceptsLoose, AreCutNets};
 
@@ -38,7 +38,6 @@ impl<'g> SearchSpace<'g> {
         requires built { IsBuilt g.now }
         requires comps { AreComponents g.now comps.now }
         requires tables { AreTables g.now comps.now tables.now }
-        requires few { HasFewGroups g.now }
         requires light { IsLight g.now }
         ensures space { IfOk result IsSpace }
         ensures grammar { IfOk result (λ s. s.site.g.now ≡ g.now) }

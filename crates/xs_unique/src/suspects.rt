@@ -1,7 +1,7 @@
 ghost use Rattle.std.specs.Prelude.{IfErr, OnOk};
 ghost use Rattle.xs_gram.specs.{AreComponents, IsBuilt};
 ghost use Rattle.xs_check_laws.specs.{IsLight, HasNoSuspect};
-ghost use Rattle.xs_loose.specs.{HasFewGroups, AreTables};
+ghost use Rattle.xs_loose.specs.{AreTables};
 ghost use Rattle.xs_unique.specs.Reasons.{IsUnclear};
 
 use crate::AcceptFault;
@@ -26,7 +26,6 @@ pub fn clear(
     requires built { IsBuilt g.now }
     requires comps { AreComponents g.now comps.now }
     requires tables { AreTables g.now comps.now tables.now }
-    requires few { HasFewGroups g.now }
     requires light { IsLight g.now }
     ensures clear { OnOk result (HasNoSuspect g.now) }
     ensures fault { IfErr result (IsUnclear side g.now) }

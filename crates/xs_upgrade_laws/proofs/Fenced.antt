@@ -88,7 +88,7 @@ derivations_join g h k one two = record {
 pub built_with : (g : Grammar) (fs : List (ℕ × ℕ)) → IsBuilt g → IsProper (with_fences g fs) → IsBuilt (with_fences g fs)
 built_with g fs built proper = record {
   range = record { start = built.range.start; rules = built.range.rules; terms = built.range.terms; nons = built.range.nons; skips = built.range.skips; words = built.range.words };
-  small = record { rules = built.small.rules; items = built.small.items; terms = built.small.terms; skips = built.small.skips };
+  small = record { rules = built.small.rules; items = built.small.items; terms = built.small.terms; skips = built.small.skips; symbols = built.small.symbols };
   slots = built.slots;
   automata = record { terms = built.automata.terms; skips = built.automata.skips; terms_bounded = built.automata.terms_bounded; skips_bounded = built.automata.skips_bounded };
   proper = proper;

@@ -15,7 +15,7 @@ returns-in_err-content-clause-fault c =
 pub group-requires : goal.group-requires
 group-requires c =
     let f = c.in-Some.fenced in
-    group_low c.args.site.now.g.now c.args.rule c.args.place f.inside.end (length c.args.nest.now) c.requires.rule c.requires.site.few (partner_of c.in-Some.ensures.some) c.requires.nest.counted
+    group_low c.args.site.now.g.now c.args.rule c.args.place f.inside.end (length c.args.nest.now) c.requires.rule c.requires.site.built (partner_of c.in-Some.ensures.some) c.requires.nest.counted
 
 pub returns-clause-nest : goal.returns-clause-nest
 returns-clause-nest c =

@@ -1,4 +1,4 @@
-use Rattle.std.proofs.Common.{◌≡◌, ◌-◌, ◌<◌, ◌^◌}
+use Rattle.std.proofs.Common.{◌≡◌}
 use Rattle.xs_loose.specs.Groups.{groups_before}
 use Rattle.xs_loose.specs.Tables.{AreNumbersBefore}
 use Rattle.xs_loose.proofs.tables.groups.Given as goal
@@ -6,6 +6,5 @@ use Rattle.xs_loose.proofs.tables.groups.Given as goal
 abbrev pub invariant-rules : goal.invariant-rules
 invariant-rules l = record {
   number : l.number ≡ groups_before l.g l.rule;
-  low : l.number < 2 ^ 32 - 1;
   groups : AreNumbersBefore l.g l.rule l.groups.items;
 }

@@ -2,6 +2,7 @@ use Rattle.std.proofs.Common.{◌≡◌, ℕ, subst, arith}
 use Rattle.xs_auto.specs.Nets.{states}
 use Rattle.xs_loose.specs.Parts.{part_items}
 use Rattle.xs_loose.proofs.Going.{Gone, gone_none, gone_more, gone_done, gone_at}
+use Rattle.xs_loose.proofs.Counting.{groups_few}
 use Rattle.xs_loose.proofs.Numbering.{number_low}
 use Rattle.xs_loose.proofs.Pushing.{element_is}
 use Rattle.xs_loose.proofs.Stretches.{part_stretch, part_long}
@@ -20,7 +21,7 @@ items-init c =
     }
 
 pub after_place-number-requires-clause-low : goal.after_place-number-requires-clause-low
-after_place-number-requires-clause-low c = omega (arith, c.items.invariant.number, c.requires.site.few, number_low c.args.self.now.site.now.g.now c.args.part.rule c.items.place c.requires.part.rule)
+after_place-number-requires-clause-low c = omega (arith, c.items.invariant.number, groups_few c.args.self.now.site.now.g.now c.requires.site.built, number_low c.args.self.now.site.now.g.now c.args.part.rule c.items.place c.requires.part.rule)
 
 pub lay_next-requires-clause-room : goal.lay_next-requires-clause-room
 lay_next-requires-clause-room c =
