@@ -1,0 +1,10 @@
+use Rattle.std.proofs.Common.{subst}
+use Rattle.xs_class.specs.declared.side.Side.{Side}
+use Rattle.xs_chars.specs.declared.form.Form.{Form}
+use Rattle.xs_c.specs.declared.working.Work.TheVariants as W
+use Rattle.xs_c.specs.Works.{IsDone, side_of}
+use Rattle.xs_c.proofs.documents.xsugar_to_tree.Goals as goal
+
+pub returns-clause-done : goal.returns-clause-done
+returns-clause-done c = subst (λ (form : Form). IsDone c.args.sheet.now.held.kept (W.Outline (side_of c.args.from) form) c.args.document.now c.args.answer.now c.done.new.answer c.done.result) c.form.ensures
+    (subst (λ (side : Side). IsDone c.args.sheet.now.held.kept (W.Outline side c.form.result) c.args.document.now c.args.answer.now c.done.new.answer c.done.result) c.side.ensures c.done.ensures.done)

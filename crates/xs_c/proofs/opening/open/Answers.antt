@@ -1,0 +1,18 @@
+use Rattle.std.proofs.Common.{ℕ, List, Some, ap, subst, ◌∙◌}
+use Rattle.xs_pair.specs.Grammars.{Pair}
+use Rattle.xs_talk.specs.declared.outcome.Outcome.TheVariants.{Done}
+use Rattle.xs_c.specs.Answers.{IsTold, IsRefusal}
+use Rattle.xs_c.specs.Sheets.{no_sheet, not_accepted, opened}
+use Rattle.xs_c.proofs.opening.open.Goals as goal
+
+pub returns-in-Err-Refused : goal.returns-in-Err-Refused
+returns-in-Err-Refused c = no_sheet c.in-Err-Refused.outcome c.take.ensures.closed c.in-Err-Refused.ensures.stop
+    (subst (λ (names : List (List ℕ)). IsRefusal names c.in-Err-Refused.outcome c.args.answer.now c.refuse.new.answer c.refuse.result) c.in-Ok.ensures c.refuse.ensures)
+
+pub returns-in-Err-Refused-checked : goal.returns-in-Err-Refused-checked
+returns-in-Err-Refused-checked c = not_accepted c.in-Ok-pair.two c.in-Err-Refused-checked.outcome c.take.ensures.closed c.in-Ok-pair.ensures.pair c.in-Err-Refused-checked.ensures.stop
+    (subst (λ (names : List (List ℕ)). IsRefusal names c.in-Err-Refused-checked.outcome c.args.answer.now c.refuse-in-Err-Refused-checked.new.answer c.refuse-in-Err-Refused-checked.result) c.names.ensures c.refuse-in-Err-Refused-checked.ensures)
+
+pub returns : goal.returns
+returns c = opened c.in-Ok-pair.two (c.opened.ensures ∙ ap (λ (p : Pair). Some p) (c.in-Ok-new.ensures.ok ∙ c.of-2.ensures)) c.in-Ok-pair.ensures.pair c.in-Ok-checked.ensures.sure
+    (subst (λ (bytes : List ℕ). IsTold bytes Done c.tell.new.answer c.tell.result) c.new-2.ensures c.tell.ensures)
