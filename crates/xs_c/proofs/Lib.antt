@@ -1,3 +1,4 @@
 mod AsBox
 mod Files
 mod Statuses
+mod Texts

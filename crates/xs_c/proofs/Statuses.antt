@@ -69,8 +69,8 @@ told_status p work document CertLong h = other 7 (λ e. omega (arith, e)) (λ e.
 told_status p work document (CertBad line) h = other 9 (λ e. omega (arith, e)) (λ e. omega (arith, e))
 
 refusal_status : (names : List (List ℕ)) (o : Outcome) (before after : Answer) (status : ℕ) → IsNoRefusalOfSheet (status_of o) → IsRefusal names o before after status → IsNoRefusalOfSheet status
-refusal_status names o before after status no (inl told) = subst (λ (n : ℕ). IsNoRefusalOfSheet n) (sym told.status_is) no
-refusal_status names o before after status no (inr wanting) = subst (λ (n : ℕ). IsNoRefusalOfSheet n) (sym wanting.status_is) (other 8 (λ e. omega (arith, e)) (λ e. omega (arith, e)))
+refusal_status names o before after status neither (inl told) = subst (λ (n : ℕ). IsNoRefusalOfSheet n) (sym told.status_is) neither
+refusal_status names o before after status neither (inr wanting) = subst (λ (n : ℕ). IsNoRefusalOfSheet n) (sym wanting.status_is) (other 8 (λ e. omega (arith, e)) (λ e. omega (arith, e)))
 
 pub worked_status : (p : Pair) (work : Work) (document : List ℕ) (before after : Answer) (status : ℕ) → IsWorked p work document before after status → IsNoRefusalOfSheet status
 worked_status p work document before after status (done answer is told) = subst (λ (n : ℕ). IsNoRefusalOfSheet n) (sym told.status_is) (other 0 (λ e. omega (arith, e)) (λ e. omega (arith, e)))

@@ -10,11 +10,11 @@ use crate::answer::{Answer, MEMORY, refuse, tell};
 use crate::kept::Kept;
 use crate::sheet::Sheet;
 use std::alloc::Global;
-use xs_class::{Bytes, Names};
+use xs_class::Bytes;
 use xs_leiden::{leiden_sheet, leiden2_sheet};
 use xs_pair::Two;
 use xs_talk::Outcome;
-use xs_top::{SHEET_LIMIT, Stop, checked, writable_pair_of};
+use xs_top::{SHEET_LIMIT, Stop, checked, no_names, writable_pair_of};
 
 /// The two grammars of the well-formed sheet that the bytes spell.
 fn pair(alloc: Global, bytes: &[u8]) -> Result<Two, Stop>
@@ -34,7 +34,7 @@ fn open(alloc: Global, bytes: &[u8], sheet: &mut Sheet, answer: &mut Answer) -> 
     ensures { IsOpened bytes.now sheet.new.held.kept answer.old answer.new result }
 {
     drop(sheet.take(alloc));
-    let Ok(none) = Names::of(alloc, &[]) else {
+    let Ok(none) = no_names(alloc) else {
         return MEMORY;
     };
     let two = match pair(alloc, bytes) {

@@ -3,10 +3,10 @@ ghost use Rattle.xs_c.specs.Runs.{IsRan, IsEnded, IsRunDone, said, HasNoText};
 
 use crate::answer::{Answer, MEMORY, refuse, tell};
 use std::alloc::Global;
-use xs_class::{Bytes, Memory, Names, Text};
+use xs_class::{Bytes, Memory, Text};
 use xs_io::{MemSink, SureShelf, SureSource};
 use xs_talk::Outcome;
-use xs_top::run;
+use xs_top::{no_names, run};
 
 /// How many bytes a sink takes in one call.
 const STEP: usize = 65_536;
@@ -97,7 +97,7 @@ pub extern "C" fn xsugar_run(
 ) -> u32
     ensures { IsRunDone (said words.now) sheet.now certificate.now document.now answer.old answer.new result }
 {
-    let Ok(none) = Names::of(alloc, &[]) else {
+    let Ok(none) = no_names(alloc) else {
         return MEMORY;
     };
     match texts(alloc, words) {

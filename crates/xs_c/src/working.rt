@@ -47,8 +47,7 @@ fn answer_of(alloc: Global, kept: &Kept, work: Work, document: &[u8]) -> Result<
 
 /// Does a work by what is kept of a sheet, and tells C how it ended.
 fn worked(alloc: Global, kept: &Kept, work: Work, document: &[u8], answer: &mut Answer) -> u32
-    ensures worked { IsWorked kept.now work document.now answer.old answer.new result }
-    ensures accepted { IsNoRefusalOfSheet result }
+    ensures { IsWorked kept.now work document.now answer.old answer.new result }
 {
     match answer_of(alloc, kept, work, document) {
         Ok(bytes) => tell(answer, &Outcome::Done, bytes),

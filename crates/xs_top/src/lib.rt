@@ -31,7 +31,7 @@ mod written;
 use crate::answer::answer_of;
 use crate::asking::{Ask, asked};
 use crate::certified::certified;
-use crate::notes::{no_names, tell};
+use crate::notes::tell;
 use crate::sheets::{pair_for, shipped_bytes, upgrade_for};
 use crate::written::written;
 pub use answer::DOCUMENT_LIMIT;
@@ -41,6 +41,7 @@ pub use laws::{
     bytes_agree, certificates_decide, check_decides, one_answer, refuses_exactly,
     round_is_idempotent, translates_back,
 };
+pub use notes::no_names;
 pub use outcome::status;
 pub use outlined::{made_of_outline, outlined};
 pub use played::played;
