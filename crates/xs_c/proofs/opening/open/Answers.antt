@@ -17,5 +17,5 @@ returns-in-Err-Refused-checked c = not_accepted c.in-Ok-pair.two c.in-Err-Refuse
     (subst (λ (names : List (List ℕ)). IsRefusal names c.in-Err-Refused-checked.outcome c.args.answer.now c.refuse-in-Err-Refused-checked.new.answer c.refuse-in-Err-Refused-checked.result) c.names.ensures c.refuse-in-Err-Refused-checked.ensures)
 
 pub returns : goal.returns
-returns c = opened c.in-Ok-pair.two (c.opened.ensures ∙ ap (λ (p : Pair). Some p) (c.in-Ok-new.ensures.ok ∙ c.of-2.ensures)) c.in-Ok-pair.ensures.pair c.in-Ok-checked.ensures.sure
+returns c = opened c.in-Ok-pair.two (c.opened.ensures ∙ ap (λ (p : Pair). Some p) (c.in-Ok-new.ensures.ok ∙ c.of.ensures)) c.in-Ok-pair.ensures.pair c.in-Ok-checked.ensures.sure
     (subst (λ (bytes : List ℕ). IsTold bytes Done c.tell.new.answer c.tell.result) c.new-2.ensures c.tell.ensures)
