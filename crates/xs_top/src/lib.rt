@@ -9,7 +9,7 @@
 
 ghost use Rattle.std.specs.Prelude.{◌≡◌, map, string_bytes, IfOk, OnErr};
 ghost use Rattle.xs_top.specs.Devices.{shelves_of, input_of, output_of, run_of};
-ghost use Rattle.xs_top.specs.Ran.{Told, IsComplete};
+ghost use Rattle.xs_top.specs.Ran.{Told, IsComplete, Reads};
 
 mod answer;
 mod asking;
@@ -76,6 +76,7 @@ pub fn run<S: Source, H: Shelf, K: Sink, N: Sink>(
     ensures complete { IfOk result (IsComplete (run_of (map string_bytes words.now)
         (shelves_of H.files H.faults H.name_faults shelf.old shelf.new) (input_of S.left S.faults input.old input.new)
         (output_of K.taken K.faults out.old out.new) (output_of N.taken N.faults notes.old notes.new))) }
+    ensures reads { Reads (map string_bytes words.now) (input_of S.left S.faults input.old input.new) }
     ensures files { H.files shelf.new ≡ H.files shelf.old }
     ensures memory_out { OnErr result (out.new ≡ out.old) }
     ensures memory_notes { OnErr result (notes.new ≡ notes.old) }
