@@ -33,17 +33,21 @@ use crate::asking::{Ask, asked};
 use crate::certified::certified;
 use crate::notes::{no_names, tell};
 use crate::sheets::{pair_for, shipped_bytes, upgrade_for};
-use crate::stop::Stop;
 use crate::written::written;
 pub use answer::DOCUMENT_LIMIT;
 pub use certified::CERTIFICATE_LIMIT;
+pub use checked::checked;
 pub use laws::{
     bytes_agree, certificates_decide, check_decides, one_answer, refuses_exactly,
     round_is_idempotent, translates_back,
 };
 pub use outcome::status;
-pub use sheets::SHEET_LIMIT;
+pub use outlined::{made_of_outline, outlined};
+pub use played::played;
+pub use sheets::{SHEET_LIMIT, writable_pair_of};
 use std::alloc::Global;
+pub use stop::Stop;
+pub use turned::{TurnedInto, turned_into};
 use xs_check_laws::weights_are_exact;
 use xs_class::Memory;
 use xs_io::{Shelf, Sink, Source};

@@ -72,6 +72,18 @@ pub fn pair_of(alloc: Global, bytes: &[u8]) -> Result<Two, Stop>
     Ok(two)
 }
 
+/// The two grammars of the sheet that the bytes spell, whose documents can be written.
+pub fn writable_pair_of(alloc: Global, bytes: &[u8]) -> Result<Two, Stop>
+    requires { length bytes.now ≤ 65536 }
+    ensures pair { IfOk result (IsPairOfBytes bytes.now) }
+    ensures sound { IfOk result IsSoundPair }
+    ensures writable { IfOk result CanBeWritten }
+    ensures stop { IfErr result (StopsBy (IsBadBytes bytes.now)) }
+{
+    words_can_be_written();
+    pair_of(alloc, bytes)
+}
+
 /// The two grammars of a sheet.
 pub fn pair_for<H: Shelf>(alloc: Global, shelf: &mut H, sheet: SheetName<'_>) -> Result<Two, Stop>
     ensures pair { IfOk result (SpellsPair (H.files shelf.old) (sheet_meant sheet.entry)) }
