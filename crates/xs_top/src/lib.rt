@@ -36,14 +36,14 @@ use crate::sheets::{pair_for, shipped_bytes, upgrade_for};
 use crate::written::written;
 pub use answer::DOCUMENT_LIMIT;
 pub use certified::CERTIFICATE_LIMIT;
-pub use checked::checked;
+pub use checked::checked as check;
 pub use laws::{
     bytes_agree, certificates_decide, check_decides, one_answer, refuses_exactly,
     round_is_idempotent, translates_back,
 };
 pub use outcome::status;
-pub use outlined::{made_of_outline, outlined};
-pub use played::played;
+pub use outlined::{made_of_outline, outlined as outline};
+pub use played::played as play;
 pub use sheets::{SHEET_LIMIT, writable_pair_of};
 use std::alloc::Global;
 pub use stop::Stop;
