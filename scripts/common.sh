@@ -12,18 +12,17 @@ in_room() {
   trap 'rm -rf "$room"' EXIT
 }
 
-# peak_of WORD..: the peak of resident memory in bytes of a run over $room/input, looked at until it ends.
+# peak_of WORD..: the peak of resident memory in bytes of a run over $room/input, as the kernel counts it.
+# Where there is no GNU time, Python asks for it: then it is at least what Python itself takes, some 14 MB.
 peak_of() {
-  local pid peak=0 key value
-  "$program" "$@" <"$room/input" >/dev/null 2>&1 &
-  pid=$!
-  while kill -0 "$pid" 2>/dev/null; do
-    while read -r key value _; do
-      if [ "$key" = VmHWM: ]; then peak=$value; fi
-    done <"/proc/$pid/status" || true
-  done 2>/dev/null
-  wait "$pid" || true
-  echo $((peak * 1024))
+  if /usr/bin/time -f %M -o "$room/peak" true 2>/dev/null; then
+    /usr/bin/time -f %M -o "$room/peak" "$program" "$@" <"$room/input" >/dev/null 2>&1 || true
+  else
+    python3 -c 'import resource, subprocess, sys
+subprocess.run(sys.argv[1:], stdout=subprocess.DEVNULL, stderr=subprocess.DEVNULL)
+print(resource.getrusage(resource.RUSAGE_CHILDREN).ru_maxrss)' "$program" "$@" <"$room/input" >"$room/peak"
+  fi
+  echo $(($(tail -n 1 "$room/peak") * 1024))
 }
 
 # copies WORD COUNT: the word that many times.

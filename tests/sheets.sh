@@ -1,146 +1,97 @@
-# Small sheets and documents that several tables use.
+# Sheets that are refused on their own: what is said of them.
 
-# Two digits in parentheses with a comma between them, which are the other way round in XML.
-sheet pair <<'END'
-xsugar-1
-start s
-terminal d = /[0-9]/
-s : "(" [d a] "," [d b] ")" = <p><y>[d b]</y><x>[d a]</x></p>
-END
+shows 'a sheet with a token out of place'
+ill $'sheet: byte 21: not expected here\n' \
+  $'xsugar-1\nstart s\ns : "a = <s/>\n'
+ill $'sheet: byte 30: not expected here\n' \
+  $'xsugar-1\nstart s\nterminal d = /\\p{nosuchclass}/\n'
+ill $'sheet: byte 0: not expected here\n' \
+  $'xsugar-3\nstart s\ns : = <s/>\n'
+ill $'sheet: byte 9: not expected here\n' \
+  $'xsugar-1\n'
+ill $'sheet: byte 0: not expected here\n' \
+  ''
+ill $'sheet: byte 28: not expected here\n' \
+  $'xsugar-1\nstart s\ns : = <s></t>\n'
 
-# Pairs with spaces, which carry nothing, round each part.
-sheet spaced <<'END'
-xsugar-1
-start s
-terminal d = /[0-9]/
-ignorable w = / */ ""
-s : "(" [w] [d a] [w] "," [w] [d b] [w] ")" = <p><y>[d b]</y><x>[d a]</x></p>
-END
+shows 'a sheet that breaks a rule'
+ill $'sheet: line 4: name defined twice\n' \
+  $'xsugar-1\nstart s\nterminal d = /a/\nterminal d = /b/\ns : = <s/>\n'
+ill $'sheet: line 3: name not defined\n' \
+  $'xsugar-1\nstart s\ns : [x a] = <s>[x a]</s>\n'
+ill $'sheet: line 2: start is not a nonterminal\n' \
+  $'xsugar-1\nstart s\nt : = <s/>\n'
+ill $'sheet: line 4: named item not once on both sides\n' \
+  $'xsugar-1\nstart s\nterminal d = /[0-9]/\ns : [d a] = <p/>\n'
+ill $'sheet: line 4: named item not once on both sides\n' \
+  $'xsugar-1\nstart s\nterminal d = /[0-9]/\ns : [d a] [d a] = <p>[d a]</p>\n'
+ill $'sheet: line 3: item of a wrong kind\n' \
+  $'xsugar-1\nstart s\ns : [s a] = <s a=[s a]/>\n'
+ill $'sheet: line 3: attribute twice\n' \
+  $'xsugar-1\nstart s\ns : = <s a="1" a="2"/>\n'
+ill $'sheet: line 3: start is not one element\n' \
+  $'xsugar-1\nstart s\ns : = <s/> <s/>\n'
+ill $'sheet: line 3: empty class\n' \
+  $'xsugar-1\nstart s\nterminal d = /[^\\u{0}-\\u{10ffff}]/\ns : = <s/>\n'
+ill $'sheet: line 3: character not allowed\n' \
+  $'xsugar-1\nstart s\ns : "\\u{1}" = <s/>\n'
+ill $'sheet: line 3: normal spelling does not match\n' \
+  $'xsugar-1\nstart s\nignorable w = / */ "x"\ns : [w] = <s/>\n'
+ill $'sheet: line 3: derives no word\n' \
+  $'xsugar-1\nstart A\nA : [A x] = <e>[A x]</e>\n'
+ill $'sheet: line 3: derives itself\n' \
+  $'xsugar-1\nstart A\nA : [A x] = <e>[A x]</e>\nA : "a" = <a/>\n'
+ill $'sheet: line 3: empty class\n' \
+  $'xsugar-1\nstart s\nterminal d = /[^\\u{0}-\\u{10ffff}]/\ns : [s x] = <s>[s x]</s>\n'
 
-# The empty text, which is an empty element.
-sheet empty <<'END'
-xsugar-1
-start s
-s : = <s/>
-END
+shows 'of the lines that break a rule the least is reported'
+ill $'sheet: line 4: name defined twice\n' \
+  $'xsugar-1\nstart s\nterminal d = /a/\nterminal d = /b/\nterminal d = /c/\ns : = <s/>\n'
+ill $'sheet: line 3: name not defined\n' \
+  $'xsugar-1\nstart s\ns : [x a] = <s>[x a]</s>\ns : [y a] = <s>[y a]</s>\n'
+ill $'sheet: line 4: named item not once on both sides\n' \
+  $'xsugar-1\nstart s\nterminal d = /a/\ns : [d a] = <p/>\ns : = <p>[d b]</p>\n'
+ill $'sheet: line 3: item of a wrong kind\n' \
+  $'xsugar-1\nstart s\ns : [s a] = <s a=[s a]/>\ns : [s b] = <s b=[s b]/>\n'
+ill $'sheet: line 3: attribute twice\n' \
+  $'xsugar-1\nstart s\ns : = <s a="1" a="2"/>\ns : = <s><t b="1" b="2"/></s>\n'
+ill $'sheet: line 3: start is not one element\n' \
+  $'xsugar-1\nstart s\ns : = <s/> <s/>\ns : = "a"\n'
+ill $'sheet: line 3: empty class\n' \
+  $'xsugar-1\nstart s\nterminal d = /[^\\u{0}-\\u{10ffff}]/\nignorable w = /[^\\u{0}-\\u{10ffff}]*/ ""\ns : = <s/>\n'
+ill $'sheet: line 3: character not allowed\n' \
+  $'xsugar-1\nstart s\nignorable w = /.*/ "\\u{1}"\ns : "\\u{1}" = <s/>\n'
+ill $'sheet: line 3: character not allowed\n' \
+  $'xsugar-1\nstart s\ns : = <s>"\\u{1}"</s>\nignorable w = /.*/ "\\u{1}"\n'
+ill $'sheet: line 3: normal spelling does not match\n' \
+  $'xsugar-1\nstart s\nignorable w = / */ "x"\nignorable v = / */ "y"\ns : = <s/>\n'
+ill $'sheet: line 3: derives no word\n' \
+  $'xsugar-1\nstart s\ns : [t a] = <s>[t a]</s>\nt : [t a] = <t>[t a]</t>\n'
+ill $'sheet: line 4: derives itself\n' \
+  $'xsugar-1\nstart s\ns : = <s/>\nt : [t a] = <t>[t a]</t>\nt : "a" = <a/>\nu : [u a] = <u>[u a]</u>\nu : "a" = <a/>\n'
+ill $'sheet: line 4: derives itself\n' \
+  $'xsugar-1\nstart s\ns : = <s/>\nt : "(" [t a] = [t a]\nt : "a" = <a/>\nu : [u a] = <u>[u a]</u>\nu : "a" = <a/>\n'
 
-# A letter in any number of parentheses.
-sheet nested <<'END'
-xsugar-1
-start s
-s : "a" = <a/>
-s : "(" [s x] ")" = <s>[s x]</s>
-END
-
-# Any number of letters, by a production that begins with itself.
-sheet left <<'END'
-xsugar-1
-start s
-s : [l x] = <s>[l x]</s>
-l : =
-l : [l x] "a" = [l x] <a/>
-END
-
-# Any number of letters, by a production that ends with itself.
-sheet right <<'END'
-xsugar-1
-start s
-s : [l x] = <s>[l x]</s>
-l : =
-l : "a" [l x] = <a/> [l x]
-END
-
-# Any number of letters, by one terminal.
-sheet letters <<'END'
-xsugar-1
-start s
-terminal v = /a*/
-s : [v x] = <s>[v x]</s>
-END
-
-# Any characters as the value of an attribute.
-sheet value <<'END'
-xsugar-1
-start s
-terminal v = /.*/
-s : [v x] = <s a=[v x]/>
-END
-
-# Any characters as content.
-sheet content <<'END'
-xsugar-1
-start s
-terminal v = /.*/
-s : [v x] = <s>[v x]</s>
-END
-
-# Letters in pairs of pairs: three letters have two derivations.
-sheet twins <<'END'
-xsugar-1
-start s
-s : [s a] [s b] = <s>[s a][s b]</s>
-s : "a" = <a/>
-END
-
-# Two words with nothing between them.
-sheet words <<'END'
-xsugar-1
-start s
-terminal w = /[a-z]+/
-s : [w a] [w b] = <s a=[w a]>[w b]</s>
-END
-
-# A letter, which is also a word.
-sheet ways <<'END'
-xsugar-1
-start s
-terminal w = /[a-z]+/
-s : "a" = <s/>
-s : [w x] = <t>[w x]</t>
-END
-
-# Letters and brackets in each other.
-sheet brackets <<'END'
-xsugar-1
-start doc
-terminal c = /[a-z]/
-doc : "<" [list l] ">" = <d>[list l]</d>
-list : =
-list : [list p] [item i] = [list p] [item i]
-item : [c x] = [c x]
-item : "[" [list l] "]" = <b>[list l]</b>
-END
-
-# The same with fences, in the layout in which sheets are written.
-sheet fenced <<'END'
-xsugar-2
-start doc
-terminal c = /[a-z]/
-doc : "<" [ list l ] ">" = < d > [ list l ] </ d >
-list : =
-list : [ list p ] [ item i ] = [ list p ] [ item i ]
-item : [ c x ] = [ c x ]
-item : "[" [ list l ] "]" = < b > [ list l ] </ b >
-fence "[" "]"
-fence "<" ">"
-END
-
-# doubling LAST: a sheet in which each nonterminal up to this one is the one before it, twice.
-doubling() {
-  local number twice
-  printf 'xsugar-1\nstart s\ns : [n%d x] = <s>[n%d x]</s>\nn0 : "a" = "a"\n' "$1" "$1"
-  for ((number = 1; number <= $1; number++)); do
-    twice="[n$((number - 1)) a] [n$((number - 1)) b]"
-    echo "n$number : $twice = $twice"
-  done
-}
-
-# A text of the shipped sheet, in which the dots below stand after their letters, and its XML.
-IFS= read -rd '' leiden_text <../examples/leiden.txt
-IFS= read -rd '' leiden_xml <../examples/leiden.xml
-
-# The same document with single quotes, a reference, comments, other orders and other white space.
-leiden_xml_otherwise=$'<?xml version="1.0" encoding="UTF-8"?>\r
-<ab>\r
-  <lb n=\'1\'/><expan>&#x1F14;τ<ex>ους</ex></expan> γ <gap unit="character" reason="lost" quantity="3"/><!-- two hands --> το<supplied reason="lost">ῦ</supplied> <gap quantity="2" unit="character" reason="illegible"></gap>  \r
-   <lb n="2" break="no"/><unclear>αβ</unclear> καὶ <supplied reason="omitted">τὸ</supplied> <surplus>τὸ</surplus></ab>'
+shows 'of two rules the earlier is reported'
+ill $'sheet: line 5: name defined twice\n' \
+  $'xsugar-1\nstart s\ns : [x a] = <s>[x a]</s>\nterminal d = /a/\nterminal d = /b/\n'
+ill $'sheet: line 3: name not defined\n' \
+  $'xsugar-1\nstart q\ns : [x a] = <s>[x a]</s>\n'
+ill $'sheet: line 2: start is not a nonterminal\n' \
+  $'xsugar-1\nstart q\ns : [s a] = <s/>\n'
+ill $'sheet: line 4: named item not once on both sides\n' \
+  $'xsugar-1\nstart s\ns : [s a] = <s a=[s a]/>\ns : [s a] = <s/>\n'
+ill $'sheet: line 4: item of a wrong kind\n' \
+  $'xsugar-1\nstart s\ns : = <s a="1" a="2"/>\ns : [s a] = <s a=[s a]/>\n'
+ill $'sheet: line 4: attribute twice\n' \
+  $'xsugar-1\nstart s\ns : = "a"\ns : = <s a="1" a="2"/>\n'
+ill $'sheet: line 4: start is not one element\n' \
+  $'xsugar-1\nstart s\nterminal d = /[^\\u{0}-\\u{10ffff}]/\ns : = "a"\n'
+ill $'sheet: line 4: empty class\n' \
+  $'xsugar-1\nstart s\ns : "\\u{1}" = <s/>\nterminal d = /[^\\u{0}-\\u{10ffff}]/\n'
+ill $'sheet: line 4: character not allowed\n' \
+  $'xsugar-1\nstart s\nignorable w = / */ "x"\ns : "\\u{1}" = <s/>\n'
+ill $'sheet: line 4: normal spelling does not match\n' \
+  $'xsugar-1\nstart s\ns : [s a] = <s>[s a]</s>\nignorable w = / */ "x"\n'
+ill $'sheet: line 5: derives no word\n' \
+  $'xsugar-1\nstart s\ns : [s a] = <s>[s a]</s>\ns : "a" = <a/>\nt : "b" [t a] = <t>[t a]</t>\n'

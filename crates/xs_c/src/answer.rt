@@ -1,8 +1,8 @@
-ghost use Rattle.std.specs.Prelude.{◌≡◌};
+ghost use Rattle.std.specs.Prelude.{◌≡◌, [], IfOk};
 ghost use Rattle.xs_c.specs.Answers.{kind_of, place_of, line_in, IsTold, IsRefusal};
 
 use std::alloc::Global;
-use xs_class::{Bytes, Names};
+use xs_class::{Bytes, Memory, Names};
 use xs_talk::{Outcome, Report, line_of};
 use xs_top::status;
 
@@ -92,6 +92,13 @@ fn handed(bytes: Bytes) -> &'static [u8]
         return b"";
     }
     bytes.into_vec().leak()
+}
+
+/// The names of no sheet.
+pub fn no_names(alloc: Global) -> Result<Names, Memory>
+    ensures { IfOk result (λ names. names ≡ []) }
+{
+    Names::of(alloc, &[])
 }
 
 /// Tells C of an outcome, with these bytes; its status is returned.

@@ -6,7 +6,7 @@ ghost use Rattle.xs_top.specs.Sheets.{IsPairOfBytes};
 ghost use Rattle.xs_top.specs.Stops.{StopsBy};
 ghost use Rattle.xs_c.specs.Sheets.{IsOpened, IsNoSheet};
 
-use crate::answer::{Answer, MEMORY, refuse, tell};
+use crate::answer::{Answer, MEMORY, no_names, refuse, tell};
 use crate::kept::Kept;
 use crate::sheet::Sheet;
 use std::alloc::Global;
@@ -14,7 +14,7 @@ use xs_class::Bytes;
 use xs_leiden::{leiden_sheet, leiden2_sheet};
 use xs_pair::Two;
 use xs_talk::Outcome;
-use xs_top::{SHEET_LIMIT, Stop, checked, no_names, writable_pair_of};
+use xs_top::{SHEET_LIMIT, Stop, check, writable_pair_of};
 
 /// The two grammars of the well-formed sheet that the bytes spell.
 fn pair(alloc: Global, bytes: &[u8]) -> Result<Two, Stop>
@@ -42,7 +42,7 @@ fn open(alloc: Global, bytes: &[u8], sheet: &mut Sheet, answer: &mut Answer) -> 
         Err(Stop::Refused(outcome)) => return refuse(alloc, &outcome, &none, answer),
         Err(Stop::Memory) => return MEMORY,
     };
-    match checked(alloc, &two) {
+    match check(alloc, &two) {
         Ok(()) => {}
         Err(Stop::Refused(outcome)) => return refuse(alloc, &outcome, two.names(), answer),
         Err(Stop::Memory) => return MEMORY,

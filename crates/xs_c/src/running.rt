@@ -1,12 +1,12 @@
 ghost use Rattle.std.specs.Prelude.{◌≡◌, IfOk, MatchOption, map, string_bytes};
 ghost use Rattle.xs_c.specs.Runs.{IsRan, IsEnded, IsRunDone, said, HasNoText};
 
-use crate::answer::{Answer, MEMORY, refuse, tell};
+use crate::answer::{Answer, MEMORY, no_names, refuse, tell};
 use std::alloc::Global;
 use xs_class::{Bytes, Memory, Text};
 use xs_io::{MemSink, SureShelf, SureSource};
 use xs_talk::Outcome;
-use xs_top::{no_names, run};
+use xs_top::run;
 
 /// How many bytes a sink takes in one call.
 const STEP: usize = 65_536;

@@ -9,7 +9,7 @@ use std::alloc::Global;
 use xs_chars::Form;
 use xs_class::{Bytes, Side};
 use xs_talk::Outcome;
-use xs_top::{DOCUMENT_LIMIT, Stop, made_of_outline, outlined, played, turned_into};
+use xs_top::{DOCUMENT_LIMIT, Stop, made_of_outline, outline, play, turned_into};
 
 /// What is done with a document by an open sheet.
 #[derive(Clone, Copy)]
@@ -39,9 +39,9 @@ fn answer_of(alloc: Global, kept: &Kept, work: Work, document: &[u8]) -> Result<
             let turned = turned_into(alloc, two, from, to, form, document)?;
             Ok(turned.document)
         }
-        Work::Outline { from, form } => outlined(alloc, two, from, form, document),
+        Work::Outline { from, form } => outline(alloc, two, from, form, document),
         Work::Make { to } => made_of_outline(alloc, two, to, document),
-        Work::Session => played(alloc, two, document),
+        Work::Session => play(alloc, two, document),
     }
 }
 

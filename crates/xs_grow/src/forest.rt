@@ -160,7 +160,9 @@ fn grow_found<'b>(
         start: 0,
         end: doc.len() as u32,
     };
-    let mut forest = Forest::with_capacity(alloc, bump, found.wholes.len())?;
+    // A rule that is finished has a row of first items beside its own, unless it is empty.
+    let rows = found.wholes.len().saturating_mul(2);
+    let mut forest = Forest::with_capacity(alloc, bump, rows)?;
     let root = grow_rows(alloc, &source, &mut forest, key)?;
     Ok(Grown { forest, root })
 }

@@ -48,7 +48,7 @@ impl Rules {
         'rules: for rule in 0..g.rules() {
             let production = production_of(g.non_of(rule), places.len(), g.items(rule).len());
             productions.push(production)?;
-            push_places(alloc, &mut places, tokens, rule, g.items(rule))?;
+            push_places(&mut places, tokens, rule, g.items(rule))?;
         }
         let last = g.rules();
         productions.push(production_of(g.nons(), places.len(), 1))?;
@@ -120,27 +120,22 @@ fn push_place(places: &mut Vec<Place>, production: u32, symbol: u32) -> Result<(
 
 /// Appends the places of a production.
 fn push_places(
-    alloc: Global,
     places: &mut Vec<Place>,
     tokens: &Tokens,
     production: u32,
     items: &[GItem],
 ) -> Result<(), Memory> {
     'items: for item in items {
-        let symbol = symbol_of(alloc, tokens, item)?;
-        push_place(places, production, symbol)?;
+        push_place(places, production, symbol_of(tokens, item))?;
     }
     push_place(places, production, AT_END)
 }
 
 /// The symbol of an item.
-fn symbol_of(alloc: Global, tokens: &Tokens, item: &GItem) -> Result<u32, Memory> {
+fn symbol_of(tokens: &Tokens, item: &GItem) -> u32 {
     match item {
-        GItem::Non { non, .. } => Ok(tokens.count.wrapping_add(*non)),
-        _ => {
-            let token = tokens.of_item(alloc, item)?;
-            Ok(token.unwrap_or(u32::MAX))
-        }
+        GItem::Non { non, .. } => tokens.count.wrapping_add(*non),
+        _ => tokens.of_item(item).unwrap_or(u32::MAX),
     }
 }
 

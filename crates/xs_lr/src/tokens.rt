@@ -1,5 +1,6 @@
-use crate::keys::{Keys, capped};
+use crate::keys::capped;
 use crate::lists::Lists;
+use indexmap::IndexSet;
 use std::alloc::Global;
 use xs_atoms::Atoms;
 use xs_class::{Memory, Sym};
@@ -37,7 +38,7 @@ pub struct Tokens {
     steps: usize,
     ignorables: u32,
     words: u32,
-    fixed: Keys,
+    fixed: IndexSet<Vec<Sym>>,
 }
 
 impl Tokens {
@@ -52,7 +53,7 @@ impl Tokens {
             steps: 0,
             ignorables: g.terms(),
             words: g.terms().wrapping_add(g.skips()),
-            fixed: Keys::new(alloc),
+            fixed: IndexSet::new(alloc),
         };
         tokens.push_terminals(alloc, g, atoms)?;
         tokens.push_ignorables(alloc, g, atoms)?;
@@ -145,11 +146,10 @@ impl Tokens {
 
     /// Appends the token of a fixed word, unless it is there.
     fn push_word(&mut self, alloc: Global, word: &[Sym], atoms: &Atoms) -> Result<(), Memory> {
-        let key = key_of(alloc, word)?;
-        if self.fixed.find(&key).is_some() {
+        if self.fixed.contains(word) {
             return Ok(());
         }
-        self.fixed.add(&key)?;
+        self.fixed.insert(Vec::from_slice(alloc, word)?)?;
         let from = capped(self.positions.len());
         'symbols: for symbol in word {
             self.push_position(Reads::Atom(atoms.of_symbol(*symbol)))?;
@@ -176,15 +176,14 @@ impl Tokens {
     }
 
     /// The token of an item, or None for a nonterminal.
-    pub fn of_item(&self, alloc: Global, item: &GItem) -> Result<Option<u32>, Memory> {
+    pub fn of_item(&self, item: &GItem) -> Option<u32> {
         match item {
-            GItem::Term { term, .. } => Ok(Some(*term)),
-            GItem::Skip { skip } => Ok(Some(self.ignorables.wrapping_add(*skip))),
-            GItem::Non { .. } => Ok(None),
+            GItem::Term { term, .. } => Some(*term),
+            GItem::Skip { skip } => Some(self.ignorables.wrapping_add(*skip)),
+            GItem::Non { .. } => None,
             GItem::Fixed(word) => {
-                let key = key_of(alloc, word.as_slice())?;
-                let number = self.fixed.find(&key).unwrap_or(u32::MAX);
-                Ok(Some(self.words.wrapping_add(number)))
+                let number = capped(self.fixed.get_index_of(word.as_slice())?);
+                Some(self.words.wrapping_add(number))
             }
         }
     }
@@ -223,13 +222,4 @@ fn push_moved(list: &mut Vec<u32>, numbers: &[u32], by: u32) -> Result<(), Memor
         list.push(number.wrapping_add(by))?;
     }
     Ok(())
-}
-
-/// The key of a fixed word.
-fn key_of(alloc: Global, word: &[Sym]) -> Result<Vec<(u32, u32)>, Memory> {
-    let mut key = Vec::with_capacity(alloc, word.len())?;
-    'symbols: for symbol in word {
-        key.push((symbol.number(), 0))?;
-    }
-    Ok(key)
 }

@@ -2,6 +2,7 @@ mod Reading
 mod Writing
 mod Writable
 mod Going
+mod Taking
 mod Certifying
 mod Known
 mod Outlines

@@ -1,9 +1,10 @@
 -- What a run did, outcome by outcome.
 use Rattle.std.specs.Prelude.{◌≡◌, ◌⊎◌, ℕ, ◌<◌, ◌≤◌, List, [], take, length, None, Some}
+use Rattle.std.specs.declared.option.Option.{Option}
 use Rattle.std.specs.Io.KnownBytes.{Appends}
 use Rattle.std.specs.Str.{IsUtf8}
 use Rattle.xs_io.specs.Causes.{Rose}
-use Rattle.xs_io.specs.Whole.{Drains, Exceeds}
+use Rattle.xs_io.specs.Whole.{Drains, Exceeds, TakesAtMost}
 use Rattle.xs_class.specs.declared.side.Side.{Side}
 use Rattle.xs_class.specs.declared.side.Side.TheVariants.{Text}
 use Rattle.xs_chars.specs.declared.form.Form.{Form}
@@ -240,3 +241,31 @@ pub record IsHonest (run : Run) : Type 0 where
 -- nothing but want of memory stands against it
 abbrev pub IsComplete : Run → Outcome → Type 0
 IsComplete run o = IsHonest run → o ≡ Done
+
+-- no more of the input was taken than the longest document and one byte
+abbrev pub TakesFew : Input → Type 0
+TakesFew i = TakesAtMost i.left_before i.left_now 1048577
+
+-- What a job reads of the input, however the run ends. What it reads may be cut short by a fault or for want of memory.
+abbrev pub ReadsFor : Job → Input → Type 0
+ReadsFor Check i = ReadNothing i
+ReadsFor (Turn from to form) i = TakesFew i
+ReadsFor (Trees max) i = TakesFew i
+ReadsFor (Make seed lines) i = ReadNothing i
+ReadsFor Session i = TakesFew i
+ReadsFor (ToTree from form) i = TakesFew i
+ReadsFor (FromTree to) i = TakesFew i
+ReadsFor Cover i = ReadNothing i
+ReadsFor Prove i = ReadNothing i
+
+-- what is read of the input for what is asked for: nothing but for a job
+abbrev pub ReadsAsAsked : Option Ask → Input → Type 0
+ReadsAsAsked None i = ReadNothing i
+ReadsAsAsked (Some (shipped core)) i = ReadNothing i
+ReadsAsAsked (Some (upgrading sheet)) i = ReadNothing i
+ReadsAsAsked (Some (certifying sheet cert)) i = ReadNothing i
+ReadsAsAsked (Some (by sheet job)) i = ReadsFor job i
+
+-- what a run of these words reads of the input, however it ends
+abbrev pub Reads : List (List ℕ) → Input → Type 0
+Reads words i = ReadsAsAsked (asked words) i

@@ -6,7 +6,7 @@ ghost use Rattle.xs_writing_laws.specs.{CanBeWritten};
 ghost use Rattle.xs_top.specs.declared.asking.Job.TheVariants as J;
 ghost use Rattle.xs_top.specs.Meaning.{HasLines};
 ghost use Rattle.xs_top.specs.Devices.{input_of};
-ghost use Rattle.xs_top.specs.Ran.{IsAnswer, IsUndone, IsUntaken, Takes};
+ghost use Rattle.xs_top.specs.Ran.{IsAnswer, IsUndone, IsUntaken, Takes, TakesFew, ReadsFor};
 ghost use Rattle.xs_top.specs.Stops.{StopsBy};
 
 use crate::asking::Job;
@@ -34,6 +34,7 @@ pub const DOCUMENT_LIMIT: usize = 1_048_576;
 fn taken<S: Source>(alloc: Global, input: &mut S) -> Result<Bytes, Stop>
     ensures all { IfOk result (Takes (input_of S.left S.faults input.old input.new)) }
     ensures stop { IfErr result (StopsBy (IsUntaken (input_of S.left S.faults input.old input.new))) }
+    ensures few { TakesFew (input_of S.left S.faults input.old input.new) }
 {
     match read_all(alloc, input, DOCUMENT_LIMIT) {
         Ok(bytes) => Ok(bytes),
@@ -49,6 +50,7 @@ fn check<S: Source>(alloc: Global, two: &Two, input: &mut S) -> Result<Bytes, St
     requires sound { IsSoundPair two.now }
     ensures answer { IfOk result (IsAnswer two.now (input_of S.left S.faults input.old input.new) J.Check) }
     ensures stop { IfErr result (StopsBy (IsUndone two.now (input_of S.left S.faults input.old input.new) J.Check)) }
+    ensures reads { ReadsFor J.Check (input_of S.left S.faults input.old input.new) }
 {
     checked(alloc, two)?;
     let line = accepted_line(alloc, two)?;
@@ -69,6 +71,7 @@ fn turn<S: Source>(
     requires writable { CanBeWritten two.now }
     ensures answer { IfOk result (IsAnswer two.now (input_of S.left S.faults input.old input.new) (J.Turn from to form)) }
     ensures stop { IfErr result (StopsBy (IsUndone two.now (input_of S.left S.faults input.old input.new) (J.Turn from to form))) }
+    ensures reads { ReadsFor (J.Turn from to form) (input_of S.left S.faults input.old input.new) }
 {
     checked(alloc, two)?;
     let bytes = taken(alloc, input)?;
@@ -82,6 +85,7 @@ fn list<S: Source>(alloc: Global, two: &Two, max: u32, input: &mut S) -> Result<
     requires sound { IsSoundPair two.now }
     ensures answer { IfOk result (IsAnswer two.now (input_of S.left S.faults input.old input.new) (J.Trees max)) }
     ensures stop { IfErr result (StopsBy (IsUndone two.now (input_of S.left S.faults input.old input.new) (J.Trees max))) }
+    ensures reads { ReadsFor (J.Trees max) (input_of S.left S.faults input.old input.new) }
 {
     let bytes = taken(alloc, input)?;
     listed(alloc, two, max, bytes.as_slice())
@@ -101,6 +105,7 @@ fn make<S: Source>(
     requires lines { HasLines (J.Make seed lines) }
     ensures answer { IfOk result (IsAnswer two.now (input_of S.left S.faults input.old input.new) (J.Make seed lines)) }
     ensures stop { IfErr result (StopsBy (IsUndone two.now (input_of S.left S.faults input.old input.new) (J.Make seed lines))) }
+    ensures reads { ReadsFor (J.Make seed lines) (input_of S.left S.faults input.old input.new) }
 {
     checked(alloc, two)?;
     let text = make_text(alloc, seed, lines)?;
@@ -129,6 +134,7 @@ fn session<S: Source>(alloc: Global, two: &Two, input: &mut S) -> Result<Bytes, 
     requires sound { IsSoundPair two.now }
     ensures answer { IfOk result (IsAnswer two.now (input_of S.left S.faults input.old input.new) J.Session) }
     ensures stop { IfErr result (StopsBy (IsUndone two.now (input_of S.left S.faults input.old input.new) J.Session)) }
+    ensures reads { ReadsFor J.Session (input_of S.left S.faults input.old input.new) }
 {
     checked(alloc, two)?;
     let bytes = taken(alloc, input)?;
@@ -147,6 +153,7 @@ fn to_tree<S: Source>(
     requires sound { IsSoundPair two.now }
     ensures answer { IfOk result (IsAnswer two.now (input_of S.left S.faults input.old input.new) (J.ToTree from form)) }
     ensures stop { IfErr result (StopsBy (IsUndone two.now (input_of S.left S.faults input.old input.new) (J.ToTree from form))) }
+    ensures reads { ReadsFor (J.ToTree from form) (input_of S.left S.faults input.old input.new) }
 {
     checked(alloc, two)?;
     let bytes = taken(alloc, input)?;
@@ -161,6 +168,7 @@ fn from_tree<S: Source>(alloc: Global, two: &Two, to: Side, input: &mut S) -> Re
     requires writable { CanBeWritten two.now }
     ensures answer { IfOk result (IsAnswer two.now (input_of S.left S.faults input.old input.new) (J.FromTree to)) }
     ensures stop { IfErr result (StopsBy (IsUndone two.now (input_of S.left S.faults input.old input.new) (J.FromTree to))) }
+    ensures reads { ReadsFor (J.FromTree to) (input_of S.left S.faults input.old input.new) }
 {
     checked(alloc, two)?;
     let bytes = taken(alloc, input)?;
@@ -172,6 +180,7 @@ fn show<S: Source>(alloc: Global, two: &Two, input: &mut S) -> Result<Bytes, Sto
     requires sound { IsSoundPair two.now }
     ensures answer { IfOk result (IsAnswer two.now (input_of S.left S.faults input.old input.new) J.Cover) }
     ensures stop { IfErr result (StopsBy (IsUndone two.now (input_of S.left S.faults input.old input.new) J.Cover)) }
+    ensures reads { ReadsFor J.Cover (input_of S.left S.faults input.old input.new) }
 {
     let lines = covered(alloc, two)?;
     Ok(lines)
@@ -183,6 +192,7 @@ fn proved<S: Source>(alloc: Global, two: &Two, input: &mut S) -> Result<Bytes, S
     requires sound { IsSoundPair two.now }
     ensures answer { IfOk result (IsAnswer two.now (input_of S.left S.faults input.old input.new) J.Prove) }
     ensures stop { IfErr result (StopsBy (IsUndone two.now (input_of S.left S.faults input.old input.new) J.Prove)) }
+    ensures reads { ReadsFor J.Prove (input_of S.left S.faults input.old input.new) }
 {
     match prove(alloc, two) {
         Ok(certificate) => Ok(certificate),
@@ -203,6 +213,7 @@ pub fn answer_of<S: Source>(
     requires lines { HasLines job }
     ensures answer { IfOk result (IsAnswer two.now (input_of S.left S.faults input.old input.new) job) }
     ensures stop { IfErr result (StopsBy (IsUndone two.now (input_of S.left S.faults input.old input.new) job)) }
+    ensures reads { ReadsFor job (input_of S.left S.faults input.old input.new) }
 {
     match job {
         Job::Check => check(alloc, two, input),

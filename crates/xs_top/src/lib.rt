@@ -9,7 +9,7 @@
 
 ghost use Rattle.std.specs.Prelude.{◌≡◌, map, string_bytes, IfOk, OnErr};
 ghost use Rattle.xs_top.specs.Devices.{shelves_of, input_of, output_of, run_of};
-ghost use Rattle.xs_top.specs.Ran.{Told, IsComplete};
+ghost use Rattle.xs_top.specs.Ran.{Told, IsComplete, Reads};
 
 mod answer;
 mod asking;
@@ -31,20 +31,19 @@ mod written;
 use crate::answer::answer_of;
 use crate::asking::{Ask, asked};
 use crate::certified::certified;
-use crate::notes::tell;
+use crate::notes::{no_names, tell};
 use crate::sheets::{pair_for, shipped_bytes, upgrade_for};
 use crate::written::written;
 pub use answer::DOCUMENT_LIMIT;
 pub use certified::CERTIFICATE_LIMIT;
-pub use checked::checked;
+pub use checked::checked as check;
 pub use laws::{
     bytes_agree, certificates_decide, check_decides, one_answer, refuses_exactly,
     round_is_idempotent, translates_back,
 };
-pub use notes::no_names;
 pub use outcome::status;
-pub use outlined::{made_of_outline, outlined};
-pub use played::played;
+pub use outlined::{made_of_outline, outlined as outline};
+pub use played::played as play;
 pub use sheets::{SHEET_LIMIT, writable_pair_of};
 use std::alloc::Global;
 pub use stop::Stop;
@@ -81,6 +80,7 @@ pub fn run<S: Source, H: Shelf, K: Sink, N: Sink>(
     ensures complete { IfOk result (IsComplete (run_of (map string_bytes words.now)
         (shelves_of H.files H.faults H.name_faults shelf.old shelf.new) (input_of S.left S.faults input.old input.new)
         (output_of K.taken K.faults out.old out.new) (output_of N.taken N.faults notes.old notes.new))) }
+    ensures reads { Reads (map string_bytes words.now) (input_of S.left S.faults input.old input.new) }
     ensures files { H.files shelf.new ≡ H.files shelf.old }
     ensures memory_out { OnErr result (out.new ≡ out.old) }
     ensures memory_notes { OnErr result (notes.new ≡ notes.old) }

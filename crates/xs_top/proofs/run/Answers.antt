@@ -7,6 +7,7 @@ use Rattle.xs_top.specs.Devices.{shelves_of, input_of, output_of, run_of}
 use Rattle.xs_top.specs.Ran.{no_command}
 use Rattle.xs_top.proofs.Going.{usage_told, shipped_told, not_upgraded_told, upgraded_told, uncertified_told, certified_told, unpaired_told, undone_told, answered_told}
 use Rattle.xs_top.proofs.Completing.{complete, complete_if}
+use Rattle.xs_top.proofs.Taking.{reads_nothing, reads_for}
 use Rattle.xs_top.proofs.run.Goals as goal
 
 pub returns-in-None-clause-told : goal.returns-in-None-clause-told
@@ -79,3 +80,51 @@ returns-in-Err-Refused-answer_of-clause-told g c =
 
 pub returns-in-Err-Refused-answer_of-clause-complete : goal.returns-in-Err-Refused-answer_of-clause-complete
 returns-in-Err-Refused-answer_of-clause-complete g c = complete_if c.one_word.ensures c.weights_are_exact.ensures.rule c.bytes_agree.ensures.pairs c.bytes_agree.ensures.sheets c.bytes_agree.ensures.outlines c.bytes_agree.ensures.certificates _ c.tell-in-Err-Refused-answer_of.result (returns-in-Err-Refused-answer_of-clause-told g c)
+
+pub returns-in_err-room-clause-reads : goal.returns-in_err-room-clause-reads
+returns-in_err-room-clause-reads g c = reads_nothing (map string_bytes c.args.words.now) g.S.Source.left g.S.Source.faults c.args.input.now
+
+pub returns-in_err-none-clause-reads : goal.returns-in_err-none-clause-reads
+returns-in_err-none-clause-reads g c = reads_nothing (map string_bytes c.args.words.now) g.S.Source.left g.S.Source.faults c.args.input.now
+
+pub returns-in-None-clause-reads : goal.returns-in-None-clause-reads
+returns-in-None-clause-reads g c = reads_nothing (map string_bytes c.args.words.now) g.S.Source.left g.S.Source.faults c.args.input.now
+
+pub returns-in-Some-Shipped-clause-reads : goal.returns-in-Some-Shipped-clause-reads
+returns-in-Some-Shipped-clause-reads g c = reads_nothing (map string_bytes c.args.words.now) g.S.Source.left g.S.Source.faults c.args.input.now
+
+pub returns-in-Ok-clause-reads : goal.returns-in-Ok-clause-reads
+returns-in-Ok-clause-reads g c = reads_nothing (map string_bytes c.args.words.now) g.S.Source.left g.S.Source.faults c.args.input.now
+
+pub returns-in-Err-Refused-clause-reads : goal.returns-in-Err-Refused-clause-reads
+returns-in-Err-Refused-clause-reads g c = reads_nothing (map string_bytes c.args.words.now) g.S.Source.left g.S.Source.faults c.args.input.now
+
+pub returns-in-Err-Memory-clause-reads : goal.returns-in-Err-Memory-clause-reads
+returns-in-Err-Memory-clause-reads g c = reads_nothing (map string_bytes c.args.words.now) g.S.Source.left g.S.Source.faults c.args.input.now
+
+pub returns-in-Ok-certified-clause-reads : goal.returns-in-Ok-certified-clause-reads
+returns-in-Ok-certified-clause-reads g c = reads_nothing (map string_bytes c.args.words.now) g.S.Source.left g.S.Source.faults c.args.input.now
+
+pub returns-in-Err-Refused-certified-clause-reads : goal.returns-in-Err-Refused-certified-clause-reads
+returns-in-Err-Refused-certified-clause-reads g c = reads_nothing (map string_bytes c.args.words.now) g.S.Source.left g.S.Source.faults c.args.input.now
+
+pub returns-in-Err-Memory-certified-clause-reads : goal.returns-in-Err-Memory-certified-clause-reads
+returns-in-Err-Memory-certified-clause-reads g c = reads_nothing (map string_bytes c.args.words.now) g.S.Source.left g.S.Source.faults c.args.input.now
+
+pub returns-in-Err-Refused-pair_for-clause-reads : goal.returns-in-Err-Refused-pair_for-clause-reads
+returns-in-Err-Refused-pair_for-clause-reads g c = reads_nothing (map string_bytes c.args.words.now) g.S.Source.left g.S.Source.faults c.args.input.now
+
+pub returns-in-Err-Memory-pair_for-clause-reads : goal.returns-in-Err-Memory-pair_for-clause-reads
+returns-in-Err-Memory-pair_for-clause-reads g c = reads_nothing (map string_bytes c.args.words.now) g.S.Source.left g.S.Source.faults c.args.input.now
+
+pub returns-in-Ok-answer_of-clause-reads : goal.returns-in-Ok-answer_of-clause-reads
+returns-in-Ok-answer_of-clause-reads g c =
+    reads_for (map string_bytes c.args.words.now) (sheet_meant c.in-Some-By.sheet) c.in-Some-By.job (input_of g.S.Source.left g.S.Source.faults c.args.input.now c.answer_of.new.input) (sym c.asked.ensures.ask ∙ ap (λ o. option_map ask_meant o) c.in-Some-By.is ∙ ap (λ a. Some (ask_meant a)) c.in-Some-By.field-0-is) c.answer_of.ensures.reads
+
+pub returns-in-Err-Refused-answer_of-clause-reads : goal.returns-in-Err-Refused-answer_of-clause-reads
+returns-in-Err-Refused-answer_of-clause-reads g c =
+    reads_for (map string_bytes c.args.words.now) (sheet_meant c.in-Some-By.sheet) c.in-Some-By.job (input_of g.S.Source.left g.S.Source.faults c.args.input.now c.answer_of.new.input) (sym c.asked.ensures.ask ∙ ap (λ o. option_map ask_meant o) c.in-Some-By.is ∙ ap (λ a. Some (ask_meant a)) c.in-Some-By.field-0-is) c.answer_of.ensures.reads
+
+pub returns-clause-reads : goal.returns-clause-reads
+returns-clause-reads g c =
+    reads_for (map string_bytes c.args.words.now) (sheet_meant c.in-Some-By.sheet) c.in-Some-By.job (input_of g.S.Source.left g.S.Source.faults c.args.input.now c.answer_of.new.input) (sym c.asked.ensures.ask ∙ ap (λ o. option_map ask_meant o) c.in-Some-By.is ∙ ap (λ a. Some (ask_meant a)) c.in-Some-By.field-0-is) c.answer_of.ensures.reads

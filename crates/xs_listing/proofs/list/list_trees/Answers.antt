@@ -23,5 +23,5 @@ returns c =
     let at : count ≡ slice_index_or counts root 0 = get_or_read counts _ _ (omega arith) c.index-count.ensures 0 in
     let counts_is : count ≡ count_of c.deref.result.now (Some root) = at ∙ ap (λ (l : List ℕ). slice_index_or l root 0) (sym value) in
     let next : cap ≡ suc c.args.max = omega arith in
-    let least : c.min.result ≡ min c.args.max count = omega arith in
-    listing_is _ root c.min.result _ c.in_ok-trees.ensures (record { right = c.requires.right; long = long; counted = counted }) c.args.max c.requires.root_is next count counts_is least (ap (λ n. ltb n count) same_max)
+    let least : c.min-listed.result ≡ min c.args.max count = omega arith in
+    listing_is _ root c.min-listed.result _ c.in_ok-trees.ensures (record { right = c.requires.right; long = long; counted = counted }) c.args.max c.requires.root_is next count counts_is least (ap (λ n. ltb n count) same_max)

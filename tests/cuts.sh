@@ -1,5 +1,5 @@
 # Documents, and a shipped sheet, cut before each of their bytes. The whole ones of examples/ are
-# translated by examples/run.
+# translated by tests/examples.
 
 # first_bytes TEXT COUNT: the first bytes of the text, that many, in `prefix`.
 first_bytes() {

@@ -1,5 +1,5 @@
 # Certificates: what `prove` writes, and what is said of a sheet that is checked by a file.
-# examples/proved does the same with the examples and the shipped sheets.
+# tests/example-certificates does the same with the examples and the shipped sheets.
 
 # The certificate of the empty sheet, and the same without the line `1 1`.
 sheet certificate <<'END'

@@ -1,5 +1,5 @@
 # Small sheets, and the suspects that `check` finds in their text sides. Brackets inside brackets
-# stand in checks.table and upgrades.table, and a cut inside a group in fences.table.
+# stand in checks.sh and upgrades.sh, and a cut inside a group in fences.sh.
 
 shows 'productions with one word in common are suspect'
 sheet same <<'END'

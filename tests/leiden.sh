@@ -19,11 +19,9 @@ shows 'unclear letters side by side are one run'
 refuses 'to-text @leiden' '<ab><lb n="1"/><unclear>α</unclear><unclear>β</unclear></ab>' \
   1 $'input: foreign after 9 symbols\n'
 
-shows 'the shipped sheets are written as their source has them'
-# each is a literal in a line of its own
-mapfile -t literals < <(sed -n '/^ *b"/{s///;s/"$//;s/\\"/"/g;p}' ../crates/xs_leiden/src/sheet.rt)
-printf -v one %b "${literals[0]}"
-printf -v two %b "${literals[1]}"
+shows 'the shipped sheets are written as they stand in sheets/'
+IFS= read -rd '' one <../sheets/leiden.xsugar
+IFS= read -rd '' two <../sheets/leiden2.xsugar
 gives sheet '' "$one"
 gives 'sheet 2' '' "$two"
 

@@ -36,7 +36,7 @@ shows 'escapes in a string are characters'
 printf %s 'xsugar-1 start s s:"\"\\\n\t\r\u{3b1}\u{A}z"=<s/>' | sheet escapes
 gives 'to-text escapes' '<s/>' $'"\\\n\t\r\u03b1\nz'
 
-# More of them stand in sheets.table; that elements stand 64 deep is shown in limits.table.
+# More of them stand in sheets.sh; that elements stand 64 deep is shown in limits.sh.
 shows 'a sheet is refused at the first token that no sheet has there'
 ill $'sheet: byte 0: not expected here\n' \
   $'xsugar-3\nstart s\n'

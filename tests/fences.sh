@@ -1,4 +1,4 @@
-# Sheets of version 2: what is said of their fences, and groups inside groups. examples/run shows
+# Sheets of version 2: what is said of their fences, and groups inside groups. tests/examples shows
 # that a text of @leiden has the same XML by @leiden2.
 
 shows 'a rule on fences that fails is told'

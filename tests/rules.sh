@@ -1,5 +1,5 @@
 # The rules of a well-formed sheet: which one is reported, and at which line. More of them stand in
-# sheets.table and fences.table.
+# sheets.sh and fences.sh.
 
 # accepted COUNTS SHEET: no rule fails, and the sheet is accepted with these counts of its units.
 accepted() {
