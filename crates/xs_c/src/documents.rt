@@ -36,12 +36,12 @@ fn form(number: u32) -> Form
 pub extern "C" fn xsugar_to_xml(
     alloc: Global,
     sheet: &mut Sheet,
-    document: &[u8],
+    text: &[u8],
     text_form: u32,
     answer: &mut Answer,
 ) -> u32
     ensures kept { sheet.new.held.kept ≡ sheet.old.held.kept }
-    ensures done { IsDone sheet.old.held.kept (W.Turn S.Text S.Xml (form_of text_form)) document.now answer.old answer.new result }
+    ensures done { IsDone sheet.old.held.kept (W.Turn S.Text S.Xml (form_of text_form)) text.now answer.old answer.new result }
     ensures accepted { IsNoRefusalOfSheet result }
 {
     let work = Work::Turn {
@@ -49,7 +49,7 @@ pub extern "C" fn xsugar_to_xml(
         to: Side::Xml,
         form: form(text_form),
     };
-    done(alloc, sheet, work, document, answer)
+    done(alloc, sheet, work, text, answer)
 }
 
 /// Translates XML to a text.
@@ -57,11 +57,11 @@ pub extern "C" fn xsugar_to_xml(
 pub extern "C" fn xsugar_to_text(
     alloc: Global,
     sheet: &mut Sheet,
-    document: &[u8],
+    xml: &[u8],
     answer: &mut Answer,
 ) -> u32
     ensures kept { sheet.new.held.kept ≡ sheet.old.held.kept }
-    ensures done { IsDone sheet.old.held.kept (W.Turn S.Xml S.Text F.AsIs) document.now answer.old answer.new result }
+    ensures done { IsDone sheet.old.held.kept (W.Turn S.Xml S.Text F.AsIs) xml.now answer.old answer.new result }
     ensures accepted { IsNoRefusalOfSheet result }
 {
     let work = Work::Turn {
@@ -69,7 +69,7 @@ pub extern "C" fn xsugar_to_text(
         to: Side::Text,
         form: Form::AsIs,
     };
-    done(alloc, sheet, work, document, answer)
+    done(alloc, sheet, work, xml, answer)
 }
 
 /// Puts a text into its normal spelling.

@@ -58,10 +58,10 @@ fn run_on(
     let sheet_name = Text::of(alloc, "sheet")?;
     let sheet_bytes = Bytes::of(alloc, sheet)?;
     shelf.add(sheet_name, sheet_bytes)?;
-    let document_bytes = Bytes::of(alloc, document)?;
-    let mut input = SureSource::new(document_bytes);
     let mut out = MemSink::new(alloc, STEP, Vec::new(alloc));
     let mut notes = MemSink::new(alloc, STEP, Vec::new(alloc));
+    let document_bytes = Bytes::of(alloc, document)?;
+    let mut input = SureSource::new(document_bytes);
     let outcome = run(alloc, words, &mut shelf, &mut input, &mut out, &mut notes)?;
     let written = Bytes::of(alloc, out.taken())?;
     let noted = Bytes::of(alloc, notes.taken())?;
