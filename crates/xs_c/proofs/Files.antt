@@ -1,5 +1,5 @@
 -- A shelf in memory that was given a certificate and then a sheet has both.
-use Rattle.std.proofs.Common.{◌≡◌, ◌∙◌, ℕ, List, Some, refl, sym, subst, ap, arith}
+use Rattle.std.proofs.Common.{◌≡◌, ◌∙◌, ℕ, List, Some, refl, subst, ap, arith}
 use Rattle.std.specs.Prelude.{◌≢◌, codes, encode_utf8_all, get_or}
 use Rattle.std.specs.Str.{chars}
 use Rattle.std.proofs.lemmas.Str.{encodes-chars}

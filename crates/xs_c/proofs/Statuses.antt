@@ -1,5 +1,5 @@
 -- No work by what is kept of a sheet refuses the sheet.
-use Rattle.std.proofs.Common.{◌≡◌, ◌⊎◌, ℕ, List, inl, inr, sym, subst, arith}
+use Rattle.std.proofs.Common.{◌≡◌, ℕ, List, inl, inr, sym, subst, arith}
 use Rattle.xs_pair.specs.declared.ill.Ill.{Ill}
 use Rattle.xs_pair.specs.Grammars.{Pair}
 use Rattle.xs_talk.specs.declared.outcome.Report.{Report}

@@ -1,6 +1,5 @@
 -- What C is told.
 use Rattle.std.specs.Prelude.{◌≡◌, ◌⊎◌, ℕ, List}
-use Rattle.xs_pair.specs.declared.ill.Ill.{Ill}
 use Rattle.xs_talk.specs.Lines.{line}
 use Rattle.xs_talk.specs.declared.outcome.Report.{Report}
 use Rattle.xs_talk.specs.declared.outcome.Report.TheVariants.{Vertical, Horizontal}

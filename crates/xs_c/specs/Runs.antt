@@ -1,5 +1,5 @@
 -- A run of the whole program over bytes in memory.
-use Rattle.std.specs.Prelude.{◌≡◌, ⊤, ℕ, List, [], map, Some, codes}
+use Rattle.std.specs.Prelude.{◌≡◌, ℕ, List, [], map, Some, codes}
 use Rattle.std.specs.declared.option.Option.{Option}
 use Rattle.std.specs.List.{Any}
 use Rattle.std.specs.Str.{IsUtf8}

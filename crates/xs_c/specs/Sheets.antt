@@ -1,5 +1,5 @@
 -- Sheets that are opened.
-use Rattle.std.specs.Prelude.{◌≡◌, ◌⊎◌, ℕ, ◌<◌, ◌≤◌, List, [], length, None, Some}
+use Rattle.std.specs.Prelude.{◌≡◌, ℕ, ◌<◌, ◌≤◌, List, [], length, None, Some}
 use Rattle.std.specs.declared.option.Option.{Option}
 use Rattle.xs_pair.specs.Grammars.{Pair}
 use Rattle.xs_talk.specs.declared.outcome.Outcome.{Outcome}

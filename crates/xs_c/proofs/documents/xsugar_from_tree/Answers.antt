@@ -1,7 +1,5 @@
 use Rattle.std.proofs.Common.{subst}
 use Rattle.xs_class.specs.declared.side.Side.{Side}
-use Rattle.xs_class.specs.declared.side.Side.TheVariants as S
-use Rattle.xs_chars.specs.declared.form.Form.{Form}
 use Rattle.xs_c.specs.declared.working.Work.TheVariants as W
 use Rattle.xs_c.specs.Works.{IsDone}
 use Rattle.xs_c.proofs.documents.xsugar_from_tree.Goals as goal

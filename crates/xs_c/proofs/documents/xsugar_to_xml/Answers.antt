@@ -1,5 +1,4 @@
 use Rattle.std.proofs.Common.{subst}
-use Rattle.xs_class.specs.declared.side.Side.{Side}
 use Rattle.xs_class.specs.declared.side.Side.TheVariants as S
 use Rattle.xs_chars.specs.declared.form.Form.{Form}
 use Rattle.xs_c.specs.declared.working.Work.TheVariants as W

@@ -12,10 +12,10 @@ pub returns-in-Err-Refused : goal.returns-in-Err-Refused
 returns-in-Err-Refused c = no_sheet c.in-Err-Refused.outcome c.take.ensures.closed (subst (λ (s : Stop). StopsBy (IsNoSheet c.args.bytes.now) s) c.in-Err-Refused.field-0-is c.in-Err-Refused.ensures.stop)
     (subst (λ (names : List (List ℕ)). IsRefusal names c.in-Err-Refused.outcome c.args.answer.now c.refuse.new.answer c.refuse.result) c.in-Ok.ensures c.refuse.ensures)
 
-pub returns-in-Err-Refused-checked : goal.returns-in-Err-Refused-checked
-returns-in-Err-Refused-checked c = not_accepted c.in-Ok-pair.two c.in-Err-Refused-checked.outcome c.take.ensures.closed c.in-Ok-pair.ensures.pair (subst (λ (s : Stop). StopsBy (IsUnsure c.in-Ok-pair.two) s) c.in-Err-Refused-checked.field-0-is c.in-Err-Refused-checked.ensures.stop)
-    (subst (λ (names : List (List ℕ)). IsRefusal names c.in-Err-Refused-checked.outcome c.args.answer.now c.refuse-in-Err-Refused-checked.new.answer c.refuse-in-Err-Refused-checked.result) c.names.ensures c.refuse-in-Err-Refused-checked.ensures)
+pub returns-in-Err-Refused-check : goal.returns-in-Err-Refused-check
+returns-in-Err-Refused-check c = not_accepted c.in-Ok-pair.two c.in-Err-Refused-check.outcome c.take.ensures.closed c.in-Ok-pair.ensures.pair (subst (λ (s : Stop). StopsBy (IsUnsure c.in-Ok-pair.two) s) c.in-Err-Refused-check.field-0-is c.in-Err-Refused-check.ensures.stop)
+    (subst (λ (names : List (List ℕ)). IsRefusal names c.in-Err-Refused-check.outcome c.args.answer.now c.refuse-in-Err-Refused-check.new.answer c.refuse-in-Err-Refused-check.result) c.names.ensures c.refuse-in-Err-Refused-check.ensures)
 
 pub returns : goal.returns
-returns c = opened c.in-Ok-pair.two (c.opened.ensures ∙ ap (λ (p : Pair). Some p) (c.in-Ok-new.ensures.ok ∙ c.of.ensures)) c.in-Ok-pair.ensures.pair c.in-Ok-checked.ensures.sure
+returns c = opened c.in-Ok-pair.two (c.opened.ensures ∙ ap (λ (p : Pair). Some p) (c.in-Ok-new.ensures.ok ∙ c.of.ensures)) c.in-Ok-pair.ensures.pair c.in-Ok-check.ensures.sure
     (subst (λ (bytes : List ℕ). IsTold bytes Done c.tell.new.answer c.tell.result) c.new-2.ensures c.tell.ensures)

@@ -1,6 +1,5 @@
-use Rattle.std.proofs.Common.{arith, map}
+use Rattle.std.proofs.Common.{arith}
 use Rattle.std.proofs.lemmas.Grind.{common_steps}
-use Rattle.xs_c.specs.Runs.{said}
 use Rattle.xs_c.proofs.running.texts.Goals as goal
 
 pub returns-in_default : goal.returns-in_default
