@@ -1,7 +1,5 @@
 ghost use Rattle.std.specs.Prelude.{IfOk, IfErr};
-ghost use Rattle.xs_sheet.specs.declared.sheet.Sheet.{Sheet as AnySheet};
 ghost use Rattle.xs_gram.specs.{TreeFits, IsSound};
-ghost use Rattle.xs_pair.specs.{IsPairOf};
 ghost use Rattle.xs_tree.specs.{common_of};
 ghost use Rattle.xs_outline.specs.Outline.{IsOutline};
 ghost use Rattle.xs_outline.specs.Refusal.{IsRefusal};
@@ -22,12 +20,12 @@ use xs_tree::Tree;
 /// spelling that a sheet allows. The time is linear in the outline and the tree, in expectation,
 /// but for that of matching each word with its terminal.
 pub fn read_outline(alloc: Global, two: &Two, doc: &Word) -> Result<Tree, OutlineFault>
-    requires pair { (s : AnySheet) × IsPairOf s two.now }
     requires sound { IsSound two.now.text }
     ensures tree { IfOk result (λ tree. IsOutline two.now doc.now (common_of tree)) }
     ensures fits { IfOk result (λ tree. TreeFits two.now.text two.now.text.start (common_of tree)) }
     ensures bad { IfErr result (IsRefusal two.now doc.now) }
 {
+    two.see();
     let tables = tables(alloc, two)?;
     let mut reader = Reader::new(alloc)?;
     let mut matcher = Matcher::new(alloc);

@@ -1,7 +1,7 @@
 ghost use Rattle.std.specs.Prelude.{◌≡◌, ◌<◌, ◌≤◌, ◌+◌, ◌*◌, ◌∷◌, ◌++◌, [], ℕ, suc, true, codes, length, encode_utf8_all, slice_get, None, Some, IfOk, OnOk, MatchOption};
 ghost use Rattle.std.specs.Str.{all_scalars, chars};
 ghost use Rattle.xs_sheet.specs.declared.sheet.Sheet.{Sheet as AnySheet};
-ghost use Rattle.xs_gram.specs.{word, made, TreeFits, IsBuilt};
+ghost use Rattle.xs_gram.specs.{word, made, TreeFits};
 ghost use Rattle.xs_gram.specs.Common.{Common};
 ghost use Rattle.xs_pair.specs.{IsPairOf};
 ghost use Rattle.xs_tree.specs.{IsFlat, common_at, common_of, production_of, word_of};
@@ -235,11 +235,10 @@ fn write(alloc: Global, two: &Two, tree: &Tree, page: &mut Text) -> Result<(), M
 /// ended, words as `write_sheet` writes quoted strings. In time linear in the tree and the outline,
 /// after the slots of each production were put in order, by insertion.
 pub fn write_outline(alloc: Global, two: &Two, tree: &Tree) -> Result<Bytes, Memory>
-    requires pair { (s : AnySheet) × IsPairOf s two.now }
-    requires built { IsBuilt two.now.text }
     requires fits { TreeFits two.now.text two.now.text.start (common_of tree.now) }
     ensures { IfOk result (λ bytes. bytes ≡ encode_utf8_all (outline_of two.now (common_of tree.now))) }
 {
+    two.see();
     let mut page = Text::new(alloc);
     write(alloc, two, tree, &mut page)?;
     Bytes::of(alloc, page.as_str().as_bytes())

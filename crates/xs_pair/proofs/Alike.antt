@@ -15,10 +15,12 @@ use Rattle.xs_gram.specs.declared.parts.GItem.{GItem}
 use Rattle.xs_gram.specs.declared.parts.RulePart.{RulePart}
 use Rattle.xs_gram.specs.declared.parts.Terminal.{Terminal}
 use Rattle.xs_gram.specs.Grammar.{Grammar, no_rule, no_terminal}
+use Rattle.xs_gram.specs.Sound.{IsBuilt}
 use Rattle.xs_pair.specs.declared.production.Rule.{Rule}
-use Rattle.xs_pair.specs.Grammars.{Numbering, numbering, rule_part, rule_parts, side_of, flat_marks, AreTermsOf, IsGramOf, HaveSameTrees}
+use Rattle.xs_pair.specs.Grammars.{Numbering, numbering, rule_part, rule_parts, side_of, flat_marks, AreTermsOf, IsGramOf, HaveSameTrees, Pair, IsPairOf}
 use Rattle.xs_pair.specs.Listing.{rules_of}
 use Rattle.xs_pair.specs.Marks.{slot_names}
+use Rattle.xs_pair.specs.Sound.{IsMade}
 use Rattle.xs_pair.specs.Verdict.{FailsAt, NoneFails}
 use Rattle.xs_pair.proofs.Once.{once_left, once_right, once_back, once_forth}
 use Rattle.xs_pair.proofs.Ready.{passes}
@@ -106,3 +108,13 @@ alike s names a b g h one two none =
 -- a common tree fits on one side exactly where it fits on the other
 pub same_trees : (s : Sheet) (names : List (List ℕ)) (g h : Grammar) → IsGramOf s names Text g → IsGramOf s names Xml h → NoneFails (FailsAt s) → HaveSameTrees g h
 same_trees s names g h one two none non t = (tree_fits g h (alike s names Text Xml g h one two none) non t, tree_fits h g (alike s names Xml Text h g two one none) non t)
+
+-- the pair of a sheet in which none of the first seven rules fails
+pub made : (s : Sheet) (p : Pair) → IsPairOf s p → IsBuilt p.text → IsBuilt p.xml → NoneFails (FailsAt s) → IsMade p
+made s p of text xml none = record {
+  pair = (s, of);
+  text = text;
+  xml = xml;
+  same = same_trees s p.names p.text p.xml of.text of.xml none;
+  starts = of.text.start ∙ sym of.xml.start;
+}

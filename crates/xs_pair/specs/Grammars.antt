@@ -161,6 +161,10 @@ pub record IsPairOf (s : Sheet) (p : Pair) : Type 0 where
   pub nons : p.nons ≡ nons_of s.units
   pub slots : p.slots ≡ map (λ (r : Rule). slot_names r.left) (rules_of s.units)
 
+-- the pair is that of a sheet
+abbrev pub IsPair : Pair → Type 0
+IsPair p = (s : Sheet) × IsPairOf s p
+
 -- a common tree fits on one side exactly where it fits on the other
 abbrev pub HaveSameTrees : Grammar → Grammar → Type 0
 HaveSameTrees g h = (non : ℕ) (t : Common) → TreeFits g non t ↔ TreeFits h non t

@@ -15,5 +15,5 @@ pub mod Balance
 pub use Rattle.xs_pair.specs.Weights.{IsOfBytes}
 pub use Rattle.xs_pair.specs.Rules.{SomeOf}
 pub use Rattle.xs_pair.specs.Verdict.{IsFirstLine, IsLineWhere, NoneBefore, order}
-pub use Rattle.xs_pair.specs.Grammars.{HaveSameTrees, IsPairOf, Pair, grammar_of}
+pub use Rattle.xs_pair.specs.Grammars.{HaveSameTrees, IsPair, IsPairOf, Pair, grammar_of}
 pub use Rattle.xs_pair.specs.Sound.{IsSoundPair}

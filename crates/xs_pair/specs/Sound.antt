@@ -1,8 +1,16 @@
--- Two grammars that documents can be turned by.
+-- What holds of each pair of grammars, and which of them documents can be turned by.
 use Rattle.std.specs.Prelude.{◌≡◌}
-use Rattle.xs_gram.specs.Sound.{IsSound}
+use Rattle.xs_gram.specs.Sound.{IsBuilt, IsSound}
 use Rattle.xs_gram.specs.Laws.{HasNormals}
-use Rattle.xs_pair.specs.Grammars.{Pair, HaveSameTrees}
+use Rattle.xs_pair.specs.Grammars.{Pair, HaveSameTrees, IsPair}
+
+-- the pair is that of a sheet, both grammars are built, and they have the same trees and the same start
+pub record IsMade (p : Pair) : Type 0 where
+  pub pair : IsPair p
+  pub text : IsBuilt p.text
+  pub xml : IsBuilt p.xml
+  pub same : HaveSameTrees p.text p.xml
+  pub starts : p.text.start ≡ p.xml.start
 
 -- both grammars are sound, their ignorables match their normal spellings, and they have the same trees and
 -- the same start

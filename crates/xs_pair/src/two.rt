@@ -2,7 +2,7 @@ ghost use Rattle.std.specs.Prelude.{◌≡◌, ◌<◌, [], length, map, slice_g
 ghost use Rattle.std.specs.Str.{chars};
 ghost use Rattle.xs_gram.specs.{IsBuilt};
 ghost use Rattle.xs_pair.specs.declared.production.Rule.{Rule as AnyRule};
-ghost use Rattle.xs_pair.specs.Grammars.{Pair, IsPairOf, IsGramOf, HaveSameTrees, grammar_of};
+ghost use Rattle.xs_pair.specs.Grammars.{Pair, IsPair, IsPairOf, IsGramOf, HaveSameTrees, grammar_of};
 ghost use Rattle.xs_class.specs.{AreNamesOf};
 ghost use Rattle.xs_pair.specs.Listing.{rules_of, names_in as listed_names};
 ghost use Rattle.xs_pair.specs.Marks.{slot_names};
@@ -34,6 +34,7 @@ pub struct Two {
 impl Model for Two {
     ghost use Rattle.std.specs.Coded.{codes};
     ghost use Rattle.xs_pair.specs.Grammars.{Pair};
+    ghost use Rattle.xs_pair.specs.Sound.{IsMade};
     ghost use Rattle.xs_regex.specs.contracts.regex.Regex as e;
 
     ghost Value = { Pair };
@@ -41,9 +42,22 @@ impl Model for Two {
     ghost coded = { Prim.hlevel (codes, e.the_row.coded) };
 
     ghost view = { λ t. record { text = t.text; xml = t.xml; names = t.names; lines = t.lines.items; nons = t.nons.items; slots = t.slots.items } };
+
+    ghost invariant = { λ t. IsMade (record { text = t.text; xml = t.xml; names = t.names; lines = t.lines.items; nons = t.nons.items; slots = t.slots.items }) };
 }
 
 impl Two {
+    /// Tells what holds of all of them, and does nothing.
+    pub fn see(&self)
+        ensures pair { IsPair self.now }
+        ensures text { IsBuilt self.now.text }
+        ensures xml { IsBuilt self.now.xml }
+        ensures trees { HaveSameTrees self.now.text self.now.xml }
+        ensures starts { self.now.text.start ≡ self.now.xml.start }
+    {
+        let _ = &self.text;
+    }
+
     /// The grammar of a side. Rule p of either side is the flat form of production p.
     pub fn gram(&self, side: Side) -> &Gram
         ensures { result.now ≡ grammar_of self.now side }

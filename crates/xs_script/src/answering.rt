@@ -1,6 +1,6 @@
 // The lines that answer requests.
 ghost use Rattle.std.specs.Prelude.{◌≡◌, ◌++◌, ◌∷◌, [], List, ℕ, IfOk, OnOk, codes};
-ghost use Rattle.xs_talk.specs.{HasSlotNames, quoted};
+ghost use Rattle.xs_talk.specs.{quoted};
 ghost use Rattle.xs_script.specs.Playing.{number_line, range_text, ranges_text, next_line, IsPutAnswer, IsTreeAnswer, IsNextAnswer, Answers};
 
 use crate::request::Request;
@@ -103,7 +103,6 @@ fn put(
 
 /// Appends the line of a derivation of the document, or how far it can be read.
 fn tree(alloc: Global, two: &Two, session: &mut Session<'_>, out: &mut Bytes) -> Result<(), Memory>
-    requires names { HasSlotNames two.now }
     requires pair { session.old.pair ≡ two.now }
     ensures answer { OnOk result ((line : List ℕ) × IsTreeAnswer two.now session.old.document line × (out.new ≡ out.old ++ line)) }
     ensures unchanged { session.new ≡ session.old }
@@ -144,7 +143,6 @@ pub fn answer(
     request: &Request,
     out: &mut Bytes,
 ) -> Result<(), Memory>
-    requires names { HasSlotNames two.now }
     requires pair { session.old.pair ≡ two.now }
     ensures answer { OnOk result ((line : List ℕ) × Answers two.now session.old.document request.now line session.new.document × (out.new ≡ out.old ++ line)) }
     ensures pair { session.new.pair ≡ session.old.pair }

@@ -1,8 +1,5 @@
 ghost use Rattle.std.specs.Prelude.{◌≡◌, IfOk, IfErr};
-ghost use Rattle.xs_sheet.specs.declared.sheet.Sheet.{Sheet as AnySheet};
 ghost use Rattle.xs_gram.specs.{IsSound};
-ghost use Rattle.xs_pair.specs.{IsPairOf};
-ghost use Rattle.xs_talk.specs.{HasSlotNames};
 ghost use Rattle.xs_script.specs.Playing.{IsLinePlayed, IsPlayed};
 ghost use Rattle.xs_script.specs.Requests.{IsUnplayed};
 
@@ -24,7 +21,6 @@ fn play_line(
     text: &[Sym],
     out: &mut Bytes,
 ) -> Result<bool, Memory>
-    requires names { HasSlotNames two.now }
     requires pair { session.old.pair ≡ two.now }
     ensures played { IfOk result (λ yes. IsLinePlayed two.now session.old.document text.now out.old yes session.new.document out.new) }
     ensures pair { session.new.pair ≡ session.old.pair }
@@ -44,7 +40,6 @@ fn play_line(
 /// 1. Lines end in LF, and that of the last may be left out. In time linear in the script, beyond
 /// what the session takes.
 pub fn play(alloc: Global, two: &Two, script: &Word) -> Result<Bytes, ScriptFault>
-    requires pair { (s : AnySheet) × IsPairOf s two.now }
     requires text { IsSound two.now.text }
     requires xml { IsSound two.now.xml }
     ensures played { IfOk result (IsPlayed two.now script.now) }

@@ -10,4 +10,3 @@ pub mod Covers
 pub use Rattle.xs_talk.specs.Words.{quoted}
 pub use Rattle.xs_talk.specs.Room.{line_bytes, line_spare, longest_fault_line}
 pub use Rattle.xs_talk.specs.Lines.{line}
-pub use Rattle.xs_talk.specs.Slots.{HasSlotNames}

@@ -1,7 +1,7 @@
 ghost use Rattle.std.specs.Prelude.{◌≡◌, ◌<◌, ◌≤◌, ◌++◌, Some, length, slice_range, IfOk, OnOk, suc, codes, decimal};
 ghost use Rattle.xs_talk.specs.Words.{quoted};
 ghost use Rattle.xs_talk.specs.Derivations.{slot_text, slot_begin};
-ghost use Rattle.xs_talk.specs.Slots.{HasSlot, HasSlotNames, IsNamed};
+ghost use Rattle.xs_talk.specs.Slots.{HasSlot, IsNamed};
 ghost use Rattle.xs_talk.specs.Walk.{IsSpelt, IsLineOf, label as label_of, IsOpened, CanWrite, IsWritten, HasKid, IsKidWritten, CanDo, IsDone};
 
 use crate::words::{push_decimal, push_quoted, push_three};
@@ -172,10 +172,10 @@ fn perform<'t>(
 /// the name of its slot, an ignorable after a tilde, words between quotes. In time linear in the
 /// line and in the items of the nodes.
 pub fn tree_line(alloc: Global, two: &Two, tree: &Spelt, doc: &Word) -> Result<Bytes, Memory>
-    requires names { HasSlotNames two.now }
     requires spelt { IsSpelt two.now doc.now tree.now }
     ensures { IfOk result (IsLineOf two.now doc.now tree.now) }
 {
+    two.see();
     let mut out = Bytes::new(alloc);
     let mut tasks = Vec::new(alloc);
     let root = tree.at(tree.len() - 1);

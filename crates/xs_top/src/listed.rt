@@ -1,8 +1,7 @@
 ghost use Rattle.std.specs.Prelude.{IfOk, IfErr};
 ghost use Rattle.xs_class.specs.declared.side.Side.TheVariants as S;
 ghost use Rattle.xs_chars.specs.declared.form.Form.TheVariants as F;
-ghost use Rattle.xs_sheet.specs.declared.sheet.Sheet.{Sheet as AnySheet};
-ghost use Rattle.xs_pair.specs.{IsPairOf, IsSoundPair};
+ghost use Rattle.xs_pair.specs.{IsSoundPair};
 ghost use Rattle.xs_top.specs.Answers.{IsListingOf, IsUnread};
 ghost use Rattle.xs_top.specs.Stops.{StopsBy};
 
@@ -18,7 +17,6 @@ use xs_turn::forest_of;
 
 /// The listing of at most `max` derivations of a text.
 pub fn listed(alloc: Global, two: &Two, max: u32, bytes: &[u8]) -> Result<Bytes, Stop>
-    requires pair { (s : AnySheet) × IsPairOf s two.now }
     requires sound { IsSoundPair two.now }
     ensures answer { IfOk result (IsListingOf two.now max bytes.now) }
     ensures stop { IfErr result (StopsBy (IsUnread two.now S.Text F.AsIs bytes.now)) }

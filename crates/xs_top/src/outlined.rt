@@ -1,6 +1,5 @@
 ghost use Rattle.std.specs.Prelude.{IfOk, IfErr};
-ghost use Rattle.xs_sheet.specs.declared.sheet.Sheet.{Sheet as AnySheet};
-ghost use Rattle.xs_pair.specs.{IsPairOf, IsSoundPair};
+ghost use Rattle.xs_pair.specs.{IsSoundPair};
 ghost use Rattle.xs_writing_laws.specs.{CanBeWritten};
 ghost use Rattle.xs_top.specs.Answers.{IsOutlined, IsMadeOfOutline, IsUnread, IsNoOutline};
 ghost use Rattle.xs_top.specs.Checks.{IsSure};
@@ -26,7 +25,6 @@ pub fn outlined(
     form: Form,
     bytes: &[u8],
 ) -> Result<Bytes, Stop>
-    requires pair { (s : AnySheet) × IsPairOf s two.now }
     requires sound { IsSoundPair two.now }
     ensures answer { IfOk result (IsOutlined two.now from form bytes.now) }
     ensures stop { IfErr result (StopsBy (IsUnread two.now from form bytes.now)) }
@@ -39,7 +37,6 @@ pub fn outlined(
 
 /// The document on side `to` that has the tree of an outline.
 pub fn made_of_outline(alloc: Global, two: &Two, to: Side, bytes: &[u8]) -> Result<Bytes, Stop>
-    requires pair { (s : AnySheet) × IsPairOf s two.now }
     requires sound { IsSoundPair two.now }
     requires writable { CanBeWritten two.now }
     requires sure { IsSure two.now }

@@ -1,6 +1,5 @@
 ghost use Rattle.std.specs.Prelude.{IfOk, IfErr};
-ghost use Rattle.xs_sheet.specs.declared.sheet.Sheet.{Sheet as AnySheet};
-ghost use Rattle.xs_pair.specs.{IsPairOf, IsSoundPair};
+ghost use Rattle.xs_pair.specs.{IsSoundPair};
 ghost use Rattle.xs_top.specs.Scripts.{IsScriptPlayed, IsNoScript};
 ghost use Rattle.xs_top.specs.Stops.{StopsBy};
 
@@ -14,7 +13,6 @@ use xs_script::play;
 
 /// The lines that answer an edit script, whose characters are taken as they are.
 pub fn played(alloc: Global, two: &Two, bytes: &[u8]) -> Result<Bytes, Stop>
-    requires pair { (s : AnySheet) × IsPairOf s two.now }
     requires sound { IsSoundPair two.now }
     ensures answer { IfOk result (IsScriptPlayed two.now bytes.now) }
     ensures stop { IfErr result (StopsBy (IsNoScript bytes.now)) }

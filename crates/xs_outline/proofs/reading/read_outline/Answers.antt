@@ -15,10 +15,10 @@ true_no_false : (b : Bool) → b ≡ true → b ≡ false → ⊥
 true_no_false b e f = cc
 
 pub tables-requires-clause-names : goal.tables-requires-clause-names
-tables-requires-clause-names c = pair_has_slot_names c.requires.pair.0 c.args.two.now c.requires.pair.1
+tables-requires-clause-names c = pair_has_slot_names c.see.ensures.pair.0 c.args.two.now c.see.ensures.pair.1
 
 pub tables-requires-clause-distinct : goal.tables-requires-clause-distinct
-tables-requires-clause-distinct c = pair_has_distinct_slots c.requires.pair.0 c.args.two.now c.requires.pair.1 c.requires.sound.built.slots
+tables-requires-clause-distinct c = pair_has_distinct_slots c.see.ensures.pair.0 c.args.two.now c.see.ensures.pair.1 c.requires.sound.built.slots
 
 pub lines-init : goal.lines-init
 lines-init c =
@@ -33,7 +33,7 @@ pub returns-in_default-clause-bad : goal.returns-in_default-clause-bad
 returns-in_default-clause-bad c =
     let more : c.is_empty.result ≡ false = search (rules) in
     let first = some_first c.lines.rest.now (λ none. true_no_false _ ((empty_test c.is_empty.result c.lines.rest.now c.is_empty.ensures).1 none) more) in
-    bad_line c.requires.pair.0 c.args.two.now c.requires.pair.1 c.requires.sound c.args.doc.now c.lines.rest.now first.front first.rest c.lines.number (c.lines.number + 1) _ c.lines.invariant.read
+    bad_line c.see.ensures.pair.0 c.args.two.now c.see.ensures.pair.1 c.requires.sound c.args.doc.now c.lines.rest.now first.front first.rest c.lines.number (c.lines.number + 1) _ c.lines.invariant.read
     first.is ((rw c.in_default.is at c.in_ok-more.ensures) first.front first.rest first.is) (add-one c.lines.number)
 
 pub lines-preserved : goal.lines-preserved
@@ -53,13 +53,13 @@ returns-in-Some-root-clause-tree c =
     let over : c.is_empty.result ≡ true = search (rules) in
     let none : c.lines.rest.now ≡ [] = (empty_test c.is_empty.result c.lines.rest.now c.is_empty.ensures).0 over in
     subst (λ (t : Common). IsOutline p c.args.doc.now t) (finished c.lines.reader c.finish.result c.in-Some-root.root c.finish.ensures.parts c.finish.ensures.root)
-    (read_whole c.requires.pair.0 p c.requires.pair.1 c.requires.sound c.args.doc.now c.lines.rest.now c.lines.number _ _ c.lines.invariant.read none (whole_state p c.lines.reader c.in-Some-root.root c.in-Some-root.is))
+    (read_whole c.see.ensures.pair.0 p c.see.ensures.pair.1 c.requires.sound c.args.doc.now c.lines.rest.now c.lines.number _ _ c.lines.invariant.read none (whole_state p c.lines.reader c.in-Some-root.root c.in-Some-root.is))
 
 pub returns-in-Some-root-clause-fits : goal.returns-in-Some-root-clause-fits
-returns-in-Some-root-clause-fits c = outline_fits c.args.two.now (pair_has_slot_names c.requires.pair.0 c.args.two.now c.requires.pair.1) c.args.doc.now (common_of c.finish.result) (returns-in-Some-root-clause-tree c)
+returns-in-Some-root-clause-fits c = outline_fits c.args.two.now (pair_has_slot_names c.see.ensures.pair.0 c.args.two.now c.see.ensures.pair.1) c.args.doc.now (common_of c.finish.result) (returns-in-Some-root-clause-tree c)
 
 pub returns-clause-bad : goal.returns-clause-bad
 returns-clause-bad c =
     let over : c.is_empty.result ≡ true = search (rules) in
     let none : c.lines.rest.now ≡ [] = (empty_test c.is_empty.result c.lines.rest.now c.is_empty.ensures).0 over in
-    bad_end c.requires.pair.0 c.args.two.now c.requires.pair.1 c.requires.sound c.args.doc.now c.lines.rest.now c.lines.number (c.lines.number + 1) _ c.lines.invariant.read none (λ t is. not_whole c.args.two.now c.lines.reader c.in-None.is t is) (add-one c.lines.number)
+    bad_end c.see.ensures.pair.0 c.args.two.now c.see.ensures.pair.1 c.requires.sound c.args.doc.now c.lines.rest.now c.lines.number (c.lines.number + 1) _ c.lines.invariant.read none (λ t is. not_whole c.args.two.now c.lines.reader c.in-None.is t is) (add-one c.lines.number)

@@ -1,12 +1,8 @@
 use Rattle.std.proofs.Common.{◌≡◌, ◌∙◌, [], true, false, refl, rules}
 use Rattle.std.proofs.lemmas.Result.{err_from_is_err_and}
 use Rattle.xs_regex.proofs.Flags.{empty_test}
-use Rattle.xs_talk.proofs.Slots.{pair_has_slot_names}
 use Rattle.xs_script.proofs.Playings.{playing_none, playing_more, playing_whole, playing_bad}
 use Rattle.xs_script.proofs.playing.play.Goals as goal
-
-pub play_line-requires-clause-names : goal.play_line-requires-clause-names
-play_line-requires-clause-names c = pair_has_slot_names c.requires.pair.0 c.args.two.now c.requires.pair.1 c.requires.text.built.slots
 
 pub lines-init : goal.lines-init
 lines-init c = record {

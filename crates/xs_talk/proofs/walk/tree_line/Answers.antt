@@ -1,6 +1,7 @@
 use Rattle.std.proofs.Common.{◌-◌, sym, ◌∙◌, ap, rules, arith}
 use Rattle.std.specs.Prelude.{slice_get}
 use Rattle.xs_talk.proofs.Ending.{done_less, steps_left}
+use Rattle.xs_talk.proofs.Slots.{pair_has_slot_names}
 use Rattle.xs_talk.proofs.Walking.{spelt_long, root_can, remains_first, remains_next, remains_none, next_can}
 use Rattle.xs_talk.proofs.walk.tree_line.Goals as goal
 
@@ -16,19 +17,19 @@ push_part-requires c =
 
 pub tasks-init : goal.tasks-init
 tasks-init c =
-    remains_first c.args.two.now c.args.doc.now c.args.tree.now c.requires.names c.at-root.result.now
+    remains_first c.args.two.now c.args.doc.now c.args.tree.now (pair_has_slot_names c.see.ensures.pair.0 c.args.two.now c.see.ensures.pair.1 c.see.ensures.text.slots) c.at-root.result.now
     c.new-tasks.result.items c.push_part.new.tasks.items c.new-out.result c.push_part.new.out
     (ap (λ n. slice_get c.args.tree.now (n - 1)) (sym c.len.ensures) ∙ c.at-root.ensures)
     c.new-tasks.ensures.items c.new-out.ensures c.in_ok-push_part.ensures
 
 pub perform-requires : goal.perform-requires
 perform-requires c =
-    next_can c.args.two.now c.args.doc.now c.args.tree.now c.requires.names c.requires.spelt
+    next_can c.args.two.now c.args.doc.now c.args.tree.now (pair_has_slot_names c.see.ensures.pair.0 c.args.two.now c.see.ensures.pair.1 c.see.ensures.text.slots) c.requires.spelt
     c.tasks.tasks.items c.pop.new.self.items c.in-Some.task c.tasks.out c.tasks.invariant c.in-Some.ensures.items
 
 pub tasks-preserved : goal.tasks-preserved
 tasks-preserved c =
-    remains_next c.args.two.now c.args.doc.now c.args.tree.now c.requires.names
+    remains_next c.args.two.now c.args.doc.now c.args.tree.now (pair_has_slot_names c.see.ensures.pair.0 c.args.two.now c.see.ensures.pair.1 c.see.ensures.text.slots)
     c.tasks.tasks.items c.pop.new.self.items c.perform.new.tasks.items c.in-Some.task c.tasks.out c.perform.new.out
     c.tasks.invariant c.in-Some.ensures.items c.in_ok-perform.ensures
 
