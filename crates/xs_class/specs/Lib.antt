@@ -4,6 +4,7 @@ pub mod Named
 pub mod Ordered
 pub mod Tables
 pub mod Words
+pub mod formers
 -- what other crates' contracts cite
 pub use Rattle.xs_class.specs.Classes.{Has, HaveSame, IsClass}
 pub use Rattle.xs_class.specs.Named.{HasMembersOf, set_named}

@@ -5,7 +5,6 @@ use Rattle.xs_class.proofs.Lists.{take_next}
 use Rattle.xs_sheet.specs.declared.unit.Unit.{Unit}
 use Rattle.xs_sheet.specs.declared.x_item.Attr.{Attr}
 use Rattle.xs_sheet.specs.declared.x_item.XItem.{XItem, Element}
-use Rattle.xs_sheet.specs.declared.x_item.XItems.{XItems}
 use Rattle.xs_sheet.specs.Outline.{Content, element, with_item, content_of, UnitOutline, unit_outline}
 use Rattle.xs_sheet.specs.Grammar.{HasRegex, HaveRegexes}
 use Rattle.xs_sheet.proofs.ContentLaws.{content_push, with_element, regexes_push}
@@ -17,7 +16,7 @@ content_next xs ys new i x y lt at so_far same is =
     ap content_of is ∙ content_push xs x ∙ same (content_of xs) ∙ ap (λ (c : Content). with_item y c) so_far ∙ sym (content_push (take i ys) y) ∙ ap content_of (sym (take_next ys i y lt at))
 
 -- an element whose content is the same
-pub element_same : (tag : List ℕ) (as_ : List Attr) (inner outer : XItems) (before : Content) → content_of inner.all.items ≡ content_of outer.all.items → with_item (Element tag as_ inner) before ≡ with_item (Element tag as_ outer) before
+pub element_same : (tag : List ℕ) (as_ : List Attr) (inner outer : List XItem) (before : Content) → content_of inner ≡ content_of outer → with_item (Element tag as_ inner) before ≡ with_item (Element tag as_ outer) before
 element_same tag as_ inner outer before same = with_element tag as_ inner before ∙ ap (λ (c : Content). element before tag as_ c) same ∙ sym (with_element tag as_ outer before)
 
 -- one more unit

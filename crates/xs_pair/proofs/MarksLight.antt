@@ -11,9 +11,8 @@ use Rattle.xs_sheet.specs.Grammar.{IsSheetOf}
 use Rattle.xs_sheet.specs.declared.x_item.XItem.{XItem, Plain, Element, roll-XItem}
 use Rattle.xs_sheet.specs.declared.x_item.XItem.TheVariants.{rolls-Plain, rolls-Element}
 use Rattle.xs_sheet.specs.declared.x_item.XItem.TheOpen as O
-use Rattle.xs_sheet.specs.declared.x_item.XItem.TheOpen.{XItem-F, XItems-F}
+use Rattle.xs_sheet.specs.declared.x_item.XItem.TheOpen.{XItem-F}
 use Rattle.xs_sheet.specs.declared.x_item.XItem.TheFolds.{ind-XItem, map-XItem}
-use Rattle.xs_sheet.specs.declared.x_item.XItems.{XItems}
 use Rattle.xs_sheet.specs.Outline.{Content, nothing, laid, with_item, unit_outline}
 use Rattle.xs_sheet.proofs.ContentLaws.{with_plain, with_element}
 use Rattle.xs_pair.specs.declared.mark.Mark.{Mark}
@@ -72,9 +71,9 @@ AllWeigh xs = (before : Content) → content_weight (laid before (map with_item 
 plain_weighs : (i : Item) (before : Content) → content_weight (with_item (Plain i) before) ≡ content_weight before + marks_weight (marks_of (Plain i))
 plain_weighs i before = omega (arith, ap content_weight (with_plain i before), ap marks_weight (marks_plain i))
 
-element_weighs : (tag : List ℕ) (attrs : List Attr) (content : XItems) → ((before : Content) → content_weight (laid before (map with_item content.all.items)) ≡ content_weight before + marks_weight (all_marks content.all.items)) → (before : Content) → content_weight (with_item (Element tag attrs content) before) ≡ content_weight before + marks_weight (marks_of (Element tag attrs content))
+element_weighs : (tag : List ℕ) (attrs : List Attr) (content : List XItem) → ((before : Content) → content_weight (laid before (map with_item content)) ≡ content_weight before + marks_weight (all_marks content)) → (before : Content) → content_weight (with_item (Element tag attrs content) before) ≡ content_weight before + marks_weight (marks_of (Element tag attrs content))
 element_weighs tag attrs content inner before =
-    omega (arith, ap content_weight (with_element tag attrs content before), ap marks_weight (marks_element tag attrs content), weight-append (opening_marks tag attrs) (all_marks content.all.items ++ Closing tag ∷ []), weight-append (all_marks content.all.items) (Closing tag ∷ []), opening_weight tag attrs, inner nothing)
+    omega (arith, ap content_weight (with_element tag attrs content before), ap marks_weight (marks_element tag attrs content), weight-append (opening_marks tag attrs) (all_marks content ++ Closing tag ∷ []), weight-append (all_marks content) (Closing tag ∷ []), opening_weight tag attrs, inner nothing)
 
 next_weighs : (x : XItem) (xs : List XItem) → ((before : Content) → content_weight (with_item x before) ≡ content_weight before + marks_weight (marks_of x)) → ((before : Content) → content_weight (laid before (map with_item xs)) ≡ content_weight before + marks_weight (all_marks xs)) → (before : Content) → content_weight (laid before (map with_item (x ∷ xs))) ≡ content_weight before + marks_weight (all_marks (x ∷ xs))
 next_weighs x xs one rest before = omega (arith, rest (with_item x before), one before, weight-append (marks_of x) (all_marks xs))
@@ -84,12 +83,14 @@ list_weighs [] before = omega arith
 list_weighs (e ∷ xs) before = next_weighs e.0 (map (λ f. f.0) xs) e.1 (list_weighs xs) before
 
 -- one item, where the content of an element weighs so
-item_weighs : (y : XItem-F ((x : XItem) × Weighs x) ((xs : XItems) × AllWeigh xs.all.items)) → Weighs (roll-XItem (map-XItem ((x : XItem) × Weighs x) ((xs : XItems) × AllWeigh xs.all.items) XItem XItems (λ e. e.0) (λ e. e.0) y))
+item_weighs : (y : XItem-F ((x : XItem) × Weighs x)) → Weighs (roll-XItem (map-XItem ((x : XItem) × Weighs x) XItem (λ e. e.0) y))
 item_weighs (O.Plain i) = subst Weighs (sym (rolls-Plain i)) (plain_weighs i)
-item_weighs (O.Element tag attrs e) = subst Weighs (sym (rolls-Element tag attrs e.0)) (element_weighs tag attrs e.0 e.1)
+item_weighs (O.Element tag attrs es) =
+    let content = map (λ (e : (x : XItem) × Weighs x). e.0) es in
+    subst Weighs (sym (rolls-Element tag attrs content)) (element_weighs tag attrs content (list_weighs es))
 
 weighs : (x : XItem) → Weighs x
-weighs = ind-XItem Weighs (λ (xs : XItems). AllWeigh xs.all.items) (λ x y is. subst (λ z. Weighs (roll-XItem z)) is (item_weighs y)) (λ x y is. subst (λ (z : XItems-F XItem XItems). AllWeigh z.all.items) is (list_weighs y.all.items))
+weighs = ind-XItem Weighs (λ x y is. subst (λ z. Weighs (roll-XItem z)) is (item_weighs y))
 
 all_weigh : (xs : List XItem) → AllWeigh xs
 all_weigh [] before = omega arith
@@ -100,7 +101,7 @@ units_same [] = refl
 units_same (V.Terminal name pattern regex line ∷ us) = let rest = units_same us in omega arith
 units_same (V.Ignorable name pattern regex normal line ∷ us) = let rest = units_same us in omega arith
 units_same (V.Fence left right line ∷ us) = let rest = units_same us in omega arith
-units_same (V.Production name left right line ∷ us) = omega (arith, units_same us, contents_weight left, all_weigh right.all.items nothing)
+units_same (V.Production name left right line ∷ us) = omega (arith, units_same us, contents_weight left, all_weigh right nothing)
 
 -- a sheet of at most 65,536 bytes weighs less than 65,536
 pub are_light : (bytes : List ℕ) (s : Sheet) → length bytes ≤ 65536 → IsSheetOf bytes s → weight s.units < 65536

@@ -5,29 +5,27 @@ use Rattle.xs_sheet.specs.declared.x_item.Attr.{Attr}
 use Rattle.xs_sheet.specs.declared.x_item.XItem.{XItem, Plain, Element, map-XItem, roll-XItem}
 use Rattle.xs_sheet.specs.declared.x_item.XItem.TheVariants.{rolls-Plain, rolls-Element}
 use Rattle.xs_sheet.specs.declared.x_item.XItem.TheOpen as O
-use Rattle.xs_sheet.specs.declared.x_item.XItem.TheOpen.{XItem-F, XItems-F}
+use Rattle.xs_sheet.specs.declared.x_item.XItem.TheOpen.{XItem-F}
 use Rattle.xs_sheet.specs.declared.x_item.XItem.TheFolds.{ind-XItem}
-use Rattle.xs_sheet.specs.declared.x_item.XItems.{XItems, map-XItems, roll-XItems}
 use Rattle.xs_gram.specs.Building.{EachOf}
 use Rattle.xs_pair.specs.declared.mark.Mark.{Mark}
 use Rattle.xs_pair.specs.declared.mark.Mark.TheVariants.{Closing, Content}
 use Rattle.xs_pair.specs.Marks.{marks_of, all_marks, opening_marks, opens, is_element}
 use Rattle.xs_pair.proofs.Marks.{marks_plain, marks_element}
 
-by_item : (P : XItem → Type 0) (Q : XItems → Type 0) → ((i : Item) → P (Plain i)) → ((tag : List ℕ) (attrs : List Attr) (content : XItems) → Q content → P (Element tag attrs content)) → (x : XItem-F XItem XItems) (y : XItem-F ((x : XItem) × P x) ((c : XItems) × Q c)) → map-XItem ((x : XItem) × P x) ((c : XItems) × Q c) XItem XItems (λ e. e.0) (λ e. e.0) y ≡ x → P (roll-XItem x)
-by_item P Q plain element x (O.Plain i) e = subst (λ (z : XItem-F XItem XItems). P (roll-XItem z)) e (subst P (sym (rolls-Plain i)) (plain i))
-by_item P Q plain element x (O.Element tag attrs content) e = subst (λ (z : XItem-F XItem XItems). P (roll-XItem z)) e (subst P (sym (rolls-Element tag attrs content.0)) (element tag attrs content.0 content.1))
-
 each_pair : (P : XItem → Type 0) (l : List ((x : XItem) × P x)) → EachOf P (map (λ (e : (x : XItem) × P x). e.0) l)
 each_pair P [] = tt
 each_pair P (e ∷ l) = (e.1, each_pair P l)
 
-by_items : (P : XItem → Type 0) (Q : XItems → Type 0) (x : XItems-F XItem XItems) (y : XItems-F ((x : XItem) × P x) ((c : XItems) × Q c)) → map-XItems ((x : XItem) × P x) ((c : XItems) × Q c) XItem XItems (λ e. e.0) (λ e. e.0) y ≡ x → EachOf P (roll-XItems x).all.items
-by_items P Q x y e = subst (λ (z : XItems-F XItem XItems). EachOf P (roll-XItems z).all.items) e (each_pair P y.all.items)
+by_item : (P : XItem → Type 0) → ((i : Item) → P (Plain i)) → ((tag : List ℕ) (attrs : List Attr) (content : List XItem) → EachOf P content → P (Element tag attrs content)) → (x : XItem-F XItem) (y : XItem-F ((x : XItem) × P x)) → map-XItem ((x : XItem) × P x) XItem (λ e. e.0) y ≡ x → P (roll-XItem x)
+by_item P plain element x (O.Plain i) e = subst (λ (z : XItem-F XItem). P (roll-XItem z)) e (subst P (sym (rolls-Plain i)) (plain i))
+by_item P plain element x (O.Element tag attrs pairs) e =
+    let content = map (λ (e : (x : XItem) × P x). e.0) pairs in
+    subst (λ (z : XItem-F XItem). P (roll-XItem z)) e (subst P (sym (rolls-Element tag attrs content)) (element tag attrs content (each_pair P pairs)))
 
 -- what holds of a plain item, and of an element if it holds of each item inside, holds of each item
-pub item_induction : (P : XItem → Type 0) → ((i : Item) → P (Plain i)) → ((tag : List ℕ) (attrs : List Attr) (content : XItems) → EachOf P content.all.items → P (Element tag attrs content)) → (x : XItem) → P x
-item_induction P plain element = ind-XItem P (λ (c : XItems). EachOf P c.all.items) (by_item P (λ (c : XItems). EachOf P c.all.items) plain element) (by_items P (λ (c : XItems). EachOf P c.all.items))
+pub item_induction : (P : XItem → Type 0) → ((i : Item) → P (Plain i)) → ((tag : List ℕ) (attrs : List Attr) (content : List XItem) → EachOf P content → P (Element tag attrs content)) → (x : XItem) → P x
+item_induction P plain element = ind-XItem P (by_item P plain element)
 
 -- items and elements, one after the other, and inside elements too
 pub data IsNested : List Mark → Type 0 where
@@ -58,7 +56,7 @@ ones_nested [] each = none
 ones_nested (x ∷ xs) each = one_nested x (all_marks xs) each.0 (ones_nested xs each.1)
 
 one : (x : XItem) → IsOne x
-one = item_induction IsOne (λ i. inl (i, marks_plain i)) (λ tag attrs content each. inr (record { tag = tag; attrs = attrs; inner = all_marks content.all.items; nested = ones_nested content.all.items each; is = marks_element tag attrs content }))
+one = item_induction IsOne (λ i. inl (i, marks_plain i)) (λ tag attrs content each. inr (record { tag = tag; attrs = attrs; inner = all_marks content; nested = ones_nested content each; is = marks_element tag attrs content }))
 
 ones : (xs : List XItem) → EachOf IsOne xs
 ones [] = tt

@@ -114,12 +114,12 @@ parts_light names all side (V.Terminal name pattern regex line ∷ us) = let res
 parts_light names all side (V.Ignorable name pattern regex normal line ∷ us) = let rest = parts_light names all side us in (omega (arith, rest.0), omega (arith, rest.1))
 parts_light names all side (V.Fence left right line ∷ us) = let rest = parts_light names all side us in (omega (arith, rest.0), omega (arith, rest.1))
 parts_light names all Text (V.Production name left right line ∷ us) =
-    let r = rule_of name left right.all.items line in
+    let r = rule_of name left right line in
     let rest = parts_light names all Text us in
     let one = marks_short (numbering all names) (slot_names r.left) r.left in
     (omega (arith, rest.0, one.0), omega (arith, rest.1, one.1))
 parts_light names all Xml (V.Production name left right line ∷ us) =
-    let r = rule_of name left right.all.items line in
+    let r = rule_of name left right line in
     let rest = parts_light names all Xml us in
     let one = marks_short (numbering all names) (slot_names r.left) r.right in
     (omega (arith, rest.0, one.0), omega (arith, rest.1, one.1))
@@ -130,7 +130,7 @@ rule_light (V.Terminal name pattern regex line ∷ us) k r at = let rest = rule_
 rule_light (V.Ignorable name pattern regex normal line ∷ us) k r at = let rest = rule_light us k r at in omega arith
 rule_light (V.Fence left right line ∷ us) k r at = let rest = rule_light us k r at in omega arith
 rule_light (V.Production name left right line ∷ us) zero r at =
-    let same : rule_weight (rule_of name left right.all.items line) ≡ rule_weight r = ap rule_weight (same_Some (rule_of name left right.all.items line) r at) in omega arith
+    let same : rule_weight (rule_of name left right line) ≡ rule_weight r = ap rule_weight (same_Some (rule_of name left right line) r at) in omega arith
 rule_light (V.Production name left right line ∷ us) (suc k) r at = let rest = rule_light us k r at in omega arith
 
 pub all_light : (us : List Unit) → weight us < 65536 → AreLight (rules_of us)
@@ -151,7 +151,7 @@ names_light (V.Terminal name pattern regex line ∷ us) = let rest = names_light
 names_light (V.Ignorable name pattern regex normal line ∷ us) = let rest = names_light us in omega arith
 names_light (V.Fence left right line ∷ us) = let rest = names_light us in omega arith
 names_light (V.Production name left right line ∷ us) =
-    let r = rule_of name left right.all.items line in
+    let r = rule_of name left right line in
     omega (arith, length-append (mark_names r.right) (names_in (rules_of us)), mark_names_short r.right, names_light us)
 
 start_named : (s : Sheet) → NoneFails (FailsAt s) → IsAmong (nons_of s.units) s.start

@@ -12,7 +12,6 @@ use Rattle.xs_sheet.specs.declared.item.Item.{Item}
 use Rattle.xs_sheet.specs.declared.item.Item.TheVariants.{Fixed, Named, Skip}
 use Rattle.xs_sheet.specs.declared.x_item.Attr.{Attr}
 use Rattle.xs_sheet.specs.declared.x_item.XItem.{XItem, Plain as PlainItem, Element}
-use Rattle.xs_sheet.specs.declared.x_item.XItems.{XItems}
 use Rattle.xs_sheet.specs.declared.unit.Unit.{Unit as SheetUnit}
 use Rattle.xs_sheet.specs.declared.unit.Unit.TheVariants.{Terminal, Ignorable, Production, Fence}
 use Rattle.xs_sheet.specs.declared.sheet.Sheet.{Sheet}
@@ -187,13 +186,13 @@ module _ (Said : Kind → List ℕ → Type 0) where
       let all = subst (IsSaidOfContent Said) (with_plain i before) said in
       (all.0, subst (EachOf (IsSaidOfMark Said)) (sym (marks_plain i)) (all.1, tt))
 
-  element_said : (tag : List ℕ) (attrs : List Attr) (content : XItems) → EachOf IsReadable content.all.items → IsReadable (Element tag attrs content)
+  element_said : (tag : List ℕ) (attrs : List Attr) (content : List XItem) → EachOf IsReadable content → IsReadable (Element tag attrs content)
   element_said tag attrs content each before said =
       let all = subst (IsSaidOfContent Said) (with_element tag attrs content before) said in
-      let inside = laid_said content.all.items nothing each all.3 in
+      let inside = laid_said content nothing each all.3 in
       let opening : EachOf (IsSaidOfMark Said) (opening_marks tag attrs) = (all.1, attrs_said (by_name attrs) (placed_said [] attrs tt all.2)) in
-      let closing : EachOf (IsSaidOfMark Said) (all_marks content.all.items ++ Closing tag ∷ []) = each_append (IsSaidOfMark Said) (all_marks content.all.items) (Closing tag ∷ []) inside.1 (all.1, tt) in
-      (all.0, subst (EachOf (IsSaidOfMark Said)) (sym (marks_element tag attrs content)) (each_append (IsSaidOfMark Said) (opening_marks tag attrs) (all_marks content.all.items ++ Closing tag ∷ []) opening closing))
+      let closing : EachOf (IsSaidOfMark Said) (all_marks content ++ Closing tag ∷ []) = each_append (IsSaidOfMark Said) (all_marks content) (Closing tag ∷ []) inside.1 (all.1, tt) in
+      (all.0, subst (EachOf (IsSaidOfMark Said)) (sym (marks_element tag attrs content)) (each_append (IsSaidOfMark Said) (opening_marks tag attrs) (all_marks content ++ Closing tag ∷ []) opening closing))
 
   readable : (xs : List XItem) → EachOf IsReadable xs
   readable [] = tt
@@ -204,7 +203,7 @@ module _ (Said : Kind → List ℕ → Type 0) where
   rules_said (Terminal name pattern regex line ∷ us) said = rules_said us said.1
   rules_said (Ignorable name pattern regex normal line ∷ us) said = rules_said us said.1
   rules_said (Fence left right line ∷ us) said = rules_said us said.1
-  rules_said (Production name left right line ∷ us) said = ((each_map (IsSaidOfMark Said) OfContent left said.0.0, (laid_said right.all.items nothing (readable right.all.items) said.0.1).1), rules_said us said.1)
+  rules_said (Production name left right line ∷ us) said = ((each_map (IsSaidOfMark Said) OfContent left said.0.0, (laid_said right nothing (readable right) said.0.1).1), rules_said us said.1)
 
   -- what is said of each token of a sheet is said of each production
   pub said_of_rules : (bytes : List ℕ) (s : Sheet) (is : IsSheetOf bytes s) → EachOf (IsSaidOfToken Said) is.tokens → EachOf (IsSaidOfRule Said) (rules_of s.units)

@@ -244,8 +244,8 @@ rules_level n (V.Ignorable name pattern regex normal line ∷ us) known low = ru
 rules_level n (V.Fence left right line ∷ us) known low = rules_level n us known low
 rules_level n (V.Production name left right line ∷ us) known low =
     let slots = slot_names (map Content left) in
-    let ms = all_marks right.all.items in
-    (balanced_level (mark_pairs 0 (length n.names)) (flat_marks n slots ms) (marks_apart 0 (length n.names)) (nested_balanced n slots (all_nested right.all.items) known.0 low.0.1), rules_level n us known.1 low.1)
+    let ms = all_marks right in
+    (balanced_level (mark_pairs 0 (length n.names)) (flat_marks n slots ms) (marks_apart 0 (length n.names)) (nested_balanced n slots (all_nested right) known.0 low.0.1), rules_level n us known.1 low.1)
 
 pub xml_proper :
     (us : List Unit) (names : List (List ℕ)) (parts : GramParts) → EachOf (IsSaidOfRule IsLowText) (rules_of us) → AreNamesOf (names_in (rules_of us)) names

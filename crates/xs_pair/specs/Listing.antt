@@ -18,7 +18,7 @@ abbrev pub rule_in : Unit → List Rule
 rule_in (Terminal name pattern regex line) = []
 rule_in (Ignorable name pattern regex normal line) = []
 rule_in (Fence left right line) = []
-rule_in (Production name left right line) = rule_of name left right.all.items line ∷ []
+rule_in (Production name left right line) = rule_of name left right line ∷ []
 
 -- the productions of the units, in their order
 abbrev pub rules_of : List Unit → List Rule

@@ -9,7 +9,7 @@ use Rattle.xs_sheet.specs.declared.item.Item.TheVariants as I
 use Rattle.xs_sheet.specs.declared.x_item.Attr.{Attr}
 use Rattle.xs_sheet.specs.declared.x_item.XItem.{XItem}
 use Rattle.xs_sheet.specs.declared.x_item.XItem.TheOpen as O
-use Rattle.xs_sheet.specs.declared.x_item.XItem.TheOpen.{XItem-F, XItems-F}
+use Rattle.xs_sheet.specs.declared.x_item.XItem.TheOpen.{XItem-F}
 use Rattle.xs_sheet.specs.declared.x_item.XItem.TheFolds.{fold-XItem}
 use Rattle.xs_pair.specs.declared.mark.Mark.{Mark}
 use Rattle.xs_pair.specs.declared.mark.Mark.TheVariants.{Opening, Attribute, AttributeEnd, Closing, Value, Content}
@@ -54,15 +54,12 @@ opening_marks tag attrs = Opening tag (attr_names attrs) ∷ attrs_marks (by_nam
 abbrev pub element_marks : List ℕ → List Attr → List Mark → List Mark
 element_marks tag attrs content = opening_marks tag attrs ++ (content ++ Closing tag ∷ [])
 
-abbrev pub item_marks : XItem-F (List Mark) (List Mark) → List Mark
+abbrev pub item_marks : XItem-F (List Mark) → List Mark
 item_marks (O.Plain i) = Content i ∷ []
-item_marks (O.Element tag attrs content) = element_marks tag attrs content
-
-abbrev pub items_marks : XItems-F (List Mark) (List Mark) → List Mark
-items_marks xs = joined xs.all.items
+item_marks (O.Element tag attrs content) = element_marks tag attrs (joined content)
 
 unfoldable pub marks_of : XItem → List Mark
-marks_of = fold-XItem (List Mark) (List Mark) item_marks items_marks
+marks_of = fold-XItem (List Mark) item_marks
 
 abbrev pub all_marks : List XItem → List Mark
 all_marks xs = flat_map marks_of xs

@@ -37,7 +37,7 @@ abbrev pub weight : List Unit → ℕ
 weight [] = 0
 weight (Terminal name pattern regex line ∷ us) = weight us + 1
 weight (Ignorable name pattern regex normal line ∷ us) = weight us + 1
-weight (Production name left right line ∷ us) = rule_weight (rule_of name left right.all.items line) + weight us
+weight (Production name left right line ∷ us) = rule_weight (rule_of name left right line) + weight us
 weight (Fence left right line ∷ us) = weight us + 1
 
 -- no production is too heavy to be counted by 16 bits

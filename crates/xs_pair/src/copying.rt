@@ -52,7 +52,7 @@ fn copied_x_item(alloc: Global, item: &XItem) -> Result<XItem, Memory>
 }
 
 fn copied_content(alloc: Global, items: &[XItem]) -> Result<XItems, Memory>
-    ensures { IfOk result (λ is. content_of is.all.items ≡ content_of items.now) }
+    ensures { IfOk result (λ is. content_of is ≡ content_of items.now) }
 {
     let mut content = XItems::new(alloc);
     'items: for item in items {

@@ -27,7 +27,7 @@ fn rule_of(
     right: &XItems,
     line: u32,
 ) -> Result<Rule, Memory>
-    ensures { IfOk result (λ r. r ≡ L.rule_of name.now left.now right.now.all.items line) }
+    ensures { IfOk result (λ r. r ≡ L.rule_of name.now left.now right.now line) }
 {
     let name = name.copy()?;
     let text = text_marks(alloc, left.as_slice())?;

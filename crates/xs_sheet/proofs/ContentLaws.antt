@@ -13,9 +13,8 @@ use Rattle.xs_sheet.specs.declared.x_item.Attr.{Attr}
 use Rattle.xs_sheet.specs.declared.x_item.XItem.{XItem, Plain, Element}
 use Rattle.xs_sheet.specs.declared.x_item.XItem.TheVariants.{rolls-Plain, rolls-Element}
 use Rattle.xs_sheet.specs.declared.x_item.XItem.TheOpen as O
-use Rattle.xs_sheet.specs.declared.x_item.XItem.TheFolds.{fold-roll-XItem, fold_out-XItems}
-use Rattle.xs_sheet.specs.declared.x_item.XItems.{XItems}
-use Rattle.xs_sheet.specs.Outline.{Content, nothing, item, element, laid, item_step, items_step, with_item, content_of}
+use Rattle.xs_sheet.specs.declared.x_item.XItem.TheFolds.{fold-roll-XItem}
+use Rattle.xs_sheet.specs.Outline.{Content, nothing, item, element, laid, item_step, with_item, content_of}
 
 laid_push : (before : Content) (fs : List (Content → Content)) (f : Content → Content) → laid before (fs ++ f ∷ []) ≡ f (laid before fs)
 laid_push before [] f = refl
@@ -26,12 +25,12 @@ content_push xs x = ap (λ (fs : List (Content → Content)). laid nothing fs) (
 
 pub with_plain : (i : Item) (before : Content) → with_item (Plain i) before ≡ item before i
 unfolding with_item
-with_plain i before = ap (λ (x : XItem). with_item x before) (sym (rolls-Plain i)) ∙ ap (λ (f : Content → Content). f before) (fold-roll-XItem (Content → Content) Content item_step items_step (O.Plain i))
+with_plain i before = ap (λ (x : XItem). with_item x before) (sym (rolls-Plain i)) ∙ ap (λ (f : Content → Content). f before) (fold-roll-XItem (Content → Content) item_step (O.Plain i))
 
-pub with_element : (tag : List ℕ) (as_ : List Attr) (content : XItems) (before : Content) → with_item (Element tag as_ content) before ≡ element before tag as_ (content_of content.all.items)
+pub with_element : (tag : List ℕ) (as_ : List Attr) (content : List XItem) (before : Content) → with_item (Element tag as_ content) before ≡ element before tag as_ (content_of content)
 unfolding with_item
 with_element tag as_ content before =
-    ap (λ (x : XItem). with_item x before) (sym (rolls-Element tag as_ content)) ∙ ap (λ (f : Content → Content). f before) (fold-roll-XItem (Content → Content) Content item_step items_step (O.Element tag as_ content)) ∙ ap (λ (z : Content). element before tag as_ z) (fold_out-XItems (Content → Content) Content item_step items_step content)
+    ap (λ (x : XItem). with_item x before) (sym (rolls-Element tag as_ content)) ∙ ap (λ (f : Content → Content). f before) (fold-roll-XItem (Content → Content) item_step (O.Element tag as_ content))
 
 -- the innermost element that has not ended comes first
 pub opens_push : (os : List Opened) (o : Opened) → opens_view (os ++ o ∷ []) ≡ opened_view o ∷ opens_view os

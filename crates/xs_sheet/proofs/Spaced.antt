@@ -8,10 +8,9 @@ use Rattle.xs_sheet.specs.declared.x_item.XItem.{XItem, Plain, Element}
 use Rattle.xs_sheet.specs.declared.x_item.XItem.TheOpen as O
 use Rattle.xs_sheet.specs.declared.x_item.XItem.TheOpen.{XItem-F}
 use Rattle.xs_sheet.specs.declared.x_item.XItem.TheFolds.{fold_out-XItem}
-use Rattle.xs_sheet.specs.declared.x_item.XItems.{XItems}
 use Rattle.xs_sheet.specs.declared.unit.Unit.{Unit}
 use Rattle.xs_sheet.specs.declared.sheet.Sheet.{Sheet}
-use Rattle.xs_sheet.specs.Outline.{Content, nothing, laid, item_step, items_step, with_item, content_of, unit_outline, outline_of}
+use Rattle.xs_sheet.specs.Outline.{Content, nothing, laid, item_step, with_item, content_of, unit_outline, outline_of}
 use Rattle.xs_lex.specs.declared.kind.Kind.TheVariants.{Colon, Equals, Angle, AngleSlash, AngleEnd, SlashEnd}
 use Rattle.xs_sheet.specs.Grammar.{version_word}
 use Rattle.xs_sheet.specs.Layout.{Written, as_is, sign, spelling, holds_nothing, after_attrs, element_words, item_words, items_words, attr_words, attrs_words, content_words, unit_words, spaced, line_text, lines_text, sheet_lines}
@@ -36,16 +35,16 @@ lines_push : (ls : List (List Written)) (l : List Written) → lines_text (ls ++
 lines_push [] l = append-nil (line_text l)
 lines_push (m ∷ ls) l = ap (λ (z : List ℕ). line_text m ++ z) (lines_push ls l) ∙ sym (append_assoc (line_text m) (lines_text ls) (line_text l))
 
-one_step : (l : XItem-F (Content → Content) Content) (before : Content) → content_words (item_step l before) ≡ content_words before ++ content_words (item_step l nothing)
+one_step : (l : XItem-F (Content → Content)) (before : Content) → content_words (item_step l before) ≡ content_words before ++ content_words (item_step l nothing)
 one_step (O.Plain i) before = refl
 one_step (O.Element tag as_ inner) before = refl
 
-stepped : (f : Content → Content) (l : XItem-F (Content → Content) Content) → f ≡ item_step l → (before : Content) → content_words (f before) ≡ content_words before ++ content_words (f nothing)
+stepped : (f : Content → Content) (l : XItem-F (Content → Content)) → f ≡ item_step l → (before : Content) → content_words (f before) ≡ content_words before ++ content_words (f nothing)
 stepped f l is before = subst (λ (g : Content → Content). content_words (g before) ≡ content_words before ++ content_words (g nothing)) (sym is) (one_step l before)
 
 words_after : (x : XItem) (before : Content) → content_words (with_item x before) ≡ content_words before ++ content_words (with_item x nothing)
 unfolding with_item
-words_after x before = stepped (with_item x) _ (fold_out-XItem (Content → Content) Content item_step items_step x) before
+words_after x before = stepped (with_item x) _ (fold_out-XItem (Content → Content) item_step x) before
 
 content_more : (xs : List XItem) (x : XItem) → content_words (content_of (xs ++ x ∷ [])) ≡ content_words (content_of xs) ++ content_words (with_item x nothing)
 content_more xs x = ap (λ (z : Content). content_words z) (content_push xs x) ∙ words_after x (content_of xs)
@@ -70,16 +69,16 @@ units_on old page new us n u low at so_far here =
     page_on old page new _ _ _ so_far here (ap (λ (z : List Unit). lines_text (map unit_line z)) (take_next us n u low at) ∙ ap (λ (z : List (List Written)). lines_text z) (map-append unit_line (take n us) (u ∷ [])) ∙ lines_push (map unit_line (take n us)) (unit_line u))
 
 -- an element
-item_some : (l : XItem-F (Content → Content) Content) (before : Content) → holds_nothing (item_step l before) ≡ false
+item_some : (l : XItem-F (Content → Content)) (before : Content) → holds_nothing (item_step l before) ≡ false
 item_some (O.Plain i) before = refl
 item_some (O.Element tag as_ inner) before = refl
 
-stepped_some : (f : Content → Content) (l : XItem-F (Content → Content) Content) → f ≡ item_step l → (before : Content) → holds_nothing (f before) ≡ false
+stepped_some : (f : Content → Content) (l : XItem-F (Content → Content)) → f ≡ item_step l → (before : Content) → holds_nothing (f before) ≡ false
 stepped_some f l is before = subst (λ (g : Content → Content). holds_nothing (g before) ≡ false) (sym is) (item_some l before)
 
 with_some : (x : XItem) (before : Content) → holds_nothing (with_item x before) ≡ false
 unfolding with_item
-with_some x before = stepped_some (with_item x) _ (fold_out-XItem (Content → Content) Content item_step items_step x) before
+with_some x before = stepped_some (with_item x) _ (fold_out-XItem (Content → Content) item_step x) before
 
 laid_some : (xs : List XItem) (before : Content) → holds_nothing before ≡ false → holds_nothing (laid before (map with_item xs)) ≡ false
 laid_some [] before some = some
@@ -89,7 +88,7 @@ some_content : (xs : List XItem) → (xs ≡ [] → ⊥) → holds_nothing (cont
 some_content [] some = absurd (some refl)
 some_content (x ∷ xs) some = laid_some xs (with_item x nothing) (with_some x nothing)
 
-words_of : (x : XItem) (tag : List ℕ) (as_ : List Attr) (content : XItems) → x ≡ Element tag as_ content → content_words (with_item x nothing) ≡ element_words tag as_ (holds_nothing (content_of content.all.items)) (content_words (content_of content.all.items))
+words_of : (x : XItem) (tag : List ℕ) (as_ : List Attr) (content : List XItem) → x ≡ Element tag as_ content → content_words (with_item x nothing) ≡ element_words tag as_ (holds_nothing (content_of content)) (content_words (content_of content))
 words_of x tag as_ content is = ap (λ (z : XItem). content_words (with_item z nothing)) is ∙ ap (λ (z : Content). content_words z) (with_element tag as_ content nothing)
 
 abbrev front : List ℕ → List Attr → List Written
@@ -98,7 +97,7 @@ front tag as_ = sign Angle ∷ as_is tag ∷ attrs_words as_
 abbrev back : List ℕ → List Written
 back tag = sign AngleSlash ∷ as_is tag ∷ sign AngleEnd ∷ []
 
-pub empty_element : (old page new : List ℕ) (x : XItem) (tag : List ℕ) (as_ shown : List Attr) (content : XItems) → x ≡ Element tag as_ content → shown ≡ as_ → content.all.items ≡ [] → page ≡ old ++ spaced (front tag shown) → new ≡ page ++ 32 ∷ 47 ∷ 62 ∷ [] → new ≡ old ++ spaced (content_words (with_item x nothing))
+pub empty_element : (old page new : List ℕ) (x : XItem) (tag : List ℕ) (as_ shown : List Attr) (content : List XItem) → x ≡ Element tag as_ content → shown ≡ as_ → content ≡ [] → page ≡ old ++ spaced (front tag shown) → new ≡ page ++ 32 ∷ 47 ∷ 62 ∷ [] → new ≡ old ++ spaced (content_words (with_item x nothing))
 empty_element old page new x tag as_ shown content is same none so_far here =
     let words : content_words (with_item x nothing) ≡ element_words tag as_ true [] = words_of x tag as_ content is ∙ ap (λ (z : List XItem). element_words tag as_ (holds_nothing (content_of z)) (content_words (content_of z))) none in
     page_on old page new (spaced (front tag as_)) (32 ∷ 47 ∷ 62 ∷ []) (spaced (content_words (with_item x nothing))) (so_far ∙ ap (λ (z : List Attr). old ++ spaced (front tag z)) same) here (ap (λ (z : List Written). spaced z) words ∙ spaced-append (front tag as_) (sign SlashEnd ∷ []))
@@ -106,10 +105,10 @@ empty_element old page new x tag as_ shown content is same none so_far here =
 regroup : (f i e : List ℕ) → f ++ ((32 ∷ 62 ∷ i) ++ e) ≡ ((f ++ 32 ∷ 62 ∷ []) ++ i) ++ e
 regroup f i e = sym (append_assoc (f ++ 32 ∷ 62 ∷ []) i e ∙ append_assoc f (32 ∷ 62 ∷ []) (i ++ e))
 
-pub whole_element : (old page opened filled new : List ℕ) (x : XItem) (tag : List ℕ) (as_ shown : List Attr) (content : XItems) (xs : List XItem) → x ≡ Element tag as_ content → shown ≡ as_ → (content.all.items ≡ [] → ⊥) → xs ≡ content.all.items → page ≡ old ++ spaced (front tag shown) → opened ≡ page ++ 32 ∷ 62 ∷ [] → filled ≡ opened ++ spaced (content_words (content_of xs)) → new ≡ filled ++ spaced (back tag) → new ≡ old ++ spaced (content_words (with_item x nothing))
+pub whole_element : (old page opened filled new : List ℕ) (x : XItem) (tag : List ℕ) (as_ shown : List Attr) (content : List XItem) (xs : List XItem) → x ≡ Element tag as_ content → shown ≡ as_ → (content ≡ [] → ⊥) → xs ≡ content → page ≡ old ++ spaced (front tag shown) → opened ≡ page ++ 32 ∷ 62 ∷ [] → filled ≡ opened ++ spaced (content_words (content_of xs)) → new ≡ filled ++ spaced (back tag) → new ≡ old ++ spaced (content_words (with_item x nothing))
 whole_element old page opened filled new x tag as_ shown content xs is same some all so_far begun inside ended =
-    let inner = content_words (content_of content.all.items) in
-    let words : content_words (with_item x nothing) ≡ element_words tag as_ false inner = words_of x tag as_ content is ∙ ap (λ (t : Bool). element_words tag as_ t inner) (some_content content.all.items some) in
+    let inner = content_words (content_of content) in
+    let words : content_words (with_item x nothing) ≡ element_words tag as_ false inner = words_of x tag as_ content is ∙ ap (λ (t : Bool). element_words tag as_ t inner) (some_content content some) in
     let f = spaced (front tag as_) in
     let i = spaced inner in
     let e = spaced (back tag) in

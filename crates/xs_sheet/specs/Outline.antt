@@ -4,7 +4,7 @@ use Rattle.xs_sheet.specs.declared.item.Item.{Item}
 use Rattle.xs_sheet.specs.declared.x_item.Attr.{Attr}
 use Rattle.xs_sheet.specs.declared.x_item.XItem.{XItem}
 use Rattle.xs_sheet.specs.declared.x_item.XItem.TheOpen as O
-use Rattle.xs_sheet.specs.declared.x_item.XItem.TheOpen.{XItem-F, XItems-F}
+use Rattle.xs_sheet.specs.declared.x_item.XItem.TheOpen.{XItem-F}
 use Rattle.xs_sheet.specs.declared.x_item.XItem.TheFolds.{fold-XItem}
 use Rattle.xs_sheet.specs.declared.unit.Unit.{Unit}
 use Rattle.xs_sheet.specs.declared.unit.Unit.TheVariants.{Terminal, Ignorable, Production, Fence}
@@ -21,16 +21,13 @@ abbrev pub laid : Content → List (Content → Content) → Content
 laid before [] = before
 laid before (f ∷ fs) = laid (f before) fs
 
-abbrev pub item_step : XItem-F (Content → Content) Content → Content → Content
+abbrev pub item_step : XItem-F (Content → Content) → Content → Content
 item_step (O.Plain i) before = item before i
-item_step (O.Element tag attrs content) before = element before tag attrs content
-
-abbrev pub items_step : XItems-F (Content → Content) Content → Content
-items_step xs = laid nothing xs.all.items
+item_step (O.Element tag attrs content) before = element before tag attrs (laid nothing content)
 
 -- content with one more item
 unfoldable pub with_item : XItem → Content → Content
-with_item = fold-XItem (Content → Content) Content item_step items_step
+with_item = fold-XItem (Content → Content) item_step
 
 -- these items as content
 abbrev pub content_of : List XItem → Content
@@ -47,7 +44,7 @@ pub data UnitOutline : Type 0 where
 abbrev pub unit_outline : Unit → UnitOutline
 unit_outline (Terminal name pattern regex line) = terminal name pattern line
 unit_outline (Ignorable name pattern regex normal line) = ignorable name pattern normal line
-unit_outline (Production name left right line) = production name left (content_of right.all.items) line
+unit_outline (Production name left right line) = production name left (content_of right) line
 unit_outline (Fence left right line) = fence left right line
 
 pub record Outline : Type 0 where

@@ -143,7 +143,7 @@ fn end_production(inside: Inside) -> Result<Head, Memory>
     let unit = Unit::Production {
         name: draft.name,
         left: Items::from_vec(draft.left),
-        right: XItems { all: content },
+        right: XItems::from_vec(content),
         line: draft.line,
     };
     with_unit(draft.head, unit)
@@ -255,7 +255,7 @@ fn push_element(
     outer.push(XItem::Element {
         tag,
         attrs: Attrs::from_vec(attrs),
-        content: XItems { all: content },
+        content: XItems::from_vec(content),
     })?;
     Ok(outer)
 }

@@ -3,7 +3,6 @@ use Rattle.std.proofs.Common.{◌≡◌, ◌∙◌, ℕ, Bool, false, List, [], 
 use Rattle.xs_sheet.specs.declared.item.Item.{Item}
 use Rattle.xs_sheet.specs.declared.x_item.Attr.{Attr}
 use Rattle.xs_sheet.specs.declared.x_item.XItem.{XItem, Plain, Element}
-use Rattle.xs_sheet.specs.declared.x_item.XItems.{XItems}
 use Rattle.xs_sheet.specs.Outline.{Content, nothing, item, element, laid, with_item, content_of}
 use Rattle.xs_sheet.specs.Layout.{holds_nothing}
 use Rattle.xs_sheet.proofs.ContentLaws.{with_plain, with_element}
@@ -49,10 +48,10 @@ plain_adds i = record {
   more = λ before some. ap is_one (with_plain i before);
 }
 
-element_adds : (tag : List ℕ) (attrs : List Attr) (content : XItems) → EachOf Adds content.all.items → Adds (Element tag attrs content)
+element_adds : (tag : List ℕ) (attrs : List Attr) (content : List XItem) → EachOf Adds content → Adds (Element tag attrs content)
 element_adds tag attrs content each = record {
   marks = λ before.
-      ap marks_in (with_element tag attrs content before) ∙ ap (λ ms. element_in (marks_in before) tag attrs ms) (all_add content.all.items each nothing) ∙ ap (λ ms. marks_in before ++ ms) (sym (marks_element tag attrs content));
+      ap marks_in (with_element tag attrs content before) ∙ ap (λ ms. element_in (marks_in before) tag attrs ms) (all_add content each nothing) ∙ ap (λ ms. marks_in before ++ ms) (sym (marks_element tag attrs content));
   one = ap opens (marks_element tag attrs content) ∙ sym (ap is_one (with_element tag attrs content nothing));
   holds = λ before. ap holds_nothing (with_element tag attrs content before);
   more = λ before some. ap is_one (with_element tag attrs content before) ∙ some;

@@ -62,7 +62,7 @@ twins (Production name left right line) (Production name' left' right' line') a 
   name = a.0;
   line = a.3;
   sorts = productions name name' left left' right right' line line';
-  rules = ap (λ (r : Rule). r ∷ []) (rule_same name name' left left' right.all.items right'.all.items line line' a.0 a.1 a.2 a.3);
+  rules = ap (λ (r : Rule). r ∷ []) (rule_same name name' left left' right right' line line' a.0 a.1 a.2 a.3);
 }
 twins (Fence left right line) (Fence left' right' line') a = record {
   name = a.0;

@@ -16,7 +16,7 @@ AreAlikeUnits (Terminal name pattern regex line) (Terminal name' pattern' regex'
 AreAlikeUnits (Ignorable name pattern regex normal line) (Ignorable name' pattern' regex' normal' line') =
     (name ≡ name') × (pattern ≡ pattern') × R.AreAlike regex regex' × (normal ≡ normal') × (line ≡ line')
 AreAlikeUnits (Production name left right line) (Production name' left' right' line') =
-    (name ≡ name') × (left ≡ left') × (content_of right.all.items ≡ content_of right'.all.items) × (line ≡ line')
+    (name ≡ name') × (left ≡ left') × (content_of right ≡ content_of right') × (line ≡ line')
 AreAlikeUnits (Fence left right line) (Fence left' right' line') = (left ≡ left') × (right ≡ right') × (line ≡ line')
 AreAlikeUnits u v = ⊥
 

@@ -157,7 +157,7 @@ unit_rises (Fence left right line) ps rest low r =
     from_first r.word ps (front ++ rest) rest line low r.is r.line_is (cut front (front ++ rest) rest refl)
 unit_rises (Production name left right line) ps rest low r =
     from_first r.name_piece ps (r.colon ∷ r.next) rest line low r.is r.line_is
-    (λ n rise. content_keeps 0 (content_of right.all.items) r.inside rest r.right_is n (cut (r.equals_is.sign ∷ []) r.mid r.inside r.equals_is.is n (items_keeps left r.next r.mid r.left_is n (cut (r.colon ∷ []) (r.colon ∷ r.next) r.next refl n rise))))
+    (λ n rise. content_keeps 0 (content_of right) r.inside rest r.right_is n (cut (r.equals_is.sign ∷ []) r.mid r.inside r.equals_is.is n (items_keeps left r.next r.mid r.left_is n (cut (r.colon ∷ []) (r.colon ∷ r.next) r.next refl n rise))))
 
 -- the lines of productions
 abbrev rule_lines : List Rule → List ℕ

@@ -43,7 +43,7 @@ shapes [] = tt
 shapes (Terminal name pattern regex line ∷ us) = shapes us
 shapes (Ignorable name pattern regex normal line ∷ us) = shapes us
 shapes (Fence left right line ∷ us) = shapes us
-shapes (Production name left right line ∷ us) = ((right.all.items, refl, refl), shapes us)
+shapes (Production name left right line ∷ us) = ((right, refl, refl), shapes us)
 
 -- a rule of good marks; those of the number of the start are one element
 record IsXmlRule (n : Numbering) (start : ℕ) (r : RulePart) : Type 0 where

@@ -7,4 +7,4 @@ use Rattle.xs_sheet.proofs.elements.push_element.Goals as goal
 
 pub returns : goal.returns
 returns c =
-    ap (λ (z : List XItem). content_of z) c.in_ok-push.ensures.items ∙ content_push c.args.outer.items _ ∙ with_element c.args.tag c.from_vec.result (record { all = c.args.content }) (content_of c.args.outer.items) ∙ ap (λ (z : List Attr). element (content_of c.args.outer.items) c.args.tag z (content_of c.args.content.items)) c.from_vec.ensures
+    ap (λ (z : List XItem). content_of z) c.in_ok-push.ensures.items ∙ content_push c.args.outer.items _ ∙ with_element c.args.tag c.from_vec.result c.from_vec-2.result (content_of c.args.outer.items) ∙ ap (λ (z : List Attr). element (content_of c.args.outer.items) c.args.tag z (content_of c.from_vec-2.result)) c.from_vec.ensures ∙ ap (λ (z : List XItem). element (content_of c.args.outer.items) c.args.tag c.args.attrs.items (content_of z)) c.from_vec-2.ensures

@@ -16,5 +16,5 @@ children-preserved t c = content_on c.push_word-in-Element.new.page c.children.p
 
 pub returns-after-children : goal.returns-after-children
 returns-after-children t c =
-    let some : c.in-Element.content.all.items ≡ [] → ⊥ = λ e. let yes : c.is_empty.result ≡ true = c.is_empty.ensures.1 e in cc in
+    let some : c.in-Element.content ≡ [] → ⊥ = λ e. let yes : c.is_empty.result ≡ true = c.is_empty.ensures.1 e in cc in
     on_ok _ _ _ (whole_element c.args.page.now c.push_tag.new.page c.push_word-in-Element.new.page c.children.page c.push_end_tag.new.page c.args.item.now c.in-Element.tag c.in-Element.attrs c.as_slice.result.now c.in-Element.content _ c.in-Element.is c.as_slice.ensures some (take_all _ _ (omega arith) ∙ c.as_slice-child-items.ensures) c.in_ok-push_tag-in-Element.ensures c.in_ok-push_word-in-Element.ensures c.children.invariant) c.push_end_tag.ensures
