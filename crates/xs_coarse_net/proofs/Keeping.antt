@@ -63,6 +63,7 @@ module _ (old new : Table) (same : new.classes ≡ old.classes) where
   whole_same g w h = record {
     within = h.within;
     uses = h.uses;
+    renamed = h.renamed;
     laid = λ p low. record { places = λ k here. place_same g w.net p k ((h.laid p low).places k here); passes = (h.laid p low).passes };
   }
 

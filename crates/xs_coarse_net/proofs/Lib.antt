@@ -8,6 +8,7 @@ pub mod Leaving
 pub mod Leftover
 pub mod Extending
 pub mod Places
+pub mod Renaming
 pub mod Rows
 pub mod Tracing
 pub mod Viewing

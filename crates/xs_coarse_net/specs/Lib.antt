@@ -8,6 +8,7 @@ pub mod Joining
 pub mod Leaves
 pub mod Placing
 pub mod Reaching
+pub mod Renaming
 pub mod Sites
 pub mod Stretches
 pub mod Whole

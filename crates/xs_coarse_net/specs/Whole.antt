@@ -12,6 +12,7 @@ use Rattle.xs_coarse_net.specs.declared.cover.Whole.{Whole}
 use Rattle.xs_coarse.specs.Covers.{IsLeaf}
 use Rattle.xs_coarse_net.specs.Going.{LeafGoes}
 use Rattle.xs_coarse_net.specs.Reaching.{AreUses}
+use Rattle.xs_coarse_net.specs.Renaming.{IsRenamed}
 
 -- the states of a nonterminal's entry and exit
 abbrev pub entry_state : ℕ → ℕ
@@ -70,8 +71,9 @@ pub record RuleLaid (g : Grammar) (t : Table) (n : Net) (p : ℕ) : Type 0 where
 abbrev pub RulesLaid : Grammar → Table → Net → ℕ → Type 0
 RulesLaid g t n p = (q : ℕ) → q < p → RuleLaid g t n q
 
--- the net that covers all rules of the grammar
+-- the net that covers all rules of the grammar, and the one between the names of its states
 pub record IsWhole (g : Grammar) (t : Table) (w : Whole) : Type 0 where
   pub within : All (IsWithin w.net.states) w.net.arcs
   pub laid : RulesLaid g t w.net (length g.rules)
   pub uses : AreUses w.net w.uses
+  pub renamed : IsRenamed w.names.items w.net w.merged

@@ -2,11 +2,14 @@ use xs_class::Sym;
 use xs_coarse::Coarse;
 
 /// The net that covers all rules of a grammar, whose arcs back from the exit of a nonterminal tell into
-/// a rule of which nonterminal they lead; and, as a net too, which nonterminals the rules of each use.
+/// a rule of which nonterminal they lead; as a net too, which nonterminals the rules of each use; and
+/// the net between the names of its states, where states have one name from which the same leads on.
 #[derive(Debug, Drop)]
 pub struct Whole {
     pub net: Coarse,
     pub uses: Coarse,
+    pub names: Vec<u32>,
+    pub merged: Coarse,
 }
 
 /// An outer place of a stretch, and its state in the stretch's cover.

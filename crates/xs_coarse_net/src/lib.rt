@@ -1,8 +1,9 @@
 //! Covers: coarse nets of a grammar's stretches, which accept at least their loose words.
 //!
 //! One net covers all rules of the grammar: each nonterminal has one entry and one exit, and rules
-//! lead from the one to the other by their outer items. What is reached of it from a nonterminal's
-//! entry is its fragment. The cover of a level stretch joins a net for each outer item: a terminal or
+//! lead from the one to the other by their outer items. States from which the same leads on become
+//! one, which only lets a net accept more. What is reached from a nonterminal's entry is its
+//! fragment. The cover of a level stretch joins a net for each outer item: a terminal or
 //! an ignorable has one that is made once, and a nonterminal its fragment. The covers of all groups'
 //! insides stand under the groups' numbers.
 //!
@@ -20,10 +21,12 @@ mod join;
 mod labelled;
 mod leaf;
 mod leaves;
+mod merge;
 mod pieces;
 mod reach;
 mod room;
 mod rule;
+mod signs;
 mod site;
 mod stretch;
 mod whole;

@@ -8,6 +8,7 @@ ghost use Rattle.xs_coarse_net.specs.Reaching.{IsIn, IsClosedIn, AreUses, HasUse
 use crate::Whole;
 use crate::fragment::fragment;
 use crate::ground::Ground;
+use crate::merge::name_at;
 use crate::rule::states_of;
 use std::alloc::Global;
 use xs_class::Memory;
@@ -24,7 +25,13 @@ pub(crate) fn block(ground: &Ground<'_>, non: u32) -> Result<Coarse, Stop>
     if exit >= ground.whole.net.len() {
         return Err(Stop::Unfit);
     }
-    let made = fragment(ground.alloc, &ground.whole.net, &has, entry, exit)?;
+    let whole = &ground.whole.merged;
+    let start = name_at(&ground.whole.names, entry)?;
+    let end = name_at(&ground.whole.names, exit)?;
+    if start >= whole.len() || end >= whole.len() {
+        return Err(Stop::Unfit);
+    }
+    let made = fragment(ground.alloc, whole, &has, start, end)?;
     Ok(made)
 }
 

@@ -9,13 +9,14 @@ ghost use Rattle.xs_coarse_net.specs.Whole.{rule_base, IsWhole};
 use crate::Whole;
 use crate::draft::{Draft, MOST, net_of};
 use crate::leaf::states_inside;
+use crate::merge::{names_of, renamed};
 use crate::rule::{RETURNS, lay_rule};
 use crate::site::Site;
 use std::alloc::Global;
 use xs_class::Memory;
 use xs_coarse::{Arc, Coarse, Stop};
 
-/// The net of a whole grammar, in time linear in its spread items and automata.
+/// The net of a whole grammar, in time n log n of its spread items and automata.
 pub(crate) fn whole_net(alloc: Global, site: &Site<'_>) -> Result<Whole, Stop>
     requires { IsSite site.now }
     ensures { IfOk result (IsWhole site.now.g.now site.now.labels.now) }
@@ -33,8 +34,15 @@ pub(crate) fn whole_net(alloc: Global, site: &Site<'_>) -> Result<Whole, Stop>
     }
     let net = draft.into_net(alloc)?;
     let uses = uses_of(alloc, site.g.nons(), &net)?;
+    let names = names_of(alloc, &net)?;
+    let merged = renamed(alloc, &net, &names)?;
     let _states = net.len();
-    Ok(Whole { net, uses })
+    Ok(Whole {
+        net,
+        uses,
+        names,
+        merged,
+    })
 }
 
 /// Which nonterminals the rules of each use, by the arcs back into them.

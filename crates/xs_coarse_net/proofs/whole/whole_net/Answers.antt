@@ -1,4 +1,5 @@
-use Rattle.std.proofs.Common.{arith}
+use Rattle.std.proofs.Common.{ℕ, List, subst, arith}
+use Rattle.xs_coarse_net.specs.Renaming.{IsRenamed}
 use Rattle.xs_coarse_net.proofs.Wholes.{rules_more, rule_grown, base_next}
 use Rattle.xs_coarse_net.proofs.whole.whole_net.Goals as goal
 
@@ -15,5 +16,6 @@ pub returns : goal.returns
 returns c = record {
   within = c.len-states.ensures.within;
   uses = c.in_ok-uses.ensures;
+  renamed = subst (λ (l : List ℕ). IsRenamed l c.in_ok-net.net c.in_ok-merged.merged) c.deref.ensures.value c.in_ok-merged.ensures;
   laid = λ q low. rule_grown c.in_ok-net.ensures (c.rules.invariant.laid q (omega (arith, low, c.rules-test.false, c.rules.auto.rule-end, c.rules-rule-end.ensures)));
 }

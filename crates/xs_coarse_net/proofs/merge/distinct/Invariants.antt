@@ -1,0 +1,7 @@
+use Rattle.std.proofs.Common.{take}
+use Rattle.std.specs.List.{Contains}
+use Rattle.xs_coarse.specs.declared.arc.Arc.{Arc}
+use Rattle.xs_coarse_net.proofs.merge.distinct.Given as goal
+
+abbrev pub invariant-arcs : goal.invariant-arcs
+invariant-arcs l = (x : Arc) → Contains (take l.x-index l.sorted) x → Contains l.arcs.items x
