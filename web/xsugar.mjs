@@ -24,6 +24,7 @@ import {
   NotXmlError,
   OutlineError,
   OutOfMemoryError,
+  quoted,
   ScriptError,
   SheetError,
   SuspectError,
@@ -48,6 +49,10 @@ const SHIPPED = { "@leiden": "xsugar_sheet_leiden", "@leiden2": "xsugar_sheet_le
 const ANSWER = { size: 32, length: 8, place: 16, kind: 24 };
 const BYTES = { size: 16, length: 8 };
 const SHEET = { size: 16 };
+
+/** The memory of an instance at first, and at most unless `load` is told less, in pages of 64 KiB. */
+const PAGES = { initial: 64, maximum: 16384 };
+const PAGES_OF_MEGABYTE = 16;
 
 const ENCODER = new TextEncoder();
 const DECODER = new TextDecoder("utf-8", { ignoreBOM: true });
@@ -90,18 +95,23 @@ class Told {
 /** The instance of the module: its calls and its memory. */
 class Core {
   #calls;
+  #memory;
 
-  /** @param {WebAssembly.Exports} calls */
-  constructor(calls) {
+  /**
+   * @param {WebAssembly.Exports} calls
+   * @param {WebAssembly.Memory} memory
+   */
+  constructor(calls, memory) {
     this.#calls = calls;
+    this.#memory = memory;
   }
 
   get #bytes() {
-    return new Uint8Array(this.#calls.memory.buffer);
+    return new Uint8Array(this.#memory.buffer);
   }
 
   get #view() {
-    return new DataView(this.#calls.memory.buffer);
+    return new DataView(this.#memory.buffer);
   }
 
   /** Returns a block of so many bytes, all zero. */
@@ -194,12 +204,6 @@ function sheetError(told, source) {
     error.weight = told.place;
   }
   return error;
-}
-
-/** Returns characters in quotes, as a line of an edit script has them. */
-function quoted(text) {
-  const shown = (it) => `\\u{${it.codePointAt(0).toString(16).toUpperCase()}}`;
-  return `"${text.replace(/[^\x20-\x7e]|["\\]/gu, shown)}"`;
 }
 
 /** Returns ranges of characters as a message shows them. */
@@ -375,9 +379,9 @@ export class Sheet {
 export class Xsugar {
   #core;
 
-  /** @param {WebAssembly.Exports} calls */
-  constructor(calls) {
-    this.#core = new Core(calls);
+  /** @param {Core} core */
+  constructor(core) {
+    this.#core = core;
   }
 
   /**
@@ -411,9 +415,13 @@ export class Xsugar {
  * Makes an instance of the module. Each has a memory of its own, so several workers have one each.
  *
  * @param {Uint8Array | WebAssembly.Module} module the bytes of web/xsugar.wasm, or what was compiled
+ * @param {{megabytes?: number}} options the memory that it takes at most, from 4 to 1,024, as it is
+ *   where nothing is said
  * @returns {Promise<Xsugar>}
  */
-export async function load(module) {
+export async function load(module, { megabytes = PAGES.maximum / PAGES_OF_MEGABYTE } = {}) {
   const compiled = module instanceof WebAssembly.Module ? module : await WebAssembly.compile(module);
-  return new Xsugar((await WebAssembly.instantiate(compiled)).exports);
+  const memory = new WebAssembly.Memory({ ...PAGES, maximum: megabytes * PAGES_OF_MEGABYTE });
+  const { exports } = await WebAssembly.instantiate(compiled, { env: { memory } });
+  return new Xsugar(new Core(exports, memory));
 }
