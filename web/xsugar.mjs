@@ -51,7 +51,7 @@ const BYTES = { size: 16, length: 8 };
 const SHEET = { size: 16 };
 
 /** The memory of an instance at first, and at most unless `load` is told less, in pages of 64 KiB. */
-const PAGES = { initial: 64, maximum: 16384 };
+const PAGES = { initial: 32, maximum: 16384 };
 const PAGES_OF_MEGABYTE = 16;
 
 const ENCODER = new TextEncoder();
@@ -415,7 +415,7 @@ export class Xsugar {
  * Makes an instance of the module. Each has a memory of its own, so several workers have one each.
  *
  * @param {Uint8Array | WebAssembly.Module} module the bytes of web/xsugar.wasm, or what was compiled
- * @param {{megabytes?: number}} options the memory that it takes at most, from 4 to 1,024, as it is
+ * @param {{megabytes?: number}} options the memory that it takes at most, from 2 to 1,024, as it is
  *   where nothing is said
  * @returns {Promise<Xsugar>}
  */
