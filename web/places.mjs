@@ -75,7 +75,7 @@ function* inTag(tag, begin) {
 }
 
 /** Yields where each symbol of an XML document is written. */
-function* inXml(document) {
+export function* inXml(document) {
   let depth = 0;
   for (const it of document.matchAll(PIECE)) {
     const { section, closed, opened, empty, character } = it.groups;
