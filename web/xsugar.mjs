@@ -197,7 +197,7 @@ function sheetError(told, source) {
 }
 
 /** Returns characters in quotes, as a line of an edit script has them. */
-function quoted(text) {
+export function quoted(text) {
   const shown = (it) => `\\u{${it.codePointAt(0).toString(16).toUpperCase()}}`;
   return `"${text.replace(/[^\x20-\x7e]|["\\]/gu, shown)}"`;
 }

@@ -1,0 +1,32 @@
+#!/usr/bin/env node
+/**
+ * A language server for editors: it reads messages from standard input and writes to standard output.
+ * docs/web.md says what it does. Usage: web/server.mjs [MODULE], where MODULE is another file than
+ * out/web/xsugar.wasm.
+ */
+import { readFile } from "node:fs/promises";
+import { LanguageServer } from "./server/language_server.mjs";
+import { Bodies, framed } from "./server/messages.mjs";
+import { load } from "./xsugar.mjs";
+
+const PARSE_ERROR = -32700;
+
+const send = (message) => process.stdout.write(framed(message));
+
+/** Returns the message of a body; one that is no JSON is answered at once. */
+function messageOf(body) {
+  try {
+    return JSON.parse(body);
+  } catch (error) {
+    send({ id: null, error: { code: PARSE_ERROR, message: error.message } });
+    return {};
+  }
+}
+
+const module = process.argv[2] ?? new URL("../out/web/xsugar.wasm", import.meta.url);
+const server = new LanguageServer(await load(await readFile(module)), send, process.exit);
+const bodies = new Bodies();
+for await (const piece of process.stdin) {
+  for (const body of bodies.add(piece)) server.receive(messageOf(body));
+}
+process.exit(1);
