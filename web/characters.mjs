@@ -13,7 +13,8 @@ const CLASSES = [
   [/\p{Script=Coptic}/u, "a Coptic letter"],
   [/\p{L}/u, "a letter of another script"],
 ];
-const ANY = "nearly any character";
+/** The class of a range that is too long to be looked into. */
+export const ANY = "nearly any character";
 const NAMES = {
   " ": "a space", "\n": "a line end", "\r": "a carriage return", "\t": "a tab", "\u0323": "a dot below",
 };
@@ -22,12 +23,17 @@ const FEW = 6;
 /** The length from which a range is not looked into. */
 const LONG = 4096;
 
+/** Returns the class of a character, or null where it has a meaning of its own. */
+export function classOf(character) {
+  return CLASSES.find(([pattern]) => pattern.test(character))?.[1] ?? null;
+}
+
 /** Counts the characters of a range by their classes, of which null is none, and keeps the plain ones. */
 function count(first, last, classes) {
   const [begin, end] = [first.codePointAt(0), last.codePointAt(0)];
   for (let code = begin; code <= end; code++) {
     const character = String.fromCodePoint(code);
-    const name = CLASSES.find(([pattern]) => pattern.test(character))?.[1] ?? null;
+    const name = classOf(character);
     if (!classes.has(name)) classes.set(name, { size: 0, plain: [] });
     classes.get(name).size += 1;
     // what stands in a long range beyond ASCII is there for its neighbours

@@ -14,6 +14,12 @@ export function unquoted(shown) {
     code ? String.fromCodePoint(parseInt(code, 16)) : (SHOWN[plain] ?? plain));
 }
 
+/** Returns characters in quotes, as a line of an edit script has them. */
+export function quoted(text) {
+  const shown = (it) => `\\u{${it.codePointAt(0).toString(16).toUpperCase()}}`;
+  return `"${text.replace(/[^\x20-\x7e]|["\\]/gu, shown)}"`;
+}
+
 /** A refusal: its `status`, and the `report` that the program prints for it, in one line. */
 export class XsugarError extends Error {
   /**

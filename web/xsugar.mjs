@@ -24,6 +24,7 @@ import {
   NotXmlError,
   OutlineError,
   OutOfMemoryError,
+  quoted,
   ScriptError,
   SheetError,
   SuspectError,
@@ -194,12 +195,6 @@ function sheetError(told, source) {
     error.weight = told.place;
   }
   return error;
-}
-
-/** Returns characters in quotes, as a line of an edit script has them. */
-export function quoted(text) {
-  const shown = (it) => `\\u{${it.codePointAt(0).toString(16).toUpperCase()}}`;
-  return `"${text.replace(/[^\x20-\x7e]|["\\]/gu, shown)}"`;
 }
 
 /** Returns ranges of characters as a message shows them. */
