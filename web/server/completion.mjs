@@ -3,7 +3,7 @@ import { grouped, nameOf } from "../characters.mjs";
 import { markLength } from "../places.mjs";
 
 const KIND = { text: 1, operator: 24 };
-/** The most characters that are put behind one that can be typed. */
+/** The length up to which what can be typed is continued. */
 const LONGEST = 16;
 
 /** Returns a character with those after it of which each is the only one that can come. */
@@ -17,25 +17,30 @@ function continued(sheet, before, character) {
   return word;
 }
 
+function labelOf(word) {
+  const isHidden = /^[\p{M}\p{C}\p{Z}]$/u.test(word);
+  return isHidden ? nameOf(word) : word.replaceAll("\n", "↵");
+}
+
 /**
- * Returns the completions at an offset of a text. A class of characters is an item too, which shows
- * what may be typed and puts nothing in.
+ * Returns the completions at an offset of a text, what closes a bracket first. A class of characters is
+ * an item too: it shows what may be typed, and puts nothing in.
  *
  * @param {import("./open_document.mjs").OpenDocument} document
  * @param {number} offset
  * @param {import("./notation.mjs").Notation} notation
  */
-export function completionsAt(document, offset, { sheet }) {
+export function completionsAt(document, offset, { sheet, fences }) {
   const before = document.text.slice(markLength(document.text), offset);
   const { characters, classes } = grouped(sheet.next(before) ?? []);
+  const closes = (it) => fences.some(([, right]) => right === it);
   const range = document.range(offset, offset);
-  const item = (label, newText, kind, place) => ({
-    label, kind, filterText: newText, sortText: String(place).padStart(3, "0"), textEdit: { range, newText },
-  });
-  const words = characters.map((it) => continued(sheet, before, it));
+  const item = (label, newText, kind) => ({ label, kind, textEdit: { range, newText } });
+  const words = [...characters.filter(closes), ...characters.filter((it) => !closes(it))];
   const items = [
-    ...words.map((it, place) => item([...it].length === 1 ? nameOf(it) : it, it, KIND.operator, place)),
-    ...classes.map((it, place) => item(it, "", KIND.text, words.length + place)),
+    ...words.map((it) => continued(sheet, before, it)).map((it) => item(labelOf(it), it, KIND.operator)),
+    ...classes.map((it) => item(it, "", KIND.text)),
   ];
-  return { isIncomplete: true, items };
+  const placed = items.map((it, place) => ({ ...it, sortText: String(place).padStart(3, "0") }));
+  return { isIncomplete: true, items: placed };
 }

@@ -5,6 +5,7 @@
  * @typedef {import("./notation.mjs").Notation} Notation
  * @typedef {{range: object, message: string, relatedInformation: object[]}} Diagnostic
  */
+import { openedElement, openedMark } from "../brackets.mjs";
 import { told } from "../characters.mjs";
 import { ForeignError, NotXmlError, OutOfMemoryError, SuspectError, XsugarError } from "../xsugar.mjs";
 
@@ -64,21 +65,32 @@ function ofSheetError(document, error) {
   return [diagnostic(document.lineRange(error.line ?? 1), message)];
 }
 
-function ofForeignText(document, notation, error) {
-  const range = matchedAt(document, IN_TEXT, error.offset);
-  const message = error.expected === null ? "not expected here" : `expected ${told(error.expected)}`;
-  return diagnostic(range, message);
+/** Returns what was opened before the place of an error and is not closed there, or null. */
+function openedBefore({ kind, text }, { productions, fences }, { offset, expected }) {
+  if (kind === "xml") return openedElement(text, offset);
+  return productions && expected ? openedMark(text, offset, productions, fences, expected) : null;
+}
+
+/** Returns where a bracket or an element was opened that is not closed. */
+function openings(document, opened) {
+  if (opened === null) return [];
+  const { begin, end, sure } = opened;
+  const message = `“${document.text.slice(begin, end)}” was opened here${sure ? "" : ", perhaps"}`;
+  return [related(document, document.range(begin, end), message)];
+}
+
+function messageOf(error, kind) {
+  if (error instanceof NotXmlError) return "not XML";
+  return kind === "text" && error.expected ? `expected ${told(error.expected)}` : "not expected here";
 }
 
 function ofDocumentError(document, notation, error) {
-  if (error instanceof ForeignError && document.kind === "text") {
-    return [ofForeignText(document, notation, error)];
+  if (!(error instanceof ForeignError || error instanceof NotXmlError)) {
+    return diagnostic(document.lineRange(1), error.report.replace(/^input: /u, ""));
   }
-  if (error instanceof ForeignError || error instanceof NotXmlError) {
-    const message = error instanceof NotXmlError ? "not XML" : "not expected here";
-    return [diagnostic(matchedAt(document, IN_XML, error.offset), message)];
-  }
-  return [diagnostic(document.lineRange(1), error.report.replace(/^input: /u, ""))];
+  const range = matchedAt(document, document.kind === "xml" ? IN_XML : IN_TEXT, error.offset);
+  const opened = openedBefore(document, notation, error);
+  return diagnostic(range, messageOf(error, document.kind), openings(document, opened));
 }
 
 /** Returns what a call refused; want of memory is thrown on. */
@@ -115,5 +127,5 @@ export function diagnosticsOf(document, notation) {
   const { sheet } = notation;
   const { kind, text } = document;
   const error = refusalOf(() => (kind === "xml" ? sheet.toText(text) : sheet.toXml(text)));
-  return error === null ? [] : ofDocumentError(document, notation, error);
+  return error === null ? [] : [ofDocumentError(document, notation, error)];
 }

@@ -150,9 +150,11 @@ export class LanguageServer {
   #opened() {
     if (this.#notation === undefined) {
       this.#notation = null;
-      this.#guarded(() => {
+      try {
         this.#notation = new Notation(this.#xsugar, this.#sheetPath);
-      });
+      } catch (error) {
+        this.#tell(`the sheet ${this.#sheetName} is not open: ${error.message}`);
+      }
     }
     return this.#notation;
   }
