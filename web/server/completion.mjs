@@ -1,8 +1,10 @@
 /** What may be typed next. */
-import { grouped, nameOf } from "../characters.mjs";
+import { ANY, classOf, grouped, nameOf } from "../characters.mjs";
 import { markLength } from "../places.mjs";
 
-const KIND = { text: 1, operator: 24 };
+const KIND_OF_OPERATOR = 24;
+/** What is put in for a class where it may come. */
+const SAMPLES = ["a", "α", "1", "ⲁ", "\u0301"];
 /** The length up to which what can be typed is continued. */
 const LONGEST = 16;
 
@@ -22,9 +24,21 @@ function labelOf(word) {
   return isHidden ? nameOf(word) : word.replaceAll("\n", "↵");
 }
 
+/** Returns a character of a class that ranges have. */
+function sampleOf(name, ranges) {
+  const isIn = (it) => ranges.some(([first, last]) => first <= it && it <= last);
+  const sample = SAMPLES.find((it) => classOf(it) === name && isIn(it));
+  for (const [first, last] of sample ? [] : ranges) {
+    for (let code = first.codePointAt(0); code <= last.codePointAt(0); code += 1) {
+      if (classOf(String.fromCodePoint(code)) === name) return String.fromCodePoint(code);
+    }
+  }
+  return sample;
+}
+
 /**
  * Returns the completions at an offset of a text, what closes a bracket first. A class of characters is
- * an item too: it shows what may be typed, and puts nothing in.
+ * one item, which puts in one of them.
  *
  * @param {import("./open_document.mjs").OpenDocument} document
  * @param {number} offset
@@ -32,15 +46,15 @@ function labelOf(word) {
  */
 export function completionsAt(document, offset, { sheet, fences }) {
   const before = document.text.slice(markLength(document.text), offset);
-  const { characters, classes } = grouped(sheet.next(before) ?? []);
+  const ranges = sheet.next(before) ?? [];
+  const { characters, classes } = grouped(ranges);
   const closes = (it) => fences.some(([, right]) => right === it);
+  const signs = [...characters.filter(closes), ...characters.filter((it) => !closes(it))];
+  const words = signs.map((it) => continued(sheet, before, it)).map((word) => [labelOf(word), word]);
+  const samples = classes.filter((it) => it !== ANY).map((name) => [name, sampleOf(name, ranges)]);
   const range = document.range(offset, offset);
-  const item = (label, newText, kind) => ({ label, kind, textEdit: { range, newText } });
-  const words = [...characters.filter(closes), ...characters.filter((it) => !closes(it))];
-  const items = [
-    ...words.map((it) => continued(sheet, before, it)).map((it) => item(labelOf(it), it, KIND.operator)),
-    ...classes.map((it) => item(it, "", KIND.text)),
-  ];
-  const placed = items.map((it, place) => ({ ...it, sortText: String(place).padStart(3, "0") }));
-  return { isIncomplete: true, items: placed };
+  const items = [...words, ...samples].map(([label, newText], place) => ({
+    label, kind: KIND_OF_OPERATOR, sortText: String(place).padStart(3, "0"), textEdit: { range, newText },
+  }));
+  return { isIncomplete: true, items };
 }
