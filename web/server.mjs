@@ -2,7 +2,7 @@
 /**
  * A language server for editors: it reads messages from standard input and writes to standard output.
  * docs/web.md says what it does. Usage: web/server.mjs [MODULE], where MODULE is another file than
- * out/web/xsugar.wasm.
+ * web/xsugar.wasm.
  */
 import { readFile } from "node:fs/promises";
 import { LanguageServer } from "./server/language_server.mjs";
@@ -23,7 +23,7 @@ function messageOf(body) {
   }
 }
 
-const module = process.argv[2] ?? new URL("../out/web/xsugar.wasm", import.meta.url);
+const module = process.argv[2] ?? new URL("xsugar.wasm", import.meta.url);
 const server = new LanguageServer(await load(await readFile(module)), send, process.exit);
 const bodies = new Bodies();
 for await (const piece of process.stdin) {

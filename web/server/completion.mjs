@@ -1,6 +1,7 @@
 /** What may be typed next. */
 import { ANY, classOf, grouped, nameOf } from "../characters.mjs";
 import { markLength } from "../places.mjs";
+import { quoted, rangesOf } from "../xsugar.mjs";
 
 const KIND_OF_OPERATOR = 24;
 /** What is put in for a class where it may come. */
@@ -8,15 +9,34 @@ const SAMPLES = ["a", "α", "1", "ⲁ", "\u0301"];
 /** The length up to which what can be typed is continued. */
 const LONGEST = 16;
 
-/** Returns a character with those after it of which each is the only one that can come. */
-function continued(sheet, before, character) {
-  let word = character;
-  while (word.length < LONGEST) {
-    const ranges = sheet.next(before + word);
-    if (ranges?.length !== 1 || ranges[0][0] !== ranges[0][1]) break;
-    word += ranges[0][0];
+/** Returns, for each word, the ranges of characters that can come after it and what is before it. */
+function nextAfter(sheet, before, words) {
+  const at = [...before].length;
+  let script = `put 0 0 ${quoted(before)}\n`;
+  let length = 0;
+  for (const word of words) {
+    script += `put ${at} ${length} ${quoted(word)}\n`;
+    length = [...word].length;
+    script += `next ${at + length}\n`;
   }
-  return word;
+  const answers = sheet.session(script).split("\n");
+  return words.map((_, place) => rangesOf(answers[2 * place + 2]));
+}
+
+/** Returns characters with those after them of which each is the only one that can come. */
+function continued(sheet, before, characters) {
+  const words = [...characters];
+  let growing = [...words.keys()];
+  for (let length = 1; growing.length > 0 && length < LONGEST; length += 1) {
+    const after = nextAfter(sheet, before, growing.map((it) => words[it]));
+    growing = growing.filter((it, place) => {
+      const [first, last] = after[place].length === 1 ? after[place][0] : [];
+      const isOnly = first !== undefined && first === last;
+      if (isOnly) words[it] += first;
+      return isOnly;
+    });
+  }
+  return words;
 }
 
 function labelOf(word) {
@@ -50,7 +70,7 @@ export function completionsAt(document, offset, { sheet, fences }) {
   const { characters, classes } = grouped(ranges);
   const closes = (it) => fences.some(([, right]) => right === it);
   const signs = [...characters.filter(closes), ...characters.filter((it) => !closes(it))];
-  const words = signs.map((it) => continued(sheet, before, it)).map((word) => [labelOf(word), word]);
+  const words = continued(sheet, before, signs).map((word) => [labelOf(word), word]);
   const samples = classes.filter((it) => it !== ANY).map((name) => [name, sampleOf(name, ranges)]);
   const range = document.range(offset, offset);
   const items = [...words, ...samples].map(([label, newText], place) => ({

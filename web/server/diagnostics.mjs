@@ -65,6 +65,10 @@ function ofSheetError(document, error) {
   return [diagnostic(document.lineRange(error.line ?? 1), message)];
 }
 
+function hasPlace(error) {
+  return error instanceof ForeignError || error instanceof NotXmlError;
+}
+
 /** Returns what was opened before the place of an error and is not closed there, or null. */
 function openedBefore({ kind, text }, { productions, fences }, { offset, expected }) {
   if (kind === "xml") return openedElement(text, offset);
@@ -79,13 +83,14 @@ function openings(document, opened) {
   return [related(document, document.range(begin, end), message)];
 }
 
+/** Says what is wrong at the place of an error. */
 function messageOf(error, kind) {
   if (error instanceof NotXmlError) return "not XML";
   return kind === "text" && error.expected ? `expected ${told(error.expected)}` : "not expected here";
 }
 
 function ofDocumentError(document, notation, error) {
-  if (!(error instanceof ForeignError || error instanceof NotXmlError)) {
+  if (!hasPlace(error)) {
     return diagnostic(document.lineRange(1), error.report.replace(/^input: /u, ""));
   }
   const range = matchedAt(document, document.kind === "xml" ? IN_XML : IN_TEXT, error.offset);
@@ -93,8 +98,14 @@ function ofDocumentError(document, notation, error) {
   return diagnostic(range, messageOf(error, document.kind), openings(document, opened));
 }
 
+/** Says of a document in one line why it is refused. */
+export function refusalOf(error, { kind }) {
+  const place = `line ${error.line}, column ${error.column}`;
+  return hasPlace(error) ? `${place}: ${messageOf(error, kind)}` : error.message;
+}
+
 /** Returns what a call refused; want of memory is thrown on. */
-function refusalOf(call) {
+function refused(call) {
   try {
     call();
     return null;
@@ -112,7 +123,7 @@ function refusalOf(call) {
  * @returns {Diagnostic[]}
  */
 export function diagnosticsOfSheet(document, xsugar) {
-  const error = refusalOf(() => xsugar.open(document.text).close());
+  const error = refused(() => xsugar.open(document.text).close());
   return error === null ? [] : ofSheetError(document, error);
 }
 
@@ -126,6 +137,6 @@ export function diagnosticsOfSheet(document, xsugar) {
 export function diagnosticsOf(document, notation) {
   const { sheet } = notation;
   const { kind, text } = document;
-  const error = refusalOf(() => (kind === "xml" ? sheet.toText(text) : sheet.toXml(text)));
+  const error = refused(() => (kind === "xml" ? sheet.toText(text) : sheet.toXml(text)));
   return error === null ? [] : [ofDocumentError(document, notation, error)];
 }

@@ -7,7 +7,7 @@ import { resolve } from "node:path";
 import { fileURLToPath } from "node:url";
 import { OutOfMemoryError, XsugarError } from "../xsugar.mjs";
 import { completionsAt } from "./completion.mjs";
-import { diagnosticsOf, diagnosticsOfSheet } from "./diagnostics.mjs";
+import { diagnosticsOf, diagnosticsOfSheet, refusalOf } from "./diagnostics.mjs";
 import { Notation } from "./notation.mjs";
 import { OpenDocument } from "./open_document.mjs";
 import { symbolsOf } from "./symbols.mjs";
@@ -34,6 +34,11 @@ class Refusal extends Error {
     super(message);
     this.code = code;
   }
+}
+
+/** Returns whether a document was refused, and not memory. */
+function isRefusal(error) {
+  return error instanceof XsugarError && !(error instanceof OutOfMemoryError);
 }
 
 /** Returns the path of the folder that the editor works in. */
@@ -247,17 +252,24 @@ export class LanguageServer {
       const newText = kind === "xml" ? sheet.roundXml(text) : sheet.roundText(text);
       return newText === text ? [] : [{ range: document.whole, newText }];
     } catch (error) {
-      if (error instanceof XsugarError && !(error instanceof OutOfMemoryError)) return null;
-      throw error;
+      if (!isRefusal(error)) throw error;
+      return null;
     }
   }
 
   /** Returns the other document of one that is open, which is named by its URI. */
   #execute({ command, arguments: [uri] = [] }) {
-    const { kind, text } = this.#document({ textDocument: { uri } });
+    const document = this.#document({ textDocument: { uri } });
     const { sheet } = this.#openedOrRefused();
-    if (command === "xsugar.toXml" && kind === "text") return sheet.toXml(text);
-    if (command === "xsugar.toText" && kind === "xml") return sheet.toText(text);
-    throw new Refusal(CODE.invalidParams, `${command} is not for ${uri}`);
+    const isOfKind = command === (document.kind === "text" ? "xsugar.toXml" : "xsugar.toText");
+    if (document.kind === "sheet" || !isOfKind) {
+      throw new Refusal(CODE.invalidParams, `${command} is not for ${uri}`);
+    }
+    try {
+      return document.kind === "xml" ? sheet.toText(document.text) : sheet.toXml(document.text);
+    } catch (error) {
+      if (!isRefusal(error)) throw error;
+      throw new Refusal(CODE.failed, refusalOf(error, document));
+    }
   }
 }

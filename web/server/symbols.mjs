@@ -5,9 +5,9 @@
  * @typedef {{depth: number, name: string, kind: number, begin: number, end: number, head: number}} Entry
  *   a symbol before its inner ones, from `begin` to before `end`; its name stands before `head`
  */
-import { quoted } from "../errors.mjs";
 import { markLength } from "../places.mjs";
 import { rowsOf } from "../tree.mjs";
+import { quoted } from "../xsugar.mjs";
 
 const KIND = { element: 23, word: 15 };
 const VALUED = `(?:"[^"]*"|'[^']*'|[^"'<>])*?`;
