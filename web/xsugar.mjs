@@ -107,7 +107,7 @@ class Core {
 
   /** Returns a block of so many bytes, all zero. */
   take(size) {
-    const at = Number(this.#calls.rattle_alloc(BigInt(size)));
+    const at = Number(this.#calls.xsugar_take(BigInt(size)));
     if (at === 0) throw new OutOfMemoryError();
     this.#bytes.fill(0, at, at + size);
     return at;
@@ -115,7 +115,7 @@ class Core {
 
   /** Frees a block. */
   give(at) {
-    this.#calls.rattle_dealloc(BigInt(at));
+    this.#calls.xsugar_free(BigInt(at));
   }
 
   /** Closes a sheet and frees its handle. */
