@@ -6,7 +6,7 @@
  *   is certain that nothing closed it
  */
 const TAG = /<!--.*?-->|<\?.*?\?>|<!\[CDATA\[.*?\]\]>|<(?<close>\/?)[^\s>/]+(?:"[^"]*"|'[^']*'|[^>"'])*>/gsu;
-const SIGN = /^[\p{P}\p{S}]+/u;
+const SIGN = /^[\p{P}\p{S}]/u;
 
 /** Returns the offset of the innermost character of fences that is open at the end of a text, or -1. */
 function openFence(before, fences) {
@@ -20,60 +20,62 @@ function openFence(before, fences) {
   return open.at(-1) ?? -1;
 }
 
-/** Returns the first string of each production that begins with one, and the strings after it. */
+/**
+ * Returns of each production that begins with a string, and is no empty mark, that string, the last one
+ * that is a sign, and whether it is a block, which holds ignorables.
+ */
 function marksOf(productions) {
-  return productions.filter(({ text }) => text[0]?.kind === "string").map(({ text }) => {
+  return productions.filter(({ text }) => text.length > 1 && text[0].kind === "string").map(({ text }) => {
     const [left, ...rest] = text.filter((it) => it.kind === "string").map((it) => it.value);
-    return { left, rest };
-  }).filter(({ rest }) => rest.length > 0);
+    const right = text.at(-1).kind === "slot" ? undefined : rest.findLast((it) => SIGN.test(it));
+    return { left, right, isBlock: text.some((it) => it.kind === "ignorable") };
+  });
 }
 
 /** Returns the opening whose fence character stands at a place. */
-function fenced(before, at, marks, mayCome) {
-  const found = marks.filter(({ rest }) => rest.some((it) => mayCome(it[0]))).map(({ left }) => {
-    const begin = at - left.indexOf(before[at]);
-    return { begin, end: begin + left.length, sure: true, left };
-  });
-  const standing = found.filter(({ begin, left }) => left.includes(before[at]) && before.startsWith(left, begin));
+function fenced(before, at, marks) {
+  const begin = ({ left }) => at - left.indexOf(before[at]);
+  const standing = marks.filter((it) => it.left.includes(before[at]) && before.startsWith(it.left, begin(it)));
   standing.sort((one, other) => other.left.length - one.left.length);
-  return standing[0] ?? null;
+  const found = standing[0];
+  return found && { begin: begin(found), end: begin(found) + found.left.length, sure: true, isBlock: found.isBlock };
 }
 
-/** Returns the last opening by a mark that has no fence and begins after a place, if it may be open. */
-function unfenced(before, from, marks, mayCome) {
+/** Returns the last opening by a mark that has no fence and begins after a place, if there is one. */
+function unfenced(before, from, marks) {
+  const inside = before.slice(from + 1);
   const found = [];
-  for (const { left, rest: [right] } of marks) {
-    if (!SIGN.test(left) || !SIGN.test(right) || !mayCome(right[0])) continue;
-    const inside = before.slice(from + 1);
+  for (const { left, right } of marks) {
+    if (!SIGN.test(left) || right === undefined) continue;
     const begin = inside.lastIndexOf(left);
     const isOpen = left === right
       ? inside.split(left).length % 2 === 0
       : begin >= 0 && !inside.includes(right, begin + left.length);
-    if (isOpen) found.push(from + 1 + begin);
+    if (isOpen) found.push({ begin: from + 1 + begin, end: from + 1 + begin + left.length, sure: false });
   }
-  const begin = Math.max(...found);
-  const left = marks.filter((it) => before.startsWith(it.left, begin)).map((it) => it.left.length);
-  return found.length > 0 ? { begin, end: begin + Math.max(...left), sure: false } : null;
+  found.sort((one, other) => other.end - one.end || one.begin - other.begin);
+  return found[0] ?? null;
 }
 
 /**
- * Returns what was opened in a text before an offset, is open there, and could be closed there.
+ * Returns what was opened in a text before an offset and is open there: the innermost bracket of the
+ * fences, or a mark without a fence that begins after it; a block only at the end of the text.
  *
  * @param {string} text
  * @param {number} offset
  * @param {Productions} sheet
  * @param {[string, string][]} fences pairs of characters that always stand one inside the other
- * @param {[string, string][]} expected the ranges of characters that may come at the offset
  * @returns {Opened | null}
  */
-export function openedMark(text, offset, sheet, fences, expected) {
-  const mayCome = (character) => expected.some(([first, last]) => first <= character && character <= last);
+export function openedMark(text, offset, sheet, fences) {
   const before = text.slice(0, offset);
   const at = openFence(before, fences);
   const isFence = (letters) => fences.flat().some((it) => letters.includes(it));
   const marks = marksOf(sheet.productions);
-  const open = unfenced(before, at, marks.filter(({ left }) => !isFence(left)), mayCome);
-  return open ?? (at < 0 ? null : fenced(before, at, marks, mayCome));
+  const open = unfenced(before, at, marks.filter(({ left }) => !isFence(left)));
+  if (open !== null || at < 0) return open;
+  const bracket = fenced(before, at, marks);
+  return bracket && (!bracket.isBlock || offset === text.length) ? bracket : null;
 }
 
 /**

@@ -408,12 +408,12 @@ function characterEnd(text, offset) {
 function openSaid({ begin, end, sure }, text) {
   const before = text.slice(0, begin).split("\n");
   const place = `line ${before.length}, column ${[...before.at(-1)].length + 1}`;
-  return `${text.slice(begin, end)} was opened at ${place}, and is ${sure ? "" : "perhaps "}not closed.`;
+  return `${text.slice(begin, end)} was opened at ${place}, and is ${sure ? "" : "perhaps "}still open here.`;
 }
 
-/** Returns the marks of a row in a pane. */
+/** Returns the marks of a row in a pane; the root is the whole document, which is not marked. */
 function marksOf(row, side) {
-  const span = row?.[side];
+  const span = row?.depth > 0 ? row[side] : null;
   return span ? [{ begin: span[0], end: span[1], kind: "here" }] : [];
 }
 

@@ -1,6 +1,6 @@
 /**
  * From the derivation of a text, as the core tells it, to the rows of an outline: one for each element
- * of the XML and one for each word, with the places of both in the text and in the XML.
+ * of the XML and one for each word but spaces, with the places of both in the text and in the XML.
  *
  * @typedef {import("./productions.mjs").Productions} Productions
  * @typedef {import("./productions.mjs").Production} Production
@@ -151,7 +151,7 @@ class Outline {
   leaf(leaf, node, depth) {
     const begin = this.symbols;
     this.symbols += lengthOf(leaf.word);
-    if (leaf.word === "") return;
+    if (/^ *$/u.test(leaf.word)) return;
     const { number } = node.production;
     const [text, xml] = [[leaf.begin, leaf.end], [begin, this.symbols]];
     this.rows.push({ depth, label: "", detail: leaf.word, production: number, text, xml });

@@ -86,9 +86,9 @@ class Translator {
 }
 
 /** Returns what is open at the place of a refusal, or null. */
-function openedBefore({ productions, fences }, side, document, { offset, expected }) {
+function openedBefore({ productions, fences }, side, document, { offset }) {
   if (side === "xml") return openedElement(document, offset);
-  return productions && expected ? openedMark(document, offset, productions, fences, expected) : null;
+  return productions && openedMark(document, offset, productions, fences);
 }
 
 let translator = null;
