@@ -70,9 +70,9 @@ function hasPlace(error) {
 }
 
 /** Returns what was opened before the place of an error and is not closed there, or null. */
-function openedBefore({ kind, text }, { productions, fences }, { offset, expected }) {
+function openedBefore({ kind, text }, { productions, fences }, { offset }) {
   if (kind === "xml") return openedElement(text, offset);
-  return productions && expected ? openedMark(text, offset, productions, fences, expected) : null;
+  return productions ? openedMark(text, offset, productions, fences) : null;
 }
 
 /** Returns where a bracket or an element was opened that is not closed. */
