@@ -23,8 +23,18 @@ function messageOf(body) {
   }
 }
 
-const module = process.argv[2] ?? new URL("xsugar.wasm", import.meta.url);
-const server = new LanguageServer(await load(await readFile(module)), send, process.exit);
+/** Returns the core; where its module is not there, the server ends and says so. */
+async function core(module) {
+  try {
+    return await load(await readFile(module));
+  } catch (error) {
+    console.error(`web/server.mjs: ${error.message}: scripts/web makes the module`);
+    process.exit(2);
+  }
+}
+
+const xsugar = await core(process.argv[2] ?? new URL("xsugar.wasm", import.meta.url));
+const server = new LanguageServer(xsugar, send, process.exit);
 const bodies = new Bodies();
 for await (const piece of process.stdin) {
   for (const body of bodies.add(piece)) server.receive(messageOf(body));
