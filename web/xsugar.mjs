@@ -213,6 +213,12 @@ function shown(ranges) {
   return words.join(" ") || "the end";
 }
 
+/** Returns the ranges of characters that an answer `next` of a session has. */
+export function rangesOf(answer) {
+  const ranges = answer.matchAll(/"((?:[^"\\]|\\.)*)"(?:-"((?:[^"\\]|\\.)*)")?/gsu);
+  return [...ranges].map(([, first, last]) => [unquoted(first), unquoted(last ?? first)]);
+}
+
 /** A sheet that was read, checked and opened. */
 export class Sheet {
   #core;
@@ -326,8 +332,7 @@ export class Sheet {
     const told = this.#call("xsugar_session", encoded(script));
     const line = /\nnext(.*)\n$/u.exec(decoded(told.bytes));
     if (told.status !== 0 || line === null) return null;
-    const ranges = line[1].matchAll(/"((?:[^"\\]|\\.)*)"(?:-"((?:[^"\\]|\\.)*)")?/gsu);
-    return [...ranges].map(([, first, last]) => [unquoted(first), unquoted(last ?? first)]);
+    return rangesOf(line[1]);
   }
 
   #call(name, ...given) {
