@@ -2,6 +2,7 @@
 import base64
 import json
 import os
+import select
 import shutil
 import subprocess
 import tempfile
@@ -9,6 +10,7 @@ import time
 
 KEYS = {"Enter": (13, "\r"), "Tab": (9, ""), "Escape": (27, ""), "F1": (112, ""), "F8": (119, ""),
         "ArrowDown": (40, ""), "ArrowUp": (38, ""), "Home": (36, ""), "End": (35, ""), "Space": (32, " ")}
+PATIENCE = 60
 HELD = {"Alt": 1, "Ctrl": 2, "Shift": 8}
 
 
@@ -44,6 +46,8 @@ class Browser:
     def message(self):
         """Returns the next message of the browser."""
         while b"\0" not in self.rest:
+            if not select.select([self.read], [], [], PATIENCE)[0]:
+                raise RuntimeError(f"the browser says nothing for {PATIENCE} s")
             more = os.read(self.read, 1 << 20)
             if not more:
                 raise EOFError("the browser ended")

@@ -109,9 +109,9 @@ export class OutlineView {
     item.ariaSelected = number === this.#chosen;
     item.style.top = `${number * HEIGHT}px`;
     item.style.paddingLeft = `${10 + Math.min(row.depth, MOST_INDENT) * INDENT}px`;
-    const [name, detail] = row.label === "" ? ["", "span"] : ["b", "i"];
-    if (name) item.append(Object.assign(document.createElement(name), { textContent: row.label }), " ");
-    item.append(Object.assign(document.createElement(detail), { textContent: seen(row.detail) }));
+    const part = (name, textContent) => Object.assign(document.createElement(name), { textContent });
+    if (row.label === "") item.append(part("span", seen(row.detail)));
+    else item.append(part("b", row.label), " ", part("i", row.detail));
     return item;
   }
 }

@@ -15,6 +15,7 @@ import { keep, kept } from "./storage.mjs";
 import { suggestions } from "./suggestions.mjs";
 
 const OWN = "own";
+/** How long nothing is asked for before what is not urgent is done, in milliseconds. */
 const CALM = 200;
 const OTHER = { text: "xml", xml: "text" };
 const ENDINGS = { text: ".txt", xml: ".xml", source: ".xsugar" };
@@ -28,6 +29,10 @@ class Calm {
   run(work) {
     clearTimeout(this.#timer);
     this.#timer = setTimeout(work, CALM);
+  }
+
+  stop() {
+    clearTimeout(this.#timer);
   }
 }
 
@@ -50,9 +55,10 @@ class Page {
   /** What is kept: the sheet's name, one's own sheet, the side that was typed, its document, and so on. */
   state = { sheet: "@leiden2", own: "", side: "text", document: "", form: "asis", panels: {}, ...kept() };
   productions = null;
-  refusal = null;
+  /** Whether both panes have one document. */
+  isSettled = false;
   focused = this.panes.text;
-  #calm = { rows: new Calm(), check: new Calm(), keep: new Calm(), cursor: new Calm() };
+  #calm = { long: new Calm(), rows: new Calm(), check: new Calm(), keep: new Calm(), cursor: new Calm() };
 
   constructor(script, bytes) {
     const start = () => startWorker(script, bytes);
@@ -88,8 +94,7 @@ class Page {
       it.checked = state.panels[it.dataset.panel] ?? it.checked;
       element(it.dataset.panel).hidden = !it.checked;
     }
-    this.panes[state.side].text = state.document || this.#example || "";
-    this.#typedLast(this.panes[state.side]);
+    this.#load(this.panes[state.side], state.document || this.#example || "");
     this.#sheetChanged();
   }
 
@@ -115,11 +120,14 @@ class Page {
     this.state.sheet = name;
     if (name === OWN && this.state.own === "") this.state.own = this.source.text;
     if (name === OWN) this.#show("source", true);
-    if (isExample && this.#example !== undefined) {
-      this.panes.text.text = this.#example;
-      this.#typedLast(this.panes.text);
-    }
+    if (isExample && this.#example) this.#load(this.panes.text, this.#example);
     this.#sheetChanged();
+  }
+
+  /** Puts a document into a pane, which the other follows. */
+  #load(pane, text) {
+    pane.load(text);
+    this.#typedLast(pane);
   }
 
   /** Takes a pane as the one that the other follows. */
@@ -134,10 +142,13 @@ class Page {
     const { side, form } = state;
     const begin = performance.now();
     state.document = this.panes[side].text;
+    this.isSettled = false;
     this.#calm.keep.run(() => this.#keep());
     const given = { source: this.#sheet, side, document: state.document, form };
+    this.#calm.long.run(() => this.#saySlow());
     const told = await this.translator.ask("translate", given);
     if (told === STALE || side !== state.side) return;
+    this.#calm.long.stop();
     if (told.refusal) {
       this.#refused(told.refusal);
       return;
@@ -147,8 +158,14 @@ class Page {
     this.#accepted(performance.now() - begin);
   }
 
+  #saySlow() {
+    element("message").className = "";
+    element("said").textContent = "Reading the sheet and the document ..";
+    element("more").replaceChildren();
+  }
+
   #accepted(time) {
-    this.refusal = null;
+    this.isSettled = true;
     this.#stale(null);
     for (const it of Object.values(this.panes)) it.mark([]);
     element("message").className = "";
@@ -159,12 +176,10 @@ class Page {
 
   /** Shows a refusal; what the other pane holds is of an earlier document then. */
   #refused(refusal) {
-    this.refusal = refusal;
     this.#stale(OTHER[this.state.side]);
     this.outline.rows = [];
     this.diagrams.show(0);
     this.#say(refusal);
-    if (isOfSheet(refusal)) this.#sheetRefused(refusal);
   }
 
   #stale(side) {
@@ -176,11 +191,15 @@ class Page {
     const { side } = this.state;
     const pane = this.panes[side];
     element("message").className = "wrong";
+    if (isOfSheet(refusal)) {
+      this.#saySheet(refusal);
+      return;
+    }
     element("said").textContent = said(refusal, side, pane.text);
-    const { offset = null, expected = null, opened = null } = isOfSheet(refusal) ? {} : refusal;
+    const { offset = null, expected = null, opened = null } = refusal;
     const marks = offset === null ? [] : [{ begin: offset, end: characterEnd(pane.text, offset), kind: "wrong" }];
     const more = [];
-    if (offset !== null) more.push(this.#button("Go there", "F8", () => pane.goTo("wrong")));
+    if (offset !== null) more.push(this.#button("Go there", "F8", () => this.#goToWrong()));
     if (opened !== null) {
       marks.push({ ...opened, kind: "open" });
       more.push(openSaid(opened, pane.text), this.#button("Go to the opening", "Shift F8", () => pane.goTo("open")));
@@ -202,8 +221,11 @@ class Page {
     return it;
   }
 
-  /** Shows in the sheet why it is refused. */
-  #sheetRefused(refusal) {
+  /** Says a refusal of the sheet, and shows in the sheet why it is refused. */
+  #saySheet(refusal) {
+    for (const it of Object.values(this.panes)) it.mark([]);
+    element("said").textContent = "The sheet is not accepted, so nothing is translated.";
+    element("more").replaceChildren(said(refusal), this.#button("Go there", "F8", () => this.#goToWrong()));
     element("sheet-said").className = "wrong";
     element("sheet-said").textContent = said(refusal);
     this.source.mark(sheetMarks(refusal, (line) => lineSpan(this.source.text, line)));
@@ -225,22 +247,22 @@ class Page {
 
   /** Shows the outline of the document that was translated. */
   async #outline() {
-    if (element("outline").hidden && element("diagrams").hidden) return;
+    if (!this.isSettled || (element("outline").hidden && element("diagrams").hidden)) return;
     const [text, xml] = [this.panes.text.text, this.panes.xml.text];
     const given = { source: this.#sheet, text, xml };
     const told = await this.reader.ask("rows", given);
-    if (told === STALE || text !== this.panes.text.text || xml !== this.panes.xml.text) return;
+    if (told === STALE || !this.isSettled || xml !== this.panes.xml.text) return;
     this.outline.rows = told.answer ?? [];
     this.#showCursor();
   }
 
   /** Shows what stands at the cursor: its row, its production, and its place in the other pane. */
   #showCursor() {
-    if (this.refusal !== null) return;
     if (document.activeElement === this.source.area) {
       this.diagrams.show(productionAt(this.productions, this.source.cursor)?.number);
       return;
     }
+    if (!this.isSettled) return;
     const side = document.activeElement === this.panes.xml.area ? "xml" : "text";
     const row = this.outline.show(side, this.panes[side].cursor);
     for (const it of ["text", "xml"]) this.panes[it].mark(marksOf(row, it));
@@ -308,8 +330,7 @@ class Page {
       return;
     }
     const pane = file.name.endsWith(".xml") ? this.panes.xml : this.panes.text;
-    pane.text = text;
-    this.#typedLast(pane);
+    this.#load(pane, text);
     this.#translate();
     pane.area.focus();
   }
@@ -377,13 +398,20 @@ class Page {
     "Alt Digit3": () => this.#goTo("outline", ".tree"),
     "Alt Digit4": () => this.#goTo("source", "textarea"),
     "Alt Digit5": () => this.#goTo("diagrams", ".rules"),
-    "F8": () => this.panes[this.state.side].goTo("wrong") || this.source.goTo("wrong"),
+    "F8": () => this.#goToWrong(),
     "Shift F8": () => this.panes[this.state.side].goTo("open"),
     "Ctrl Space": () => this.#suggest(),
     "Ctrl KeyO": () => element("file").click(),
     "Ctrl KeyS": () => this.#save(),
     "F1": () => element("help").showModal(),
   };
+
+  /** Goes to what does not fit in the document, or in the sheet. */
+  #goToWrong() {
+    if (this.panes[this.state.side].goTo("wrong") || !this.source.isMarked("wrong")) return;
+    this.#show("source", true);
+    this.source.goTo("wrong");
+  }
 
   #goTo(panel, part) {
     this.#show(panel, true);

@@ -45,6 +45,13 @@ export class Pane {
     this.area.scrollTop = scrollTop;
   }
 
+  /** Puts another document into the pane, and the cursor at its front. */
+  load(text) {
+    this.area.value = text;
+    this.area.setSelectionRange(0, 0);
+    this.area.scrollTop = 0;
+  }
+
   get cursor() {
     return this.area.selectionStart;
   }
@@ -76,6 +83,11 @@ export class Pane {
       this.area.scrollTop = mark.offsetTop - clientHeight / 3;
     }
     if (mark.offsetLeft > this.area.clientWidth) this.area.scrollLeft = mark.offsetLeft;
+  }
+
+  /** Says whether a mark of a kind is shown. */
+  isMarked(kind) {
+    return this.#shown.some((it) => it.kind === kind);
   }
 
   /** Puts the cursor before a mark of a kind, and says whether there is one. */

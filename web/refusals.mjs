@@ -17,11 +17,11 @@ export function seen(word) {
 function suspected({ side, production, lines, cut, words }) {
   const where = `The sheet may be ambiguous. On the ${side === "xml" ? "XML" : "text"} side`;
   if (cut === null) {
-    return `${where} the productions of ${production} at lines ${lines.join(" and ")} can both spell `
+    return `${where} the productions of “${production}” at lines ${lines.join(" and ")} can both spell `
       + `${seen(words[0])}. Give one of them a mark of its own, or take the words of one out of the other.`;
   }
   const [before, middle, after] = words;
-  return `${where} the production of ${production} at line ${lines[0]} can be cut in two ways after its item `
+  return `${where} the production of “${production}” at line ${lines[0]} can be cut in two ways after its item `
     + `${cut}: ${seen(words.join(""))} is ${seen(before)} and ${seen(middle + after)}, or ${seen(before + middle)} `
     + `and ${seen(after)}. Put a mark between the two that neither has.`;
 }
