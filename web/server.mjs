@@ -1,8 +1,8 @@
 #!/usr/bin/env node
 /**
  * A language server for editors: it reads messages from standard input and writes to standard output.
- * docs/web.md says what it does. Usage: web/server.mjs [MODULE], where MODULE is another file than
- * web/xsugar.wasm.
+ * docs/web.md says what it does. Usage: web/server.mjs [MODULE [MEGABYTES]], where MODULE is another file
+ * than web/xsugar.wasm, and MEGABYTES the most memory that it takes, 1,024 where it is not said.
  */
 import { readFile } from "node:fs/promises";
 import { LanguageServer } from "./server/language_server.mjs";
@@ -24,16 +24,17 @@ function messageOf(body) {
 }
 
 /** Returns the core; where its module is not there, the server ends and says so. */
-async function core(module) {
+async function core(module, megabytes) {
   try {
-    return await load(await readFile(module));
+    return await load(await readFile(module), { megabytes: megabytes && Number(megabytes) });
   } catch (error) {
     console.error(`web/server.mjs: ${error.message}: scripts/web makes the module`);
     process.exit(2);
   }
 }
 
-const xsugar = await core(process.argv[2] ?? new URL("xsugar.wasm", import.meta.url));
+const [, , module = new URL("xsugar.wasm", import.meta.url), megabytes] = process.argv;
+const xsugar = await core(module, megabytes);
 const server = new LanguageServer(xsugar, send, process.exit);
 const bodies = new Bodies();
 for await (const piece of process.stdin) {

@@ -5,7 +5,7 @@ import { quoted, rangesOf } from "../xsugar.mjs";
 
 const KIND_OF_OPERATOR = 24;
 /** What is put in for a class where it may come. */
-const SAMPLES = ["a", "α", "1", "ⲁ", "\u0301"];
+const SAMPLES = [..."aAαΑ1ⲁ\u0301"];
 /** The length up to which what can be typed is continued. */
 const LONGEST = 16;
 
@@ -64,13 +64,12 @@ function sampleOf(name, ranges) {
  * @param {number} offset
  * @param {import("./notation.mjs").Notation} notation
  */
-export function completionsAt(document, offset, { sheet, fences }) {
+export function completionsAt(document, offset, { sheet, closing }) {
   const before = document.text.slice(markLength(document.text), offset);
   const ranges = sheet.next(before) ?? [];
-  const { characters, classes } = grouped(ranges);
-  const closes = (it) => fences.some(([, right]) => right === it);
-  const signs = [...characters.filter(closes), ...characters.filter((it) => !closes(it))];
-  const words = continued(sheet, before, signs).map((word) => [labelOf(word), word]);
+  const { characters, classes } = grouped(ranges, closing);
+  const typed = characters.filter((it) => it !== "\r");
+  const words = continued(sheet, before, typed).map((word) => [labelOf(word), word]);
   const samples = classes.filter((it) => it !== ANY).map((name) => [name, sampleOf(name, ranges)]);
   const range = document.range(offset, offset);
   const items = [...words, ...samples].map(([label, newText], place) => ({

@@ -84,9 +84,9 @@ function openings(document, opened) {
 }
 
 /** Says what is wrong at the place of an error. */
-function messageOf(error, kind) {
+function messageOf(error, kind, closing) {
   if (error instanceof NotXmlError) return "not XML";
-  return kind === "text" && error.expected ? `expected ${told(error.expected)}` : "not expected here";
+  return kind === "text" && error.expected ? `expected ${told(error.expected, closing)}` : "not expected here";
 }
 
 function ofDocumentError(document, notation, error) {
@@ -95,13 +95,13 @@ function ofDocumentError(document, notation, error) {
   }
   const range = matchedAt(document, document.kind === "xml" ? IN_XML : IN_TEXT, error.offset);
   const opened = openedBefore(document, notation, error);
-  return diagnostic(range, messageOf(error, document.kind), openings(document, opened));
+  return diagnostic(range, messageOf(error, document.kind, notation.closing), openings(document, opened));
 }
 
 /** Says of a document in one line why it is refused. */
-export function refusalOf(error, { kind }) {
+export function refusalOf(error, { kind }, { closing }) {
   const place = `line ${error.line}, column ${error.column}`;
-  return hasPlace(error) ? `${place}: ${messageOf(error, kind)}` : error.message;
+  return hasPlace(error) ? `${place}: ${messageOf(error, kind, closing)}` : error.message;
 }
 
 /** Returns what a call refused; want of memory is thrown on. */
@@ -127,6 +127,11 @@ export function diagnosticsOfSheet(document, xsugar) {
   return error === null ? [] : ofSheetError(document, error);
 }
 
+/** Returns the other document of a text or an XML document, or throws why there is none. */
+export function otherOf({ kind, text }, { sheet }) {
+  return kind === "xml" ? sheet.toText(text) : sheet.toXml(text);
+}
+
 /**
  * Returns the diagnostics of a text or an XML document.
  *
@@ -135,8 +140,6 @@ export function diagnosticsOfSheet(document, xsugar) {
  * @returns {Diagnostic[]}
  */
 export function diagnosticsOf(document, notation) {
-  const { sheet } = notation;
-  const { kind, text } = document;
-  const error = refused(() => (kind === "xml" ? sheet.toText(text) : sheet.toXml(text)));
+  const error = refused(() => otherOf(document, notation));
   return error === null ? [] : [ofDocumentError(document, notation, error)];
 }

@@ -7,14 +7,14 @@ import { resolve } from "node:path";
 import { fileURLToPath } from "node:url";
 import { OutOfMemoryError, XsugarError } from "../xsugar.mjs";
 import { completionsAt } from "./completion.mjs";
-import { diagnosticsOf, diagnosticsOfSheet, refusalOf } from "./diagnostics.mjs";
+import { diagnosticsOf, diagnosticsOfSheet, otherOf, refusalOf } from "./diagnostics.mjs";
 import { Notation } from "./notation.mjs";
 import { OpenDocument } from "./open_document.mjs";
 import { symbolsOf } from "./symbols.mjs";
 
 const CODE = {
-  invalidRequest: -32600, unknownMethod: -32601, invalidParams: -32602, internal: -32603,
-  notInitialized: -32002, failed: -32803,
+  invalidRequest: -32600, unknownMethod: -32601, invalidParams: -32602, notInitialized: -32002,
+  failed: -32803,
 };
 const MESSAGE_OF_ERROR = 1;
 const INCREMENTAL = 2;
@@ -100,7 +100,7 @@ export class LanguageServer {
     try {
       this.#send({ id, result: this.#request(method, params) ?? null });
     } catch (error) {
-      const code = error instanceof XsugarError ? CODE.failed : (error.code ?? CODE.internal);
+      const code = error instanceof Refusal ? error.code : CODE.failed;
       this.#send({ id, error: { code, message: error.message } });
       if (error instanceof OutOfMemoryError) this.#tell(error.message);
     }
@@ -260,16 +260,16 @@ export class LanguageServer {
   /** Returns the other document of one that is open, which is named by its URI. */
   #execute({ command, arguments: [uri] = [] }) {
     const document = this.#document({ textDocument: { uri } });
-    const { sheet } = this.#openedOrRefused();
+    const notation = this.#openedOrRefused();
     const isOfKind = command === (document.kind === "text" ? "xsugar.toXml" : "xsugar.toText");
     if (document.kind === "sheet" || !isOfKind) {
       throw new Refusal(CODE.invalidParams, `${command} is not for ${uri}`);
     }
     try {
-      return document.kind === "xml" ? sheet.toText(document.text) : sheet.toXml(document.text);
+      return otherOf(document, notation);
     } catch (error) {
       if (!isRefusal(error)) throw error;
-      throw new Refusal(CODE.failed, refusalOf(error, document));
+      throw new Refusal(CODE.failed, refusalOf(error, document, notation));
     }
   }
 }

@@ -5,8 +5,8 @@ import { productionsOf } from "../productions.mjs";
 const INCLUDED = { "@leiden": ["sheet"], "@leiden2": ["sheet", "2"] };
 
 /**
- * The sheet by which texts and XML documents are read: open, with its productions and its fences, those
- * too that it could have in version 2.
+ * The sheet by which texts and XML documents are read: open, with its productions, its fences, those too
+ * that it could have in version 2, and what closes them.
  */
 export class Notation {
   /**
@@ -20,5 +20,6 @@ export class Notation {
     this.productions = productionsOf(source);
     const { output } = xsugar.run(["upgrade", "sheet"], { sheet: source });
     this.fences = productionsOf(output)?.fences ?? [];
+    this.closing = this.fences.map(([, right]) => right);
   }
 }
