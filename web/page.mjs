@@ -1,0 +1,449 @@
+/**
+ * The page for editors: a text and its XML side by side, either typed in, by a sheet that is chosen or
+ * written beside them.
+ *
+ * @typedef {import("./worker.mjs").Refusal} Refusal
+ * @typedef {"text" | "xml"} Side
+ */
+import { Desk, STALE } from "./desk.mjs";
+import { Diagrams } from "./diagrams.mjs";
+import { OutlineView } from "./outline.mjs";
+import { lineSpan, Pane } from "./pane.mjs";
+import { productionAt, productionsOf } from "./productions.mjs";
+import { isOfSheet, said, sheetMarks } from "./refusals.mjs";
+import { keep, kept } from "./storage.mjs";
+import { suggestions } from "./suggestions.mjs";
+
+const OWN = "own";
+/** How long nothing is asked for before what is not urgent is done, in milliseconds. */
+const CALM = 200;
+const OTHER = { text: "xml", xml: "text" };
+const ENDINGS = { text: ".txt", xml: ".xml", source: ".xsugar" };
+
+const element = (id) => document.getElementById(id);
+
+/** Runs what was asked for last, once nothing was asked for some time. */
+class Calm {
+  #timer = 0;
+
+  run(work) {
+    clearTimeout(this.#timer);
+    this.#timer = setTimeout(work, CALM);
+  }
+
+  stop() {
+    clearTimeout(this.#timer);
+  }
+}
+
+/** Begins a worker over the core that the page holds. */
+function startWorker(script, bytes) {
+  const address = URL.createObjectURL(new Blob([script], { type: "text/javascript" }));
+  const worker = new Worker(address);
+  worker.postMessage(bytes);
+  return worker;
+}
+
+/** The page: what is typed, by which sheet, and what is shown of it. */
+class Page {
+  /** @type {{name: string, text: string, example: string}[]} the sheets that the page holds */
+  shelf = JSON.parse(element("shelf").textContent);
+  panes = { text: new Pane(element("text")), xml: new Pane(element("xml")) };
+  source = new Pane(element("source"));
+  outline = new OutlineView(element("outline"), (row) => this.#showRow(row));
+  diagrams = new Diagrams(element("diagrams"), (production) => this.#showProduction(production));
+  /** What is kept: the sheet's name, one's own sheet, the side that was typed, its document, and so on. */
+  state = { sheet: "@leiden2", own: "", side: "text", document: "", form: "asis", panels: {}, ...kept() };
+  productions = null;
+  /** Whether both panes have one document. */
+  isSettled = false;
+  focused = this.panes.text;
+  #calm = { long: new Calm(), rows: new Calm(), check: new Calm(), keep: new Calm(), cursor: new Calm() };
+
+  constructor(script, bytes) {
+    const start = () => startWorker(script, bytes);
+    const failed = (refusal) => this.#say(refusal);
+    this.translator = new Desk(start, failed);
+    this.reader = new Desk(start, failed);
+    this.#fillShelf();
+    this.#listen();
+    this.#restore();
+  }
+
+  get #sheet() {
+    const { sheet, own } = this.state;
+    return sheet === OWN ? own : this.shelf.find((it) => it.name === sheet).text;
+  }
+
+  get #example() {
+    return this.shelf.find((it) => it.name === this.state.sheet)?.example;
+  }
+
+  #fillShelf() {
+    const options = this.shelf.map(({ name, title }) => new Option(title, name));
+    element("sheet").append(...options, new Option("my own sheet", OWN));
+  }
+
+  /** Shows what was kept when the page was left, or an example. */
+  #restore() {
+    const { state } = this;
+    if (state.sheet !== OWN && !this.shelf.some((it) => it.name === state.sheet)) state.sheet = "@leiden2";
+    element("sheet").value = state.sheet;
+    element("form").value = state.form;
+    for (const it of document.querySelectorAll("[data-panel]")) {
+      it.checked = state.panels[it.dataset.panel] ?? it.checked;
+      element(it.dataset.panel).hidden = !it.checked;
+    }
+    this.#load(this.panes[state.side], state.document || this.#example || "");
+    this.#sheetChanged();
+  }
+
+  /** Shows the sheet that is chosen, and translates by it. */
+  #sheetChanged() {
+    this.source.text = this.#sheet;
+    this.source.mark([]);
+    element("sheet-said").textContent = "";
+    element("example").disabled = this.#example === undefined;
+    this.#readSheet();
+    this.#translate();
+  }
+
+  #readSheet() {
+    this.productions = productionsOf(this.#sheet);
+    if (!element("diagrams").hidden) this.diagrams.sheet = this.productions;
+  }
+
+  /** Chooses a sheet; an example, or nothing, gives way to the example of the new one. */
+  #choose(name) {
+    const { text } = this.panes.text;
+    const isExample = text.trim() === "" || text === this.#example;
+    this.state.sheet = name;
+    if (name === OWN && this.state.own === "") this.state.own = this.source.text;
+    if (name === OWN) this.#show("source", true);
+    if (isExample && this.#example) this.#load(this.panes.text, this.#example);
+    this.#sheetChanged();
+  }
+
+  /** Puts a document into a pane, which the other follows. */
+  #load(pane, text) {
+    pane.load(text);
+    this.#typedLast(pane);
+  }
+
+  /** Takes a pane as the one that the other follows. */
+  #typedLast(pane) {
+    this.state.side = pane === this.panes.text ? "text" : "xml";
+    for (const it of Object.values(this.panes)) it.panel.classList.toggle("last-typed", it === pane);
+  }
+
+  /** Translates what was typed last into the other pane. */
+  async #translate() {
+    const { state } = this;
+    const { side, form } = state;
+    const begin = performance.now();
+    state.document = this.panes[side].text;
+    this.isSettled = false;
+    this.#calm.keep.run(() => this.#keep());
+    const given = { source: this.#sheet, side, document: state.document, form };
+    this.#calm.long.run(() => this.#saySlow());
+    const told = await this.translator.ask("translate", given);
+    if (told === STALE || side !== state.side) return;
+    this.#calm.long.stop();
+    if (told.refusal) {
+      this.#refused(told.refusal);
+      return;
+    }
+    this.panes[OTHER[side]].text = told.answer;
+    performance.measure("keystroke", { start: begin });
+    this.#accepted(performance.now() - begin);
+  }
+
+  #saySlow() {
+    element("message").className = "";
+    element("said").textContent = "Reading the sheet and the document ..";
+    element("more").replaceChildren();
+  }
+
+  #accepted(time) {
+    this.isSettled = true;
+    this.#stale(null);
+    for (const it of Object.values(this.panes)) it.mark([]);
+    element("message").className = "";
+    element("said").textContent = `Translated, in ${Math.max(1, Math.round(time))} ms.`;
+    element("more").replaceChildren();
+    this.#calm.rows.run(() => this.#outline());
+  }
+
+  /** Shows a refusal; what the other pane holds is of an earlier document then. */
+  #refused(refusal) {
+    this.#stale(OTHER[this.state.side]);
+    this.outline.rows = [];
+    this.diagrams.show(0);
+    this.#say(refusal);
+  }
+
+  #stale(side) {
+    for (const [name, it] of Object.entries(this.panes)) it.panel.classList.toggle("stale", name === side);
+  }
+
+  /** Says a refusal of the document, marks its place and offers what may come there. */
+  #say(refusal) {
+    const { side } = this.state;
+    const pane = this.panes[side];
+    element("message").className = "wrong";
+    if (isOfSheet(refusal)) {
+      this.#saySheet(refusal);
+      return;
+    }
+    element("said").textContent = said(refusal, side, pane.text);
+    const { offset = null, expected = null, opened = null } = refusal;
+    const marks = offset === null ? [] : [{ begin: offset, end: characterEnd(pane.text, offset), kind: "wrong" }];
+    const more = [];
+    if (offset !== null) more.push(this.#button("Go there", "F8", () => this.#goToWrong()));
+    if (opened !== null) {
+      marks.push({ ...opened, kind: "open" });
+      more.push(openSaid(opened, pane.text), this.#button("Go to the opening", "Shift F8", () => pane.goTo("open")));
+    }
+    if (expected?.length > 0) {
+      more.push("May come here:", ...suggestions(expected, (it) => pane.type(offset, offset, it)));
+    } else if (expected !== null) {
+      more.push("Nothing but the end may come here.");
+    }
+    element("more").replaceChildren(...more);
+    pane.mark(marks);
+  }
+
+  #button(words, key, work) {
+    const it = document.createElement("button");
+    it.type = "button";
+    it.append(`${words} `, Object.assign(document.createElement("kbd"), { textContent: key }));
+    it.addEventListener("click", work);
+    return it;
+  }
+
+  /** Says a refusal of the sheet, and shows in the sheet why it is refused. */
+  #saySheet(refusal) {
+    for (const it of Object.values(this.panes)) it.mark([]);
+    element("said").textContent = "The sheet is not accepted, so nothing is translated.";
+    element("more").replaceChildren(said(refusal), this.#button("Go there", "F8", () => this.#goToWrong()));
+    element("sheet-said").className = "wrong";
+    element("sheet-said").textContent = said(refusal);
+    this.source.mark(sheetMarks(refusal, (line) => lineSpan(this.source.text, line)));
+    this.source.reveal("wrong");
+  }
+
+  /** Takes over a sheet that is typed, once it was checked. */
+  async #checkSheet() {
+    const source = this.source.text;
+    const told = await this.reader.ask("check", { source });
+    if (told === STALE || source !== this.source.text) return;
+    this.source.mark([]);
+    element("sheet-said").className = "";
+    element("sheet-said").textContent = "The sheet is accepted.";
+    this.#readSheet();
+    if (told.refusal) this.#refused(told.refusal);
+    else this.#translate();
+  }
+
+  /** Shows the outline of the document that was translated. */
+  async #outline() {
+    if (!this.isSettled || (element("outline").hidden && element("diagrams").hidden)) return;
+    const [text, xml] = [this.panes.text.text, this.panes.xml.text];
+    const given = { source: this.#sheet, text, xml };
+    const told = await this.reader.ask("rows", given);
+    if (told === STALE || !this.isSettled || xml !== this.panes.xml.text) return;
+    this.outline.rows = told.answer ?? [];
+    this.#showCursor();
+  }
+
+  /** Shows what stands at the cursor: its row, its production, and its place in the other pane. */
+  #showCursor() {
+    if (document.activeElement === this.source.area) {
+      this.diagrams.show(productionAt(this.productions, this.source.cursor)?.number);
+      return;
+    }
+    if (!this.isSettled) return;
+    const side = document.activeElement === this.panes.xml.area ? "xml" : "text";
+    const row = this.outline.show(side, this.panes[side].cursor);
+    for (const it of ["text", "xml"]) this.panes[it].mark(marksOf(row, it));
+    if (row !== undefined) this.panes[OTHER[side]].reveal("here");
+    this.diagrams.show(row?.production);
+  }
+
+  #showRow(row) {
+    for (const it of ["text", "xml"]) {
+      this.panes[it].mark(marksOf(row, it));
+      this.panes[it].reveal("here");
+    }
+    this.diagrams.show(row.production);
+  }
+
+  /** Shows a production in the sheet. */
+  #showProduction({ number, begin, end }) {
+    this.#show("source", true);
+    this.diagrams.show(number);
+    this.source.mark([{ begin, end, kind: "here" }]);
+    this.source.reveal("here");
+  }
+
+  /** Offers what may come next at the cursor of the text. */
+  async #suggest() {
+    const pane = this.panes.text;
+    const at = pane.cursor;
+    const told = await this.translator.ask("next", { source: this.#sheet, text: pane.text.slice(0, at) });
+    if (told === STALE || told.refusal) return;
+    const chips = told.answer === null ? [] : suggestions(told.answer, (it) => pane.type(at, at, it));
+    const words = chips.length > 0 ? "May come at the cursor:" : "Nothing may come at the cursor.";
+    element("more").replaceChildren(words, ...chips);
+    element("more").querySelector("button, summary")?.focus();
+  }
+
+  #keep() {
+    element("sheet").value = this.state.sheet;
+    if (!keep(this.state)) element("said").textContent += " The document is too large to be kept in the browser: save it.";
+  }
+
+  #show(panel, shown) {
+    document.querySelector(`[data-panel=${panel}]`).checked = shown;
+    element(panel).hidden = !shown;
+    this.state.panels[panel] = shown;
+    if (panel === "diagrams" && shown) this.diagrams.sheet = this.productions;
+    if (shown) this.#calm.rows.run(() => this.#outline());
+    this.#calm.keep.run(() => this.#keep());
+  }
+
+  /** Opens a file in the pane that its name says. */
+  async #open(file) {
+    const bytes = await file.arrayBuffer();
+    let text;
+    try {
+      text = new TextDecoder("utf-8", { fatal: true }).decode(bytes).replaceAll("\r\n", "\n");
+    } catch {
+      element("message").className = "wrong";
+      element("said").textContent = `${file.name} is not UTF-8. Save it as UTF-8, and open it again.`;
+      return;
+    }
+    if (file.name.endsWith(".xsugar")) {
+      this.state.own = text;
+      element("sheet").value = OWN;
+      this.#choose(OWN);
+      return;
+    }
+    const pane = file.name.endsWith(".xml") ? this.panes.xml : this.panes.text;
+    this.#load(pane, text);
+    this.#translate();
+    pane.area.focus();
+  }
+
+  /** Saves the pane that the cursor is in, or was in last. */
+  #save() {
+    const pane = this.focused;
+    const link = document.createElement("a");
+    link.href = URL.createObjectURL(new Blob([pane.text], { type: "text/plain" }));
+    link.download = `document${ENDINGS[pane.panel.id]}`;
+    link.click();
+    URL.revokeObjectURL(link.href);
+  }
+
+  #listen() {
+    for (const pane of Object.values(this.panes)) {
+      pane.area.addEventListener("input", () => {
+        this.#typedLast(pane);
+        this.#translate();
+      });
+    }
+    this.source.area.addEventListener("input", () => {
+      Object.assign(this.state, { sheet: OWN, own: this.source.text });
+      element("sheet").value = OWN;
+      element("example").disabled = true;
+      this.#calm.check.run(() => this.#checkSheet());
+    });
+    for (const pane of [...Object.values(this.panes), this.source]) {
+      pane.area.addEventListener("focus", () => {
+        this.focused = pane;
+      });
+      pane.area.addEventListener("selectionchange", () => {
+        if (document.activeElement === pane.area) this.#calm.cursor.run(() => this.#showCursor());
+      });
+    }
+    this.#listenToButtons();
+    document.addEventListener("keydown", (event) => this.#key(event));
+    addEventListener("pagehide", () => this.#keep());
+  }
+
+  #listenToButtons() {
+    const on = (id, name, work) => element(id).addEventListener(name, work);
+    on("sheet", "change", () => this.#choose(element("sheet").value));
+    on("form", "change", () => {
+      this.state.form = element("form").value;
+      this.#translate();
+    });
+    on("example", "click", () => this.panes.text.type(0, this.panes.text.text.length, this.#example));
+    on("open", "click", () => element("file").click());
+    on("file", "change", () => {
+      this.#open(element("file").files[0]);
+      element("file").value = "";
+    });
+    on("save", "click", () => this.#save());
+    on("keys", "click", () => element("help").showModal());
+    for (const it of document.querySelectorAll("[data-panel]")) {
+      it.addEventListener("change", () => this.#show(it.dataset.panel, it.checked));
+    }
+  }
+
+  /** What each key does, named as the page shows it. */
+  #keys = {
+    "Alt Digit1": () => this.panes.text.area.focus(),
+    "Alt Digit2": () => this.panes.xml.area.focus(),
+    "Alt Digit3": () => this.#goTo("outline", ".tree"),
+    "Alt Digit4": () => this.#goTo("source", "textarea"),
+    "Alt Digit5": () => this.#goTo("diagrams", ".rules"),
+    "F8": () => this.#goToWrong(),
+    "Shift F8": () => this.panes[this.state.side].goTo("open"),
+    "Ctrl Space": () => this.#suggest(),
+    "Ctrl KeyO": () => element("file").click(),
+    "Ctrl KeyS": () => this.#save(),
+    "F1": () => element("help").showModal(),
+  };
+
+  /** Goes to what does not fit in the document, or in the sheet. */
+  #goToWrong() {
+    if (this.panes[this.state.side].goTo("wrong") || !this.source.isMarked("wrong")) return;
+    this.#show("source", true);
+    this.source.goTo("wrong");
+  }
+
+  #goTo(panel, part) {
+    this.#show(panel, true);
+    element(panel).querySelector(part).focus();
+  }
+
+  #key(event) {
+    const held = [["Ctrl", event.ctrlKey || event.metaKey], ["Alt", event.altKey], ["Shift", event.shiftKey]];
+    const name = [...held.filter(([, it]) => it).map(([key]) => key), event.code].join(" ");
+    if (!Object.hasOwn(this.#keys, name)) return;
+    event.preventDefault();
+    this.#keys[name]();
+  }
+}
+
+/** Returns where the character of an offset ends. */
+function characterEnd(text, offset) {
+  return offset + (text.codePointAt(offset) > 0xffff ? 2 : 1);
+}
+
+/** Says where a bracket was opened that is not closed. */
+function openSaid({ begin, end, sure }, text) {
+  const before = text.slice(0, begin).split("\n");
+  const place = `line ${before.length}, column ${[...before.at(-1)].length + 1}`;
+  return `${text.slice(begin, end)} was opened at ${place}, and is ${sure ? "" : "perhaps "}still open here.`;
+}
+
+/** Returns the marks of a row in a pane; the root is the whole document, which is not marked. */
+function marksOf(row, side) {
+  const span = row?.depth > 0 ? row[side] : null;
+  return span ? [{ begin: span[0], end: span[1], kind: "here" }] : [];
+}
+
+const core = Uint8Array.from(atob(element("core").textContent), (it) => it.charCodeAt(0));
+new Page(element("worker").textContent, core);

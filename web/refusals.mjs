@@ -1,0 +1,96 @@
+/**
+ * What is said of a refusal, in sentences.
+ *
+ * @typedef {import("./worker.mjs").Refusal} Refusal
+ */
+import { nameOf } from "./characters.mjs";
+
+const SIDES = { text: "Text", xml: "XML" };
+
+/** Returns a word in quotes, in which blanks and marks without a letter can be seen. */
+export function seen(word) {
+  const shown = word.replaceAll(" ", "␣").replaceAll("\n", "↵").replaceAll("\t", "⇥");
+  return `“${shown.replace(/^\p{M}/u, "◌$&")}”`;
+}
+
+/** Says what the check found that a document may be read in two ways by. */
+function suspected({ side, production, lines, cut, words }) {
+  const where = `The sheet may be ambiguous. On the ${side === "xml" ? "XML" : "text"} side`;
+  if (cut === null) {
+    return `${where} the productions of “${production}” at lines ${lines.join(" and ")} can both spell `
+      + `${seen(words[0])}. Give one of them a mark of its own, or take the words of one out of the other.`;
+  }
+  const [before, middle, after] = words;
+  return `${where} the production of “${production}” at line ${lines[0]} can be cut in two ways after its item `
+    + `${cut}: ${seen(words.join(""))} is ${seen(before)} and ${seen(middle + after)}, or ${seen(before + middle)} `
+    + `and ${seen(after)}. Put a mark between the two that neither has.`;
+}
+
+/** Says why a sheet is not accepted. */
+function sheetSaid(refusal) {
+  if (refusal.name === "SuspectError") return suspected(refusal);
+  if (refusal.byte !== null) {
+    return `Sheet, line ${refusal.line}, column ${refusal.column}: this is not expected here. Where it is `
+      + "a string or a pattern, what is wrong may stand anywhere in it.";
+  }
+  if (refusal.weight !== null) {
+    return `A production of the sheet is too large to be checked: it weighs ${refusal.weight}, more than 8192.`;
+  }
+  if (refusal.line !== null) {
+    return `Sheet, line ${refusal.line}: ${refusal.report.replace(/^sheet: line \d+: /u, "")}.`;
+  }
+  return `The sheet is not accepted: ${refusal.report.replace(/^sheet: /u, "")}.`;
+}
+
+/** Returns whether it is the sheet that is refused. */
+export function isOfSheet(refusal) {
+  return refusal.name === "SheetError" || refusal.name === "SuspectError";
+}
+
+/**
+ * Says what is refused, and why.
+ *
+ * @param {Refusal} refusal
+ * @param {"text" | "xml"} side that of the document
+ * @param {string} document
+ */
+export function said(refusal, side, document) {
+  const where = `${SIDES[side]}, line ${refusal.line}, column ${refusal.column}`;
+  switch (refusal.name) {
+    case "SheetError":
+    case "SuspectError":
+      return sheetSaid(refusal);
+    case "ForeignError": {
+      const { offset } = refusal;
+      if (offset === document.length) return `${where}: the document ends too early.`;
+      const character = offset === null ? "" : String.fromCodePoint(document.codePointAt(offset));
+      return side === "text" && character
+        ? `${where}: ${nameOf(character)} does not fit here.`
+        : `${where}: what stands here does not fit.`;
+    }
+    case "NotXmlError":
+      return `${where}: this is not XML.`;
+    case "TooLongError":
+      return "The document has more than 1,048,576 bytes. Split it.";
+    case "OutOfMemoryError":
+      return "There is not enough memory for this document. Nothing is lost: make it shorter, or split it.";
+    default:
+      return `Something went wrong (${refusal.message}). Nothing is lost; type on, or split the document.`;
+  }
+}
+
+/**
+ * Returns the marks that show in a sheet why it is refused.
+ *
+ * @param {Refusal} refusal
+ * @param {(line: number) => [number, number]} spanOf gives where a line begins and ends
+ * @returns {import("./pane.mjs").Mark[]}
+ */
+export function sheetMarks(refusal, spanOf) {
+  if (refusal.offset !== null && refusal.offset !== undefined) {
+    const [, end] = spanOf(refusal.line);
+    return [{ begin: refusal.offset, end: Math.max(end, refusal.offset), kind: "wrong" }];
+  }
+  const lines = refusal.lines ?? (refusal.line === null ? [] : [refusal.line]);
+  return lines.map(spanOf).map(([begin, end]) => ({ begin, end, kind: "wrong" }));
+}
