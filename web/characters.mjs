@@ -18,6 +18,7 @@ export const ANY = "nearly any character";
 const NAMES = {
   " ": "a space", "\n": "a line end", "\r": "a carriage return", "\t": "a tab", "\u0323": "a dot below",
 };
+const HIDDEN = /[\p{M}\p{C}\p{Z}]/u;
 /** The most characters of a class that are shown one by one. */
 const FEW = 6;
 /** The length from which a range is not looked into. */
@@ -33,6 +34,7 @@ function count(first, last, classes) {
   const [begin, end] = [first.codePointAt(0), last.codePointAt(0)];
   for (let code = begin; code <= end; code++) {
     const character = String.fromCodePoint(code);
+    if (/\p{Cn}/u.test(character)) continue;
     const name = classOf(character);
     if (!classes.has(name)) classes.set(name, { size: 0, plain: [] });
     classes.get(name).size += 1;
@@ -41,37 +43,46 @@ function count(first, last, classes) {
   }
 }
 
+/** Orders characters: those that close first, those that are not seen last. */
+function ordered(characters, closing) {
+  const rank = (it) => (HIDDEN.test(it) ? 2 : closing.includes(it) ? 0 : 1);
+  return characters.sort((one, other) => rank(one) - rank(other) || (one < other ? -1 : 1));
+}
+
 /**
  * Groups the characters of ranges.
  *
  * @param {Ranges} ranges
+ * @param {string[]} closing those that close a bracket
  * @returns {Grouped}
  */
-export function grouped(ranges) {
+export function grouped(ranges, closing = []) {
   const found = new Map();
   const isLong = ([first, last]) => last.codePointAt(0) - first.codePointAt(0) >= LONG;
   for (const [first, last] of ranges.filter((it) => !isLong(it))) count(first, last, found);
   const isFew = ([name, { size }]) => name === null || size <= FEW;
-  const characters = [...found].filter(isFew).flatMap(([, { plain }]) => plain).sort();
+  const characters = [...found].filter(isFew).flatMap(([, { plain }]) => plain);
   const classes = [...found].filter((it) => !isFew(it)).map(([name]) => name);
-  return { characters, classes: ranges.some(isLong) ? [...classes, ANY] : classes };
+  if (ranges.some(isLong)) classes.push(ANY);
+  return { characters: ordered(characters, closing), classes };
 }
 
 /** Returns how a character is called in a sentence. */
 export function nameOf(character) {
   if (character in NAMES) return NAMES[character];
   const code = character.codePointAt(0).toString(16).toUpperCase().padStart(4, "0");
-  return /[\p{M}\p{C}\p{Z}]/u.test(character) ? `U+${code}` : `“${character}”`;
+  return HIDDEN.test(character) ? `U+${code}` : `“${character}”`;
 }
 
 /**
  * Returns what can come next, as a sentence tells it.
  *
  * @param {Ranges} ranges
+ * @param {string[]} closing the characters that close a bracket
  * @param {number} most how many characters are told
  */
-export function told(ranges, most = 12) {
-  const { characters, classes } = grouped(ranges);
+export function told(ranges, closing = [], most = 12) {
+  const { characters, classes } = grouped(ranges, closing);
   const words = [...characters.slice(0, most).map(nameOf), ...classes];
   if (characters.length > most) words.push("others");
   return words.join(", ") || "the end";

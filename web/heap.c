@@ -183,9 +183,9 @@ static block *grown(u32 size) {
 
 /* Makes the row: a used block, so that none in a list is at the place 0, a free one, and the end. */
 static _Bool start(void) {
-    if (!memory_grow(1))
-        return 0;
     u64 at = ((u64)memory_begin() + UNIT - 1) & ~(u64)(UNIT - 1);
+    if (memory_size() < at + 4 * UNIT && !memory_grow(1))
+        return 0;
     begin = (byte *)at;
     end = (u32)((memory_size() - at) / UNIT) - 1;
     block_at(0)->before = 0;

@@ -18,7 +18,7 @@ typedef struct {
 } taken;
 
 static _Alignas(UNIT) byte memory[PAGES * PAGE];
-static u32 pages;
+static u32 pages, most_pages;
 static taken blocks[BLOCKS];
 static u64 refused;
 
@@ -32,7 +32,7 @@ u64 memory_size(void) {
 }
 
 _Bool memory_grow(u32 more) {
-    if (more > PAGES - pages)
+    if (more > most_pages - pages)
         return 0;
     pages += more;
     return 1;
@@ -198,9 +198,8 @@ static void products(void) {
 }
 
 int main(void) {
-    pages = PAGES;
-    check(!rattle_alloc(1, 1).ok, "a memory that cannot grow at all");
-    pages = 1;
+    check(!rattle_alloc(1, 1).ok, "a memory without a page");
+    most_pages = PAGES;
     at_random();
     to_the_end();
     too_long();

@@ -50,6 +50,10 @@ const ANSWER = { size: 32, length: 8, place: 16, kind: 24 };
 const BYTES = { size: 16, length: 8 };
 const SHEET = { size: 16 };
 
+/** The memory of an instance at first, and at most unless `load` is told less, in pages of 64 KiB. */
+const PAGES = { initial: 32, maximum: 16384 };
+const PAGES_OF_MEGABYTE = 16;
+
 const ENCODER = new TextEncoder();
 const DECODER = new TextDecoder("utf-8", { ignoreBOM: true });
 
@@ -91,18 +95,23 @@ class Told {
 /** The instance of the module: its calls and its memory. */
 class Core {
   #calls;
+  #memory;
 
-  /** @param {WebAssembly.Exports} calls */
-  constructor(calls) {
+  /**
+   * @param {WebAssembly.Exports} calls
+   * @param {WebAssembly.Memory} memory
+   */
+  constructor(calls, memory) {
     this.#calls = calls;
+    this.#memory = memory;
   }
 
   get #bytes() {
-    return new Uint8Array(this.#calls.memory.buffer);
+    return new Uint8Array(this.#memory.buffer);
   }
 
   get #view() {
-    return new DataView(this.#calls.memory.buffer);
+    return new DataView(this.#memory.buffer);
   }
 
   /** Returns a block of so many bytes, all zero. */
@@ -202,6 +211,12 @@ function shown(ranges) {
   const words = ranges.map(([first, last]) =>
     first === last ? quoted(first) : `${quoted(first)}-${quoted(last)}`);
   return words.join(" ") || "the end";
+}
+
+/** Returns the ranges of characters that an answer `next` of a session has. */
+export function rangesOf(answer) {
+  const ranges = answer.matchAll(/"((?:[^"\\]|\\.)*)"(?:-"((?:[^"\\]|\\.)*)")?/gsu);
+  return [...ranges].map(([, first, last]) => [unquoted(first), unquoted(last ?? first)]);
 }
 
 /** A sheet that was read, checked and opened. */
@@ -317,8 +332,7 @@ export class Sheet {
     const told = this.#call("xsugar_session", encoded(script));
     const line = /\nnext(.*)\n$/u.exec(decoded(told.bytes));
     if (told.status !== 0 || line === null) return null;
-    const ranges = line[1].matchAll(/"((?:[^"\\]|\\.)*)"(?:-"((?:[^"\\]|\\.)*)")?/gsu);
-    return [...ranges].map(([, first, last]) => [unquoted(first), unquoted(last ?? first)]);
+    return rangesOf(line[1]);
   }
 
   #call(name, ...given) {
@@ -370,9 +384,9 @@ export class Sheet {
 export class Xsugar {
   #core;
 
-  /** @param {WebAssembly.Exports} calls */
-  constructor(calls) {
-    this.#core = new Core(calls);
+  /** @param {Core} core */
+  constructor(core) {
+    this.#core = core;
   }
 
   /**
@@ -406,9 +420,13 @@ export class Xsugar {
  * Makes an instance of the module. Each has a memory of its own, so several workers have one each.
  *
  * @param {Uint8Array | WebAssembly.Module} module the bytes of web/xsugar.wasm, or what was compiled
+ * @param {{megabytes?: number}} options the memory that it takes at most, from 2 to 1,024, as it is
+ *   where nothing is said
  * @returns {Promise<Xsugar>}
  */
-export async function load(module) {
+export async function load(module, { megabytes = PAGES.maximum / PAGES_OF_MEGABYTE } = {}) {
   const compiled = module instanceof WebAssembly.Module ? module : await WebAssembly.compile(module);
-  return new Xsugar((await WebAssembly.instantiate(compiled)).exports);
+  const memory = new WebAssembly.Memory({ ...PAGES, maximum: megabytes * PAGES_OF_MEGABYTE });
+  const { exports } = await WebAssembly.instantiate(compiled, { env: { memory } });
+  return new Xsugar(new Core(exports, memory));
 }

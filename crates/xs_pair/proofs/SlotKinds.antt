@@ -14,7 +14,7 @@ use Rattle.xs_gram.specs.declared.parts.GItem.{GItem}
 use Rattle.xs_gram.specs.declared.parts.GItem.TheVariants.{Fixed, Term, Non, Skip}
 use Rattle.xs_gram.specs.Common.{Kind, of_term, of_non, kinds, lookup}
 use Rattle.xs_pair.specs.declared.mark.Mark.{Mark}
-use Rattle.xs_pair.specs.declared.mark.Mark.TheVariants.{Opening, Attribute, AttributeEnd, Closing, Value, Content}
+use Rattle.xs_pair.specs.declared.mark.Mark.TheVariants.{Value, Content}
 use Rattle.xs_pair.specs.Directories.{IsDistinct}
 use Rattle.xs_pair.specs.Grammars.{Numbering, flat_item, flat_mark, flat_marks, named_item}
 use Rattle.xs_pair.specs.Marks.{item_slots, mark_slots, slots_of}
