@@ -205,7 +205,7 @@ class Page {
       more.push(openSaid(opened, pane.text), this.#button("Go to the opening", "Shift F8", () => pane.goTo("open")));
     }
     if (expected?.length > 0) {
-      more.push("May come here:", ...suggestions(expected, (it) => pane.type(offset, offset, it)));
+      more.push("May come here:", ...this.#suggestions(expected, offset));
     } else if (expected !== null) {
       more.push("Nothing but the end may come here.");
     }
@@ -225,7 +225,8 @@ class Page {
   #saySheet(refusal) {
     for (const it of Object.values(this.panes)) it.mark([]);
     element("said").textContent = "The sheet is not accepted, so nothing is translated.";
-    element("more").replaceChildren(said(refusal), this.#button("Go there", "F8", () => this.#goToWrong()));
+    const why = element("source").hidden ? [said(refusal)] : [];
+    element("more").replaceChildren(...why, this.#button("Go there", "F8", () => this.#goToWrong()));
     element("sheet-said").className = "wrong";
     element("sheet-said").textContent = said(refusal);
     this.source.mark(sheetMarks(refusal, (line) => lineSpan(this.source.text, line)));
@@ -286,13 +287,19 @@ class Page {
     this.source.reveal("here");
   }
 
+  /** Makes buttons that type characters into the text. */
+  #suggestions(ranges, at) {
+    const closing = this.productions?.fences.map(([, right]) => right);
+    return suggestions(ranges, closing, (it) => this.panes.text.type(at, at, it));
+  }
+
   /** Offers what may come next at the cursor of the text. */
   async #suggest() {
     const pane = this.panes.text;
     const at = pane.cursor;
     const told = await this.translator.ask("next", { source: this.#sheet, text: pane.text.slice(0, at) });
     if (told === STALE || told.refusal) return;
-    const chips = told.answer === null ? [] : suggestions(told.answer, (it) => pane.type(at, at, it));
+    const chips = told.answer === null ? [] : this.#suggestions(told.answer, at);
     const words = chips.length > 0 ? "May come at the cursor:" : "Nothing may come at the cursor.";
     element("more").replaceChildren(words, ...chips);
     element("more").querySelector("button, summary")?.focus();
