@@ -73,8 +73,8 @@ export class SuspectError extends SheetError {
  * The document is not of the sheet's language. Its first `symbols` symbols begin some document of it,
  * and what stands at `line`, `column` and `offset` does not fit. Of a text, `expected` are the ranges
  * of the characters that can stand there, as pairs of the first and the last; none where only the end
- * can. It is null of XML, and where the text is too long to ask. `offset` is null where the text was
- * taken in a normal form.
+ * can. It is null of XML, and where the text is too long to ask. `offset` is null where a normal
+ * form made another text of it.
  */
 export class ForeignError extends XsugarError {
   /**

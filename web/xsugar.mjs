@@ -380,7 +380,7 @@ export class Sheet {
     const expected = isText ? this.next(counted.slice(markLength(counted), offset)) : null;
     const said = expected === null ? "not expected here" : `expected ${shown(expected)}`;
     const message = `line ${place.line}, column ${place.column}: ${said}`;
-    if (form !== "asis") place.offset = null;
+    if (counted !== document) place.offset = null;
     return new ForeignError(status, report, message, symbols, place, expected);
   }
 }
