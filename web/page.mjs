@@ -19,6 +19,7 @@ const OWN = "own";
 const CALM = 200;
 const OTHER = { text: "xml", xml: "text" };
 const ENDINGS = { text: ".txt", xml: ".xml", source: ".xsugar" };
+const ENDING = /\.(?:txt|xml|xsugar)$/u;
 
 const element = (id) => document.getElementById(id);
 
@@ -58,6 +59,8 @@ class Page {
   /** Whether both panes have one document. */
   isSettled = false;
   focused = this.panes.text;
+  /** The name of the file that was opened last, without its ending. */
+  name = "document";
   #calm = { long: new Calm(), rows: new Calm(), check: new Calm(), keep: new Calm(), cursor: new Calm() };
 
   constructor(script, bytes) {
@@ -169,8 +172,8 @@ class Page {
     this.#stale(null);
     for (const it of Object.values(this.panes)) it.mark([]);
     element("message").className = "";
-    element("said").textContent = `Translated, in ${Math.max(1, Math.round(time))} ms.`;
-    element("more").replaceChildren();
+    element("said").textContent = "Translated.";
+    element("more").replaceChildren(`It took ${Math.max(1, Math.round(time))} ms.`);
     this.#calm.rows.run(() => this.#outline());
   }
 
@@ -205,7 +208,7 @@ class Page {
       more.push(openSaid(opened, pane.text), this.#button("Go to the opening", "Shift F8", () => pane.goTo("open")));
     }
     if (expected?.length > 0) {
-      more.push("May come here:", ...suggestions(expected, (it) => pane.type(offset, offset, it)));
+      more.push("May come here:", ...this.#suggestions(expected, offset));
     } else if (expected !== null) {
       more.push("Nothing but the end may come here.");
     }
@@ -225,7 +228,8 @@ class Page {
   #saySheet(refusal) {
     for (const it of Object.values(this.panes)) it.mark([]);
     element("said").textContent = "The sheet is not accepted, so nothing is translated.";
-    element("more").replaceChildren(said(refusal), this.#button("Go there", "F8", () => this.#goToWrong()));
+    const why = element("source").hidden ? [said(refusal)] : [];
+    element("more").replaceChildren(...why, this.#button("Go there", "F8", () => this.#goToWrong()));
     element("sheet-said").className = "wrong";
     element("sheet-said").textContent = said(refusal);
     this.source.mark(sheetMarks(refusal, (line) => lineSpan(this.source.text, line)));
@@ -249,7 +253,8 @@ class Page {
   async #outline() {
     if (!this.isSettled || (element("outline").hidden && element("diagrams").hidden)) return;
     const [text, xml] = [this.panes.text.text, this.panes.xml.text];
-    const given = { source: this.#sheet, text, xml };
+    const form = this.state.side === "text" ? this.state.form : "asis";
+    const given = { source: this.#sheet, text, form, xml };
     const told = await this.reader.ask("rows", given);
     if (told === STALE || !this.isSettled || xml !== this.panes.xml.text) return;
     this.outline.rows = told.answer ?? [];
@@ -286,13 +291,19 @@ class Page {
     this.source.reveal("here");
   }
 
+  /** Makes buttons that type characters into the text. */
+  #suggestions(ranges, at) {
+    const closing = this.productions?.fences.map(([, right]) => right);
+    return suggestions(ranges, closing, (it) => this.panes.text.type(at, at, it));
+  }
+
   /** Offers what may come next at the cursor of the text. */
   async #suggest() {
     const pane = this.panes.text;
     const at = pane.cursor;
     const told = await this.translator.ask("next", { source: this.#sheet, text: pane.text.slice(0, at) });
     if (told === STALE || told.refusal) return;
-    const chips = told.answer === null ? [] : suggestions(told.answer, (it) => pane.type(at, at, it));
+    const chips = told.answer === null ? [] : this.#suggestions(told.answer, at);
     const words = chips.length > 0 ? "May come at the cursor:" : "Nothing may come at the cursor.";
     element("more").replaceChildren(words, ...chips);
     element("more").querySelector("button, summary")?.focus();
@@ -323,6 +334,7 @@ class Page {
       element("said").textContent = `${file.name} is not UTF-8. Save it as UTF-8, and open it again.`;
       return;
     }
+    this.name = file.name.replace(ENDING, "");
     if (file.name.endsWith(".xsugar")) {
       this.state.own = text;
       element("sheet").value = OWN;
@@ -340,7 +352,7 @@ class Page {
     const pane = this.focused;
     const link = document.createElement("a");
     link.href = URL.createObjectURL(new Blob([pane.text], { type: "text/plain" }));
-    link.download = `document${ENDINGS[pane.panel.id]}`;
+    link.download = `${this.name}${ENDINGS[pane.panel.id]}`;
     link.click();
     URL.revokeObjectURL(link.href);
   }
@@ -389,6 +401,11 @@ class Page {
     for (const it of document.querySelectorAll("[data-panel]")) {
       it.addEventListener("change", () => this.#show(it.dataset.panel, it.checked));
     }
+    document.addEventListener("dragover", (event) => event.preventDefault());
+    document.addEventListener("drop", (event) => {
+      event.preventDefault();
+      if (event.dataTransfer.files.length > 0) this.#open(event.dataTransfer.files[0]);
+    });
   }
 
   /** What each key does, named as the page shows it. */

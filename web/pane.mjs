@@ -37,12 +37,9 @@ export class Pane {
     return this.area.value;
   }
 
-  /** Puts a text in place of the one that is there, and keeps what is in view. */
+  /** Puts a text in place of the one that is there; what is in view stays there. */
   set text(text) {
-    if (this.area.value === text) return;
-    const { scrollTop } = this.area;
-    this.area.value = text;
-    this.area.scrollTop = scrollTop;
+    if (this.area.value !== text) this.area.value = text;
   }
 
   /** Puts another document into the pane, and the cursor at its front. */

@@ -50,11 +50,12 @@ function list(name, ranges, type) {
  * Makes the buttons of ranges.
  *
  * @param {Ranges} ranges
+ * @param {string[]} closing those that close a bracket, which come first
  * @param {(character: string) => void} type is told which character is clicked
  * @returns {(HTMLElement | string)[]}
  */
-export function suggestions(ranges, type) {
-  const { characters, classes } = grouped(ranges);
+export function suggestions(ranges, closing, type) {
+  const { characters, classes } = grouped(ranges, closing);
   const lists = classes.map((it) => (it === ANY ? it : list(it, ranges, type)));
   return [...characters.map((it) => button(it, type)), ...lists];
 }

@@ -78,10 +78,13 @@ class Translator {
   }
 
   /** Answers the rows of the outline of a text and its XML, or null where it is no text of the sheet. */
-  rows({ source, text, xml }) {
+  rows({ source, text, form, xml }) {
     const { sheet, productions } = this.#opened(source);
-    const line = sheet.session(`put 0 0 ${quoted(text)}\ntree\n`).split("\n")[1];
-    return line.startsWith("(") && productions !== null ? rowsOf(line, productions, xml) : null;
+    const counted = form === "asis" ? text : text.normalize(form.toUpperCase());
+    const line = sheet.session(`put 0 0 ${quoted(counted)}\ntree\n`).split("\n")[1];
+    if (!line.startsWith("(") || productions === null) return null;
+    const rows = rowsOf(line, productions, xml);
+    return counted === text ? rows : rows.map((it) => ({ ...it, text: null }));
   }
 }
 
