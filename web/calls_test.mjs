@@ -1,7 +1,10 @@
 /** Tests the calls of xsugar.mjs over web/xsugar.wasm. Run by web/test-module. */
 import assert from "node:assert/strict";
-import { readFileSync } from "node:fs";
+import { spawnSync } from "node:child_process";
+import { readdirSync, readFileSync } from "node:fs";
 import { test } from "node:test";
+import { fileURLToPath } from "node:url";
+import { inXml, placeOf } from "./places.mjs";
 import * as api from "./xsugar.mjs";
 
 const PAIR = 'xsugar-1\nstart s\nterminal d = /[0-9]/\nignorable w = / */ ""\n'
@@ -104,6 +107,19 @@ test("foreign XML has its place", () => {
   place("<p q='1'><y>7</y></p>", 1, 4, 3);
 });
 
+test("symbols of XML stand where scripts/symbols lists them", (context) => {
+  const top = fileURLToPath(new URL("..", import.meta.url));
+  const listed = (file) => spawnSync("python3", ["scripts/symbols", "xml", file], { cwd: top, encoding: "utf8" });
+  if (listed("examples/dates.xml").error) return context.skip("no python3");
+  for (const name of readdirSync(`${top}/examples`).filter((it) => it.endsWith(".xml"))) {
+    const document = readFileSync(`${top}/examples/${name}`, "utf8");
+    const places = listed(`examples/${name}`).stdout.matchAll(/^\d+: line (\d+), column (\d+): /gmu);
+    const found = [...inXml(document), document.length].map((offset) => placeOf(document, offset));
+    assert.deepEqual(found.map((it) => [it.line, it.column]), [...places].map((it) => [Number(it[1]), Number(it[2])]), name);
+    assert.ok(found.length > 1);
+  }
+});
+
 test("attributes are read in the order of their names", () => {
   const sheet = xsugar.open('xsugar-1\nstart s\nterminal d = /[0-9]/\ns : [d a] [d b] = <s a=[d a] b=[d b]/>\n');
   refuses(() => sheet.toText("<s b='x' a='y'/>"), api.ForeignError, { symbols: 2, offset: 12 });
@@ -118,6 +134,7 @@ test("what is no document is told apart", () => {
   refuses(() => pair.toXml(Uint8Array.of(40, 206, 177, 10, 255)), api.NotUtf8Error, {
     status: 4, report: "input: byte 4: not UTF-8", byte: 4, line: 2, column: 1, offset: 3,
   });
+  refuses(() => pair.toXml("(α\n\ud835"), api.NotUtf8Error, { byte: 4, line: 2, column: 1, offset: 3 });
   refuses(() => pair.toXml(" ".repeat(1_048_577)), api.TooLongError, { status: 7 });
   refuses(() => pair.fromTree('0 tree 1\n1 a "3"\n'), api.OutlineError, { status: 11, line: 3 });
   refuses(() => pair.session("put\n"), api.ScriptError, { status: 10, line: 1 });

@@ -57,8 +57,13 @@ const PAGES_OF_MEGABYTE = 16;
 const ENCODER = new TextEncoder();
 const DECODER = new TextDecoder("utf-8", { ignoreBOM: true });
 
+/** Returns the bytes of a document. Where a string has half a pair of units, the first becomes no UTF-8. */
 function encoded(document) {
-  return typeof document === "string" ? ENCODER.encode(document) : document;
+  if (typeof document !== "string") return document;
+  const bytes = ENCODER.encode(document);
+  const half = document.search(/\p{Surrogate}/u);
+  if (half >= 0) bytes[ENCODER.encode(document.slice(0, half)).length] = 0xff;
+  return bytes;
 }
 
 function decoded(document) {
