@@ -109,7 +109,9 @@ export class Diagrams {
     const xml = drawn("text", { class: "xml", x: TRACK.left, y: middle + 27 }, caption(production));
     const ground = drawn("rect", { class: "ground", x: 20, y: top + 1, height: TRACK.height - 4, rx: 4 });
     const group = drawn("g", { class: "track" }, ground, ...boxes, xml);
-    group.addEventListener("click", () => this.choose(production));
+    group.addEventListener("click", (event) => {
+      if (event.target.closest("a") === null) this.choose(production);
+    });
     this.#tracks.set(production.number, group);
     const close = (width, place) => {
       ground.setAttribute("width", width - 24);
@@ -135,15 +137,10 @@ export class Diagrams {
       drawn("text", { x: x + BOX.inset, y: middle + 5 }, word),
     ];
     if (isTerminal) box.push(drawn("title", {}, this.#sheet.terminals.get(item.name)));
-    const group = drawn(kind === "name" ? "a" : "g", { class: kind }, ...box);
-    if (kind === "name") group.addEventListener("click", (event) => this.#follow(event, item.name));
+    const group = kind === "name"
+      ? drawn("a", { class: kind, href: `#rule-${item.name}` }, ...box)
+      : drawn("g", { class: kind }, ...box);
     return { group, width };
-  }
-
-  /** Goes to the diagram of a name. */
-  #follow(event, name) {
-    event.stopPropagation();
-    document.getElementById(`rule-${name}`)?.scrollIntoView({ block: "start" });
   }
 }
 
