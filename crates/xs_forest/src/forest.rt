@@ -65,8 +65,8 @@ impl<'b, L: Label> Forest<'b, L> {
         }
     }
 
-    /// The number of the row that has the label, or None where no row has it. The last row, which is
-    /// asked for most, is found without its hash.
+    /// The number of the row that has the label, or None where no row has it. The last row, which
+    /// is asked for most, is found without its hash.
     ///
     /// It takes constant expected time. The hash has no secret seed, so labels that are chosen for it
     /// can make this linear in the rows, here and in `add_row`.

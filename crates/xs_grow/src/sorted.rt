@@ -68,8 +68,8 @@ fn before(marks: &[(SpanKey, u32)], label: SpanKey) -> usize
     marks.partition_point(|mark| comes_before(mark.0, label))
 }
 
-/// The places up to where a mark ends get the number of the marks before it, but for those that have
-/// theirs.
+/// The places up to where a mark ends get the number of the marks before it, but for those that
+/// have one.
 fn fill(firsts: &mut Vec<usize>, end: u32, k: usize) -> Result<(), Memory>
     ensures { OnOk result (IsFilled firsts.old.items end k firsts.new.items) }
 {
