@@ -1,5 +1,5 @@
 -- What a map's look-ups of a label say of the rows.
-use Rattle.std.proofs.Common.{◌≡◌, ℕ, zero, suc, ◌<◌, Bool, true, false, cond, List, [], ◌∷◌, get_or, slice_get, position, Some, is_some, sym, ◌∙◌, ap, true≢false, arith}
+use Rattle.std.proofs.Common.{◌≡◌, ℕ, zero, suc, ◌-◌, ◌<◌, Bool, true, false, cond, List, [], ◌∷◌, get_or, length, slice_get, position, Some, is_some, sym, ◌∙◌, ap, true≢false, arith}
 use Rattle.std.specs.Borrow.{Bor}
 use Rattle.std.specs.List.{IsDistinct}
 use Rattle.std.specs.Map.{lookup, keys_of}
@@ -15,6 +15,11 @@ module _ {L : Type 0} where
   key_at [] at label has = absurd (none-some _ has.1)
   key_at (e ∷ entries) zero label has = ap (λ p. Some p.0) (same_Some _ _ has.1)
   key_at (e ∷ entries) (suc at) label has = key_at entries at label has
+
+  keys_get : (entries : List (L × Bor (List Alt))) (at : ℕ) (key : L) (alts : Bor (List Alt)) → slice_get entries at ≡ Some (key, alts) → slice_get (keys_of entries) at ≡ Some key
+  keys_get [] at key alts is = absurd (none-some _ is)
+  keys_get (e ∷ entries) zero key alts is = ap (λ p. Some p.0) (same_Some _ _ is)
+  keys_get (e ∷ entries) (suc at) key alts is = keys_get entries at key alts is
 
   row_at : (entries : List (L × Bor (List Alt))) (at : ℕ) (label : L) → slice_get (keys_of entries) at ≡ Some label → HasLabel (rows_of entries) at label
   row_at [] at label is = absurd (none-some _ is)
@@ -55,3 +60,7 @@ module _ {L : Type 0} (eq : L → L → Bool) (itself : (x : L) → eq x x ≡ t
       let keys = keys_of entries in
       let there = position-Some (eq label) keys at label found in
       row_at entries at label (slice_get-get_or keys at label there.0 ∙ ap (λ l. Some l) (sym (same label (get_or keys at label) there.1)))
+
+  -- the last entry's label is that of the last row
+  pub last_has : (same : (x y : L) → eq x y ≡ true → x ≡ y) (entries : List (L × Bor (List Alt))) (label key : L) (alts : Bor (List Alt)) → slice_get entries (length entries - 1) ≡ Some (key, alts) → eq key label ≡ true → HasLabel (rows_of entries) (length entries - 1) label
+  last_has same entries label key alts is equal = row_at entries (length entries - 1) label (keys_get entries (length entries - 1) key alts is ∙ ap (λ l. Some l) (same key label equal))

@@ -2,7 +2,6 @@ ghost use Rattle.std.specs.Prelude.{◌≡◌, ◌↔◌, ◌<◌, ℕ, [], ◌�
 
 use crate::{AddFault, Alt, Label, Row};
 use bumpalo::Bump;
-use bumpalo::collections::into_bump_slice;
 use indexmap::IndexMap;
 use std::alloc::{AllocError, Global};
 use std::marker::Model;
@@ -12,9 +11,8 @@ use xs_class::Memory;
 fn kept<'b>(bump: &'b Bump<Global>, alts: &[Alt]) -> Result<&'b [Alt], AllocError>
     ensures { IfOk result (λ kept. kept.now ≡ alts.now) }
 {
-    let mut list = Vec::with_capacity(bump, alts.len())?;
-    list.extend_from_slice(alts)?;
-    Ok(into_bump_slice(list))
+    let kept = bump.try_alloc_slice_copy(alts)?;
+    Ok(kept)
 }
 
 /// A list of rows with different labels, whose alternatives lie in an arena.
@@ -55,13 +53,29 @@ impl<'b, L: Label> Forest<'b, L> {
         Ok(Forest { bump, rows })
     }
 
-    /// The number of the row that has the label, or None where no row has it.
+    /// The number of the last row, where that has the label.
+    fn last(&self, label: L) -> Option<u64>
+        ensures { MatchOption result (Unit {0}) (λ at. HasLabel self.now at label) }
+    {
+        let (last, _) = self.rows.last()?;
+        if *last == label {
+            Some(self.rows.len() as u64 - 1)
+        } else {
+            None
+        }
+    }
+
+    /// The number of the row that has the label, or None where no row has it. The last row, which
+    /// is asked for most, is found without its hash.
     ///
     /// It takes constant expected time. The hash has no secret seed, so labels that are chosen for it
     /// can make this linear in the rows, here and in `add_row`.
     pub fn find(&self, label: L) -> Option<u64>
         ensures found { MatchOption result ((at : ℕ) → HasLabel self.now at label → ⊥) (λ at. HasLabel self.now at label) }
     {
+        if let Some(last) = self.last(label) {
+            return Some(last);
+        }
         let at = self.rows.get_index_of(&label)?;
         Some(at as u64)
     }

@@ -4,6 +4,7 @@ pub mod Sorting
 pub mod Runnings
 pub mod Gathering
 pub mod Ending
+pub mod Firsts
 pub mod Charting
 pub mod Numbering
 pub mod Growing

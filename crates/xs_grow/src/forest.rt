@@ -127,10 +127,9 @@ fn find(alloc: Global, g: &Gram, chart: &Chart, doc: &Word) -> Result<Found, Mem
 {
     let wholes = wholes_of(alloc, g, chart, doc)?;
     let splits = splits_of(alloc, g, chart, doc, &wholes)?;
-    Ok(Found {
-        wholes: Sorted::of(wholes),
-        splits: Sorted::of(splits),
-    })
+    let wholes = Sorted::of(alloc, wholes)?;
+    let splits = Sorted::of(alloc, splits)?;
+    Ok(Found { wholes, splits })
 }
 
 /// The forest of a document by what was read from its chart.

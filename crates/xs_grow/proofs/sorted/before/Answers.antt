@@ -7,8 +7,8 @@ use Rattle.xs_grow.specs.Sorted.{compare}
 use Rattle.xs_grow.proofs.Sorting.{parted, none_before}
 use Rattle.xs_grow.proofs.sorted.before.Goals as goal
 
-pub returns : goal.returns
-returns c = λ k n lt at.
+pub returns-clause-before : goal.returns-clause-before
+returns-clause-before c = λ k n lt at.
     let marks = c.args.marks.now in
     let label = c.args.label in
     let mark : SpanKey × ℕ = (label, n) in

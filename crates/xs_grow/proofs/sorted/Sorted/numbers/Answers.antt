@@ -15,7 +15,7 @@ returns-then-comes_before c =
     let k = c.marks.k in
     let mark = c.index.result.now in
     let at = mark_read c.self.inside.marks.items marks k mark c.self.view_is (omega (arith, len_is c.self.inside.marks)) c.index.ensures in
-    let ordered = subst (λ (z : List (SpanKey × ℕ)). AreInOrder z) c.self.view_is c.self.invariant in
+    let ordered = subst (λ (z : List (SpanKey × ℕ)). AreInOrder z) c.self.view_is c.self.invariant.0 in
     numbers_all marks label k c.args.out.now.items c.marks.out.items (none_after marks label k mark ordered at (sym c.comes_before.ensures ∙ c.if-comes_before.true)) c.marks.invariant
 
 pub marks-preserved : goal.marks-preserved
