@@ -92,8 +92,13 @@ test("an offset counts units of a string, a column characters", () => {
 
 test("in a normal form the characters of that form are counted", () => {
   const sheet = xsugar.open("@leiden2");
-  refuses(() => sheet.toXml("<=\n1. ά]\n=>\n", "nfd"), api.ForeignError, { line: 2, column: 6, offset: null });
-  refuses(() => sheet.toXml("<=\n1. ά]\n=>\n", "nfc"), api.ForeignError, { line: 2, column: 5, offset: null });
+  const [composed, apart] = ["<=\n1. \u03ac]\n=>\n", "<=\n1. \u03b1\u0301]\n=>\n"];
+  const place = (text, form, column, offset) =>
+    refuses(() => sheet.toXml(text, form), api.ForeignError, { line: 2, column, offset });
+  place(composed, "nfd", 6, null);
+  place(apart, "nfc", 5, null);
+  place(composed, "nfc", 5, 7);
+  place(apart, "nfd", 6, 8);
 });
 
 test("foreign XML has its place", () => {

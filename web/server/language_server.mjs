@@ -11,6 +11,7 @@ import { diagnosticsOf, diagnosticsOfSheet, otherOf, refusalOf } from "./diagnos
 import { Notation } from "./notation.mjs";
 import { OpenDocument } from "./open_document.mjs";
 import { symbolsOf } from "./symbols.mjs";
+import { tagCompletionsAt } from "./xml_completion.mjs";
 
 const CODE = {
   invalidRequest: -32600, unknownMethod: -32601, invalidParams: -32602, notInitialized: -32002,
@@ -233,8 +234,9 @@ export class LanguageServer {
 
   #complete(params) {
     const document = this.#document(params);
-    if (document.kind !== "text") return null;
-    return completionsAt(document, document.offsetAt(params.position), this.#openedOrRefused());
+    if (document.kind === "sheet") return null;
+    const complete = document.kind === "xml" ? tagCompletionsAt : completionsAt;
+    return complete(document, document.offsetAt(params.position), this.#openedOrRefused());
   }
 
   #outline(params) {

@@ -8,14 +8,9 @@
 import { markLength } from "../places.mjs";
 import { rowsOf } from "../tree.mjs";
 import { quoted } from "../xsugar.mjs";
+import { tagsOf } from "./tags.mjs";
 
 const KIND = { element: 23, word: 15 };
-const VALUED = `(?:"[^"]*"|'[^']*'|[^"'<>])*?`;
-const TAG = new RegExp(
-  `<!--.*?-->|<\\?.*?\\?>|<!\\[CDATA\\[.*?\\]\\]>|<(?<close>/?)(?<name>[^\\s<>/]+${VALUED})\\s*(?<empty>/?)>`,
-  "gsu",
-);
-
 /**
  * Returns the symbols of a text: none where the text is not of the sheet. An element that nothing in
  * the text spells has none.
@@ -32,22 +27,21 @@ function entriesOfText(text, { sheet, productions }) {
   return entries.filter((it) => it.name !== "" && it.begin < it.end);
 }
 
-/** Returns the elements of an XML document, so far as its tags are right. */
+/** Returns the elements of an XML document. */
 function entriesOfXml(text) {
   const entries = [];
   const open = [];
-  for (const it of text.matchAll(TAG)) {
-    const { close, name, empty } = it.groups;
-    const [begin, head] = [it.index, it.index + it[0].length];
-    if (close) {
+  for (const { isClosing, isEmpty, label, begin, end } of tagsOf(text)) {
+    if (isClosing) {
       const opened = open.pop();
-      if (opened) opened.end = head;
-    } else if (name) {
-      const entry = { depth: open.length, name, kind: KIND.element, begin, end: text.length, head };
-      entries.push(entry);
-      if (empty) entry.end = head;
-      else open.push(entry);
+      if (opened) opened.end = end;
+      continue;
     }
+    const entry = { depth: open.length, name: label, kind: KIND.element, begin, end, head: end };
+    entries.push(entry);
+    if (isEmpty) continue;
+    entry.end = text.length;
+    open.push(entry);
   }
   return entries;
 }

@@ -101,7 +101,7 @@ function offer(context) {
   };
   const characters = [...' .[](){}<>="/*|'];
   context.subscriptions.push(
-    vscode.languages.registerCompletionItemProvider("leiden", completions, ...characters),
+    vscode.languages.registerCompletionItemProvider(languages(), completions, ...characters),
     vscode.languages.registerDocumentSymbolProvider(languages(), symbols),
     vscode.languages.registerDocumentFormattingEditProvider(languages(), edits),
   );

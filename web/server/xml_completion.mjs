@@ -1,0 +1,63 @@
+/** Which tags may come next in an XML document. */
+import { inXml } from "../places.mjs";
+import { ForeignError, NotXmlError } from "../xsugar.mjs";
+import { tagsOf } from "./tags.mjs";
+
+const KIND_OF_PROPERTY = 10;
+
+/** Returns the names of the elements that are open at the end of a document, the innermost first. */
+function openAtEnd(xml) {
+  const open = [];
+  for (const { isClosing, isEmpty, name } of tagsOf(xml)) {
+    if (isClosing) open.shift();
+    else if (!isEmpty) open.unshift(name);
+  }
+  return open;
+}
+
+/** Yields the names of the elements that parts of an XML side have. */
+function* namesIn(parts) {
+  for (const { kind, tag, parts: inner } of parts) {
+    if (kind !== "element") continue;
+    yield tag;
+    yield* namesIn(inner);
+  }
+}
+
+/** Returns whether at least the first of so many symbols of a document begin one of the sheet. */
+function begins(sheet, xml, symbols) {
+  try {
+    sheet.toText(xml);
+    return true;
+  } catch (error) {
+    if (error instanceof ForeignError) return error.symbols >= symbols;
+    if (error instanceof NotXmlError) return false;
+    throw error;
+  }
+}
+
+/**
+ * Returns the tags that may come at an offset of an XML document: each is tried, with what is open
+ * closed after it.
+ *
+ * @param {import("./open_document.mjs").OpenDocument} document
+ * @param {number} offset
+ * @param {import("./notation.mjs").Notation} notation
+ */
+export function tagCompletionsAt(document, offset, { sheet, productions }) {
+  const [typed] = /(?:<\/?[^\s<>/]*)?$/u.exec(document.text.slice(0, offset));
+  const before = document.text.slice(0, offset - typed.length);
+  if (productions === null || before.lastIndexOf("<") > before.lastIndexOf(">")) return null;
+  const open = openAtEnd(before);
+  const closed = open.map((it) => `</${it}>`).join("");
+  const next = [...inXml(before)].length + 1;
+  const names = new Set(productions.productions.flatMap(({ xml }) => [...namesIn(xml)]));
+  const may = [...names].sort().filter((it) => begins(sheet, `${before}<${it}></${it}>${closed}`, next));
+  const words = may.map((it) => `<${it}`);
+  if (open.length > 0 && begins(sheet, before + closed, next)) words.unshift(`</${open[0]}>`);
+  const range = document.range(before.length, offset);
+  const items = words.map((newText, place) => ({
+    label: newText, kind: KIND_OF_PROPERTY, sortText: String(place).padStart(3, "0"), textEdit: { range, newText },
+  }));
+  return { isIncomplete: false, items };
+}
