@@ -1,9 +1,9 @@
 #!/usr/bin/env node
 /**
- * The program over web/xsugar.wasm, as tests/run asks a server for it: on standard input its folder,
- * the number of its words and these, a line each. The commands on documents open the sheet of their
- * file and call its methods; the others go through `run`. A file that cannot be read is one that the
- * run does not have.
+ * The program over web/xsugar.wasm, as tests/run asks a server for it: on standard input its
+ * folder, the number of its words and these, a line each. The commands on documents open the sheet
+ * of their file and call its methods; the others go through `run`. A file that cannot be read is
+ * one that the run does not have.
  */
 import { readFileSync, writeFileSync } from "node:fs";
 import { createInterface } from "node:readline";
@@ -26,18 +26,23 @@ function read(name, most) {
 }
 
 /** Returns the method of a sheet that does a command on documents, or null where it is none. */
-function method([verb, , ...rest]) {
-  const [first, second, third] = rest;
-  const isFormed = FORMS.includes(second) && third === undefined;
-  if (verb === "to-xml" && FORMS.includes(first) && rest.length < 2) return (sheet, text) => sheet.toXml(text, first);
-  if (verb === "to-text" && rest.length === 0) return (sheet, xml) => sheet.toText(xml);
-  if (verb === "round" && first === "xml" && rest.length === 1) return (sheet, xml) => sheet.roundXml(xml);
-  if (verb === "round" && first === "text" && isFormed) return (sheet, text) => sheet.roundText(text, second);
-  if (verb === "to-tree" && first === "xml" && rest.length === 1) return (sheet, xml) => sheet.toTree(xml, "xml");
-  if (verb === "to-tree" && first === "text" && isFormed) return (sheet, text) => sheet.toTree(text, "text", second);
-  if (verb === "from-tree" && SIDES.includes(first) && rest.length === 1) return (sheet, outline) => sheet.fromTree(outline, first);
-  if (verb === "session" && rest.length === 0) return (sheet, script) => sheet.session(script);
-  return null;
+function method([verb, , first, ...rest]) {
+  const isAlone = rest.length === 0;
+  const [form] = rest;
+  const isFormed = rest.length < 2 && FORMS.includes(form);
+  switch (verb) {
+    case "to-xml": return isAlone && FORMS.includes(first) ? (sheet, it) => sheet.toXml(it, first) : null;
+    case "to-text": return first === undefined ? (sheet, it) => sheet.toText(it) : null;
+    case "round":
+      if (first === "xml" && isAlone) return (sheet, it) => sheet.roundXml(it);
+      return first === "text" && isFormed ? (sheet, it) => sheet.roundText(it, form) : null;
+    case "to-tree":
+      if (first === "xml" && isAlone) return (sheet, it) => sheet.toTree(it, "xml");
+      return first === "text" && isFormed ? (sheet, it) => sheet.toTree(it, "text", form) : null;
+    case "from-tree": return isAlone && SIDES.includes(first) ? (sheet, it) => sheet.fromTree(it, first) : null;
+    case "session": return first === undefined ? (sheet, it) => sheet.session(it) : null;
+    default: return null;
+  }
 }
 
 /** Opens the sheet and does the work. */
@@ -59,7 +64,8 @@ function byRun(words, document) {
     said[at] = found === null ? "gone" : kind;
     files[kind] = found ?? "";
   };
-  if (words.length > 1 && !words[1].startsWith("@") && !["sheet", "make"].includes(words[0])) name("sheet", 1);
+  const hasSheet = words.length > 1 && !["sheet", "make"].includes(words[0]);
+  if (hasSheet && !words[1].startsWith("@")) name("sheet", 1);
   if (words.length === 4 && words[0] === "check" && words[2] === "cert") name("certificate", 3);
   return xsugar.run(said, files);
 }
@@ -82,7 +88,8 @@ function ran(folder, words) {
   return told.status;
 }
 
-const lines = createInterface({ input: process.stdin.setEncoding("latin1"), crlfDelay: Infinity })[Symbol.asyncIterator]();
+const input = createInterface({ input: process.stdin.setEncoding("latin1"), crlfDelay: Infinity });
+const lines = input[Symbol.asyncIterator]();
 const line = async () => (await lines.next()).value;
 
 for (let folder = await line(); folder !== undefined; folder = await line()) {

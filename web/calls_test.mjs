@@ -1,7 +1,10 @@
 /** Tests the calls of xsugar.mjs over web/xsugar.wasm. Run by web/test-module. */
 import assert from "node:assert/strict";
-import { readFileSync } from "node:fs";
+import { spawnSync } from "node:child_process";
+import { readdirSync, readFileSync } from "node:fs";
 import { test } from "node:test";
+import { fileURLToPath } from "node:url";
+import { inXml, placeOf } from "./places.mjs";
 import * as api from "./xsugar.mjs";
 
 const PAIR = 'xsugar-1\nstart s\nterminal d = /[0-9]/\nignorable w = / */ ""\n'
@@ -89,8 +92,13 @@ test("an offset counts units of a string, a column characters", () => {
 
 test("in a normal form the characters of that form are counted", () => {
   const sheet = xsugar.open("@leiden2");
-  refuses(() => sheet.toXml("<=\n1. ά]\n=>\n", "nfd"), api.ForeignError, { line: 2, column: 6, offset: null });
-  refuses(() => sheet.toXml("<=\n1. ά]\n=>\n", "nfc"), api.ForeignError, { line: 2, column: 5, offset: null });
+  const [composed, apart] = ["<=\n1. \u03ac]\n=>\n", "<=\n1. \u03b1\u0301]\n=>\n"];
+  const place = (text, form, column, offset) =>
+    refuses(() => sheet.toXml(text, form), api.ForeignError, { line: 2, column, offset });
+  place(composed, "nfd", 6, null);
+  place(apart, "nfc", 5, null);
+  place(composed, "nfc", 5, 7);
+  place(apart, "nfd", 6, 8);
 });
 
 test("foreign XML has its place", () => {
@@ -102,6 +110,19 @@ test("foreign XML has its place", () => {
   place("<p><y><![CDATA[7x]]></y></p>", 1, 17, 16);
   place("<p><y>&#x37;&lt;</y></p>", 1, 13, 12);
   place("<p q='1'><y>7</y></p>", 1, 4, 3);
+});
+
+test("symbols of XML stand where scripts/symbols lists them", (context) => {
+  const top = fileURLToPath(new URL("..", import.meta.url));
+  const listed = (file) => spawnSync("python3", ["scripts/symbols", "xml", file], { cwd: top, encoding: "utf8" });
+  if (listed("examples/dates.xml").error) return context.skip("no python3");
+  for (const name of readdirSync(`${top}/examples`).filter((it) => it.endsWith(".xml"))) {
+    const document = readFileSync(`${top}/examples/${name}`, "utf8");
+    const places = listed(`examples/${name}`).stdout.matchAll(/^\d+: line (\d+), column (\d+): /gmu);
+    const found = [...inXml(document), document.length].map((offset) => placeOf(document, offset));
+    assert.deepEqual(found.map((it) => [it.line, it.column]), [...places].map((it) => [Number(it[1]), Number(it[2])]), name);
+    assert.ok(found.length > 1);
+  }
 });
 
 test("attributes are read in the order of their names", () => {
@@ -118,6 +139,7 @@ test("what is no document is told apart", () => {
   refuses(() => pair.toXml(Uint8Array.of(40, 206, 177, 10, 255)), api.NotUtf8Error, {
     status: 4, report: "input: byte 4: not UTF-8", byte: 4, line: 2, column: 1, offset: 3,
   });
+  refuses(() => pair.toXml("(α\n\ud835"), api.NotUtf8Error, { byte: 4, line: 2, column: 1, offset: 3 });
   refuses(() => pair.toXml(" ".repeat(1_048_577)), api.TooLongError, { status: 7 });
   refuses(() => pair.fromTree('0 tree 1\n1 a "3"\n'), api.OutlineError, { status: 11, line: 3 });
   refuses(() => pair.session("put\n"), api.ScriptError, { status: 10, line: 1 });

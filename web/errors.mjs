@@ -36,8 +36,9 @@ export class XsugarError extends Error {
 }
 
 /**
- * The sheet is not accepted. Where its syntax is wrong, `byte`, `line`, `column` and `offset` are the
- * place; where it breaks a rule, `line`; where a production is too large, `weight`; else all are null.
+ * The sheet is not accepted. Where its syntax is wrong, `byte`, `line`, `column` and `offset` are
+ * the place; where it breaks a rule, `line`; where a production is too large, `weight`; else all
+ * are null.
  */
 export class SheetError extends XsugarError {
   byte = null;
@@ -48,9 +49,10 @@ export class SheetError extends XsugarError {
 }
 
 /**
- * The sheet may be ambiguous. `side` ("text" or "xml") and `production` are those of a production, and
- * `lines` has its line; or two lines of productions that share the one word of `words`. Where the
- * production can be cut in two ways after `cut` items, `words` are three. `line` is the first of `lines`.
+ * The sheet may be ambiguous. `side` ("text" or "xml") and `production` are those of a production,
+ * and `lines` has its line; or two lines of productions that share the one word of `words`. Where
+ * the production can be cut in two ways after `cut` items, `words` are three. `line` is the first
+ * of `lines`.
  */
 export class SuspectError extends SheetError {
   constructor(status, report) {
@@ -70,11 +72,11 @@ export class SuspectError extends SheetError {
 }
 
 /**
- * The document is not of the sheet's language. Its first `symbols` symbols begin some document of it,
- * and what stands at `line`, `column` and `offset` does not fit. Of a text, `expected` are the ranges
- * of the characters that can stand there, as pairs of the first and the last; none where only the end
- * can. It is null of XML, and where the text is too long to ask. `offset` is null where a normal
- * form made another text of it.
+ * The document is not of the sheet's language. Its first `symbols` symbols begin some document of
+ * it, and what stands at `line`, `column` and `offset` does not fit. Of a text, `expected` are the
+ * ranges of the characters that can stand there, as pairs of the first and the last; none where
+ * only the end can. It is null of XML, and where the text is too long to ask. `offset` is null
+ * where a normal form made another text of it.
  */
 export class ForeignError extends XsugarError {
   /**
@@ -88,7 +90,7 @@ export class ForeignError extends XsugarError {
   }
 }
 
-/** The document is not XML of the profile; what stands at `line`, `column` and `offset` is not legal. */
+/** The document is not XML of the profile: what stands at `line` and `column` is not legal. */
 export class NotXmlError extends XsugarError {
   /**
    * @param {number} characters how many characters of the document are of legal pieces
@@ -100,7 +102,7 @@ export class NotXmlError extends XsugarError {
   }
 }
 
-/** The document is not UTF-8: its first `byte` bytes are, and end at `line`, `column` and `offset`. */
+/** The document is not UTF-8: its first `byte` bytes are, and end at `line` and `column`. */
 export class NotUtf8Error extends XsugarError {
   /**
    * @param {number} byte

@@ -1,9 +1,9 @@
 /* The heap of the WebAssembly module: what the core takes, resizes and frees.
  *
- * The memory is a row of blocks, counted in units of 16 bytes. A block begins with its size and that of
- * the block before it, so a block that is freed is joined with free neighbours at once. Free blocks
- * are listed by size: a bin for each size below 16 units, and 8 bins for each power of two above. A
- * used block of no size ends the row; it moves on where the memory grows.
+ * The memory is a row of blocks, counted in units of 16 bytes. A block begins with its size and
+ * that of the block before it, so a block that is freed is joined with free neighbours at once.
+ * Free blocks are listed by size: a bin for each size below 16 units, and 8 bins for each power of
+ * two above. A used block of no size ends the row; it moves on where the memory grows.
  */
 typedef __UINT32_TYPE__ u32;
 typedef __UINT64_TYPE__ u64;
@@ -181,7 +181,7 @@ static block *grown(u32 size) {
     return it;
 }
 
-/* Makes the row: a used block, so that none in a list is at the place 0, a free one, and the end. */
+/* Makes the row: a used block, so that no block in a list stands at 0, a free one, and the end. */
 static _Bool start(void) {
     u64 at = ((u64)memory_begin() + UNIT - 1) & ~(u64)(UNIT - 1);
     if (memory_size() < at + 4 * UNIT && !memory_grow(1))

@@ -1,6 +1,6 @@
-/* Tests by themselves what the module has that is not proved. The heap, over a memory that ends: blocks
- * are taken, resized and freed at random, with marks in them that have to stay, and what the row of
- * blocks keeps to is looked at. And products of 128 bits, against those of the machine. */
+/* Tests by themselves what the module has that is not proved. The heap, over a memory that ends:
+ * blocks are taken, resized and freed at random, with marks in them that have to stay, and what the
+ * row of blocks keeps to is looked at. And products of 128 bits, against those of the machine. */
 #include <stdint.h>
 #include <stdio.h>
 #include <stdlib.h>

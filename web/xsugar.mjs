@@ -9,8 +9,8 @@
  *     sheet.close();
  *
  * A document is a string or a Uint8Array of UTF-8, and its answer is of the same type. What is
- * refused is thrown, as one of the classes of errors.mjs. After any of them, want of memory too, the
- * module and its open sheets go on.
+ * refused is thrown, as one of the classes of errors.mjs. After any of them, want of memory too,
+ * the module and its open sheets go on.
  *
  * @typedef {string | Uint8Array} Document
  * @typedef {"text" | "xml"} Side
@@ -50,15 +50,22 @@ const ANSWER = { size: 32, length: 8, place: 16, kind: 24 };
 const BYTES = { size: 16, length: 8 };
 const SHEET = { size: 16 };
 
-/** The memory of an instance at first, and at most unless `load` is told less, in pages of 64 KiB. */
+/**
+ * The memory of an instance at first, and at most unless `load` is told less, in pages of 64 KiB.
+ */
 const PAGES = { initial: 32, maximum: 16384 };
 const PAGES_OF_MEGABYTE = 16;
 
 const ENCODER = new TextEncoder();
 const DECODER = new TextDecoder("utf-8", { ignoreBOM: true });
 
+/** Returns the bytes of a document; half a pair of units of a string becomes no UTF-8. */
 function encoded(document) {
-  return typeof document === "string" ? ENCODER.encode(document) : document;
+  if (typeof document !== "string") return document;
+  const bytes = ENCODER.encode(document);
+  const half = document.search(/\p{Surrogate}/u);
+  if (half >= 0) bytes[ENCODER.encode(document.slice(0, half)).length] = 0xff;
+  return bytes;
 }
 
 function decoded(document) {
@@ -322,7 +329,8 @@ export class Sheet {
 
   /**
    * Returns the ranges of the characters that can come after a text, as pairs of the first and the
-   * last: none where only the end can, null where the text begins no document, or is too long to ask.
+   * last: none where only the end can, null where the text begins no document, or is too long to
+   * ask.
    *
    * @param {string} text
    * @returns {[string, string][] | null}
@@ -401,8 +409,8 @@ export class Xsugar {
   }
 
   /**
-   * Runs a command as the program does. The words that name its files are `sheet` and `certificate`,
-   * as in `run(["check", "sheet"], {sheet})`; the document is its input.
+   * Runs a command as the program does. The words that name its files are `sheet` and
+   * `certificate`, as in `run(["check", "sheet"], {sheet})`; the document is its input.
    *
    * @param {string[]} words
    * @param {{sheet?: Document, certificate?: Document, document?: Document}} files
