@@ -5,8 +5,11 @@
  * @typedef {import("./worker.mjs").Refusal} Refusal
  * @typedef {"text" | "xml"} Side
  */
+import { Calm } from "./calm.mjs";
 import { Desk, STALE } from "./desk.mjs";
 import { Diagrams } from "./diagrams.mjs";
+import { opened, save } from "./files.mjs";
+import { button, Message } from "./message.mjs";
 import { OutlineView } from "./outline.mjs";
 import { lineSpan, Pane } from "./pane.mjs";
 import { productionAt, productionsOf } from "./productions.mjs";
@@ -15,27 +18,9 @@ import { keep, kept } from "./storage.mjs";
 import { suggestions } from "./suggestions.mjs";
 
 const OWN = "own";
-/** How long nothing is asked for before what is not urgent is done, in milliseconds. */
-const CALM = 200;
 const OTHER = { text: "xml", xml: "text" };
-const ENDINGS = { text: ".txt", xml: ".xml", source: ".xsugar" };
-const ENDING = /\.(?:txt|xml|xsugar)$/u;
 
 const element = (id) => document.getElementById(id);
-
-/** Runs what was asked for last, once nothing was asked for some time. */
-class Calm {
-  #timer = 0;
-
-  run(work) {
-    clearTimeout(this.#timer);
-    this.#timer = setTimeout(work, CALM);
-  }
-
-  stop() {
-    clearTimeout(this.#timer);
-  }
-}
 
 /** Begins a worker over the core that the page holds. */
 function startWorker(script, bytes) {
@@ -51,6 +36,7 @@ class Page {
   shelf = JSON.parse(element("shelf").textContent);
   panes = { text: new Pane(element("text")), xml: new Pane(element("xml")) };
   source = new Pane(element("source"));
+  message = new Message(element("message"));
   outline = new OutlineView(element("outline"), (row) => this.#showRow(row));
   diagrams = new Diagrams(element("diagrams"), (production) => this.#showProduction(production));
   /** What is kept: the sheet's name, one's own sheet, the side that was typed, its document, and so on. */
@@ -106,7 +92,7 @@ class Page {
     this.source.text = this.#sheet;
     this.source.mark([]);
     element("sheet-said").textContent = "";
-    element("example").disabled = this.#example === undefined;
+    element("example").disabled = !this.#example;
     this.#readSheet();
     this.#translate();
   }
@@ -148,7 +134,7 @@ class Page {
     this.isSettled = false;
     this.#calm.keep.run(() => this.#keep());
     const given = { source: this.#sheet, side, document: state.document, form };
-    this.#calm.long.run(() => this.#saySlow());
+    this.#calm.long.run(() => this.message.wait());
     const told = await this.translator.ask("translate", given);
     if (told === STALE || side !== state.side) return;
     this.#calm.long.stop();
@@ -161,19 +147,11 @@ class Page {
     this.#accepted(performance.now() - begin);
   }
 
-  #saySlow() {
-    element("message").className = "";
-    element("said").textContent = "Reading the sheet and the document ..";
-    element("more").replaceChildren();
-  }
-
   #accepted(time) {
     this.isSettled = true;
     this.#stale(null);
     for (const it of Object.values(this.panes)) it.mark([]);
-    element("message").className = "";
-    element("said").textContent = "Translated.";
-    element("more").replaceChildren(`It took ${Math.max(1, Math.round(time))} ms.`);
+    this.message.accept(time);
     this.#calm.rows.run(() => this.#outline());
   }
 
@@ -193,43 +171,33 @@ class Page {
   #say(refusal) {
     const { side } = this.state;
     const pane = this.panes[side];
-    element("message").className = "wrong";
     if (isOfSheet(refusal)) {
       this.#saySheet(refusal);
       return;
     }
-    element("said").textContent = said(refusal, side, pane.text);
     const { offset = null, expected = null, opened = null } = refusal;
     const marks = offset === null ? [] : [{ begin: offset, end: characterEnd(pane.text, offset), kind: "wrong" }];
     const more = [];
-    if (offset !== null) more.push(this.#button("Go there", "F8", () => this.#goToWrong()));
+    if (offset !== null) more.push(button("Go there", "F8", () => this.#goToWrong()));
     if (opened !== null) {
       marks.push({ ...opened, kind: "open" });
-      more.push(openSaid(opened, pane.text), this.#button("Go to the opening", "Shift F8", () => pane.goTo("open")));
+      more.push(openSaid(opened, pane.text), button("Go to the opening", "Shift F8", () => pane.goTo("open")));
     }
     if (expected?.length > 0) {
       more.push("May come here:", ...this.#suggestions(expected, offset));
     } else if (expected !== null) {
       more.push("Nothing but the end may come here.");
     }
-    element("more").replaceChildren(...more);
+    this.message.refuse(said(refusal, side, pane.text), ...more);
     pane.mark(marks);
-  }
-
-  #button(words, key, work) {
-    const it = document.createElement("button");
-    it.type = "button";
-    it.append(`${words} `, Object.assign(document.createElement("kbd"), { textContent: key }));
-    it.addEventListener("click", work);
-    return it;
   }
 
   /** Says a refusal of the sheet, and shows in the sheet why it is refused. */
   #saySheet(refusal) {
     for (const it of Object.values(this.panes)) it.mark([]);
-    element("said").textContent = "The sheet is not accepted, so nothing is translated.";
     const why = element("source").hidden ? [said(refusal)] : [];
-    element("more").replaceChildren(...why, this.#button("Go there", "F8", () => this.#goToWrong()));
+    const go = button("Go there", "F8", () => this.#goToWrong());
+    this.message.refuse("The sheet is not accepted, so nothing is translated.", ...why, go);
     element("sheet-said").className = "wrong";
     element("sheet-said").textContent = said(refusal);
     this.source.mark(sheetMarks(refusal, (line) => lineSpan(this.source.text, line)));
@@ -305,13 +273,11 @@ class Page {
     if (told === STALE || told.refusal) return;
     const chips = told.answer === null ? [] : this.#suggestions(told.answer, at);
     const words = chips.length > 0 ? "May come at the cursor:" : "Nothing may come at the cursor.";
-    element("more").replaceChildren(words, ...chips);
-    element("more").querySelector("button, summary")?.focus();
+    this.message.offer(words, ...chips);
   }
 
   #keep() {
-    element("sheet").value = this.state.sheet;
-    if (!keep(this.state)) element("said").textContent += " The document is too large to be kept in the browser: save it.";
+    if (!keep(this.state)) this.message.offer("The document is too large to be kept in the browser: save it.");
   }
 
   #show(panel, shown) {
@@ -325,36 +291,26 @@ class Page {
 
   /** Opens a file in the pane that its name says. */
   async #open(file) {
-    const bytes = await file.arrayBuffer();
-    let text;
-    try {
-      text = new TextDecoder("utf-8", { fatal: true }).decode(bytes).replaceAll("\r\n", "\n");
-    } catch {
-      element("message").className = "wrong";
-      element("said").textContent = `${file.name} is not UTF-8. Save it as UTF-8, and open it again.`;
+    const { name, kind, text } = await opened(file);
+    if (text === null) {
+      this.message.refuse(`${file.name} is not UTF-8. Save it as UTF-8, and open it again.`);
       return;
     }
-    this.name = file.name.replace(ENDING, "");
-    if (file.name.endsWith(".xsugar")) {
+    this.name = name;
+    if (kind === "source") {
       this.state.own = text;
       element("sheet").value = OWN;
       this.#choose(OWN);
       return;
     }
-    const pane = file.name.endsWith(".xml") ? this.panes.xml : this.panes.text;
-    this.#load(pane, text);
+    this.#load(this.panes[kind], text);
     this.#translate();
-    pane.area.focus();
+    this.panes[kind].area.focus();
   }
 
   /** Saves the pane that the cursor is in, or was in last. */
   #save() {
-    const pane = this.focused;
-    const link = document.createElement("a");
-    link.href = URL.createObjectURL(new Blob([pane.text], { type: "text/plain" }));
-    link.download = `${this.name}${ENDINGS[pane.panel.id]}`;
-    link.click();
-    URL.revokeObjectURL(link.href);
+    save(this.name, this.focused.panel.id, this.focused.text);
   }
 
   #listen() {
@@ -368,6 +324,7 @@ class Page {
       Object.assign(this.state, { sheet: OWN, own: this.source.text });
       element("sheet").value = OWN;
       element("example").disabled = true;
+      this.#calm.keep.run(() => this.#keep());
       this.#calm.check.run(() => this.#checkSheet());
     });
     for (const pane of [...Object.values(this.panes), this.source]) {

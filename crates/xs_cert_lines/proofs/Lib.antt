@@ -5,6 +5,7 @@ pub mod Partners
 pub mod Marking
 pub mod Running
 pub mod Paging
+pub mod Fronts
 pub mod Writing
 pub mod Lanes
 pub mod Feeds

@@ -1,6 +1,7 @@
 // Whole lines, written and read.
-ghost use Rattle.std.specs.Prelude.{◌≡◌, ◌≤◌, [], ◌∷◌, ◌++◌, length, drop, decimal, MatchOption, IfSome, IfNone, OnOk};
+ghost use Rattle.std.specs.Prelude.{◌≡◌, ◌≤◌, [], ◌∷◌, ◌++◌, length, drop, decimal, MatchOption, IfSome, IfNone, OnOk, OnErr};
 ghost use Rattle.xs_cert_lines.specs.Lines.{spaced, ended};
+ghost use Rattle.xs_cert_lines.specs.Pages.{AppendsFront};
 ghost use Rattle.xs_cert_lines.specs.Runs.{GoesOn, IsFrom};
 
 use itoa::Buffer;
@@ -8,7 +9,8 @@ use xs_class::{Bytes, Memory};
 
 /// Appends a space and a number.
 fn push_number(out: &mut Bytes, number: u32) -> Result<(), Memory>
-    ensures { OnOk result (out.new ≡ out.old ++ 32 ∷ decimal number) }
+    ensures ok { OnOk result (out.new ≡ out.old ++ 32 ∷ decimal number) }
+    ensures err { OnErr result (AppendsFront out.old out.new (32 ∷ decimal number)) }
 {
     let mut digits = Buffer::new();
     out.push(b' ')?;
@@ -16,9 +18,10 @@ fn push_number(out: &mut Bytes, number: u32) -> Result<(), Memory>
     Ok(())
 }
 
-/// Appends a line: a text and two numbers.
+/// Appends a line: a text and two numbers; an `Err` leaves some of its front appended.
 pub fn write_pair(out: &mut Bytes, text: &[u8], first: u32, second: u32) -> Result<(), Memory>
-    ensures { OnOk result (out.new ≡ out.old ++ ended (spaced text.now (first ∷ second ∷ []))) }
+    ensures ok { OnOk result (out.new ≡ out.old ++ ended (spaced text.now (first ∷ second ∷ []))) }
+    ensures err { OnErr result (AppendsFront out.old out.new (ended (spaced text.now (first ∷ second ∷ [])))) }
 {
     out.extend(text)?;
     push_number(out, first)?;

@@ -1,9 +1,9 @@
 // Writing the rows of a set.
-ghost use Rattle.std.specs.Prelude.{◌≡◌, ◌+◌, ◌*◌, ◌<◌, ◌≤◌, [], ◌++◌, length, get_or, OnOk, IfOk};
+ghost use Rattle.std.specs.Prelude.{◌≡◌, ◌+◌, ◌*◌, ◌<◌, ◌≤◌, [], ◌++◌, length, get_or, take, OnOk, OnErr, IfOk};
 ghost use Rattle.xs_closed.specs.{places, row_then, rows_of};
 ghost use Rattle.xs_cert_lines.specs.Lines.{written, set_lines};
 ghost use Rattle.xs_cert_lines.specs.Reading.{listed};
-ghost use Rattle.xs_cert_lines.specs.Pages.{Flushes, PutsPartners, Writes};
+ghost use Rattle.xs_cert_lines.specs.Pages.{AppendsFront, Flushes, PutsPartners, Writes};
 
 use crate::page::{put, put_number};
 use xs_class::{Bytes, Memory};
@@ -20,7 +20,8 @@ const ROOM: usize = 728;
 fn with_room(out: &mut Bytes, page: &[u8], at: usize) -> Result<usize, Memory>
     requires page { 728 ≤ length page.now }
     requires within { at ≤ length page.now }
-    ensures { IfOk result (Flushes out.old out.new page.now at) }
+    ensures ok { IfOk result (Flushes out.old out.new page.now at) }
+    ensures err { OnErr result (out.new ≡ out.old) }
 {
     if page.len() - at < ROOM {
         out.extend(&page[..at])?;
@@ -69,6 +70,7 @@ fn put_partners(
     requires room { start + 16 ≤ length page.old }
     ensures text { IfOk result (λ end. Writes out.old page.old start out.new page.new end (listed (places 0 (get_or set.now.rows state [])))) }
     ensures room { IfOk result (λ end. end + 16 ≤ length page.new) }
+    ensures err { OnErr result (AppendsFront out.old out.new (take start page.old ++ listed (places 0 (get_or set.now.rows state [])))) }
 {
     let bound = set.wide();
     let wide = u64::from(bound);
@@ -94,6 +96,7 @@ fn put_row(
     requires within { start ≤ length page.old }
     ensures text { IfOk result (λ end. Writes out.old page.old start out.new page.new end (written (set_lines (row_then state (places 0 (get_or set.now.rows state [])) [])))) }
     ensures within { IfOk result (λ end. end ≤ length page.new) }
+    ensures err { OnErr result (AppendsFront out.old out.new (take start page.old ++ written (set_lines (row_then state (places 0 (get_or set.now.rows state [])) [])))) }
 {
     let Some(_) = set.next(state, 0) else {
         return Ok(start);
@@ -104,11 +107,12 @@ fn put_row(
     Ok(put(page, listed, b'\n'))
 }
 
-/// Appends the rows of a set.
+/// Appends the rows of a set; an `Err` leaves some of their front appended.
 ///
 /// Linear in its bytes and in the words of its table.
 pub fn write_rows(out: &mut Bytes, set: &PairSet) -> Result<(), Memory>
-    ensures { OnOk result (out.new ≡ out.old ++ written (set_lines (rows_of set.now))) }
+    ensures ok { OnOk result (out.new ≡ out.old ++ written (set_lines (rows_of set.now))) }
+    ensures err { OnErr result (AppendsFront out.old out.new (written (set_lines (rows_of set.now)))) }
 {
     let mut page = [0; PAGE];
     let mut at = 0;

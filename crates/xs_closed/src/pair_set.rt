@@ -1,7 +1,7 @@
 mod within;
 mod words;
 
-ghost use Rattle.std.specs.Prelude.{◌≡◌, ℕ, ◌*◌, ◌<◌, ◌≤◌, length, not, false, IfSome, IfNone, OnOk};
+ghost use Rattle.std.specs.Prelude.{◌≡◌, ℕ, ◌*◌, ◌<◌, ◌≤◌, length, not, false, IfSome, IfNone, OnOk, OnErr};
 ghost use Rattle.xs_closed.specs.Rows.{blank, marked, IsSized, Marks, IsNext};
 ghost use Rattle.xs_closed.specs.Lanes.{HasNoRow, IsLane};
 
@@ -47,11 +47,13 @@ impl PairSet {
         }
     }
 
-    /// Takes all pairs out, and sets new bounds for their first and second numbers.
+    /// Takes all pairs out, and sets new bounds for their first and second numbers; an `Err` leaves
+    /// the bound 0 for the first ones.
     ///
     /// Takes time linear in the words up to the last that was used; keeps the memory that it has.
     pub fn reset(&mut self, high: u32, wide: u32) -> Result<(), Memory>
-        ensures { OnOk result (self.new ≡ blank high wide) }
+        ensures ok { OnOk result (self.new ≡ blank high wide) }
+        ensures err { OnErr result (self.new ≡ blank 0 self.old.wide) }
     {
         clear_words(&mut self.words, self.used);
         self.used = 0;

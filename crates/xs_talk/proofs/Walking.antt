@@ -8,7 +8,7 @@ use Rattle.xs_gram.specs.declared.parts.GItem.TheVariants.{Fixed, Term, Non, Ski
 use Rattle.xs_gram.specs.Grammar.{items}
 use Rattle.xs_gram.specs.Derivations.{Parts, fixed, leaf, skip, sub, Derivation, FitsItems}
 use Rattle.xs_gram.specs.Languages.{Derives}
-use Rattle.xs_forest_laws.specs.Walk.{node, leaf_at, skip_at, AreAt}
+use Rattle.xs_forest_laws.specs.Walk.{AreAt}
 use Rattle.xs_listing.specs.declared.spelt.SpeltPart.{SpeltPart}
 use Rattle.xs_listing.specs.declared.spelt.SpeltPart.TheVariants.{Node, Leaf, Skip}
 use Rattle.xs_listing.specs.Spelt.{flat_of, AreInOrder, IsSpeltOf}

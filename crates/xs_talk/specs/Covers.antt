@@ -1,5 +1,5 @@
 -- The lines of the smallest documents for the productions of a sheet.
-use Rattle.std.specs.Prelude.{ℕ, ◌+◌, List, [], ◌∷◌, ◌++◌, codes, decimal, length}
+use Rattle.std.specs.Prelude.{ℕ, ◌+◌, List, [], ◌∷◌, ◌++◌, codes, length}
 use Rattle.xs_talk.specs.declared.covers.Shown.{Shown}
 use Rattle.xs_talk.specs.declared.covers.Shown.TheVariants.{Unreached, Long, Pair}
 use Rattle.xs_talk.specs.Lines.{numbered}

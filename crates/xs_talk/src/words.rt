@@ -1,4 +1,4 @@
-ghost use Rattle.std.specs.Prelude.{◌≡◌, ◌++◌, OnOk, decimal, encode_utf8_all, slice_get};
+ghost use Rattle.std.specs.Prelude.{◌≡◌, ◌++◌, OnOk, OnErr, decimal, encode_utf8_all, slice_get};
 ghost use Rattle.std.specs.Option.{option_map};
 ghost use Rattle.xs_talk.specs.Words.{escaped, character, mark, mark_begin as mark_begin_of, symbol as symbol_of, shown, quoted};
 
@@ -23,9 +23,10 @@ pub fn push_three(out: &mut Bytes, first: &[u8], second: &[u8], third: &[u8]) ->
     Ok(())
 }
 
-/// Appends a number in decimal digits.
+/// Appends a number in decimal digits, or leaves the bytes as they were.
 pub fn push_decimal(out: &mut Bytes, number: u64) -> Result<(), Memory>
-    ensures { OnOk result (out.new ≡ out.old ++ decimal number) }
+    ensures ok { OnOk result (out.new ≡ out.old ++ decimal number) }
+    ensures err { OnErr result (out.new ≡ out.old) }
 {
     let mut digits = Buffer::new();
     out.extend(digits.format(number).as_bytes())?;
@@ -33,16 +34,18 @@ pub fn push_decimal(out: &mut Bytes, number: u64) -> Result<(), Memory>
 }
 
 fn push_escaped(alloc: Global, out: &mut Bytes, number: u32) -> Result<(), Memory>
-    ensures { OnOk result (out.new ≡ out.old ++ escaped number) }
+    ensures ok { OnOk result (out.new ≡ out.old ++ escaped number) }
+    ensures err { OnErr result (out.new ≡ out.old) }
 {
-    let digits = format!(in alloc; "{number:x}")?;
-    push_three(out, b"\\u{", digits.as_bytes(), b"}")?;
+    let whole = format!(in alloc; "\\u{{{number:x}}}")?;
+    out.extend(whole.as_bytes())?;
     Ok(())
 }
 
 /// Appends a character, or a surrogate.
 fn push_character(alloc: Global, out: &mut Bytes, number: u32) -> Result<(), Memory>
-    ensures { OnOk result (out.new ≡ out.old ++ character number) }
+    ensures ok { OnOk result (out.new ≡ out.old ++ character number) }
+    ensures err { OnErr result (out.new ≡ out.old) }
 {
     match number {
         0x22 | 0x3C | 0x3E | 0x5C => push_escaped(alloc, out, number),
@@ -80,22 +83,25 @@ fn name_at(names: &Names, k: u32) -> Option<&str>
 }
 
 /// Appends the mark with this number after the two that are no name's.
-fn push_mark(out: &mut Bytes, names: &Names, number: u32) -> Result<(), Memory>
-    ensures { OnOk result (out.new ≡ out.old ++ mark names.now number) }
+fn push_mark(alloc: Global, out: &mut Bytes, names: &Names, number: u32) -> Result<(), Memory>
+    ensures ok { OnOk result (out.new ≡ out.old ++ mark names.now number) }
+    ensures err { OnErr result (out.new ≡ out.old) }
 {
     match name_at(names, number / 3) {
         Some(name) => {
             let begin = mark_begin(number % 3);
-            push_three(out, begin.as_bytes(), name.as_bytes(), b">")?;
+            let whole = format!(in alloc; "{begin}{name}>")?;
+            out.extend(whole.as_bytes())?;
         }
         None => out.extend(b"<?>")?,
     }
     Ok(())
 }
 
-/// Appends what is shown of a symbol.
+/// Appends what is shown of a symbol, or leaves the bytes as they were.
 pub fn push_symbol(alloc: Global, out: &mut Bytes, names: &Names, symbol: Sym) -> Result<(), Memory>
-    ensures { OnOk result (out.new ≡ out.old ++ symbol_of names.now symbol) }
+    ensures ok { OnOk result (out.new ≡ out.old ++ symbol_of names.now symbol) }
+    ensures err { OnErr result (out.new ≡ out.old) }
 {
     let Sym(number) = symbol;
     match number {
@@ -108,7 +114,7 @@ pub fn push_symbol(alloc: Global, out: &mut Bytes, names: &Names, symbol: Sym) -
             out.extend(b"<?>")?;
             Ok(())
         }
-        _ => push_mark(out, names, number - FIRST_MARK),
+        _ => push_mark(alloc, out, names, number - FIRST_MARK),
     }
 }
 

@@ -18,7 +18,7 @@ seconds-preserved c =
       | then-has+in_ok-write_pair w ↦
           let more = filter_more test first second c.seconds.auto.second (sym c.has.ensures ∙ w.if-has.true) in
           let lines = ap (map share_line) (ap (map (λ k. (first, k))) more ∙ map-append (λ k. (first, k)) before (second ∷ [])) ∙ map-append share_line (map (λ k. (first, k)) before) ((first, second) ∷ []) in
-          adds_line c.args.out.now (map share_line (map (λ k. (first, k)) before)) (share_line (first, second)) c.seconds.invariant (w.out-is ∙ w.in_ok-write_pair.ensures) ∙ ap (λ ls. c.args.out.now ++ written ls) (sym lines)
+          adds_line c.args.out.now (map share_line (map (λ k. (first, k)) before)) (share_line (first, second)) c.seconds.invariant (w.out-is ∙ w.in_ok-write_pair.ensures.ok) ∙ ap (λ ls. c.args.out.now ++ written ls) (sym lines)
       | else-has w ↦
           let same = filter_same test first second c.seconds.auto.second (sym c.has.ensures ∙ w.if-has.false) in
           w.out-is ∙ c.seconds.invariant ∙ ap (λ ks. c.args.out.now ++ written (map share_line (map (λ k. (first, k)) ks))) (sym same)

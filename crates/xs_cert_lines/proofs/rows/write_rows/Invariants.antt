@@ -6,6 +6,7 @@ use Rattle.xs_cert_lines.proofs.rows.write_rows.Given as goal
 abbrev pub invariant-rows : goal.invariant-rows
 invariant-rows l = record {
   text : (l.out ++ take l.at l.page) ++ written (set_lines (rows_from l.state (drop l.state l.set.rows))) ≡ l.fn.out ++ written (set_lines (rows_of l.set));
+  order : length l.fn.out ≤ length l.out;
   size : length l.page ≡ 2048;
   within : l.at ≤ length l.page;
 }

@@ -1,4 +1,4 @@
-use Rattle.std.proofs.Common.{◌≡◌, ◌+◌, ◌++◌, ◌≤◌, drop, length}
+use Rattle.std.proofs.Common.{◌≡◌, ◌+◌, ◌++◌, ◌≤◌, drop}
 use Rattle.xs_talk.specs.Covers.{lines_from, reached}
 use Rattle.xs_talk.proofs.covers.cover_text.Given as goal
 

@@ -17,5 +17,5 @@ returns c =
       set = rows_of c.least_apart.new.set;
       shows = table_shows law r m n _ least c.in_ok-least_apart.ensures c.requires;
       least = table_least law r m n _ least c.in_ok-least_apart.ensures;
-      adds = adds_set c.args.self.now.out (spaced c.args.text.now (c.args.first ∷ c.args.second ∷ [])) (set_lines (rows_of c.least_apart.new.set)) c.in_ok-write_pair.ensures e;
-    }) c.write_rows.ensures
+      adds = adds_set c.args.self.now.out (spaced c.args.text.now (c.args.first ∷ c.args.second ∷ [])) (set_lines (rows_of c.least_apart.new.set)) c.in_ok-write_pair.ensures.ok e;
+    }) c.write_rows.ensures.ok

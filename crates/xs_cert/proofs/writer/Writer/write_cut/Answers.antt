@@ -25,5 +25,5 @@ returns c =
       is_for = refl;
       right = (are, tables_show law r f e s least c.in_ok-least_clear.ensures none);
       least = tables_least law r f e s least c.in_ok-least_clear.ensures;
-      adds = adds_cut c.args.self.now.out (head_line (for_cut c.args.rule c.args.cut)) (set_lines (rows_of s.fronts)) (set_lines (rows_of s.pauses)) (set_lines (rows_of s.middles)) (set_lines (rows_of s.rests)) c.in_ok-write_pair.ensures c.in_ok-extend.ensures.ok c.in_ok-write_rows.ensures c.in_ok-extend-2.ensures.ok c.in_ok-write_rows-2.ensures c.in_ok-extend-3.ensures.ok c.in_ok-write_rows-3.ensures c.in_ok-extend-4.ensures.ok last;
-    }) c.write_rows-4.ensures
+      adds = adds_cut c.args.self.now.out (head_line (for_cut c.args.rule c.args.cut)) (set_lines (rows_of s.fronts)) (set_lines (rows_of s.pauses)) (set_lines (rows_of s.middles)) (set_lines (rows_of s.rests)) c.in_ok-write_pair.ensures.ok c.in_ok-extend.ensures.ok c.in_ok-write_rows.ensures.ok c.in_ok-extend-2.ensures.ok c.in_ok-write_rows-2.ensures.ok c.in_ok-extend-3.ensures.ok c.in_ok-write_rows-3.ensures.ok c.in_ok-extend-4.ensures.ok last;
+    }) c.write_rows-4.ensures.ok

@@ -6,4 +6,4 @@ use Rattle.xs_closed.proofs.FoundLemmas.{found}
 use Rattle.xs_closed.proofs.least.Cut.find_middles.Goals as goal
 
 pub returns : goal.returns
-returns c = found (IsStride (Marked (marked c.args.self.now.related.now)) c.args.self.now.front.now c.args.self.now.rest.now (HasPair c.args.pauses.now)) (Leads (Marked (marked c.args.self.now.related.now)) c.args.self.now.front.now c.args.self.now.rest.now) c.args.self.now.front.now c.args.self.now.rest.now c.len.result c.len-2.result c.in_ok-reset.ensures c.len.ensures c.len-2.ensures c.in_ok-seed_middles.ensures.ok c.in_ok-close.ensures.ok c.in_ok-close.ensures.listed
+returns c = found (IsStride (Marked (marked c.args.self.now.related.now)) c.args.self.now.front.now c.args.self.now.rest.now (HasPair c.args.pauses.now)) (Leads (Marked (marked c.args.self.now.related.now)) c.args.self.now.front.now c.args.self.now.rest.now) c.args.self.now.front.now c.args.self.now.rest.now c.len.result c.len-2.result c.in_ok-reset.ensures.ok c.len.ensures c.len-2.ensures c.in_ok-seed_middles.ensures.ok c.in_ok-close.ensures.ok c.in_ok-close.ensures.listed
