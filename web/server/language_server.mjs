@@ -8,10 +8,10 @@ import { fileURLToPath } from "node:url";
 import { OutOfMemoryError, XsugarError } from "../xsugar.mjs";
 import { completionsAt } from "./completion.mjs";
 import { diagnosticsOf, diagnosticsOfSheet, otherOf, refusalOf } from "./diagnostics.mjs";
+import { tagCompletionsAt } from "./next_tags.mjs";
 import { Notation } from "./notation.mjs";
 import { OpenDocument } from "./open_document.mjs";
 import { symbolsOf } from "./symbols.mjs";
-import { tagCompletionsAt } from "./xml_completion.mjs";
 
 const CODE = {
   invalidRequest: -32600, unknownMethod: -32601, invalidParams: -32602, notInitialized: -32002,

@@ -37,26 +37,32 @@ function begins(sheet, xml, symbols) {
 }
 
 /**
- * Returns the tags that may come at an offset of an XML document: each is tried, with what is open
- * closed after it.
- *
- * @param {import("./open_document.mjs").OpenDocument} document
- * @param {number} offset
- * @param {import("./notation.mjs").Notation} notation
+ * Returns the begins of the tags that may come after the front of an XML document: each is tried, with
+ * what is open closed after it. There are none inside a tag.
  */
-export function tagCompletionsAt(document, offset, { sheet, productions }) {
-  const [typed] = /(?:<\/?[^\s<>/]*)?$/u.exec(document.text.slice(0, offset));
-  const before = document.text.slice(0, offset - typed.length);
-  if (productions === null || before.lastIndexOf("<") > before.lastIndexOf(">")) return null;
+function nextTags(before, { sheet, productions }) {
+  if (productions === null || before.lastIndexOf("<") > before.lastIndexOf(">")) return [];
   const open = openAtEnd(before);
   const closed = open.map((it) => `</${it}>`).join("");
   const next = [...inXml(before)].length + 1;
   const names = new Set(productions.productions.flatMap(({ xml }) => [...namesIn(xml)]));
   const may = [...names].sort().filter((it) => begins(sheet, `${before}<${it}></${it}>${closed}`, next));
-  const words = may.map((it) => `<${it}`);
-  if (open.length > 0 && begins(sheet, before + closed, next)) words.unshift(`</${open[0]}>`);
-  const range = document.range(before.length, offset);
-  const items = words.map((newText, place) => ({
+  const closing = open.length > 0 && begins(sheet, before + closed, next) ? [`</${open[0]}>`] : [];
+  return [...closing, ...may.map((it) => `<${it}`)];
+}
+
+/**
+ * Returns the completions at an offset of an XML document.
+ *
+ * @param {import("./open_document.mjs").OpenDocument} document
+ * @param {number} offset
+ * @param {import("./notation.mjs").Notation} notation
+ */
+export function tagCompletionsAt(document, offset, notation) {
+  const [typed] = /(?:<\/?[^\s<>/]*)?$/u.exec(document.text.slice(0, offset));
+  const begin = offset - typed.length;
+  const range = document.range(begin, offset);
+  const items = nextTags(document.text.slice(0, begin), notation).map((newText, place) => ({
     label: newText, kind: KIND_OF_PROPERTY, sortText: String(place).padStart(3, "0"), textEdit: { range, newText },
   }));
   return { isIncomplete: false, items };
