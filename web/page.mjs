@@ -39,7 +39,7 @@ class Page {
   message = new Message(element("message"));
   outline = new OutlineView(element("outline"), (row) => this.#showRow(row));
   diagrams = new Diagrams(element("diagrams"), (production) => this.#showProduction(production));
-  /** What is kept: the sheet's name, one's own sheet, the side that was typed, its document, and so on. */
+  /** What is kept: the name of the sheet, one's own sheet, the side that was typed, its document, .. */
   state = { sheet: "@leiden2", own: "", side: "text", document: "", form: "asis", panels: {}, ...kept() };
   productions = null;
   /** Whether both panes have one document. */
@@ -209,12 +209,15 @@ class Page {
     const source = this.source.text;
     const told = await this.reader.ask("check", { source });
     if (told === STALE || source !== this.source.text) return;
+    this.#readSheet();
+    if (told.refusal) {
+      this.#refused(told.refusal);
+      return;
+    }
     this.source.mark([]);
     element("sheet-said").className = "";
     element("sheet-said").textContent = "The sheet is accepted.";
-    this.#readSheet();
-    if (told.refusal) this.#refused(told.refusal);
-    else this.#translate();
+    this.#translate();
   }
 
   /** Shows the outline of the document that was translated. */
