@@ -244,7 +244,7 @@ export class LanguageServer {
     return document.kind === "sheet" ? [] : symbolsOf(document, this.#openedOrRefused());
   }
 
-  /** Puts a document into its normal spelling; one that is refused stays, as its diagnostics say. */
+  /** Puts a document into its normal spelling; one that is refused stays as it is. */
   #format(params) {
     const document = this.#document(params);
     if (document.kind === "sheet") return null;

@@ -1,11 +1,12 @@
 /** Which tags may come next in an XML document. */
 import { inXml } from "../places.mjs";
 import { ForeignError, NotXmlError } from "../xsugar.mjs";
+import { listOf } from "./completion.mjs";
 import { tagsOf } from "./tags.mjs";
 
 const KIND_OF_PROPERTY = 10;
 
-/** Returns the names of the elements that are open at the end of a document, the innermost first. */
+/** Returns the names of the elements that are open after a front of a document, from the innermost. */
 function openAtEnd(xml) {
   const open = [];
   for (const { isClosing, isEmpty, name } of tagsOf(xml)) {
@@ -37,7 +38,7 @@ function begins(sheet, xml, symbols) {
 }
 
 /**
- * Returns the begins of the tags that may come after the front of an XML document: each is tried, with
+ * Returns the begins of the tags that may come after a front of an XML document: each is tried, with
  * what is open closed after it. There are none inside a tag.
  */
 function nextTags(before, { sheet, productions }) {
@@ -61,9 +62,6 @@ function nextTags(before, { sheet, productions }) {
 export function tagCompletionsAt(document, offset, notation) {
   const [typed] = /(?:<\/?[^\s<>/]*)?$/u.exec(document.text.slice(0, offset));
   const begin = offset - typed.length;
-  const range = document.range(begin, offset);
-  const items = nextTags(document.text.slice(0, begin), notation).map((newText, place) => ({
-    label: newText, kind: KIND_OF_PROPERTY, sortText: String(place).padStart(3, "0"), textEdit: { range, newText },
-  }));
-  return { isIncomplete: false, items };
+  const tags = nextTags(document.text.slice(0, begin), notation);
+  return listOf(tags.map((it) => [it, it]), KIND_OF_PROPERTY, document.range(begin, offset));
 }
