@@ -10,7 +10,7 @@ import time
 
 KEYS = {"Enter": (13, "\r"), "Tab": (9, ""), "Escape": (27, ""), "F1": (112, ""), "F8": (119, ""),
         "ArrowDown": (40, ""), "ArrowUp": (38, ""), "Home": (36, ""), "End": (35, ""), "Space": (32, " ")}
-PATIENCE = 60
+PATIENCE = 120
 HELD = {"Alt": 1, "Ctrl": 2, "Shift": 8}
 
 
@@ -122,7 +122,7 @@ class Tab:
             raise RuntimeError(details.get("exception", {}).get("description", details["text"]))
         return told["result"].get("value")
 
-    def until(self, expression, seconds=20):
+    def until(self, expression, seconds=60):
         """Waits until an expression is true, and returns its value."""
         end = time.monotonic() + seconds
         while time.monotonic() < end:
@@ -132,7 +132,7 @@ class Tab:
             time.sleep(0.01)
         raise AssertionError(f"not in {seconds} s: {expression}")
 
-    def wait(self, method, wanted, seconds=20):
+    def wait(self, method, wanted, seconds=60):
         """Waits until the browser told of something by an event of a name."""
         end = time.monotonic() + seconds
         while time.monotonic() < end:

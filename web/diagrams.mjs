@@ -8,6 +8,7 @@
 const SPACE = "http://www.w3.org/2000/svg";
 const BOX = { height: 24, gap: 14, inset: 8 };
 const TRACK = { height: 52, left: 34, middle: 18 };
+const TITLE = 32;
 const LONGEST_XML = 110;
 
 const measure = document.createElement("canvas").getContext("2d");
@@ -75,8 +76,12 @@ export class Diagrams {
   show(number) {
     this.#rules.querySelector(".here")?.classList.remove("here");
     const track = this.#tracks.get(number);
-    track?.classList.add("here");
-    track?.scrollIntoView({ block: "nearest", inline: "nearest" });
+    if (track === undefined) return;
+    track.classList.add("here");
+    const [view, place] = [this.#rules, track].map((it) => it.getBoundingClientRect());
+    if (place.top < view.top || place.bottom > view.bottom) {
+      this.#rules.scrollTop += place.top - view.top - view.height / 3;
+    }
   }
 
   /** Draws all productions of a name. */
@@ -86,11 +91,13 @@ export class Diagrams {
     const width = Math.max(...tracks.map((it) => it.width));
     const height = productions.length * TRACK.height;
     tracks.forEach((it, place) => it.close(width, place));
-    const label = `${name}: ${productions.map((it) => it.text.map((item) => this.#word(item)).join(" ")).join(", or ")}`;
-    const svg = drawn("svg", { width: width + TRACK.left, height, role: "img", "aria-label": label },
+    const sides = productions.map((it) => it.text.map((item) => this.#word(item)).join(" "));
+    const label = `${name}: ${sides.join(", or ")}`;
+    const svg = drawn("svg", { width: width + TRACK.left, height, "aria-label": label },
       ...tracks.map((it) => it.group));
     const section = document.createElement("section");
     section.id = `rule-${name}`;
+    section.style.containIntrinsicHeight = `${height + TITLE}px`;
     const title = Object.assign(document.createElement("h3"), { textContent: name });
     section.append(title, svg);
     return section;

@@ -6,6 +6,7 @@
  * @typedef {"text" | "xml"} Side
  */
 import { Calm } from "./calm.mjs";
+import { told } from "./characters.mjs";
 import { Desk, STALE } from "./desk.mjs";
 import { Diagrams } from "./diagrams.mjs";
 import { opened, save } from "./files.mjs";
@@ -39,7 +40,7 @@ class Page {
   message = new Message(element("message"));
   outline = new OutlineView(element("outline"), (row) => this.#showRow(row));
   diagrams = new Diagrams(element("diagrams"), (production) => this.#showProduction(production));
-  /** What is kept: the sheet's name, one's own sheet, the side that was typed, its document, and so on. */
+  /** What is kept: the name of the sheet, one's own sheet, the side that was typed, its document, .. */
   state = { sheet: "@leiden2", own: "", side: "text", document: "", form: "asis", panels: {}, ...kept() };
   productions = null;
   /** Whether both panes have one document. */
@@ -66,6 +67,11 @@ class Page {
 
   get #example() {
     return this.shelf.find((it) => it.name === this.state.sheet)?.example;
+  }
+
+  /** The characters that close a bracket of the sheet. */
+  get #closing() {
+    return this.productions?.fences.map(([, right]) => right);
   }
 
   #fillShelf() {
@@ -135,14 +141,14 @@ class Page {
     this.#calm.keep.run(() => this.#keep());
     const given = { source: this.#sheet, side, document: state.document, form };
     this.#calm.long.run(() => this.message.wait());
-    const told = await this.translator.ask("translate", given);
-    if (told === STALE || side !== state.side) return;
+    const answered = await this.translator.ask("translate", given);
+    if (answered === STALE || side !== state.side) return;
     this.#calm.long.stop();
-    if (told.refusal) {
-      this.#refused(told.refusal);
+    if (answered.refusal) {
+      this.#refused(answered.refusal);
       return;
     }
-    this.panes[OTHER[side]].text = told.answer;
+    this.panes[OTHER[side]].text = answered.answer;
     performance.measure("keystroke", { start: begin });
     this.#accepted(performance.now() - begin);
   }
@@ -183,10 +189,9 @@ class Page {
       marks.push({ ...opened, kind: "open" });
       more.push(openSaid(opened, pane.text), button("Go to the opening", "Shift F8", () => pane.goTo("open")));
     }
-    if (expected?.length > 0) {
-      more.push("May come here:", ...this.#suggestions(expected, offset));
-    } else if (expected !== null) {
-      more.push("Nothing but the end may come here.");
+    if (expected !== null) {
+      const isTyped = offset !== null && expected.length > 0;
+      more.push("May come here:", ...(isTyped ? this.#suggestions(expected, offset) : [told(expected, this.#closing)]));
     }
     this.message.refuse(said(refusal, side, pane.text), ...more);
     pane.mark(marks);
@@ -207,14 +212,17 @@ class Page {
   /** Takes over a sheet that is typed, once it was checked. */
   async #checkSheet() {
     const source = this.source.text;
-    const told = await this.reader.ask("check", { source });
-    if (told === STALE || source !== this.source.text) return;
+    const answered = await this.reader.ask("check", { source });
+    if (answered === STALE || source !== this.source.text) return;
+    this.#readSheet();
+    if (answered.refusal) {
+      this.#refused(answered.refusal);
+      return;
+    }
     this.source.mark([]);
     element("sheet-said").className = "";
     element("sheet-said").textContent = "The sheet is accepted.";
-    this.#readSheet();
-    if (told.refusal) this.#refused(told.refusal);
-    else this.#translate();
+    this.#translate();
   }
 
   /** Shows the outline of the document that was translated. */
@@ -223,9 +231,9 @@ class Page {
     const [text, xml] = [this.panes.text.text, this.panes.xml.text];
     const form = this.state.side === "text" ? this.state.form : "asis";
     const given = { source: this.#sheet, text, form, xml };
-    const told = await this.reader.ask("rows", given);
-    if (told === STALE || !this.isSettled || xml !== this.panes.xml.text) return;
-    this.outline.rows = told.answer ?? [];
+    const answered = await this.reader.ask("rows", given);
+    if (answered === STALE || !this.isSettled || xml !== this.panes.xml.text) return;
+    this.outline.rows = answered.answer ?? [];
     this.#showCursor();
   }
 
@@ -261,17 +269,16 @@ class Page {
 
   /** Makes buttons that type characters into the text. */
   #suggestions(ranges, at) {
-    const closing = this.productions?.fences.map(([, right]) => right);
-    return suggestions(ranges, closing, (it) => this.panes.text.type(at, at, it));
+    return suggestions(ranges, this.#closing, (it) => this.panes.text.type(at, at, it));
   }
 
   /** Offers what may come next at the cursor of the text. */
   async #suggest() {
     const pane = this.panes.text;
     const at = pane.cursor;
-    const told = await this.translator.ask("next", { source: this.#sheet, text: pane.text.slice(0, at) });
-    if (told === STALE || told.refusal) return;
-    const chips = told.answer === null ? [] : this.#suggestions(told.answer, at);
+    const answered = await this.translator.ask("next", { source: this.#sheet, text: pane.text.slice(0, at) });
+    if (answered === STALE || answered.refusal) return;
+    const chips = answered.answer === null ? [] : this.#suggestions(answered.answer, at);
     const words = chips.length > 0 ? "May come at the cursor:" : "Nothing may come at the cursor.";
     this.message.offer(words, ...chips);
   }

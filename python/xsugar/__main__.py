@@ -142,7 +142,8 @@ def _read(name: str) -> bytes:
 
 
 def _target(args: argparse.Namespace, name: str) -> Optional[str]:
-    if args.output in (None, "-") or len(args.files) == 1:
+    is_file = len(args.files) == 1 and not os.path.isdir(args.output or "")
+    if args.output in (None, "-") or is_file:
         return args.output
     return os.path.join(args.output, os.path.basename(name) if name != "-" else "stdin")
 

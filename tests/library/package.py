@@ -1,7 +1,8 @@
-"""Tests the installed package: its doctests, the README's example, and the commands."""
+"""Tests the installed package: its doctests, the example of docs/library.md, and the commands."""
 import doctest
 import importlib
 import json
+import os
 import re
 import subprocess
 import sys
@@ -33,10 +34,10 @@ def doctests():
         check(found.attempted and not found.failed, f"doctests of {name}")
 
 
-def readme(path):
+def example(path):
     with open(path, encoding="utf-8") as it:
         blocks = re.findall(r"(?:^    .*\n)*^    import xsugar\n(?:^    .*\n|^\n(?=    ))*", it.read(), re.M)
-    check(blocks, "README has an example")
+    check(blocks, "docs/library.md has an example")
     for block in blocks:
         exec(re.sub("^    ", "", block, flags=re.M), {})
 
@@ -60,6 +61,9 @@ def commands():
     both = command("to-xml", "pair.xsugar", "a.txt", "b.txt", "--jobs", "2")
     check(both == (0, XML + XML.replace(b"7", b"2").replace(b"3", b"1"), ""), "two files at once")
     check(command("to-xml", "pair.xsugar", "a.txt", "-o", "a.xml") == (0, b"", ""), "-o")
+    os.mkdir("one")
+    check(command("to-xml", "pair.xsugar", "a.txt", "-o", "one") == (0, b"", ""), "-o of a folder")
+    check(os.listdir("one") == ["a.txt"], "a file in a folder")
     with open("a.xml", "rb") as it:
         check(it.read() == XML, "the file of -o")
     foreign = command("to-xml", "pair.xsugar", "c.txt")
@@ -100,6 +104,6 @@ def exceptions():
 doctests()
 exceptions()
 commands()
-readme(sys.argv[1])
+example(sys.argv[1])
 print(f"{passed} passed, {failed} failed")
 sys.exit(failed != 0)

@@ -9,7 +9,7 @@ const SAMPLES = [..."aAαΑ1ⲁ\u0301"];
 /** The length up to which what can be typed is continued. */
 const LONGEST = 16;
 
-/** Returns, for each word, the ranges of characters that can come after it and what is before it. */
+/** Returns, for each word, the ranges of characters that can come after it where it is typed. */
 function nextAfter(sheet, before, words) {
   const at = [...before].length;
   let script = `put 0 0 ${quoted(before)}\n`;
@@ -56,9 +56,17 @@ function sampleOf(name, ranges) {
   return sample;
 }
 
+/** Returns a list of completions, in this order, of labels and what they put in for a range. */
+export function listOf(words, kind, range) {
+  const items = words.map(([label, newText], place) => ({
+    label, kind, sortText: String(place).padStart(3, "0"), textEdit: { range, newText },
+  }));
+  return { isIncomplete: true, items };
+}
+
 /**
- * Returns the completions at an offset of a text, what closes a bracket first. A class of characters is
- * one item, which puts in one of them.
+ * Returns the completions at an offset of a text, what closes a bracket first. A class of characters
+ * is one item, which puts in one of them.
  *
  * @param {import("./open_document.mjs").OpenDocument} document
  * @param {number} offset
@@ -72,8 +80,5 @@ export function completionsAt(document, offset, { sheet, closing }) {
   const words = continued(sheet, before, typed).map((word) => [labelOf(word), word]);
   const samples = classes.filter((it) => it !== ANY).map((name) => [name, sampleOf(name, ranges)]);
   const range = document.range(offset, offset);
-  const items = [...words, ...samples].map(([label, newText], place) => ({
-    label, kind: KIND_OF_OPERATOR, sortText: String(place).padStart(3, "0"), textEdit: { range, newText },
-  }));
-  return { isIncomplete: true, items };
+  return listOf([...words, ...samples], KIND_OF_OPERATOR, range);
 }

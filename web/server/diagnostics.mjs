@@ -7,7 +7,14 @@
  */
 import { openedElement, openedMark } from "../brackets.mjs";
 import { told } from "../characters.mjs";
-import { ForeignError, NotXmlError, OutOfMemoryError, SuspectError, XsugarError } from "../xsugar.mjs";
+import {
+  ForeignError,
+  NotUtf8Error,
+  NotXmlError,
+  OutOfMemoryError,
+  SuspectError,
+  XsugarError,
+} from "../errors.mjs";
 
 const ERROR = 1;
 /** What stands at a place of an XML document: a tag's begin, an attribute's name, a character. */
@@ -66,7 +73,7 @@ function ofSheetError(document, error) {
 }
 
 function hasPlace(error) {
-  return error instanceof ForeignError || error instanceof NotXmlError;
+  return [ForeignError, NotUtf8Error, NotXmlError].some((it) => error instanceof it);
 }
 
 /** Returns what was opened before the place of an error and is not closed there, or null. */
@@ -86,6 +93,7 @@ function openings(document, opened) {
 /** Says what is wrong at the place of an error. */
 function messageOf(error, kind, closing) {
   if (error instanceof NotXmlError) return "not XML";
+  if (error instanceof NotUtf8Error) return "half a character";
   return kind === "text" && error.expected ? `expected ${told(error.expected, closing)}` : "not expected here";
 }
 

@@ -8,10 +8,10 @@ import { fileURLToPath } from "node:url";
 import { OutOfMemoryError, XsugarError } from "../xsugar.mjs";
 import { completionsAt } from "./completion.mjs";
 import { diagnosticsOf, diagnosticsOfSheet, otherOf, refusalOf } from "./diagnostics.mjs";
+import { tagCompletionsAt } from "./next_tags.mjs";
 import { Notation } from "./notation.mjs";
 import { OpenDocument } from "./open_document.mjs";
 import { symbolsOf } from "./symbols.mjs";
-import { tagCompletionsAt } from "./xml_completion.mjs";
 
 const CODE = {
   invalidRequest: -32600, unknownMethod: -32601, invalidParams: -32602, notInitialized: -32002,
@@ -244,7 +244,7 @@ export class LanguageServer {
     return document.kind === "sheet" ? [] : symbolsOf(document, this.#openedOrRefused());
   }
 
-  /** Puts a document into its normal spelling; one that is refused stays, as its diagnostics say. */
+  /** Puts a document into its normal spelling; one that is refused stays as it is. */
   #format(params) {
     const document = this.#document(params);
     if (document.kind === "sheet") return null;

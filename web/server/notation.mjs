@@ -5,8 +5,8 @@ import { productionsOf } from "../productions.mjs";
 const INCLUDED = { "@leiden": ["sheet"], "@leiden2": ["sheet", "2"] };
 
 /**
- * The sheet by which texts and XML documents are read: open, with its productions, its fences, those too
- * that it could have in version 2, and what closes them.
+ * The sheet by which texts and XML documents are read: open, with its productions, its fences, those
+ * too that it could have in version 2, and what closes them.
  */
 export class Notation {
   /**

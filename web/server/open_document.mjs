@@ -1,6 +1,6 @@
 /**
- * A document that is open in the editor. An offset counts the units of a JavaScript string from 0; a
- * position is a line and a character in it, both from 0, where a character is such a unit too.
+ * A document that is open in the editor. An offset counts the units of a JavaScript string from 0;
+ * a position is a line and a character in it, both from 0, where a character is such a unit too.
  *
  * @typedef {{line: number, character: number}} Position
  * @typedef {{start: Position, end: Position}} Range

@@ -1,9 +1,10 @@
 /**
- * The outline of a document, as an editor shows it: one symbol for each element of the XML, and of a
- * text one for each word too.
+ * The outline of a document, as an editor shows it: one symbol for each element of the XML, and of
+ * a text one for each word too.
  *
- * @typedef {{depth: number, name: string, kind: number, begin: number, end: number, head: number}} Entry
- *   a symbol before its inner ones, from `begin` to before `end`; its name stands before `head`
+ * @typedef {{depth: number, name: string, kind: number, begin: number, end: number,
+ *   head: number}} Entry a symbol before its inner ones, from `begin` to before `end`; its name stands
+ *   before `head`
  */
 import { markLength } from "../places.mjs";
 import { rowsOf } from "../tree.mjs";
@@ -12,8 +13,8 @@ import { tagsOf } from "./tags.mjs";
 
 const KIND = { element: 23, word: 15 };
 /**
- * Returns the symbols of a text: none where the text is not of the sheet. An element that nothing in
- * the text spells has none.
+ * Returns the symbols of a text: none where the text is not of the sheet. An element that nothing
+ * in the text spells has none.
  */
 function entriesOfText(text, { sheet, productions }) {
   const begin = markLength(text);

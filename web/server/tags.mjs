@@ -1,8 +1,8 @@
 /**
  * The tags of an XML document, so far as they are right.
  *
- * @typedef {{isClosing: boolean, isEmpty: boolean, name: string, label: string, begin: number, end: number}} Tag
- *   its name, and its name with its attributes
+ * @typedef {{isClosing: boolean, isEmpty: boolean, name: string, label: string, begin: number,
+ *   end: number}} Tag its name, and its name with its attributes
  */
 const VALUED = `(?:"[^"]*"|'[^']*'|[^"'<>])*?`;
 const TAG = new RegExp(
