@@ -2,18 +2,17 @@ use crate::action::{ACCEPT, CHAIN, FAIL, KIND, LOOK, REDUCE, SHIFT, TOKEN, UNKNO
 use crate::automaton::{Automaton, MOST_LOOKAHEAD};
 use crate::course::{Course, Entry};
 use crate::grammar::MOST_ITEMS;
-use crate::graph::{Added, Graph, Reduction};
+use crate::graph::{Act, Graph, Reduction, Stretch, Way};
 use crate::keys::capped;
 use std::alloc::Global;
 use std::mem;
 use xs_class::Memory;
 
-/// A head: a vertex, and a row of its LR state or of a scanning state in it, or an action that is to be
-/// done at it.
+/// A head: a vertex, the row of its LR state or of a scanning state in it, and what is to be done there.
 #[derive(Clone, Copy)]
 struct Head {
-    vertex: u32,
-    what: u32,
+    row: u32,
+    act: Act,
 }
 
 /// What a fork reads: a document's atoms, and the entries of the stack at which it began.
@@ -29,56 +28,37 @@ pub struct Fork<'d> {
     input: Input<'d>,
     graph: Graph,
     heads: Vec<Head>,
+    done: usize,
     at: u32,
     accepted: Option<u32>,
-    /// The way down that was found: entries from the top on, and the one below them.
-    way: Vec<Entry>,
-    bottom: u32,
-    next: Vec<Head>,
-    taken: Vec<Head>,
-    done: usize,
-    again: bool,
-    wait: usize,
+    next: Vec<Act>,
+    taken: Vec<Act>,
+    wait: u32,
 }
 
-/// What a fork found: its graph, the entries of the way down from the top on, the one below them, how
-/// far the document is read, and the row from which it is to be read on, if not to its end.
+/// What a fork found: its graph, how far the document is read, and the row from which it is to be read on,
+/// if not to its end.
 #[derive(Drop)]
 pub struct Found {
     pub graph: Graph,
-    pub way: Vec<Entry>,
-    pub bottom: u32,
     pub at: u32,
     pub row: Option<u32>,
 }
 
 impl<'d> Fork<'d> {
     /// Begins where reading has come to, with this much work to do.
-    pub fn new(
-        alloc: Global,
-        input: Input<'d>,
-        course: Course,
-        work: usize,
-    ) -> Result<Self, Memory> {
-        let mut heads = Vec::new(alloc);
-        heads.push(Head {
-            vertex: course.depth.wrapping_sub(1),
-            what: course.row,
-        })?;
-        Ok(Fork {
+    pub fn new(alloc: Global, input: Input<'d>, course: Course, work: usize) -> Self {
+        Fork {
             input,
             graph: Graph::new(alloc, course.depth, work),
-            heads,
+            heads: Vec::new(alloc),
+            done: 0,
             at: course.at,
             accepted: None,
-            way: Vec::new(alloc),
-            bottom: 0,
             next: Vec::new(alloc),
             taken: Vec::new(alloc),
-            done: 0,
-            again: false,
             wait: 0,
-        })
+        }
     }
 
     /// The work that is left to do.
@@ -89,16 +69,30 @@ impl<'d> Fork<'d> {
     /// What was found, once a way is.
     pub fn into_found(self) -> Found {
         let row = match self.heads.as_slice() {
-            [head] if self.accepted.is_none() => Some(head.what),
+            [head] if self.accepted.is_none() => Some(head.row),
             _ => None,
         };
         Found {
             graph: self.graph,
-            way: self.way,
-            bottom: self.bottom,
             at: self.at,
             row,
         }
+    }
+
+    /// Adds a head, if anything is to be done there.
+    fn push_head(
+        &mut self,
+        automaton: &mut Automaton<'_>,
+        vertex: u32,
+        row: u32,
+    ) -> Result<(), Memory> {
+        self.graph.spend();
+        let action = action_at(automaton, self.input.doc, row, self.at)?;
+        if action != FAIL {
+            let act = Act { vertex, action };
+            self.heads.push(Head { row, act })?;
+        }
+        Ok(())
     }
 
     /// Does all that may be done at this place.
@@ -108,12 +102,11 @@ impl<'d> Fork<'d> {
                 break;
             }
             if let Some(head) = self.heads.get(self.done) {
-                let head = *head;
+                let act = head.act;
                 self.done = self.done.wrapping_add(1);
-                self.see_to(automaton, head, false)?;
-            } else if self.again {
-                self.again = false;
-                self.reduce_again(automaton)?;
+                self.see_to(automaton, act)?;
+            } else if let Some(stretch) = self.graph.next_stretch() {
+                self.reduce_on(automaton, stretch)?;
             } else {
                 break;
             }
@@ -121,80 +114,90 @@ impl<'d> Fork<'d> {
         Ok(())
     }
 
-    /// Does once more the reductions of all heads, since there are new ways down.
-    fn reduce_again(&mut self, automaton: &mut Automaton<'_>) -> Result<(), Memory> {
-        'heads: for place in 0..self.heads.len() {
-            let Some(head) = self.heads.get(place) else {
-                break;
-            };
-            let head = *head;
-            self.see_to(automaton, head, true)?;
-        }
-        Ok(())
-    }
-
-    /// Does the actions of a head, or only the reductions among them.
-    fn see_to(
-        &mut self,
-        automaton: &mut Automaton<'_>,
-        head: Head,
-        again: bool,
-    ) -> Result<(), Memory> {
-        self.graph.spend();
-        let action = action_at(automaton, self.input.doc, head.what, self.at)?;
-        match fork_of(action) {
-            Some(number) if action & KIND == 0 => {
+    /// Does an action, or all those for which it stands.
+    fn see_to(&mut self, automaton: &mut Automaton<'_>, act: Act) -> Result<(), Memory> {
+        match fork_of(act.action) {
+            Some(number) if act.action & KIND == 0 => {
                 'actions: for place in 0..automaton.forks.at(number).len() {
-                    let what = automaton.forked(number, place);
-                    if !again || is_reduction(what) {
-                        self.act(automaton, Head { what, ..head })?;
-                    }
+                    let action = automaton.forked(number, place);
+                    self.act(automaton, Act { action, ..act })?;
                 }
                 Ok(())
             }
-            _ if again && !is_reduction(action) => Ok(()),
-            _ => self.act(
-                automaton,
-                Head {
-                    what: action,
-                    ..head
-                },
-            ),
+            _ => self.act(automaton, act),
         }
     }
 
-    /// Does the action of a head.
-    fn act(&mut self, automaton: &mut Automaton<'_>, head: Head) -> Result<(), Memory> {
-        let action = head.what;
+    /// Does an action.
+    fn act(&mut self, automaton: &mut Automaton<'_>, act: Act) -> Result<(), Memory> {
+        let Act { vertex, action } = act;
         if is_reduction(action) {
-            self.reduce(automaton, head)?;
+            self.reduce(automaton, act)?;
         } else if action & SHIFT != 0 {
-            self.next.push(head)?;
+            self.next.push(act)?;
         } else if action & TOKEN != 0 {
-            self.push(action >> 3, head.vertex, self.at)?;
+            self.push(automaton, action >> 3, vertex, self.at)?;
         } else if action == ACCEPT {
-            self.accepted = Some(head.vertex);
+            self.accepted = Some(vertex);
         }
         Ok(())
     }
 
     /// Adds an edge, and a head where that makes a vertex.
-    fn push(&mut self, row: u32, below: u32, part: u32) -> Result<(), Memory> {
-        match self.graph.add(row, self.at, below, part)? {
-            Added::Nothing => {}
-            Added::Edge => self.again = true,
-            Added::Vertex(vertex) => self.heads.push(Head { vertex, what: row })?,
+    fn push(
+        &mut self,
+        automaton: &mut Automaton<'_>,
+        row: u32,
+        below: u32,
+        part: u32,
+    ) -> Result<(), Memory> {
+        let entry = Entry {
+            row,
+            end: self.at,
+            part,
+        };
+        match self.graph.add(entry, below)? {
+            None => Ok(()),
+            Some(vertex) => self.push_head(automaton, vertex, row),
+        }
+    }
+
+    /// Ends a production on all ways down from a vertex.
+    fn reduce(&mut self, automaton: &mut Automaton<'_>, act: Act) -> Result<(), Memory> {
+        self.graph.note(act)?;
+        let length = length_below(automaton, act.action);
+        self.graph.find(self.input.stack, act.vertex, length)?;
+        self.reduce_ways(automaton, act.action, length)
+    }
+
+    /// Ends productions on the ways down a stretch, as far as they were ended at its top before there was
+    /// its newest edge.
+    fn reduce_on(&mut self, automaton: &mut Automaton<'_>, stretch: Stretch) -> Result<(), Memory> {
+        let mut longest = 0;
+        'noted: for place in 0..stretch.older {
+            let Some(act) = self.graph.noted(place) else {
+                break;
+            };
+            let length = length_below(automaton, act.action);
+            longest = length.max(longest);
+            if act.vertex == stretch.top && length >= stretch.length {
+                self.graph.find_on(self.input.stack, stretch, length)?;
+                self.reduce_ways(automaton, act.action, length)?;
+            }
+        }
+        if stretch.length < longest {
+            self.graph.go_up(stretch)?;
         }
         Ok(())
     }
 
-    /// Ends a production on all ways down from a head.
-    fn reduce(&mut self, automaton: &mut Automaton<'_>, head: Head) -> Result<(), Memory> {
-        let action = head.what;
-        let cell = automaton.states.production_cell(action >> 3);
-        let token = (action & TOKEN) >> 1;
-        let length = (cell & MOST_ITEMS).saturating_sub(token);
-        self.graph.find(self.input.stack, head.vertex, length)?;
+    /// Ends a production on all ways that were found.
+    fn reduce_ways(
+        &mut self,
+        automaton: &mut Automaton<'_>,
+        action: u32,
+        length: u32,
+    ) -> Result<(), Memory> {
         'ways: for way in 0..self.graph.bottoms.len() {
             if self.graph.is_spent() {
                 break;
@@ -217,16 +220,14 @@ impl<'d> Fork<'d> {
         };
         let bottom = *bottom;
         let below = self.graph.entry(self.input.stack, bottom);
-        let token = (action & TOKEN) >> 1;
         let reduction = Reduction {
             production: action >> 3,
             from: below.end,
             to: self.at,
             parts: capped(self.graph.parts.len()),
-            length: length.wrapping_add(token),
         };
         let part = self.graph.reduce(way, length, reduction)?;
-        if token == 1 {
+        if action & TOKEN != 0 {
             self.graph.parts.push(self.at)?;
         }
         self.go_to(automaton, bottom, below, part, action >> 3)
@@ -251,7 +252,7 @@ impl<'d> Fork<'d> {
             part = self.link(below.end, to & !CHAIN, part)?;
             to = goto(automaton, below.row, to & !CHAIN)?;
         }
-        self.push(to, bottom, part)
+        self.push(automaton, to, bottom, part)
     }
 
     /// Appends a reduction of one part.
@@ -263,7 +264,6 @@ impl<'d> Fork<'d> {
             from,
             to: self.at,
             parts,
-            length: 1,
         })
     }
 
@@ -272,81 +272,82 @@ impl<'d> Fork<'d> {
         self.at = self.at.wrapping_add(1);
         self.heads.clear();
         self.done = 0;
-        self.again = false;
         self.graph.next_place();
         mem::swap(&mut self.next, &mut self.taken);
         self.next.clear();
-        'heads: for place in 0..self.taken.len() {
-            let Some(head) = self.taken.get(place) else {
+        'acts: for place in 0..self.taken.len() {
+            let Some(act) = self.taken.get(place) else {
                 break;
             };
-            let head = *head;
-            self.take(automaton, head)?;
+            let act = *act;
+            self.take(automaton, act)?;
         }
         Ok(())
     }
 
     /// Does what is left of an action that took a symbol.
-    fn take(&mut self, automaton: &mut Automaton<'_>, head: Head) -> Result<(), Memory> {
-        let Head { vertex, what } = head;
-        if what & KIND != SHIFT {
-            let what = what & !SHIFT;
-            return self.act(automaton, Head { vertex, what });
+    fn take(&mut self, automaton: &mut Automaton<'_>, act: Act) -> Result<(), Memory> {
+        let Act { vertex, action } = act;
+        if action & KIND == SHIFT {
+            self.push_head(automaton, vertex, action >> 3)
+        } else {
+            let action = action & !SHIFT;
+            self.act(automaton, Act { vertex, action })
         }
-        let what = what >> 3;
-        self.heads.push(Head { vertex, what })?;
-        Ok(())
     }
 
     /// Reads on until the document is read, all heads are gone, or one head is left whose way down is the
-    /// only one; reports whether there is a way.
-    pub fn read(&mut self, automaton: &mut Automaton<'_>) -> Result<bool, Memory> {
+    /// only one: the way, if there is one.
+    pub fn read(
+        &mut self,
+        automaton: &mut Automaton<'_>,
+        course: Course,
+    ) -> Result<Option<Way>, Memory> {
+        self.push_head(automaton, course.depth.wrapping_sub(1), course.row)?;
         'places: for _ in 0..self.input.doc.len() {
             self.settle(automaton)?;
             if self.graph.is_spent() || automaton.is_spent() {
-                return Ok(false);
+                return Ok(None);
             }
             if let Some(vertex) = self.accepted {
-                return self.find_way(vertex);
+                return Ok(self.only_way(vertex));
             }
             self.step(automaton)?;
             match self.heads.as_slice() {
-                [] => return Ok(false),
-                [head] => {
-                    let vertex = head.vertex;
-                    if self.wait == 0 && self.find_way(vertex)? {
-                        return Ok(true);
+                [] => return Ok(None),
+                [head] if self.wait == 0 => {
+                    let vertex = head.act.vertex;
+                    if let Some(way) = self.only_way(vertex) {
+                        return Ok(Some(way));
                     }
-                    self.wait = self.wait.saturating_sub(1);
                 }
-                _ => {}
+                _ => self.wait = self.wait.saturating_sub(1),
             }
         }
-        Ok(false)
+        Ok(None)
     }
 
-    /// Finds the only way down from a vertex, and reports whether there is one.
-    fn find_way(&mut self, vertex: u32) -> Result<bool, Memory> {
-        self.way.clear();
-        match self
-            .graph
-            .way_down(self.input.stack, vertex, &mut self.way)?
-        {
-            Some(bottom) => {
-                self.bottom = bottom;
-                Ok(true)
-            }
-            None => {
-                self.wait = self.way.len();
-                Ok(false)
-            }
+    /// The way down from a vertex, if it is the only one; if not, no other is looked for before as many
+    /// places as it has vertices are read.
+    fn only_way(&mut self, vertex: u32) -> Option<Way> {
+        let way = self.graph.way_down(vertex);
+        if way.is_only {
+            return Some(way);
         }
+        self.wait = way.length;
+        None
     }
 }
 
 /// Whether an action ends a production, at the last symbol that was read or after it.
 fn is_reduction(action: u32) -> bool {
     action & KIND == REDUCE || action & KIND == REDUCE | TOKEN
+}
+
+/// How many parts of the production that an action ends are below the top.
+fn length_below(automaton: &Automaton<'_>, action: u32) -> u32 {
+    let cell = automaton.states.production_cell(action >> 3);
+    (cell & MOST_ITEMS).saturating_sub((action & TOKEN) >> 1)
 }
 
 /// The action of a row at a place of the document, after all lookahead.

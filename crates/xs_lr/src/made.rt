@@ -1,85 +1,90 @@
-use crate::graph::{Graph, REDUCED, Reduction};
+use crate::graph::{Graph, REDUCED, Reduction, Way};
 use crate::tree::Tree;
-use std::alloc::Global;
 use xs_class::Memory;
 
-/// A reduction that is not wanted.
-const UNWANTED: u32 = u32::MAX;
+/// A reduction whose number has this bit is wanted: its production, or its node once that is made.
+const WANTED: u32 = 1 << 31;
 
-/// The nodes of the reductions of a graph that are wanted.
+/// The nodes of those reductions of a graph that are wanted.
 #[derive(Drop)]
 pub struct Made {
-    numbers: Vec<u32>,
-    wanted: Vec<u32>,
+    pub graph: Graph,
 }
 
 impl Made {
-    /// No node of the graph's reductions.
-    pub fn new(alloc: Global, graph: &Graph) -> Result<Self, Memory> {
-        let numbers = vec![in alloc; UNWANTED; graph.reductions.len()]?;
-        Ok(Made {
-            numbers,
-            wanted: Vec::new(alloc),
-        })
+    /// Puts the nodes of a way and of all below them next.
+    pub fn put(&mut self, way: Way, tree: &mut Tree) -> Result<(), Memory> {
+        let mut id = way.top;
+        'vertices: for _ in 0..way.length {
+            let part = self.graph.vertex(id).part;
+            self.want(part);
+            id = self.graph.under(id);
+        }
+        'reductions: for number in (0..self.graph.reductions.len()).rev() {
+            self.want_parts(number);
+        }
+        'numbers: for number in 0..self.graph.reductions.len() {
+            self.put_node(number, tree)?;
+        }
+        Ok(())
     }
 
     /// Asks for the node of a part.
-    pub fn want(&mut self, part: u32) -> Result<(), Memory> {
+    fn want(&mut self, part: u32) {
         if part & REDUCED == 0 {
+            return;
+        }
+        if let Some(reduction) = self.graph.reductions.get_mut((part & !REDUCED) as usize) {
+            reduction.production |= WANTED;
+        }
+    }
+
+    /// Asks for the nodes of the parts of a reduction that is wanted.
+    fn want_parts(&mut self, number: usize) {
+        if self.wanted(number).is_none() {
+            return;
+        }
+        'parts: for place in self.begin(number)..self.begin(number.wrapping_add(1)) {
+            if let Some(part) = self.graph.parts.get(place) {
+                let part = *part;
+                self.want(part);
+            }
+        }
+    }
+
+    /// A reduction that is wanted, or None where it is not.
+    fn wanted(&self, number: usize) -> Option<Reduction> {
+        let reduction = self.graph.reductions.get(number)?;
+        if reduction.production & WANTED == 0 {
+            return None;
+        }
+        Some(Reduction {
+            production: reduction.production & !WANTED,
+            ..*reduction
+        })
+    }
+
+    /// Where the parts of a reduction begin.
+    fn begin(&self, number: usize) -> usize {
+        match self.graph.reductions.get(number) {
+            None => self.graph.parts.len(),
+            Some(reduction) => reduction.parts as usize,
+        }
+    }
+
+    /// Puts the node of a reduction next, if it is wanted.
+    fn put_node(&mut self, number: usize, tree: &mut Tree) -> Result<(), Memory> {
+        let Some(reduction) = self.wanted(number) else {
             return Ok(());
+        };
+        if let Some(reduction) = self.graph.reductions.get_mut(number) {
+            reduction.production = tree.count() | WANTED;
         }
-        let reduction = part & !REDUCED;
-        if let Some(number) = self.numbers.get_mut(reduction as usize) {
-            if *number == UNWANTED {
-                *number = 0;
-                self.wanted.push(reduction)?;
+        tree.put_node(reduction.production, reduction.from, reduction.to)?;
+        'parts: for place in self.begin(number)..self.begin(number.wrapping_add(1)) {
+            if let Some(part) = self.graph.parts.get(place) {
+                tree.put_part(self.part(*part))?;
             }
-        }
-        Ok(())
-    }
-
-    /// Asks for the nodes of the parts of all that are wanted.
-    pub fn close(&mut self, graph: &Graph) -> Result<(), Memory> {
-        'reductions: for place in 0..graph.reductions.len() {
-            let Some(reduction) = self.wanted.get(place) else {
-                break;
-            };
-            let parts = parts_of(graph, reduction_at(graph, *reduction));
-            self.want_all(parts)?;
-        }
-        self.wanted.sort_unstable();
-        Ok(())
-    }
-
-    /// Asks for the nodes of parts.
-    fn want_all(&mut self, parts: &[u32]) -> Result<(), Memory> {
-        'parts: for part in parts {
-            self.want(*part)?;
-        }
-        Ok(())
-    }
-
-    /// Puts the nodes that are wanted, and their parts, next.
-    pub fn put(&mut self, graph: &Graph, tree: &mut Tree) -> Result<(), Memory> {
-        'wanted: for place in 0..self.wanted.len() {
-            let Some(wanted) = self.wanted.get(place) else {
-                break;
-            };
-            let wanted = *wanted;
-            let reduction = reduction_at(graph, wanted);
-            if let Some(number) = self.numbers.get_mut(wanted as usize) {
-                *number = tree.count();
-            }
-            tree.put_node(reduction.production, reduction.from, reduction.to)?;
-            self.put_parts(tree, parts_of(graph, reduction))?;
-        }
-        Ok(())
-    }
-
-    /// Puts parts next, with nodes in place of reductions.
-    fn put_parts(&self, tree: &mut Tree, parts: &[u32]) -> Result<(), Memory> {
-        'parts: for part in parts {
-            tree.put_part(self.part(*part))?;
         }
         Ok(())
     }
@@ -89,32 +94,9 @@ impl Made {
         if part & REDUCED == 0 {
             return part;
         }
-        match self.numbers.get((part & !REDUCED) as usize) {
+        match self.graph.reductions.get((part & !REDUCED) as usize) {
             None => 0,
-            Some(number) => *number,
+            Some(reduction) => reduction.production & !WANTED,
         }
-    }
-}
-
-/// The reduction of this number, an empty one where there is none.
-fn reduction_at(graph: &Graph, number: u32) -> Reduction {
-    match graph.reductions.get(number as usize) {
-        None => Reduction {
-            production: 0,
-            from: 0,
-            to: 0,
-            parts: 0,
-            length: 0,
-        },
-        Some(reduction) => *reduction,
-    }
-}
-
-/// The parts of a reduction.
-fn parts_of(graph: &Graph, reduction: Reduction) -> &[u32] {
-    let begin = reduction.parts as usize;
-    match graph.parts.get(begin..begin + reduction.length as usize) {
-        None => &[],
-        Some(parts) => parts,
     }
 }

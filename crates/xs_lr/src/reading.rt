@@ -2,9 +2,10 @@ use crate::action::{KIND, LOOK};
 use crate::automaton::{Automaton, MOST_LOOKAHEAD};
 use crate::course::{Course, Entry, Stop};
 use crate::fork::{Fork, Found, Input};
+use crate::graph::Way;
 use crate::made::Made;
 use crate::straight::read_on;
-use crate::tree::{Tree, grow, put};
+use crate::tree::{Tree, grow};
 use std::alloc::Global;
 use xs_class::Memory;
 use xs_parse_table::ParseTable;
@@ -122,20 +123,23 @@ impl<'d> Reading<'d> {
     }
 
     /// Reads in all ways that are allowed, until there is one.
+    #[cold]
+    #[inline(never)]
     fn fork(&mut self, automaton: &mut Automaton<'_>) -> Result<Outcome, Memory> {
         let input = Input {
             doc: self.doc,
             stack: &self.stack,
         };
-        let mut fork = Fork::new(self.alloc, input, self.course, self.work)?;
-        let is_found = fork.read(automaton)?;
+        let mut fork = Fork::new(self.alloc, input, self.course, self.work);
+        let way = fork.read(automaton, self.course)?;
         self.work = fork.work();
-        if !is_found {
+        let Some(way) = way else {
             return Ok(Outcome::GiveUp);
-        }
+        };
         let found = fork.into_found();
-        self.join(&found)?;
-        match found.row {
+        let row = found.row;
+        self.join(found, way)?;
+        match row {
             None => Ok(Outcome::Read),
             Some(row) => {
                 self.course.row = row;
@@ -145,28 +149,27 @@ impl<'d> Reading<'d> {
     }
 
     /// Takes over the way that a fork found: its nodes, and its entries on the stack.
-    fn join(&mut self, found: &Found) -> Result<(), Memory> {
-        let mut made = Made::new(self.alloc, &found.graph)?;
-        'entries: for entry in &found.way {
-            made.want(entry.part)?;
-        }
-        made.close(&found.graph)?;
-        made.put(&found.graph, &mut self.tree)?;
+    fn join(&mut self, found: Found, way: Way) -> Result<(), Memory> {
+        let mut made = Made { graph: found.graph };
+        made.put(way, &mut self.tree)?;
         self.course.at = found.at;
-        self.course.depth = found.bottom.wrapping_add(1);
-        'way: for entry in found.way.iter().rev() {
-            self.put_entry(Entry {
-                part: made.part(entry.part),
-                ..*entry
-            })?;
+        self.course.depth = way.bottom.wrapping_add(way.length).wrapping_add(1);
+        let mut place = self.course.depth as usize;
+        if self.stack.len() < place {
+            self.stack.resize(place, entry(self.course.row))?;
         }
-        Ok(())
-    }
-
-    /// Puts an entry on the stack.
-    fn put_entry(&mut self, entry: Entry) -> Result<(), Memory> {
-        put(&mut self.stack, self.course.depth, entry)?;
-        self.course.depth = self.course.depth.wrapping_add(1);
+        let mut id = way.top;
+        'vertices: for _ in 0..way.length {
+            place = place.wrapping_sub(1);
+            let entry = made.graph.vertex(id);
+            if let Some(there) = self.stack.get_mut(place) {
+                *there = Entry {
+                    part: made.part(entry.part),
+                    ..entry
+                };
+            }
+            id = made.graph.under(id);
+        }
         Ok(())
     }
 

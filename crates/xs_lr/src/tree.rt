@@ -67,15 +67,6 @@ fn make_room<T: Drop>(list: &mut Vec<T>) -> Result<(), Memory> {
     Ok(())
 }
 
-/// Puts an element at a place, or appends it where the list ends before it.
-pub fn put<T: Copy + Drop>(list: &mut Vec<T>, place: u32, element: T) -> Result<(), Memory> {
-    match list.get_mut(place as usize) {
-        None => list.push(element)?,
-        Some(there) => *there = element,
-    }
-    Ok(())
-}
-
 /// Makes half as much room again: what is not needed is filled all the same.
 pub fn grow<T: Copy + Drop>(list: &mut Vec<T>, element: T) -> Result<(), Memory> {
     let more = (list.len() / 2).saturating_add(16);

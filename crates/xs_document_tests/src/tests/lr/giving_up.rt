@@ -92,6 +92,22 @@ const FORKS: &[Row<'static>] = &[
         true,
     ),
     (
+        "xsugar-1\nstart s\ns : [l x] \"b\" = <l>[l x]</l>\ns : [m x] \"c\" = <m>[m x]</m>\n\
+         l : =\nl : [e x] [l y] = [e x] [l y]\nm : =\nm : [f x] [m y] = [f x] [m y]\n\
+         e : \"a\" = <a/>\nf : \"a\" = <a/>\n",
+        &[("a", 3000), ("c", 1)],
+        true,
+    ),
+    (
+        "xsugar-1\nstart s\ns : [l x] [n y] \";b\" = <l>[l x][n y]</l>\n\
+         s : [m x] [k y] \";c\" = <m>[m x][k y]</m>\nl : =\n\
+         l : [e x] [l y] [n z] = [e x] [l y] [n z]\nm : =\n\
+         m : [f x] [m y] [k z] [n w] = [f x] [m y] [k z] [n w]\n\
+         n : = <n/>\nk : [n x] = <k>[n x]</k>\ne : \"a\" = <a/>\nf : \"a\" = <a/>\n",
+        &[("a", 3000), (";c", 1)],
+        true,
+    ),
+    (
         "xsugar-1\nstart s\ns : = <e/>\ns : \"a\" [s x] \"a\" = <a>[s x]</a>\n\
          s : \"b\" [s x] \"b\" = <b>[s x]</b>\n",
         &[("ab", 20), ("ba", 20)],
