@@ -1,12 +1,24 @@
-use Rattle.std.proofs.Common.{◌≡◌, ◌<◌, List, ℕ, Some, false, length, sym, ◌∙◌, ap, subst, arith, rules}
+use Rattle.std.proofs.Common.{◌≡◌, ◌<◌, ◌++◌, ◌+◌, ◌∷◌, [], List, ℕ, Some, true, false, length, take, sym, ◌∙◌, ap, subst, arith, rules}
 use Rattle.std.specs.Prelude.{slice_get}
 use Rattle.std.proofs.lemmas.Bool.{false≢true, not-true}
 use Rattle.std.proofs.lemmas.List.{take_all}
 use Rattle.std.proofs.lemmas.Option.{slice_get-get_or}
 use Rattle.std.proofs.lemmas.Result.{err_from_is_err_and}
+use Rattle.xs_class.proofs.Lists.{take_next}
 use Rattle.xs_gram.specs.Languages.{InLang}
 use Rattle.xs_earley.proofs.Steppings.{fault_stop, fault_whole}
 use Rattle.xs_earley.proofs.recogniser.recognise.Goals as goal
+
+pub symbols-preserved : goal.symbols-preserved
+symbols-preserved c =
+    let i = c.symbols.symbol-index in
+    let items = c.as_slice-symbol-items.result.now in
+    let goes : c.in_ok-step.field-0 ≡ true = search (rules) in
+    let next = take_next items i c.symbol-item.result c.symbols-test.true c.symbol-item.is in
+    record {
+      run = c.in_ok-step.ensures.run;
+      word = c.in_ok-step.ensures.word goes ∙ ap (λ (w : List ℕ). w ++ c.symbol-item.result ∷ []) (c.symbols.invariant.word ∙ ap (λ (l : List ℕ). take i l) (sym c.as_slice-symbol-items.ensures)) ∙ sym next ∙ ap (λ (l : List ℕ). take (i + 1) l) c.as_slice-symbol-items.ensures;
+    }
 
 pub returns-in_err-step-clause-fault : goal.returns-in_err-step-clause-fault
 returns-in_err-step-clause-fault c =
