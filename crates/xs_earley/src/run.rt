@@ -269,7 +269,7 @@ impl Run {
     }
 
     /// Whether the word so far is of the language; takes no memory. In constant expected time for each
-    /// rule of the start, and in time linear in the last set where the word is empty or after `back`.
+    /// rule of the start, and after `back` in time linear in the last set for each.
     pub fn whole(&self) -> bool
         requires run { (g : Grammar) × IsRunOf g self.now }
         ensures { (g : Grammar) → IsRunOf g self.now → IsTrue result ↔ InLang g self.now.word }
