@@ -14,7 +14,7 @@ use Rattle.xs_chart.proofs.Different.{no_item}
 pub no_element : {A : Type 0} (x : A) → Contains [] x → ⊥
 no_element x h = absurd (omega (arith, h.1))
 
-pub last_in : (items : List Item) (item : Item) → Contains (items ++ item ∷ []) item
+last_in : (items : List Item) (item : Item) → Contains (items ++ item ∷ []) item
 last_in items item = Contains-append_right items (item ∷ []) item (0, omega arith, refl)
 
 -- an item is another one or not

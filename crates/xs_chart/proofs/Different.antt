@@ -1,9 +1,10 @@
 -- Lists of different items, and what the tests of a hashed set say of the list of its items.
-use Rattle.std.proofs.Common.{◌≡◌, ℕ, zero, suc, ◌<◌, ◌↔◌, ◌⊎◌, inl, inr, Bool, true, false, not, List, [], ◌∷◌, ◌++◌, length, take, get_or, slice_get, Some, Contains, IsTrue, rules, refl, sym, ◌∙◌, ap, true≢false, arith}
-use Rattle.std.specs.List.{list_any}
+use Rattle.std.proofs.Common.{◌≡◌, ℕ, zero, suc, ◌+◌, ◌<◌, ◌↔◌, ◌⊎◌, inl, inr, Bool, true, false, not, List, [], ◌∷◌, ◌++◌, length, take, get_or, slice_get, Some, Contains, IsTrue, if◌then◌else◌, rules, refl, sym, ◌∙◌, ap, subst, true≢false, arith}
+use Rattle.std.specs.List.{IsDistinct, list_any}
+use Rattle.std.proofs.lemmas.Bool.{false≢true}
 use Rattle.std.proofs.lemmas.Option.{slice_get-get_or, slice_get_within, get_or_from_slice_get, none-some, same_Some}
-use Rattle.std.proofs.lemmas.List.{get_or_default}
-use Rattle.std.proofs.lemmas.Map.Keys.{any_passes_from_place}
+use Rattle.std.proofs.lemmas.List.{get_or_default, take_more}
+use Rattle.std.proofs.lemmas.Map.Keys.{any_passes_from_place, apart_from_distinct}
 use Rattle.indexmap.proofs.CallerLemmas.{Contains-list_any}
 use Rattle.xs_chart.specs.declared.item.Item.{Item}
 use Rattle.xs_chart.specs.contracts.item.ItemPartialEq.TheImpl as block
@@ -35,6 +36,20 @@ added_iff items item added is = by (list_any (eq item) items) refl
     by true e = ((λ h. absurd (true≢false (sym h ∙ is ∙ ap not e))), (λ h. absurd (h (Contains-list_any eq same items item e))))
     by false e = ((λ h there. true≢false (sym (any_from_Contains items item there) ∙ e)), (λ h. is ∙ ap not e))
 
+apart : (items : List Item) (item : Item) (j k : ℕ) → IsDistinct eq items → slice_get items j ≡ Some item → slice_get items k ≡ Some item → j < k → ⊥
+apart items item j k distinct at_j at_k lt =
+    let here = get_or_from_slice_get items j item item at_j in
+    let there = get_or_from_slice_get items k item item at_k in
+    let other = apart_from_distinct eq items j k item distinct lt (slice_get_within items k item at_k) in
+    true≢false (sym (itself item) ∙ sym (ap (λ y. eq y item) here) ∙ sym (ap (λ y. eq (get_or items j item) y) there) ∙ other)
+
+-- no item stands twice
+pub different : (items : List Item) → IsDistinct eq items → AreDifferent items
+different items distinct j k item at_j at_k =
+    let before : j < k → ⊥ = apart items item j k distinct at_j at_k in
+    let after : k < j → ⊥ = apart items item k j distinct at_k at_j in
+    omega arith
+
 -- an element of the longer list, before the last one or the last one
 pub get_push : {A : Type 0} (xs : List A) (y : A) (k : ℕ) (x : A) → slice_get (xs ++ y ∷ []) k ≡ Some x → (slice_get xs k ≡ Some x) ⊎ ((k ≡ length xs) × (x ≡ y))
 get_push [] y zero x e = inr (refl, sym (same_Some y x e))
@@ -55,6 +70,9 @@ different_more {A} xs y different new j k x at_j at_k = by (get_push xs y j x at
     by (inr a) (inl b) = absurd (never k b a.1)
     by (inr a) (inr b) = a.0 ∙ sym b.0
 
+pub different_none : AreDifferent {A = Item} []
+different_none j k item a b = absurd (none-some item a)
+
 -- an element of different ones is not among those before it
 pub not_before : {A : Type 0} (xs : List A) (n : ℕ) (d : A) → n < length xs → AreDifferent xs → Contains (take n xs) (get_or xs n d) → ⊥
 not_before {A} xs n d lt different h =
@@ -73,3 +91,15 @@ not_before {A} xs n d lt different h =
 -- what stands for an item that is not there
 abbrev pub no_item : Item
 no_item = record { state = 0; origin = 0 }
+
+-- one of different items is added to those before it
+pub added_all : (items : List Item) (n : ℕ) → n < length items → (old new : List Item) (added : Bool) → AreDifferent items → old ≡ take n items
+    → IsTrue added ↔ (Contains old (get_or items n no_item) → ⊥) → new ≡ (if added then old ++ get_or items n no_item ∷ [] else old) → new ≡ take (n + 1) items
+added_all items n lt old new true different is iff e = e ∙ ap (λ l. l ++ get_or items n no_item ∷ []) is ∙ sym (take_more items n no_item lt)
+added_all items n lt old new false different is iff e =
+    absurd (false≢true (iff.1 (λ h. not_before items n no_item lt different (subst (λ (l : List Item). Contains l (get_or items n no_item)) is h))))
+
+-- an item that is not there is added
+pub added_absent : (old new : List Item) (item : Item) (added : Bool) → (Contains old item → ⊥) → IsTrue added ↔ (Contains old item → ⊥) → new ≡ (if added then old ++ item ∷ [] else old) → new ≡ old ++ item ∷ []
+added_absent old new item true absent iff e = e
+added_absent old new item false absent iff e = absurd (false≢true (iff.1 absent))

@@ -5,9 +5,10 @@ ghost use Rattle.xs_chart.specs.Advancing.{AreThere, Advanced};
 ghost use Rattle.xs_chart.specs.Different.{AreDifferent};
 ghost use Rattle.xs_chart.specs.Kept.{opened, seen, IsKept, StaysFound};
 
-use crate::set::OpenSet;
+use crate::set::{add, add_after, append_all, empty, has, refill};
 use crate::waiting::{count, find, find_again, forget, keep, none_found, nth};
 use crate::{Item, Waiter, Waiting};
+use indexmap::IndexSet;
 use std::alloc::Global;
 use std::marker::Model;
 use xs_class::Memory;
@@ -20,7 +21,7 @@ struct Kept {
     alloc: Global,
     items: FlatLists<Item>,
     waits: FlatLists<Waiter>,
-    last: OpenSet,
+    last: IndexSet<Item>,
     waiting: Vec<Waiter>,
     is_open: bool,
 }
@@ -43,20 +44,20 @@ impl Model for Chart {
 
     ghost Value = { Charted };
 
-    ghost view = { λ c. seen c.kept.is_open c.kept.items c.kept.last c.kept.waits c.kept.waiting.items };
+    ghost view = { λ c. seen c.kept.is_open c.kept.items c.kept.last.keys c.kept.waits c.kept.waiting.items };
 
-    ghost invariant = { λ c. IsCharted c.kept.is_open c.kept.items c.kept.last c.kept.waits c.found.items };
+    ghost invariant = { λ c. IsCharted c.kept.is_open c.kept.items c.kept.last.keys c.kept.waits c.found.items };
 }
 
 impl Kept {
     /// Opens the last set again, where the sets after it were removed.
     #[inline(always)]
     fn reopen(&mut self) -> Result<(), Memory>
-        requires kept { IsKept self.old.is_open self.old.items self.old.last self.old.waits }
-        requires some { 0 < length (opened self.old.is_open self.old.items self.old.last) }
+        requires kept { IsKept self.old.is_open self.old.items self.old.last.keys self.old.waits }
+        requires some { 0 < length (opened self.old.is_open self.old.items self.old.last.keys) }
         ensures open { OnOk result (self.new.is_open ≡ true) }
-        ensures same { seen self.new.is_open self.new.items self.new.last self.new.waits self.new.waiting.items ≡ seen self.old.is_open self.old.items self.old.last self.old.waits self.old.waiting.items }
-        ensures kept { IsKept self.new.is_open self.new.items self.new.last self.new.waits }
+        ensures same { seen self.new.is_open self.new.items self.new.last.keys self.new.waits self.new.waiting.items ≡ seen self.old.is_open self.old.items self.old.last.keys self.old.waits self.old.waiting.items }
+        ensures kept { IsKept self.new.is_open self.new.items self.new.last.keys self.new.waits }
         ensures found { StaysFound self.old.is_open self.old.waits self.new.is_open self.new.waits }
     {
         if self.is_open {
@@ -70,16 +71,16 @@ impl Kept {
     #[cold]
     #[inline(never)]
     fn open_last(&mut self) -> Result<(), Memory>
-        requires kept { IsKept self.old.is_open self.old.items self.old.last self.old.waits }
+        requires kept { IsKept self.old.is_open self.old.items self.old.last.keys self.old.waits }
         requires closed { self.old.is_open ≡ false }
-        requires some { 0 < length (opened self.old.is_open self.old.items self.old.last) }
+        requires some { 0 < length (opened self.old.is_open self.old.items self.old.last.keys) }
         ensures open { OnOk result (self.new.is_open ≡ true) }
-        ensures same { seen self.new.is_open self.new.items self.new.last self.new.waits self.new.waiting.items ≡ seen self.old.is_open self.old.items self.old.last self.old.waits self.old.waiting.items }
-        ensures kept { IsKept self.new.is_open self.new.items self.new.last self.new.waits }
+        ensures same { seen self.new.is_open self.new.items self.new.last.keys self.new.waits self.new.waiting.items ≡ seen self.old.is_open self.old.items self.old.last.keys self.old.waits self.old.waiting.items }
+        ensures kept { IsKept self.new.is_open self.new.items self.new.last.keys self.new.waits }
         ensures found { StaysFound self.old.is_open self.old.waits self.new.is_open self.new.waits }
     {
         let set = self.items.len() - 1;
-        self.last.refill(self.items.list(set))?;
+        refill(&mut self.last, self.items.list(set))?;
         self.waiting.clear();
         self.waiting.extend_from_slice(self.waits.list(set))?;
         self.items.truncate(set);
@@ -126,7 +127,7 @@ impl Chart {
             alloc,
             items: FlatLists::new(alloc),
             waits: FlatLists::new(alloc),
-            last: OpenSet::new(alloc),
+            last: IndexSet::new(alloc),
             waiting: Vec::new(alloc),
             is_open: false,
         };
@@ -154,7 +155,7 @@ impl Chart {
             self.kept.last.as_slice(),
             &mut self.kept.waiting,
         )?;
-        self.kept.last.empty(self.kept.alloc);
+        empty(self.kept.alloc, &mut self.kept.last);
         self.kept.waiting.clear();
         self.kept.is_open = true;
         Ok(())
@@ -192,7 +193,7 @@ impl Chart {
         ensures err { OnErr result (self.new ≡ self.old) }
     {
         self.kept.reopen()?;
-        let added = self.kept.last.add(item)?;
+        let added = add(&mut self.kept.last, item)?;
         Ok(added)
     }
 
@@ -208,7 +209,7 @@ impl Chart {
         ensures err { OnErr result (self.new ≡ self.old) }
     {
         self.kept.reopen()?;
-        self.kept.last.append_all(states, origin)?;
+        append_all(&mut self.kept.last, states, origin)?;
         Ok(())
     }
 
@@ -227,7 +228,8 @@ impl Chart {
         self.kept.reopen()?;
         let (first, count) = find_again(&mut self.found, &self.kept.waits, from, non);
         let waits = self.kept.waits.list(from as usize);
-        self.kept.last.add_after(
+        add_after(
+            &mut self.kept.last,
             self.kept.items.list(from as usize),
             &waits[first..first + count],
             next,
@@ -248,15 +250,14 @@ impl Chart {
         }
     }
 
-    /// Whether the set has the item: in constant expected time where it is the last one, later ones
-    /// were not removed and the origin is smaller than those of the items that were appended; in time
-    /// linear in the set else.
+    /// Whether the set has the item: in constant expected time where it is the last one and later ones
+    /// were not removed, and in time linear in the set else.
     pub fn has(&self, set: u32, item: Item) -> bool
         requires { set < length self.now.sets }
         ensures { IsTrue result ↔ Contains (items_of self.now set) item }
     {
         if set as usize == self.kept.items.len() {
-            self.kept.last.has(item)
+            has(&self.kept.last, item)
         } else {
             self.items(set).contains(&item)
         }

@@ -12,4 +12,4 @@ pub returns-clause-last : goal.returns-clause-last
 returns-clause-last c =
     let e = c.in_ok-reopen.ensures in
     let same = e.same ∙ c.self.view_is in
-    rw (← same) (item_more c.reopen.new.self.waiting.items e.kept e.open c.args.item c.add.new.self c.in_ok-added.added c.in_ok-added.ensures.items)
+    rw (← same) (item_more c.reopen.new.self.waiting.items e.kept e.open c.args.item c.add.new.set.keys c.in_ok-added.added c.in_ok-added.ensures.items)

@@ -17,4 +17,4 @@ pub returns-clause-last : goal.returns-clause-last
 returns-clause-last c =
     let e = c.in_ok-reopen.ensures in
     let same = e.same ∙ c.self.view_is in
-    rw (← same) (items_more c.reopen.new.self.waiting.items e.kept e.open (items_from c.args.origin c.args.states.now) c.append_all.new.self c.in_ok-append_all.ensures.items)
+    rw (← same) (items_more c.reopen.new.self.waiting.items e.kept e.open (items_from c.args.origin c.args.states.now) c.append_all.new.set.keys c.in_ok-append_all.ensures.items)

@@ -13,7 +13,7 @@ returns-clause-kept c =
     let waits = c.args.self.now.waits in
     let set = c.len-set.result - 1 in
     let some = rw c.requires.closed at c.requires.some in
-    rw (c.truncate.ensures, c.truncate-2.ensures) (kept_reopened set items c.args.self.now.last c.refill.new.self waits (omega (arith, some, c.len-set.ensures)) (rw c.requires.closed at c.requires.kept) c.in_ok-refill.ensures.different)
+    rw (c.truncate.ensures, c.truncate-2.ensures) (kept_reopened set items c.args.self.now.last.keys c.refill.new.set.keys waits (omega (arith, some, c.len-set.ensures)) (rw c.requires.closed at c.requires.kept) c.in_ok-refill.ensures.different)
 
 pub returns-clause-same : goal.returns-clause-same
 returns-clause-same c =
@@ -22,4 +22,4 @@ returns-clause-same c =
     let set = c.len-set.result - 1 in
     let some = rw c.requires.closed at c.requires.some in
     let row = c.in_ok-extend_from_slice.ensures.items in
-    rw (c.truncate.ensures, c.truncate-2.ensures, c.requires.closed) (seen_reopened set items c.args.self.now.last c.refill.new.self waits c.extend_from_slice.new.self.items (omega (arith, some, c.len-set.ensures)) (rw c.requires.closed at c.requires.kept) (c.in_ok-refill.ensures.items ∙ c.list.ensures) (row ∙ rw c.clear.ensures.items c.list-2.ensures))
+    rw (c.truncate.ensures, c.truncate-2.ensures, c.requires.closed) (seen_reopened set items c.args.self.now.last.keys c.refill.new.set.keys waits c.extend_from_slice.new.self.items (omega (arith, some, c.len-set.ensures)) (rw c.requires.closed at c.requires.kept) (c.in_ok-refill.ensures.items ∙ c.list.ensures) (row ∙ rw c.clear.ensures.items c.list-2.ensures))
