@@ -1,17 +1,16 @@
 // The lines that answer requests.
 ghost use Rattle.std.specs.Prelude.{◌≡◌, ◌++◌, ◌∷◌, [], List, ℕ, IfOk, OnOk, codes};
 ghost use Rattle.xs_talk.specs.{quoted};
-ghost use Rattle.xs_script.specs.Playing.{number_line, range_text, ranges_text, next_line, IsPutAnswer, IsTreeAnswer, IsNextAnswer, Answers};
+ghost use Rattle.xs_script.specs.Playing.{number_line, range_text, ranges_text, next_line, IsTreeAnswer, IsNextAnswer};
 
-use crate::request::Request;
 use std::alloc::Global;
-use xs_class::{Bytes, Class, Memory, Names, Sym, Word};
-use xs_edit::{EditFault, Session};
+use xs_class::{Bytes, Class, Memory, Names, Sym};
+use xs_edit::Session;
 use xs_pair::Two;
 use xs_talk::{push_decimal, push_symbol, tree_line};
 
 /// Appends a word, a number and the end of the line.
-fn push_number(out: &mut Bytes, word: &[u8], number: u64) -> Result<(), Memory>
+pub fn push_number(out: &mut Bytes, word: &[u8], number: u64) -> Result<(), Memory>
     ensures { OnOk result (out.new ≡ out.old ++ number_line word.now number) }
 {
     out.extend(word)?;
@@ -73,52 +72,24 @@ fn push_class(alloc: Global, out: &mut Bytes, names: &Names, class: &Class) -> R
     Ok(())
 }
 
-/// Edits the document, and appends the line that says how that went.
-fn put(
-    session: &mut Session<'_>,
-    at: u32,
-    cut: u32,
-    put: &Word,
-    out: &mut Bytes,
-) -> Result<(), Memory>
-    ensures answer { OnOk result ((line : List ℕ) × IsPutAnswer session.old.document at cut put.now line session.new.document × (out.new ≡ out.old ++ line)) }
-    ensures pair { session.new.pair ≡ session.old.pair }
-{
-    match session.edit(at, cut, put) {
-        Ok(()) => {
-            push_number(out, b"ok ", session.document().len() as u64)?;
-            Ok(())
-        }
-        Err(EditFault::Outside) => {
-            out.extend(b"no outside\n")?;
-            Ok(())
-        }
-        Err(EditFault::Long) => {
-            out.extend(b"no long\n")?;
-            Ok(())
-        }
-        Err(EditFault::Memory) => Err(Memory),
-    }
-}
-
-/// Appends the line of a derivation of the document, or how far it can be read.
-fn tree(alloc: Global, two: &Two, session: &mut Session<'_>, out: &mut Bytes) -> Result<(), Memory>
+/// The line of a derivation of the document, or how far it can be read.
+pub fn tree(alloc: Global, two: &Two, session: &mut Session<'_>) -> Result<Bytes, Memory>
     requires pair { session.old.pair ≡ two.now }
-    ensures answer { OnOk result ((line : List ℕ) × IsTreeAnswer two.now session.old.document line × (out.new ≡ out.old ++ line)) }
+    ensures answer { IfOk result (IsTreeAnswer two.now session.old.document) }
     ensures unchanged { session.new ≡ session.old }
 {
     match session.tree()? {
-        Some(spelt) => {
-            let line = tree_line(alloc, two, &spelt, session.document())?;
-            out.extend(line.as_slice())?;
+        Some(spelt) => tree_line(alloc, two, &spelt, session.document()),
+        None => {
+            let mut line = Bytes::new(alloc);
+            push_number(&mut line, b"foreign ", session.viable())?;
+            Ok(line)
         }
-        None => push_number(out, b"foreign ", session.viable())?,
     }
-    Ok(())
 }
 
 /// Appends the line of the symbols that may come after a prefix.
-fn next(
+pub fn next(
     alloc: Global,
     two: &Two,
     session: &Session<'_>,
@@ -133,27 +104,4 @@ fn next(
         None => out.extend(b"no beyond\n")?,
     }
     Ok(())
-}
-
-/// Does what is asked for, and appends the line that answers it.
-pub fn answer(
-    alloc: Global,
-    two: &Two,
-    session: &mut Session<'_>,
-    request: &Request,
-    out: &mut Bytes,
-) -> Result<(), Memory>
-    requires pair { session.old.pair ≡ two.now }
-    ensures answer { OnOk result ((line : List ℕ) × Answers two.now session.old.document request.now line session.new.document × (out.new ≡ out.old ++ line)) }
-    ensures pair { session.new.pair ≡ session.old.pair }
-{
-    match request {
-        Request::Put {
-            at,
-            cut,
-            put: symbols,
-        } => put(session, *at, *cut, symbols, out),
-        Request::Tree => tree(alloc, two, session, out),
-        Request::Next { at } => next(alloc, two, session, *at, out),
-    }
 }

@@ -4,8 +4,8 @@ use Rattle.xs_script.proofs.playing.play.Given as goal
 
 abbrev pub invariant-lines : goal.invariant-lines
 invariant-lines l = record {
-  pair : l.session.pair ≡ l.two;
-  playing : IsPlaying l.two l.script l.rest l.number l.out l.session.document;
+  pair : l.draft.pair ≡ l.two;
+  playing : IsPlaying l.two l.script l.rest l.number l.out l.draft.document;
 }
 
 abbrev pub decreases-lines : goal.decreases-lines
