@@ -121,19 +121,27 @@ impl<'t> Draft<'t> {
         Ok(())
     }
 
+    /// The line of a derivation of the document, or how far it can be read: the one that is kept, or a
+    /// new one.
+    fn told(&mut self) -> Result<Bytes, Memory>
+        ensures answer { IfOk result (IsTreeAnswer self.old.pair self.old.document) }
+        ensures document { self.new.document ≡ self.old.document }
+        ensures pair { self.new.pair ≡ self.old.pair }
+    {
+        if let Some(line) = self.line.take() {
+            return Ok(line);
+        }
+        self.catch_up()?;
+        tree(self.alloc, self.two, &mut self.session)
+    }
+
     /// Appends the line of a derivation of the document, or how far it can be read.
     fn tree(&mut self, out: &mut Bytes) -> Result<(), Memory>
         ensures answer { OnOk result ((line : List ℕ) × IsTreeAnswer self.old.pair self.old.document line × (out.new ≡ out.old ++ line)) }
         ensures document { self.new.document ≡ self.old.document }
         ensures pair { self.new.pair ≡ self.old.pair }
     {
-        let line = match self.line.take() {
-            Some(line) => line,
-            None => {
-                self.catch_up()?;
-                tree(self.alloc, self.two, &mut self.session)?
-            }
-        };
+        let line = self.told()?;
         out.extend(line.as_slice())?;
         self.line = Some(line);
         Ok(())

@@ -1,6 +1,8 @@
-use Rattle.std.proofs.Common.{◌≡◌, ◌∙◌, [], true, false, refl, rules}
+use Rattle.std.proofs.Common.{◌≡◌, ◌∙◌, [], true, false, refl, rules, subst}
 use Rattle.std.proofs.lemmas.Result.{err_from_is_err_and}
 use Rattle.xs_regex.proofs.Flags.{empty_test}
+use Rattle.xs_pair.specs.Grammars.{Pair}
+use Rattle.xs_script.specs.Playing.{Answers}
 use Rattle.xs_script.proofs.Playings.{playing_none, playing_more, playing_whole, playing_bad}
 use Rattle.xs_script.proofs.playing.play.Goals as goal
 
@@ -25,9 +27,10 @@ pub lines-preserved : goal.lines-preserved
 lines-preserved c =
     let yes : c.in_ok-play_line.field-0 ≡ true = search (rules) in
     let a = rw yes at c.in_ok-play_line.ensures.played in
+    let answers = subst (λ (p : Pair). Answers p c.lines.draft.document a.0 a.2 c.play_line.new.draft.document) c.lines.invariant.pair a.3 in
     record {
       pair = c.play_line.ensures.pair ∙ c.lines.invariant.pair;
-      playing = playing_more c.args.two.now c.args.script.now c.lines.rest.now c.first_line.result.0.now c.first_line.result.1.now c.lines.out c.lines.draft.document a.2 c.play_line.new.out c.play_line.new.draft.document c.lines.number a.0 c.lines.invariant.playing c.first_line.ensures.line c.first_line.ensures.shorter a.1 a.3 a.4;
+      playing = playing_more c.args.two.now c.args.script.now c.lines.rest.now c.first_line.result.0.now c.first_line.result.1.now c.lines.out c.lines.draft.document a.2 c.play_line.new.out c.play_line.new.draft.document c.lines.number a.0 c.lines.invariant.playing c.first_line.ensures.line c.first_line.ensures.shorter a.1 answers a.4;
     }
 
 pub returns-clause-played : goal.returns-clause-played
