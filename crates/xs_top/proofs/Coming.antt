@@ -18,7 +18,7 @@ use Rattle.xs_top.specs.declared.asking.Job.TheVariants.{Check, Turn, Trees, Mak
 use Rattle.xs_top.specs.Asked.{Ask, shipped, upgrading, certifying, by}
 use Rattle.xs_top.specs.Devices.{Run, Input}
 use Rattle.xs_top.specs.Known.{HasBytes}
-use Rattle.xs_top.specs.Sheets.{IsPairOfBytes, IsUnpaired}
+use Rattle.xs_top.specs.Sheets.{IsPairOfBytes, SpellsUpgrade, IsUnpaired}
 use Rattle.xs_top.specs.Checks.{IsSure}
 use Rattle.xs_top.specs.Certifying.{IsCertified, IsUncertified}
 use Rattle.xs_top.specs.Ran.{IsUnanswered, IsUndone, IsAnswer, Took, Went, no_command, shipped_written, not_upgraded, upgrade_written, uncertified, certified, unpaired, undone, answered, Told}
@@ -78,12 +78,13 @@ not_certifying_upgrading : (n : Named) (cert : List ℕ) (s : Named) → Some (c
 not_certifying_upgrading n cert s e = cc
 
 -- the outcome of an upgrade: the sheet spells no grammars, or an answer was written
-pub went_upgraded : (run : Run) (sheet : List ℕ) (asks : AsksToUpgrade run sheet) (o : Outcome) (names : List (List ℕ)) → Went run o names → IsUnpaired run.shelf asks.named o ⊎ ((answer : List ℕ) × Took run.out answer o)
+pub went_upgraded : (run : Run) (sheet : List ℕ) (asks : AsksToUpgrade run sheet) (o : Outcome) (names : List (List ℕ)) → Went run o names → IsUnpaired run.shelf asks.named o ⊎ ((answer : List ℕ) × SpellsUpgrade run.shelf.files asks.named answer × Took run.out answer o)
 went_upgraded run sheet asks o names (no_command none read took) = absurd (none_asked (upgrading asks.named) (sym asks.is ∙ none))
 went_upgraded run sheet asks o names (shipped_written core is read took) = absurd (not_shipped_upgrading core asks.named (sym is ∙ asks.is))
 went_upgraded run sheet asks o names (not_upgraded named' is why read took) =
     inl (subst (λ (n : Named). IsUnpaired run.shelf n o) (one_upgrading named' asks.named (some_ask (upgrading named') (upgrading asks.named) (sym is ∙ asks.is))) why)
-went_upgraded run sheet asks o names (upgrade_written named' answer is spells read took) = inr (answer, took)
+went_upgraded run sheet asks o names (upgrade_written named' answer is spells read took) =
+    inr (answer, subst (λ (n : Named). SpellsUpgrade run.shelf.files n answer) (one_upgrading named' asks.named (some_ask (upgrading named') (upgrading asks.named) (sym is ∙ asks.is))) spells, took)
 went_upgraded run sheet asks o names (uncertified named' cert is why read took) = absurd (not_certifying_upgrading named' cert asks.named (sym is ∙ asks.is))
 went_upgraded run sheet asks o names (certified named' cert answer is shows read took) = absurd (not_certifying_upgrading named' cert asks.named (sym is ∙ asks.is))
 went_upgraded run sheet asks o names (unpaired named' job' is why read took) = absurd (not_upgrading asks.named named' job' (sym asks.is ∙ is))

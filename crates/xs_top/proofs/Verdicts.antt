@@ -19,6 +19,7 @@ use Rattle.xs_words.specs.Command.{Sheet as Named}
 use Rattle.xs_leiden.specs.Made.{made_text}
 use Rattle.xs_pair.specs.Grammars.{Pair}
 use Rattle.xs_pair.specs.declared.ill.Ill.{Ill}
+use Rattle.xs_wf.specs.Rules.{IsWell}
 use Rattle.xs_sheet_laws.specs.Laws.{OneSheet, AlikeSheetsMeanTheSame, OnePairOfBytes}
 use Rattle.xs_sheet_laws.specs.Pairs.{AreAlike}
 use Rattle.xs_sheet_laws.specs.Refusals.{BrokenOnce, IllOnce, HeavyOnce, site_of, SuspectOnce}
@@ -31,13 +32,13 @@ use Rattle.xs_top.specs.declared.asking.Job.TheVariants.{Check, Turn, Trees, Mak
 use Rattle.xs_top.specs.Devices.{Shelves, Run, Input}
 use Rattle.xs_top.specs.Certifying.{IsUncertain}
 use Rattle.xs_top.specs.Known.{HasBytes}
-use Rattle.xs_top.specs.Sheets.{IsStopped, IsBadSheet, IsIllSheet, IsBadBytes, IsPairOfBytes, IsUnpaired}
+use Rattle.xs_top.specs.Sheets.{IsStopped, IsBadSheet, IsIllSheet, IsBadBytes, IsPairOfBytes, IsUpgradeOfBytes, SpellsUpgrade, IsUnpaired}
 use Rattle.xs_top.specs.Checks.{name_at, line_at, report_at, IsReported, IsUnsure, IsSure}
 use Rattle.xs_top.specs.Answers.{IsUnread, IsNoOutline}
 use Rattle.xs_top.specs.Scripts.{IsNoScript}
 use Rattle.xs_top.specs.Ran.{IsUntaken, IsUnanswered, IsUnplayed, IsUnmade, IsUndone, IsAnswer, Took, Told}
 use Rattle.xs_top.specs.Runs.{AsksFor, AsksToUpgrade, AsksToCertify, wordless, Verdict, bad, ill, heavy, suspect, accepted}
-use Rattle.xs_top.specs.Laws.{PairsAgree, SheetsAgree, IsChecked, ChecksSheet, for_job, by_certificate, verdict, OneVerdict, RefusesSheet, CheckDecides, CheckDecidesUpgrades, CheckDecidesCertificates, CheckAccepts}
+use Rattle.xs_top.specs.Laws.{PairsAgree, SheetsAgree, IsChecked, ChecksSheet, for_job, by_certificate, verdict, OneVerdict, IsFlaw, IsBySheet, does, upgrades, certifies, OneFlaw, RefusesSheet, CheckDecides, CheckDecidesUpgrades, CheckDecidesCertificates, CheckAccepts}
 use Rattle.xs_top.proofs.Known.{has_only, has_short, spelled_pair}
 use Rattle.xs_top.proofs.Agreeing.{sure_kept}
 use Rattle.xs_top.proofs.FencesOnce.{once_in_text, once_in_xml}
@@ -229,13 +230,78 @@ checked_means : (run : Run) (sheet : List ℕ) → ChecksSheet run sheet → (o 
 checked_means run sheet (for_job job asks checked) o v told is = told_means run sheet job asks checked o v told is
 checked_means run sheet (by_certificate asks) o v told is = told_tested_means run sheet asks o v told is
 
+-- what a verdict shows of the bytes where the run may not have checked the sheet
+pub record IsFormed (bytes : List ℕ) : Type 0 where
+  pub sheet : Sheet
+  pub spelled : IsSheetOf bytes sheet
+  pub well : IsWell sheet
+
+abbrev Shows : List ℕ → Verdict → Type 0
+Shows bytes (bad at) = IsBadSheet bytes at
+Shows bytes (ill which) = IsIllSheet bytes which
+Shows bytes (heavy weight) = IsFormed bytes
+Shows bytes (suspect site) = IsFormed bytes
+Shows bytes accepted = IsFormed bytes
+
+pair_formed : (bytes : List ℕ) (p : Pair) → IsPairOfBytes bytes p → IsFormed bytes
+pair_formed bytes p is = record { sheet = is.sheet; spelled = is.spelled; well = is.well }
+
+upgrade_formed : (bytes answer : List ℕ) → IsUpgradeOfBytes bytes answer → IsFormed bytes
+upgrade_formed bytes answer is = record { sheet = is.sheet; spelled = is.spelled; well = is.well }
+
+means_shows : (bytes : List ℕ) (v : Verdict) → Means bytes v → Shows bytes v
+means_shows bytes (bad at) m = m
+means_shows bytes (ill which) m = m
+means_shows bytes (heavy weight) m = pair_formed bytes m.0 m.1
+means_shows bytes (suspect site) m = pair_formed bytes m.0 m.1
+means_shows bytes accepted m = pair_formed bytes m.0 m.1
+
+formed_shows : (sheet : List ℕ) → IsFormed sheet → (o : Outcome) (v : Verdict) → verdict o ≡ Some accepted → verdict o ≡ Some v → Shows sheet v
+formed_shows sheet formed o v is_accepted is = subst (Shows sheet) (some_verdict accepted v (sym is_accepted ∙ is)) formed
+
+undone_shows : (sheet : List ℕ) (p : Pair) (i : Input) (job : Job) → IsPairOfBytes sheet p → (o : Outcome) (v : Verdict) → IsUndone p i job o → verdict o ≡ Some v → Shows sheet v
+undone_shows sheet p i (Trees max) is_p o v why is = formed_shows sheet (pair_formed sheet p is_p) o v (unanswered_accepted p i Text AsIs o why) is
+undone_shows sheet p i Cover is_p o v why is = absurd why
+undone_shows sheet p i Check is_p o v why is = means_shows sheet v (undone_means sheet p i Check tt is_p o v why is)
+undone_shows sheet p i (Turn from to form) is_p o v why is = means_shows sheet v (undone_means sheet p i (Turn from to form) tt is_p o v why is)
+undone_shows sheet p i (Make seed lines) is_p o v why is = means_shows sheet v (undone_means sheet p i (Make seed lines) tt is_p o v why is)
+undone_shows sheet p i Session is_p o v why is = means_shows sheet v (undone_means sheet p i Session tt is_p o v why is)
+undone_shows sheet p i (ToTree from form) is_p o v why is = means_shows sheet v (undone_means sheet p i (ToTree from form) tt is_p o v why is)
+undone_shows sheet p i (FromTree to) is_p o v why is = means_shows sheet v (undone_means sheet p i (FromTree to) tt is_p o v why is)
+undone_shows sheet p i Prove is_p o v why is = means_shows sheet v (undone_means sheet p i Prove tt is_p o v why is)
+
+came_shows : (run : Run) (sheet : List ℕ) (named : Named) (job : Job) → HasBytes run.shelf.files named sheet → (o : Outcome) (v : Verdict) → Came run sheet named job o → verdict o ≡ Some v → Shows sheet v
+came_shows run sheet named job has o v (before why) is = means_shows sheet v (unpaired_means run named sheet has o v why is)
+came_shows run sheet named job has o v (of_job p is_p why) is = undone_shows sheet p run.input job is_p o v why is
+came_shows run sheet named job has o v (with_answer p is_p answer has_answer took) is = formed_shows sheet (pair_formed sheet p is_p) o v (took_accepted run answer o took) is
+
+upgraded_shows : (run : Run) (sheet : List ℕ) (named : Named) → HasBytes run.shelf.files named sheet → (o : Outcome) (v : Verdict) → IsUnpaired run.shelf named o ⊎ ((answer : List ℕ) × SpellsUpgrade run.shelf.files named answer × Took run.out answer o) → verdict o ≡ Some v → Shows sheet v
+upgraded_shows run sheet named has o v (inl why) is = means_shows sheet v (unpaired_means run named sheet has o v why is)
+upgraded_shows run sheet named has o v (inr (answer, spells, took)) is =
+    let formed = subst IsFormed (has_only run.shelf.files named sheet spells.bytes has spells.are) (upgrade_formed spells.bytes answer spells.is) in
+    formed_shows sheet formed o v (took_accepted run answer o took) is
+
+told_shows : (run : Run) (sheet : List ℕ) → IsBySheet run sheet → (o : Outcome) (v : Verdict) → Told run o → verdict o ≡ Some v → Shows sheet v
+told_shows run sheet (does job asks) o v told is = by_case (told_came run sheet job asks o told)
+  where
+    by_case : Came run sheet asks.named job o ⊎ ((of : ℕ) × (written : ℕ) × (o ≡ NoteFault of written) × Rose run.notes.faults_before run.notes.faults_now) → Shows sheet v
+    by_case (inl came) = came_shows run sheet asks.named job asks.has o v came is
+    by_case (inr (of, written, note, rose)) = absurd (note_verdict of written v o note is)
+told_shows run sheet (upgrades asks) o v (other, names, went, inl (same, line)) is =
+    upgraded_shows run sheet asks.named asks.has other v (went_upgraded run sheet asks other names went) (subst (λ (x : Outcome). verdict x ≡ Some v) same is)
+told_shows run sheet (upgrades asks) o v (other, names, went, inr (of, written, note, fails)) is = absurd (note_verdict of written v o note is)
+told_shows run sheet (certifies asks) o v told is = means_shows sheet v (told_tested_means run sheet asks o v told is)
+
 module _ (law : OneReading) (weigh : RuleWeighsOnce) (agree : PairsAgree) (well : SheetsAgree) where
   -- no two kinds of verdicts hold of the same bytes
   bad_not : (sheet : List ℕ) (at : ℕ) → Means sheet (bad at) → (p : Pair) → IsPairOfBytes sheet p → ⊥
   bad_not sheet at is p is_p = is.none is_p.sheet is_p.spelled
 
+  ill_unformed : (sheet : List ℕ) (which : Ill) → Means sheet (ill which) → IsFormed sheet → ⊥
+  ill_unformed sheet which is formed = well sheet formed.sheet is.sheet formed.spelled is.spelled formed.well which.rule which.line is.is_ill.line.fails
+
   ill_not : (sheet : List ℕ) (which : Ill) → Means sheet (ill which) → (p : Pair) → IsPairOfBytes sheet p → ⊥
-  ill_not sheet which is p is_p = well sheet is_p.sheet is.sheet is_p.spelled is.spelled is_p.well which.rule which.line is.is_ill.line.fails
+  ill_not sheet which is p is_p = ill_unformed sheet which is (pair_formed sheet p is_p)
 
   heavy_not_suspect : (sheet : List ℕ) (weight : ℕ) (site : Report) → Means sheet (heavy weight) → Means sheet (suspect site) → ⊥
   heavy_not_suspect sheet weight site (p, is_p, is_heavy) (q, is_q, report, is, same) = by_case (((agree sheet p q is_p is_q).checked.heavy weight).0 is_heavy)
@@ -300,6 +366,25 @@ module _ (law : OneReading) (weigh : RuleWeighsOnce) (agree : PairsAgree) (well 
   pub one_verdict_lem : Refusing → OneVerdict
   one_verdict_lem laws one two sheet asks also o q told_o told_q v w is_v is_w =
       one_meaning laws sheet v w (checked_means one sheet asks o v told_o is_v) (checked_means two sheet also q w told_q is_w)
+
+  one_flaw : Refusing → (sheet : List ℕ) (v w : Verdict) → IsFlaw v → Shows sheet v → Shows sheet w → v ≡ w
+  one_flaw laws sheet (bad at) (bad at') flaw m n = bad_once laws sheet at at' m n
+  one_flaw laws sheet (bad at) (ill which) flaw m n = absurd (m.none n.sheet n.spelled)
+  one_flaw laws sheet (bad at) (heavy weight) flaw m n = absurd (m.none n.sheet n.spelled)
+  one_flaw laws sheet (bad at) (suspect site) flaw m n = absurd (m.none n.sheet n.spelled)
+  one_flaw laws sheet (bad at) accepted flaw m n = absurd (m.none n.sheet n.spelled)
+  one_flaw laws sheet (ill which) (bad at) flaw m n = absurd (n.none m.sheet m.spelled)
+  one_flaw laws sheet (ill which) (ill other) flaw m n = ill_once laws sheet which other m n
+  one_flaw laws sheet (ill which) (heavy weight) flaw m n = absurd (ill_unformed sheet which m n)
+  one_flaw laws sheet (ill which) (suspect site) flaw m n = absurd (ill_unformed sheet which m n)
+  one_flaw laws sheet (ill which) accepted flaw m n = absurd (ill_unformed sheet which m n)
+  one_flaw laws sheet (heavy weight) w flaw m n = absurd flaw
+  one_flaw laws sheet (suspect site) w flaw m n = absurd flaw
+  one_flaw laws sheet accepted w flaw m n = absurd flaw
+
+  pub one_flaw_lem : Refusing → OneFlaw
+  one_flaw_lem laws one two sheet by also o q told_o told_q v w flaw is_v is_w =
+      one_flaw laws sheet v w flaw (told_shows one sheet by o v told_o is_v) (told_shows two sheet also q w told_q is_w)
 
   -- a run by a sheet that is accepted does not refuse it
   unpaired_not : (run : Run) (named : Named) (sheet : List ℕ) → HasBytes run.shelf.files named sheet → (p : Pair) → IsPairOfBytes sheet p → (o : Outcome) → IsUnpaired run.shelf named o → RefusesSheet o → ⊥
@@ -371,9 +456,9 @@ module _ (law : OneReading) (weigh : RuleWeighsOnce) (agree : PairsAgree) (well 
       by_case (inr (of, written, note, rose)) = subst (λ (x : Outcome). RefusesSheet x) note refuses
 
   -- an upgrade of a sheet that is accepted does not refuse it
-  upgrade_not : (run : Run) (sheet : List ℕ) (named : Named) → HasBytes run.shelf.files named sheet → (p : Pair) → IsPairOfBytes sheet p → (o : Outcome) → IsUnpaired run.shelf named o ⊎ ((answer : List ℕ) × Took run.out answer o) → RefusesSheet o → ⊥
+  upgrade_not : (run : Run) (sheet : List ℕ) (named : Named) → HasBytes run.shelf.files named sheet → (p : Pair) → IsPairOfBytes sheet p → (o : Outcome) → IsUnpaired run.shelf named o ⊎ ((answer : List ℕ) × SpellsUpgrade run.shelf.files named answer × Took run.out answer o) → RefusesSheet o → ⊥
   upgrade_not run sheet named has p is_p o (inl why) refuses = unpaired_not run named sheet has p is_p o why refuses
-  upgrade_not run sheet named has p is_p o (inr (answer, took)) refuses = accepted_not o (took_accepted run answer o took) refuses
+  upgrade_not run sheet named has p is_p o (inr (answer, spells, took)) refuses = accepted_not o (took_accepted run answer o took) refuses
 
   told_upgrade_not : (run : Run) (sheet : List ℕ) → AsksToUpgrade run sheet → (p : Pair) → IsPairOfBytes sheet p → (o : Outcome) → Told run o → RefusesSheet o → ⊥
   told_upgrade_not run sheet asks p is_p o (other, names, went, inl (is, line)) refuses =

@@ -154,6 +154,36 @@ OneVerdict =
     → verdict q ≡ Some w
     → v ≡ w
 
+-- the bytes of a sheet are none, or those of one that is ill
+abbrev pub IsFlaw : Verdict → Type 0
+IsFlaw (bad at) = ⊤
+IsFlaw (ill which) = ⊤
+IsFlaw (heavy weight) = ⊥
+IsFlaw (suspect report) = ⊥
+IsFlaw accepted = ⊥
+
+-- the run is by a sheet of these bytes: for a job, for its upgrade, or for its check by a certificate
+pub data IsBySheet (run : Run) (sheet : List ℕ) : Type 0 where
+  does : (job : Job) → AsksFor run job sheet → IsBySheet run sheet
+  upgrades : AsksToUpgrade run sheet → IsBySheet run sheet
+  certifies : AsksToCertify run sheet → IsBySheet run sheet
+
+-- Where a run tells that a sheet is none, or ill, each run by the same sheet that tells anything of it tells the same,
+-- whether it checks the sheet or not.
+abbrev pub OneFlaw : Type 0
+OneFlaw =
+    (one two : Run) (sheet : List ℕ)
+    → IsBySheet one sheet
+    → IsBySheet two sheet
+    → (o q : Outcome)
+    → Told one o
+    → Told two q
+    → (v w : Verdict)
+    → IsFlaw v
+    → verdict o ≡ Some v
+    → verdict q ≡ Some w
+    → v ≡ w
+
 -- an outcome that refuses the sheet
 abbrev pub RefusesSheet : Outcome → Type 0
 RefusesSheet (SheetBad at) = ⊤

@@ -1,5 +1,5 @@
 ghost use Rattle.xs_top.specs.Certificates.{CertificatesAgree, ProofIsTaken, OneCertificate};
-ghost use Rattle.xs_top.specs.Laws.{PairsAgree, SheetsAgree, OutlinesAgree, ScriptsAgree, OneAnswer, TranslatesBack, RoundIsIdempotent, TranslatesAgain, RefusesExactly, OneVerdict, CheckDecides, CheckDecidesUpgrades, CheckDecidesCertificates, CheckAccepts};
+ghost use Rattle.xs_top.specs.Laws.{PairsAgree, SheetsAgree, OutlinesAgree, ScriptsAgree, OneAnswer, TranslatesBack, RoundIsIdempotent, TranslatesAgain, RefusesExactly, OneVerdict, OneFlaw, CheckDecides, CheckDecidesUpgrades, CheckDecidesCertificates, CheckAccepts};
 
 use xs_cert_alike::alike_have_same_certificates;
 use xs_check_laws::weights_are_exact;
@@ -65,10 +65,12 @@ pub fn refuses_exactly()
 }
 
 /// Two runs that check a sheet tell the same of it: the same place, rule and line, weight, or suspect
-/// but for its words; and once a check, with a certificate or without, or `prove` is done, no run
+/// but for its words; two runs by a sheet, whether they check it or not, tell the same place, or rule
+/// and line, if one of them tells any; and once a check, with a certificate or without, or `prove` is done, no run
 /// refuses the sheet, and each word of either language has at most one derivation.
 pub fn check_decides()
     ensures one { OneVerdict }
+    ensures flaws { OneFlaw }
     ensures decides { CheckDecides }
     ensures upgrades { CheckDecidesUpgrades }
     ensures certificates { CheckDecidesCertificates }
