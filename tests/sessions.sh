@@ -22,3 +22,7 @@ refuses 'session pair' $'trees\n\xff' 4 $'input: byte 6: not UTF-8\n'
 shows 'letters are put at the end of many, 2,000 times one after 20,000'
 script="put 0 0 \"$(copies a 20000)\""$'\n'$(seq -f 'put %.0f 0 "a"' 20000 21999)$'\n'
 gives 'session letters' "$script" "$(seq -f 'ok %.0f' 20000 22000)"$'\n'
+
+shows 'the same, where each line is followed by one that asks: only the letter that is new is read'
+script="put 0 0 \"$(copies a 20000)\""$'\n'$(seq -f 'put %.0f 0 "a"' 20000 21999 | awk '{print; print "next " $2 + 1}')$'\n'
+gives 'session letters' "$script" "$(seq -f 'ok %.0f' 20000 22000 | awk '{print; if (NR > 1) print "next \"a\""}')"$'\n'
