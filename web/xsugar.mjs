@@ -213,10 +213,17 @@ function sheetError(told, source) {
   return error;
 }
 
+/** Returns a character in quotes; one that cannot be seen alone as a sheet may write it. */
+function visible(character) {
+  return /^[ \p{L}\p{N}\p{P}\p{S}]$/u.test(character) && !/["\\]/u.test(character)
+    ? `"${character}"`
+    : quoted(character);
+}
+
 /** Returns ranges of characters as a message shows them. */
 function shown(ranges) {
   const words = ranges.map(([first, last]) =>
-    first === last ? quoted(first) : `${quoted(first)}-${quoted(last)}`);
+    first === last ? visible(first) : `${visible(first)}-${visible(last)}`);
   return words.join(" ") || "the end";
 }
 
