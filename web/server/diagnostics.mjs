@@ -5,7 +5,7 @@
  * @typedef {import("./notation.mjs").Notation} Notation
  * @typedef {{range: object, message: string, relatedInformation: object[]}} Diagnostic
  */
-import { openedElement, openedMark } from "../brackets.mjs";
+import { openedBefore } from "../brackets.mjs";
 import { told } from "../characters.mjs";
 import {
   ForeignError,
@@ -76,12 +76,6 @@ function hasPlace(error) {
   return [ForeignError, NotUtf8Error, NotXmlError].some((it) => error instanceof it);
 }
 
-/** Returns what was opened before the place of an error and is not closed there, or null. */
-function openedBefore({ kind, text }, { productions, fences }, { offset }) {
-  if (kind === "xml") return openedElement(text, offset);
-  return productions ? openedMark(text, offset, productions, fences) : null;
-}
-
 /** Returns where a bracket or an element was opened that is not closed. */
 function openings(document, opened) {
   if (opened === null) return [];
@@ -102,7 +96,7 @@ function ofDocumentError(document, notation, error) {
     return diagnostic(document.lineRange(1), error.report.replace(/^input: /u, ""));
   }
   const range = matchedAt(document, document.kind === "xml" ? IN_XML : IN_TEXT, error.offset);
-  const opened = openedBefore(document, notation, error);
+  const opened = openedBefore(document.kind, document.text, error.offset, notation);
   return diagnostic(range, messageOf(error, document.kind, notation.closing), openings(document, opened));
 }
 
