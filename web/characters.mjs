@@ -61,10 +61,23 @@ export function grouped(ranges, closing = []) {
   const isLong = ([first, last]) => last.codePointAt(0) - first.codePointAt(0) >= LONG;
   for (const [first, last] of ranges.filter((it) => !isLong(it))) count(first, last, found);
   const isFew = ([name, { size }]) => name === null || size <= FEW;
-  const characters = [...found].filter(isFew).flatMap(([, { plain }]) => plain);
+  const few = [...found].filter(isFew).flatMap(([, { plain }]) => plain);
+  // a carriage return is but another way to write a line end
+  const characters = few.filter((it) => it !== "\r" || !few.includes("\n"));
   const classes = [...found].filter((it) => !isFew(it)).map(([name]) => name);
   if (ranges.some(isLong)) classes.push(ANY);
   return { characters: ordered(characters, closing), classes };
+}
+
+/** Returns letters as they are shown: blanks, and marks without a letter, can be seen. */
+export function seen(letters) {
+  const shown = letters.replaceAll(" ", "␣").replaceAll("\n", "↵").replaceAll("\t", "⇥");
+  return shown.replace(/^\p{M}/u, "◌$&");
+}
+
+/** Returns a number of things of a name. */
+export function counted(number, name) {
+  return `${number} ${name}${number === 1 ? "" : "s"}`;
 }
 
 /** Returns how a character is called in a sentence. */

@@ -13,6 +13,7 @@ import { opened, save } from "./files.mjs";
 import { button, Message } from "./message.mjs";
 import { OutlineView } from "./outline.mjs";
 import { lineSpan, Pane } from "./pane.mjs";
+import { placeOf } from "./places.mjs";
 import { productionAt, productionsOf } from "./productions.mjs";
 import { isOfSheet, said, sheetMarks } from "./refusals.mjs";
 import { keep, kept } from "./storage.mjs";
@@ -201,11 +202,12 @@ class Page {
   #saySheet(refusal) {
     for (const it of Object.values(this.panes)) it.mark([]);
     const why = element("source").hidden ? [said(refusal)] : [];
-    const go = button("Go there", "F8", () => this.#goToWrong());
-    this.message.refuse("The sheet is not accepted, so nothing is translated.", ...why, go);
+    const marks = sheetMarks(refusal, (line) => lineSpan(this.source.text, line));
+    const go = marks.length > 0 ? [button("Go there", "F8", () => this.#goToWrong())] : [];
+    this.message.refuse("The sheet is not accepted, so nothing is translated.", ...why, ...go);
     element("sheet-said").className = "wrong";
     element("sheet-said").textContent = said(refusal);
-    this.source.mark(sheetMarks(refusal, (line) => lineSpan(this.source.text, line)));
+    this.source.mark(marks);
     this.source.reveal("wrong");
   }
 
@@ -278,9 +280,12 @@ class Page {
     const at = pane.cursor;
     const answered = await this.translator.ask("next", { source: this.#sheet, text: pane.text.slice(0, at) });
     if (answered === STALE || answered.refusal) return;
-    const chips = answered.answer === null ? [] : this.#suggestions(answered.answer, at);
-    const words = chips.length > 0 ? "May come at the cursor:" : "Nothing may come at the cursor.";
-    this.message.offer(words, ...chips);
+    if (answered.answer === null) {
+      this.message.offer("What stands before the cursor does not fit, or is too long: nothing is offered.");
+      return;
+    }
+    const buttons = this.#suggestions(answered.answer, at);
+    this.message.offer("May come at the cursor:", ...(buttons.length > 0 ? buttons : ["the end"]));
   }
 
   #keep() {
@@ -415,9 +420,9 @@ function characterEnd(text, offset) {
 
 /** Says where a bracket was opened that is not closed. */
 function openSaid({ begin, end, sure }, text) {
-  const before = text.slice(0, begin).split("\n");
-  const place = `line ${before.length}, column ${[...before.at(-1)].length + 1}`;
-  return `${text.slice(begin, end)} was opened at ${place}, and is ${sure ? "" : "perhaps "}still open here.`;
+  const { line, column } = placeOf(text, begin);
+  const opening = `${text.slice(begin, end)} was opened at line ${line}, column ${column}`;
+  return `${opening}, and is ${sure ? "" : "perhaps "}still open here.`;
 }
 
 /** Returns the marks of a row in a pane; the root is the whole document, which is not marked. */

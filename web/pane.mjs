@@ -3,6 +3,7 @@
  *
  * @typedef {{begin: number, end: number, kind: "wrong" | "open" | "here"}} Mark
  */
+import { placeOf } from "./places.mjs";
 
 /** Returns where the line of an offset ends. */
 function endOfLine(text, offset) {
@@ -122,7 +123,7 @@ export class Pane {
   }
 
   #tellCursor() {
-    const before = this.text.slice(0, this.cursor).split("\n");
-    this.output.value = `line ${before.length}, column ${[...before.at(-1)].length + 1}`;
+    const { line, column } = placeOf(this.text, this.cursor);
+    this.output.value = `line ${line}, column ${column}`;
   }
 }
