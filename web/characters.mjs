@@ -18,7 +18,7 @@ export const ANY = "nearly any character";
 const NAMES = {
   " ": "a space", "\n": "a line end", "\r": "a carriage return", "\t": "a tab", "\u0323": "a dot below",
 };
-const HIDDEN = /[\p{M}\p{C}\p{Z}]/u;
+const HIDDEN = /^[\p{M}\p{C}\p{Z}]$/u;
 /** The most characters of a class that are shown one by one. */
 const FEW = 6;
 /** The length from which a range is not looked into. */
@@ -80,7 +80,7 @@ export function counted(number, name) {
   return `${number} ${name}${number === 1 ? "" : "s"}`;
 }
 
-/** Returns how a character is called in a sentence. */
+/** Returns how a character is called in a sentence; a word stands in quotes. */
 export function nameOf(character) {
   if (character in NAMES) return NAMES[character];
   const code = character.codePointAt(0).toString(16).toUpperCase().padStart(4, "0");

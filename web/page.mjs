@@ -13,7 +13,7 @@ import { opened, save } from "./files.mjs";
 import { button, Message } from "./message.mjs";
 import { OutlineView } from "./outline.mjs";
 import { lineSpan, Pane } from "./pane.mjs";
-import { placeOf } from "./places.mjs";
+import { placeOf, standingAt } from "./places.mjs";
 import { productionAt, productionsOf } from "./productions.mjs";
 import { isOfSheet, said, sheetMarks } from "./refusals.mjs";
 import { keep, kept } from "./storage.mjs";
@@ -183,9 +183,12 @@ class Page {
       return;
     }
     const { offset = null, expected = null, opened = null } = refusal;
-    const marks = offset === null ? [] : [{ begin: offset, end: characterEnd(pane.text, offset), kind: "wrong" }];
-    const more = [];
-    if (offset !== null) more.push(button("Go there", "F8", () => this.#goToWrong()));
+    const [marks, more] = [[], []];
+    if (offset !== null) {
+      const end = offset + standingAt(pane.text, side, offset).length;
+      marks.push({ begin: offset, end, kind: "wrong" });
+      more.push(button("Go there", "F8", () => this.#goToWrong()));
+    }
     if (opened !== null) {
       marks.push({ ...opened, kind: "open" });
       more.push(openSaid(opened, pane.text), button("Go to the opening", "Shift F8", () => pane.goTo("open")));
@@ -411,11 +414,6 @@ class Page {
     event.preventDefault();
     this.#keys[name]();
   }
-}
-
-/** Returns where the character of an offset ends. */
-function characterEnd(text, offset) {
-  return offset + (text.codePointAt(offset) > 0xffff ? 2 : 1);
 }
 
 /** Says where a bracket was opened that is not closed. */

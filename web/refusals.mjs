@@ -4,8 +4,11 @@
  * @typedef {import("./worker.mjs").Refusal} Refusal
  */
 import { nameOf, seen } from "./characters.mjs";
+import { standingAt } from "./places.mjs";
 
 const SIDES = { text: "Text", xml: "XML" };
+/** How much of a letter and its accents is looked at. */
+const LONGEST_ACCENTED = 8;
 
 /** Returns words in quotes, one after another. */
 function quoted(...words) {
@@ -47,15 +50,24 @@ export function isOfSheet(refusal) {
   return refusal.name === "SheetError" || refusal.name === "SuspectError";
 }
 
+/** Says what splitting accents may make of a character that does not fit after others, or nothing. */
+function split(character, before, expected) {
+  const [letter] = character.normalize("NFD");
+  const isExpected = expected?.some(([first, last]) => first <= letter && letter <= last);
+  const [accented] = /\P{M}\p{M}+$/u.exec(before + character) ?? [""];
+  if (letter !== character && isExpected) return `; ${nameOf(letter)} does: try “split” under Accents`;
+  if (accented !== accented.normalize("NFD")) return " after an accent: try “split” under Accents";
+  return "";
+}
+
 /** Says what does not fit at a place of a document. */
 function foreign({ offset, expected }, side, document) {
   if (offset === document.length) return "the document ends too early.";
-  if (side === "xml" || offset === null) return "what stands here does not fit.";
-  const character = String.fromCodePoint(document.codePointAt(offset));
-  const [letter] = character.normalize("NFD");
-  const isSplit = letter !== character && expected?.some(([first, last]) => first <= letter && letter <= last);
-  const cure = isSplit ? `; ${nameOf(letter)} does: try “split” under Accents` : "";
-  return `${nameOf(character)} does not fit here${cure}.`;
+  if (offset === null) return "what stands here does not fit.";
+  const standing = standingAt(document, side, offset) || document[offset];
+  if (side === "xml") return `${nameOf(standing)} does not fit here.`;
+  const before = document.slice(Math.max(0, offset - LONGEST_ACCENTED), offset);
+  return `${nameOf(standing)} does not fit here${split(standing, before, expected)}.`;
 }
 
 /**

@@ -15,18 +15,9 @@ import {
   SuspectError,
   XsugarError,
 } from "../errors.mjs";
+import { standingAt } from "../places.mjs";
 
 const ERROR = 1;
-/** What stands at a place of an XML document: a tag's begin, an attribute's name, a character. */
-const IN_XML = /<\/?[^\s<>/]*|&[^\s;<]*;|[^\s"'<>/=]+(?=\s*=\s*["'])|[^\r\n]/suy;
-const IN_TEXT = /[^\r\n]/suy;
-const IN_SHEET = /\S+/suy;
-
-function matchedAt(document, pattern, offset) {
-  pattern.lastIndex = offset;
-  const [found] = pattern.exec(document.text) ?? [""];
-  return document.range(offset, offset + found.length);
-}
 
 function diagnostic(range, message, relatedInformation = []) {
   return { range, message, relatedInformation, severity: ERROR, source: "xsugar" };
@@ -66,7 +57,8 @@ function ofSuspect(document, error) {
 function ofSheetError(document, error) {
   if (error instanceof SuspectError) return ofSuspect(document, error);
   if (error.offset !== null) {
-    return [diagnostic(matchedAt(document, IN_SHEET, error.offset), "not expected here")];
+    const [word] = /^\S*/u.exec(document.text.slice(error.offset));
+    return [diagnostic(document.range(error.offset, error.offset + word.length), "not expected here")];
   }
   const message = error.report.replace(/^sheet: (?:line \d+: )?/u, "");
   return [diagnostic(document.lineRange(error.line ?? 1), message)];
@@ -95,9 +87,11 @@ function ofDocumentError(document, notation, error) {
   if (!hasPlace(error)) {
     return diagnostic(document.lineRange(1), error.report.replace(/^input: /u, ""));
   }
-  const range = matchedAt(document, document.kind === "xml" ? IN_XML : IN_TEXT, error.offset);
-  const opened = openedBefore(document.kind, document.text, error.offset, notation);
-  return diagnostic(range, messageOf(error, document.kind, notation.closing), openings(document, opened));
+  const { kind, text } = document;
+  const { offset } = error;
+  const range = document.range(offset, offset + standingAt(text, kind, offset).length);
+  const opened = openings(document, openedBefore(kind, text, offset, notation));
+  return diagnostic(range, messageOf(error, kind, notation.closing), opened);
 }
 
 /** Says of a document in one line why it is refused. */
