@@ -47,8 +47,8 @@ class Page {
   /** Whether both panes have one document. */
   isSettled = false;
   focused = this.panes.text;
-  /** The name of the file that was opened last, without its ending. */
-  name = "document";
+  /** The name of the file that was opened last. */
+  name = "document.txt";
   #calm = { long: new Calm(), rows: new Calm(), check: new Calm(), keep: new Calm(), cursor: new Calm() };
 
   constructor(script, bytes) {
@@ -306,12 +306,12 @@ class Page {
 
   /** Opens a file in the pane that its name says. */
   async #open(file) {
-    const { name, kind, text } = await opened(file);
+    const { kind, text } = await opened(file);
     if (text === null) {
       this.message.refuse(`${file.name} is not UTF-8. Save it as UTF-8, and open it again.`);
       return;
     }
-    this.name = name;
+    this.name = file.name;
     if (kind === "source") {
       this.state.own = text;
       element("sheet").value = OWN;
