@@ -2,13 +2,15 @@
  * What was opened before a place of a document and is not closed there.
  *
  * @typedef {import("./productions.mjs").Productions} Productions
- * @typedef {{begin: number, end: number, sure: boolean}} Opened where the opening stands, and whether it
- *   is certain that nothing closed it
+ * @typedef {{begin: number, end: number, sure: boolean}} Opened where the opening stands, and
+ *   whether it is certain that nothing closed it
  */
 const TAG = /<!--.*?-->|<\?.*?\?>|<!\[CDATA\[.*?\]\]>|<(?<close>\/?)[^\s>/]+(?:"[^"]*"|'[^']*'|[^>"'])*>/gsu;
 const SIGN = /^[\p{P}\p{S}]/u;
 
-/** Returns the offset of the innermost character of fences that is open at the end of a text, or -1. */
+/**
+ * Returns the offset of the innermost character of fences that is open at the end of a text, or -1.
+ */
 function openFence(before, fences) {
   const open = [];
   const closing = new Map(fences.map(([left, right]) => [right, left]));
@@ -21,8 +23,8 @@ function openFence(before, fences) {
 }
 
 /**
- * Returns of each production that begins with a string, and is no empty mark, that string, the last one
- * that is a sign, and whether it is a block, which holds ignorables.
+ * Returns of each production that begins with a string, and is no empty mark, that string, the last
+ * one that is a sign, and whether it is a block, which holds ignorables.
  */
 function marksOf(productions) {
   return productions.filter(({ text }) => text.length > 1 && text[0].kind === "string").map(({ text }) => {
@@ -49,8 +51,8 @@ function isOpenIn(letters, { left, right }) {
 }
 
 /**
- * Returns the last opening by a mark that has no fence and begins after a place, if there is one. Of
- * marks that open alike each may close it.
+ * Returns the last opening by a mark that has no fence and begins after a place, if there is one.
+ * Of marks that open alike each may close it.
  */
 function unfenced(before, from, marks) {
   const inside = before.slice(from + 1);
@@ -65,8 +67,8 @@ function unfenced(before, from, marks) {
 }
 
 /**
- * Returns what was opened in a text before an offset and is open there: the innermost bracket of the
- * fences, or a mark without a fence that begins after it; a block only at the end of the text.
+ * Returns what was opened in a text before an offset and is open there: the innermost bracket of
+ * the fences, or a mark without a fence that begins after it; a block only at the end of the text.
  */
 function openedMark(text, offset, productions, fences) {
   const before = text.slice(0, offset);
@@ -80,8 +82,8 @@ function openedMark(text, offset, productions, fences) {
 }
 
 /**
- * Returns the tag of the innermost element that is open at an offset of an XML document; of the root
- * only at the end.
+ * Returns the tag of the innermost element that is open at an offset of an XML document; of the
+ * root only at the end.
  */
 function openedElement(xml, offset) {
   const open = [];
@@ -100,8 +102,8 @@ function openedElement(xml, offset) {
  * @param {"text" | "xml"} side
  * @param {string} document
  * @param {number} offset
- * @param {{productions: Productions | null, fences: [string, string][]}} sheet what its source says, and
- *   the pairs of characters that always stand one inside the other
+ * @param {{productions: Productions | null, fences: [string, string][]}} sheet what its source
+ *   says, and the pairs of characters that always stand one inside the other
  * @returns {Opened | null}
  */
 export function openedBefore(side, document, offset, { productions, fences }) {

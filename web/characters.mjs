@@ -29,7 +29,9 @@ export function classOf(character) {
   return CLASSES.find(([pattern]) => pattern.test(character))?.[1] ?? null;
 }
 
-/** Counts the characters of a range by their classes, of which null is none; keeps the plain ones. */
+/**
+ * Counts the characters of a range by their classes, of which null is none; keeps the plain ones.
+ */
 function count(first, last, classes) {
   const [begin, end] = [first.codePointAt(0), last.codePointAt(0)];
   for (let code = begin; code <= end; code++) {

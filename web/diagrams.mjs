@@ -1,6 +1,6 @@
 /**
- * The productions of a sheet as railroad diagrams: a track for each production of a name, from left to
- * right the items of its text side, and under the track its XML.
+ * The productions of a sheet as railroad diagrams: a track for each production of a name, from left
+ * to right the items of its text side, and under the track its XML.
  *
  * @typedef {import("./productions.mjs").Productions} Productions
  * @typedef {import("./productions.mjs").Production} Production
@@ -57,7 +57,9 @@ export class Diagrams {
     this.choose = choose;
   }
 
-  /** @param {Productions | null} sheet null leaves the diagrams of the last sheet that could be read */
+  /**
+   * @param {Productions | null} sheet null leaves the diagrams of the last sheet that could be read
+   */
   set sheet(sheet) {
     if (sheet === null || sheet === this.#sheet) return;
     this.#sheet = sheet;

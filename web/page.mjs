@@ -1,6 +1,6 @@
 /**
- * The page for editors: a text and its XML side by side, either typed in, by a sheet that is chosen or
- * written beside them.
+ * The page for editors: a text and its XML side by side, either typed in, by a sheet that is chosen
+ * or written beside them.
  *
  * @typedef {import("./worker.mjs").Refusal} Refusal
  * @typedef {"text" | "xml"} Side
@@ -41,7 +41,9 @@ class Page {
   message = new Message(element("message"));
   outline = new OutlineView(element("outline"), (row) => this.#showRow(row));
   diagrams = new Diagrams(element("diagrams"), (production) => this.#showProduction(production));
-  /** What is kept: the name of the sheet, one's own sheet, the side that was typed, its document, .. */
+  /**
+   * What is kept: the name of the sheet, one's own sheet, the side that was typed, its document, ..
+   */
   state = { sheet: "@leiden2", own: "", side: "text", document: "", form: "asis", panels: {}, ...kept() };
   productions = null;
   /** Whether both panes have one document. */

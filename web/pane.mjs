@@ -54,7 +54,9 @@ export class Pane {
     return this.area.selectionStart;
   }
 
-  /** Replaces what stands from one place to another, as if it were typed, so that it can be undone. */
+  /**
+   * Replaces what stands from one place to another, as if it were typed, so that it can be undone.
+   */
   type(begin, end, letters) {
     this.area.focus();
     this.area.setSelectionRange(begin, end);

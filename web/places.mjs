@@ -20,7 +20,10 @@ const PIECE = new RegExp(
   "gsu",
 );
 
-/** What stands at a place of XML: a tag's begin or end, a reference, an attribute's name, a character. */
+/**
+ * What stands at a place of XML: a tag's begin or end, a reference, an attribute's name, a
+ * character.
+ */
 const IN_XML = /<\/?[^\s<>/]*|\/?>|&[^\s;<]*;|[^\s"'<>/=]+(?=\s*=\s*["'])|[^\r\n]/suy;
 const IN_TEXT = /[^\r\n]/suy;
 

@@ -50,7 +50,9 @@ export function isOfSheet(refusal) {
   return refusal.name === "SheetError" || refusal.name === "SuspectError";
 }
 
-/** Says what splitting accents may make of a character that does not fit after others, or nothing. */
+/**
+ * Says what splitting accents may make of a character that does not fit after others, or nothing.
+ */
 function split(character, before, expected) {
   const [letter] = character.normalize("NFD");
   const isExpected = expected?.some(([first, last]) => first <= letter && letter <= last);

@@ -76,7 +76,10 @@ class Translator {
     return this.#opened(source).sheet.next(text);
   }
 
-  /** Answers the rows of the outline of a text and its XML, or null where it is no text of the sheet. */
+  /**
+   * Answers the rows of the outline of a text and its XML, or null where it is no text of the
+   * sheet.
+   */
   rows({ source, text, form, xml }) {
     const { sheet, productions } = this.#opened(source);
     const counted = form === "asis" ? text : text.normalize(form.toUpperCase());

@@ -434,7 +434,8 @@ export class Xsugar {
 /**
  * Makes an instance of the module. Each has a memory of its own, so several workers have one each.
  *
- * @param {Uint8Array | WebAssembly.Module} module the bytes of web/xsugar.wasm, or what was compiled
+ * @param {Uint8Array | WebAssembly.Module} module the bytes of web/xsugar.wasm, or what was
+ *   compiled
  * @param {{megabytes?: number}} options the memory that it takes at most, from 2 to 1,024, as it is
  *   where nothing is said
  * @returns {Promise<Xsugar>}

@@ -65,8 +65,8 @@ export function listOf(words, kind, range) {
 }
 
 /**
- * Returns the completions at an offset of a text, what closes a bracket first. A class of characters
- * is one item, which puts in one of them.
+ * Returns the completions at an offset of a text, what closes a bracket first. A class of
+ * characters is one item, which puts in one of them.
  *
  * @param {import("./open_document.mjs").OpenDocument} document
  * @param {number} offset
