@@ -56,7 +56,7 @@ class Browser:
         return json.loads(line)
 
     def call(self, method, session=None, **parameters):
-        """Calls a method of the protocol and returns its result; events that come meanwhile are kept."""
+        """Calls a method of the protocol and returns its result; events meanwhile are kept."""
         self.number += 1
         said = {"id": self.number, "method": method, "params": parameters}
         if session:

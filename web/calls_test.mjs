@@ -77,6 +77,10 @@ test("a foreign text has its place and what is expected there", () => {
   refuses(() => pair.toXml("(3,7))"), api.ForeignError, {
     message: "line 1, column 6: expected the end", line: 1, column: 6, offset: 5, expected: [],
   });
+  const greek = xsugar.open('xsugar-1\nstart s\ns : [t a] = <s>[t a]</s>\nterminal t = /[α-ω\u{300}]/\n');
+  refuses(() => greek.toXml("a"), api.ForeignError, {
+    message: 'line 1, column 1: expected "\\u{300}" "α"-"ω"', expected: [["\u0300", "\u0300"], ["α", "ω"]],
+  });
   refuses(() => pair.toXml("\ufeff(3,7"), api.ForeignError, {
     symbols: 4, line: 1, column: 5, offset: 5, expected: [[")", ")"]],
   });

@@ -18,7 +18,7 @@ export const ANY = "nearly any character";
 const NAMES = {
   " ": "a space", "\n": "a line end", "\r": "a carriage return", "\t": "a tab", "\u0323": "a dot below",
 };
-const HIDDEN = /[\p{M}\p{C}\p{Z}]/u;
+const HIDDEN = /^[\p{M}\p{C}\p{Z}]$/u;
 /** The most characters of a class that are shown one by one. */
 const FEW = 6;
 /** The length from which a range is not looked into. */
@@ -29,7 +29,9 @@ export function classOf(character) {
   return CLASSES.find(([pattern]) => pattern.test(character))?.[1] ?? null;
 }
 
-/** Counts the characters of a range by their classes, of which null is none; keeps the plain ones. */
+/**
+ * Counts the characters of a range by their classes, of which null is none; keeps the plain ones.
+ */
 function count(first, last, classes) {
   const [begin, end] = [first.codePointAt(0), last.codePointAt(0)];
   for (let code = begin; code <= end; code++) {
@@ -61,13 +63,26 @@ export function grouped(ranges, closing = []) {
   const isLong = ([first, last]) => last.codePointAt(0) - first.codePointAt(0) >= LONG;
   for (const [first, last] of ranges.filter((it) => !isLong(it))) count(first, last, found);
   const isFew = ([name, { size }]) => name === null || size <= FEW;
-  const characters = [...found].filter(isFew).flatMap(([, { plain }]) => plain);
+  const few = [...found].filter(isFew).flatMap(([, { plain }]) => plain);
+  // a carriage return is but another way to write a line end
+  const characters = few.filter((it) => it !== "\r" || !few.includes("\n"));
   const classes = [...found].filter((it) => !isFew(it)).map(([name]) => name);
   if (ranges.some(isLong)) classes.push(ANY);
   return { characters: ordered(characters, closing), classes };
 }
 
-/** Returns how a character is called in a sentence. */
+/** Returns letters as they are shown: blanks, and marks without a letter, can be seen. */
+export function seen(letters) {
+  const shown = letters.replaceAll(" ", "␣").replaceAll("\n", "↵").replaceAll("\t", "⇥");
+  return shown.replace(/^\p{M}/u, "◌$&");
+}
+
+/** Returns a number of things of a name. */
+export function counted(number, name) {
+  return `${number} ${name}${number === 1 ? "" : "s"}`;
+}
+
+/** Returns how a character is called in a sentence; a word stands in quotes. */
 export function nameOf(character) {
   if (character in NAMES) return NAMES[character];
   const code = character.codePointAt(0).toString(16).toUpperCase().padStart(4, "0");

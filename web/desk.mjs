@@ -1,6 +1,6 @@
 /**
- * Questions to a worker, one at a time. Of the questions of one call only the newest counts: an older
- * one that waits is not asked, and its answer is dropped where it was asked already.
+ * Questions to a worker, one at a time. Of the questions of one call only the newest counts: an
+ * older one that waits is not asked, and its answer is dropped where it was asked already.
  */
 
 /** What a question comes to that a newer one replaced. */
@@ -20,7 +20,8 @@ export class Desk {
 
   /**
    * @param {() => Worker} start begins a worker that was sent its module
-   * @param {(refusal: import("./worker.mjs").Refusal) => void} failed is told where it cannot be loaded
+   * @param {(refusal: import("./worker.mjs").Refusal) => void} failed is told where it cannot be
+   *   loaded
    */
   constructor(start, failed) {
     this.#start = start;

@@ -1,10 +1,12 @@
 /**
- * The productions of a sheet as railroad diagrams: a track for each production of a name, from left to
- * right the items of its text side, and under the track its XML.
+ * The productions of a sheet as railroad diagrams: a track for each production of a name, from left
+ * to right the items of its text side, and under the track its XML.
  *
  * @typedef {import("./productions.mjs").Productions} Productions
  * @typedef {import("./productions.mjs").Production} Production
  */
+import { counted, seen } from "./characters.mjs";
+
 const SPACE = "http://www.w3.org/2000/svg";
 const BOX = { height: 24, gap: 14, inset: 8 };
 const TRACK = { height: 52, left: 34, middle: 18 };
@@ -19,12 +21,6 @@ function drawn(name, attributes, ...children) {
   for (const [key, value] of Object.entries(attributes)) element.setAttribute(key, value);
   element.append(...children);
   return element;
-}
-
-/** Returns the letters of a string as they are shown: blanks and marks without a letter can be seen. */
-function seen(letters) {
-  const shown = letters.replaceAll(" ", "␣").replaceAll("\n", "↵").replaceAll("\t", "⇥");
-  return shown.replace(/^\p{M}/u, "◌$&");
 }
 
 /** Returns the parts of an XML side in one line. */
@@ -61,13 +57,16 @@ export class Diagrams {
     this.choose = choose;
   }
 
-  /** @param {Productions | null} sheet null leaves the diagrams of the last sheet that could be read */
+  /**
+   * @param {Productions | null} sheet null leaves the diagrams of the last sheet that could be read
+   */
   set sheet(sheet) {
     if (sheet === null || sheet === this.#sheet) return;
     this.#sheet = sheet;
     this.#tracks.clear();
     const names = [...new Set(sheet.productions.map((it) => it.name))];
-    this.panel.querySelector("output").value = `${names.length} names, ${sheet.productions.length} productions`;
+    const counts = [counted(names.length, "name"), counted(sheet.productions.length, "production")];
+    this.panel.querySelector("output").value = counts.join(", ");
     measure.font = `13px ${getComputedStyle(document.documentElement).getPropertyValue("--code")}`;
     this.#rules.replaceChildren(...names.map((it) => this.#rule(it)));
   }

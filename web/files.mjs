@@ -4,37 +4,42 @@
  * @typedef {"text" | "xml" | "source"} Kind
  */
 const ENDINGS = { text: ".txt", xml: ".xml", source: ".xsugar" };
-const ENDING = /\.(?:txt|xml|xsugar)$/u;
+const ENDING = /\.(?:txt|leiden|xml|xsugar)$/iu;
+
+/** Returns of which pane a file is. */
+function kindOf(name) {
+  if (/\.xsugar$/iu.test(name)) return "source";
+  return /\.xml$/iu.test(name) ? "xml" : "text";
+}
 
 /**
  * Reads a file; the text is null where it is not UTF-8.
  *
  * @param {File} file
- * @returns {Promise<{name: string, kind: Kind, text: string | null}>} the name is without its ending
+ * @returns {Promise<{kind: Kind, text: string | null}>}
  */
 export async function opened(file) {
-  const kind = file.name.endsWith(".xml") ? "xml" : file.name.endsWith(".xsugar") ? "source" : "text";
-  const name = file.name.replace(ENDING, "");
+  const kind = kindOf(file.name);
   try {
     const text = new TextDecoder("utf-8", { fatal: true }).decode(await file.arrayBuffer());
-    return { name, kind, text: text.replaceAll("\r\n", "\n") };
+    return { kind, text: text.replaceAll("\r\n", "\n") };
   } catch (error) {
     if (!(error instanceof TypeError)) throw error;
-    return { name, kind, text: null };
+    return { kind, text: null };
   }
 }
 
 /**
  * Hands a text to the browser to be saved.
  *
- * @param {string} name without an ending
+ * @param {string} name that of a file, of which a pane of another kind changes the ending
  * @param {Kind} kind
  * @param {string} text
  */
 export function save(name, kind, text) {
   const link = document.createElement("a");
   link.href = URL.createObjectURL(new Blob([text], { type: "text/plain" }));
-  link.download = name + ENDINGS[kind];
+  link.download = kindOf(name) === kind ? name : name.replace(ENDING, "") + ENDINGS[kind];
   link.click();
   URL.revokeObjectURL(link.href);
 }

@@ -1,4 +1,6 @@
-/** What is said under the panes: that the document was translated, or why not and what can be done. */
+/**
+ * What is said under the panes: that the document was translated, or why not and what can be done.
+ */
 export class Message {
   #box;
   #said;

@@ -3,14 +3,11 @@
  *
  * @typedef {import("./tree.mjs").Row} Row
  */
+import { counted, seen } from "./characters.mjs";
+
 const HEIGHT = 24;
 const INDENT = 14;
 const MOST_INDENT = 12;
-
-/** Returns letters as they are shown in the outline: blanks can be seen. */
-function seen(letters) {
-  return letters.replaceAll(" ", "␣").replaceAll("\n", "↵");
-}
 
 /** A tree of rows, of which one may be chosen. */
 export class OutlineView {
@@ -42,7 +39,7 @@ export class OutlineView {
     this.#rows = rows;
     this.#chosen = -1;
     this.#ground.style.height = `${rows.length * HEIGHT}px`;
-    this.panel.querySelector("output").value = rows.length > 0 ? `${rows.length} rows` : "";
+    this.panel.querySelector("output").value = rows.length > 0 ? counted(rows.length, "row") : "";
     this.#draw();
   }
 

@@ -1,6 +1,6 @@
 /**
- * The page for editors: a text and its XML side by side, either typed in, by a sheet that is chosen or
- * written beside them.
+ * The page for editors: a text and its XML side by side, either typed in, by a sheet that is chosen
+ * or written beside them.
  *
  * @typedef {import("./worker.mjs").Refusal} Refusal
  * @typedef {"text" | "xml"} Side
@@ -13,6 +13,7 @@ import { opened, save } from "./files.mjs";
 import { button, Message } from "./message.mjs";
 import { OutlineView } from "./outline.mjs";
 import { lineSpan, Pane } from "./pane.mjs";
+import { placeOf, standingAt } from "./places.mjs";
 import { productionAt, productionsOf } from "./productions.mjs";
 import { isOfSheet, said, sheetMarks } from "./refusals.mjs";
 import { keep, kept } from "./storage.mjs";
@@ -40,14 +41,16 @@ class Page {
   message = new Message(element("message"));
   outline = new OutlineView(element("outline"), (row) => this.#showRow(row));
   diagrams = new Diagrams(element("diagrams"), (production) => this.#showProduction(production));
-  /** What is kept: the name of the sheet, one's own sheet, the side that was typed, its document, .. */
+  /**
+   * What is kept: the name of the sheet, one's own sheet, the side that was typed, its document, ..
+   */
   state = { sheet: "@leiden2", own: "", side: "text", document: "", form: "asis", panels: {}, ...kept() };
   productions = null;
   /** Whether both panes have one document. */
   isSettled = false;
   focused = this.panes.text;
-  /** The name of the file that was opened last, without its ending. */
-  name = "document";
+  /** The name of the file that was opened last. */
+  name = "document.txt";
   #calm = { long: new Calm(), rows: new Calm(), check: new Calm(), keep: new Calm(), cursor: new Calm() };
 
   constructor(script, bytes) {
@@ -182,9 +185,12 @@ class Page {
       return;
     }
     const { offset = null, expected = null, opened = null } = refusal;
-    const marks = offset === null ? [] : [{ begin: offset, end: characterEnd(pane.text, offset), kind: "wrong" }];
-    const more = [];
-    if (offset !== null) more.push(button("Go there", "F8", () => this.#goToWrong()));
+    const [marks, more] = [[], []];
+    if (offset !== null) {
+      const end = offset + standingAt(pane.text, side, offset).length;
+      marks.push({ begin: offset, end, kind: "wrong" });
+      more.push(button("Go there", "F8", () => this.#goToWrong()));
+    }
     if (opened !== null) {
       marks.push({ ...opened, kind: "open" });
       more.push(openSaid(opened, pane.text), button("Go to the opening", "Shift F8", () => pane.goTo("open")));
@@ -201,11 +207,12 @@ class Page {
   #saySheet(refusal) {
     for (const it of Object.values(this.panes)) it.mark([]);
     const why = element("source").hidden ? [said(refusal)] : [];
-    const go = button("Go there", "F8", () => this.#goToWrong());
-    this.message.refuse("The sheet is not accepted, so nothing is translated.", ...why, go);
+    const marks = sheetMarks(refusal, (line) => lineSpan(this.source.text, line));
+    const go = marks.length > 0 ? [button("Go there", "F8", () => this.#goToWrong())] : [];
+    this.message.refuse("The sheet is not accepted, so nothing is translated.", ...why, ...go);
     element("sheet-said").className = "wrong";
     element("sheet-said").textContent = said(refusal);
-    this.source.mark(sheetMarks(refusal, (line) => lineSpan(this.source.text, line)));
+    this.source.mark(marks);
     this.source.reveal("wrong");
   }
 
@@ -278,9 +285,12 @@ class Page {
     const at = pane.cursor;
     const answered = await this.translator.ask("next", { source: this.#sheet, text: pane.text.slice(0, at) });
     if (answered === STALE || answered.refusal) return;
-    const chips = answered.answer === null ? [] : this.#suggestions(answered.answer, at);
-    const words = chips.length > 0 ? "May come at the cursor:" : "Nothing may come at the cursor.";
-    this.message.offer(words, ...chips);
+    if (answered.answer === null) {
+      this.message.offer("What stands before the cursor does not fit, or is too long: nothing is offered.");
+      return;
+    }
+    const buttons = this.#suggestions(answered.answer, at);
+    this.message.offer("May come at the cursor:", ...(buttons.length > 0 ? buttons : ["the end"]));
   }
 
   #keep() {
@@ -298,12 +308,12 @@ class Page {
 
   /** Opens a file in the pane that its name says. */
   async #open(file) {
-    const { name, kind, text } = await opened(file);
+    const { kind, text } = await opened(file);
     if (text === null) {
       this.message.refuse(`${file.name} is not UTF-8. Save it as UTF-8, and open it again.`);
       return;
     }
-    this.name = name;
+    this.name = file.name;
     if (kind === "source") {
       this.state.own = text;
       element("sheet").value = OWN;
@@ -408,16 +418,11 @@ class Page {
   }
 }
 
-/** Returns where the character of an offset ends. */
-function characterEnd(text, offset) {
-  return offset + (text.codePointAt(offset) > 0xffff ? 2 : 1);
-}
-
 /** Says where a bracket was opened that is not closed. */
 function openSaid({ begin, end, sure }, text) {
-  const before = text.slice(0, begin).split("\n");
-  const place = `line ${before.length}, column ${[...before.at(-1)].length + 1}`;
-  return `${text.slice(begin, end)} was opened at ${place}, and is ${sure ? "" : "perhaps "}still open here.`;
+  const { line, column } = placeOf(text, begin);
+  const opening = `${text.slice(begin, end)} was opened at line ${line}, column ${column}`;
+  return `${opening}, and is ${sure ? "" : "perhaps "}still open here.`;
 }
 
 /** Returns the marks of a row in a pane; the root is the whole document, which is not marked. */

@@ -3,6 +3,7 @@
  *
  * @typedef {{begin: number, end: number, kind: "wrong" | "open" | "here"}} Mark
  */
+import { placeOf } from "./places.mjs";
 
 /** Returns where the line of an offset ends. */
 function endOfLine(text, offset) {
@@ -53,7 +54,9 @@ export class Pane {
     return this.area.selectionStart;
   }
 
-  /** Replaces what stands from one place to another, as if it were typed, so that it can be undone. */
+  /**
+   * Replaces what stands from one place to another, as if it were typed, so that it can be undone.
+   */
   type(begin, end, letters) {
     this.area.focus();
     this.area.setSelectionRange(begin, end);
@@ -122,7 +125,7 @@ export class Pane {
   }
 
   #tellCursor() {
-    const before = this.text.slice(0, this.cursor).split("\n");
-    this.output.value = `line ${before.length}, column ${[...before.at(-1)].length + 1}`;
+    const { line, column } = placeOf(this.text, this.cursor);
+    this.output.value = `line ${line}, column ${column}`;
   }
 }

@@ -20,6 +20,20 @@ const PIECE = new RegExp(
   "gsu",
 );
 
+/**
+ * What stands at a place of XML: a tag's begin or end, a reference, an attribute's name, a
+ * character.
+ */
+const IN_XML = /<\/?[^\s<>/]*|\/?>|&[^\s;<]*;|[^\s"'<>/=]+(?=\s*=\s*["'])|[^\r\n]/suy;
+const IN_TEXT = /[^\r\n]/suy;
+
+/** Returns what stands at an offset of a document of a side: nothing at the end of a line. */
+export function standingAt(document, side, offset) {
+  const pattern = side === "xml" ? IN_XML : IN_TEXT;
+  pattern.lastIndex = offset;
+  return pattern.exec(document)?.[0] ?? "";
+}
+
 /** Returns how long the byte order mark at the front of a document is. */
 export function markLength(document) {
   return document.startsWith("\ufeff") ? 1 : 0;

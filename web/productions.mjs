@@ -149,6 +149,17 @@ export function productionsOf(source) {
   }
 }
 
+/**
+ * Returns the fences of a sheet that is accepted, those too that it could have in version 2.
+ *
+ * @param {import("./xsugar.mjs").Xsugar} xsugar
+ * @param {string} source
+ */
+export function fencesOf(xsugar, source) {
+  const { output } = xsugar.run(["upgrade", "sheet"], { sheet: source });
+  return productionsOf(output)?.fences ?? [];
+}
+
 /** Returns the production that stands at a place of the sheet, or nothing. */
 export function productionAt(sheet, place) {
   return sheet?.productions.find((it) => it.begin <= place && place <= it.end);

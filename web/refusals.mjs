@@ -3,14 +3,16 @@
  *
  * @typedef {import("./worker.mjs").Refusal} Refusal
  */
-import { nameOf } from "./characters.mjs";
+import { nameOf, seen } from "./characters.mjs";
+import { standingAt } from "./places.mjs";
 
 const SIDES = { text: "Text", xml: "XML" };
+/** How much of a letter and its accents is looked at. */
+const LONGEST_ACCENTED = 8;
 
-/** Returns a word in quotes, in which blanks and marks without a letter can be seen. */
-export function seen(word) {
-  const shown = word.replaceAll(" ", "␣").replaceAll("\n", "↵").replaceAll("\t", "⇥");
-  return `“${shown.replace(/^\p{M}/u, "◌$&")}”`;
+/** Returns words in quotes, one after another. */
+function quoted(...words) {
+  return words.map((it) => `“${seen(it)}”`).join(" and ");
 }
 
 /** Says what the check found that a document may be read in two ways by. */
@@ -18,12 +20,12 @@ function suspected({ side, production, lines, cut, words }) {
   const where = `The sheet may be ambiguous. On the ${side === "xml" ? "XML" : "text"} side`;
   if (cut === null) {
     return `${where} the productions of “${production}” at lines ${lines.join(" and ")} can both spell `
-      + `${seen(words[0])}. Give one of them a mark of its own, or take the words of one out of the other.`;
+      + `${quoted(words[0])}. Give one of them a mark of its own, or take the words of one out of the other.`;
   }
   const [before, middle, after] = words;
   return `${where} the production of “${production}” at line ${lines[0]} can be cut in two ways after its item `
-    + `${cut}: ${seen(words.join(""))} is ${seen(before)} and ${seen(middle + after)}, or ${seen(before + middle)} `
-    + `and ${seen(after)}. Put a mark between the two that neither has.`;
+    + `${cut}: ${quoted(words.join(""))} is ${quoted(before, middle + after)}, or ${quoted(before + middle, after)}. `
+    + "Put a mark there that neither part can spell.";
 }
 
 /** Says why a sheet is not accepted. */
@@ -34,7 +36,8 @@ function sheetSaid(refusal) {
       + "a string or a pattern, what is wrong may stand anywhere in it.";
   }
   if (refusal.weight !== null) {
-    return `A production of the sheet is too large to be checked: it weighs ${refusal.weight}, more than 8192.`;
+    return `A production of the sheet is too large to be checked: it weighs ${refusal.weight}, more than 8192. `
+      + "What is repeated many times, as x{50}, weighs most: write x+, or give parts of it names of their own.";
   }
   if (refusal.line !== null) {
     return `Sheet, line ${refusal.line}: ${refusal.report.replace(/^sheet: line \d+: /u, "")}.`;
@@ -45,6 +48,28 @@ function sheetSaid(refusal) {
 /** Returns whether it is the sheet that is refused. */
 export function isOfSheet(refusal) {
   return refusal.name === "SheetError" || refusal.name === "SuspectError";
+}
+
+/**
+ * Says what splitting accents may make of a character that does not fit after others, or nothing.
+ */
+function split(character, before, expected) {
+  const [letter] = character.normalize("NFD");
+  const isExpected = expected?.some(([first, last]) => first <= letter && letter <= last);
+  const [accented] = /\P{M}\p{M}+$/u.exec(before + character) ?? [""];
+  if (letter !== character && isExpected) return `; ${nameOf(letter)} does: try “split” under Accents`;
+  if (accented !== accented.normalize("NFD")) return " after an accent: try “split” under Accents";
+  return "";
+}
+
+/** Says what does not fit at a place of a document. */
+function foreign({ offset, expected }, side, document) {
+  if (offset === document.length) return "the document ends too early.";
+  if (offset === null) return "what stands here does not fit.";
+  const standing = standingAt(document, side, offset) || document[offset];
+  if (side === "xml") return `${nameOf(standing)} does not fit here.`;
+  const before = document.slice(Math.max(0, offset - LONGEST_ACCENTED), offset);
+  return `${nameOf(standing)} does not fit here${split(standing, before, expected)}.`;
 }
 
 /**
@@ -60,14 +85,8 @@ export function said(refusal, side, document) {
     case "SheetError":
     case "SuspectError":
       return sheetSaid(refusal);
-    case "ForeignError": {
-      const { offset } = refusal;
-      if (offset === document.length) return `${where}: the document ends too early.`;
-      const character = offset === null ? "" : String.fromCodePoint(document.codePointAt(offset));
-      return side === "text" && character
-        ? `${where}: ${nameOf(character)} does not fit here.`
-        : `${where}: what stands here does not fit.`;
-    }
+    case "ForeignError":
+      return `${where}: ${foreign(refusal, side, document)}`;
     case "NotXmlError":
       return `${where}: this is not XML.`;
     case "TooLongError":

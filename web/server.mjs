@@ -1,8 +1,8 @@
 #!/usr/bin/env node
 /**
  * A language server for editors: it reads messages from standard input and writes to standard
- * output. docs/web.md says what it does. Usage: web/server.mjs [MODULE [MEGABYTES]], where MODULE is
- * another file than web/xsugar.wasm, and MEGABYTES the most memory that it takes, else 1,024.
+ * output. docs/web.md says what it does. Usage: web/server.mjs [MODULE [MEGABYTES]], where MODULE
+ * is another file than web/xsugar.wasm, and MEGABYTES the most memory that it takes, else 1,024.
  */
 import { readFile } from "node:fs/promises";
 import { LanguageServer } from "./server/language_server.mjs";

@@ -1,6 +1,6 @@
 /**
- * The characters that may come next, as buttons: those with a meaning of their own one by one, letters
- * and digits in a list that opens.
+ * The characters that may come next, as buttons: those with a meaning of their own one by one,
+ * letters and digits in a list that opens.
  *
  * @typedef {[string, string][]} Ranges pairs of a first and a last character, both included
  */

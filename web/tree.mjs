@@ -1,11 +1,13 @@
 /**
- * From the derivation of a text, as the core tells it, to the rows of an outline: one for each element
- * of the XML and one for each word but spaces, with the places of both in the text and in the XML.
+ * From the derivation of a text, as the core tells it, to the rows of an outline: one for each
+ * element of the XML and one for each word but spaces, with the places of both in the text and in
+ * the XML.
  *
  * @typedef {import("./productions.mjs").Productions} Productions
  * @typedef {import("./productions.mjs").Production} Production
  * @typedef {{begin: number, end: number, word: string}} Leaf
- * @typedef {{begin: number, end: number, production: Production, slots: Map<string, Leaf | Node>}} Node
+ * @typedef {{begin: number, end: number, production: Production, slots: Map<string, Leaf | Node>}}
+ *   Node
  * @typedef {{depth: number, label: string, detail: string, production: number,
  *   text: [number, number] | null, xml: [number, number] | null}} Row
  */
@@ -101,7 +103,9 @@ function* slotsIn(parts) {
   }
 }
 
-/** Returns where in the text an element of a node stands: the whole node, or what its slots take up. */
+/**
+ * Returns where in the text an element of a node stands: the whole node, or what its slots take up.
+ */
 function spanOf(element, node) {
   if (node.production.xml.length === 1 && node.production.xml[0] === element) {
     return [node.begin, node.end];
@@ -189,8 +193,8 @@ class Outline {
 }
 
 /**
- * Returns the rows of a derivation. The places in the XML are null where it is written otherwise than
- * the core writes it.
+ * Returns the rows of a derivation. The places in the XML are null where it is written otherwise
+ * than the core writes it.
  *
  * @param {string} line
  * @param {Productions} sheet

@@ -5,9 +5,9 @@
  *
  * @typedef {{name: string, message: string, [told: string]: unknown}} Refusal
  */
-import { openedElement, openedMark } from "./brackets.mjs";
+import { openedBefore } from "./brackets.mjs";
 import { quoted, SheetError, XsugarError } from "./errors.mjs";
-import { productionsOf } from "./productions.mjs";
+import { fencesOf, productionsOf } from "./productions.mjs";
 import { rowsOf } from "./tree.mjs";
 import { load } from "./xsugar.mjs";
 
@@ -31,8 +31,7 @@ class Opened {
       this.refused = error;
       return;
     }
-    const { output } = xsugar.run(["upgrade", "sheet"], { sheet: source });
-    this.fences = productionsOf(output)?.fences ?? [];
+    this.fences = fencesOf(xsugar, source);
   }
 }
 
@@ -67,7 +66,7 @@ class Translator {
     try {
       return side === "text" ? opened.sheet.toXml(document, form) : opened.sheet.toText(document);
     } catch (error) {
-      if (typeof error.offset === "number") error.opened = openedBefore(opened, side, document, error);
+      if (typeof error.offset === "number") error.opened = openedBefore(side, document, error.offset, opened);
       throw error;
     }
   }
@@ -77,7 +76,10 @@ class Translator {
     return this.#opened(source).sheet.next(text);
   }
 
-  /** Answers the rows of the outline of a text and its XML, or null where it is no text of the sheet. */
+  /**
+   * Answers the rows of the outline of a text and its XML, or null where it is no text of the
+   * sheet.
+   */
   rows({ source, text, form, xml }) {
     const { sheet, productions } = this.#opened(source);
     const counted = form === "asis" ? text : text.normalize(form.toUpperCase());
@@ -86,12 +88,6 @@ class Translator {
     const rows = rowsOf(line, productions, xml);
     return counted === text ? rows : rows.map((it) => ({ ...it, text: null }));
   }
-}
-
-/** Returns what is open at the place of a refusal, or null. */
-function openedBefore({ productions, fences }, side, document, { offset }) {
-  if (side === "xml") return openedElement(document, offset);
-  return productions && openedMark(document, offset, productions, fences);
 }
 
 let translator = null;

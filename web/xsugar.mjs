@@ -213,10 +213,17 @@ function sheetError(told, source) {
   return error;
 }
 
+/** Returns a character in quotes; one that cannot be seen alone as a sheet may write it. */
+function visible(character) {
+  return /^[ \p{L}\p{N}\p{P}\p{S}]$/u.test(character) && !/["\\]/u.test(character)
+    ? `"${character}"`
+    : quoted(character);
+}
+
 /** Returns ranges of characters as a message shows them. */
 function shown(ranges) {
   const words = ranges.map(([first, last]) =>
-    first === last ? quoted(first) : `${quoted(first)}-${quoted(last)}`);
+    first === last ? visible(first) : `${visible(first)}-${visible(last)}`);
   return words.join(" ") || "the end";
 }
 
@@ -427,7 +434,8 @@ export class Xsugar {
 /**
  * Makes an instance of the module. Each has a memory of its own, so several workers have one each.
  *
- * @param {Uint8Array | WebAssembly.Module} module the bytes of web/xsugar.wasm, or what was compiled
+ * @param {Uint8Array | WebAssembly.Module} module the bytes of web/xsugar.wasm, or what was
+ *   compiled
  * @param {{megabytes?: number}} options the memory that it takes at most, from 2 to 1,024, as it is
  *   where nothing is said
  * @returns {Promise<Xsugar>}

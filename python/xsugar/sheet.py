@@ -3,6 +3,7 @@ from __future__ import annotations
 
 import re
 import threading
+import unicodedata
 from ctypes import byref
 from typing import NamedTuple, Optional, Sequence, TypeVar, Union
 
@@ -50,8 +51,19 @@ def _quoted(text: str) -> str:
     return f'"{plain}"'
 
 
+def _visible(character: str) -> str:
+    """Returns a character in quotes; one that cannot be seen alone as a sheet may write it."""
+    hidden = not character.isprintable() or unicodedata.category(character)[0] == "M"
+    return _quoted(character) if hidden or character in '"\\' else f'"{character}"'
+
+
 def _shown(ranges: Sequence[tuple[str, str]]) -> str:
-    words = [_quoted(a) if a == b else f"{_quoted(a)}-{_quoted(b)}" for a, b in ranges]
+    """Returns ranges of characters as a message shows them.
+
+    >>> print(_shown([("]", "]"), ("\u0370", "\u03ff"), ("\u0300", "\u0300")]))
+    "]" "Ͱ"-"Ͽ" "\\u{300}"
+    """
+    words = [_visible(a) if a == b else f"{_visible(a)}-{_visible(b)}" for a, b in ranges]
     return " ".join(words) or "the end"
 
 

@@ -65,8 +65,8 @@ export function listOf(words, kind, range) {
 }
 
 /**
- * Returns the completions at an offset of a text, what closes a bracket first. A class of characters
- * is one item, which puts in one of them.
+ * Returns the completions at an offset of a text, what closes a bracket first. A class of
+ * characters is one item, which puts in one of them.
  *
  * @param {import("./open_document.mjs").OpenDocument} document
  * @param {number} offset
@@ -76,8 +76,7 @@ export function completionsAt(document, offset, { sheet, closing }) {
   const before = document.text.slice(markLength(document.text), offset);
   const ranges = sheet.next(before) ?? [];
   const { characters, classes } = grouped(ranges, closing);
-  const typed = characters.filter((it) => it !== "\r");
-  const words = continued(sheet, before, typed).map((word) => [labelOf(word), word]);
+  const words = continued(sheet, before, characters).map((word) => [labelOf(word), word]);
   const samples = classes.filter((it) => it !== ANY).map((name) => [name, sampleOf(name, ranges)]);
   const range = document.range(offset, offset);
   return listOf([...words, ...samples], KIND_OF_OPERATOR, range);

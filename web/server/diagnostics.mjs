@@ -5,7 +5,7 @@
  * @typedef {import("./notation.mjs").Notation} Notation
  * @typedef {{range: object, message: string, relatedInformation: object[]}} Diagnostic
  */
-import { openedElement, openedMark } from "../brackets.mjs";
+import { openedBefore } from "../brackets.mjs";
 import { told } from "../characters.mjs";
 import {
   ForeignError,
@@ -15,18 +15,9 @@ import {
   SuspectError,
   XsugarError,
 } from "../errors.mjs";
+import { standingAt } from "../places.mjs";
 
 const ERROR = 1;
-/** What stands at a place of an XML document: a tag's begin, an attribute's name, a character. */
-const IN_XML = /<\/?[^\s<>/]*|&[^\s;<]*;|[^\s"'<>/=]+(?=\s*=\s*["'])|[^\r\n]/suy;
-const IN_TEXT = /[^\r\n]/suy;
-const IN_SHEET = /\S+/suy;
-
-function matchedAt(document, pattern, offset) {
-  pattern.lastIndex = offset;
-  const [found] = pattern.exec(document.text) ?? [""];
-  return document.range(offset, offset + found.length);
-}
 
 function diagnostic(range, message, relatedInformation = []) {
   return { range, message, relatedInformation, severity: ERROR, source: "xsugar" };
@@ -66,7 +57,8 @@ function ofSuspect(document, error) {
 function ofSheetError(document, error) {
   if (error instanceof SuspectError) return ofSuspect(document, error);
   if (error.offset !== null) {
-    return [diagnostic(matchedAt(document, IN_SHEET, error.offset), "not expected here")];
+    const [word] = /^\S*/u.exec(document.text.slice(error.offset));
+    return [diagnostic(document.range(error.offset, error.offset + word.length), "not expected here")];
   }
   const message = error.report.replace(/^sheet: (?:line \d+: )?/u, "");
   return [diagnostic(document.lineRange(error.line ?? 1), message)];
@@ -74,12 +66,6 @@ function ofSheetError(document, error) {
 
 function hasPlace(error) {
   return [ForeignError, NotUtf8Error, NotXmlError].some((it) => error instanceof it);
-}
-
-/** Returns what was opened before the place of an error and is not closed there, or null. */
-function openedBefore({ kind, text }, { productions, fences }, { offset }) {
-  if (kind === "xml") return openedElement(text, offset);
-  return productions ? openedMark(text, offset, productions, fences) : null;
 }
 
 /** Returns where a bracket or an element was opened that is not closed. */
@@ -101,9 +87,11 @@ function ofDocumentError(document, notation, error) {
   if (!hasPlace(error)) {
     return diagnostic(document.lineRange(1), error.report.replace(/^input: /u, ""));
   }
-  const range = matchedAt(document, document.kind === "xml" ? IN_XML : IN_TEXT, error.offset);
-  const opened = openedBefore(document, notation, error);
-  return diagnostic(range, messageOf(error, document.kind, notation.closing), openings(document, opened));
+  const { kind, text } = document;
+  const { offset } = error;
+  const range = document.range(offset, offset + standingAt(text, kind, offset).length);
+  const opened = openings(document, openedBefore(kind, text, offset, notation));
+  return diagnostic(range, messageOf(error, kind, notation.closing), opened);
 }
 
 /** Says of a document in one line why it is refused. */

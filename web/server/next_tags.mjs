@@ -6,7 +6,9 @@ import { tagsOf } from "./tags.mjs";
 
 const KIND_OF_PROPERTY = 10;
 
-/** Returns the names of the elements that are open after a front of a document, from the innermost. */
+/**
+ * Returns the names of the elements that are open after a front of a document, from the innermost.
+ */
 function openAtEnd(xml) {
   const open = [];
   for (const { isClosing, isEmpty, name } of tagsOf(xml)) {
@@ -38,8 +40,8 @@ function begins(sheet, xml, symbols) {
 }
 
 /**
- * Returns the begins of the tags that may come after a front of an XML document: each is tried, with
- * what is open closed after it. There are none inside a tag.
+ * Returns the begins of the tags that may come after a front of an XML document: each is tried,
+ * with what is open closed after it. There are none inside a tag.
  */
 function nextTags(before, { sheet, productions }) {
   if (productions === null || before.lastIndexOf("<") > before.lastIndexOf(">")) return [];

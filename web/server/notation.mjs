@@ -1,12 +1,12 @@
 import { readFileSync } from "node:fs";
-import { productionsOf } from "../productions.mjs";
+import { fencesOf, productionsOf } from "../productions.mjs";
 
 /** The words with which the program writes the sheets that are included. */
 const INCLUDED = { "@leiden": ["sheet"], "@leiden2": ["sheet", "2"] };
 
 /**
- * The sheet by which texts and XML documents are read: open, with its productions, its fences, those
- * too that it could have in version 2, and what closes them.
+ * The sheet by which texts and XML documents are read: open, with its productions, its fences, and
+ * what closes them.
  */
 export class Notation {
   /**
@@ -18,8 +18,7 @@ export class Notation {
     const source = isIncluded ? xsugar.run(INCLUDED[name]).output : readFileSync(name, "utf8");
     this.sheet = xsugar.open(isIncluded ? name : source);
     this.productions = productionsOf(source);
-    const { output } = xsugar.run(["upgrade", "sheet"], { sheet: source });
-    this.fences = productionsOf(output)?.fences ?? [];
+    this.fences = fencesOf(xsugar, source);
     this.closing = this.fences.map(([, right]) => right);
   }
 }

@@ -2,9 +2,9 @@
  * The outline of a document, as an editor shows it: one symbol for each element of the XML, and of
  * a text one for each word too.
  *
- * @typedef {{depth: number, name: string, kind: number, begin: number, end: number,
- *   head: number}} Entry a symbol before its inner ones, from `begin` to before `end`; its name stands
- *   before `head`
+ * @typedef {{depth: number, name: string, kind: number, begin: number, end: number, head: number}}
+ *   Entry a symbol before its inner ones, from `begin` to before `end`; its name stands before
+ *   `head`
  */
 import { markLength } from "../places.mjs";
 import { rowsOf } from "../tree.mjs";

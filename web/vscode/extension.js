@@ -11,11 +11,6 @@ function setting(name) {
   return vscode.workspace.getConfiguration("xsugar").get(name);
 }
 
-/** Returns the languages of the documents that the server is told of. */
-function languages() {
-  return ["leiden", "xsugar", ...(setting("xml") ? ["xml"] : [])];
-}
-
 function identifier(document) {
   return { uri: document.uri.toString() };
 }
@@ -50,10 +45,10 @@ function symbolOf({ name, kind, range, selectionRange, children }) {
   return symbol;
 }
 
-/** Tells the server of documents as they are opened, changed, saved and closed. */
-function follow(context) {
+/** Tells the server of documents of languages as they are opened, changed, saved and closed. */
+function follow(context, languages) {
   const { workspace } = vscode;
-  const told = (document) => languages().includes(document.languageId);
+  const told = (document) => languages.includes(document.languageId);
   const opened = (document) => {
     if (!told(document)) return;
     const textDocument = { ...identifier(document), languageId: document.languageId, version: document.version };
@@ -80,8 +75,8 @@ function follow(context) {
   workspace.textDocuments.forEach(opened);
 }
 
-/** Offers what the server answers to requests. */
-function offer(context) {
+/** Offers, in documents of languages, what the server answers to requests. */
+function offer(context, languages) {
   const asked = (method, document, more = {}) =>
     connection.request(`textDocument/${method}`, { textDocument: identifier(document), ...more });
   const completions = {
@@ -101,16 +96,20 @@ function offer(context) {
   };
   const characters = [...' .[](){}<>="/*|'];
   context.subscriptions.push(
-    vscode.languages.registerCompletionItemProvider(languages(), completions, ...characters),
-    vscode.languages.registerDocumentSymbolProvider(languages(), symbols),
-    vscode.languages.registerDocumentFormattingEditProvider(languages(), edits),
+    vscode.languages.registerCompletionItemProvider(languages, completions, ...characters),
+    vscode.languages.registerDocumentSymbolProvider(languages, symbols),
+    vscode.languages.registerDocumentFormattingEditProvider(languages, edits),
   );
 }
 
-/** Shows the other document of the one that is being edited, beside it. */
-async function translate(command, language) {
+/** Shows the other document of the one that is being edited, beside it, where it is of languages. */
+async function translate(command, language, languages) {
   const document = vscode.window.activeTextEditor?.document;
   if (document === undefined) return;
+  if (!languages.includes(document.languageId)) {
+    vscode.window.showErrorMessage("xsugar: this is no .leiden file; for XML files, see the setting xsugar.xml");
+    return;
+  }
   try {
     const words = { command, arguments: [identifier(document).uri] };
     const content = await connection.request("workspace/executeCommand", words);
@@ -133,10 +132,11 @@ async function activate(context) {
   const initializationOptions = { sheet: setting("sheet") };
   await connection.request("initialize", { processId: process.pid, rootUri, capabilities: {}, initializationOptions });
   connection.notify("initialized", {});
-  follow(context);
-  offer(context);
+  const languages = ["leiden", "xsugar", ...(setting("xml") ? ["xml"] : [])];
+  follow(context, languages);
+  offer(context, languages);
   const command = (name, language) =>
-    vscode.commands.registerCommand(name, () => translate(name, language));
+    vscode.commands.registerCommand(name, () => translate(name, language, languages));
   context.subscriptions.push(found, command("xsugar.toXml", "xml"), command("xsugar.toText", "leiden"));
 }
 
