@@ -37,7 +37,7 @@ function sheetSaid(refusal) {
   }
   if (refusal.weight !== null) {
     return `A production of the sheet is too large to be checked: it weighs ${refusal.weight}, more than 8192. `
-      + "What is repeated many times, as x{50}, weighs most: write x+, or give parts of it names of their own.";
+      + "What is repeated many times, as x{50}, weighs most: write x+, or a list in place of many items.";
   }
   if (refusal.line !== null) {
     return `Sheet, line ${refusal.line}: ${refusal.report.replace(/^sheet: line \d+: /u, "")}.`;
