@@ -1,4 +1,4 @@
-"""Tests the installed package: its doctests, the example of docs/library.md, and the commands."""
+"""Tests the installed package: its doctests, examples of the pages that are named, and the commands."""
 import doctest
 import importlib
 import json
@@ -37,7 +37,7 @@ def doctests():
 def example(path):
     with open(path, encoding="utf-8") as it:
         blocks = re.findall(r"(?:^    .*\n)*^    import xsugar\n(?:^    .*\n|^\n(?=    ))*", it.read(), re.M)
-    check(blocks, "docs/library.md has an example")
+    check(blocks, f"{path} has an example")
     for block in blocks:
         exec(re.sub("^    ", "", block, flags=re.M), {})
 
@@ -104,6 +104,7 @@ def exceptions():
 doctests()
 exceptions()
 commands()
-example(sys.argv[1])
+for page in sys.argv[1:]:
+    example(page)
 print(f"{passed} passed, {failed} failed")
 sys.exit(failed != 0)
