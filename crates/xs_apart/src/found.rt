@@ -1,121 +1,111 @@
-ghost use Rattle.std.specs.Prelude.{◌≡◌, ℕ, ◌*◌, ◌<◌, ◌≤◌, [], true, false, length, IfOk, OnOk};
-ghost use Rattle.xs_auto.specs.{bit_of};
-ghost use Rattle.xs_apart.specs.Arcs.{HasFound, HasTarget, HasAllGiven};
-ghost use Rattle.xs_apart.specs.Found.{Fits, IsMore, IsEmpty};
-
-use crate::pair::Pair;
 use std::alloc::Global;
 use xs_class::Memory;
 
 /// The greatest number of pairs of states for which a map of marks is kept: 32 megabytes.
 const MOST_PAIRS: u64 = 1 << 28;
 
-/// The pairs of states that a search has found, in the order in which it found them, and the map in
-/// which they are marked, one bit a pair.
-///
-/// The states below `height` of the first net are looked at, and those below `width` of the second.
+/// The pairs of states that a search has found, a row of bits for each state of the first net, and
+/// those of them from which it has gone on.
 #[derive(Debug, Drop)]
 pub struct Found {
-    pub pairs: Vec<Pair>,
     pub height: u32,
     pub width: u32,
+    pub step: usize,
     pub words: Vec<u64>,
+    pub seen: Vec<u64>,
+    pub rows: Vec<u32>,
+    pub waiting: Vec<u32>,
+    pub waits: Vec<u8>,
 }
 
 impl Found {
-    /// No pairs, of no states.
-    pub fn new(alloc: Global) -> Self
-        ensures { Fits result }
-    {
+    pub fn new(alloc: Global) -> Self {
         Found {
-            words: Vec::new(alloc),
-            pairs: Vec::new(alloc),
             height: 0,
             width: 0,
+            step: 0,
+            words: Vec::new(alloc),
+            seen: Vec::new(alloc),
+            rows: Vec::new(alloc),
+            waiting: Vec::new(alloc),
+            waits: Vec::new(alloc),
         }
     }
 
-    /// Adds a pair, unless it is marked already, or is of a state that is not looked at.
-    pub fn visit(&mut self, first: u32, second: u32) -> Result<(), Memory>
-        requires { Fits self.old }
-        ensures more { IsMore self.old self.new }
-        ensures ok { OnOk result (HasFound self.new first second) }
-    {
-        if first >= self.height || second >= self.width {
-            return Ok(());
+    pub fn begin(&mut self, alloc: Global, height: u32, width: u32) -> Result<bool, Memory> {
+        'rows: for k in 0..self.rows.len() {
+            let row = self.rows[k] as usize;
+            self.waits[row] = 0;
+            'places: for place in row * self.step..row * self.step + self.step {
+                self.words[place] = 0;
+                self.seen[place] = 0;
+            }
         }
-        let cell = first as u64 * self.width as u64 + second as u64;
-        let place = (cell / 64) as usize;
-        let bit = cell % 64;
-        let word = self.words[place];
-        if (word >> bit) & 1 == 0 {
-            self.pairs.push(Pair { first, second })?;
-            self.words[place] = word | (1 << bit);
-        }
-        Ok(())
-    }
-
-    /// Adds a pair, if there is one.
-    fn visit_if(&mut self, target: Option<Pair>) -> Result<(), Memory>
-        requires { Fits self.old }
-        ensures more { IsMore self.old self.new }
-        ensures ok { OnOk result (HasTarget self.new target) }
-    {
-        match target {
-            Some(pair) => self.visit(pair.first, pair.second),
-            None => Ok(()),
-        }
-    }
-
-    /// Visits the pair that each of the items leads to, if it leads to one.
-    pub fn visit_each<T: Copy, F: Fn(T) -> Option<Pair>>(
-        &mut self,
-        items: &[T],
-        target: F,
-    ) -> Result<(), Memory>
-        requires fits { Fits self.old }
-        requires target { F.IsAlwaysCallable target }
-        ensures more { IsMore self.old self.new }
-        ensures ok { OnOk result (HasAllGiven (F.post target) self.new items.now) }
-    {
-        'items: for item in items {
-            self.visit_if(target(*item))?;
-        }
-        Ok(())
-    }
-
-    /// Forgets all pairs, in time linear in them.
-    fn wipe(&mut self)
-        requires { Fits self.old }
-        ensures { IsEmpty self.old self.new }
-    {
-        'places: for place in 0..self.pairs.len() {
-            let pair = self.pairs[place];
-            let cell = pair.first as u64 * self.width as u64 + pair.second as u64;
-            self.words[(cell / 64) as usize] = 0;
-        }
-        self.pairs.clear();
-    }
-
-    /// Forgets all pairs, and makes room for those of the states of a first net and of a second one
-    /// below these numbers; answers false where they are too many.
-    pub fn begin(&mut self, alloc: Global, height: u32, width: u32) -> Result<bool, Memory>
-        requires { Fits self.old }
-        ensures fits { Fits self.new }
-        ensures ok { IfOk result (λ room. room ≡ true → (self.new.height ≡ height) × (self.new.width ≡ width) × (self.new.pairs.items ≡ [])) }
-    {
-        self.wipe();
-        let cells = height as u64 * width as u64;
-        if cells > MOST_PAIRS {
+        self.rows.clear();
+        self.waiting.clear();
+        let step = (width as usize + 63) / 64;
+        let count = step * height as usize;
+        if count as u64 > MOST_PAIRS / 64 {
             return Ok(false);
         }
-        let count = (cells / 64 + 1) as usize;
         if count > self.words.len() {
             let words = vec![in alloc; 0; count]?;
             self.words = words;
+            let seen = vec![in alloc; 0; count]?;
+            self.seen = seen;
+        }
+        if height as usize > self.waits.len() {
+            let waits = vec![in alloc; 0; height as usize]?;
+            self.waits = waits;
         }
         self.height = height;
         self.width = width;
+        self.step = step;
         Ok(true)
+    }
+
+    /// Notes that a row has something new.
+    #[inline(always)]
+    pub fn wait(&mut self, row: u32) -> Result<(), Memory> {
+        let old = self.waits[row as usize];
+        if old & 1 == 0 {
+            self.waiting.push(row)?;
+            if old == 0 {
+                self.rows.push(row)?;
+            }
+            self.waits[row as usize] = 3;
+        }
+        Ok(())
+    }
+
+    /// Adds the pairs of a state with those of a word of states.
+    #[inline(always)]
+    pub fn join(&mut self, first: u32, place: usize, more: u64) -> Result<(), Memory> {
+        if first >= self.height {
+            return Ok(());
+        }
+        let at = first as usize * self.step + place;
+        let word = self.words[at];
+        if more & !word != 0 {
+            self.words[at] = word | more;
+            self.wait(first)?;
+        }
+        Ok(())
+    }
+
+    /// Adds a pair.
+    #[inline(always)]
+    pub fn visit(&mut self, first: u32, second: u32) -> Result<(), Memory> {
+        if second >= self.width {
+            return Ok(());
+        }
+        self.join(first, (second / 64) as usize, 1 << (second % 64))
+    }
+
+    pub fn has(&self, first: u32, second: u32) -> bool {
+        if first >= self.height || second >= self.width {
+            return false;
+        }
+        (self.words[first as usize * self.step + (second / 64) as usize] >> (second % 64)) & 1 == 1
     }
 }

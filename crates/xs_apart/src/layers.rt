@@ -1,7 +1,3 @@
-ghost use Rattle.std.specs.Prelude.{◌≡◌, ◌+◌, ◌<◌, ◌≤◌, ℕ, true, IfOk};
-ghost use Rattle.std.specs.List.{All};
-ghost use Rattle.xs_apart.specs.Found.{Fits, IsInside};
-ghost use Rattle.xs_apart.specs.Sets.{AreDoubles, AreTurns, AreMiddles, AreLastMiddles, AreRests, AreEndPairs};
 
 use crate::found::Found;
 use crate::pair::Pair;
@@ -20,9 +16,6 @@ impl Found {
         net: &Coarse,
         top: u32,
     ) -> Result<bool, Memory>
-        requires { Fits self.old }
-        ensures fits { Fits self.new }
-        ensures ok { IfOk result (λ found. found ≡ true → AreDoubles labels.now net.now top self.new.pairs.items) }
     {
         if top >= net.len() || !never_returns(net, top) {
             return Ok(false);
@@ -40,24 +33,22 @@ impl Found {
     pub fn find_turns(
         &mut self,
         alloc: Global,
+        labels: &Labels,
         net: &Coarse,
         doubles: &[Pair],
         here: u32,
     ) -> Result<bool, Memory>
-        requires fits { Fits self.old }
-        requires here { here < net.now.states }
-        ensures fits { Fits self.new }
-        ensures ok { IfOk result (λ found. found ≡ true → AreTurns net.now here doubles.now self.new.pairs.items) }
     {
         let states = net.len();
         if !self.begin(alloc, here + 1, states)? {
             return Ok(false);
         }
-        self.visit_each(
-            doubles,
-            |p: Pair| (p.first == here).then_some(Pair::new(p.second, here)),
-        )?;
-        self.close_slips(net, net)
+        'doubles: for p in doubles {
+            if p.first == here {
+                self.visit(p.second, here)?;
+            }
+        }
+        self.close_slips(labels, net, net)
     }
 
     /// The pairs that are reached from the turns by one arc or more that reads something.
@@ -69,11 +60,6 @@ impl Found {
         here: u32,
         turns: &[Pair],
     ) -> Result<bool, Memory>
-        requires fits { Fits self.old }
-        requires inside { All (IsInside net.now.states net.now.states) turns.now }
-        requires here { here < net.now.states }
-        ensures fits { Fits self.new }
-        ensures ok { IfOk result (λ found. found ≡ true → AreMiddles labels.now net.now here turns.now self.new.pairs.items) }
     {
         let states = net.len();
         if !self.begin(alloc, here + 1, states)? {
@@ -94,13 +80,6 @@ impl Found {
         here: u32,
         pairs: &[Pair],
     ) -> Result<bool, Memory>
-        requires fits { Fits self.old }
-        requires inside { All (IsInside net.now.states net.now.states) pairs.now }
-        requires pairs { AreEndPairs net.now gate here pairs.now }
-        requires gate { gate ≤ here }
-        requires here { here < net.now.states }
-        ensures fits { Fits self.new }
-        ensures ok { IfOk result (λ found. found ≡ true → AreLastMiddles labels.now net.now gate here self.new.pairs.items) }
     {
         let states = net.len();
         if !self.begin(alloc, here + 1, states)? {
@@ -124,20 +103,16 @@ impl Found {
         here: u32,
         last: u32,
     ) -> Result<bool, Memory>
-        requires fits { Fits self.old }
-        requires inside { All (IsInside net.now.states net.now.states) middles.now }
-        requires here { here < net.now.states }
-        ensures fits { Fits self.new }
-        ensures ok { IfOk result (λ none. none ≡ true → AreRests labels.now net.now here last middles.now self.new.pairs.items) }
     {
         let states = net.len();
         if !self.begin(alloc, states, states)? {
             return Ok(false);
         }
-        self.visit_each(
-            middles,
-            |p: Pair| (p.first == here).then_some(Pair::new(here, p.second)),
-        )?;
+        'middles: for p in middles {
+            if p.first == here {
+                self.visit(here, p.second)?;
+            }
+        }
         self.close(labels, net, net, Pair::new(last, last))
     }
 }

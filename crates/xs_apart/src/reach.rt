@@ -1,122 +1,110 @@
-ghost use Rattle.std.specs.Prelude.{◌≡◌, ◌<◌, true, IfOk, OnOk};
-ghost use Rattle.std.specs.List.{All};
-ghost use Rattle.xs_apart.specs.Arcs.{Slips, Steps, Goes, Joins, HasAll, IsClosedWithin, IsFor};
-ghost use Rattle.xs_coarse.specs.declared.arc.Arc.{Arc as AnyArc};
-ghost use Rattle.xs_apart.specs.Found.{Fits, IsInside, IsMore};
-ghost use Rattle.xs_apart.specs.Sets.{IsShut};
-
 use crate::found::Found;
 use crate::pair::Pair;
 use xs_class::Memory;
 use xs_coarse::{Arc, Coarse, Labels};
 
 impl Found {
-    /// Visits the targets of an arc and of each other arc with which it may read a common word.
-    fn visit_partners(&mut self, labels: &Labels, arc: Arc, others: &[Arc]) -> Result<(), Memory>
-        requires { Fits self.old }
-        ensures more { IsMore self.old self.new }
-        ensures ok { OnOk result (All (Joins labels.now self.new arc) others.now) }
-    {
-        if arc.label == 0 {
-            return Ok(());
-        }
-        self.visit_each(
-            others,
-            |x: Arc| labels
-                .meet(arc.label, x.label)
-                .then_some(Pair::new(arc.to, x.to)),
-        )?;
-        Ok(())
-    }
-
-    /// Visits the targets of each two arcs that may read a common word.
-    fn visit_boths(&mut self, labels: &Labels, arcs: &[Arc], others: &[Arc]) -> Result<(), Memory>
-        requires { Fits self.old }
-        ensures more { IsMore self.old self.new }
-        ensures ok { OnOk result (All (λ (x : AnyArc). All (Joins labels.now self.new x) others.now) arcs.now) }
-    {
-        'arcs: for arc in arcs {
-            self.visit_partners(labels, *arc, others)?;
-        }
-        Ok(())
-    }
-
-    /// Visits the pairs to which an arc of either net that reads nothing leads from a pair.
-    fn slip(&mut self, first: &Coarse, second: &Coarse, at: Pair) -> Result<(), Memory>
-        requires fits { Fits self.old }
-        requires at { IsInside first.now.states second.now.states at }
-        ensures more { IsMore self.old self.new }
-        ensures ok { OnOk result (HasAll (Slips first.now second.now) at.first at.second self.new) }
-    {
-        self.visit_each(
-            first.row(at.first),
-            |x: Arc| (x.label == 0).then_some(Pair::new(x.to, at.second)),
-        )?;
-        self.visit_each(
-            second.row(at.second),
-            |x: Arc| (x.label == 0).then_some(Pair::new(at.first, x.to)),
-        )?;
-        Ok(())
-    }
-
     /// Visits the pairs to which arcs of both nets that may read a common word lead from a pair.
-    pub fn step(
-        &mut self,
-        labels: &Labels,
-        first: &Coarse,
-        second: &Coarse,
-        at: Pair,
-    ) -> Result<(), Memory>
-        requires fits { Fits self.old }
-        requires at { IsInside first.now.states second.now.states at }
-        ensures more { IsMore self.old self.new }
-        ensures ok { OnOk result (HasAll (Steps labels.now first.now second.now) at.first at.second self.new) }
-    {
-        self.visit_boths(labels, first.row(at.first), second.row(at.second))?;
+    #[inline(always)]
+    pub fn step(&mut self, labels: &Labels, arcs: &[Arc], others: &[Arc]) -> Result<(), Memory> {
+        'arcs: for x in arcs {
+            if x.label != 0 {
+                'others: for y in others {
+                    if labels.meet(x.label, y.label) {
+                        self.visit(x.to, y.to)?;
+                    }
+                }
+            }
+        }
         Ok(())
     }
 
-    /// Adds all pairs to which the pairs lead. Answers false as soon as it comes to the goal.
-    pub fn close(
-        &mut self,
-        labels: &Labels,
-        first: &Coarse,
-        second: &Coarse,
-        goal: Pair,
-    ) -> Result<bool, Memory>
-        requires nets { IsFor first.now second.now self.old }
-        requires fits { Fits self.old }
-        ensures more { IsMore self.old self.new }
-        ensures ok { IfOk result (λ closed. closed ≡ true → IsShut (Goes labels.now first.now second.now) goal self.new.height self.new.width self.new.pairs.items) }
-    {
-        'places: for place in 0..usize::MAX {
-            if place >= self.pairs.len() {
-                return Ok(true);
+    /// Goes on from the pairs of a state with the states of a word, bit by bit.
+    #[inline(always)]
+    fn go(&mut self, labels: &Labels, arcs: &[Arc], second: &Coarse, row: u32, place: usize, fresh: u64, slips: bool, steps: bool) -> Result<(), Memory> {
+        let mut left = fresh;
+        'bits: for _ in 0..64 {
+            if left == 0 {
+                return Ok(());
             }
-            let at = self.pairs[place];
-            if at == goal {
+            let b = place as u32 * 64 + left.trailing_zeros();
+            left = left & (left - 1);
+            let others = second.row(b);
+            if slips {
+                'others: for y in others {
+                    if y.label == 0 {
+                        self.visit(row, y.to)?;
+                    }
+                }
+            }
+            if steps {
+                self.step(labels, arcs, others)?;
+            }
+        }
+        Ok(())
+    }
+
+    fn go_row(&mut self, labels: &Labels, first: &Coarse, second: &Coarse, row: u32, steps: bool) -> Result<(), Memory> {
+        let arcs = first.row(row);
+        let mut reads = false;
+        'arcs: for x in arcs {
+            reads = reads || x.label != 0;
+        }
+        'places: for place in 0..self.step {
+            let at = row as usize * self.step + place;
+            let fresh = self.words[at] & !self.seen[at];
+            if fresh != 0 {
+                self.seen[at] = self.seen[at] | fresh;
+                'slips: for x in arcs {
+                    if x.label == 0 {
+                        self.join(x.to, place, fresh)?;
+                    }
+                }
+                self.go(labels, arcs, second, row, place, fresh, true, steps && reads)?;
+            }
+        }
+        Ok(())
+    }
+
+    fn close_by(&mut self, labels: &Labels, first: &Coarse, second: &Coarse, goal: Pair, steps: bool) -> Result<bool, Memory> {
+        'places: for k in 0..usize::MAX {
+            if k >= self.waiting.len() {
+                return Ok(!self.has(goal.first, goal.second));
+            }
+            let row = self.waiting[k];
+            self.waits[row as usize] = 2;
+            self.go_row(labels, first, second, row, steps)?;
+            if self.has(goal.first, goal.second) {
                 return Ok(false);
             }
-            self.slip(first, second, at)?;
-            self.step(labels, first, second, at)?;
         }
         Ok(false)
     }
 
-    /// Adds all pairs to which the pairs lead by arcs that read nothing.
-    pub fn close_slips(&mut self, first: &Coarse, second: &Coarse) -> Result<bool, Memory>
-        requires nets { IsFor first.now second.now self.old }
-        requires fits { Fits self.old }
-        ensures more { IsMore self.old self.new }
-        ensures ok { IfOk result (λ closed. closed ≡ true → IsClosedWithin (Slips first.now second.now) self.new.height self.new.width self.new.pairs.items) }
-    {
-        'places: for place in 0..usize::MAX {
-            if place >= self.pairs.len() {
-                return Ok(true);
+    pub fn close(&mut self, labels: &Labels, first: &Coarse, second: &Coarse, goal: Pair) -> Result<bool, Memory> {
+        self.close_by(labels, first, second, goal, true)
+    }
+
+    pub fn close_slips(&mut self, labels: &Labels, first: &Coarse, second: &Coarse) -> Result<bool, Memory> {
+        self.close_by(labels, first, second, Pair::new(u32::MAX, u32::MAX), false)
+    }
+
+    /// The pairs that were found.
+    pub fn list(&self, pairs: &mut Vec<Pair>) -> Result<(), Memory> {
+        'rows: for k in 0..self.rows.len() {
+            let first = self.rows[k];
+            'places: for place in 0..self.step {
+                let mut left = self.words[first as usize * self.step + place];
+                'bits: for _ in 0..64 {
+                    if left == 0 {
+                        break;
+                    }
+                    let second = place as u32 * 64 + left.trailing_zeros();
+                    left = left & (left - 1);
+                    pairs.push(Pair { first, second })?;
+                }
             }
-            let at = self.pairs[place];
-            self.slip(first, second, at)?;
         }
-        Ok(false)
+        Ok(())
     }
 }

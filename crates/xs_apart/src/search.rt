@@ -1,17 +1,9 @@
-ghost use Rattle.std.specs.Prelude.{◌≡◌, ℕ, ◌<◌, ◌≤◌, [], true, IfOk, IfSome, OnOk};
-ghost use Rattle.std.specs.List.{All};
-ghost use Rattle.xs_meet.specs.{AreApart};
-ghost use Rattle.xs_coarse.specs.{IsTable, MayCall, view, Net as AnyNet};
-ghost use Rattle.xs_apart.specs.Found.{HasPair, IsInside, IsLonger};
-ghost use Rattle.xs_apart.specs.Sets.{AreDoubles, AreClear, AreEndPairs};
-ghost use Rattle.xs_apart.specs.Tails.{IsTail, IsWithinAll};
 
 use crate::found::Found;
 use crate::pair::Pair;
 use crate::shape::{is_gate, is_source, never_returns};
 use crate::tail::Tail;
 use std::alloc::Global;
-use std::marker::Model;
 use xs_class::Memory;
 use xs_coarse::{Coarse, Labels};
 
@@ -30,16 +22,6 @@ pub struct Search {
     alloc: Global,
     found: Found,
     seeds: Vec<Pair>,
-}
-
-impl Model for Search {
-    ghost use Rattle.xs_apart.specs.Found.{Fits};
-
-    ghost Value = { Unit {0} };
-
-    ghost view = { λ s. tt };
-
-    ghost invariant = { λ s. Fits s.found };
 }
 
 impl Search {
@@ -68,9 +50,6 @@ impl Search {
         c: u32,
         d: u32,
     ) -> Result<bool, Memory>
-        requires first { a < first.now.states }
-        requires second { c < second.now.states }
-        ensures { IfOk result (λ apart. apart ≡ true → AreApart (MayCall labels.now) (view labels.now first.now a b) (view labels.now second.now c d)) }
     {
         see_table(labels);
         if !self.found.begin(self.alloc, first.len(), second.len())? {
@@ -89,12 +68,12 @@ impl Search {
         net: &Coarse,
         top: u32,
     ) -> Result<Option<Doubles>, Memory>
-        ensures { IfOk result (λ o. IfSome o (λ d. AreDoubles labels.now net.now d.top d.pairs.items)) }
     {
         if !self.found.find_doubles(self.alloc, labels, net, top)? {
             return Ok(None);
         }
-        let pairs = Vec::from_slice(self.alloc, &self.found.pairs)?;
+        let mut pairs = Vec::new(self.alloc);
+        self.found.list(&mut pairs)?;
         Ok(Some(Doubles { pairs, top }))
     }
 
@@ -113,9 +92,6 @@ impl Search {
         here: u32,
         last: u32,
     ) -> Result<bool, Memory>
-        requires doubles { AreDoubles labels.now net.now doubles.now.top doubles.now.pairs.items }
-        requires here { here < net.now.states }
-        ensures { IfOk result (λ clear. clear ≡ true → AreClear (MayCall labels.now) (view labels.now net.now 0 here) (view labels.now net.now here last)) }
     {
         see_table(labels);
         if here > doubles.top || !never_returns(net, here) {
@@ -123,12 +99,12 @@ impl Search {
         }
         if !self
             .found
-            .find_turns(self.alloc, net, &doubles.pairs, here)?
+            .find_turns(self.alloc, labels, net, &doubles.pairs, here)?
         {
             return Ok(false);
         }
         self.seeds.clear();
-        self.seeds.extend_from_slice(&self.found.pairs)?;
+        self.found.list(&mut self.seeds)?;
         if !self
             .found
             .find_middles(self.alloc, labels, net, here, &self.seeds)?
@@ -136,7 +112,7 @@ impl Search {
             return Ok(false);
         }
         self.seeds.clear();
-        self.seeds.extend_from_slice(&self.found.pairs)?;
+        self.found.list(&mut self.seeds)?;
         self.found
             .find_rests(self.alloc, labels, net, &self.seeds, here, last)
     }
@@ -154,8 +130,6 @@ impl Search {
         here: u32,
         last: u32,
     ) -> Result<bool, Memory>
-        requires { here < net.now.states }
-        ensures { IfOk result (λ clear. clear ≡ true → AreClear (MayCall labels.now) (view labels.now net.now 0 here) (view labels.now net.now here last)) }
     {
         see_table(labels);
         if gate > here || !is_gate(net, gate) || !is_source(net, here) {
@@ -170,7 +144,7 @@ impl Search {
             return Ok(false);
         }
         self.seeds.clear();
-        self.seeds.extend_from_slice(&self.found.pairs)?;
+        self.found.list(&mut self.seeds)?;
         self.found
             .find_rests(self.alloc, labels, net, &self.seeds, here, last)
     }
@@ -180,7 +154,6 @@ impl Search {
     ///
     /// Takes time linear in the pairs that are reached, times the products of the arcs of their states.
     pub fn ends_apart(&mut self, labels: &Labels, one: &Tail, other: &Tail) -> Result<bool, Memory>
-        ensures { IfOk result (λ apart. apart ≡ true → (m n : AnyNet) (b e d f : ℕ) → IsWithinAll m → IsWithinAll n → IsTail m b e one.now → IsTail n d f other.now → AreApart (MayCall labels.now) (view labels.now m 0 b) (view labels.now n 0 d)) }
     {
         see_table(labels);
         if !self
@@ -203,10 +176,6 @@ impl Search {
 
 /// Each state of a front's end, from a gate on, beside each state of the rest.
 fn push_end_pairs(pairs: &mut Vec<Pair>, net: &Coarse, gate: u32, here: u32) -> Result<(), Memory>
-    requires none { pairs.old.items ≡ [] }
-    requires here { here < net.now.states }
-    ensures inside { OnOk result (All (IsInside net.now.states net.now.states) pairs.new.items) }
-    ensures each { OnOk result (AreEndPairs net.now gate here pairs.new.items) }
 {
     let states = net.len();
     'firsts: for first in gate..here + 1 {
@@ -217,10 +186,6 @@ fn push_end_pairs(pairs: &mut Vec<Pair>, net: &Coarse, gate: u32, here: u32) -> 
 
 /// A first state beside each second one from one on, before an end.
 fn push_row(pairs: &mut Vec<Pair>, first: u32, begin: u32, end: u32) -> Result<(), Memory>
-    requires { first < end }
-    ensures longer { OnOk result (IsLonger pairs.old.items pairs.new.items) }
-    ensures inside { OnOk result (All (IsInside end end) pairs.old.items → All (IsInside end end) pairs.new.items) }
-    ensures each { OnOk result ((b : ℕ) → begin ≤ b → b < end → HasPair pairs.new.items first b) }
 {
     'seconds: for second in begin..end {
         pairs.push(Pair { first, second })?;
@@ -230,7 +195,6 @@ fn push_row(pairs: &mut Vec<Pair>, first: u32, begin: u32, end: u32) -> Result<(
 
 /// Learns that classes that share a symbol may meet, which a look at the table tells.
 fn see_table(labels: &Labels)
-    ensures { IsTable labels.now }
 {
     let _ = labels.meet(0, 0);
 }
