@@ -48,7 +48,7 @@ IsEnded (WriteFault count) written noted before after status = IsWanting before 
 IsEnded (NoteFault of count) written noted before after status = IsWanting before after status
 IsEnded o written noted before after status = IsTold noted o after status
 
--- How a run ended: its words are not text; or it ran, and its end is told; or memory ran out.
+-- How a run ended: its words are no texts; or it ran, and its end is told; or memory ran out.
 pub data IsRunDone (words : List (List ℕ)) (sheet certificate document : List ℕ) (before after : Answer) (status : ℕ) : Type 0 where
   no_text : HasNoText words → IsRefusal [] Usage before after status → IsRunDone words sheet certificate document before after status
   ran : (o : Outcome) (written noted : List ℕ) → IsRan words sheet certificate document o written noted → IsEnded o written noted before after status → IsRunDone words sheet certificate document before after status

@@ -14,7 +14,7 @@ IsWeighty p (C.Heavy weight) = IsFirstHeavy p.text p.xml weight
 IsWeighty p C.Memory = Unit {0}
 
 -- and where it speaks of a line, no rule is heavy, and it is the line after the longest good front of
--- bytes that are not a certificate
+-- bytes that are no certificate
 abbrev pub IsCertReason : Pair → List ℕ → CertFault → Type 0
 IsCertReason p bytes (F.Heavy weight) = IsFirstHeavy p.text p.xml weight
 IsCertReason p bytes (F.CertBad line) = IsLight p.text × IsLight p.xml × IsBadAt p bytes line

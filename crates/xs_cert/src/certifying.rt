@@ -64,8 +64,8 @@ fn shown(two: &Two) -> Certified<'_>
     Certified::of(two)
 }
 
-/// The first line after the longest good front, counted from 1, of bytes that are not a
-/// certificate; or none, where they are one.
+/// The first line after the longest good front, counted from 1, of bytes that are no certificate;
+/// or none, where they are one.
 fn bad_line(alloc: Global, two: &Two, bytes: &[u8]) -> Result<Option<u64>, Memory>
     requires text { IsBuilt two.now.text }
     requires xml { IsBuilt two.now.xml }

@@ -110,8 +110,8 @@ pub record IsGoodFront (p : Pair) (bytes : List ℕ) (k : ℕ) : Type 0 where
   pub count : k ≡ length lines
   pub begins : bytes ≡ written lines ++ rest
 
--- the bytes are not a certificate whose blocks are all right, and the line, counted from 1, is the
--- first after their longest good front
+-- the bytes are no certificate whose blocks are all right, and the line, counted from 1, is the first
+-- after their longest good front
 pub record IsBadAt (p : Pair) (bytes : List ℕ) (line : ℕ) : Type 0 where
   pub none : IsCertificate p bytes → ⊥
   pub before : ℕ

@@ -26,8 +26,8 @@ pub record BeginsOutline (p : Pair) (texts : List (List ℕ)) : Type 0 where
   pub spelt : AreSpelt lines texts
   pub whole : AreLinesOf p (lines ++ more) tree
 
--- The characters are not an outline, and this line, counted from 1, is the first such that the
--- lines up to it begin none; where all lines begin one it is one more than their number.
+-- The characters are no outline, and this line, counted from 1, is the first such that the lines up
+-- to it begin none; where all lines begin one it is one more than their number.
 pub record IsBadAt (p : Pair) (w : List ℕ) (line : ℕ) : Type 0 where
   pub none : (t : Common) → IsOutline p w t → ⊥
   pub before : ℕ

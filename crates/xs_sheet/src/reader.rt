@@ -18,7 +18,7 @@ use std::alloc::Global;
 use xs_class::Memory;
 use xs_lex::tokens;
 
-/// Why a file is not a sheet.
+/// Why a file is no sheet.
 #[derive(Clone, Copy, Debug, PartialEq, Eq)]
 pub enum SheetFault {
     /// The first token such that no sheet begins with the tokens before it and it; `at` is its

@@ -34,8 +34,8 @@ pub enum Outcome {
     Foreign { viable: u64 },
     /// The sheet's file has more than 65,536 bytes.
     SheetLong,
-    /// The bytes are not a sheet: `at` is the place, in bytes from 0, of the first token that no
-    /// sheet has there.
+    /// The bytes are no sheet: `at` is the place, in bytes from 0, of the first token that no sheet
+    /// has there.
     SheetBad { at: u64 },
     /// The sheet is not well formed.
     SheetIll(Ill),
@@ -47,7 +47,7 @@ pub enum Outcome {
     NotUtf8 { at: u64 },
     /// The input is no XML of the profile: it breaks after `at` characters.
     NotXml { at: u64 },
-    /// The words are not a command.
+    /// The words are no command.
     Usage,
     /// The sheet's file failed.
     SheetFault,
@@ -66,11 +66,11 @@ pub enum Outcome {
     CertFault,
     /// The certificate's file has more than 268,435,456 bytes.
     CertLong,
-    /// The file is not a certificate of the sheet: `line`, counted from 1, is the first line after
-    /// the longest good front of the file, of lines that begin a certificate and whose blocks are
-    /// whole and right.
+    /// The file is no certificate of the sheet: `line`, counted from 1, is the first line after the
+    /// longest good front of the file, of lines that begin a certificate and whose blocks are whole
+    /// and right.
     CertBad { line: u64 },
-    /// The input is not an outline: `line`, counted from 1, is the first line such that the lines
-    /// up to it begin none, or one more than the number of lines where the outline ends too early.
+    /// The input is no outline: `line`, counted from 1, is the first line such that the lines up to
+    /// it begin none, or one more than the number of lines where the outline ends too early.
     OutlineBad { line: u64 },
 }

@@ -47,7 +47,7 @@ told_as run o names (Err e) went tells = tells
 stop_is : (P : Outcome → Type 0) (stop : Stop) (o : Outcome) → StopsBy P stop → stop ≡ Refused o → P o
 stop_is P stop o stops is = subst (StopsBy P) is stops
 
--- words that are not a command
+-- words that are no command
 pub usage_told : (run : Run) (names : List (List ℕ)) (o : Outcome) (r : Result Outcome Refusal) → names ≡ [] → Went run o [] → IfOk r (Tells run.notes names o) → IfOk r (Told run)
 usage_told run names o r none went tells = told_as run o [] r went (subst (λ (ns : List (List ℕ)). IfOk r (Tells run.notes ns o)) none tells)
 

@@ -29,7 +29,7 @@ xml_stops names bytes doc (F.NotXml at) read fault =
     (refl, record { utf8 = read.utf8; none = broken.0; broken = broken.1 })
 xml_stops names bytes doc F.Memory read fault = tt
 
--- characters that are read, and why they are not an outline
+-- characters that are read, and why they are no outline
 pub outline_stops : (p : Pair) (bytes doc : List ℕ) (e : OutlineFault) → IsDocument Text AsIs [] bytes doc → IsRefusal p doc e → StopsBy (IsNoOutline p bytes) (stop_of_outline e)
 outline_stops p bytes doc (L.OutlineBad line) read bad = record { utf8 = read.utf8; bad = subst (λ (d : List ℕ). IsBadAt p d line) read.word bad }
 outline_stops p bytes doc L.Memory read bad = tt

@@ -30,7 +30,7 @@ not_bad_script script line rs spelt bad =
     let found = spelt_at rs (text_lines script) bad.before bad.text spelt bad.there in
     bad.bad found.0 found.1
 
--- characters that are read, and why they are not a script
+-- characters that are read, and why they are no script
 pub script_stops : (bytes script : List ℕ) (e : ScriptFault) → IsDocument Text AsIs [] bytes script → IsUnplayed script e → StopsBy (IsNoScript bytes) (stop_of_script e)
 script_stops bytes script (S.ScriptBad line) read bad = record { utf8 = read.utf8; bad = subst (λ (d : List ℕ). IsBadAt d line) read.word bad }
 script_stops bytes script S.Memory read bad = tt

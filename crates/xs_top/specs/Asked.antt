@@ -39,6 +39,6 @@ ask_of (to_tree sheet side form) = by sheet (ToTree side form)
 ask_of (from_tree sheet side) = by sheet (FromTree side)
 ask_of (cover sheet) = by sheet Cover
 
--- what the words ask for, or nothing where they are not a command
+-- what the words ask for, or nothing where they are no command
 abbrev pub asked : List (List ℕ) → Option Ask
 asked words = option_map ask_of (command_of words)

@@ -28,7 +28,7 @@ pub record IsNoXml (names : List (List ℕ)) (bytes : List ℕ) (at : ℕ) : Typ
   pub none : (w : List ℕ) → Reads names (text_of bytes AsIs) w → ⊥
   pub broken : IsBrokenAt (text_of bytes AsIs) at
 
--- why the bytes are not text, or no document of a side
+-- why the bytes are no text, or no document of a side
 abbrev pub IsNoText : List ℕ → Outcome → Type 0
 IsNoText bytes (NotUtf8 at) = IsUtf8BadAt bytes at
 IsNoText bytes other = ⊥

@@ -94,10 +94,10 @@ Took out answer Done = Appends out.taken_before out.taken_now answer
 Took out answer (WriteFault written) = Appends out.taken_before out.taken_now (take written answer) × (written < length answer) × Rose out.faults_before out.faults_now
 Took out answer other = ⊥
 
--- The outcome to which a run went, with the names by which it is reported: the words are not a command; or a
--- shipped sheet is written; or the sheet whose upgrade is asked for spells no grammars, or its upgrade is written;
--- or the sheet that is to be checked by a certificate is not accepted by it, or what is said of it is written; or
--- the sheet that is asked for spells no grammars; or the job is not done by them; or it is answered.
+-- The outcome to which a run went, with the names by which it is reported: the words are no command; or a shipped
+-- sheet is written; or the sheet whose upgrade is asked for spells no grammars, or its upgrade is written; or the sheet
+-- that is to be checked by a certificate is not accepted by it, or what is said of it is written; or the
+-- sheet that is asked for spells no grammars; or the job is not done by them; or it is answered.
 pub data Went (run : Run) : Outcome → List (List ℕ) → Type 0 where
   no_command : asked run.words ≡ None → ReadNothing run.input → TookNothing run.out → Went run Usage []
   shipped_written : (core : Core) {o : Outcome} → asked run.words ≡ Some (shipped core) → ReadNothing run.input → Took run.out (core_bytes core) o → Went run o []

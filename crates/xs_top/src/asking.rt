@@ -85,7 +85,7 @@ fn ask_of(command: Command<'_>) -> Ask<'_>
     Ask::By { sheet, job }
 }
 
-/// What the words ask for, or None where they are not a command.
+/// What the words ask for, or None where they are no command.
 pub fn asked(words: &[String]) -> Option<Ask<'_>>
     ensures ask { option_map ask_meant result ≡ asked_for (map string_bytes words.now) }
     ensures lines { IfSome result AsksForLines }

@@ -1,5 +1,5 @@
-//! Bytes that are not a certificate, most of them a certificate of the empty sheet or of a small
-//! one with groups that is damaged: `certify` names the line that the slow program does.
+//! Bytes that are no certificate, most of them a certificate of the empty sheet or of a small one
+//! with groups that is damaged: `certify` names the line that the slow program does.
 mod damages;
 
 ghost use Rattle.xs_pair.specs.{IsSoundPair};
@@ -41,7 +41,7 @@ fn shown(alloc: Global, bytes: &[u8]) -> Result<String, Memory> {
     Ok(text)
 }
 
-/// `certify` says of the bytes what the slow program does; whether they are not a certificate.
+/// `certify` says of the bytes what the slow program does; whether they are no certificate.
 pub fn expect_same(
     rt: &impl Abort,
     alloc: Global,
