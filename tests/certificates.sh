@@ -58,6 +58,11 @@ heavy=$'sheet: weight 8560 is more than 8192\n'
 refuses 'prove heavy' '' 2 "$heavy"
 refuses 'check heavy cert none' '' 2 "$heavy"
 refuses 'check heavy cert lacking' '' 2 "$heavy"
+# The text is empty, and the XML a word between two tags.
+printf 'xsugar-1\nstart s\ns : = <s>"%s"</s>\n' "$(copies - 8200)" | sheet heavy
+heavy=$'sheet: weight 8203 is more than 8192\n'
+refuses 'prove heavy' '' 2 "$heavy"
+refuses 'check heavy cert certificate' '' 2 "$heavy"
 sheet unstarted <<'END'
 xsugar-1
 start s

@@ -46,3 +46,31 @@ doubling 11 | sheet doubling
 refuses 'check doubling' '' 2 $'sheet: weight 14334 is more than 8192\n'
 doubling 20 | sheet doubling
 refuses 'check doubling' '' 2 $'sheet: weight 1000000 is more than 8192\n'
+
+# A production may weigh 8,192, so with that many hyphens in it its weight is reported.
+hyphens=$(copies - 8192)
+
+# weighs WEIGHT: the sheet that is standard input has a production that weighs this and the hyphens.
+weighs() {
+  sheet weighed
+  refuses 'check weighed' '' 2 "sheet: weight $(($1 + 8192)) is more than 8192"$'\n'
+}
+
+shows 'the first productions of the shipped sheets weigh less as text, and by the second sheet'
+for core in '' ' 2'; do
+  read -ra words <<<"sheet$core"
+  "$program" "${words[@]}" </dev/null >"$room/core"
+  case $core in
+    '') text=2196 xml=4944 ;;
+    *) text=1592 xml=1156 ;;
+  esac
+  weighs "$text" < <(sed "s/^doc : \"<=\"/doc : \"<=$hyphens\"/" "$room/core")
+  weighs "$xml" < <(sed "s/= <ab>/= <ab>\"$hyphens\"/" "$room/core")
+done
+
+shows 'a production weighs 1 more than its items, also as XML, or than those inside a group'
+weighs 1 <<<$'xsugar-1\nstart s\ns : "'"$hyphens"'" = <s/>'
+weighs 3 <<<$'xsugar-1\nstart s\ns : = <s>"'"$hyphens"'"</s>'
+weighs 1 <<<$'xsugar-2\nstart s\ns : = <s>"'"$hyphens"'"</s>'
+weighs 5 <<<$'xsugar-2\nstart s\nfence "(" ")"\nterminal t = /ab?c/\ns : "a(" [t x] "'"$hyphens"'" ")" = <s>[t x]</s>'
+weighs 4 <<<$'xsugar-2\nstart s\nfence "(" ")"\ns : "a()'"$hyphens"'" = <s/>'

@@ -1,11 +1,5 @@
 mod chars;
-mod chart;
-mod earley;
-mod forest;
 mod io;
-mod leiden;
 mod lr;
 mod parse_table;
-mod text_out;
-mod tree;
 mod turn;

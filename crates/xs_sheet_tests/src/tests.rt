@@ -1,13 +1,4 @@
 mod auto;
 mod class;
-mod clauses;
-mod gram;
-mod graph;
 mod loose;
-mod nests;
-mod order;
-mod pair;
-mod regex;
-mod sheet;
 mod suspects;
-mod wf;

@@ -27,6 +27,11 @@ use xs_test_tools::{EXAMPLES, two_of};
 use xs_tree::{Tree, same};
 use xs_turn::{TurnFault, translate};
 
+/// The units of sheets whose items are given by letters.
+const UNITS: &[u8] =
+    b"xsugar-1\nstart s\nterminal x = /[ab]/\nterminal y = /a*/\nterminal z = /a{1,2}/\n\
+    ignorable k = /b*/ \"\"\nignorable l = /(ab)?/ \"\"\n";
+
 /// What comes of a document.
 #[derive(Clone, Copy, Debug, PartialEq, Eq)]
 pub enum Found {

@@ -242,16 +242,8 @@ const WRONG_PARTS: &[Row<'static>] = &[
 ];
 
 #[test]
-fn tables_of_derivations(rt: HostRuntime) -> Result<(), Fail> {
-    expect_all(&rt, rt.alloc(), RIGHT, true)
-}
-
-#[test]
-fn tables_with_a_wrong_node(rt: HostRuntime) -> Result<(), Fail> {
-    expect_all(&rt, rt.alloc(), WRONG_NODES, false)
-}
-
-#[test]
-fn tables_with_a_wrong_part(rt: HostRuntime) -> Result<(), Fail> {
+fn tables_made_by_hand(rt: HostRuntime) -> Result<(), Fail> {
+    expect_all(&rt, rt.alloc(), RIGHT, true)?;
+    expect_all(&rt, rt.alloc(), WRONG_NODES, false)?;
     expect_all(&rt, rt.alloc(), WRONG_PARTS, false)
 }

@@ -1,105 +1,50 @@
-//! Documents of small sheets without ignorables, translated both ways.
 ghost use Rattle.xs_pair.specs.{IsSoundPair};
-
-mod trees;
 
 use std::alloc::Global;
 use std::process::Abort;
-use xs_class::{Side, Sym, Word};
+use std::test::Fail;
+use xs_chars::{Form, read_text};
+use xs_class::Side;
 use xs_pair::Two;
-use xs_test_tools::{EMPTY, PAIR, other_side, two_of};
-use xs_turn::{TurnFault, translate};
-use xs_wf::WfFault;
+use xs_test_tools::{SPACED, two_of};
+use xs_tree::{Tree, same};
+use xs_turn::translate;
 
-/// Whether the document of this side is turned into this word of the other.
-fn is_turned(
-    alloc: Global,
-    two: &Two,
-    side: Side,
-    doc: &[Sym],
-    word: &[Sym],
-) -> Result<bool, TurnFault>
+fn tree_of(alloc: Global, two: &Two, text: &[u8]) -> Result<Tree, Fail>
     requires { IsSoundPair two.now }
 {
-    if doc.len() >= 1000 {
-        return Ok(false);
+    let doc = read_text(alloc, text, Form::AsIs)?;
+    let translated = translate(alloc, two, Side::Text, Side::Text, &doc)?;
+    Ok(translated.tree)
+}
+
+/// Whether two texts have the same tree.
+fn have_same(alloc: Global, two: &Two, one: &[u8], other: &[u8]) -> Result<bool, Fail>
+    requires { IsSoundPair two.now }
+{
+    let first = tree_of(alloc, two, one)?;
+    let second = tree_of(alloc, two, other)?;
+    Ok(same(alloc, &first, &second)?)
+}
+
+/// Texts of the pairs with spaces, and whether their trees are the same.
+const TEXTS: &[(&[u8], &[u8], bool)] = &[
+    (b"(3,7)", b"( 3,  7 )", true),
+    (b"(3,7)", b"(7,3)", false),
+];
+
+fn expect_same(rt: &impl Abort, alloc: Global, two: &Two) -> Result<(), Fail>
+    requires { IsSoundPair two.now }
+{
+    for (one, other, expected) in TEXTS {
+        let found = have_same(alloc, two, one, other)?;
+        assert_eq!(rt; found, *expected);
     }
-    let doc = Word::of(alloc, doc)?;
-    let translated = translate(alloc, two, side, other_side(side), &doc)?;
-    Ok(translated.word.as_slice() == word)
-}
-
-/// Whether the document is foreign, and just that many of its leading symbols are viable.
-fn is_foreign(alloc: Global, two: &Two, side: Side, doc: &[Sym], viable: u64) -> bool
-    requires { IsSoundPair two.now }
-{
-    is_turned(alloc, two, side, doc, &[]) == Err(TurnFault::Foreign { viable })
-}
-
-fn are_turned(alloc: Global, two: &Two, text: &[Sym], xml: &[Sym]) -> Result<bool, TurnFault>
-    requires { IsSoundPair two.now }
-{
-    let there = is_turned(alloc, two, Side::Text, text, xml)?;
-    let back = is_turned(alloc, two, Side::Xml, xml, text)?;
-    Ok(there && back)
-}
-
-/// Each document is turned into the other.
-fn expect_turned(
-    rt: &impl Abort,
-    alloc: Global,
-    sheet: &[u8],
-    text: &[Sym],
-    xml: &[Sym],
-) -> Result<(), WfFault> {
-    let two = two_of(alloc, sheet)?;
-    let same = are_turned(alloc, &two, text, xml);
-    assert!(rt; same == Ok(true));
     Ok(())
 }
 
 #[test]
-fn a_pair_is_turned_both_ways(rt: HostRuntime) -> Result<(), WfFault> {
-    let text = [
-        Sym::of_char('('),
-        Sym::of_char('3'),
-        Sym::of_char(','),
-        Sym::of_char('7'),
-        Sym::of_char(')'),
-    ];
-    let xml = [
-        Sym::opening(0),
-        Sym::opening(2),
-        Sym::of_char('7'),
-        Sym::closing(2),
-        Sym::opening(1),
-        Sym::of_char('3'),
-        Sym::closing(1),
-        Sym::closing(0),
-    ];
-    expect_turned(&rt, rt.alloc(), PAIR.as_bytes(), &text, &xml)
-}
-
-#[test]
-fn the_empty_document_is_turned_both_ways(rt: HostRuntime) -> Result<(), WfFault> {
-    let xml = [Sym::opening(0), Sym::closing(0)];
-    expect_turned(&rt, rt.alloc(), EMPTY.as_bytes(), &[], &xml)
-}
-
-/// Whether of the two documents one symbol less than all is viable, and of the empty one none.
-fn are_foreign(alloc: Global, two: &Two, text: &[Sym], xml: &[Sym]) -> bool
-    requires { IsSoundPair two.now }
-{
-    is_foreign(alloc, two, Side::Text, text, 2)
-        && is_foreign(alloc, two, Side::Xml, xml, 1)
-        && is_foreign(alloc, two, Side::Text, &[], 0)
-}
-
-#[test]
-fn a_foreign_document_is_told_with_its_viable_front(rt: HostRuntime) -> Result<(), WfFault> {
-    let text = [Sym::of_char('('), Sym::of_char('3'), Sym::of_char('x')];
-    let xml = [Sym::opening(0), Sym::opening(1)];
-    let two = two_of(rt.alloc(), PAIR.as_bytes())?;
-    assert!(rt; are_foreign(rt.alloc(), &two, &text, &xml));
-    Ok(())
+fn spellings_of_one_document_have_the_same_tree(rt: HostRuntime) -> Result<(), Fail> {
+    let two = two_of(rt.alloc(), SPACED.as_bytes())?;
+    expect_same(&rt, rt.alloc(), &two)
 }

@@ -1,13 +1,6 @@
 ghost use Rattle.xs_gram.specs.{IsBuilt};
 
 mod doubtful;
-mod drawn;
-mod pieces;
-mod random;
-mod screened;
-mod slow;
-mod weighed;
-mod words;
 
 use std::alloc::Global;
 use xs_gram::Gram;

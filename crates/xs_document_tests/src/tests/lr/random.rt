@@ -5,8 +5,7 @@ ghost use Rattle.std.specs.Prelude.{◌<◌, length, IfSome};
 ghost use Rattle.xs_gram.specs.{IsSound};
 ghost use Rattle.xs_pair.specs.{IsSoundPair};
 
-use super::{Found, agree, changed, exact_tree, found_for};
-use crate::tests::earley::UNITS;
+use super::{Found, UNITS, agree, changed, exact_tree, found_for};
 use std::alloc::Global;
 use std::process::Abort;
 use std::test::Fail;
@@ -19,7 +18,7 @@ use xs_tree::same;
 use xs_turn::{TurnFault, translate};
 use xs_unique::accept;
 
-/// The letters of items as the module `earley` gives them, those of nonterminals last.
+/// The letters of items, those of nonterminals last.
 const LETTERS: &[u8; 16] = b"abcdwxyzkl()SSTT";
 
 /// How many of the letters are not those of nonterminals.

@@ -1,6 +1,0 @@
-mod closed;
-mod damaged;
-mod drawn;
-mod slow;
-mod verdicts;
-mod written;

@@ -1,3 +1,0 @@
-pub mod FirstInside
-pub mod SmallLemmas
-pub mod Unfenced
