@@ -12,3 +12,10 @@ pub mod Pairs
 pub mod Failing
 pub mod Meant
 mod Refusals
+pub mod OtherFences
+pub mod GainedFences
+pub mod Lined
+mod Copied
+mod ProperFences
+pub mod Unfenced
+pub mod Upgraded

@@ -5,3 +5,4 @@ pub mod Sheets
 pub mod Pairs
 pub mod Laws
 pub mod Refusals
+pub mod Upgrading

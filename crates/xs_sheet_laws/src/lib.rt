@@ -7,14 +7,20 @@
 //! grammars that are alike have the same derivations, trees, prints, words, viable prefixes, weights
 //! and suspects, and are accepted alike. A sheet that is refused is refused in one way.
 //!
+//! The upgrade of a well-formed sheet to version 2 is well formed, has the same derivations, and is
+//! accepted where the sheet is, unless a rule of it is too heavy. This holds of each sheet that, lines
+//! aside, some bytes have, also where its upgrade is longer than a sheet may be that is read. A rule
+//! may become heavier: a component that fences part is counted at each of its occurrences.
+//!
 //! The statements stand in specs/. Each function here is a law, and does nothing when it runs.
 #![tactic(auto)]
 
 ghost use Rattle.xs_sheet_laws.specs.Meanings.{AlikeMeanTheSame, AlikeAreCheckedAlike};
 ghost use Rattle.xs_sheet_laws.specs.Refusals.{BrokenOnce, IllOnce, HeavyOnce, SuspectOnce};
 ghost use Rattle.xs_sheet_laws.specs.Laws.{OneSheet, AlikeSheetsMeanTheSame, OnePair, OnePairOfBytes, AlikePairsMeanTheSame};
+ghost use Rattle.xs_sheet_laws.specs.Upgrading.{UpgradeIsWell, UpgradeKeepsDerivations, UpgradeStaysAccepted};
 
-use xs_check_laws::weights_are_exact;
+use xs_check_laws::{accepted_stays_accepted, weights_are_exact};
 
 /// Two sheets of the same bytes are alike.
 pub fn one_sheet()
@@ -57,4 +63,32 @@ pub fn refused_once()
     ensures suspect { SuspectOnce }
 {
     weights_are_exact();
+}
+
+/// The upgrade of a well-formed sheet is well formed.
+pub fn upgrade_is_well()
+    ensures { UpgradeIsWell }
+{
+    alike_sheets_mean_the_same();
+}
+
+/// A sheet and its upgrade have the same flat items, and so the same derivations.
+pub fn upgrade_keeps_derivations()
+    ensures { UpgradeKeepsDerivations }
+{
+    alike_sheets_mean_the_same();
+    one_pair();
+    alike_pairs_mean_the_same();
+}
+
+/// The upgrade of an accepted sheet is accepted, unless a rule of it is too heavy.
+pub fn upgrade_stays_accepted()
+    ensures { UpgradeStaysAccepted }
+{
+    alike_sheets_mean_the_same();
+    one_pair();
+    alike_pairs_mean_the_same();
+    alike_mean_the_same();
+    alike_are_checked_alike();
+    accepted_stays_accepted();
 }

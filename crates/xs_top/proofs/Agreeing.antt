@@ -21,7 +21,7 @@ use Rattle.xs_top.specs.Checks.{IsSure}
 use Rattle.xs_top.specs.Ran.{IsOfLanguage, IsReadable, IsReadableOutline, IsDoable}
 use Rattle.xs_top.specs.Laws.{PairsAgree, SheetsAgree, OutlinesAgree, ScriptsAgree}
 use Rattle.xs_top.specs.Certificates.{CertificatesAgree}
-use Rattle.xs_cert_alike.specs.Laws.{AlikeHaveSameCertificates}
+use Rattle.xs_cert_laws.specs.Alike.{AlikeHaveSameCertificates}
 use Rattle.xs_top.proofs.Outlines.{outline_kept}
 use Rattle.xs_top.proofs.Playing.{played_kept}
 

@@ -4,7 +4,7 @@ use Rattle.xs_check_laws.specs.Laws.{RuleWeighsOnce}
 use Rattle.xs_xml_laws.specs.Laws.{OneReading}
 use Rattle.xs_pair.specs.Grammars.{Pair}
 use Rattle.xs_cert_laws.specs.Certificates.{IsCertificate, IsBadAt}
-use Rattle.xs_cert_alike.specs.Laws.{AreBuilt}
+use Rattle.xs_cert_laws.specs.Alike.{AreBuilt}
 use Rattle.xs_talk.specs.declared.outcome.Outcome.{Outcome}
 use Rattle.xs_talk.specs.declared.outcome.Outcome.TheVariants.{Done, Heavy, CertFault, CertLong, CertBad, WriteFault}
 use Rattle.xs_top.specs.declared.asking.Job.TheVariants.{Prove}

@@ -6,7 +6,7 @@ use Rattle.std.proofs.lemmas.Option.{same_Some}
 use Rattle.std.proofs.lemmas.Slice.Eq.{bytes_eq-Decides}
 use Rattle.xs_io.specs.Causes.{Rose}
 use Rattle.xs_io.specs.Shown.{Files, Has, IsFile, IsLongFile, NameFailed}
-use Rattle.xs_cert_alike.specs.Laws.{AreBuilt}
+use Rattle.xs_cert_laws.specs.Alike.{AreBuilt}
 use Rattle.xs_pair.specs.Grammars.{Pair}
 use Rattle.xs_pair.specs.Sound.{IsSoundPair}
 use Rattle.xs_words.specs.Command.{Sheet as Named}

@@ -3,7 +3,7 @@
 use Rattle.std.specs.Prelude.{◌≡◌, ◌⊎◌, ℕ, List, ◌++◌, Some}
 use Rattle.xs_io.specs.Shown.{NameFailed}
 use Rattle.xs_pair.specs.Grammars.{Pair}
-use Rattle.xs_cert_alike.specs.Laws.{AreBuilt, HaveSameCertificates}
+use Rattle.xs_cert_laws.specs.Alike.{AreBuilt, HaveSameCertificates}
 use Rattle.xs_words.specs.Command.{Sheet as Named}
 use Rattle.xs_talk.specs.declared.outcome.Outcome.{Outcome}
 use Rattle.xs_talk.specs.declared.outcome.Outcome.TheVariants.{Done, CertBad}

@@ -3,7 +3,7 @@ use Rattle.std.specs.Prelude.{◌≡◌, ◌⊎◌, ℕ, ◌≤◌, List, length
 use Rattle.xs_io.specs.Shown.{Files, IsFile, IsLongFile, NameFailed}
 use Rattle.xs_check_laws.specs.Acceptance.{IsLight, IsFirstHeavy}
 use Rattle.xs_cert_laws.specs.Certificates.{IsCertificate, IsBadAt}
-use Rattle.xs_cert_alike.specs.Laws.{AreBuilt}
+use Rattle.xs_cert_laws.specs.Alike.{AreBuilt}
 use Rattle.xs_words.specs.Command.{Sheet as Named}
 use Rattle.xs_pair.specs.Grammars.{Pair}
 use Rattle.xs_talk.specs.Counts.{accepted_line}

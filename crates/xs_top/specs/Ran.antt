@@ -34,7 +34,7 @@ use Rattle.xs_top.specs.Covering.{IsCovered}
 use Rattle.xs_io.specs.Shown.{NameFailed}
 use Rattle.xs_cert_laws.specs.Certificates.{IsCertificate}
 use Rattle.xs_cert_laws.specs.Exact.{IsProof}
-use Rattle.xs_cert_alike.specs.Laws.{AreBuilt}
+use Rattle.xs_cert_laws.specs.Alike.{AreBuilt}
 use Rattle.xs_top.specs.Certifying.{IsCertified, IsUncertified, HasFile}
 
 -- the input was read to its end, and is these bytes

@@ -1,7 +1,7 @@
 ghost use Rattle.xs_top.specs.Certificates.{CertificatesAgree, ProofIsTaken, OneCertificate};
 ghost use Rattle.xs_top.specs.Laws.{PairsAgree, SheetsAgree, OutlinesAgree, ScriptsAgree, OneAnswer, TranslatesBack, RoundIsIdempotent, TranslatesAgain, RefusesExactly, OneVerdict, OneFlaw, CheckDecides, CheckDecidesUpgrades, CheckDecidesCertificates, CheckAccepts};
 
-use xs_cert_alike::alike_have_same_certificates;
+use xs_cert_laws::alike_have_same_certificates;
 use xs_check_laws::weights_are_exact;
 use xs_sheet_laws::{
     alike_pairs_mean_the_same, alike_sheets_mean_the_same, one_pair, one_sheet, refused_once,

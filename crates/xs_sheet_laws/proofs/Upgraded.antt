@@ -31,13 +31,13 @@ use Rattle.xs_sheet_laws.specs.Pairs as P
 use Rattle.xs_sheet_laws.specs.Laws.{AlikeSheetsMeanTheSame, OnePair, AlikePairsMeanTheSame}
 use Rattle.xs_sheet_laws.specs.Meanings.{HaveSameSuspects, AlikeMeanTheSame, AlikeAreCheckedAlike}
 use Rattle.xs_sheet_laws.proofs.Twins.{rules_same}
-use Rattle.xs_upgrade_laws.specs.Laws.{Upgrades, KeepDerivations, UpgradeIsWell, UpgradeKeepsDerivations, UpgradeStaysAccepted}
-use Rattle.xs_upgrade_laws.proofs.Fenced.{with_fences, same_derivations, derivations_join, built_with}
-use Rattle.xs_upgrade_laws.proofs.Lined.{Spelled, AreCharacters, spelled}
-use Rattle.xs_upgrade_laws.proofs.Copied.{with_units, copy_alike, no_fences, with_pairs, by_parts}
-use Rattle.xs_upgrade_laws.proofs.Gained.{rules_kept, terms_more, skips_more}
-use Rattle.xs_upgrade_laws.proofs.Proper.{fenced_alike, text_side, xml_side}
-use Rattle.xs_upgrade_laws.proofs.Failing.{unfenced, pair_before, gained_well}
+use Rattle.xs_sheet_laws.specs.Upgrading.{Upgrades, KeepDerivations, UpgradeIsWell, UpgradeKeepsDerivations, UpgradeStaysAccepted}
+use Rattle.xs_sheet_laws.proofs.OtherFences.{with_fences, same_derivations, derivations_join, built_with}
+use Rattle.xs_sheet_laws.proofs.Lined.{Spelled, AreCharacters, spelled}
+use Rattle.xs_sheet_laws.proofs.Copied.{with_units, copy_alike, no_fences, with_pairs, by_parts}
+use Rattle.xs_sheet_laws.proofs.GainedFences.{rules_kept, terms_more, skips_more}
+use Rattle.xs_sheet_laws.proofs.ProperFences.{fenced_alike, text_side, xml_side}
+use Rattle.xs_sheet_laws.proofs.Unfenced.{unfenced, pair_before, gained_well}
 
 -- no rule on fences fails after a pair was tried, where none failed before
 tried_fine : (line : ℕ) (fs : List (ℕ × ℕ)) (us vs : List Unit) → NoneFails (FenceFails us) → AreTried line fs us vs → NoneFails (FenceFails vs)

@@ -19,8 +19,8 @@ use Rattle.xs_pair.proofs.Lists.{each_of_map, each_at}
 use Rattle.xs_pair.proofs.TextFences.{text_proper}
 use Rattle.xs_pair.proofs.XmlFences.{xml_proper}
 use Rattle.xs_sheet_laws.specs.Grammars as G
-use Rattle.xs_upgrade_laws.proofs.Fenced.{with_fences}
-use Rattle.xs_upgrade_laws.proofs.Lined.{AreCharacters}
+use Rattle.xs_sheet_laws.proofs.OtherFences.{with_fences}
+use Rattle.xs_sheet_laws.proofs.Lined.{AreCharacters}
 
 -- what the grammar was built of
 abbrev parts_of : Grammar → GramParts

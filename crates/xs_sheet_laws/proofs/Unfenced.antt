@@ -26,9 +26,9 @@ use Rattle.xs_pair.specs.Upgrades.{fence_of}
 use Rattle.xs_wf.specs.Units.{IsEmptyUnit, IsStrangeUnit, IsUnmatchedUnit, IsStrangeRule}
 use Rattle.xs_wf.specs.Nonterminals.{IsUnproductive, IsLooping, FailsAmongNons}
 use Rattle.xs_wf.specs.Rules.{Fails, IsWell}
-use Rattle.xs_upgrade_laws.proofs.Fenced.{with_fences, not_productive, derives_itself}
-use Rattle.xs_upgrade_laws.proofs.Copied.{with_pairs}
-use Rattle.xs_upgrade_laws.proofs.Gained.{names_kept, rules_kept, numbering_kept, terms_kept, skips_kept, line_kept}
+use Rattle.xs_sheet_laws.proofs.OtherFences.{with_fences, not_productive, derives_itself}
+use Rattle.xs_sheet_laws.proofs.Copied.{with_pairs}
+use Rattle.xs_sheet_laws.proofs.GainedFences.{names_kept, rules_kept, numbering_kept, terms_kept, skips_kept, line_kept}
 
 -- two grammars without their fences
 abbrev pub unfenced : Pair → Pair

@@ -16,10 +16,10 @@ use Rattle.xs_cert_lines.specs.Lines.{Lines}
 use Rattle.xs_cert_laws.specs.Blocks.{Head}
 use Rattle.xs_cert_laws.specs.Certificates.{Half, IsHalf, IsCertificate, Front, nothing, version, in_text, in_xml, IsGoodFront, IsBadAt}
 use Rattle.xs_cert_laws.specs.Exact.{IsProof}
-use Rattle.xs_cert_alike.specs.Laws.{AlikeHaveSameCertificates}
-use Rattle.xs_cert_alike.proofs.Laying.{KeepsLinks}
-use Rattle.xs_cert_alike.proofs.Linked.{linked, same_linked}
-use Rattle.xs_cert_alike.proofs.Nests.{half_kept}
+use Rattle.xs_cert_laws.specs.Alike.{AlikeHaveSameCertificates}
+use Rattle.xs_cert_laws.proofs.Laying.{KeepsLinks}
+use Rattle.xs_cert_laws.proofs.Linked.{linked, same_linked}
+use Rattle.xs_cert_laws.proofs.Nests.{half_kept}
 
 -- halves of one are halves of the other
 abbrev pub KeepsHalves : Grammar → Grammar → Type 0

@@ -11,7 +11,7 @@ use Rattle.xs_loose.specs.Laying.{entry_state, exit_state, LaysItem, lays_fixed,
 use Rattle.xs_sheet_laws.proofs.Other.{with_parts}
 use Rattle.xs_sheet_laws.proofs.LooseKept.{one, one_back, member_back}
 use Rattle.xs_sheet_laws.proofs.Weighed.{members_kept}
-use Rattle.xs_cert_alike.proofs.Automata.{AreSame, itself, joined, with_first, same_as, after_same, automaton_same}
+use Rattle.xs_cert_laws.proofs.Automata.{AreSame, itself, joined, with_first, same_as, after_same, automaton_same}
 
 -- automata of the same numbers are linked alike
 pub record KeepsLinks (g h : Grammar) : Type 0 where

@@ -14,8 +14,8 @@ use Rattle.xs_cert_laws.specs.Certificates.{Half, Shares, IsHalf}
 use Rattle.xs_cert_laws.specs.Blocks.{Head}
 use Rattle.xs_sheet_laws.proofs.Other.{with_parts}
 use Rattle.xs_sheet_laws.proofs.Weighed.{KeepsSizes, part_kept}
-use Rattle.xs_cert_alike.proofs.Automata.{contained}
-use Rattle.xs_cert_alike.proofs.Laying.{KeepsLinks, part_laid}
+use Rattle.xs_cert_laws.proofs.Automata.{contained}
+use Rattle.xs_cert_laws.proofs.Laying.{KeepsLinks, part_laid}
 
 module _ (g : Grammar) (ts : List Terminal) (ks : List Ignorable) (keeps : KeepsLinks g (with_parts g ts ks)) (sizes : KeepsSizes g (with_parts g ts ks)) where
   numbered_kept : (p k : ℕ) (is : List GItem) (n : Graph) → IsNumbered g p k is n → IsNumbered (with_parts g ts ks) p k is n
