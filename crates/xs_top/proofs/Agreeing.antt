@@ -1,5 +1,5 @@
 -- What is known of one pair of grammars of a sheet is known of each.
-use Rattle.std.proofs.Common.{ℕ, List, sym, subst}
+use Rattle.std.proofs.Common.{ℕ, Bool, true, false, List, sym, subst}
 use Rattle.xs_class.specs.declared.side.Side.{Side}
 use Rattle.xs_class.specs.declared.side.Side.TheVariants.{Text, Xml}
 use Rattle.xs_chars.specs.declared.form.Form.{Form}
@@ -14,11 +14,11 @@ use Rattle.xs_chars.specs.Text.{text_of}
 use Rattle.xs_outline.specs.Outline.{IsOutline}
 use Rattle.xs_pair.specs.Grammars.{Pair, grammar_of}
 use Rattle.xs_top.specs.declared.asking.Job.{Job}
-use Rattle.xs_top.specs.declared.asking.Job.TheVariants.{Check, Turn, Trees, Make, Session, ToTree, FromTree, Cover, Prove}
+use Rattle.xs_top.specs.Asked.{searches, Reading, of_nothing, of_made, of_document, of_script, of_outline, read_for}
 use Rattle.xs_top.specs.Devices.{Input}
 use Rattle.xs_top.specs.Documents.{IsWordOf, IsDocument}
 use Rattle.xs_top.specs.Checks.{IsSure}
-use Rattle.xs_top.specs.Ran.{IsOfLanguage, IsReadable, IsReadableOutline, IsDoable}
+use Rattle.xs_top.specs.Ran.{IsOfLanguage, IsReadable, IsReadableOutline, IsFit, IsReady, IsDoable}
 use Rattle.xs_top.specs.Laws.{PairsAgree, SheetsAgree, OutlinesAgree, ScriptsAgree}
 use Rattle.xs_top.specs.Certificates.{CertificatesAgree}
 use Rattle.xs_cert_laws.specs.Alike.{AlikeHaveSameCertificates}
@@ -84,13 +84,16 @@ outline_readable p q keep i is = record {
   sure = is.sure;
 }
 
+fit_kept : (p q : Pair) → P.MeanTheSame p q → (checked : Bool) → IsFit checked p → IsFit checked q
+fit_kept p q same true fit = same.checked.accepted.0 fit
+fit_kept p q same false fit = fit
+
+ready_kept : (p q : Pair) → P.MeanTheSame p q → KeepOutlines p q → (i : Input) (reading : Reading) → IsReady p i reading → IsReady q i reading
+ready_kept p q same keep i of_nothing ready = ready
+ready_kept p q same keep i (of_made seed lines) ready = language_kept p q same Text AsIs (made_text seed lines) ready
+ready_kept p q same keep i (of_document side form) ready = readable_kept p q same i side form ready
+ready_kept p q same keep i of_script ready = ready
+ready_kept p q same keep i of_outline ready = outline_readable p q keep i ready
+
 pub doable_kept : (p q : Pair) → P.MeanTheSame p q → KeepOutlines p q → (i : Input) (job : Job) → IsDoable p i job → IsDoable q i job
-doable_kept p q same keep i Check doable = same.checked.accepted.0 doable
-doable_kept p q same keep i (Turn from to form) doable = (same.checked.accepted.0 doable.0, readable_kept p q same i from form doable.1)
-doable_kept p q same keep i (Trees max) doable = readable_kept p q same i Text AsIs doable
-doable_kept p q same keep i (Make seed lines) doable = (same.checked.accepted.0 doable.0, language_kept p q same Text AsIs (made_text seed lines) doable.1)
-doable_kept p q same keep i Session doable = (same.checked.accepted.0 doable.0, doable.1)
-doable_kept p q same keep i (ToTree from form) doable = (same.checked.accepted.0 doable.0, readable_kept p q same i from form doable.1)
-doable_kept p q same keep i (FromTree to) doable = (same.checked.accepted.0 doable.0, outline_readable p q keep i doable.1)
-doable_kept p q same keep i Cover doable = doable
-doable_kept p q same keep i Prove doable = same.checked.accepted.0 doable
+doable_kept p q same keep i job doable = (fit_kept p q same (searches job) doable.0, ready_kept p q same keep i (read_for job) doable.1)

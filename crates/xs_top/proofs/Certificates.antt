@@ -8,6 +8,7 @@ use Rattle.xs_cert_laws.specs.Alike.{AreBuilt}
 use Rattle.xs_talk.specs.declared.outcome.Outcome.{Outcome}
 use Rattle.xs_talk.specs.declared.outcome.Outcome.TheVariants.{Done, Heavy, CertFault, CertLong, CertBad, WriteFault}
 use Rattle.xs_top.specs.declared.asking.Job.TheVariants.{Prove}
+use Rattle.xs_top.specs.Asked.{certifying}
 use Rattle.xs_top.specs.Devices.{Run}
 use Rattle.xs_top.specs.Sheets.{IsPairOfBytes}
 use Rattle.xs_top.specs.Checks.{IsSure}
@@ -19,7 +20,7 @@ use Rattle.xs_top.specs.Certificates.{CertificatesAgree, Proved, IsToCertify, Ar
 use Rattle.xs_top.proofs.Known.{spelled_pair}
 use Rattle.xs_top.proofs.Certifying.{file_only, file_short}
 use Rattle.xs_top.proofs.Completing.{not_heavy, not_unpaired}
-use Rattle.xs_top.proofs.Coming.{Tested, refused, shown, went_tested, done_answered, appended}
+use Rattle.xs_top.proofs.Coming.{Came, by_sheet, by_pair, with_answer, told_by, done_answered, appended}
 
 -- two grammars of the sheet's bytes that are built, and the file is a certificate of them, or is bad at the line
 pub record HasTaken (sheet certificate : List ℕ) : Type 0 where
@@ -35,31 +36,32 @@ pub record HasRefused (sheet certificate : List ℕ) (line : ℕ) : Type 0 where
   pub bad : IsBadAt pair certificate line
 
 -- how the outcome came
-tested : (run : Run) (sheet : List ℕ) (asks : AsksToCertify run sheet) (o : Outcome) → Told run o → Tested run asks.named asks.cert o ⊎ IsUnwritten run o
-tested run sheet asks o (other, names, went, inl (is, line)) = inl (subst (λ (x : Outcome). Tested run asks.named asks.cert x) (sym is) (went_tested run sheet asks other names went))
-tested run sheet asks o (other, names, went, inr (of, written, is, fails)) = inr (subst (λ (x : Outcome). IsUnwritten run x) (sym is) fails.rose)
+tested : (run : Run) (sheet : List ℕ) (asks : AsksToCertify run sheet) (o : Outcome) → Told run o → Came run (certifying asks.named asks.cert) o ⊎ IsUnwritten run o
+tested run sheet asks o told = told_by run (certifying asks.named asks.cert) asks.is (λ (x : Outcome). Came run (certifying asks.named asks.cert) x ⊎ IsUnwritten run x) (λ x came. inl came) (λ of written rose. inr rose) o told
 
-bad_refused : (run : Run) (sheet certificate : List ℕ) (job : IsToCertify run sheet certificate) (line : ℕ) → Tested run job.asks.named job.asks.cert (CertBad line) ⊎ IsUnwritten run (CertBad line) → HasRefused sheet certificate line
+bad_refused : (run : Run) (sheet certificate : List ℕ) (job : IsToCertify run sheet certificate) (line : ℕ) → Came run (certifying job.asks.named job.asks.cert) (CertBad line) ⊎ IsUnwritten run (CertBad line) → HasRefused sheet certificate line
 bad_refused run sheet certificate job line (inr unwritten) = absurd unwritten
-bad_refused run sheet certificate job line (inl (refused (inl (inl stopped)))) = absurd stopped
-bad_refused run sheet certificate job line (inl (refused (inl (inr (bytes, are, bad))))) = absurd bad
-bad_refused run sheet certificate job line (inl (refused (inr (p, spells, (light, built, bytes, are, bad))))) = record {
+bad_refused run sheet certificate job line (inl (by_sheet (inl (inl stopped)))) = absurd stopped
+bad_refused run sheet certificate job line (inl (by_sheet (inl (inr (bytes, are, bad))))) = absurd bad
+bad_refused run sheet certificate job line (inl (by_sheet (inr (p, spells, (light, built, bytes, are, bad))))) = record {
   pair = p;
   is_pair = spelled_pair run.shelf.files job.asks.named sheet p job.asks.has spells;
   built = built;
   bad = subst (λ (b : List ℕ). IsBadAt p b line) (file_only run.shelf.files job.asks.cert certificate bytes job.file are) bad;
 }
-bad_refused run sheet certificate job line (inl (shown answer shows took)) = absurd took
+bad_refused run sheet certificate job line (inl (by_pair p why)) = absurd why
+bad_refused run sheet certificate job line (inl (with_answer answer (read, shows) took)) = absurd took
 
 told_refused : (run : Run) (sheet certificate : List ℕ) (job : IsToCertify run sheet certificate) (o : Outcome) (line : ℕ) → Told run o → o ≡ CertBad line → HasRefused sheet certificate line
 told_refused run sheet certificate job o line told is = bad_refused run sheet certificate job line (tested run sheet job.asks (CertBad line) (subst (λ (x : Outcome). Told run x) is told))
 
-done_taken : (run : Run) (sheet certificate : List ℕ) (job : IsToCertify run sheet certificate) → Tested run job.asks.named job.asks.cert Done ⊎ IsUnwritten run Done → HasTaken sheet certificate
+done_taken : (run : Run) (sheet certificate : List ℕ) (job : IsToCertify run sheet certificate) → Came run (certifying job.asks.named job.asks.cert) Done ⊎ IsUnwritten run Done → HasTaken sheet certificate
 done_taken run sheet certificate job (inr unwritten) = absurd unwritten
-done_taken run sheet certificate job (inl (refused (inl (inl stopped)))) = absurd stopped
-done_taken run sheet certificate job (inl (refused (inl (inr (bytes, are, bad))))) = absurd bad
-done_taken run sheet certificate job (inl (refused (inr (p, spells, why)))) = absurd why
-done_taken run sheet certificate job (inl (shown answer shows took)) = record {
+done_taken run sheet certificate job (inl (by_sheet (inl (inl stopped)))) = absurd stopped
+done_taken run sheet certificate job (inl (by_sheet (inl (inr (bytes, are, bad))))) = absurd bad
+done_taken run sheet certificate job (inl (by_sheet (inr (p, spells, why)))) = absurd why
+done_taken run sheet certificate job (inl (by_pair p why)) = absurd why
+done_taken run sheet certificate job (inl (with_answer answer (read, shows) took)) = record {
   pair = shows.pair;
   is_pair = spelled_pair run.shelf.files job.asks.named sheet shows.pair job.asks.has shows.spelled;
   built = shows.built;
@@ -115,11 +117,12 @@ module _ (certificates : CertificatesAgree) where
     took_ended answer (WriteFault written) took = inr took.2
     took_ended answer o took = absurd took
 
-    ended : AreHad run job.asks.named job.asks.cert → (o : Outcome) → Tested run job.asks.named job.asks.cert o ⊎ IsUnwritten run o → (o ≡ Done) ⊎ IsUnwritten run o
+    ended : AreHad run job.asks.named job.asks.cert → (o : Outcome) → Came run (certifying job.asks.named job.asks.cert) o ⊎ IsUnwritten run o → (o ≡ Done) ⊎ IsUnwritten run o
     ended had o (inr unwritten) = inr unwritten
-    ended had o (inl (refused (inl why))) = absurd (not_unpaired law weigh agree well run job.asks.named sheet proved.taken.pair had.sheet job.asks.has proved.taken.is_pair o why)
-    ended had o (inl (refused (inr (p, spells, why)))) = absurd (ended_uncertain had p (spelled_pair run.shelf.files job.asks.named sheet p job.asks.has spells) o why)
-    ended had o (inl (shown answer shows took)) = took_ended answer o took
+    ended had o (inl (by_sheet (inl why))) = absurd (not_unpaired law weigh agree well run job.asks.named sheet proved.taken.pair had.sheet job.asks.has proved.taken.is_pair o why)
+    ended had o (inl (by_sheet (inr (p, spells, why)))) = absurd (ended_uncertain had p (spelled_pair run.shelf.files job.asks.named sheet p job.asks.has spells) o why)
+    ended had o (inl (by_pair p why)) = absurd why
+    ended had o (inl (with_answer answer (read, shows) took)) = took_ended answer o took
 
   pub proof_is_taken_lem : OneReading → RuleWeighsOnce → PairsAgree → SheetsAgree → ProofIsTaken
   proof_is_taken_lem law weigh agree well one two sheet certificate first next o told =

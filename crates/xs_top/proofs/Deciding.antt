@@ -1,6 +1,5 @@
 -- What becomes of a document that is read whole, of an accepted sheet.
 use Rattle.std.proofs.Common.{◌≡◌, ◌⊎◌, inl, inr, ℕ, List, refl, sym, subst}
-use Rattle.xs_io.specs.Causes.{Rose}
 use Rattle.xs_class.specs.declared.side.Side.{Side}
 use Rattle.xs_class.specs.declared.side.Side.TheVariants.{Xml}
 use Rattle.xs_chars.specs.declared.form.Form.{Form}
@@ -12,8 +11,9 @@ use Rattle.xs_sheet_laws.specs.Pairs as P
 use Rattle.xs_turn.specs.Turned.{IsForeign}
 use Rattle.xs_pair.specs.Grammars.{Pair, grammar_of}
 use Rattle.xs_talk.specs.declared.outcome.Outcome.{Outcome}
-use Rattle.xs_talk.specs.declared.outcome.Outcome.TheVariants.{Done, Foreign, NotUtf8, NotXml, ReadFault, WriteFault, NoteFault, DocLong}
+use Rattle.xs_talk.specs.declared.outcome.Outcome.TheVariants.{Done, Foreign, NotUtf8, NotXml, ReadFault, WriteFault, DocLong}
 use Rattle.xs_top.specs.declared.asking.Job.TheVariants.{Turn}
+use Rattle.xs_top.specs.Asked.{by, of_document}
 use Rattle.xs_top.specs.Devices.{Run}
 use Rattle.xs_top.specs.Documents.{IsWordOf, IsDocument}
 use Rattle.xs_top.specs.Answers.{IsUnread}
@@ -22,8 +22,9 @@ use Rattle.xs_top.specs.Ran.{IsUntaken, IsUnanswered, IsUndone, Took, Told}
 use Rattle.xs_top.specs.Runs.{IsToTurn, IsReadWhole, IsUnwritten}
 use Rattle.xs_top.specs.Laws.{PairsAgree, SheetsAgree}
 use Rattle.xs_top.proofs.Agreeing.{on_side, document_kept}
+use Rattle.xs_top.proofs.Known.{spelled_pair}
 use Rattle.xs_top.proofs.Completing.{one_word, read_is, not_long, not_unsure, not_unpaired}
-use Rattle.xs_top.proofs.Coming.{Came, before, of_job, with_answer, told_came}
+use Rattle.xs_top.proofs.Coming.{Came, by_sheet, by_pair, with_answer, told_by}
 
 -- it was refused as foreign
 abbrev pub IsRefused : Pair → Side → List ℕ → Outcome → Type 0
@@ -71,7 +72,7 @@ module _ (run : Run) (from to : Side) (form : Form) (sheet document : List ℕ) 
   untaken_not o untaken = untaken
 
   module _ (law : OneReading) (weigh : RuleWeighsOnce) (agree : PairsAgree) (well : SheetsAgree) (p : Pair) (is_pair : IsPairOfBytes sheet p) (accepted : IsAccepted p.text p.xml) (word : List ℕ) (is : IsDocument from form p.names document word) where
-    unanswered_refused : (q : Pair) → P.MeanTheSame p q → (o : Outcome) → IsUnanswered q run.input from form o → IsRefused p from word o
+    unanswered_refused : (q : Pair) → P.MeanTheSame p q → (o : Outcome) → IsUnanswered q run.input (of_document from form) o → IsRefused p from word o
     unanswered_refused q same o (inl untaken) = absurd (untaken_not o untaken)
     unanswered_refused q same o (inr (bytes, takes, unread)) =
         let one : bytes ≡ document = read_is run.input.left_before run.input.left_now document bytes 1048576 job.input takes in
@@ -81,14 +82,12 @@ module _ (run : Run) (from to : Side) (form : Form) (sheet document : List ℕ) 
     undone_refused q is_q same o (inl unchecked) = absurd (not_unsure law weigh agree well sheet q is_q o (same.checked.accepted.0 accepted) unchecked.1)
     undone_refused q is_q same o (inr (sure, why)) = unanswered_refused q same o why
 
-    came_ended : (o : Outcome) → Came run sheet job.asks.named (Turn from to form) o → Ended run p from word o
-    came_ended o (before why) = absurd (not_unpaired law weigh agree well run job.asks.named sheet p whole.sheet job.asks.has is_pair o why)
-    came_ended o (of_job q is_q why) = as_foreign (undone_refused q is_q (agree sheet p q is_pair is_q) o why)
-    came_ended o (with_answer q is_q answer has took) = took_ended run p from word answer o took
+    came_ended : (o : Outcome) → Came run (by job.asks.named (Turn from to form)) o → Ended run p from word o
+    came_ended o (by_sheet why) = absurd (not_unpaired law weigh agree well run job.asks.named sheet p whole.sheet job.asks.has is_pair o why)
+    came_ended o (by_pair q (spells, why)) =
+        let is_q : IsPairOfBytes sheet q = spelled_pair run.shelf.files job.asks.named sheet q job.asks.has spells in
+        as_foreign (undone_refused q is_q (agree sheet p q is_pair is_q) o why)
+    came_ended o (with_answer answer has took) = took_ended run p from word answer o took
 
     pub told_ended : (o : Outcome) → Told run o → Ended run p from word o
-    told_ended o told = by_case (told_came run sheet (Turn from to form) job.asks o told)
-      where
-        by_case : Came run sheet job.asks.named (Turn from to form) o ⊎ ((of : ℕ) × (written : ℕ) × (o ≡ NoteFault of written) × Rose run.notes.faults_before run.notes.faults_now) → Ended run p from word o
-        by_case (inl came) = came_ended o came
-        by_case (inr (of, written, note, rose)) = as_unwritten (subst (λ (x : Outcome). IsUnwritten run x) (sym note) rose)
+    told_ended o told = told_by run (by job.asks.named (Turn from to form)) job.asks.is (λ (x : Outcome). Ended run p from word x) (λ x came. came_ended x came) (λ of written rose. as_unwritten rose) o told

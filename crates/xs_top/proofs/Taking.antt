@@ -4,10 +4,9 @@ use Rattle.std.specs.declared.option.Option.{Option}
 use Rattle.std.specs.Io.KnownBytes.{Consumes}
 use Rattle.xs_words.specs.Command.{Sheet as Named}
 use Rattle.xs_top.specs.declared.asking.Job.{Job}
-use Rattle.xs_top.specs.declared.asking.Job.TheVariants.{Check, Turn, Trees, Make, Session, ToTree, FromTree, Cover, Prove}
-use Rattle.xs_top.specs.Asked.{Ask, shipped, upgrading, certifying, by, asked}
+use Rattle.xs_top.specs.Asked.{Ask, printing, upgrading, certifying, by, asked, Reading, of_nothing, of_made, of_document, of_script, of_outline, read_for}
 use Rattle.xs_top.specs.Devices.{Input, input_of, ReadNothing}
-use Rattle.xs_top.specs.Ran.{TakesFew, ReadsFor, ReadsAsAsked, Reads}
+use Rattle.xs_top.specs.Ran.{TakesFew, ReadsAs, ReadsFor, ReadsAsAsked, Reads}
 
 consumes_nothing : (left : Option (List ℕ)) → Consumes left left []
 consumes_nothing None = cc
@@ -21,23 +20,19 @@ nothing_of left faults input = record { left = refl; faults = refl }
 pub few_of : {S : Type 0} (left : S → Option (List ℕ)) (faults : S → ℕ) (input : S) → TakesFew (input_of left faults input input)
 few_of left faults input = record { taken = []; front = consumes_nothing (left input); few = omega arith }
 
-none_for : {S : Type 0} (job : Job) (left : S → Option (List ℕ)) (faults : S → ℕ) (input : S) → ReadsFor job (input_of left faults input input)
-none_for Check left faults input = nothing_of left faults input
-none_for (Turn from to form) left faults input = few_of left faults input
-none_for (Trees max) left faults input = few_of left faults input
-none_for (Make seed lines) left faults input = nothing_of left faults input
-none_for Session left faults input = few_of left faults input
-none_for (ToTree from form) left faults input = few_of left faults input
-none_for (FromTree to) left faults input = few_of left faults input
-none_for Cover left faults input = nothing_of left faults input
-none_for Prove left faults input = nothing_of left faults input
+none_for : {S : Type 0} (reading : Reading) (left : S → Option (List ℕ)) (faults : S → ℕ) (input : S) → ReadsAs reading (input_of left faults input input)
+none_for of_nothing left faults input = nothing_of left faults input
+none_for (of_made seed lines) left faults input = nothing_of left faults input
+none_for (of_document side form) left faults input = few_of left faults input
+none_for of_script left faults input = few_of left faults input
+none_for of_outline left faults input = few_of left faults input
 
 none_as_asked : {S : Type 0} (ask : Option Ask) (left : S → Option (List ℕ)) (faults : S → ℕ) (input : S) → ReadsAsAsked ask (input_of left faults input input)
 none_as_asked None left faults input = nothing_of left faults input
-none_as_asked (Some (shipped core)) left faults input = nothing_of left faults input
+none_as_asked (Some (printing bytes)) left faults input = nothing_of left faults input
 none_as_asked (Some (upgrading sheet)) left faults input = nothing_of left faults input
 none_as_asked (Some (certifying sheet cert)) left faults input = nothing_of left faults input
-none_as_asked (Some (by sheet job)) left faults input = none_for job left faults input
+none_as_asked (Some (by sheet job)) left faults input = none_for (read_for job) left faults input
 
 -- whatever the words ask for, the input may stay as it was
 pub reads_nothing : {S : Type 0} (words : List (List ℕ)) (left : S → Option (List ℕ)) (faults : S → ℕ) (input : S) → Reads words (input_of left faults input input)

@@ -1,7 +1,6 @@
 -- Two runs that check the same sheet tell the same of it.
-use Rattle.std.proofs.Common.{◌≡◌, ◌⊎◌, ◌∙◌, inl, inr, ℕ, List, [], None, Some, refl, sym, ap, subst}
+use Rattle.std.proofs.Common.{◌≡◌, ◌∙◌, inl, inr, ℕ, Bool, true, false, List, [], None, Some, refl, sym, ap, subst}
 use Rattle.std.specs.Prelude.{slice_index_or}
-use Rattle.xs_io.specs.Causes.{Rose}
 use Rattle.xs_class.specs.declared.side.Side.{Side}
 use Rattle.xs_class.specs.declared.side.Side.TheVariants.{Text, Xml}
 use Rattle.xs_chars.specs.declared.form.Form.{Form}
@@ -26,24 +25,25 @@ use Rattle.xs_sheet_laws.specs.Refusals.{BrokenOnce, IllOnce, HeavyOnce, site_of
 use Rattle.xs_talk.specs.declared.outcome.Report.{Report}
 use Rattle.xs_talk.specs.declared.outcome.Report.TheVariants as R
 use Rattle.xs_talk.specs.declared.outcome.Outcome.{Outcome}
-use Rattle.xs_talk.specs.declared.outcome.Outcome.TheVariants.{Done, Foreign, SheetLong, SheetBad, SheetIll, Heavy, Suspect, NotUtf8, NotXml, SheetFault, ReadFault, WriteFault, NoteFault, DocLong, ScriptBad, OutlineBad, CertFault, CertLong, CertBad}
+use Rattle.xs_talk.specs.declared.outcome.Outcome.TheVariants.{Done, Foreign, SheetLong, SheetBad, SheetIll, Heavy, Suspect, NotUtf8, NotXml, SheetFault, ReadFault, WriteFault, DocLong, ScriptBad, OutlineBad, CertFault, CertLong, CertBad}
 use Rattle.xs_top.specs.declared.asking.Job.{Job}
 use Rattle.xs_top.specs.declared.asking.Job.TheVariants.{Check, Turn, Trees, Make, Session, ToTree, FromTree, Cover, Prove}
+use Rattle.xs_top.specs.Asked.{upgrading, certifying, by, searches, Reading, of_nothing, of_made, of_document, of_script, of_outline, read_for}
 use Rattle.xs_top.specs.Devices.{Shelves, Run, Input}
 use Rattle.xs_top.specs.Certifying.{IsUncertain}
 use Rattle.xs_top.specs.Known.{HasBytes}
-use Rattle.xs_top.specs.Sheets.{IsStopped, IsBadSheet, IsIllSheet, IsBadBytes, IsPairOfBytes, IsUpgradeOfBytes, SpellsUpgrade, IsUnpaired}
+use Rattle.xs_top.specs.Sheets.{IsStopped, IsBadSheet, IsIllSheet, IsBadBytes, IsPairOfBytes, IsUpgradeOfBytes, IsUnpaired}
 use Rattle.xs_top.specs.Checks.{name_at, line_at, report_at, IsReported, IsUnsure, IsSure}
 use Rattle.xs_top.specs.Answers.{IsUnread, IsNoOutline}
 use Rattle.xs_top.specs.Scripts.{IsNoScript}
-use Rattle.xs_top.specs.Ran.{IsUntaken, IsUnanswered, IsUnplayed, IsUnmade, IsUndone, IsAnswer, Took, Told}
-use Rattle.xs_top.specs.Runs.{AsksFor, AsksToUpgrade, AsksToCertify, wordless, Verdict, bad, ill, heavy, suspect, accepted}
+use Rattle.xs_top.specs.Ran.{IsUntaken, IsUnanswered, IsPassed, IsUndone, IsAnswer, Took, Told}
+use Rattle.xs_top.specs.Runs.{wordless, Verdict, bad, ill, heavy, suspect, accepted}
 use Rattle.xs_top.specs.Laws.{PairsAgree, SheetsAgree, IsChecked, ChecksSheet, for_job, by_certificate, verdict, OneVerdict, IsFlaw, IsBySheet, does, upgrades, certifies, OneFlaw, RefusesSheet, CheckDecides, CheckDecidesUpgrades, CheckDecidesCertificates, CheckAccepts}
 use Rattle.xs_top.proofs.Known.{has_only, has_short, spelled_pair}
 use Rattle.xs_top.proofs.Agreeing.{sure_kept}
 use Rattle.xs_top.proofs.FencesOnce.{once_in_text, once_in_xml}
 use Rattle.xs_top.proofs.Completing.{not_heavy_rule, not_heavy, not_shown, not_unsure}
-use Rattle.xs_top.proofs.Coming.{Came, before, of_job, with_answer, went_upgraded, told_came, Tested, refused, shown, went_tested, done_found}
+use Rattle.xs_top.proofs.Coming.{Came, by_sheet, by_pair, with_answer, told_by, unchecked_unsure, IsFound, done_found}
 
 -- what a verdict means of the bytes
 abbrev Means : List ℕ → Verdict → Type 0
@@ -133,27 +133,25 @@ unread_accepted p side form bytes (NotUtf8 at) why = refl
 unread_accepted p side form bytes (NotXml at) why = refl
 unread_accepted p side form bytes o why = absurd why
 
-unanswered_accepted : (p : Pair) (i : Input) (side : Side) (form : Form) (o : Outcome) → IsUnanswered p i side form o → verdict o ≡ Some accepted
-unanswered_accepted p i side form o (inl untaken) = untaken_accepted i o untaken
-unanswered_accepted p i side form o (inr (bytes, takes, unread)) = unread_accepted p side form bytes o unread
-
 no_script_accepted : (bytes : List ℕ) (o : Outcome) → IsNoScript bytes o → verdict o ≡ Some accepted
 no_script_accepted bytes (NotUtf8 at) why = refl
 no_script_accepted bytes (ScriptBad line) why = refl
 no_script_accepted bytes o why = absurd why
-
-unplayed_accepted : (i : Input) (o : Outcome) → IsUnplayed i o → verdict o ≡ Some accepted
-unplayed_accepted i o (inl untaken) = untaken_accepted i o untaken
-unplayed_accepted i o (inr (bytes, takes, why)) = no_script_accepted bytes o why
 
 no_outline_accepted : (p : Pair) (bytes : List ℕ) (o : Outcome) → IsNoOutline p bytes o → verdict o ≡ Some accepted
 no_outline_accepted p bytes (NotUtf8 at) why = refl
 no_outline_accepted p bytes (OutlineBad line) why = refl
 no_outline_accepted p bytes o why = absurd why
 
-unmade_accepted : (p : Pair) (i : Input) (o : Outcome) → IsUnmade p i o → verdict o ≡ Some accepted
-unmade_accepted p i o (inl untaken) = untaken_accepted i o untaken
-unmade_accepted p i o (inr (bytes, takes, why)) = no_outline_accepted p bytes o why
+unanswered_accepted : (p : Pair) (i : Input) (reading : Reading) (o : Outcome) → IsUnanswered p i reading o → verdict o ≡ Some accepted
+unanswered_accepted p i of_nothing o why = absurd why
+unanswered_accepted p i (of_made seed lines) o (read, unread) = unread_accepted p Text AsIs (made_text seed lines) o unread
+unanswered_accepted p i (of_document side form) o (inl untaken) = untaken_accepted i o untaken
+unanswered_accepted p i (of_document side form) o (inr (bytes, takes, unread)) = unread_accepted p side form bytes o unread
+unanswered_accepted p i of_script o (inl untaken) = untaken_accepted i o untaken
+unanswered_accepted p i of_script o (inr (bytes, takes, why)) = no_script_accepted bytes o why
+unanswered_accepted p i of_outline o (inl untaken) = untaken_accepted i o untaken
+unanswered_accepted p i of_outline o (inr (bytes, takes, why)) = no_outline_accepted p bytes o why
 
 took_accepted : (run : Run) (answer : List ℕ) (o : Outcome) → Took run.out answer o → verdict o ≡ Some accepted
 took_accepted run answer Done took = refl
@@ -163,47 +161,33 @@ took_accepted run answer o took = absurd took
 sure_means : (sheet : List ℕ) (p : Pair) → IsPairOfBytes sheet p → IsSure p → (o : Outcome) (v : Verdict) → verdict o ≡ Some accepted → verdict o ≡ Some v → Means sheet v
 sure_means sheet p is_p sure o v is_accepted is = as_verdict sheet accepted v (sym is_accepted ∙ is) (p, is_p, sure.accepted)
 
+not_checked : false ≡ true → ⊥
+not_checked e = cc
+
+passed_sure : (checked : Bool) (p : Pair) → checked ≡ true → IsPassed checked p → IsSure p
+passed_sure true p is passed = passed
+passed_sure false p is passed = absurd (not_checked is)
+
 undone_means : (sheet : List ℕ) (p : Pair) (i : Input) (job : Job) → IsChecked job → IsPairOfBytes sheet p → (o : Outcome) (v : Verdict) → IsUndone p i job o → verdict o ≡ Some v → Means sheet v
-undone_means sheet p i Check checked is_p o v why is = unsure_means sheet p is_p o v why.1 is
-undone_means sheet p i (Turn from to form) checked is_p o v (inl why) is = unsure_means sheet p is_p o v why.1 is
-undone_means sheet p i (Turn from to form) checked is_p o v (inr (sure, why)) is = sure_means sheet p is_p sure o v (unanswered_accepted p i from form o why) is
-undone_means sheet p i (Trees max) checked is_p o v why is = absurd checked
-undone_means sheet p i (Make seed lines) checked is_p o v (inl why) is = unsure_means sheet p is_p o v why.1 is
-undone_means sheet p i (Make seed lines) checked is_p o v (inr (read, sure, why)) is = sure_means sheet p is_p sure o v (unread_accepted p Text AsIs (made_text seed lines) o why) is
-undone_means sheet p i Session checked is_p o v (inl why) is = unsure_means sheet p is_p o v why.1 is
-undone_means sheet p i Session checked is_p o v (inr (sure, why)) is = sure_means sheet p is_p sure o v (unplayed_accepted i o why) is
-undone_means sheet p i (ToTree from form) checked is_p o v (inl why) is = unsure_means sheet p is_p o v why.1 is
-undone_means sheet p i (ToTree from form) checked is_p o v (inr (sure, why)) is = sure_means sheet p is_p sure o v (unanswered_accepted p i from form o why) is
-undone_means sheet p i (FromTree to) checked is_p o v (inl why) is = unsure_means sheet p is_p o v why.1 is
-undone_means sheet p i (FromTree to) checked is_p o v (inr (sure, why)) is = sure_means sheet p is_p sure o v (unmade_accepted p i o why) is
-undone_means sheet p i Cover checked is_p o v why is = absurd checked
-undone_means sheet p i Prove checked is_p o v why is = unsure_means sheet p is_p o v why.1 is
+undone_means sheet p i job checked is_p o v (inl why) is = unsure_means sheet p is_p o v (unchecked_unsure (searches job) p i o why) is
+undone_means sheet p i job checked is_p o v (inr (passed, why)) is = sure_means sheet p is_p (passed_sure (searches job) p checked passed) o v (unanswered_accepted p i (read_for job) o why) is
 
 answer_sure : (p : Pair) (i : Input) (job : Job) (answer : List ℕ) → IsChecked job → IsAnswer p i job answer → IsSure p
 answer_sure p i Check answer checked has = has.1
 answer_sure p i (Turn from to form) answer checked has = has.0
-answer_sure p i (Trees max) answer checked has = absurd checked
+answer_sure p i (Trees max) answer checked has = absurd (not_checked checked)
 answer_sure p i (Make seed lines) answer checked has = has.1
 answer_sure p i Session answer checked has = has.0
 answer_sure p i (ToTree from form) answer checked has = has.0
 answer_sure p i (FromTree to) answer checked has = has.0
-answer_sure p i Cover answer checked has = absurd checked
+answer_sure p i Cover answer checked has = absurd (not_checked checked)
 answer_sure p i Prove answer checked has = has.1
 
-came_means : (run : Run) (sheet : List ℕ) (named : Named) (job : Job) → HasBytes run.shelf.files named sheet → IsChecked job → (o : Outcome) (v : Verdict) → Came run sheet named job o → verdict o ≡ Some v → Means sheet v
-came_means run sheet named job has checked o v (before why) is = unpaired_means run named sheet has o v why is
-came_means run sheet named job has checked o v (of_job p is_p why) is = undone_means sheet p run.input job checked is_p o v why is
-came_means run sheet named job has checked o v (with_answer p is_p answer has_answer took) is = sure_means sheet p is_p (answer_sure p run.input job answer checked has_answer) o v (took_accepted run answer o took) is
-
-note_verdict : (of written : ℕ) (v : Verdict) (o : Outcome) → o ≡ NoteFault of written → verdict o ≡ Some v → ⊥
-note_verdict of written v o e is = none_verdict v (subst (λ (x : Outcome). verdict x ≡ Some v) e is)
-
-told_means : (run : Run) (sheet : List ℕ) (job : Job) → AsksFor run job sheet → IsChecked job → (o : Outcome) (v : Verdict) → Told run o → verdict o ≡ Some v → Means sheet v
-told_means run sheet job asks checked o v told is = by_case (told_came run sheet job asks o told)
-  where
-    by_case : Came run sheet asks.named job o ⊎ ((of : ℕ) × (written : ℕ) × (o ≡ NoteFault of written) × Rose run.notes.faults_before run.notes.faults_now) → Means sheet v
-    by_case (inl came) = came_means run sheet asks.named job asks.has checked o v came is
-    by_case (inr (of, written, note, rose)) = absurd (note_verdict of written v o note is)
+came_means : (run : Run) (sheet : List ℕ) (named : Named) (job : Job) → HasBytes run.shelf.files named sheet → IsChecked job → (o : Outcome) → Came run (by named job) o → (v : Verdict) → verdict o ≡ Some v → Means sheet v
+came_means run sheet named job has checked o (by_sheet why) v is = unpaired_means run named sheet has o v why is
+came_means run sheet named job has checked o (by_pair p (spells, why)) v is = undone_means sheet p run.input job checked (spelled_pair run.shelf.files named sheet p has spells) o v why is
+came_means run sheet named job has checked o (with_answer answer (p, spells, is_answer) took) v is =
+    sure_means sheet p (spelled_pair run.shelf.files named sheet p has spells) (answer_sure p run.input job answer checked is_answer) o v (took_accepted run answer o took) is
 
 -- of its check by a certificate
 uncertain_means : (sheet : List ℕ) (p : Pair) → IsPairOfBytes sheet p → (shelf : Shelves) (cert : List ℕ) (o : Outcome) (v : Verdict) → IsUncertain p shelf cert o → verdict o ≡ Some v → Means sheet v
@@ -213,22 +197,20 @@ uncertain_means sheet p is_p shelf cert CertLong v why is = absurd (none_verdict
 uncertain_means sheet p is_p shelf cert (CertBad line) v why is = absurd (none_verdict v is)
 uncertain_means sheet p is_p shelf cert o v why is = absurd why
 
-tested_means : (run : Run) (sheet : List ℕ) (named : Named) (cert : List ℕ) → HasBytes run.shelf.files named sheet → (o : Outcome) (v : Verdict) → Tested run named cert o → verdict o ≡ Some v → Means sheet v
-tested_means run sheet named cert has o v (refused (inl why)) is = unpaired_means run named sheet has o v why is
-tested_means run sheet named cert has o v (refused (inr (p, spells, why))) is =
+tested_means : (run : Run) (sheet : List ℕ) (named : Named) (cert : List ℕ) → HasBytes run.shelf.files named sheet → (o : Outcome) → Came run (certifying named cert) o → (v : Verdict) → verdict o ≡ Some v → Means sheet v
+tested_means run sheet named cert has o (by_sheet (inl why)) v is = unpaired_means run named sheet has o v why is
+tested_means run sheet named cert has o (by_sheet (inr (p, spells, why))) v is =
     uncertain_means sheet p (spelled_pair run.shelf.files named sheet p has spells) run.shelf cert o v why is
-tested_means run sheet named cert has o v (shown answer shows took) is =
+tested_means run sheet named cert has o (by_pair p why) v is = absurd why
+tested_means run sheet named cert has o (with_answer answer (read, shows) took) v is =
     let is_p : IsPairOfBytes sheet shows.pair = spelled_pair run.shelf.files named sheet shows.pair has shows.spelled in
     sure_means sheet shows.pair is_p shows.sure o v (took_accepted run answer o took) is
 
-told_tested_means : (run : Run) (sheet : List ℕ) → AsksToCertify run sheet → (o : Outcome) (v : Verdict) → Told run o → verdict o ≡ Some v → Means sheet v
-told_tested_means run sheet asks o v (other, names, went, inl (same, line)) is =
-    tested_means run sheet asks.named asks.cert asks.has other v (went_tested run sheet asks other names went) (subst (λ (x : Outcome). verdict x ≡ Some v) same is)
-told_tested_means run sheet asks o v (other, names, went, inr (of, written, note, fails)) is = absurd (note_verdict of written v o note is)
-
 checked_means : (run : Run) (sheet : List ℕ) → ChecksSheet run sheet → (o : Outcome) (v : Verdict) → Told run o → verdict o ≡ Some v → Means sheet v
-checked_means run sheet (for_job job asks checked) o v told is = told_means run sheet job asks checked o v told is
-checked_means run sheet (by_certificate asks) o v told is = told_tested_means run sheet asks o v told is
+checked_means run sheet (for_job job asks checked) o v told is =
+    told_by run (by asks.named job) asks.is (λ (x : Outcome). (w : Verdict) → verdict x ≡ Some w → Means sheet w) (λ x came. came_means run sheet asks.named job asks.has checked x came) (λ of written rose w none. absurd (none_verdict w none)) o told v is
+checked_means run sheet (by_certificate asks) o v told is =
+    told_by run (certifying asks.named asks.cert) asks.is (λ (x : Outcome). (w : Verdict) → verdict x ≡ Some w → Means sheet w) (λ x came. tested_means run sheet asks.named asks.cert asks.has x came) (λ of written rose w none. absurd (none_verdict w none)) o told v is
 
 -- what a verdict shows of the bytes where the run may not have checked the sheet
 pub record IsFormed (bytes : List ℕ) : Type 0 where
@@ -260,37 +242,28 @@ formed_shows : (sheet : List ℕ) → IsFormed sheet → (o : Outcome) (v : Verd
 formed_shows sheet formed o v is_accepted is = subst (Shows sheet) (some_verdict accepted v (sym is_accepted ∙ is)) formed
 
 undone_shows : (sheet : List ℕ) (p : Pair) (i : Input) (job : Job) → IsPairOfBytes sheet p → (o : Outcome) (v : Verdict) → IsUndone p i job o → verdict o ≡ Some v → Shows sheet v
-undone_shows sheet p i (Trees max) is_p o v why is = formed_shows sheet (pair_formed sheet p is_p) o v (unanswered_accepted p i Text AsIs o why) is
-undone_shows sheet p i Cover is_p o v why is = absurd why
-undone_shows sheet p i Check is_p o v why is = means_shows sheet v (undone_means sheet p i Check tt is_p o v why is)
-undone_shows sheet p i (Turn from to form) is_p o v why is = means_shows sheet v (undone_means sheet p i (Turn from to form) tt is_p o v why is)
-undone_shows sheet p i (Make seed lines) is_p o v why is = means_shows sheet v (undone_means sheet p i (Make seed lines) tt is_p o v why is)
-undone_shows sheet p i Session is_p o v why is = means_shows sheet v (undone_means sheet p i Session tt is_p o v why is)
-undone_shows sheet p i (ToTree from form) is_p o v why is = means_shows sheet v (undone_means sheet p i (ToTree from form) tt is_p o v why is)
-undone_shows sheet p i (FromTree to) is_p o v why is = means_shows sheet v (undone_means sheet p i (FromTree to) tt is_p o v why is)
-undone_shows sheet p i Prove is_p o v why is = means_shows sheet v (undone_means sheet p i Prove tt is_p o v why is)
+undone_shows sheet p i job is_p o v (inl why) is = means_shows sheet v (unsure_means sheet p is_p o v (unchecked_unsure (searches job) p i o why) is)
+undone_shows sheet p i job is_p o v (inr (passed, why)) is = formed_shows sheet (pair_formed sheet p is_p) o v (unanswered_accepted p i (read_for job) o why) is
 
-came_shows : (run : Run) (sheet : List ℕ) (named : Named) (job : Job) → HasBytes run.shelf.files named sheet → (o : Outcome) (v : Verdict) → Came run sheet named job o → verdict o ≡ Some v → Shows sheet v
-came_shows run sheet named job has o v (before why) is = means_shows sheet v (unpaired_means run named sheet has o v why is)
-came_shows run sheet named job has o v (of_job p is_p why) is = undone_shows sheet p run.input job is_p o v why is
-came_shows run sheet named job has o v (with_answer p is_p answer has_answer took) is = formed_shows sheet (pair_formed sheet p is_p) o v (took_accepted run answer o took) is
+came_shows : (run : Run) (sheet : List ℕ) (named : Named) (job : Job) → HasBytes run.shelf.files named sheet → (o : Outcome) → Came run (by named job) o → (v : Verdict) → verdict o ≡ Some v → Shows sheet v
+came_shows run sheet named job has o (by_sheet why) v is = means_shows sheet v (unpaired_means run named sheet has o v why is)
+came_shows run sheet named job has o (by_pair p (spells, why)) v is = undone_shows sheet p run.input job (spelled_pair run.shelf.files named sheet p has spells) o v why is
+came_shows run sheet named job has o (with_answer answer (p, spells, is_answer) took) v is =
+    formed_shows sheet (pair_formed sheet p (spelled_pair run.shelf.files named sheet p has spells)) o v (took_accepted run answer o took) is
 
-upgraded_shows : (run : Run) (sheet : List ℕ) (named : Named) → HasBytes run.shelf.files named sheet → (o : Outcome) (v : Verdict) → IsUnpaired run.shelf named o ⊎ ((answer : List ℕ) × SpellsUpgrade run.shelf.files named answer × Took run.out answer o) → verdict o ≡ Some v → Shows sheet v
-upgraded_shows run sheet named has o v (inl why) is = means_shows sheet v (unpaired_means run named sheet has o v why is)
-upgraded_shows run sheet named has o v (inr (answer, spells, took)) is =
+upgraded_shows : (run : Run) (sheet : List ℕ) (named : Named) → HasBytes run.shelf.files named sheet → (o : Outcome) → Came run (upgrading named) o → (v : Verdict) → verdict o ≡ Some v → Shows sheet v
+upgraded_shows run sheet named has o (by_sheet why) v is = means_shows sheet v (unpaired_means run named sheet has o v why is)
+upgraded_shows run sheet named has o (by_pair p why) v is = absurd why
+upgraded_shows run sheet named has o (with_answer answer (read, spells) took) v is =
     let formed = subst IsFormed (has_only run.shelf.files named sheet spells.bytes has spells.are) (upgrade_formed spells.bytes answer spells.is) in
     formed_shows sheet formed o v (took_accepted run answer o took) is
 
 told_shows : (run : Run) (sheet : List ℕ) → IsBySheet run sheet → (o : Outcome) (v : Verdict) → Told run o → verdict o ≡ Some v → Shows sheet v
-told_shows run sheet (does job asks) o v told is = by_case (told_came run sheet job asks o told)
-  where
-    by_case : Came run sheet asks.named job o ⊎ ((of : ℕ) × (written : ℕ) × (o ≡ NoteFault of written) × Rose run.notes.faults_before run.notes.faults_now) → Shows sheet v
-    by_case (inl came) = came_shows run sheet asks.named job asks.has o v came is
-    by_case (inr (of, written, note, rose)) = absurd (note_verdict of written v o note is)
-told_shows run sheet (upgrades asks) o v (other, names, went, inl (same, line)) is =
-    upgraded_shows run sheet asks.named asks.has other v (went_upgraded run sheet asks other names went) (subst (λ (x : Outcome). verdict x ≡ Some v) same is)
-told_shows run sheet (upgrades asks) o v (other, names, went, inr (of, written, note, fails)) is = absurd (note_verdict of written v o note is)
-told_shows run sheet (certifies asks) o v told is = means_shows sheet v (told_tested_means run sheet asks o v told is)
+told_shows run sheet (does job asks) o v told is =
+    told_by run (by asks.named job) asks.is (λ (x : Outcome). (w : Verdict) → verdict x ≡ Some w → Shows sheet w) (λ x came. came_shows run sheet asks.named job asks.has x came) (λ of written rose w none. absurd (none_verdict w none)) o told v is
+told_shows run sheet (upgrades asks) o v told is =
+    told_by run (upgrading asks.named) asks.is (λ (x : Outcome). (w : Verdict) → verdict x ≡ Some w → Shows sheet w) (λ x came. upgraded_shows run sheet asks.named asks.has x came) (λ of written rose w none. absurd (none_verdict w none)) o told v is
+told_shows run sheet (certifies asks) o v told is = means_shows sheet v (checked_means run sheet (by_certificate asks) o v told is)
 
 module _ (law : OneReading) (weigh : RuleWeighsOnce) (agree : PairsAgree) (well : SheetsAgree) where
   -- no two kinds of verdicts hold of the same bytes
@@ -383,8 +356,8 @@ module _ (law : OneReading) (weigh : RuleWeighsOnce) (agree : PairsAgree) (well 
   one_flaw laws sheet accepted w flaw m n = absurd flaw
 
   pub one_flaw_lem : Refusing → OneFlaw
-  one_flaw_lem laws one two sheet by also o q told_o told_q v w flaw is_v is_w =
-      one_flaw laws sheet v w flaw (told_shows one sheet by o v told_o is_v) (told_shows two sheet also q w told_q is_w)
+  one_flaw_lem laws one two sheet this also o q told_o told_q v w flaw is_v is_w =
+      one_flaw laws sheet v w flaw (told_shows one sheet this o v told_o is_v) (told_shows two sheet also q w told_q is_w)
 
   -- a run by a sheet that is accepted does not refuse it
   unpaired_not : (run : Run) (named : Named) (sheet : List ℕ) → HasBytes run.shelf.files named sheet → (p : Pair) → IsPairOfBytes sheet p → (o : Outcome) → IsUnpaired run.shelf named o → RefusesSheet o → ⊥
@@ -426,49 +399,29 @@ module _ (law : OneReading) (weigh : RuleWeighsOnce) (agree : PairsAgree) (well 
   accepted_not o is refuses = refuses
 
   undone_not : (sheet : List ℕ) (p : Pair) → IsPairOfBytes sheet p → (i : Input) (job : Job) → IsAccepted p.text p.xml → (o : Outcome) → IsUndone p i job o → RefusesSheet o → ⊥
-  undone_not sheet p is_p i Check is o why refuses = not_unsure law weigh agree well sheet p is_p o is why.1
-  undone_not sheet p is_p i (Turn from to form) is o (inl why) refuses = not_unsure law weigh agree well sheet p is_p o is why.1
-  undone_not sheet p is_p i (Turn from to form) is o (inr (sure, why)) refuses = accepted_not o (unanswered_accepted p i from form o why) refuses
-  undone_not sheet p is_p i (Trees max) is o why refuses = accepted_not o (unanswered_accepted p i Text AsIs o why) refuses
-  undone_not sheet p is_p i (Make seed lines) is o (inl why) refuses = not_unsure law weigh agree well sheet p is_p o is why.1
-  undone_not sheet p is_p i (Make seed lines) is o (inr (read, sure, why)) refuses = accepted_not o (unread_accepted p Text AsIs (made_text seed lines) o why) refuses
-  undone_not sheet p is_p i Session is o (inl why) refuses = not_unsure law weigh agree well sheet p is_p o is why.1
-  undone_not sheet p is_p i Session is o (inr (sure, why)) refuses = accepted_not o (unplayed_accepted i o why) refuses
-  undone_not sheet p is_p i (ToTree from form) is o (inl why) refuses = not_unsure law weigh agree well sheet p is_p o is why.1
-  undone_not sheet p is_p i (ToTree from form) is o (inr (sure, why)) refuses = accepted_not o (unanswered_accepted p i from form o why) refuses
-  undone_not sheet p is_p i (FromTree to) is o (inl why) refuses = not_unsure law weigh agree well sheet p is_p o is why.1
-  undone_not sheet p is_p i (FromTree to) is o (inr (sure, why)) refuses = accepted_not o (unmade_accepted p i o why) refuses
-  undone_not sheet p is_p i Cover is o why refuses = why
-  undone_not sheet p is_p i Prove is o why refuses = not_unsure law weigh agree well sheet p is_p o is why.1
+  undone_not sheet p is_p i job is o (inl why) refuses = not_unsure law weigh agree well sheet p is_p o is (unchecked_unsure (searches job) p i o why)
+  undone_not sheet p is_p i job is o (inr (passed, why)) refuses = accepted_not o (unanswered_accepted p i (read_for job) o why) refuses
 
-  came_not : (run : Run) (sheet : List ℕ) (named : Named) (job : Job) → HasBytes run.shelf.files named sheet → Means sheet accepted → (o : Outcome) → Came run sheet named job o → RefusesSheet o → ⊥
-  came_not run sheet named job has (p, is_p, is) o (before why) refuses = unpaired_not run named sheet has p is_p o why refuses
-  came_not run sheet named job has (p, is_p, is) o (of_job q is_q why) refuses = undone_not sheet q is_q run.input job ((agree sheet p q is_p is_q).checked.accepted.0 is) o why refuses
-  came_not run sheet named job has (p, is_p, is) o (with_answer q is_q answer has_answer took) refuses = accepted_not o (took_accepted run answer o took) refuses
+  came_not : (run : Run) (sheet : List ℕ) (named : Named) (job : Job) → HasBytes run.shelf.files named sheet → IsFound sheet → (o : Outcome) → Came run (by named job) o → RefusesSheet o → ⊥
+  came_not run sheet named job has found o (by_sheet why) refuses = unpaired_not run named sheet has found.pair found.is_pair o why refuses
+  came_not run sheet named job has found o (by_pair q (spells, why)) refuses =
+      let is_q : IsPairOfBytes sheet q = spelled_pair run.shelf.files named sheet q has spells in
+      undone_not sheet q is_q run.input job ((agree sheet found.pair q found.is_pair is_q).checked.accepted.0 found.sure.accepted) o why refuses
+  came_not run sheet named job has found o (with_answer answer is_answer took) refuses = accepted_not o (took_accepted run answer o took) refuses
 
   pub check_decides_lem : CheckDecides
-  check_decides_lem one two job sheet asks also is_done o told refuses = by_case (told_came two sheet job also o told)
-    where
-      by_case : Came two sheet also.named job o ⊎ ((of : ℕ) × (written : ℕ) × (o ≡ NoteFault of written) × Rose two.notes.faults_before two.notes.faults_now) → ⊥
-      by_case (inl came) =
-          let a = done_found one sheet asks is_done in
-          came_not two sheet also.named job also.has (a.pair, a.is_pair, a.sure.accepted) o came refuses
-      by_case (inr (of, written, note, rose)) = subst (λ (x : Outcome). RefusesSheet x) note refuses
+  check_decides_lem one two job sheet asks also is_done o told refuses =
+      told_by two (by also.named job) also.is (λ (x : Outcome). RefusesSheet x → ⊥) (λ x came. came_not two sheet also.named job also.has (done_found one sheet asks is_done) x came) (λ of written rose none. none) o told refuses
 
   -- an upgrade of a sheet that is accepted does not refuse it
-  upgrade_not : (run : Run) (sheet : List ℕ) (named : Named) → HasBytes run.shelf.files named sheet → (p : Pair) → IsPairOfBytes sheet p → (o : Outcome) → IsUnpaired run.shelf named o ⊎ ((answer : List ℕ) × SpellsUpgrade run.shelf.files named answer × Took run.out answer o) → RefusesSheet o → ⊥
-  upgrade_not run sheet named has p is_p o (inl why) refuses = unpaired_not run named sheet has p is_p o why refuses
-  upgrade_not run sheet named has p is_p o (inr (answer, spells, took)) refuses = accepted_not o (took_accepted run answer o took) refuses
-
-  told_upgrade_not : (run : Run) (sheet : List ℕ) → AsksToUpgrade run sheet → (p : Pair) → IsPairOfBytes sheet p → (o : Outcome) → Told run o → RefusesSheet o → ⊥
-  told_upgrade_not run sheet asks p is_p o (other, names, went, inl (is, line)) refuses =
-      upgrade_not run sheet asks.named asks.has p is_p other (went_upgraded run sheet asks other names went) (subst (λ (x : Outcome). RefusesSheet x) is refuses)
-  told_upgrade_not run sheet asks p is_p o (other, names, went, inr (of, written, note, fails)) refuses = subst (λ (x : Outcome). RefusesSheet x) note refuses
+  upgrade_not : (run : Run) (sheet : List ℕ) (named : Named) → HasBytes run.shelf.files named sheet → IsFound sheet → (o : Outcome) → Came run (upgrading named) o → RefusesSheet o → ⊥
+  upgrade_not run sheet named has found o (by_sheet why) refuses = unpaired_not run named sheet has found.pair found.is_pair o why refuses
+  upgrade_not run sheet named has found o (by_pair p why) refuses = why
+  upgrade_not run sheet named has found o (with_answer answer spells took) refuses = accepted_not o (took_accepted run answer o took) refuses
 
   pub check_decides_upgrades_lem : CheckDecidesUpgrades
   check_decides_upgrades_lem one two sheet asks also is_done o told refuses =
-      let a = done_found one sheet asks is_done in
-      told_upgrade_not two sheet also a.pair a.is_pair o told refuses
+      told_by two (upgrading also.named) also.is (λ (x : Outcome). RefusesSheet x → ⊥) (λ x came. upgrade_not two sheet also.named also.has (done_found one sheet asks is_done) x came) (λ of written rose none. none) o told refuses
 
   -- nor does its check by a certificate
   uncertain_not : (sheet : List ℕ) (p : Pair) → IsPairOfBytes sheet p → IsAccepted p.text p.xml → (shelf : Shelves) (cert : List ℕ) (o : Outcome) → IsUncertain p shelf cert o → RefusesSheet o → ⊥
@@ -479,22 +432,17 @@ module _ (law : OneReading) (weigh : RuleWeighsOnce) (agree : PairsAgree) (well 
   uncertain_not sheet p is_p is shelf cert SheetLong why refuses = why
   uncertain_not sheet p is_p is shelf cert o why refuses = refuses
 
-  tested_not : (run : Run) (sheet : List ℕ) (named : Named) (cert : List ℕ) → HasBytes run.shelf.files named sheet → Means sheet accepted → (o : Outcome) → Tested run named cert o → RefusesSheet o → ⊥
-  tested_not run sheet named cert has (p, is_p, is) o (refused (inl why)) refuses = unpaired_not run named sheet has p is_p o why refuses
-  tested_not run sheet named cert has (p, is_p, is) o (refused (inr (q, spells, why))) refuses =
+  tested_not : (run : Run) (sheet : List ℕ) (named : Named) (cert : List ℕ) → HasBytes run.shelf.files named sheet → IsFound sheet → (o : Outcome) → Came run (certifying named cert) o → RefusesSheet o → ⊥
+  tested_not run sheet named cert has found o (by_sheet (inl why)) refuses = unpaired_not run named sheet has found.pair found.is_pair o why refuses
+  tested_not run sheet named cert has found o (by_sheet (inr (q, spells, why))) refuses =
       let is_q : IsPairOfBytes sheet q = spelled_pair run.shelf.files named sheet q has spells in
-      uncertain_not sheet q is_q ((agree sheet p q is_p is_q).checked.accepted.0 is) run.shelf cert o why refuses
-  tested_not run sheet named cert has found o (shown answer shows took) refuses = accepted_not o (took_accepted run answer o took) refuses
-
-  told_tested_not : (run : Run) (sheet : List ℕ) → AsksToCertify run sheet → Means sheet accepted → (o : Outcome) → Told run o → RefusesSheet o → ⊥
-  told_tested_not run sheet asks found o (other, names, went, inl (is, line)) refuses =
-      tested_not run sheet asks.named asks.cert asks.has found other (went_tested run sheet asks other names went) (subst (λ (x : Outcome). RefusesSheet x) is refuses)
-  told_tested_not run sheet asks found o (other, names, went, inr (of, written, note, fails)) refuses = subst (λ (x : Outcome). RefusesSheet x) note refuses
+      uncertain_not sheet q is_q ((agree sheet found.pair q found.is_pair is_q).checked.accepted.0 found.sure.accepted) run.shelf cert o why refuses
+  tested_not run sheet named cert has found o (by_pair p why) refuses = why
+  tested_not run sheet named cert has found o (with_answer answer shows took) refuses = accepted_not o (took_accepted run answer o took) refuses
 
   pub check_decides_certificates_lem : CheckDecidesCertificates
   check_decides_certificates_lem one two sheet asks also is_done o told refuses =
-      let a = done_found one sheet asks is_done in
-      told_tested_not two sheet also (a.pair, a.is_pair, a.sure.accepted) o told refuses
+      told_by two (certifying also.named also.cert) also.is (λ (x : Outcome). RefusesSheet x → ⊥) (λ x came. tested_not two sheet also.named also.cert also.has (done_found one sheet asks is_done) x came) (λ of written rose none. none) o told refuses
 
 pub check_accepts_lem : PairsAgree → CheckAccepts
 check_accepts_lem agree run sheet asks told =

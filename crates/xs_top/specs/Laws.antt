@@ -1,5 +1,5 @@
 -- The laws of a sheet, and of two runs or three by one sheet.
-use Rattle.std.specs.Prelude.{◌≡◌, ◌⊎◌, ◌↔◌, ⊤, ℕ, List, None, Some}
+use Rattle.std.specs.Prelude.{◌≡◌, ◌⊎◌, ◌↔◌, ⊤, ℕ, true, List, None, Some}
 use Rattle.std.specs.declared.option.Option.{Option}
 use Rattle.xs_class.specs.declared.side.Side.{Side}
 use Rattle.xs_chars.specs.declared.form.Form.{Form}
@@ -17,7 +17,7 @@ use Rattle.xs_wf.specs.Rules.{IsWell}
 use Rattle.xs_talk.specs.declared.outcome.Outcome.{Outcome}
 use Rattle.xs_talk.specs.declared.outcome.Outcome.TheVariants.{Done, Foreign, SheetLong, SheetBad, SheetIll, Heavy, Suspect, NotUtf8, NotXml, Usage, SheetFault, ReadFault, WriteFault, NoteFault, DocLong, ScriptBad, OutlineBad, CertFault, CertLong, CertBad}
 use Rattle.xs_top.specs.declared.asking.Job.{Job}
-use Rattle.xs_top.specs.declared.asking.Job.TheVariants.{Check, Turn, Trees, Make, Session, ToTree, FromTree, Cover, Prove}
+use Rattle.xs_top.specs.Asked.{searches}
 use Rattle.xs_top.specs.Devices.{Run}
 use Rattle.xs_top.specs.Documents.{IsDocument}
 use Rattle.xs_top.specs.Sheets.{IsPairOfBytes}
@@ -100,15 +100,7 @@ RefusesExactly =
 
 -- a job for which the sheet is checked
 abbrev pub IsChecked : Job → Type 0
-IsChecked (Trees max) = ⊥
-IsChecked Check = ⊤
-IsChecked (Turn from to form) = ⊤
-IsChecked (Make seed lines) = ⊤
-IsChecked Session = ⊤
-IsChecked (ToTree from form) = ⊤
-IsChecked (FromTree to) = ⊤
-IsChecked Cover = ⊥
-IsChecked Prove = ⊤
+IsChecked job = searches job ≡ true
 
 -- What an outcome tells of the sheet's bytes: none where they could not be had, or nothing was done with them; and none
 -- where a certificate could not be had or is none of the sheet (CertFault, CertLong, CertBad), which leaves open whether

@@ -1,5 +1,5 @@
 -- What a run did, outcome by outcome.
-use Rattle.std.specs.Prelude.{◌≡◌, ◌⊎◌, ℕ, ◌<◌, ◌≤◌, List, [], take, length, None, Some}
+use Rattle.std.specs.Prelude.{◌≡◌, ◌⊎◌, ℕ, ◌<◌, ◌≤◌, Bool, true, false, List, [], take, length, None, Some}
 use Rattle.std.specs.declared.option.Option.{Option}
 use Rattle.std.specs.Io.KnownBytes.{Appends}
 use Rattle.std.specs.Str.{IsUtf8}
@@ -18,13 +18,12 @@ use Rattle.xs_pair.specs.Grammars.{Pair, grammar_of}
 use Rattle.xs_talk.specs.Lines.{line}
 use Rattle.xs_talk.specs.declared.outcome.Outcome.{Outcome}
 use Rattle.xs_talk.specs.declared.outcome.Outcome.TheVariants.{Done, Foreign, SheetLong, SheetBad, SheetIll, Heavy, Suspect, NotUtf8, NotXml, Usage, SheetFault, ReadFault, WriteFault, NoteFault, DocLong, ScriptBad, OutlineBad, CertFault, CertLong, CertBad}
-use Rattle.xs_top.specs.declared.asking.Core.{Core}
 use Rattle.xs_top.specs.declared.asking.Job.{Job}
 use Rattle.xs_top.specs.declared.asking.Job.TheVariants.{Check, Turn, Trees, Make, Session, ToTree, FromTree, Cover, Prove}
-use Rattle.xs_top.specs.Asked.{Ask, shipped, upgrading, certifying, by, asked}
-use Rattle.xs_top.specs.Devices.{Input, Output, Run, ReadNothing, TookNothing}
+use Rattle.xs_top.specs.Asked.{Ask, printing, upgrading, certifying, by, asked, searches, Reading, of_nothing, of_made, of_document, of_script, of_outline, read_for}
+use Rattle.xs_top.specs.Devices.{Shelves, Input, Output, Run, ReadNothing, TookNothing}
 use Rattle.xs_top.specs.Known.{HasBytes}
-use Rattle.xs_top.specs.Sheets.{core_bytes, IsFailed, IsPairOfBytes, SpellsPair, SpellsUpgrade, IsUnpaired}
+use Rattle.xs_top.specs.Sheets.{IsFailed, IsPairOfBytes, SpellsPair, SpellsUpgrade, IsUnpaired}
 use Rattle.xs_top.specs.Checks.{IsSure, IsUnsure}
 use Rattle.xs_talk.specs.Counts.{accepted_line}
 use Rattle.xs_top.specs.Documents.{IsWordOf}
@@ -60,33 +59,47 @@ IsUntaken i ReadFault = Rose i.faults_before i.faults_now
 IsUntaken i DocLong = Exceeds i.left_before i.left_now 1048576
 IsUntaken i other = ⊥
 
--- why a document is not answered: it cannot be had, or was read to its end and is none of the language
-abbrev pub IsUnanswered : Pair → Input → Side → Form → Outcome → Type 0
-IsUnanswered p i side form o = IsUntaken i o ⊎ ((bytes : List ℕ) × Takes i bytes × IsUnread p side form bytes o)
+-- Why what a job is done with is not answered: it cannot be had, or was read to its end and is no document of the
+-- language, no script, or no outline.
+abbrev pub IsUnanswered : Pair → Input → Reading → Outcome → Type 0
+IsUnanswered p i of_nothing o = ⊥
+IsUnanswered p i (of_made seed lines) o = ReadNothing i × IsUnread p Text AsIs (made_text seed lines) o
+IsUnanswered p i (of_document side form) o = IsUntaken i o ⊎ ((bytes : List ℕ) × Takes i bytes × IsUnread p side form bytes o)
+IsUnanswered p i of_script o = IsUntaken i o ⊎ ((bytes : List ℕ) × Takes i bytes × IsNoScript bytes o)
+IsUnanswered p i of_outline o = IsUntaken i o ⊎ ((bytes : List ℕ) × Takes i bytes × IsNoOutline p bytes o)
 
--- why a script is not answered: it cannot be had, or was read to its end and is none
-abbrev pub IsUnplayed : Input → Outcome → Type 0
-IsUnplayed i o = IsUntaken i o ⊎ ((bytes : List ℕ) × Takes i bytes × IsNoScript bytes o)
+-- why the check of a sheet is not passed, where there is one; nothing of the input was read
+abbrev pub IsUnchecked : Bool → Pair → Input → Outcome → Type 0
+IsUnchecked true p i o = ReadNothing i × IsUnsure p o
+IsUnchecked false p i o = ⊥
 
--- why an outline is not answered: it cannot be had, or was read to its end and is none
-abbrev pub IsUnmade : Pair → Input → Outcome → Type 0
-IsUnmade p i o = IsUntaken i o ⊎ ((bytes : List ℕ) × Takes i bytes × IsNoOutline p bytes o)
-
--- why the check of a sheet is not passed; nothing of the input was read
-abbrev pub IsUnchecked : Pair → Input → Outcome → Type 0
-IsUnchecked p i o = ReadNothing i × IsUnsure p o
+-- the check is passed, where there is one
+abbrev pub IsPassed : Bool → Pair → Type 0
+IsPassed true p = IsSure p
+IsPassed false p = Unit {0}
 
 -- why a job is not done
 abbrev pub IsUndone : Pair → Input → Job → Outcome → Type 0
-IsUndone p i Check o = IsUnchecked p i o
-IsUndone p i (Turn from to form) o = IsUnchecked p i o ⊎ (IsSure p × IsUnanswered p i from form o)
-IsUndone p i (Trees max) o = IsUnanswered p i Text AsIs o
-IsUndone p i (Make seed lines) o = IsUnchecked p i o ⊎ (ReadNothing i × IsSure p × IsUnread p Text AsIs (made_text seed lines) o)
-IsUndone p i Session o = IsUnchecked p i o ⊎ (IsSure p × IsUnplayed i o)
-IsUndone p i (ToTree from form) o = IsUnchecked p i o ⊎ (IsSure p × IsUnanswered p i from form o)
-IsUndone p i (FromTree to) o = IsUnchecked p i o ⊎ (IsSure p × IsUnmade p i o)
-IsUndone p i Cover o = ⊥
-IsUndone p i Prove o = IsUnchecked p i o
+IsUndone p i job o = IsUnchecked (searches job) p i o ⊎ (IsPassed (searches job) p × IsUnanswered p i (read_for job) o)
+
+-- what is answered to what is asked for
+abbrev pub HasAnswer : Run → Ask → List ℕ → Type 0
+HasAnswer run (printing bytes) answer = ReadNothing run.input × (answer ≡ bytes)
+HasAnswer run (upgrading sheet) answer = ReadNothing run.input × SpellsUpgrade run.shelf.files sheet answer
+HasAnswer run (certifying sheet cert) answer = ReadNothing run.input × IsCertified run.shelf.files sheet cert answer
+HasAnswer run (by sheet job) answer = (p : Pair) × SpellsPair run.shelf.files sheet p × IsAnswer p run.input job answer
+
+-- why it is refused by its sheet: that spells no grammars, or is not accepted by the certificate
+abbrev pub IsRefused : Shelves → Ask → Outcome → Type 0
+IsRefused shelf (printing bytes) o = ⊥
+IsRefused shelf (upgrading sheet) o = IsUnpaired shelf sheet o
+IsRefused shelf (certifying sheet cert) o = IsUncertified shelf sheet cert o
+IsRefused shelf (by sheet job) o = IsUnpaired shelf sheet o
+
+-- why it is not done by the two grammars of its sheet
+abbrev pub IsUndoneBy : Run → Ask → Pair → Outcome → Type 0
+IsUndoneBy run (by sheet job) p o = SpellsPair run.shelf.files sheet p × IsUndone p run.input job o
+IsUndoneBy run ask p o = ⊥
 
 -- what out took of an answer, by the outcome
 abbrev pub Took : Output → List ℕ → Outcome → Type 0
@@ -94,20 +107,13 @@ Took out answer Done = Appends out.taken_before out.taken_now answer
 Took out answer (WriteFault written) = Appends out.taken_before out.taken_now (take written answer) × (written < length answer) × Rose out.faults_before out.faults_now
 Took out answer other = ⊥
 
--- The outcome to which a run went, with the names by which it is reported: the words are no command; or a shipped
--- sheet is written; or the sheet whose upgrade is asked for spells no grammars, or its upgrade is written; or the sheet
--- that is to be checked by a certificate is not accepted by it, or what is said of it is written; or the
--- sheet that is asked for spells no grammars; or the job is not done by them; or it is answered.
+-- The outcome to which a run went, with the names by which it is reported: the words are no command; or what they ask
+-- for is refused by its sheet; or it is not done by the two grammars of that; or it is answered.
 pub data Went (run : Run) : Outcome → List (List ℕ) → Type 0 where
   no_command : asked run.words ≡ None → ReadNothing run.input → TookNothing run.out → Went run Usage []
-  shipped_written : (core : Core) {o : Outcome} → asked run.words ≡ Some (shipped core) → ReadNothing run.input → Took run.out (core_bytes core) o → Went run o []
-  not_upgraded : (sheet : Named) {o : Outcome} → asked run.words ≡ Some (upgrading sheet) → IsUnpaired run.shelf sheet o → ReadNothing run.input → TookNothing run.out → Went run o []
-  upgrade_written : (sheet : Named) (answer : List ℕ) {o : Outcome} → asked run.words ≡ Some (upgrading sheet) → SpellsUpgrade run.shelf.files sheet answer → ReadNothing run.input → Took run.out answer o → Went run o []
-  uncertified : (sheet : Named) (cert : List ℕ) {o : Outcome} → asked run.words ≡ Some (certifying sheet cert) → IsUncertified run.shelf sheet cert o → ReadNothing run.input → TookNothing run.out → Went run o []
-  certified : (sheet : Named) (cert answer : List ℕ) {o : Outcome} → asked run.words ≡ Some (certifying sheet cert) → IsCertified run.shelf.files sheet cert answer → ReadNothing run.input → Took run.out answer o → Went run o []
-  unpaired : (sheet : Named) (job : Job) {o : Outcome} → asked run.words ≡ Some (by sheet job) → IsUnpaired run.shelf sheet o → ReadNothing run.input → TookNothing run.out → Went run o []
-  undone : (sheet : Named) (job : Job) (p : Pair) {o : Outcome} → asked run.words ≡ Some (by sheet job) → SpellsPair run.shelf.files sheet p → IsUndone p run.input job o → TookNothing run.out → Went run o p.names
-  answered : (sheet : Named) (job : Job) (p : Pair) (answer : List ℕ) {o : Outcome} → asked run.words ≡ Some (by sheet job) → SpellsPair run.shelf.files sheet p → IsAnswer p run.input job answer → Took run.out answer o → Went run o []
+  refused : (ask : Ask) {o : Outcome} → asked run.words ≡ Some ask → IsRefused run.shelf ask o → ReadNothing run.input → TookNothing run.out → Went run o []
+  undone : (ask : Ask) (p : Pair) {o : Outcome} → asked run.words ≡ Some ask → IsUndoneBy run ask p o → TookNothing run.out → Went run o p.names
+  answered : (ask : Ask) (answer : List ℕ) {o : Outcome} → asked run.words ≡ Some ask → HasAnswer run ask answer → Took run.out answer o → Went run o []
 
 -- the status that a program ends with
 abbrev pub status_of : Outcome → ℕ
@@ -183,26 +189,22 @@ pub record IsReadableOutline (p : Pair) (i : Input) : Type 0 where
   pub is : IsOutlineDocument p document tree
   pub sure : Rose i.faults_before i.faults_now → ⊥
 
+-- nothing stands against the sheet: it is accepted, where it is checked
+abbrev pub IsFit : Bool → Pair → Type 0
+IsFit true p = IsAccepted p.text p.xml
+IsFit false p = Unit {0}
+
+-- nor against what a job is done with
+abbrev pub IsReady : Pair → Input → Reading → Type 0
+IsReady p i of_nothing = Unit {0}
+IsReady p i (of_made seed lines) = IsOfLanguage p Text AsIs (made_text seed lines)
+IsReady p i (of_document side form) = IsReadable p i side form
+IsReady p i of_script = IsReadableScript i
+IsReady p i of_outline = IsReadableOutline p i
+
 -- nothing stands against a job by these grammars
 abbrev pub IsDoable : Pair → Input → Job → Type 0
-IsDoable p i Check = IsAccepted p.text p.xml
-IsDoable p i (Turn from to form) = IsAccepted p.text p.xml × IsReadable p i from form
-IsDoable p i (Trees max) = IsReadable p i Text AsIs
-IsDoable p i (Make seed lines) = IsAccepted p.text p.xml × IsOfLanguage p Text AsIs (made_text seed lines)
-IsDoable p i Session = IsAccepted p.text p.xml × IsReadableScript i
-IsDoable p i (ToTree from form) = IsAccepted p.text p.xml × IsReadable p i from form
-IsDoable p i (FromTree to) = IsAccepted p.text p.xml × IsReadableOutline p i
-IsDoable p i Cover = Unit {0}
-IsDoable p i Prove = IsAccepted p.text p.xml
-
--- The sheet did not fail, its bytes are known and spell two grammars, and nothing stands against the job by these.
-pub record IsClear (run : Run) (sheet : Named) (job : Job) : Type 0 where
-  pub sheet_sure : IsFailed run.shelf sheet → ⊥
-  pub bytes : List ℕ
-  pub has : HasBytes run.shelf.files sheet bytes
-  pub pair : Pair
-  pub spelled : IsPairOfBytes bytes pair
-  pub doable : IsDoable pair run.input job
+IsDoable p i job = IsFit (searches job) p × IsReady p i (read_for job)
 
 -- The sheet did not fail, and its bytes are known and spell two grammars.
 pub record IsKnown (run : Run) (sheet : Named) : Type 0 where
@@ -211,6 +213,11 @@ pub record IsKnown (run : Run) (sheet : Named) : Type 0 where
   pub has : HasBytes run.shelf.files sheet bytes
   pub pair : Pair
   pub spelled : IsPairOfBytes bytes pair
+
+-- The sheet is known, and nothing stands against the job by its grammars.
+pub record IsClear (run : Run) (sheet : Named) (job : Job) : Type 0 where
+  pub known : IsKnown run sheet
+  pub doable : IsDoable known.pair run.input job
 
 -- The sheet is known and accepted, and the file of this name, which did not fail, is known to be a certificate of its
 -- two grammars.
@@ -225,7 +232,7 @@ pub record IsCertifiable (run : Run) (sheet : Named) (cert : List ℕ) : Type 0 
 
 -- nothing stands against what is asked for; never against a shipped sheet
 abbrev pub IsFree : Run → Ask → Type 0
-IsFree run (shipped core) = Unit {0}
+IsFree run (printing bytes) = Unit {0}
 IsFree run (upgrading sheet) = IsKnown run sheet
 IsFree run (certifying sheet cert) = IsCertifiable run sheet cert
 IsFree run (by sheet job) = IsClear run sheet job
@@ -247,24 +254,18 @@ abbrev pub TakesFew : Input → Type 0
 TakesFew i = TakesAtMost i.left_before i.left_now 1048577
 
 -- What a job reads of the input, however the run ends. What it reads may be cut short by a fault or for want of memory.
+abbrev pub ReadsAs : Reading → Input → Type 0
+ReadsAs of_nothing i = ReadNothing i
+ReadsAs (of_made seed lines) i = ReadNothing i
+ReadsAs reading i = TakesFew i
+
 abbrev pub ReadsFor : Job → Input → Type 0
-ReadsFor Check i = ReadNothing i
-ReadsFor (Turn from to form) i = TakesFew i
-ReadsFor (Trees max) i = TakesFew i
-ReadsFor (Make seed lines) i = ReadNothing i
-ReadsFor Session i = TakesFew i
-ReadsFor (ToTree from form) i = TakesFew i
-ReadsFor (FromTree to) i = TakesFew i
-ReadsFor Cover i = ReadNothing i
-ReadsFor Prove i = ReadNothing i
+ReadsFor job i = ReadsAs (read_for job) i
 
 -- what is read of the input for what is asked for: nothing but for a job
 abbrev pub ReadsAsAsked : Option Ask → Input → Type 0
-ReadsAsAsked None i = ReadNothing i
-ReadsAsAsked (Some (shipped core)) i = ReadNothing i
-ReadsAsAsked (Some (upgrading sheet)) i = ReadNothing i
-ReadsAsAsked (Some (certifying sheet cert)) i = ReadNothing i
 ReadsAsAsked (Some (by sheet job)) i = ReadsFor job i
+ReadsAsAsked other i = ReadNothing i
 
 -- what a run of these words reads of the input, however it ends
 abbrev pub Reads : List (List ℕ) → Input → Type 0

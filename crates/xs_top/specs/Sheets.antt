@@ -13,14 +13,7 @@ use Rattle.xs_pair.specs.Upgrades.{IsUpgrade}
 use Rattle.xs_wf.specs.Rules.{IsWell, IsIll}
 use Rattle.xs_talk.specs.declared.outcome.Outcome.{Outcome}
 use Rattle.xs_talk.specs.declared.outcome.Outcome.TheVariants.{SheetFault, SheetLong, SheetBad, SheetIll}
-use Rattle.xs_top.specs.declared.asking.Core.{Core}
-use Rattle.xs_top.specs.declared.asking.Core.TheVariants.{One, Two}
 use Rattle.xs_top.specs.Devices.{Shelves}
-
--- the bytes of a sheet that the program includes
-abbrev pub core_bytes : Core → List ℕ
-core_bytes One = leiden_core
-core_bytes Two = leiden_core_2
 
 -- the sheet's bytes, by what is known of a shelf's files; there are at most 65,536
 abbrev pub AreBytesOf : Files → Named → List ℕ → Type 0

@@ -7,6 +7,7 @@ ghost use Rattle.xs_top.specs.Meaning.{ask_meant, AsksForLines};
 
 use xs_chars::Form;
 use xs_class::Side;
+use xs_leiden::{leiden_sheet, leiden2_sheet};
 use xs_words::{Command, SheetName, command_of};
 
 /// What is to be done by a sheet.
@@ -33,18 +34,11 @@ pub enum Job {
     Prove,
 }
 
-/// A sheet that the program includes.
-#[derive(Clone, Copy)]
-pub enum Core {
-    One,
-    Two,
-}
-
 /// What the words ask for.
 #[derive(Clone, Copy)]
 pub enum Ask<'w> {
-    /// A shipped sheet, as it is.
-    Shipped(Core),
+    /// These bytes, which are those of a shipped sheet.
+    Print(&'static [u8]),
     /// The upgrade of a sheet.
     Upgrade { sheet: SheetName<'w> },
     /// The check of a sheet by the certificate in the file of this name.
@@ -71,8 +65,8 @@ fn ask_of(command: Command<'_>) -> Ask<'_>
         Command::RoundText { sheet, form } => (sheet, turning(Side::Text, Side::Text, form)),
         Command::RoundXml { sheet } => (sheet, turning(Side::Xml, Side::Xml, Form::AsIs)),
         Command::Trees { sheet, max } => (sheet, Job::Trees { max }),
-        Command::PrintSheet => return Ask::Shipped(Core::One),
-        Command::PrintSheet2 => return Ask::Shipped(Core::Two),
+        Command::PrintSheet => return Ask::Print(leiden_sheet()),
+        Command::PrintSheet2 => return Ask::Print(leiden2_sheet()),
         Command::Upgrade { sheet } => return Ask::Upgrade { sheet },
         Command::Prove { sheet } => (sheet, Job::Prove),
         Command::CheckCert { sheet, cert } => return Ask::Certify { sheet, cert },

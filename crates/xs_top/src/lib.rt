@@ -32,7 +32,7 @@ use crate::answer::answer_of;
 use crate::asking::{Ask, asked};
 use crate::certified::certified;
 use crate::notes::{no_names, tell};
-use crate::sheets::{pair_for, shipped_bytes, upgrade_for};
+use crate::sheets::{pair_for, upgrade_for};
 use crate::written::written;
 pub use answer::DOCUMENT_LIMIT;
 pub use certified::CERTIFICATE_LIMIT;
@@ -92,9 +92,7 @@ pub fn run<S: Source, H: Shelf, K: Sink, N: Sink>(
     let none = no_names(alloc)?;
     let (sheet, job) = match asked(words) {
         Some(Ask::By { sheet, job }) => (sheet, job),
-        Some(Ask::Shipped(core)) => {
-            return Ok(written(out, notes, &none, room, shipped_bytes(core)));
-        }
+        Some(Ask::Print(bytes)) => return Ok(written(out, notes, &none, room, bytes)),
         Some(Ask::Upgrade { sheet }) => match upgrade_for(alloc, shelf, sheet) {
             Ok(answer) => return Ok(written(out, notes, &none, room, answer.as_slice())),
             Err(Stop::Refused(outcome)) => return tell(alloc, notes, &none, outcome),

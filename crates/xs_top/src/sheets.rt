@@ -3,10 +3,9 @@ ghost use Rattle.xs_pair.specs.{IsSoundPair};
 ghost use Rattle.xs_words.specs.{sheet_meant};
 ghost use Rattle.xs_writing_laws.specs.{CanBeWritten};
 ghost use Rattle.xs_top.specs.Devices.{shelves_of};
-ghost use Rattle.xs_top.specs.Sheets.{core_bytes, AreBytesOf, IsStopped, IsPairOfBytes, IsUpgradeOfBytes, IsBadBytes, SpellsPair, SpellsUpgrade, IsUnpaired};
+ghost use Rattle.xs_top.specs.Sheets.{AreBytesOf, IsStopped, IsPairOfBytes, IsUpgradeOfBytes, IsBadBytes, SpellsPair, SpellsUpgrade, IsUnpaired};
 ghost use Rattle.xs_top.specs.Stops.{StopsBy};
 
-use crate::asking::Core;
 use crate::stop::Stop;
 use std::alloc::Global;
 use xs_class::Bytes;
@@ -21,16 +20,6 @@ use xs_writing_laws::words_can_be_written;
 
 /// How many bytes a sheet may have.
 pub const SHEET_LIMIT: usize = 65_536;
-
-/// The bytes of a sheet that the program includes.
-pub fn shipped_bytes(core: Core) -> &'static [u8]
-    ensures { result.now ≡ core_bytes core }
-{
-    match core {
-        Core::One => leiden_sheet(),
-        Core::Two => leiden2_sheet(),
-    }
-}
 
 /// The bytes of a sheet.
 #[tactic(auto, using(crate::proofs::Certifying::falls_nowhere))]
