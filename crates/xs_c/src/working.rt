@@ -9,7 +9,7 @@ use std::alloc::Global;
 use xs_chars::Form;
 use xs_class::{Bytes, Side};
 use xs_talk::Outcome;
-use xs_top::{DOCUMENT_LIMIT, Stop, made_of_outline, outline, play, turned_into};
+use xs_top::{DOCUMENT_LIMIT, Stop, made_of_outline, outline, play, turned_document};
 
 /// What is done with a document by an open sheet.
 #[derive(Clone, Copy)]
@@ -36,8 +36,8 @@ fn answer_of(alloc: Global, kept: &Kept, work: Work, document: &[u8]) -> Result<
     let two = kept.two();
     match work {
         Work::Turn { from, to, form } => {
-            let turned = turned_into(alloc, two, from, to, form, document)?;
-            Ok(turned.document)
+            let answer = turned_document(alloc, two, from, to, form, document)?;
+            Ok(answer)
         }
         Work::Outline { from, form } => outline(alloc, two, from, form, document),
         Work::Make { to } => made_of_outline(alloc, two, to, document),

@@ -16,7 +16,7 @@ use crate::listed::listed;
 use crate::outlined::{made_of_outline, outlined};
 use crate::played::played;
 use crate::stop::Stop;
-use crate::turned::turned_into;
+use crate::turned::{turned_document, turned_into};
 use std::alloc::Global;
 use xs_cert::prove;
 use xs_chars::Form;
@@ -75,8 +75,8 @@ fn turn<S: Source>(
 {
     checked(alloc, two)?;
     let bytes = taken(alloc, input)?;
-    let turned = turned_into(alloc, two, from, to, form, bytes.as_slice())?;
-    Ok(turned.document)
+    let document = turned_document(alloc, two, from, to, form, bytes.as_slice())?;
+    Ok(document)
 }
 
 /// The listing of at most `max` derivations of the input.

@@ -7,7 +7,7 @@ use Rattle.xs_gram.specs.Derivations.{Derivation, done, sub}
 use Rattle.xs_gram.specs.Common.{Common, TreeFits, print, strip}
 use Rattle.xs_gram.specs.Languages.{Derives, InLang, HasTree, IsViable}
 use Rattle.xs_forest_laws.specs.Forest.{Forest, Unfolding, Unfolds, read}
-use Rattle.xs_pair.specs.Grammars.{Pair, grammar_of}
+use Rattle.xs_pair.specs.Grammars.{Pair, grammar_of, HaveSameTrees}
 use Rattle.xs_turn.specs.declared.fault.TurnFault.{TurnFault}
 use Rattle.xs_turn.specs.declared.fault.TurnFault.TheVariants as F
 
@@ -28,6 +28,13 @@ IsTreeIn g w f root tree = (u : Unfolding) × Unfolds f (Some root) u × (d : De
 pub record IsTranslated (p : Pair) (from to : Side) (w : List ℕ) (tree : Common) (word : List ℕ) : Type 0 where
   pub has : HasTree (grammar_of p from) w tree
   pub printed : word ≡ print (grammar_of p to) tree
+
+-- the word is the print on another side of a tree of the document, which fits on either side where both have the
+-- same trees and the same start
+pub record IsRewritten (p : Pair) (from to : Side) (w word : List ℕ) : Type 0 where
+  pub tree : Common
+  pub translated : IsTranslated p from to w tree word
+  pub fits : HaveSameTrees p.text p.xml → p.text.start ≡ p.xml.start → FitsBoth p tree
 
 -- the document has no derivation, and that many of its leading symbols are viable
 pub record IsForeign (p : Pair) (side : Side) (w : List ℕ) (viable : ℕ) : Type 0 where

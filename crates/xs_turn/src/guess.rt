@@ -1,5 +1,6 @@
-ghost use Rattle.std.specs.Prelude.{IfOk, IfSome};
-ghost use Rattle.xs_gram.specs.{Derivation, Derives, HasTree, IsBuilt};
+ghost use Rattle.std.specs.Prelude.{◌≡◌, IfOk, IfSome};
+ghost use Rattle.xs_gram.specs.Common.{Common};
+ghost use Rattle.xs_gram.specs.{Derivation, Derives, HasTree, IsBuilt, print};
 ghost use Rattle.xs_parse_table.specs.{IsTreeOf};
 ghost use Rattle.xs_tree.specs.{common_of};
 
@@ -10,6 +11,8 @@ use xs_class::{Memory, Word};
 use xs_gram::Gram;
 use xs_lr::{PADDING, read};
 use xs_parse_table::{ParseTable, Validator};
+use xs_table_out::{steps_of, write_table};
+use xs_text_out::pieces_of;
 use xs_tree::Tree;
 
 /// A parse table that was guessed and that means a derivation of the document, or None where none
@@ -43,4 +46,27 @@ pub fn guessed_tree(alloc: Global, g: &Gram, doc: &Word) -> Result<Option<Tree>,
     };
     let tree = tree_of(alloc, g, doc.as_slice(), &table)?;
     Ok(tree)
+}
+
+/// The word, printed by a grammar, of the tree of a derivation of the document that was guessed and
+/// checked, or None.
+pub fn guessed_word(
+    alloc: Global,
+    from: &Gram,
+    to: &Gram,
+    doc: &Word,
+) -> Result<Option<Word>, Memory>
+    requires { IsBuilt from.now }
+    ensures { IfOk result (λ o. IfSome o (λ word. (tree : Common) × HasTree from.now doc.now tree × (word ≡ print to.now tree))) }
+{
+    let Some(table) = table_of(alloc, from, doc)? else {
+        return Ok(None);
+    };
+    let steps = steps_of(alloc, from, to, pieces_of(alloc, to)?)?;
+    let mut symbols = Vec::with_capacity(alloc, doc.len().saturating_mul(2))?;
+    if write_table(alloc, from, to, &steps, doc.as_slice(), &table, &mut symbols)? {
+        Ok(Some(Word::from_vec(symbols)))
+    } else {
+        Ok(None)
+    }
 }

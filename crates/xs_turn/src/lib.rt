@@ -17,5 +17,5 @@ mod turning;
 
 pub use fault::TurnFault;
 pub use laws::stripped_fits;
-pub use translating::{Translated, translate};
+pub use translating::{Translated, rewrite, translate};
 pub use turning::{Turned, forest_of, turn};

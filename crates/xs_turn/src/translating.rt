@@ -2,10 +2,10 @@ ghost use Rattle.std.specs.Prelude.{◌≡◌, ◌<◌, true, length, IfOk, IfEr
 ghost use Rattle.xs_gram.specs.{IsSound};
 ghost use Rattle.xs_tree.specs.{common_of};
 ghost use Rattle.xs_pair.specs.{HaveSameTrees};
-ghost use Rattle.xs_turn.specs.Turned.{FitsBoth, IsTranslated, IsRefusal, other_side};
+ghost use Rattle.xs_turn.specs.Turned.{FitsBoth, IsRewritten, IsTranslated, IsRefusal, other_side};
 
 use crate::TurnFault;
-use crate::guess::guessed_tree;
+use crate::guess::{guessed_tree, guessed_word};
 use crate::turning::turn;
 use bumpalo::Bump;
 use std::alloc::Global;
@@ -92,5 +92,29 @@ pub fn translate(
             Ok(Translated { tree, word })
         }
         None => turned_to(alloc, two, doc, from, to),
+    }
+}
+
+/// The word alone of what `translate` gives, without a tree where a guess passes the check: it is
+/// written straight from the parse table.
+pub fn rewrite(
+    alloc: Global,
+    two: &Two,
+    from: Side,
+    to: Side,
+    doc: &Word,
+) -> Result<Word, TurnFault>
+    requires text { IsSound two.now.text }
+    requires xml { IsSound two.now.xml }
+    requires short { length doc.now < 4294967295 }
+    ensures rewritten { IfOk result (IsRewritten two.now from to doc.now) }
+    ensures foreign { IfErr result (IsRefusal two.now from doc.now) }
+{
+    match guessed_word(alloc, two.gram(from), two.gram(to), doc)? {
+        Some(word) => Ok(word),
+        None => {
+            let translated = turned_to(alloc, two, doc, from, to)?;
+            Ok(translated.word)
+        }
     }
 }

@@ -1,0 +1,18 @@
+//! Printing straight from a parse table: the word, on another side of a sheet, of the tree of the
+//! derivation that a table means.
+//!
+//! No tree is made. What each production prints is found once, as steps: a stretch of text, and then
+//! how the child at a slot is found among a node's parts (`children`, `steps`). A walk from the last
+//! node on does these steps one after another, and hands each stretch to a writer (`writer`, `walk`).
+//! A leaf's word is a stretch of the document.
+#![tactic(auto)]
+
+mod children;
+mod steps;
+mod walk;
+mod writer;
+
+pub use children::{Begin, Child};
+pub use steps::{Step, Steps, steps_of};
+pub use walk::{Task, write_table};
+pub use writer::Writer;
