@@ -6,8 +6,8 @@ ghost use Rattle.xs_chars.specs.Laws.{IsFault};
 use crate::form::{Form, formed};
 use crate::strings::word_of;
 use crate::writing::BYTE_ORDER_MARK;
+use simdutf8::compat::from_utf8;
 use std::alloc::Global;
-use std::str::from_utf8;
 use xs_class::{Memory, Word};
 
 /// Why bytes are not decoded.
