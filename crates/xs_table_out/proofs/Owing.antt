@@ -24,8 +24,13 @@ use Rattle.xs_table_out.specs.declared.steps.Step.{Step}
 use Rattle.xs_table_out.specs.declared.steps.Steps.{Steps}
 use Rattle.xs_table_out.specs.declared.walk.Task.{Task}
 use Rattle.xs_table_out.specs.Steps.{AreSteps, slot_child, step_of}
-use Rattle.xs_table_out.specs.Walk.{AreOwed, IsAside, IsChildTask, IsDone, IsEntered, IsLastTask, IsOwed, IsTaskOf, Writes, next_task, rest_steps, slots_of}
+use Rattle.xs_table_out.specs.Walk.{AreOwed, IsAside, IsChildTask, IsDone, IsEntered, IsLastTask, IsOwed, IsTaskOf, next_task, rest_steps, slots_of}
+use Rattle.xs_table_out.specs.Writing.{Writes}
 use Rattle.xs_table_out.proofs.Finding.{Finds, Prints, finds, prints}
+
+-- two stretches are written one after the other
+pub writes_both : (old mid new : List ℕ → List ℕ) (text word : List ℕ) → Writes old mid text → Writes mid new word → Writes old new (text ++ word)
+writes_both old mid new text word first second = λ rest. second rest ∙ first (word ++ rest) ∙ ap old (sym (append_assoc text word rest))
 
 nothing_first : {X : Type 0} (x : X) (xs : List X) → x ∷ xs ≡ [] → ⊥
 nothing_first x xs e = cc
@@ -64,6 +69,30 @@ no_pieces : (is : List GItem) (pieces : List Piece) → [] ≡ map (step_of is) 
 no_pieces is [] e = refl
 no_pieces is (piece ∷ later) e = absurd (nothing_first (step_of is piece) (map (step_of is) later) (sym e))
 
+-- the last task prints first
+pub record FirstOwed (g h : Grammar) (s : Steps) (doc : List ℕ) (table : ParseTable) (tasks : List Task) (task : Task) (w : List ℕ) : Type 0 where
+  pub own : List ℕ
+  pub later : List ℕ
+  pub owed : IsOwed g h s doc table task own
+  pub are : AreOwed g h s doc table tasks later
+  pub is : w ≡ own ++ later
+
+-- the next step of a task: its text, what stands at its slot, and what the task owes after it
+pub record StepOwed (g h : Grammar) (s : Steps) (doc : List ℕ) (table : ParseTable) (task : Task) (step : Step) (w : List ℕ) : Type 0 where
+  pub there : List ℕ
+  pub later : List ℕ
+  pub found : Option Common
+  pub finds : Finds g doc table task.parts task.from step.child found
+  pub prints : Prints h found there
+  pub owed : IsOwed g h s doc table (next_task task) later
+  pub is : w ≡ (slice_range s.text.items step.begin step.end ++ there) ++ later
+
+-- what is to be gone on with after a step, and what it prints
+pub record OwedOn (g h : Grammar) (s : Steps) (doc : List ℕ) (table : ParseTable) (tasks : List Task) (task : Task) (new : List ℕ → List ℕ) (whole : List ℕ) : Type 0 where
+  pub rest : List ℕ
+  pub are : AreOwed g h s doc table (tasks ++ task ∷ []) rest
+  pub is : new rest ≡ whole
+
 module _ (g h : Grammar) (s : Steps) (doc : List ℕ) (table : ParseTable) where
   abbrev Owed : Task → List ℕ → Type 0
   Owed task w = IsOwed g h s doc table task w
@@ -77,15 +106,7 @@ module _ (g h : Grammar) (s : Steps) (doc : List ℕ) (table : ParseTable) where
   owed_push (other ∷ tasks) task before own (more, last, are, owed, e) is =
       (own ++ more, last, owed_push tasks task more own are is, owed, ap (λ w. own ++ w) e ∙ sym (append_assoc own more last))
 
-  -- the last task prints first
-  pub record FirstOwed (tasks : List Task) (task : Task) (w : List ℕ) : Type 0 where
-    pub own : List ℕ
-    pub later : List ℕ
-    pub owed : IsOwed g h s doc table task own
-    pub are : AreOwed g h s doc table tasks later
-    pub is : w ≡ own ++ later
-
-  pub owed_pop : (tasks : List Task) (task : Task) (w : List ℕ) → AllOwed (tasks ++ task ∷ []) w → FirstOwed tasks task w
+  pub owed_pop : (tasks : List Task) (task : Task) (w : List ℕ) → AllOwed (tasks ++ task ∷ []) w → FirstOwed g h s doc table tasks task w
   owed_pop [] task w (none, own, empty, owed, e) = record {
     own = own;
     later = [];
@@ -109,7 +130,7 @@ module _ (g h : Grammar) (s : Steps) (doc : List ℕ) (table : ParseTable) where
       let pieces = no_pieces (items g owed.production) owed.pieces (sym none ∙ owed.steps_are) in
       owed.is ∙ ap (λ (l : List Piece). pieces_word s.text.items l (slots_of g h owed.production owed.parts)) pieces
 
-  pub no_steps : (task : Task) → (task.place < task.end → ⊥) → rest_steps s.all.items task ≡ []
+  pub no_steps : (task : Task) → task.end ≤ task.place → rest_steps s.all.items task ≡ []
   no_steps task past =
       let long = length-take task.end s.all.items in
       drop_all task.place (take task.end s.all.items) (omega (arith, past, long))
@@ -129,30 +150,19 @@ module _ (g h : Grammar) (s : Steps) (doc : List ℕ) (table : ParseTable) where
         is = sym (row.prints (slots_of g h node.production ps));
       }
 
-  -- the next step of a task: its text, what stands at its slot, and what the task owes after it
-  pub record StepOwed (task : Task) (step : Step) (w : List ℕ) : Type 0 where
-    pub there : List ℕ
-    pub later : List ℕ
-    pub found : Option Common
-    pub finds : Finds g doc table task.parts task.from step.child found
-    pub prints : Prints h found there
-    pub owed : IsOwed g h s doc table (next_task task) later
-    pub is : w ≡ (slice_range s.text.items step.begin step.end ++ there) ++ later
-
   slot_found : HasNumberedSlots g → (task : Task) (w : List ℕ) (owed : IsOwed g h s doc table task w) (slot : Option ℕ) → (found : Option Common) × Finds g doc table task.parts task.from (slot_child (items g owed.production) slot) found × Prints h found (end_word slot (slots_of g h owed.production owed.parts))
   slot_found numbered task w owed None = (None, refl, refl)
   slot_found numbered task w owed (Some slot) =
-      let is : List GItem = items g owed.production in
       let first : task.parts ≡ task.parts + 0 = omega arith in
       let mean = subst (λ k. ArePartsAt table.nodes.items table.parts.items doc k task.from owed.to owed.parts) first owed.mean in
-      let own = subst IsNumbered (sym (keys_are g (items g owed.production) owed.parts owed.fits)) (numbered owed.production) in
-      (lookup slot (named g (items g owed.production) owed.parts), finds g doc table task.parts task.from slot is owed.parts Here 0 task.from owed.to refl owed.fits mean,
-          prints h (named g (items g owed.production) owed.parts) slot own)
+      let own = subst IsNumbered (sym (keys_are g (items g owed.production) owed.parts owed.fits)) (numbered owed.production) in (
+        lookup slot (named g (items g owed.production) owed.parts),
+        finds g doc table task.parts task.from slot (items g owed.production) owed.parts Here 0 task.from owed.to refl owed.fits mean,
+        prints h (named g (items g owed.production) owed.parts) slot own,
+      )
 
-  pub step_owed : HasNumberedSlots g → (task : Task) (step : Step) (w : List ℕ) → rest_steps s.all.items task ≡ step ∷ rest_steps s.all.items (next_task task) → Owed task w → StepOwed task step w
+  pub step_owed : HasNumberedSlots g → (task : Task) (step : Step) (w : List ℕ) → rest_steps s.all.items task ≡ step ∷ rest_steps s.all.items (next_task task) → Owed task w → StepOwed g h s doc table task step w
   step_owed numbered task step w next owed =
-      let is : List GItem = items g owed.production in
-      let at = slots_of g h owed.production owed.parts in
       let f = first_piece (items g owed.production) step (rest_steps s.all.items (next_task task)) owed.pieces (sym next ∙ owed.steps_are) in
       let found = slot_found numbered task w owed f.piece.slot in
       record {
@@ -177,16 +187,16 @@ module _ (g h : Grammar) (s : Steps) (doc : List ℕ) (table : ParseTable) where
 
   -- a step whose slot has no node is done
   child_done : (task : Task) (child : Child) (found : Option Common) (there text : List ℕ) (old new : List ℕ → List ℕ) → Finds g doc table task.parts task.from child found → Prints h found there → IsDone doc table.nodes.items table.parts.items task text old new child → Writes old new (text ++ there)
-  child_done task C.Nothing found there text old new leads prints done rest =
+  child_done task C.Nothing found there text old new leads prints done = λ rest.
       let none : there ≡ [] = subst (λ (o : Option Common). Prints h o there) leads prints in
       done rest ∙ ap (λ w. old (w ++ rest)) (sym (append-nil text)) ∙ ap (λ w. old ((text ++ w) ++ rest)) (sym none)
-  child_done task (C.Word begin part) found there text old new (at, to, begins, ends, leads) prints (w, is, done) rest =
+  child_done task (C.Word begin part) found there text old new (at, to, begins, ends, leads) prints (w, is, done) = λ rest.
       let is_there : there ≡ slice_range doc at to = subst (λ (o : Option Common). Prints h o there) leads prints in
       let from : is.at ≡ at = some_inj is.at at (sym is.begins ∙ begins) in
       let up_to : is.to ≡ to = some_inj is.to to (sym is.ends ∙ ends) in
       let same : w ≡ there = is.is ∙ ap (λ k. slice_range doc k is.to) from ∙ ap (λ k. slice_range doc at k) up_to ∙ sym is_there in
       done rest ∙ ap (λ v. old ((text ++ v) ++ rest)) same
-  child_done task (C.Node part) found there text old new leads prints done rest = absurd done
+  child_done task (C.Node part) found there text old new leads prints done = absurd done
 
   -- the node at the slot of a step is to be printed
   child_entered : AreSteps g h s → (task kid : Task) (child : Child) (found : Option Common) (there text : List ℕ) (old new : List ℕ → List ℕ) → Finds g doc table task.parts task.from child found → Prints h found there → IsEntered s.rows.items table.nodes.items table.parts.items task text old new child kid → Owed kid there × Writes old new text
@@ -199,13 +209,7 @@ module _ (g h : Grammar) (s : Steps) (doc : List ℕ) (table : ParseTable) where
       let prints_it : there ≡ print h (made node.production (children (named g (items g node.production) ps))) = subst (λ (o : Option Common). Prints h o there) leads prints in
       (subst (λ w. IsOwed g h s doc table kid w) (sym prints_it) (node_owed node kid ps steps of fit mean), writes)
 
-  -- what is to be gone on with after a step, and what it prints
-  pub record OwedOn (tasks : List Task) (task : Task) (new : List ℕ → List ℕ) (whole : List ℕ) : Type 0 where
-    pub rest : List ℕ
-    pub are : AreOwed g h s doc table (tasks ++ task ∷ []) rest
-    pub is : new rest ≡ whole
-
-  pub went_on : HasNumberedSlots g → (tasks : List Task) (task : Task) (step : Step) (w : List ℕ) (old new : List ℕ → List ℕ) → rest_steps s.all.items task ≡ step ∷ rest_steps s.all.items (next_task task) → AllOwed (tasks ++ task ∷ []) w → IsDone doc table.nodes.items table.parts.items task (slice_range s.text.items step.begin step.end) old new step.child → OwedOn tasks (next_task task) new (old w)
+  pub went_on : HasNumberedSlots g → (tasks : List Task) (task : Task) (step : Step) (w : List ℕ) (old new : List ℕ → List ℕ) → rest_steps s.all.items task ≡ step ∷ rest_steps s.all.items (next_task task) → AllOwed (tasks ++ task ∷ []) w → IsDone doc table.nodes.items table.parts.items task (slice_range s.text.items step.begin step.end) old new step.child → OwedOn g h s doc table tasks (next_task task) new (old w)
   went_on numbered tasks task step w old new next are done =
       let first = owed_pop tasks task w are in
       let so = step_owed numbered task step first.own next first.owed in
@@ -225,7 +229,7 @@ module _ (g h : Grammar) (s : Steps) (doc : List ℕ) (table : ParseTable) where
       let none : own ≡ [] = nothing_owed task own (no_steps task past) owed in
       subst (λ (l : List Task). AreOwed g h s doc table l (own ++ later)) (sym is) (subst (λ v. AreOwed g h s doc table tasks (v ++ later)) (sym none) are)
 
-  pub went_in : HasNumberedSlots g → AreSteps g h s → (tasks pushed : List Task) (task kid : Task) (step : Step) (w : List ℕ) (old new : List ℕ → List ℕ) → rest_steps s.all.items task ≡ step ∷ rest_steps s.all.items (next_task task) → AllOwed (tasks ++ task ∷ []) w → IsEntered s.rows.items table.nodes.items table.parts.items task (slice_range s.text.items step.begin step.end) old new step.child kid → IsAside (next_task task) tasks pushed → OwedOn pushed kid new (old w)
+  pub went_in : HasNumberedSlots g → AreSteps g h s → (tasks pushed : List Task) (task kid : Task) (step : Step) (w : List ℕ) (old new : List ℕ → List ℕ) → rest_steps s.all.items task ≡ step ∷ rest_steps s.all.items (next_task task) → AllOwed (tasks ++ task ∷ []) w → IsEntered s.rows.items table.nodes.items table.parts.items task (slice_range s.text.items step.begin step.end) old new step.child kid → IsAside (next_task task) tasks pushed → OwedOn g h s doc table pushed kid new (old w)
   went_in numbered steps tasks pushed task kid step w old new next are entered aside =
       let first = owed_pop tasks task w are in
       let so = step_owed numbered task step first.own next first.owed in
@@ -239,7 +243,7 @@ module _ (g h : Grammar) (s : Steps) (doc : List ℕ) (table : ParseTable) where
       }
 
   -- the task that was put aside last is gone on with
-  pub went_back : (tasks left : List Task) (task last : Task) (w : List ℕ) (out : List ℕ → List ℕ) → rest_steps s.all.items task ≡ [] → AllOwed (tasks ++ task ∷ []) w → tasks ≡ left ++ last ∷ [] → OwedOn left last out (out w)
+  pub went_back : (tasks left : List Task) (task last : Task) (w : List ℕ) (out : List ℕ → List ℕ) → rest_steps s.all.items task ≡ [] → AllOwed (tasks ++ task ∷ []) w → tasks ≡ left ++ last ∷ [] → OwedOn g h s doc table left last out (out w)
   went_back tasks left task last w out none are is =
       let first = owed_pop tasks task w are in
       let empty : first.own ≡ [] = nothing_owed task first.own none first.owed in

@@ -1,5 +1,5 @@
 -- What productions print of a node whose parts stand in a table, as steps.
-use Rattle.std.specs.Prelude.{◌≡◌, ℕ, ◌≤◌, List, length, map, take, drop, Option, None, Some, slice_get}
+use Rattle.std.specs.Prelude.{◌≡◌, ℕ, ◌≤◌, List, [], length, map, take, drop, Option, None, Some, slice_get, slice_range}
 use Rattle.xs_gram.specs.declared.parts.GItem.{GItem}
 use Rattle.xs_gram.specs.Grammar.{Grammar, items}
 use Rattle.xs_gram.specs.Common.{spelling}
@@ -36,3 +36,16 @@ AreStepRows g h text all rows = (production : ℕ) (row : Row) → slice_get row
 -- the steps of all productions
 abbrev pub AreSteps : Grammar → Grammar → Steps → Type 0
 AreSteps g h s = AreStepRows g h s.text.items s.all.items s.rows.items
+
+-- the text of a step
+abbrev pub text_of : List ℕ → Option Step → List ℕ
+text_of text None = []
+text_of text (Some step) = slice_range text step.begin step.end
+
+-- the text of the step of a number
+abbrev pub text_at : Steps → ℕ → List ℕ
+text_at s number = text_of s.text.items (slice_get s.all.items number)
+
+-- the texts are those of the steps
+abbrev pub HasTexts : Steps → (ℕ → List ℕ) → Type 0
+HasTexts s text = (number : ℕ) (step : Step) → slice_get s.all.items number ≡ Some step → text number ≡ slice_range s.text.items step.begin step.end

@@ -1,5 +1,5 @@
 -- What is still to be printed of a table on the way.
-use Rattle.std.specs.Prelude.{◌≡◌, ℕ, ◌+◌, ◌<◌, ◌⊎◌, List, [], ◌∷◌, ◌++◌, length, suc, map, take, drop, Option, None, Some, slice_get, slice_range}
+use Rattle.std.specs.Prelude.{◌≡◌, ℕ, ◌+◌, ◌≤◌, ◌⊎◌, List, [], ◌∷◌, ◌++◌, length, suc, map, take, drop, Option, None, Some, slice_get, slice_range}
 use Rattle.xs_gram.specs.Grammar.{Grammar, items}
 use Rattle.xs_gram.specs.Derivations.{Parts, FitsItems}
 use Rattle.xs_gram.specs.Common.{children, named, print_kids, word_at}
@@ -21,6 +21,7 @@ use Rattle.xs_table_out.specs.declared.walk.Printed.TheVariants.{Wrong, Done, En
 use Rattle.xs_table_out.specs.declared.walk.Next.{Next}
 use Rattle.xs_table_out.specs.declared.walk.Next.TheVariants as N
 use Rattle.xs_table_out.specs.Steps.{step_of}
+use Rattle.xs_table_out.specs.Writing.{Writes}
 
 -- where a node ends
 abbrev pub end_of : Option Node → Option ℕ
@@ -76,10 +77,6 @@ next_task task = record { parts = task.parts; from = task.from; place = task.pla
 abbrev pub rest_steps : List Step → Task → List Step
 rest_steps all task = drop task.place (take task.end all)
 
--- what all will be after two stretches is what it was to be with them
-abbrev pub Writes : (List ℕ → List ℕ) → (List ℕ → List ℕ) → List ℕ → Type 0
-Writes old new word = (rest : List ℕ) → new rest ≡ old (word ++ rest)
-
 -- the text and what stands at the slot of a step are written
 abbrev pub IsDone : List ℕ → List Node → List ℕ → Task → List ℕ → (List ℕ → List ℕ) → (List ℕ → List ℕ) → Child → Type 0
 IsDone doc nodes parts task text old new C.Nothing = Writes old new text
@@ -120,7 +117,7 @@ AreOwed g h s doc table (task ∷ tasks) word = (before : List ℕ) × (own : Li
 
 -- a task that is to be gone on with is put last, if it has more steps
 abbrev pub IsAside : Task → List Task → List Task → Type 0
-IsAside task old new = (new ≡ old ++ task ∷ []) ⊎ ((task.place < task.end → ⊥) × (new ≡ old))
+IsAside task old new = (new ≡ old ++ task ∷ []) ⊎ ((task.end ≤ task.place) × (new ≡ old))
 
 -- all will be as it was to be: nothing is left, or what is left is owed
 abbrev pub IsGone : Grammar → Grammar → Steps → List ℕ → ParseTable → List ℕ → (List ℕ → List ℕ) → List Task → Next → Type 0

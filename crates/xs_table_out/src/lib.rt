@@ -9,10 +9,12 @@
 
 mod children;
 mod steps;
+mod stretch;
+mod symbols;
 mod walk;
 mod writer;
 
-pub use children::{Begin, Child};
 pub use steps::{Step, Steps, steps_of};
-pub use walk::{Task, write_table};
+pub use symbols::print_table;
+pub use walk::write_table;
 pub use writer::Writer;

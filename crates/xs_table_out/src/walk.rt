@@ -1,11 +1,13 @@
 ghost use Rattle.std.specs.Prelude.{◌≡◌, ◌<◌, ◌+◌, ◌++◌, ◌∷◌, [], ℕ, List, slice_get, slice_range, IsTrue, IfOk, IfSome, OnOk, MatchOption};
 ghost use Rattle.xs_gram.specs.{Derivation, Derives, IsBuilt, print, strip};
 ghost use Rattle.xs_parse_table.specs.{IsTreeOf};
-ghost use Rattle.xs_table_out.specs.Steps.{AreSteps};
+ghost use Rattle.xs_table_out.specs.Steps.{AreSteps, HasTexts};
+ghost use Rattle.xs_table_out.specs.Writing.{Writes};
 ghost use Rattle.xs_table_out.specs.Walk.{begin_of, rest_steps, next_task, IsWordAt, IsTaskOf, IsChildTask, IsLastTask, IsPrinted, AreOwed, IsGone, IsAside};
 
 use crate::children::{Begin, Child};
 use crate::steps::{Step, Steps};
+use crate::stretch::stretch;
 use crate::writer::Writer;
 use std::alloc::Global;
 use xs_class::{Memory, Sym};
@@ -53,17 +55,6 @@ fn begin_of(nodes: &[Node], parts: &[u32], task: Task, begin: Begin) -> Option<u
             Some(node.to)
         }
     }
-}
-
-/// The stretch of a list from one place up to another.
-#[inline(always)]
-fn stretch(list: &[Sym], at: usize, to: usize) -> Option<&[Sym]>
-    ensures { IfSome result (λ word. word.now ≡ slice_range list.now at to) }
-{
-    if to < at || list.len() < to {
-        return None;
-    }
-    Some(&list[at..to])
 }
 
 /// The word of a node's leaf.
@@ -116,6 +107,25 @@ pub enum Printed {
     Entered(Task),
 }
 
+/// Writes the text of a step, which mostly has some; false where it cannot be written.
+#[inline(always)]
+fn put_text<W: Writer>(
+    steps: &Steps,
+    number: usize,
+    step: Step,
+    out: &mut W,
+) -> Result<bool, Memory>
+    requires step { slice_get steps.now.all.items number ≡ Some step }
+    requires texts { HasTexts steps.now (W.text out.old) }
+    ensures put { IfOk result (λ done. IsTrue done → Writes (W.whole out.old) (W.whole out.new) (slice_range steps.now.text.items step.begin step.end)) }
+    ensures same { W.text out.new ≡ W.text out.old }
+{
+    if step.end <= step.begin {
+        return Ok(true);
+    }
+    out.put_text(number)
+}
+
 /// Writes the text of a step and the word at its slot, unless that is a node's.
 #[inline(always)]
 fn print_step<W: Writer>(
@@ -127,21 +137,26 @@ fn print_step<W: Writer>(
     step: Step,
     out: &mut W,
 ) -> Result<Printed, Memory>
-    ensures { IfOk result (IsPrinted steps.now doc.now nodes.now parts.now task step (W.whole out.old) (W.whole out.new)) }
+    requires step { slice_get steps.now.all.items task.place ≡ Some step }
+    requires texts { HasTexts steps.now (W.text out.old) }
+    ensures printed { IfOk result (IsPrinted steps.now doc.now nodes.now parts.now task step (W.whole out.old) (W.whole out.new)) }
+    ensures same { W.text out.new ≡ W.text out.old }
 {
-    let Some(text) = stretch(&steps.text, step.begin, step.end) else {
+    if !put_text(steps, task.place, step, out)? {
         return Ok(Printed::Wrong);
-    };
-    out.put(text)?;
+    }
     match step.child {
         Child::Nothing => Ok(Printed::Done),
-        Child::Word { begin, part } => match word_at(doc, nodes, parts, task, begin, part) {
-            None => Ok(Printed::Wrong),
-            Some(word) => {
-                out.put(word)?;
+        Child::Word { begin, part } => {
+            let Some(word) = word_at(doc, nodes, parts, task, begin, part) else {
+                return Ok(Printed::Wrong);
+            };
+            if out.put_word(word)? {
                 Ok(Printed::Done)
+            } else {
+                Ok(Printed::Wrong)
             }
-        },
+        }
         Child::Node { part } => match child_task(&steps.rows, nodes, parts, task, part) {
             None => Ok(Printed::Wrong),
             Some(child) => Ok(Printed::Entered(child)),
@@ -152,7 +167,8 @@ fn print_step<W: Writer>(
 /// The next step of a task, if there is one.
 #[inline(always)]
 fn next_step(all: &[Step], task: Task) -> Option<Step>
-    ensures { MatchOption result (rest_steps all.now task ≡ []) (λ step. rest_steps all.now task ≡ step ∷ rest_steps all.now (next_task task)) }
+    ensures next { MatchOption result (rest_steps all.now task ≡ []) (λ step. rest_steps all.now task ≡ step ∷ rest_steps all.now (next_task task)) }
+    ensures there { IfSome result (λ step. slice_get all.now task.place ≡ Some step) }
 {
     if task.place < task.end {
         all.get(task.place).copied()
@@ -192,8 +208,11 @@ fn go_on<W: Writer>(
     tasks: &mut Vec<Task>,
     out: &mut W,
 ) -> Result<Next, Memory>
-    requires { AreSteps g.now h.now steps.now }
-    ensures { IfOk result (λ next. (rest : List ℕ) → AreOwed g.now h.now steps.now doc.now table.now (tasks.old.items ++ task ∷ []) rest
+    requires built { IsBuilt g.now }
+    requires steps { AreSteps g.now h.now steps.now }
+    requires texts { HasTexts steps.now (W.text out.old) }
+    ensures same { W.text out.new ≡ W.text out.old }
+    ensures gone { IfOk result (λ next. (rest : List ℕ) → AreOwed g.now h.now steps.now doc.now table.now (tasks.old.items ++ task ∷ []) rest
         → IsGone g.now h.now steps.now doc.now table.now (W.whole out.old rest) (W.whole out.new) tasks.new.items next) }
 {
     let Some(step) = next_step(&steps.all, task) else {
@@ -240,6 +259,7 @@ pub fn write_table<W: Writer>(
 ) -> Result<bool, Memory>
     requires built { IsBuilt g.now }
     requires steps { AreSteps g.now h.now steps.now }
+    requires texts { HasTexts steps.now (W.text out.old) }
     ensures { IfOk result (λ done. IsTrue done → (d : Derivation) → IsTreeOf table.now doc.now d → Derives g.now doc.now d
         → W.whole out.new [] ≡ W.whole out.old (print h.now (strip g.now d))) }
 {

@@ -1,50 +1,23 @@
-ghost use Rattle.std.specs.Prelude.{◌≡◌, ◌+◌, ◌≤◌, ◌++◌, ℕ, List, length, vec_len, vec_capacity, OnOk};
+ghost use Rattle.std.specs.Prelude.{◌≡◌, ℕ, List, IsTrue, IfOk};
+ghost use Rattle.xs_table_out.specs.Writing.{Writes};
 
 use xs_class::{Memory, Sym};
 
-/// What a word is written to, stretch by stretch.
+/// What a word is written to, stretch by stretch. It knows the texts of all steps by their numbers.
 pub trait Writer {
     /// All that it will have written once this word is written too.
     ghost whole: { Self → List ℕ → List ℕ };
 
-    /// Writes a stretch next.
-    fn put(&mut self, stretch: &[Sym]) -> Result<(), Memory>
-        ensures { OnOk result ((rest : List ℕ) → whole self.new rest ≡ whole self.old (stretch.now ++ rest)) };
-}
+    /// The text of the step of this number.
+    ghost text: { Self → ℕ → List ℕ };
 
-/// Up to that many symbols are appended one by one: a copy of memory costs more to begin.
-const SHORT: usize = 8;
+    /// Writes the text of a step next; false where it cannot be written.
+    fn put_text(&mut self, number: usize) -> Result<bool, Memory>
+        ensures put { IfOk result (λ done. IsTrue done → Writes (whole self.old) (whole self.new) (text self.old number)) }
+        ensures same { text self.new ≡ text self.old };
 
-/// Appends symbols one by one, for which there is room.
-#[inline(always)]
-fn append_each(list: &mut Vec<Sym>, stretch: &[Sym])
-    requires { vec_len list.old + length stretch.now ≤ vec_capacity list.old }
-    ensures { list.new.items ≡ list.old.items ++ stretch.now }
-{
-    'symbols: for symbol in stretch {
-        list.push_reserved(*symbol);
-    }
-}
-
-/// Appends symbols.
-#[inline(always)]
-fn append(list: &mut Vec<Sym>, stretch: &[Sym]) -> Result<(), Memory>
-    ensures { OnOk result (list.new.items ≡ list.old.items ++ stretch.now) }
-{
-    if stretch.len() > SHORT {
-        list.extend_from_slice(stretch)?;
-        return Ok(());
-    }
-    list.reserve(stretch.len())?;
-    append_each(list, stretch);
-    Ok(())
-}
-
-impl Writer for Vec<Sym> {
-    ghost whole = { λ list rest. list.items ++ rest };
-
-    #[inline(always)]
-    fn put(&mut self, stretch: &[Sym]) -> Result<(), Memory> {
-        append(self, stretch)
-    }
+    /// Writes a word next; false where it cannot be written.
+    fn put_word(&mut self, word: &[Sym]) -> Result<bool, Memory>
+        ensures put { IfOk result (λ done. IsTrue done → Writes (whole self.old) (whole self.new) word.now) }
+        ensures same { text self.new ≡ text self.old };
 }

@@ -11,7 +11,7 @@ use xs_class::{Memory, Word};
 use xs_gram::Gram;
 use xs_lr::{PADDING, read};
 use xs_parse_table::{ParseTable, Validator};
-use xs_table_out::{steps_of, write_table};
+use xs_table_out::{print_table, steps_of};
 use xs_text_out::pieces_of;
 use xs_tree::Tree;
 
@@ -63,10 +63,6 @@ pub fn guessed_word(
         return Ok(None);
     };
     let steps = steps_of(alloc, from, to, pieces_of(alloc, to)?)?;
-    let mut symbols = Vec::with_capacity(alloc, doc.len().saturating_mul(2))?;
-    if write_table(alloc, from, to, &steps, doc.as_slice(), &table, &mut symbols)? {
-        Ok(Some(Word::from_vec(symbols)))
-    } else {
-        Ok(None)
-    }
+    let word = print_table(alloc, from, to, &steps, doc.as_slice(), &table)?;
+    Ok(word)
 }
