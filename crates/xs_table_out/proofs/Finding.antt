@@ -1,5 +1,5 @@
 -- A node's parts lead to the child at a slot, and what is printed there is what the child prints.
-use Rattle.std.proofs.Common.{◌≡◌, ◌≢◌, Bool, true, false, inl, inr, ℕ, zero, suc, ◌+◌, ◌<◌, ◌≤◌, ◌⊎◌, List, [], ◌∷◌, length, Option, Some, None, refl, sym, ◌∙◌, ap, subst, arith}
+use Rattle.std.proofs.Common.{◌≡◌, Bool, true, false, inl, inr, ℕ, zero, suc, ◌+◌, ◌<◌, ◌≤◌, ◌⊎◌, List, [], ◌∷◌, length, Option, Some, None, refl, sym, ◌∙◌, ap, subst, arith}
 use Rattle.std.specs.Prelude.{◌==◌, if◌then◌else◌, slice_get, slice_range}
 use Rattle.std.proofs.lemmas.Bool.Decides.{eqb_tells}
 use Rattle.xs_gram.specs.declared.parts.GItem.{GItem}
@@ -60,6 +60,11 @@ kids_word h es (suc n) begin (suc slot) lt =
     let e : begin + 1 + slot ≡ begin + suc slot = omega arith in
     kids_word h es n (begin + 1) slot (omega (arith, lt)) ∙ ap (λ k. print h (child_of (lookup k es))) e
 
+first_word : (h : Grammar) (es : List (ℕ × Common)) (slot : ℕ) → slot < length es → word_at (print_kids h (children es)) slot ≡ print h (child_of (lookup slot es))
+first_word h es slot lt =
+    let e : 0 + slot ≡ slot = omega arith in
+    kids_word h es (length es) 0 slot lt ∙ ap (λ k. print h (child_of (lookup k es))) e
+
 -- past the last slot there is none
 past_word : (h : Grammar) (es : List (ℕ × Common)) (n begin slot : ℕ) → n ≤ slot → word_at (print_kids h (in_order n begin es)) slot ≡ []
 past_word h es zero begin slot le = refl
@@ -83,9 +88,9 @@ Prints h None w = w ≡ []
 Prints h (Some t) w = w ≡ print h t
 
 prints_at : (h : Grammar) (es : List (ℕ × Common)) (slot : ℕ) → IsNumbered (keys es) → (o : Option Common) → lookup slot es ≡ o → (slot < length es) ⊎ (length es ≤ slot) → Prints h o (word_at (print_kids h (children es)) slot)
-prints_at h es slot numbered None e (inl lt) = kids_word h es (length es) 0 slot lt ∙ ap (λ o. print h (child_of o)) e
+prints_at h es slot numbered None e (inl lt) = first_word h es slot lt ∙ ap (λ o. print h (child_of o)) e
 prints_at h es slot numbered None e (inr le) = past_word h es (length es) 0 slot le
-prints_at h es slot numbered (Some t) e (inl lt) = kids_word h es (length es) 0 slot lt ∙ ap (λ o. print h (child_of o)) e
+prints_at h es slot numbered (Some t) e (inl lt) = first_word h es slot lt ∙ ap (λ o. print h (child_of o)) e
 prints_at h es slot numbered (Some t) e (inr le) =
     let lt = below es (length (keys es)) slot t numbered.below e in
     let long = length-keys es in

@@ -1,5 +1,5 @@
 -- The steps of productions are laid out one after another.
-use Rattle.std.proofs.Common.{◌≡◌, ℕ, zero, suc, add-one, drop-cons, None, ◌+◌, ◌-◌, ◌<◌, ◌≤◌, inl, inr, List, [], ◌∷◌, ◌++◌, length, map, take, drop, Some, refl, sym, ◌∙◌, ap, subst, arith, length-append}
+use Rattle.std.proofs.Common.{◌≡◌, ℕ, zero, suc, add-one, drop-cons, None, ◌+◌, ◌-◌, ◌<◌, ◌≤◌, inl, inr, List, [], ◌∷◌, ◌++◌, length, map, take, drop, Some, sym, ◌∙◌, ap, subst, arith, length-append}
 use Rattle.std.specs.Prelude.{slice_get, slice_range}
 use Rattle.std.proofs.lemmas.List.{drop_all, drop-append-le, drop-take, length-take, take-append-le, take_all}
 use Rattle.std.proofs.lemmas.Option.{get_or_from_slice_get, slice_get_within}
@@ -7,7 +7,7 @@ use Rattle.xs_class.proofs.Lists.{get_push, get_taken}
 use Rattle.xs_gram.specs.Grammar.{Grammar, items}
 use Rattle.xs_gram.specs.Common.{spelling}
 use Rattle.xs_text_out.specs.declared.pieces.Piece.{Piece}
-use Rattle.xs_text_out.specs.declared.pieces.Row.{Row}
+use Rattle.xs_table_out.specs.declared.steps.StepRow.{StepRow}
 use Rattle.xs_text_out.specs.Pieces.{pieces_word}
 use Rattle.xs_table_out.specs.declared.steps.Step.{Step}
 use Rattle.xs_table_out.specs.Steps.{AreStepRows, IsStepRow, step_of}
@@ -57,7 +57,7 @@ past_end all place end le =
     drop_all place (take end all) (omega (arith, long, le))
 
 -- a row stays as it is where the list goes on
-row_stays : (g h : Grammar) (text : List ℕ) (all more : List Step) (p : ℕ) (row : Row) → IsStepRow g h text all p row → IsStepRow g h text (all ++ more) p row
+row_stays : (g h : Grammar) (text : List ℕ) (all more : List Step) (p : ℕ) (row : StepRow) → IsStepRow g h text all p row → IsStepRow g h text (all ++ more) p row
 row_stays g h text all more p row is = record {
   there = let l = length-append all more in omega (arith, is.there, l);
   pieces = is.pieces;
@@ -66,9 +66,9 @@ row_stays g h text all more p row is = record {
 }
 
 -- one more row
-pub rows_push : (g h : Grammar) (text : List ℕ) (all new : List Step) (rows next : List Row) (begin end : ℕ) (pieces : List Piece) → AreStepRows g h text all rows → ((at : ℕ → List ℕ) → pieces_word text pieces at ≡ spelling h (items h (length rows)) at) → new ≡ all ++ map (step_of (items g (length rows))) pieces → begin ≡ length all → end ≡ length new → next ≡ rows ++ record { begin = begin; end = end } ∷ [] → AreStepRows g h text new next
+pub rows_push : (g h : Grammar) (text : List ℕ) (all new : List Step) (rows next : List StepRow) (begin end : ℕ) (pieces : List Piece) → AreStepRows g h text all rows → ((at : ℕ → List ℕ) → pieces_word text pieces at ≡ spelling h (items h (length rows)) at) → new ≡ all ++ map (step_of (items g (length rows))) pieces → begin ≡ length all → end ≡ length new → next ≡ rows ++ record { begin = begin; end = end } ∷ [] → AreStepRows g h text new next
 rows_push g h text all new rows next begin end pieces are prints new_is begin_is end_is next_is p row there =
-    let last : Row = record { begin = begin; end = end } in
+    let last : StepRow = record { begin = begin; end = end } in
     let more : List Step = map (step_of (items g (length rows))) pieces in
     let steps : drop begin (take end new) ≡ map (step_of (items g (length rows))) pieces =
     ap (drop begin) (take_all end new (omega (arith, end_is))) ∙ ap (drop begin) new_is ∙ drop-append-le begin all more (omega (arith, begin_is))
@@ -79,8 +79,8 @@ rows_push g h text all new rows next begin end pieces are prints new_is begin_is
       prints = prints;
       steps_are = steps;
     } in
-    let found : slice_get (rows ++ last ∷ []) p ≡ Some row = ap (λ (l : List Row). slice_get l p) (sym next_is) ∙ there in
+    let found : slice_get (rows ++ last ∷ []) p ≡ Some row = ap (λ (l : List StepRow). slice_get l p) (sym next_is) ∙ there in
     elim (get_push rows last row p found) [
       | inl old ↦ subst (λ (l : List Step). IsStepRow g h text l p row) (sym new_is) (row_stays g h text all more p row (are p row old))
-      | inr latest ↦ subst (λ (n : ℕ). IsStepRow g h text new n row) (sym latest.0) (subst (λ (r : Row). IsStepRow g h text new (length rows) r) latest.1 is_last)
+      | inr latest ↦ subst (λ (n : ℕ). IsStepRow g h text new n row) (sym latest.0) (subst (λ (r : StepRow). IsStepRow g h text new (length rows) r) latest.1 is_last)
     ]

@@ -1,22 +1,21 @@
 -- What is owed as a walk over a table goes on.
-use Rattle.std.proofs.Common.{◌≡◌, ℕ, suc, ◌+◌, ◌<◌, ◌≤◌, ◌⊎◌, inl, inr, List, [], ◌∷◌, ◌++◌, length, map, take, drop, Option, Some, None, refl, sym, ◌∙◌, ap, subst, arith, append_assoc, append-nil}
+use Rattle.std.proofs.Common.{◌≡◌, ℕ, ◌+◌, ◌≤◌, inl, inr, List, [], ◌∷◌, ◌++◌, map, take, Option, Some, None, refl, sym, ◌∙◌, ap, subst, arith, append_assoc, append-nil}
 use Rattle.std.specs.Prelude.{slice_get, slice_range}
 use Rattle.std.proofs.lemmas.List.{drop_all, length-take}
 use Rattle.xs_class.proofs.Lists.{some_inj}
-use Rattle.xs_gram.specs.Grammar.{Grammar, items, slots}
+use Rattle.xs_gram.specs.Grammar.{Grammar, items}
 use Rattle.xs_gram.specs.declared.parts.GItem.{GItem}
 use Rattle.xs_gram.specs.Derivations.{Parts, FitsItems, Derivation}
 use Rattle.xs_gram.specs.Common.{Common, made, children, lookup, named, print, strip}
 use Rattle.xs_gram.specs.Languages.{Derives}
 use Rattle.xs_gram.specs.Laws.{HasNumberedSlots, IsNumbered}
-use Rattle.xs_gram.proofs.Lookup.{keys}
 use Rattle.xs_gram.proofs.Entries.{keys_are}
 use Rattle.xs_parse_table.specs.declared.table.Node.{Node}
 use Rattle.xs_parse_table.specs.declared.table.ParseTable.{ParseTable}
 use Rattle.xs_parse_table.specs.Tables.{ArePartsAt, IsTreeOf}
 use Rattle.xs_text_out.specs.declared.pieces.Piece.{Piece}
-use Rattle.xs_text_out.specs.declared.pieces.Row.{Row}
-use Rattle.xs_text_out.specs.Pieces.{end_word, piece_word, pieces_word}
+use Rattle.xs_table_out.specs.declared.steps.StepRow.{StepRow}
+use Rattle.xs_text_out.specs.Pieces.{end_word, pieces_word}
 use Rattle.xs_table_out.specs.declared.children.Begin.TheVariants.{Here}
 use Rattle.xs_table_out.specs.declared.children.Child.{Child}
 use Rattle.xs_table_out.specs.declared.children.Child.TheVariants as C
@@ -24,7 +23,7 @@ use Rattle.xs_table_out.specs.declared.steps.Step.{Step}
 use Rattle.xs_table_out.specs.declared.steps.Steps.{Steps}
 use Rattle.xs_table_out.specs.declared.walk.Task.{Task}
 use Rattle.xs_table_out.specs.Steps.{AreSteps, slot_child, step_of}
-use Rattle.xs_table_out.specs.Walk.{AreOwed, IsAside, IsChildTask, IsDone, IsEntered, IsLastTask, IsOwed, IsTaskOf, next_task, rest_steps, slots_of}
+use Rattle.xs_table_out.specs.Walk.{AreOwed, IsAside, IsDone, IsEntered, IsLastTask, IsOwed, IsTaskOf, next_task, rest_steps, slots_of}
 use Rattle.xs_table_out.specs.Writing.{Writes}
 use Rattle.xs_table_out.proofs.Finding.{Finds, Prints, finds, prints}
 
@@ -44,7 +43,7 @@ rest_same x y xs ys e = cc
 some_node : (x y : Node) → Some x ≡ Some y → x ≡ y
 some_node x y e = cc
 
-some_row : (x y : Row) → Some x ≡ Some y → x ≡ y
+some_row : (x y : StepRow) → Some x ≡ Some y → x ≡ y
 some_row x y e = cc
 
 -- the first of the steps that pieces are

@@ -4,7 +4,7 @@ use Rattle.xs_gram.specs.declared.parts.GItem.{GItem}
 use Rattle.xs_gram.specs.Grammar.{Grammar, items}
 use Rattle.xs_gram.specs.Common.{spelling}
 use Rattle.xs_text_out.specs.declared.pieces.Piece.{Piece}
-use Rattle.xs_text_out.specs.declared.pieces.Row.{Row}
+use Rattle.xs_table_out.specs.declared.steps.StepRow.{StepRow}
 use Rattle.xs_text_out.specs.Pieces.{pieces_word}
 use Rattle.xs_table_out.specs.declared.children.Begin.TheVariants.{Here}
 use Rattle.xs_table_out.specs.declared.children.Child.{Child}
@@ -23,15 +23,15 @@ abbrev pub step_of : List GItem → Piece → Step
 step_of is piece = record { begin = piece.begin; end = piece.end; child = slot_child is piece.slot }
 
 -- the steps of a production, which are pieces that print what it prints
-pub record IsStepRow (g h : Grammar) (text : List ℕ) (all : List Step) (production : ℕ) (row : Row) : Type 0 where
+pub record IsStepRow (g h : Grammar) (text : List ℕ) (all : List Step) (production : ℕ) (row : StepRow) : Type 0 where
   pub there : row.end ≤ length all
   pub pieces : List Piece
   pub prints : (at : ℕ → List ℕ) → pieces_word text pieces at ≡ spelling h (items h production) at
   pub steps_are : drop row.begin (take row.end all) ≡ map (step_of (items g production)) pieces
 
 -- the rows of the first productions
-abbrev pub AreStepRows : Grammar → Grammar → List ℕ → List Step → List Row → Type 0
-AreStepRows g h text all rows = (production : ℕ) (row : Row) → slice_get rows production ≡ Some row → IsStepRow g h text all production row
+abbrev pub AreStepRows : Grammar → Grammar → List ℕ → List Step → List StepRow → Type 0
+AreStepRows g h text all rows = (production : ℕ) (row : StepRow) → slice_get rows production ≡ Some row → IsStepRow g h text all production row
 
 -- the steps of all productions
 abbrev pub AreSteps : Grammar → Grammar → Steps → Type 0

@@ -7,7 +7,7 @@ use Rattle.xs_parse_table.specs.declared.table.Node.{Node}
 use Rattle.xs_parse_table.specs.declared.table.ParseTable.{ParseTable}
 use Rattle.xs_parse_table.specs.Tables.{ArePartsAt}
 use Rattle.xs_text_out.specs.declared.pieces.Piece.{Piece}
-use Rattle.xs_text_out.specs.declared.pieces.Row.{Row}
+use Rattle.xs_table_out.specs.declared.steps.StepRow.{StepRow}
 use Rattle.xs_text_out.specs.Pieces.{pieces_word}
 use Rattle.xs_table_out.specs.declared.children.Begin.{Begin}
 use Rattle.xs_table_out.specs.declared.children.Begin.TheVariants.{Here, AfterWord, AfterNode}
@@ -48,13 +48,13 @@ pub record IsWordAt (doc : List ℕ) (nodes : List Node) (parts : List ℕ) (tas
   pub is : word ≡ slice_range doc at to
 
 -- the task is to print the node
-pub record IsTaskOf (rows : List Row) (node : Node) (task : Task) : Type 0 where
-  pub row : Row
+pub record IsTaskOf (rows : List StepRow) (node : Node) (task : Task) : Type 0 where
+  pub row : StepRow
   pub there : slice_get rows node.production ≡ Some row
   pub is : task ≡ record { parts = node.parts; from = node.from; place = row.begin; end = row.end }
 
 -- the task is to print the node of a part
-pub record IsChildTask (rows : List Row) (nodes : List Node) (parts : List ℕ) (task : Task) (part : ℕ) (child : Task) : Type 0 where
+pub record IsChildTask (rows : List StepRow) (nodes : List Node) (parts : List ℕ) (task : Task) (part : ℕ) (child : Task) : Type 0 where
   pub number : ℕ
   pub numbered : slice_get parts (task.parts + part) ≡ Some number
   pub node : Node
@@ -62,7 +62,7 @@ pub record IsChildTask (rows : List Row) (nodes : List Node) (parts : List ℕ) 
   pub task_is : IsTaskOf rows node child
 
 -- the task is to print the last node
-pub record IsLastTask (rows : List Row) (nodes : List Node) (task : Task) : Type 0 where
+pub record IsLastTask (rows : List StepRow) (nodes : List Node) (task : Task) : Type 0 where
   pub root : ℕ
   pub last : suc root ≡ length nodes
   pub node : Node
@@ -84,7 +84,7 @@ IsDone doc nodes parts task text old new (C.Word begin part) = (word : List ℕ)
 IsDone doc nodes parts task text old new (C.Node part) = ⊥
 
 -- the text of a step is written, and the node at its slot is to be printed
-abbrev pub IsEntered : List Row → List Node → List ℕ → Task → List ℕ → (List ℕ → List ℕ) → (List ℕ → List ℕ) → Child → Task → Type 0
+abbrev pub IsEntered : List StepRow → List Node → List ℕ → Task → List ℕ → (List ℕ → List ℕ) → (List ℕ → List ℕ) → Child → Task → Type 0
 IsEntered rows nodes parts task text old new C.Nothing child = ⊥
 IsEntered rows nodes parts task text old new (C.Word begin part) child = ⊥
 IsEntered rows nodes parts task text old new (C.Node part) child = IsChildTask rows nodes parts task part child × Writes old new text

@@ -14,7 +14,8 @@ mod symbols;
 mod walk;
 mod writer;
 
-pub use steps::{Step, Steps, steps_of};
+pub use children::child_at;
+pub use steps::{Step, StepRow, Steps};
 pub use symbols::print_table;
 pub use walk::write_table;
 pub use writer::Writer;

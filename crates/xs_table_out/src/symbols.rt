@@ -1,9 +1,9 @@
-ghost use Rattle.std.specs.Prelude.{◌≡◌, ◌+◌, ◌≤◌, ◌++◌, length, vec_len, vec_capacity, IfOk, IfSome, OnOk};
+ghost use Rattle.std.specs.Prelude.{◌≡◌, ◌+◌, ◌≤◌, ◌++◌, length, slice_get, vec_len, vec_capacity, IfOk, IfSome, OnOk};
 ghost use Rattle.xs_gram.specs.{Derivation, Derives, IsBuilt, print, strip};
 ghost use Rattle.xs_parse_table.specs.{IsTreeOf};
 ghost use Rattle.xs_table_out.specs.Steps.{AreSteps};
 
-use crate::steps::Steps;
+use crate::steps::{Step, Steps};
 use crate::stretch::stretch;
 use crate::walk::write_table;
 use crate::writer::Writer;
@@ -40,7 +40,16 @@ fn append(list: &mut Vec<Sym>, word: &[Sym]) -> Result<(), Memory>
     Ok(())
 }
 
+/// The step of this number.
+#[inline(always)]
+fn step_at(all: &[Step], number: usize) -> Option<Step>
+    ensures { result ≡ slice_get all.now number }
+{
+    all.get(number).copied()
+}
+
 /// A word that is written as symbols.
+#[derive(Drop)]
 struct Symbols<'s> {
     steps: &'s Steps,
     all: Vec<Sym>,
@@ -56,7 +65,7 @@ impl Writer for Symbols<'_> {
 
     #[inline(always)]
     fn put_text(&mut self, number: usize) -> Result<bool, Memory> {
-        let Some(step) = self.steps.all.get(number) else {
+        let Some(step) = step_at(&self.steps.all, number) else {
             return Ok(true);
         };
         let Some(text) = stretch(&self.steps.text, step.begin, step.end) else {

@@ -6,14 +6,13 @@ ghost use Rattle.xs_table_out.specs.Writing.{Writes};
 ghost use Rattle.xs_table_out.specs.Walk.{begin_of, rest_steps, next_task, IsWordAt, IsTaskOf, IsChildTask, IsLastTask, IsPrinted, AreOwed, IsGone, IsAside};
 
 use crate::children::{Begin, Child};
-use crate::steps::{Step, Steps};
+use crate::steps::{Step, StepRow, Steps};
 use crate::stretch::stretch;
 use crate::writer::Writer;
 use std::alloc::Global;
 use xs_class::{Memory, Sym};
 use xs_gram::Gram;
 use xs_parse_table::{Node, ParseTable};
-use xs_text_out::Row;
 
 /// A node that is being printed: the number of its first part, where it begins in the document, and
 /// the steps from one place up to another that are still to be done.
@@ -76,7 +75,7 @@ fn word_at<'d>(
 
 /// The task to print a node.
 #[inline(always)]
-fn task_of(rows: &[Row], node: Node) -> Option<Task>
+fn task_of(rows: &[StepRow], node: Node) -> Option<Task>
     ensures { IfSome result (IsTaskOf rows.now node) }
 {
     let row = rows.get(node.production as usize)?;
@@ -90,7 +89,7 @@ fn task_of(rows: &[Row], node: Node) -> Option<Task>
 
 /// The task to print a node's child.
 #[inline(always)]
-fn child_task(rows: &[Row], nodes: &[Node], parts: &[u32], task: Task, part: u32) -> Option<Task>
+fn child_task(rows: &[StepRow], nodes: &[Node], parts: &[u32], task: Task, part: u32) -> Option<Task>
     ensures { IfSome result (IsChildTask rows.now nodes.now parts.now task part) }
 {
     let number = part_at(parts, task.parts, part)?;
@@ -236,7 +235,7 @@ fn go_on<W: Writer>(
 }
 
 /// The task to print the last node.
-fn root_task(rows: &[Row], nodes: &[Node]) -> Option<Task>
+fn root_task(rows: &[StepRow], nodes: &[Node]) -> Option<Task>
     ensures { IfSome result (IsLastTask rows.now nodes.now) }
 {
     let count = nodes.len();

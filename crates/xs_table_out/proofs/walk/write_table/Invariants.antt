@@ -1,4 +1,3 @@
-use Rattle.std.proofs.Common.{◌≡◌, List, ℕ}
 use Rattle.xs_gram.specs.Common.{print, strip}
 use Rattle.xs_gram.specs.Derivations.{Derivation}
 use Rattle.xs_gram.specs.Languages.{Derives}
