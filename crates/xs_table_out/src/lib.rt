@@ -8,13 +8,14 @@
 #![tactic(auto)]
 
 mod children;
+mod layout;
 mod steps;
 mod stretch;
 mod symbols;
 mod walk;
 mod writer;
 
-pub use children::child_at;
+pub use layout::steps_of;
 pub use steps::{Step, StepRow, Steps};
 pub use symbols::print_table;
 pub use walk::write_table;
