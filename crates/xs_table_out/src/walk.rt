@@ -89,7 +89,13 @@ fn task_of(rows: &[StepRow], node: Node) -> Option<Task>
 
 /// The task to print a node's child.
 #[inline(always)]
-fn child_task(rows: &[StepRow], nodes: &[Node], parts: &[u32], task: Task, part: u32) -> Option<Task>
+fn child_task(
+    rows: &[StepRow],
+    nodes: &[Node],
+    parts: &[u32],
+    task: Task,
+    part: u32,
+) -> Option<Task>
     ensures { IfSome result (IsChildTask rows.now nodes.now parts.now task part) }
 {
     let number = part_at(parts, task.parts, part)?;
