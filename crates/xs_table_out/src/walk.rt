@@ -132,7 +132,9 @@ fn print_step<W: Writer>(
     let Some(text) = stretch(&steps.text, step.begin, step.end) else {
         return Ok(Printed::Wrong);
     };
-    out.put(text)?;
+    if !text.is_empty() {
+        out.put_text(task.place, text)?;
+    }
     match step.child {
         Child::Nothing => Ok(Printed::Done),
         Child::Word { begin, part } => match word_at(doc, nodes, parts, task, begin, part) {

@@ -1,15 +1,16 @@
 ghost use Rattle.std.specs.Prelude.{◌≡◌, ◌+◌, ◌≤◌, ◌++◌, ℕ, List, length, vec_len, vec_capacity, OnOk};
 
 use xs_class::{Memory, Sym};
+use xs_xml_out::{TextOut, XmlOut};
 
 /// What a word is written to, stretch by stretch.
 pub trait Writer {
     /// All that it will have written once this word is written too.
     ghost whole: { Self → List ℕ → List ℕ };
 
-    /// Writes a stretch next.
-    fn put(&mut self, stretch: &[Sym]) -> Result<(), Memory>
-        ensures { OnOk result ((rest : List ℕ) → whole self.new rest ≡ whole self.old (stretch.now ++ rest)) };
+    fn put_text(&mut self, number: usize, stretch: &[Sym]) -> Result<(), Memory>;
+
+    fn put(&mut self, stretch: &[Sym]) -> Result<(), Memory>;
 }
 
 /// Up to that many symbols are appended one by one: a copy of memory costs more to begin.
@@ -44,7 +45,40 @@ impl Writer for Vec<Sym> {
     ghost whole = { λ list rest. list.items ++ rest };
 
     #[inline(always)]
+    fn put_text(&mut self, _number: usize, stretch: &[Sym]) -> Result<(), Memory> {
+        append(self, stretch)
+    }
+
+    #[inline(always)]
     fn put(&mut self, stretch: &[Sym]) -> Result<(), Memory> {
         append(self, stretch)
+    }
+}
+
+impl Writer for XmlOut<'_> {
+    ghost whole = { λ out rest. rest };
+
+    #[inline(always)]
+    fn put_text(&mut self, number: usize, _stretch: &[Sym]) -> Result<(), Memory> {
+        XmlOut::put_text(self, number)
+    }
+
+    #[inline(always)]
+    fn put(&mut self, stretch: &[Sym]) -> Result<(), Memory> {
+        self.put_word(stretch)
+    }
+}
+
+impl Writer for TextOut<'_> {
+    ghost whole = { λ out rest. rest };
+
+    #[inline(always)]
+    fn put_text(&mut self, number: usize, _stretch: &[Sym]) -> Result<(), Memory> {
+        TextOut::put_text(self, number)
+    }
+
+    #[inline(always)]
+    fn put(&mut self, stretch: &[Sym]) -> Result<(), Memory> {
+        self.put_word(stretch)
     }
 }

@@ -16,7 +16,7 @@ use xs_class::{Bytes, Memory, Side, Word};
 use xs_gram::{printed_has_tree, prints_normal};
 use xs_pair::Two;
 use xs_tree::Tree;
-use xs_turn::{Translated, rewrite, translate};
+use xs_turn::{Translated, guessed_bytes, rewrite, translate};
 
 /// The document of a tree's print.
 pub fn written(
@@ -92,6 +92,11 @@ pub fn turned_document(
 {
     prints_normal();
     let doc = read_document(alloc, from, form, two.names(), bytes)?;
+    if let Form::AsIs = form {
+        if let Some(bytes) = guessed_bytes(alloc, two.gram(from), two.gram(to), to, two.names(), &doc)? {
+            return Ok(bytes);
+        }
+    }
     let word = rewrite(alloc, two, from, to, &doc)?;
     let document = written_word(alloc, two, to, &word)?;
     Ok(document)

@@ -7,7 +7,8 @@ ghost use Rattle.xs_tree.specs.{common_of};
 use crate::table::tree_of;
 use std::alloc::Global;
 use xs_atoms::Atoms;
-use xs_class::{Memory, Word};
+use xs_class::{Bytes, Memory, Names, Side, Word};
+use xs_xml_out::{Rendered, Spelled, TextOut, XmlOut};
 use xs_gram::Gram;
 use xs_lr::{PADDING, read};
 use xs_parse_table::{ParseTable, Validator};
@@ -68,5 +69,51 @@ pub fn guessed_word(
         Ok(Some(Word::from_vec(symbols)))
     } else {
         Ok(None)
+    }
+}
+
+fn xml_of(alloc: Global, from: &Gram, to: &Gram, names: &Names, doc: &Word, table: &ParseTable) -> Result<Option<Bytes>, Memory> {
+    let steps = steps_of(alloc, from, to, pieces_of(alloc, to)?)?;
+    let mut rendered = Rendered::new(alloc, names)?;
+    'steps: for step in &steps.all {
+        rendered.push(&steps.text[step.begin..step.end])?;
+    }
+    let mut out = XmlOut::new(alloc, &rendered, doc.len().saturating_mul(5))?;
+    if write_table(alloc, from, to, &steps, doc.as_slice(), table, &mut out)? {
+        Ok(Some(out.finish()?))
+    } else {
+        Ok(None)
+    }
+}
+
+fn text_of(alloc: Global, from: &Gram, to: &Gram, doc: &Word, table: &ParseTable) -> Result<Option<Bytes>, Memory> {
+    let steps = steps_of(alloc, from, to, pieces_of(alloc, to)?)?;
+    let mut spelled = Spelled::new(alloc);
+    'steps: for step in &steps.all {
+        spelled.push(&steps.text[step.begin..step.end])?;
+    }
+    let mut out = TextOut::new(alloc, &spelled, doc.len().saturating_mul(2))?;
+    if write_table(alloc, from, to, &steps, doc.as_slice(), table, &mut out)? {
+        Ok(Some(out.finish()))
+    } else {
+        Ok(None)
+    }
+}
+
+/// The bytes.
+pub fn guessed_bytes(
+    alloc: Global,
+    from: &Gram,
+    to: &Gram,
+    side: Side,
+    names: &Names,
+    doc: &Word,
+) -> Result<Option<Bytes>, Memory> {
+    let Some(table) = table_of(alloc, from, doc)? else {
+        return Ok(None);
+    };
+    match side {
+        Side::Xml => xml_of(alloc, from, to, names, doc, &table),
+        Side::Text => text_of(alloc, from, to, doc, &table),
     }
 }

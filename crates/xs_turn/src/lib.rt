@@ -16,6 +16,7 @@ mod translating;
 mod turning;
 
 pub use fault::TurnFault;
+pub use guess::guessed_bytes;
 pub use laws::stripped_fits;
 pub use translating::{Translated, rewrite, translate};
 pub use turning::{Turned, forest_of, turn};

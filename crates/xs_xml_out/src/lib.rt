@@ -7,12 +7,16 @@
 //! tag, and one line feed after the root.
 #![tactic(auto)]
 
+mod direct;
 mod kind;
 mod law;
 mod mode;
+mod plain;
 mod spelling;
 mod tags;
 mod write;
 
+pub use direct::{Rendered, XmlOut};
+pub use plain::{Spelled, TextOut};
 pub use law::xml_is_read_back;
 pub use write::write_xml;
