@@ -14,7 +14,6 @@ mod pair;
 mod reach;
 mod search;
 mod seeds;
-mod shape;
 mod tail;
 
 pub use pair::Pair;

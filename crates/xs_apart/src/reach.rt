@@ -1,122 +1,136 @@
-ghost use Rattle.std.specs.Prelude.{◌≡◌, ◌<◌, true, IfOk, OnOk};
-ghost use Rattle.std.specs.List.{All};
-ghost use Rattle.xs_apart.specs.Arcs.{Slips, Steps, Goes, Joins, HasAll, IsClosedWithin, IsFor};
-ghost use Rattle.xs_coarse.specs.declared.arc.Arc.{Arc as AnyArc};
-ghost use Rattle.xs_apart.specs.Found.{Fits, IsInside, IsMore};
-ghost use Rattle.xs_apart.specs.Sets.{IsShut};
-
 use crate::found::Found;
 use crate::pair::Pair;
 use xs_class::Memory;
-use xs_coarse::{Arc, Coarse, Labels};
+use xs_coarse::{Flat, Labels, Leg};
 
 impl Found {
-    /// Visits the targets of an arc and of each other arc with which it may read a common word.
-    fn visit_partners(&mut self, labels: &Labels, arc: Arc, others: &[Arc]) -> Result<(), Memory>
-        requires { Fits self.old }
-        ensures more { IsMore self.old self.new }
-        ensures ok { OnOk result (All (Joins labels.now self.new arc) others.now) }
-    {
-        if arc.label == 0 {
+    /// Adds where two states' arcs lead that may read a common word.
+    #[inline(always)]
+    fn join(&mut self, labels: &Labels, second: &Flat, arcs: &[Leg], b: u32) -> Result<(), Memory> {
+        let own = second.own(b);
+        let others = second.reads(b);
+        'arcs: for x in arcs {
+            if labels.wants(x.label) & own != 0 {
+                'others: for y in others {
+                    if labels.meet(x.label, y.label) {
+                        self.visit(second, x.to, y.to)?;
+                    }
+                }
+            }
+        }
+        Ok(())
+    }
+
+    /// Adds where arcs lead from a state, beside those states of a word whose arcs may read a common
+    /// word with them.
+    #[inline(always)]
+    pub fn join_word(&mut self, labels: &Labels, first: &Flat, second: &Flat, row: u32, place: usize, word: u64) -> Result<(), Memory> {
+        let arcs = first.reads(row);
+        let wants = first.wants(row);
+        let mut left = word & second.readers(place);
+        'states: while left != 0 {
+            let b = place as u32 * 64 + left.trailing_zeros();
+            left = left & (left - 1);
+            if wants & second.own(b) != 0 {
+                self.join(labels, second, arcs, b)?;
+            }
+        }
+        Ok(())
+    }
+
+    /// Goes on from the new pairs of a word of a row.
+    #[inline(always)]
+    fn go_word(&mut self, labels: &Labels, first: &Flat, second: &Flat, row: u32, place: usize, steps: bool) -> Result<(), Memory> {
+        let at = row as usize * self.step + place;
+        let fresh = self.fresh[at];
+        if fresh == 0 {
             return Ok(());
         }
-        self.visit_each(
-            others,
-            |x: Arc| labels
-                .meet(arc.label, x.label)
-                .then_some(Pair::new(arc.to, x.to)),
-        )?;
-        Ok(())
-    }
-
-    /// Visits the targets of each two arcs that may read a common word.
-    fn visit_boths(&mut self, labels: &Labels, arcs: &[Arc], others: &[Arc]) -> Result<(), Memory>
-        requires { Fits self.old }
-        ensures more { IsMore self.old self.new }
-        ensures ok { OnOk result (All (λ (x : AnyArc). All (Joins labels.now self.new x) others.now) arcs.now) }
-    {
-        'arcs: for arc in arcs {
-            self.visit_partners(labels, *arc, others)?;
+        self.fresh[at] = 0;
+        'moves: for to in first.moves(row) {
+            if to.to < self.height {
+                self.put(to.to, place, fresh);
+            }
+        }
+        if steps {
+            self.join_word(labels, first, second, row, place, fresh)?;
         }
         Ok(())
     }
 
-    /// Visits the pairs to which an arc of either net that reads nothing leads from a pair.
-    fn slip(&mut self, first: &Coarse, second: &Coarse, at: Pair) -> Result<(), Memory>
-        requires fits { Fits self.old }
-        requires at { IsInside first.now.states second.now.states at }
-        ensures more { IsMore self.old self.new }
-        ensures ok { OnOk result (HasAll (Slips first.now second.now) at.first at.second self.new) }
-    {
-        self.visit_each(
-            first.row(at.first),
-            |x: Arc| (x.label == 0).then_some(Pair::new(x.to, at.second)),
-        )?;
-        self.visit_each(
-            second.row(at.second),
-            |x: Arc| (x.label == 0).then_some(Pair::new(at.first, x.to)),
-        )?;
+    /// Goes on from the new pairs of a row.
+    fn go_row(&mut self, labels: &Labels, first: &Flat, second: &Flat, row: u32, steps: bool) -> Result<(), Memory> {
+        let mut left = self.dirty[row as usize];
+        self.dirty[row as usize] = 0;
+        let reads = steps && !first.reads(row).is_empty();
+        'folds: while left != 0 {
+            let mut place = left.trailing_zeros() as usize;
+            left = left & (left - 1);
+            'places: while place < self.step {
+                self.go_word(labels, first, second, row, place, reads)?;
+                place += 64;
+            }
+        }
         Ok(())
     }
 
-    /// Visits the pairs to which arcs of both nets that may read a common word lead from a pair.
-    pub fn step(
-        &mut self,
-        labels: &Labels,
-        first: &Coarse,
-        second: &Coarse,
-        at: Pair,
-    ) -> Result<(), Memory>
-        requires fits { Fits self.old }
-        requires at { IsInside first.now.states second.now.states at }
-        ensures more { IsMore self.old self.new }
-        ensures ok { OnOk result (HasAll (Steps labels.now first.now second.now) at.first at.second self.new) }
-    {
-        self.visit_boths(labels, first.row(at.first), second.row(at.second))?;
-        Ok(())
-    }
-
-    /// Adds all pairs to which the pairs lead. Answers false as soon as it comes to the goal.
-    pub fn close(
-        &mut self,
-        labels: &Labels,
-        first: &Coarse,
-        second: &Coarse,
-        goal: Pair,
-    ) -> Result<bool, Memory>
-        requires nets { IsFor first.now second.now self.old }
-        requires fits { Fits self.old }
-        ensures more { IsMore self.old self.new }
-        ensures ok { IfOk result (λ closed. closed ≡ true → IsShut (Goes labels.now first.now second.now) goal self.new.height self.new.width self.new.pairs.items) }
-    {
-        'places: for place in 0..usize::MAX {
-            if place >= self.pairs.len() {
+    /// Goes on from the new pairs of 64 rows until there are none. Answers false as soon as it comes to
+    /// the goal.
+    fn go_line(&mut self, labels: &Labels, first: &Flat, second: &Flat, line: usize, goal: Pair, steps: bool) -> Result<bool, Memory> {
+        'rows: for _ in 0..usize::MAX {
+            let left = self.waiting[line];
+            if left == 0 {
                 return Ok(true);
             }
-            let at = self.pairs[place];
-            if at == goal {
+            self.waiting[line] = left & (left - 1);
+            self.go_row(labels, first, second, line as u32 * 64 + left.trailing_zeros(), steps)?;
+            if self.has(goal.first, goal.second) {
                 return Ok(false);
             }
-            self.slip(first, second, at)?;
-            self.step(labels, first, second, at)?;
         }
         Ok(false)
     }
 
-    /// Adds all pairs to which the pairs lead by arcs that read nothing.
-    pub fn close_slips(&mut self, first: &Coarse, second: &Coarse) -> Result<bool, Memory>
-        requires nets { IsFor first.now second.now self.old }
-        requires fits { Fits self.old }
-        ensures more { IsMore self.old self.new }
-        ensures ok { IfOk result (λ closed. closed ≡ true → IsClosedWithin (Slips first.now second.now) self.new.height self.new.width self.new.pairs.items) }
-    {
-        'places: for place in 0..usize::MAX {
-            if place >= self.pairs.len() {
+    fn sweep(&mut self, labels: &Labels, first: &Flat, second: &Flat, goal: Pair, steps: bool) -> Result<bool, Memory> {
+        let lines = (self.height as usize + 63) / 64;
+        'lines: for line in 0..lines {
+            if !self.go_line(labels, first, second, line, goal, steps)? {
+                return Ok(false);
+            }
+        }
+        Ok(true)
+    }
+
+    fn waits(&self) -> bool {
+        let lines = (self.height as usize + 63) / 64;
+        'lines: for line in 0..lines {
+            if self.waiting[line] != 0 {
+                return true;
+            }
+        }
+        false
+    }
+
+    fn close_by(&mut self, labels: &Labels, first: &Flat, second: &Flat, goal: Pair, steps: bool) -> Result<bool, Memory> {
+        if self.has(goal.first, goal.second) {
+            return Ok(false);
+        }
+        'sweeps: for _ in 0..usize::MAX {
+            if !self.sweep(labels, first, second, goal, steps)? {
+                return Ok(false);
+            }
+            if !self.waits() {
                 return Ok(true);
             }
-            let at = self.pairs[place];
-            self.slip(first, second, at)?;
         }
         Ok(false)
+    }
+
+    pub fn close(&mut self, labels: &Labels, first: &Flat, second: &Flat, goal: Pair) -> Result<bool, Memory> {
+        self.close_by(labels, first, second, goal, true)
+    }
+
+    pub fn close_slips(&mut self, labels: &Labels, net: &Flat) -> Result<bool, Memory> {
+        self.close_by(labels, net, net, Pair::new(u32::MAX, u32::MAX), false)
     }
 }

@@ -150,10 +150,11 @@ impl Screen {
         let Some(top) = last_doubted(doubts, part, cover) else {
             return Ok(());
         };
-        let Some(doubles) = self.search.doubles(&self.labels, &cover.net, top)? else {
+        let Some(doubles) = self.search.doubles(&self.labels, &cover.flat, top)? else {
             return Ok(());
         };
         self.clear_cuts(g, part, cover, Some(&doubles), doubts)?;
+        self.search.give_back(doubles);
         Ok(())
     }
 
@@ -248,13 +249,13 @@ fn is_seen_clear(
     ensures { IfOk result (λ b. b ≡ true → AreClear (MayCall labels.now) (view labels.now cover.now.net 0 here) (view labels.now cover.now.net here cover.now.last)) }
 {
     if let Some(doubles) = doubles {
-        return search.clear(labels, &cover.net, doubles, here, cover.last);
+        return search.clear(labels, &cover.flat, doubles, here, cover.last);
     }
-    let rest = cover.net.len() - here;
+    let rest = cover.flat.len() - here;
     if rest > LONGEST_END || here.saturating_sub(gate) > LONGEST_END {
         return Ok(false);
     }
-    search.clear_ends(labels, &cover.net, gate, here, cover.last)
+    search.clear_ends(labels, &cover.flat, gate, here, cover.last)
 }
 
 /// Whether a part has all spread items of its rule.
@@ -269,7 +270,7 @@ fn is_whole(g: &Gram, part: &Part) -> bool
 fn is_inner(part: &Part, cover: &Cover, outer: Outer) -> bool
     ensures { result ≡ true → outer.state < cover.now.net.states }
 {
-    outer.place > part.start && outer.place < part.end && outer.state < cover.net.len()
+    outer.place > part.start && outer.place < part.end && outer.state < cover.flat.len()
 }
 
 /// The state of the last place inside a part that is still in doubt.
