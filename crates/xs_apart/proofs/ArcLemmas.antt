@@ -1,5 +1,5 @@
 -- How the arcs that two states have lead from their pair, and how the views of the nets do.
-use Rattle.std.proofs.Common.{◌≡◌, ℕ, List, ap, subst, ◌∙◌, inl, inr, arith}
+use Rattle.std.proofs.Common.{◌≡◌, ℕ, List, refl, ap, subst, ◌∙◌, inl, inr, arith}
 use Rattle.std.specs.List.{All, Contains}
 use Rattle.std.proofs.lemmas.List.Elements.{All-contains}
 use Rattle.xs_class.specs.Classes.{Has}
@@ -8,8 +8,11 @@ use Rattle.xs_coarse.specs.declared.arc.Arc.{Arc}
 use Rattle.xs_coarse.specs.Coarse.{Table, Net, IsTable, MayCall, HasArc, class_label, group_label, may_meet, view}
 use Rattle.xs_coarse.proofs.Views.{view_move_arc, view_edge_arc, view_call_arc}
 use Rattle.xs_apart.specs.declared.found.Found.{Found}
-use Rattle.xs_apart.specs.Arcs.{Slips, Steps, Goes, HasFound, HasTarget, Joins, HasAll}
-use Rattle.xs_apart.proofs.Walks.{first_target, second_target}
+use Rattle.xs_closed.specs.declared.moves.Moves.{Moves}
+use Rattle.xs_closed.specs.declared.moves.Moves.TheVariants.{Empty, Every}
+use Rattle.xs_apart.specs.Arcs.{SlipsFirst, SlipsSecond, Slips, Steps, Goes, GoesBy, GoesOn, HasTarget, HasWord, Joins, HasAll}
+use Rattle.xs_apart.specs.Found.{InWord}
+use Rattle.xs_apart.proofs.Walks.{second_target}
 
 -- an arc of a net
 abbrev pub arc : ℕ → ℕ → ℕ → Arc
@@ -19,12 +22,15 @@ arc a label b = record { from = a; label = label; to = b }
 abbrev pub HasRow : Net → ℕ → List Arc → Type 0
 HasRow n a row = (label b : ℕ) → HasArc n a label b → Contains row (arc a label b)
 
--- the targets of arcs that read nothing were visited beside the other state
-pub slips_on : (m n : Net) (a b : ℕ) (f g : Found) (row other : List Arc) → HasRow m a row → HasRow n b other → ((c d : ℕ) → HasFound f c d → HasFound g c d) → All (λ x. HasTarget f (first_target b x)) row → All (λ y. HasTarget g (second_target a y)) other → HasAll (Slips m n) a b g
-slips_on m n a b f g row other rows others more firsts seconds c d (inl x) =
-    rw x.still (more c b (All-contains (λ x. HasTarget f (first_target b x)) row (arc a 0 c) firsts (rows 0 c x.arc)))
-slips_on m n a b f g row other rows others more firsts seconds c d (inr y) =
-    rw y.still (All-contains (λ y. HasTarget g (second_target a y)) other (arc b 0 d) seconds (others 0 d y.arc))
+-- the targets of arcs of the second net that read nothing were visited beside the first state
+pub slips_on : (n : Net) (a b : ℕ) (f : Found) (other : List Arc) → HasRow n b other → All (λ y. HasTarget f (second_target a y)) other → HasAll (SlipsSecond n) a b f
+slips_on n a b f other others seconds c d y =
+    rw y.still (All-contains (λ y. HasTarget f (second_target a y)) other (arc b 0 d) seconds (others 0 d y.arc))
+
+-- those of arcs of the first net were, for the states of a word
+pub words_on : (m : Net) (a place word : ℕ) (f : Found) (row : List Arc) → HasRow m a row → All (λ (x : Arc). x.label ≡ 0 → HasWord f x.to place word) row → (b : ℕ) → InWord a place word a b → HasAll (SlipsFirst m) a b f
+words_on m a place word f row rows firsts b w c d x =
+    rw x.still (All-contains (λ (x : Arc). x.label ≡ 0 → HasWord f x.to place word) row (arc a 0 c) firsts (rows 0 c x.arc) refl b w.place w.bit)
 
 -- the targets of each two arcs that may read a common word were visited
 pub steps_on : (t : Table) (m n : Net) (a b : ℕ) (f : Found) (row other : List Arc) → HasRow m a row → HasRow n b other → All (λ x. All (Joins t f x) other) row → HasAll (Steps t m n) a b f
@@ -69,10 +75,21 @@ pub goes_of : (t : Table) (m n : Net) (s e u f a b c d : ℕ) → IsTable t → 
 goes_of t m n s e u f a b c d table (inl x) = inl (slips_of t m n s e u f a b c d x)
 goes_of t m n s e u f a b c d table (inr y) = inr (steps_of t m n s e u f a b c d table y)
 
--- and so on by both
-pub goes_on : (t : Table) (m n : Net) (a b : ℕ) (f g : Found) → ((c d : ℕ) → HasFound f c d → HasFound g c d) → HasAll (Slips m n) a b f → HasAll (Steps t m n) a b g → HasAll (Goes t m n) a b g
-goes_on t m n a b f g more slips steps c d (inl x) = more c d (slips c d x)
-goes_on t m n a b f g more slips steps c d (inr s) = steps c d s
+-- where arcs of the second net that read nothing lead, and those of both nets, if they count
+pub goes_on_empty : (t : Table) (m n : Net) (a b : ℕ) (f : Found) → HasAll (SlipsSecond n) a b f → HasAll (GoesOn Empty t m n) a b f
+goes_on_empty t m n a b f slips c d s = slips c d s
+
+pub goes_on_every : (t : Table) (m n : Net) (a b : ℕ) (f : Found) → HasAll (SlipsSecond n) a b f → HasAll (Steps t m n) a b f → HasAll (GoesOn Every t m n) a b f
+goes_on_every t m n a b f slips steps c d (inl x) = slips c d x
+goes_on_every t m n a b f slips steps c d (inr s) = steps c d s
+
+-- and those of the first net too
+pub goes_all : (moves : Moves) (t : Table) (m n : Net) (a b : ℕ) (f : Found) → HasAll (SlipsFirst m) a b f → HasAll (GoesOn moves t m n) a b f → HasAll (GoesBy moves t m n) a b f
+goes_all Empty t m n a b f firsts on c d (inl x) = firsts c d x
+goes_all Empty t m n a b f firsts on c d (inr y) = on c d y
+goes_all Every t m n a b f firsts on c d (inl (inl x)) = firsts c d x
+goes_all Every t m n a b f firsts on c d (inl (inr y)) = on c d (inl y)
+goes_all Every t m n a b f firsts on c d (inr s) = on c d (inr s)
 
 -- an arc that reads nothing reads no word with another
 pub none_reads : (t : Table) (f : Found) (x : Arc) (others : List Arc) → x.label ≡ 0 → All (Joins t f x) others

@@ -1,140 +1,262 @@
--- What the map of marks says of the pairs that were found.
-use Rattle.std.proofs.Common.{◌≡◌, ◌≢◌, ℕ, ◌+◌, ◌*◌, ◌/◌, ◌%◌, ◌^◌, ◌<◌, ◌≤◌, Bool, true, false, not, nat_eq, bit_and, List, [], ◌∷◌, ◌++◌, length, get_or, set, refl, sym, ap, subst, eqb-true, ◌∙◌, inl, inr, arith, slice_get, length-set, get_or-set_same, get_or-set_other}
-use Rattle.std.proofs.Math.Nat.{mul-le-mul_right}
+-- What one step of a search adds: a pair, or a word of pairs.
+use Rattle.std.proofs.Common.{◌≡◌, ℕ, zero, ◌+◌, ◌*◌, ◌/◌, ◌%◌, ◌<◌, ◌≤◌, ◌⊎◌, ◌||◌, ◌&&◌, not, nat_eq, Bool, true, false, List, length, get_or, set, refl, sym, ap, ◌∙◌, inl, inr, arith, eqb-true, length-set, get_or-set_same, get_or-set_other}
 use Rattle.std.specs.Int.{bit_at}
-use Rattle.std.specs.declared.option.Option.TheVariants.{Some}
-use Rattle.std.specs.List.{Contains}
-use Rattle.std.proofs.lemmas.Bool.{cases_eq, true≢false, true_from_ne_false}
-use Rattle.std.proofs.lemmas.List.Elements.{Contains-append_left, Contains-push, All-push, All-contains, All-same, All-nil}
+use Rattle.std.proofs.lemmas.Bool.{cases_eq, cases_lt, true≢false}
 use Rattle.std.proofs.lemmas.Nat.Bits.{bit_at-zero}
-use Rattle.std.proofs.lemmas.Option.{slice_get_within}
-use Rattle.xs_class.proofs.Lists.{some_same, get_of, one_cell}
-use Rattle.xs_auto.specs.Bits.{bit_of}
-use Rattle.xs_auto.proofs.BitLemmas.{bit_there, with_bit, fresh_bit}
-use Rattle.xs_apart.specs.declared.pair.Pair.{Pair}
+use Rattle.xs_class.proofs.Truth.{and_true, or_left, or_right, eq_self}
+use Rattle.xs_meet.proofs.PhaseLemmas.{either_true}
+use Rattle.xs_closed.specs.Rows.{Grid, marked, IsSized, Marks}
+use Rattle.xs_closed.specs.Lanes.{IsLane, JoinsLane, IsFreshLane, HasNoLane}
 use Rattle.xs_apart.specs.declared.found.Found.{Found}
-use Rattle.xs_coarse.specs.Coarse.{Net}
-use Rattle.xs_apart.specs.Arcs.{IsFor}
-use Rattle.xs_apart.specs.Found.{HasPair, IsInside, IsMore, IsEmpty, Fits, cell, pair}
+use Rattle.xs_apart.specs.Arcs.{HasWord, HasAll, IsGone}
+use Rattle.xs_apart.specs.Found.{HasPair, IsInside, IsMore, Keeps, Fits, Waits, DoesWait, Never, InWord, InRowFrom, pair}
+use Rattle.xs_apart.proofs.GrowthLemmas.{gone_more, gone_done, waits_more, more_keeps, keep_then, sized_inside}
 
--- the word of a pair's bit
-pub cell_word : (h w a b n : ℕ) → a < h → b < w → h * w ≤ 64 * n → (a * w + b) / 64 < n
-cell_word h w a b n la lb room =
-    let m : (a + 1) * w ≤ h * w = mul-le-mul_right w (omega arith) in
-    omega (arith, m)
-
--- a new pair is marked and added
-pub fits_new : (f g : Found) (p : Pair) → Fits f → IsInside f.height f.width p → g.height ≡ f.height → g.width ≡ f.width → g.pairs.items ≡ f.pairs.items ++ p ∷ [] → g.words.items ≡ with_bit f.words.items (cell f.width p) → Fits g
-fits_new f g p h within eh ew ep es = record {
-  room = rw (eh, ew, es, length-set) h.room;
-  inside = rw (eh, ew, ep) (All-push (IsInside f.height f.width) f.pairs.items p h.inside within);
-  known = λ c e. rw (ew, ep) (elim (cases_eq c (cell f.width p)) [
-    | inl same ↦ record { of = p; has = Contains-push f.pairs.items p; is = same }
-    | inr ne ↦
-        let low = cell_word f.height f.width p.first p.second (length f.words.items) within.first within.second h.room in
-        let k = h.known c (sym (bit_there f.words.items (cell f.width p) c low ne) ∙ (rw es at e)) in
-        record { of = k.of; has = Contains-append_left f.pairs.items (p ∷ []) k.of k.has; is = k.is }
-  ]);
-}
-
--- a pair that is marked was found
-pub found_marked : (f : Found) (a b : ℕ) → Fits f → b < f.width → bit_of f.words.items (a * f.width + b) ≡ true → HasPair f.pairs.items a b
-found_marked f a b h l e =
-    let k = h.known (a * f.width + b) e in
-    let i = All-contains (IsInside f.height f.width) f.pairs.items k.of h.inside k.has in
-    let s = one_cell f.width k.of.first k.of.second a b i.second l (sym k.is) in
-    let same : k.of ≡ pair a b = λ j. record { first = s.0 j; second = s.1 j } in
-    subst (λ (p : Pair). Contains f.pairs.items p) same k.has
-
--- a bit that the code does not find clear is set
-pub marked_unless : (words : List ℕ) (c : ℕ) → (bit_and (get_or words (c / 64) 0 / 2 ^ (c % 64)) 1 ≡ 0 → ⊥) → bit_of words c ≡ true
-marked_unless words c h = true_from_ne_false (bit_of words c) (λ e. h (eqb-true _ _ (fresh_bit (get_or words (c / 64) 0) (c % 64) ∙ ap not e)))
-
--- the cell is that of one of the pairs from place k on
-pub record IsCellFrom (width : ℕ) (ps : List Pair) (k c : ℕ) : Type 0 where
-  pub place : ℕ
-  pub from : k ≤ place
-  pub of : Pair
-  pub at : slice_get ps place ≡ Some of
-  pub is : c ≡ cell width of
-
--- only cells of pairs from place k on are marked
-abbrev pub AreMarkedFrom : ℕ → ℕ → List Pair → List ℕ → Type 0
-AreMarkedFrom k width ps words = (c : ℕ) → bit_of words c ≡ true → IsCellFrom width ps k c
-
-pub marked_from : (f : Found) → Fits f → AreMarkedFrom 0 f.width f.pairs.items f.words.items
-marked_from f h c e =
-    let k = h.known c e in
-    let at = get_of f.pairs.items k.of k.has in
-    record { place = at.0; from = omega arith; of = k.of; at = at.1; is = k.is }
-
--- in a word that was cleared no bit is set, and the others are as they were
-bit_wiped : (words : List ℕ) (q c : ℕ) → q < length words → bit_of (set words q 0) c ≡ true → (c / 64 ≢ q) × (bit_of words c ≡ true)
-bit_wiped words q c l e = elim (cases_eq (c / 64) q) [
-  | inl same ↦
-      let none : bit_of (set words q 0) c ≡ false = ap (λ i. nat_eq (bit_at (get_or (set words q 0) i 0) (c % 64)) 1) same ∙ ap (λ w. nat_eq (bit_at w (c % 64)) 1) (get_or-set_same words q 0 0 l) ∙ ap (λ b. nat_eq b 1) (bit_at-zero (c % 64)) in
-      absurd (true≢false (sym e ∙ none))
-  | inr ne ↦ (ne, sym (ap (λ w. nat_eq (bit_at w (c % 64)) 1) (get_or-set_other words q (c / 64) 0 0 ne)) ∙ e)
+-- a pair is that of a and b, or another one
+same_pair : (x y a b : ℕ) → ((x ≡ a) × (y ≡ b)) ⊎ (x ≡ a → y ≡ b → ⊥)
+same_pair x y a b = elim (cases_eq x a) [
+  | inl e ↦ elim (cases_eq y b) [
+    | inl f ↦ inl (e, f)
+    | inr ne ↦ inr (λ _ f. ne f)
+  ]
+  | inr ne ↦ inr (λ e _. ne e)
 ]
 
--- the word of the pair at place k was cleared
-pub marked_more : (k width : ℕ) (ps : List Pair) (words : List ℕ) (p : Pair) → slice_get ps k ≡ Some p → cell width p / 64 < length words → AreMarkedFrom k width ps words → AreMarkedFrom (k + 1) width ps (set words (cell width p / 64) 0)
-marked_more k width ps words p here low before c e =
-    let old = bit_wiped words (cell width p / 64) c low e in
-    let i = before c old.1 in
-    elim (cases_eq i.place k) [
-      | inl same ↦
-          let one : i.of ≡ p = some_same _ _ _ (rw same at i.at) here in
-          absurd (old.0 (ap (λ x. x / 64) (i.is ∙ ap (cell width) one)))
-      | inr ne ↦ record { place = i.place; from = omega (arith, i.from); of = i.of; at = i.at; is = i.is }
-    ]
+-- a pair is one of a lane of row a, or another one
+same_lane : (x y a place : ℕ) → ((x ≡ a) × (y / 64 ≡ place)) ⊎ ((x ≡ a) × (y / 64 ≡ place) → ⊥)
+same_lane x y a place = elim (cases_eq x a) [
+  | inl e ↦ elim (cases_eq (y / 64) place) [
+    | inl f ↦ inl (e, f)
+    | inr ne ↦ inr (λ p. ne p.1)
+  ]
+  | inr ne ↦ inr (λ p. ne p.0)
+]
 
--- no pair is left
-pub marked_none : (k width : ℕ) (ps : List Pair) (words : List ℕ) → length ps ≤ k → AreMarkedFrom k width ps words → (c : ℕ) → bit_of words c ≡ false
-marked_none k width ps words l marked c = false_unless (bit_of words c) (λ e.
-    let i = marked c e in
-    let within = slice_get_within ps i.place i.of i.at in
-    omega (arith, i.from))
-  where
-    false_unless : (b : Bool) → (b ≡ true → ⊥) → b ≡ false
-    false_unless true h = absurd (h refl)
-    false_unless false h = refl
+has_at : (z : Grid) (x y a b : ℕ) → x ≡ a → y ≡ b → HasPair z a b → HasPair z x y
+has_at z x y a b e f h = ap (λ k. marked z k y) e ∙ ap (marked z a) f ∙ h
 
--- words of zeros have no bit set
-pub blank_words : (words : List ℕ) → ((k : ℕ) → get_or words k 0 ≡ 0) → (c : ℕ) → bit_of words c ≡ false
-blank_words words h c = rw (h (c / 64), bit_at-zero (c % 64)) refl
+-- a table in which one pair more is marked
+marks_grow : {old new : Grid} (a b : ℕ) → Marks old new a b → (x y : ℕ) → HasPair old x y → HasPair new x y
+marks_grow {old} {new} a b m x y h = elim (same_pair x y a b) [
+  | inl s ↦ has_at new x y a b s.0 s.1 m.there
+  | inr ne ↦ m.others x y ne ∙ h
+]
 
--- no pair, and no mark
-pub fits_none : (f : Found) → f.height * f.width ≤ 64 * length f.words.items → f.pairs.items ≡ [] → ((c : ℕ) → bit_of f.words.items c ≡ false) → Fits f
-fits_none f room none blank = record {
-  room = room;
-  inside = All-same (IsInside f.height f.width) f.pairs.items [] none (All-nil (IsInside f.height f.width));
-  known = λ c e. absurd (true≢false (sym e ∙ blank c));
-}
+marks_only : {old new : Grid} (a b : ℕ) → Marks old new a b → (x y : ℕ) → HasPair new x y → HasPair old x y ⊎ ((x ≡ a) × (y ≡ b))
+marks_only a b m x y h = elim (same_pair x y a b) [
+  | inl s ↦ inr s
+  | inr ne ↦ inl (sym (m.others x y ne) ∙ h)
+]
 
--- the states of a pair that was found are states of the two nets
-pub found_inside : (m n : Net) (f g : Found) (k : ℕ) (p : Pair) → IsFor m n f → IsMore f g → k < length g.pairs.items → p ≡ get_or g.pairs.items k p → IsInside m.states n.states p
-found_inside m n f g k p nets more l e =
-    let i = subst (λ (q : Pair). IsInside g.height g.width q) (sym e) (more.fits.inside k p l) in
-    record { first = omega (arith, i.first, more.height, nets.height); second = omega (arith, i.second, more.width, nets.width) }
+-- a state that waits now
+waits_set : (ws : List Bool) (a x : ℕ) → a < length ws → get_or ws x false ≡ true → get_or (set ws a true) x false ≡ true
+waits_set ws a x l h = elim (cases_eq x a) [
+  | inl e ↦ ap (λ k. get_or (set ws a true) k false) e ∙ get_or-set_same ws a true false l
+  | inr ne ↦ get_or-set_other ws a x true false ne ∙ h
+]
 
--- the word of a pair that was found
-pub found_word : (f : Found) (p : Pair) → Fits f → Contains f.pairs.items p → cell f.width p / 64 < length f.words.items
-found_word f p h has =
-    let i = All-contains (IsInside f.height f.width) f.pairs.items p h.inside has in
-    cell_word f.height f.width p.first p.second (length f.words.items) i.first i.second h.room
+-- the pairs of tables of the same size
+inside_as : {high wide : ℕ} {old new : Grid} → IsSized (length old.rows) old.wide new → length old.rows ≡ high → old.wide ≡ wide → (a b : ℕ) → HasPair new a b → IsInside high wide (pair a b)
+inside_as sized e f a b h =
+    let i = sized_inside sized a b h in
+    record { first = omega (arith, i.first, e); second = omega (arith, i.second, f) }
 
--- after all pairs were forgotten
-pub fits_empty : (f g : Found) → Fits f → IsEmpty f g → Fits g
-fits_empty f g h e = fits_none g (rw (e.height, e.width, e.room) h.room) e.pairs e.blank
+module _ (f g : Found) (a : ℕ) (fits : Fits f) (row : a < length f.marks.rows) (sized : IsSized (length f.marks.rows) f.marks.wide g.marks) where
+  fits_now : IsSized (length f.fresh.rows) f.fresh.wide g.fresh → length g.waits.items ≡ length f.waits.items → Fits g
+  fits_now fresh waits = record {
+    marks = inside_as sized (sym sized.high) (sym sized.wide);
+    fresh = inside_as fresh (omega (arith, fits.high, sized.high)) (omega (arith, fits.wide, sized.wide));
+    high = omega (arith, fresh.high, fits.high, sized.high);
+    wide = omega (arith, fresh.wide, fits.wide, sized.wide);
+    waits = omega (arith, waits, fits.waits, sized.high);
+  }
 
--- and room was made for others
-pub fits_room : (f : Found) (height width : ℕ) → height * width / 64 + 1 ≤ length f.words.items → f.height ≡ height → f.width ≡ width → f.pairs.items ≡ [] → ((c : ℕ) → bit_of f.words.items c ≡ false) → Fits f
-fits_room f height width l eh ew none blank = fits_none f (rw (eh, ew) (omega arith)) none blank
+  -- a pair that was not there was added, and is fresh
+  pub visited : (b : ℕ) → Marks f.marks g.marks a b → Marks f.fresh g.fresh a b → IsSized (length f.fresh.rows) f.fresh.wide g.fresh → g.waits.items ≡ set f.waits.items a true → IsMore f g
+  visited b marks fresh fresh_sized waits =
+      let low : a < length f.waits.items = omega (arith, row, fits.waits) in
+      record {
+        fits = fits_now fresh_sized (ap length waits ∙ length-set);
+        high = sized.high;
+        wide = sized.wide;
+        grows = marks_grow a b marks;
+        fresh = λ x y h. elim (marks_only a b marks x y h) [
+          | inl old ↦ inl old
+          | inr s ↦ inr (has_at g.fresh x y a b s.0 s.1 fresh.there)
+        ];
+        stays = marks_grow a b fresh;
+        waits = λ x h. ap (λ ws. get_or ws x false) waits ∙ waits_set f.waits.items a x low h;
+        waiting = λ x y h. elim (marks_only a b fresh x y h) [
+          | inl old ↦ inl old
+          | inr s ↦ inr (ap (λ ws. get_or ws x false) waits ∙ ap (λ k. get_or (set f.waits.items a true) k false) s.0 ∙ get_or-set_same f.waits.items a true false low)
+        ];
+      }
 
--- where a search began
-pub begun : (m n : Net) (f : Found) (h w : ℕ) (b : Bool) → b ≡ true → (b ≡ true → (f.height ≡ h) × (f.width ≡ w) × (f.pairs.items ≡ [])) → h ≤ m.states → w ≤ n.states → IsFor m n f
-begun m n f h w b e ok eh ew = let k = ok e in record { height = omega (arith, k.0, eh); width = omega (arith, k.1, ew) }
+  -- a pair was there already
+  pub visited_before : (b : ℕ) → Marks f.marks g.marks a b → HasPair f.marks a b → g.fresh ≡ f.fresh → g.waits.items ≡ f.waits.items → IsMore f g
+  visited_before b marks there fresh waits = record {
+    fits = record {
+      marks = inside_as sized (sym sized.high) (sym sized.wide);
+      fresh = λ x y h. let i = fits.fresh x y (ap (λ z. marked z x y) (sym fresh) ∙ h) in record { first = omega (arith, i.first, sized.high); second = omega (arith, i.second, sized.wide) };
+      high = ap (λ z. length z.rows) fresh ∙ fits.high ∙ sym sized.high;
+      wide = ap (λ z. z.wide) fresh ∙ fits.wide ∙ sym sized.wide;
+      waits = ap length waits ∙ fits.waits ∙ sym sized.high;
+    };
+    high = sized.high;
+    wide = sized.wide;
+    grows = marks_grow a b marks;
+    fresh = λ x y h. elim (marks_only a b marks x y h) [
+      | inl old ↦ inl old
+      | inr s ↦ inl (has_at f.marks x y a b s.0 s.1 there)
+    ];
+    stays = λ x y h. ap (λ z. marked z x y) fresh ∙ h;
+    waits = λ x h. ap (λ ws. get_or ws x false) waits ∙ h;
+    waiting = λ x y h. inl (ap (λ z. marked z x y) (sym fresh) ∙ h);
+  }
 
-pub more_for : (m n : Net) (f g : Found) → IsFor m n f → IsMore f g → IsFor m n g
-more_for m n f g nets more = record { height = omega (arith, more.height, nets.height); width = omega (arith, more.width, nets.width) }
+-- a table in which a word was joined: what was marked still is, the word's columns are, and no others
+joined_grow : {old new : Grid} {a place word : ℕ} → JoinsLane old new a place word → ((x y : ℕ) → HasPair old x y → y < old.wide) → (x y : ℕ) → HasPair old x y → HasPair new x y
+joined_grow {old} {new} {a} {place} {word} j inside x y h = elim (same_lane x y a place) [
+  | inl s ↦ ap (λ k. marked new k y) s.0 ∙ j.here y s.1 (inside x y h) ∙ or_left _ _ (ap (λ k. marked old k y) (sym s.0) ∙ h)
+  | inr ne ↦ j.others x y ne ∙ h
+]
+
+joined_here : {old new : Grid} {a place word : ℕ} → JoinsLane old new a place word → (b : ℕ) → b / 64 ≡ place → b < old.wide → bit_at word (b % 64) ≡ 1 → HasPair new a b
+joined_here {old} {new} {a} {place} {word} j b e l bit = j.here b e l ∙ or_right (marked old a b) _ (ap (λ k. nat_eq k 1) bit)
+
+pub record IsOfWord (a place word wide x y : ℕ) : Type 0 where
+  pub row : x ≡ a
+  pub lane : y / 64 ≡ place
+  pub within : y < wide
+  pub bit : nat_eq (bit_at word (y % 64)) 1 ≡ true
+
+joined_only : {old new : Grid} {a place word : ℕ} → JoinsLane old new a place word → ((x y : ℕ) → HasPair new x y → y < old.wide) → (x y : ℕ) → HasPair new x y → HasPair old x y ⊎ IsOfWord a place word old.wide x y
+joined_only {old} {new} {a} {place} {word} j inside x y h = elim (same_lane x y a place) [
+  | inl s ↦
+      let l = inside x y h in
+      elim (either_true _ _ (sym (j.here y s.1 l) ∙ ap (λ k. marked new k y) (sym s.0) ∙ h)) [
+        | inl before ↦ inl (ap (λ k. marked old k y) s.0 ∙ before)
+        | inr bit ↦ inr (record { row = s.0; lane = s.1; within = l; bit = bit })
+      ]
+  | inr ne ↦ inl (sym (j.others x y ne) ∙ h)
+]
+
+module _ (f g : Found) (a place word fresh : ℕ) (fits : Fits f) (row : a < length f.marks.rows) (sized : IsSized (length f.marks.rows) f.marks.wide g.marks) (joins : JoinsLane f.marks g.marks a place word) (new : IsFreshLane f.marks a place word fresh) where
+  mark_inside : (x y : ℕ) → HasPair g.marks x y → y < f.marks.wide
+  mark_inside x y h = (sized_inside sized x y h).second
+
+  -- what is marked now was marked, or is of the fresh word
+  fresh_or_old : (x y : ℕ) → HasPair g.marks x y → HasPair f.marks x y ⊎ IsOfWord a place fresh f.marks.wide x y
+  fresh_or_old x y h = elim (joined_only joins mark_inside x y h) [
+    | inl old ↦ inl old
+    | inr k ↦ decide k (marked f.marks a y) refl
+  ]
+    where
+      decide : IsOfWord a place word f.marks.wide x y → (was : Bool) → was ≡ marked f.marks a y → HasPair f.marks x y ⊎ IsOfWord a place fresh f.marks.wide x y
+      decide k true e = inl (ap (λ r. marked f.marks r y) k.row ∙ sym e)
+      decide k false e = inr (record { row = k.row; lane = k.lane; within = k.within; bit = new.bits y k.lane k.within ∙ rw (k.bit, ← e) refl })
+
+  -- the fresh word was joined with the fresh pairs
+  pub put_fresh : JoinsLane f.fresh g.fresh a place fresh → IsSized (length f.fresh.rows) f.fresh.wide g.fresh → g.waits.items ≡ set f.waits.items a true → IsMore f g
+  put_fresh fresh_joins fresh_sized waits =
+      let low : a < length f.waits.items = omega (arith, row, fits.waits) in
+      record {
+        fits = fits_now f g a fits row sized fresh_sized (ap length waits ∙ length-set);
+        high = sized.high;
+        wide = sized.wide;
+        grows = joined_grow joins (λ x y h. (fits.marks x y h).second);
+        fresh = λ x y h. elim (fresh_or_old x y h) [
+          | inl old ↦ inl old
+          | inr k ↦ inr (ap (λ r. marked g.fresh r y) k.row ∙ fresh_joins.here y k.lane (omega (arith, k.within, fits.wide)) ∙ or_right (marked f.fresh a y) _ k.bit)
+        ];
+        stays = joined_grow fresh_joins (λ x y h. omega (arith, (fits.fresh x y h).second, fits.wide));
+        waits = λ x h. ap (λ ws. get_or ws x false) waits ∙ waits_set f.waits.items a x low h;
+        waiting = λ x y h. elim (joined_only fresh_joins (λ u v k. (sized_inside fresh_sized u v k).second) x y h) [
+          | inl old ↦ inl old
+          | inr k ↦ inr (ap (λ ws. get_or ws x false) waits ∙ ap (λ r. get_or (set f.waits.items a true) r false) k.row ∙ get_or-set_same f.waits.items a true false low)
+        ];
+      }
+
+  -- the word had nothing new
+  pub put_none : fresh ≡ 0 → g.fresh ≡ f.fresh → g.waits.items ≡ f.waits.items → IsMore f g
+  put_none none same waits = record {
+    fits = record {
+      marks = inside_as sized (sym sized.high) (sym sized.wide);
+      fresh = λ x y h. let i = fits.fresh x y (ap (λ z. marked z x y) (sym same) ∙ h) in record { first = omega (arith, i.first, sized.high); second = omega (arith, i.second, sized.wide) };
+      high = ap (λ z. length z.rows) same ∙ fits.high ∙ sym sized.high;
+      wide = ap (λ z. z.wide) same ∙ fits.wide ∙ sym sized.wide;
+      waits = ap length waits ∙ fits.waits ∙ sym sized.high;
+    };
+    high = sized.high;
+    wide = sized.wide;
+    grows = joined_grow joins (λ x y h. (fits.marks x y h).second);
+    fresh = λ x y h. elim (fresh_or_old x y h) [
+      | inl old ↦ inl old
+      | inr k ↦ absurd (true≢false (sym k.bit ∙ ap (λ w. nat_eq (bit_at w (y % 64)) 1) none ∙ ap (λ b. nat_eq b 1) (bit_at-zero (y % 64))))
+    ];
+    stays = λ x y h. ap (λ z. marked z x y) same ∙ h;
+    waits = λ x h. ap (λ ws. get_or ws x false) waits ∙ h;
+    waiting = λ x y h. inl (ap (λ z. marked z x y) (sym same) ∙ h);
+  }
+
+  -- in both cases the word's pairs are there
+  pub put_there : HasWord g a place word
+  put_there b e bit l m = joined_here joins b e (omega (arith, m, sized.wide)) bit
+
+-- the pairs of a lane that was taken
+abbrev pub Taken : ℕ → ℕ → ℕ → ℕ → ℕ → ℕ → Type 0
+Taken row place word wide a b = InWord row place word a b × (b < wide)
+
+module _ (f g : Found) (row place word : ℕ) (marks : g.marks ≡ f.marks) (waits : g.waits.items ≡ f.waits.items) (lane : IsLane f.fresh row place word) (clear : HasNoLane f.fresh g.fresh row place) (sized : IsSized (length f.fresh.rows) f.fresh.wide g.fresh) (fits : Fits f) where
+  -- fresh pairs were fresh, and are not of the lane
+  taken_old : (a b : ℕ) → HasPair g.fresh a b → HasPair f.fresh a b × ((a ≡ row) × (b / 64 ≡ place) → ⊥)
+  taken_old a b h = elim (same_lane a b row place) [
+    | inl s ↦ absurd (true≢false (sym h ∙ ap (λ r. marked g.fresh r b) s.0 ∙ clear.clear b s.1))
+    | inr ne ↦ (sym (clear.others a b ne) ∙ h, ne)
+  ]
+
+  pub taken_fits : Fits g
+  taken_fits = record {
+    marks = rw (marks) fits.marks;
+    fresh = λ a b h. rw (marks) (fits.fresh a b (taken_old a b h).0);
+    high = sized.high ∙ fits.high ∙ ap (λ z. length z.rows) (sym marks);
+    wide = sized.wide ∙ fits.wide ∙ ap (λ z. z.wide) (sym marks);
+    waits = ap length waits ∙ fits.waits ∙ ap (λ z. length z.rows) (sym marks);
+  }
+
+  pub taken_keeps : Keeps f g
+  taken_keeps = record {
+    fits = taken_fits;
+    high = ap (λ z. length z.rows) marks;
+    wide = ap (λ z. z.wide) marks;
+    grows = λ a b h. ap (λ z. marked z a b) marks ∙ h;
+  }
+
+  pub taken_waits : Waits (InRowFrom row place) f → Waits (InRowFrom row (place + 1)) g
+  taken_waits before a b h =
+      let old = taken_old a b h in
+      elim (before a b old.0) [
+        | inl now ↦ inl (ap (λ ws. get_or ws a false) waits ∙ now)
+        | inr e ↦ inr (e.0, elim (cases_eq (b / 64) place) [
+          | inl same ↦ absurd (old.1 (e.0, same))
+          | inr ne ↦ omega (arith, ne, e.1)
+        ])
+      ]
+
+  -- but for those of the lane, all are fresh or gone on from
+  pub taken_gone : (L : ℕ → ℕ → ℕ → ℕ → Type 0) → IsGone L Never f → IsGone L (Taken row place word f.marks.wide) g
+  taken_gone L gone a b h =
+      let there : HasPair f.marks a b = ap (λ z. marked z a b) (sym marks) ∙ h in
+      elim (gone a b there) [
+        | inl fresh ↦ elim (same_lane a b row place) [
+          | inl s ↦
+              let l = (fits.fresh a b fresh).second in
+              inr (inl (record { row = s.0; place = s.1; bit = bit s.0 s.1 fresh (omega (arith, l, fits.wide)) }, l))
+          | inr ne ↦ inl (clear.others a b ne ∙ fresh)
+        ]
+        | inr (inl never) ↦ absurd never
+        | inr (inr all) ↦ inr (inr (λ c d leads. rw (marks) (all c d leads)))
+      ]
+    where
+      bit : a ≡ row → b / 64 ≡ place → HasPair f.fresh a b → b < f.fresh.wide → bit_at word (b % 64) ≡ 1
+      bit e s fresh l = eqb-true (bit_at word (b % 64)) 1 (sym (lane.marks b s l) ∙ ap (λ r. marked f.fresh r b) (sym e) ∙ fresh)

@@ -1,51 +1,73 @@
--- How a search grows: what it has found stays, and what was gone on from is closed.
-use Rattle.std.proofs.Common.{◌≡◌, ◌==◌, ◌&&◌, false, eq-eqb, ℕ, ◌+◌, ◌<◌, ◌≤◌, List, [], ◌∷◌, ◌++◌, length, get_or, take, refl, sym, ap, ◌∙◌, inl, inr, arith, append_assoc, append-nil, slice_get}
-use Rattle.std.specs.declared.option.Option.TheVariants.{Some}
-use Rattle.std.specs.List.{All, Contains}
-use Rattle.std.proofs.lemmas.Bool.{cases_eq, true≢false}
-use Rattle.std.proofs.lemmas.List.{take_all}
-use Rattle.std.proofs.lemmas.List.Elements.{Contains-append_left, All-weaker, All-more}
-use Rattle.std.proofs.lemmas.Option.{slice_get_within, slice_get-get_or, slice_get_read}
-use Rattle.xs_class.proofs.Lists.{some_same, get_left, get_of}
-use Rattle.xs_class.proofs.Truth.{both_true}
+-- How a search grows: what it has found stays, and what it has gone on from is closed.
+use Rattle.std.proofs.Common.{◌≡◌, ℕ, ◌+◌, ◌<◌, ◌≤◌, true, false, List, [], length, get_or, take, replicate, refl, sym, ap, ◌∙◌, inl, inr, arith}
+use Rattle.std.specs.List.{All}
+use Rattle.std.proofs.lemmas.Bool.{cases_lt, true≢false}
+use Rattle.std.proofs.lemmas.List.{take_all, get_or-replicate, length-replicate, get_or_past}
+use Rattle.std.proofs.lemmas.List.Elements.{All-weaker, All-more}
+use Rattle.xs_coarse.specs.Coarse.{Net}
+use Rattle.xs_closed.specs.Rows.{Grid, blank, marked, IsSized}
 use Rattle.xs_apart.specs.declared.pair.Pair.{Pair}
 use Rattle.xs_apart.specs.declared.found.Found.{Found}
-use Rattle.xs_apart.specs.Arcs.{HasFound, HasAll, IsClosedBelow, IsClosedWithin}
-use Rattle.xs_apart.specs.Found.{HasPair, IsLonger, IsMore, Fits, IsNotBelow, pair}
+use Rattle.xs_apart.specs.Arcs.{HasFound, HasAll, IsGone, IsOn, IsFor, IsClosedWithin}
+use Rattle.xs_apart.specs.Found.{HasPair, IsInside, IsOf, IsMore, IsNone, IsBegun, Keeps, Fits, Waits, NoneWaits, Never, pair}
 use Rattle.xs_apart.specs.Sets.{IsShut}
 
-pub longer_same : (xs : List Pair) → IsLonger xs xs
-longer_same xs = record { added = []; is = sym (append-nil xs) }
-
-pub longer_then : {xs ys zs : List Pair} → IsLonger xs ys → IsLonger ys zs → IsLonger xs zs
-longer_then {xs} a b = record { added = a.added ++ b.added; is = b.is ∙ ap (λ us. us ++ b.added) a.is ∙ append_assoc xs a.added b.added }
-
-pub longer_has : {xs ys : List Pair} → IsLonger xs ys → (p : Pair) → Contains xs p → Contains ys p
-longer_has {xs} l p h = rw l.is (Contains-append_left xs l.added p h)
-
-pub longer_push : {xs ys : List Pair} (p : Pair) → IsLonger xs ys → IsLonger xs (ys ++ p ∷ [])
-longer_push p l = longer_then l (record { added = p ∷ []; is = refl })
-
-longer_at : {xs ys : List Pair} (k : ℕ) (p : Pair) → IsLonger xs ys → slice_get xs k ≡ Some p → slice_get ys k ≡ Some p
-longer_at {xs} k p l e = rw l.is (get_left xs l.added k p e)
-
--- what stands in the longer list at a place that the shorter one has stands there too
-shorter_at : {xs ys : List Pair} (k : ℕ) (p : Pair) → IsLonger xs ys → k < length xs → slice_get ys k ≡ Some p → slice_get xs k ≡ Some p
-shorter_at {xs} k p l low e =
-    let here = slice_get-get_or xs k p low in
-    here ∙ ap Some (some_same _ _ _ (longer_at k (get_or xs k p) l here) e)
-
 pub more_same : (f : Found) → Fits f → IsMore f f
-more_same f fits = record { fits = fits; height = refl; width = refl; longer = longer_same f.pairs.items }
+more_same f fits = record {
+  fits = fits;
+  high = refl;
+  wide = refl;
+  grows = λ a b h. h;
+  fresh = λ a b h. inl h;
+  stays = λ a b h. h;
+  waits = λ a w. w;
+  waiting = λ a b h. inl h;
+}
 
 pub more_then : {f g h : Found} → IsMore f g → IsMore g h → IsMore f h
-more_then a b = record { fits = b.fits; height = b.height ∙ a.height; width = b.width ∙ a.width; longer = longer_then a.longer b.longer }
+more_then p q = record {
+  fits = q.fits;
+  high = q.high ∙ p.high;
+  wide = q.wide ∙ p.wide;
+  grows = λ a b h. q.grows a b (p.grows a b h);
+  fresh = λ a b h. elim (q.fresh a b h) [
+    | inl old ↦ elim (p.fresh a b old) [
+      | inl older ↦ inl older
+      | inr new ↦ inr (q.stays a b new)
+    ]
+    | inr new ↦ inr new
+  ];
+  stays = λ a b h. q.stays a b (p.stays a b h);
+  waits = λ a w. q.waits a (p.waits a w);
+  waiting = λ a b h. elim (q.waiting a b h) [
+    | inl old ↦ elim (p.waiting a b old) [
+      | inl older ↦ inl older
+      | inr waits ↦ inr (q.waits a waits)
+    ]
+    | inr waits ↦ inr waits
+  ];
+}
 
-pub more_has : {f g : Found} → IsMore f g → (a b : ℕ) → HasPair f.pairs.items a b → HasPair g.pairs.items a b
-more_has m a b h = longer_has m.longer (pair a b) h
+pub keep_same : (f : Found) → Fits f → Keeps f f
+keep_same f fits = record { fits = fits; high = refl; wide = refl; grows = λ a b h. h }
+
+pub keep_then : {f g h : Found} → Keeps f g → Keeps g h → Keeps f h
+keep_then p q = record { fits = q.fits; high = q.high ∙ p.high; wide = q.wide ∙ p.wide; grows = λ a b h. q.grows a b (p.grows a b h) }
+
+pub more_keeps : {f g : Found} → IsMore f g → Keeps f g
+more_keeps m = record { fits = m.fits; high = m.high; wide = m.wide; grows = m.grows }
+
+pub more_has : {f g : Found} → IsMore f g → (a b : ℕ) → HasPair f.marks a b → HasPair g.marks a b
+more_has m a b h = m.grows a b h
 
 pub more_found : {f g : Found} → IsMore f g → (a b : ℕ) → HasFound f a b → HasFound g a b
-more_found m a b h first second = more_has m a b (h (rw (← m.height) first) (rw (← m.width) second))
+more_found m a b h first second = m.grows a b (h (rw (← m.high) first) (rw (← m.wide) second))
+
+pub keep_found : {f g : Found} → Keeps f g → (a b : ℕ) → HasFound f a b → HasFound g a b
+keep_found m a b h first second = m.grows a b (h (rw (← m.high) first) (rw (← m.wide) second))
+
+pub all_more : (L : ℕ → ℕ → ℕ → ℕ → Type 0) (a b : ℕ) {f g : Found} → IsMore f g → HasAll L a b f → HasAll L a b g
+all_more L a b more all c d leads = more_found more c d (all c d leads)
 
 -- what holds of each element so far, and of the next one, holds of one element more
 pub each_next : {X : Type 0} (P Q : X → Type 0) (xs : List X) (i : ℕ) (d : X) → i < length xs → ((y : X) → P y → Q y) → All P (take i xs) → Q (get_or xs i d) → All Q (take (i + 1) xs)
@@ -54,47 +76,120 @@ each_next P Q xs i d l more so_far here = All-more Q xs i d l (All-weaker P Q mo
 pub each_all : {X : Type 0} (P : X → Type 0) (xs : List X) (i : ℕ) → length xs ≤ i → All P (take i xs) → All P xs
 each_all P xs i l h = rw (take_all i xs l) at h
 
--- the pair at place k was gone on from
-pub closed_more : (L : ℕ → ℕ → ℕ → ℕ → Type 0) {k : ℕ} {f g : Found} (p : Pair) → slice_get f.pairs.items k ≡ Some p → IsClosedBelow L k f → IsMore f g → HasAll L p.first p.second g → IsClosedBelow L (k + 1) g
-closed_more L {k} {f} {g} p here closed more there i q l e c d leads =
-    let within = slice_get_within f.pairs.items k p here in
-    elim (cases_eq i k) [
-      | inl same ↦
-          let one : q ≡ p = some_same _ _ _ (rw same at e) (longer_at k p more.longer here) in
-          there c d (rw one at leads)
-      | inr ne ↦ more_found more c d (closed i q (omega arith) (shorter_at i q more.longer (omega arith) e) c d leads)
-    ]
+-- where no pair is forgotten, those that were gone on from still were
+pub gone_more : (L : ℕ → ℕ → ℕ → ℕ → Type 0) (E : ℕ → ℕ → Type 0) {f g : Found} → IsMore f g → IsGone L E f → IsGone L E g
+gone_more L E more gone a b h = elim (more.fresh a b h) [
+  | inr new ↦ inl new
+  | inl old ↦ elim (gone a b old) [
+    | inl fresh ↦ inl (more.stays a b fresh)
+    | inr (inl e) ↦ inr (inl e)
+    | inr (inr all) ↦ inr (inr (all_more L a b more all))
+  ]
+]
 
--- and it is not the goal
-pub without_more : {k : ℕ} {f g : Found} (goal p : Pair) → slice_get f.pairs.items k ≡ Some p → IsNotBelow goal k f.pairs.items → IsMore f g → (p ≡ goal → ⊥) → IsNotBelow goal (k + 1) g.pairs.items
-without_more {k} {f} goal p here before more other i l e =
-    let within = slice_get_within f.pairs.items k p here in
-    elim (cases_eq i k) [
-      | inl same ↦ other (some_same _ _ _ (longer_at k p more.longer here) (rw same at e))
-      | inr ne ↦ before i (omega arith) (shorter_at i goal more.longer (omega arith) e)
-    ]
+pub waits_more : (E : ℕ → ℕ → Type 0) {f g : Found} → IsMore f g → Waits E f → Waits E g
+waits_more E more waits a b h = elim (more.waiting a b h) [
+  | inr now ↦ inl now
+  | inl old ↦ elim (waits a b old) [
+    | inl now ↦ inl (more.waits a now)
+    | inr e ↦ inr e
+  ]
+]
 
--- each pair was gone on from
-pub closed_all : (L : ℕ → ℕ → ℕ → ℕ → Type 0) (k : ℕ) (f : Found) → length f.pairs.items ≤ k → IsClosedBelow L k f → IsClosedWithin L f.height f.width f.pairs.items
-closed_all L k f l closed a b c d h leads =
-    let at = get_of f.pairs.items (pair a b) h in
-    let within = slice_get_within f.pairs.items at.0 (pair a b) at.1 in
-    closed at.0 (pair a b) (omega arith) at.1 c d leads
+-- where a search was gone on from all of E
+pub gone_done : (L : ℕ → ℕ → ℕ → ℕ → Type 0) (E : ℕ → ℕ → Type 0) {f : Found} → IsGone L E f → ((a b : ℕ) → E a b → HasAll L a b f) → IsGone L Never f
+gone_done L E gone done a b h = elim (gone a b h) [
+  | inl fresh ↦ inl fresh
+  | inr (inl e) ↦ inr (inr (done a b e))
+  | inr (inr all) ↦ inr (inr all)
+]
 
-pub shut_all : (L : ℕ → ℕ → ℕ → ℕ → Type 0) (goal : Pair) (k : ℕ) (f : Found) → Fits f → length f.pairs.items ≤ k → IsClosedBelow L k f → IsNotBelow goal k f.pairs.items → IsShut L goal f.height f.width f.pairs.items
-shut_all L goal k f fits l closed before = record {
-  inside = fits.inside;
-  closed = closed_all L k f l closed;
-  without = λ h.
-      let at = get_of f.pairs.items goal h in
-      let within = slice_get_within f.pairs.items at.0 goal at.1 in
-      before at.0 (omega arith) at.1;
+-- where a search begins
+pub begun_more : {f g : Found} → IsMore f g → IsBegun f → IsBegun g
+begun_more more begun = record {
+  fits = more.fits;
+  fresh = λ a b h. elim (more.fresh a b h) [
+    | inl old ↦ more.stays a b (begun.fresh a b old)
+    | inr new ↦ new
+  ];
+  waits = waits_more Never more begun.waits;
 }
 
--- the pair that is read at a place
-pub read_at : (ps : List Pair) (k : ℕ) (p : Pair) → k < length ps → p ≡ get_or ps k p → slice_get ps k ≡ Some p
-read_at ps k p l e = slice_get_read ps (length ps) k p refl l e
+pub begun_on : (L : ℕ → ℕ → ℕ → ℕ → Type 0) {f : Found} → IsBegun f → IsOn L f
+begun_on L begun = record { fits = begun.fits; gone = λ a b h. inl (begun.fresh a b h); waits = begun.waits }
 
--- pairs that a test tells apart
-pub other_pair : (p q : Pair) → false ≡ ((p.first == q.first) && (p.second == q.second)) → p ≡ q → ⊥
-other_pair p q e same = true≢false (sym (both_true _ _ (eq-eqb _ _ (ap (λ r. r.first) same)) (eq-eqb _ _ (ap (λ r. r.second) same))) ∙ sym e)
+-- a table without marks
+pub blank_none : (high wide a b : ℕ) → marked (blank high wide) a b ≡ false
+blank_none high wide a b = elim (cases_lt a high) [
+  | inl l ↦ ap (λ r. get_or r b false) (get_or-replicate high a (replicate wide false) [] l) ∙ column
+  | inr l ↦ ap (λ r. get_or r b false) (get_or_past (replicate high (replicate wide false)) a [] (rw length-replicate l))
+]
+  where
+    column : get_or (replicate wide false) b false ≡ false
+    column = elim (cases_lt b wide) [
+      | inl l ↦ get_or-replicate wide b false false l
+      | inr l ↦ get_or_past (replicate wide false) b false (rw length-replicate l)
+    ]
+
+pub begun_none : {high wide : ℕ} {f : Found} → IsNone high wide f → IsBegun f
+begun_none {high} {wide} {f} none = record {
+  fits = record {
+    marks = λ a b h. absurd (true≢false (sym h ∙ no_mark a b));
+    fresh = λ a b h. absurd (true≢false (sym h ∙ no_fresh a b));
+    high = rw (none.fresh, none.marks) refl;
+    wide = rw (none.fresh, none.marks) refl;
+    waits = rw (none.waits, none.marks, length-replicate) refl;
+  };
+  fresh = λ a b h. absurd (true≢false (sym h ∙ no_mark a b));
+  waits = λ a b h. absurd (true≢false (sym h ∙ no_fresh a b));
+}
+  where
+    no_mark : (a b : ℕ) → marked f.marks a b ≡ false
+    no_mark a b = ap (λ z. marked z a b) none.marks ∙ blank_none high wide a b
+
+    no_fresh : (a b : ℕ) → marked f.fresh a b ≡ false
+    no_fresh a b = ap (λ z. marked z a b) none.fresh ∙ blank_none high wide a b
+
+pub none_high : {high wide : ℕ} {f : Found} → IsNone high wide f → length f.marks.rows ≡ high
+none_high {high} {wide} none = ap (λ z. length z.rows) none.marks ∙ length-replicate high (replicate wide false)
+
+pub none_wide : {high wide : ℕ} {f : Found} → IsNone high wide f → f.marks.wide ≡ wide
+none_wide none = ap (λ z. z.wide) none.marks
+
+-- the states that are looked at stay the same
+pub keep_for : (m n : Net) {f g : Found} → IsFor m n f → Keeps f g → IsFor m n g
+keep_for m n nets keeps = record { height = omega (arith, keeps.high, nets.height); width = omega (arith, keeps.wide, nets.width) }
+
+pub none_for : (m n : Net) {high wide : ℕ} {f : Found} → IsNone high wide f → high ≤ m.states → wide ≤ n.states → IsFor m n f
+none_for m n none l k = record { height = omega (arith, none_high none, l); width = omega (arith, none_wide none, k) }
+
+-- the pairs of a table that is sized are of its rows and columns
+pub sized_inside : {high wide : ℕ} {z : Grid} → IsSized high wide z → (a b : ℕ) → HasPair z a b → IsInside high wide (pair a b)
+sized_inside {high} {wide} {z} sized a b h = record { first = row; second = column }
+  where
+    row : a < high
+    row = elim (cases_lt a high) [
+      | inl l ↦ l
+      | inr l ↦ absurd (true≢false (sym h ∙ ap (λ r. get_or r b false) (get_or_past z.rows a [] (omega (arith, l, sized.high)))))
+    ]
+
+    column : b < wide
+    column = elim (cases_lt b wide) [
+      | inl l ↦ l
+      | inr l ↦ absurd (true≢false (sym h ∙ get_or_past (get_or z.rows a []) b false (omega (arith, l, sized.even a row))))
+    ]
+
+-- a search that has gone on from all pairs, since none waits, is closed
+pub shut_at_end : (L : ℕ → ℕ → ℕ → ℕ → Type 0) (goal : Pair) {f : Found} → IsOn L f → NoneWaits f → false ≡ marked f.marks goal.first goal.second → IsShut L goal (length f.marks.rows) f.marks.wide f.marks
+shut_at_end L goal {f} on none other = record {
+  of = record { high = refl; wide = refl; inside = on.fits.marks };
+  closed = λ a b c d h leads. elim (on.gone a b h) [
+    | inl fresh ↦ absurd (elim (on.waits a b fresh) [
+      | inl waits ↦ none a waits
+      | inr never ↦ never
+    ])
+    | inr (inl never) ↦ absurd never
+    | inr (inr all) ↦ all c d leads
+  ];
+  without = λ h. true≢false (sym h ∙ sym other);
+}

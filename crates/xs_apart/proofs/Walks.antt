@@ -48,21 +48,12 @@ given_same f a b p same there = rw (eq-eqb a b same) at there
 
 -- where an arc that reads nothing leads beside a state of the other net, and where two arcs lead that may
 -- read a common word
-abbrev pub first_target : ℕ → Arc → Option Pair
-first_target b x = then_some (nat_eq x.label 0) (pair x.to b)
 
 abbrev pub second_target : ℕ → Arc → Option Pair
 second_target a y = then_some (nat_eq y.label 0) (pair a y.to)
 
 abbrev pub joint_target : Table → Arc → Arc → Option Pair
 joint_target t x y = then_some (may_meet t x.label y.label) (pair x.to y.to)
-
--- the targets for a pair of states whose first one is that of the cut
-abbrev pub turn_target : ℕ → Pair → Option Pair
-turn_target here p = then_some (nat_eq p.first here) (pair p.second here)
-
-abbrev pub return_target : ℕ → Pair → Option Pair
-return_target here p = then_some (nat_eq p.first here) (pair here p.second)
 
 pub joins_by : (t : Table) (f : Found) (x : Arc) (others : List Arc) → All (λ y. HasTarget f (joint_target t x y)) others → All (Joins t f x) others
 joins_by t f x others all = All-weaker (λ y. HasTarget f (joint_target t x y)) (Joins t f x) (λ y h low low_too meet. rw meet at h) others all

@@ -1,11 +1,15 @@
 -- How the arcs of two coarse nets lead from a pair of states to others.
-use Rattle.std.specs.Prelude.{◌≡◌, ℕ, ◌<◌, ◌≤◌, ◌⊎◌, true, List, slice_get, Option, Some, None}
+use Rattle.std.specs.Prelude.{◌≡◌, ℕ, ◌/◌, ◌%◌, ◌<◌, ◌≤◌, ◌⊎◌, true, List, length, Option, Some, None}
+use Rattle.std.specs.Int.{bit_at}
 use Rattle.std.specs.List.{All}
 use Rattle.xs_coarse.specs.declared.arc.Arc.{Arc}
 use Rattle.xs_coarse.specs.Coarse.{Table, Net, HasArc, may_meet}
+use Rattle.xs_closed.specs.Rows.{Grid}
+use Rattle.xs_closed.specs.declared.moves.Moves.{Moves}
+use Rattle.xs_closed.specs.declared.moves.Moves.TheVariants.{Empty, Every}
 use Rattle.xs_apart.specs.declared.pair.Pair.{Pair}
 use Rattle.xs_apart.specs.declared.found.Found.{Found}
-use Rattle.xs_apart.specs.Found.{HasPair}
+use Rattle.xs_apart.specs.Found.{HasPair, Fits, Never, Waits}
 
 -- an arc of the first net that reads nothing leads from the pair of a and b to that of c and d
 pub record SlipsFirst (m : Net) (a b c d : ℕ) : Type 0 where
@@ -35,13 +39,27 @@ pub record Steps (t : Table) (m n : Net) (a b c d : ℕ) : Type 0 where
 abbrev pub Goes : Table → Net → Net → ℕ → ℕ → ℕ → ℕ → Type 0
 Goes t m n a b c d = Slips m n a b c d ⊎ Steps t m n a b c d
 
--- the pairs have this one, if its states are below those numbers
-abbrev pub HasWithin : ℕ → ℕ → List Pair → ℕ → ℕ → Type 0
-HasWithin height width ps a b = a < height → b < width → HasPair ps a b
+-- where these moves lead
+abbrev pub GoesBy : Moves → Table → Net → Net → ℕ → ℕ → ℕ → ℕ → Type 0
+GoesBy Empty t m n = Slips m n
+GoesBy Every t m n = Goes t m n
+
+-- the same, but for arcs of the first net that read nothing
+abbrev pub GoesOn : Moves → Table → Net → Net → ℕ → ℕ → ℕ → ℕ → Type 0
+GoesOn Empty t m n a b c d = SlipsSecond n a b c d
+GoesOn Every t m n a b c d = SlipsSecond n a b c d ⊎ Steps t m n a b c d
+
+-- the set has this pair, if its states are below those numbers
+abbrev pub HasWithin : ℕ → ℕ → Grid → ℕ → ℕ → Type 0
+HasWithin height width z a b = a < height → b < width → HasPair z a b
 
 -- the same of what was found, and of the states that are looked at
 abbrev pub HasFound : Found → ℕ → ℕ → Type 0
-HasFound f a b = HasWithin f.height f.width f.pairs.items a b
+HasFound f a b = HasWithin (length f.marks.rows) f.marks.wide f.marks a b
+
+-- the pairs of a state with the bits of a word, from 64 times a place on, were found
+abbrev pub HasWord : Found → ℕ → ℕ → ℕ → Type 0
+HasWord f a place word = (b : ℕ) → b / 64 ≡ place → bit_at word (b % 64) ≡ 1 → HasFound f a b
 
 -- the pair was found, if there is one
 abbrev pub HasTarget : Found → Option Pair → Type 0
@@ -66,18 +84,29 @@ Joins t f x y = 0 < x.label → 0 < y.label → may_meet t x.label y.label ≡ t
 abbrev pub HasAll : (ℕ → ℕ → ℕ → ℕ → Type 0) → ℕ → ℕ → Found → Type 0
 HasAll L a b f = (c d : ℕ) → L a b c d → HasFound f c d
 
--- each pair before place k that leads to another has it among those that were found
-abbrev pub IsClosedBelow : (ℕ → ℕ → ℕ → ℕ → Type 0) → ℕ → Found → Type 0
-IsClosedBelow L k f = (i : ℕ) (p : Pair) → i < k → slice_get f.pairs.items i ≡ Some p → HasAll L p.first p.second f
+-- each pair to which L leads from one of P was found
+abbrev pub HasEach : (ℕ → ℕ → ℕ → ℕ → Type 0) → (ℕ → ℕ → Type 0) → Found → Type 0
+HasEach L P f = (a b : ℕ) → P a b → HasAll L a b f
 
--- with a pair, the pairs have each to which L leads from it, and whose states are below those numbers
-abbrev pub IsClosedWithin : (ℕ → ℕ → ℕ → ℕ → Type 0) → ℕ → ℕ → List Pair → Type 0
-IsClosedWithin L height width ps = (a b c d : ℕ) → HasPair ps a b → L a b c d → HasWithin height width ps c d
+-- each pair is fresh, or one of E, or all to which L leads from it were found
+abbrev pub IsGone : (ℕ → ℕ → ℕ → ℕ → Type 0) → (ℕ → ℕ → Type 0) → Found → Type 0
+IsGone L E f = (a b : ℕ) → HasPair f.marks a b → HasPair f.fresh a b ⊎ (E a b ⊎ HasAll L a b f)
+
+-- with a pair, the set has each to which L leads from it, and whose states are below those numbers
+abbrev pub IsClosedWithin : (ℕ → ℕ → ℕ → ℕ → Type 0) → ℕ → ℕ → Grid → Type 0
+IsClosedWithin L height width z = (a b c d : ℕ) → HasPair z a b → L a b c d → HasWithin height width z c d
+
+-- a search goes on: each pair is fresh, or all to which L leads from it were found, and the first states of
+-- fresh pairs wait
+pub record IsOn (L : ℕ → ℕ → ℕ → ℕ → Type 0) (f : Found) : Type 0 where
+  pub fits : Fits f
+  pub gone : IsGone L Never f
+  pub waits : Waits Never f
 
 -- the states that are looked at are those of the two nets below some numbers
 pub record IsFor (m n : Net) (f : Found) : Type 0 where
-  pub height : f.height ≤ m.states
-  pub width : f.width ≤ n.states
+  pub height : length f.marks.rows ≤ m.states
+  pub width : f.marks.wide ≤ n.states
 
 -- no arc leads back from a state k, or those after it, to one before
 abbrev pub NeverReturns : Net → ℕ → Type 0

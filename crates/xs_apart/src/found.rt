@@ -1,157 +1,108 @@
+ghost use Rattle.std.specs.Prelude.{◌≡◌, ◌*◌, ◌<◌, true, length, IfOk};
+ghost use Rattle.xs_apart.specs.Arcs.{HasFound, HasTarget, HasAllGiven};
+ghost use Rattle.xs_apart.specs.Found.{Fits, IsMore, IsNone, HasWord};
+
+use crate::pair::Pair;
 use std::alloc::Global;
 use xs_class::Memory;
-use xs_coarse::Flat;
+use xs_closed::PairSet;
 
 /// The greatest number of pairs of states for which a map of marks is kept: 32 megabytes.
 const MOST_PAIRS: u64 = 1 << 28;
 
-/// The pairs of states that a search has found, a row of bits for each state of the first net; those
-/// of them from which it has not gone on; for each row the words, folded to 64, that have such; and
-/// the rows that have such, and that have any pair.
+/// The pairs of states that a search has found; those of them that are fresh, from which it has not gone
+/// on; and for each state of the first net whether it waits, as those do that have fresh pairs.
 #[derive(Debug, Drop)]
 pub struct Found {
-    pub height: u32,
-    pub width: u32,
-    pub step: usize,
-    pub words: Vec<u64>,
-    pub fresh: Vec<u64>,
-    pub dirty: Vec<u64>,
-    pub waiting: Vec<u64>,
-    pub touched: Vec<u64>,
-    pub stack: Vec<u32>,
+    pub marks: PairSet,
+    pub fresh: PairSet,
+    pub waits: Vec<bool>,
 }
 
 impl Found {
     /// No pairs, of no states.
     pub fn new(alloc: Global) -> Self {
         Found {
-            height: 0,
-            width: 0,
-            step: 0,
-            words: Vec::new(alloc),
-            fresh: Vec::new(alloc),
-            dirty: Vec::new(alloc),
-            waiting: Vec::new(alloc),
-            touched: Vec::new(alloc),
-            stack: Vec::new(alloc),
-        }
-    }
-
-    /// Forgets the pairs of a row.
-    fn wipe_row(&mut self, row: usize) {
-        self.dirty[row] = 0;
-        'places: for at in row * self.step..row * self.step + self.step {
-            self.words[at] = 0;
-            self.fresh[at] = 0;
-        }
-    }
-
-    /// Forgets all pairs.
-    fn wipe(&mut self) {
-        let lines = (self.height as usize + 63) / 64;
-        'lines: for line in 0..lines {
-            let mut left = self.touched[line];
-            'rows: while left != 0 {
-                self.wipe_row(line * 64 + left.trailing_zeros() as usize);
-                left = left & (left - 1);
-            }
-            self.touched[line] = 0;
-            self.waiting[line] = 0;
+            marks: PairSet::new(alloc),
+            fresh: PairSet::new(alloc),
+            waits: Vec::new(alloc),
         }
     }
 
     /// Forgets all pairs, and makes room for those of the states of a first net and of a second one
-    /// below these numbers; answers false where they are too many.
-    pub fn begin(&mut self, alloc: Global, height: u32, width: u32) -> Result<bool, Memory> {
-        self.wipe();
-        let step = (width as usize + 63) / 64;
-        let count = step * height as usize;
-        if count as u64 > MOST_PAIRS / 64 {
+    /// below these numbers; answers false where they are too many. In time linear in the words of the
+    /// pairs.
+    pub fn begin(&mut self, height: u32, width: u32) -> Result<bool, Memory>
+        ensures { IfOk result (λ room. room ≡ true → IsNone height width self.new) }
+    {
+        if height as u64 * width as u64 > MOST_PAIRS {
             return Ok(false);
         }
-        if count > self.words.len() {
-            let words = vec![in alloc; 0; count]?;
-            self.words = words;
-            let fresh = vec![in alloc; 0; count]?;
-            self.fresh = fresh;
-        }
-        let rows = height as usize;
-        if rows > self.dirty.len() {
-            let dirty = vec![in alloc; 0; rows]?;
-            self.dirty = dirty;
-            let waiting = vec![in alloc; 0; rows / 64 + 1]?;
-            self.waiting = waiting;
-            let touched = vec![in alloc; 0; rows / 64 + 1]?;
-            self.touched = touched;
-        }
-        self.height = height;
-        self.width = width;
-        self.step = step;
+        self.marks.reset(height, width)?;
+        self.fresh.reset(height, width)?;
+        self.waits.clear();
+        self.waits.resize(height as usize, false)?;
         Ok(true)
     }
 
-    /// Adds the pairs of a row with those of a word of states.
+    /// Adds a pair, unless it is there already, or is of a state that is not looked at.
     #[inline(always)]
-    pub fn put(&mut self, row: u32, place: usize, more: u64) {
-        let r = row as usize;
-        let at = r * self.step + place;
-        let old = self.words[at];
-        let new = more & !old;
-        if new != 0 {
-            self.words[at] = old | new;
-            self.fresh[at] = self.fresh[at] | new;
-            let was = self.dirty[r];
-            self.dirty[r] = was | (1 << (place as u32 % 64));
-            if was == 0 {
-                let bit = 1 << (row % 64);
-                self.waiting[r / 64] = self.waiting[r / 64] | bit;
-                self.touched[r / 64] = self.touched[r / 64] | bit;
-            }
+    pub fn visit(&mut self, first: u32, second: u32)
+        requires { Fits self.old }
+        ensures more { IsMore self.old self.new }
+        ensures there { HasFound self.new first second }
+    {
+        if first >= self.marks.high() || second >= self.marks.wide() {
+            return;
+        }
+        if self.marks.insert(first, second) {
+            self.fresh.insert(first, second);
+            self.waits[first as usize] = true;
         }
     }
 
-    /// Whether a pair was found.
+    /// Adds those pairs of a state whose second states are the bits of a word, from 64 times a place on,
+    /// unless the state is not looked at.
     #[inline(always)]
-    pub fn has(&self, first: u32, second: u32) -> bool {
-        if first >= self.height || second >= self.width {
-            return false;
+    pub fn put(&mut self, first: u32, place: u32, word: u64)
+        requires fits { Fits self.old }
+        requires place { place * 64 < self.old.marks.wide }
+        ensures more { IsMore self.old self.new }
+        ensures there { HasWord self.new first place word }
+    {
+        if first >= self.marks.high() {
+            return;
         }
-        (self.words[first as usize * self.step + (second / 64) as usize] >> (second % 64)) & 1 == 1
+        let fresh = self.marks.join_lane(first, place, word);
+        if fresh != 0 {
+            self.fresh.join_lane(first, place, fresh);
+            self.waits[first as usize] = true;
+        }
     }
 
-    /// Adds a pair with all to which empty moves of the second net lead from it.
+    /// Adds a pair, if there is one.
     #[inline(always)]
-    pub fn visit(&mut self, second: &Flat, row: u32, state: u32) -> Result<(), Memory> {
-        if row >= self.height || state >= self.width {
-            return Ok(());
+    fn visit_if(&mut self, target: Option<Pair>)
+        requires { Fits self.old }
+        ensures more { IsMore self.old self.new }
+        ensures there { HasTarget self.new target }
+    {
+        match target {
+            Some(pair) => self.visit(pair.first, pair.second),
+            None => (),
         }
-        let place = (state / 64) as usize;
-        let bit = 1 << (state % 64);
-        if self.words[row as usize * self.step + place] & bit != 0 {
-            return Ok(());
-        }
-        self.put(row, place, bit);
-        if !second.moves(state).is_empty() {
-            self.drift(second, row, state)?;
-        }
-        Ok(())
     }
 
-    /// Adds to a row all to which empty moves of the second net lead from a state.
-    fn drift(&mut self, second: &Flat, row: u32, state: u32) -> Result<(), Memory> {
-        self.stack.clear();
-        self.stack.push(state)?;
-        'stack: while let Some(at) = self.stack.pop() {
-            'moves: for to in second.moves(at) {
-                let to = to.to;
-                if to < self.width && !self.has(row, to) {
-                    self.put(row, (to / 64) as usize, 1 << (to % 64));
-                    if !second.moves(to).is_empty() {
-                        self.stack.push(to)?;
-                    }
-                }
-            }
+    /// Visits the pair that each of the items leads to, if it leads to one.
+    #[inline(always)]
+    pub fn visit_each<T: Copy, F: Fn(T) -> Option<Pair>>(&mut self, items: &[T], target: F)
+        requires fits { Fits self.old }
+        requires target { F.IsAlwaysCallable target }
+        ensures more { IsMore self.old self.new }
+        ensures there { HasAllGiven (F.post target) self.new items.now }
+    {
+        'items: for item in items {
+            self.visit_if(target(*item));
         }
-        Ok(())
     }
 }

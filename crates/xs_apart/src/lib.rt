@@ -14,6 +14,7 @@ mod pair;
 mod reach;
 mod search;
 mod seeds;
+mod shape;
 mod tail;
 
 pub use pair::Pair;

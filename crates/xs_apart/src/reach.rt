@@ -1,136 +1,277 @@
+ghost use Rattle.std.specs.Prelude.{◌≡◌, ℕ, ◌+◌, ◌*◌, ◌<◌, true, false, length};
+ghost use Rattle.std.specs.List.{All};
+ghost use Rattle.xs_apart.specs.Arcs.{SlipsFirst, SlipsSecond, Steps, GoesBy, GoesOn, Joins, HasAll, IsGone, IsOn, IsFor};
+ghost use Rattle.xs_coarse.specs.declared.arc.Arc.{Arc as AnyArc};
+ghost use Rattle.xs_apart.specs.Found.{Fits, IsInside, IsMore, IsBegun, Keeps, Waits, DoesWait, NoneWaits, InWord, InRowFrom, Never};
+ghost use Rattle.xs_apart.specs.Sets.{IsShut};
+
 use crate::found::Found;
 use crate::pair::Pair;
-use xs_class::Memory;
-use xs_coarse::{Flat, Labels, Leg};
+use xs_closed::{Moves, first_bit};
+use xs_coarse::{Arc, Coarse, Labels};
 
 impl Found {
-    /// Adds where two states' arcs lead that may read a common word.
+    /// Visits the targets of an arc and of each other arc with which it may read a common word.
     #[inline(always)]
-    fn join(&mut self, labels: &Labels, second: &Flat, arcs: &[Leg], b: u32) -> Result<(), Memory> {
-        let own = second.own(b);
-        let others = second.reads(b);
-        'arcs: for x in arcs {
-            if labels.wants(x.label) & own != 0 {
-                'others: for y in others {
-                    if labels.meet(x.label, y.label) {
-                        self.visit(second, x.to, y.to)?;
-                    }
+    fn visit_partners(&mut self, labels: &Labels, arc: Arc, others: &[Arc])
+        requires { Fits self.old }
+        ensures more { IsMore self.old self.new }
+        ensures there { All (Joins labels.now self.new arc) others.now }
+    {
+        if arc.label == 0 {
+            return;
+        }
+        self.visit_each(
+            others,
+            |x: Arc| labels
+                .meet(arc.label, x.label)
+                .then_some(Pair::new(arc.to, x.to)),
+        );
+    }
+
+    /// Visits the targets of each two arcs that may read a common word.
+    #[inline(always)]
+    fn visit_boths(&mut self, labels: &Labels, arcs: &[Arc], others: &[Arc])
+        requires { Fits self.old }
+        ensures more { IsMore self.old self.new }
+        ensures there { All (λ (x : AnyArc). All (Joins labels.now self.new x) others.now) arcs.now }
+    {
+        'arcs: for arc in arcs {
+            self.visit_partners(labels, *arc, others);
+        }
+    }
+
+    /// Visits the pairs to which an arc of the second net that reads nothing leads from a pair.
+    #[inline(always)]
+    fn slip_second(&mut self, second: &Coarse, at: Pair)
+        requires fits { Fits self.old }
+        requires at { at.second < second.now.states }
+        ensures more { IsMore self.old self.new }
+        ensures there { HasAll (SlipsSecond second.now) at.first at.second self.new }
+    {
+        self.visit_each(
+            second.row(at.second),
+            |x: Arc| (x.label == 0).then_some(Pair::new(at.first, x.to)),
+        );
+    }
+
+    /// Visits the pairs to which arcs of both nets that may read a common word lead from a pair.
+    #[inline(always)]
+    pub fn step(&mut self, labels: &Labels, first: &Coarse, second: &Coarse, at: Pair)
+        requires fits { Fits self.old }
+        requires at { IsInside first.now.states second.now.states at }
+        ensures more { IsMore self.old self.new }
+        ensures there { HasAll (Steps labels.now first.now second.now) at.first at.second self.new }
+    {
+        self.visit_boths(labels, first.row(at.first), second.row(at.second));
+    }
+
+    /// Adds, for the states of a word beside a state, the pairs to which an arc of the first net that reads
+    /// nothing leads from there.
+    #[inline(always)]
+    fn slip_first(&mut self, first: &Coarse, row: u32, place: u32, word: u64)
+        requires fits { Fits self.old }
+        requires row { row < first.now.states }
+        requires place { place * 64 < self.old.marks.wide }
+        ensures more { IsMore self.old self.new }
+        ensures there { (b : ℕ) → InWord row place word row b → HasAll (SlipsFirst first.now) row b self.new }
+    {
+        'arcs: for x in first.row(row) {
+            if x.label == 0 {
+                self.put(x.to, place, word);
+            }
+        }
+    }
+
+    /// Visits the pairs to which a pair leads by arcs of the second net that read nothing, and by arcs of
+    /// both nets that may read a common word, if those count.
+    #[inline(always)]
+    fn go(&mut self, labels: &Labels, first: &Coarse, second: &Coarse, moves: Moves, at: Pair)
+        requires fits { Fits self.old }
+        requires at { IsInside first.now.states second.now.states at }
+        ensures more { IsMore self.old self.new }
+        ensures there { HasAll (GoesOn moves labels.now first.now second.now) at.first at.second self.new }
+    {
+        self.slip_second(second, at);
+        match moves {
+            Moves::Empty => (),
+            Moves::Every => self.step(labels, first, second, at),
+        }
+    }
+
+    /// Goes on so from the pairs of a state with the states of a word.
+    #[inline(always)]
+    fn go_bits(
+        &mut self,
+        labels: &Labels,
+        first: &Coarse,
+        second: &Coarse,
+        moves: Moves,
+        row: u32,
+        place: u32,
+        word: u64,
+    )
+        requires nets { IsFor first.now second.now self.old }
+        requires fits { Fits self.old }
+        requires row { row < length self.old.marks.rows }
+        ensures more { IsMore self.old self.new }
+        ensures there { (b : ℕ) → InWord row place word row b → b < self.old.marks.wide → HasAll (GoesOn moves labels.now first.now second.now) row b self.new }
+    {
+        let wide = self.marks.wide() as u64;
+        let mut from = 0;
+        'bits: while from < 64 {
+            let Some(bit) = first_bit(word, from) else {
+                return;
+            };
+            let state = place as u64 * 64 + bit as u64;
+            if state >= wide {
+                return;
+            }
+            self.go(labels, first, second, moves, Pair::new(row, state as u32));
+            from = bit + 1;
+        }
+    }
+
+    /// Goes on from the pairs of a state with the states of a word.
+    fn go_word(
+        &mut self,
+        labels: &Labels,
+        first: &Coarse,
+        second: &Coarse,
+        moves: Moves,
+        row: u32,
+        place: u32,
+        word: u64,
+    )
+        requires nets { IsFor first.now second.now self.old }
+        requires fits { Fits self.old }
+        requires row { row < length self.old.marks.rows }
+        requires place { place * 64 < self.old.marks.wide }
+        ensures more { IsMore self.old self.new }
+        ensures there { (b : ℕ) → InWord row place word row b → b < self.old.marks.wide → HasAll (GoesBy moves labels.now first.now second.now) row b self.new }
+    {
+        self.slip_first(first, row, place, word);
+        self.go_bits(labels, first, second, moves, row, place, word);
+    }
+
+    /// Takes the fresh pairs of a state, from 64 times a place on, and goes on from them.
+    #[inline(always)]
+    fn go_lane(
+        &mut self,
+        labels: &Labels,
+        first: &Coarse,
+        second: &Coarse,
+        moves: Moves,
+        row: u32,
+        place: u32,
+    )
+        requires nets { IsFor first.now second.now self.old }
+        requires fits { Fits self.old }
+        requires row { row < length self.old.marks.rows }
+        requires place { place * 64 < self.old.marks.wide }
+        requires waits { Waits (InRowFrom row place) self.old }
+        requires gone { IsGone (GoesBy moves labels.now first.now second.now) Never self.old }
+        ensures keeps { Keeps self.old self.new }
+        ensures waits { Waits (InRowFrom row (place + 1)) self.new }
+        ensures gone { IsGone (GoesBy moves labels.now first.now second.now) Never self.new }
+    {
+        let word = self.fresh.take_lane(row, place);
+        if word != 0 {
+            self.go_word(labels, first, second, moves, row, place, word);
+        }
+    }
+
+    /// Goes on from the fresh pairs of a state, which waits no more.
+    fn go_row(&mut self, labels: &Labels, first: &Coarse, second: &Coarse, moves: Moves, row: u32)
+        requires nets { IsFor first.now second.now self.old }
+        requires fits { Fits self.old }
+        requires row { row < length self.old.marks.rows }
+        requires waits { Waits (InRowFrom row 0) self.old }
+        requires gone { IsGone (GoesBy moves labels.now first.now second.now) Never self.old }
+        ensures keeps { Keeps self.old self.new }
+        ensures on { IsOn (GoesBy moves labels.now first.now second.now) self.new }
+    {
+        let lanes = ((self.marks.wide() as u64 + 63) / 64) as u32;
+        'places: for place in 0..lanes {
+            self.go_lane(labels, first, second, moves, row, place);
+        }
+    }
+
+    /// Goes on from a state, if it waits; says whether it did.
+    #[inline(always)]
+    fn go_waiting(
+        &mut self,
+        labels: &Labels,
+        first: &Coarse,
+        second: &Coarse,
+        moves: Moves,
+        row: u32,
+    ) -> bool
+        requires nets { IsFor first.now second.now self.old }
+        requires row { row < length self.old.marks.rows }
+        requires on { IsOn (GoesBy moves labels.now first.now second.now) self.old }
+        ensures keeps { Keeps self.old self.new }
+        ensures on { IsOn (GoesBy moves labels.now first.now second.now) self.new }
+        ensures still { result ≡ false → (DoesWait self.old row → ⊥) × (self.new ≡ self.old) }
+    {
+        if !self.waits[row as usize] {
+            return false;
+        }
+        self.waits[row as usize] = false;
+        self.go_row(labels, first, second, moves, row);
+        true
+    }
+
+    /// Goes on once from each state that waits, or from some, if the goal is found; says whether any did.
+    fn sweep(
+        &mut self,
+        labels: &Labels,
+        first: &Coarse,
+        second: &Coarse,
+        moves: Moves,
+        goal: Pair,
+    ) -> bool
+        requires nets { IsFor first.now second.now self.old }
+        requires on { IsOn (GoesBy moves labels.now first.now second.now) self.old }
+        ensures keeps { Keeps self.old self.new }
+        ensures on { IsOn (GoesBy moves labels.now first.now second.now) self.new }
+        ensures still { result ≡ false → NoneWaits self.new }
+    {
+        let mut any = false;
+        'rows: for row in 0..self.marks.high() {
+            if self.go_waiting(labels, first, second, moves, row) {
+                any = true;
+                if self.marks.has(goal.first, goal.second) {
+                    return true;
                 }
             }
         }
-        Ok(())
+        any
     }
 
-    /// Adds where arcs lead from a state, beside those states of a word whose arcs may read a common
-    /// word with them.
-    #[inline(always)]
-    pub fn join_word(&mut self, labels: &Labels, first: &Flat, second: &Flat, row: u32, place: usize, word: u64) -> Result<(), Memory> {
-        let arcs = first.reads(row);
-        let wants = first.wants(row);
-        let mut left = word & second.readers(place);
-        'states: while left != 0 {
-            let b = place as u32 * 64 + left.trailing_zeros();
-            left = left & (left - 1);
-            if wants & second.own(b) != 0 {
-                self.join(labels, second, arcs, b)?;
+    /// Adds all pairs to which the pairs lead by these moves. Answers false as soon as it comes to the goal.
+    pub fn close(
+        &mut self,
+        labels: &Labels,
+        first: &Coarse,
+        second: &Coarse,
+        moves: Moves,
+        goal: Pair,
+    ) -> bool
+        requires nets { IsFor first.now second.now self.old }
+        requires begun { IsBegun self.old }
+        ensures keeps { Keeps self.old self.new }
+        ensures shut { result ≡ true → IsShut (GoesBy moves labels.now first.now second.now) goal (length self.new.marks.rows) self.new.marks.wide self.new.marks }
+    {
+        'sweeps: for _ in 0..u64::MAX {
+            let went = self.sweep(labels, first, second, moves, goal);
+            if self.marks.has(goal.first, goal.second) {
+                return false;
             }
-        }
-        Ok(())
-    }
-
-    /// Goes on from the new pairs of a word of a row.
-    #[inline(always)]
-    fn go_word(&mut self, labels: &Labels, first: &Flat, second: &Flat, row: u32, place: usize, steps: bool) -> Result<(), Memory> {
-        let at = row as usize * self.step + place;
-        let fresh = self.fresh[at];
-        if fresh == 0 {
-            return Ok(());
-        }
-        self.fresh[at] = 0;
-        'moves: for to in first.moves(row) {
-            if to.to < self.height {
-                self.put(to.to, place, fresh);
-            }
-        }
-        if steps {
-            self.join_word(labels, first, second, row, place, fresh)?;
-        }
-        Ok(())
-    }
-
-    /// Goes on from the new pairs of a row.
-    fn go_row(&mut self, labels: &Labels, first: &Flat, second: &Flat, row: u32, steps: bool) -> Result<(), Memory> {
-        let mut left = self.dirty[row as usize];
-        self.dirty[row as usize] = 0;
-        let reads = steps && !first.reads(row).is_empty();
-        'folds: while left != 0 {
-            let mut place = left.trailing_zeros() as usize;
-            left = left & (left - 1);
-            'places: while place < self.step {
-                self.go_word(labels, first, second, row, place, reads)?;
-                place += 64;
-            }
-        }
-        Ok(())
-    }
-
-    /// Goes on from the new pairs of 64 rows until there are none. Answers false as soon as it comes to
-    /// the goal.
-    fn go_line(&mut self, labels: &Labels, first: &Flat, second: &Flat, line: usize, goal: Pair, steps: bool) -> Result<bool, Memory> {
-        'rows: for _ in 0..usize::MAX {
-            let left = self.waiting[line];
-            if left == 0 {
-                return Ok(true);
-            }
-            self.waiting[line] = left & (left - 1);
-            self.go_row(labels, first, second, line as u32 * 64 + left.trailing_zeros(), steps)?;
-            if self.has(goal.first, goal.second) {
-                return Ok(false);
-            }
-        }
-        Ok(false)
-    }
-
-    fn sweep(&mut self, labels: &Labels, first: &Flat, second: &Flat, goal: Pair, steps: bool) -> Result<bool, Memory> {
-        let lines = (self.height as usize + 63) / 64;
-        'lines: for line in 0..lines {
-            if !self.go_line(labels, first, second, line, goal, steps)? {
-                return Ok(false);
-            }
-        }
-        Ok(true)
-    }
-
-    fn waits(&self) -> bool {
-        let lines = (self.height as usize + 63) / 64;
-        'lines: for line in 0..lines {
-            if self.waiting[line] != 0 {
+            if !went {
                 return true;
             }
         }
         false
-    }
-
-    fn close_by(&mut self, labels: &Labels, first: &Flat, second: &Flat, goal: Pair, steps: bool) -> Result<bool, Memory> {
-        if self.has(goal.first, goal.second) {
-            return Ok(false);
-        }
-        'sweeps: for _ in 0..usize::MAX {
-            if !self.sweep(labels, first, second, goal, steps)? {
-                return Ok(false);
-            }
-            if !self.waits() {
-                return Ok(true);
-            }
-        }
-        Ok(false)
-    }
-
-    pub fn close(&mut self, labels: &Labels, first: &Flat, second: &Flat, goal: Pair) -> Result<bool, Memory> {
-        self.close_by(labels, first, second, goal, true)
-    }
-
-    pub fn close_slips(&mut self, labels: &Labels, net: &Flat) -> Result<bool, Memory> {
-        self.close_by(labels, net, net, Pair::new(u32::MAX, u32::MAX), false)
     }
 }

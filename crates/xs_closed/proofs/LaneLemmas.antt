@@ -1,12 +1,13 @@
 -- A row of a table of marks in words: clearing it, and its words.
-use Rattle.std.proofs.Common.{◌≡◌, ℕ, zero, suc, ◌+◌, ◌-◌, ◌*◌, ◌/◌, ◌%◌, ◌<◌, ◌≤◌, nat_eq, List, length, get_or, refl, sym, ap, ◌∙◌, subst, inl, inr, arith}
-use Rattle.std.specs.Int.{bit_at}
+use Rattle.std.proofs.Common.{◌≡◌, ◌≢◌, ℕ, zero, suc, ◌+◌, ◌-◌, ◌*◌, ◌/◌, ◌%◌, ◌^◌, ◌<◌, ◌≤◌, nat_eq, not, ◌&&◌, ◌||◌, bit_and, bit_or, w64, max, min, List, length, get_or, set, refl, sym, ap, ◌∙◌, subst, inl, inr, arith, length-set, get_or-set_same, get_or-set_other}
+use Rattle.std.specs.Int.{bit_at, bit_not}
 use Rattle.std.proofs.lemmas.Bool.{cases_eq, cases_lt}
-use Rattle.std.proofs.lemmas.Nat.{mul-add-lt}
-use Rattle.std.proofs.lemmas.Nat.Bits.{bit_at-zero}
-use Rattle.xs_closed.specs.Rows.{Grid}
+use Rattle.std.proofs.lemmas.List.{get_or_past}
+use Rattle.std.proofs.lemmas.Nat.{mul-add-lt, same_from_place}
+use Rattle.std.proofs.lemmas.Nat.Bits.{bit_at-zero, bit_at-lt, bit_at_and, bit_at_or, bit_at_not}
+use Rattle.xs_closed.specs.Rows.{Grid, marked}
 use Rattle.xs_closed.specs.Words.{grid_of, IsPacked, IsCleared}
-use Rattle.xs_closed.specs.Lanes.{HasNoRow, IsLane}
+use Rattle.xs_closed.specs.Lanes.{HasNoRow, IsLane, JoinsLane, IsFreshLane, HasNoLane}
 use Rattle.xs_closed.proofs.WordLemmas.{rows_length, pair_read, pair_blank, past_high, past_wide}
 
 -- the words of a row are there
@@ -72,4 +73,89 @@ lane_inside {high} {wide} {step} {used} {words} a place h e l m =
 pub lane_read : (high wide step : ℕ) (words : List ℕ) (a place word : ℕ) → a < high → word ≡ get_or words (a * step + place) 0 → IsLane (grid_of high wide step words) a place word
 lane_read high wide step words a place word l e = record {
   marks = λ b at m. pair_read high wide step words a b l m ∙ rw (e, at) refl;
+}
+
+-- a word of row a was changed: the bits of that word, and all others
+pub lane_here : (high wide step used : ℕ) (words : List ℕ) (a place w b : ℕ) → IsPacked high wide step used words → a < high → b < wide → b / 64 ≡ place → marked (grid_of high wide step (set words (a * step + place) w)) a b ≡ nat_eq (bit_at w (b % 64)) 1
+lane_here high wide step used words a place w b h l m e =
+    let within = lane_within high wide step used words a place h l (omega (arith, m, e)) in
+    pair_read high wide step _ a b l m ∙ ap (λ v. nat_eq (bit_at v (b % 64)) 1) (ap (λ p. get_or (set words (a * step + place) w) (a * step + p) 0) e ∙ get_or-set_same words (a * step + place) w 0 within)
+
+pub lane_other : (high wide step used : ℕ) (words : List ℕ) (a place w c d : ℕ) → IsPacked high wide step used words → place * 64 < wide → ((c ≡ a) × (d / 64 ≡ place) → ⊥) → marked (grid_of high wide step (set words (a * step + place) w)) c d ≡ marked (grid_of high wide step words) c d
+lane_other high wide step used words a place w c d h l ne = elim (cases_lt c high) [
+  | inr o ↦ past_high high wide step _ c d o ∙ sym (past_high high wide step words c d o)
+  | inl o ↦ elim (cases_lt d wide) [
+    | inr p ↦ past_wide high wide step _ c d p ∙ sym (past_wide high wide step words c d p)
+    | inl p ↦ pair_read high wide step _ c d o p ∙ ap (λ v. nat_eq (bit_at v (d % 64)) 1) (get_or-set_other words (a * step + place) (c * step + d / 64) w 0 (apart p)) ∙ sym (pair_read high wide step words c d o p)
+  ]
+]
+  where
+    apart : d < wide → c * step + d / 64 ≢ a * step + place
+    apart p e = ne (same_from_place c (d / 64) a place step (omega (arith, h.columns, p)) (omega (arith, h.columns, l)) e)
+
+-- the bits of two words joined, and of those that are only in the first
+or_bit : (x y i : ℕ) → nat_eq (bit_at (bit_or x y) i) 1 ≡ (nat_eq (bit_at x i) 1 || nat_eq (bit_at y i) 1)
+or_bit x y i = rw bit_at_or (two (bit_at x i) (bit_at y i) (bit_at-lt x i) (bit_at-lt y i))
+  where
+    two : (p q : ℕ) → p < 2 → q < 2 → nat_eq (max p q) 1 ≡ (nat_eq p 1 || nat_eq q 1)
+    two 0 0 l m = refl
+    two 0 1 l m = refl
+    two 1 0 l m = refl
+    two 1 1 l m = refl
+    two 0 (suc (suc q)) l m = absurd (omega (arith, m))
+    two 1 (suc (suc q)) l m = absurd (omega (arith, m))
+    two (suc (suc p)) q l m = absurd (omega (arith, l))
+
+but_bit : (x y i : ℕ) → y < 2 ^ 64 → i < 64 → nat_eq (bit_at (bit_and x (bit_not w64 y)) i) 1 ≡ (nat_eq (bit_at x i) 1 && not (nat_eq (bit_at y i) 1))
+but_bit x y i fits l = rw (bit_at_and, bit_at_not w64 y i fits l) (two (bit_at x i) (bit_at y i) (bit_at-lt x i) (bit_at-lt y i))
+  where
+    two : (p q : ℕ) → p < 2 → q < 2 → nat_eq (min p (1 - q)) 1 ≡ (nat_eq p 1 && not (nat_eq q 1))
+    two 0 0 l m = refl
+    two 0 1 l m = refl
+    two 1 0 l m = refl
+    two 1 1 l m = refl
+    two 0 (suc (suc q)) l m = absurd (omega (arith, m))
+    two 1 (suc (suc q)) l m = absurd (omega (arith, m))
+    two (suc (suc p)) q l m = absurd (omega (arith, l))
+
+-- a word of row a was joined with another
+pub lane_joins : (high wide step used : ℕ) (words : List ℕ) (a place more : ℕ) → IsPacked high wide step used words → a < high → place * 64 < wide → JoinsLane (grid_of high wide step words) (grid_of high wide step (set words (a * step + place) (bit_or (get_or words (a * step + place) 0) more))) a place more
+lane_joins high wide step used words a place more h l m = record {
+  here = λ b e p.
+      lane_here high wide step used words a place _ b h l p e
+      ∙ or_bit (get_or words (a * step + place) 0) more (b % 64)
+      ∙ ap (λ k. k || nat_eq (bit_at more (b % 64)) 1) (sym (pair_read high wide step words a b l p ∙ ap (λ q. nat_eq (bit_at (get_or words (a * step + q) 0) (b % 64)) 1) e));
+  others = λ c d ne. lane_other high wide step used words a place _ c d h m ne;
+}
+
+pub lane_fresh : (high wide step : ℕ) (words : List ℕ) (a place more : ℕ) → a < high → get_or words (a * step + place) 0 < 2 ^ 64 → IsFreshLane (grid_of high wide step words) a place more (bit_and more (bit_not w64 (get_or words (a * step + place) 0)))
+lane_fresh high wide step words a place more l fits = record {
+  bits = λ b e p.
+      but_bit more (get_or words (a * step + place) 0) (b % 64) fits (omega arith)
+      ∙ ap (λ k. nat_eq (bit_at more (b % 64)) 1 && not k) (sym (pair_read high wide step words a b l p ∙ ap (λ q. nat_eq (bit_at (get_or words (a * step + q) 0) (b % 64)) 1) e));
+}
+
+-- a word of row a was taken out
+pub lane_taken : (high wide step used : ℕ) (words : List ℕ) (a place : ℕ) → IsPacked high wide step used words → a < high → place * 64 < wide → HasNoLane (grid_of high wide step words) (grid_of high wide step (set words (a * step + place) 0)) a place
+lane_taken high wide step used words a place h l m = record {
+  clear = λ b e. elim (cases_lt b wide) [
+    | inl p ↦ lane_here high wide step used words a place 0 b h l p e ∙ ap (λ k. nat_eq k 1) (bit_at-zero (b % 64))
+    | inr p ↦ past_wide high wide step _ a b p
+  ];
+  others = λ c d ne. lane_other high wide step used words a place 0 c d h m ne;
+}
+
+-- a word that is 0 now is used no more than before
+pub taken_packed : (high wide step used place : ℕ) (words : List ℕ) → IsPacked high wide step used words → IsPacked high wide step used (set words place 0)
+taken_packed high wide step used place words h = record {
+  room = rw length-set h.room;
+  columns = h.columns;
+  within = rw length-set h.within;
+  unused = λ k l. elim (cases_eq k place) [
+    | inl e ↦ elim (cases_lt place (length words)) [
+      | inl m ↦ rw e (get_or-set_same words place 0 0 m)
+      | inr m ↦ get_or_past (set words place 0) k 0 (rw length-set (omega (arith, m, e)))
+    ]
+    | inr ne ↦ get_or-set_other words place k 0 0 ne ∙ h.unused k l
+  ];
 }

@@ -1,3 +1,4 @@
+mod lanes;
 mod within;
 mod words;
 
@@ -7,7 +8,9 @@ ghost use Rattle.xs_closed.specs.Lanes.{HasNoRow, IsLane};
 
 use std::alloc::Global;
 use std::marker::Model;
-use words::{clear_row_words, clear_words, first_bit, grow_words, set_bit, word_of};
+use words::{clear_row_words, clear_words, grow_words, set_bit, word_of};
+
+pub use words::first_bit;
 use xs_class::Memory;
 
 /// A set of pairs of numbers, each below a bound: a table with a bit for each pair.

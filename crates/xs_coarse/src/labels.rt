@@ -21,7 +21,6 @@ pub struct Labels {
     groups: u32,
     width: usize,
     bits: Vec<bool>,
-    wants: Vec<u64>,
 }
 
 impl Model for Labels {
@@ -57,13 +56,11 @@ impl Labels {
         }
         let width = 1 + classes.len() + lefts.len();
         let bits = bits_of(alloc, classes, &lefts, width)?;
-        let wants = wants_of(alloc, &bits, width)?;
         Ok(Labels {
             known,
             groups: lefts.len() as u32,
             width,
             bits,
-            wants,
         })
     }
 
@@ -110,12 +107,6 @@ impl Labels {
         }
     }
 
-    /// The labels that one may meet, folded to 64.
-    #[inline(always)]
-    pub fn wants(&self, l: u32) -> u64 {
-        self.wants[l as usize]
-    }
-
     /// Notes that two groups read no common word.
     pub fn part(&mut self, h: u32, k: u32)
         requires first { h < self.old.groups }
@@ -128,18 +119,4 @@ impl Labels {
         self.bits[a * self.width + b] = false;
         self.bits[b * self.width + a] = false;
     }
-}
-
-/// For each label those that it may meet, folded to 64.
-fn wants_of(alloc: Global, bits: &[bool], width: usize) -> Result<Vec<u64>, Memory> {
-    let mut all = Vec::with_capacity(alloc, width)?;
-    'labels: for l in 0..width {
-        let row = &bits[l * width..l * width + width];
-        let mut wants: u64 = 0;
-        'others: for k in 0..width {
-            wants = wants | ((row[k] as u64) << (k as u32 % 64));
-        }
-        all.push(wants)?;
-    }
-    Ok(all)
 }

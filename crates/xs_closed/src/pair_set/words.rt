@@ -1,5 +1,5 @@
-ghost use Rattle.std.specs.Prelude.{◌≡◌, ℕ, ◌+◌, ◌*◌, ◌/◌, ◌≤◌, ◌<◌, length, get_or, not, OnOk, IfSome, IfNone};
-ghost use Rattle.std.specs.Int.{bit_at};
+ghost use Rattle.std.specs.Prelude.{◌≡◌, ℕ, ◌+◌, ◌*◌, ◌/◌, ◌≤◌, ◌<◌, length, get_or, set, not, bit_and, bit_or, w64, OnOk, IfSome, IfNone};
+ghost use Rattle.std.specs.Int.{bit_at, bit_not};
 ghost use Rattle.xs_closed.specs.Words.{bit_in, with_pair, IsCleared, IsFirstBit};
 
 use xs_class::Memory;
@@ -27,6 +27,40 @@ pub fn set_bit(words: &mut Vec<u64>, step: usize, row: u32, column: u32) -> (usi
     let word = words[place];
     words[place] = word | (1 << bit);
     (place, (word >> bit) & 1 == 0)
+}
+
+/// Sets the bits of a word in a word of a row, where each row has that many; gives the place of the
+/// row's word, and the bits that were not set.
+#[inline(always)]
+pub fn join_bits(
+    words: &mut Vec<u64>,
+    step: usize,
+    row: u32,
+    lane: u32,
+    more: u64,
+) -> (usize, u64)
+    requires { row * step + lane < length words.old.items }
+    ensures place { result.0 ≡ row * step + lane }
+    ensures words { words.new.items ≡ set words.old.items (row * step + lane) (bit_or (get_or words.old.items (row * step + lane) 0) more) }
+    ensures fresh { result.1 ≡ bit_and more (bit_not w64 (get_or words.old.items (row * step + lane) 0)) }
+{
+    let place = row as usize * step + lane as usize;
+    let word = words[place];
+    words[place] = word | more;
+    (place, more & !word)
+}
+
+/// Sets a word of a row to 0, where each row has that many, and gives what it was.
+#[inline(always)]
+pub fn take_word(words: &mut Vec<u64>, step: usize, row: u32, lane: u32) -> u64
+    requires { row * step + lane < length words.old.items }
+    ensures word { result ≡ get_or words.old.items (row * step + lane) 0 }
+    ensures words { words.new.items ≡ set words.old.items (row * step + lane) 0 }
+{
+    let place = row as usize * step + lane as usize;
+    let word = words[place];
+    words[place] = 0;
+    word
 }
 
 /// Sets each word to 0, where none is used from some word on.
