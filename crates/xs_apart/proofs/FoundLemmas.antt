@@ -237,10 +237,13 @@ module _ (f g : Found) (row place word : ℕ) (marks : g.marks ≡ f.marks) (wai
       let old = taken_old a b h in
       elim (before a b old.0) [
         | inl now ↦ inl (ap (λ ws. get_or ws a false) waits ∙ now)
-        | inr e ↦ inr (e.0, elim (cases_eq (b / 64) place) [
-          | inl same ↦ absurd (old.1 (e.0, same))
-          | inr ne ↦ omega (arith, ne, e.1)
-        ])
+        | inr e ↦ inr (
+          e.0,
+          elim (cases_eq (b / 64) place) [
+            | inl same ↦ absurd (old.1 (e.0, same))
+            | inr ne ↦ omega (arith, ne, e.1)
+          ],
+        )
       ]
 
   -- but for those of the lane, all are fresh or gone on from

@@ -1,11 +1,11 @@
 -- How a search grows: what it has found stays, and what it has gone on from is closed.
-use Rattle.std.proofs.Common.{◌≡◌, ℕ, ◌+◌, ◌<◌, ◌≤◌, true, false, List, [], length, get_or, take, replicate, refl, sym, ap, ◌∙◌, inl, inr, arith}
+use Rattle.std.proofs.Common.{◌≡◌, ℕ, ◌+◌, ◌<◌, ◌≤◌, true, false, List, [], length, get_or, take, replicate, refl, sym, ap, subst, ◌∙◌, inl, inr, arith}
 use Rattle.std.specs.List.{All}
 use Rattle.std.proofs.lemmas.Bool.{cases_lt, true≢false}
 use Rattle.std.proofs.lemmas.List.{take_all, get_or-replicate, length-replicate, get_or_past}
 use Rattle.std.proofs.lemmas.List.Elements.{All-weaker, All-more}
 use Rattle.xs_coarse.specs.Coarse.{Net}
-use Rattle.xs_closed.specs.Rows.{Grid, blank, marked, IsSized}
+use Rattle.xs_closed.specs.Rows.{Grid, blank, marked, IsSized, IsNext}
 use Rattle.xs_apart.specs.declared.pair.Pair.{Pair}
 use Rattle.xs_apart.specs.declared.found.Found.{Found}
 use Rattle.xs_apart.specs.Arcs.{HasFound, HasAll, IsGone, IsOn, IsFor, IsClosedWithin}
@@ -193,3 +193,22 @@ shut_at_end L goal {f} on none other = record {
   ];
   without = λ h. true≢false (sym h ∙ sym other);
 }
+
+-- a partner that is before the least one from a number on is before that number
+pub next_or : (z : Grid) (a from next b : ℕ) (P : ℕ → Type 0) → IsNext z a from next → b ≤ next → HasPair z a b → (b < from → P b) → P next → P b
+next_or z a from next b P is low h before here = elim (cases_lt b from) [
+  | inl less ↦ before less
+  | inr more ↦ elim (cases_lt b next) [
+    | inl less ↦ absurd (true≢false (sym h ∙ is.least b more less))
+    | inr most ↦ let same : next ≡ b = omega (arith, low, most) in subst P same here
+  ]
+]
+
+pub none_from : (z : Grid) (a from b : ℕ) → ((b : ℕ) → from ≤ b → marked z a b ≡ false) → HasPair z a b → b < from
+none_from z a from b none h = elim (cases_lt b from) [
+  | inl less ↦ less
+  | inr more ↦ absurd (true≢false (sym h ∙ none b more))
+]
+
+pub wide_inside : {high wide : ℕ} {z : Grid} → IsSized high wide z → (a b : ℕ) → HasPair z a b → b < wide
+wide_inside sized a b h = (sized_inside sized a b h).second

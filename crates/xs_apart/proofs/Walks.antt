@@ -9,7 +9,7 @@ use Rattle.xs_coarse.specs.declared.arc.Arc.{Arc}
 use Rattle.xs_coarse.specs.Coarse.{Table, may_meet}
 use Rattle.xs_apart.specs.declared.pair.Pair.{Pair}
 use Rattle.xs_apart.specs.declared.found.Found.{Found}
-use Rattle.xs_apart.specs.Arcs.{HasFound, HasTarget, HasGiven, HasAllGiven, Joins}
+use Rattle.xs_apart.specs.Arcs.{HasFound, HasTarget, HasWord, HasGiven, HasAllGiven, Joins}
 use Rattle.xs_apart.specs.Found.{IsMore, Fits, pair}
 use Rattle.xs_apart.proofs.GrowthLemmas.{more_same, more_then, more_found, each_next, each_all}
 
@@ -60,3 +60,6 @@ joins_by t f x others all = All-weaker (λ y. HasTarget f (joint_target t x y)) 
 
 pub joins_stay : (t : Table) {f g : Found} (others : List Arc) (x : Arc) → IsMore f g → All (Joins t f x) others → All (Joins t g x) others
 joins_stay t {f} {g} others x more all = All-weaker (Joins t f x) (Joins t g x) (λ y h a b meet. more_found more x.to y.to (h a b meet)) others all
+
+pub word_stays : {f g : Found} → IsMore f g → (a place word : ℕ) → HasWord f a place word → HasWord g a place word
+word_stays more a place word h b e bit = more_found more a b (h b e bit)

@@ -1,6 +1,6 @@
 ghost use Rattle.std.specs.Prelude.{◌≡◌, ℕ, ◌+◌, ◌*◌, ◌<◌, true, false, length};
 ghost use Rattle.std.specs.List.{All};
-ghost use Rattle.xs_apart.specs.Arcs.{SlipsFirst, SlipsSecond, Steps, GoesBy, GoesOn, Joins, HasAll, IsGone, IsOn, IsFor};
+ghost use Rattle.xs_apart.specs.Arcs.{SlipsFirst, SlipsSecond, Steps, GoesBy, GoesOn, Joins, HasAll, HasWord, IsGone, IsOn, IsFor};
 ghost use Rattle.xs_coarse.specs.declared.arc.Arc.{Arc as AnyArc};
 ghost use Rattle.xs_apart.specs.Found.{Fits, IsInside, IsMore, IsBegun, Keeps, Waits, DoesWait, NoneWaits, InWord, InRowFrom, Never};
 ghost use Rattle.xs_apart.specs.Sets.{IsShut};
@@ -66,6 +66,19 @@ impl Found {
         self.visit_boths(labels, first.row(at.first), second.row(at.second));
     }
 
+    /// Adds the target of an arc beside the states of a word, if it reads nothing.
+    #[inline(always)]
+    fn slip_arc(&mut self, x: Arc, place: u32, word: u64)
+        requires fits { Fits self.old }
+        requires place { place * 64 < self.old.marks.wide }
+        ensures more { IsMore self.old self.new }
+        ensures there { x.label ≡ 0 → HasWord self.new x.to place word }
+    {
+        if x.label == 0 {
+            self.put(x.to, place, word);
+        }
+    }
+
     /// Adds, for the states of a word beside a state, the pairs to which an arc of the first net that reads
     /// nothing leads from there.
     #[inline(always)]
@@ -76,10 +89,9 @@ impl Found {
         ensures more { IsMore self.old self.new }
         ensures there { (b : ℕ) → InWord row place word row b → HasAll (SlipsFirst first.now) row b self.new }
     {
-        'arcs: for x in first.row(row) {
-            if x.label == 0 {
-                self.put(x.to, place, word);
-            }
+        let arcs = first.row(row);
+        'arcs: for x in arcs {
+            self.slip_arc(*x, place, word);
         }
     }
 

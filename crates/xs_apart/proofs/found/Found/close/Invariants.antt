@@ -1,10 +1,9 @@
-use Rattle.xs_apart.specs.Arcs.{Goes, IsClosedBelow}
-use Rattle.xs_apart.specs.Found.{IsMore, IsNotBelow}
+use Rattle.xs_apart.specs.Arcs.{GoesBy, IsOn}
+use Rattle.xs_apart.specs.Found.{Keeps}
 use Rattle.xs_apart.proofs.found.Found.close.Given as goal
 
-abbrev pub invariant-places : goal.invariant-places
-invariant-places l = record {
-  more : IsMore l.initial.self l.self;
-  closed : IsClosedBelow (Goes l.labels l.first l.second) l.place l.self;
-  without : IsNotBelow l.goal l.place l.self.pairs.items;
+abbrev pub invariant-sweeps : goal.invariant-sweeps
+invariant-sweeps l = record {
+  keeps : Keeps l.initial.self l.self;
+  on : IsOn (GoesBy l.moves l.labels l.first l.second) l.self;
 }

@@ -12,9 +12,9 @@ states-preserved c = record {
   more = more_then c.states.invariant.more c.visit.ensures.more;
   there = λ b from before. elim (cases_lt b c.states.second) [
     | inl less ↦ more_found c.visit.ensures.more c.args.first b (c.states.invariant.there b from less)
-    | inr more ↦ subst (λ (k : ℕ). HasFound c.visit.new.self c.args.first k) (omega (arith, before, more)) c.in_ok-visit.ensures.ok
+    | inr more ↦ subst (λ (k : ℕ). HasFound c.visit.new.self c.args.first k) (omega (arith, before, more)) c.visit.ensures.there
   ];
 }
 
-pub returns-clause-ok : goal.returns-clause-ok
-returns-clause-ok c = λ b from before. c.states.invariant.there b from (omega (arith, before, c.states-test.false))
+pub returns-clause-there : goal.returns-clause-there
+returns-clause-there c = λ b from before. c.states.invariant.there b from (omega (arith, before, c.states-test.false))

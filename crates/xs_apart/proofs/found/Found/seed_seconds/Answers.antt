@@ -12,9 +12,9 @@ states-preserved c = record {
   more = more_then c.states.invariant.more c.visit.ensures.more;
   there = λ a before. elim (cases_lt a c.states.first) [
     | inl less ↦ more_found c.visit.ensures.more a c.args.second (c.states.invariant.there a less)
-    | inr more ↦ subst (λ (k : ℕ). HasFound c.visit.new.self k c.args.second) (omega (arith, before, more)) c.in_ok-visit.ensures.ok
+    | inr more ↦ subst (λ (k : ℕ). HasFound c.visit.new.self k c.args.second) (omega (arith, before, more)) c.visit.ensures.there
   ];
 }
 
-pub returns-clause-ok : goal.returns-clause-ok
-returns-clause-ok c = λ a before. c.states.invariant.there a (omega (arith, before, c.states-test.false))
+pub returns-clause-there : goal.returns-clause-there
+returns-clause-there c = λ a before. c.states.invariant.there a (omega (arith, before, c.states-test.false))

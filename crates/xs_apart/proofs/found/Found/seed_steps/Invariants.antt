@@ -1,6 +1,10 @@
-use Rattle.xs_apart.proofs.LayerLemmas.{StepsFrom}
-use Rattle.xs_apart.proofs.Walks.{Walked}
+use Rattle.std.proofs.Common.{ℕ, ◌<◌}
+use Rattle.xs_apart.specs.Arcs.{HasAll, Steps}
+use Rattle.xs_apart.specs.Found.{HasPair, IsMore}
 use Rattle.xs_apart.proofs.found.Found.seed_steps.Given as goal
 
-abbrev pub invariant-pairs : goal.invariant-pairs
-invariant-pairs l = Walked (StepsFrom l.labels l.net) l.pairs l.initial.self l.pair-index l.self
+abbrev pub invariant-rows : goal.invariant-rows
+invariant-rows l = record {
+  more : IsMore l.initial.self l.self;
+  there : (a b : ℕ) → a < l.row → HasPair l.pairs a b → HasAll (Steps l.labels l.net l.net) a b l.self;
+}

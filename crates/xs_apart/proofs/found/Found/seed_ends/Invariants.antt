@@ -1,0 +1,10 @@
+use Rattle.std.proofs.Common.{ℕ, ◌<◌, ◌≤◌}
+use Rattle.xs_apart.specs.Arcs.{HasAll, Steps}
+use Rattle.xs_apart.specs.Found.{IsMore}
+use Rattle.xs_apart.proofs.found.Found.seed_ends.Given as goal
+
+abbrev pub invariant-firsts : goal.invariant-firsts
+invariant-firsts l = record {
+  more : IsMore l.initial.self l.self;
+  there : (a b : ℕ) → l.gate ≤ a → a < l.first → l.here ≤ b → b < l.net.states → HasAll (Steps l.labels l.net l.net) a b l.self;
+}

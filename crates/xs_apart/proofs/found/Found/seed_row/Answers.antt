@@ -1,0 +1,24 @@
+use Rattle.std.proofs.Common.{ℕ, arith, subst}
+use Rattle.xs_apart.specs.Arcs.{HasAll, Steps}
+use Rattle.xs_apart.proofs.GrowthLemmas.{more_same, more_then, all_more, next_or, none_from, wide_inside}
+use Rattle.xs_apart.proofs.found.Found.seed_row.Goals as goal
+
+pub partners-init : goal.partners-init
+partners-init c = record { more = more_same c.args.self.now c.requires.fits; there = λ b before. absurd (omega (arith, before)) }
+
+pub returns-in_default-clause-there : goal.returns-in_default-clause-there
+returns-in_default-clause-there c = λ b h. c.partners.invariant.there b (none_from c.args.pairs.now c.args.row c.partners.from b c.in_default.ensures.none h) h
+
+pub step-requires-clause-at : goal.step-requires-clause-at
+step-requires-clause-at c = c.requires.inside c.args.row c.in-Some.state c.in-Some.ensures.some.there
+
+pub partners-preserved : goal.partners-preserved
+partners-preserved c =
+    let L = Steps c.args.labels.now c.args.net.now c.args.net.now in
+    record {
+      more = more_then c.partners.invariant.more c.step.ensures.more;
+      there = λ b before h. next_or c.args.pairs.now c.args.row c.partners.from c.in-Some.state b (λ k. HasAll L c.args.row k c.step.new.self) c.in-Some.ensures.some (omega (arith, before)) h (λ less. all_more L c.args.row b c.step.ensures.more (c.partners.invariant.there b less h)) c.step.ensures.there;
+    }
+
+pub returns-clause-there : goal.returns-clause-there
+returns-clause-there c = λ b h. c.partners.invariant.there b (omega (arith, c.partners-test.false, (wide_inside c.wide-wide.ensures.sized c.args.row b h), c.wide-wide.ensures.value)) h
