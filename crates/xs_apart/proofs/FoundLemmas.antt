@@ -263,3 +263,10 @@ module _ (f g : Found) (row place word : ℕ) (marks : g.marks ≡ f.marks) (wai
     where
       bit : a ≡ row → b / 64 ≡ place → HasPair f.fresh a b → b < f.fresh.wide → bit_at word (b % 64) ≡ 1
       bit e s fresh l = eqb-true (bit_at word (b % 64)) 1 (sym (lane.marks b s l) ∙ ap (λ r. marked f.fresh r b) (sym e) ∙ fresh)
+
+-- a word of zeros has no pairs
+pub none_taken : (row place wide a b : ℕ) → Taken row place 0 wide a b → ⊥
+none_taken row place wide a b t = zero_one (sym (bit_at-zero (b % 64)) ∙ t.0.bit)
+  where
+    zero_one : 0 ≡ 1 → ⊥
+    zero_one e = absurd (omega (arith, e))

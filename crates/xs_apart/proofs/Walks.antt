@@ -63,3 +63,6 @@ joins_stay t {f} {g} others x more all = All-weaker (Joins t f x) (Joins t g x) 
 
 pub word_stays : {f g : Found} → IsMore f g → (a place word : ℕ) → HasWord f a place word → HasWord g a place word
 word_stays more a place word h b e bit = more_found more a b (h b e bit)
+
+pub zero_by : (f : Found) (a : ℕ) (xs : List Arc) → All (λ y. HasTarget f (second_target a y)) xs → All (λ (y : Arc). y.label ≡ 0 → HasFound f a y.to) xs
+zero_by f a xs all = All-weaker (λ y. HasTarget f (second_target a y)) (λ (y : Arc). y.label ≡ 0 → HasFound f a y.to) (λ y h e. given_same f y.label 0 (pair a y.to) e h) xs all

@@ -1,7 +1,7 @@
 -- How the arcs of two coarse nets lead from a pair of states to others.
 use Rattle.std.specs.Prelude.{◌≡◌, ℕ, ◌/◌, ◌%◌, ◌<◌, ◌≤◌, ◌⊎◌, true, List, length, Option, Some, None}
 use Rattle.std.specs.Int.{bit_at}
-use Rattle.std.specs.List.{All}
+use Rattle.std.specs.List.{All, Contains}
 use Rattle.xs_coarse.specs.declared.arc.Arc.{Arc}
 use Rattle.xs_coarse.specs.Coarse.{Table, Net, HasArc, may_meet}
 use Rattle.xs_closed.specs.Rows.{Grid}
@@ -44,10 +44,22 @@ abbrev pub GoesBy : Moves → Table → Net → Net → ℕ → ℕ → ℕ → 
 GoesBy Empty t m n = Slips m n
 GoesBy Every t m n = Goes t m n
 
--- the same, but for arcs of the first net that read nothing
-abbrev pub GoesOn : Moves → Table → Net → Net → ℕ → ℕ → ℕ → ℕ → Type 0
-GoesOn Empty t m n a b c d = SlipsSecond n a b c d
-GoesOn Every t m n a b c d = SlipsSecond n a b c d ⊎ Steps t m n a b c d
+-- one of these arcs of the first net, and an arc of the second one from b, that may read a common word, lead to
+-- the pair of c and d
+pub record StepsBy (t : Table) (arcs : List Arc) (n : Net) (b c d : ℕ) : Type 0 where
+  pub first : Arc
+  pub has : Contains arcs first
+  pub to : first.to ≡ c
+  pub other : ℕ
+  pub second : HasArc n b other d
+  pub reads_first : 0 < first.label
+  pub reads_second : 0 < other
+  pub meet : may_meet t first.label other ≡ true
+
+-- an arc of the second net that reads nothing leads from the pair of a and b to that of c and d, or arcs of
+-- both nets do, of which the first net's is one of these
+abbrev pub GoesOn : Table → List Arc → Net → ℕ → ℕ → ℕ → ℕ → Type 0
+GoesOn t arcs n a b c d = SlipsSecond n a b c d ⊎ StepsBy t arcs n b c d
 
 -- the set has this pair, if its states are below those numbers
 abbrev pub HasWithin : ℕ → ℕ → Grid → ℕ → ℕ → Type 0

@@ -1,6 +1,6 @@
-ghost use Rattle.std.specs.Prelude.{◌≡◌, ℕ, ◌+◌, ◌*◌, ◌<◌, true, false, length};
-ghost use Rattle.std.specs.List.{All};
-ghost use Rattle.xs_apart.specs.Arcs.{SlipsFirst, SlipsSecond, Steps, GoesBy, GoesOn, Joins, HasAll, HasWord, IsGone, IsOn, IsFor};
+ghost use Rattle.std.specs.Prelude.{◌≡◌, ℕ, ◌+◌, ◌*◌, ◌<◌, ◌≤◌, true, false, length};
+ghost use Rattle.std.specs.List.{All, Contains};
+ghost use Rattle.xs_apart.specs.Arcs.{SlipsFirst, Steps, GoesBy, GoesOn, HasFound, Joins, HasAll, HasWord, IsGone, IsOn, IsFor};
 ghost use Rattle.xs_coarse.specs.declared.arc.Arc.{Arc as AnyArc};
 ghost use Rattle.xs_apart.specs.Found.{Fits, IsInside, IsMore, IsBegun, Keeps, Waits, DoesWait, NoneWaits, InWord, InRowFrom, Never};
 ghost use Rattle.xs_apart.specs.Sets.{IsShut};
@@ -41,17 +41,16 @@ impl Found {
         }
     }
 
-    /// Visits the pairs to which an arc of the second net that reads nothing leads from a pair.
+    /// Visits the targets of those arcs of the second net that read nothing, beside a state of the first.
     #[inline(always)]
-    fn slip_second(&mut self, second: &Coarse, at: Pair)
-        requires fits { Fits self.old }
-        requires at { at.second < second.now.states }
+    fn slip_second(&mut self, row: u32, arcs: &[Arc])
+        requires { Fits self.old }
         ensures more { IsMore self.old self.new }
-        ensures there { HasAll (SlipsSecond second.now) at.first at.second self.new }
+        ensures there { All (λ (y : AnyArc). y.label ≡ 0 → HasFound self.new row y.to) arcs.now }
     {
         self.visit_each(
-            second.row(at.second),
-            |x: Arc| (x.label == 0).then_some(Pair::new(at.first, x.to)),
+            arcs,
+            |y: Arc| (y.label == 0).then_some(Pair::new(row, y.to)),
         );
     }
 
@@ -63,7 +62,11 @@ impl Found {
         ensures more { IsMore self.old self.new }
         ensures there { HasAll (Steps labels.now first.now second.now) at.first at.second self.new }
     {
-        self.visit_boths(labels, first.row(at.first), second.row(at.second));
+        let arcs = after_moves(first.row(at.first));
+        if arcs.is_empty() {
+            return;
+        }
+        self.visit_boths(labels, arcs, after_moves(second.row(at.second)));
     }
 
     /// Adds the target of an arc beside the states of a word, if it reads nothing.
@@ -95,19 +98,19 @@ impl Found {
         }
     }
 
-    /// Visits the pairs to which a pair leads by arcs of the second net that read nothing, and by arcs of
-    /// both nets that may read a common word, if those count.
+    /// Visits the pairs to which a pair leads by arcs of the second net that read nothing, and by these arcs
+    /// of the first net and arcs of the second one that may read a common word.
     #[inline(always)]
-    fn go(&mut self, labels: &Labels, first: &Coarse, second: &Coarse, moves: Moves, at: Pair)
+    fn go(&mut self, labels: &Labels, arcs: &[Arc], second: &Coarse, at: Pair)
         requires fits { Fits self.old }
-        requires at { IsInside first.now.states second.now.states at }
+        requires at { at.second < second.now.states }
         ensures more { IsMore self.old self.new }
-        ensures there { HasAll (GoesOn moves labels.now first.now second.now) at.first at.second self.new }
+        ensures there { HasAll (GoesOn labels.now arcs.now second.now) at.first at.second self.new }
     {
-        self.slip_second(second, at);
-        match moves {
-            Moves::Empty => (),
-            Moves::Every => self.step(labels, first, second, at),
+        let row = second.row(at.second);
+        self.slip_second(at.first, row);
+        if !arcs.is_empty() {
+            self.visit_boths(labels, arcs, after_moves(row));
         }
     }
 
@@ -116,18 +119,16 @@ impl Found {
     fn go_bits(
         &mut self,
         labels: &Labels,
-        first: &Coarse,
+        arcs: &[Arc],
         second: &Coarse,
-        moves: Moves,
         row: u32,
         place: u32,
         word: u64,
     )
-        requires nets { IsFor first.now second.now self.old }
         requires fits { Fits self.old }
-        requires row { row < length self.old.marks.rows }
+        requires second { self.old.marks.wide ≤ second.now.states }
         ensures more { IsMore self.old self.new }
-        ensures there { (b : ℕ) → InWord row place word row b → b < self.old.marks.wide → HasAll (GoesOn moves labels.now first.now second.now) row b self.new }
+        ensures there { (b : ℕ) → InWord row place word row b → b < self.old.marks.wide → HasAll (GoesOn labels.now arcs.now second.now) row b self.new }
     {
         let wide = self.marks.wide() as u64;
         let mut from = 0;
@@ -139,7 +140,7 @@ impl Found {
             if state >= wide {
                 return;
             }
-            self.go(labels, first, second, moves, Pair::new(row, state as u32));
+            self.go(labels, arcs, second, Pair::new(row, state as u32));
             from = bit + 1;
         }
     }
@@ -163,7 +164,12 @@ impl Found {
         ensures there { (b : ℕ) → InWord row place word row b → b < self.old.marks.wide → HasAll (GoesBy moves labels.now first.now second.now) row b self.new }
     {
         self.slip_first(first, row, place, word);
-        self.go_bits(labels, first, second, moves, row, place, word);
+        let reads = after_moves(first.row(row));
+        let arcs = match moves {
+            Moves::Empty => &reads[..0],
+            Moves::Every => reads,
+        };
+        self.go_bits(labels, arcs, second, row, place, word);
     }
 
     /// Takes the fresh pairs of a state, from 64 times a place on, and goes on from them.
@@ -286,4 +292,17 @@ impl Found {
         }
         false
     }
+}
+
+/// The arcs of a row without those at its front that read nothing.
+#[inline(always)]
+fn after_moves(row: &[Arc]) -> &[Arc]
+    ensures reads { All (λ (x : AnyArc). 0 < x.label → Contains result.now x) row.now }
+    ensures within { All (Contains row.now) result.now }
+{
+    let mut place = 0;
+    'arcs: while place < row.len() && row[place].label == 0 {
+        place += 1;
+    }
+    &row[place..]
 }

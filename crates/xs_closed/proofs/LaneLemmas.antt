@@ -98,24 +98,24 @@ or_bit : (x y i : ℕ) → nat_eq (bit_at (bit_or x y) i) 1 ≡ (nat_eq (bit_at 
 or_bit x y i = rw bit_at_or (two (bit_at x i) (bit_at y i) (bit_at-lt x i) (bit_at-lt y i))
   where
     two : (p q : ℕ) → p < 2 → q < 2 → nat_eq (max p q) 1 ≡ (nat_eq p 1 || nat_eq q 1)
-    two 0 0 l m = refl
-    two 0 1 l m = refl
-    two 1 0 l m = refl
-    two 1 1 l m = refl
-    two 0 (suc (suc q)) l m = absurd (omega (arith, m))
-    two 1 (suc (suc q)) l m = absurd (omega (arith, m))
+    two zero zero l m = refl
+    two zero (suc zero) l m = refl
+    two (suc zero) zero l m = refl
+    two (suc zero) (suc zero) l m = refl
+    two zero (suc (suc q)) l m = absurd (omega (arith, m))
+    two (suc zero) (suc (suc q)) l m = absurd (omega (arith, m))
     two (suc (suc p)) q l m = absurd (omega (arith, l))
 
 but_bit : (x y i : ℕ) → y < 2 ^ 64 → i < 64 → nat_eq (bit_at (bit_and x (bit_not w64 y)) i) 1 ≡ (nat_eq (bit_at x i) 1 && not (nat_eq (bit_at y i) 1))
 but_bit x y i fits l = rw (bit_at_and, bit_at_not w64 y i fits l) (two (bit_at x i) (bit_at y i) (bit_at-lt x i) (bit_at-lt y i))
   where
     two : (p q : ℕ) → p < 2 → q < 2 → nat_eq (min p (1 - q)) 1 ≡ (nat_eq p 1 && not (nat_eq q 1))
-    two 0 0 l m = refl
-    two 0 1 l m = refl
-    two 1 0 l m = refl
-    two 1 1 l m = refl
-    two 0 (suc (suc q)) l m = absurd (omega (arith, m))
-    two 1 (suc (suc q)) l m = absurd (omega (arith, m))
+    two zero zero l m = refl
+    two zero (suc zero) l m = refl
+    two (suc zero) zero l m = refl
+    two (suc zero) (suc zero) l m = refl
+    two zero (suc (suc q)) l m = absurd (omega (arith, m))
+    two (suc zero) (suc (suc q)) l m = absurd (omega (arith, m))
     two (suc (suc p)) q l m = absurd (omega (arith, l))
 
 -- a word of row a was joined with another

@@ -1,5 +1,5 @@
-ghost use Rattle.std.specs.Prelude.{◌≡◌, ℕ, ◌+◌, ◌*◌, ◌/◌, ◌≤◌, ◌<◌, length, get_or, set, not, bit_and, bit_or, w64, OnOk, IfSome, IfNone};
-ghost use Rattle.std.specs.Int.{bit_at, bit_not};
+ghost use Rattle.std.specs.Prelude.{◌≡◌, ℕ, ◌+◌, ◌*◌, ◌/◌, ◌^◌, ◌≤◌, ◌<◌, length, get_or, set, not, bit_and, bit_or, OnOk, IfSome, IfNone};
+ghost use Rattle.std.specs.Int.{bit_at, bit_not, w64};
 ghost use Rattle.xs_closed.specs.Words.{bit_in, with_pair, IsCleared, IsFirstBit};
 
 use xs_class::Memory;
@@ -43,6 +43,7 @@ pub fn join_bits(
     ensures place { result.0 ≡ row * step + lane }
     ensures words { words.new.items ≡ set words.old.items (row * step + lane) (bit_or (get_or words.old.items (row * step + lane) 0) more) }
     ensures fresh { result.1 ≡ bit_and more (bit_not w64 (get_or words.old.items (row * step + lane) 0)) }
+    ensures small { get_or words.old.items (row * step + lane) 0 < 2 ^ 64 }
 {
     let place = row as usize * step + lane as usize;
     let word = words[place];

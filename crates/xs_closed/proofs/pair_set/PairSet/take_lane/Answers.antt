@@ -1,7 +1,7 @@
 use Rattle.std.proofs.Common.{◌+◌, ◌*◌}
 use Rattle.xs_closed.proofs.WordLemmas.{rows_length, grid_sized}
 use Rattle.xs_closed.proofs.LaneLemmas.{lane_inside, lane_read, lane_taken, taken_packed}
-use Rattle.xs_closed.proofs.pair_set.lanes.PairSet.take_lane.Goals as goal
+use Rattle.xs_closed.proofs.pair_set.PairSet.take_lane.Goals as goal
 
 pub take_word-requires : goal.take_word-requires
 take_word-requires c = (lane_inside c.args.a c.args.place c.self.invariant c.self.view_is c.requires.first c.requires.second).1

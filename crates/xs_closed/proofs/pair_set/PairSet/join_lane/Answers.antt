@@ -1,7 +1,7 @@
 use Rattle.std.proofs.Common.{◌+◌, ◌*◌, arith}
 use Rattle.xs_closed.proofs.WordLemmas.{rows_length, grid_sized, word_packed}
 use Rattle.xs_closed.proofs.LaneLemmas.{lane_inside, lane_joins, lane_fresh}
-use Rattle.xs_closed.proofs.pair_set.lanes.PairSet.join_lane.Goals as goal
+use Rattle.xs_closed.proofs.pair_set.PairSet.join_lane.Goals as goal
 
 pub join_bits-at-requires : goal.join_bits-at-requires
 join_bits-at-requires c = (lane_inside c.args.a c.args.place c.self.invariant c.self.view_is c.requires.first c.requires.second).1
@@ -25,7 +25,7 @@ pub returns-clause-fresh : goal.returns-clause-fresh
 returns-clause-fresh c =
     let p = c.self.inside in
     let inside = lane_inside c.args.a c.args.place c.self.invariant c.self.view_is c.requires.first c.requires.second in
-    rw (c.join_bits-at.ensures.fresh, ← c.self.view_is) (lane_fresh p.high p.wide p.step p.words.items c.args.a c.args.place c.args.word inside.0 (omega arith))
+    rw (c.join_bits-at.ensures.fresh, ← c.self.view_is) (lane_fresh p.high p.wide p.step p.words.items c.args.a c.args.place c.args.word inside.0 c.join_bits-at.ensures.small)
 
 pub returns-clause-sized : goal.returns-clause-sized
 returns-clause-sized c =
