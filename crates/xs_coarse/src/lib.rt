@@ -10,6 +10,7 @@
 mod arc;
 mod bits;
 mod coarse;
+mod flat;
 mod known;
 mod labels;
 mod lefts;
@@ -17,5 +18,6 @@ mod stop;
 
 pub use arc::Arc;
 pub use coarse::Coarse;
+pub use flat::{Flat, Leg};
 pub use labels::Labels;
 pub use stop::{Stop, fitting};
