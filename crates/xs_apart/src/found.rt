@@ -7,16 +7,17 @@ use xs_coarse::Flat;
 const MOST_PAIRS: u64 = 1 << 28;
 
 /// The pairs of states that a search has found, where a row is closed under empty moves of the second
-/// net between two calls; those of them that are fresh, from which it has not gone on; and the states of
-/// the first net that have fresh pairs, in the order in which they came to have some.
+/// net between two calls; those of them that are fresh, from which it has not gone on; of each state of the
+/// first net the lanes, folded to 64, that have fresh pairs; and the states that have some, in the order in which they came to have some.
 #[derive(Debug, Drop)]
 pub struct Found {
     pub marks: Rows,
     pub fresh: Rows,
-    pub waits: Vec<bool>,
+    pub waits: Vec<u64>,
     pub queue: Vec<u32>,
     pub stack: Vec<u32>,
     pub lanes: Vec<u64>,
+    pub places: Vec<u32>,
 }
 
 impl Found {
@@ -29,6 +30,7 @@ impl Found {
             queue: Vec::new(alloc),
             stack: Vec::new(alloc),
             lanes: Vec::new(alloc),
+            places: Vec::new(alloc),
         }
     }
 
@@ -38,12 +40,26 @@ impl Found {
         if height as u64 * width as u64 > MOST_PAIRS {
             return Ok(false);
         }
-        self.marks.reset(height, width)?;
-        self.fresh.reset(height, width)?;
-        self.waits.clear();
-        self.waits.resize(height as usize, false)?;
-        self.queue.clear();
+        self.wipe();
+        self.marks.resize(height, width)?;
+        self.fresh.resize(height, width)?;
+        if self.waits.len() < height as usize {
+            self.waits.resize(height as usize, 0)?;
+        }
         Ok(true)
+    }
+
+    /// Takes all pairs out, row by row of those that were ever in the queue.
+    fn wipe(&mut self) {
+        'rows: for k in 0..self.queue.len() {
+            let row = self.queue[k];
+            self.marks.wipe(row);
+            if self.waits[row as usize] != 0 {
+                self.waits[row as usize] = 0;
+                self.fresh.wipe(row);
+            }
+        }
+        self.queue.clear();
     }
 
     /// Adds pairs of a state that are the bits of a word, and gives those that were not there.
@@ -52,8 +68,9 @@ impl Found {
         let fresh = self.marks.join(first, place, word);
         if fresh != 0 {
             self.fresh.join(first, place, fresh);
-            if !self.waits[first as usize] {
-                self.waits[first as usize] = true;
+            let was = self.waits[first as usize];
+            self.waits[first as usize] = was | (1 << (place % 64));
+            if was == 0 {
                 self.queue.push(first)?;
             }
         }

@@ -30,18 +30,35 @@ impl Found {
         Ok(())
     }
 
-    /// Takes the fresh pairs of a state out, and adds them beside the states to which empty moves lead from it.
+    /// Takes the fresh pairs of a state in a lane out, and adds them beside the states to which empty moves
+    /// lead from it.
+    #[inline(always)]
+    fn move_lane(&mut self, moves: &[Leg], row: u32, place: u32) -> Result<(), Memory> {
+        let word = self.fresh.take(row, place);
+        if word != 0 {
+            self.lanes.push(word)?;
+            self.places.push(place)?;
+            'moves: for x in moves {
+                self.put(x.to, place, word)?;
+            }
+        }
+        Ok(())
+    }
+
+    /// The same in all lanes.
     #[inline(always)]
     fn move_row(&mut self, first: &Flat, row: u32) -> Result<(), Memory> {
         let moves = first.moves(row);
+        let mut left = self.waits[row as usize];
+        self.waits[row as usize] = 0;
         self.lanes.clear();
-        'lanes: for place in 0..self.marks.step as u32 {
-            let word = self.fresh.take(row, place);
-            self.lanes.push(word)?;
-            if word != 0 {
-                'moves: for x in moves {
-                    self.put(x.to, place, word)?;
-                }
+        self.places.clear();
+        'folds: while left != 0 {
+            let mut place = left.trailing_zeros();
+            left = left & (left - 1);
+            'lanes: while (place as usize) < self.marks.step {
+                self.move_lane(moves, row, place)?;
+                place += 64;
             }
         }
         Ok(())
@@ -49,13 +66,12 @@ impl Found {
 
     /// Goes on from the fresh pairs of a state.
     fn go_row(&mut self, labels: &Labels, first: &Flat, second: &Flat, steps: bool, row: u32) -> Result<(), Memory> {
-        self.waits[row as usize] = false;
         self.move_row(first, row)?;
         let arcs = first.reads(row);
         if steps && !arcs.is_empty() {
-            'lanes: for place in 0..self.lanes.len() {
-                let word = self.lanes[place];
-                self.step_bits(labels, second, arcs, place as u32, word)?;
+            'lanes: for k in 0..self.lanes.len() {
+                let word = self.lanes[k];
+                self.step_bits(labels, second, arcs, self.places[k], word)?;
             }
         }
         Ok(())

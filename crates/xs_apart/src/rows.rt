@@ -22,16 +22,26 @@ impl Rows {
         }
     }
 
-    /// Takes all pairs out, and sets new bounds.
-    pub fn reset(&mut self, high: u32, wide: u32) -> Result<(), Memory> {
-        self.high = 0;
+    /// Sets new bounds of a set without pairs.
+    pub fn resize(&mut self, high: u32, wide: u32) -> Result<(), Memory> {
         let step = (wide as usize + 63) / 64;
-        self.words.clear();
-        self.words.resize(step * high as usize, 0)?;
+        let count = step * high as usize;
+        if self.words.len() < count {
+            self.words.resize(count, 0)?;
+        }
         self.high = high;
         self.wide = wide;
         self.step = step;
         Ok(())
+    }
+
+    /// Takes all pairs of a number out.
+    #[inline(always)]
+    pub fn wipe(&mut self, a: u32) {
+        let begin = a as usize * self.step;
+        'places: for at in begin..begin + self.step {
+            self.words[at] = 0;
+        }
     }
 
     /// Whether a pair is in the set.
