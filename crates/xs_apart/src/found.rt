@@ -1,113 +1,108 @@
-use crate::rows::Rows;
+ghost use Rattle.std.specs.Prelude.{◌≡◌, ◌*◌, ◌<◌, true, length, IfOk};
+ghost use Rattle.xs_apart.specs.Arcs.{HasFound, HasTarget, HasAllGiven};
+ghost use Rattle.xs_apart.specs.Found.{Fits, IsMore, IsNone, HasWord};
+
+use crate::pair::Pair;
 use std::alloc::Global;
 use xs_class::Memory;
-use xs_coarse::Flat;
+use xs_closed::PairSet;
 
 /// The greatest number of pairs of states for which a map of marks is kept: 32 megabytes.
 const MOST_PAIRS: u64 = 1 << 28;
 
-/// The pairs of states that a search has found, where a row is closed under empty moves of the second
-/// net between two calls; those of them that are fresh, from which it has not gone on; of each state of the
-/// first net the lanes, folded to 64, that have fresh pairs; and the states that have some, in the order in which they came to have some.
+/// The pairs of states that a search has found; those of them that are fresh, from which it has not gone
+/// on; and for each state of the first net whether it waits, as those do that have fresh pairs.
 #[derive(Debug, Drop)]
 pub struct Found {
-    pub marks: Rows,
-    pub fresh: Rows,
-    pub waits: Vec<u64>,
-    pub queue: Vec<u32>,
-    pub stack: Vec<u32>,
-    pub lanes: Vec<u64>,
-    pub places: Vec<u32>,
+    pub marks: PairSet,
+    pub fresh: PairSet,
+    pub waits: Vec<bool>,
 }
 
 impl Found {
     /// No pairs, of no states.
     pub fn new(alloc: Global) -> Self {
         Found {
-            marks: Rows::new(alloc),
-            fresh: Rows::new(alloc),
+            marks: PairSet::new(alloc),
+            fresh: PairSet::new(alloc),
             waits: Vec::new(alloc),
-            queue: Vec::new(alloc),
-            stack: Vec::new(alloc),
-            lanes: Vec::new(alloc),
-            places: Vec::new(alloc),
         }
     }
 
     /// Forgets all pairs, and makes room for those of the states of a first net and of a second one
-    /// below these numbers; answers false where they are too many.
-    pub fn begin(&mut self, height: u32, width: u32) -> Result<bool, Memory> {
+    /// below these numbers; answers false where they are too many. In time linear in the words of the
+    /// pairs.
+    pub fn begin(&mut self, height: u32, width: u32) -> Result<bool, Memory>
+        ensures { IfOk result (λ room. room ≡ true → IsNone height width self.new) }
+    {
         if height as u64 * width as u64 > MOST_PAIRS {
             return Ok(false);
         }
-        self.wipe();
-        self.marks.resize(height, width)?;
-        self.fresh.resize(height, width)?;
-        if self.waits.len() < height as usize {
-            self.waits.resize(height as usize, 0)?;
-        }
+        self.marks.reset(height, width)?;
+        self.fresh.reset(height, width)?;
+        self.waits.clear();
+        self.waits.resize(height as usize, false)?;
         Ok(true)
     }
 
-    /// Takes all pairs out, row by row of those that were ever in the queue.
-    fn wipe(&mut self) {
-        'rows: for k in 0..self.queue.len() {
-            let row = self.queue[k];
-            self.marks.wipe(row);
-            if self.waits[row as usize] != 0 {
-                self.waits[row as usize] = 0;
-                self.fresh.wipe(row);
-            }
+    /// Adds a pair, unless it is there already, or is of a state that is not looked at.
+    #[inline(always)]
+    pub fn visit(&mut self, first: u32, second: u32)
+        requires { Fits self.old }
+        ensures more { IsMore self.old self.new }
+        ensures there { HasFound self.new first second }
+    {
+        if first >= self.marks.high() || second >= self.marks.wide() {
+            return;
         }
-        self.queue.clear();
+        if self.marks.insert(first, second) {
+            self.fresh.insert(first, second);
+            self.waits[first as usize] = true;
+        }
     }
 
-    /// Adds pairs of a state that are the bits of a word, and gives those that were not there.
+    /// Adds those pairs of a state whose second states are the bits of a word, from 64 times a place on,
+    /// unless the state is not looked at.
     #[inline(always)]
-    fn join(&mut self, first: u32, place: u32, word: u64) -> Result<u64, Memory> {
-        let fresh = self.marks.join(first, place, word);
+    pub fn put(&mut self, first: u32, place: u32, word: u64)
+        requires fits { Fits self.old }
+        requires place { place * 64 < self.old.marks.wide }
+        ensures more { IsMore self.old self.new }
+        ensures there { HasWord self.new first place word }
+    {
+        if first >= self.marks.high() {
+            return;
+        }
+        let fresh = self.marks.join_lane(first, place, word);
         if fresh != 0 {
-            self.fresh.join(first, place, fresh);
-            let was = self.waits[first as usize];
-            self.waits[first as usize] = was | (1 << (place % 64));
-            if was == 0 {
-                self.queue.push(first)?;
-            }
+            self.fresh.join_lane(first, place, fresh);
+            self.waits[first as usize] = true;
         }
-        Ok(fresh)
     }
 
-    /// Adds pairs of a state that are the bits of a word, unless the state is not looked at.
+    /// Adds a pair, if there is one.
     #[inline(always)]
-    pub fn put(&mut self, first: u32, place: u32, word: u64) -> Result<(), Memory> {
-        if first < self.marks.high {
-            self.join(first, place, word)?;
+    fn visit_if(&mut self, target: Option<Pair>)
+        requires { Fits self.old }
+        ensures more { IsMore self.old self.new }
+        ensures there { HasTarget self.new target }
+    {
+        match target {
+            Some(pair) => self.visit(pair.first, pair.second),
+            None => (),
         }
-        Ok(())
     }
 
-    /// Adds a pair, with all to which empty moves of the second net lead from it.
+    /// Visits the pair that each of the items leads to, if it leads to one.
     #[inline(always)]
-    pub fn visit(&mut self, net: &Flat, first: u32, second: u32) -> Result<(), Memory> {
-        if first < self.marks.high && second < self.marks.wide {
-            if self.join(first, second / 64, 1 << (second % 64))? != 0 && !net.moves(second).is_empty() {
-                self.drift(net, first, second)?;
-            }
+    pub fn visit_each<T: Copy, F: Fn(T) -> Option<Pair>>(&mut self, items: &[T], target: F)
+        requires fits { Fits self.old }
+        requires target { F.IsAlwaysCallable target }
+        ensures more { IsMore self.old self.new }
+        ensures there { HasAllGiven (F.post target) self.new items.now }
+    {
+        'items: for item in items {
+            self.visit_if(target(*item));
         }
-        Ok(())
-    }
-
-    /// Adds to a row all to which empty moves of the second net lead from a state.
-    fn drift(&mut self, net: &Flat, first: u32, second: u32) -> Result<(), Memory> {
-        self.stack.clear();
-        self.stack.push(second)?;
-        'stack: while let Some(at) = self.stack.pop() {
-            'moves: for y in net.moves(at) {
-                if y.to < self.marks.wide && self.join(first, y.to / 64, 1 << (y.to % 64))? != 0 && !net.moves(y.to).is_empty() {
-                    self.stack.push(y.to)?;
-                }
-            }
-        }
-        Ok(())
     }
 }

@@ -1,23 +1,29 @@
+ghost use Rattle.std.specs.Prelude.{◌≡◌, ◌+◌, ◌<◌, ◌≤◌, true, IfOk};
+ghost use Rattle.xs_apart.specs.Found.{IsOf};
+ghost use Rattle.xs_apart.specs.Sets.{AreDoubles, AreTurns, AreMiddles, AreLastMiddles, AreRests};
+
 use crate::found::Found;
 use crate::pair::Pair;
+use crate::shape::never_returns;
 use xs_class::Memory;
-use crate::rows::Rows;
-use xs_coarse::{Flat, Labels};
+use xs_closed::{Moves, PairSet};
+use xs_coarse::{Coarse, Labels};
 
 impl Found {
     /// The pairs of states up to the top that the first state of a net leads to, in the product of the
     /// net with itself.
-    pub fn find_doubles(&mut self, labels: &Labels, net: &Flat, top: u32) -> Result<bool, Memory>
+    pub fn find_doubles(&mut self, labels: &Labels, net: &Coarse, top: u32) -> Result<bool, Memory>
+        ensures { IfOk result (λ found. found ≡ true → AreDoubles labels.now net.now top self.new.marks) }
     {
-        if top >= net.len() || !net.never_returns(top) {
+        if top >= net.len() || !never_returns(net, top) {
             return Ok(false);
         }
         let end = top + 1;
         if !self.begin(end, end)? {
             return Ok(false);
         }
-        self.visit(net, 0, 0)?;
-        self.close(labels, net, net, true, Pair::new(end, end))
+        self.visit(0, 0);
+        Ok(self.close(labels, net, net, Moves::Every, Pair::new(end, end)))
     }
 
     /// From doubles of front states: where the first one is that of the cut, the second one beside
@@ -25,34 +31,39 @@ impl Found {
     pub fn find_turns(
         &mut self,
         labels: &Labels,
-        net: &Flat,
-        doubles: &Rows,
+        net: &Coarse,
+        doubles: &PairSet,
         here: u32,
     ) -> Result<bool, Memory>
+        requires here { here < net.now.states }
+        ensures { IfOk result (λ found. found ≡ true → AreTurns net.now here doubles.now self.new.marks) }
     {
         let states = net.len();
         if !self.begin(here + 1, states)? {
             return Ok(false);
         }
-        self.seed_turns(net, doubles, here)?;
-        self.close(labels, net, net, false, Pair::new(states, states))
+        self.seed_turns(doubles, here);
+        Ok(self.close(labels, net, net, Moves::Empty, Pair::new(states, states)))
     }
 
     /// The pairs that are reached from the turns by one arc or more that reads something.
     pub fn find_middles(
         &mut self,
         labels: &Labels,
-        net: &Flat,
+        net: &Coarse,
         here: u32,
-        turns: &Rows,
+        turns: &PairSet,
     ) -> Result<bool, Memory>
+        requires turns { IsOf (here + 1) net.now.states turns.now }
+        requires here { here < net.now.states }
+        ensures { IfOk result (λ found. found ≡ true → AreMiddles labels.now net.now here turns.now self.new.marks) }
     {
         let states = net.len();
         if !self.begin(here + 1, states)? {
             return Ok(false);
         }
-        self.seed_steps(labels, net, turns)?;
-        self.close(labels, net, net, true, Pair::new(states, states))
+        self.seed_steps(labels, net, turns);
+        Ok(self.close(labels, net, net, Moves::Every, Pair::new(states, states)))
     }
 
     /// The same from all pairs of a state of the front's end and one of the rest; the end may be entered
@@ -60,20 +71,23 @@ impl Found {
     pub fn find_last_middles(
         &mut self,
         labels: &Labels,
-        net: &Flat,
+        net: &Coarse,
         gate: u32,
         here: u32,
     ) -> Result<bool, Memory>
+        requires gate { gate ≤ here }
+        requires here { here < net.now.states }
+        ensures { IfOk result (λ found. found ≡ true → AreLastMiddles labels.now net.now gate here self.new.marks) }
     {
         let states = net.len();
         if !self.begin(here + 1, states)? {
             return Ok(false);
         }
-        self.seed_ends(labels, net, gate, here)?;
+        self.seed_ends(labels, net, gate, here);
         if gate > 0 {
-            self.seed_firsts(net, gate, here + 1, states)?;
+            self.seed_firsts(gate, here + 1, states);
         }
-        self.close(labels, net, net, true, Pair::new(states, states))
+        Ok(self.close(labels, net, net, Moves::Every, Pair::new(states, states)))
     }
 
     /// From the middles: where the front state is that of the cut, that one beside the rest state,
@@ -81,17 +95,20 @@ impl Found {
     pub fn find_rests(
         &mut self,
         labels: &Labels,
-        net: &Flat,
-        middles: &Rows,
+        net: &Coarse,
+        middles: &PairSet,
         here: u32,
         last: u32,
     ) -> Result<bool, Memory>
+        requires middles { IsOf (here + 1) net.now.states middles.now }
+        requires here { here < net.now.states }
+        ensures { IfOk result (λ none. none ≡ true → AreRests labels.now net.now here last middles.now self.new.marks) }
     {
         let states = net.len();
         if !self.begin(states, states)? {
             return Ok(false);
         }
-        self.seed_rests(middles, here)?;
-        self.close(labels, net, net, true, Pair::new(last, last))
+        self.seed_rests(middles, here);
+        Ok(self.close(labels, net, net, Moves::Every, Pair::new(last, last)))
     }
 }

@@ -12,9 +12,9 @@ mod found;
 mod layers;
 mod pair;
 mod reach;
-mod rows;
 mod search;
 mod seeds;
+mod shape;
 mod tail;
 
 pub use pair::Pair;

@@ -1,16 +1,23 @@
+ghost use Rattle.std.specs.Prelude.{◌≡◌, ℕ, ◌<◌, true, IfOk, IfSome};
+ghost use Rattle.xs_meet.specs.{AreApart};
+ghost use Rattle.xs_coarse.specs.{IsTable, MayCall, view, Net as AnyNet};
+ghost use Rattle.xs_apart.specs.Sets.{AreDoubles, AreClear};
+ghost use Rattle.xs_apart.specs.Tails.{IsTail, IsWithinAll};
+
 use crate::found::Found;
 use crate::pair::Pair;
+use crate::shape::{is_gate, is_source, never_returns};
 use crate::tail::Tail;
 use std::alloc::Global;
 use xs_class::Memory;
-use crate::rows::Rows;
-use xs_coarse::{Flat, Labels};
+use xs_closed::{Moves, PairSet};
+use xs_coarse::{Coarse, Labels};
 
 /// The pairs of states up to a top that a net comes to from its first state by words that may be the
 /// same. They are found once for all cuts of a net whose states are none after the top.
 #[derive(Debug, Drop)]
 pub struct Doubles {
-    pub marks: Rows,
+    pub marks: PairSet,
     pub top: u32,
 }
 
@@ -42,20 +49,24 @@ impl Search {
     pub fn apart(
         &mut self,
         labels: &Labels,
-        first: &Flat,
+        first: &Coarse,
         a: u32,
         b: u32,
-        second: &Flat,
+        second: &Coarse,
         c: u32,
         d: u32,
     ) -> Result<bool, Memory>
+        requires first { a < first.now.states }
+        requires second { c < second.now.states }
+        ensures { IfOk result (λ apart. apart ≡ true → AreApart (MayCall labels.now) (view labels.now first.now a b) (view labels.now second.now c d)) }
     {
+        see_table(labels);
         if !self.found.begin(first.len(), second.len())? {
             return Ok(false);
         }
-        self.found.visit(second, a, c)?;
+        self.found.visit(a, c);
         let goal = Pair::new(b, d);
-        self.found.close(labels, first, second, true, goal)
+        Ok(self.found.close(labels, first, second, Moves::Every, goal))
     }
 
     /// The pairs of states up to the top that two paths from state 0 of a net come to by words that may
@@ -64,9 +75,10 @@ impl Search {
     pub fn doubles(
         &mut self,
         labels: &Labels,
-        net: &Flat,
+        net: &Coarse,
         top: u32,
     ) -> Result<Option<Doubles>, Memory>
+        ensures { IfOk result (λ o. IfSome o (λ d. AreDoubles labels.now net.now d.top d.marks)) }
     {
         let mut found = Found::new(self.alloc);
         if !found.find_doubles(labels, net, top)? {
@@ -86,13 +98,17 @@ impl Search {
     pub fn clear(
         &mut self,
         labels: &Labels,
-        net: &Flat,
+        net: &Coarse,
         doubles: &Doubles,
         here: u32,
         last: u32,
     ) -> Result<bool, Memory>
+        requires doubles { AreDoubles labels.now net.now doubles.now.top doubles.now.marks }
+        requires here { here < net.now.states }
+        ensures { IfOk result (λ clear. clear ≡ true → AreClear (MayCall labels.now) (view labels.now net.now 0 here) (view labels.now net.now here last)) }
     {
-        if here > doubles.top || !net.never_returns(here) {
+        see_table(labels);
+        if here > doubles.top || !never_returns(net, here) {
             return Ok(false);
         }
         if !self.found.find_turns(labels, net, &doubles.marks, here)? {
@@ -114,13 +130,16 @@ impl Search {
     pub fn clear_ends(
         &mut self,
         labels: &Labels,
-        net: &Flat,
+        net: &Coarse,
         gate: u32,
         here: u32,
         last: u32,
     ) -> Result<bool, Memory>
+        requires { here < net.now.states }
+        ensures { IfOk result (λ clear. clear ≡ true → AreClear (MayCall labels.now) (view labels.now net.now 0 here) (view labels.now net.now here last)) }
     {
-        if gate > here || !net.is_gate(gate) || !net.is_source(here) {
+        see_table(labels);
+        if gate > here || !is_gate(net, gate) || !is_source(net, here) {
             return Ok(false);
         }
         if !self.other.find_last_middles(labels, net, gate, here)? {
@@ -135,19 +154,30 @@ impl Search {
     ///
     /// Takes time linear in the pairs that are reached, times the products of the arcs of their states.
     pub fn ends_apart(&mut self, labels: &Labels, one: &Tail, other: &Tail) -> Result<bool, Memory>
+        ensures { IfOk result (λ apart. apart ≡ true → (m n : AnyNet) (b e d f : ℕ) → IsWithinAll m → IsWithinAll n → IsTail m b e one.now → IsTail n d f other.now → AreApart (MayCall labels.now) (view labels.now m 0 b) (view labels.now n 0 d)) }
     {
-        if !self.found.begin(one.flat.len(), other.flat.len())? {
+        see_table(labels);
+        if !self.found.begin(one.net.len(), other.net.len())? {
             return Ok(false);
         }
-        self.found.visit(&other.flat, 0, 0)?;
+        self.found.visit(0, 0);
         if one.has_front {
-            self.found.seed_firsts(&other.flat, 0, 0, other.flat.len())?;
+            self.found.seed_firsts(0, 0, other.net.len());
         }
         if other.has_front {
-            self.found.seed_seconds(&other.flat, one.flat.len(), 0)?;
+            self.found.seed_seconds(one.net.len(), 0);
         }
         let end = Pair::new(one.last, other.last);
-        self.found.close(labels, &one.flat, &other.flat, true, end)
+        Ok(
+            self.found
+                .close(labels, &one.net, &other.net, Moves::Every, end),
+        )
     }
 }
 
+/// Learns that classes that share a symbol may meet, which a look at the table tells.
+fn see_table(labels: &Labels)
+    ensures { IsTable labels.now }
+{
+    let _ = labels.meet(0, 0);
+}

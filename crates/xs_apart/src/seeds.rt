@@ -1,71 +1,131 @@
+ghost use Rattle.std.specs.Prelude.{ℕ, ◌<◌, ◌≤◌};
+ghost use Rattle.xs_apart.specs.Arcs.{HasFound, HasAll, Steps};
+ghost use Rattle.xs_apart.specs.Found.{Fits, HasPair, IsInside, IsMore, pair};
+
 use crate::found::Found;
-use crate::rows::Rows;
-use xs_class::Memory;
-use xs_coarse::{Flat, Labels};
+use crate::pair::Pair;
+use xs_closed::PairSet;
+use xs_coarse::{Coarse, Labels};
 
 impl Found {
     /// Visits where arcs that may read a common word lead from the pairs of a set.
-    pub fn seed_steps(&mut self, labels: &Labels, net: &Flat, pairs: &Rows) -> Result<(), Memory> {
-        'rows: for row in 0..pairs.high {
-            let arcs = net.reads(row);
-            if !arcs.is_empty() {
-                'lanes: for place in 0..pairs.step as u32 {
-                    self.step_bits(labels, net, arcs, place, pairs.lane(row, place))?;
-                }
-            }
+    pub fn seed_steps(&mut self, labels: &Labels, net: &Coarse, pairs: &PairSet)
+        requires fits { Fits self.old }
+        requires inside { (a b : ℕ) → HasPair pairs.now a b → IsInside net.now.states net.now.states (pair a b) }
+        ensures more { IsMore self.old self.new }
+        ensures there { (a b : ℕ) → HasPair pairs.now a b → HasAll (Steps labels.now net.now net.now) a b self.new }
+    {
+        'rows: for row in 0..pairs.high() {
+            self.seed_row(labels, net, pairs, row);
         }
-        Ok(())
+    }
+
+    /// The same from those of a state.
+    fn seed_row(&mut self, labels: &Labels, net: &Coarse, pairs: &PairSet, row: u32)
+        requires fits { Fits self.old }
+        requires inside { (a b : ℕ) → HasPair pairs.now a b → IsInside net.now.states net.now.states (pair a b) }
+        ensures more { IsMore self.old self.new }
+        ensures there { (b : ℕ) → HasPair pairs.now row b → HasAll (Steps labels.now net.now net.now) row b self.new }
+    {
+        let wide = pairs.wide();
+        let mut from = 0;
+        'partners: while from < wide {
+            let Some(state) = pairs.next(row, from) else {
+                return;
+            };
+            if state >= wide {
+                return;
+            }
+            self.step(labels, net, net, Pair::new(row, state));
+            from = state + 1;
+        }
     }
 
     /// Visits where arcs that may read a common word lead from each state of a front's end, from a gate up
     /// to that of the cut, beside each state of the rest.
-    pub fn seed_ends(&mut self, labels: &Labels, net: &Flat, gate: u32, here: u32) -> Result<(), Memory> {
+    pub fn seed_ends(&mut self, labels: &Labels, net: &Coarse, gate: u32, here: u32)
+        requires fits { Fits self.old }
+        requires here { here < net.now.states }
+        ensures more { IsMore self.old self.new }
+        ensures there { (a b : ℕ) → gate ≤ a → a ≤ here → here ≤ b → b < net.now.states → HasAll (Steps labels.now net.now net.now) a b self.new }
+    {
+        let _states = net.len();
         'firsts: for first in gate..here + 1 {
-            let arcs = net.reads(first);
-            if !arcs.is_empty() {
-                'seconds: for second in here..net.len() {
-                    self.step(labels, net, arcs, second)?;
-                }
-            }
+            self.seed_end(labels, net, first, here);
         }
-        Ok(())
+    }
+
+    /// The same from a state beside each state of the rest.
+    fn seed_end(&mut self, labels: &Labels, net: &Coarse, first: u32, here: u32)
+        requires fits { Fits self.old }
+        requires first { first < net.now.states }
+        ensures more { IsMore self.old self.new }
+        ensures there { (b : ℕ) → here ≤ b → b < net.now.states → HasAll (Steps labels.now net.now net.now) first b self.new }
+    {
+        'seconds: for second in here..net.len() {
+            self.step(labels, net, net, Pair::new(first, second));
+        }
     }
 
     /// Visits each partner that a state has in a set, beside that state.
-    pub fn seed_turns(&mut self, net: &Flat, pairs: &Rows, here: u32) -> Result<(), Memory> {
-        'lanes: for place in 0..pairs.step as u32 {
-            let mut left = pairs.lane(here, place);
-            'bits: while left != 0 {
-                let state = place * 64 + left.trailing_zeros();
-                left = left & (left - 1);
-                self.visit(net, state, here)?;
+    pub fn seed_turns(&mut self, pairs: &PairSet, here: u32)
+        requires { Fits self.old }
+        ensures more { IsMore self.old self.new }
+        ensures there { (s : ℕ) → HasPair pairs.now here s → HasFound self.new s here }
+    {
+        let wide = pairs.wide();
+        let mut from = 0;
+        'partners: while from < wide {
+            let Some(state) = pairs.next(here, from) else {
+                return;
+            };
+            if state >= wide {
+                return;
             }
+            self.visit(state, here);
+            from = state + 1;
         }
-        Ok(())
     }
 
-    /// Visits a state beside each partner that it has in a set of as many second states, which is closed
-    /// under empty moves of the second net.
-    pub fn seed_rests(&mut self, pairs: &Rows, here: u32) -> Result<(), Memory> {
-        'lanes: for place in 0..pairs.step as u32 {
-            self.put(here, place, pairs.lane(here, place))?;
+    /// Visits a state beside each partner that it has in a set.
+    pub fn seed_rests(&mut self, pairs: &PairSet, here: u32)
+        requires { Fits self.old }
+        ensures more { IsMore self.old self.new }
+        ensures there { (s : ℕ) → HasPair pairs.now here s → HasFound self.new here s }
+    {
+        let wide = pairs.wide();
+        let mut from = 0;
+        'partners: while from < wide {
+            let Some(state) = pairs.next(here, from) else {
+                return;
+            };
+            if state >= wide {
+                return;
+            }
+            self.visit(here, state);
+            from = state + 1;
         }
-        Ok(())
     }
 
     /// Visits that first state beside each second one from one on, before an end.
-    pub fn seed_firsts(&mut self, net: &Flat, first: u32, begin: u32, end: u32) -> Result<(), Memory> {
+    pub fn seed_firsts(&mut self, first: u32, begin: u32, end: u32)
+        requires { Fits self.old }
+        ensures more { IsMore self.old self.new }
+        ensures there { (b : ℕ) → begin ≤ b → b < end → HasFound self.new first b }
+    {
         'states: for second in begin..end {
-            self.visit(net, first, second)?;
+            self.visit(first, second);
         }
-        Ok(())
     }
 
     /// Visits each first state before an end beside that second one.
-    pub fn seed_seconds(&mut self, net: &Flat, end: u32, second: u32) -> Result<(), Memory> {
+    pub fn seed_seconds(&mut self, end: u32, second: u32)
+        requires { Fits self.old }
+        ensures more { IsMore self.old self.new }
+        ensures there { (a : ℕ) → a < end → HasFound self.new a second }
+    {
         'states: for first in 0..end {
-            self.visit(net, first, second)?;
+            self.visit(first, second);
         }
-        Ok(())
     }
 }

@@ -10,7 +10,6 @@
 mod arc;
 mod bits;
 mod coarse;
-mod flat;
 mod known;
 mod labels;
 mod lefts;
@@ -18,6 +17,5 @@ mod stop;
 
 pub use arc::Arc;
 pub use coarse::Coarse;
-pub use flat::{Flat, Leg};
 pub use labels::Labels;
 pub use stop::{Stop, fitting};

@@ -1,5 +1,5 @@
 use xs_class::Sym;
-use xs_coarse::{Coarse, Flat};
+use xs_coarse::Coarse;
 
 /// The net that covers all rules of a grammar, whose arcs back from the exit of a nonterminal tell into
 /// a rule of which nonterminal they lead; as a net too, which nonterminals the rules of each use; and
@@ -23,7 +23,7 @@ pub struct Outer {
 /// states of the stretch's outer places, in ascending order.
 #[derive(Debug, Drop)]
 pub struct Cover {
-    pub flat: Flat,
+    pub net: Coarse,
     pub places: Vec<Outer>,
     pub last: u32,
 }

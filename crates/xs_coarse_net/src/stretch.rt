@@ -9,7 +9,7 @@ use crate::pieces::add_piece;
 use crate::room::{Room, room_for};
 use crate::rule::number_after;
 use crate::{Cover, Outer};
-use xs_coarse::{Coarse, Flat, Stop};
+use xs_coarse::{Coarse, Stop};
 use xs_loose::Part;
 
 /// The cover of a level stretch, in time linear in its rule's places and the cover. Fragments that it
@@ -63,6 +63,5 @@ fn cover_of(
         place: part.end,
         state: last,
     })?;
-    let flat = Flat::of(ground.alloc, &net)?;
-    Ok(Cover { flat, places, last })
+    Ok(Cover { net, places, last })
 }

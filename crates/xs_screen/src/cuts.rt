@@ -150,7 +150,7 @@ impl Screen {
         let Some(top) = last_doubted(doubts, part, cover) else {
             return Ok(());
         };
-        let Some(doubles) = self.search.doubles(&self.labels, &cover.flat, top)? else {
+        let Some(doubles) = self.search.doubles(&self.labels, &cover.net, top)? else {
             return Ok(());
         };
         self.clear_cuts(g, part, cover, Some(&doubles), doubts)?;
@@ -172,7 +172,7 @@ impl Screen {
         requires screen { IsScreen g.now self.old }
         requires part { IsPart g.now part.now }
         requires cover { IsCoverOf g.now self.old.labels part.now cover.now }
-        requires doubles { IfSome doubles (λ d. AreDoubles self.old.labels cover.now.net d.now.top d.now.pairs.items) }
+        requires doubles { IfSome doubles (λ d. AreDoubles self.old.labels cover.now.net d.now.top d.now.marks) }
         requires doubts { AreDoubts g.now part.now.rule doubts.old.items }
         ensures labels { self.new.labels ≡ self.old.labels }
         ensures screen { IsScreen g.now self.new }
@@ -209,7 +209,7 @@ impl Screen {
         requires screen { IsScreen g.now self.old }
         requires part { IsPart g.now part.now }
         requires cover { IsCoverOf g.now self.old.labels part.now cover.now }
-        requires doubles { IfSome doubles (λ d. AreDoubles self.old.labels cover.now.net d.now.top d.now.pairs.items) }
+        requires doubles { IfSome doubles (λ d. AreDoubles self.old.labels cover.now.net d.now.top d.now.marks) }
         requires outer { Contains cover.now.places.items outer }
         ensures labels { self.new.labels ≡ self.old.labels }
         ensures screen { IsScreen g.now self.new }
@@ -243,18 +243,18 @@ fn is_seen_clear(
     gate: u32,
     here: u32,
 ) -> Result<bool, Memory>
-    requires doubles { IfSome doubles (λ d. AreDoubles labels.now cover.now.net d.now.top d.now.pairs.items) }
+    requires doubles { IfSome doubles (λ d. AreDoubles labels.now cover.now.net d.now.top d.now.marks) }
     requires here { here < cover.now.net.states }
     ensures { IfOk result (λ b. b ≡ true → AreClear (MayCall labels.now) (view labels.now cover.now.net 0 here) (view labels.now cover.now.net here cover.now.last)) }
 {
     if let Some(doubles) = doubles {
-        return search.clear(labels, &cover.flat, doubles, here, cover.last);
+        return search.clear(labels, &cover.net, doubles, here, cover.last);
     }
-    let rest = cover.flat.len() - here;
+    let rest = cover.net.len() - here;
     if rest > LONGEST_END || here.saturating_sub(gate) > LONGEST_END {
         return Ok(false);
     }
-    search.clear_ends(labels, &cover.flat, gate, here, cover.last)
+    search.clear_ends(labels, &cover.net, gate, here, cover.last)
 }
 
 /// Whether a part has all spread items of its rule.
@@ -269,7 +269,7 @@ fn is_whole(g: &Gram, part: &Part) -> bool
 fn is_inner(part: &Part, cover: &Cover, outer: Outer) -> bool
     ensures { result ≡ true → outer.state < cover.now.net.states }
 {
-    outer.place > part.start && outer.place < part.end && outer.state < cover.flat.len()
+    outer.place > part.start && outer.place < part.end && outer.state < cover.net.len()
 }
 
 /// The state of the last place inside a part that is still in doubt.

@@ -112,8 +112,8 @@ pub fn are_apart(
 ) -> Result<bool, Memory>
     ensures { IfOk result (λ b. b ≡ true → AreApart (MayCall labels.now) (cover_view labels.now one.now) (cover_view labels.now other.now)) }
 {
-    if one.flat.len() == 0 || other.flat.len() == 0 {
+    if one.net.len() == 0 || other.net.len() == 0 {
         return Ok(false);
     }
-    search.apart(labels, &one.flat, 0, one.last, &other.flat, 0, other.last)
+    search.apart(labels, &one.net, 0, one.last, &other.net, 0, other.last)
 }

@@ -47,7 +47,7 @@ impl Kept {
         ensures covers { (self.new.covers.items ≡ self.old.covers.items) ⊎ (self.new.covers.items ≡ set self.old.covers.items rule (Some cover)) }
     {
         self.tails[rule as usize] = Some(tail);
-        let states = cover.flat.len();
+        let states = cover.net.len();
         if states <= self.room {
             self.room -= states;
             self.covers[rule as usize] = Some(cover);
@@ -63,7 +63,7 @@ impl Kept {
     {
         let taken = self.covers[rule as usize].take();
         if let Some(cover) = &taken {
-            self.room = self.room.saturating_add(cover.flat.len());
+            self.room = self.room.saturating_add(cover.net.len());
         }
         taken
     }
@@ -90,9 +90,9 @@ pub fn tail_of(alloc: Global, g: &Gram, rule: u32, cover: &Cover) -> Result<Opti
     requires { rule < length g.now.rules }
     ensures { IfOk result (λ o. IfSome o (IsEndOf cover.now)) }
 {
-    let _states = cover.flat.len();
+    let _states = cover.net.len();
     let gate = last_gate(g, rule, cover);
-    let tail = Tail::of(alloc, &cover.flat, cover.last, gate)?;
+    let tail = Tail::of(alloc, &cover.net, cover.last, gate)?;
     Ok(tail)
 }
 
