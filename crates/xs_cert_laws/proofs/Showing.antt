@@ -1,34 +1,33 @@
 -- A side whose blocks are all right has no suspect.
-use Rattle.std.proofs.Common.{◌≡◌, ℕ, suc, ◌+◌, ◌-◌, ◌<◌, ◌≤◌, ◌⊎◌, ◌&&◌, min, max, not, nat_eq, Bool, true, false, List, [], ◌∷◌, ◌++◌, length, map, flat_map, refl, sym, ap, ◌∙◌, arith, inl, inr, append-nil, append_assoc, slice_range}
+use Rattle.std.proofs.Common.{◌≡◌, ℕ, suc, ◌<◌, ◌≤◌, ◌⊎◌, ◌&&◌, min, max, not, nat_eq, Bool, true, false, List, [], ◌++◌, length, flat_map, refl, sym, ap, ◌∙◌, arith, inl, inr, append-nil, slice_range}
 use Rattle.std.specs.List.{Contains}
-use Rattle.std.proofs.lemmas.Bool.{cases_lt, true≢false}
+use Rattle.std.proofs.lemmas.Bool.{cases_lt}
 use Rattle.std.proofs.lemmas.List.Elements.{Contains-append_left, Contains-append_right}
 use Rattle.std.proofs.lemmas.Option.{slice_get_within, get_or_from_slice_get}
 use Rattle.xs_closed.specs.Rows.{holds}
 use Rattle.xs_auto.specs.Nets.{Graph}
 use Rattle.xs_class.proofs.Truth.{eq_self}
-use Rattle.xs_auto.specs.Nests.{Group, no_group, group_at, IsGroup, HaveOneFence, IsTame, AcceptsNested}
-use Rattle.xs_meet.specs.Closed.{Leads, Marked, IsApart, AreApart, IsSettled}
+use Rattle.xs_auto.specs.Nests.{Group, no_group, group_at, IsGroup, HaveOneFence}
+use Rattle.xs_meet.specs.Closed.{Leads, IsApart, AreApart, IsSettled}
 use Rattle.xs_meet.proofs.NestLemmas.{apart, clear}
 use Rattle.xs_gram.specs.declared.parts.GItem.{GItem}
 use Rattle.xs_gram.specs.Grammar.{Grammar, rule_of}
-use Rattle.xs_gram.specs.Fences.{spread, IsLevel, IsCut}
-use Rattle.xs_gram.specs.Cuts.{CutsAt, HasOneCut}
+use Rattle.xs_gram.specs.Fences.{spread, IsLevel}
+use Rattle.xs_gram.specs.Cuts.{HasOneCut}
 use Rattle.xs_gram.proofs.Cuts.{cuts_are_one}
 use Rattle.xs_gram.specs.Loose.{IsLoose}
 use Rattle.xs_gram.specs.Sound.{IsBuilt}
-use Rattle.xs_gram.specs.Suspects.{IsVertical, IsHorizontal}
-use Rattle.xs_pair.specs.Grammars.{Pair}
-use Rattle.xs_check_laws.specs.Acceptance.{IsLight, HasNoSuspect, IsAccepted}
+use Rattle.xs_gram.specs.Suspects.{IsHorizontal}
+use Rattle.xs_check_laws.specs.Acceptance.{HasNoSuspect}
 use Rattle.xs_check_laws.specs.Freedom.{HasNoVertical, HasNoHorizontal}
 use Rattle.xs_check_laws.proofs.Words.{loose_level}
-use Rattle.xs_loose.specs.Nets.{IsNumbered, IsNestOf}
+use Rattle.xs_loose.specs.Nets.{IsNumbered}
 use Rattle.xs_loose.specs.Parts.{IsStretch}
 use Rattle.xs_loose.proofs.Stretches.{slice_stretch}
 use Rattle.xs_loose.proofs.Reading.{nets_accept_loose}
 use Rattle.xs_loose.proofs.Taming.{nets_are_tame, nests_are_fenced}
-use Rattle.xs_cert_laws.specs.Blocks.{Head, for_groups, for_rules, for_cut, Block, of_groups, of_rules, of_cut, head, Pairs, IsRight, ShowsApart, ShowsClear, AreContents, AreRuleNets, AreCutNets}
-use Rattle.xs_cert_laws.specs.Certificates.{between, one_fence, has_pair, is_shared, Shares, Half, IsHalf, heads, group_heads, rule_heads, cut_heads, IsCertificate}
+use Rattle.xs_cert_laws.specs.Blocks.{Head, for_groups, for_rules, for_cut, Block, of_groups, of_rules, of_cut, head, Pairs, IsRight, AreCutNets}
+use Rattle.xs_cert_laws.specs.Certificates.{between, one_fence, is_shared, Shares, Half, IsHalf, heads, group_heads, rule_heads, cut_heads}
 use Rattle.xs_cert_laws.specs.Laws.{CertifiedIsAccepted}
 use Rattle.xs_cert_laws.proofs.Finding.{between_has, map_has, IsImage, map_of, filter_has, flat_has}
 

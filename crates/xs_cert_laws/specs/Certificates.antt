@@ -1,5 +1,5 @@
 -- Certificates of the two grammars of a sheet, and good fronts of what is none.
-use Rattle.std.specs.Prelude.{◌≡◌, ℕ, suc, ◌-◌, ◌≤◌, ◌<◌, ◌⊎◌, min, max, List, [], ◌∷◌, ◌++◌, length, map, flat_map, Bool, true, false, ◌&&◌, ◌||◌, not, nat_eq, codes}
+use Rattle.std.specs.Prelude.{◌≡◌, ℕ, suc, ◌-◌, ◌≤◌, ◌<◌, min, max, List, [], ◌∷◌, ◌++◌, length, map, flat_map, Bool, true, false, ◌&&◌, ◌||◌, not, nat_eq, codes}
 use Rattle.std.specs.List.{Contains, filter, range_with_len}
 use Rattle.xs_auto.specs.Nests.{Group, group_at}
 use Rattle.xs_gram.specs.Grammar.{Grammar, rule_of}

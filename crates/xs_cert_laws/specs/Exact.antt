@@ -1,6 +1,6 @@
 -- The certificate that is written of two grammars: exactly the groups that share a word, and the
 -- least sets.
-use Rattle.std.specs.Prelude.{◌≡◌, ◌↔◌, ℕ, Bool, true, List}
+use Rattle.std.specs.Prelude.{◌↔◌, ℕ, Bool, List}
 use Rattle.std.specs.List.{Contains}
 use Rattle.xs_auto.specs.Nests.{AreShared}
 use Rattle.xs_pair.specs.Grammars.{Pair}

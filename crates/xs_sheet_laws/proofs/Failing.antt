@@ -1,5 +1,5 @@
 -- Sheets that are alike fail the same rules at the same lines.
-use Rattle.std.proofs.Common.{◌≡◌, ◌∙◌, ℕ, List, [], ◌∷◌, ◌++◌, inl, inr, take, false, refl, sym, ap, subst}
+use Rattle.std.proofs.Common.{◌≡◌, ◌∙◌, ℕ, List, inl, inr, take, refl, sym, subst}
 use Rattle.xs_sheet.specs.declared.sheet.Sheet.{Sheet}
 use Rattle.xs_sheet.specs.declared.unit.Unit.{Unit}
 use Rattle.xs_sheet.specs.declared.unit.Unit.TheVariants.{Terminal, Ignorable, Production, Fence}
@@ -8,7 +8,7 @@ use Rattle.xs_pair.specs.declared.ill.IllRule.{IllRule}
 use Rattle.xs_pair.specs.declared.ill.IllRule.TheVariants as I
 use Rattle.xs_pair.specs.declared.names.Sort.TheVariants as S
 use Rattle.xs_pair.specs.declared.production.Rule.{Rule}
-use Rattle.xs_pair.specs.Units.{unit_line, names_of}
+use Rattle.xs_pair.specs.Units.{names_of}
 use Rattle.xs_pair.specs.Rules.{IsAmong, IsTwice, IsAbsent}
 use Rattle.xs_pair.specs.Listing.{rules_of}
 use Rattle.xs_pair.specs.Verdict.{Tables, tables_of, FailsAmong, IsLineWhere, FailsAt}
@@ -18,7 +18,7 @@ use Rattle.xs_wf.specs.Nonterminals.{FailsAmongNons}
 use Rattle.xs_wf.specs.Rules.{Fails, IsWell, IsIll}
 use Rattle.xs_sheet_laws.specs.Sheets.{AreAlikeUnits, AllAlike, AreAlike}
 use Rattle.xs_sheet_laws.specs.Laws.{AlikeSheetsMeanTheSame}
-use Rattle.xs_sheet_laws.proofs.Twins.{twins, twin_at, fronts, names_same, rules_same}
+use Rattle.xs_sheet_laws.proofs.Twins.{fronts, names_same, rules_same}
 use Rattle.xs_sheet_laws.proofs.Sheets.{alike_back}
 use Rattle.xs_sheet_laws.proofs.Fencing.{line_kept, fence_kept}
 use Rattle.xs_sheet_laws.proofs.Pairs.{pair_kept}

@@ -1,5 +1,5 @@
 -- A sheet is refused in one way.
-use Rattle.std.proofs.Common.{◌≡◌, ◌⊎◌, ◌∙◌, ◌<◌, inl, inr, ℕ, List, [], ◌∷◌, ◌++◌, sym, ap, refl, subst, arith, append_assoc}
+use Rattle.std.proofs.Common.{◌≡◌, ◌⊎◌, ◌∙◌, ◌<◌, inl, inr, ℕ, List, [], ◌∷◌, ◌++◌, sym, ap, subst, arith, append_assoc}
 use Rattle.std.proofs.lemmas.Bool.{cases_order}
 use Rattle.xs_lex.specs.Reading.{Lexeme, extent_of}
 use Rattle.xs_lex.proofs.Uniqueness.{one_list}
@@ -8,18 +8,18 @@ use Rattle.xs_class.specs.declared.side.Side.TheVariants.{Text, Xml}
 use Rattle.xs_gram.specs.Grammar.{Grammar}
 use Rattle.xs_gram.specs.Fences.{fence_symbols}
 use Rattle.xs_gram.specs.Laws.{IsDistinct}
-use Rattle.xs_check_laws.specs.Acceptance.{IsLight, IsHeavyAt, IsHeaviness, IsFirstHeavy, IsBefore, IsFirstVertical, IsFirstHorizontal, Suspect, vertical, horizontal, IsFirstSuspect}
+use Rattle.xs_check_laws.specs.Acceptance.{IsLight, IsHeavyAt, IsHeaviness, IsBefore, IsFirstVertical, IsFirstHorizontal, vertical, horizontal}
 use Rattle.xs_check_laws.specs.Laws.{RuleWeighsOnce}
 use Rattle.xs_sheet.specs.declared.piece.Piece.{Piece}
 use Rattle.xs_sheet.specs.Pieces.{ArePieces}
-use Rattle.xs_sheet.specs.Grammar.{ReadsSheet, Begins, IsSheetBrokenAt}
+use Rattle.xs_sheet.specs.Grammar.{ReadsSheet, Begins}
 use Rattle.xs_sheet.proofs.Pieced.{pieces_same}
 use Rattle.xs_pair.specs.declared.ill.Ill.{Ill}
 use Rattle.xs_pair.specs.declared.ill.IllRule.{IllRule}
-use Rattle.xs_pair.specs.Verdict.{order, IsLeast, IsFirstIll}
+use Rattle.xs_pair.specs.Verdict.{order, IsLeast}
 use Rattle.xs_pair.proofs.Orders.{same_order}
 use Rattle.xs_wf.specs.Rules.{Fails}
-use Rattle.xs_sheet_laws.specs.Refusals.{BrokenOnce, IllOnce, HeavyOnce, site_of, SuspectOnce}
+use Rattle.xs_sheet_laws.specs.Refusals.{BrokenOnce, IllOnce, HeavyOnce, SuspectOnce}
 
 -- what begins a sheet has fronts that do
 begins_front : (xs ys : List Piece) → Begins (xs ++ ys) → Begins xs
