@@ -1,3 +1,14 @@
 pub mod Labelling
 pub mod Rowing
 pub mod Views
+pub mod ArcLemmas
+pub mod FoundLemmas
+pub mod GrowthLemmas
+pub mod LayerLemmas
+pub mod Marks
+pub mod PartLemmas
+pub mod SetLemmas
+pub mod TailArcs
+pub mod TailLemmas
+pub mod Walks
+pub mod Windows

@@ -15,7 +15,7 @@ use Rattle.xs_coarse.specs.Labels.{parted, cell}
 use Rattle.xs_coarse_net.specs.declared.cover.Content.{Content}
 use Rattle.xs_coarse_net.specs.Contents.{group_of, nest_of}
 use Rattle.xs_coarse_net.specs.Covers.{cover_view}
-use Rattle.xs_apart.proofs.PartLemmas.{apart_fewer, call_part}
+use Rattle.xs_coarse.proofs.PartLemmas.{apart_fewer, call_part}
 use Rattle.xs_screen.specs.Parting.{Parts, AreBothSettled, IsRowSettled, StaySettled, AreTheTwo}
 
 module _ (t : Table) (f s : ℕ) (low_f : f < t.groups) (low_s : s < t.groups) where

@@ -32,8 +32,8 @@ use Rattle.xs_coarse_net.specs.Having.{IsCovers}
 use Rattle.xs_coarse_net.specs.declared.cover.Covers.{Covers}
 use Rattle.xs_coarse_net.proofs.Keeping.{covers_same}
 use Rattle.xs_coarse.specs.Labels.{IsLabelsOf}
-use Rattle.xs_apart.specs.declared.tail.Tail.{Tail}
-use Rattle.xs_apart.specs.Sets.{AreClear}
+use Rattle.xs_coarse.specs.declared.tail.Tail.{Tail}
+use Rattle.xs_coarse.specs.Sets.{AreClear}
 use Rattle.xs_screen.specs.declared.kept.Kept.{Kept}
 use Rattle.xs_screen.specs.declared.screen.Screen.{Screen}
 use Rattle.xs_screen.specs.Parting.{Parts}

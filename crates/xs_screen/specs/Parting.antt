@@ -4,7 +4,7 @@ use Rattle.xs_meet.specs.Closed.{AreSettled}
 use Rattle.xs_coarse.specs.Coarse.{Table, MayCall}
 use Rattle.xs_coarse_net.specs.declared.cover.Content.{Content}
 use Rattle.xs_coarse_net.specs.Contents.{nest_of}
-use Rattle.xs_apart.specs.Parts.{IsParted}
+use Rattle.xs_coarse.specs.Parts.{IsParted}
 
 -- the labels stand for the same, for as many groups, and what may meet could meet before
 pub record Parts (old new : Table) : Type 0 where

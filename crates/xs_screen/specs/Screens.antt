@@ -9,8 +9,8 @@ use Rattle.xs_meet.specs.Closed.{IsSettled, AreApart}
 use Rattle.xs_loose.specs.declared.part.Part.{Part}
 use Rattle.xs_coarse.specs.Coarse.{Table, Net, MayCall, view}
 use Rattle.xs_coarse.specs.Labels.{IsLabelsOf}
-use Rattle.xs_apart.specs.declared.tail.Tail.{Tail}
-use Rattle.xs_apart.specs.Tails.{IsTail, IsWithinAll}
+use Rattle.xs_coarse.specs.declared.tail.Tail.{Tail}
+use Rattle.xs_coarse.specs.Tails.{IsTail, IsWithinAll}
 use Rattle.xs_coarse_net.specs.declared.cover.Cover.{Cover}
 use Rattle.xs_coarse_net.specs.Contents.{nest_of}
 use Rattle.xs_coarse_net.specs.Covers.{IsCoverOf}

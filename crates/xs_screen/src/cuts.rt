@@ -2,8 +2,7 @@ ghost use Rattle.std.specs.Prelude.{◌≡◌, ◌<◌, ◌⊎◌, true, false, 
 ghost use Rattle.std.specs.List.{Contains};
 ghost use Rattle.xs_gram.specs.{IsBuilt};
 ghost use Rattle.xs_loose.specs.{IsPart, AreNumbersBefore};
-ghost use Rattle.xs_coarse.specs.{MayCall, view};
-ghost use Rattle.xs_apart.specs.{AreDoubles, AreClear};
+ghost use Rattle.xs_coarse.specs.{AreClear, AreDoubles, MayCall, view};
 ghost use Rattle.xs_coarse_net.specs.{IsCoverOf};
 ghost use Rattle.xs_screen.specs.Screens.{IsScreen, AreDoubts, OverlapNowhere, whole_part};
 
@@ -11,9 +10,8 @@ use crate::Screen;
 use crate::places::{follows_non, is_cut_of};
 use crate::rules::whole;
 use std::alloc::Global;
-use xs_apart::{Doubles, Search};
 use xs_class::Memory;
-use xs_coarse::Labels;
+use xs_coarse::{Doubles, Labels, Search};
 use xs_coarse_laws::closed_sets_show_none;
 use xs_coarse_net::{Cover, Outer};
 use xs_gram::{Gram, cuts_are_one};

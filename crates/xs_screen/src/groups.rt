@@ -4,9 +4,8 @@ ghost use Rattle.xs_coarse_net.specs.{nest_of, cover_view};
 ghost use Rattle.xs_meet.specs.{IsSettled, AreApart};
 ghost use Rattle.xs_screen.specs.Parting.{Parts, AreBothSettled, IsRowSettled, StaySettled, AreTheTwo, IsOfRow};
 
-use xs_apart::Search;
 use xs_class::Memory;
-use xs_coarse::Labels;
+use xs_coarse::{Labels, Search};
 use xs_coarse_net::{Content, Cover};
 
 /// Sees which groups read no common word, though they have one fence, and notes it in the labels.

@@ -3,8 +3,8 @@ ghost use Rattle.xs_screen.specs.Screens.{AreNone, IsEndOf};
 
 use crate::places::follows_non;
 use std::alloc::Global;
-use xs_apart::Tail;
 use xs_class::Memory;
+use xs_coarse::Tail;
 use xs_coarse_net::Cover;
 use xs_gram::Gram;
 

@@ -1,5 +1,5 @@
 use Rattle.std.proofs.Common.{ℕ, ◌≡◌, length}
-use Rattle.xs_apart.specs.declared.tail.Tail.{Tail}
+use Rattle.xs_coarse.specs.declared.tail.Tail.{Tail}
 use Rattle.xs_coarse_net.specs.declared.cover.Cover.{Cover}
 use Rattle.xs_screen.specs.Screens.{AreOf}
 use Rattle.xs_screen.proofs.kept.Kept.none.Given as goal
