@@ -1,7 +1,6 @@
 -- What is kept of a sheet.
-use Rattle.xs_pair.specs.Grammars.{Pair}
+use Rattle.xs_pair.specs.Grammars.{Pair, IsPair}
 use Rattle.xs_pair.specs.Sound.{IsSoundPair}
-use Rattle.xs_wf.specs.Nonterminals.{IsPair}
 use Rattle.xs_writing_laws.specs.Laws.{CanBeWritten}
 pub use Rattle.xs_top.specs.Checks.{IsSure}
 

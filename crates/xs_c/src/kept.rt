@@ -1,6 +1,5 @@
 ghost use Rattle.std.specs.Prelude.{◌≡◌, ◌≤◌, length, IfOk, IfErr};
-ghost use Rattle.xs_pair.specs.{IsSoundPair};
-ghost use Rattle.xs_wf.specs.{IsPair};
+ghost use Rattle.xs_pair.specs.{IsPair, IsSoundPair};
 ghost use Rattle.xs_writing_laws.specs.{CanBeWritten};
 ghost use Rattle.xs_c.specs.Kept.{IsSure};
 
@@ -31,12 +30,12 @@ impl Model for Kept {
 impl Kept {
     /// The grammars of a sheet that is accepted.
     pub fn of(two: Two) -> Kept
-        requires pair { IsPair two }
         requires sound { IsSoundPair two }
         requires writable { CanBeWritten two }
         requires sure { IsSure two }
         ensures { result ≡ two }
     {
+        two.see();
         Kept { two }
     }
 

@@ -1,9 +1,7 @@
 ghost use Rattle.std.specs.Prelude.{◌≡◌, ◌<◌, ◌≤◌, ◌+◌, ◌*◌, ◌∷◌, ◌++◌, [], ℕ, suc, true, codes, length, encode_utf8_all, slice_get, None, Some, IfOk, OnOk, MatchOption};
 ghost use Rattle.std.specs.Str.{all_scalars, chars};
-ghost use Rattle.xs_sheet.specs.declared.sheet.Sheet.{Sheet as AnySheet};
 ghost use Rattle.xs_gram.specs.{word, made, TreeFits};
 ghost use Rattle.xs_gram.specs.Common.{Common};
-ghost use Rattle.xs_pair.specs.{IsPairOf};
 ghost use Rattle.xs_tree.specs.{IsFlat, common_at, common_of, production_of, word_of};
 ghost use Rattle.xs_outline.specs.Lines.{Entry, production, leaf_word, line, line_text, number_text};
 ghost use Rattle.xs_outline.specs.Order.{outline_of};
@@ -156,7 +154,6 @@ fn child_at<'t>(
     dot: usize,
 ) -> Option<Child<'t>>
     requires names { HasSlotNames two.now }
-    requires pair { (s : AnySheet) × IsPairOf s two.now }
     requires flat { IsFlat tree.now }
     requires orders { AreOrders two.now orders.now }
     requires part { part < length tree.now.parts }
@@ -165,6 +162,7 @@ fn child_at<'t>(
         (λ child. (child.part < length tree.now.parts) × (child.count ≡ dot + 1) × CanWrite two.now (common_at tree.now child.part)
         × ((depth : ℕ) → rest_text two.now depth dot (common_at tree.now part) ≡ tree_text two.now depth (chars child.name.now) (common_at tree.now child.part) ++ rest_text two.now depth (dot + 1) (common_at tree.now part))) }
 {
+    two.see();
     let rule = rule_of(tree, part);
     let order = orders[rule as usize].as_slice();
     if dot < order.len() {
@@ -191,7 +189,6 @@ fn perform(
     page: &mut Text,
 ) -> Result<(), Memory>
     requires names { HasSlotNames two.now }
-    requires pair { (s : AnySheet) × IsPairOf s two.now }
     requires flat { IsFlat tree.now }
     requires orders { AreOrders two.now orders.now }
     requires part { task.part < length tree.now.parts }
@@ -212,7 +209,6 @@ fn perform(
 /// Writes the tree's outline to a page.
 fn write(alloc: Global, two: &Two, tree: &Tree, page: &mut Text) -> Result<(), Memory>
     requires names { HasSlotNames two.now }
-    requires pair { (s : AnySheet) × IsPairOf s two.now }
     requires empty { page.old ≡ [] }
     requires fits { TreeFits two.now.text two.now.text.start (common_of tree.now) }
     ensures { OnOk result (page.new ≡ outline_of two.now (common_of tree.now)) }

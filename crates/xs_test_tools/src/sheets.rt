@@ -1,7 +1,7 @@
 ghost use Rattle.std.specs.Prelude.{IfOk};
 ghost use Rattle.xs_gram.specs.{IsBuilt};
-ghost use Rattle.xs_pair.specs.{IsSoundPair};
-ghost use Rattle.xs_wf.specs.{IsPair, HaveOrderedLines};
+ghost use Rattle.xs_pair.specs.{IsPair, IsSoundPair};
+ghost use Rattle.xs_wf.specs.{HaveOrderedLines};
 
 use std::alloc::Global;
 use xs_class::Side;

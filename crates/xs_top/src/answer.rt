@@ -1,7 +1,6 @@
 ghost use Rattle.std.specs.Prelude.{IfOk, IfErr};
 ghost use Rattle.xs_class.specs.declared.side.Side.TheVariants as S;
 ghost use Rattle.xs_pair.specs.{IsSoundPair};
-ghost use Rattle.xs_wf.specs.{IsPair};
 ghost use Rattle.xs_writing_laws.specs.{CanBeWritten};
 ghost use Rattle.xs_top.specs.declared.asking.Job.TheVariants as J;
 ghost use Rattle.xs_top.specs.Meaning.{HasLines};
@@ -46,7 +45,6 @@ fn taken<S: Source>(alloc: Global, input: &mut S) -> Result<Bytes, Stop>
 
 /// What is said of the sheet, once it is accepted.
 fn check<S: Source>(alloc: Global, two: &Two, input: &mut S) -> Result<Bytes, Stop>
-    requires pair { IsPair two.now }
     requires sound { IsSoundPair two.now }
     ensures answer { IfOk result (IsAnswer two.now (input_of S.left S.faults input.old input.new) J.Check) }
     ensures stop { IfErr result (StopsBy (IsUndone two.now (input_of S.left S.faults input.old input.new) J.Check)) }
@@ -66,7 +64,6 @@ fn turn<S: Source>(
     form: Form,
     input: &mut S,
 ) -> Result<Bytes, Stop>
-    requires pair { IsPair two.now }
     requires sound { IsSoundPair two.now }
     requires writable { CanBeWritten two.now }
     ensures answer { IfOk result (IsAnswer two.now (input_of S.left S.faults input.old input.new) (J.Turn from to form)) }
@@ -81,7 +78,6 @@ fn turn<S: Source>(
 
 /// The listing of at most `max` derivations of the input.
 fn list<S: Source>(alloc: Global, two: &Two, max: u32, input: &mut S) -> Result<Bytes, Stop>
-    requires pair { IsPair two.now }
     requires sound { IsSoundPair two.now }
     ensures answer { IfOk result (IsAnswer two.now (input_of S.left S.faults input.old input.new) (J.Trees max)) }
     ensures stop { IfErr result (StopsBy (IsUndone two.now (input_of S.left S.faults input.old input.new) (J.Trees max))) }
@@ -99,7 +95,6 @@ fn make<S: Source>(
     lines: u32,
     input: &mut S,
 ) -> Result<Bytes, Stop>
-    requires pair { IsPair two.now }
     requires sound { IsSoundPair two.now }
     requires writable { CanBeWritten two.now }
     requires lines { HasLines (J.Make seed lines) }
@@ -130,7 +125,6 @@ fn make<S: Source>(
 
 /// The answers of the edit script that is the input, once the sheet is accepted.
 fn session<S: Source>(alloc: Global, two: &Two, input: &mut S) -> Result<Bytes, Stop>
-    requires pair { IsPair two.now }
     requires sound { IsSoundPair two.now }
     ensures answer { IfOk result (IsAnswer two.now (input_of S.left S.faults input.old input.new) J.Session) }
     ensures stop { IfErr result (StopsBy (IsUndone two.now (input_of S.left S.faults input.old input.new) J.Session)) }
@@ -149,7 +143,6 @@ fn to_tree<S: Source>(
     form: Form,
     input: &mut S,
 ) -> Result<Bytes, Stop>
-    requires pair { IsPair two.now }
     requires sound { IsSoundPair two.now }
     ensures answer { IfOk result (IsAnswer two.now (input_of S.left S.faults input.old input.new) (J.ToTree from form)) }
     ensures stop { IfErr result (StopsBy (IsUndone two.now (input_of S.left S.faults input.old input.new) (J.ToTree from form))) }
@@ -163,7 +156,6 @@ fn to_tree<S: Source>(
 /// The document on side `to` with the tree of the outline that is the input, once the sheet is
 /// accepted.
 fn from_tree<S: Source>(alloc: Global, two: &Two, to: Side, input: &mut S) -> Result<Bytes, Stop>
-    requires pair { IsPair two.now }
     requires sound { IsSoundPair two.now }
     requires writable { CanBeWritten two.now }
     ensures answer { IfOk result (IsAnswer two.now (input_of S.left S.faults input.old input.new) (J.FromTree to)) }
@@ -188,7 +180,6 @@ fn show<S: Source>(alloc: Global, two: &Two, input: &mut S) -> Result<Bytes, Sto
 
 /// The certificate that the sheet is accepted.
 fn proved<S: Source>(alloc: Global, two: &Two, input: &mut S) -> Result<Bytes, Stop>
-    requires pair { IsPair two.now }
     requires sound { IsSoundPair two.now }
     ensures answer { IfOk result (IsAnswer two.now (input_of S.left S.faults input.old input.new) J.Prove) }
     ensures stop { IfErr result (StopsBy (IsUndone two.now (input_of S.left S.faults input.old input.new) J.Prove)) }
@@ -207,7 +198,6 @@ pub fn answer_of<S: Source>(
     job: Job,
     input: &mut S,
 ) -> Result<Bytes, Stop>
-    requires pair { IsPair two.now }
     requires sound { IsSoundPair two.now }
     requires writable { CanBeWritten two.now }
     requires lines { HasLines job }

@@ -2,7 +2,6 @@ ghost use Rattle.std.specs.Prelude.{◌≡◌, ◌<◌, length, IfOk, IfErr, OnO
 ghost use Rattle.xs_gram.specs.{IsBuilt};
 ghost use Rattle.xs_pair.specs.{grammar_of, IsSoundPair};
 ghost use Rattle.xs_unique.specs.{IsReason};
-ghost use Rattle.xs_wf.specs.{IsPair};
 ghost use Rattle.xs_top.specs.Checks.{IsSure, IsUnsure, HasRules, name_at, line_at, report_at};
 ghost use Rattle.xs_top.specs.Stops.{StopsBy};
 
@@ -16,27 +15,26 @@ use xs_unique::{AcceptFault, accept};
 
 /// The name of a production's nonterminal.
 fn name(alloc: Global, two: &Two, side: Side, rule: u32) -> Result<Text, Memory>
-    requires pair { IsPair two.now }
     requires built { IsBuilt (grammar_of two.now side) }
     requires there { rule < length (grammar_of two.now side).rules }
     ensures { IfOk result (λ name. name ≡ name_at two.now side rule) }
 {
+    two.see();
     let non = two.gram(side).non_of(rule);
     Text::of(alloc, two.non_name(non))
 }
 
 /// The line of a production.
 fn line(two: &Two, side: Side, rule: u32) -> u32
-    requires pair { IsPair two.now }
-    requires there { rule < length (grammar_of two.now side).rules }
+    requires { rule < length (grammar_of two.now side).rules }
     ensures { result ≡ line_at two.now rule }
 {
+    two.see();
     two.line(rule)
 }
 
 /// What is reported of a suspect.
 fn report(alloc: Global, two: &Two, suspect: Suspect) -> Result<Report, Memory>
-    requires pair { IsPair two.now }
     requires sound { IsSoundPair two.now }
     requires there { HasRules two.now suspect }
     ensures { IfOk result (λ report. report ≡ report_at two.now suspect) }
@@ -84,7 +82,6 @@ fn report(alloc: Global, two: &Two, suspect: Suspect) -> Result<Report, Memory>
 
 /// How a run ends whose sheet is not accepted.
 pub fn refused(alloc: Global, two: &Two, fault: AcceptFault) -> Result<Stop, Memory>
-    requires pair { IsPair two.now }
     requires sound { IsSoundPair two.now }
     requires reason { IsReason two.now.text two.now.xml fault }
     ensures { IfOk result (StopsBy (IsUnsure two.now)) }
@@ -102,7 +99,6 @@ pub fn refused(alloc: Global, two: &Two, fault: AcceptFault) -> Result<Stop, Mem
 /// Makes sure that a sheet is accepted, so that each word of either side has at most one
 /// derivation.
 pub fn checked(alloc: Global, two: &Two) -> Result<(), Stop>
-    requires pair { IsPair two.now }
     requires sound { IsSoundPair two.now }
     ensures sure { OnOk result (IsSure two.now) }
     ensures stop { IfErr result (StopsBy (IsUnsure two.now)) }

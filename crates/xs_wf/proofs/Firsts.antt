@@ -18,14 +18,14 @@ use Rattle.xs_gram.specs.Sound.{IsInRange}
 use Rattle.xs_pair.specs.declared.names.Sort.TheVariants as S
 use Rattle.xs_pair.specs.declared.production.Rule.{Rule}
 use Rattle.xs_pair.specs.Directories.{IsDistinct}
-use Rattle.xs_pair.specs.Grammars.{Pair, IsGramOf, Numbering, numbering, rule_part}
+use Rattle.xs_pair.specs.Grammars.{Pair, IsPair, IsGramOf, Numbering, numbering, rule_part}
 use Rattle.xs_pair.specs.Listing.{rules_of}
 use Rattle.xs_pair.specs.Rules.{IsAmong, IsAbsent}
 use Rattle.xs_pair.specs.Units.{names_of, nons_of, with_name, with_names, firsts, number_of}
 use Rattle.xs_pair.specs.Verdict.{IsFirstLine}
 use Rattle.xs_pair.proofs.Numbering.{number_is, among_at, firsts_have, rule_names, rule_is_named}
 use Rattle.xs_pair.proofs.Places.{found_there, first_before, stands_nowhere, among_or_absent, get_snoc, get_take, absent_snoc}
-use Rattle.xs_wf.specs.Nonterminals.{IsFirstRule, IsFirstLineOf, IsLineOfSome, IsFirstNon, IsPair, HaveOrderedLines}
+use Rattle.xs_wf.specs.Nonterminals.{IsFirstRule, IsFirstLineOf, IsLineOfSome, IsFirstNon, HaveOrderedLines}
 use Rattle.xs_pair.proofs.Alike.{at_map}
 
 -- an element among the first of two joined lists

@@ -32,10 +32,6 @@ pub record IsFirstLineOf (p : Pair) (P : ℕ → Type 0) (line : ℕ) : Type 0 w
 abbrev pub FailsAmongNons : (Pair → ℕ → Type 0) → Sheet → ℕ → Type 0
 FailsAmongNons P s line = (p : Pair) × IsPairOf s p × IsFirstLineOf p (P p) line
 
--- the two grammars are those of some sheet
-abbrev pub IsPair : Pair → Type 0
-IsPair p = (s : Sheet) × IsPairOf s p
-
 -- no line is less than an earlier one
 abbrev pub HaveOrderedLines : List ℕ → Type 0
 HaveOrderedLines lines = (j k a b : ℕ) → slice_get lines j ≡ Some a → slice_get lines k ≡ Some b → j ≤ k → a ≤ b

@@ -2,7 +2,7 @@ ghost use Rattle.std.specs.Prelude.{◌≡◌, ◌<◌, ◌&&◌, ℕ, false, No
 ghost use Rattle.xs_gram.specs.{IsBuilt, DerivesItself};
 ghost use Rattle.xs_order.specs.Order as O;
 ghost use Rattle.xs_pair.specs.{IsFirstLine};
-ghost use Rattle.xs_wf.specs.Nonterminals.{IsUnproductive, IsLooping, IsWordless, IsFirstLineOf, IsPair, HaveOrderedLines, AreProductive, IsFirstNon, IsLineOf, IsLineOfSome};
+ghost use Rattle.xs_wf.specs.Nonterminals.{IsUnproductive, IsLooping, IsWordless, IsFirstLineOf, HaveOrderedLines, AreProductive, IsFirstNon, IsLineOf, IsLineOfSome};
 
 use crate::least::lesser;
 use std::alloc::Global;
@@ -39,12 +39,10 @@ fn first_unset(two: &Two, text: &Flags, xml: &Flags) -> Option<u32>
 
 /// The first nonterminal that derives no word on one of the sides.
 fn first_unproductive(alloc: Global, two: &Two) -> Result<Option<u32>, Memory>
-    requires pair { IsPair two.now }
-    requires text { IsBuilt two.now.text }
-    requires xml { IsBuilt two.now.xml }
     ensures first { IfOk result (IsFirstNon (IsWordless two.now)) }
     ensures fine { IfOk result (λ non. non ≡ None → AreProductive two.now) }
 {
+    two.see();
     let text = productive(alloc, two.gram(Side::Text))?;
     let xml = productive(alloc, two.gram(Side::Xml))?;
     Ok(first_unset(two, &text, &xml))
@@ -64,10 +62,9 @@ fn first_loop(alloc: Global, gram: &Gram) -> Result<Option<u32>, Memory>
 
 /// The first nonterminal that derives itself alone on one of the sides.
 fn first_looping(alloc: Global, two: &Two) -> Result<Option<u32>, Memory>
-    requires text { IsBuilt two.now.text }
-    requires xml { IsBuilt two.now.xml }
     ensures { IfOk result (IsFirstNon (IsLooping two.now)) }
 {
+    two.see();
     let text = first_loop(alloc, two.gram(Side::Text))?;
     let xml = first_loop(alloc, two.gram(Side::Xml))?;
     Ok(lesser(text, xml))
@@ -75,10 +72,10 @@ fn first_looping(alloc: Global, two: &Two) -> Result<Option<u32>, Memory>
 
 /// The line of the nonterminal's first production, in time linear in the productions.
 fn first_line(two: &Two, non: u32) -> u32
-    requires pair { IsPair two.now }
-    requires there { non < two.now.text.nons }
+    requires { non < two.now.text.nons }
     ensures { IsLineOf two.now non result }
 {
+    two.see();
     let gram = two.gram(Side::Text);
     'rules: for rule in 0..gram.rules() {
         if gram.non_of(rule) == non {
@@ -90,8 +87,7 @@ fn first_line(two: &Two, non: u32) -> u32
 
 /// The same of a nonterminal that may be none.
 fn some_first_line(two: &Two, non: Option<u32>) -> Option<u32>
-    requires pair { IsPair two.now }
-    requires there { IfSome non (λ n. n < two.now.text.nons) }
+    requires { IfSome non (λ n. n < two.now.text.nons) }
     ensures { IsLineOfSome two.now non result }
 {
     match non {
@@ -105,13 +101,11 @@ fn some_first_line(two: &Two, non: Option<u32>) -> Option<u32>
 ///
 /// Takes time and memory linear in the items of the rules and in the steps of the automata.
 pub fn least_unproductive(alloc: Global, two: &Two) -> Result<Option<u32>, Memory>
-    requires pair { IsPair two.now }
-    requires text { IsBuilt two.now.text }
-    requires xml { IsBuilt two.now.xml }
-    requires lines { HaveOrderedLines two.now.lines }
+    requires { HaveOrderedLines two.now.lines }
     ensures first { IfOk result (IsFirstLine (IsFirstLineOf two.now (IsUnproductive two.now))) }
     ensures fine { IfOk result (λ least. least ≡ None → AreProductive two.now) }
 {
+    two.see();
     let non = first_unproductive(alloc, two)?;
     Ok(some_first_line(two, non))
 }
@@ -121,13 +115,11 @@ pub fn least_unproductive(alloc: Global, two: &Two) -> Result<Option<u32>, Memor
 ///
 /// Takes time and memory linear in the items of the rules.
 pub fn least_loop(alloc: Global, two: &Two) -> Result<Option<u32>, Memory>
-    requires pair { IsPair two.now }
-    requires text { IsBuilt two.now.text }
-    requires xml { IsBuilt two.now.xml }
-    requires lines { HaveOrderedLines two.now.lines }
+    requires { HaveOrderedLines two.now.lines }
     ensures first { IfOk result (IsFirstLine (IsFirstLineOf two.now (IsLooping two.now))) }
     ensures fine { IfOk result (λ least. least ≡ None → (n : ℕ) → IsLooping two.now n → ⊥) }
 {
+    two.see();
     let non = first_looping(alloc, two)?;
     Ok(some_first_line(two, non))
 }

@@ -1,7 +1,6 @@
 //! A script at whose end the document has all symbols that it may have. It is longer than an input
 //! of the program may be.
 ghost use Rattle.xs_pair.specs.{IsSoundPair};
-ghost use Rattle.xs_wf.specs.{IsPair};
 
 use std::alloc::Global;
 use std::test::Fail;
@@ -22,8 +21,7 @@ fn put_many(script: &mut Word, count: u32) -> Result<(), Memory> {
 /// The answer of a script by which the document would have one symbol too many, and then has just
 /// as many as it may have.
 fn at_the_limit(alloc: Global, two: &Two) -> Result<Bytes, ScriptFault>
-    requires pair { IsPair two.now }
-    requires sound { IsSoundPair two.now }
+    requires { IsSoundPair two.now }
 {
     let mut script = Word::new(alloc);
     put_many(&mut script, 1_048_000)?;
@@ -36,8 +34,7 @@ fn at_the_limit(alloc: Global, two: &Two) -> Result<Bytes, ScriptFault>
 const AT_THE_LIMIT: &str = "ok 1048000\nno long\nok 1048576\nno long\nok 1048576\nforeign 0\n";
 
 fn is_at_the_limit(alloc: Global, two: &Two) -> Result<bool, ScriptFault>
-    requires pair { IsPair two.now }
-    requires sound { IsSoundPair two.now }
+    requires { IsSoundPair two.now }
 {
     let found = at_the_limit(alloc, two)?;
     Ok(found.as_slice() == AT_THE_LIMIT.as_bytes())

@@ -45,7 +45,7 @@ returns-then-dot-order c =
     let small : slot < length (kids_of (slice_get f.parts c.args.part)) = omega (arith, below, kids.1, c.requires.names.counts rule) in (
       omega (arith, c.kid-kid.ensures.before, c.requires.part),
       refl,
-      kid_can c.requires.pair.0 p f c.args.part rule slot c.kid-kid.result c.requires.pair.1 c.requires.flat c.requires.part c.rule_of-rule.ensures c.requires.node c.kid-kid.ensures.kid small,
+      kid_can c.see.ensures.pair.0 p f c.args.part rule slot c.kid-kid.result c.see.ensures.pair.1 c.requires.flat c.requires.part c.rule_of-rule.ensures c.requires.node c.kid-kid.ensures.kid small,
       λ depth. rest_first p f c.args.part rule c.args.dot slot c.kid-kid.result depth c.requires.flat c.requires.part c.rule_of-rule.ensures (subst (λ (z : List ℕ). c.args.dot < length z) order c.if-dot-order.true) (ap (λ (z : List ℕ). get_or z c.args.dot 0) order) c.kid-kid.ensures.kid small
           ∙ ap (λ (z : List ℕ). tree_text p depth z (common_at f c.kid-kid.result) ++ rest_text p depth (c.args.dot + 1) (common_at f c.args.part)) (get_or_from_slice_get _ slot _ [] c.slot_name-name.ensures),
     )

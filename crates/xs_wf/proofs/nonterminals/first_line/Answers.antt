@@ -5,7 +5,7 @@ use Rattle.xs_wf.proofs.nonterminals.first_line.Goals as goal
 
 pub unreachable-requires : goal.unreachable-requires
 unreachable-requires c =
-    let (k, first) = has_first_rule c.args.two.now c.requires.pair c.args.non c.requires.there in
+    let (k, first) = has_first_rule c.args.two.now c.see.ensures.pair c.args.non c.requires in
     let low : k < length c.args.two.now.text.rules = first.of.0 in
     let end : c.rules-rule-end.result ≡ length c.args.two.now.text.rules = c.rules-rule-end.ensures ∙ ap (λ (g : Grammar). length g.rules) c.gram-gram.ensures in
     let past = c.rules-test.false in

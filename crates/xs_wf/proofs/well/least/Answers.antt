@@ -15,11 +15,11 @@ use Rattle.xs_wf.proofs.Lines.{pair_ordered}
 use Rattle.xs_wf.proofs.Refusals.{none_of_seven}
 use Rattle.xs_wf.proofs.well.least.Goals as goal
 
-pub least_unproductive-requires-clause-lines : goal.least_unproductive-requires-clause-lines
-least_unproductive-requires-clause-lines c = pair_ordered c.args.sheet.now c.args.two.now c.requires.grammars.bytes c.requires.grammars.of
+pub least_unproductive-requires : goal.least_unproductive-requires
+least_unproductive-requires c = pair_ordered c.args.sheet.now c.args.two.now c.requires.grammars.bytes c.requires.grammars.of
 
-pub least_loop-requires-clause-lines : goal.least_loop-requires-clause-lines
-least_loop-requires-clause-lines c = pair_ordered c.args.sheet.now c.args.two.now c.requires.grammars.bytes c.requires.grammars.of
+pub least_loop-requires : goal.least_loop-requires
+least_loop-requires c = pair_ordered c.args.sheet.now c.args.two.now c.requires.grammars.bytes c.requires.grammars.of
 
 pub returns-in-Twice-clause-first : goal.returns-in-Twice-clause-first
 returns-in-Twice-clause-first c = none_of_seven c.args.sheet.now c.args.rule Twice c.in-Twice.is (omega arith) c.requires.grammars.passed
