@@ -4,21 +4,21 @@ use Rattle.std.specs.Prelude.{Result, Ok, Err, IfErr, IfOk, Contains}
 use Rattle.std.specs.declared.option.Option.{Option}
 use Rattle.std.specs.Io.KnownBytes.{Appends}
 use Rattle.xs_io.specs.Causes.{Rose}
+use Rattle.xs_io.specs.Shown.{Files}
 use Rattle.xs_class.specs.Ordered.{AreNamesOf}
 use Rattle.xs_class.specs.declared.memory.Memory.{Memory as Refusal}
 use Rattle.xs_talk.specs.Lines.{line}
 use Rattle.xs_pair.specs.Grammars.{Pair}
 use Rattle.xs_talk.specs.declared.outcome.Outcome.{Outcome}
 use Rattle.xs_talk.specs.declared.outcome.Outcome.TheVariants.{NoteFault}
-use Rattle.xs_words.specs.Command.{Sheet as Named}
 use Rattle.xs_top.specs.declared.asking.Job.{Job}
-use Rattle.xs_top.specs.Asked.{Ask, by, asked}
-use Rattle.xs_top.specs.Devices.{Output, Run, ReadNothing, TookNothing}
-use Rattle.xs_top.specs.Sheets.{SpellsPair}
+use Rattle.xs_top.specs.declared.asking.Begun.TheVariants as B
+use Rattle.xs_top.specs.Asked.{Ask, printing, upgrading, certifying, by, asked}
+use Rattle.xs_top.specs.Devices.{Input, Output, Run, ReadNothing, TookNothing}
 use Rattle.xs_top.specs.declared.stop.Stop.{Stop}
 use Rattle.xs_top.specs.declared.stop.Stop.TheVariants.{Refused, Memory}
 use Rattle.xs_top.specs.Stops.{StopsBy}
-use Rattle.xs_top.specs.Ran.{HasAnswer, IsRefused, IsUndone, Went, refused, undone, answered, Took, IsWritten, Told, Tells, status_of}
+use Rattle.xs_top.specs.Ran.{IsAnswer, IsBegun, HasAnswer, IsRefused, IsUndone, IsUndoneBy, ReadsFor, ReadsAsAsked, Went, refused, undone, answered, Took, IsWritten, Told, Tells, status_of}
 
 -- a stop by another cause
 pub stops_as : {P Q : Outcome → Type 0} → ((o : Outcome) → P o → Q o) → (stop : Stop) → StopsBy P stop → StopsBy Q stop
@@ -53,14 +53,40 @@ usage_told run names o r none went tells = told_as run o [] r went (subst (λ (n
 pub refused_told : (run : Run) (ask : Ask) (o : Outcome) (names : List (List ℕ)) (r : Result Outcome Refusal) → asked run.words ≡ Some ask → IsRefused run.shelf ask o → ReadNothing run.input → TookNothing run.out → names ≡ [] → IfOk r (Tells run.notes names o) → IfOk r (Told run)
 refused_told run ask o names r is why read took none tells = usage_told run names o r none (refused ask is why read took) tells
 
+-- by what was begun: its answer; the answer of its job, why that is not done, and what it reads
+answer_begun : (run : Run) (ask : Ask) (answer : List ℕ) → ReadNothing run.input → IsBegun run.shelf.files ask (B.Answer answer) → HasAnswer run ask answer
+answer_begun run (printing bytes) answer read is = (read, is)
+answer_begun run (upgrading sheet) answer read is = (read, is)
+answer_begun run (certifying sheet cert) answer read is = (read, is)
+answer_begun run (by sheet job) answer read is = absurd is
+
+job_answered : (run : Run) (ask : Ask) (p : Pair) (job : Job) (answer : List ℕ) → IsBegun run.shelf.files ask (B.By p job) → IsAnswer p run.input job answer → HasAnswer run ask answer
+job_answered run (by sheet other) p job answer is has = (p, is.1, subst (λ (j : Job). IsAnswer p run.input j answer) is.0 has)
+job_answered run ask p job answer is has = absurd is
+
+job_undone : (run : Run) (ask : Ask) (p : Pair) (job : Job) (o : Outcome) → IsBegun run.shelf.files ask (B.By p job) → IsUndone p run.input job o → IsUndoneBy run ask p o
+job_undone run (by sheet other) p job o is why = (is.1, subst (λ (j : Job). IsUndone p run.input j o) is.0 why)
+job_undone run ask p job o is why = absurd is
+
+pub job_reads : (ask : Ask) (p : Pair) (job : Job) (files : Files) (i : Input) → IsBegun files ask (B.By p job) → ReadsFor job i → ReadsAsAsked (Some ask) i
+job_reads (by sheet other) p job files i is reads = subst (λ (j : Job). ReadsFor j i) is.0 reads
+job_reads ask p job files i is reads = absurd is
+
 -- a job that is not done
-pub undone_told : (run : Run) (sheet : Named) (job : Job) (p : Pair) (stop : Stop) (o : Outcome) (names : List (List ℕ)) (r : Result Outcome Refusal) → asked run.words ≡ Some (by sheet job) → SpellsPair run.shelf.files sheet p → StopsBy (IsUndone p run.input job) stop → stop ≡ Refused o → TookNothing run.out → names ≡ p.names → IfOk r (Tells run.notes names o) → IfOk r (Told run)
-undone_told run sheet job p stop o names r is spells stops same took theirs tells =
-    told_as run o p.names r (undone (by sheet job) p is (spells, stop_is (IsUndone p run.input job) stop o stops same) took) (subst (λ (ns : List (List ℕ)). IfOk r (Tells run.notes ns o)) theirs tells)
+pub undone_told : (run : Run) (ask : Ask) (p : Pair) (job : Job) (stop : Stop) (o : Outcome) (names : List (List ℕ)) (r : Result Outcome Refusal) → asked run.words ≡ Some ask → IsBegun run.shelf.files ask (B.By p job) → StopsBy (IsUndone p run.input job) stop → stop ≡ Refused o → TookNothing run.out → names ≡ p.names → IfOk r (Tells run.notes names o) → IfOk r (Told run)
+undone_told run ask p job stop o names r is begun stops same took theirs tells =
+    let why = job_undone run ask p job o begun (stop_is (IsUndone p run.input job) stop o stops same) in
+    told_as run o p.names r (undone ask p is why took) (subst (λ (ns : List (List ℕ)). IfOk r (Tells run.notes ns o)) theirs tells)
 
 -- an answer that was written, and reported where out failed
-pub answered_told : (run : Run) (ask : Ask) (answer bytes : List ℕ) (result : Outcome) → asked run.words ≡ Some ask → HasAnswer run ask answer → bytes ≡ answer → IsWritten run.out run.notes bytes result → Told run result
-answered_told run ask answer bytes result is has same (o, took, tells) = (o, [], answered ask answer is has (subst (λ (b : List ℕ). Took run.out b o) same took), tells)
+written_told : (run : Run) (ask : Ask) (answer bytes : List ℕ) (result : Outcome) → asked run.words ≡ Some ask → HasAnswer run ask answer → bytes ≡ answer → IsWritten run.out run.notes bytes result → Told run result
+written_told run ask answer bytes result is has same (o, took, tells) = (o, [], answered ask answer is has (subst (λ (b : List ℕ). Took run.out b o) same took), tells)
+
+pub answer_told : (run : Run) (ask : Ask) (answer bytes : List ℕ) (result : Outcome) → asked run.words ≡ Some ask → IsBegun run.shelf.files ask (B.Answer answer) → ReadNothing run.input → bytes ≡ answer → IsWritten run.out run.notes bytes result → Told run result
+answer_told run ask answer bytes result is begun read same wrote = written_told run ask answer bytes result is (answer_begun run ask answer read begun) same wrote
+
+pub job_told : (run : Run) (ask : Ask) (p : Pair) (job : Job) (answer bytes : List ℕ) (result : Outcome) → asked run.words ≡ Some ask → IsBegun run.shelf.files ask (B.By p job) → IsAnswer p run.input job answer → bytes ≡ answer → IsWritten run.out run.notes bytes result → Told run result
+job_told run ask p job answer bytes result is begun has same wrote = written_told run ask answer bytes result is (job_answered run ask p job answer begun has) same wrote
 
 -- what notes took
 pub told_all : (notes : Output) (names : List (List ℕ)) (o : Outcome) (bytes : List ℕ) → bytes ≡ line names o → Appends notes.taken_before notes.taken_now bytes → Tells notes names o o

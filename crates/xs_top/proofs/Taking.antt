@@ -2,11 +2,9 @@
 use Rattle.std.proofs.Common.{◌≡◌, ℕ, List, [], Some, None, sym, subst, refl, arith}
 use Rattle.std.specs.declared.option.Option.{Option}
 use Rattle.std.specs.Io.KnownBytes.{Consumes}
-use Rattle.xs_words.specs.Command.{Sheet as Named}
-use Rattle.xs_top.specs.declared.asking.Job.{Job}
 use Rattle.xs_top.specs.Asked.{Ask, printing, upgrading, certifying, by, asked, Reading, of_nothing, of_made, of_document, of_script, of_outline, read_for}
 use Rattle.xs_top.specs.Devices.{Input, input_of, ReadNothing}
-use Rattle.xs_top.specs.Ran.{TakesFew, ReadsAs, ReadsFor, ReadsAsAsked, Reads}
+use Rattle.xs_top.specs.Ran.{TakesFew, ReadsAs, ReadsAsAsked, Reads}
 
 consumes_nothing : (left : Option (List ℕ)) → Consumes left left []
 consumes_nothing None = cc
@@ -38,6 +36,6 @@ none_as_asked (Some (by sheet job)) left faults input = none_for (read_for job) 
 pub reads_nothing : {S : Type 0} (words : List (List ℕ)) (left : S → Option (List ℕ)) (faults : S → ℕ) (input : S) → Reads words (input_of left faults input input)
 reads_nothing words left faults input = none_as_asked (asked words) left faults input
 
--- where the words ask for a job, what it reads is what the run reads
-pub reads_for : (words : List (List ℕ)) (sheet : Named) (job : Job) (i : Input) → asked words ≡ Some (by sheet job) → ReadsFor job i → Reads words i
-reads_for words sheet job i is reads = subst (λ (ask : Option Ask). ReadsAsAsked ask i) (sym is) reads
+-- what what is asked for reads is what the run reads
+pub reads_for : (words : List (List ℕ)) (ask : Ask) (i : Input) → asked words ≡ Some ask → ReadsAsAsked (Some ask) i → Reads words i
+reads_for words ask i is reads = subst (λ (ask : Option Ask). ReadsAsAsked ask i) (sym is) reads

@@ -18,6 +18,8 @@ use Rattle.xs_pair.specs.Grammars.{Pair, grammar_of}
 use Rattle.xs_talk.specs.Lines.{line}
 use Rattle.xs_talk.specs.declared.outcome.Outcome.{Outcome}
 use Rattle.xs_talk.specs.declared.outcome.Outcome.TheVariants.{Done, Foreign, SheetLong, SheetBad, SheetIll, Heavy, Suspect, NotUtf8, NotXml, Usage, SheetFault, ReadFault, WriteFault, NoteFault, DocLong, ScriptBad, OutlineBad, CertFault, CertLong, CertBad}
+use Rattle.xs_top.specs.declared.asking.Begun.{Begun}
+use Rattle.xs_top.specs.declared.asking.Begun.TheVariants as B
 use Rattle.xs_top.specs.declared.asking.Job.{Job}
 use Rattle.xs_top.specs.declared.asking.Job.TheVariants.{Check, Turn, Trees, Make, Session, ToTree, FromTree, Cover, Prove}
 use Rattle.xs_top.specs.Asked.{Ask, printing, upgrading, certifying, by, asked, searches, Reading, of_nothing, of_made, of_document, of_script, of_outline, read_for}
@@ -30,7 +32,7 @@ use Rattle.xs_top.specs.Documents.{IsWordOf}
 use Rattle.xs_top.specs.Answers.{IsTurnedInto, IsMade, IsListingOf, IsOutlined, IsOutlineDocument, IsMadeOfOutline, IsUnread, IsNoOutline}
 use Rattle.xs_top.specs.Scripts.{IsScript, IsScriptPlayed, IsNoScript}
 use Rattle.xs_top.specs.Covering.{IsCovered}
-use Rattle.xs_io.specs.Shown.{NameFailed}
+use Rattle.xs_io.specs.Shown.{Files, NameFailed}
 use Rattle.xs_cert_laws.specs.Certificates.{IsCertificate}
 use Rattle.xs_cert_laws.specs.Exact.{IsProof}
 use Rattle.xs_cert_laws.specs.Alike.{AreBuilt}
@@ -82,12 +84,18 @@ IsPassed false p = Unit {0}
 abbrev pub IsUndone : Pair → Input → Job → Outcome → Type 0
 IsUndone p i job o = IsUnchecked (searches job) p i o ⊎ (IsPassed (searches job) p × IsUnanswered p i (read_for job) o)
 
+-- what comes of what is asked for by its sheet alone: the answer; or the two grammars of the sheet, and the job
+abbrev pub IsBegun : Files → Ask → Begun → Type 0
+IsBegun files (printing bytes) (B.Answer answer) = answer ≡ bytes
+IsBegun files (upgrading sheet) (B.Answer answer) = SpellsUpgrade files sheet answer
+IsBegun files (certifying sheet cert) (B.Answer answer) = IsCertified files sheet cert answer
+IsBegun files (by sheet job) (B.By p other) = (other ≡ job) × SpellsPair files sheet p
+IsBegun files ask begun = ⊥
+
 -- what is answered to what is asked for
 abbrev pub HasAnswer : Run → Ask → List ℕ → Type 0
-HasAnswer run (printing bytes) answer = ReadNothing run.input × (answer ≡ bytes)
-HasAnswer run (upgrading sheet) answer = ReadNothing run.input × SpellsUpgrade run.shelf.files sheet answer
-HasAnswer run (certifying sheet cert) answer = ReadNothing run.input × IsCertified run.shelf.files sheet cert answer
 HasAnswer run (by sheet job) answer = (p : Pair) × SpellsPair run.shelf.files sheet p × IsAnswer p run.input job answer
+HasAnswer run ask answer = ReadNothing run.input × IsBegun run.shelf.files ask (B.Answer answer)
 
 -- why it is refused by its sheet: that spells no grammars, or is not accepted by the certificate
 abbrev pub IsRefused : Shelves → Ask → Outcome → Type 0

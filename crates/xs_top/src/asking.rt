@@ -1,14 +1,22 @@
-ghost use Rattle.std.specs.Prelude.{◌≡◌, IfSome, map, string_bytes};
-ghost use Rattle.std.specs.Option.{option_map};
-ghost use Rattle.xs_words.specs.{meant, HasLines};
+ghost use Rattle.std.specs.Prelude.{◌≡◌, IfOk, IfErr};
+ghost use Rattle.xs_words.specs.{meant, sheet_meant, HasLines as AsksForLines};
 ghost use Rattle.xs_top.specs.declared.asking.Job.TheVariants as J;
-ghost use Rattle.xs_top.specs.Asked.{asked as asked_for, ask_of as asked_of};
-ghost use Rattle.xs_top.specs.Meaning.{ask_meant, AsksForLines};
+ghost use Rattle.xs_top.specs.Asked.{ask_of, by};
+ghost use Rattle.xs_top.specs.Devices.{shelves_of};
+ghost use Rattle.xs_top.specs.Meaning.{HasLines, CanBeDone};
+ghost use Rattle.xs_top.specs.Ran.{IsBegun, IsRefused};
+ghost use Rattle.xs_top.specs.Stops.{StopsBy};
 
+use crate::certified::certified;
+use crate::sheets::{pair_for, upgrade_for};
+use crate::stop::Stop;
+use std::alloc::Global;
 use xs_chars::Form;
-use xs_class::Side;
+use xs_class::{Bytes, Side};
+use xs_io::Shelf;
 use xs_leiden::{leiden_sheet, leiden2_sheet};
-use xs_words::{Command, SheetName, command_of};
+use xs_pair::Two;
+use xs_words::{Command, SheetName};
 
 /// What is to be done by a sheet.
 #[derive(Clone, Copy)]
@@ -34,17 +42,13 @@ pub enum Job {
     Prove,
 }
 
-/// What the words ask for.
-#[derive(Clone, Copy)]
-pub enum Ask<'w> {
-    /// These bytes, which are those of a shipped sheet.
-    Print(&'static [u8]),
-    /// The upgrade of a sheet.
-    Upgrade { sheet: SheetName<'w> },
-    /// The check of a sheet by the certificate in the file of this name.
-    Certify { sheet: SheetName<'w>, cert: &'w str },
-    /// A job by a sheet.
-    By { sheet: SheetName<'w>, job: Job },
+/// What comes of a command by its sheet alone.
+#[derive(Drop)]
+pub enum Begun {
+    /// The answer.
+    Answer(Bytes),
+    /// The two grammars of the sheet, and the job that is to be done by them.
+    By { two: Two, job: Job },
 }
 
 fn turning(from: Side, to: Side, form: Form) -> Job
@@ -53,10 +57,32 @@ fn turning(from: Side, to: Side, form: Form) -> Job
     Job::Turn { from, to, form }
 }
 
-fn ask_of(command: Command<'_>) -> Ask<'_>
-    requires { HasLines command }
-    ensures ask { ask_meant result ≡ asked_of (meant command.entry) }
-    ensures lines { AsksForLines result }
+/// The job by a sheet, begun.
+fn begun_by<H: Shelf>(
+    alloc: Global,
+    shelf: &mut H,
+    sheet: SheetName<'_>,
+    job: Job,
+) -> Result<Begun, Stop>
+    requires lines { HasLines job }
+    ensures begun { IfOk result (IsBegun (H.files shelf.old) (by (sheet_meant sheet.entry) job)) }
+    ensures can { IfOk result CanBeDone }
+    ensures files { H.files shelf.new ≡ H.files shelf.old }
+    ensures stop { IfErr result (StopsBy (IsRefused (shelves_of H.files H.faults H.name_faults shelf.old shelf.new)
+        (by (sheet_meant sheet.entry) job))) }
+{
+    let two = pair_for(alloc, shelf, sheet)?;
+    Ok(Begun::By { two, job })
+}
+
+/// A command, begun: what it asks of its sheet is done. Nothing of the input is read.
+pub fn begin<H: Shelf>(alloc: Global, shelf: &mut H, command: Command<'_>) -> Result<Begun, Stop>
+    requires lines { AsksForLines command }
+    ensures begun { IfOk result (IsBegun (H.files shelf.old) (ask_of (meant command.entry))) }
+    ensures can { IfOk result CanBeDone }
+    ensures files { H.files shelf.new ≡ H.files shelf.old }
+    ensures stop { IfErr result (StopsBy (IsRefused (shelves_of H.files H.faults H.name_faults shelf.old shelf.new)
+        (ask_of (meant command.entry)))) }
 {
     let (sheet, job) = match command {
         Command::Check { sheet } => (sheet, Job::Check),
@@ -65,27 +91,28 @@ fn ask_of(command: Command<'_>) -> Ask<'_>
         Command::RoundText { sheet, form } => (sheet, turning(Side::Text, Side::Text, form)),
         Command::RoundXml { sheet } => (sheet, turning(Side::Xml, Side::Xml, Form::AsIs)),
         Command::Trees { sheet, max } => (sheet, Job::Trees { max }),
-        Command::PrintSheet => return Ask::Print(leiden_sheet()),
-        Command::PrintSheet2 => return Ask::Print(leiden2_sheet()),
-        Command::Upgrade { sheet } => return Ask::Upgrade { sheet },
+        Command::PrintSheet => {
+            let answer = Bytes::of(alloc, leiden_sheet())?;
+            return Ok(Begun::Answer(answer));
+        }
+        Command::PrintSheet2 => {
+            let answer = Bytes::of(alloc, leiden2_sheet())?;
+            return Ok(Begun::Answer(answer));
+        }
+        Command::Upgrade { sheet } => {
+            let answer = upgrade_for(alloc, shelf, sheet)?;
+            return Ok(Begun::Answer(answer));
+        }
         Command::Prove { sheet } => (sheet, Job::Prove),
-        Command::CheckCert { sheet, cert } => return Ask::Certify { sheet, cert },
+        Command::CheckCert { sheet, cert } => {
+            let answer = certified(alloc, shelf, sheet, cert)?;
+            return Ok(Begun::Answer(answer));
+        }
         Command::Make { seed, lines } => (SheetName::Leiden, Job::Make { seed, lines }),
         Command::Session { sheet } => (sheet, Job::Session),
         Command::ToTree { sheet, side, form } => (sheet, Job::ToTree { from: side, form }),
         Command::FromTree { sheet, side } => (sheet, Job::FromTree { to: side }),
         Command::Cover { sheet } => (sheet, Job::Cover),
     };
-    Ask::By { sheet, job }
-}
-
-/// What the words ask for, or None where they are no command.
-pub fn asked(words: &[String]) -> Option<Ask<'_>>
-    ensures ask { option_map ask_meant result ≡ asked_for (map string_bytes words.now) }
-    ensures lines { IfSome result AsksForLines }
-{
-    match command_of(words) {
-        Some(command) => Some(ask_of(command)),
-        None => None,
-    }
+    begun_by(alloc, shelf, sheet, job)
 }

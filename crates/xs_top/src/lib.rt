@@ -29,10 +29,8 @@ mod turned;
 mod written;
 
 use crate::answer::answer_of;
-use crate::asking::{Ask, asked};
-use crate::certified::certified;
+use crate::asking::{Begun, begin};
 use crate::notes::{no_names, tell};
-use crate::sheets::{pair_for, upgrade_for};
 use crate::written::written;
 pub use answer::DOCUMENT_LIMIT;
 pub use certified::CERTIFICATE_LIMIT;
@@ -53,6 +51,7 @@ use xs_class::Memory;
 use xs_io::{Shelf, Sink, Source};
 pub use xs_talk::Outcome;
 use xs_talk::room;
+use xs_words::command_of;
 use xs_xml_laws::one_word;
 
 /// The run of these words.
@@ -90,23 +89,15 @@ pub fn run<S: Source, H: Shelf, K: Sink, N: Sink>(
     bytes_agree();
     let room = room(alloc)?;
     let none = no_names(alloc)?;
-    let (sheet, job) = match asked(words) {
-        Some(Ask::By { sheet, job }) => (sheet, job),
-        Some(Ask::Print(bytes)) => return Ok(written(out, notes, &none, room, bytes)),
-        Some(Ask::Upgrade { sheet }) => match upgrade_for(alloc, shelf, sheet) {
-            Ok(answer) => return Ok(written(out, notes, &none, room, answer.as_slice())),
-            Err(Stop::Refused(outcome)) => return tell(alloc, notes, &none, outcome),
-            Err(Stop::Memory) => return Err(Memory),
-        },
-        Some(Ask::Certify { sheet, cert }) => match certified(alloc, shelf, sheet, cert) {
-            Ok(answer) => return Ok(written(out, notes, &none, room, answer.as_slice())),
-            Err(Stop::Refused(outcome)) => return tell(alloc, notes, &none, outcome),
-            Err(Stop::Memory) => return Err(Memory),
-        },
+    let command = match command_of(words) {
+        Some(command) => command,
         None => return tell(alloc, notes, &none, Outcome::Usage),
     };
-    let two = match pair_for(alloc, shelf, sheet) {
-        Ok(two) => two,
+    let (two, job) = match begin(alloc, shelf, command) {
+        Ok(Begun::By { two, job }) => (two, job),
+        Ok(Begun::Answer(answer)) => {
+            return Ok(written(out, notes, &none, room, answer.as_slice()));
+        }
         Err(Stop::Refused(outcome)) => return tell(alloc, notes, &none, outcome),
         Err(Stop::Memory) => return Err(Memory),
     };
