@@ -179,7 +179,7 @@ module _ (law : OneReading) (weigh : RuleWeighsOnce) (agree : PairsAgree) (well 
 
   module _ (outlines : OutlinesAgree) (certificates : CertificatesAgree) (run : Run) (honest : IsHonest run) where
     not_refused : (ask : Ask) → IsFree run ask → (o : Outcome) → IsRefused run.shelf ask o → ⊥
-    not_refused (printing bytes) free o why = why
+    not_refused (printing sheet) free o why = why
     not_refused (upgrading sheet) free o why = not_unpaired run sheet free.bytes free.pair free.sheet_sure free.has free.spelled o why
     not_refused (certifying sheet cert) free o why = not_uncertified certificates run sheet cert free o why
     not_refused (by sheet job) free o why = not_unpaired run sheet free.known.bytes free.known.pair free.known.sheet_sure free.known.has free.known.spelled o why

@@ -55,7 +55,7 @@ refused_told run ask o names r is why read took none tells = usage_told run name
 
 -- by what was begun: its answer; the answer of its job, why that is not done, and what it reads
 answer_begun : (run : Run) (ask : Ask) (answer : List ℕ) → ReadNothing run.input → IsBegun run.shelf.files ask (B.Answer answer) → HasAnswer run ask answer
-answer_begun run (printing bytes) answer read is = (read, is)
+answer_begun run (printing sheet) answer read is = (read, is)
 answer_begun run (upgrading sheet) answer read is = (read, is)
 answer_begun run (certifying sheet cert) answer read is = (read, is)
 answer_begun run (by sheet job) answer read is = absurd is

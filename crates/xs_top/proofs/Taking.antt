@@ -27,7 +27,7 @@ none_for of_outline left faults input = few_of left faults input
 
 none_as_asked : {S : Type 0} (ask : Option Ask) (left : S → Option (List ℕ)) (faults : S → ℕ) (input : S) → ReadsAsAsked ask (input_of left faults input input)
 none_as_asked None left faults input = nothing_of left faults input
-none_as_asked (Some (printing bytes)) left faults input = nothing_of left faults input
+none_as_asked (Some (printing sheet)) left faults input = nothing_of left faults input
 none_as_asked (Some (upgrading sheet)) left faults input = nothing_of left faults input
 none_as_asked (Some (certifying sheet cert)) left faults input = nothing_of left faults input
 none_as_asked (Some (by sheet job)) left faults input = none_for (read_for job) left faults input

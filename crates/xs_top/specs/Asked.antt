@@ -7,15 +7,14 @@ use Rattle.xs_class.specs.declared.side.Side.{Side}
 use Rattle.xs_class.specs.declared.side.Side.TheVariants.{Text, Xml}
 use Rattle.xs_chars.specs.declared.form.Form.{Form}
 use Rattle.xs_chars.specs.declared.form.Form.TheVariants.{AsIs}
-use Rattle.xs_leiden.specs.Sheet.{leiden_core, leiden_core_2}
-use Rattle.xs_words.specs.Command.{Sheet, leiden, Command, check, to_xml, to_text, round_text, round_xml, trees, print_sheet, make, session, to_tree, from_tree, cover, command_of, print_sheet2, upgrade, prove, check_cert}
+use Rattle.xs_words.specs.Command.{Sheet, leiden, Command, check, to_xml, to_text, round_text, round_xml, trees, print_sheet, make, session, to_tree, from_tree, cover, command_of, upgrade, prove, check_cert}
 use Rattle.xs_top.specs.declared.asking.Job.{Job}
 use Rattle.xs_top.specs.declared.asking.Job.TheVariants.{Check, Turn, Trees, Make, Session, ToTree, FromTree, Cover, Prove}
 
--- these bytes of a shipped sheet; the upgrade of a sheet; the check of a sheet by the certificate in a file; or a job by a
+-- a shipped sheet, as it is; the upgrade of a sheet; the check of a sheet by the certificate in a file; or a job by a
 -- sheet
 pub data Ask : Type 0 where
-  printing : List ℕ → Ask
+  printing : Sheet → Ask
   upgrading : Sheet → Ask
   certifying : Sheet → List ℕ → Ask
   by : Sheet → Job → Ask
@@ -29,8 +28,7 @@ ask_of (to_text sheet) = by sheet (Turn Xml Text AsIs)
 ask_of (round_text sheet form) = by sheet (Turn Text Text form)
 ask_of (round_xml sheet) = by sheet (Turn Xml Xml AsIs)
 ask_of (trees sheet max) = by sheet (Trees max)
-ask_of print_sheet = printing leiden_core
-ask_of print_sheet2 = printing leiden_core_2
+ask_of (print_sheet sheet) = printing sheet
 ask_of (upgrade sheet) = upgrading sheet
 ask_of (make seed lines) = by leiden (Make seed lines)
 ask_of (prove sheet) = by sheet Prove

@@ -25,7 +25,7 @@ use Rattle.xs_top.specs.declared.asking.Job.TheVariants.{Check, Turn, Trees, Mak
 use Rattle.xs_top.specs.Asked.{Ask, printing, upgrading, certifying, by, asked, searches, Reading, of_nothing, of_made, of_document, of_script, of_outline, read_for}
 use Rattle.xs_top.specs.Devices.{Shelves, Input, Output, Run, ReadNothing, TookNothing}
 use Rattle.xs_top.specs.Known.{HasBytes}
-use Rattle.xs_top.specs.Sheets.{IsFailed, IsPairOfBytes, SpellsPair, SpellsUpgrade, IsUnpaired}
+use Rattle.xs_top.specs.Sheets.{AreBytesOf, IsFailed, IsPairOfBytes, SpellsPair, SpellsUpgrade, IsUnpaired}
 use Rattle.xs_top.specs.Checks.{IsSure, IsUnsure}
 use Rattle.xs_talk.specs.Counts.{accepted_line}
 use Rattle.xs_top.specs.Documents.{IsWordOf}
@@ -86,7 +86,7 @@ IsUndone p i job o = IsUnchecked (searches job) p i o ⊎ (IsPassed (searches jo
 
 -- what comes of what is asked for by its sheet alone: the answer; or the two grammars of the sheet, and the job
 abbrev pub IsBegun : Files → Ask → Begun → Type 0
-IsBegun files (printing bytes) (B.Answer answer) = answer ≡ bytes
+IsBegun files (printing sheet) (B.Answer answer) = AreBytesOf files sheet answer
 IsBegun files (upgrading sheet) (B.Answer answer) = SpellsUpgrade files sheet answer
 IsBegun files (certifying sheet cert) (B.Answer answer) = IsCertified files sheet cert answer
 IsBegun files (by sheet job) (B.By p other) = (other ≡ job) × SpellsPair files sheet p
@@ -99,7 +99,7 @@ HasAnswer run ask answer = ReadNothing run.input × IsBegun run.shelf.files ask 
 
 -- why it is refused by its sheet: that spells no grammars, or is not accepted by the certificate
 abbrev pub IsRefused : Shelves → Ask → Outcome → Type 0
-IsRefused shelf (printing bytes) o = ⊥
+IsRefused shelf (printing sheet) o = ⊥
 IsRefused shelf (upgrading sheet) o = IsUnpaired shelf sheet o
 IsRefused shelf (certifying sheet cert) o = IsUncertified shelf sheet cert o
 IsRefused shelf (by sheet job) o = IsUnpaired shelf sheet o
@@ -240,7 +240,7 @@ pub record IsCertifiable (run : Run) (sheet : Named) (cert : List ℕ) : Type 0 
 
 -- nothing stands against what is asked for; never against a shipped sheet
 abbrev pub IsFree : Run → Ask → Type 0
-IsFree run (printing bytes) = Unit {0}
+IsFree run (printing sheet) = Unit {0}
 IsFree run (upgrading sheet) = IsKnown run sheet
 IsFree run (certifying sheet cert) = IsCertifiable run sheet cert
 IsFree run (by sheet job) = IsClear run sheet job

@@ -24,8 +24,7 @@ pub data Command : Type 0 where
   round_text : Sheet → Form → Command
   round_xml : Sheet → Command
   trees : Sheet → ℕ → Command
-  print_sheet : Command
-  print_sheet2 : Command
+  print_sheet : Sheet → Command
   make : ℕ → ℕ → Command
   upgrade : Sheet → Command
   prove : Sheet → Command
@@ -46,7 +45,7 @@ side_of word = if bytes_eq word (codes "text") then Some Text else (if bytes_eq 
 
 -- sheet 2
 abbrev pub printed_of : List ℕ → Option Command
-printed_of number = if bytes_eq number (codes "2") then Some print_sheet2 else None
+printed_of number = if bytes_eq number (codes "2") then Some (print_sheet leiden2) else None
 
 -- check SHEET, to-xml SHEET, to-text SHEET, session SHEET, cover SHEET, upgrade SHEET, prove SHEET, sheet 2
 abbrev pub command_of_two : List ℕ → List ℕ → Option Command
@@ -77,7 +76,7 @@ command_of_four verb sheet third last = if bytes_eq verb (codes "round") && byte
 
 -- the command that the words are, or none; a text is taken as it is where no form is named
 abbrev pub command_of : List (List ℕ) → Option Command
-command_of (verb ∷ []) = if bytes_eq verb (codes "sheet") then Some print_sheet else None
+command_of (verb ∷ []) = if bytes_eq verb (codes "sheet") then Some (print_sheet leiden) else None
 command_of (verb ∷ sheet ∷ []) = command_of_two verb sheet
 command_of (verb ∷ first ∷ second ∷ []) = command_of_three verb first second
 command_of (verb ∷ sheet ∷ third ∷ last ∷ []) = command_of_four verb sheet third last

@@ -4,7 +4,7 @@ use Rattle.xs_words.specs.declared.command.SheetName.{SheetName}
 use Rattle.xs_words.specs.declared.command.SheetName.TheVariants.{Leiden, Leiden2, File}
 use Rattle.xs_words.specs.declared.command.Command.{Command as Asked}
 use Rattle.xs_words.specs.declared.command.Command.TheVariants.{Check, ToXml, ToText, RoundText, RoundXml, Trees, PrintSheet, Make, Session, ToTree, FromTree, Cover, PrintSheet2, Upgrade, Prove, CheckCert}
-use Rattle.xs_words.specs.Command.{Sheet, leiden, file, Command, check, to_xml, to_text, round_text, round_xml, trees, print_sheet, make, session, to_tree, from_tree, cover, leiden2, print_sheet2, upgrade, prove, check_cert}
+use Rattle.xs_words.specs.Command.{Sheet, leiden, file, Command, check, to_xml, to_text, round_text, round_xml, trees, print_sheet, make, session, to_tree, from_tree, cover, leiden2, upgrade, prove, check_cert}
 
 abbrev pub sheet_meant : SheetName → Sheet
 sheet_meant Leiden = leiden
@@ -18,8 +18,8 @@ meant (ToText sheet) = to_text (sheet_meant sheet)
 meant (RoundText sheet form) = round_text (sheet_meant sheet) form
 meant (RoundXml sheet) = round_xml (sheet_meant sheet)
 meant (Trees sheet max) = trees (sheet_meant sheet) max
-meant PrintSheet = print_sheet
-meant PrintSheet2 = print_sheet2
+meant PrintSheet = print_sheet leiden
+meant PrintSheet2 = print_sheet leiden2
 meant (Make seed lines) = make seed lines
 meant (Upgrade sheet) = upgrade (sheet_meant sheet)
 meant (Prove sheet) = prove (sheet_meant sheet)
