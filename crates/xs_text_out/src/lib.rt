@@ -15,4 +15,5 @@ mod printing;
 mod shares;
 mod walk;
 
+pub use pieces::{Piece, Pieces, Row, pieces_of};
 pub use printing::{Printer, print_syms};

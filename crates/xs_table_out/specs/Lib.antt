@@ -1,0 +1,7 @@
+pub mod Children
+pub mod Steps
+pub mod Walk
+pub mod Writing
+-- what other crates' contracts cite
+pub use Rattle.xs_table_out.specs.Steps.{AreSteps, HasTexts}
+pub use Rattle.xs_table_out.specs.Writing.{Writes}

@@ -1,0 +1,107 @@
+ghost use Rattle.std.specs.Prelude.{◌≡◌, ◌+◌, ◌≤◌, ◌++◌, length, slice_get, vec_len, vec_capacity, IfOk, IfSome, OnOk};
+ghost use Rattle.xs_gram.specs.{Derivation, Derives, IsBuilt, print, strip};
+ghost use Rattle.xs_parse_table.specs.{IsTreeOf};
+ghost use Rattle.xs_table_out.specs.Steps.{AreSteps};
+
+use crate::steps::{Step, Steps};
+use crate::stretch::stretch;
+use crate::walk::write_table;
+use crate::writer::Writer;
+use std::alloc::Global;
+use xs_class::{Memory, Sym, Word};
+use xs_gram::Gram;
+use xs_parse_table::ParseTable;
+
+/// Up to that many symbols are appended one by one: a copy of memory costs more to begin.
+const SHORT: usize = 8;
+
+/// Appends symbols one by one, for which there is room.
+#[inline(always)]
+fn append_each(list: &mut Vec<Sym>, word: &[Sym])
+    requires { vec_len list.old + length word.now ≤ vec_capacity list.old }
+    ensures { list.new.items ≡ list.old.items ++ word.now }
+{
+    'symbols: for symbol in word {
+        list.push_reserved(*symbol);
+    }
+}
+
+/// Appends symbols.
+#[inline(always)]
+fn append(list: &mut Vec<Sym>, word: &[Sym]) -> Result<(), Memory>
+    ensures { OnOk result (list.new.items ≡ list.old.items ++ word.now) }
+{
+    if word.len() > SHORT {
+        list.extend_from_slice(word)?;
+        return Ok(());
+    }
+    list.reserve(word.len())?;
+    append_each(list, word);
+    Ok(())
+}
+
+/// The step of this number.
+#[inline(always)]
+fn step_at(all: &[Step], number: usize) -> Option<Step>
+    ensures { result ≡ slice_get all.now number }
+{
+    all.get(number).copied()
+}
+
+/// A word that is written as symbols.
+#[derive(Drop)]
+struct Symbols<'s> {
+    steps: &'s Steps,
+    all: Vec<Sym>,
+}
+
+impl Writer for Symbols<'_> {
+    ghost use Rattle.std.specs.Prelude.{◌++◌};
+    ghost use Rattle.xs_table_out.specs.Steps.{text_at};
+
+    ghost whole = { λ out rest. out.all.items ++ rest };
+
+    ghost text = { λ out. text_at out.steps.now };
+
+    #[inline(always)]
+    fn put_text(&mut self, number: usize) -> Result<bool, Memory> {
+        let Some(step) = step_at(&self.steps.all, number) else {
+            return Ok(true);
+        };
+        let Some(text) = stretch(&self.steps.text, step.begin, step.end) else {
+            return Ok(false);
+        };
+        append(&mut self.all, text)?;
+        Ok(true)
+    }
+
+    #[inline(always)]
+    fn put_word(&mut self, word: &[Sym]) -> Result<bool, Memory> {
+        append(&mut self.all, word)?;
+        Ok(true)
+    }
+}
+
+/// The word of the tree of the derivation that a table means, as the steps print it; None where a
+/// part of the table is not right. In time linear in the nodes and the word.
+pub fn print_table(
+    alloc: Global,
+    g: &Gram,
+    h: &Gram,
+    steps: &Steps,
+    doc: &[Sym],
+    table: &ParseTable,
+) -> Result<Option<Word>, Memory>
+    requires built { IsBuilt g.now }
+    requires steps { AreSteps g.now h.now steps.now }
+    ensures { IfOk result (λ o. IfSome o (λ word. (d : Derivation) → IsTreeOf table.now doc.now d → Derives g.now doc.now d
+        → word ≡ print h.now (strip g.now d))) }
+{
+    let all = Vec::with_capacity(alloc, doc.len().saturating_mul(2))?;
+    let mut out = Symbols { steps, all };
+    if write_table(alloc, g, h, steps, doc, table, &mut out)? {
+        Ok(Some(Word::from_vec(out.all)))
+    } else {
+        Ok(None)
+    }
+}
