@@ -110,15 +110,18 @@ impl Atoms {
     pub fn word(&self, alloc: Global, doc: &[Sym], padding: usize) -> Result<Vec<u16>, Memory>
         ensures { IfOk result (λ word. word.items ≡ word_of self.now doc.now padding) }
     {
-        let mut atoms = Vec::with_capacity(alloc, doc.len().saturating_add(padding))?;
+        let Some(room) = doc.len().checked_add(padding) else {
+            return Err(Memory);
+        };
+        let mut atoms = Vec::with_capacity(alloc, room)?;
         let pages = self.pages.as_slice();
         let cells = self.cells.as_slice();
         let rest = self.rest;
         'symbols: for symbol in doc {
-            atoms.push(atom_at(pages, cells, rest, *symbol))?;
+            atoms.push_reserved(atom_at(pages, cells, rest, *symbol));
         }
         'ends: for _ in 0..padding {
-            atoms.push(self.count)?;
+            atoms.push_reserved(self.count);
         }
         Ok(atoms)
     }
