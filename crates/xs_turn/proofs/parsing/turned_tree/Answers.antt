@@ -7,3 +7,6 @@ pub returns-clause-tree : goal.returns-clause-tree
 returns-clause-tree c =
     let grown = c.in_ok-turned.turned.grown in
     has_tree (grammar_of c.args.two.now c.args.side) c.args.doc.now grown.forest grown.root (common_of c.in_ok-turned.turned.tree) c.in_ok-turned.ensures.tree
+
+pub returns-clause-fits : goal.returns-clause-fits
+returns-clause-fits c same starts = c.in_ok-turned.ensures.fits same starts
