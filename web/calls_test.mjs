@@ -203,7 +203,7 @@ test("a command is run as by the program", () => {
 test("after want of memory the instance and its sheets go on", async () => {
   const small = await api.load(module, { megabytes: 24 });
   const sheet = small.open("@leiden2");
-  const long = `<=\n${"1. [αβγ] δε\n".repeat(20_000)}=>\n`;
+  const long = `<=\n${"1. [αβγ] δε\n".repeat(60_000)}=>\n`;
   for (let round = 0; round < 3; round += 1) {
     refuses(() => sheet.toXml(long), api.OutOfMemoryError, { status: 8, message: "want of memory" });
     refuses(() => small.run(["to-xml", "@leiden2"], { document: long }), api.OutOfMemoryError, {});
