@@ -7,6 +7,7 @@
 //! A leaf's word is a stretch of the document.
 #![tactic(auto)]
 
+mod append;
 mod children;
 mod document;
 mod layout;

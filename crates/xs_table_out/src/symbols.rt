@@ -1,8 +1,9 @@
-ghost use Rattle.std.specs.Prelude.{◌≡◌, ◌+◌, ◌≤◌, ◌++◌, length, slice_get, vec_len, vec_capacity, IfOk, IfSome, OnOk};
+ghost use Rattle.std.specs.Prelude.{◌≡◌, slice_get, IfOk, IfSome};
 ghost use Rattle.xs_gram.specs.{Derivation, Derives, IsBuilt, print, strip};
 ghost use Rattle.xs_parse_table.specs.{IsTreeOf};
 ghost use Rattle.xs_table_out.specs.Steps.{AreSteps};
 
+use crate::append::append;
 use crate::steps::{Step, Steps};
 use crate::stretch::stretch;
 use crate::walk::write_table;
@@ -11,34 +12,6 @@ use std::alloc::Global;
 use xs_class::{Memory, Sym, Word};
 use xs_gram::Gram;
 use xs_parse_table::ParseTable;
-
-/// Up to that many symbols are appended one by one: a copy of memory costs more to begin.
-const SHORT: usize = 8;
-
-/// Appends symbols one by one, for which there is room.
-#[inline(always)]
-fn append_each(list: &mut Vec<Sym>, word: &[Sym])
-    requires { vec_len list.old + length word.now ≤ vec_capacity list.old }
-    ensures { list.new.items ≡ list.old.items ++ word.now }
-{
-    'symbols: for symbol in word {
-        list.push_reserved(*symbol);
-    }
-}
-
-/// Appends symbols.
-#[inline(always)]
-fn append(list: &mut Vec<Sym>, word: &[Sym]) -> Result<(), Memory>
-    ensures { OnOk result (list.new.items ≡ list.old.items ++ word.now) }
-{
-    if word.len() > SHORT {
-        list.extend_from_slice(word)?;
-        return Ok(());
-    }
-    list.reserve(word.len())?;
-    append_each(list, word);
-    Ok(())
-}
 
 /// The step of this number.
 #[inline(always)]

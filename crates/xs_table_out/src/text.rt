@@ -5,6 +5,7 @@ ghost use Rattle.xs_parse_table.specs.{IsTreeOf};
 ghost use Rattle.xs_table_out.specs.Steps.{AreSteps};
 ghost use Rattle.xs_table_out.specs.Encoded.{AreEncoded};
 
+use crate::append::append;
 use crate::steps::Steps;
 use crate::stretch::stretch;
 use crate::walk::write_table;
@@ -85,7 +86,7 @@ impl Writer for TextBytes<'_> {
         let Some(text) = stretch(&self.encodings.bytes, encoding.begin, encoding.end) else {
             return Ok(false);
         };
-        self.bytes.extend_from_slice(text)?;
+        append(&mut self.bytes, text)?;
         Ok(true)
     }
 

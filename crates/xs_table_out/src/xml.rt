@@ -6,6 +6,7 @@ ghost use Rattle.xs_xml_out.specs.{AreKnown, xml_bytes};
 ghost use Rattle.xs_table_out.specs.Steps.{AreSteps};
 ghost use Rattle.xs_table_out.specs.Spelt.{cell_in, AreSpelt, GoesOn, IsCell, IsSpelt};
 
+use crate::append::append;
 use crate::steps::Steps;
 use crate::stretch::stretch;
 use crate::walk::write_table;
@@ -136,7 +137,7 @@ impl Writer for XmlBytes<'_> {
         let Some(text) = stretch(self.spellings.text.as_bytes(), cell.begin, cell.end) else {
             return Ok(false);
         };
-        self.bytes.extend_from_slice(text)?;
+        append(&mut self.bytes, text)?;
         self.mode = cell.after;
         Ok(true)
     }

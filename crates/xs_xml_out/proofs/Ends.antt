@@ -1,12 +1,12 @@
 -- The mode in which the writing of a word ends.
-use Rattle.std.proofs.Common.{◌≡◌, ℕ, List, [], ◌∷◌, ◌++◌, append_assoc, true, codes, refl, sym, ◌∙◌, ap}
+use Rattle.std.proofs.Common.{◌≡◌, ℕ, List, [], ◌∷◌, ◌++◌, true, codes, refl, ◌∙◌, ap}
 use Rattle.xs_class.specs.Marks.{attr_end, opening_mark, attribute_mark, closing_mark}
 use Rattle.xs_xml_laws.specs.Tables.{is_char}
 use Rattle.xs_xml_laws.specs.Piece.{all_of}
 use Rattle.xs_xml_out.specs.declared.mode.Mode.{Mode}
 use Rattle.xs_xml_out.specs.declared.mode.Mode.TheVariants.{Content, Tag, Value}
 use Rattle.xs_xml_out.specs.Balanced.{Attribute, attributes_word, element_word, AreAttributes}
-use Rattle.xs_xml_out.specs.Written.{symbol_kind, put, next, mode_after, written, xml_chars}
+use Rattle.xs_xml_out.specs.Written.{symbol_kind, next, mode_after, written, xml_chars}
 use Rattle.xs_xml_out.proofs.Appended.{written-append, mode_after-append}
 use Rattle.xs_xml_out.proofs.SymbolKinds.{symbol_kind-char, symbol_kind-attr_end, symbol_kind-opening_mark, symbol_kind-attribute_mark, symbol_kind-closing_mark}
 use Rattle.xs_class.proofs.Truth.{and_true}

@@ -9,16 +9,16 @@
 
 mod characters;
 mod kind;
-mod known;
 mod law;
 mod mode;
 mod spelling;
 mod tags;
+mod writable;
 mod write;
 
 pub use characters::put_characters;
-pub use known::are_known;
 pub use law::xml_is_read_back;
 pub use mode::Mode;
 pub use tags::Tags;
+pub use writable::are_known;
 pub use write::{put_stretch, write_xml};
