@@ -20,16 +20,13 @@ begins_marked bytes [] r r_is is = r_is ∙ ap (λ (b : List ℕ). starts_with e
 begins_marked bytes (c ∷ w) r r_is is =
     let told = starts_is {E = eqb} Decides-eqb bytes mark r r_is in
     let decides : Decides r (c ≡ byte_order_mark) = (
-      λ yes. (encode_same c byte_order_mark (encode_utf8_all w) (drop 3 bytes) (sym is ∙ told.0 yes ∙ ap (λ (m : List ℕ). m ++ drop 3 bytes) (sym mark_bytes))).0,
+      λ same. (encode_same c byte_order_mark (encode_utf8_all w) (drop 3 bytes) (sym is ∙ told.0 same ∙ ap (λ (m : List ℕ). m ++ drop 3 bytes) (sym mark_bytes))).0,
       λ same. told.1 (encode_utf8_all w) (is ∙ ap (λ d. encode_utf8 d ++ encode_utf8_all w) same ∙ ap (λ (m : List ℕ). m ++ encode_utf8_all w) mark_bytes),
     ) in
     same_from_decides r (c == byte_order_mark) decides (Decides-eqb c byte_order_mark)
 
--- the bytes of a text that begins with a mark, and of one that does not
+-- the bytes of a text that begins with a mark
 pub marked : (word bytes all : List ℕ) → true ≡ has_mark word → bytes ≡ encode_utf8_all word → all ≡ mark ++ bytes → all ≡ text_bytes word
-marked word bytes all yes is all_is =
+marked word bytes all has is all_is =
     all_is ∙ ap (λ (l : List ℕ). mark ++ l) is ∙ ap (λ (m : List ℕ). m ++ encode_utf8_all word) (sym mark_bytes)
-    ∙ ap (λ (b : Bool). encode_utf8_all (if b then byte_order_mark ∷ word else word)) yes
-
-pub unmarked : (word bytes : List ℕ) → false ≡ has_mark word → bytes ≡ encode_utf8_all word → bytes ≡ text_bytes word
-unmarked word bytes no is = is ∙ ap (λ (b : Bool). encode_utf8_all (if b then byte_order_mark ∷ word else word)) no
+    ∙ ap (λ (b : Bool). encode_utf8_all (if b then byte_order_mark ∷ word else word)) has

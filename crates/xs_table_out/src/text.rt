@@ -34,7 +34,7 @@ pub struct Encodings {
 }
 
 /// The UTF-8 of the texts of steps; None where a symbol of one is no character.
-fn encodings(alloc: Global, steps: &Steps) -> Result<Option<Encodings>, Memory>
+fn encode_all(alloc: Global, steps: &Steps) -> Result<Option<Encodings>, Memory>
     ensures { IfOk result (λ o. IfSome o (AreEncoded steps.now)) }
 {
     let mut all = Vec::with_capacity(alloc, steps.all.len())?;
@@ -92,7 +92,8 @@ impl Writer for TextBytes<'_> {
 
     #[inline(always)]
     fn put_word(&mut self, word: &[Sym]) -> Result<bool, Memory> {
-        append_utf8(&mut self.bytes, word)
+        let done = append_utf8(&mut self.bytes, word)?;
+        Ok(done)
     }
 }
 
@@ -132,7 +133,7 @@ pub fn text_of_table(
     ensures { IfOk result (λ o. IfSome o (λ bytes. (d : Derivation) → IsTreeOf table.now doc.now d → Derives g.now doc.now d
         → bytes ≡ text_bytes (print h.now (strip g.now d)))) }
 {
-    let Some(encodings) = encodings(alloc, steps)? else {
+    let Some(encodings) = encode_all(alloc, steps)? else {
         return Ok(None);
     };
     let bytes = Vec::with_capacity(alloc, doc.len())?;

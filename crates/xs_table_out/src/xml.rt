@@ -54,7 +54,7 @@ fn cell_of(tags: &Tags, mode: Mode, word: &[Sym], text: &mut String) -> Result<C
 }
 
 /// Appends what is written for a text, in each mode.
-fn spelt(tags: &Tags, word: &[Sym], text: &mut String) -> Result<Spelt, Memory>
+fn spell(tags: &Tags, word: &[Sym], text: &mut String) -> Result<Spelt, Memory>
     requires { AreKnown tags.now word.now }
     ensures spelt { IfOk result (IsSpelt tags.now word.now (string_bytes text.new)) }
     ensures on { IfOk result (λ _. GoesOn (string_bytes text.old) (string_bytes text.new)) }
@@ -70,7 +70,7 @@ fn spelt(tags: &Tags, word: &[Sym], text: &mut String) -> Result<Spelt, Memory>
 }
 
 /// What is written for the texts of steps; None where a symbol of one cannot be written.
-fn spellings(alloc: Global, names: &Names, steps: &Steps) -> Result<Option<Spellings>, Memory>
+fn spell_all(alloc: Global, names: &Names, steps: &Steps) -> Result<Option<Spellings>, Memory>
     ensures names { IfOk result (λ o. IfSome o (λ s. s.tags ≡ names.now)) }
     ensures spelt { IfOk result (λ o. IfSome o (AreSpelt steps.now)) }
 {
@@ -84,7 +84,7 @@ fn spellings(alloc: Global, names: &Names, steps: &Steps) -> Result<Option<Spell
         if !are_known(&tags, word) {
             return Ok(None);
         }
-        all.push(spelt(&tags, word, &mut text)?)?;
+        all.push(spell(&tags, word, &mut text)?)?;
     }
     Ok(Some(Spellings { tags, all, text }))
 }
@@ -169,7 +169,7 @@ pub fn xml_of_table(
     ensures { IfOk result (λ o. IfSome o (λ bytes. (d : Derivation) → IsTreeOf table.now doc.now d → Derives g.now doc.now d
         → bytes ≡ xml_bytes names.now (print h.now (strip g.now d)))) }
 {
-    let Some(spellings) = spellings(alloc, names, steps)? else {
+    let Some(spellings) = spell_all(alloc, names, steps)? else {
         return Ok(None);
     };
     let bytes = Vec::with_capacity(alloc, doc.len().saturating_mul(2))?;

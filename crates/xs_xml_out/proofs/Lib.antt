@@ -1,4 +1,4 @@
-mod Appended
+pub mod Appended
 mod Attributes
 mod Calm
 mod Content

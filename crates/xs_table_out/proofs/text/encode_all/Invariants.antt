@@ -1,6 +1,6 @@
 use Rattle.std.proofs.Common.{◌≡◌, length}
 use Rattle.xs_table_out.specs.Encoded.{AreEncodedSoFar}
-use Rattle.xs_table_out.proofs.text.encodings.Given as goal
+use Rattle.xs_table_out.proofs.text.encode_all.Given as goal
 
 abbrev pub invariant-steps : goal.invariant-steps
 invariant-steps l = record {
