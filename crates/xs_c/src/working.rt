@@ -35,10 +35,7 @@ fn answer_of(alloc: Global, kept: &Kept, work: Work, document: &[u8]) -> Result<
     }
     let two = kept.two();
     match work {
-        Work::Turn { from, to, form } => {
-            let turned = turned_into(alloc, two, from, to, form, document)?;
-            Ok(turned.document)
-        }
+        Work::Turn { from, to, form } => turned_into(alloc, two, from, to, form, document),
         Work::Outline { from, form } => outline(alloc, two, from, form, document),
         Work::Make { to } => made_of_outline(alloc, two, to, document),
         Work::Session => play(alloc, two, document),

@@ -1,14 +1,14 @@
 -- Good fronts and certificates are what may come from the first byte on, so where that has ended
 -- the bytes are bad.
-use Rattle.std.proofs.Common.{◌≡◌, inl, inr, ℕ, suc, ◌+◌, ◌≤◌, List, [], ◌∷◌, ◌++◌, length, map, flat_map, drop, refl, sym, ap, subst, ◌∙◌, arith, append_assoc, append-nil, length-append, length-drop, codes, Result, Ok, Err, IfOk}
+use Rattle.std.proofs.Common.{◌≡◌, inl, inr, ℕ, suc, ◌+◌, ◌≤◌, List, [], ◌∷◌, ◌++◌, length, map, flat_map, drop, refl, sym, ap, subst, ◌∙◌, arith, append_assoc, append-nil, length-append, codes, Result, Ok, Err, IfOk}
 use Rattle.std.specs.List.{Contains}
-use Rattle.std.proofs.lemmas.List.{length-map, drop_all}
+use Rattle.std.proofs.lemmas.List.{length-map}
 use Rattle.xs_class.specs.declared.memory.Memory.{Memory}
 use Rattle.xs_auto.specs.Nests.{Group}
 use Rattle.xs_gram.specs.Grammar.{Grammar}
 use Rattle.xs_pair.specs.Grammars.{Pair}
 use Rattle.xs_cert_lines.specs.Lines.{Lines, ended, written}
-use Rattle.xs_cert_lines.specs.Runs.{GoesOn, IsFrom}
+use Rattle.xs_cert_lines.specs.Runs.{GoesOn}
 use Rattle.xs_cert_laws.specs.Blocks.{Head, Block, head, IsRight, block_lines}
 use Rattle.xs_cert_laws.specs.Certificates.{Shares, Half, IsHalf, share_line, half_lines, text_lines, all_lines, IsCertificate, Front, nothing, version, in_text, in_xml, IsGoodFront, IsBadAt}
 use Rattle.xs_cert.specs.declared.place.Place.{Place}
@@ -17,7 +17,7 @@ use Rattle.xs_cert.specs.declared.place.Reading.TheVariants.{Whole, Broken}
 use Rattle.xs_cert.specs.Places.{IsPlace, IsPast, Stand}
 use Rattle.xs_cert.specs.Ways.{Ahead, at_end, at_xml, TailWays, EndWays, LeadsTo, AfterLine, BlockWays, ends_here, block_then, goes_past, HalfWays}
 use Rattle.xs_cert.specs.Halves.{IsWholeHalf, IsBrokenHalf, IsHalfReading, AllWays, start, IsTextRead, IsAllRead, IsFrontRead, IsTextReading, IsAllReading}
-use Rattle.xs_cert.proofs.Standing.{written-append, place_past, past_then, goes_from, goes_after, leads_then, leads_ends, line_leads, line_ends, from_end, stand_short}
+use Rattle.xs_cert.proofs.Standing.{written-append, place_past, past_then, goes_from, goes_after, leads_then, leads_ends, line_leads, line_ends, stand_short}
 
 -- blocks that are right and in order, and then what comes
 module _ {g : Grammar} {nest : List Group} {R : ℕ → ℕ → Type 0} (T : Lines → List ℕ → ℕ → Type 0) where
@@ -216,13 +216,6 @@ module _ (p : Pair) (bytes : List ℕ) where
       is_xml = all.is_xml;
       is = all.past.from.is ∙ ap (λ (z : List ℕ). written (all_lines all.text all.xml) ++ z) e ∙ sym (written-append (all_lines all.text all.xml) (codes "end" ∷ []));
     }
-
--- the last line stands alone where its end is that of the bytes
-pub end_read : (bytes : List ℕ) (s e n : ℕ) → n ≡ length bytes → IsFrom bytes s e (codes "end" ∷ []) → ((e ≡ n) → drop s bytes ≡ ended (codes "end")) × (drop s bytes ≡ ended (codes "end") → e ≡ n)
-end_read bytes s e n is f = (
-  λ same. f.is ∙ ap (λ (z : List ℕ). written (codes "end" ∷ []) ++ z) (drop_all e bytes (omega (arith, same, is))),
-  λ same. (let long = ap length same in let end = from_end f in let within = f.within in omega (arith, long, end, is, within, length-drop s bytes, f.order)),
-)
 
 -- no more lines stand than there are bytes
 pub front_short : (p : Pair) (bytes : List ℕ) (most : ℕ) → IsFrontRead p bytes most → most ≤ length bytes

@@ -1,7 +1,6 @@
-ghost use Rattle.std.specs.Prelude.{◌≡◌, ◌↔◌, ◌≤◌, ◌+◌, length, drop, codes, IsTrue, IfOk, OnOk, IfErr, IfSome, IfNone};
+ghost use Rattle.std.specs.Prelude.{◌≡◌, ◌≤◌, ◌+◌, length, IfOk, OnOk, IfErr, IfSome, IfNone};
 ghost use Rattle.xs_gram.specs.{IsUnique, IsBuilt, IsSound};
 ghost use Rattle.xs_check_laws.specs.{IsLight, IsAccepted};
-ghost use Rattle.xs_cert_lines.specs.{ended};
 ghost use Rattle.xs_cert_laws.specs.{IsCertificate, IsBadAt};
 ghost use Rattle.xs_cert.specs.Halves.{IsHalfReading, IsTextRead, IsTextReading, IsAllReading};
 ghost use Rattle.xs_cert.specs.Places.{IsPlace};
@@ -14,7 +13,7 @@ use crate::weighing::weigh;
 use crate::{CertFault, Certified};
 use std::alloc::Global;
 use xs_cert_laws::certified_is_accepted;
-use xs_cert_lines::read_line;
+use xs_cert_lines::is_last_line;
 use xs_check_laws::accepted_is_unique;
 use xs_class::{Memory, Side};
 use xs_gram::Gram;
@@ -78,7 +77,7 @@ fn bad_line(alloc: Global, two: &Two, bytes: &[u8]) -> Result<Option<u64>, Memor
         Reading::Whole(end) => end,
         Reading::Broken { lines } => return Ok(Some(line_after(bytes, lines))),
     };
-    if is_end(bytes, end) {
+    if is_last_line(bytes, end.byte, b"end") {
         Ok(None)
     } else {
         Ok(Some(line_after(bytes, end.lines)))
@@ -154,15 +153,4 @@ fn read_side(alloc: Global, g: &Gram, bytes: &[u8], place: Place) -> Result<Read
         tables: &tables,
     };
     read_half(site, bytes, place)
-}
-
-/// Whether the last line stands at a place, and nothing after it.
-fn is_end(bytes: &[u8], place: Place) -> bool
-    requires { place.byte ≤ length bytes.now }
-    ensures { IsTrue result ↔ (drop place.byte bytes.now ≡ ended (codes "end")) }
-{
-    match read_line(bytes, place.byte, b"end") {
-        Some(end) => end == bytes.len(),
-        None => false,
-    }
 }

@@ -1,6 +1,6 @@
 -- Pieces that follow one another, and lines made of them.
 use Rattle.std.proofs.Common.{◌≡◌, ℕ, ◌+◌, ◌-◌, ◌≤◌, List, [], ◌∷◌, ◌++◌, length, length-append, length-drop, drop, sym, ap, ◌∙◌, arith, append_assoc, append-nil}
-use Rattle.std.proofs.lemmas.List.{drop-drop}
+use Rattle.std.proofs.lemmas.List.{drop-drop, drop_all}
 use Rattle.std.proofs.Math.Seq.{drop-append_seam}
 use Rattle.std.specs.Option.{MatchOption}
 use Rattle.std.proofs.Common.{Bor, Option, Some, None, ◌≢◌}
@@ -62,3 +62,12 @@ line_stands bytes start front line end rest within is first second = one_stands 
 
 pub no_line : (bytes : List ℕ) (start : ℕ) (front line end : List ℕ) → front ≡ drop start bytes → front ≡ line ++ end → (GoesOn end (10 ∷ []) → ⊥) → GoesOn (drop start bytes) (ended line) → ⊥
 no_line bytes start front line end is first none = no_second (drop start bytes) line (10 ∷ []) end (sym is ∙ first) none
+
+-- a line stands alone where its end is that of the bytes
+pub stands_last : (bytes : List ℕ) (start end n : ℕ) (line : List ℕ) → n ≡ length bytes → IsFrom bytes start end (line ∷ []) → ((end ≡ n) → drop start bytes ≡ ended line) × (drop start bytes ≡ ended line → end ≡ n)
+stands_last bytes start end n line is f =
+    let alone : written (line ∷ []) ≡ ended line = append-nil (ended line) in
+    let long : length (drop start bytes) ≡ length (written (line ∷ [])) + length (drop end bytes) = ap length f.is ∙ length-append (written (line ∷ [])) (drop end bytes) in (
+      λ same. f.is ∙ ap (λ z. written (line ∷ []) ++ z) (drop_all end bytes (omega (arith, same, is))) ∙ append-nil (written (line ∷ [])) ∙ alone,
+      λ same. omega (arith, ap length same, ap length alone, long, is, length-drop start bytes, length-drop end bytes, f.order, f.within),
+    )

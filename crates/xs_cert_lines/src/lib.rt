@@ -12,6 +12,6 @@ mod rows;
 mod run;
 
 pub use laws::lines_are_read_once;
-pub use line::{read_line, read_pair, write_pair};
+pub use line::{is_last_line, read_line, read_pair, write_pair};
 pub use rows::write_rows;
 pub use run::{Run, read_rows};

@@ -1,5 +1,5 @@
 // Whole lines, written and read.
-ghost use Rattle.std.specs.Prelude.{◌≡◌, ◌≤◌, [], ◌∷◌, ◌++◌, length, drop, decimal, MatchOption, IfSome, IfNone, OnOk, OnErr};
+ghost use Rattle.std.specs.Prelude.{◌≡◌, ◌↔◌, ◌≤◌, [], ◌∷◌, ◌++◌, length, drop, decimal, IsTrue, MatchOption, IfSome, IfNone, OnOk, OnErr};
 ghost use Rattle.xs_cert_lines.specs.Lines.{spaced, ended};
 ghost use Rattle.xs_cert_lines.specs.Pages.{AppendsFront};
 ghost use Rattle.xs_cert_lines.specs.Runs.{GoesOn, IsFrom};
@@ -73,6 +73,17 @@ pub fn read_line(bytes: &[u8], start: usize, line: &[u8]) -> Option<usize>
     let end = after(front, line)?;
     let rest = after(end, b"\n")?;
     Some(bytes.len() - rest.len())
+}
+
+/// Whether a line stands from a byte on, and nothing after it.
+pub fn is_last_line(bytes: &[u8], start: usize, line: &[u8]) -> bool
+    requires { start ≤ length bytes.now }
+    ensures { IsTrue result ↔ (drop start bytes.now ≡ ended line.now) }
+{
+    match read_line(bytes, start, line) {
+        Some(end) => end == bytes.len(),
+        None => false,
+    }
 }
 
 /// Whether the line of a text and two numbers stands from a byte on: the byte after it, or none.

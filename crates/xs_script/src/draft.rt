@@ -114,10 +114,11 @@ impl<'t> Draft<'t> {
         let same = mem::replace(&mut self.same, 0);
         let cut = self.session.document().len() - same;
         let put = Word::of(self.alloc, &self.doc[same..])?;
-        if self.session.edit(same as u32, cut as u32, &put).is_err() {
-            return Err(Memory);
+        match self.session.edit(same as u32, cut as u32, &put) {
+            Ok(()) => self.same = self.doc.len(),
+            Err(EditFault::Outside | EditFault::Long) => unreachable!(),
+            Err(EditFault::Memory) => return Err(Memory),
         }
-        self.same = self.doc.len();
         Ok(())
     }
 

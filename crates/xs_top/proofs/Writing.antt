@@ -1,5 +1,5 @@
 -- The print of a tree that fits can be written.
-use Rattle.std.proofs.Common.{◌≡◌, ℕ, List, sym, subst}
+use Rattle.std.proofs.Common.{◌≡◌, ◌∙◌, ℕ, List, ap, sym, subst}
 use Rattle.xs_class.specs.declared.side.Side.{Side}
 use Rattle.xs_class.specs.declared.side.Side.TheVariants.{Text, Xml}
 use Rattle.xs_gram.specs.Common.{Common, TreeFits, print}
@@ -11,7 +11,8 @@ use Rattle.xs_pair.specs.Sound.{IsSoundPair}
 use Rattle.xs_writing_laws.specs.Laws.{CanBeWritten}
 use Rattle.xs_turn.specs.Turned.{FitsBoth}
 use Rattle.xs_chars.specs.declared.form.Form.{Form}
-use Rattle.xs_top.specs.Documents.{IsDocument, CanWrite}
+use Rattle.xs_chars.specs.declared.form.Form.TheVariants.{AsIs}
+use Rattle.xs_top.specs.Documents.{IsDocument, CanWrite, document_bytes}
 use Rattle.xs_top.specs.Answers.{IsWrittenTree, IsTurnedInto}
 
 -- on either side it has that tree
@@ -25,6 +26,14 @@ can_write p t w can Xml has = can.xml w (has.0, has.1)
 
 pub can_write_print : PrintedHasTree → (p : Pair) (t : Common) (w : List ℕ) → IsSoundPair p → CanBeWritten p → FitsBoth p t → (side : Side) → w ≡ print (grammar_of p side) t → CanWrite p.names side w
 can_write_print law p t w sound can fits side is = subst (λ (v : List ℕ). CanWrite p.names side v) (sym is) (can_write p t (print (grammar_of p side) t) can side (printed_back law p t sound fits side))
+
+-- what was written for the print of a tree that fits
+pub written_tree : PrintedHasTree → (p : Pair) → IsSoundPair p → (to : Side) (tree : Common) → FitsBoth p tree → (names : List (List ℕ)) (word bytes : List ℕ) → names ≡ p.names → word ≡ print (grammar_of p to) tree → bytes ≡ document_bytes to names word → IsDocument to AsIs names bytes word → IsWrittenTree p to tree bytes
+written_tree law p sound to tree fits names word bytes names_are printed is reads = record {
+  is = is ∙ ap (λ (ns : List (List ℕ)). document_bytes to ns word) names_are ∙ ap (λ (w : List ℕ). document_bytes to p.names w) printed;
+  reads = subst (λ (w : List ℕ). IsDocument to AsIs p.names bytes w) printed (subst (λ (ns : List (List ℕ)). IsDocument to AsIs ns bytes word) names_are reads);
+  back = printed_back law p tree sound fits to;
+}
 
 slots_numbered : (p : Pair) → IsSoundPair p → (side : Side) → HasNumberedSlots (grammar_of p side)
 slots_numbered p sound Text = sound.text.built.slots

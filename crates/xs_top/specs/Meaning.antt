@@ -1,7 +1,6 @@
 -- What is asked of the jobs that are done.
 use Rattle.std.specs.Prelude.{◌≤◌}
 use Rattle.xs_pair.specs.Sound.{IsSoundPair}
-use Rattle.xs_wf.specs.Nonterminals.{IsPair}
 use Rattle.xs_writing_laws.specs.Laws.{CanBeWritten}
 use Rattle.xs_top.specs.declared.asking.Job.{Job}
 use Rattle.xs_top.specs.declared.asking.Job.TheVariants.{Make}
@@ -15,5 +14,5 @@ HasLines other = Unit {0}
 
 -- where a job was begun, all is there that it asks for
 abbrev pub CanBeDone : Begun → Type 0
-CanBeDone (B.By p job) = IsPair p × IsSoundPair p × CanBeWritten p × HasLines job
+CanBeDone (B.By p job) = IsSoundPair p × CanBeWritten p × HasLines job
 CanBeDone other = Unit {0}

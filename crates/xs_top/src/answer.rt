@@ -15,7 +15,7 @@ use crate::listed::listed;
 use crate::outlined::{made_of_outline, outlined};
 use crate::played::played;
 use crate::stop::Stop;
-use crate::turned::turned_into;
+use crate::turned::{turned_into, turned_text};
 use std::alloc::Global;
 use xs_cert::prove;
 use xs_chars::Form;
@@ -72,8 +72,7 @@ fn turn<S: Source>(
 {
     checked(alloc, two)?;
     let bytes = taken(alloc, input)?;
-    let turned = turned_into(alloc, two, from, to, form, bytes.as_slice())?;
-    Ok(turned.document)
+    turned_into(alloc, two, from, to, form, bytes.as_slice())
 }
 
 /// The listing of at most `max` derivations of the input.
@@ -104,20 +103,13 @@ fn make<S: Source>(
 {
     checked(alloc, two)?;
     let text = make_text(alloc, seed, lines)?;
-    let turned = turned_into(
-        alloc,
-        two,
-        Side::Text,
-        Side::Xml,
-        Form::AsIs,
-        text.as_slice(),
-    )?;
+    let turned = turned_text(alloc, two, text.as_slice())?;
     let parts = parts_of(alloc, &turned.tree)?;
     let line = summary(
         alloc,
         lines,
         text.len() as u64,
-        turned.document.len() as u64,
+        turned.xml.len() as u64,
         parts,
     )?;
     Ok(line)

@@ -45,7 +45,7 @@ pub use played::played as play;
 pub use sheets::{SHEET_LIMIT, writable_pair_of};
 use std::alloc::Global;
 pub use stop::Stop;
-pub use turned::{TurnedInto, turned_into};
+pub use turned::turned_into;
 use xs_check_laws::weights_are_exact;
 use xs_class::Memory;
 use xs_io::{Shelf, Sink, Source};

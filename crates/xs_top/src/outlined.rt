@@ -13,8 +13,7 @@ use xs_chars::Form;
 use xs_class::{Bytes, Side};
 use xs_outline::{read_outline, write_outline};
 use xs_pair::Two;
-use xs_text_out::print_syms;
-use xs_turn::translate;
+use xs_turn::parse;
 use xs_xml_laws::one_word;
 
 /// The outline of the tree of a document on side `from`.
@@ -30,8 +29,8 @@ pub fn outlined(
     ensures stop { IfErr result (StopsBy (IsUnread two.now from form bytes.now)) }
 {
     let doc = read_document(alloc, from, form, two.names(), bytes)?;
-    let translated = translate(alloc, two, from, from, &doc)?;
-    let outline = write_outline(alloc, two, &translated.tree)?;
+    let tree = parse(alloc, two, from, &doc)?;
+    let outline = write_outline(alloc, two, &tree)?;
     Ok(outline)
 }
 
@@ -46,7 +45,6 @@ pub fn made_of_outline(alloc: Global, two: &Two, to: Side, bytes: &[u8]) -> Resu
     one_word();
     let characters = characters_of(alloc, Form::AsIs, bytes)?;
     let tree = read_outline(alloc, two, &characters)?;
-    let word = print_syms(alloc, two.gram(to), &tree)?;
-    let document = written(alloc, two, to, &tree, &word)?;
+    let document = written(alloc, two, to, &tree)?;
     Ok(document)
 }

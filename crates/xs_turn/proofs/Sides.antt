@@ -1,16 +1,17 @@
 -- What holds of a document of a grammar holds of it on the grammar's side: its tree fits on either.
-use Rattle.std.proofs.Common.{◌≡◌, ℕ, List, subst, sym}
+use Rattle.std.proofs.Common.{◌≡◌, ◌∙◌, ℕ, List, ap, refl, subst, sym}
 use Rattle.xs_class.specs.declared.side.Side.{Side}
 use Rattle.xs_class.specs.declared.side.Side.TheVariants.{Text, Xml}
 use Rattle.xs_gram.specs.Grammar.{Grammar}
-use Rattle.xs_gram.specs.Common.{Common, TreeFits}
-use Rattle.xs_gram.specs.Languages.{HasTree}
+use Rattle.xs_gram.specs.Derivations.{Derivation}
+use Rattle.xs_gram.specs.Common.{Common, TreeFits, print, strip}
+use Rattle.xs_gram.specs.Languages.{Derives, HasTree}
 use Rattle.xs_gram.specs.Sound.{IsSound}
 use Rattle.xs_pair.specs.Grammars.{Pair, grammar_of, HaveSameTrees}
 use Rattle.xs_turn.specs.declared.fault.TurnFault.{TurnFault}
 use Rattle.xs_turn.specs.declared.fault.TurnFault.TheVariants as F
 use Rattle.xs_turn.specs.Stops.{IsStop}
-use Rattle.xs_turn.specs.Turned.{FitsBoth, IsRefusal, IsTreeIn}
+use Rattle.xs_turn.specs.Turned.{FitsBoth, IsRefusal, IsTranslated, IsTreeIn}
 use Rattle.xs_forest_laws.specs.Forest.{Forest}
 use Rattle.xs_forest_laws.specs.Laws.{IsExact}
 use Rattle.xs_turn.proofs.Fitting.{stripped_fits_lem}
@@ -33,6 +34,21 @@ own_fits g sound w tree has = subst (λ t. TreeFits g g.start t) has.2 (stripped
 pub fits_both : (p : Pair) → IsSound p.text → IsSound p.xml → HaveSameTrees p.text p.xml → p.text.start ≡ p.xml.start → (side : Side) (w : List ℕ) (tree : Common) → HasTree (grammar_of p side) w tree → FitsBoth p tree
 fits_both p text xml same starts side w tree has to =
     across p same starts side to tree (own_fits (grammar_of p side) (side_sound p text xml side) w tree has)
+
+-- the print of a tree of the document, by a grammar that is that of a side
+pub translated : (p : Pair) → IsSound p.text → IsSound p.xml → (from to : Side) (w word : List ℕ) (tree : Common) (other : Grammar) → HasTree (grammar_of p from) w tree → other ≡ grammar_of p to → word ≡ print other tree → IsTranslated p from to w word
+translated p text xml from to w word tree other has other_is is = record {
+  tree = tree;
+  has = has;
+  printed = is ∙ ap (λ (g : Grammar). print g tree) other_is;
+  fits = λ same starts. fits_both p text xml same starts from w tree has;
+}
+
+-- the print of the tree of a derivation by a grammar that is that of a side
+pub guess_translated : (p : Pair) → IsSound p.text → IsSound p.xml → (from to : Side) (w word : List ℕ) (own other : Grammar) → own ≡ grammar_of p from → other ≡ grammar_of p to → (d : Derivation) × Derives own w d × (word ≡ print other (strip own d)) → IsTranslated p from to w word
+guess_translated p text xml from to w word own other own_is other_is (d, derives, is) =
+    let has = subst (λ (g : Grammar). HasTree g w (strip own d)) own_is (d, derives, refl) in
+    translated p text xml from to w word (strip own d) other has other_is is
 
 pub refusal_of : {own : Grammar} (p : Pair) (side : Side) (w : List ℕ) (e : TurnFault) → own ≡ grammar_of p side → IsStop own w e → IsRefusal p side w e
 refusal_of p side w (F.Foreign viable) own_is stop =

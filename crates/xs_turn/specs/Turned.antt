@@ -7,7 +7,7 @@ use Rattle.xs_gram.specs.Derivations.{Derivation, done, sub}
 use Rattle.xs_gram.specs.Common.{Common, TreeFits, print, strip}
 use Rattle.xs_gram.specs.Languages.{Derives, InLang, HasTree, IsViable}
 use Rattle.xs_forest_laws.specs.Forest.{Forest, Unfolding, Unfolds, read}
-use Rattle.xs_pair.specs.Grammars.{Pair, grammar_of}
+use Rattle.xs_pair.specs.Grammars.{Pair, grammar_of, HaveSameTrees}
 use Rattle.xs_turn.specs.declared.fault.TurnFault.{TurnFault}
 use Rattle.xs_turn.specs.declared.fault.TurnFault.TheVariants as F
 
@@ -24,10 +24,13 @@ other_side Xml = Text
 abbrev pub IsTreeIn : Grammar → List ℕ → Forest → ℕ → Common → Type 0
 IsTreeIn g w f root tree = (u : Unfolding) × Unfolds f (Some root) u × (d : Derivation) × (read g w f (Some root) u ≡ sub d.rule d.parts done) × Derives g w d × (strip g d ≡ tree)
 
--- the tree is that of a derivation of the document on one side, and the word is its print on another
-pub record IsTranslated (p : Pair) (from to : Side) (w : List ℕ) (tree : Common) (word : List ℕ) : Type 0 where
+-- The word is the print, on another side or the same, of the tree of a derivation of the document; where both sides have
+-- the same trees and the same start, the tree fits on either.
+pub record IsTranslated (p : Pair) (from to : Side) (w word : List ℕ) : Type 0 where
+  pub tree : Common
   pub has : HasTree (grammar_of p from) w tree
   pub printed : word ≡ print (grammar_of p to) tree
+  pub fits : HaveSameTrees p.text p.xml → p.text.start ≡ p.xml.start → FitsBoth p tree
 
 -- the document has no derivation, and that many of its leading symbols are viable
 pub record IsForeign (p : Pair) (side : Side) (w : List ℕ) (viable : ℕ) : Type 0 where

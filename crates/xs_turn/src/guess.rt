@@ -1,5 +1,5 @@
-ghost use Rattle.std.specs.Prelude.{IfOk, IfSome};
-ghost use Rattle.xs_gram.specs.{Derivation, Derives, HasTree, IsBuilt};
+ghost use Rattle.std.specs.Prelude.{◌≡◌, IfOk, IfSome};
+ghost use Rattle.xs_gram.specs.{Derivation, Derives, HasTree, IsBuilt, print, strip};
 ghost use Rattle.xs_parse_table.specs.{IsTreeOf};
 ghost use Rattle.xs_tree.specs.{common_of};
 
@@ -10,6 +10,8 @@ use xs_class::{Memory, Word};
 use xs_gram::Gram;
 use xs_lr::{PADDING, read};
 use xs_parse_table::{ParseTable, Validator};
+use xs_table_out::{print_table, steps_of};
+use xs_text_out::pieces_of;
 use xs_tree::Tree;
 
 /// A parse table that was guessed and that means a derivation of the document, or None where none
@@ -43,4 +45,25 @@ pub fn guessed_tree(alloc: Global, g: &Gram, doc: &Word) -> Result<Option<Tree>,
     };
     let tree = tree_of(alloc, g, doc.as_slice(), &table)?;
     Ok(tree)
+}
+
+/// The tree of a derivation of the document that was guessed and checked, printed by another grammar
+/// or the same, or None. No tree is made.
+pub fn guessed_word(
+    alloc: Global,
+    from: &Gram,
+    to: &Gram,
+    doc: &Word,
+) -> Result<Option<Word>, Memory>
+    requires { IsBuilt from.now }
+    ensures { IfOk result (λ o. IfSome o (λ word. (d : Derivation) × Derives from.now doc.now d
+        × (word ≡ print to.now (strip from.now d)))) }
+{
+    let Some(table) = table_of(alloc, from, doc)? else {
+        return Ok(None);
+    };
+    let pieces = pieces_of(alloc, to)?;
+    let steps = steps_of(alloc, from, to, pieces)?;
+    let word = print_table(alloc, from, to, &steps, doc.as_slice(), &table)?;
+    Ok(word)
 }

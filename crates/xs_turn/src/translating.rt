@@ -1,25 +1,15 @@
 ghost use Rattle.std.specs.Prelude.{◌≡◌, ◌<◌, true, length, IfOk, IfErr};
 ghost use Rattle.xs_gram.specs.{IsSound};
-ghost use Rattle.xs_tree.specs.{common_of};
-ghost use Rattle.xs_pair.specs.{HaveSameTrees};
-ghost use Rattle.xs_turn.specs.Turned.{FitsBoth, IsTranslated, IsRefusal, other_side};
+ghost use Rattle.xs_turn.specs.Turned.{IsTranslated, IsRefusal, other_side};
 
 use crate::TurnFault;
-use crate::guess::guessed_tree;
+use crate::guess::guessed_word;
 use crate::turning::turn;
 use bumpalo::Bump;
 use std::alloc::Global;
 use xs_class::{Side, Word};
 use xs_pair::Two;
 use xs_text_out::print_syms;
-use xs_tree::Tree;
-
-/// A document that is translated: its common tree, and that tree printed on a side.
-#[derive(Drop)]
-pub struct Translated {
-    pub tree: Tree,
-    pub word: Word,
-}
 
 /// Whether these are two sides.
 fn is_other(from: Side, to: Side) -> bool
@@ -38,34 +28,25 @@ fn is_other(from: Side, to: Side) -> bool
 }
 
 /// A translation by turning the document, which alone says that the document is foreign.
-fn turned_to(
-    alloc: Global,
-    two: &Two,
-    doc: &Word,
-    from: Side,
-    to: Side,
-) -> Result<Translated, TurnFault>
+fn turned_to(alloc: Global, two: &Two, doc: &Word, from: Side, to: Side) -> Result<Word, TurnFault>
     requires short { length doc.now < 4294967295 }
     requires text { IsSound two.now.text }
     requires xml { IsSound two.now.xml }
-    ensures translated { IfOk result (λ t. IsTranslated two.now from to doc.now (common_of t.tree) t.word) }
-    ensures fits { HaveSameTrees two.now.text two.now.xml → two.now.text.start ≡ two.now.xml.start
-        → IfOk result (λ t. FitsBoth two.now (common_of t.tree)) }
+    ensures translated { IfOk result (IsTranslated two.now from to doc.now) }
     ensures foreign { IfErr result (IsRefusal two.now from doc.now) }
 {
     let bump = Bump::new(alloc);
     let turned = turn(alloc, &bump, two, from, doc)?;
-    let tree = turned.tree;
     if is_other(from, to) {
-        let word = turned.word;
-        return Ok(Translated { tree, word });
+        return Ok(turned.word);
     }
-    let word = print_syms(alloc, two.gram(to), &tree)?;
-    Ok(Translated { tree, word })
+    let word = print_syms(alloc, two.gram(to), &turned.tree)?;
+    Ok(word)
 }
 
 /// Translates a document of one side into the word of a side, the other or the same, that has the
-/// same tree: that of a guess that was checked, and where there is none by turning the document.
+/// same tree. The word is printed straight from a guess that was checked, without a tree, and where
+/// there is none the document is turned.
 ///
 /// `Foreign` is answered exactly where the document has no derivation, with the greatest number of
 /// its leading symbols that begin some document of its side. Where the two grammars have the same
@@ -77,20 +58,15 @@ pub fn translate(
     from: Side,
     to: Side,
     doc: &Word,
-) -> Result<Translated, TurnFault>
+) -> Result<Word, TurnFault>
     requires text { IsSound two.now.text }
     requires xml { IsSound two.now.xml }
     requires short { length doc.now < 4294967295 }
-    ensures translated { IfOk result (λ t. IsTranslated two.now from to doc.now (common_of t.tree) t.word) }
-    ensures fits { HaveSameTrees two.now.text two.now.xml → two.now.text.start ≡ two.now.xml.start
-        → IfOk result (λ t. FitsBoth two.now (common_of t.tree)) }
+    ensures translated { IfOk result (IsTranslated two.now from to doc.now) }
     ensures foreign { IfErr result (IsRefusal two.now from doc.now) }
 {
-    match guessed_tree(alloc, two.gram(from), doc)? {
-        Some(tree) => {
-            let word = print_syms(alloc, two.gram(to), &tree)?;
-            Ok(Translated { tree, word })
-        }
+    match guessed_word(alloc, two.gram(from), two.gram(to), doc)? {
+        Some(word) => Ok(word),
         None => turned_to(alloc, two, doc, from, to),
     }
 }

@@ -25,7 +25,7 @@ use xs_lr::{PADDING, read};
 use xs_pair::Two;
 use xs_test_tools::{EXAMPLES, two_of};
 use xs_tree::{Tree, same};
-use xs_turn::{TurnFault, translate};
+use xs_turn::{TurnFault, parse, translate};
 
 /// The units of sheets whose items are given by letters.
 const UNITS: &[u8] =
@@ -95,17 +95,18 @@ pub fn exact_tree(alloc: Global, g: &Gram, doc: &Word) -> Result<Tree, TurnFault
     Ok(tree)
 }
 
-/// Whether a table is found that passes for the text and for its XML document, and the translation
-/// has the tree of the exact way.
+/// Whether a table is found that passes for the text and for its XML document, and the text has the
+/// tree of the exact way.
 fn are_found(alloc: Global, two: &Two, text: &Word) -> Result<bool, TurnFault>
     requires pair { IsSoundPair two.now }
     requires short { length text.now < 4294967295 }
 {
-    let translated = translate(alloc, two, Side::Text, Side::Xml, text)?;
+    let tree = parse(alloc, two, Side::Text, text)?;
     let exact = exact_tree(alloc, two.gram(Side::Text), text)?;
-    let is_exact = same(alloc, &translated.tree, &exact)?;
+    let is_exact = same(alloc, &tree, &exact)?;
+    let xml = translate(alloc, two, Side::Text, Side::Xml, text)?;
     let there = found_for(alloc, two.gram(Side::Text), text.as_slice())?;
-    let back = found_for(alloc, two.gram(Side::Xml), translated.word.as_slice())?;
+    let back = found_for(alloc, two.gram(Side::Xml), xml.as_slice())?;
     Ok(is_exact && there == Found::Right && back == Found::Right)
 }
 

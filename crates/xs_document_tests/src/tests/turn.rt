@@ -8,14 +8,14 @@ use xs_class::Side;
 use xs_pair::Two;
 use xs_test_tools::{SPACED, two_of};
 use xs_tree::{Tree, same};
-use xs_turn::translate;
+use xs_turn::parse;
 
 fn tree_of(alloc: Global, two: &Two, text: &[u8]) -> Result<Tree, Fail>
     requires { IsSoundPair two.now }
 {
     let doc = read_text(alloc, text, Form::AsIs)?;
-    let translated = translate(alloc, two, Side::Text, Side::Text, &doc)?;
-    Ok(translated.tree)
+    let tree = parse(alloc, two, Side::Text, &doc)?;
+    Ok(tree)
 }
 
 /// Whether two texts have the same tree.

@@ -11,7 +11,7 @@ use xs_class::{Bytes, Memory, Side, Word};
 use xs_pair::Two;
 use xs_test_tools::{two_of, word_of};
 use xs_tree::same;
-use xs_turn::{TurnFault, translate};
+use xs_turn::{TurnFault, parse, translate};
 
 /// The number of kinds. Their marks and nonterminals make rows of some 900 cells on the XML side,
 /// and their fixed words some 9,000 rows.
@@ -53,15 +53,16 @@ fn text_of_kinds(alloc: Global) -> Result<Word, Memory> {
     Ok(word)
 }
 
-/// Whether the XML is turned into the text, with the tree of the exact way.
+/// Whether the XML is translated into the text, and has the tree of the exact way.
 fn is_turned(alloc: Global, two: &Two, xml: &Word, text: &Word) -> Result<bool, TurnFault>
     requires pair { IsSoundPair two.now }
     requires short { length xml.now < 4294967295 }
 {
     let back = translate(alloc, two, Side::Xml, Side::Text, xml)?;
+    let tree = parse(alloc, two, Side::Xml, xml)?;
     let exact = exact_tree(alloc, two.gram(Side::Xml), xml)?;
-    let is_exact = same(alloc, &back.tree, &exact)?;
-    Ok(is_exact && back.word.as_slice() == text.as_slice())
+    let is_exact = same(alloc, &tree, &exact)?;
+    Ok(is_exact && back.as_slice() == text.as_slice())
 }
 
 #[test]
@@ -73,11 +74,10 @@ fn tables_that_pass_their_greatest_size(rt: HostRuntime) -> Result<(), Fail> {
     assert!(rt; text.len() < 100_000);
     let there = found_for(alloc, two.gram(Side::Text), text.as_slice());
     assert_eq!(rt; there, Ok(Found::Right));
-    let translated = translate(alloc, &two, Side::Text, Side::Xml, &text)?;
-    let xml = &translated.word;
+    let xml = translate(alloc, &two, Side::Text, Side::Xml, &text)?;
     assert!(rt; xml.len() < 100_000);
     let back = found_for(alloc, two.gram(Side::Xml), xml.as_slice());
     assert_eq!(rt; back, Ok(Found::Nothing));
-    assert_eq!(rt; is_turned(alloc, &two, xml, &text), Ok(true));
+    assert_eq!(rt; is_turned(alloc, &two, &xml, &text), Ok(true));
     Ok(())
 }

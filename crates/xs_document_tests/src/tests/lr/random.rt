@@ -15,7 +15,7 @@ use xs_gram::{GItem, Gram};
 use xs_pair::Two;
 use xs_test_tools::{Draws, add_characters, other_side, push_all, push_items, two_of};
 use xs_tree::same;
-use xs_turn::{TurnFault, translate};
+use xs_turn::{TurnFault, parse, translate};
 use xs_unique::accept;
 
 /// The letters of items, those of nonterminals last.
@@ -257,15 +257,15 @@ fn is_told(alloc: Global, two: &Two, side: Side, doc: &Word) -> Result<bool, Mem
     Ok(agrees && told == viable)
 }
 
-/// Whether a table is found that passes, and a translation has the tree of the exact way.
+/// Whether a table is found that passes, and the document has the tree of the exact way.
 fn is_read(alloc: Global, two: &Two, side: Side, doc: &Word) -> Result<bool, TurnFault>
     requires pair { IsSoundPair two.now }
     requires short { length doc.now < 4294967295 }
 {
     let found = found_for(alloc, two.gram(side), doc.as_slice())?;
-    let translated = translate(alloc, two, side, other_side(side), doc)?;
+    let tree = parse(alloc, two, side, doc)?;
     let exact = exact_tree(alloc, two.gram(side), doc)?;
-    let is_exact = same(alloc, &translated.tree, &exact)?;
+    let is_exact = same(alloc, &tree, &exact)?;
     Ok(found == Found::Right && is_exact)
 }
 

@@ -1,11 +1,7 @@
-use Rattle.std.proofs.Common.{subst}
-use Rattle.xs_gram.specs.Grammar.{Grammar}
-use Rattle.xs_gram.specs.Languages.{HasTree}
-use Rattle.xs_tree.specs.Flat.{common_of}
-use Rattle.xs_turn.proofs.Sides.{fits_both}
+use Rattle.xs_turn.proofs.Sides.{guess_translated}
 use Rattle.xs_turn.proofs.translating.translate.Goals as goal
 
-pub returns-in_ok-word-in-Some-clause-fits : goal.returns-in_ok-word-in-Some-clause-fits
-returns-in_ok-word-in-Some-clause-fits c same starts =
-    let has = subst (λ (g : Grammar). HasTree g c.args.doc.now (common_of c.in-Some.tree)) c.gram.ensures (rw c.in-Some.is at c.in_ok-tree.ensures) in
-    fits_both c.args.two.now c.requires.text c.requires.xml same starts c.args.from c.args.doc.now (common_of c.in-Some.tree) has
+pub returns-in-Some-clause-translated : goal.returns-in-Some-clause-translated
+returns-in-Some-clause-translated c =
+    let found = rw c.in-Some.is at c.in_ok-word.ensures in
+    guess_translated c.args.two.now c.requires.text c.requires.xml c.args.from c.args.to c.args.doc.now c.in-Some.word _ _ c.gram.ensures c.gram-2.ensures found
