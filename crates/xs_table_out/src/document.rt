@@ -4,6 +4,7 @@ ghost use Rattle.xs_parse_table.specs.{IsTreeOf};
 ghost use Rattle.xs_table_out.specs.Documents.{document_bytes};
 
 use crate::layout::steps_of;
+use crate::printing::Printing;
 use crate::text::text_of_table;
 use crate::xml::xml_of_table;
 use std::alloc::Global;
@@ -12,25 +13,33 @@ use xs_gram::Gram;
 use xs_parse_table::ParseTable;
 use xs_text_out::pieces_of;
 
-/// The document, on a side whose grammar is `h`, of the tree of the derivation that a table means;
-/// None where a part of the table is not right, or where a symbol cannot be written. In time linear
-/// in the items of the grammars, the nodes, the names and the document.
+/// The document, on a side whose grammar is `to`, of the tree of the derivation that a table means
+/// of a document of the grammar `from`; None where a part of the table is not right, or where a
+/// symbol cannot be written. In time linear in the squares of the productions' items, the nodes, the
+/// names and the two documents.
 pub fn document_of_table(
     alloc: Global,
     side: Side,
     names: &Names,
-    g: &Gram,
-    h: &Gram,
+    from: &Gram,
+    to: &Gram,
     doc: &[Sym],
     table: &ParseTable,
 ) -> Result<Option<Bytes>, Memory>
-    requires { IsBuilt g.now }
-    ensures { IfOk result (λ o. IfSome o (λ bytes. (d : Derivation) → IsTreeOf table.now doc.now d → Derives g.now doc.now d
-        → bytes ≡ document_bytes side names.now (print h.now (strip g.now d)))) }
+    requires { IsBuilt from.now }
+    ensures { IfOk result (λ o. IfSome o (λ bytes. (d : Derivation) → IsTreeOf table.now doc.now d → Derives from.now doc.now d
+        → bytes ≡ document_bytes side names.now (print to.now (strip from.now d)))) }
 {
-    let steps = steps_of(alloc, g, h, pieces_of(alloc, h)?)?;
+    let steps = &steps_of(alloc, from, to, pieces_of(alloc, to)?)?;
+    let printing = Printing {
+        from,
+        to,
+        steps,
+        doc,
+        table,
+    };
     match side {
-        Side::Text => text_of_table(alloc, g, h, &steps, doc, table),
-        Side::Xml => xml_of_table(alloc, names, g, h, &steps, doc, table),
+        Side::Text => text_of_table(alloc, &printing),
+        Side::Xml => xml_of_table(alloc, names, &printing),
     }
 }

@@ -11,6 +11,7 @@ mod append;
 mod children;
 mod document;
 mod layout;
+mod printing;
 mod steps;
 mod stretch;
 mod symbols;
@@ -20,10 +21,4 @@ mod writer;
 mod xml;
 
 pub use document::document_of_table;
-pub use layout::steps_of;
-pub use steps::{Step, StepRow, Steps};
 pub use symbols::print_table;
-pub use text::text_of_table;
-pub use walk::write_table;
-pub use writer::Writer;
-pub use xml::xml_of_table;

@@ -1,11 +1,11 @@
 ghost use Rattle.std.specs.Prelude.{◌≡◌, ◌==◌, ℕ, List, slice_get, encode_utf8_all, IfOk, IfSome, IsTrue};
 ghost use Rattle.xs_chars.specs.{has_mark, text_bytes};
-ghost use Rattle.xs_gram.specs.{Derivation, Derives, IsBuilt, print, strip};
+ghost use Rattle.xs_gram.specs.{Derivation, Derives, print, strip};
 ghost use Rattle.xs_parse_table.specs.{IsTreeOf};
-ghost use Rattle.xs_table_out.specs.Steps.{AreSteps};
 ghost use Rattle.xs_table_out.specs.Encoded.{AreEncoded};
 
 use crate::append::append;
+use crate::printing::Printing;
 use crate::steps::Steps;
 use crate::stretch::stretch;
 use crate::walk::write_table;
@@ -13,8 +13,6 @@ use crate::writer::Writer;
 use std::alloc::Global;
 use xs_chars::append_utf8;
 use xs_class::{Bytes, Memory, Sym};
-use xs_gram::Gram;
-use xs_parse_table::ParseTable;
 
 /// The UTF-8 of a byte order mark.
 const MARK: [u8; 3] = [0xEF, 0xBB, 0xBF];
@@ -117,32 +115,24 @@ fn marked(alloc: Global, bytes: Vec<u8>) -> Result<Vec<u8>, Memory>
     Ok(all)
 }
 
-/// The text document of the tree of the derivation that a table means, as the steps print it; None
-/// where a part of the table is not right, or where a symbol is no character. In time linear in the
-/// nodes and the word.
-pub fn text_of_table(
-    alloc: Global,
-    g: &Gram,
-    h: &Gram,
-    steps: &Steps,
-    doc: &[Sym],
-    table: &ParseTable,
-) -> Result<Option<Bytes>, Memory>
-    requires built { IsBuilt g.now }
-    requires steps { AreSteps g.now h.now steps.now }
-    ensures { IfOk result (λ o. IfSome o (λ bytes. (d : Derivation) → IsTreeOf table.now doc.now d → Derives g.now doc.now d
-        → bytes ≡ text_bytes (print h.now (strip g.now d)))) }
+/// The text document of what is printed; None where a part of the table is not right, or where a
+/// symbol is no character. In time linear in the nodes and the word.
+pub fn text_of_table(alloc: Global, printing: &Printing) -> Result<Option<Bytes>, Memory>
+    ensures { IfOk result (λ o. IfSome o (λ bytes. (d : Derivation)
+        → IsTreeOf printing.now.table.now printing.now.doc.now d → Derives printing.now.from.now printing.now.doc.now d
+        → bytes ≡ text_bytes (print printing.now.to.now (strip printing.now.from.now d)))) }
 {
+    let steps = printing.steps;
     let Some(encodings) = encode_all(alloc, steps)? else {
         return Ok(None);
     };
-    let bytes = Vec::with_capacity(alloc, doc.len())?;
+    let bytes = Vec::with_capacity(alloc, printing.doc.len())?;
     let mut out = TextBytes {
         steps,
         encodings: &encodings,
         bytes,
     };
-    if !write_table(alloc, g, h, steps, doc, table, &mut out)? {
+    if !write_table(alloc, printing, &mut out)? {
         return Ok(None);
     }
     Ok(Some(Bytes::from_vec(marked(alloc, out.bytes)?)))

@@ -1,20 +1,18 @@
 ghost use Rattle.std.specs.Prelude.{◌≡◌, slice_get, IfOk, IfSome, string_bytes};
 ghost use Rattle.std.specs.Option.{option_map};
-ghost use Rattle.xs_gram.specs.{Derivation, Derives, IsBuilt, print, strip};
+ghost use Rattle.xs_gram.specs.{Derivation, Derives, print, strip};
 ghost use Rattle.xs_parse_table.specs.{IsTreeOf};
 ghost use Rattle.xs_xml_out.specs.{AreKnown, xml_bytes};
-ghost use Rattle.xs_table_out.specs.Steps.{AreSteps};
 ghost use Rattle.xs_table_out.specs.Spelt.{cell_in, AreSpelt, GoesOn, IsCell, IsSpelt};
 
 use crate::append::append;
+use crate::printing::Printing;
 use crate::steps::Steps;
 use crate::stretch::stretch;
 use crate::walk::write_table;
 use crate::writer::Writer;
 use std::alloc::Global;
 use xs_class::{Bytes, Memory, Names, Sym};
-use xs_gram::Gram;
-use xs_parse_table::ParseTable;
 use xs_xml_out::{Mode, Tags, are_known, put_characters, put_stretch};
 
 /// Where what is written for a text begins and ends, and the mode after it.
@@ -152,34 +150,29 @@ impl Writer for XmlBytes<'_> {
     }
 }
 
-/// The XML document of the tree of the derivation that a table means, as the steps print it; None
-/// where a part of the table is not right, or where a symbol cannot be written. In time linear in
-/// the nodes, the word, the names and the document.
+/// The XML document of what is printed; None where a part of the table is not right, or where a
+/// symbol cannot be written. In time linear in the nodes, the word, the names and the document.
 pub fn xml_of_table(
     alloc: Global,
     names: &Names,
-    g: &Gram,
-    h: &Gram,
-    steps: &Steps,
-    doc: &[Sym],
-    table: &ParseTable,
+    printing: &Printing,
 ) -> Result<Option<Bytes>, Memory>
-    requires built { IsBuilt g.now }
-    requires steps { AreSteps g.now h.now steps.now }
-    ensures { IfOk result (λ o. IfSome o (λ bytes. (d : Derivation) → IsTreeOf table.now doc.now d → Derives g.now doc.now d
-        → bytes ≡ xml_bytes names.now (print h.now (strip g.now d)))) }
+    ensures { IfOk result (λ o. IfSome o (λ bytes. (d : Derivation)
+        → IsTreeOf printing.now.table.now printing.now.doc.now d → Derives printing.now.from.now printing.now.doc.now d
+        → bytes ≡ xml_bytes names.now (print printing.now.to.now (strip printing.now.from.now d)))) }
 {
+    let steps = printing.steps;
     let Some(spellings) = spell_all(alloc, names, steps)? else {
         return Ok(None);
     };
-    let bytes = Vec::with_capacity(alloc, doc.len().saturating_mul(2))?;
+    let bytes = Vec::with_capacity(alloc, printing.doc.len().saturating_mul(2))?;
     let mut out = XmlBytes {
         steps,
         spellings: &spellings,
         mode: Mode::Content,
         bytes,
     };
-    if !write_table(alloc, g, h, steps, doc, table, &mut out)? {
+    if !write_table(alloc, printing, &mut out)? {
         return Ok(None);
     }
     let mut bytes = out.bytes;
