@@ -7,8 +7,8 @@
 //! checked (`guess`). A translation is printed straight from the table, as a word (`translating`) or
 //! at once as the bytes of its document (`rewriting`); where the tree is asked for (`parsing`), it
 //! is made of the table (`table`). Only where nothing was guessed or the check says no the document
-//! is turned. That the tree fits on either side is a law (`laws`): the tree of a derivation fits, and
-//! the two grammars have the same trees.
+//! is turned. That the tree fits on either side is a law (`laws`): the tree of a derivation fits,
+//! and the two grammars have the same trees.
 #![tactic(auto)]
 
 mod fault;
