@@ -1,7 +1,7 @@
 -- Characters and their UTF-8.
 use Rattle.std.proofs.Common.{◌≡◌, ◌<◌, ◌≤◌, ◌+◌, ◌/◌, ◌%◌, ◌==◌, ◌&&◌, ◌++◌, ℕ, suc, zero, List, [], ◌∷◌, length, take, drop, get_or, Bool, true, false, refl, sym, ◌∙◌, ap, subst, arith, encode_utf8_all, append_assoc, append-nil}
 use Rattle.std.specs.Char.{IsScalar, encode_utf8}
-use Rattle.std.proofs.lemmas.List.{take_more, at_drop_more, at_drop_all}
+use Rattle.std.proofs.lemmas.List.{take_more, at_drop_more}
 use Rattle.std.specs.Str.{chars, IsUtf8, all_scalars, IsValidUpTo}
 use Rattle.std.specs.Str.Pattern.{FindsCharPrefix, StripsPrefix}
 use Rattle.std.proofs.lemmas.Str.{chars-encodes, encodes_same, encodes-append, chars_past_char, length-encode, len_utf8_bounds}
@@ -118,21 +118,8 @@ scalars_next w i c lt is = at_drop_more all_scalars w i c lt ∙ ap (λ x. scala
 pub scalars_more : (w : List ℕ) (i c : ℕ) → i < length w → c ≡ get_or w i c → IsScalar c → all_scalars w ≡ all_scalars (drop i w) → all_scalars w ≡ all_scalars (drop (i + 1) w)
 scalars_more w i c lt is scalar_is so_far = so_far ∙ scalars_next w i c lt is ∙ ap (λ b. b && all_scalars (drop (i + 1) w)) scalar_is
 
-pub no_scalars : (w : List ℕ) (i c : ℕ) → i < length w → c ≡ get_or w i c → (IsScalar c → ⊥) → all_scalars w ≡ all_scalars (drop i w) → false ≡ all_scalars w
-no_scalars w i c lt is not so_far = sym (so_far ∙ scalars_next w i c lt is ∙ split (scalar c) refl)
-  where
-    split : (t : Bool) → scalar c ≡ t → (scalar c && all_scalars (drop (i + 1) w)) ≡ false
-    split true e = absurd (not e)
-    split false e = ap (λ b. b && all_scalars (drop (i + 1) w)) e
-
-pub all_past : (w : List ℕ) (i : ℕ) → length w ≤ i → all_scalars w ≡ all_scalars (drop i w) → true ≡ all_scalars w
-all_past w i past so_far = sym (so_far ∙ at_drop_all all_scalars w i past)
-
 -- the UTF-8 of the rest of a word, one character on
 pub encodes_next : (w before : List ℕ) (i c : ℕ) → i < length w → c ≡ get_or w i c → (before ++ encode_utf8 c) ++ encode_utf8_all (drop (i + 1) w) ≡ before ++ encode_utf8_all (drop i w)
 encodes_next w before i c lt is =
     append_assoc before (encode_utf8 c) (encode_utf8_all (drop (i + 1) w))
     ∙ ap (λ l. before ++ l) (sym (at_drop_more encode_utf8_all w i c lt ∙ ap (λ x. encode_utf8_all (x ∷ drop (i + 1) w)) (sym is)))
-
-pub encodes_past : (w before : List ℕ) (i : ℕ) → length w ≤ i → before ++ encode_utf8_all (drop i w) ≡ before
-encodes_past w before i past = ap (λ l. before ++ l) (at_drop_all encode_utf8_all w i past) ∙ append-nil before

@@ -74,8 +74,8 @@ fn put_each(bytes: &mut Vec<u8>, symbols: &[Sym]) -> bool
     true
 }
 
-/// Appends the UTF-8 of symbols; false where one is no character. In time linear in the symbols, for
-/// each of which four bytes are reserved.
+/// Appends the UTF-8 of symbols; false where one is no character. In time linear in the symbols,
+/// for each of which four bytes are reserved.
 pub fn append_utf8(bytes: &mut Vec<u8>, symbols: &[Sym]) -> Result<bool, Memory>
     ensures characters { IfOk result (λ done. done ≡ all_scalars symbols.now) }
     ensures put { IfOk result (λ done. IsTrue done → bytes.new.items ≡ bytes.old.items ++ encode_utf8_all symbols.now) }

@@ -6,6 +6,7 @@ use Rattle.std.proofs.lemmas.List.{take_all, take-append-le, drop_at}
 use Rattle.std.proofs.lemmas.Option.{slice_get-get_or}
 use Rattle.std.proofs.lemmas.Str.{encodes-append}
 use Rattle.xs_class.proofs.Lists.{get_push}
+use Rattle.xs_text_out.specs.Pieces.{GoesOn}
 use Rattle.xs_xml_out.specs.declared.mode.Mode.{Mode}
 use Rattle.xs_xml_out.specs.declared.mode.Mode.TheVariants.{Content, Tag, Value}
 use Rattle.xs_xml_out.specs.Written.{mode_after, written, rest_bytes, IsAppended}
@@ -18,7 +19,7 @@ use Rattle.xs_table_out.specs.declared.xml.Spelt.{Spelt}
 use Rattle.xs_table_out.specs.declared.xml.Spellings.{Spellings}
 use Rattle.xs_table_out.specs.Steps.{text_at, text_of}
 use Rattle.xs_table_out.specs.Encoded.{AreEncodedSoFar, IsEncoded}
-use Rattle.xs_table_out.specs.Spelt.{cell_in, AreSpelt, AreSpeltSoFar, GoesOn, IsCell, IsSpelt}
+use Rattle.xs_table_out.specs.Spelt.{cell_in, AreSpelt, AreSpeltSoFar, IsCell, IsSpelt}
 use Rattle.xs_table_out.specs.Writing.{Writes}
 
 -- a stretch stays where a list goes on
@@ -54,17 +55,6 @@ cell_stays names mode word bytes new cell (more, on) is = record {
 
 pub goes_both : (xs ys zs : List ℕ) → GoesOn xs ys → GoesOn ys zs → GoesOn xs zs
 goes_both xs ys zs (a, is_a) (b, is_b) = (a ++ b, is_b ∙ ap (λ (l : List ℕ). l ++ b) is_a ∙ append_assoc xs a b)
-
--- what is appended is a cell, and what was there stays
-pub cell_made : (names : List (List ℕ)) (mode : Mode) (word old new : List ℕ) (cell : Cell) → cell.begin ≡ length old → cell.end ≡ length new → IsAppended names mode word old new cell.after → IsCell names mode word new cell
-cell_made names mode word old new cell begins ends is = record {
-  there = omega (arith, ends);
-  is = range_last old (encode_utf8_all (written names mode word)) new cell.begin cell.end is.bytes begins ends;
-  mode_is = is.mode_is;
-}
-
-pub goes_on : (names : List (List ℕ)) (mode after : Mode) (word old new : List ℕ) → IsAppended names mode word old new after → GoesOn old new
-goes_on names mode after word old new is = (encode_utf8_all (written names mode word), is.bytes)
 
 -- the cells of a word that was appended in each mode
 pub spelt_made : (names : List (List ℕ)) (word one two three : List ℕ) (content tag value : Cell) → GoesOn one two → GoesOn two three → IsCell names Content word one content → IsCell names Tag word two tag → IsCell names Value word three value → IsSpelt names word three record { content = content; tag = tag; value = value }

@@ -1,5 +1,5 @@
 -- What the texts of steps are written as.
-use Rattle.std.specs.Prelude.{◌≡◌, ℕ, ◌≤◌, List, ◌++◌, length, Some, slice_get, slice_range, encode_utf8_all, string_bytes}
+use Rattle.std.specs.Prelude.{◌≡◌, ℕ, ◌≤◌, List, length, Some, slice_get, slice_range, encode_utf8_all, string_bytes}
 use Rattle.xs_xml_out.specs.declared.mode.Mode.{Mode}
 use Rattle.xs_xml_out.specs.declared.mode.Mode.TheVariants.{Content, Tag, Value}
 use Rattle.xs_xml_out.specs.Written.{mode_after, written}
@@ -8,10 +8,6 @@ use Rattle.xs_table_out.specs.declared.xml.Cell.{Cell}
 use Rattle.xs_table_out.specs.declared.xml.Spelt.{Spelt}
 use Rattle.xs_table_out.specs.declared.xml.Spellings.{Spellings}
 use Rattle.xs_table_out.specs.Steps.{text_at}
-
--- a list goes on
-abbrev pub GoesOn : List ℕ → List ℕ → Type 0
-GoesOn xs ys = (more : List ℕ) × (ys ≡ xs ++ more)
 
 -- the cell has what is written for a word from a mode on
 pub record IsCell (names : List (List ℕ)) (mode : Mode) (word bytes : List ℕ) (cell : Cell) : Type 0 where

@@ -2,9 +2,10 @@ ghost use Rattle.std.specs.Prelude.{◌≡◌, slice_get, IfOk, IfSome, string_b
 ghost use Rattle.std.specs.Option.{option_map};
 ghost use Rattle.xs_gram.specs.{Derivation, Derives, IsBuilt, print, strip};
 ghost use Rattle.xs_parse_table.specs.{IsTreeOf};
+ghost use Rattle.xs_text_out.specs.Pieces.{GoesOn};
 ghost use Rattle.xs_xml_out.specs.{AreKnown, xml_bytes};
 ghost use Rattle.xs_table_out.specs.Steps.{AreSteps};
-ghost use Rattle.xs_table_out.specs.Spelt.{cell_in, AreSpelt, GoesOn, IsCell, IsSpelt};
+ghost use Rattle.xs_table_out.specs.Spelt.{cell_in, AreSpelt, IsCell, IsSpelt};
 
 use crate::append::append;
 use crate::steps::Steps;

@@ -11,7 +11,7 @@ use Rattle.xs_xml_out.specs.declared.kind.SymbolKind.TheVariants.{Char}
 use Rattle.xs_xml_out.specs.declared.mode.Mode.{Mode}
 use Rattle.xs_xml_out.specs.declared.mode.Mode.TheVariants.{Content, Tag}
 use Rattle.xs_xml_out.specs.Spelling.{mode_of}
-use Rattle.xs_xml_out.specs.Written.{symbol_kind, put, next, mode_after, written, rest_bytes, IsAppended}
+use Rattle.xs_xml_out.specs.Written.{symbol_kind, put, next, mode_after, written, rest_bytes, AreAppended, IsAppended}
 use Rattle.xs_xml_out.proofs.SymbolKinds.{symbol_kind-scalar}
 
 pub written-append : (names : List (List ℕ)) (mode : Mode) (u v : List ℕ) → written names mode (u ++ v) ≡ written names mode u ++ written names (mode_after mode u) v
@@ -106,6 +106,6 @@ appended_tag names after (c ∷ w) old now new some all is_now is =
       mode_is = is.mode_is ∙ tag_mode c w scalar;
     }
 
-pub appended_after_tag : (o : Option Mode) (word old now new : List ℕ) → 0 < length word → now ≡ old ++ 62 ∷ [] → is_some o ≡ all_scalars word → IfSome o (λ after. (names : List (List ℕ)) → IsAppended names Content word now new after) → IfSome o (λ after. (names : List (List ℕ)) → IsAppended names Tag word old new after)
+pub appended_after_tag : (o : Option Mode) (word old now new : List ℕ) → 0 < length word → now ≡ old ++ 62 ∷ [] → is_some o ≡ all_scalars word → IfSome o (AreAppended Content word now new) → IfSome o (AreAppended Tag word old new)
 appended_after_tag None word old now new some is_now all is = is
 appended_after_tag (Some after) word old now new some is_now all is = λ names. appended_tag names after word old now new some (sym all) is_now (is names)

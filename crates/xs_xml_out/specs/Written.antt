@@ -66,6 +66,10 @@ pub record IsAppended (names : List (List ℕ)) (mode : Mode) (word old new : Li
   pub bytes : new ≡ old ++ encode_utf8_all (written names mode word)
   pub mode_is : after ≡ mode_after mode word
 
+-- the same of characters, whatever the names are
+abbrev pub AreAppended : Mode → List ℕ → List ℕ → List ℕ → Mode → Type 0
+AreAppended mode word old new after = (names : List (List ℕ)) → IsAppended names mode word old new after
+
 -- the bytes of a word from a mode on, and of the LF that ends the document
 abbrev pub rest_bytes : List (List ℕ) → Mode → List ℕ → List ℕ
 rest_bytes names mode word = encode_utf8_all (written names mode word ++ codes "\n")

@@ -1,6 +1,6 @@
-ghost use Rattle.std.specs.Prelude.{◌≡◌, ◌+◌, ◌*◌, ◌<◌, ◌≤◌, ◌++◌, [], ℕ, List, length, is_some, vec_len, vec_capacity, IfOk, IfSome, encode_utf8_all};
+ghost use Rattle.std.specs.Prelude.{◌≡◌, ◌+◌, ◌*◌, ◌<◌, ◌≤◌, ◌++◌, [], length, is_some, vec_len, vec_capacity, IfOk, IfSome, encode_utf8_all};
 ghost use Rattle.std.specs.Str.{all_scalars};
-ghost use Rattle.xs_xml_out.specs.Written.{put, IsAppended};
+ghost use Rattle.xs_xml_out.specs.Written.{put, AreAppended};
 ghost use Rattle.xs_xml_out.specs.Spelling.{mode_of, body_bytes, IsShort};
 
 use crate::kind::SymbolKind;
@@ -47,12 +47,12 @@ fn mode_of(in_value: bool) -> Mode
     if in_value { Mode::Value } else { Mode::Content }
 }
 
-/// Appends what is written for the characters of a value or of content, for which there is room, and
-/// gives the mode after them; None where a symbol is no character.
+/// Appends what is written for the characters of a value or of content, for which there is room,
+/// and gives the mode after them; None where a symbol is no character.
 fn put_each(out: &mut Vec<u8>, in_value: bool, word: &[Sym]) -> Option<Mode>
     requires { vec_len out.old + 6 * length word.now ≤ vec_capacity out.old }
     ensures characters { is_some result ≡ all_scalars word.now }
-    ensures put { IfSome result (λ after. (names : List (List ℕ)) → IsAppended names (mode_of in_value) word.now out.old.items out.new.items after) }
+    ensures put { IfSome result (AreAppended (mode_of in_value) word.now out.old.items out.new.items) }
 {
     'symbols: for symbol in word {
         let c = char::from_u32(symbol.number())?;
@@ -61,13 +61,13 @@ fn put_each(out: &mut Vec<u8>, in_value: bool, word: &[Sym]) -> Option<Mode>
     Some(mode_of(in_value))
 }
 
-/// Appends what is written for a word that is not empty, for which there is room, and gives the mode
-/// after it; None where a symbol is no character.
+/// Appends what is written for a word that is not empty, for which there is room, and gives the
+/// mode after it; None where a symbol is no character.
 fn put_some(out: &mut Vec<u8>, mode: Mode, word: &[Sym]) -> Option<Mode>
     requires fits { vec_len out.old + (6 * length word.now + 1) ≤ vec_capacity out.old }
     requires some { 0 < length word.now }
     ensures characters { is_some result ≡ all_scalars word.now }
-    ensures put { IfSome result (λ after. (names : List (List ℕ)) → IsAppended names mode word.now out.old.items out.new.items after) }
+    ensures put { IfSome result (AreAppended mode word.now out.old.items out.new.items) }
 {
     match mode {
         Mode::Content => put_each(out, false, word),
@@ -79,11 +79,12 @@ fn put_some(out: &mut Vec<u8>, mode: Mode, word: &[Sym]) -> Option<Mode>
     }
 }
 
-/// Appends what is written for a word from a mode on, and gives the mode after it; None where a symbol
-/// is no character. In time linear in the word, for each symbol of which six bytes are reserved.
+/// Appends what is written for a word from a mode on, and gives the mode after it; None where a
+/// symbol is no character. In time linear in the word, for each symbol of which six bytes are
+/// reserved.
 pub fn put_characters(out: &mut Vec<u8>, mode: Mode, word: &[Sym]) -> Result<Option<Mode>, Memory>
     ensures characters { IfOk result (λ o. is_some o ≡ all_scalars word.now) }
-    ensures put { IfOk result (λ o. IfSome o (λ after. (names : List (List ℕ)) → IsAppended names mode word.now out.old.items out.new.items after)) }
+    ensures put { IfOk result (λ o. IfSome o (AreAppended mode word.now out.old.items out.new.items)) }
 {
     if word.is_empty() {
         return Ok(Some(mode));
