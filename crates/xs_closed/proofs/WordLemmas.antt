@@ -1,14 +1,14 @@
 -- A table of marks in words: reading, setting and finding bits.
-use Rattle.std.proofs.Common.{◌≡◌, ◌≢◌, ℕ, zero, suc, ◌+◌, ◌-◌, ◌*◌, ◌/◌, ◌%◌, ◌^◌, ◌<◌, ◌≤◌, Bool, true, false, nat_eq, List, [], length, get_or, set, replicate, max, min, leb, ◌↔◌, bit_and, w64, refl, sym, ap, ◌∙◌, inl, inr, arith, length-set, get_or-set_same, get_or-set_other}
+use Rattle.std.proofs.Common.{◌≡◌, ◌≢◌, ℕ, zero, suc, ◌+◌, ◌-◌, ◌*◌, ◌/◌, ◌%◌, ◌^◌, ◌<◌, ◌≤◌, Bool, true, false, nat_eq, List, [], length, get_or, set, replicate, min, leb, ◌↔◌, bit_and, w64, refl, sym, ap, subst, ◌∙◌, inl, inr, arith, length-set, get_or-set_same, get_or-set_other}
 use Rattle.std.specs.Prelude.{IsTrue}
 use Rattle.std.specs.Int.{bit_at, bit_not, trailing_zeros}
-use Rattle.std.proofs.lemmas.Bool.{cases_eq, cases_lt, eqb-true, true≢false, leb-true, le-leb}
+use Rattle.std.proofs.lemmas.Bool.{cases_eq, cases_lt, eqb-true, true≢false, false_from_ne_true, leb-true, le-leb}
 use Rattle.std.proofs.lemmas.List.{get_or-replicate, length-replicate, get_or_past}
 use Rattle.std.proofs.lemmas.List.FromFn.{length-map-range_with_len, get_or-map-range_with_len, fill_by_all}
 use Rattle.std.proofs.lemmas.Nat.{mul-add-lt, and_le_l, same_from_place, shr-shr, shr_le}
 use Rattle.std.proofs.lemmas.Nat.Bits.{bit_at-zero, bit_at-lt, bit_at_and, bit_at_not, bit_at_set_same, bit_at_set_other, bit_at-trailing_zeros, bit_at_above}
 use Rattle.xs_closed.specs.Rows.{Grid, blank, marked, IsSized, Marks}
-use Rattle.xs_closed.specs.Words.{bit_in, row_in, grid_of, with_pair, IsPacked, IsFirstBit, IsFirstLack}
+use Rattle.xs_closed.specs.Words.{bit_in, row_in, grid_of, with_pair, IsPairBit, IsPacked, IsFirstBit, IsFirstLack}
 
 -- a row of the table
 row_read : (high wide step : ℕ) (words : List ℕ) (a : ℕ) → a < high → get_or (grid_of high wide step words).rows a [] ≡ row_in wide step words a
@@ -52,27 +52,27 @@ grid_sized high wide step words = record {
   even = λ a l. ap length (row_read high wide step words a l) ∙ row_length wide step words a;
 }
 
--- words of zeros mark no pair
-pub blank_grid : (high wide step : ℕ) (words : List ℕ) → ((k : ℕ) → get_or words k 0 ≡ 0) → grid_of high wide step words ≡ blank high wide
+-- words of which no bit is set mark no pair
+pub blank_grid : (high wide step : ℕ) (words : List ℕ) → ((k i : ℕ) → i < 64 → bit_at (get_or words k 0) i ≡ 1 → ⊥) → grid_of high wide step words ≡ blank high wide
 blank_grid high wide step words h = let f : List (List Bool) → Grid = (λ rs. record { wide = wide; rows = rs }) in ap f (sym (fill_by_all (row_in wide step words) (replicate high (replicate wide false)) high [] (length-replicate high (replicate wide false)) (λ k l. get_or-replicate high k (replicate wide false) [] l ∙ row k)))
   where
     clear : (a b : ℕ) → bit_in step words a b ≡ false
-    clear a b = rw (h (a * step + b / 64), bit_at-zero (b % 64)) refl
+    clear a b = false_from_ne_true (bit_in step words a b) (λ e. h (a * step + b / 64) (b % 64) (omega arith) (eqb-true (bit_at (get_or words (a * step + b / 64) 0) (b % 64)) 1 e))
 
     row : (a : ℕ) → replicate wide false ≡ row_in wide step words a
     row a = fill_by_all (bit_in step words a) (replicate wide false) wide false (length-replicate wide false) (λ k l. get_or-replicate wide k false false l ∙ sym (clear a k))
 
 -- the word of a pair is there
-pub word_within : (high wide step used : ℕ) (words : List ℕ) (a b : ℕ) → IsPacked high wide step used words → a < high → b < wide → a * step + b / 64 < length words
-word_within high wide step used words a b h l m = let k : b / 64 < step = omega (arith, h.columns) in omega (arith, h.room, mul-add-lt a step (b / 64) high l k)
+pub word_within : (high wide step : ℕ) (words : List ℕ) (a b : ℕ) → IsPacked high wide step words → a < high → b < wide → a * step + b / 64 < length words
+word_within high wide step words a b h l m = let k : b / 64 < step = omega (arith, h.columns) in omega (arith, h.room, mul-add-lt a step (b / 64) high l k)
 
-pub pair_inside : {high wide step used : ℕ} {words : List ℕ} {z : Grid} (a b : ℕ) → IsPacked high wide step used words → grid_of high wide step words ≡ z → a < length z.rows → b < z.wide → (a < high) × (b < wide) × (a * step + b / 64 < length words)
-pair_inside {high} {wide} {step} {used} {words} a b h e l m =
+pub pair_inside : {high wide step : ℕ} {words : List ℕ} {z : Grid} (a b : ℕ) → IsPacked high wide step words → grid_of high wide step words ≡ z → a < length z.rows → b < z.wide → (a < high) × (b < wide) × (a * step + b / 64 < length words)
+pair_inside {high} {wide} {step} {words} a b h e l m =
     let below = rw (← e, rows_length high wide step words) at l in
     let within = rw (← e) at m in
-    (below, within, word_within high wide step used words a b h below within)
+    (below, within, word_within high wide step words a b h below within)
 
-pub word_there : {high wide step used : ℕ} {words : List ℕ} {z : Grid} (a b : ℕ) → IsPacked high wide step used words → grid_of high wide step words ≡ z → a < length z.rows → b < z.wide → a * step + b / 64 < length words
+pub word_there : {high wide step : ℕ} {words : List ℕ} {z : Grid} (a b : ℕ) → IsPacked high wide step words → grid_of high wide step words ≡ z → a < length z.rows → b < z.wide → a * step + b / 64 < length words
 word_there a b h e l m = (pair_inside a b h e l m).2
 
 -- the bit of a pair that is set now, and another one
@@ -89,28 +89,58 @@ bit_there step words a b c d within l m ne = elim (cases_eq (c * step + d / 64) 
 ]
 
 -- a pair whose bit is set now is marked, and all others are as they were
-pub pair_marks : (high wide step used : ℕ) (words : List ℕ) (a b : ℕ) → IsPacked high wide step used words → a < high → b < wide → Marks (grid_of high wide step words) (grid_of high wide step (with_pair step words a b)) a b
-pair_marks high wide step used words a b h l m = record {
+pub pair_marks : (high wide step : ℕ) (words : List ℕ) (a b : ℕ) → IsPacked high wide step words → a < high → b < wide → Marks (grid_of high wide step words) (grid_of high wide step (with_pair step words a b)) a b
+pair_marks high wide step words a b h l m = record {
   wide = refl;
   high = rows_length high wide step _ ∙ sym (rows_length high wide step words);
-  there = pair_read high wide step _ a b l m ∙ bit_here step words a b (word_within high wide step used words a b h l m);
+  there = pair_read high wide step _ a b l m ∙ bit_here step words a b (word_within high wide step words a b h l m);
   others = λ c d ne. elim (cases_lt c high) [
     | inr o ↦ past_high high wide step _ c d o ∙ sym (past_high high wide step words c d o)
     | inl o ↦ elim (cases_lt d wide) [
       | inr p ↦ past_wide high wide step _ c d p ∙ sym (past_wide high wide step words c d p)
-      | inl p ↦ pair_read high wide step _ c d o p ∙ bit_there step words a b c d (word_within high wide step used words a b h l m) (omega (arith, h.columns)) (omega (arith, h.columns)) ne ∙ sym (pair_read high wide step words c d o p)
+      | inl p ↦ pair_read high wide step _ c d o p ∙ bit_there step words a b c d (word_within high wide step words a b h l m) (omega (arith, h.columns)) (omega (arith, h.columns)) ne ∙ sym (pair_read high wide step words c d o p)
     ]
   ];
 }
 
--- one more word is used, up to the greatest that ever was
-pub word_packed : (high wide step used last word place : ℕ) (words : List ℕ) → IsPacked high wide step used words → place < length words → last ≡ max used (place + 1) → IsPacked high wide step last (set words place word)
-word_packed high wide step used last word place words h l e = record {
+-- no bit is set
+abbrev pub HasNoBits : List ℕ → Type 0
+HasNoBits words = (k i : ℕ) → i < 64 → bit_at (get_or words k 0) i ≡ 1 → ⊥
+
+-- such words fit all bounds that they have room for
+pub packed_none : (high wide step : ℕ) (words : List ℕ) → step * high ≤ length words → wide ≤ step * 64 → HasNoBits words → IsPacked high wide step words
+packed_none high wide step words room columns none = record { room = room; columns = columns; clean = λ k i l e. absurd (none k i l e) }
+
+-- a table without marks has no bit set
+pub no_bits : (high wide step : ℕ) (words : List ℕ) → IsPacked high wide step words → ((a b : ℕ) → marked (grid_of high wide step words) a b ≡ false) → HasNoBits words
+no_bits high wide step words h none k i l e =
+    let p = h.clean k i l e in
+    let there : bit_in step words p.first p.second ≡ true = ap (λ q. nat_eq (bit_at (get_or words q 0) (p.second % 64)) 1) (sym p.word) ∙ ap (λ j. nat_eq (bit_at (get_or words k 0) j) 1) (sym p.bit) ∙ ap (λ x. nat_eq x 1) e in
+    true≢false (sym (pair_read high wide step words p.first p.second p.row p.column ∙ there) ∙ none p.first p.second)
+
+-- the bits of a word that was set are of pairs, so they all are
+pub packed_set : (high wide step place word : ℕ) (words : List ℕ) → IsPacked high wide step words → ((i : ℕ) → i < 64 → bit_at word i ≡ 1 → IsPairBit high wide step place i) → IsPacked high wide step (set words place word)
+packed_set high wide step place word words h by = record {
   room = rw length-set h.room;
   columns = h.columns;
-  within = rw length-set (omega (arith, h.within));
-  unused = λ k m. let ne : k ≢ place = (λ f. absurd (omega arith)) in get_or-set_other words place k word 0 ne ∙ h.unused k (omega arith);
+  clean = λ k i l e. elim (cases_eq k place) [
+    | inl same ↦ subst (λ (q : ℕ). IsPairBit high wide step q i) (sym same) (elim (cases_lt place (length words)) [
+      | inl low ↦ by i l (sym (ap (λ w. bit_at w i) (ap (λ q. get_or (set words place word) q 0) same ∙ get_or-set_same words place word 0 low)) ∙ e)
+      | inr high_place ↦ absurd (no_one (sym (ap (λ w. bit_at w i) (get_or_past (set words place word) k 0 (rw length-set (omega (arith, high_place, same)))) ∙ bit_at-zero i) ∙ e))
+    ])
+    | inr ne ↦ h.clean k i l (sym (ap (λ w. bit_at w i) (get_or-set_other words place k word 0 ne)) ∙ e)
+  ];
 }
+  where
+    no_one : 0 ≡ 1 → ⊥
+    no_one e = absurd (omega (arith, e))
+
+-- one more bit is that of a pair
+pub pair_packed : (high wide step : ℕ) (words : List ℕ) (a b : ℕ) → IsPacked high wide step words → a < high → b < wide → IsPacked high wide step (with_pair step words a b)
+pair_packed high wide step words a b h l m = packed_set high wide step (a * step + b / 64) _ words h (λ i low e. elim (cases_eq i (b % 64)) [
+  | inl same ↦ record { first = a; second = b; row = l; column = m; word = refl; bit = same }
+  | inr ne ↦ h.clean (a * step + b / 64) i low (sym (bit_at_set_other w64 (get_or words (a * step + b / 64) 0) (b % 64) (omega arith) i ne) ∙ e)
+])
 
 -- a bit of a word from another on
 pub shifted : (word r i : ℕ) → bit_at (word / 2 ^ r) i ≡ bit_at word (r + i)
@@ -172,10 +202,10 @@ one_left p q r s e f g h l = omega arith
 one_lacks : (p q r s : ℕ) → r ≡ min p q → q ≡ 1 - s → r ≡ 1 → p < 2 → (p ≡ 1) × (s ≡ 0)
 one_lacks p q r s e f g l = (omega arith, omega arith)
 
-bit_kept : (x y i : ℕ) → y < 2 ^ 64 → i < 64 → bit_at (bit_and x (bit_not w64 y)) i ≡ 0 → bit_at x i ≡ 1 → bit_at y i ≡ 1
+pub bit_kept : (x y i : ℕ) → y < 2 ^ 64 → i < 64 → bit_at (bit_and x (bit_not w64 y)) i ≡ 0 → bit_at x i ≡ 1 → bit_at y i ≡ 1
 bit_kept x y i fits l none h = one_left (bit_at x i) (bit_at (bit_not w64 y) i) (bit_at (bit_and x (bit_not w64 y)) i) (bit_at y i) (bit_at_and x (bit_not w64 y) i) (bit_at_not w64 y i fits l) none h (bit_at-lt y i)
 
-bit_lost : (x y i : ℕ) → y < 2 ^ 64 → i < 64 → bit_at (bit_and x (bit_not w64 y)) i ≡ 1 → (bit_at x i ≡ 1) × (bit_at y i ≡ 0)
+pub bit_lost : (x y i : ℕ) → y < 2 ^ 64 → i < 64 → bit_at (bit_and x (bit_not w64 y)) i ≡ 1 → (bit_at x i ≡ 1) × (bit_at y i ≡ 0)
 bit_lost x y i fits l some = one_lacks (bit_at x i) (bit_at (bit_not w64 y) i) (bit_at (bit_and x (bit_not w64 y)) i) (bit_at y i) (bit_at_and x (bit_not w64 y) i) (bit_at_not w64 y i fits l) some (bit_at-lt x i)
 
 -- bits of two words as marks of two rows

@@ -16,13 +16,20 @@ row_in wide step words a = map (bit_in step words a) (range_with_len 0 wide)
 abbrev pub grid_of : ℕ → ℕ → ℕ → List ℕ → Grid
 grid_of high wide step words = record { wide = wide; rows = map (row_in wide step words) (range_with_len 0 high) }
 
--- there are words for each row, a row's have a bit for each column, and none is used from some word
--- on
-pub record IsPacked (high wide step used : ℕ) (words : List ℕ) : Type 0 where
+-- bit i of word k is that of a pair of numbers below the bounds
+pub record IsPairBit (high wide step k i : ℕ) : Type 0 where
+  pub first : ℕ
+  pub second : ℕ
+  pub row : first < high
+  pub column : second < wide
+  pub word : k ≡ first * step + second / 64
+  pub bit : i ≡ second % 64
+
+-- there are words for each row, a row's have a bit for each column, and no other bit is set
+pub record IsPacked (high wide step : ℕ) (words : List ℕ) : Type 0 where
   pub room : step * high ≤ length words
   pub columns : wide ≤ step * 64
-  pub within : used ≤ length words
-  pub unused : (k : ℕ) → used ≤ k → get_or words k 0 ≡ 0
+  pub clean : (k i : ℕ) → i < 64 → bit_at (get_or words k 0) i ≡ 1 → IsPairBit high wide step k i
 
 -- the words with the bit of b set in row a
 abbrev pub with_pair : ℕ → List ℕ → ℕ → ℕ → List ℕ

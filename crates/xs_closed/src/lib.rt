@@ -24,6 +24,7 @@ mod visits;
 pub use laws::rows_are_marks;
 pub use least::{least_apart, least_clear};
 pub use least_laws::{least_sets_are_right, reached_shows};
-pub use pair_set::PairSet;
+pub use moves::Moves;
+pub use pair_set::{PairSet, first_bit};
 pub use sets::CutSets;
 pub use testing::{longest_apart, longest_clear};

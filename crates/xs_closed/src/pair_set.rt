@@ -1,13 +1,15 @@
+mod lanes;
 mod within;
 mod words;
 
-ghost use Rattle.std.specs.Prelude.{◌≡◌, ℕ, ◌*◌, ◌<◌, ◌≤◌, length, not, false, IfSome, IfNone, OnOk, OnErr};
+ghost use Rattle.std.specs.Prelude.{◌≡◌, ℕ, ◌<◌, ◌≤◌, length, not, false, IfSome, IfNone, OnOk, OnErr};
 ghost use Rattle.xs_closed.specs.Rows.{blank, marked, IsSized, Marks, IsNext};
-ghost use Rattle.xs_closed.specs.Lanes.{HasNoRow, IsLane};
+ghost use Rattle.xs_closed.specs.Lanes.{HasNoRow};
 
 use std::alloc::Global;
 use std::marker::Model;
-use words::{clear_row_words, clear_words, first_bit, grow_words, set_bit, word_of};
+pub use words::first_bit;
+use words::{clear_row_words, grow_words, set_bit, word_of};
 use xs_class::Memory;
 
 /// A set of pairs of numbers, each below a bound: a table with a bit for each pair.
@@ -19,7 +21,6 @@ pub struct PairSet {
     wide: u32,
     step: usize,
     words: Vec<u64>,
-    used: usize,
 }
 
 impl Model for PairSet {
@@ -30,7 +31,7 @@ impl Model for PairSet {
 
     ghost view = { λ s. grid_of s.high s.wide s.step s.words.items };
 
-    ghost invariant = { λ s. IsPacked s.high s.wide s.step s.used s.words.items };
+    ghost invariant = { λ s. IsPacked s.high s.wide s.step s.words.items };
 }
 
 impl PairSet {
@@ -43,21 +44,31 @@ impl PairSet {
             wide: 0,
             step: 0,
             words: Vec::new(alloc),
-            used: 0,
         }
     }
 
     /// Takes all pairs out, and sets new bounds for their first and second numbers; an `Err` leaves
     /// the bound 0 for the first ones.
     ///
-    /// Takes time linear in the words up to the last that was used; keeps the memory that it has.
+    /// Takes time linear in the words of the old bounds, and in those that are new; keeps the memory
+    /// that it has.
     pub fn reset(&mut self, high: u32, wide: u32) -> Result<(), Memory>
         ensures ok { OnOk result (self.new ≡ blank high wide) }
         ensures err { OnErr result (self.new ≡ blank 0 self.old.wide) }
     {
-        clear_words(&mut self.words, self.used);
-        self.used = 0;
+        clear_row_words(&mut self.words, self.step * self.high as usize, 0);
         self.high = 0;
+        self.resize(high, wide)
+    }
+
+    /// Sets new bounds of a set without pairs; an `Err` leaves the old ones.
+    ///
+    /// Takes time linear in the words that are new; keeps the memory that it has.
+    pub fn resize(&mut self, high: u32, wide: u32) -> Result<(), Memory>
+        requires { (a b : ℕ) → marked self.old a b ≡ false }
+        ensures ok { OnOk result (self.new ≡ blank high wide) }
+        ensures err { OnErr result (self.new ≡ self.old) }
+    {
         let step = (wide as usize + 63) / 64;
         grow_words(&mut self.words, step * high as usize)?;
         self.high = high;
@@ -101,9 +112,7 @@ impl PairSet {
         ensures marks { Marks self.old self.new a b }
         ensures sized { IsSized (length self.old.rows) self.old.wide self.new }
     {
-        let (place, fresh) = set_bit(&mut self.words, self.step, a, b);
-        self.used = self.used.max(place + 1);
-        fresh
+        set_bit(&mut self.words, self.step, a, b)
     }
 
     /// Takes all pairs of a number out.
@@ -115,16 +124,6 @@ impl PairSet {
         ensures sized { IsSized (length self.old.rows) self.old.wide self.new }
     {
         clear_row_words(&mut self.words, self.step, a);
-    }
-
-    /// The partners of a number from 64 times a place on, as the bits of a word: its lowest bit is
-    /// for the first of them. A bit for a number outside the bounds says nothing. Constant time.
-    pub fn lane(&self, a: u32, place: u32) -> u64
-        requires first { a < length self.now.rows }
-        requires second { place * 64 < self.now.wide }
-        ensures { IsLane self.now a place result }
-    {
-        word_of(&self.words, self.step, a, place as usize)
     }
 
     /// The least partner of a number that is at least `from`, if there is one.

@@ -1,5 +1,5 @@
 -- How the arcs that two states have lead from their pair, and how the views of the nets do.
-use Rattle.std.proofs.Common.{◌≡◌, ℕ, List, ap, subst, ◌∙◌, inl, inr, arith}
+use Rattle.std.proofs.Common.{◌≡◌, ℕ, ◌<◌, List, length, refl, ap, subst, ◌∙◌, inl, inr, arith}
 use Rattle.std.specs.List.{All, Contains}
 use Rattle.std.proofs.lemmas.List.Elements.{All-contains}
 use Rattle.xs_class.specs.Classes.{Has}
@@ -8,28 +8,38 @@ use Rattle.xs_coarse.specs.declared.arc.Arc.{Arc}
 use Rattle.xs_coarse.specs.Coarse.{Table, Net, IsTable, MayCall, HasArc, class_label, group_label, may_meet, view}
 use Rattle.xs_coarse.proofs.Views.{view_move_arc, view_edge_arc, view_call_arc}
 use Rattle.xs_coarse.specs.declared.found.Found.{Found}
-use Rattle.xs_coarse.specs.Arcs.{Slips, Steps, Goes, HasFound, HasTarget, Joins, HasAll}
-use Rattle.xs_coarse.proofs.Walks.{first_target, second_target}
+use Rattle.xs_coarse.specs.Arcs.{Slips, Steps, StepsBy, Goes, HasFound, Joins, HasAll}
 
 -- an arc of a net
 abbrev pub arc : ℕ → ℕ → ℕ → Arc
 arc a label b = record { from = a; label = label; to = b }
 
--- the row has each arc that leads from the state
-abbrev pub HasRow : Net → ℕ → List Arc → Type 0
-HasRow n a row = (label b : ℕ) → HasArc n a label b → Contains row (arc a label b)
-
--- the targets of arcs that read nothing were visited beside the other state
-pub slips_on : (m n : Net) (a b : ℕ) (f g : Found) (row other : List Arc) → HasRow m a row → HasRow n b other → ((c d : ℕ) → HasFound f c d → HasFound g c d) → All (λ x. HasTarget f (first_target b x)) row → All (λ y. HasTarget g (second_target a y)) other → HasAll (Slips m n) a b g
-slips_on m n a b f g row other rows others more firsts seconds c d (inl x) =
-    rw x.still (more c b (All-contains (λ x. HasTarget f (first_target b x)) row (arc a 0 c) firsts (rows 0 c x.arc)))
-slips_on m n a b f g row other rows others more firsts seconds c d (inr y) =
-    rw y.still (All-contains (λ y. HasTarget g (second_target a y)) other (arc b 0 d) seconds (others 0 d y.arc))
+-- these arcs have each that leads from the state and reads something
+abbrev pub HasReads : Net → ℕ → List Arc → Type 0
+HasReads n a reads = (label b : ℕ) → 0 < label → HasArc n a label b → Contains reads (arc a label b)
 
 -- the targets of each two arcs that may read a common word were visited
-pub steps_on : (t : Table) (m n : Net) (a b : ℕ) (f : Found) (row other : List Arc) → HasRow m a row → HasRow n b other → All (λ x. All (Joins t f x) other) row → HasAll (Steps t m n) a b f
-steps_on t m n a b f row other rows others boths c d s =
-    All-contains (Joins t f (arc a s.label c)) other (arc b s.other d) (All-contains (λ x. All (Joins t f x) other) row (arc a s.label c) boths (rows s.label c s.first)) (others s.other d s.second) s.reads_first s.reads_second s.meet
+pub steps_by : (t : Table) (n : Net) (arcs : List Arc) (b : ℕ) (f : Found) (reads : List Arc) → HasReads n b reads → All (λ (y : Arc). All (Joins t f y) arcs) reads → (c d : ℕ) → StepsBy t arcs n b c d → HasFound f c d
+steps_by t n arcs b f reads complete all c d s =
+    let y = arc b s.other d in
+    let both = All-contains (λ (z : Arc). All (Joins t f z) arcs) reads y all (complete s.other d s.reads s.second) in
+    subst (λ (k : ℕ). HasFound f k d) s.to (All-contains (Joins t f y) arcs s.first both s.has s.meet)
+
+-- and of all arcs of the first net that read something
+pub steps_on : (t : Table) (m n : Net) (a b : ℕ) (f : Found) (arcs : List Arc) → HasReads m a arcs → ((c d : ℕ) → StepsBy t arcs n b c d → HasFound f c d) → HasAll (Steps t m n) a b f
+steps_on t m n a b f arcs complete by c d s = by c d (record {
+  first = arc a s.label c;
+  has = complete s.label c s.reads_first s.first;
+  to = refl;
+  other = s.other;
+  second = s.second;
+  reads = s.reads_second;
+  meet = s.meet;
+})
+
+-- no arcs lead nowhere
+pub steps_none : (t : Table) (n : Net) (arcs : List Arc) (b c d : ℕ) → length arcs ≡ 0 → StepsBy t arcs n b c d → ⊥
+steps_none t n arcs b c d none s = absurd (omega (arith, s.has.1.0, none))
 
 -- an empty move of a view is an arc that reads nothing
 pub slips_of : (t : Table) (m n : Net) (s e u f a b c d : ℕ) → Drifts (view t m s e) (view t n u f) a b c d → Slips m n a b c d
@@ -68,12 +78,3 @@ steps_of t m n s e u f a b c d table (inr x) =
 pub goes_of : (t : Table) (m n : Net) (s e u f a b c d : ℕ) → IsTable t → Leads (MayCall t) (view t m s e) (view t n u f) a b c d → Goes t m n a b c d
 goes_of t m n s e u f a b c d table (inl x) = inl (slips_of t m n s e u f a b c d x)
 goes_of t m n s e u f a b c d table (inr y) = inr (steps_of t m n s e u f a b c d table y)
-
--- and so on by both
-pub goes_on : (t : Table) (m n : Net) (a b : ℕ) (f g : Found) → ((c d : ℕ) → HasFound f c d → HasFound g c d) → HasAll (Slips m n) a b f → HasAll (Steps t m n) a b g → HasAll (Goes t m n) a b g
-goes_on t m n a b f g more slips steps c d (inl x) = more c d (slips c d x)
-goes_on t m n a b f g more slips steps c d (inr s) = steps c d s
-
--- an arc that reads nothing reads no word with another
-pub none_reads : (t : Table) (f : Found) (x : Arc) (others : List Arc) → x.label ≡ 0 → All (Joins t f x) others
-none_reads t f x others e = λ k d l low some meet. absurd (omega arith)

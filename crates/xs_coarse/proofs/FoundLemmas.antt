@@ -1,140 +1,267 @@
--- What the map of marks says of the pairs that were found.
-use Rattle.std.proofs.Common.{◌≡◌, ◌≢◌, ℕ, ◌+◌, ◌*◌, ◌/◌, ◌%◌, ◌^◌, ◌<◌, ◌≤◌, Bool, true, false, not, nat_eq, bit_and, List, [], ◌∷◌, ◌++◌, length, get_or, set, refl, sym, ap, subst, eqb-true, ◌∙◌, inl, inr, arith, slice_get, length-set, get_or-set_same, get_or-set_other}
-use Rattle.std.proofs.Math.Nat.{mul-le-mul_right}
+-- What one step of a search adds: a word of pairs.
+use Rattle.std.proofs.Common.{◌≡◌, ℕ, zero, ◌+◌, ◌*◌, ◌/◌, ◌%◌, ◌^◌, ◌<◌, ◌≤◌, ◌⊎◌, nat_eq, Bool, true, false, List, [], ◌∷◌, ◌++◌, length, get_or, set, refl, sym, ap, subst, ◌∙◌, inl, inr, arith, eqb-true, length-set, get_or-set_same, get_or-set_other, slice_get}
 use Rattle.std.specs.Int.{bit_at}
+use Rattle.std.specs.List.{All}
 use Rattle.std.specs.declared.option.Option.TheVariants.{Some}
-use Rattle.std.specs.List.{Contains}
-use Rattle.std.proofs.lemmas.Bool.{cases_eq, true≢false, true_from_ne_false}
-use Rattle.std.proofs.lemmas.List.Elements.{Contains-append_left, Contains-push, All-push, All-contains, All-same, All-nil}
+use Rattle.std.proofs.lemmas.Bool.{cases_eq, cases_lt, true≢false}
+use Rattle.std.proofs.lemmas.List.Elements.{All-push, All-weaker, All-nil, All-same}
 use Rattle.std.proofs.lemmas.Nat.Bits.{bit_at-zero}
-use Rattle.std.proofs.lemmas.Option.{slice_get_within}
-use Rattle.xs_class.proofs.Lists.{some_same, get_of, one_cell}
-use Rattle.xs_auto.specs.Bits.{bit_of}
-use Rattle.xs_auto.proofs.BitLemmas.{bit_there, with_bit, fresh_bit}
-use Rattle.xs_coarse.specs.declared.pair.Pair.{Pair}
+use Rattle.xs_class.proofs.Lists.{get_last}
+use Rattle.xs_class.proofs.Truth.{or_left, or_right}
+use Rattle.xs_meet.proofs.PhaseLemmas.{either_true}
+use Rattle.xs_closed.specs.Rows.{Grid, blank, marked, IsSized}
+use Rattle.xs_closed.specs.Lanes.{HasNoRow, JoinsLane, IsLackingLane, IsLaneWithin}
 use Rattle.xs_coarse.specs.declared.found.Found.{Found}
-use Rattle.xs_coarse.specs.Coarse.{Net}
-use Rattle.xs_coarse.specs.Arcs.{IsFor}
-use Rattle.xs_coarse.specs.Found.{HasPair, IsInside, IsMore, IsEmpty, Fits, pair_cell, pair}
+use Rattle.xs_coarse.specs.Arcs.{HasWord}
+use Rattle.xs_coarse.specs.Found.{HasPair, IsInside, IsMore, IsKept, IsNone, IsWiped, IsRow, IsRowWiped, IsWaiting, IsBit, IsLonger, IsFrom, Fits, DoesWait, pair}
+use Rattle.xs_coarse.proofs.GrowthLemmas.{longer_same, longer_from, from_later, from_past, from_next, sized_inside, blank_none}
 
--- the word of a pair's bit
-pub cell_word : (h w a b n : ℕ) → a < h → b < w → h * w ≤ 64 * n → (a * w + b) / 64 < n
-cell_word h w a b n la lb room =
-    let m : (a + 1) * w ≤ h * w = mul-le-mul_right w (omega arith) in
-    omega (arith, m)
-
--- a new pair is marked and added
-pub fits_new : (f g : Found) (p : Pair) → Fits f → IsInside f.height f.width p → g.height ≡ f.height → g.width ≡ f.width → g.pairs.items ≡ f.pairs.items ++ p ∷ [] → g.words.items ≡ with_bit f.words.items (pair_cell f.width p) → Fits g
-fits_new f g p h within eh ew ep es = record {
-  room = rw (eh, ew, es, length-set) h.room;
-  inside = rw (eh, ew, ep) (All-push (IsInside f.height f.width) f.pairs.items p h.inside within);
-  known = λ c e. rw (ew, ep) (elim (cases_eq c (pair_cell f.width p)) [
-    | inl same ↦ record { of = p; has = Contains-push f.pairs.items p; is = same }
-    | inr ne ↦
-        let low = cell_word f.height f.width p.first p.second (length f.words.items) within.first within.second h.room in
-        let k = h.known c (sym (bit_there f.words.items (pair_cell f.width p) c low ne) ∙ (rw es at e)) in
-        record { of = k.of; has = Contains-append_left f.pairs.items (p ∷ []) k.of k.has; is = k.is }
-  ]);
-}
-
--- a pair that is marked was found
-pub found_marked : (f : Found) (a b : ℕ) → Fits f → b < f.width → bit_of f.words.items (a * f.width + b) ≡ true → HasPair f.pairs.items a b
-found_marked f a b h l e =
-    let k = h.known (a * f.width + b) e in
-    let i = All-contains (IsInside f.height f.width) f.pairs.items k.of h.inside k.has in
-    let s = one_cell f.width k.of.first k.of.second a b i.second l (sym k.is) in
-    let same : k.of ≡ pair a b = λ j. record { first = s.0 j; second = s.1 j } in
-    subst (λ (p : Pair). Contains f.pairs.items p) same k.has
-
--- a bit that the code does not find clear is set
-pub marked_unless : (words : List ℕ) (c : ℕ) → (bit_and (get_or words (c / 64) 0 / 2 ^ (c % 64)) 1 ≡ 0 → ⊥) → bit_of words c ≡ true
-marked_unless words c h = true_from_ne_false (bit_of words c) (λ e. h (eqb-true _ _ (fresh_bit (get_or words (c / 64) 0) (c % 64) ∙ ap not e)))
-
--- the cell is that of one of the pairs from place k on
-pub record IsCellFrom (width : ℕ) (ps : List Pair) (k c : ℕ) : Type 0 where
-  pub place : ℕ
-  pub from : k ≤ place
-  pub of : Pair
-  pub at : slice_get ps place ≡ Some of
-  pub is : c ≡ pair_cell width of
-
--- only cells of pairs from place k on are marked
-abbrev pub AreMarkedFrom : ℕ → ℕ → List Pair → List ℕ → Type 0
-AreMarkedFrom k width ps words = (c : ℕ) → bit_of words c ≡ true → IsCellFrom width ps k c
-
-pub marked_from : (f : Found) → Fits f → AreMarkedFrom 0 f.width f.pairs.items f.words.items
-marked_from f h c e =
-    let k = h.known c e in
-    let at = get_of f.pairs.items k.of k.has in
-    record { place = at.0; from = omega arith; of = k.of; at = at.1; is = k.is }
-
--- in a word that was cleared no bit is set, and the others are as they were
-bit_wiped : (words : List ℕ) (q c : ℕ) → q < length words → bit_of (set words q 0) c ≡ true → (c / 64 ≢ q) × (bit_of words c ≡ true)
-bit_wiped words q c l e = elim (cases_eq (c / 64) q) [
-  | inl same ↦
-      let none : bit_of (set words q 0) c ≡ false = ap (λ i. nat_eq (bit_at (get_or (set words q 0) i 0) (c % 64)) 1) same ∙ ap (λ w. nat_eq (bit_at w (c % 64)) 1) (get_or-set_same words q 0 0 l) ∙ ap (λ b. nat_eq b 1) (bit_at-zero (c % 64)) in
-      absurd (true≢false (sym e ∙ none))
-  | inr ne ↦ (ne, sym (ap (λ w. nat_eq (bit_at w (c % 64)) 1) (get_or-set_other words q (c / 64) 0 0 ne)) ∙ e)
+-- a flag that is set, and others
+set_on : (ws : List Bool) (a x : ℕ) → a < length ws → get_or ws x false ≡ true → get_or (set ws a true) x false ≡ true
+set_on ws a x l h = elim (cases_eq x a) [
+  | inl e ↦ ap (λ k. get_or (set ws a true) k false) e ∙ get_or-set_same ws a true false l
+  | inr ne ↦ get_or-set_other ws a x true false ne ∙ h
 ]
 
--- the word of the pair at place k was cleared
-pub marked_more : (k width : ℕ) (ps : List Pair) (words : List ℕ) (p : Pair) → slice_get ps k ≡ Some p → pair_cell width p / 64 < length words → AreMarkedFrom k width ps words → AreMarkedFrom (k + 1) width ps (set words (pair_cell width p / 64) 0)
-marked_more k width ps words p here low before c e =
-    let old = bit_wiped words (pair_cell width p / 64) c low e in
-    let i = before c old.1 in
-    elim (cases_eq i.place k) [
-      | inl same ↦
-          let one : i.of ≡ p = some_same _ _ _ (rw same at i.at) here in
-          absurd (old.0 (ap (λ x. x / 64) (i.is ∙ ap (pair_cell width) one)))
-      | inr ne ↦ record { place = i.place; from = omega (arith, i.from); of = i.of; at = i.at; is = i.is }
-    ]
+pub set_off : (ws : List Bool) (a x : ℕ) → a < length ws → get_or (set ws a false) x false ≡ true → (get_or ws x false ≡ true) × (x ≡ a → ⊥)
+set_off ws a x l h = elim (cases_eq x a) [
+  | inl e ↦ absurd (true≢false (sym h ∙ ap (λ k. get_or (set ws a false) k false) e ∙ get_or-set_same ws a false false l))
+  | inr ne ↦ (sym (get_or-set_other ws a x false false ne) ∙ h, ne)
+]
 
--- no pair is left
-pub marked_none : (k width : ℕ) (ps : List Pair) (words : List ℕ) → length ps ≤ k → AreMarkedFrom k width ps words → (c : ℕ) → bit_of words c ≡ false
-marked_none k width ps words l marked c = false_unless (bit_of words c) (λ e.
-    let i = marked c e in
-    let within = slice_get_within ps i.place i.of i.at in
-    omega (arith, i.from))
-  where
-    false_unless : (b : Bool) → (b ≡ true → ⊥) → b ≡ false
-    false_unless true h = absurd (h refl)
-    false_unless false h = refl
+pub row_in : (f : Found) (a : ℕ) → Fits f → a < length f.marks.rows → IsRow f a
+row_in f a fits l = record { marks = l; fresh = omega (arith, fits.high, l); waits = omega (arith, fits.room, l) }
 
--- words of zeros have no bit set
-pub blank_words : (words : List ℕ) → ((k : ℕ) → get_or words k 0 ≡ 0) → (c : ℕ) → bit_of words c ≡ false
-blank_words words h c = rw (h (c / 64), bit_at-zero (c % 64)) refl
-
--- no pair, and no mark
-pub fits_none : (f : Found) → f.height * f.width ≤ 64 * length f.words.items → f.pairs.items ≡ [] → ((c : ℕ) → bit_of f.words.items c ≡ false) → Fits f
-fits_none f room none blank = record {
-  room = room;
-  inside = All-same (IsInside f.height f.width) f.pairs.items [] none (All-nil (IsInside f.height f.width));
-  known = λ c e. absurd (true≢false (sym e ∙ blank c));
+-- a state that waits already, and one that does now
+pub waits_already : (f : Found) (a : ℕ) → Fits f → DoesWait f a → IsWaiting f f a
+waits_already f a fits here = record {
+  marks = refl;
+  fresh = refl;
+  stack = refl;
+  flags = refl;
+  queue = longer_same f.queue.items;
+  rows = fits.kept.rows;
+  here = here;
+  stays = λ c h. h;
+  waits = λ c h. inl h;
 }
 
--- the states of a pair that was found are states of the two nets
-pub found_inside : (m n : Net) (f g : Found) (k : ℕ) (p : Pair) → IsFor m n f → IsMore f g → k < length g.pairs.items → p ≡ get_or g.pairs.items k p → IsInside m.states n.states p
-found_inside m n f g k p nets more l e =
-    let i = subst (λ (q : Pair). IsInside g.height g.width q) (sym e) (more.fits.inside k p l) in
-    record { first = omega (arith, i.first, more.height, nets.height); second = omega (arith, i.second, more.width, nets.width) }
+pub waits_now : (f g : Found) (a : ℕ) → Fits f → a < length f.marks.rows → g.marks ≡ f.marks → g.fresh ≡ f.fresh → g.stack ≡ f.stack → g.queue.items ≡ f.queue.items ++ a ∷ [] → g.waits.items ≡ set f.waits.items a true → IsWaiting f g a
+waits_now f g a fits row marks fresh stack queue waits =
+    let low : a < length f.waits.items = omega (arith, fits.room, row) in
+    record {
+      marks = marks;
+      fresh = fresh;
+      stack = stack;
+      flags = ap length waits ∙ length-set;
+      queue = record { added = a ∷ []; is = queue };
+      rows = subst (All (IsRow f)) (sym queue) (All-push (IsRow f) f.queue.items a fits.kept.rows (row_in f a fits row));
+      here = ap (λ ws. get_or ws a false) waits ∙ get_or-set_same f.waits.items a true false low;
+      stays = λ c h. ap (λ ws. get_or ws c false) waits ∙ set_on f.waits.items a c low h;
+      waits = λ c h. elim (cases_eq c a) [
+        | inl e ↦ inr (record { place = length f.queue.items; from = omega arith; at = ap (λ q. slice_get q (length f.queue.items)) queue ∙ get_last f.queue.items a ∙ ap Some (sym e) })
+        | inr ne ↦ inl (sym (get_or-set_other f.waits.items a c true false ne) ∙ sym (ap (λ ws. get_or ws c false) waits) ∙ h)
+      ];
+    }
 
--- the word of a pair that was found
-pub found_word : (f : Found) (p : Pair) → Fits f → Contains f.pairs.items p → pair_cell f.width p / 64 < length f.words.items
-found_word f p h has =
-    let i = All-contains (IsInside f.height f.width) f.pairs.items p h.inside has in
-    cell_word f.height f.width p.first p.second (length f.words.items) i.first i.second h.room
+-- a pair is one of a lane of row a, or another one
+pub same_lane : (x y a place : ℕ) → ((x ≡ a) × (y / 64 ≡ place)) ⊎ ((x ≡ a) × (y / 64 ≡ place) → ⊥)
+same_lane x y a place = elim (cases_eq x a) [
+  | inl e ↦ elim (cases_eq (y / 64) place) [
+    | inl f ↦ inl (e, f)
+    | inr ne ↦ inr (λ p. ne p.1)
+  ]
+  | inr ne ↦ inr (λ p. ne p.0)
+]
 
--- after all pairs were forgotten
-pub fits_empty : (f g : Found) → Fits f → IsEmpty f g → Fits g
-fits_empty f g h e = fits_none g (rw (e.height, e.width, e.room) h.room) e.pairs e.blank
+-- a table in which a word was joined: what was marked still is, the word's columns are, and no others
+joined_grow : {old new : Grid} {a place word : ℕ} → JoinsLane old new a place word → ((x y : ℕ) → HasPair old x y → y < old.wide) → (x y : ℕ) → HasPair old x y → HasPair new x y
+joined_grow {old} {new} {a} {place} {word} j inside x y h = elim (same_lane x y a place) [
+  | inl s ↦ ap (λ k. marked new k y) s.0 ∙ j.here y s.1 (inside x y h) ∙ or_left _ _ (ap (λ k. marked old k y) (sym s.0) ∙ h)
+  | inr ne ↦ j.others x y ne ∙ h
+]
 
--- and room was made for others
-pub fits_room : (f : Found) (height width : ℕ) → height * width / 64 + 1 ≤ length f.words.items → f.height ≡ height → f.width ≡ width → f.pairs.items ≡ [] → ((c : ℕ) → bit_of f.words.items c ≡ false) → Fits f
-fits_room f height width l eh ew none blank = fits_none f (rw (eh, ew) (omega arith)) none blank
+joined_here : {old new : Grid} {a place word : ℕ} → JoinsLane old new a place word → (b : ℕ) → IsBit place word b → b < old.wide → HasPair new a b
+joined_here {old} {new} {a} {place} {word} j b is l = j.here b is.lane l ∙ or_right (marked old a b) _ (ap (λ k. nat_eq k 1) is.bit)
 
--- where a search began
-pub begun : (m n : Net) (f : Found) (h w : ℕ) (b : Bool) → b ≡ true → (b ≡ true → (f.height ≡ h) × (f.width ≡ w) × (f.pairs.items ≡ [])) → h ≤ m.states → w ≤ n.states → IsFor m n f
-begun m n f h w b e ok eh ew = let k = ok e in record { height = omega (arith, k.0, eh); width = omega (arith, k.1, ew) }
+joined_only : {old new : Grid} {a place word : ℕ} → JoinsLane old new a place word → ((x y : ℕ) → HasPair new x y → y < old.wide) → (x y : ℕ) → HasPair new x y → HasPair old x y ⊎ ((x ≡ a) × IsBit place word y)
+joined_only {old} {new} {a} {place} {word} j inside x y h = elim (same_lane x y a place) [
+  | inl s ↦
+      elim (either_true _ _ (sym (j.here y s.1 (inside x y h)) ∙ ap (λ k. marked new k y) (sym s.0) ∙ h)) [
+        | inl before ↦ inl (ap (λ k. marked old k y) s.0 ∙ before)
+        | inr bit ↦ inr (s.0, record { lane = s.1; bit = eqb-true (bit_at word (y % 64)) 1 bit })
+      ]
+  | inr ne ↦ inl (sym (j.others x y ne) ∙ h)
+]
 
-pub more_for : (m n : Net) (f g : Found) → IsFor m n f → IsMore f g → IsFor m n g
-more_for m n f g nets more = record { height = omega (arith, more.height, nets.height); width = omega (arith, more.width, nets.width) }
+-- a word of pairs that were not there was added, and they are fresh
+module _ (f w g : Found) (a place word new : ℕ) (fits : Fits f) (row : a < length f.marks.rows) (waiting : IsWaiting f w a) (flags : g.waits.items ≡ w.waits.items) (queue : g.queue.items ≡ w.queue.items) (lacking : IsLackingLane f.marks a place word new) (within : IsLaneWithin f.marks.wide place word) (marks : JoinsLane f.marks g.marks a place new) (sized : IsSized (length f.marks.rows) f.marks.wide g.marks) (fresh : JoinsLane f.fresh g.fresh a place new) (fresh_sized : IsSized (length f.fresh.rows) f.fresh.wide g.fresh) where
+  old_or_new : (x y : ℕ) → HasPair g.marks x y → HasPair f.marks x y ⊎ ((x ≡ a) × IsBit place new y)
+  old_or_new x y h = joined_only marks (λ u v k. (sized_inside sized u v k).second) x y h
+
+  fresh_or_new : (x y : ℕ) → HasPair g.fresh x y → HasPair f.fresh x y ⊎ ((x ≡ a) × IsBit place new y)
+  fresh_or_new x y h = joined_only fresh (λ u v k. (sized_inside fresh_sized u v k).second) x y h
+
+  grow : (x y : ℕ) → HasPair f.marks x y → HasPair g.marks x y
+  grow x y h = joined_grow marks (λ u v k. (fits.inside u v k).second) x y h
+
+  fresh_grow : (x y : ℕ) → HasPair f.fresh x y → HasPair g.fresh x y
+  fresh_grow x y h = joined_grow fresh (λ u v k. omega (arith, (fits.inside u v (fits.fresh u v k)).second, fits.wide)) x y h
+
+  -- the columns of the new word
+  column : (y : ℕ) → IsBit place new y → y < f.marks.wide
+  column y is = within y is.lane (lacking.was y is.lane is.bit)
+
+  does_wait : (x : ℕ) → DoesWait g x → DoesWait w x
+  does_wait x h = ap (λ ws. get_or ws x false) (sym flags) ∙ h
+
+  still_waits : (x : ℕ) → DoesWait w x → DoesWait g x
+  still_waits x h = ap (λ ws. get_or ws x false) flags ∙ h
+
+  from_waits : (x : ℕ) → DoesWait g x → DoesWait f x ⊎ IsFrom (length f.queue.items) g.queue.items x
+  from_waits x h = elim (waiting.waits x (does_wait x h)) [
+    | inl old ↦ inl old
+    | inr from ↦ inr (rw queue from)
+  ]
+
+  longer : IsLonger f.queue.items g.queue.items
+  longer = record { added = waiting.queue.added; is = queue ∙ waiting.queue.is }
+
+  in_queue : (x : ℕ) → DoesWait g x → IsFrom 0 g.queue.items x
+  in_queue x h = elim (from_waits x h) [
+    | inl old ↦ longer_from x longer (fits.kept.waits x old)
+    | inr from ↦ from_later x (omega arith) from
+  ]
+
+  kept_now : IsKept g
+  kept_now = record {
+    rows = subst (All (IsRow g)) (sym queue) (All-weaker (IsRow f) (IsRow g) (λ x r. record {
+      marks = omega (arith, r.marks, sized.high);
+      fresh = omega (arith, r.fresh, fresh_sized.high);
+      waits = omega (arith, r.waits, waiting.flags, ap length flags);
+    }) w.queue.items waiting.rows);
+    marks = λ x y h. elim (old_or_new x y h) [
+      | inl old ↦ longer_from x longer (fits.kept.marks x y old)
+      | inr k ↦ in_queue x (still_waits x (subst (DoesWait w) (sym k.0) waiting.here))
+    ];
+    fresh = λ x y h. elim (fresh_or_new x y h) [
+      | inl old ↦ still_waits x (waiting.stays x (fits.kept.fresh x y old))
+      | inr k ↦ still_waits x (subst (DoesWait w) (sym k.0) waiting.here)
+    ];
+    waits = λ x h. in_queue x h;
+  }
+
+  fits_now : Fits g
+  fits_now = record {
+    kept = kept_now;
+    inside = λ x y h. let i = sized_inside sized x y h in record { first = omega (arith, i.first, sized.high); second = omega (arith, i.second, sized.wide) };
+    fresh = λ x y h. elim (fresh_or_new x y h) [
+      | inl old ↦ grow x y (fits.fresh x y old)
+      | inr k ↦ subst (λ (r : ℕ). HasPair g.marks r y) (sym k.0) (joined_here marks y k.1 (column y k.1))
+    ];
+    high = omega (arith, fresh_sized.high, fits.high, sized.high);
+    wide = omega (arith, fresh_sized.wide, fits.wide, sized.wide);
+    room = omega (arith, fits.room, sized.high, waiting.flags, ap length flags);
+  }
+
+  pub joined_more : IsMore f g
+  joined_more = record {
+    fits = fits_now;
+    high = sized.high;
+    wide = sized.wide;
+    grows = grow;
+    fresh = λ x y h. elim (old_or_new x y h) [
+      | inl old ↦ inl old
+      | inr k ↦ inr (subst (λ (r : ℕ). HasPair g.fresh r y) (sym k.0) (joined_here fresh y k.1 (omega (arith, column y k.1, fits.wide))))
+    ];
+    stays = fresh_grow;
+    queue = longer;
+    waits = from_waits;
+  }
+
+  pub joined_there : HasWord g a place word
+  joined_there b is l m = elim (lacking.either b is.lane (within b is.lane is.bit) is.bit) [
+    | inl old ↦ grow a b old
+    | inr bit ↦ joined_here marks b (record { lane = is.lane; bit = bit }) (within b is.lane is.bit)
+  ]
+
+  pub joined_new : (x y : ℕ) → HasPair g.marks x y → HasPair f.marks x y ⊎ ((x ≡ a) × IsBit place word y)
+  joined_new x y h = elim (old_or_new x y h) [
+    | inl old ↦ inl old
+    | inr k ↦ inr (k.0, record { lane = k.1.lane; bit = lacking.was y k.1.lane k.1.bit })
+  ]
+
+-- the word had nothing new
+pub lacking_none : (f : Found) (a place word new : ℕ) → IsLackingLane f.marks a place word new → IsLaneWithin f.marks.wide place word → new ≡ 0 → HasWord f a place word
+lacking_none f a place word new lacking within none b is l m = elim (lacking.either b is.lane (within b is.lane is.bit) is.bit) [
+  | inl old ↦ old
+  | inr bit ↦ absurd (zero_one (sym (ap (λ v. bit_at v (b % 64)) none ∙ bit_at-zero (b % 64)) ∙ bit))
+]
+  where
+    zero_one : 0 ≡ 1 → ⊥
+    zero_one e = absurd (omega (arith, e))
+
+-- nothing is left, as between two searches
+pub wiped_kept : (f : Found) → IsWiped f → IsKept f
+wiped_kept f wiped = record {
+  rows = All-same (IsRow f) f.queue.items [] wiped.queue (All-nil (IsRow f));
+  marks = λ a b h. absurd (true≢false (sym h ∙ wiped.marks a b));
+  fresh = λ a b h. absurd (true≢false (sym h ∙ wiped.fresh a b));
+  waits = λ a h. absurd (true≢false (sym h ∙ wiped.waits a));
+}
+
+-- and room was made
+pub none_made : (high wide : ℕ) (f : Found) → f.marks ≡ blank high wide → f.fresh ≡ blank high wide → IsWiped f → high ≤ length f.waits.items → length (blank high wide).rows ≡ high → IsNone high wide f
+none_made high wide f marks fresh wiped room rows = record {
+  fits = record {
+    kept = wiped_kept f wiped;
+    inside = λ a b h. absurd (true≢false (sym h ∙ wiped.marks a b));
+    fresh = λ a b h. absurd (true≢false (sym h ∙ wiped.fresh a b));
+    high = ap (λ z. length z.rows) fresh ∙ sym (ap (λ z. length z.rows) marks);
+    wide = ap (λ z. z.wide) fresh ∙ sym (ap (λ z. z.wide) marks);
+    room = omega (arith, ap (λ z. length z.rows) marks, rows, room);
+  };
+  high = ap (λ z. length z.rows) marks ∙ rows;
+  wide = ap (λ z. z.wide) marks;
+  none = λ a b h. true≢false (sym h ∙ wiped.marks a b);
+}
+
+pub wiped_as : (f : Found) (marks fresh : Grid) → ((a b : ℕ) → marked marks a b ≡ false) → ((a b : ℕ) → marked fresh a b ≡ false) → f.marks ≡ marks → f.fresh ≡ fresh → ((a : ℕ) → get_or f.waits.items a false ≡ false) → f.queue.items ≡ [] → IsWiped f
+wiped_as f marks fresh none none_fresh e h waits queue = record {
+  marks = λ a b. ap (λ z. marked z a b) e ∙ none a b;
+  fresh = λ a b. ap (λ z. marked z a b) h ∙ none_fresh a b;
+  waits = waits;
+  queue = queue;
+}
+
+-- a search whose rows are wiped one by one, up to a place in the queue
+pub record IsWiping (old now : Found) (k : ℕ) : Type 0 where
+  pub queue : now.queue ≡ old.queue
+  pub rows : All (IsRow now) now.queue.items
+  pub marks : (a b : ℕ) → HasPair now.marks a b → IsFrom k now.queue.items a
+  pub fresh : (a b : ℕ) → HasPair now.fresh a b → DoesWait now a
+  pub waits : (a : ℕ) → DoesWait now a → IsFrom k now.queue.items a
+
+pub wiping_none : (f : Found) → IsKept f → IsWiping f f 0
+wiping_none f kept = record { queue = refl; rows = kept.rows; marks = kept.marks; fresh = kept.fresh; waits = kept.waits }
+
+pub wiping_more : (old f g : Found) (k a : ℕ) → IsWiping old f k → slice_get f.queue.items k ≡ Some a → IsRowWiped f g a → IsWiping old g (k + 1)
+wiping_more old f g k a so_far here wiped =
+    let same : g.queue.items ≡ f.queue.items = ap (λ q. q.items) wiped.queue in
+    record {
+      queue = wiped.queue ∙ so_far.queue;
+      rows = subst (All (IsRow g)) (sym same) (All-weaker (IsRow f) (IsRow g) wiped.rows f.queue.items so_far.rows);
+      marks = λ c d h. let w = wiped.marks c d h in rw same (from_next c a here w.1 (so_far.marks c d w.0));
+      fresh = λ c d h.
+          let w = wiped.fresh c d h in
+          let waited = so_far.fresh c d w.0 in
+          wiped.still c (λ e. w.1 e (subst (DoesWait f) e waited)) waited;
+      waits = λ c h. let w = wiped.waits c h in rw same (from_next c a here w.1 (so_far.waits c w.0));
+    }
+
+pub wiping_all : (old f g : Found) (k : ℕ) → IsWiping old f k → length f.queue.items ≤ k → g.marks ≡ f.marks → g.fresh ≡ f.fresh → g.waits ≡ f.waits → g.queue.items ≡ [] → IsWiped g
+wiping_all old f g k wiping past marks fresh waits queue = wiped_as g f.marks f.fresh (λ a b. off (marked f.marks a b) (λ h. from_past a past (wiping.marks a b h))) (λ a b. off (marked f.fresh a b) (λ h. from_past a past (wiping.waits a (wiping.fresh a b h)))) marks fresh (λ a. off (get_or g.waits.items a false) (λ h. from_past a past (wiping.waits a (ap (λ v. get_or v.items a false) (sym waits) ∙ h)))) queue
+  where
+    off : (b : Bool) → (b ≡ true → ⊥) → b ≡ false
+    off true h = absurd (h refl)
+    off false h = refl

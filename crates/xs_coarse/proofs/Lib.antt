@@ -4,10 +4,13 @@ pub mod Views
 pub mod ArcLemmas
 pub mod FoundLemmas
 pub mod GrowthLemmas
+pub mod LaneSteps
 pub mod LayerLemmas
 pub mod Marks
 pub mod PartLemmas
+pub mod RowLemmas
 pub mod SetLemmas
+pub mod SlideLemmas
 pub mod TailArcs
 pub mod TailLemmas
 pub mod Walks

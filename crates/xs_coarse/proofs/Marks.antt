@@ -1,16 +1,13 @@
 -- Marks of sets of pairs.
-use Rattle.std.proofs.Common.{◌≡◌, ℕ, zero, suc, ◌==◌, ◌&&◌, ◌||◌, ◌⊎◌, ◌<◌, ◌≤◌, nat_le, Bool, true, List, [], ◌∷◌, refl, ap, subst, ◌∙◌, inl, inr, arith, eqb-true, slice_get}
-use Rattle.std.specs.declared.option.Option.TheVariants.{Some}
-use Rattle.std.specs.List.{Contains, list_any}
+use Rattle.std.proofs.Common.{◌≡◌, ℕ, zero, suc, ◌&&◌, ◌||◌, ◌⊎◌, ◌<◌, ◌≤◌, nat_le, Bool, true, refl, inl, inr, arith}
 use Rattle.std.proofs.lemmas.Bool.{cases_lt}
-use Rattle.xs_class.proofs.Lists.{some_inj, first_in, rest_in, get_of}
-use Rattle.xs_class.proofs.Truth.{and_true, both_true, or_left, or_right, eq_self, false_true, le_is, le_true}
+use Rattle.xs_class.proofs.Truth.{and_true, both_true, or_left, or_right, le_is, le_true}
 use Rattle.xs_auto.specs.Nets.{Graph}
 use Rattle.xs_meet.specs.Closed.{IsApart, IsClear, AreApart}
 use Rattle.xs_meet.proofs.PhaseLemmas.{either_true}
-use Rattle.xs_coarse.specs.declared.pair.Pair.{Pair}
+use Rattle.xs_closed.specs.Rows.{Grid, marked}
 use Rattle.xs_coarse.specs.Arcs.{HasWithin}
-use Rattle.xs_coarse.specs.Found.{HasPair, pair}
+use Rattle.xs_coarse.specs.Found.{HasPair}
 use Rattle.xs_coarse.specs.Sets.{AreClear}
 
 -- the marks are those of the set
@@ -18,59 +15,35 @@ pub record Decides (z : ℕ → ℕ → Bool) (Z : ℕ → ℕ → Type 0) : Typ
   pub mark : (a b : ℕ) → Z a b → z a b ≡ true
   pub unmark : (a b : ℕ) → z a b ≡ true → Z a b
 
--- whether a pair is one of them
-abbrev pub has : List Pair → ℕ → ℕ → Bool
-has ps a b = list_any (λ p. (p.first == a) && (p.second == b)) ps
-
-mark_at : (ps : List Pair) (a b k : ℕ) → slice_get ps k ≡ Some (pair a b) → has ps a b ≡ true
-mark_at [] a b k e = cc
-mark_at (p ∷ ps) a b zero e =
-    let same : p ≡ pair a b = some_inj _ _ e in
-    or_left _ _ (both_true _ _ (ap (λ q. q.first == a) same ∙ eq_self a) (ap (λ q. q.second == b) same ∙ eq_self b))
-mark_at (p ∷ ps) a b (suc k) e = or_right _ _ (mark_at ps a b k e)
-
-mark : (ps : List Pair) (a b : ℕ) → HasPair ps a b → has ps a b ≡ true
-mark ps a b h = let at = get_of ps (pair a b) h in mark_at ps a b at.0 at.1
-
-unmark : (ps : List Pair) (a b : ℕ) → has ps a b ≡ true → HasPair ps a b
-unmark [] a b e = absurd (false_true e)
-unmark (p ∷ ps) a b e = elim (either_true _ _ e) [
-  | inl h ↦
-      let q = and_true _ _ h in
-      let same : p ≡ pair a b = λ i. record { first = eqb-true p.first a q.0 i; second = eqb-true p.second b q.1 i } in
-      subst (λ (q : Pair). Contains (p ∷ ps) q) same (first_in p ps)
-  | inr h ↦ rest_in p ps (pair a b) (unmark ps a b h)
-]
-
-pub has_decides : (ps : List Pair) → Decides (has ps) (HasPair ps)
-has_decides ps = record { mark = λ a b h. mark ps a b h; unmark = λ a b e. unmark ps a b e }
+pub has_decides : (z : Grid) → Decides (marked z) (HasPair z)
+has_decides z = record { mark = λ a b h. h; unmark = λ a b e. e }
 
 -- the pairs, and all that are not of states below those numbers
-abbrev within : ℕ → ℕ → List Pair → ℕ → ℕ → Bool
-within height width ps a b = nat_le height a || (nat_le width b || has ps a b)
+abbrev within : ℕ → ℕ → Grid → ℕ → ℕ → Bool
+within height width z a b = nat_le height a || (nat_le width b || marked z a b)
 
-mark_within : (height width : ℕ) (ps : List Pair) (a b : ℕ) → HasWithin height width ps a b → within height width ps a b ≡ true
-mark_within height width ps a b h =
+mark_within : (height width : ℕ) (z : Grid) (a b : ℕ) → HasWithin height width z a b → within height width z a b ≡ true
+mark_within height width z a b h =
     elim (cases_lt a height) [
       | inl low ↦ or_right (nat_le height a) _ (elim (cases_lt b width) [
-        | inl low_too ↦ or_right (nat_le width b) _ (mark ps a b (h low low_too))
+        | inl low_too ↦ or_right (nat_le width b) _ (h low low_too)
         | inr high ↦ or_left _ _ (le_true width b high)
       ])
       | inr high ↦ or_left _ _ (le_true height a high)
     ]
 
-unmark_within : (height width : ℕ) (ps : List Pair) (a b : ℕ) → within height width ps a b ≡ true → HasWithin height width ps a b
-unmark_within height width ps a b e low low_too =
+unmark_within : (height width : ℕ) (z : Grid) (a b : ℕ) → within height width z a b ≡ true → HasWithin height width z a b
+unmark_within height width z a b e low low_too =
     elim (either_true _ _ e) [
       | inl high ↦ absurd (omega (arith, low, le_is height a high))
       | inr rest ↦ elim (either_true _ _ rest) [
         | inl high ↦ absurd (omega (arith, low_too, le_is width b high))
-        | inr there ↦ unmark ps a b there
+        | inr there ↦ there
       ]
     ]
 
-pub within_decides : (height width : ℕ) (ps : List Pair) → Decides (within height width ps) (HasWithin height width ps)
-within_decides height width ps = record { mark = mark_within height width ps; unmark = unmark_within height width ps }
+pub within_decides : (height width : ℕ) (z : Grid) → Decides (within height width z) (HasWithin height width z)
+within_decides height width z = record { mark = mark_within height width z; unmark = unmark_within height width z }
 
 -- all pairs
 pub all_decides : Decides (λ a b. true) (λ a b. ℕ)

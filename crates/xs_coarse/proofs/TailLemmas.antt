@@ -1,5 +1,5 @@
 -- What a closed set over the ends of two nets shows of the nets.
-use Rattle.std.proofs.Common.{◌≡◌, ℕ, ◌+◌, ◌-◌, ◌<◌, ◌≤◌, ◌⊎◌, true, List, ap, subst, inl, inr, arith}
+use Rattle.std.proofs.Common.{◌≡◌, ℕ, ◌+◌, ◌-◌, ◌<◌, ◌≤◌, ◌⊎◌, true, ap, subst, inl, inr, arith}
 use Rattle.std.proofs.lemmas.Bool.{cases_lt}
 use Rattle.std.specs.List.{Contains}
 use Rattle.xs_class.proofs.Lists.{some_inj}
@@ -7,17 +7,17 @@ use Rattle.xs_meet.specs.Closed.{AreApart}
 use Rattle.xs_coarse.specs.declared.arc.Arc.{Arc}
 use Rattle.xs_coarse.specs.Coarse.{Table, Net, HasArc, IsTable, MayCall, view}
 use Rattle.xs_coarse.proofs.Views.{view_final_is}
-use Rattle.xs_coarse.specs.declared.pair.Pair.{Pair}
+use Rattle.xs_closed.specs.Rows.{Grid, marked}
 use Rattle.xs_coarse.specs.declared.tail.Tail.{Tail}
 use Rattle.xs_coarse.specs.Arcs.{Goes}
 use Rattle.xs_coarse.specs.Found.{HasPair, pair}
 use Rattle.xs_coarse.specs.Sets.{IsShut}
 use Rattle.xs_coarse.specs.Tails.{IsTail, IsWithinAll}
 use Rattle.xs_coarse.proofs.ArcLemmas.{goes_of, arc}
-use Rattle.xs_coarse.proofs.Marks.{Decides, has, has_decides, both_decide, either_decides, firsts_below_decide, seconds_below_decide, apart_by}
+use Rattle.xs_coarse.proofs.Marks.{Decides, has_decides, both_decide, either_decides, firsts_below_decide, seconds_below_decide, apart_by}
 use Rattle.xs_coarse.proofs.Windows.{arc_within}
 
-module _ (t : Table) (m n : Net) (e f b d : ℕ) (one other : Tail) (ps : List Pair) (table : IsTable t) (within_m : IsWithinAll m) (within_n : IsWithinAll n) (tail : IsTail m b e one) (tail2 : IsTail n d f other) (starts : HasPair ps 0 0) (firsts : one.has_front ≡ true → (k : ℕ) → k < other.net.states → HasPair ps 0 k) (seconds : other.has_front ≡ true → (k : ℕ) → k < one.net.states → HasPair ps k 0) (shut : IsShut (Goes t one.net other.net) (pair one.last other.last) one.net.states other.net.states ps) where
+module _ (t : Table) (m n : Net) (e f b d : ℕ) (one other : Tail) (ps : Grid) (table : IsTable t) (within_m : IsWithinAll m) (within_n : IsWithinAll n) (tail : IsTail m b e one) (tail2 : IsTail n d f other) (starts : HasPair ps 0 0) (firsts : one.has_front ≡ true → (k : ℕ) → k < other.net.states → HasPair ps 0 k) (seconds : other.has_front ≡ true → (k : ℕ) → k < one.net.states → HasPair ps k 0) (shut : IsShut (Goes t one.net other.net) (pair one.last other.last) one.net.states other.net.states ps) where
   -- pairs of states that are not both of the ends, or whose pair there was found
   abbrev Ends : ℕ → ℕ → Type 0
   Ends x y = (x < m.states) × ((y < n.states) × ((x < e) ⊎ ((y < f) ⊎ HasPair ps (x - e) (y - f))))
@@ -95,7 +95,7 @@ module _ (t : Table) (m n : Net) (e f b d : ℕ) (one other : Tail) (ps : List P
         ]
       ])
 
-  found_decides : Decides (λ x y. has ps (x - e) (y - f)) (λ x y. HasPair ps (x - e) (y - f))
+  found_decides : Decides (λ x y. marked ps (x - e) (y - f)) (λ x y. HasPair ps (x - e) (y - f))
   found_decides = record { mark = λ x y h. (has_decides ps).mark (x - e) (y - f) h; unmark = λ x y h. (has_decides ps).unmark (x - e) (y - f) h }
 
   pub ends_apart : AreApart (MayCall t) (view t m 0 b) (view t n 0 d)

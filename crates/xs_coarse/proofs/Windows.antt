@@ -1,13 +1,13 @@
 -- Sets of pairs of states below some numbers: pairs of other states do no harm where no arc leads back.
-use Rattle.std.proofs.Common.{ℕ, ◌<◌, List, inl, inr, arith}
+use Rattle.std.proofs.Common.{ℕ, ◌<◌, inl, inr, arith}
 use Rattle.std.specs.List.{All}
 use Rattle.std.proofs.lemmas.List.Elements.{All-contains}
 use Rattle.std.proofs.lemmas.Bool.{cases_lt}
 use Rattle.xs_meet.specs.Closed.{IsClosed}
 use Rattle.xs_coarse.specs.Coarse.{Table, Net, HasArc, IsWithin}
-use Rattle.xs_coarse.specs.declared.pair.Pair.{Pair}
+use Rattle.xs_closed.specs.Rows.{Grid}
 use Rattle.xs_coarse.specs.Arcs.{Slips, Goes, HasWithin, IsClosedWithin, NeverReturns}
-use Rattle.xs_coarse.specs.Found.{HasPair, IsInside, pair}
+use Rattle.xs_coarse.specs.Found.{HasPair, IsOf}
 use Rattle.xs_coarse.specs.Tails.{IsWithinAll}
 
 -- an arc that leads below a number leads from below it
@@ -25,13 +25,13 @@ goes_from_below t m n h w a b c d first second (inl (inr y)) low low_too = (omeg
 goes_from_below t m n h w a b c d first second (inr s) low low_too = (from_below m h a s.label c first s.first low, from_below n w b s.other d second s.second low_too)
 
 -- so pairs of other states may count as pairs of the set
-pub closed_whole : (t : Table) (m n : Net) (h w : ℕ) (ps : List Pair) → NeverReturns m h → NeverReturns n w → IsClosedWithin (Goes t m n) h w ps → IsClosed (Goes t m n) (HasWithin h w ps)
-closed_whole t m n h w ps first second closed a b c d there goes low low_too =
+pub closed_whole : (t : Table) (m n : Net) (h w : ℕ) (z : Grid) → NeverReturns m h → NeverReturns n w → IsClosedWithin (Goes t m n) h w z → IsClosed (Goes t m n) (HasWithin h w z)
+closed_whole t m n h w z first second closed a b c d there goes low low_too =
     let back = goes_from_below t m n h w a b c d first second goes low low_too in
     closed a b c d (there back.0 back.1) goes low low_too
 
-pub closed_slips_whole : (t : Table) (m n : Net) (h w : ℕ) (ps : List Pair) → NeverReturns m h → NeverReturns n w → IsClosedWithin (Slips m n) h w ps → IsClosed (Slips m n) (HasWithin h w ps)
-closed_slips_whole t m n h w ps first second closed a b c d there slips low low_too =
+pub closed_slips_whole : (t : Table) (m n : Net) (h w : ℕ) (z : Grid) → NeverReturns m h → NeverReturns n w → IsClosedWithin (Slips m n) h w z → IsClosed (Slips m n) (HasWithin h w z)
+closed_slips_whole t m n h w z first second closed a b c d there slips low low_too =
     let back = goes_from_below t m n h w a b c d first second (inl slips) low low_too in
     closed a b c d (there back.0 back.1) slips low low_too
 
@@ -50,8 +50,8 @@ goes_within t m n a b c d first second low low_too (inl (inr y)) = (omega (arith
 goes_within t m n a b c d first second low low_too (inr s) = ((arc_within m a s.label c first s.first).to, (arc_within n b s.other d second s.second).to)
 
 -- pairs of all states are closed as they stand
-pub closed_all_states : (t : Table) (m n : Net) (ps : List Pair) → IsWithinAll m → IsWithinAll n → All (IsInside m.states n.states) ps → IsClosedWithin (Goes t m n) m.states n.states ps → IsClosed (Goes t m n) (HasPair ps)
-closed_all_states t m n ps first second inside closed a b c d there goes =
-    let i = All-contains (IsInside m.states n.states) ps (pair a b) inside there in
+pub closed_all_states : (t : Table) (m n : Net) (z : Grid) → IsWithinAll m → IsWithinAll n → IsOf m.states n.states z → IsClosedWithin (Goes t m n) m.states n.states z → IsClosed (Goes t m n) (HasPair z)
+closed_all_states t m n z first second inside closed a b c d there goes =
+    let i = inside.inside a b there in
     let low = goes_within t m n a b c d first second i.first i.second goes in
     closed a b c d there goes low.0 low.1

@@ -1,11 +1,13 @@
 -- How the arcs of two coarse nets lead from a pair of states to others.
-use Rattle.std.specs.Prelude.{◌≡◌, ℕ, ◌<◌, ◌≤◌, ◌⊎◌, true, List, slice_get, Option, Some, None}
-use Rattle.std.specs.List.{All}
+use Rattle.std.specs.Prelude.{◌≡◌, ℕ, ◌<◌, ◌≤◌, ◌⊎◌, true, List, length}
+use Rattle.std.specs.List.{Contains}
+use Rattle.xs_closed.specs.Rows.{Grid}
+use Rattle.xs_closed.specs.declared.moves.Moves.{Moves}
+use Rattle.xs_closed.specs.declared.moves.Moves.TheVariants.{Empty, Every}
 use Rattle.xs_coarse.specs.declared.arc.Arc.{Arc}
 use Rattle.xs_coarse.specs.Coarse.{Table, Net, HasArc, may_meet}
-use Rattle.xs_coarse.specs.declared.pair.Pair.{Pair}
 use Rattle.xs_coarse.specs.declared.found.Found.{Found}
-use Rattle.xs_coarse.specs.Found.{HasPair}
+use Rattle.xs_coarse.specs.Found.{HasPair, IsBit}
 
 -- an arc of the first net that reads nothing leads from the pair of a and b to that of c and d
 pub record SlipsFirst (m : Net) (a b c d : ℕ) : Type 0 where
@@ -35,49 +37,83 @@ pub record Steps (t : Table) (m n : Net) (a b c d : ℕ) : Type 0 where
 abbrev pub Goes : Table → Net → Net → ℕ → ℕ → ℕ → ℕ → Type 0
 Goes t m n a b c d = Slips m n a b c d ⊎ Steps t m n a b c d
 
--- the pairs have this one, if its states are below those numbers
-abbrev pub HasWithin : ℕ → ℕ → List Pair → ℕ → ℕ → Type 0
-HasWithin height width ps a b = a < height → b < width → HasPair ps a b
+-- where these moves lead
+abbrev pub GoesBy : Moves → Table → Net → Net → ℕ → ℕ → ℕ → ℕ → Type 0
+GoesBy Empty t m n = Slips m n
+GoesBy Every t m n = Goes t m n
+
+-- where they lead but for arcs of the second net that read nothing
+abbrev pub Passes : Moves → Table → Net → Net → ℕ → ℕ → ℕ → ℕ → Type 0
+Passes Empty t m n a b c d = SlipsFirst m a b c d
+Passes Every t m n a b c d = SlipsFirst m a b c d ⊎ Steps t m n a b c d
+
+-- one of these arcs of the first net, and an arc of the second one from b, that may read a common word, lead to
+-- the pair of c and d
+pub record StepsBy (t : Table) (arcs : List Arc) (n : Net) (b c d : ℕ) : Type 0 where
+  pub first : Arc
+  pub has : Contains arcs first
+  pub to : first.to ≡ c
+  pub other : ℕ
+  pub second : HasArc n b other d
+  pub reads : 0 < other
+  pub meet : may_meet t first.label other ≡ true
+
+-- the set has this pair, if its states are below those numbers
+abbrev pub HasWithin : ℕ → ℕ → Grid → ℕ → ℕ → Type 0
+HasWithin height width z a b = a < height → b < width → HasPair z a b
 
 -- the same of what was found, and of the states that are looked at
 abbrev pub HasFound : Found → ℕ → ℕ → Type 0
-HasFound f a b = HasWithin f.height f.width f.pairs.items a b
+HasFound f a b = HasWithin (length f.marks.rows) f.marks.wide f.marks a b
 
--- the pair was found, if there is one
-abbrev pub HasTarget : Found → Option Pair → Type 0
-HasTarget f (Some p) = HasFound f p.first p.second
-HasTarget f None = Unit {0}
+-- the pairs of a state with the bits of a word, from 64 times a place on, were found
+abbrev pub HasWord : Found → ℕ → ℕ → ℕ → Type 0
+HasWord f a place word = (b : ℕ) → IsBit place word b → HasFound f a b
 
--- the pair that a function gives for an element was found, if it gives one
-pub record HasGiven {X : Type 0} (Gives : X → Option Pair → Type 0) (f : Found) (x : X) : Type 0 where
-  pub target : Option Pair
-  pub given : Gives x target
-  pub there : HasTarget f target
-
--- so it is for each element
-pub record HasAllGiven {X : Type 0} (Gives : X → Option Pair → Type 0) (f : Found) (xs : List X) : Type 0 where
-  pub each : All (HasGiven Gives f) xs
-
--- where both arcs read something, and may read a common word, their two targets were found
+-- where an arc of the second net and one of the first net may read a common word, their two targets were found
 abbrev pub Joins : Table → Found → Arc → Arc → Type 0
-Joins t f x y = 0 < x.label → 0 < y.label → may_meet t x.label y.label ≡ true → HasFound f x.to y.to
+Joins t f y x = may_meet t x.label y.label ≡ true → HasFound f x.to y.to
 
 -- each pair to which L leads from the pair of a and b was found
 abbrev pub HasAll : (ℕ → ℕ → ℕ → ℕ → Type 0) → ℕ → ℕ → Found → Type 0
 HasAll L a b f = (c d : ℕ) → L a b c d → HasFound f c d
 
--- each pair before place k that leads to another has it among those that were found
-abbrev pub IsClosedBelow : (ℕ → ℕ → ℕ → ℕ → Type 0) → ℕ → Found → Type 0
-IsClosedBelow L k f = (i : ℕ) (p : Pair) → i < k → slice_get f.pairs.items i ≡ Some p → HasAll L p.first p.second f
+-- each pair is fresh, or one of E, or all to which L leads from it were found
+abbrev pub IsGone : (ℕ → ℕ → ℕ → ℕ → Type 0) → (ℕ → ℕ → Type 0) → Found → Type 0
+IsGone L E f = (a b : ℕ) → HasPair f.marks a b → HasPair f.fresh a b ⊎ (E a b ⊎ HasAll L a b f)
 
--- with a pair, the pairs have each to which L leads from it, and whose states are below those numbers
-abbrev pub IsClosedWithin : (ℕ → ℕ → ℕ → ℕ → Type 0) → ℕ → ℕ → List Pair → Type 0
-IsClosedWithin L height width ps = (a b c d : ℕ) → HasPair ps a b → L a b c d → HasWithin height width ps c d
+-- with a pair that is none of E, each to which an arc of the net that reads nothing leads from its second state
+-- was found
+abbrev pub IsLaidBut : (ℕ → ℕ → Type 0) → Net → Found → Type 0
+IsLaidBut E n f = (a b d : ℕ) → HasPair f.marks a b → HasArc n b 0 d → d < f.marks.wide → E a b ⊎ HasPair f.marks a d
+
+-- so it is with each pair
+abbrev pub IsLaid : Net → Found → Type 0
+IsLaid n f = (a b d : ℕ) → HasPair f.marks a b → HasArc n b 0 d → d < f.marks.wide → HasPair f.marks a d
+
+-- this pair
+abbrev pub IsThis : ℕ → ℕ → ℕ → ℕ → Type 0
+IsThis first second a b = (a ≡ first) × (b ≡ second)
+
+-- the pairs of a first state with those on a stack, and with one more
+abbrev pub IsStacked : List ℕ → ℕ → ℕ → ℕ → Type 0
+IsStacked stack first a b = (a ≡ first) × Contains stack b
+
+abbrev pub IsStackedOr : List ℕ → ℕ → ℕ → ℕ → ℕ → Type 0
+IsStackedOr stack first at a b = (a ≡ first) × ((b ≡ at) ⊎ Contains stack b)
+
+-- no arc that reads nothing leads from state b
+abbrev pub HasNoMoves : Net → ℕ → Type 0
+HasNoMoves n b = (d : ℕ) → HasArc n b 0 d → ⊥
+
+-- with a pair, the set has each to which L leads from it, and whose states are below those numbers
+abbrev pub IsClosedWithin : (ℕ → ℕ → ℕ → ℕ → Type 0) → ℕ → ℕ → Grid → Type 0
+IsClosedWithin L height width z = (a b c d : ℕ) → HasPair z a b → L a b c d → HasWithin height width z c d
 
 -- the states that are looked at are those of the two nets below some numbers
 pub record IsFor (m n : Net) (f : Found) : Type 0 where
-  pub height : f.height ≤ m.states
-  pub width : f.width ≤ n.states
+  pub height : length f.marks.rows ≤ m.states
+  pub width : f.marks.wide ≤ n.states
 
 -- no arc leads back from a state k, or those after it, to one before
 abbrev pub NeverReturns : Net → ℕ → Type 0

@@ -3,6 +3,7 @@ pub mod Coarse
 pub mod Covers
 pub mod Found
 pub mod Labels
+pub mod Lanes
 pub mod Parts
 pub mod Rows
 pub mod Sets

@@ -1,12 +1,11 @@
-ghost use Rattle.std.specs.Prelude.{◌≡◌, ℕ, ◌<◌, ◌≤◌, [], true, IfOk, IfSome, OnOk};
-ghost use Rattle.std.specs.List.{All};
+ghost use Rattle.std.specs.Prelude.{◌≡◌, ℕ, ◌<◌, true, IfOk, IfSome};
 ghost use Rattle.xs_meet.specs.{AreApart};
 ghost use Rattle.xs_coarse.specs.Coarse.{IsTable, MayCall, view, Net as AnyNet};
-ghost use Rattle.xs_coarse.specs.Found.{HasPair, IsInside, IsLonger};
-ghost use Rattle.xs_coarse.specs.Sets.{AreDoubles, AreClear, AreEndPairs};
+ghost use Rattle.xs_coarse.specs.Sets.{AreDoubles, AreClear};
 ghost use Rattle.xs_coarse.specs.Tails.{IsTail, IsWithinAll};
 
 use crate::found::Found;
+use crate::lane::Lane;
 use crate::pair::Pair;
 use crate::shape::{is_gate, is_source, never_returns};
 use crate::tail::Tail;
@@ -14,32 +13,34 @@ use crate::{Coarse, Labels};
 use std::alloc::Global;
 use std::marker::Model;
 use xs_class::Memory;
+use xs_closed::{Moves, PairSet};
 
 /// The pairs of states up to a top that a net comes to from its first state by words that may be the
 /// same. They are found once for all cuts of a net whose states are none after the top.
 #[derive(Debug, Drop)]
 pub struct Doubles {
-    pub pairs: Vec<Pair>,
+    pub marks: PairSet,
     pub top: u32,
 }
 
-/// A search over pairs of states of coarse nets, which is used again and again: its map of marks
-/// grows to the largest product of two nets, at most 2^28 pairs, and is kept.
+/// A search over pairs of states of coarse nets, which is used again and again: its maps of marks
+/// grow to the largest product of two nets, at most 2^28 pairs, and are kept.
 #[derive(Debug, Drop)]
 pub struct Search {
     alloc: Global,
     found: Found,
-    seeds: Vec<Pair>,
+    other: Found,
+    lanes: Vec<Lane>,
 }
 
 impl Model for Search {
-    ghost use Rattle.xs_coarse.specs.Found.{Fits};
+    ghost use Rattle.xs_coarse.specs.Found.{IsKept};
 
     ghost Value = { Unit {0} };
 
     ghost view = { λ s. tt };
 
-    ghost invariant = { λ s. Fits s.found };
+    ghost invariant = { λ s. IsKept s.found × IsKept s.other };
 }
 
 impl Search {
@@ -48,7 +49,8 @@ impl Search {
         Search {
             alloc,
             found: Found::new(alloc),
-            seeds: Vec::new(alloc),
+            other: Found::new(alloc),
+            lanes: Vec::new(alloc),
         }
     }
 
@@ -57,7 +59,7 @@ impl Search {
     /// too many pairs.
     ///
     /// Takes time linear in the pairs that are reached, times the products of the arcs of their
-    /// states, and 8 bytes for each pair.
+    /// states, and two bits for each pair of the states of both nets.
     pub fn apart(
         &mut self,
         labels: &Labels,
@@ -73,11 +75,13 @@ impl Search {
         ensures { IfOk result (λ apart. apart ≡ true → AreApart (MayCall labels.now) (view labels.now first.now a b) (view labels.now second.now c d)) }
     {
         see_table(labels);
-        if !self.found.begin(self.alloc, first.len(), second.len())? {
+        if !self.found.begin(first.len(), second.len())? {
             return Ok(false);
         }
-        self.found.visit(a, c)?;
-        self.found.close(labels, first, second, Pair::new(b, d))
+        self.found.visit(second, a, c)?;
+        let goal = Pair::new(b, d);
+        self.found
+            .close(labels, first, second, Moves::Every, goal, &mut self.lanes)
     }
 
     /// The pairs of states up to the top that two paths from state 0 of a net come to by words that may
@@ -89,13 +93,14 @@ impl Search {
         net: &Coarse,
         top: u32,
     ) -> Result<Option<Doubles>, Memory>
-        ensures { IfOk result (λ o. IfSome o (λ d. AreDoubles labels.now net.now d.top d.pairs.items)) }
+        ensures { IfOk result (λ o. IfSome o (λ d. AreDoubles labels.now net.now d.top d.marks)) }
     {
-        if !self.found.find_doubles(self.alloc, labels, net, top)? {
+        let mut found = Found::new(self.alloc);
+        if !found.find_doubles(labels, net, top, &mut self.lanes)? {
             return Ok(None);
         }
-        let pairs = Vec::from_slice(self.alloc, &self.found.pairs)?;
-        Ok(Some(Doubles { pairs, top }))
+        let marks = found.marks;
+        Ok(Some(Doubles { marks, top }))
     }
 
     /// Whether closed sets of pairs show that nothing overlaps at the state of a cut: there are no
@@ -104,7 +109,7 @@ impl Search {
     /// too many pairs.
     ///
     /// Takes time linear in the doubles and in the pairs that are reached, times the products of the
-    /// arcs of their states, and 8 bytes for each pair.
+    /// arcs of their states, and two bits for each pair of states.
     pub fn clear(
         &mut self,
         labels: &Labels,
@@ -113,7 +118,7 @@ impl Search {
         here: u32,
         last: u32,
     ) -> Result<bool, Memory>
-        requires doubles { AreDoubles labels.now net.now doubles.now.top doubles.now.pairs.items }
+        requires doubles { AreDoubles labels.now net.now doubles.now.top doubles.now.marks }
         requires here { here < net.now.states }
         ensures { IfOk result (λ clear. clear ≡ true → AreClear (MayCall labels.now) (view labels.now net.now 0 here) (view labels.now net.now here last)) }
     {
@@ -123,22 +128,17 @@ impl Search {
         }
         if !self
             .found
-            .find_turns(self.alloc, net, &doubles.pairs, here)?
+            .find_turns(labels, net, &doubles.marks, here, &mut self.lanes)?
         {
             return Ok(false);
         }
-        self.seeds.clear();
-        self.seeds.extend_from_slice(&self.found.pairs)?;
         if !self
-            .found
-            .find_middles(self.alloc, labels, net, here, &self.seeds)?
+            .other
+            .find_middles(labels, net, here, &self.found.marks, &mut self.lanes)?
         {
             return Ok(false);
         }
-        self.seeds.clear();
-        self.seeds.extend_from_slice(&self.found.pairs)?;
-        self.found
-            .find_rests(self.alloc, labels, net, &self.seeds, here, last)
+        self.found.find_rests(labels, net, &self.other.marks, here, last, &mut self.lanes)
     }
 
     /// Whether closed sets of pairs show the same by the rest, and the end of the front from a gate on,
@@ -161,18 +161,13 @@ impl Search {
         if gate > here || !is_gate(net, gate) || !is_source(net, here) {
             return Ok(false);
         }
-        self.seeds.clear();
-        push_end_pairs(&mut self.seeds, net, gate, here)?;
         if !self
-            .found
-            .find_last_middles(self.alloc, labels, net, gate, here, &self.seeds)?
+            .other
+            .find_last_middles(labels, net, gate, here, &mut self.lanes)?
         {
             return Ok(false);
         }
-        self.seeds.clear();
-        self.seeds.extend_from_slice(&self.found.pairs)?;
-        self.found
-            .find_rests(self.alloc, labels, net, &self.seeds, here, last)
+        self.found.find_rests(labels, net, &self.other.marks, here, last, &mut self.lanes)
     }
 
     /// Whether a closed set of pairs shows by the ends of two nets, whatever may stand before them, that no
@@ -183,49 +178,23 @@ impl Search {
         ensures { IfOk result (λ apart. apart ≡ true → (m n : AnyNet) (b e d f : ℕ) → IsWithinAll m → IsWithinAll n → IsTail m b e one.now → IsTail n d f other.now → AreApart (MayCall labels.now) (view labels.now m 0 b) (view labels.now n 0 d)) }
     {
         see_table(labels);
-        if !self
-            .found
-            .begin(self.alloc, one.net.len(), other.net.len())?
-        {
+        if !self.found.begin(one.net.len(), other.net.len())? {
             return Ok(false);
         }
-        self.found.visit(0, 0)?;
-        if one.has_front {
-            self.found.seed_firsts(0, 0, other.net.len())?;
-        }
-        if other.has_front {
-            self.found.seed_seconds(one.net.len(), 0)?;
-        }
+        self.found.visit(&other.net, 0, 0)?;
+        self.found.enter_first(&other.net, one.has_front)?;
+        self.found
+            .enter_second(&other.net, one.net.len(), other.has_front)?;
         let end = Pair::new(one.last, other.last);
-        self.found.close(labels, &one.net, &other.net, end)
+        self.found.close(
+            labels,
+            &one.net,
+            &other.net,
+            Moves::Every,
+            end,
+            &mut self.lanes,
+        )
     }
-}
-
-/// Each state of a front's end, from a gate on, beside each state of the rest.
-fn push_end_pairs(pairs: &mut Vec<Pair>, net: &Coarse, gate: u32, here: u32) -> Result<(), Memory>
-    requires none { pairs.old.items ≡ [] }
-    requires here { here < net.now.states }
-    ensures inside { OnOk result (All (IsInside net.now.states net.now.states) pairs.new.items) }
-    ensures each { OnOk result (AreEndPairs net.now gate here pairs.new.items) }
-{
-    let states = net.len();
-    'firsts: for first in gate..here + 1 {
-        push_row(pairs, first, here, states)?;
-    }
-    Ok(())
-}
-
-/// A first state beside each second one from one on, before an end.
-fn push_row(pairs: &mut Vec<Pair>, first: u32, begin: u32, end: u32) -> Result<(), Memory>
-    requires { first < end }
-    ensures longer { OnOk result (IsLonger pairs.old.items pairs.new.items) }
-    ensures inside { OnOk result (All (IsInside end end) pairs.old.items → All (IsInside end end) pairs.new.items) }
-    ensures each { OnOk result ((b : ℕ) → begin ≤ b → b < end → HasPair pairs.new.items first b) }
-{
-    'seconds: for second in begin..end {
-        pairs.push(Pair { first, second })?;
-    }
-    Ok(())
 }
 
 /// Learns that classes that share a symbol may meet, which a look at the table tells.

@@ -170,7 +170,7 @@ impl Screen {
         requires screen { IsScreen g.now self.old }
         requires part { IsPart g.now part.now }
         requires cover { IsCoverOf g.now self.old.labels part.now cover.now }
-        requires doubles { IfSome doubles (λ d. AreDoubles self.old.labels cover.now.net d.now.top d.now.pairs.items) }
+        requires doubles { IfSome doubles (λ d. AreDoubles self.old.labels cover.now.net d.now.top d.now.marks) }
         requires doubts { AreDoubts g.now part.now.rule doubts.old.items }
         ensures labels { self.new.labels ≡ self.old.labels }
         ensures screen { IsScreen g.now self.new }
@@ -207,7 +207,7 @@ impl Screen {
         requires screen { IsScreen g.now self.old }
         requires part { IsPart g.now part.now }
         requires cover { IsCoverOf g.now self.old.labels part.now cover.now }
-        requires doubles { IfSome doubles (λ d. AreDoubles self.old.labels cover.now.net d.now.top d.now.pairs.items) }
+        requires doubles { IfSome doubles (λ d. AreDoubles self.old.labels cover.now.net d.now.top d.now.marks) }
         requires outer { Contains cover.now.places.items outer }
         ensures labels { self.new.labels ≡ self.old.labels }
         ensures screen { IsScreen g.now self.new }
@@ -241,7 +241,7 @@ fn is_seen_clear(
     gate: u32,
     here: u32,
 ) -> Result<bool, Memory>
-    requires doubles { IfSome doubles (λ d. AreDoubles labels.now cover.now.net d.now.top d.now.pairs.items) }
+    requires doubles { IfSome doubles (λ d. AreDoubles labels.now cover.now.net d.now.top d.now.marks) }
     requires here { here < cover.now.net.states }
     ensures { IfOk result (λ b. b ≡ true → AreClear (MayCall labels.now) (view labels.now cover.now.net 0 here) (view labels.now cover.now.net here cover.now.last)) }
 {

@@ -1,4 +1,4 @@
-ghost use Rattle.std.specs.Prelude.{◌≡◌, ℕ, ◌+◌, ◌*◌, ◌/◌, ◌≤◌, ◌<◌, length, get_or, not, OnOk, IfSome, IfNone};
+ghost use Rattle.std.specs.Prelude.{◌≡◌, ℕ, ◌+◌, ◌*◌, ◌/◌, ◌≤◌, ◌<◌, length, get_or, set, not, bit_or, OnOk, OnErr, IfSome, IfNone};
 ghost use Rattle.std.specs.Int.{bit_at};
 ghost use Rattle.xs_closed.specs.Words.{bit_in, with_pair, IsCleared, IsFirstBit};
 
@@ -13,32 +13,43 @@ pub fn word_of(words: &[u64], step: usize, row: u32, place: usize) -> u64
     words[row as usize * step + place]
 }
 
-/// Sets the bit of a column in a row, where each row has that many words; gives the place of its
-/// word, and whether the bit was not set.
+/// Sets the bit of a column in a row, where each row has that many words, and says whether it was
+/// not set.
 #[inline(always)]
-pub fn set_bit(words: &mut Vec<u64>, step: usize, row: u32, column: u32) -> (usize, bool)
+pub fn set_bit(words: &mut Vec<u64>, step: usize, row: u32, column: u32) -> bool
     requires { row * step + column / 64 < length words.old.items }
-    ensures place { result.0 ≡ row * step + column / 64 }
     ensures words { words.new.items ≡ with_pair step words.old.items row column }
-    ensures fresh { result.1 ≡ not (bit_in step words.old.items row column) }
+    ensures fresh { result ≡ not (bit_in step words.old.items row column) }
 {
     let place = row as usize * step + (column / 64) as usize;
     let bit = column % 64;
     let word = words[place];
     words[place] = word | (1 << bit);
-    (place, (word >> bit) & 1 == 0)
+    (word >> bit) & 1 == 0
 }
 
-/// Sets each word to 0, where none is used from some word on.
-pub fn clear_words(words: &mut Vec<u64>, used: usize)
-    requires within { used ≤ length words.old.items }
-    requires unused { (k : ℕ) → used ≤ k → get_or words.old.items k 0 ≡ 0 }
-    ensures length { length words.new.items ≡ length words.old.items }
-    ensures zeros { (k : ℕ) → get_or words.new.items k 0 ≡ 0 }
+/// Sets the bits of a word in a word of a row, where each row has that many.
+#[inline(always)]
+pub fn join_bits(words: &mut Vec<u64>, step: usize, row: u32, lane: u32, more: u64)
+    requires { row * step + lane < length words.old.items }
+    ensures { words.new.items ≡ set words.old.items (row * step + lane) (bit_or (get_or words.old.items (row * step + lane) 0) more) }
 {
-    'places: for place in 0..used {
-        words[place] = 0;
-    }
+    let place = row as usize * step + lane as usize;
+    let word = words[place];
+    words[place] = word | more;
+}
+
+/// Sets a word of a row to 0, where each row has that many, and gives what it was.
+#[inline(always)]
+pub fn take_word(words: &mut Vec<u64>, step: usize, row: u32, lane: u32) -> u64
+    requires { row * step + lane < length words.old.items }
+    ensures word { result ≡ get_or words.old.items (row * step + lane) 0 }
+    ensures words { words.new.items ≡ set words.old.items (row * step + lane) 0 }
+{
+    let place = row as usize * step + lane as usize;
+    let word = words[place];
+    words[place] = 0;
+    word
 }
 
 /// Sets the words of a row to 0, where each row has that many.
@@ -52,11 +63,11 @@ pub fn clear_row_words(words: &mut Vec<u64>, step: usize, row: u32)
     }
 }
 
-/// Appends zeros to zeros up to that many words.
+/// Appends zeros up to that many words.
 pub fn grow_words(words: &mut Vec<u64>, count: usize) -> Result<(), Memory>
-    requires { (k : ℕ) → get_or words.old.items k 0 ≡ 0 }
     ensures room { OnOk result (count ≤ length words.new.items) }
-    ensures zeros { (k : ℕ) → get_or words.new.items k 0 ≡ 0 }
+    ensures same { (k : ℕ) → get_or words.new.items k 0 ≡ get_or words.old.items k 0 }
+    ensures err { OnErr result (words.new.items ≡ words.old.items) }
 {
     if words.len() < count {
         words.resize(count, 0)?;

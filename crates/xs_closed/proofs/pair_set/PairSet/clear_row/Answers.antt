@@ -8,13 +8,13 @@ clear_row_words-requires c = row_there c.args.a c.self.invariant c.self.view_is 
 pub invariant_of-self : goal.invariant_of-self
 invariant_of-self c =
     let p = c.self.inside in
-    cleared_packed p.high p.wide p.step p.used c.args.a p.words.items _ c.self.invariant c.clear_row_words.ensures
+    cleared_packed p.high p.wide p.step c.args.a p.words.items _ c.self.invariant c.clear_row_words.ensures
 
 pub returns-clause-clear : goal.returns-clause-clear
 returns-clause-clear c =
     let p = c.self.inside in
     let l = rw (← c.self.view_is, rows_length p.high p.wide p.step p.words.items) at c.requires in
-    rw (← c.self.view_is) (row_cleared p.high p.wide p.step p.used c.args.a p.words.items _ c.self.invariant l c.clear_row_words.ensures)
+    rw (← c.self.view_is) (row_cleared p.high p.wide p.step c.args.a p.words.items _ c.self.invariant l c.clear_row_words.ensures)
 
 pub returns-clause-sized : goal.returns-clause-sized
 returns-clause-sized c =

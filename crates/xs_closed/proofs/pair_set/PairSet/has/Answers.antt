@@ -15,7 +15,7 @@ returns-then-a-self c =
 pub word_of-word-requires : goal.word_of-word-requires
 word_of-word-requires c =
     let p = c.self.inside in
-    rw c.deref.ensures.value (word_within p.high p.wide p.step p.used p.words.items c.args.a c.args.b c.self.invariant c.if-a-self.false c.if-b-self.false)
+    rw c.deref.ensures.value (word_within p.high p.wide p.step p.words.items c.args.a c.args.b c.self.invariant c.if-a-self.false c.if-b-self.false)
 
 pub returns : goal.returns
 returns c =

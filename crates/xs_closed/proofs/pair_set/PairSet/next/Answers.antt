@@ -10,7 +10,7 @@ returns-then-a-self-clause-none c =
 pub word_of-word-requires : goal.word_of-word-requires
 word_of-word-requires c =
     let p = c.self.inside in
-    rw c.deref.ensures.value (word_within p.high p.wide p.step p.used p.words.items c.args.a c.words.at c.self.invariant c.if-a-self.false c.words-test.true)
+    rw c.deref.ensures.value (word_within p.high p.wide p.step p.words.items c.args.a c.words.at c.self.invariant c.if-a-self.false c.words-test.true)
 
 pub returns-then-found-wide-clause-some : goal.returns-then-found-wide-clause-some
 returns-then-found-wide-clause-some c =

@@ -1,38 +1,29 @@
-use Rattle.std.proofs.Common.{ℕ, ◌+◌, ◌<◌, ◌≤◌, arith}
+use Rattle.std.proofs.Common.{◌+◌, arith}
 use Rattle.std.proofs.lemmas.Result.{IfOk-weaker}
-use Rattle.xs_coarse.specs.Arcs.{HasFound}
-use Rattle.xs_coarse.specs.Found.{IsMore}
-use Rattle.xs_coarse.proofs.FoundLemmas.{begun, more_for}
-use Rattle.xs_coarse.proofs.GrowthLemmas.{more_same}
-use Rattle.xs_coarse.proofs.LayerLemmas.{LooksAt, looks_of, last_middles_from}
+use Rattle.xs_coarse.specs.Found.{IsNone}
+use Rattle.xs_coarse.proofs.GrowthLemmas.{more_then, more_keeps, keep_for, none_for, fresh_none, fresh_more, laid_none}
+use Rattle.xs_coarse.proofs.LayerLemmas.{last_middles_from}
 use Rattle.xs_coarse.proofs.found.Found.find_last_middles.Goals as goal
-use Rattle.xs_coarse.proofs.found.Found.find_last_middles.Goals.{then-gate-gt0+in_ok-seed_firsts, else-gate-gt0}
+
+pub seed_ends-requires-clause-net : goal.seed_ends-requires-clause-net
+seed_ends-requires-clause-net c = let none = c.in_ok-begin.ensures.ok c.if-not-branch.false in omega (arith, none.wide, c.len-states.ensures.states)
+
+pub seed_ends-requires-clause-laid : goal.seed_ends-requires-clause-laid
+seed_ends-requires-clause-laid c = laid_none c.args.net.now (c.in_ok-begin.ensures.ok c.if-not-branch.false)
+
+pub seed_gate-requires-clause-net : goal.seed_gate-requires-clause-net
+seed_gate-requires-clause-net c = let none = c.in_ok-begin.ensures.ok c.if-not-branch.false in omega (arith, none.wide, c.len-states.ensures.states, c.seed_ends.ensures.more.wide)
 
 pub close-requires-clause-nets : goal.close-requires-clause-nets
 close-requires-clause-nets c =
-    let net = c.args.net.now in
-    let nets = begun net net c.begin.new.self (c.args.here + 1) c.len-states.result c.in_ok-begin.field-0 c.if-not-branch.false c.in_ok-begin.ensures.ok (omega (arith, c.requires.here)) (omega (arith, c.len-states.ensures.states)) in
-    let stepped = more_for net net c.begin.new.self c.seed_steps.new.self nets c.seed_steps.ensures.more in
-    elim c.if-gate-gt0.branch [
-      | then-gate-gt0+in_ok-seed_firsts w ↦ rw w.self-is (more_for net net c.seed_steps.new.self w.seed_firsts.new.self stepped w.seed_firsts.ensures.more)
-      | else-gate-gt0 w ↦ rw w.self-is stepped
-    ]
+    let n = c.args.net.now in
+    let none = c.in_ok-begin.ensures.ok c.if-not-branch.false in
+    keep_for n n (none_for n n none (omega (arith, c.requires.here)) (omega (arith, c.len-states.ensures.states))) (more_keeps (more_then c.seed_ends.ensures.more c.seed_gate.ensures.more))
 
-pub close-requires-clause-fits : goal.close-requires-clause-fits
-close-requires-clause-fits c = elim c.if-gate-gt0.branch [
-  | then-gate-gt0+in_ok-seed_firsts w ↦ rw w.self-is w.seed_firsts.ensures.more.fits
-  | else-gate-gt0 w ↦ rw w.self-is c.seed_steps.ensures.more.fits
-]
+pub close-requires-clause-begun : goal.close-requires-clause-begun
+close-requires-clause-begun c = fresh_more (more_then c.seed_ends.ensures.more c.seed_gate.ensures.more) (fresh_none (c.in_ok-begin.ensures.ok c.if-not-branch.false))
 
 pub returns-clause-ok : goal.returns-clause-ok
 returns-clause-ok c =
-    let looks : LooksAt (c.args.here + 1) c.args.net.now.states c.begin.new.self = rw (← c.len-states.ensures.states) (looks_of (c.in_ok-begin.ensures.ok c.if-not-branch.false)) in
-    let entered : IsMore c.seed_steps.new.self c.if-gate-gt0.self = elim c.if-gate-gt0.branch [
-      | then-gate-gt0+in_ok-seed_firsts w ↦ rw w.self-is w.seed_firsts.ensures.more
-      | else-gate-gt0 w ↦ rw w.self-is (more_same c.seed_steps.new.self c.seed_steps.ensures.more.fits)
-    ] in
-    let enters : 0 < c.args.gate → (b : ℕ) → c.args.here + 1 ≤ b → b < c.args.net.now.states → HasFound c.if-gate-gt0.self c.args.gate b = λ some. elim c.if-gate-gt0.branch [
-      | then-gate-gt0+in_ok-seed_firsts w ↦ rw w.self-is (λ b from below. w.in_ok-seed_firsts.ensures.ok b from (omega (arith, below, c.len-states.ensures.states)))
-      | else-gate-gt0 w ↦ absurd (omega (arith, some, w.if-gate-gt0.false))
-    ] in
-    IfOk-weaker c.close.result _ _ (λ closed shut yes. last_middles_from c.args.labels.now c.args.net.now c.args.gate c.args.here c.args.pairs.now _ looks c.seed_steps.ensures.more entered c.close.ensures.more c.requires.gate c.requires.pairs c.in_ok-seed_steps.ensures.ok enters (shut yes)) c.close.ensures.ok
+    let none : IsNone (c.args.here + 1) c.args.net.now.states c.begin.new.self = rw (← c.len-states.ensures.states) (c.in_ok-begin.ensures.ok c.if-not-branch.false) in
+    IfOk-weaker c.close.result _ _ (λ closed shut yes. last_middles_from c.args.labels.now c.args.net.now c.args.gate c.args.here _ none c.seed_ends.ensures.more c.seed_gate.ensures.more c.close.ensures.keeps c.requires.gate c.in_ok-seed_ends.ensures.there c.in_ok-seed_gate.ensures.there (shut yes)) c.close.ensures.shut

@@ -5,16 +5,17 @@ use Rattle.xs_coarse.proofs.GrowthLemmas.{more_same, more_then, more_found}
 use Rattle.xs_coarse.proofs.found.Found.seed_firsts.Goals as goal
 
 pub states-init : goal.states-init
-states-init c = record { more = more_same c.args.self.now c.requires; there = λ b from before. absurd (omega (arith, from, before)) }
+states-init c = record { more = more_same c.args.self.now c.requires.fits; laid = c.requires.laid; there = λ b from before. absurd (omega (arith, from, before)) }
 
 pub states-preserved : goal.states-preserved
 states-preserved c = record {
   more = more_then c.states.invariant.more c.visit.ensures.more;
+  laid = c.in_ok-visit.ensures.laid;
   there = λ b from before. elim (cases_lt b c.states.second) [
     | inl less ↦ more_found c.visit.ensures.more c.args.first b (c.states.invariant.there b from less)
-    | inr more ↦ subst (λ (k : ℕ). HasFound c.visit.new.self c.args.first k) (omega (arith, before, more)) c.in_ok-visit.ensures.ok
+    | inr more ↦ subst (λ (k : ℕ). HasFound c.visit.new.self c.args.first k) (omega (arith, before, more)) c.in_ok-visit.ensures.there
   ];
 }
 
-pub returns-clause-ok : goal.returns-clause-ok
-returns-clause-ok c = λ b from before. c.states.invariant.there b from (omega (arith, before, c.states-test.false))
+pub returns-clause-there : goal.returns-clause-there
+returns-clause-there c = λ b from before. c.states.invariant.there b from (omega (arith, before, c.states-test.false))

@@ -1,5 +1,11 @@
-use Rattle.xs_coarse.proofs.ArcLemmas.{steps_on}
+use Rattle.xs_coarse.specs.Arcs.{IsLaid}
+use Rattle.xs_coarse.proofs.GrowthLemmas.{more_found}
+use Rattle.xs_coarse.proofs.ArcLemmas.{arc, steps_by}
+use Rattle.xs_coarse.proofs.Walks.{walk_none, walk_more, walk_all, joins_stay}
 use Rattle.xs_coarse.proofs.found.Found.step.Goals as goal
 
-pub returns-clause-ok : goal.returns-clause-ok
-returns-clause-ok c = steps_on c.args.labels.now c.args.first.now c.args.second.now c.args.at.first c.args.at.second c.visit_boths.new.self _ _ c.row.ensures.complete c.row-2.ensures.complete c.in_ok-visit_boths.ensures.ok
+pub arcs-preserved : goal.arcs-preserved
+arcs-preserved c = walk_more (arc 0 0 0) c.step_arc.new.self (λ y joins. joins_stay c.args.labels.now c.args.arcs.now y c.step_arc.ensures.more joins) c.arcs.invariant c.arcs-test.true c.step_arc.ensures.more c.in_ok-step_arc.ensures.laid c.in_ok-step_arc.ensures.there
+
+pub returns-clause-there : goal.returns-clause-there
+returns-clause-there c = steps_by c.args.labels.now c.args.second.now c.args.arcs.now c.args.state c.arcs.self c.reads-others.result.now c.reads-others.ensures.complete (walk_all c.arcs.invariant c.arcs-test.false)

@@ -1,32 +1,20 @@
-use Rattle.std.proofs.Common.{◌<◌, ◌≤◌, ◌∙◌, ap, arith, length, length-set}
-use Rattle.xs_class.proofs.Lists.{contains_of}
-use Rattle.xs_coarse.proofs.FoundLemmas.{found_word, marked_more, marked_none}
-use Rattle.xs_coarse.proofs.GrowthLemmas.{read_at}
+use Rattle.std.proofs.Common.{◌≡◌, ◌<◌, ap, length, arith}
+use Rattle.std.proofs.lemmas.Option.{slice_get_read}
+use Rattle.std.specs.List.{slice_get}
+use Rattle.std.specs.declared.option.Option.TheVariants.{Some}
+use Rattle.xs_coarse.proofs.FoundLemmas.{wiping_none, wiping_more, wiping_all}
 use Rattle.xs_coarse.proofs.found.Found.wipe.Goals as goal
 
-pub places-preserved : goal.places-preserved
-places-preserved c =
-    let known = c.places.invariant in
-    let p = c.index-pair.result.now in
-    let low : c.places.place < length c.places.self.pairs.items = omega (arith, ap (λ v. length v.items) known.pairs, c.places-test.true, c.len-place-end.ensures, c.args.self.now.pairs.ok) in
-    let here = read_at c.places.self.pairs.items c.places.place p low c.index-pair.ensures in
-    let word = found_word c.args.self.now p c.requires (contains_of c.args.self.now.pairs.items c.places.place p (rw known.pairs at here)) in
-    record {
-      height = known.height;
-      width = known.width;
-      pairs = known.pairs;
-      room = length-set c.places.self.words.items _ _ ∙ known.room;
-      marked = marked_more c.places.place c.places.self.width c.places.self.pairs.items c.places.self.words.items p here (rw (known.width, known.room) word) known.marked;
-    }
+pub rows-init : goal.rows-init
+rows-init c = wiping_none c.args.self.now c.requires
+
+pub wipe_row-requires : goal.wipe_row-requires
+wipe_row-requires c = c.rows.invariant.rows c.rows.place _ (omega (arith, ap (λ q. length q.items) c.rows.invariant.queue, c.rows-test.true, c.len-place-end.ensures, c.args.self.now.queue.ok))
+
+pub rows-preserved : goal.rows-preserved
+rows-preserved c =
+    let low : c.rows.place < length c.rows.self.queue.items = omega (arith, ap (λ q. length q.items) c.rows.invariant.queue, c.rows-test.true, c.len-place-end.ensures, c.args.self.now.queue.ok) in
+    wiping_more c.args.self.now c.rows.self c.wipe_row.new.self c.rows.place c.index-row.result.now c.rows.invariant (slice_get_read c.rows.self.queue.items (length c.rows.self.queue.items) c.rows.place c.index-row.result.now (λ i. length c.rows.self.queue.items) low c.index-row.ensures) c.wipe_row.ensures
 
 pub returns : goal.returns
-returns c =
-    let known = c.places.invariant in
-    let high : length c.places.self.pairs.items ≤ c.places.place = omega (arith, ap (λ v. length v.items) known.pairs, c.places-test.false, c.len-place-end.ensures, c.args.self.now.pairs.ok) in
-    record {
-      height = known.height;
-      width = known.width;
-      room = known.room;
-      pairs = c.clear.ensures.items;
-      blank = marked_none c.places.place c.places.self.width c.places.self.pairs.items c.places.self.words.items high known.marked;
-    }
+returns c = wiping_all c.args.self.now c.rows.self _ c.rows.place c.rows.invariant (omega (arith, ap (λ q. length q.items) c.rows.invariant.queue, c.rows-test.false, c.len-place-end.ensures, c.args.self.now.queue.ok)) (λ i. c.rows.self.marks) (λ i. c.rows.self.fresh) (λ i. c.rows.self.waits) c.clear.ensures.items
