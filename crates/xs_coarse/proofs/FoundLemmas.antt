@@ -5,7 +5,8 @@ use Rattle.std.specs.List.{All}
 use Rattle.std.specs.declared.option.Option.TheVariants.{Some}
 use Rattle.std.proofs.lemmas.Bool.{cases_eq, cases_lt, true≢false}
 use Rattle.std.proofs.lemmas.List.Elements.{All-push, All-weaker, All-nil, All-same}
-use Rattle.std.proofs.lemmas.Nat.Bits.{bit_at-zero}
+use Rattle.std.proofs.lemmas.Nat.{one_shl}
+use Rattle.std.proofs.lemmas.Nat.Bits.{bit_at-zero, bit_at-pow_same, bit_at-pow_other}
 use Rattle.xs_class.proofs.Lists.{get_last}
 use Rattle.xs_class.proofs.Truth.{or_left, or_right}
 use Rattle.xs_meet.proofs.PhaseLemmas.{either_true}
@@ -201,6 +202,19 @@ lacking_none f a place word new lacking within none b is l m = elim (lacking.eit
     zero_one : 0 ≡ 1 → ⊥
     zero_one e = absurd (omega (arith, e))
 
+-- the word of one bit has that of a state, and no other
+pub the_bit : (second : ℕ) → IsBit (second / 64) (1 * 2 ^ (second % 64) % 2 ^ 64) second
+the_bit second = record { lane = refl; bit = ap (λ w. bit_at w (second % 64)) (one_shl (second % 64) 64 (omega arith)) ∙ bit_at-pow_same (second % 64) }
+
+pub only_bit : (second b : ℕ) → IsBit (second / 64) (1 * 2 ^ (second % 64) % 2 ^ 64) b → b ≡ second
+only_bit second b is = elim (cases_eq (b % 64) (second % 64)) [
+  | inl same ↦ omega (arith, same, is.lane)
+  | inr ne ↦ absurd (zero_one (sym (ap (λ w. bit_at w (b % 64)) (one_shl (second % 64) 64 (omega arith)) ∙ bit_at-pow_other (second % 64) (b % 64) ne) ∙ is.bit))
+]
+  where
+    zero_one : 0 ≡ 1 → ⊥
+    zero_one e = absurd (omega (arith, e))
+
 -- nothing is left, as between two searches
 pub wiped_kept : (f : Found) → IsWiped f → IsKept f
 wiped_kept f wiped = record {
@@ -232,6 +246,34 @@ wiped_as f marks fresh none none_fresh e h waits queue = record {
   fresh = λ a b. ap (λ z. marked z a b) h ∙ none_fresh a b;
   waits = waits;
   queue = queue;
+}
+
+-- a row without pairs
+cleared : {old new : Grid} {a : ℕ} → HasNoRow old new a → (c d : ℕ) → HasPair new c d → HasPair old c d × (c ≡ a → ⊥)
+cleared {old} {new} {a} no c d h = elim (cases_eq c a) [
+  | inl e ↦ absurd (true≢false (sym h ∙ ap (λ r. marked new r d) e ∙ no.clear d))
+  | inr ne ↦ (sym (no.others c d ne) ∙ h, ne)
+]
+
+-- one of a state that did not wait, and of one that did
+pub wiped_off : (f g : Found) (a : ℕ) → HasNoRow f.marks g.marks a → IsSized (length f.marks.rows) f.marks.wide g.marks → g.fresh ≡ f.fresh → g.waits ≡ f.waits → g.queue ≡ f.queue → get_or f.waits.items a false ≡ false → IsRowWiped f g a
+wiped_off f g a marks sized fresh waits queue off = record {
+  queue = queue;
+  rows = λ c r. record { marks = omega (arith, r.marks, sized.high); fresh = rw fresh r.fresh; waits = rw waits r.waits };
+  marks = cleared marks;
+  fresh = λ c d h. (rw fresh at h, λ e on. true≢false (sym on ∙ off));
+  waits = λ c h. let was = rw waits at h in (was, λ e. true≢false (sym (subst (DoesWait f) e was) ∙ off));
+  still = λ c ne h. rw waits h;
+}
+
+pub wiped_on : (f g : Found) (a : ℕ) → IsRow f a → HasNoRow f.marks g.marks a → IsSized (length f.marks.rows) f.marks.wide g.marks → HasNoRow f.fresh g.fresh a → IsSized (length f.fresh.rows) f.fresh.wide g.fresh → g.waits.items ≡ set f.waits.items a false → g.queue ≡ f.queue → IsRowWiped f g a
+wiped_on f g a row marks sized fresh fresh_sized waits queue = record {
+  queue = queue;
+  rows = λ c r. record { marks = omega (arith, r.marks, sized.high); fresh = omega (arith, r.fresh, fresh_sized.high); waits = omega (arith, r.waits, ap length waits, length-set f.waits.items a false) };
+  marks = cleared marks;
+  fresh = λ c d h. let was = cleared fresh c d h in (was.0, λ e on. was.1 e);
+  waits = λ c h. set_off f.waits.items a c row.waits (rw waits at h);
+  still = λ c ne h. rw waits (get_or-set_other f.waits.items a c false false ne ∙ h);
 }
 
 -- a search whose rows are wiped one by one, up to a place in the queue

@@ -215,3 +215,7 @@ none_from z a from b none h = elim (cases_lt b from) [
   | inl less ↦ less
   | inr more ↦ absurd (true≢false (sym h ∙ none b more))
 ]
+
+-- what holds of all holds of the one that is read
+pub read_all : (P : ℕ → Type 0) (xs : List ℕ) (k x : ℕ) → k < length xs → x ≡ get_or xs k x → All P xs → P x
+read_all P xs k x low e all = subst P (sym e) (all k x low)

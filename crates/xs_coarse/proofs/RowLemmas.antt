@@ -17,11 +17,11 @@ use Rattle.xs_coarse.specs.declared.lane.Lane.{Lane}
 use Rattle.xs_coarse.specs.declared.found.Found.{Found}
 use Rattle.xs_coarse.specs.Coarse.{Table, Net, HasArc}
 use Rattle.xs_coarse.specs.Arcs.{SlipsFirst, Steps, Passes, HasFound, HasAll, IsGone, IsLaid}
-use Rattle.xs_coarse.specs.Found.{HasPair, IsBit, IsMore, IsKept, IsRow, IsLonger, IsFrom, Fits, DoesWait, Never}
+use Rattle.xs_coarse.specs.Found.{HasPair, IsBit, IsMore, IsRow, IsLonger, IsFrom, Keeps, Fits, DoesWait, Never}
 use Rattle.xs_coarse.specs.Lanes.{InLanes, IsOfWidth, IsTarget, IsLaneTaken, IsTakenTo, IsTaken}
 use Rattle.xs_coarse.proofs.ArcLemmas.{arc}
 use Rattle.xs_coarse.proofs.FoundLemmas.{same_lane, set_off}
-use Rattle.xs_coarse.proofs.GrowthLemmas.{longer_same, sized_inside, more_found, all_more, gone_more, gone_done}
+use Rattle.xs_coarse.proofs.GrowthLemmas.{longer_same, longer_then, longer_from, longer_length, from_later, keep_then, more_keeps, more_found, all_more, gone_more, gone_done}
 use Rattle.xs_coarse.proofs.SlideLemmas.{HasMoves}
 
 -- a lane more
@@ -220,10 +220,7 @@ taken_gone L f g lanes row taken marks gone a b h = elim (gone a b (rw marks at 
   | inr (inr all) ↦ inr (inr (λ c d leads. rw marks (all c d leads)))
 ]
 
--- these arcs lead from a state of the net
-abbrev pub LeadFrom : Net → ℕ → List Arc → Type 0
-LeadFrom m a arcs = All (λ (x : Arc). (x.from ≡ a) × Contains m.arcs x) arcs
-
+-- a target is one of an arc of the net
 target_arc : (m : Net) (row a : ℕ) (arcs : List Arc) → All (Contains m.arcs) arcs → All (λ (x : Arc). x.from ≡ row) arcs → IsTarget arcs a → HasArc m row 0 a
 target_arc m row a arcs sound from t = subst (Contains m.arcs) same (All-contains (Contains m.arcs) arcs t.arc sound t.has)
   where
@@ -273,3 +270,61 @@ waits_after f g h lanes row low taken more a k = elim (more.waits a k) [
   | inl old ↦ inl (set_off f.waits.items row a low (rw taken.waits at old))
   | inr from ↦ inr (subst (λ q. IsFrom (length q.items) h.queue.items a) taken.queue from)
 ]
+
+-- lanes of fewer states are lanes of more
+pub lanes_wider : (wide states : ℕ) (lanes : List Lane) → wide ≤ states → All (IsOfWidth wide) lanes → All (IsOfWidth states) lanes
+lanes_wider wide states lanes le all = All-weaker (IsOfWidth wide) (IsOfWidth states) (λ lane is. record { start = omega (arith, is.start, le); within = λ b at bit. omega (arith, is.within b at bit, le) }) lanes all
+
+pub keeps_same : (f g : Found) → Fits g → g.marks ≡ f.marks → Keeps f g
+keeps_same f g fits marks = record {
+  fits = fits;
+  high = ap (λ z. length z.rows) marks;
+  wide = ap (λ z. z.wide) marks;
+  grows = λ a b h. rw marks h;
+}
+
+-- the fresh pairs of a row were taken out, and put where empty moves of the first net lead
+pub record IsMoved (t : Table) (m n : Net) (moves : Moves) (f h : Found) (lanes : List Lane) (row : ℕ) : Type 0 where
+  pub keeps : Keeps f h
+  pub laid : IsLaid n h
+  pub gone : IsGone (Passes moves t m n) (AreOfLanes row lanes) h
+  pub slips : (b : ℕ) → InLanes lanes b → HasAll (SlipsFirst m) row b h
+  pub queue : IsLonger f.queue.items h.queue.items
+  pub waits : (a : ℕ) → DoesWait h a → (DoesWait f a × (a ≡ row → ⊥)) ⊎ IsFrom (length f.queue.items) h.queue.items a
+
+pub moved : (t : Table) (m n : Net) (moves : Moves) (f g h : Found) (arcs : List Arc) (lanes : List Lane) (row : ℕ) → Fits f → row < length f.marks.rows → IsLaid n f → IsGone (Passes moves t m n) Never f → Fits g → g.marks ≡ f.marks → IsTaken f g lanes row → All (Contains m.arcs) arcs → All (λ (x : Arc). x.from ≡ row) arcs → HasMoves m row arcs → IsMore g h → ((a b : ℕ) → IsTarget arcs a → InLanes lanes b → HasFound h a b) → ((a b : ℕ) → HasPair h.marks a b → HasPair g.marks a b ⊎ (IsTarget arcs a × InLanes lanes b)) → IsMoved t m n moves f h lanes row
+moved t m n moves f g h arcs lanes row fits low laid gone fits_g marks taken sound from complete more there only =
+    let but = taken_gone (Passes moves t m n) f g lanes row taken marks gone in
+    let laid_g : IsLaid n g = rw marks laid in
+    let were : (b : ℕ) → InLanes lanes b → HasPair g.marks row b = λ b i. rw marks (taken.were b i) in
+    record {
+      keeps = keep_then (keeps_same f g fits_g marks) (more_keeps more);
+      laid = laid_again t m n moves g h arcs lanes row sound from laid_g but taken.gone were more there only;
+      gone = gone_more (Passes moves t m n) (AreOfLanes row lanes) more but;
+      slips = slips_there t m n moves g h arcs lanes row sound from laid_g but taken.gone were more there only complete;
+      queue = subst (λ q. IsLonger q.items h.queue.items) taken.queue more.queue;
+      waits = waits_after f g h lanes row (omega (arith, fits.room, low)) taken more;
+    }
+
+pub moved_more : {t : Table} {m n : Net} {moves : Moves} {f h k : Found} {lanes : List Lane} {row : ℕ} → IsMoved t m n moves f h lanes row → IsMore h k → IsLaid n k → IsMoved t m n moves f k lanes row
+moved_more {t} {m} {n} {moves} {f} {h} {k} {lanes} {row} is more laid = record {
+  keeps = keep_then is.keeps (more_keeps more);
+  laid = laid;
+  gone = gone_more (Passes moves t m n) (AreOfLanes row lanes) more is.gone;
+  slips = λ b i. all_more (SlipsFirst m) row b more (is.slips b i);
+  queue = longer_then is.queue more.queue;
+  waits = λ a w. elim (more.waits a w) [
+    | inl old ↦ elim (is.waits a old) [
+      | inl was ↦ inl was
+      | inr late ↦ inr (longer_from a more.queue late)
+    ]
+    | inr late ↦ inr (from_later a (longer_length is.queue) late)
+  ];
+}
+
+-- so all pairs were gone on from
+pub gone_empty : {t : Table} {m n : Net} {f h : Found} {lanes : List Lane} {row : ℕ} → IsMoved t m n Empty f h lanes row → IsGone (Passes Empty t m n) Never h
+gone_empty {t} {m} {n} {f} {h} {lanes} {row} is = gone_done (Passes Empty t m n) (AreOfLanes row lanes) is.gone (passes_empty t m n row lanes h is.slips)
+
+pub gone_every : {t : Table} {m n : Net} {f h : Found} {lanes : List Lane} {row : ℕ} → IsMoved t m n Every f h lanes row → ((b : ℕ) → InLanes lanes b → HasAll (Steps t m n) row b h) → IsGone (Passes Every t m n) Never h
+gone_every {t} {m} {n} {f} {h} {lanes} {row} is steps = gone_done (Passes Every t m n) (AreOfLanes row lanes) is.gone (passes_every t m n row lanes h is.slips steps)

@@ -75,10 +75,11 @@ impl Found {
         ensures { IsRowWiped self.old self.new row }
     {
         self.marks.clear_row(row);
-        if self.waits[row as usize] {
-            self.waits[row as usize] = false;
-            self.fresh.clear_row(row);
+        if !self.waits[row as usize] {
+            return;
         }
+        self.waits[row as usize] = false;
+        self.fresh.clear_row(row);
     }
 
     /// Notes that a state has fresh pairs.
