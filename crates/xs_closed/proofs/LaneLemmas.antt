@@ -7,7 +7,7 @@ use Rattle.std.proofs.lemmas.Nat.Bits.{bit_at-zero, bit_at-lt, bit_at_or}
 use Rattle.xs_closed.specs.Rows.{Grid, marked}
 use Rattle.xs_closed.specs.Words.{grid_of, IsPacked, IsCleared}
 use Rattle.xs_closed.specs.Lanes.{HasNoRow, IsLane, IsLaneWithin, IsLackingLane, JoinsLane, HasNoLane}
-use Rattle.xs_closed.proofs.WordLemmas.{HasNoBits, rows_length, pair_read, pair_blank, past_high, past_wide, packed_set, bit_kept, bit_lost}
+use Rattle.xs_closed.proofs.WordLemmas.{HasNoBits, no_one, rows_length, pair_read, pair_blank, past_high, past_wide, packed_set, bit_kept, bit_lost}
 
 -- the words of a row are there
 pub row_within : (high wide step : ℕ) (words : List ℕ) (a : ℕ) → IsPacked high wide step words → a < high → a * step + step ≤ length words
@@ -16,9 +16,6 @@ row_within high wide step words a h l = by step refl
     by : (n : ℕ) → n ≡ step → a * step + step ≤ length words
     by zero e = subst (λ k. a * k + k ≤ length words) e (omega arith)
     by (suc n) e = omega (arith, h.room, mul-add-lt a step n high l (omega (arith, e)))
-
-zero_one : 0 ≡ 1 → ⊥
-zero_one e = absurd (omega (arith, e))
 
 pub row_there : {high wide step : ℕ} {words : List ℕ} {z : Grid} (a : ℕ) → IsPacked high wide step words → grid_of high wide step words ≡ z → a < length z.rows → a * step + step ≤ length words
 row_there {high} {wide} {step} {words} a h e l = row_within high wide step words a h (rw (← e, rows_length high wide step words) at l)
@@ -38,16 +35,16 @@ cleared_packed high wide step a old new h is = record {
 }
   where
     no_bit_set : (k i : ℕ) → get_or new k 0 ≡ 0 → bit_at (get_or new k 0) i ≡ 1 → ⊥
-    no_bit_set k i none e = zero_one (sym (ap (λ w. bit_at w i) none ∙ bit_at-zero i) ∙ e)
+    no_bit_set k i none e = no_one (bit_at (get_or new k 0) i) (ap (λ w. bit_at w i) none ∙ bit_at-zero i) e
 
 -- a table all of whose words were cleared has no bit set
-pub cleared_none : (high wide step : ℕ) (old new : List ℕ) → IsPacked high wide step old → IsCleared old new 0 (step * high) → HasNoBits new
-cleared_none high wide step old new h is k i l e = elim (cases_lt k (step * high)) [
-  | inl m ↦ zero_one (sym (ap (λ w. bit_at w i) (is.zeros k (omega arith) m) ∙ bit_at-zero i) ∙ e)
+pub cleared_none : (high wide step from to : ℕ) (old new : List ℕ) → IsPacked high wide step old → from ≡ 0 → to ≡ step * high → IsCleared old new from to → HasNoBits new
+cleared_none high wide step from to old new h first last is k i l e = elim (cases_lt k to) [
+  | inl m ↦ no_one (bit_at (get_or new k 0) i) (ap (λ w. bit_at w i) (is.zeros k (omega (arith, first)) m) ∙ bit_at-zero i) e
   | inr m ↦
       let p = h.clean k i l (sym (ap (λ w. bit_at w i) (is.after k m)) ∙ e) in
       let low : p.second / 64 < step = omega (arith, h.columns, p.column) in
-      absurd (omega (arith, m, p.word, mul-add-lt p.first step (p.second / 64) high p.row low))
+      absurd (omega (arith, m, last, p.word, mul-add-lt p.first step (p.second / 64) high p.row low))
 ]
 
 -- a row of zeros has no pairs
@@ -185,4 +182,4 @@ lane_taken high wide step words a place h l m = record {
 
 -- a word that is 0 now has no bit
 pub taken_packed : (high wide step place : ℕ) (words : List ℕ) → IsPacked high wide step words → IsPacked high wide step (set words place 0)
-taken_packed high wide step place words h = packed_set high wide step place 0 words h (λ i l e. absurd (zero_one (sym (bit_at-zero i) ∙ e)))
+taken_packed high wide step place words h = packed_set high wide step place 0 words h (λ i l e. absurd (no_one (bit_at 0 i) (bit_at-zero i) e))

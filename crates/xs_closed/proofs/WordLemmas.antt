@@ -103,6 +103,10 @@ pair_marks high wide step words a b h l m = record {
   ];
 }
 
+-- what is 0 is not 1
+pub no_one : (x : ℕ) → x ≡ 0 → x ≡ 1 → ⊥
+no_one x none one = absurd (omega (arith, none, one))
+
 -- no bit is set
 abbrev pub HasNoBits : List ℕ → Type 0
 HasNoBits words = (k i : ℕ) → i < 64 → bit_at (get_or words k 0) i ≡ 1 → ⊥
@@ -126,14 +130,11 @@ packed_set high wide step place word words h by = record {
   clean = λ k i l e. elim (cases_eq k place) [
     | inl same ↦ subst (λ (q : ℕ). IsPairBit high wide step q i) (sym same) (elim (cases_lt place (length words)) [
       | inl low ↦ by i l (sym (ap (λ w. bit_at w i) (ap (λ q. get_or (set words place word) q 0) same ∙ get_or-set_same words place word 0 low)) ∙ e)
-      | inr high_place ↦ absurd (no_one (sym (ap (λ w. bit_at w i) (get_or_past (set words place word) k 0 (rw length-set (omega (arith, high_place, same)))) ∙ bit_at-zero i) ∙ e))
+      | inr high_place ↦ absurd (no_one (bit_at (get_or (set words place word) k 0) i) (ap (λ w. bit_at w i) (get_or_past (set words place word) k 0 (rw length-set (omega (arith, high_place, same)))) ∙ bit_at-zero i) e)
     ])
     | inr ne ↦ h.clean k i l (sym (ap (λ w. bit_at w i) (get_or-set_other words place k word 0 ne)) ∙ e)
   ];
 }
-  where
-    no_one : 0 ≡ 1 → ⊥
-    no_one e = absurd (omega (arith, e))
 
 -- one more bit is that of a pair
 pub pair_packed : (high wide step : ℕ) (words : List ℕ) (a b : ℕ) → IsPacked high wide step words → a < high → b < wide → IsPacked high wide step (with_pair step words a b)

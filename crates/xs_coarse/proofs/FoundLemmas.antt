@@ -12,6 +12,7 @@ use Rattle.xs_class.proofs.Truth.{or_left, or_right}
 use Rattle.xs_meet.proofs.PhaseLemmas.{either_true}
 use Rattle.xs_closed.specs.Rows.{Grid, blank, marked, IsSized}
 use Rattle.xs_closed.specs.Lanes.{HasNoRow, JoinsLane, IsLackingLane, IsLaneWithin}
+use Rattle.xs_closed.proofs.WordLemmas.{no_one}
 use Rattle.xs_coarse.specs.declared.found.Found.{Found}
 use Rattle.xs_coarse.specs.Arcs.{HasWord}
 use Rattle.xs_coarse.specs.Found.{HasPair, IsInside, IsMore, IsKept, IsNone, IsWiped, IsRow, IsRowWiped, IsWaiting, IsBit, IsLonger, IsFrom, Fits, DoesWait, pair}
@@ -196,11 +197,8 @@ module _ (f w g : Found) (a place word new : ℕ) (fits : Fits f) (row : a < len
 pub lacking_none : (f : Found) (a place word new : ℕ) → IsLackingLane f.marks a place word new → IsLaneWithin f.marks.wide place word → new ≡ 0 → HasWord f a place word
 lacking_none f a place word new lacking within none b is l m = elim (lacking.either b is.lane (within b is.lane is.bit) is.bit) [
   | inl old ↦ old
-  | inr bit ↦ absurd (zero_one (sym (ap (λ v. bit_at v (b % 64)) none ∙ bit_at-zero (b % 64)) ∙ bit))
+  | inr bit ↦ absurd (no_one (bit_at new (b % 64)) (ap (λ v. bit_at v (b % 64)) none ∙ bit_at-zero (b % 64)) bit)
 ]
-  where
-    zero_one : 0 ≡ 1 → ⊥
-    zero_one e = absurd (omega (arith, e))
 
 -- the word of one bit has that of a state, and no other
 pub the_bit : (second : ℕ) → IsBit (second / 64) (1 * 2 ^ (second % 64) % 2 ^ 64) second
@@ -209,11 +207,8 @@ the_bit second = record { lane = refl; bit = ap (λ w. bit_at w (second % 64)) (
 pub only_bit : (second b : ℕ) → IsBit (second / 64) (1 * 2 ^ (second % 64) % 2 ^ 64) b → b ≡ second
 only_bit second b is = elim (cases_eq (b % 64) (second % 64)) [
   | inl same ↦ omega (arith, same, is.lane)
-  | inr ne ↦ absurd (zero_one (sym (ap (λ w. bit_at w (b % 64)) (one_shl (second % 64) 64 (omega arith)) ∙ bit_at-pow_other (second % 64) (b % 64) ne) ∙ is.bit))
+  | inr ne ↦ absurd (no_one (bit_at (1 * 2 ^ (second % 64) % 2 ^ 64) (b % 64)) (ap (λ w. bit_at w (b % 64)) (one_shl (second % 64) 64 (omega arith)) ∙ bit_at-pow_other (second % 64) (b % 64) ne) is.bit)
 ]
-  where
-    zero_one : 0 ≡ 1 → ⊥
-    zero_one e = absurd (omega (arith, e))
 
 -- nothing is left, as between two searches
 pub wiped_kept : (f : Found) → IsWiped f → IsKept f

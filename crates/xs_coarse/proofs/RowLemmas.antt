@@ -14,6 +14,7 @@ use Rattle.xs_closed.specs.declared.moves.Moves.{Moves}
 use Rattle.xs_closed.specs.declared.moves.Moves.TheVariants.{Empty, Every}
 use Rattle.xs_coarse.specs.declared.arc.Arc.{Arc}
 use Rattle.xs_coarse.specs.declared.lane.Lane.{Lane}
+use Rattle.xs_closed.proofs.WordLemmas.{no_one}
 use Rattle.xs_coarse.specs.declared.found.Found.{Found}
 use Rattle.xs_coarse.specs.Coarse.{Table, Net, HasArc}
 use Rattle.xs_coarse.specs.Arcs.{SlipsFirst, Steps, Passes, HasFound, HasAll, IsGone, IsLaid}
@@ -110,13 +111,10 @@ module _ (f g : Found) (row place word : ℕ) (fits : Fits f) (start : place * 6
     longer = longer_same lanes;
     gone = was_fresh;
     stays = λ a b ne h. clear.others a b ne ∙ h;
-    taken = λ b at h. absurd (zero_one (sym (ap (λ w. bit_at w (b % 64)) none ∙ bit_at-zero (b % 64)) ∙ (bit_of_fresh b at h).bit));
+    taken = λ b at h. absurd (no_one (bit_at word (b % 64)) (ap (λ w. bit_at w (b % 64)) none ∙ bit_at-zero (b % 64)) (bit_of_fresh b at h).bit);
     were = λ b i. inl i;
     within = λ all. all;
   }
-    where
-      zero_one : 0 ≡ 1 → ⊥
-      zero_one e = absurd (omega (arith, e))
 
 -- the lanes before a place were taken out
 pub taken_none : (f : Found) (lanes : List Lane) (row : ℕ) → Fits f → lanes ≡ [] → IsTakenTo f f lanes row 0

@@ -48,7 +48,8 @@ impl Found {
         ensures ok { IfOk result (λ room. room ≡ true → IsNone height width self.new) }
     {
         self.wipe();
-        if height as u64 * width as u64 > MOST_PAIRS {
+        let cells = height as u64 * width as u64;
+        if cells > MOST_PAIRS {
             return Ok(false);
         }
         grow_flags(&mut self.waits, height as usize)?;

@@ -22,7 +22,11 @@ impl Found {
         if first >= self.marks.high() || second >= self.marks.wide() {
             return Ok(());
         }
-        if !self.add(first, second)? || net.moves(second).is_empty() {
+        if !self.add(first, second)? {
+            return Ok(());
+        }
+        let moves = net.moves(second);
+        if moves.is_empty() {
             return Ok(());
         }
         self.slide(net, first, second)
@@ -87,7 +91,11 @@ impl Found {
         if second >= self.marks.wide() {
             return Ok(());
         }
-        if !self.add(first, second)? || net.moves(second).is_empty() {
+        if !self.add(first, second)? {
+            return Ok(());
+        }
+        let moves = net.moves(second);
+        if moves.is_empty() {
             return Ok(());
         }
         self.stack.push(second)?;
