@@ -39,7 +39,10 @@ steps_on t m n a b f arcs complete by c d s = by c d (record {
 
 -- no arcs lead nowhere
 pub steps_none : (t : Table) (n : Net) (arcs : List Arc) (b c d : ℕ) → length arcs ≡ 0 → StepsBy t arcs n b c d → ⊥
-steps_none t n arcs b c d none s = absurd (omega (arith, s.has.1.0, none))
+steps_none t n arcs b c d none s = absurd (omega (arith, s.has.1, none))
+
+pub steps_nowhere : (t : Table) (m n : Net) (arcs : List Arc) (a b c d : ℕ) → HasReads m a arcs → length arcs ≡ 0 → Steps t m n a b c d → ⊥
+steps_nowhere t m n arcs a b c d complete none s = absurd (omega (arith, (complete s.label c s.reads_first s.first).1, none))
 
 -- an empty move of a view is an arc that reads nothing
 pub slips_of : (t : Table) (m n : Net) (s e u f a b c d : ℕ) → Drifts (view t m s e) (view t n u f) a b c d → Slips m n a b c d

@@ -55,7 +55,7 @@ waits_now f g a fits row marks fresh stack queue waits =
       marks = marks;
       fresh = fresh;
       stack = stack;
-      flags = ap length waits ∙ length-set;
+      flags = ap length waits ∙ length-set f.waits.items a true;
       queue = record { added = a ∷ []; is = queue };
       rows = subst (All (IsRow f)) (sym queue) (All-push (IsRow f) f.queue.items a fits.kept.rows (row_in f a fits row));
       here = ap (λ ws. get_or ws a false) waits ∙ get_or-set_same f.waits.items a true false low;
@@ -245,9 +245,9 @@ wiped_as f marks fresh none none_fresh e h waits queue = record {
 
 -- a row without pairs
 cleared : {old new : Grid} {a : ℕ} → HasNoRow old new a → (c d : ℕ) → HasPair new c d → HasPair old c d × (c ≡ a → ⊥)
-cleared {old} {new} {a} no c d h = elim (cases_eq c a) [
-  | inl e ↦ absurd (true≢false (sym h ∙ ap (λ r. marked new r d) e ∙ no.clear d))
-  | inr ne ↦ (sym (no.others c d ne) ∙ h, ne)
+cleared {old} {new} {a} gone c d h = elim (cases_eq c a) [
+  | inl e ↦ absurd (true≢false (sym h ∙ ap (λ r. marked new r d) e ∙ gone.clear d))
+  | inr ne ↦ (sym (gone.others c d ne) ∙ h, ne)
 ]
 
 -- one of a state that did not wait, and of one that did

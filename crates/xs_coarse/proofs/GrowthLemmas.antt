@@ -113,8 +113,8 @@ gone_more L E more gone a b h = elim (more.fresh a b h) [
 ]
 
 -- where a search was gone on from all of E
-pub gone_done : (L : ℕ → ℕ → ℕ → ℕ → Type 0) (E : ℕ → ℕ → Type 0) {f : Found} → IsGone L E f → ((a b : ℕ) → E a b → HasAll L a b f) → IsGone L Never f
-gone_done L E gone done a b h = elim (gone a b h) [
+pub gone_done : (L : ℕ → ℕ → ℕ → ℕ → Type 0) (E : ℕ → ℕ → Type 0) (f : Found) → IsGone L E f → ((a b : ℕ) → E a b → HasAll L a b f) → IsGone L Never f
+gone_done L E f gone done a b h = elim (gone a b h) [
   | inl fresh ↦ inl fresh
   | inr (inl e) ↦ inr (inr (done a b e))
   | inr (inr all) ↦ inr (inr all)

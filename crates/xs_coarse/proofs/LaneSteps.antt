@@ -86,11 +86,11 @@ pub all_last : {X : Type 0} (P : X → Type 0) (xs : List X) (x : X) → All P (
 all_last P xs x all = subst P (get_or_push xs x x (length xs) refl) (all (length xs) x (omega (arith, one_longer xs x)))
 
 -- the stack is no part of what was found
-module _ (f g : Found) (marks : g.marks ≡ f.marks) (fresh : g.fresh ≡ f.fresh) (waits : g.waits ≡ f.waits) (queue : g.queue ≡ f.queue) where
+module _ (f g : Found) (marks : g.marks ≡ f.marks) (fresh : g.fresh ≡ f.fresh) (waits : g.waits ≡ f.waits) (queue : g.queue.items ≡ f.queue.items) where
   pub fits_as : Fits f → Fits g
   fits_as fits = record {
     kept = record {
-      rows = subst (λ q. All (IsRow g) q.items) (sym queue) (All-weaker (IsRow f) (IsRow g) (λ a r. record { marks = rw marks r.marks; fresh = rw fresh r.fresh; waits = rw waits r.waits }) f.queue.items fits.kept.rows);
+      rows = subst (All (IsRow g)) (sym queue) (All-weaker (IsRow f) (IsRow g) (λ a r. record { marks = rw marks r.marks; fresh = rw fresh r.fresh; waits = rw waits r.waits }) f.queue.items fits.kept.rows);
       marks = λ a b h. rw queue (fits.kept.marks a b (rw marks at h));
       fresh = λ a b h. rw waits (fits.kept.fresh a b (rw fresh at h));
       waits = λ a h. rw queue (fits.kept.waits a (rw waits at h));
@@ -115,4 +115,4 @@ module _ (f g : Found) (marks : g.marks ≡ f.marks) (fresh : g.fresh ≡ f.fres
   }
     where
       same : g.queue.items ≡ f.queue.items ++ []
-      same = ap (λ q. q.items) queue ∙ sym (append-nil f.queue.items)
+      same = queue ∙ sym (append-nil f.queue.items)

@@ -41,7 +41,7 @@ in_either lanes lane b i =
     ]
 
 pub in_none : (b : ℕ) → InLanes [] b → ⊥
-in_none b i = absurd (omega (arith, i.has.1.0))
+in_none b i = absurd (omega (arith, i.has.1))
 
 -- the states of a lane, and of all lanes before a place
 pub in_taken : (lanes : List Lane) (i : ℕ) (b : ℕ) → InLanes lanes b → length lanes ≤ i → InLanes (take i lanes) b
@@ -322,7 +322,7 @@ moved_more {t} {m} {n} {moves} {f} {h} {k} {lanes} {row} is more laid = record {
 
 -- so all pairs were gone on from
 pub gone_empty : {t : Table} {m n : Net} {f h : Found} {lanes : List Lane} {row : ℕ} → IsMoved t m n Empty f h lanes row → IsGone (Passes Empty t m n) Never h
-gone_empty {t} {m} {n} {f} {h} {lanes} {row} is = gone_done (Passes Empty t m n) (AreOfLanes row lanes) is.gone (passes_empty t m n row lanes h is.slips)
+gone_empty {t} {m} {n} {f} {h} {lanes} {row} is = gone_done (Passes Empty t m n) (AreOfLanes row lanes) h is.gone (passes_empty t m n row lanes h is.slips)
 
 pub gone_every : {t : Table} {m n : Net} {f h : Found} {lanes : List Lane} {row : ℕ} → IsMoved t m n Every f h lanes row → ((b : ℕ) → InLanes lanes b → HasAll (Steps t m n) row b h) → IsGone (Passes Every t m n) Never h
-gone_every {t} {m} {n} {f} {h} {lanes} {row} is steps = gone_done (Passes Every t m n) (AreOfLanes row lanes) is.gone (passes_every t m n row lanes h is.slips steps)
+gone_every {t} {m} {n} {f} {h} {lanes} {row} is steps = gone_done (Passes Every t m n) (AreOfLanes row lanes) h is.gone (passes_every t m n row lanes h is.slips steps)

@@ -16,7 +16,7 @@ abbrev pub HasMoves : Net → ℕ → List Arc → Type 0
 HasMoves n a moves = (b : ℕ) → HasArc n a 0 b → Contains moves (arc a 0 b)
 
 pub no_moves : (n : Net) (a : ℕ) (moves : List Arc) → HasMoves n a moves → length moves ≡ 0 → HasNoMoves n a
-no_moves n a moves complete none d h = absurd (omega (arith, (complete d h).1.0, none))
+no_moves n a moves complete none d h = absurd (omega (arith, (complete d h).1, none))
 
 -- the new pairs are all this one
 abbrev pub AddsThis : ℕ → ℕ → Found → Found → Type 0
@@ -24,20 +24,20 @@ AddsThis first second f g = (a b : ℕ) → HasPair g.marks a b → HasPair f.ma
 
 -- one pair was added to rows that are closed
 pub laid_add : (n : Net) (f g : Found) (first second : ℕ) → IsLaid n f → IsMore f g → AddsThis first second f g → IsLaidBut (IsThis first second) n g
-laid_add n f g first second laid more only a b d h arc low = elim (only a b h) [
-  | inl old ↦ inr (more.grows a d (laid a b d old arc (rw (← more.wide) low)))
+laid_add n f g first second laid more only a b d h edge low = elim (only a b h) [
+  | inl old ↦ inr (more.grows a d (laid a b d old edge (rw (← more.wide) low)))
   | inr new ↦ inl new
 ]
 
 pub laid_alone : (n : Net) (g : Found) (first second : ℕ) → IsLaidBut (IsThis first second) n g → HasNoMoves n second → IsLaid n g
-laid_alone n g first second but none a b d h arc low = elim (but a b d h arc low) [
-  | inl this ↦ absurd (none d (subst (λ (k : ℕ). HasArc n k 0 d) this.1 arc))
+laid_alone n g first second but none a b d h edge low = elim (but a b d h edge low) [
+  | inl this ↦ absurd (none d (subst (λ (k : ℕ). HasArc n k 0 d) this.1 edge))
   | inr there ↦ there
 ]
 
 -- the same pairs of another state of the stack
 pub laid_as : (n : Net) (f g : Found) (E F : ℕ → ℕ → Type 0) → g.marks ≡ f.marks → ((a b : ℕ) → E a b → F a b) → IsLaidBut E n f → IsLaidBut F n g
-laid_as n f g E F same to but a b d h arc low = elim (but a b d (rw same at h) arc (rw same at low)) [
+laid_as n f g E F same to but a b d h edge low = elim (but a b d (rw same at h) edge (rw same at low)) [
   | inl e ↦ inl (to a b e)
   | inr there ↦ inr (rw same there)
 ]
@@ -52,9 +52,9 @@ pushed xs x b has =
     ]
 
 -- all of the stack has gone
-pub laid_all : (n : Net) (g : Found) (first : ℕ) (stack : List ℕ) → stack ≡ [] → IsLaidBut (IsStacked stack first) n g → IsLaid n g
-laid_all n g first stack none but a b d h arc low = elim (but a b d h arc low) [
-  | inl on ↦ absurd (omega (arith, on.1.1.0, ap length none))
+pub laid_all : (n : Net) (g : Found) (first : ℕ) (stack : List ℕ) → length stack ≡ 0 → IsLaidBut (IsStacked stack first) n g → IsLaid n g
+laid_all n g first stack none but a b d h edge low = elim (but a b d h edge low) [
+  | inl on ↦ absurd (omega (arith, on.1.1, none))
   | inr there ↦ there
 ]
 
@@ -67,14 +67,14 @@ longer_contains {xs} b l has = rw l.is (Contains-append_left xs l.added b has)
 
 -- one move more of a state was followed
 pub laid_more : (n : Net) (f g : Found) (first at : ℕ) → IsLaidBut (IsStackedOr f.stack.items first at) n f → IsMore f g → IsLonger f.stack.items g.stack.items → AddsStacked n first f g → IsLaidBut (IsStackedOr g.stack.items first at) n g
-laid_more n f g first at but more longer new a b d h arc low = elim (new a b h) [
-  | inl old ↦ elim (but a b d old arc (rw (← more.wide) low)) [
+laid_more n f g first at but more longer new a b d h edge low = elim (new a b h) [
+  | inl old ↦ elim (but a b d old edge (rw (← more.wide) low)) [
     | inl (is, inl this) ↦ inl (is, inl this)
     | inl (is, inr on) ↦ inl (is, inr (longer_contains b longer on))
     | inr there ↦ inr (more.grows a d there)
   ]
   | inr (is, inl on) ↦ inl (is, inr on)
-  | inr (is, inr none) ↦ absurd (none d arc)
+  | inr (is, inr none) ↦ absurd (none d edge)
 ]
 
 -- all of them

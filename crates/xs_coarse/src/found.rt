@@ -89,7 +89,8 @@ impl Found {
         requires fits { Fits self.old }
         requires row { first < length self.old.marks.rows }
         ensures ok { OnOk result (IsWaiting self.old self.new first) }
-        ensures err { OnErr result (self.new ≡ self.old) }
+        ensures err { OnErr result (IsMore self.old self.new) }
+        ensures stack { self.new.stack ≡ self.old.stack }
     {
         if self.waits[first as usize] {
             return Ok(());

@@ -14,6 +14,23 @@ use xs_class::Memory;
 use xs_closed::{Moves, first_bit};
 
 impl Found {
+    /// Visits the targets of an arc of the first net and of one of the second, if they may read a
+    /// common word.
+    #[inline(always)]
+    fn step_both(&mut self, labels: &Labels, second: &Coarse, x: Arc, y: Arc) -> Result<(), Memory>
+        requires fits { Fits self.old }
+        requires net { self.old.marks.wide ≤ second.now.states }
+        requires laid { IsLaid second.now self.old }
+        ensures more { IsMore self.old self.new }
+        ensures laid { OnOk result (IsLaid second.now self.new) }
+        ensures there { OnOk result (Joins labels.now self.new y x) }
+    {
+        if !labels.meet(x.label, y.label) {
+            return Ok(());
+        }
+        self.visit(second, x.to, y.to)
+    }
+
     /// Visits the targets of an arc of the second net and of each of these arcs of the first one with
     /// which it may read a common word.
     #[inline(always)]
@@ -32,9 +49,7 @@ impl Found {
         ensures there { OnOk result (All (Joins labels.now self.new y) arcs.now) }
     {
         'arcs: for x in arcs {
-            if labels.meet(x.label, y.label) {
-                self.visit(second, x.to, y.to)?;
-            }
+            self.step_both(labels, second, *x, y)?;
         }
         Ok(())
     }

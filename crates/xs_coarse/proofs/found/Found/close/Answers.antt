@@ -1,4 +1,4 @@
-use Rattle.std.proofs.Common.{ℕ, ◌≡◌, ◌<◌, inl, inr, length, refl, arith}
+use Rattle.std.proofs.Common.{ℕ, ◌≡◌, ◌<◌, inl, inr, length, refl, sym, ◌∙◌, arith}
 use Rattle.std.specs.declared.option.Option.TheVariants.{Some}
 use Rattle.std.specs.List.{slice_get}
 use Rattle.std.proofs.lemmas.Option.{slice_get_read}
@@ -10,7 +10,7 @@ pub rows-init : goal.rows-init
 rows-init c = record { keeps = keep_same c.args.self.now c.requires.fits; laid = c.requires.laid; gone = λ a b h. inl (c.requires.begun a b h); queued = λ a w. c.requires.fits.kept.waits a w }
 
 pub returns-then-place-len-clause-shut : goal.returns-then-place-len-clause-shut
-returns-then-place-len-clause-shut c = λ yes. shut_at_end c.args.labels.now c.args.first.now c.args.second.now c.args.moves c.args.goal c.rows.place c.rows.invariant.keeps.fits c.rows.invariant.laid c.rows.invariant.gone c.rows.invariant.queued (omega (arith, c.if-place-len.true, c.len.ensures, c.rows.self.queue.ok)) c.has.ensures
+returns-then-place-len-clause-shut c = λ yes. shut_at_end c.args.labels.now c.args.first.now c.args.second.now c.args.moves c.args.goal c.rows.place c.rows.invariant.keeps.fits c.rows.invariant.laid c.rows.invariant.gone c.rows.invariant.queued (omega (arith, c.if-place-len.true, c.len.ensures, c.rows.self.queue.ok)) (sym c.if-has.false ∙ c.has.ensures)
 
 pub go_row-requires-clause-nets : goal.go_row-requires-clause-nets
 go_row-requires-clause-nets c = keep_for c.args.first.now c.args.second.now c.requires.nets c.rows.invariant.keeps

@@ -16,3 +16,6 @@ arcs-preserved c = record {
 
 pub returns-clause-laid : goal.returns-clause-laid
 returns-clause-laid c = laid_followed c.args.net.now c.arcs.self c.args.first c.args.at c.moves-moves.result.now (omega (arith, c.requires.row, c.arcs.invariant.more.high)) c.moves-moves.ensures.complete (each_all (λ y. HasFound c.arcs.self c.args.first y.to) c.moves-moves.result.now c.arcs.y-index c.arcs-test.false c.arcs.invariant.there) c.arcs.invariant.laid
+
+pub returns-in_err-stack_new-clause-more : goal.returns-in_err-stack_new-clause-more
+returns-in_err-stack_new-clause-more c = more_then c.arcs.invariant.more c.stack_new.ensures.more

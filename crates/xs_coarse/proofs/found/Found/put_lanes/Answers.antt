@@ -16,3 +16,6 @@ lanes-preserved c = record {
 
 pub returns-clause-there : goal.returns-clause-there
 returns-clause-there c = words_all c.lanes.self c.args.first c.args.lanes.now (each_all (λ lane. HasWord c.lanes.self c.args.first lane.place lane.word) c.args.lanes.now c.lanes.lane-index c.lanes-test.false c.lanes.invariant.there)
+
+pub returns-in_err-join-clause-more : goal.returns-in_err-join-clause-more
+returns-in_err-join-clause-more c = more_then c.lanes.invariant.more c.join.ensures.more

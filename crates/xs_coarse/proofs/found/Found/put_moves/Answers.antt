@@ -15,3 +15,6 @@ arcs-preserved c = record {
 
 pub returns-clause-there : goal.returns-clause-there
 returns-clause-there c = targets_all c.arcs.self c.args.arcs.now c.args.lanes.now (each_all (λ x. x.label ≡ 0 → (b : ℕ) → InLanes c.args.lanes.now b → HasFound c.arcs.self x.to b) c.args.arcs.now c.arcs.x-index c.arcs-test.false c.arcs.invariant.there)
+
+pub returns-in_err-put_move-clause-more : goal.returns-in_err-put_move-clause-more
+returns-in_err-put_move-clause-more c = more_then c.arcs.invariant.more c.put_move.ensures.more

@@ -1,8 +1,8 @@
-use Rattle.std.proofs.Common.{ℕ, arith, subst, inl, inr}
+use Rattle.std.proofs.Common.{ℕ, ◌∙◌, arith, eqb-true, sym, subst, inl, inr}
 use Rattle.std.proofs.lemmas.Bool.{cases_lt}
 use Rattle.xs_coarse.specs.Arcs.{HasAll, Steps}
 use Rattle.xs_coarse.proofs.GrowthLemmas.{more_same, more_then, all_more}
-use Rattle.xs_coarse.proofs.ArcLemmas.{steps_on, steps_none}
+use Rattle.xs_coarse.proofs.ArcLemmas.{steps_on, steps_nowhere}
 use Rattle.xs_coarse.proofs.found.Found.seed_end.Goals as goal
 
 pub seconds-init : goal.seconds-init
@@ -23,4 +23,10 @@ seconds-preserved c =
     }
 
 pub returns-clause-there : goal.returns-clause-there
-returns-clause-there c = λ b from before. c.seconds.invariant.there b from (omega (arith, before, c.seconds-test.false, c.len.ensures.states))
+returns-clause-there c = λ b from before. c.seconds.invariant.there b from (omega (arith, before, c.seconds-test.false, c.len-second-end.ensures.states))
+
+pub returns-in_err-step-clause-more : goal.returns-in_err-step-clause-more
+returns-in_err-step-clause-more c = more_then c.seconds.invariant.more c.step.ensures.more
+
+pub returns-then-is_empty-clause-there : goal.returns-then-is_empty-clause-there
+returns-then-is_empty-clause-there c = λ b from below d e s. absurd (steps_nowhere c.args.labels.now c.args.net.now c.args.net.now c.reads-arcs.result.now c.args.first b d e c.reads-arcs.ensures.complete (eqb-true _ 0 (sym c.is_empty.ensures ∙ c.if-is_empty.true)) s)

@@ -21,3 +21,6 @@ firsts-preserved c =
 
 pub returns-clause-there : goal.returns-clause-there
 returns-clause-there c = λ a b from to after low. c.firsts.invariant.there a b from (omega (arith, to, c.firsts-test.false)) after low
+
+pub returns-in_err-seed_end-clause-more : goal.returns-in_err-seed_end-clause-more
+returns-in_err-seed_end-clause-more c = more_then c.firsts.invariant.more c.seed_end.ensures.more

@@ -19,3 +19,6 @@ states-preserved c = record {
 
 pub returns-clause-there : goal.returns-clause-there
 returns-clause-there c = λ b from before. c.states.invariant.there b from (omega (arith, before, c.states-test.false))
+
+pub returns-in_err-visit-clause-more : goal.returns-in_err-visit-clause-more
+returns-in_err-visit-clause-more c = more_then c.states.invariant.more c.visit.ensures.more

@@ -18,3 +18,6 @@ partners-preserved c = record {
 
 pub returns-clause-there : goal.returns-clause-there
 returns-clause-there c = λ s h. c.partners.invariant.there s (omega (arith, c.partners-test.false, (wide_inside c.wide-wide.ensures.sized c.args.here s h), c.wide-wide.ensures.value)) h
+
+pub returns-in_err-visit-clause-more : goal.returns-in_err-visit-clause-more
+returns-in_err-visit-clause-more c = more_then c.partners.invariant.more c.visit.ensures.more

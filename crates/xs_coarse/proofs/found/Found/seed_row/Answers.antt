@@ -1,7 +1,7 @@
-use Rattle.std.proofs.Common.{ℕ, arith, subst}
-use Rattle.xs_coarse.specs.Arcs.{HasAll, Steps, StepsBy, HasFound}
+use Rattle.std.proofs.Common.{ℕ, ◌∙◌, arith, eqb-true, sym, subst}
+use Rattle.xs_coarse.specs.Arcs.{HasAll, Steps}
 use Rattle.xs_coarse.proofs.GrowthLemmas.{more_same, more_then, all_more, next_or, none_from, wide_inside}
-use Rattle.xs_coarse.proofs.ArcLemmas.{steps_on, steps_none}
+use Rattle.xs_coarse.proofs.ArcLemmas.{steps_on, steps_nowhere}
 use Rattle.xs_coarse.proofs.found.Found.seed_row.Goals as goal
 
 pub partners-init : goal.partners-init
@@ -26,3 +26,9 @@ partners-preserved c =
 
 pub returns-clause-there : goal.returns-clause-there
 returns-clause-there c = λ b h. c.partners.invariant.there b (omega (arith, c.partners-test.false, (wide_inside c.wide-wide.ensures.sized c.args.row b h), c.wide-wide.ensures.value)) h
+
+pub returns-in_err-step-clause-more : goal.returns-in_err-step-clause-more
+returns-in_err-step-clause-more c = more_then c.partners.invariant.more c.step.ensures.more
+
+pub returns-then-is_empty-clause-there : goal.returns-then-is_empty-clause-there
+returns-then-is_empty-clause-there c = λ b h d e s. absurd (steps_nowhere c.args.labels.now c.args.net.now c.args.net.now c.reads-arcs.result.now c.args.row b d e c.reads-arcs.ensures.complete (eqb-true _ 0 (sym c.is_empty.ensures ∙ c.if-is_empty.true)) s)

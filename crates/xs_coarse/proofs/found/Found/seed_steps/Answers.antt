@@ -23,4 +23,7 @@ rows-preserved c =
     }
 
 pub returns-clause-there : goal.returns-clause-there
-returns-clause-there c = λ a b h. c.rows.invariant.there a b (omega (arith, (sized_inside c.high.ensures.sized a b h).first, c.rows-test.false, c.high.ensures.value)) h
+returns-clause-there c = λ a b h. c.rows.invariant.there a b (omega (arith, (sized_inside c.high-row-end.ensures.sized a b h).first, c.rows-test.false, c.high-row-end.ensures.value)) h
+
+pub returns-in_err-seed_row-clause-more : goal.returns-in_err-seed_row-clause-more
+returns-in_err-seed_row-clause-more c = more_then c.rows.invariant.more c.seed_row.ensures.more

@@ -1,4 +1,4 @@
-use Rattle.std.proofs.Common.{ℕ, ◌+◌, ◌*◌, ◌<◌, inl, inr, arith, subst}
+use Rattle.std.proofs.Common.{ℕ, ◌+◌, ◌*◌, ◌<◌, inl, inr, arith, subst, sym}
 use Rattle.xs_coarse.specs.Arcs.{HasFound, StepsBy}
 use Rattle.xs_coarse.proofs.GrowthLemmas.{more_same, more_then, more_found}
 use Rattle.xs_coarse.proofs.LaneSteps.{bit_before, bit_past, bit_state}
@@ -26,3 +26,6 @@ returns-in_default-clause-there c = λ b is d e s. c.bits.invariant.there b is (
 
 pub returns-clause-there : goal.returns-clause-there
 returns-clause-there c = λ b is d e s. c.bits.invariant.there b is (omega (arith, c.bits-test.false)) d e s
+
+pub returns-in_err-step-clause-more : goal.returns-in_err-step-clause-more
+returns-in_err-step-clause-more c = more_then c.bits.invariant.more c.step.ensures.more
