@@ -240,7 +240,10 @@ impl Found {
         self.put_moves(first.moves(row), lanes.as_slice())?;
         match moves {
             Moves::Empty => Ok(()),
-            Moves::Every => { self.step_lanes(labels, second, first.reads(row), lanes.as_slice()) }
+            Moves::Every => {
+                self.step_lanes(labels, second, first.reads(row), lanes.as_slice())?;
+                Ok(())
+            }
         }
     }
 
