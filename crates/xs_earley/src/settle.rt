@@ -1,4 +1,4 @@
-ghost use Rattle.std.specs.Prelude.{◌≡◌, ◌≢◌, ◌<◌, ◌≤◌, suc, ℕ, Some, length, slice_get, Contains, IfOk};
+ghost use Rattle.std.specs.Prelude.{◌≡◌, ◌≢◌, ◌<◌, ◌≤◌, ◌+◌, ◌^◌, suc, ℕ, Some, length, slice_get, Contains, IfOk, IfSome, IfNone};
 ghost use Rattle.xs_chart.specs.declared.item.Item.{Item as AnyItem};
 ghost use Rattle.xs_chart.specs.{items_of, waiting_of, before_last};
 ghost use Rattle.xs_gram.specs.declared.places.Place.{Place};
@@ -97,21 +97,24 @@ fn act(
     Ok(())
 }
 
-/// The place of the first item from a place on that may lead on within its set, or the number of items
-/// where there is none. The loop is by itself, so that it is short.
+/// The first item from a place on that may lead on within its set, after its place; None where there
+/// is none. The loop is by itself, so that it is short.
 #[inline(always)]
-fn next_acting(acts: &[bool], items: &[Item], from: usize) -> usize
+fn acting_from(acts: &[bool], items: &[Item], from: usize) -> Option<(usize, Item)>
     requires states { (item : AnyItem) → Contains items.now item → item.state < length acts.now }
-    requires from { from ≤ length items.now }
-    ensures from { from ≤ result }
-    ensures within { result ≤ length items.now }
-    ensures idle { (k : ℕ) → from ≤ k → k < result → IsIdle acts.now items.now k }
+    ensures from { IfSome result (λ found. from ≤ found.0) }
+    ensures few { IfSome result (λ found. found.0 + 1 < 2 ^ 64) }
+    ensures item { IfSome result (λ found. slice_get items.now found.0 ≡ Some found.1) }
+    ensures idle { IfSome result (λ found. (k : ℕ) → from ≤ k → k < found.0 → IsIdle acts.now items.now k) }
+    ensures none { IfNone result ((k : ℕ) → from ≤ k → k < length items.now → IsIdle acts.now items.now k) }
 {
-    let mut at = from;
-    'items: while at < items.len() && !acts[items[at].state as usize] {
-        at += 1;
+    'items: for place in from..items.len() {
+        let item = items[place];
+        if acts[item.state as usize] {
+            return Some((place, item));
+        }
     }
-    at
+    None
 }
 
 /// Adds to the last set all that its items lead to there, and puts them in their waiting lists.
@@ -137,12 +140,11 @@ pub fn close(
     ensures marks { length called.new ≡ length called.old }
     ensures before { before_last chart.new ≡ before_last chart.old }
 {
-    let mut k = next_acting(&facts.acts, chart.items(at), 0);
-    'acting: while k < chart.items(at).len() {
-        let item = chart.item(at, k as u64);
+    let mut from = 0;
+    'acting: while let Some((place, item)) = acting_from(&facts.acts, chart.items(at), from) {
         let row = facts.row(item.state);
-        act(chart, called, g, facts, doc, at, k as u64, item, row)?;
-        k = next_acting(&facts.acts, chart.items(at), k + 1);
+        act(chart, called, g, facts, doc, at, place as u64, item, row)?;
+        from = place + 1;
     }
     Ok(())
 }

@@ -7,16 +7,16 @@ use Rattle.xs_earley.proofs.settle.close.Given as goal
 
 abbrev pub invariant-acting : goal.invariant-acting
 invariant-acting l = record {
-  within : l.k ≤ length (items_of l.chart l.at);
+  within : l.from ≤ length (items_of l.chart l.at);
   grown : Grown l.g l.doc l.at l.initial.chart.sets l.chart.sets;
   ready : IsOpen l.g l.doc l.at l.chart;
   marks : length l.called ≡ length l.initial.called;
   called : AreCalled l.g l.at l.chart.sets l.called;
-  settled : (m : ℕ) → m < l.k → IsSettledAt l.g l.chart.sets l.at m;
+  settled : (m : ℕ) → m < l.from → IsSettledAt l.g l.chart.sets l.at m;
   earlier : (j non : ℕ) → j ≢ l.at → waiting_of l.chart j non ≡ waiting_of l.initial.chart j non;
-  waits : WaitsBelow l.g l.chart l.at l.k;
+  waits : WaitsBelow l.g l.chart l.at l.from;
   before : before_last l.chart ≡ before_last l.initial.chart;
 }
 
 abbrev pub decreases-acting : goal.decreases-acting
-decreases-acting l = 18446744073709551616 - l.k
+decreases-acting l = 18446744073709551616 - l.from
