@@ -242,13 +242,13 @@ fn arrive(
     }
 }
 
-/// Whether the mask of the item's state has the bit of the atom.
+/// Whether the mask of the state has the bit of the atom.
 #[inline(always)]
-fn has_bit_at(masks: &[u64], atom: u16, item: Item) -> bool
-    requires { item.state < length masks.now }
-    ensures { result ≡ is_in (slice_index_or masks.now item.state 0) atom }
+fn has_bit_at(masks: &[u64], atom: u16, state: u32) -> bool
+    requires { state < length masks.now }
+    ensures { result ≡ is_in (slice_index_or masks.now state 0) atom }
 {
-    has_bit(masks[item.state as usize], atom)
+    has_bit(masks[state as usize], atom)
 }
 
 /// The place of the first item from a place on whose state's mask has the bit of the atom, or the
@@ -262,7 +262,7 @@ fn next_by_mask(masks: &[u64], atom: u16, items: &[Item], from: usize) -> usize
     ensures idle { (k : ℕ) (d : AnyItem) → from ≤ k → k < result → is_in (slice_index_or masks.now (slice_index_or items.now k d).state 0) atom ≡ false }
 {
     let mut at = from;
-    'items: while at < items.len() && !has_bit_at(masks, atom, items[at]) {
+    'items: while at < items.len() && !has_bit_at(masks, atom, items[at].state) {
         at += 1;
     }
     at

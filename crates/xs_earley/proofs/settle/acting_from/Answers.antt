@@ -1,6 +1,5 @@
 use Rattle.std.proofs.Common.{get_or, arith}
 use Rattle.std.proofs.lemmas.List.Elements.{Contains-get_or}
-use Rattle.std.proofs.lemmas.Option.{slice_get-get_or}
 use Rattle.xs_chart.specs.declared.item.Item.{Item}
 use Rattle.xs_earley.proofs.settle.acting_from.Goals as goal
 
