@@ -4,7 +4,7 @@ use Rattle.std.proofs.lemmas.List.{length-map, length-reverse}
 use Rattle.xs_sheet.specs.declared.unit.Unit.{Unit}
 use Rattle.xs_sheet.specs.declared.state.Opened.{Opened}
 use Rattle.xs_sheet.specs.Grammar.{HasRegex, HaveRegexes}
-use Rattle.xs_sheet.specs.declared.piece.Piece.{Piece}
+use Rattle.xs_sheet.specs.Pieces.{Piece}
 use Rattle.xs_sheet.specs.Machine as M
 use Rattle.xs_sheet.specs.View.{opened_view, opens_view}
 use Rattle.std.proofs.lemmas.List.{map-append, reverse-append}

@@ -2,7 +2,7 @@
 use Rattle.std.proofs.Common.{◌≡◌, ◌⊎◌, inl, inr, List, [], ◌∷◌, length, true, false, Bool, ◌&&◌, nat_lt, if◌then◌else◌, codes, refl, sym, subst}
 use Rattle.xs_lex.specs.declared.kind.Kind.{Kind}
 use Rattle.xs_lex.specs.declared.kind.Kind.TheVariants.{Quoted, Colon, Equals, SquareIn, SquareOut, Angle, AngleSlash, AngleEnd, End, Bad}
-use Rattle.xs_sheet.specs.declared.piece.Piece.{Piece}
+use Rattle.xs_sheet.specs.Pieces.{Piece}
 use Rattle.xs_sheet.specs.declared.item.Item.TheVariants.{Fixed, Named, Skip}
 use Rattle.xs_sheet.specs.Outline.{nothing, element, ignorable, fence, Outline}
 use Rattle.xs_class.specs.Words.{same}
@@ -92,7 +92,7 @@ finish_ends (started version line) p o g = absurd (go_if_no (is_unit_name p) (un
 finish_ends (units h) p o g = between_ends h p o g
 finish_ends (named h t line) p o g = absurd (go_if_no (is_unit_name p) (equals h t line p.text) o g)
 finish_ends (equals h t line name) p o g = absurd (go_if_no (is_kind p.kind Equals) (regular h t line name) o g)
-finish_ends (regular h t line name) p o g = absurd (go_if_no (is_regular p) (after_pattern h t line name p) o g)
+finish_ends (regular h t line name) p o g = absurd (go_if_no (is_regular p) (after_pattern h t line name p.text) o g)
 finish_ends (normal h line name pattern) p o g = absurd (go_if_no (is_kind p.kind Quoted) (units (with_unit h (ignorable name pattern p.text line))) o g)
 finish_ends (left_fence h line) p o g = absurd (go_if_no (is_kind p.kind Quoted) (right_fence h line p.text) o g)
 finish_ends (right_fence h line left) p o g = absurd (go_if_no (is_kind p.kind Quoted) (units (with_unit h (fence left p.text line))) o g)

@@ -1,6 +1,7 @@
 -- Tokens and their pieces.
-use Rattle.std.proofs.Common.{◌≡◌, ◌⊎◌, inl, inr, ℕ, zero, suc, ◌+◌, ◌-◌, ◌<◌, ◌≤◌, List, [], ◌∷◌, ◌++◌, map, length, take, drop, get_or, length-append, length-drop, true, false, Bool, ◌&&◌, if◌then◌else◌, Some, refl, sym, ap, ◌∙◌, subst, arith}
+use Rattle.std.proofs.Common.{◌≡◌, ◌⊎◌, inl, inr, ℕ, zero, suc, ◌+◌, ◌-◌, ◌<◌, ◌≤◌, List, [], ◌∷◌, ◌++◌, map, length, take, drop, get_or, length-append, length-drop, true, false, Bool, ◌&&◌, if◌then◌else◌, None, Some, is_some, refl, sym, ap, ◌∙◌, subst, arith}
 use Rattle.std.specs.List.{All}
+use Rattle.std.specs.declared.option.Option.{Option}
 use Rattle.std.proofs.lemmas.List.{take_rest, take_at, same_from_push, map_more}
 use Rattle.xs_lex.specs.declared.kind.Kind.{Kind}
 use Rattle.xs_lex.specs.declared.kind.Kind.TheVariants.{Quoted, Pattern, End, Bad}
@@ -11,9 +12,8 @@ use Rattle.xs_lex.specs.Scan.{value_at}
 use Rattle.xs_lex.specs.Reading.{Lexeme, Extent, AreTokensFrom, lexeme_of}
 use Rattle.xs_lex.proofs.QuotedLaws.{value_read}
 use Rattle.xs_regex.specs.declared.regex.Regex.{Regex}
-use Rattle.xs_sheet.specs.declared.piece.Piece.{Piece}
-use Rattle.xs_sheet.specs.Regular.{IsRegex}
-use Rattle.xs_sheet.specs.Pieces.{IsTextOf, IsSpelt, IsPiece, ArePieces}
+use Rattle.xs_sheet.specs.Regular.{IsRegex, IsRead}
+use Rattle.xs_sheet.specs.Pieces.{Piece, IsTextOf, IsSpelt, IsPiece, ArePieces}
 use Rattle.xs_sheet.specs.Machine.{is_kind}
 use Rattle.xs_sheet.proofs.KindLaws.{kind_is}
 use Rattle.xs_lex.proofs.Uniqueness.{After}
@@ -45,12 +45,14 @@ pieces_push [] (q ∷ ps) l p are is = absurd are
 pieces_push (m ∷ ls) [] l p are is = absurd are
 pieces_push (m ∷ ls) (q ∷ ps) l p are is = (are.0, pieces_push ls ps l p are.1 is)
 
-pub pieces_regular : (ls : List Lexeme) (ps : List Piece) → ArePieces ls ps → All (λ p. p.regular ≡ true → (r : Regex) × IsRegex p.text r) ps
-pieces_regular [] [] are k d low = absurd (omega arith)
-pieces_regular [] (q ∷ ps) are k d low = absurd are
-pieces_regular (m ∷ ls) [] are k d low = absurd are
-pieces_regular (m ∷ ls) (q ∷ ps) are zero d low = λ e. let r = are.0.regular e in (r.1, r.2)
-pieces_regular (m ∷ ls) (q ∷ ps) are (suc k) d low = pieces_regular ls ps are.1 k d (omega arith)
+-- what is read of a pattern says whether it has a regular expression
+pub read_yes : (kind : Kind) (text : List ℕ) (o : Option Regex) → IsRead kind text o → is_some o ≡ true → (kind ≡ Pattern) × (r : Regex) × IsRegex text r
+read_yes kind text None read e = absurd (cc)
+read_yes kind text (Some r) read e = (read.0, r, read.1)
+
+pub read_no : (kind : Kind) (text : List ℕ) (o : Option Regex) → IsRead kind text o → is_some o ≡ false → kind ≡ Pattern → (r : Regex) → IsRegex text r → ⊥
+read_no kind text None read e = read
+read_no kind text (Some r) read e = absurd (cc)
 
 -- one value for a quoted string
 pub quoted_same : (word a b : List ℕ) → IsQuoted word a → IsQuoted word b → a ≡ b

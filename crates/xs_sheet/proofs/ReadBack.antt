@@ -9,13 +9,12 @@ use Rattle.xs_class.specs.Tables.{is_name_start}
 use Rattle.xs_lex.specs.Classes.{is_name_char, is_plain, is_plain_start, is_plain_char}
 use Rattle.xs_lex.specs.declared.kind.Kind.TheVariants.{End}
 use Rattle.xs_lex.specs.Reading.{Lexeme, Extent, AreTokensFrom, AreTokens, extent_of, after_mark, valid, size_of, line_ends}
-use Rattle.xs_sheet.specs.declared.piece.Piece.{Piece}
 use Rattle.xs_sheet.specs.declared.unit.Unit.{Unit}
 use Rattle.xs_sheet.specs.declared.unit.Unit.TheVariants.{Terminal, Ignorable, Production, Fence}
 use Rattle.xs_sheet.specs.declared.sheet.Sheet.{Sheet}
 use Rattle.xs_sheet.specs.Outline.{UnitOutline, terminal, ignorable, production, fence, unit_outline, outline_of}
 use Rattle.xs_sheet.specs.Grammar.{ReadsSign, ReadsUnits, HaveRegexes, IsVersion, version_word, MayStand, AllMayStand, IsSheetOf}
-use Rattle.xs_sheet.specs.Pieces.{is_reserved}
+use Rattle.xs_sheet.specs.Pieces.{Piece, is_reserved}
 use Rattle.xs_sheet.specs.Layout.{Written, as_is, unit_words, spaced, spelling, lines_text, sheet_lines, sheet_bytes}
 use Rattle.xs_sheet.specs.Lines.{at_line, in_lines, laid_out, without_lines, AreSameButLines, IsReadable, IsReadAgain}
 use Rattle.xs_sheet.proofs.Lexed.{IsGood, AreGood, AreLines, text_lexemes, text_lexed, whole_extent, lines_scalars}

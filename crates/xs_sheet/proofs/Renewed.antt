@@ -9,13 +9,12 @@ use Rattle.xs_lex.specs.Classes.{is_name_char, is_plain, is_plain_start, is_plai
 use Rattle.xs_lex.specs.Spelling.{IsQual, IsPattern}
 use Rattle.xs_lex.specs.Reading.{Lexeme, size_of}
 use Rattle.xs_regex.specs.declared.regex.Regex.{Regex}
-use Rattle.xs_sheet.specs.declared.piece.Piece.{Piece}
 use Rattle.xs_sheet.specs.declared.item.Item.{Item}
 use Rattle.xs_sheet.specs.declared.item.Item.TheVariants.{Fixed, Named, Skip}
 use Rattle.xs_sheet.specs.declared.x_item.Attr.{Attr}
 use Rattle.xs_sheet.specs.Regular.{IsRegex}
 use Rattle.xs_sheet.specs.Outline.{Content, nothing, item, element, UnitOutline, terminal, ignorable, production, fence}
-use Rattle.xs_sheet.specs.Pieces.{is_reserved, IsTextOf, IsPiece, ArePieces}
+use Rattle.xs_sheet.specs.Pieces.{Piece, is_reserved, IsTextOf, IsPiece, ArePieces}
 use Rattle.xs_sheet.specs.Grammar.{IsWord, IsUnitName, IsName, IsString, IsRegular, ReadsItem, ReadsItems, ReadsAttr, ReadsAttrs, ReadsClosing, ReadsSign, ReadsContent, ReadsUnit, ReadsUnits}
 use Rattle.xs_sheet.specs.Layout.{Written, as_is, in_quotes, in_slashes, sign, sign_spelling, spelling, spaced, item_words, items_words, attr_words, attrs_words, holds_nothing, after_attrs, element_words, content_words, unit_words}
 use Rattle.xs_sheet.proofs.Escapes.{quoted_is}

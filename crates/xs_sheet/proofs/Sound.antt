@@ -2,13 +2,12 @@
 use Rattle.std.proofs.Common.{◌≡◌, ◌⊎◌, inl, inr, ℕ, ◌+◌, ◌<◌, List, [], ◌∷◌, ◌++◌, length, true, false, Bool, not, ◌&&◌, ◌||◌, ◌==◌, nat_lt, if◌then◌else◌, codes, refl, sym, subst, arith, eqb-true}
 use Rattle.std.proofs.lemmas.Bool.Decides.{nat_tests}
 use Rattle.xs_lex.specs.declared.kind.Kind.TheVariants.{Plain, Qual, Quoted, Pattern, Colon, Equals, SquareIn, SquareOut, Angle, AngleSlash, AngleEnd, SlashEnd, End}
-use Rattle.xs_sheet.specs.declared.piece.Piece.{Piece}
 use Rattle.xs_sheet.specs.declared.item.Item.{Item}
 use Rattle.xs_sheet.specs.declared.item.Item.TheVariants.{Fixed, Named, Skip}
 use Rattle.xs_sheet.specs.declared.x_item.Attr.{Attr}
 use Rattle.xs_sheet.specs.Outline.{Content, nothing, element, UnitOutline, terminal, ignorable, production, fence, Outline}
 use Rattle.xs_class.specs.Words.{same}
-use Rattle.xs_sheet.specs.Pieces.{is_reserved}
+use Rattle.xs_sheet.specs.Pieces.{Piece, is_reserved}
 use Rattle.xs_sheet.specs.Grammar.{IsWord, IsUnitName, IsName, IsString, IsRegular, ReadsItem, ReadsItems, ReadsAttr, ReadsAttrs, ReadsOpening, ReadsSign, ReadsContent, ReadsUnit, ReadsUnits, IsVersion, version_word, MayStand, AllMayStand}
 use Rattle.xs_sheet.specs.Machine.{is_kind, is_word, is_unit_name, is_name, is_regular, Head, with_unit, Draft, Opened, Inside, Site, left_side, inside, value, put, State, begin, versioned, started, units, named, equals, regular, normal, left_fence, right_fence, colon, at, square, square_name, square_slot, angle, attrs, attr_equals, closing, closed, go, finish, go_if, outline_at, begins_fence, fence_or_production, between, after_pattern, closes, leaves, leave, in_tag, with_attr, with_empty, with_open, with_production, step}
 use Rattle.xs_sheet.proofs.KindLaws.{kind_is}
@@ -241,11 +240,11 @@ square_name_sound whole pl name p rest t a g = by (is_kind p.kind SquareOut) ref
 regular_sound : (whole : List Piece) (h : Head) (k : Bool) (line : ℕ) (name : List ℕ) (p : Piece) (rest : List Piece) (t : State) → AtState whole (regular h k line name) (p ∷ rest) → step (regular h k line name) p ≡ go t → AtState whole t rest
 unfolding AtState unit_word
 regular_sound whole h k line name p rest t a g =
-    let q = if_go (is_regular p) (after_pattern h k line name p) t g in
+    let q = if_go (is_regular p) (after_pattern h k line name p.text) t g in
     let b = and_true (is_kind p.kind Pattern) p.regular q.0 in
-    moved whole (after_pattern h k line name p) t rest q.1 (by k a (record { kind = kind_is p.kind Pattern b.0; regular = b.1; pattern_is = refl }))
+    moved whole (after_pattern h k line name p.text) t rest q.1 (by k a (record { kind = kind_is p.kind Pattern b.0; regular = b.1; pattern_is = refl }))
   where
-    by : (k : Bool) → AtState whole (regular h k line name) (p ∷ rest) → IsRegular p p.text → AtState whole (after_pattern h k line name p) rest
+    by : (k : Bool) → AtState whole (regular h k line name) (p ∷ rest) → IsRegular p p.text → AtState whole (after_pattern h k line name p.text) rest
     by true x r = unit_more whole h (terminal name p.text line) (x.0 ∷ x.1 ∷ x.2 ∷ p ∷ rest) rest x.3 (record { word = x.0; name_piece = x.1; equals = x.2; pattern_piece = p; is = refl; word_is = x.4; name_is = x.6; equals_is = x.7; pattern_is = r; line_is = x.5 }) tt
     by false x r = (x.0, x.1, x.2, p, x.3, x.4, x.5, x.6, x.7, r)
 

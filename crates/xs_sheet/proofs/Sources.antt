@@ -13,9 +13,8 @@ use Rattle.xs_lex.specs.Spelling.{IsQual, IsQuoted, IsPattern, Spells}
 use Rattle.xs_lex.specs.Reading.{IsTokenAt, Lexeme, Extent, IsLast, AreTokensFrom}
 use Rattle.xs_lex.proofs.BlankLaws.{blanks_front}
 use Rattle.xs_regex.specs.declared.regex.Regex.{Regex}
-use Rattle.xs_sheet.specs.declared.piece.Piece.{Piece}
 use Rattle.xs_sheet.specs.Regular.{IsRegex}
-use Rattle.xs_sheet.specs.Pieces.{IsTextOf, IsPiece, ArePieces}
+use Rattle.xs_sheet.specs.Pieces.{Piece, IsTextOf, IsPiece, ArePieces}
 use Rattle.xs_sheet.proofs.Lexed.{slashed}
 use Rattle.xs_class.proofs.Truth.{and_true, both_true}
 use Rattle.xs_lex.proofs.Reached.{scalars_parts}

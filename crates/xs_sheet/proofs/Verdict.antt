@@ -5,11 +5,10 @@ use Rattle.std.specs.Result.{IfOk, IfErr}
 use Rattle.std.specs.Str.{chars}
 use Rattle.xs_lex.specs.declared.token.Token.{Token}
 use Rattle.xs_lex.specs.Reading.{Lexeme, AreTokens, extent_of, after_mark, valid, lexeme_of}
-use Rattle.xs_sheet.specs.declared.piece.Piece.{Piece}
 use Rattle.xs_sheet.specs.declared.sheet.Sheet.{Sheet}
 use Rattle.xs_sheet.specs.declared.reader.SheetFault.{SheetFault}
 use Rattle.xs_sheet.specs.declared.reader.SheetFault.TheVariants as F
-use Rattle.xs_sheet.specs.Pieces.{ArePieces}
+use Rattle.xs_sheet.specs.Pieces.{Piece, ArePieces}
 use Rattle.xs_sheet.specs.Outline.{outline_of}
 use Rattle.xs_sheet.specs.Grammar.{HaveRegexes, IsSheetOf, IsSheetBrokenAt}
 use Rattle.xs_sheet.specs.Machine.{done, stuck, unfinished, begin, run}

@@ -2,7 +2,7 @@
 use Rattle.std.proofs.Common.{◌≡◌, ℕ, List, [], ◌∷◌, ◌++◌, length, append_assoc, true, false, Bool, ◌&&◌, ◌||◌, nat_lt, if◌then◌else◌, codes, refl, sym, ap, ◌∙◌, subst}
 use Rattle.xs_lex.specs.declared.kind.Kind.{Kind}
 use Rattle.xs_lex.specs.declared.kind.Kind.TheVariants.{Plain, Quoted, Pattern, Colon, Equals, SquareIn, SquareOut, Angle, AngleSlash, AngleEnd, SlashEnd, End}
-use Rattle.xs_sheet.specs.declared.piece.Piece.{Piece}
+use Rattle.xs_sheet.specs.Pieces.{Piece}
 use Rattle.xs_sheet.specs.declared.item.Item.{Item}
 use Rattle.xs_sheet.specs.declared.item.Item.TheVariants.{Fixed, Named, Skip}
 use Rattle.xs_sheet.specs.declared.x_item.Attr.{Attr}
@@ -169,7 +169,7 @@ step_finish whole (started version line) p o a g = absurd (go_if_no (is_unit_nam
 step_finish whole (units h) p o a g = between_finish whole h p o a g
 step_finish whole (named h t line) p o a g = absurd (go_if_no (is_unit_name p) (equals h t line p.text) o g)
 step_finish whole (equals h t line name) p o a g = absurd (go_if_no (is_kind p.kind Equals) (regular h t line name) o g)
-step_finish whole (regular h t line name) p o a g = absurd (go_if_no (is_regular p) (after_pattern h t line name p) o g)
+step_finish whole (regular h t line name) p o a g = absurd (go_if_no (is_regular p) (after_pattern h t line name p.text) o g)
 step_finish whole (normal h line name pattern) p o a g = absurd (go_if_no (is_kind p.kind Quoted) (units (with_unit h (ignorable name pattern p.text line))) o g)
 step_finish whole (left_fence h line) p o a g = absurd (go_if_no (is_kind p.kind Quoted) (right_fence h line p.text) o g)
 step_finish whole (right_fence h line left) p o a g = absurd (go_if_no (is_kind p.kind Quoted) (units (with_unit h (fence left p.text line))) o g)

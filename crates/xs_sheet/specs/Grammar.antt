@@ -3,7 +3,6 @@ use Rattle.std.specs.Prelude.{◌≡◌, ◌⊎◌, ⊤, ℕ, ◌+◌, ◌<◌, 
 use Rattle.xs_lex.specs.declared.kind.Kind.{Kind}
 use Rattle.xs_lex.specs.declared.kind.Kind.TheVariants.{Plain, Qual, Quoted, Pattern, Colon, Equals, SquareIn, SquareOut, Angle, AngleSlash, AngleEnd, SlashEnd, End}
 use Rattle.xs_lex.specs.Reading.{Lexeme, AreTokens}
-use Rattle.xs_sheet.specs.declared.piece.Piece.{Piece}
 use Rattle.xs_sheet.specs.declared.item.Item.{Item}
 use Rattle.xs_sheet.specs.declared.item.Item.TheVariants.{Fixed, Named, Skip}
 use Rattle.xs_sheet.specs.declared.x_item.Attr.{Attr}
@@ -12,7 +11,7 @@ use Rattle.xs_sheet.specs.declared.unit.Unit.TheVariants.{Terminal, Ignorable, P
 use Rattle.xs_sheet.specs.declared.sheet.Sheet.{Sheet}
 use Rattle.xs_sheet.specs.Regular.{IsRegex}
 use Rattle.xs_sheet.specs.Outline.{Content, nothing, item, element, UnitOutline, terminal, ignorable, production, fence, Outline, outline_of}
-use Rattle.xs_sheet.specs.Pieces.{is_reserved, ArePieces}
+use Rattle.xs_sheet.specs.Pieces.{Piece, is_reserved, ArePieces}
 
 -- this very word
 pub record IsWord (p : Piece) (word : List ℕ) : Type 0 where

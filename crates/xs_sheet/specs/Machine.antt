@@ -2,13 +2,12 @@
 use Rattle.std.specs.Prelude.{◌≡◌, ℕ, Bool, true, false, List, [], ◌∷◌, ◌++◌, length, codes, ◌==◌, ◌&&◌, ◌||◌, not, nat_lt, if◌then◌else◌}
 use Rattle.xs_lex.specs.declared.kind.Kind.{Kind}
 use Rattle.xs_lex.specs.declared.kind.Kind.TheVariants.{Plain, Qual, Quoted, Pattern, Colon, Equals, SquareIn, SquareOut, Angle, AngleSlash, AngleEnd, SlashEnd, End, Bad}
-use Rattle.xs_sheet.specs.declared.piece.Piece.{Piece}
 use Rattle.xs_sheet.specs.declared.item.Item.{Item}
 use Rattle.xs_sheet.specs.declared.item.Item.TheVariants.{Fixed, Named, Skip}
 use Rattle.xs_sheet.specs.declared.x_item.Attr.{Attr}
 use Rattle.xs_sheet.specs.Outline.{Content, nothing, item, element, UnitOutline, terminal, ignorable, production, fence, Outline}
 use Rattle.xs_class.specs.Words.{same}
-use Rattle.xs_sheet.specs.Pieces.{is_reserved}
+use Rattle.xs_sheet.specs.Pieces.{Piece, is_reserved}
 
 abbrev pub kind_number : Kind → ℕ
 kind_number Plain = 0
@@ -135,9 +134,9 @@ abbrev pub between : Head → Piece → Transition
 between h p = if is_kind p.kind End then finish (outline_at h) else (if is_word (codes "terminal") p then go (named h true p.line) else (if is_word (codes "ignorable") p then go (named h false p.line) else fence_or_production h p))
 
 -- a terminal's or an ignorable's pattern
-abbrev pub after_pattern : Head → Bool → ℕ → List ℕ → Piece → State
-after_pattern h true line name p = units (with_unit h (terminal name p.text line))
-after_pattern h false line name p = normal h line name p.text
+abbrev pub after_pattern : Head → Bool → ℕ → List ℕ → List ℕ → State
+after_pattern h true line name pattern = units (with_unit h (terminal name pattern line))
+after_pattern h false line name pattern = normal h line name pattern
 
 abbrev pub with_production : Draft → Content → Head
 with_production d right = with_unit d.head (production d.name d.left right d.line)
@@ -183,7 +182,7 @@ step (started version line) p = go_if (is_unit_name p) (units (record { version 
 step (units h) p = between h p
 step (named h t line) p = go_if (is_unit_name p) (equals h t line p.text)
 step (equals h t line name) p = go_if (is_kind p.kind Equals) (regular h t line name)
-step (regular h t line name) p = go_if (is_regular p) (after_pattern h t line name p)
+step (regular h t line name) p = go_if (is_regular p) (after_pattern h t line name p.text)
 step (normal h line name pattern) p = go_if (is_kind p.kind Quoted) (units (with_unit h (ignorable name pattern p.text line)))
 step (left_fence h line) p = go_if (is_kind p.kind Quoted) (right_fence h line p.text)
 step (right_fence h line left) p = go_if (is_kind p.kind Quoted) (units (with_unit h (fence left p.text line)))

@@ -6,8 +6,16 @@ use Rattle.xs_class.specs.Words.{same}
 use Rattle.xs_lex.specs.Spelling.{IsQuoted, IsPattern, Spells}
 use Rattle.xs_lex.specs.Reading.{Lexeme}
 use Rattle.xs_regex.specs.declared.regex.Regex.{Regex}
-use Rattle.xs_sheet.specs.declared.piece.Piece.{Piece}
 use Rattle.xs_sheet.specs.Regular.{IsRegex}
+
+-- a token: its kind, its text, whether it is a pattern that has a regular expression, the byte where it
+-- begins, and its line
+pub record Piece : Type 0 where
+  pub kind : Kind
+  pub text : List ℕ
+  pub regular : Bool
+  pub start : ℕ
+  pub line : ℕ
 
 -- words that are no names of units
 abbrev pub is_reserved : List ℕ → Bool

@@ -11,7 +11,7 @@ use crate::sites::push_content;
 use crate::state::{
     Head, Inside, ItemState, Opened, Site, State, Tag, TagState, Transition, Value,
 };
-use crate::units::{between, refuse, with_text, with_unit};
+use crate::units::{between, refuse, with_unit};
 use crate::{Attr, Attrs, Item, Items, Unit, XItem, XItems};
 use std::alloc::Global;
 use xs_class::{Memory, Text};
@@ -62,24 +62,14 @@ fn empty_element(alloc: Global, tag: Tag) -> Result<Transition, Memory>
     Ok(Transition::Go(State::Item(ItemState::At(Site::Content(inside)))))
 }
 
-/// An attribute begins.
-fn begin_attr(alloc: Global, tag: Tag, piece: &Piece) -> Result<Transition, Memory>
-    requires { HaveRegexes tag.inside.draft.head.units.items }
-    ensures view { IfOk result (λ s. transition_view s ≡ M.go (M.attr_equals (inside_view tag.inside) tag.name tag.attrs.items piece.now.text)) }
-    ensures regexes { IfOk result TransitionHasRegexes }
-{
-    let (tag, name) = with_text(alloc, tag, piece)?;
-    Ok(Transition::Go(State::Tag(TagState::AttrEquals(tag, name))))
-}
-
 /// After a tag's name and some attributes.
-fn in_tag(alloc: Global, tag: Tag, piece: &Piece) -> Result<Transition, Memory>
+fn in_tag(alloc: Global, tag: Tag, piece: Piece) -> Result<Transition, Memory>
     requires { HaveRegexes tag.inside.draft.head.units.items }
-    ensures view { IfOk result (λ s. transition_view s ≡ M.in_tag (inside_view tag.inside) tag.name tag.attrs.items piece.now) }
+    ensures view { IfOk result (λ s. transition_view s ≡ M.in_tag (inside_view tag.inside) tag.name tag.attrs.items piece) }
     ensures regexes { IfOk result TransitionHasRegexes }
 {
     if piece.is_name() {
-        return begin_attr(alloc, tag, piece);
+        return Ok(Transition::Go(State::Tag(TagState::AttrEquals(tag, piece.text))));
     }
     if piece.is(Kind::SlashEnd) {
         return empty_element(alloc, tag);
@@ -104,9 +94,9 @@ fn push_attr(mut tag: Tag, name: Text, items: Vec<Item>) -> Result<Tag, Memory>
 }
 
 /// After an attribute's value.
-pub fn leave_value(alloc: Global, value: Value, piece: &Piece) -> Result<Transition, Memory>
+pub fn leave_value(alloc: Global, value: Value, piece: Piece) -> Result<Transition, Memory>
     requires { HaveRegexes value.tag.inside.draft.head.units.items }
-    ensures view { IfOk result (λ s. transition_view s ≡ M.leave (M.value (inside_view value.tag.inside) value.tag.name value.tag.attrs.items value.name value.items.items) piece.now) }
+    ensures view { IfOk result (λ s. transition_view s ≡ M.leave (M.value (inside_view value.tag.inside) value.tag.name value.tag.attrs.items value.name value.items.items) piece) }
     ensures regexes { IfOk result TransitionHasRegexes }
 {
     if value.items.is_empty() {
@@ -163,22 +153,22 @@ fn begin_tag(inside: Inside) -> Transition
 }
 
 /// At a piece that content does not go on with.
-fn leave_production(alloc: Global, inside: Inside, piece: &Piece) -> Result<Transition, Memory>
+fn leave_production(inside: Inside, piece: Piece) -> Result<Transition, Memory>
     requires { HaveRegexes inside.draft.head.units.items }
-    ensures view { IfOk result (λ s. transition_view s ≡ M.leaves (inside_view inside) (inside_view inside).opens piece.now) }
+    ensures view { IfOk result (λ s. transition_view s ≡ M.leaves (inside_view inside) (inside_view inside).opens piece) }
     ensures regexes { IfOk result TransitionHasRegexes }
 {
     if inside.opens.is_empty() {
         let head = end_production(inside)?;
-        return between(alloc, head, piece);
+        return Ok(between(head, piece));
     }
     Ok(refuse(inside))
 }
 
 /// After an item of an XML side, at a piece that begins none.
-pub fn leave_content(alloc: Global, inside: Inside, piece: &Piece) -> Result<Transition, Memory>
+pub fn leave_content(inside: Inside, piece: Piece) -> Result<Transition, Memory>
     requires { HaveRegexes inside.draft.head.units.items }
-    ensures view { IfOk result (λ s. transition_view s ≡ M.leave (M.inside (inside_view inside)) piece.now) }
+    ensures view { IfOk result (λ s. transition_view s ≡ M.leave (M.inside (inside_view inside)) piece) }
     ensures regexes { IfOk result TransitionHasRegexes }
 {
     if piece.is(Kind::Angle) {
@@ -187,24 +177,23 @@ pub fn leave_content(alloc: Global, inside: Inside, piece: &Piece) -> Result<Tra
     if piece.is(Kind::AngleSlash) {
         return Ok(close_element(inside));
     }
-    leave_production(alloc, inside, piece)
+    leave_production(inside, piece)
 }
 
 /// After `<`.
-fn angle(alloc: Global, inside: Inside, piece: &Piece) -> Result<Transition, Memory>
+fn angle(alloc: Global, inside: Inside, piece: Piece) -> Transition
     requires { HaveRegexes inside.draft.head.units.items }
-    ensures view { IfOk result (λ s. transition_view s ≡ M.step (M.angle (inside_view inside)) piece.now) }
-    ensures regexes { IfOk result TransitionHasRegexes }
+    ensures view { transition_view result ≡ M.step (M.angle (inside_view inside)) piece }
+    ensures regexes { TransitionHasRegexes result }
 {
     if !piece.is_name() {
-        return Ok(refuse(inside));
+        return refuse(inside);
     }
-    let (inside, name) = with_text(alloc, inside, piece)?;
-    Ok(Transition::Go(State::Tag(TagState::Attrs(Tag {
+    Transition::Go(State::Tag(TagState::Attrs(Tag {
         inside,
-        name,
+        name: piece.text,
         attrs: Vec::new(alloc),
-    }))))
+    })))
 }
 
 /// After an attribute's name.
@@ -293,16 +282,16 @@ fn closed(inside: Inside, opened: Opened, piece: &Piece) -> Result<Transition, M
 }
 
 /// Where one more piece leads inside a tag.
-pub fn step_tag(alloc: Global, state: TagState, piece: &Piece) -> Result<Transition, Memory>
+pub fn step_tag(alloc: Global, state: TagState, piece: Piece) -> Result<Transition, Memory>
     requires { TagHasRegexes state }
-    ensures view { IfOk result (λ s. transition_view s ≡ M.step (tag_view state) piece.now) }
+    ensures view { IfOk result (λ s. transition_view s ≡ M.step (tag_view state) piece) }
     ensures regexes { IfOk result TransitionHasRegexes }
 {
     match state {
-        TagState::Angle(inside) => angle(alloc, inside, piece),
+        TagState::Angle(inside) => Ok(angle(alloc, inside, piece)),
         TagState::Attrs(tag) => in_tag(alloc, tag, piece),
-        TagState::AttrEquals(tag, name) => Ok(attr_equals(alloc, tag, name, piece)),
-        TagState::Closing(inside, opened) => Ok(closing(inside, opened, piece)),
-        TagState::Closed(inside, opened) => closed(inside, opened, piece),
+        TagState::AttrEquals(tag, name) => Ok(attr_equals(alloc, tag, name, &piece)),
+        TagState::Closing(inside, opened) => Ok(closing(inside, opened, &piece)),
+        TagState::Closed(inside, opened) => closed(inside, opened, &piece),
     }
 }

@@ -13,7 +13,6 @@ mod piece;
 mod pieces;
 mod quoting;
 mod reader;
-mod regular;
 mod sheet;
 mod sites;
 mod state;
@@ -23,7 +22,6 @@ mod writer;
 mod x_item;
 
 pub use item::{Item, Items};
-pub use piece::Piece;
 pub use quoting::push_quoted_character;
 pub use reader::{SheetFault, read_sheet};
 pub use sheet::Sheet;

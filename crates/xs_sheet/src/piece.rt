@@ -4,8 +4,10 @@ ghost use Rattle.xs_class.specs.{same};
 ghost use Rattle.xs_sheet.specs.Pieces.{is_reserved};
 ghost use Rattle.xs_sheet.specs.Machine.{is_kind, is_word, is_unit_name, is_name};
 
+use std::marker::Model;
 use xs_class::Text;
 use xs_lex::Kind;
+use xs_regex::Regex;
 
 /// A token as the grammar sees it.
 ///
@@ -15,10 +17,22 @@ use xs_lex::Kind;
 pub struct Piece {
     pub kind: Kind,
     pub text: Text,
-    /// Whether the token is a pattern that is a regular expression.
-    pub regular: bool,
+    /// The regular expression of a pattern that has one. Contracts see whether there is one.
+    pub regex: Option<Regex>,
     pub start: u32,
     pub line: u32,
+}
+
+impl Model for Piece {
+    ghost use Rattle.std.specs.Prelude.{is_some};
+    ghost use Rattle.xs_sheet.specs.Pieces.{Piece as Shown};
+    ghost use Rattle.xs_sheet.specs.Regular.{IsRead};
+
+    ghost Value = { Shown };
+
+    ghost view = { λ p. record { kind = p.kind; text = p.text; regular = is_some p.regex; start = p.start; line = p.line } };
+
+    ghost invariant = { λ p. IsRead p.kind p.text p.regex };
 }
 
 /// Whether the two texts are the same.

@@ -1,16 +1,15 @@
-ghost use Rattle.std.specs.Prelude.{◌≡◌, ◌≤◌, ◌-◌, true, false, All, length, map, take, IfOk};
+ghost use Rattle.std.specs.Prelude.{◌≡◌, ◌≤◌, ◌-◌, All, length, map, take, IfOk};
 ghost use Rattle.std.specs.Str.{chars};
 ghost use Rattle.xs_lex.specs.{IsPattern, Spells, IsSlice, lexeme_of};
-ghost use Rattle.xs_regex.specs.declared.regex.Regex.{Regex};
-ghost use Rattle.xs_sheet.specs.Regular.{IsRegex};
+ghost use Rattle.xs_sheet.specs.Regular.{IsRead};
 ghost use Rattle.xs_sheet.specs.Pieces.{IsTextOf, IsSpelt, IsPiece, ArePieces};
 
 use crate::piece::Piece;
-use crate::regular::regex_of;
 use std::alloc::Global;
 use std::str;
 use xs_class::{Memory, Text, letters};
 use xs_lex::{Kind, Token, quoted_value};
+use xs_regex::{Regex, RegexFault, read_regex};
 
 /// The characters without the last one.
 fn without_last(alloc: Global, letters: &[char]) -> Result<Text, Memory>
@@ -57,17 +56,17 @@ fn text_of(alloc: Global, kind: Kind, text: &str) -> Result<Text, Memory>
     }
 }
 
-/// Whether the text is that of a pattern that is a regular expression.
-fn is_regular(alloc: Global, kind: Kind, text: &Text) -> Result<bool, Memory>
-    ensures yes { IfOk result (λ b. b ≡ true → (kind ≡ Kind.Pattern) × (r : Regex) × IsRegex text.now r) }
-    ensures no { IfOk result (λ b. b ≡ false → kind ≡ Kind.Pattern → (r : Regex) → IsRegex text.now r → ⊥) }
+/// The regular expression of the text, if the kind is that of patterns and the text has one.
+fn regex_of(alloc: Global, kind: Kind, text: &Text) -> Result<Option<Regex>, Memory>
+    ensures { IfOk result (IsRead kind text.now) }
 {
     match kind {
-        Kind::Pattern => match regex_of(alloc, text)? {
-            Some(_) => Ok(true),
-            None => Ok(false),
+        Kind::Pattern => match read_regex(alloc, text.as_str()) {
+            Ok(regex) => Ok(Some(regex)),
+            Err(RegexFault::BadRegex) => Ok(None),
+            Err(RegexFault::Memory) => Err(Memory),
         },
-        _ => Ok(false),
+        _ => Ok(None),
     }
 }
 
@@ -80,11 +79,11 @@ fn piece_of(alloc: Global, bytes: &[u8], token: Token) -> Result<Piece, Memory>
         unreachable!()
     };
     let text = text_of(alloc, token.kind, word)?;
-    let regular = is_regular(alloc, token.kind, &text)?;
+    let regex = regex_of(alloc, token.kind, &text)?;
     Ok(Piece {
         kind: token.kind,
         text,
-        regular,
+        regex,
         start: token.start,
         line: token.line,
     })

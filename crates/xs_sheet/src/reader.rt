@@ -1,6 +1,4 @@
-ghost use Rattle.std.specs.Prelude.{◌≡◌, ◌≤◌, true, length, All, IfOk, IfErr};
-ghost use Rattle.xs_regex.specs.declared.regex.Regex.{Regex};
-ghost use Rattle.xs_sheet.specs.Regular.{IsRegex};
+ghost use Rattle.std.specs.Prelude.{◌≡◌, ◌≤◌, length, IfOk, IfErr};
 ghost use Rattle.xs_sheet.specs.Grammar.{IsSheetOf, HaveRegexes};
 ghost use Rattle.xs_sheet.specs.Outline.{outline_of};
 ghost use Rattle.xs_sheet.specs.Machine as M;
@@ -40,10 +38,9 @@ impl From<Memory> for SheetFault {
 }
 
 /// Where one more piece leads.
-pub fn step(alloc: Global, state: State, piece: &Piece) -> Result<Transition, Memory>
-    requires state { StateHasRegexes state }
-    requires piece { piece.now.regular ≡ true → (r : Regex) × IsRegex piece.now.text r }
-    ensures view { IfOk result (λ s. transition_view s ≡ M.step (state_view state) piece.now) }
+pub fn step(alloc: Global, state: State, piece: Piece) -> Result<Transition, Memory>
+    requires { StateHasRegexes state }
+    ensures view { IfOk result (λ s. transition_view s ≡ M.step (state_view state) piece) }
     ensures regexes { IfOk result TransitionHasRegexes }
 {
     match state {
@@ -54,21 +51,21 @@ pub fn step(alloc: Global, state: State, piece: &Piece) -> Result<Transition, Me
 }
 
 /// The sheet of the pieces, or the byte where the first one begins that is refused.
-fn read_pieces(alloc: Global, pieces: &[Piece]) -> Result<Sheet, SheetFault>
-    requires regular { All (λ p. p.regular ≡ true → (r : Regex) × IsRegex p.text r) pieces.now }
-    requires whole { M.run M.begin pieces.now ≡ M.unfinished → ⊥ }
-    ensures sheet { IfOk result (λ s. IsDone (outline_of s) (M.run M.begin pieces.now)) }
+fn read_pieces(alloc: Global, pieces: Vec<Piece>) -> Result<Sheet, SheetFault>
+    requires { M.run M.begin pieces.items ≡ M.unfinished → ⊥ }
+    ensures sheet { IfOk result (λ s. IsDone (outline_of s) (M.run M.begin pieces.items)) }
     ensures regexes { IfOk result (λ s. HaveRegexes s.units) }
-    ensures bad { IfErr result (λ e. IsStuck e (M.run M.begin pieces.now)) }
+    ensures bad { IfErr result (λ e. IsStuck e (M.run M.begin pieces.items)) }
 {
     let mut state = State::Unit(UnitState::Begin);
     'pieces: for piece in pieces {
+        let start = piece.start;
         match step(alloc, state, piece)? {
             Transition::Go(next) => state = next,
             Transition::Finish(sheet) => return Ok(sheet),
             Transition::Refuse => {
                 return Err(SheetFault::SheetBad {
-                    at: u64::from(piece.start),
+                    at: u64::from(start),
                 });
             }
         }
@@ -87,5 +84,5 @@ pub fn read_sheet(alloc: Global, bytes: &[u8]) -> Result<Sheet, SheetFault>
 {
     let list = tokens(alloc, bytes)?;
     let all = pieces(alloc, bytes, list.as_slice())?;
-    read_pieces(alloc, &all)
+    read_pieces(alloc, all)
 }

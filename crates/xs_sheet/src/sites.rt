@@ -7,7 +7,7 @@ ghost use Rattle.xs_sheet.specs.View.{head_view, inside_view, site_view, item_vi
 use crate::elements::{leave_content, leave_value};
 use crate::piece::Piece;
 use crate::state::{Draft, Inside, ItemState, Site, State, Transition, Value};
-use crate::units::{refuse, with_text};
+use crate::units::refuse;
 use crate::{Item, XItem};
 use std::alloc::Global;
 use xs_class::{Memory, Text};
@@ -95,27 +95,26 @@ fn leave_left(alloc: Global, draft: Draft, piece: &Piece) -> Transition
 }
 
 /// Where a piece leads that begins no item.
-fn leave(alloc: Global, site: Site, piece: &Piece) -> Result<Transition, Memory>
+fn leave(alloc: Global, site: Site, piece: Piece) -> Result<Transition, Memory>
     requires { SiteHasRegexes site }
-    ensures view { IfOk result (λ s. transition_view s ≡ M.leave (site_view site) piece.now) }
+    ensures view { IfOk result (λ s. transition_view s ≡ M.leave (site_view site) piece) }
     ensures regexes { IfOk result TransitionHasRegexes }
 {
     match site {
-        Site::LeftSide(draft) => Ok(leave_left(alloc, draft, piece)),
-        Site::Content(inside) => leave_content(alloc, inside, piece),
+        Site::LeftSide(draft) => Ok(leave_left(alloc, draft, &piece)),
+        Site::Content(inside) => leave_content(inside, piece),
         Site::Value(value) => leave_value(alloc, value, piece),
     }
 }
 
 /// Where an item may stand.
-fn at_site(alloc: Global, site: Site, piece: &Piece) -> Result<Transition, Memory>
+fn at_site(alloc: Global, site: Site, piece: Piece) -> Result<Transition, Memory>
     requires { SiteHasRegexes site }
-    ensures view { IfOk result (λ s. transition_view s ≡ M.step (M.at (site_view site)) piece.now) }
+    ensures view { IfOk result (λ s. transition_view s ≡ M.step (M.at (site_view site)) piece) }
     ensures regexes { IfOk result TransitionHasRegexes }
 {
     if piece.is(Kind::Quoted) {
-        let (site, text) = with_text(alloc, site, piece)?;
-        return after_item(site, Item::Fixed(text));
+        return after_item(site, Item::Fixed(piece.text));
     }
     if piece.is(Kind::SquareIn) {
         return Ok(Transition::Go(State::Item(ItemState::Square(site))));
@@ -124,22 +123,21 @@ fn at_site(alloc: Global, site: Site, piece: &Piece) -> Result<Transition, Memor
 }
 
 /// After `[`.
-fn square(alloc: Global, site: Site, piece: &Piece) -> Result<Transition, Memory>
+fn square(site: Site, piece: Piece) -> Transition
     requires { SiteHasRegexes site }
-    ensures view { IfOk result (λ s. transition_view s ≡ M.step (M.square (site_view site)) piece.now) }
-    ensures regexes { IfOk result TransitionHasRegexes }
+    ensures view { transition_view result ≡ M.step (M.square (site_view site)) piece }
+    ensures regexes { TransitionHasRegexes result }
 {
     if !piece.is_unit_name() {
-        return Ok(refuse(site));
+        return refuse(site);
     }
-    let (site, name) = with_text(alloc, site, piece)?;
-    Ok(Transition::Go(State::Item(ItemState::SquareName(site, name))))
+    Transition::Go(State::Item(ItemState::SquareName(site, piece.text)))
 }
 
 /// After the name in brackets.
-fn square_name(alloc: Global, site: Site, name: Text, piece: &Piece) -> Result<Transition, Memory>
+fn square_name(site: Site, name: Text, piece: Piece) -> Result<Transition, Memory>
     requires { SiteHasRegexes site }
-    ensures view { IfOk result (λ s. transition_view s ≡ M.step (M.square_name (site_view site) name) piece.now) }
+    ensures view { IfOk result (λ s. transition_view s ≡ M.step (M.square_name (site_view site) name) piece) }
     ensures regexes { IfOk result TransitionHasRegexes }
 {
     if piece.is(Kind::SquareOut) {
@@ -148,7 +146,7 @@ fn square_name(alloc: Global, site: Site, name: Text, piece: &Piece) -> Result<T
     if !piece.is_unit_name() {
         return Ok(refuse(site));
     }
-    let (site, slot) = with_text(alloc, site, piece)?;
+    let slot = piece.text;
     Ok(Transition::Go(State::Item(ItemState::SquareSlot(site, name, slot))))
 }
 
@@ -165,15 +163,15 @@ fn square_slot(site: Site, name: Text, slot: Text, piece: &Piece) -> Result<Tran
 }
 
 /// Where one more piece leads at an item.
-pub fn step_item(alloc: Global, state: ItemState, piece: &Piece) -> Result<Transition, Memory>
+pub fn step_item(alloc: Global, state: ItemState, piece: Piece) -> Result<Transition, Memory>
     requires { ItemHasRegexes state }
-    ensures view { IfOk result (λ s. transition_view s ≡ M.step (item_view state) piece.now) }
+    ensures view { IfOk result (λ s. transition_view s ≡ M.step (item_view state) piece) }
     ensures regexes { IfOk result TransitionHasRegexes }
 {
     match state {
         ItemState::At(site) => at_site(alloc, site, piece),
-        ItemState::Square(site) => square(alloc, site, piece),
-        ItemState::SquareName(site, name) => square_name(alloc, site, name, piece),
-        ItemState::SquareSlot(site, name, slot) => square_slot(site, name, slot, piece),
+        ItemState::Square(site) => Ok(square(site, piece)),
+        ItemState::SquareName(site, name) => square_name(site, name, piece),
+        ItemState::SquareSlot(site, name, slot) => square_slot(site, name, slot, &piece),
     }
 }

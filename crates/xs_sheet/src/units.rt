@@ -1,5 +1,4 @@
-ghost use Rattle.std.specs.Prelude.{◌≡◌, true, IfOk};
-ghost use Rattle.xs_regex.specs.declared.regex.Regex.{Regex};
+ghost use Rattle.std.specs.Prelude.{◌≡◌, IfOk};
 ghost use Rattle.xs_sheet.specs.Regular.{IsRegex};
 ghost use Rattle.xs_sheet.specs.Grammar.{HaveRegexes};
 ghost use Rattle.xs_sheet.specs.Outline.{unit_outline};
@@ -8,7 +7,6 @@ ghost use Rattle.xs_sheet.specs.Machine as M;
 ghost use Rattle.xs_sheet.specs.View.{head_view, unit_view, transition_view, UnitHasRegexes, TransitionHasRegexes};
 
 use crate::piece::Piece;
-use crate::regular::regex_of;
 use crate::state::{Begun, Draft, Head, ItemState, Site, State, Transition, UnitState};
 use crate::{Sheet, Unit, Units};
 use std::alloc::Global;
@@ -16,28 +14,12 @@ use xs_class::{Memory, Text};
 use xs_lex::Kind;
 use xs_regex::Regex;
 
-/// A text of its own with these characters.
-pub fn copy(alloc: Global, text: &Text) -> Result<Text, Memory>
-    ensures { IfOk result (λ t. t ≡ text.now) }
-{
-    Text::of(alloc, text.as_str())
-}
-
 /// The piece is refused, and what was read so far is given up.
 pub fn refuse<T: Drop>(_so_far: T) -> Transition
     ensures view { transition_view result ≡ M.refuse }
     ensures regexes { TransitionHasRegexes result }
 {
     Transition::Refuse
-}
-
-/// What was read so far, and the piece's text.
-pub fn with_text<T: Drop>(alloc: Global, so_far: T, piece: &Piece) -> Result<(T, Text), Memory>
-    ensures so_far { IfOk result (λ both. both.0 ≡ so_far) }
-    ensures text { IfOk result (λ both. both.1 ≡ piece.now.text) }
-{
-    let text = copy(alloc, &piece.text)?;
-    Ok((so_far, text))
 }
 
 /// The head with one more unit.
@@ -80,20 +62,19 @@ fn versioned(version: u32, piece: &Piece) -> Transition
 }
 
 /// After the word `start`.
-fn started(alloc: Global, version: u32, line: u32, piece: &Piece) -> Result<Transition, Memory>
-    ensures view { IfOk result (λ s. transition_view s ≡ M.step (M.started version line) piece.now) }
-    ensures regexes { IfOk result TransitionHasRegexes }
+fn started(alloc: Global, version: u32, line: u32, piece: Piece) -> Transition
+    ensures view { transition_view result ≡ M.step (M.started version line) piece }
+    ensures regexes { TransitionHasRegexes result }
 {
     if !piece.is_unit_name() {
-        return Ok(Transition::Refuse);
+        return Transition::Refuse;
     }
-    let start = copy(alloc, &piece.text)?;
-    Ok(Transition::Go(State::Unit(UnitState::Units(Head {
+    Transition::Go(State::Unit(UnitState::Units(Head {
         version,
-        start,
+        start: piece.text,
         start_line: line,
         units: Vec::new(alloc),
-    }))))
+    })))
 }
 
 /// The sheet ends.
@@ -111,17 +92,16 @@ fn finish(head: Head) -> Transition
 }
 
 /// A production begins.
-fn begin_production(alloc: Global, head: Head, piece: &Piece) -> Result<Transition, Memory>
+fn begin_production(head: Head, piece: Piece) -> Transition
     requires { HaveRegexes head.units.items }
-    ensures view { IfOk result (λ s. transition_view s ≡ M.go (M.colon (head_view head) piece.now.text piece.now.line)) }
-    ensures regexes { IfOk result TransitionHasRegexes }
+    ensures view { transition_view result ≡ M.go (M.colon (head_view head) piece.text piece.line) }
+    ensures regexes { TransitionHasRegexes result }
 {
-    let name = copy(alloc, &piece.text)?;
-    Ok(Transition::Go(State::Unit(UnitState::Colon {
+    Transition::Go(State::Unit(UnitState::Colon {
         head,
-        name,
+        name: piece.text,
         line: piece.line,
-    })))
+    }))
 }
 
 /// Whether the piece is the word `fence` in a sheet of version 2.
@@ -132,61 +112,60 @@ fn begins_fence(head: &Head, piece: &Piece) -> bool
 }
 
 /// At a fence or a production, or at neither.
-fn after_words(alloc: Global, head: Head, piece: &Piece) -> Result<Transition, Memory>
+fn after_words(head: Head, piece: Piece) -> Transition
     requires { HaveRegexes head.units.items }
-    ensures view { IfOk result (λ s. transition_view s ≡ M.fence_or_production (head_view head) piece.now) }
-    ensures regexes { IfOk result TransitionHasRegexes }
+    ensures view { transition_view result ≡ M.fence_or_production (head_view head) piece }
+    ensures regexes { TransitionHasRegexes result }
 {
-    if begins_fence(&head, piece) {
-        return Ok(Transition::Go(State::Unit(UnitState::LeftFence {
+    if begins_fence(&head, &piece) {
+        return Transition::Go(State::Unit(UnitState::LeftFence {
             head,
             line: piece.line,
-        })));
+        }));
     }
     if piece.is_unit_name() {
-        return begin_production(alloc, head, piece);
+        return begin_production(head, piece);
     }
-    Ok(Transition::Refuse)
+    Transition::Refuse
 }
 
 /// Between units.
-pub fn between(alloc: Global, head: Head, piece: &Piece) -> Result<Transition, Memory>
+pub fn between(head: Head, piece: Piece) -> Transition
     requires { HaveRegexes head.units.items }
-    ensures view { IfOk result (λ s. transition_view s ≡ M.between (head_view head) piece.now) }
-    ensures regexes { IfOk result TransitionHasRegexes }
+    ensures view { transition_view result ≡ M.between (head_view head) piece }
+    ensures regexes { TransitionHasRegexes result }
 {
     if piece.is(Kind::End) {
-        return Ok(finish(head));
+        return finish(head);
     }
     let line = piece.line;
     if piece.is_word("terminal") {
-        return Ok(Transition::Go(State::Unit(UnitState::Named(Begun {
+        return Transition::Go(State::Unit(UnitState::Named(Begun {
             head,
             terminal: true,
             line,
-        }))));
+        })));
     }
     if piece.is_word("ignorable") {
-        return Ok(Transition::Go(State::Unit(UnitState::Named(Begun {
+        return Transition::Go(State::Unit(UnitState::Named(Begun {
             head,
             terminal: false,
             line,
-        }))));
+        })));
     }
-    after_words(alloc, head, piece)
+    after_words(head, piece)
 }
 
 /// After `terminal` or `ignorable`.
-fn named(alloc: Global, begun: Begun, piece: &Piece) -> Result<Transition, Memory>
+fn named(begun: Begun, piece: Piece) -> Transition
     requires { HaveRegexes begun.head.units.items }
-    ensures view { IfOk result (λ s. transition_view s ≡ M.step (M.named (head_view begun.head) begun.terminal begun.line) piece.now) }
-    ensures regexes { IfOk result TransitionHasRegexes }
+    ensures view { transition_view result ≡ M.step (M.named (head_view begun.head) begun.terminal begun.line) piece }
+    ensures regexes { TransitionHasRegexes result }
 {
     if !piece.is_unit_name() {
-        return Ok(Transition::Refuse);
+        return Transition::Refuse;
     }
-    let name = copy(alloc, &piece.text)?;
-    Ok(Transition::Go(State::Unit(UnitState::Equals(begun, name))))
+    Transition::Go(State::Unit(UnitState::Equals(begun, piece.text)))
 }
 
 /// After the name of a terminal or an ignorable.
@@ -212,31 +191,18 @@ fn after_unit(head: Head, unit: Unit) -> Result<Transition, Memory>
     Ok(Transition::Go(State::Unit(UnitState::Units(head))))
 }
 
-/// The regular expression of a pattern that has one.
-fn regex_at(alloc: Global, piece: &Piece) -> Result<Regex, Memory>
-    requires { (r : Regex) × IsRegex piece.now.text r }
-    ensures { IfOk result (λ r. IsRegex piece.now.text r) }
-{
-    let Some(regex) = regex_of(alloc, &piece.text)? else {
-        unreachable!()
-    };
-    Ok(regex)
-}
-
 /// After a terminal's or an ignorable's pattern.
 fn after_pattern(
-    alloc: Global,
     begun: Begun,
     name: Text,
+    pattern: Text,
     regex: Regex,
-    piece: &Piece,
 ) -> Result<Transition, Memory>
     requires head { HaveRegexes begun.head.units.items }
-    requires regex { IsRegex piece.now.text regex }
-    ensures view { IfOk result (λ s. transition_view s ≡ M.go (M.after_pattern (head_view begun.head) begun.terminal begun.line name piece.now)) }
+    requires regex { IsRegex pattern regex }
+    ensures view { IfOk result (λ s. transition_view s ≡ M.go (M.after_pattern (head_view begun.head) begun.terminal begun.line name pattern)) }
     ensures regexes { IfOk result TransitionHasRegexes }
 {
-    let pattern = copy(alloc, &piece.text)?;
     let Begun {
         head,
         terminal,
@@ -263,81 +229,77 @@ fn after_pattern(
 }
 
 /// At a terminal's or an ignorable's pattern.
-fn regular(alloc: Global, begun: Begun, name: Text, piece: &Piece) -> Result<Transition, Memory>
-    requires head { HaveRegexes begun.head.units.items }
-    requires piece { piece.now.regular ≡ true → (r : Regex) × IsRegex piece.now.text r }
-    ensures view { IfOk result (λ s. transition_view s ≡ M.step (M.regular (head_view begun.head) begun.terminal begun.line name) piece.now) }
+fn regular(begun: Begun, name: Text, piece: Piece) -> Result<Transition, Memory>
+    requires { HaveRegexes begun.head.units.items }
+    ensures view { IfOk result (λ s. transition_view s ≡ M.step (M.regular (head_view begun.head) begun.terminal begun.line name) piece) }
     ensures regexes { IfOk result TransitionHasRegexes }
 {
     if !piece.is(Kind::Pattern) {
         return Ok(Transition::Refuse);
     }
-    if !piece.regular {
+    let Some(regex) = piece.regex else {
         return Ok(Transition::Refuse);
-    }
-    let regex = regex_at(alloc, piece)?;
-    after_pattern(alloc, begun, name, regex, piece)
+    };
+    after_pattern(begun, name, piece.text, regex)
 }
 
 /// At an ignorable's normal spelling.
 fn normal(
-    alloc: Global,
     head: Head,
     line: u32,
     name: Text,
     pattern: Text,
     regex: Regex,
-    piece: &Piece,
+    piece: Piece,
 ) -> Result<Transition, Memory>
     requires head { HaveRegexes head.units.items }
     requires regex { IsRegex pattern regex }
-    ensures view { IfOk result (λ s. transition_view s ≡ M.step (M.normal (head_view head) line name pattern) piece.now) }
+    ensures view { IfOk result (λ s. transition_view s ≡ M.step (M.normal (head_view head) line name pattern) piece) }
     ensures regexes { IfOk result TransitionHasRegexes }
 {
     if !piece.is(Kind::Quoted) {
         return Ok(Transition::Refuse);
     }
-    let normal = copy(alloc, &piece.text)?;
     let unit = Unit::Ignorable {
         name,
         pattern,
         regex,
-        normal,
+        normal: piece.text,
         line,
     };
     after_unit(head, unit)
 }
 
 /// After `fence`.
-fn left_fence(alloc: Global, head: Head, line: u32, piece: &Piece) -> Result<Transition, Memory>
+fn left_fence(head: Head, line: u32, piece: Piece) -> Transition
     requires { HaveRegexes head.units.items }
-    ensures view { IfOk result (λ s. transition_view s ≡ M.step (M.left_fence (head_view head) line) piece.now) }
-    ensures regexes { IfOk result TransitionHasRegexes }
+    ensures view { transition_view result ≡ M.step (M.left_fence (head_view head) line) piece }
+    ensures regexes { TransitionHasRegexes result }
 {
     if !piece.is(Kind::Quoted) {
-        return Ok(Transition::Refuse);
+        return Transition::Refuse;
     }
-    let left = copy(alloc, &piece.text)?;
-    Ok(Transition::Go(State::Unit(UnitState::RightFence { head, line, left })))
+    Transition::Go(State::Unit(UnitState::RightFence {
+        head,
+        line,
+        left: piece.text,
+    }))
 }
 
 /// After a fence's first text.
-fn right_fence(
-    alloc: Global,
-    head: Head,
-    line: u32,
-    left: Text,
-    piece: &Piece,
-) -> Result<Transition, Memory>
+fn right_fence(head: Head, line: u32, left: Text, piece: Piece) -> Result<Transition, Memory>
     requires { HaveRegexes head.units.items }
-    ensures view { IfOk result (λ s. transition_view s ≡ M.step (M.right_fence (head_view head) line left) piece.now) }
+    ensures view { IfOk result (λ s. transition_view s ≡ M.step (M.right_fence (head_view head) line left) piece) }
     ensures regexes { IfOk result TransitionHasRegexes }
 {
     if !piece.is(Kind::Quoted) {
         return Ok(Transition::Refuse);
     }
-    let right = copy(alloc, &piece.text)?;
-    let unit = Unit::Fence { left, right, line };
+    let unit = Unit::Fence {
+        left,
+        right: piece.text,
+        line,
+    };
     after_unit(head, unit)
 }
 
@@ -359,29 +321,28 @@ fn colon(alloc: Global, head: Head, name: Text, line: u32, piece: &Piece) -> Tra
 }
 
 /// Where one more piece leads outside the sides of a production.
-pub fn step_unit(alloc: Global, state: UnitState, piece: &Piece) -> Result<Transition, Memory>
-    requires state { UnitHasRegexes state }
-    requires piece { piece.now.regular ≡ true → (r : Regex) × IsRegex piece.now.text r }
-    ensures view { IfOk result (λ s. transition_view s ≡ M.step (unit_view state) piece.now) }
+pub fn step_unit(alloc: Global, state: UnitState, piece: Piece) -> Result<Transition, Memory>
+    requires { UnitHasRegexes state }
+    ensures view { IfOk result (λ s. transition_view s ≡ M.step (unit_view state) piece) }
     ensures regexes { IfOk result TransitionHasRegexes }
 {
     match state {
-        UnitState::Begin => Ok(begin(piece)),
-        UnitState::Versioned(version) => Ok(versioned(version, piece)),
-        UnitState::Started { version, line } => started(alloc, version, line, piece),
-        UnitState::Units(head) => between(alloc, head, piece),
-        UnitState::Named(begun) => named(alloc, begun, piece),
-        UnitState::Equals(begun, name) => Ok(equals(begun, name, piece)),
-        UnitState::Regular(begun, name) => regular(alloc, begun, name, piece),
+        UnitState::Begin => Ok(begin(&piece)),
+        UnitState::Versioned(version) => Ok(versioned(version, &piece)),
+        UnitState::Started { version, line } => Ok(started(alloc, version, line, piece)),
+        UnitState::Units(head) => Ok(between(head, piece)),
+        UnitState::Named(begun) => Ok(named(begun, piece)),
+        UnitState::Equals(begun, name) => Ok(equals(begun, name, &piece)),
+        UnitState::Regular(begun, name) => regular(begun, name, piece),
         UnitState::Normal {
             head,
             line,
             name,
             pattern,
             regex,
-        } => normal(alloc, head, line, name, pattern, regex, piece),
-        UnitState::LeftFence { head, line } => left_fence(alloc, head, line, piece),
-        UnitState::RightFence { head, line, left } => right_fence(alloc, head, line, left, piece),
-        UnitState::Colon { head, name, line } => Ok(colon(alloc, head, name, line, piece)),
+        } => normal(head, line, name, pattern, regex, piece),
+        UnitState::LeftFence { head, line } => Ok(left_fence(head, line, piece)),
+        UnitState::RightFence { head, line, left } => right_fence(head, line, left, piece),
+        UnitState::Colon { head, name, line } => Ok(colon(alloc, head, name, line, &piece)),
     }
 }

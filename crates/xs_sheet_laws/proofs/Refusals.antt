@@ -10,8 +10,7 @@ use Rattle.xs_gram.specs.Fences.{fence_symbols}
 use Rattle.xs_gram.specs.Laws.{IsDistinct}
 use Rattle.xs_check_laws.specs.Acceptance.{IsLight, IsHeavyAt, IsHeaviness, IsBefore, IsFirstVertical, IsFirstHorizontal, vertical, horizontal}
 use Rattle.xs_check_laws.specs.Laws.{RuleWeighsOnce}
-use Rattle.xs_sheet.specs.declared.piece.Piece.{Piece}
-use Rattle.xs_sheet.specs.Pieces.{ArePieces}
+use Rattle.xs_sheet.specs.Pieces.{Piece, ArePieces}
 use Rattle.xs_sheet.specs.Grammar.{ReadsSheet, Begins}
 use Rattle.xs_sheet.proofs.Pieced.{pieces_same}
 use Rattle.xs_pair.specs.declared.ill.Ill.{Ill}

@@ -7,13 +7,12 @@ use Rattle.xs_regex.specs.Meaning.{IsPatternOf, Means}
 use Rattle.xs_regex.proofs.Meanings.{means_size, same_words}
 use Rattle.xs_regex.proofs.Patterns.{same_shape, same_sets}
 use Rattle.xs_regex.proofs.Readings.{same_reading}
-use Rattle.xs_sheet.specs.declared.piece.Piece.{Piece}
 use Rattle.xs_sheet.specs.declared.item.Item.{Item}
 use Rattle.xs_sheet.specs.declared.unit.Unit.{Unit}
 use Rattle.xs_sheet.specs.declared.unit.Unit.TheVariants.{Terminal, Ignorable, Production, Fence}
 use Rattle.xs_sheet.specs.declared.sheet.Sheet.{Sheet}
 use Rattle.xs_sheet.specs.Outline.{Content, UnitOutline, terminal, ignorable, production, fence, unit_outline, Outline, outline_of}
-use Rattle.xs_sheet.specs.Pieces.{ArePieces}
+use Rattle.xs_sheet.specs.Pieces.{Piece, ArePieces}
 use Rattle.xs_sheet.specs.Grammar.{HaveRegexes, ReadsSheet, IsSheetOf}
 use Rattle.xs_sheet.specs.Machine.{done}
 use Rattle.xs_sheet.proofs.Pieced.{pieces_same}

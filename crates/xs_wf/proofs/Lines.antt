@@ -7,7 +7,6 @@ use Rattle.xs_lex.specs.declared.kind.Kind.{Kind}
 use Rattle.xs_lex.specs.declared.kind.Kind.TheVariants.{SlashEnd, AngleEnd}
 use Rattle.xs_lex.specs.Between.{Blank, white, comment, spelt_blanks, IsApart}
 use Rattle.xs_lex.specs.Reading.{Lexeme, Extent, AreTokensFrom, AreTokens, IsLast, IsTokenAt, line_ends, after_mark, valid, extent_of}
-use Rattle.xs_sheet.specs.declared.piece.Piece.{Piece}
 use Rattle.xs_sheet.specs.declared.item.Item.{Item}
 use Rattle.xs_sheet.specs.declared.item.Item.TheVariants.{Fixed, Named, Skip}
 use Rattle.xs_sheet.specs.declared.x_item.Attr.{Attr}
@@ -15,7 +14,7 @@ use Rattle.xs_sheet.specs.declared.unit.Unit.{Unit}
 use Rattle.xs_sheet.specs.declared.unit.Unit.TheVariants.{Terminal, Ignorable, Production, Fence}
 use Rattle.xs_sheet.specs.declared.sheet.Sheet.{Sheet}
 use Rattle.xs_sheet.specs.Outline.{Content, nothing, item, element, content_of, unit_outline}
-use Rattle.xs_sheet.specs.Pieces.{ArePieces}
+use Rattle.xs_sheet.specs.Pieces.{Piece, ArePieces}
 use Rattle.xs_sheet.specs.Grammar.{ReadsItem, ReadsItems, ReadsAttr, ReadsAttrs, ReadsSign, ReadsClosing, ReadsContent, ReadsUnit, ReadsUnits, IsSheetOf}
 use Rattle.xs_pair.specs.declared.production.Rule.{Rule}
 use Rattle.xs_pair.specs.Units.{unit_line}
