@@ -1,12 +1,11 @@
 ghost use Rattle.std.specs.Prelude.{◌≡◌, IfOk, length};
-ghost use Rattle.xs_sheet.specs.{HaveRegexes};
 ghost use Rattle.xs_pair.specs.Fences as F;
 ghost use Rattle.xs_pair.specs.Verdict.{NoneFails};
 
-use crate::fence_ill;
+use crate::Ill;
 use crate::fences::fence_pairs;
 use std::alloc::Global;
-use xs_class::{Memory, Names, Side, Sym};
+use xs_class::{Memory, Names, Sym};
 use xs_gram::Fences;
 use xs_sheet::{Sheet, Unit};
 
@@ -30,13 +29,12 @@ fn unit_fences(alloc: Global, units: &[Unit]) -> Result<Fences, Memory>
 }
 
 /// The fences of the text side: those of the units, unless one of the rules on fences fails.
-fn text_fences(alloc: Global, sheet: &Sheet) -> Result<Fences, Memory>
-    requires { HaveRegexes sheet.now.units }
-    ensures { IfOk result (F.AreAllIf (NoneFails (F.FenceFails sheet.now.units)) (F.fence_pairs sheet.now.units)) }
+pub fn text_fences(alloc: Global, units: &[Unit], ill: Option<Ill>) -> Result<Fences, Memory>
+    requires { F.IsFenceIll units.now ill }
+    ensures { IfOk result (F.AreAllIf (NoneFails (F.FenceFails units.now)) (F.fence_pairs units.now)) }
 {
-    let ill = fence_ill(alloc, sheet)?;
     match ill {
-        None => unit_fences(alloc, sheet.units.as_slice()),
+        None => unit_fences(alloc, units),
         Some(_) => Ok(Fences::new(alloc)),
     }
 }
@@ -54,22 +52,11 @@ fn mark_fences(alloc: Global, names: &Names) -> Result<Fences, Memory>
 }
 
 /// The fences of the XML side: the marks of each name, if the sheet is of version 2.
-fn xml_fences(alloc: Global, sheet: &Sheet, names: &Names) -> Result<Fences, Memory>
+pub fn xml_fences(alloc: Global, sheet: &Sheet, names: &Names) -> Result<Fences, Memory>
     ensures { IfOk result (F.AreAllIf (sheet.now.version ≡ 2) (F.mark_pairs 0 (length names.now))) }
 {
     if sheet.version == 2 {
         return mark_fences(alloc, names);
     }
     Ok(Fences::new(alloc))
-}
-
-/// The fences of one side's grammar.
-pub fn fences_of(alloc: Global, sheet: &Sheet, names: &Names, side: Side) -> Result<Fences, Memory>
-    requires { HaveRegexes sheet.now.units }
-    ensures { IfOk result (F.AreFences sheet.now names.now side) }
-{
-    match side {
-        Side::Text => text_fences(alloc, sheet),
-        Side::Xml => xml_fences(alloc, sheet, names),
-    }
 }

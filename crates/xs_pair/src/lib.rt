@@ -39,5 +39,5 @@ pub use least::{earlier, with_line};
 pub use mark::{Mark, Marks};
 pub use names::{Sort, firsts, is_of, names_of, unit_line, unit_name};
 pub use production::{Rule, rules_of};
-pub use two::{Two, both};
+pub use two::{Two, both, both_by};
 pub use upgrading::upgrade;

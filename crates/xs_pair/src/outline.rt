@@ -7,7 +7,7 @@ ghost use Rattle.xs_pair.specs.Weights.{AreLight};
 
 use crate::names::{firsts, names_of};
 use crate::slotted::{Slotted, slotted_rules};
-use crate::{Directory, Sort};
+use crate::{Directory, Rule, Sort};
 use std::alloc::Global;
 use xs_class::{Memory, Text};
 use xs_sheet::{Sheet, Unit};
@@ -84,29 +84,34 @@ struct Productions {
     nons: Directory,
 }
 
-fn productions_of(alloc: Global, units: &[Unit]) -> Result<Productions, Memory>
+fn productions_of(
+    alloc: Global,
+    units: &[Unit],
+    rules: Vec<Rule>,
+) -> Result<Productions, Memory>
     requires few { length units.now < 65536 }
-    requires light { AreLight (L.rules_of units.now) }
-    ensures rules { IfOk result (λ p. p.rules.items ≡ L.rules_of units.now) }
+    requires light { AreLight rules.items }
+    ensures rules { IfOk result (λ p. p.rules.items ≡ rules.items) }
     ensures heads { IfOk result (λ p. p.heads ≡ U.names_of S.Production units.now) }
     ensures nons { IfOk result (λ p. p.nons ≡ U.nons_of units.now) }
 {
-    let rules = slotted_rules(alloc, units)?;
+    let rules = slotted_rules(alloc, rules)?;
     let heads = directory(alloc, Sort::Production, units)?;
     let nons = distinct(alloc, &heads)?;
     Ok(Productions { rules, heads, nons })
 }
 
 impl Outline {
-    /// The outline of a sheet, in time n log n of its length.
-    pub fn of(alloc: Global, sheet: &Sheet) -> Result<Self, Memory>
+    /// The outline of a sheet, whose productions are given, in time n log n of its length.
+    pub fn of(alloc: Global, sheet: &Sheet, rules: Vec<Rule>) -> Result<Self, Memory>
         requires few { length sheet.now.units < 65536 }
-        requires light { AreLight (L.rules_of sheet.now.units) }
+        requires rules { rules.items ≡ L.rules_of sheet.now.units }
+        requires light { AreLight rules.items }
         ensures { IfOk result (IsOutlineOf sheet.now) }
     {
         let units = sheet.units.as_slice();
         let start = sheet.start.copy()?;
-        let productions = productions_of(alloc, units)?;
+        let productions = productions_of(alloc, units, rules)?;
         let names = unit_names(alloc, units)?;
         Ok(Outline {
             units: names.units,

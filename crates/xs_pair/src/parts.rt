@@ -5,15 +5,15 @@ ghost use Rattle.xs_class.specs.{place_of};
 ghost use Rattle.xs_pair.specs.Units.{number_of};
 ghost use Rattle.xs_pair.specs.Verdict.{IsOutlineOf};
 ghost use Rattle.xs_pair.specs.Grammars.{flat_item, flat_mark, flat_marks, named_item, rule_part, rule_parts, numbering_in, AreTermsOf, AreSkipsOf, IsTermAdded, IsSkipAdded, ArePartsOf};
+ghost use Rattle.xs_pair.specs.Fences.{AreFences};
 
-use crate::enclosing::fences_of;
 use crate::outline::Outline;
 use crate::regex::copied_regex;
 use crate::slotted::Slotted;
 use crate::{Directory, Mark};
 use std::alloc::Global;
 use xs_class::{ATTR_END, Memory, Names, Side, Sym, Text, word_of};
-use xs_gram::{GItem, GItems, GramParts, Regexes, RulePart, Rules, SkipPart, Skips, push_symbol};
+use xs_gram::{Fences, GItem, GItems, GramParts, Regexes, RulePart, Rules, SkipPart, Skips, push_symbol};
 use xs_regex::Regex;
 use xs_sheet::{Item, Sheet, Unit};
 
@@ -209,16 +209,18 @@ impl Outline {
         Ok(parts)
     }
 
-    /// The parts of the grammar of one side.
+    /// The parts of the grammar of one side, which has these fences.
     pub fn gram_parts(
         &self,
         alloc: Global,
         sheet: &Sheet,
         names: &Names,
         side: Side,
+        fences: Fences,
     ) -> Result<GramParts, Memory>
         requires outline { IsOutlineOf sheet.now self.now }
         requires regexes { HaveRegexes sheet.now.units }
+        requires fences { AreFences sheet.now names.now side fences }
         ensures of { IfOk result (ArePartsOf sheet.now names.now side) }
         ensures terms { IfOk result (λ p. EachOf IsFit p.terms) }
         ensures skips { IfOk result (λ p. EachOf (λ k. IsFit k.regex) p.skips) }
@@ -226,7 +228,6 @@ impl Outline {
         let rules = self.rule_parts(alloc, names, side)?;
         let terms = regexes(alloc, sheet.units.as_slice())?;
         let skips = skip_parts(alloc, sheet.units.as_slice())?;
-        let fences = fences_of(alloc, sheet, names, side)?;
         Ok(GramParts {
             start: number(&self.nons, &self.start),
             nons: self.nons.as_slice().len() as u32,

@@ -1,15 +1,12 @@
 ghost use Rattle.std.specs.Prelude.{◌≡◌, ◌<◌, IfOk};
-ghost use Rattle.xs_pair.specs.Listing as L;
 ghost use Rattle.xs_pair.specs.Marks.{slot_names};
 ghost use Rattle.xs_pair.specs.Weights.{rule_weight, AreLight};
 
-use crate::production::rules_of;
 use crate::slots::slot_directory;
 use crate::{Directory, Rule};
 use std::alloc::Global;
 use std::marker::Model;
 use xs_class::{Memory, Text};
-use xs_sheet::Unit;
 
 /// A production with a directory of the slots of its text side. Contracts see the production.
 #[derive(Debug, Drop)]
@@ -61,12 +58,11 @@ impl Slotted {
     }
 }
 
-/// The productions of the units, in their order, each with a directory of its slots.
-pub fn slotted_rules(alloc: Global, units: &[Unit]) -> Result<Vec<Slotted>, Memory>
-    requires { AreLight (L.rules_of units.now) }
-    ensures { IfOk result (λ v. v.items ≡ L.rules_of units.now) }
+/// The productions, each with a directory of its slots.
+pub fn slotted_rules(alloc: Global, rules: Vec<Rule>) -> Result<Vec<Slotted>, Memory>
+    requires { AreLight rules.items }
+    ensures { IfOk result (λ v. v.items ≡ rules.items) }
 {
-    let rules = rules_of(alloc, units)?;
     let mut slotted = Vec::with_capacity(alloc, rules.len())?;
     'rules: for rule in rules {
         let rule = Slotted::of(alloc, rule)?;

@@ -2,22 +2,24 @@ ghost use Rattle.std.specs.Prelude.{◌≡◌, ◌<◌, [], length, map, slice_g
 ghost use Rattle.std.specs.Str.{chars};
 ghost use Rattle.xs_gram.specs.{IsBuilt};
 ghost use Rattle.xs_pair.specs.declared.production.Rule.{Rule as AnyRule};
+ghost use Rattle.xs_pair.specs.Fences.{AreFences, IsFenceIll};
 ghost use Rattle.xs_pair.specs.Grammars.{Pair, IsPair, IsPairOf, IsGramOf, HaveSameTrees, grammar_of};
 ghost use Rattle.xs_class.specs.{AreNamesOf};
-ghost use Rattle.xs_pair.specs.Listing.{rules_of, names_in as listed_names};
+ghost use Rattle.xs_pair.specs.Listing.{rules_of as listed_rules, names_in as listed_names};
 ghost use Rattle.xs_pair.specs.Marks.{slot_names};
 ghost use Rattle.xs_pair.specs.Units.{nons_of};
 ghost use Rattle.xs_pair.specs.Verdict.{FailsAt, NoneFails, IsRefusal, IsOutlineOf};
 ghost use Rattle.xs_pair.specs.Weights.{weight, IsOfBytes};
 
-use crate::PairFault;
+use crate::enclosing::{text_fences, xml_fences};
 use crate::outline::Outline;
-use crate::production::names_in;
+use crate::production::{names_in, rules_of};
 use crate::slotted::Slotted;
+use crate::{Ill, PairFault, Rule, fence_ill};
 use std::alloc::Global;
 use std::marker::Model;
 use xs_class::{Listed, Memory, Names, Side, Text};
-use xs_gram::Gram;
+use xs_gram::{Fences, Gram};
 use xs_sheet::Sheet;
 
 /// The two grammars of a sheet, and the names that their numbers stand for.
@@ -125,7 +127,7 @@ fn slot_lists(alloc: Global, rules: Vec<Slotted>) -> Result<Vec<Listed<Text>>, M
 
 /// The names of elements and attributes, in order.
 fn names_of_marks(alloc: Global, sheet: &Sheet, rules: &[Slotted]) -> Result<Names, Memory>
-    requires rules { rules.now ≡ rules_of sheet.now.units }
+    requires rules { rules.now ≡ listed_rules sheet.now.units }
     requires small { weight sheet.now.units < 65536 }
     ensures { IfOk result (AreNamesOf (listed_names rules.now)) }
 {
@@ -135,29 +137,33 @@ fn names_of_marks(alloc: Global, sheet: &Sheet, rules: &[Slotted]) -> Result<Nam
 }
 
 impl Outline {
-    /// The grammar of one side.
+    /// The grammar of one side, which has these fences.
     fn grammar(
         &self,
         alloc: Global,
         sheet: &Sheet,
         names: &Names,
         side: Side,
+        fences: Fences,
     ) -> Result<Gram, Memory>
         requires passed { NoneFails (FailsAt sheet.now) }
         requires outline { IsOutlineOf sheet.now self.now }
         requires small { weight sheet.now.units < 65536 }
         requires bytes { IsOfBytes sheet.now }
-        requires named { AreNamesOf (listed_names (rules_of sheet.now.units)) names.now }
+        requires named { AreNamesOf (listed_names (listed_rules sheet.now.units)) names.now }
+        requires fences { AreFences sheet.now names.now side fences }
         ensures of { IfOk result (IsGramOf sheet.now names.now side) }
         ensures built { IfOk result IsBuilt }
     {
-        let parts = self.gram_parts(alloc, sheet, names, side)?;
+        let parts = self.gram_parts(alloc, sheet, names, side, fences)?;
         let gram = Gram::build(alloc, parts)?;
         Ok(gram)
     }
 
-    fn two(self, alloc: Global, sheet: &Sheet) -> Result<Two, Memory>
+    /// The two grammars, where this is the first failure of a rule on fences, if one fails.
+    fn two(self, alloc: Global, sheet: &Sheet, ill: Option<Ill>) -> Result<Two, Memory>
         requires outline { IsOutlineOf sheet.now self }
+        requires ill { IsFenceIll sheet.now.units ill }
         requires passed { NoneFails (FailsAt sheet.now) }
         requires small { weight sheet.now.units < 65536 }
         requires bytes { IsOfBytes sheet.now }
@@ -166,8 +172,10 @@ impl Outline {
         ensures xml { IfOk result (λ p. IsBuilt p.xml) }
     {
         let names = names_of_marks(alloc, sheet, &self.rules)?;
-        let text = self.grammar(alloc, sheet, &names, Side::Text)?;
-        let xml = self.grammar(alloc, sheet, &names, Side::Xml)?;
+        let fences = text_fences(alloc, sheet.units.as_slice(), ill)?;
+        let text = self.grammar(alloc, sheet, &names, Side::Text, fences)?;
+        let fences = xml_fences(alloc, sheet, &names)?;
+        let xml = self.grammar(alloc, sheet, &names, Side::Xml, fences)?;
         let lines = lines_of(alloc, &self.rules)?;
         let slots = slot_lists(alloc, self.rules)?;
         Ok(Two {
@@ -179,6 +187,30 @@ impl Outline {
             slots,
         })
     }
+}
+
+/// The two grammars of a sheet, of which these are the productions and the first failure of a rule
+/// on fences, if one fails.
+pub fn both_by(
+    alloc: Global,
+    sheet: &Sheet,
+    rules: Vec<Rule>,
+    ill: Option<Ill>,
+) -> Result<Two, PairFault>
+    requires bytes { IsOfBytes sheet.now }
+    requires rules { rules.items ≡ listed_rules sheet.now.units }
+    requires ill { IsFenceIll sheet.now.units ill }
+    ensures two { IfOk result (IsPairOf sheet.now) }
+    ensures text { IfOk result (λ p. IsBuilt p.text) }
+    ensures xml { IfOk result (λ p. IsBuilt p.xml) }
+    ensures trees { IfOk result (λ p. HaveSameTrees p.text p.xml) }
+    ensures passed { OnOk result (NoneFails (FailsAt sheet.now)) }
+    ensures ill { IfErr result (IsRefusal sheet.now) }
+{
+    let outline = Outline::of(alloc, sheet, rules)?;
+    outline.check(alloc, sheet)?;
+    let two = outline.two(alloc, sheet, ill)?;
+    Ok(two)
 }
 
 /// The two grammars of a sheet.
@@ -195,8 +227,7 @@ pub fn both(alloc: Global, sheet: &Sheet) -> Result<Two, PairFault>
     ensures passed { OnOk result (NoneFails (FailsAt sheet.now)) }
     ensures ill { IfErr result (IsRefusal sheet.now) }
 {
-    let outline = Outline::of(alloc, sheet)?;
-    outline.check(alloc, sheet)?;
-    let two = outline.two(alloc, sheet)?;
-    Ok(two)
+    let rules = rules_of(alloc, sheet.units.as_slice())?;
+    let ill = fence_ill(alloc, sheet)?;
+    both_by(alloc, sheet, rules, ill)
 }

@@ -2,7 +2,7 @@ ghost use Rattle.std.specs.Prelude.{◌≡◌, ◌⊎◌, ◌↔◌, None, false
 ghost use Rattle.xs_sheet.specs.{HasRegex, HaveRegexes};
 ghost use Rattle.xs_pair.specs.declared.production.Rule.{Rule as AnyRule};
 ghost use Rattle.xs_pair.specs.Units as U;
-ghost use Rattle.xs_pair.specs.{IsFirstLine, IsLineWhere};
+ghost use Rattle.xs_pair.specs.{IsFirstLine, IsLineWhere, rules_of};
 ghost use Rattle.xs_wf.specs.Units.{IsIllUnit, IsStrangeUnit, IsStrangeRule, IsFineUnit, AreFine, lesser as lesser_of};
 
 use crate::units::{is_empty_unit, is_strange_rule, is_strange_unit, is_unmatched_unit};
@@ -65,12 +65,16 @@ pub fn least_strange(alloc: Global, rules: &[Rule]) -> Result<Option<u32>, Memor
 }
 
 /// The least line of a unit in which a string or a normal spelling holds a character that XML does
-/// not have. The rules are the productions among the units.
-pub fn least_not_char(alloc: Global, units: &[Unit], rules: &[Rule]) -> Result<Option<u32>, Memory>
-    requires { HaveRegexes units.now }
-    ensures { IfOk result (IsFirstLine (λ line. IsLineWhere (λ k u. IsStrangeUnit u) U.unit_line units.now line ⊎ IsLineWhere (λ k r. IsStrangeRule r) (λ (r : AnyRule). r.line) rules.now line)) }
+/// not have, where that of a production is given.
+pub fn least_not_char(
+    alloc: Global,
+    units: &[Unit],
+    strange: Option<u32>,
+) -> Result<Option<u32>, Memory>
+    requires regexes { HaveRegexes units.now }
+    requires strange { IsFirstLine (IsLineWhere (λ k r. IsStrangeRule r) (λ (r : AnyRule). r.line) (rules_of units.now)) strange }
+    ensures { IfOk result (IsFirstLine (λ line. IsLineWhere (λ k u. IsStrangeUnit u) U.unit_line units.now line ⊎ IsLineWhere (λ k r. IsStrangeRule r) (λ (r : AnyRule). r.line) (rules_of units.now) line)) }
 {
     let among_units = least_unit(alloc, IllRule::NotChar, units)?;
-    let among_rules = least_strange(alloc, rules)?;
-    Ok(lesser(among_units, among_rules))
+    Ok(lesser(among_units, strange))
 }

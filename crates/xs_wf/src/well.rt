@@ -1,14 +1,13 @@
 ghost use Rattle.std.specs.Prelude.{◌≡◌, ◌+◌, ◌<◌, None, IfOk, OnOk, IfErr};
-ghost use Rattle.xs_sheet.specs.{HaveRegexes};
-ghost use Rattle.xs_pair.specs.declared.ill.IllRule.TheVariants as R;
-ghost use Rattle.xs_pair.specs.{IsPairOf, IsSoundPair, IsFirstLine, NoneBefore, order, IsOfBytes};
+ghost use Rattle.xs_pair.specs.{IsPairOf, IsSoundPair, IsFirstLine, IsFenceIll, NoneBefore, order, IsOfBytes};
 ghost use Rattle.xs_wf.specs.Passing.{AreGrammarsOf, Gives, AllGive};
-ghost use Rattle.xs_wf.specs.Rules.{Fails, IsWell, IsRefusal};
+ghost use Rattle.xs_wf.specs.Rules.{Fails, FailsAmongRules, IsWell, IsRefusal};
+ghost use Rattle.xs_wf.specs.Units.{IsStrangeRule};
 
-use crate::{least_loop, least_not_char, least_unit, least_unproductive};
+use crate::{least_loop, least_not_char, least_strange, least_unit, least_unproductive};
 use std::alloc::Global;
 use xs_class::Memory;
-use xs_pair::{Ill, IllRule, PairFault, Two, both, fence_ill, rules_of};
+use xs_pair::{Ill, IllRule, PairFault, Two, both_by, fence_ill, rules_of};
 use xs_sheet::Sheet;
 
 /// Why a sheet is not well formed.
@@ -45,19 +44,17 @@ impl From<PairFault> for WfFault {
     }
 }
 
-/// The least line at which the rule on characters fails.
-fn least_character(alloc: Global, sheet: &Sheet) -> Result<Option<u32>, Memory>
-    requires { HaveRegexes sheet.now.units }
-    ensures { IfOk result (IsFirstLine (Fails sheet.now R.NotChar)) }
-{
-    let units = sheet.units.as_slice();
-    let rules = rules_of(alloc, units)?;
-    least_not_char(alloc, units, &rules)
-}
-
-/// The least line at which the rule fails, one of those before the rules on fences.
-fn least(alloc: Global, sheet: &Sheet, two: &Two, rule: IllRule) -> Result<Option<u32>, Memory>
+/// The least line at which the rule fails, one of those before the rules on fences. That of a
+/// production with a string that holds a character that XML does not have is given.
+fn least(
+    alloc: Global,
+    sheet: &Sheet,
+    two: &Two,
+    strange: Option<u32>,
+    rule: IllRule,
+) -> Result<Option<u32>, Memory>
     requires grammars { AreGrammarsOf sheet.now two.now }
+    requires strange { IsFirstLine (FailsAmongRules sheet.now IsStrangeRule) strange }
     requires early { order rule < 12 }
     ensures first { IfOk result (IsFirstLine (Fails sheet.now rule)) }
     ensures gives { IfOk result (λ least. least ≡ None → Gives sheet.now two.now rule) }
@@ -71,7 +68,7 @@ fn least(alloc: Global, sheet: &Sheet, two: &Two, rule: IllRule) -> Result<Optio
         IllRule::AttrTwice => Ok(None),
         IllRule::RootShape => Ok(None),
         IllRule::EmptyClass => least_unit(alloc, IllRule::EmptyClass, sheet.units.as_slice()),
-        IllRule::NotChar => least_character(alloc, sheet),
+        IllRule::NotChar => least_not_char(alloc, sheet.units.as_slice(), strange),
         IllRule::Normal => least_unit(alloc, IllRule::Normal, sheet.units.as_slice()),
         IllRule::Unproductive => least_unproductive(alloc, two),
         IllRule::Loop => least_loop(alloc, two),
@@ -82,50 +79,53 @@ fn least(alloc: Global, sheet: &Sheet, two: &Two, rule: IllRule) -> Result<Optio
 }
 
 /// Goes on where the rule fails nowhere.
-fn pass(alloc: Global, sheet: &Sheet, two: &Two, rule: IllRule) -> Result<(), WfFault>
+fn pass(
+    alloc: Global,
+    sheet: &Sheet,
+    two: &Two,
+    strange: Option<u32>,
+    rule: IllRule,
+) -> Result<(), WfFault>
     requires grammars { AreGrammarsOf sheet.now two.now }
+    requires strange { IsFirstLine (FailsAmongRules sheet.now IsStrangeRule) strange }
     requires early { order rule < 12 }
     requires before { NoneBefore (Fails sheet.now) (order rule) }
     ensures ok { OnOk result (NoneBefore (Fails sheet.now) (order rule + 1)) }
     ensures gives { OnOk result (Gives sheet.now two.now rule) }
     ensures ill { IfErr result (IsRefusal sheet.now) }
 {
-    let least = least(alloc, sheet, two, rule)?;
+    let least = least(alloc, sheet, two, strange, rule)?;
     match least {
         None => Ok(()),
         Some(line) => Err(WfFault::Ill(Ill { rule, line })),
     }
 }
 
-/// Refuses the first of the rules on fences that fails, where no rule before them does.
-fn pass_fences(alloc: Global, sheet: &Sheet) -> Result<(), WfFault>
-    requires regexes { HaveRegexes sheet.now.units }
-    requires before { NoneBefore (Fails sheet.now) 12 }
-    ensures well { OnOk result (IsWell sheet.now) }
-    ensures ill { IfErr result (IsRefusal sheet.now) }
-{
-    let first = fence_ill(alloc, sheet)?;
-    match first {
-        None => Ok(()),
-        Some(ill) => Err(WfFault::Ill(ill)),
-    }
-}
-
 /// Refuses the first of the rules after the first seven that fails, at the least line at which it
-/// does.
-fn check(alloc: Global, sheet: &Sheet, two: &Two) -> Result<(), WfFault>
-    requires { AreGrammarsOf sheet.now two.now }
+/// does, where the first failure of a rule on fences is given, if one fails.
+fn check(
+    alloc: Global,
+    sheet: &Sheet,
+    two: &Two,
+    strange: Option<u32>,
+    fences: Option<Ill>,
+) -> Result<(), WfFault>
+    requires grammars { AreGrammarsOf sheet.now two.now }
+    requires strange { IsFirstLine (FailsAmongRules sheet.now IsStrangeRule) strange }
+    requires fences { IsFenceIll sheet.now.units fences }
     ensures well { OnOk result (IsWell sheet.now) }
     ensures gives { OnOk result (AllGive sheet.now two.now) }
     ensures ill { IfErr result (IsRefusal sheet.now) }
 {
-    pass(alloc, sheet, two, IllRule::EmptyClass)?;
-    pass(alloc, sheet, two, IllRule::NotChar)?;
-    pass(alloc, sheet, two, IllRule::Normal)?;
-    pass(alloc, sheet, two, IllRule::Unproductive)?;
-    pass(alloc, sheet, two, IllRule::Loop)?;
-    pass_fences(alloc, sheet)?;
-    Ok(())
+    pass(alloc, sheet, two, strange, IllRule::EmptyClass)?;
+    pass(alloc, sheet, two, strange, IllRule::NotChar)?;
+    pass(alloc, sheet, two, strange, IllRule::Normal)?;
+    pass(alloc, sheet, two, strange, IllRule::Unproductive)?;
+    pass(alloc, sheet, two, strange, IllRule::Loop)?;
+    match fences {
+        None => Ok(()),
+        Some(ill) => Err(WfFault::Ill(ill)),
+    }
 }
 
 /// The two grammars of a well-formed sheet.
@@ -141,7 +141,10 @@ pub fn well_formed(alloc: Global, sheet: &Sheet) -> Result<Two, WfFault>
     ensures well { IfOk result (λ _. IsWell sheet.now) }
     ensures ill { IfErr result (IsRefusal sheet.now) }
 {
-    let two = both(alloc, sheet)?;
-    check(alloc, sheet, &two)?;
+    let rules = rules_of(alloc, sheet.units.as_slice())?;
+    let strange = least_strange(alloc, &rules)?;
+    let fences = fence_ill(alloc, sheet)?;
+    let two = both_by(alloc, sheet, rules, fences)?;
+    check(alloc, sheet, &two, strange, fences)?;
     Ok(two)
 }

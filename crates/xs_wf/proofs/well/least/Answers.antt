@@ -1,15 +1,17 @@
-use Rattle.std.proofs.Common.{◌≡◌, sym, subst, arith, ℕ, List, None}
+use Rattle.std.proofs.Common.{◌≡◌, ◌⊎◌, sym, subst, arith, ℕ, List, None}
 use Rattle.std.specs.Prelude.{IfOk}
 use Rattle.std.specs.declared.option.Option.{Option}
 use Rattle.std.proofs.lemmas.Result.{IfOk-weaker}
 use Rattle.xs_sheet.specs.declared.unit.Unit.{Unit}
 use Rattle.xs_pair.specs.declared.ill.IllRule.TheVariants.{Twice, Undefined, NoStart, NameOnce, Kind, AttrTwice, RootShape, EmptyClass, Normal}
+use Rattle.xs_pair.specs.declared.production.Rule.{Rule}
+use Rattle.xs_pair.specs.Listing.{rules_of}
 use Rattle.xs_pair.specs.Units.{unit_line}
 use Rattle.xs_pair.specs.Verdict.{IsFirstLine, IsLineWhere}
 use Rattle.xs_wf.specs.Nonterminals.{IsUnproductive, IsLooping, IsFirstLineOf, FailsAmongNons}
 use Rattle.xs_wf.specs.Passing.{Gives}
 use Rattle.xs_wf.specs.Rules.{Fails}
-use Rattle.xs_wf.specs.Units.{IsIllUnit}
+use Rattle.xs_wf.specs.Units.{IsIllUnit, IsStrangeUnit, IsStrangeRule}
 use Rattle.xs_wf.proofs.Agreement.{unproductive_fails, looping_fails}
 use Rattle.xs_wf.proofs.Lines.{pair_ordered}
 use Rattle.xs_wf.proofs.Refusals.{none_of_seven}
@@ -53,7 +55,12 @@ returns-in-Normal-clause-first c =
     (subst (λ (us : List Unit). IfOk c.least_unit-in-Normal.result (IsFirstLine (IsLineWhere (λ k u. IsIllUnit Normal u) unit_line us))) c.as_slice-in-Normal.ensures c.least_unit-in-Normal.ensures.ill)
 
 pub returns-in-NotChar-clause-first : goal.returns-in-NotChar-clause-first
-returns-in-NotChar-clause-first c = subst (λ r. IfOk c.least_character.result (IsFirstLine (Fails c.args.sheet.now r))) (sym c.in-NotChar.is) c.least_character.ensures
+returns-in-NotChar-clause-first c =
+    subst (λ r. IfOk c.least_not_char.result (IsFirstLine (Fails c.args.sheet.now r))) (sym c.in-NotChar.is)
+    (subst (λ (us : List Unit). IfOk c.least_not_char.result (IsFirstLine (λ line. IsLineWhere (λ k u. IsStrangeUnit u) unit_line us line ⊎ IsLineWhere (λ k r. IsStrangeRule r) (λ (r : Rule). r.line) (rules_of us) line))) c.as_slice-in-NotChar.ensures c.least_not_char.ensures)
+
+pub least_not_char-requires-clause-strange : goal.least_not_char-requires-clause-strange
+least_not_char-requires-clause-strange c = subst (λ (us : List Unit). IsFirstLine (IsLineWhere (λ k r. IsStrangeRule r) (λ (r : Rule). r.line) (rules_of us)) c.args.strange) (sym c.as_slice-in-NotChar.ensures) c.requires.strange
 
 pub returns-in-Unproductive-clause-first : goal.returns-in-Unproductive-clause-first
 returns-in-Unproductive-clause-first c =
