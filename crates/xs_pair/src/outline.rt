@@ -84,11 +84,7 @@ struct Productions {
     nons: Directory,
 }
 
-fn productions_of(
-    alloc: Global,
-    units: &[Unit],
-    rules: Vec<Rule>,
-) -> Result<Productions, Memory>
+fn productions_of(alloc: Global, units: &[Unit], rules: Vec<Rule>) -> Result<Productions, Memory>
     requires few { length units.now < 65536 }
     requires light { AreLight rules.items }
     ensures rules { IfOk result (λ p. p.rules.items ≡ rules.items) }

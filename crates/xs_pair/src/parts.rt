@@ -13,7 +13,9 @@ use crate::slotted::Slotted;
 use crate::{Directory, Mark};
 use std::alloc::Global;
 use xs_class::{ATTR_END, Memory, Names, Side, Sym, Text, word_of};
-use xs_gram::{Fences, GItem, GItems, GramParts, Regexes, RulePart, Rules, SkipPart, Skips, push_symbol};
+use xs_gram::{
+    Fences, GItem, GItems, GramParts, Regexes, RulePart, Rules, SkipPart, Skips, push_symbol,
+};
 use xs_regex::Regex;
 use xs_sheet::{Item, Sheet, Unit};
 

@@ -12,6 +12,7 @@ mod maps;
 mod nets;
 mod searches;
 mod space;
+mod weighed;
 mod weights;
 
 pub use fault::CheckFault;
@@ -19,4 +20,5 @@ pub use maps::Maps;
 pub use nets::{CutNets, Site};
 pub use searches::Searches;
 pub use space::SearchSpace;
+pub use weighed::Weighed;
 pub use weights::light;
