@@ -1,5 +1,6 @@
 -- What tests say.
-use Rattle.std.proofs.Common.{◌≡◌, ℕ, List, Some, Bool, true, false, not, refl, slice_get}
+use Rattle.std.proofs.Common.{◌≡◌, ◌<◌, ℕ, List, length, Some, Bool, true, false, not, refl, slice_get, arith}
+use Rattle.std.proofs.lemmas.Option.{slice_get_within}
 use Rattle.std.specs.Prelude.{IsTrue, ◌↔◌, MatchBool}
 use Rattle.xs_pair.specs.Directories.{IsDistinct}
 use Rattle.xs_pair.specs.Rules.{HasRepeat, IsAmong, IsAbsent, IsNotOnce}
@@ -8,6 +9,10 @@ use Rattle.xs_pair.proofs.Once.{distinct_no_repeat, once_is, right_lacks}
 pub repeat_test : (b : Bool) (ns : List (List ℕ)) → MatchBool b (IsDistinct ns) (HasRepeat ns) → IsTrue (not b) ↔ HasRepeat ns
 repeat_test true ns once = (λ t. (let e : false ≡ true = t in cc), λ twice. absurd (distinct_no_repeat ns once twice))
 repeat_test false ns twice = (λ t. twice, λ h. refl)
+
+-- none of fewer than two names stands twice
+pub few_no_repeat : (ns : List (List ℕ)) → length ns < 2 → HasRepeat ns → ⊥
+few_no_repeat ns few twice = let low = slice_get_within ns twice.k twice.name twice.again_at in omega (arith, twice.before)
 
 -- a test that holds, and one that does not
 pub yes : {P : Type 0} → P → IsTrue true ↔ P

@@ -32,6 +32,9 @@ fn repeats_attribute(alloc: Global, mark: &Mark) -> Result<bool, Memory>
 {
     match mark {
         Mark::Opening { attributes, .. } => {
+            if attributes.len() < 2 {
+                return Ok(false);
+            }
             let names = copies(alloc, attributes.as_slice())?;
             let directory = Directory::of(alloc, names)?;
             let distinct = directory.is_distinct();
