@@ -1,5 +1,5 @@
 -- How the first places of names are found from the end of a list to its front.
-use Rattle.std.proofs.Common.{◌≡◌, ◌⊎◌, ◌∙◌, ◌<◌, ◌+◌, inl, inr, ap, sym, refl, subst, ℕ, suc, List, ◌∷◌, length, drop, get_or, Some, None, Bool, true, false, cond, arith, slice_get}
+use Rattle.std.proofs.Common.{◌≡◌, ◌⊎◌, ◌∙◌, ◌<◌, ◌≤◌, ◌+◌, inl, inr, ap, sym, refl, subst, ℕ, suc, List, ◌∷◌, length, drop, get_or, Some, None, Bool, true, false, cond, arith, slice_get}
 use Rattle.std.specs.Prelude.{bytes_eq}
 use Rattle.std.specs.List.{Contains}
 use Rattle.std.specs.declared.option.Option.{Option}
@@ -7,7 +7,7 @@ use Rattle.std.specs.Option.{option_map}
 use Rattle.std.specs.Cmp.Lexicographic.{bytes_decides}
 use Rattle.std.proofs.Math.ListN.{set}
 use Rattle.std.proofs.lemmas.Option.{none-some, same_Some, slice_get_within, get_or_from_slice_get}
-use Rattle.std.proofs.lemmas.List.{get_or-set_same, get_or-set_other}
+use Rattle.std.proofs.lemmas.List.{get_or-set_same, get_or-set_other, drop_all}
 use Rattle.xs_gram.proofs.Building.{drop_next}
 use Rattle.xs_class.specs.Ordered.{place_of, IsOrdered, AreNamesOf}
 use Rattle.xs_class.proofs.Places.{ordered_is_found}
@@ -80,3 +80,32 @@ are_first list names places m front few same long from = record {
         let written : get_or places k 0 ≡ m + j = from k name j at (subst (λ l. place_of l name ≡ Some j) (ap (λ p. drop p list) (sym front)) is) in
         is ∙ ap Some (omega arith)
     there k name at (inr none) = let here = stands list name ((same.same name).0 (contains names name k at)) in absurd (stands_nowhere list name here.0 none here.1)
+
+-- A list that is looked through from its front: so many names were passed, and none of them is the name.
+abbrev IsPassed : List (List ℕ) → List ℕ → ℕ → Type 0
+IsPassed list name i = place_of list name ≡ option_map (λ (j : ℕ). i + j) (place_of (drop i list) name)
+
+pub passed_none : (list : List (List ℕ)) (name : List ℕ) → IsPassed list name 0
+passed_none list name = by (place_of list name)
+  where
+    by : (o : Option ℕ) → o ≡ option_map (λ (j : ℕ). 0 + j) o
+    by None = refl
+    by (Some j) = ap Some (omega arith)
+
+pub passed_more : (list : List (List ℕ)) (name : List ℕ) (i : ℕ) (n : List ℕ) → i < length list → n ≡ get_or list i n → (n ≡ name → ⊥) → IsPassed list name i → IsPassed list name (i + 1)
+passed_more list name i n low at other so_far =
+    so_far ∙ ap (λ (l : List (List ℕ)). option_map (λ (j : ℕ). i + j) (place_of l name)) (drop_next list i n low at) ∙ by_test (bytes_eq n name) refl (place_of (drop (i + 1) list) name)
+  where
+    by_test : (b : Bool) → bytes_eq n name ≡ b → (o : Option ℕ) → option_map (λ (j : ℕ). i + j) (cond b (Some 0) (option_map suc o)) ≡ option_map (λ (j : ℕ). (i + 1) + j) o
+    by_test true t o = absurd (other ((bytes_decides n name).0 t))
+    by_test false t None = refl
+    by_test false t (Some j) = ap Some (omega arith)
+
+pub passed_found : (list : List (List ℕ)) (name : List ℕ) (i : ℕ) (n : List ℕ) → i < length list → n ≡ get_or list i n → n ≡ name → IsPassed list name i → Some i ≡ place_of list name
+passed_found list name i n low at same so_far =
+    let here : cond (bytes_eq n name) (Some 0) (option_map suc (place_of (drop (i + 1) list) name)) ≡ Some 0 = ap (λ (b : Bool). cond b (Some 0) (option_map suc (place_of (drop (i + 1) list) name))) ((bytes_decides n name).1 same) in
+    let zero_is : Some i ≡ Some (i + 0) = ap Some (omega arith) in
+    zero_is ∙ sym (so_far ∙ ap (λ (l : List (List ℕ)). option_map (λ (j : ℕ). i + j) (place_of l name)) (drop_next list i n low at) ∙ ap (option_map (λ (j : ℕ). i + j)) here)
+
+pub passed_all : (list : List (List ℕ)) (name : List ℕ) (i : ℕ) → length list ≤ i → IsPassed list name i → None ≡ place_of list name
+passed_all list name i high so_far = sym (so_far ∙ ap (λ (l : List (List ℕ)). option_map (λ (j : ℕ). i + j) (place_of l name)) (drop_all i list high))

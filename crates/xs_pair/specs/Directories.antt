@@ -9,6 +9,11 @@ pub record AreFirstPlaces (list names : List (List ℕ)) (places : List ℕ) : T
   pub absent : (name : List ℕ) → place_of names name ≡ None → place_of list name ≡ None
   pub first : (k : ℕ) (name : List ℕ) → slice_get names k ≡ Some name → place_of list name ≡ Some (slice_index_or places k 0)
 
+-- the names of a list that is not short, in order, and their first places
+pub record IsDirectory (list names : List (List ℕ)) (places : List ℕ) : Type 0 where
+  pub few : length list < 65536
+  pub long : 16 < length list → AreFirstPlaces list names places
+
 -- each name stands at its first place only
 abbrev pub IsDistinct : List (List ℕ) → Type 0
 IsDistinct list = (k : ℕ) (name : List ℕ) → slice_get list k ≡ Some name → place_of list name ≡ Some k

@@ -8,7 +8,11 @@ use std::alloc::Global;
 use std::marker::Model;
 use xs_class::{Memory, Names, Text};
 
-/// A list of names that finds the first place of a name. Contracts see the list.
+/// How many names a list may have that is looked through from its front.
+const SHORT: usize = 16;
+
+/// A list of names that finds the first place of a name. Contracts see the list. Of a longer list
+/// the names are kept in order too, with the first place of each.
 #[derive(Debug, Drop)]
 pub struct Directory {
     list: Vec<Text>,
@@ -18,13 +22,13 @@ pub struct Directory {
 
 impl Model for Directory {
     ghost use Rattle.std.specs.Prelude.{List, ℕ};
-    ghost use Rattle.xs_pair.specs.Directories.{AreFirstPlaces};
+    ghost use Rattle.xs_pair.specs.Directories.{IsDirectory};
 
     ghost Value = { List (List ℕ) };
 
     ghost view = { λ d. d.list.items };
 
-    ghost invariant = { λ d. AreFirstPlaces d.list.items d.names d.places.items };
+    ghost invariant = { λ d. IsDirectory d.list.items d.names d.places.items };
 }
 
 impl Directory {
@@ -33,6 +37,14 @@ impl Directory {
         requires { length list.items < 65536 }
         ensures { IfOk result (λ d. d ≡ list.items) }
     {
+        if list.len() <= SHORT {
+            let names = Names::of(alloc, &[])?;
+            return Ok(Directory {
+                list,
+                names,
+                places: Vec::new(alloc),
+            });
+        }
         let names = Names::of(alloc, &list)?;
         let places = first_places(alloc, &list, &names)?;
         Ok(Directory {
@@ -58,10 +70,13 @@ impl Directory {
         self.list
     }
 
-    /// The first place of a name in the list: a binary search.
+    /// The first place of a name in the list: a binary search, unless the list is short.
     pub fn place(&self, name: &str) -> Option<u32>
         ensures { result ≡ place_of self.now (chars name.now) }
     {
+        if self.list.len() <= SHORT {
+            return first_place(&self.list, name);
+        }
         match self.names.place(name) {
             Some(k) => Some(self.places[k as usize]),
             None => None,
@@ -133,6 +148,26 @@ impl Directory {
         }
         true
     }
+}
+
+/// Whether the text is the name.
+fn is_name(text: &Text, name: &str) -> bool
+    ensures { IsTrue result ↔ (text.now ≡ chars name.now) }
+{
+    text.as_str() == name
+}
+
+/// The first place of a name in a list, in time linear in the list.
+fn first_place(list: &[Text], name: &str) -> Option<u32>
+    requires { length list.now < 65536 }
+    ensures { result ≡ place_of list.now (chars name.now) }
+{
+    'texts: for (place, text) in list.iter().enumerate() {
+        if is_name(text, name) {
+            return Some(place as u32);
+        }
+    }
+    None
 }
 
 /// The first place in the list of each of its names: from the last to the first, so that the first
