@@ -29,7 +29,7 @@ fn is_ill_unit(alloc: Global, rule: IllRule, unit: &Unit) -> Result<bool, Memory
 {
     match rule {
         IllRule::EmptyClass => Ok(is_empty_unit(unit)),
-        IllRule::NotChar => is_strange_unit(alloc, unit),
+        IllRule::NotChar => Ok(is_strange_unit(unit)),
         IllRule::Normal => is_unmatched_unit(alloc, unit),
         IllRule::Twice | IllRule::Undefined | IllRule::NoStart | IllRule::NameOnce => Ok(false),
         IllRule::Kind | IllRule::AttrTwice | IllRule::RootShape => Ok(false),
@@ -53,15 +53,15 @@ pub fn least_unit(alloc: Global, rule: IllRule, units: &[Unit]) -> Result<Option
 }
 
 /// The least line of a production with a string that holds a character that XML does not have.
-pub fn least_strange(alloc: Global, rules: &[Rule]) -> Result<Option<u32>, Memory>
-    ensures { IfOk result (IsFirstLine (IsLineWhere (λ k r. IsStrangeRule r) (λ (r : AnyRule). r.line) rules.now)) }
+pub fn least_strange(rules: &[Rule]) -> Option<u32>
+    ensures { IsFirstLine (IsLineWhere (λ k r. IsStrangeRule r) (λ (r : AnyRule). r.line) rules.now) result }
 {
     let mut least = None;
     'rules: for rule in rules {
-        let fails = is_strange_rule(alloc, rule)?;
+        let fails = is_strange_rule(rule);
         least = with_line(least, rule.line, fails);
     }
-    Ok(least)
+    least
 }
 
 /// The least line of a unit in which a string or a normal spelling holds a character that XML does

@@ -5,7 +5,7 @@ ghost use Rattle.xs_pair.specs.{SomeOf};
 ghost use Rattle.xs_wf.specs.Units.{IsStrange, HasStrange, IsStrangeItem, IsStrangeMark, IsStrangeRule, IsEmptyUnit, IsStrangeUnit, IsUnmatchedUnit, IsFullUnit, IsMatchedUnit};
 
 use std::alloc::Global;
-use xs_class::{Class, Memory, Text, is_char, letters, word_of};
+use xs_class::{Class, Memory, Text, is_char, word_of};
 use xs_pair::{Mark, Rule};
 use xs_regex::{Regex, matches};
 use xs_sheet::{Item, Unit};
@@ -67,67 +67,64 @@ fn is_strange(letter: char) -> bool
 }
 
 /// Whether the text holds a character that XML does not have.
-fn has_strange(alloc: Global, text: &Text) -> Result<bool, Memory>
-    ensures { IfOk result (λ b. IsTrue b ↔ HasStrange text.now) }
+fn has_strange(text: &Text) -> bool
+    ensures { IsTrue result ↔ HasStrange text.now }
 {
-    let letters = letters(alloc, text.as_str())?;
-    'letters: for letter in &letters {
-        if is_strange(*letter) {
-            return Ok(true);
+    'letters: for letter in text.as_str().chars() {
+        if is_strange(letter) {
+            return true;
         }
     }
-    Ok(false)
+    false
 }
 
-fn is_strange_item(alloc: Global, item: &Item) -> Result<bool, Memory>
-    ensures { IfOk result (λ b. IsTrue b ↔ IsStrangeItem item.now) }
+fn is_strange_item(item: &Item) -> bool
+    ensures { IsTrue result ↔ IsStrangeItem item.now }
 {
     match item {
-        Item::Fixed(text) => has_strange(alloc, text),
-        Item::Named { .. } => Ok(false),
-        Item::Skip { .. } => Ok(false),
+        Item::Fixed(text) => has_strange(text),
+        Item::Named { .. } => false,
+        Item::Skip { .. } => false,
     }
 }
 
-fn is_strange_mark(alloc: Global, mark: &Mark) -> Result<bool, Memory>
-    ensures { IfOk result (λ b. IsTrue b ↔ IsStrangeMark mark.now) }
+fn is_strange_mark(mark: &Mark) -> bool
+    ensures { IsTrue result ↔ IsStrangeMark mark.now }
 {
     match mark {
-        Mark::Value(item) => is_strange_item(alloc, item),
-        Mark::Content(item) => is_strange_item(alloc, item),
-        Mark::Opening { .. } | Mark::Attribute(_) => Ok(false),
-        Mark::AttributeEnd | Mark::Closing(_) => Ok(false),
+        Mark::Value(item) => is_strange_item(item),
+        Mark::Content(item) => is_strange_item(item),
+        Mark::Opening { .. } | Mark::Attribute(_) => false,
+        Mark::AttributeEnd | Mark::Closing(_) => false,
     }
 }
 
-fn some_strange(alloc: Global, marks: &[Mark]) -> Result<bool, Memory>
-    ensures { IfOk result (λ b. IsTrue b ↔ SomeOf IsStrangeMark marks.now) }
+fn some_strange(marks: &[Mark]) -> bool
+    ensures { IsTrue result ↔ SomeOf IsStrangeMark marks.now }
 {
     'marks: for mark in marks {
-        if is_strange_mark(alloc, mark)? {
-            return Ok(true);
+        if is_strange_mark(mark) {
+            return true;
         }
     }
-    Ok(false)
+    false
 }
 
 /// Whether a string on either side of a production holds a character that XML does not have.
-pub fn is_strange_rule(alloc: Global, rule: &Rule) -> Result<bool, Memory>
-    ensures { IfOk result (λ b. IsTrue b ↔ IsStrangeRule rule.now) }
+pub fn is_strange_rule(rule: &Rule) -> bool
+    ensures { IsTrue result ↔ IsStrangeRule rule.now }
 {
-    let on_left = some_strange(alloc, rule.left.as_slice())?;
-    let on_right = some_strange(alloc, rule.right.as_slice())?;
-    Ok(on_left || on_right)
+    some_strange(rule.left.as_slice()) || some_strange(rule.right.as_slice())
 }
 
 /// Whether the normal spelling of an ignorable holds a character that XML does not have.
-pub fn is_strange_unit(alloc: Global, unit: &Unit) -> Result<bool, Memory>
-    ensures { IfOk result (λ b. IsTrue b ↔ IsStrangeUnit unit.now) }
+pub fn is_strange_unit(unit: &Unit) -> bool
+    ensures { IsTrue result ↔ IsStrangeUnit unit.now }
 {
     match unit {
-        Unit::Ignorable { normal, .. } => has_strange(alloc, normal),
-        Unit::Terminal { .. } => Ok(false),
-        Unit::Production { .. } | Unit::Fence { .. } => Ok(false),
+        Unit::Ignorable { normal, .. } => has_strange(normal),
+        Unit::Terminal { .. } => false,
+        Unit::Production { .. } | Unit::Fence { .. } => false,
     }
 }
 

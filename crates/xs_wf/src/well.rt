@@ -142,7 +142,7 @@ pub fn well_formed(alloc: Global, sheet: &Sheet) -> Result<Two, WfFault>
     ensures ill { IfErr result (IsRefusal sheet.now) }
 {
     let rules = rules_of(alloc, sheet.units.as_slice())?;
-    let strange = least_strange(alloc, &rules)?;
+    let strange = least_strange(&rules);
     let fences = fence_ill(alloc, sheet)?;
     let two = both_by(alloc, sheet, rules, fences)?;
     check(alloc, sheet, &two, strange, fences)?;

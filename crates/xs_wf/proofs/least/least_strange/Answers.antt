@@ -8,7 +8,7 @@ use Rattle.xs_wf.proofs.least.least_strange.Goals as goal
 
 pub rules-preserved : goal.rules-preserved
 rules-preserved c =
-    take_tested (λ (k : ℕ) (r : Rule). IsStrangeRule r) (λ (r : Rule). r.line) c.args.rules.now c.rules.rule-index c.rule-item.result c.rules.least c.with_line-least.result c.rule-item.result.line c.in_ok-fails.fails c.rules-test.true c.rule-item.is refl c.in_ok-fails.ensures c.with_line-least.ensures c.rules.invariant
+    take_tested (λ (k : ℕ) (r : Rule). IsStrangeRule r) (λ (r : Rule). r.line) c.args.rules.now c.rules.rule-index c.rule-item.result c.rules.least c.with_line-least.result c.rule-item.result.line c.is_strange_rule-fails.result c.rules-test.true c.rule-item.is refl c.is_strange_rule-fails.ensures c.with_line-least.ensures c.rules.invariant
 
 pub returns : goal.returns
 returns c = subst (λ rs. IsFirstLine (IsLineWhere (λ k r. IsStrangeRule r) (λ (r : Rule). r.line) rs) c.rules.least) (take_all c.rules.rule-index c.args.rules.now c.rules-test.false) c.rules.invariant

@@ -4,7 +4,7 @@ use Rattle.xs_pair.proofs.Decided.{yes}
 use Rattle.xs_wf.specs.Units.{IsStrangeMark}
 use Rattle.xs_wf.proofs.units.some_strange.Goals as goal
 
-pub returns-then-branch : goal.returns-then-branch
-returns-then-branch c =
+pub returns-then-is_strange_mark : goal.returns-then-is_strange_mark
+returns-then-is_strange_mark c =
     yes (some_at IsStrangeMark c.args.marks.now c.marks.mark-index c.mark-item.result (get_at c.args.marks.now c.marks.mark-index c.mark-item.result c.marks-test.true c.mark-item.is)
-    (when_true c.in_ok-is_strange_mark.field-0 c.in_ok-is_strange_mark.ensures c.if-branch.true))
+    (when_true c.is_strange_mark.result c.is_strange_mark.ensures c.if-is_strange_mark.true))
