@@ -17,5 +17,5 @@ pub use Rattle.xs_pair.specs.Listing.{rules_of}
 pub use Rattle.xs_pair.specs.Rules.{SomeOf}
 pub use Rattle.xs_pair.specs.Verdict.{IsFirstLine, IsLineWhere, NoneBefore, order}
 pub use Rattle.xs_pair.specs.Grammars.{HaveSameTrees, IsPair, IsPairOf, Pair, grammar_of}
-pub use Rattle.xs_pair.specs.Sound.{IsSoundPair}
+pub use Rattle.xs_pair.specs.Sound.{AreGrammarsOf, IsSoundPair}
 pub use Rattle.xs_pair.specs.Fences.{IsFenceIll}

@@ -7,6 +7,7 @@ ghost use Rattle.xs_pair.specs.Grammars.{Pair, IsPair, IsPairOf, IsGramOf, HaveS
 ghost use Rattle.xs_class.specs.{AreNamesOf};
 ghost use Rattle.xs_pair.specs.Listing.{rules_of as listed_rules, names_in as listed_names};
 ghost use Rattle.xs_pair.specs.Marks.{slot_names};
+ghost use Rattle.xs_pair.specs.Sound.{AreGrammarsOf};
 ghost use Rattle.xs_pair.specs.Units.{nons_of};
 ghost use Rattle.xs_pair.specs.Verdict.{FailsAt, NoneFails, IsRefusal, IsOutlineOf};
 ghost use Rattle.xs_pair.specs.Weights.{weight, IsOfBytes};
@@ -200,11 +201,7 @@ pub fn both_by(
     requires bytes { IsOfBytes sheet.now }
     requires rules { rules.items ≡ listed_rules sheet.now.units }
     requires ill { IsFenceIll sheet.now.units ill }
-    ensures two { IfOk result (IsPairOf sheet.now) }
-    ensures text { IfOk result (λ p. IsBuilt p.text) }
-    ensures xml { IfOk result (λ p. IsBuilt p.xml) }
-    ensures trees { IfOk result (λ p. HaveSameTrees p.text p.xml) }
-    ensures passed { OnOk result (NoneFails (FailsAt sheet.now)) }
+    ensures grammars { IfOk result (AreGrammarsOf sheet.now) }
     ensures ill { IfErr result (IsRefusal sheet.now) }
 {
     let outline = Outline::of(alloc, sheet, rules)?;
@@ -229,5 +226,6 @@ pub fn both(alloc: Global, sheet: &Sheet) -> Result<Two, PairFault>
 {
     let rules = rules_of(alloc, sheet.units.as_slice())?;
     let ill = fence_ill(alloc, sheet)?;
-    both_by(alloc, sheet, rules, ill)
+    let two = both_by(alloc, sheet, rules, ill)?;
+    Ok(two)
 }

@@ -8,7 +8,7 @@ use std::alloc::Global;
 use xs_class::{Memory, Word};
 use xs_gram::{Comps, Gram};
 use xs_loose::Tables;
-use xs_searches::{CheckFault, Searches, Site, light};
+use xs_searches::{CheckFault, Searches, Site};
 
 /// Two rules of one nonterminal, the smaller one first, and a word that is loose for both.
 #[derive(Debug, Drop)]
@@ -33,13 +33,8 @@ pub fn vertical(alloc: Global, g: &Gram, comps: &Comps) -> Result<Option<Vert>, 
     ensures fault { IfErr result (IsCause g.now) }
 {
     let tables = Tables::of(alloc, g, comps)?;
-    light(g, &tables.weights)?;
-    let mut searches = Searches::of(Site {
-        alloc,
-        g,
-        comps,
-        tables: &tables,
-    })?;
+    let site = Site::of(alloc, g, comps, &tables)?;
+    let mut searches = Searches::of(site)?;
     let found = first_vertical(&mut searches)?;
     Ok(found)
 }

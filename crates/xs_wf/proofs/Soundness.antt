@@ -8,9 +8,9 @@ use Rattle.xs_gram.specs.Grammar.{Grammar}
 use Rattle.xs_gram.specs.Sound.{IsBuilt, IsSound, IsProductive, DerivesItself}
 use Rattle.xs_pair.specs.declared.ill.IllRule.TheVariants.{EmptyClass, Normal, Unproductive, Loop}
 use Rattle.xs_pair.specs.Grammars.{Pair, IsGramOf}
-use Rattle.xs_pair.specs.Sound.{IsSoundPair}
+use Rattle.xs_pair.specs.Sound.{AreGrammarsOf, IsSoundPair}
 use Rattle.xs_wf.specs.Units.{AreFine}
-use Rattle.xs_wf.specs.Passing.{AreGrammarsOf, AllGive}
+use Rattle.xs_wf.specs.Passing.{AllGive}
 use Rattle.xs_wf.proofs.Members.{term_members as full_terms, skip_members as full_skips, has_normals}
 
 pub have_regexes : (s : Sheet) (p : Pair) → AreGrammarsOf s p → HaveRegexes s.units

@@ -1,14 +1,11 @@
 -- What is known of a sheet while the rules after the first seven are tried.
 use Rattle.std.specs.Prelude.{⊤, ℕ}
 use Rattle.xs_sheet.specs.declared.sheet.Sheet.{Sheet}
-use Rattle.xs_gram.specs.Sound.{IsBuilt}
 use Rattle.xs_pair.specs.declared.ill.IllRule.{IllRule}
 use Rattle.xs_pair.specs.declared.ill.IllRule.TheVariants.{Twice, Undefined, NoStart, NameOnce, Kind, AttrTwice, RootShape, EmptyClass, NotChar, Normal, Unproductive, Loop, FenceChar, FenceInside, FenceOpen}
 use Rattle.xs_pair.specs.declared.fault.PairFault.{PairFault}
 use Rattle.xs_pair.specs.declared.fault.PairFault.TheVariants as P
-use Rattle.xs_pair.specs.Grammars.{Pair, IsPairOf, HaveSameTrees}
-use Rattle.xs_pair.specs.Verdict.{FailsAt, NoneFails}
-use Rattle.xs_pair.specs.Weights.{IsOfBytes}
+use Rattle.xs_pair.specs.Grammars.{Pair}
 use Rattle.xs_wf.specs.declared.well.WfFault.{WfFault}
 use Rattle.xs_wf.specs.declared.well.WfFault.TheVariants as F
 use Rattle.xs_wf.specs.Units.{AreFine}
@@ -18,15 +15,6 @@ use Rattle.xs_wf.specs.Nonterminals.{IsLooping, AreProductive}
 abbrev pub fault_of : PairFault → WfFault
 fault_of (P.Ill ill) = F.Ill ill
 fault_of P.Memory = F.Memory
-
--- the two grammars of a sheet in which none of the first seven rules fails
-pub record AreGrammarsOf (s : Sheet) (p : Pair) : Type 0 where
-  pub bytes : IsOfBytes s
-  pub of : IsPairOf s p
-  pub text : IsBuilt p.text
-  pub xml : IsBuilt p.xml
-  pub trees : HaveSameTrees p.text p.xml
-  pub passed : NoneFails (FailsAt s)
 
 -- what a rule that fails nowhere gives, beside that
 abbrev pub Gives : Sheet → Pair → IllRule → Type 0

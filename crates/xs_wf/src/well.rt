@@ -1,6 +1,6 @@
 ghost use Rattle.std.specs.Prelude.{◌≡◌, ◌+◌, ◌<◌, None, IfOk, OnOk, IfErr};
-ghost use Rattle.xs_pair.specs.{IsPairOf, IsSoundPair, IsFirstLine, IsFenceIll, NoneBefore, order, IsOfBytes};
-ghost use Rattle.xs_wf.specs.Passing.{AreGrammarsOf, Gives, AllGive};
+ghost use Rattle.xs_pair.specs.{AreGrammarsOf, IsPairOf, IsSoundPair, IsFirstLine, IsFenceIll, NoneBefore, order, IsOfBytes};
+ghost use Rattle.xs_wf.specs.Passing.{Gives, AllGive};
 ghost use Rattle.xs_wf.specs.Rules.{Fails, FailsAmongRules, IsWell, IsRefusal};
 ghost use Rattle.xs_wf.specs.Units.{IsStrangeRule};
 

@@ -20,5 +20,12 @@ check-requires-clause-few c = omega (arith, units_light c.args.sheet.now.units, 
 pub two-requires-clause-small : goal.two-requires-clause-small
 two-requires-clause-small c = are_light c.requires.bytes.0 c.args.sheet.now c.requires.bytes.1 c.requires.bytes.2
 
-pub returns-clause-trees : goal.returns-clause-trees
-returns-clause-trees c = same_trees c.args.sheet.now c.in_ok-two.two.names c.in_ok-two.two.text c.in_ok-two.two.xml c.in_ok-two.ensures.of.text c.in_ok-two.ensures.of.xml c.in_ok-check.ensures.ok
+pub returns-clause-grammars : goal.returns-clause-grammars
+returns-clause-grammars c = record {
+  bytes = c.requires.bytes;
+  of = c.in_ok-two.ensures.of;
+  text = c.in_ok-two.ensures.text;
+  xml = c.in_ok-two.ensures.xml;
+  trees = same_trees c.args.sheet.now c.in_ok-two.two.names c.in_ok-two.two.text c.in_ok-two.two.xml c.in_ok-two.ensures.of.text c.in_ok-two.ensures.of.xml c.in_ok-check.ensures.ok;
+  passed = c.in_ok-check.ensures.ok;
+}

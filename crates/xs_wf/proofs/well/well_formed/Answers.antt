@@ -10,7 +10,4 @@ returns-in_err-two-clause-ill c =
 
 pub returns-clause-sound : goal.returns-clause-sound
 returns-clause-sound c =
-    let both = c.in_ok-two.ensures in
-    sound_pair c.args.sheet.now c.in_ok-two.two
-    (record { bytes = c.requires; of = both.two; text = both.text; xml = both.xml; trees = both.trees; passed = both.passed })
-    c.in_ok-check.ensures.gives
+    sound_pair c.args.sheet.now c.in_ok-two.two c.in_ok-two.ensures.grammars c.in_ok-check.ensures.gives
