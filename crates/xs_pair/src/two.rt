@@ -142,10 +142,10 @@ impl Outline {
     fn grammar(
         &self,
         alloc: Global,
-        sheet: &Sheet,
-        names: &Names,
         side: Side,
         fences: Fences,
+        sheet: &Sheet,
+        names: &Names,
     ) -> Result<Gram, Memory>
         requires passed { NoneFails (FailsAt sheet.now) }
         requires outline { IsOutlineOf sheet.now self.now }
@@ -174,9 +174,9 @@ impl Outline {
     {
         let names = names_of_marks(alloc, sheet, &self.rules)?;
         let fences = text_fences(alloc, sheet.units.as_slice(), ill)?;
-        let text = self.grammar(alloc, sheet, &names, Side::Text, fences)?;
+        let text = self.grammar(alloc, Side::Text, fences, sheet, &names)?;
         let fences = xml_fences(alloc, sheet, &names)?;
-        let xml = self.grammar(alloc, sheet, &names, Side::Xml, fences)?;
+        let xml = self.grammar(alloc, Side::Xml, fences, sheet, &names)?;
         let lines = lines_of(alloc, &self.rules)?;
         let slots = slot_lists(alloc, self.rules)?;
         Ok(Two {
