@@ -1,7 +1,6 @@
 pub mod Heads
 pub mod Writing
 pub mod Reasons
-pub mod Weighing
 pub mod Places
 pub mod Ways
 pub mod Sides

@@ -24,8 +24,8 @@ mod weighing;
 mod writer;
 
 pub use certified::Certified;
-pub use certifying::{certify, certify_weighed};
+pub use certifying::certify;
 pub use fault::CertFault;
 pub use laws::proof_passes;
 pub use proving::{ProveFault, prove};
-pub use weighing::{WeighedPair, weigh};
+pub use weighing::weigh;

@@ -1,20 +1,21 @@
 ghost use Rattle.std.specs.Prelude.{◌≡◌, IfOk, OnOk, IfErr};
-ghost use Rattle.xs_gram.specs.{IsUnique, IsSound};
-ghost use Rattle.xs_check_laws.specs.{IsAccepted, HasNoSuspect};
-ghost use Rattle.xs_searches.specs.{IsSite};
+ghost use Rattle.xs_gram.specs.{IsUnique, IsBuilt, IsSound};
+ghost use Rattle.xs_check_laws.specs.{IsAccepted, IsLight, HasNoSuspect};
 ghost use Rattle.xs_unique.specs.{IsReason};
 ghost use Rattle.xs_cert_laws.specs.{IsProof};
 ghost use Rattle.xs_cert.specs.Writing.{AddsHalf, IsWritten};
 
 use crate::relating::{relate, write_shares};
-use crate::weighing::weigh;
 use crate::writer::{Source, Writer};
 use std::alloc::Global;
 use xs_class::{Bytes, Memory, Side};
 use xs_closed::PairSet;
+use xs_gram::Gram;
+use xs_loose::Tables;
+use xs_order::components;
 use xs_pair::Two;
-use xs_searches::{SearchSpace, Site};
-use xs_unique::{AcceptFault, clear_both};
+use xs_searches::SearchSpace;
+use xs_unique::{AcceptFault, accept};
 
 /// Why there is no certificate of two grammars: they are not accepted, or want of memory.
 pub type ProveFault = AcceptFault;
@@ -37,36 +38,38 @@ pub fn prove(alloc: Global, two: &Two) -> Result<Bytes, ProveFault>
     ensures proof { IfOk result (IsProof two.now) }
     ensures reason { IfErr result (IsReason two.now.text two.now.xml) }
 {
-    let pair = weigh(alloc, two)?;
-    clear_both(pair.site(Side::Text), pair.site(Side::Xml))?;
-    let certificate = written(alloc, pair.site(Side::Text), pair.site(Side::Xml))?;
+    accept(alloc, two)?;
+    let certificate = written(alloc, two.gram(Side::Text), two.gram(Side::Xml))?;
     Ok(certificate)
 }
 
 /// The certificate of two grammars that are accepted.
-fn written(alloc: Global, text: Site<'_>, xml: Site<'_>) -> Result<Bytes, Memory>
-    requires text { IsSite text }
-    requires xml { IsSite xml }
-    requires accepted { IsAccepted text.g.now xml.g.now }
-    ensures { IfOk result (IsWritten text.g.now xml.g.now) }
+fn written(alloc: Global, text: &Gram, xml: &Gram) -> Result<Bytes, Memory>
+    requires text { IsBuilt text.now }
+    requires xml { IsBuilt xml.now }
+    requires accepted { IsAccepted text.now xml.now }
+    ensures { IfOk result (IsWritten text.now xml.now) }
 {
     let mut writer = Writer::new(alloc);
     writer.out.extend(b"xsugar-cert-1\nside text\n")?;
-    write_half(text, &mut writer)?;
+    write_half(alloc, text, &mut writer)?;
     writer.out.extend(b"side xml\n")?;
-    write_half(xml, &mut writer)?;
+    write_half(alloc, xml, &mut writer)?;
     writer.out.extend(b"end\n")?;
     Ok(writer.out)
 }
 
 /// Appends the half of a grammar that is accepted.
-fn write_half(site: Site<'_>, writer: &mut Writer) -> Result<(), Memory>
-    requires site { IsSite site }
-    requires clear { HasNoSuspect site.g.now }
-    ensures { OnOk result (AddsHalf site.g.now writer.old.out writer.new.out) }
+fn write_half(alloc: Global, g: &Gram, writer: &mut Writer) -> Result<(), Memory>
+    requires built { IsBuilt g.now }
+    requires light { IsLight g.now }
+    requires clear { HasNoSuspect g.now }
+    ensures { OnOk result (AddsHalf g.now writer.old.out writer.new.out) }
 {
-    let space = SearchSpace::of(site)?;
-    let mut related = PairSet::new(site.alloc);
+    let comps = components(alloc, g)?;
+    let tables = Tables::of(alloc, g, &comps)?;
+    let space = SearchSpace::of(alloc, g, &comps, &tables)?;
+    let mut related = PairSet::new(alloc);
     relate(&space.nest, &space.shared, &mut related)?;
     write_shares(&mut writer.out, &related, space.nest.len())?;
     writer.write_blocks(Source {

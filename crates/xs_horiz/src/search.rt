@@ -10,7 +10,7 @@ use xs_class::{Memory, Word};
 use xs_gram::{Comps, Gram};
 use xs_loose::Tables;
 use xs_meet::Overlap;
-use xs_searches::{CheckFault, Searches, Site};
+use xs_searches::{CheckFault, Searches, light};
 
 /// A cut of a rule, with words x, a and y, a not empty: x and xa are loose for its front, y and ay
 /// for its rest. The cut is the number of spread items before it; front and rest go back and on to
@@ -39,8 +39,8 @@ pub fn horizontal(alloc: Global, g: &Gram, comps: &Comps) -> Result<Option<Horiz
     ensures fault { IfErr result (IsCause g.now) }
 {
     let tables = Tables::of(alloc, g, comps)?;
-    let site = Site::of(alloc, g, comps, &tables)?;
-    let mut searches = Searches::of(site)?;
+    light(g, &tables.weights)?;
+    let mut searches = Searches::of(alloc, g, comps, &tables)?;
     let found = first_horizontal(&mut searches)?;
     Ok(found)
 }

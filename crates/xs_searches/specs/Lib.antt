@@ -3,7 +3,6 @@ pub mod First
 pub mod Insides
 pub mod Searching
 pub mod Spaces
-pub mod Weighed
 -- what other crates' contracts cite
 pub use Rattle.xs_searches.specs.Causes.{IsCause}
 pub use Rattle.xs_searches.specs.Searching.{OverlapsAt}

@@ -3,14 +3,17 @@ use Rattle.std.specs.Prelude.{◌≡◌, ℕ, List}
 use Rattle.std.specs.declared.option.Option.{Option}
 use Rattle.std.specs.Option.{IfSome}
 use Rattle.xs_gram.specs.Grammar.{Grammar}
+use Rattle.xs_gram.specs.Sound.{IsBuilt}
 use Rattle.xs_gram.specs.Fences.{spread}
-use Rattle.xs_gram.specs.Loose.{IsLoose}
+use Rattle.xs_gram.specs.Loose.{AreComponents, IsLoose}
 use Rattle.xs_gram.specs.Suspects.{IsHorizontal}
+use Rattle.xs_check_laws.specs.Acceptance.{IsLight}
+use Rattle.xs_loose.specs.declared.tables.Tables.{Tables}
+use Rattle.xs_loose.specs.Tables.{AreTables}
 use Rattle.xs_screen.specs.declared.screen.Screen.{Screen}
 use Rattle.xs_screen.specs.Screens.{IsScreen}
 use Rattle.xs_searches.specs.declared.exact.Exact.{Exact}
-use Rattle.xs_searches.specs.declared.nets.Site.{Site}
-use Rattle.xs_searches.specs.Spaces.{IsSite, IsSpace}
+use Rattle.xs_searches.specs.Spaces.{IsSpace}
 
 -- the word is loose for all spread items of rule p, and of rule q
 pub record AreBothLoose (g : Grammar) (p q : ℕ) (w : List ℕ) : Type 0 where
@@ -26,9 +29,12 @@ pub record IsExactFor (g : Grammar) (e : Exact) : Type 0 where
   pub space : IsSpace e.space
   pub grammar : e.space.site.g.now ≡ g
 
--- a grammar whose rules are light, its screen where there is one, and the exact searches where they
--- were made
-pub record IsReady (s : Site) (quick : Option Screen) (searches : Option Exact) : Type 0 where
-  pub site : IsSite s
-  pub screen : IfSome quick (IsScreen s.g.now)
-  pub exact : IfSome searches (IsExactFor s.g.now)
+-- a grammar that was built and whose rules are light, with its components and its tables, its screen
+-- where there is one, and the exact searches where they were made
+pub record IsReady (g : Grammar) (cs : List ℕ) (ts : Tables) (quick : Option Screen) (searches : Option Exact) : Type 0 where
+  pub built : IsBuilt g
+  pub comps : AreComponents g cs
+  pub tables : AreTables g cs ts
+  pub light : IsLight g
+  pub screen : IfSome quick (IsScreen g)
+  pub exact : IfSome searches (IsExactFor g)

@@ -4,19 +4,24 @@ use Rattle.xs_auto.specs.Nets.{Graph}
 use Rattle.xs_auto.specs.Nests.{Group, AcceptsNested, IsTame, IsFenced}
 use Rattle.xs_gram.specs.declared.parts.GItem.{GItem}
 use Rattle.xs_gram.specs.Grammar.{Grammar}
+use Rattle.xs_gram.specs.Sound.{IsBuilt}
 use Rattle.xs_gram.specs.Fences.{spread, IsCut}
 use Rattle.xs_gram.specs.Cuts.{CutsAt}
-use Rattle.xs_gram.specs.Loose.{IsLoose}
+use Rattle.xs_gram.specs.Loose.{AreComponents, IsLoose}
+use Rattle.xs_check_laws.specs.Acceptance.{IsLight}
 use Rattle.xs_meet.specs.Sharing.{IsSharedOf}
 use Rattle.xs_loose.specs.Nets.{IsNumbered, IsNestOf}
+use Rattle.xs_loose.specs.Tables.{AreTables}
 use Rattle.xs_searches.specs.declared.nets.CutNets.{CutNets}
 use Rattle.xs_searches.specs.declared.nets.Site.{Site}
 use Rattle.xs_searches.specs.declared.space.SearchSpace.{SearchSpace}
-use Rattle.xs_searches.specs.Weighed.{IsWeighed}
 
 -- a grammar that was built and whose rules are light, with its components and its tables
-abbrev pub IsSite : Site → Type 0
-IsSite s = IsWeighed s.g.now s.comps.now s.tables.now
+pub record IsSite (s : Site) : Type 0 where
+  pub built : IsBuilt s.g.now
+  pub comps : AreComponents s.g.now s.comps.now
+  pub tables : AreTables s.g.now s.comps.now s.tables.now
+  pub light : IsLight s.g.now
 
 -- the same with the nest of its groups, and which of them share a word
 pub record IsSpace (s : SearchSpace) : Type 0 where

@@ -1,10 +1,15 @@
 ghost use Rattle.std.specs.Prelude.{ℕ, ◌≡◌, ◌<◌, List, length, IfOk, IfSome, IfNone};
-ghost use Rattle.xs_gram.specs.{spread, IsHorizontal};
+ghost use Rattle.xs_gram.specs.{spread, AreComponents, IsBuilt, IsHorizontal};
+ghost use Rattle.xs_check_laws.specs.{IsLight};
+ghost use Rattle.xs_loose.specs.{AreTables};
 ghost use Rattle.xs_searches.specs.Searching.{AreBothLoose, OverlapsAt, IsExactFor};
-ghost use Rattle.xs_searches.specs.Spaces.{IsSite, IsSpace};
+ghost use Rattle.xs_searches.specs.Spaces.{IsSpace};
 
-use crate::{Maps, SearchSpace, Site};
+use crate::{Maps, SearchSpace};
+use std::alloc::Global;
 use xs_class::{Memory, Word};
+use xs_gram::{Comps, Gram};
+use xs_loose::Tables;
 use xs_meet::Overlap;
 
 /// The exact searches for suspects: what they share, and the maps that they mark.
@@ -16,12 +21,20 @@ pub struct Exact<'g> {
 
 impl<'g> Exact<'g> {
     /// The exact searches of a grammar whose rules are light, with the nest of its groups.
-    pub fn of(site: Site<'g>) -> Result<Exact<'g>, Memory>
-        requires { IsSite site }
-        ensures { IfOk result (IsExactFor site.g.now) }
+    pub fn of(
+        alloc: Global,
+        g: &'g Gram,
+        comps: &'g Comps,
+        tables: &'g Tables,
+    ) -> Result<Exact<'g>, Memory>
+        requires built { IsBuilt g.now }
+        requires comps { AreComponents g.now comps.now }
+        requires tables { AreTables g.now comps.now tables.now }
+        requires light { IsLight g.now }
+        ensures { IfOk result (IsExactFor g.now) }
     {
-        let space = SearchSpace::of(site)?;
-        let maps = Maps::new(site.alloc)?;
+        let space = SearchSpace::of(alloc, g, comps, tables)?;
+        let maps = Maps::new(alloc)?;
         Ok(Exact { space, maps })
     }
 

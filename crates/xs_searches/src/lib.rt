@@ -12,7 +12,6 @@ mod maps;
 mod nets;
 mod searches;
 mod space;
-mod weighed;
 mod weights;
 
 pub use fault::CheckFault;
@@ -20,5 +19,4 @@ pub use maps::Maps;
 pub use nets::{CutNets, Site};
 pub use searches::Searches;
 pub use space::SearchSpace;
-pub use weighed::Weighed;
 pub use weights::light;

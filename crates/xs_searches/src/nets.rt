@@ -1,11 +1,9 @@
-ghost use Rattle.std.specs.Prelude.{◌≡◌, ◌<◌, length, IfOk, IfErr, OnOk};
+ghost use Rattle.std.specs.Prelude.{◌≡◌, ◌<◌, length, IfOk};
 ghost use Rattle.xs_gram.specs.{spread, AreComponents, IsBuilt};
 ghost use Rattle.xs_check_laws.specs.{IsLight};
 ghost use Rattle.xs_loose.specs.{IsNetOf, IsNestOf, IsPart, part_items, AreLight, AreTables};
-ghost use Rattle.xs_searches.specs.Causes.{IsCause};
 ghost use Rattle.xs_searches.specs.Spaces.{IsSite, IsRuleNet, AreNumbered};
 
-use crate::{CheckFault, light};
 use std::alloc::Global;
 use xs_auto::{Nest, Net};
 use xs_class::Memory;
@@ -30,33 +28,6 @@ pub struct Site<'g> {
 }
 
 impl<'g> Site<'g> {
-    /// What a grammar's nets are made by, where its rules are light.
-    ///
-    /// Fails with `Heavy` exactly where a rule weighs more than 8,192, with the weight of the first
-    /// such rule.
-    pub fn of(
-        alloc: Global,
-        g: &'g Gram,
-        comps: &'g Comps,
-        tables: &'g Tables,
-    ) -> Result<Site<'g>, CheckFault>
-        requires built { IsBuilt g.now }
-        requires comps { AreComponents g.now comps.now }
-        requires tables { AreTables g.now comps.now tables.now }
-        ensures site { IfOk result IsSite }
-        ensures same { IfOk result (λ s. s.g.now ≡ g.now) }
-        ensures light { OnOk result (IsLight g.now) }
-        ensures fault { IfErr result (IsCause g.now) }
-    {
-        light(g, &tables.weights)?;
-        Ok(Site {
-            alloc,
-            g,
-            comps,
-            tables,
-        })
-    }
-
     /// The nest of the groups.
     pub fn nest(&self) -> Result<Nest, Memory>
         requires { IsSite self.now }

@@ -1,15 +1,16 @@
 ghost use Rattle.std.specs.Prelude.{ℕ, ◌≡◌, ◌<◌, true, List, length, IfOk, OnOk, IfSome, IfNone};
-ghost use Rattle.xs_gram.specs.{spread, IsBuilt, IsHorizontal};
+ghost use Rattle.xs_gram.specs.{spread, AreComponents, IsBuilt, IsHorizontal};
+ghost use Rattle.xs_check_laws.specs.{IsLight};
+ghost use Rattle.xs_loose.specs.{AreTables};
 ghost use Rattle.xs_screen.specs.{ShareNone, AreDoubts};
 ghost use Rattle.xs_searches.specs.Searching.{AreBothLoose, OverlapsAt, IsExactFor};
-ghost use Rattle.xs_searches.specs.Spaces.{IsSite};
 
-use crate::Site;
 use crate::exact::Exact;
 use std::alloc::Global;
 use std::marker::Model;
 use xs_class::{Memory, Word};
-use xs_gram::Gram;
+use xs_gram::{Comps, Gram};
+use xs_loose::Tables;
 use xs_meet::Overlap;
 use xs_screen::Screen;
 
@@ -20,7 +21,10 @@ use xs_screen::Screen;
 /// first needed.
 #[derive(Drop)]
 pub struct Searches<'g> {
-    site: Site<'g>,
+    alloc: Global,
+    g: &'g Gram,
+    comps: &'g Comps,
+    tables: &'g Tables,
     screen: Option<Screen>,
     exact: Option<Exact<'g>>,
 }
@@ -35,22 +39,50 @@ impl<'g> Model for Searches<'g> {
 
     ghost coded = { Prim.hlevel (codes, e.the_row.coded) };
 
-    ghost view = { λ s. s.site.g.now };
+    ghost view = { λ s. s.g.now };
 
-    ghost invariant = { λ s. IsReady s.site s.screen s.exact };
+    ghost invariant = { λ s. IsReady s.g.now s.comps.now s.tables.now s.screen s.exact };
 }
 
 impl<'g> Searches<'g> {
     /// The searches for suspects of a grammar whose rules are light, with a screen where its coarse nets
     /// are not too large.
-    pub fn of(site: Site<'g>) -> Result<Searches<'g>, Memory>
-        requires { IsSite site }
-        ensures { IfOk result (λ s. s ≡ site.g.now) }
+    pub fn of(
+        alloc: Global,
+        g: &'g Gram,
+        comps: &'g Comps,
+        tables: &'g Tables,
+    ) -> Result<Searches<'g>, Memory>
+        requires built { IsBuilt g.now }
+        requires comps { AreComponents g.now comps.now }
+        requires tables { AreTables g.now comps.now tables.now }
+        requires light { IsLight g.now }
+        ensures { IfOk result (λ s. s ≡ g.now) }
     {
-        let screen = Screen::of(site.alloc, site.g, &site.tables.groups)?;
+        let mut searches = Searches::exact(alloc, g, comps, tables)?;
+        searches.screen = Screen::of(alloc, g, &tables.groups)?;
+        Ok(searches)
+    }
+
+    /// The same without a screen: an exact search decides each time.
+    pub fn exact(
+        alloc: Global,
+        g: &'g Gram,
+        comps: &'g Comps,
+        tables: &'g Tables,
+    ) -> Result<Searches<'g>, Memory>
+        requires built { IsBuilt g.now }
+        requires comps { AreComponents g.now comps.now }
+        requires tables { AreTables g.now comps.now tables.now }
+        requires light { IsLight g.now }
+        ensures { IfOk result (λ s. s ≡ g.now) }
+    {
         Ok(Searches {
-            site,
-            screen,
+            alloc,
+            g,
+            comps,
+            tables,
+            screen: None,
             exact: None,
         })
     }
@@ -60,12 +92,12 @@ impl<'g> Searches<'g> {
         ensures same { result.now ≡ self.now }
         ensures built { IsBuilt self.now }
     {
-        self.site.g
+        self.g
     }
 
     /// The allocator.
     pub fn alloc(&self) -> Global {
-        self.site.alloc
+        self.alloc
     }
 
     /// A word that is loose for two rules, or none where there is none.
@@ -95,8 +127,8 @@ impl<'g> Searches<'g> {
         match self.screen.take() {
             None => Ok(false),
             Some(mut screen) => {
-                let groups = &self.site.tables.groups;
-                let apart = screen.are_apart(self.site.alloc, self.site.g, groups, rule, rule2)?;
+                let groups = &self.tables.groups;
+                let apart = screen.are_apart(self.alloc, self.g, groups, rule, rule2)?;
                 self.screen = Some(screen);
                 Ok(apart)
             }
@@ -116,13 +148,7 @@ impl<'g> Searches<'g> {
                 Ok(())
             }
             Some(mut screen) => {
-                screen.doubts(
-                    self.site.alloc,
-                    self.site.g,
-                    &self.site.tables.groups,
-                    rule,
-                    doubts,
-                )?;
+                screen.doubts(self.alloc, self.g, &self.tables.groups, rule, doubts)?;
                 self.screen = Some(screen);
                 Ok(())
             }
@@ -152,7 +178,7 @@ impl<'g> Searches<'g> {
     {
         match self.exact.take() {
             Some(exact) => Ok(exact),
-            None => Exact::of(self.site),
+            None => Exact::of(self.alloc, self.g, self.comps, self.tables),
         }
     }
 }

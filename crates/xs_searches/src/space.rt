@@ -1,17 +1,18 @@
 ghost use Rattle.std.specs.Prelude.{◌≡◌, ◌<◌, ◌≤◌, ℕ, length, IfOk, OnOk};
 ghost use Rattle.xs_auto.specs.{states, group_at, IsFenced};
-ghost use Rattle.xs_gram.specs.{IsBuilt};
+ghost use Rattle.xs_gram.specs.{AreComponents, IsBuilt};
+ghost use Rattle.xs_check_laws.specs.{IsLight};
 ghost use Rattle.xs_meet.specs.{IsSharedOf};
-ghost use Rattle.xs_loose.specs.{IsNestOf};
+ghost use Rattle.xs_loose.specs.{IsNestOf, AreTables};
 ghost use Rattle.xs_gram.specs.{spread};
-ghost use Rattle.xs_searches.specs.Spaces.{IsSite, IsSpace, AcceptsLoose, AreCutNets};
+ghost use Rattle.xs_searches.specs.Spaces.{IsSpace, AcceptsLoose, AreCutNets};
 
 use crate::{CutNets, Site};
 use std::alloc::Global;
 use xs_auto::{Nest, Net, Pairs};
 use xs_class::Memory;
-use xs_gram::{Gram, cuts_are_one};
-use xs_loose::{nests_are_fenced, nets_accept_loose, nets_are_tame};
+use xs_gram::{Comps, Gram, cuts_are_one};
+use xs_loose::{Tables, nests_are_fenced, nets_accept_loose, nets_are_tame};
 use xs_meet::{Shared, shared};
 
 /// A grammar whose rules are light, with what the searches for its suspects share: the nest of its
@@ -28,13 +29,27 @@ impl<'g> SearchSpace<'g> {
     ///
     /// Takes time linear in the pairs of states of each two groups that have one fence, times the
     /// rounds in which some are found to share a word.
-    pub fn of(site: Site<'g>) -> Result<SearchSpace<'g>, Memory>
-        requires { IsSite site }
+    pub fn of(
+        alloc: Global,
+        g: &'g Gram,
+        comps: &'g Comps,
+        tables: &'g Tables,
+    ) -> Result<SearchSpace<'g>, Memory>
+        requires built { IsBuilt g.now }
+        requires comps { AreComponents g.now comps.now }
+        requires tables { AreTables g.now comps.now tables.now }
+        requires light { IsLight g.now }
         ensures space { IfOk result IsSpace }
-        ensures grammar { IfOk result (λ s. s.site.g.now ≡ site.g.now) }
+        ensures grammar { IfOk result (λ s. s.site.g.now ≡ g.now) }
     {
+        let site = Site {
+            alloc,
+            g,
+            comps,
+            tables,
+        };
         let nest = site.nest()?;
-        let shared = shared_groups(site.alloc, site.g, &nest)?;
+        let shared = shared_groups(alloc, g, &nest)?;
         Ok(SearchSpace { site, nest, shared })
     }
 

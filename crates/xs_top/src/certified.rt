@@ -10,7 +10,7 @@ ghost use Rattle.xs_top.specs.Stops.{StopsBy};
 use crate::sheets::pair_for;
 use crate::stop::Stop;
 use std::alloc::Global;
-use xs_cert::{certify_weighed, weigh};
+use xs_cert::{certify, weigh};
 use xs_class::Bytes;
 use xs_io::{ReadStop, Shelf, read_file};
 use xs_pair::Two;
@@ -45,9 +45,9 @@ fn tested<H: Shelf>(alloc: Global, two: &Two, shelf: &mut H, cert: &str) -> Resu
     ensures stop { IfErr result (StopsBy (IsUncertain two.now
         (shelves_of H.files H.faults H.name_faults shelf.old shelf.new) cert.now)) }
 {
-    let pair = weigh(alloc, two)?;
+    weigh(alloc, two)?;
     let bytes = certificate(alloc, shelf, cert)?;
-    certify_weighed(&pair, bytes.as_slice())?;
+    certify(alloc, two, bytes.as_slice())?;
     Ok(())
 }
 

@@ -1,7 +1,6 @@
 ghost use Rattle.std.specs.Prelude.{◌≡◌, IfOk, IfErr, OnOk};
 ghost use Rattle.xs_gram.specs.{IsUnique, IsBuilt, IsSound};
 ghost use Rattle.xs_check_laws.specs.{IsAccepted};
-ghost use Rattle.xs_searches.specs.{IsSite};
 ghost use Rattle.xs_unique.specs.Reasons.{IsReason};
 
 use crate::suspects::clear;
@@ -10,8 +9,10 @@ use std::alloc::Global;
 use xs_check_laws::accepted_is_unique;
 use xs_class::Side;
 use xs_gram::Gram;
+use xs_loose::Tables;
+use xs_order::components;
 use xs_pair::Two;
-use xs_searches::{Site, Weighed};
+use xs_searches::light;
 
 /// Accepts the two grammars of a sheet where no rule weighs more than 8,192 and there is no
 /// suspect.
@@ -41,24 +42,14 @@ fn check(alloc: Global, text: &Gram, xml: &Gram) -> Result<(), AcceptFault>
     ensures unique_xml { OnOk result (IsUnique xml.now) }
     ensures reason { IfErr result (IsReason text.now xml.now) }
 {
-    let text = Weighed::of(alloc, text)?;
-    let xml = Weighed::of(alloc, xml)?;
-    clear_both(text.site(), xml.site())
-}
-
-/// Makes sure that two grammars whose rules are light, those of these sites, have no suspect.
-///
-/// Fails as `accept` does.
-pub fn clear_both(text: Site<'_>, xml: Site<'_>) -> Result<(), AcceptFault>
-    requires text { IsSite text }
-    requires xml { IsSite xml }
-    ensures accepted { OnOk result (IsAccepted text.g.now xml.g.now) }
-    ensures unique_text { OnOk result (IsUnique text.g.now) }
-    ensures unique_xml { OnOk result (IsUnique xml.g.now) }
-    ensures reason { IfErr result (IsReason text.g.now xml.g.now) }
-{
-    clear(Side::Text, text)?;
-    clear(Side::Xml, xml)?;
+    let text_comps = components(alloc, text)?;
+    let xml_comps = components(alloc, xml)?;
+    let text_tables = Tables::of(alloc, text, &text_comps)?;
+    let xml_tables = Tables::of(alloc, xml, &xml_comps)?;
+    light(text, &text_tables.weights)?;
+    light(xml, &xml_tables.weights)?;
+    clear(alloc, Side::Text, text, &text_comps, &text_tables)?;
+    clear(alloc, Side::Xml, xml, &xml_comps, &xml_tables)?;
     accepted_is_unique();
     Ok(())
 }

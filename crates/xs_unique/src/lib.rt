@@ -10,5 +10,5 @@ mod fault;
 mod suspects;
 
 pub use accepted::Accepted;
-pub use checking::{accept, clear_both};
+pub use checking::accept;
 pub use fault::AcceptFault;

@@ -1,24 +1,36 @@
 ghost use Rattle.std.specs.Prelude.{IfErr, OnOk};
-ghost use Rattle.xs_check_laws.specs.{HasNoSuspect};
-ghost use Rattle.xs_searches.specs.{IsSite};
+ghost use Rattle.xs_gram.specs.{AreComponents, IsBuilt};
+ghost use Rattle.xs_check_laws.specs.{IsLight, HasNoSuspect};
+ghost use Rattle.xs_loose.specs.{AreTables};
 ghost use Rattle.xs_unique.specs.Reasons.{IsUnclear};
 
 use crate::AcceptFault;
+use std::alloc::Global;
 use xs_class::Side;
-use xs_gram::Suspect;
+use xs_gram::{Comps, Gram, Suspect};
 use xs_horiz::{Horiz, first_horizontal};
-use xs_searches::{Searches, Site};
+use xs_loose::Tables;
+use xs_searches::Searches;
 use xs_vert::{Vert, first_vertical};
 
 /// Makes sure that the grammar of a side, whose rules are light, has no suspect.
 ///
 /// Fails with its first suspect, vertical ones before horizontal ones.
-pub fn clear(side: Side, site: Site<'_>) -> Result<(), AcceptFault>
-    requires { IsSite site }
-    ensures clear { OnOk result (HasNoSuspect site.g.now) }
-    ensures fault { IfErr result (IsUnclear side site.g.now) }
+pub fn clear(
+    alloc: Global,
+    side: Side,
+    g: &Gram,
+    comps: &Comps,
+    tables: &Tables,
+) -> Result<(), AcceptFault>
+    requires built { IsBuilt g.now }
+    requires comps { AreComponents g.now comps.now }
+    requires tables { AreTables g.now comps.now tables.now }
+    requires light { IsLight g.now }
+    ensures clear { OnOk result (HasNoSuspect g.now) }
+    ensures fault { IfErr result (IsUnclear side g.now) }
 {
-    let mut searches = Searches::of(site)?;
+    let mut searches = Searches::of(alloc, g, comps, tables)?;
     search(side, &mut searches)
 }
 

@@ -8,7 +8,7 @@ use std::alloc::Global;
 use xs_class::{Memory, Word};
 use xs_gram::{Comps, Gram};
 use xs_loose::Tables;
-use xs_searches::{CheckFault, Searches, Site};
+use xs_searches::{CheckFault, Searches, light};
 
 /// Two rules of one nonterminal, the smaller one first, and a word that is loose for both.
 #[derive(Debug, Drop)]
@@ -33,8 +33,8 @@ pub fn vertical(alloc: Global, g: &Gram, comps: &Comps) -> Result<Option<Vert>, 
     ensures fault { IfErr result (IsCause g.now) }
 {
     let tables = Tables::of(alloc, g, comps)?;
-    let site = Site::of(alloc, g, comps, &tables)?;
-    let mut searches = Searches::of(site)?;
+    light(g, &tables.weights)?;
+    let mut searches = Searches::of(alloc, g, comps, &tables)?;
     let found = first_vertical(&mut searches)?;
     Ok(found)
 }

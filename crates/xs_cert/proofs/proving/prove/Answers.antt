@@ -10,8 +10,8 @@ returns-clause-proof c =
       is = record {
         text = w.text_half;
         xml = w.xml_half;
-        is_text = subst (λ (g : Grammar). IsHalf g w.text_half []) c.site-3.ensures.same w.text_whole;
-        is_xml = subst (λ (g : Grammar). IsHalf g w.xml_half []) c.site-4.ensures.same w.xml_whole;
+        is_text = subst (λ (g : Grammar). IsHalf g w.text_half []) c.gram.ensures w.text_whole;
+        is_xml = subst (λ (g : Grammar). IsHalf g w.xml_half []) c.gram-2.ensures w.xml_whole;
         is = w.is;
       };
       text = w.text_exact;

@@ -5,7 +5,7 @@ use Rattle.xs_cert.proofs.Weights.{xml_weighty}
 use Rattle.xs_cert.proofs.weighing.weigh_xml.Goals as goal
 
 pub returns-clause-light : goal.returns-clause-light
-returns-clause-light c = subst (λ (g : Grammar). OnOk c.of.result (IsLight g)) c.gram.ensures c.of.ensures.light
+returns-clause-light c = subst (λ (g : Grammar). OnOk c.weigh_side.result (IsLight g)) c.gram.ensures c.weigh_side.ensures.light
 
 pub returns-clause-fault : goal.returns-clause-fault
-returns-clause-fault c = xml_weighty c.args.two.now c.gram.result.now c.of.result c.gram.ensures c.requires.text c.of.ensures.fault
+returns-clause-fault c = xml_weighty c.args.two.now c.gram.result.now c.weigh_side.result c.gram.ensures c.requires.text c.weigh_side.ensures.fault

@@ -1,7 +1,7 @@
-use Rattle.std.proofs.Common.{◌∙◌, IfNone, subst}
+use Rattle.std.proofs.Common.{IfNone, subst}
 use Rattle.xs_gram.specs.Grammar.{Grammar}
 use Rattle.xs_check_laws.specs.Freedom.{HasNoVertical}
 use Rattle.xs_vert.proofs.search.vertical.Goals as goal
 
 pub returns-clause-none : goal.returns-clause-none
-returns-clause-none c = subst (λ (g : Grammar). IfNone c.in_ok-found.found (HasNoVertical g)) (c.in_ok-searches.ensures ∙ c.in_ok-site.ensures.same) c.in_ok-found.ensures.none
+returns-clause-none c = subst (λ (g : Grammar). IfNone c.in_ok-found.found (HasNoVertical g)) c.in_ok-searches.ensures c.in_ok-found.ensures.none
