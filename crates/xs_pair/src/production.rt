@@ -46,7 +46,7 @@ fn rule_of(
 pub fn rules_of(alloc: Global, units: &[Unit]) -> Result<Vec<Rule>, Memory>
     ensures { IfOk result (λ v. v.items ≡ L.rules_of units.now) }
 {
-    let mut rules = Vec::new(alloc);
+    let mut rules = Vec::with_capacity(alloc, units.len())?;
     'units: for unit in units {
         if let Unit::Production {
             name,

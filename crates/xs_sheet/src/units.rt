@@ -237,10 +237,11 @@ fn regular(begun: Begun, name: Text, piece: Piece) -> Result<Transition, Memory>
     if !piece.is(Kind::Pattern) {
         return Ok(Transition::Refuse);
     }
-    let Some(regex) = piece.regex else {
+    let Piece { text, regex, .. } = piece;
+    let Some(regex) = regex else {
         return Ok(Transition::Refuse);
     };
-    after_pattern(begun, name, piece.text, regex)
+    after_pattern(begun, name, text, regex)
 }
 
 /// At an ignorable's normal spelling.
