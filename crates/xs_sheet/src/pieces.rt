@@ -95,7 +95,7 @@ pub fn pieces(alloc: Global, bytes: &[u8], list: &[Token]) -> Result<Vec<Piece>,
     requires spelt { All (λ t. IsSpelt t.kind (lexeme_of bytes.now t).word) list.now }
     ensures { IfOk result (λ ps. ArePieces (map (lexeme_of bytes.now) list.now) ps.items) }
 {
-    let mut all = Vec::new(alloc);
+    let mut all = Vec::with_capacity(alloc, list.len())?;
     'tokens: for token in list {
         let piece = piece_of(alloc, bytes, *token)?;
         all.push(piece)?;
