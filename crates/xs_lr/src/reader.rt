@@ -1,9 +1,9 @@
-use crate::automaton::Automaton;
 use crate::reading::Reading;
 use std::alloc::Global;
 use xs_atoms::Atoms;
 use xs_class::Memory;
 use xs_gram::Gram;
+use xs_lr_tables::Automaton;
 use xs_parse_table::ParseTable;
 
 /// How often a document's atoms are followed by that of the end.

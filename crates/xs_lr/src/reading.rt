@@ -1,13 +1,10 @@
-use crate::action::{KIND, LOOK};
-use crate::automaton::{Automaton, MOST_LOOKAHEAD};
-use crate::course::{Course, Entry, Stop};
-use crate::fork::{Fork, Found, Input};
-use crate::graph::Way;
-use crate::made::Made;
+use crate::room::{grow, make_room};
+use crate::stop::Stop;
 use crate::straight::read_on;
-use crate::tree::{Tree, grow};
 use std::alloc::Global;
 use xs_class::Memory;
+use xs_lr_forks::{Course, Entry, Fork, Found, Input, Way};
+use xs_lr_tables::{Automaton, KIND, LOOK, MOST_LOOKAHEAD};
 use xs_parse_table::ParseTable;
 
 /// The greatest number of times that reading stops for a cell, for room or for a fork.
@@ -16,13 +13,13 @@ const MOST_STOPS: usize = 1 << 23;
 /// The greatest number of parts.
 const MOST_PARTS: usize = (1 << 31) - 1;
 
-/// A document on the way: its stack and its tree with room for more, how far it is read, the greatest
-/// number of entries and nodes, and the work that forks may do.
+/// A document on the way: its stack and its tree with room for more, how far it is read, the
+/// greatest number of entries and nodes, and the work that forks may do.
 #[derive(Drop)]
 pub struct Reading<'d> {
     doc: &'d [u16],
     stack: Vec<Entry>,
-    tree: Tree,
+    tree: ParseTable,
     course: Course,
     most: usize,
     work: usize,
@@ -41,10 +38,14 @@ impl<'d> Reading<'d> {
     pub fn new(alloc: Global, doc: &'d [u16], row: u32) -> Result<Self, Memory> {
         let most = doc.len().saturating_add(1024).min(1 << 26);
         let stack = vec![in alloc; entry(row); 64]?;
+        let tree = ParseTable {
+            nodes: Vec::with_capacity(alloc, most / 2)?,
+            parts: Vec::with_capacity(alloc, most + most / 4)?,
+        };
         Ok(Reading {
             doc,
             stack,
-            tree: Tree::new(alloc, most / 2, most + most / 4)?,
+            tree,
             course: Course {
                 row,
                 at: 0,
@@ -60,7 +61,7 @@ impl<'d> Reading<'d> {
     pub fn read(&mut self, automaton: &mut Automaton<'_>) -> Result<bool, Memory> {
         'stops: for _ in 0..MOST_STOPS {
             let stop = read_on(
-                &automaton.states.table,
+                automaton.table(),
                 self.doc,
                 &mut self.stack,
                 &mut self.tree.nodes,
@@ -86,8 +87,8 @@ impl<'d> Reading<'d> {
             Stop::Unknown => self.fill(automaton)?,
             Stop::Goto { row, cell } => automaton.fill_goto(row, cell)?,
             Stop::Entries => grow(&mut self.stack, entry(self.course.row))?,
-            Stop::Nodes => self.tree.grow_nodes()?,
-            Stop::Parts => self.tree.grow_parts()?,
+            Stop::Nodes => make_room(&mut self.tree.nodes)?,
+            Stop::Parts => make_room(&mut self.tree.parts)?,
         }
         if automaton.is_spent() || self.is_spent() {
             Ok(Outcome::GiveUp)
@@ -112,7 +113,7 @@ impl<'d> Reading<'d> {
             let Some(atom) = self.doc.get(at as usize) else {
                 return Ok(());
             };
-            let action = automaton.states.cell(row, u32::from(*atom));
+            let action = automaton.cell(row, u32::from(*atom));
             if action & KIND != LOOK {
                 return automaton.fill(row, *atom);
             }
@@ -150,7 +151,7 @@ impl<'d> Reading<'d> {
 
     /// Takes over the way that a fork found: its nodes, and its entries on the stack.
     fn join(&mut self, found: Found, way: Way) -> Result<(), Memory> {
-        let mut made = Made { graph: found.graph };
+        let mut made = found.made;
         made.put(way, &mut self.tree)?;
         self.course.at = found.at;
         self.course.depth = way.bottom.wrapping_add(way.length).wrapping_add(1);
@@ -161,21 +162,17 @@ impl<'d> Reading<'d> {
         let mut id = way.top;
         'vertices: for _ in 0..way.length {
             place = place.wrapping_sub(1);
-            let entry = made.graph.vertex(id);
             if let Some(there) = self.stack.get_mut(place) {
-                *there = Entry {
-                    part: made.part(entry.part),
-                    ..entry
-                };
+                *there = made.entry(id);
             }
-            id = made.graph.under(id);
+            id = made.under(id);
         }
         Ok(())
     }
 
     /// The parse table of a document that is read.
     pub fn into_table(self) -> ParseTable {
-        self.tree.into_table()
+        self.tree
     }
 }
 

@@ -1,9 +1,11 @@
 ghost use Rattle.std.specs.Prelude.{◌≡◌, ◌+◌, ◌≤◌, length, vec_len, vec_capacity};
 
-use crate::action::{ACCEPT, CHAIN, FAIL, KIND, LOOK, REDUCE, SHIFT, TOKEN, UNKNOWN, to_row};
-use crate::automaton::MOST_LOOKAHEAD;
-use crate::course::{Course, Entry, Halt, Stop};
-use crate::grammar::MOST_ITEMS;
+use crate::stop::{Halt, Stop};
+use xs_lr_forks::{Course, Entry};
+use xs_lr_grammar::MOST_ITEMS;
+use xs_lr_tables::{
+    ACCEPT, CHAIN, FAIL, KIND, LOOK, MOST_LOOKAHEAD, REDUCE, SHIFT, TOKEN, UNKNOWN, to_row,
+};
 use xs_parse_table::Node;
 
 /// Reads on while there is one action, for this many steps at most, and gives why reading stopped.

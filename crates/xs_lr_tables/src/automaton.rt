@@ -1,13 +1,13 @@
 use crate::action::{ACCEPT, FAIL, LOOK, REDUCE, SHIFT, TOKEN, to_end, to_fork, to_row};
-use crate::grammar::Grammar;
-use crate::keys::{Pair, capped};
-use crate::lists::Lists;
+use crate::keys::Pair;
 use crate::search::Search;
 use crate::states::{ACTION, Kind, States, body};
 use std::alloc::Global;
 use xs_atoms::Atoms;
 use xs_class::Memory;
+use xs_flat::FlatLists;
 use xs_gram::Gram;
+use xs_lr_grammar::{Grammar, capped, list_at};
 
 /// The greatest number of atoms after one that are looked at before it is decided.
 pub const MOST_LOOKAHEAD: u32 = 8;
@@ -31,12 +31,12 @@ enum Choice {
 /// An LR automaton whose states, rows and cells are made as they are needed.
 #[derive(Drop)]
 pub struct Automaton<'a> {
-    pub grammar: Grammar<'a>,
-    pub states: States,
-    pub forks: Lists<u32>,
+    grammar: Grammar<'a>,
+    states: States,
+    forks: FlatLists<u32>,
     search: Search,
     deep: usize,
-    pub alloc: Global,
+    alloc: Global,
 }
 
 impl<'a> Automaton<'a> {
@@ -50,7 +50,7 @@ impl<'a> Automaton<'a> {
         Ok(Some(Automaton {
             grammar,
             states,
-            forks: Lists::new(alloc),
+            forks: FlatLists::new(alloc),
             search,
             deep: 0,
             alloc,
@@ -67,12 +67,25 @@ impl<'a> Automaton<'a> {
         Ok(self.states.row(state))
     }
 
-    /// An action of a list of actions.
-    pub fn forked(&self, number: u32, place: usize) -> u32 {
-        match self.forks.at(number).get(place) {
-            None => FAIL,
-            Some(action) => *action,
-        }
+    /// The table: a cell for each production, and then the rows.
+    pub fn table(&self) -> &[u32] {
+        &self.states.table
+    }
+
+    /// The cell of a production: that of its nonterminal in rows, and its length.
+    pub fn production_cell(&self, production: u32) -> u32 {
+        self.table().get(production as usize).copied().unwrap_or(0)
+    }
+
+    /// A cell of a row.
+    pub fn cell(&self, row: u32, column: u32) -> u32 {
+        let place = row as usize + column as usize;
+        self.table().get(place).copied().unwrap_or(FAIL)
+    }
+
+    /// The actions for which the action of a list stands.
+    pub fn forked(&self, number: u32) -> &[u32] {
+        list_at(&self.forks, number)
     }
 
     /// Whether the tables grew too large, or took too long to make.
@@ -122,8 +135,8 @@ impl<'a> Automaton<'a> {
         }
     }
 
-    /// Appends the positions that an atom leads to in a state, each once, and gives how many elements
-    /// were looked at.
+    /// Appends the positions that an atom leads to in a state, each once, and gives how many
+    /// elements were looked at.
     fn push_shifted(
         &self,
         shifted: &mut Vec<u32>,
@@ -135,13 +148,13 @@ impl<'a> Automaton<'a> {
         let mut seen = self.states.moves(lr).len();
         if state == lr {
             'moves: for pair in self.states.moves(lr) {
-                let first = tokens.first.at(pair.0);
+                let first = tokens.first(pair.0);
                 seen = seen.saturating_add(first.len());
                 self.push_read(shifted, first, atom)?;
             }
         } else {
             'positions: for pair in body(self.states.keys.at(state)) {
-                let follow = tokens.follow.at(pair.0);
+                let follow = tokens.follow(pair.0);
                 seen = seen.saturating_add(follow.len());
                 self.push_read(shifted, follow, atom)?;
             }
@@ -228,12 +241,9 @@ impl<'a> Automaton<'a> {
 
     /// Whether an atom may come after a token of an LR state.
     fn allows(&self, lr: u32, token: u32, atom: u16) -> bool {
-        'moves: for pair in self.states.moves(lr) {
-            if pair.0 == token && self.grammar.sets.allows(pair.1, atom) {
-                return true;
-            }
-        }
-        false
+        let sets = &self.grammar.sets;
+        let mut moves = self.states.moves(lr).iter();
+        moves.any(|it| it.0 == token && sets.allows(it.1, atom))
     }
 
     /// The action of a choice.
@@ -249,8 +259,8 @@ impl<'a> Automaton<'a> {
         }
     }
 
-    /// The action that ends a token, and the production that it is the last item of, if nothing else
-    /// may come.
+    /// The action that ends a token, and the production that it is the last item of, if nothing
+    /// else may come.
     fn after_token(&mut self, lr: u32, token: u32, kind: u32) -> Result<u32, Memory> {
         let state = self.after(lr, token)?;
         match self.states.only_end(&self.grammar, state) {
@@ -275,7 +285,7 @@ impl<'a> Automaton<'a> {
         let tokens = &self.grammar.tokens;
         let token = tokens.token(*positions.first()?);
         'positions: for position in positions {
-            let goes_on = !tokens.follow.at(*position).is_empty();
+            let goes_on = !tokens.follow(*position).is_empty();
             if goes_on || !tokens.is_last(*position) || tokens.token(*position) != token {
                 return None;
             }
@@ -315,7 +325,7 @@ impl<'a> Automaton<'a> {
             Choice::Accept => Ok(()),
             Choice::Reduce(production) => {
                 let rules = &self.grammar.rules;
-                let after = rules.after.at(rules.production(production).head);
+                let after = rules.after(rules.production(production).head);
                 self.search.visit_all(after)?;
                 self.search.enter(&self.grammar, atom)
             }
@@ -359,8 +369,8 @@ impl<'a> Automaton<'a> {
         }
     }
 
-    /// The action before an atom where the actions of a lookahead state's key are left: to look at the
-    /// next, or to fork where that is the end or too far.
+    /// The action before an atom where the actions of a lookahead state's key are left: to look at
+    /// the next, or to fork where that is the end or too far.
     fn undecided(&mut self, key: &[Pair], depth: u32, atom: u16) -> Result<u32, Memory> {
         let is_deep = depth > 3;
         if self.grammar.is_end(atom)
@@ -398,11 +408,6 @@ fn push_left(
 
 /// The actions of a lookahead state's key.
 fn actions_of(alloc: Global, key: &[Pair]) -> Result<Vec<u32>, Memory> {
-    let mut actions = Vec::new(alloc);
-    'pairs: for pair in key {
-        if pair.0 == ACTION {
-            actions.push(pair.1)?;
-        }
-    }
-    Ok(actions)
+    let marked = key.iter().filter(|pair| pair.0 == ACTION);
+    Ok(marked.map(|pair| pair.1).collect(alloc)?)
 }

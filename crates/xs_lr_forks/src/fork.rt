@@ -1,14 +1,17 @@
-use crate::action::{ACCEPT, CHAIN, FAIL, KIND, LOOK, REDUCE, SHIFT, TOKEN, UNKNOWN, fork_of};
-use crate::automaton::{Automaton, MOST_LOOKAHEAD};
 use crate::course::{Course, Entry};
-use crate::grammar::MOST_ITEMS;
 use crate::graph::{Act, Graph, Reduction, Stretch, Way};
-use crate::keys::capped;
+use crate::made::Made;
 use std::alloc::Global;
 use std::mem;
 use xs_class::Memory;
+use xs_lr_grammar::{MOST_ITEMS, capped};
+use xs_lr_tables::{
+    ACCEPT, Automaton, CHAIN, FAIL, KIND, LOOK, MOST_LOOKAHEAD, REDUCE, SHIFT, TOKEN, UNKNOWN,
+    fork_of,
+};
 
-/// A head: a vertex, the row of its LR state or of a scanning state in it, and what is to be done there.
+/// A head: a vertex, the row of its LR state or of a scanning state in it, and what is to be done
+/// there.
 #[derive(Clone, Copy)]
 struct Head {
     row: u32,
@@ -36,11 +39,11 @@ pub struct Fork<'d> {
     wait: u32,
 }
 
-/// What a fork found: its graph, how far the document is read, and the row from which it is to be read on,
-/// if not to its end.
+/// What a fork found: its nodes, how far the document is read, and the row from which it is to be
+/// read on, if not to its end.
 #[derive(Drop)]
 pub struct Found {
-    pub graph: Graph,
+    pub made: Made,
     pub at: u32,
     pub row: Option<u32>,
 }
@@ -73,7 +76,7 @@ impl<'d> Fork<'d> {
             _ => None,
         };
         Found {
-            graph: self.graph,
+            made: Made { graph: self.graph },
             at: self.at,
             row,
         }
@@ -118,8 +121,10 @@ impl<'d> Fork<'d> {
     fn see_to(&mut self, automaton: &mut Automaton<'_>, act: Act) -> Result<(), Memory> {
         match fork_of(act.action) {
             Some(number) if act.action & KIND == 0 => {
-                'actions: for place in 0..automaton.forks.at(number).len() {
-                    let action = automaton.forked(number, place);
+                'actions: for place in 0..automaton.forked(number).len() {
+                    let Some(action) = automaton.forked(number).get(place).copied() else {
+                        break;
+                    };
                     self.act(automaton, Act { action, ..act })?;
                 }
                 Ok(())
@@ -170,8 +175,8 @@ impl<'d> Fork<'d> {
         self.reduce_ways(automaton, act.action, length)
     }
 
-    /// Ends productions on the ways down a stretch, as far as they were ended at its top before there was
-    /// its newest edge.
+    /// Ends productions on the ways down a stretch, as far as they were ended at its top before
+    /// there was its newest edge.
     fn reduce_on(&mut self, automaton: &mut Automaton<'_>, stretch: Stretch) -> Result<(), Memory> {
         let mut longest = 0;
         'noted: for place in 0..stretch.older {
@@ -233,7 +238,8 @@ impl<'d> Fork<'d> {
         self.go_to(automaton, bottom, below, part, action >> 3)
     }
 
-    /// Goes to the state after a production's nonterminal, ending productions of one item on the way.
+    /// Goes to the state after a production's nonterminal, ending productions of one item on the
+    /// way.
     fn go_to(
         &mut self,
         automaton: &mut Automaton<'_>,
@@ -296,8 +302,8 @@ impl<'d> Fork<'d> {
         }
     }
 
-    /// Reads on until the document is read, all heads are gone, or one head is left whose way down is the
-    /// only one: the way, if there is one.
+    /// Reads on until the document is read, all heads are gone, or one head is left whose way down
+    /// is the only one: the way, if there is one.
     pub fn read(
         &mut self,
         automaton: &mut Automaton<'_>,
@@ -327,8 +333,8 @@ impl<'d> Fork<'d> {
         Ok(None)
     }
 
-    /// The way down from a vertex, if it is the only one; if not, no other is looked for before as many
-    /// places as it has vertices are read.
+    /// The way down from a vertex, if it is the only one; if not, no other is looked for before as
+    /// many places as it has vertices are read.
     fn only_way(&mut self, vertex: u32) -> Option<Way> {
         let way = self.graph.way_down(vertex);
         if way.is_only {
@@ -346,7 +352,7 @@ fn is_reduction(action: u32) -> bool {
 
 /// How many parts of the production that an action ends are below the top.
 fn length_below(automaton: &Automaton<'_>, action: u32) -> u32 {
-    let cell = automaton.states.production_cell(action >> 3);
+    let cell = automaton.production_cell(action >> 3);
     (cell & MOST_ITEMS).saturating_sub((action & TOKEN) >> 1)
 }
 
@@ -370,21 +376,21 @@ fn action_at(automaton: &mut Automaton<'_>, doc: &[u16], row: u32, at: u32) -> R
 
 /// The action of a row for an atom, which is filled where it is not known.
 fn known(automaton: &mut Automaton<'_>, row: u32, atom: u16) -> Result<u32, Memory> {
-    let action = automaton.states.cell(row, u32::from(atom));
+    let action = automaton.cell(row, u32::from(atom));
     if action != UNKNOWN {
         return Ok(action);
     }
     automaton.fill(row, atom)?;
-    Ok(automaton.states.cell(row, u32::from(atom)))
+    Ok(automaton.cell(row, u32::from(atom)))
 }
 
 /// Where the goto of a production's nonterminal leads from a row.
 fn goto(automaton: &mut Automaton<'_>, row: u32, production: u32) -> Result<u32, Memory> {
-    let cell = automaton.states.production_cell(production) >> 10;
-    let to = automaton.states.cell(row, cell);
+    let cell = automaton.production_cell(production) >> 10;
+    let to = automaton.cell(row, cell);
     if to != UNKNOWN {
         return Ok(to);
     }
     automaton.fill_goto(row, cell)?;
-    Ok(automaton.states.cell(row, cell))
+    Ok(automaton.cell(row, cell))
 }

@@ -1,6 +1,7 @@
 use indexmap::IndexSet;
 use std::alloc::Global;
 use xs_class::Memory;
+use xs_lr_grammar::capped;
 
 /// A pair of numbers, of which keys are made.
 pub type Pair = (u32, u32);
@@ -9,7 +10,6 @@ pub type Pair = (u32, u32);
 #[derive(Drop)]
 pub struct Keys {
     lists: IndexSet<Vec<Pair>>,
-    pairs: usize,
 }
 
 impl Keys {
@@ -17,7 +17,6 @@ impl Keys {
     pub fn new(alloc: Global) -> Self {
         Keys {
             lists: IndexSet::new(alloc),
-            pairs: 0,
         }
     }
 
@@ -29,11 +28,6 @@ impl Keys {
         }
     }
 
-    /// The number of pairs of all keys.
-    pub fn pairs(&self) -> usize {
-        self.pairs
-    }
-
     /// The number of a key, or None where it is not there.
     pub fn find(&self, key: &[Pair]) -> Option<u32> {
         Some(capped(self.lists.get_index_of(key)?))
@@ -43,16 +37,6 @@ impl Keys {
     pub fn add(&mut self, key: &[Pair]) -> Result<u32, Memory> {
         let list = Vec::from_slice(*self.lists.allocator(), key)?;
         let (number, _) = self.lists.insert_full(list)?;
-        self.pairs = self.pairs.saturating_add(key.len());
         Ok(capped(number))
-    }
-}
-
-/// A length as a number of 32 bits, the greatest where it has none.
-pub fn capped(length: usize) -> u32 {
-    if length < u32::MAX as usize {
-        length as u32
-    } else {
-        u32::MAX
     }
 }

@@ -1,8 +1,8 @@
-use crate::keys::capped;
-use crate::lists::{Lists, grouped};
+use crate::lists::{capped, grouped, list_at};
 use crate::tokens::Tokens;
 use std::alloc::Global;
 use xs_class::Memory;
+use xs_flat::FlatLists;
 use xs_gram::{GItem, Gram};
 
 /// In place of a symbol: the production ends.
@@ -34,10 +34,8 @@ pub struct Rules {
     pub nons: u32,
     pub productions: Vec<Production>,
     pub places: Vec<Place>,
-    /// For each nonterminal its productions.
-    pub of_non: Lists<u32>,
-    /// For each nonterminal the places after its occurrences.
-    pub after: Lists<u32>,
+    of_non: FlatLists<u32>,
+    after: FlatLists<u32>,
 }
 
 impl Rules {
@@ -72,21 +70,30 @@ impl Rules {
 
     /// The production of this number, an empty one where there is none.
     pub fn production(&self, number: u32) -> Production {
-        match self.productions.get(number as usize) {
-            None => production_of(u32::MAX, 0, 0),
-            Some(production) => *production,
-        }
+        let none = production_of(u32::MAX, 0, 0);
+        self.productions
+            .get(number as usize)
+            .copied()
+            .unwrap_or(none)
     }
 
     /// The place of this number, the end of a production where there is none.
     pub fn place(&self, number: u32) -> Place {
-        match self.places.get(number as usize) {
-            None => Place {
-                production: u32::MAX,
-                symbol: AT_END,
-            },
-            Some(place) => *place,
-        }
+        let none = Place {
+            production: u32::MAX,
+            symbol: AT_END,
+        };
+        self.places.get(number as usize).copied().unwrap_or(none)
+    }
+
+    /// The productions of a nonterminal.
+    pub fn of_non(&self, non: u32) -> &[u32] {
+        list_at(&self.of_non, non)
+    }
+
+    /// The places after the occurrences of a nonterminal.
+    pub fn after(&self, non: u32) -> &[u32] {
+        list_at(&self.after, non)
     }
 
     /// The last production, that of the new start nonterminal.
@@ -140,7 +147,7 @@ fn symbol_of(tokens: &Tokens, item: &GItem) -> u32 {
 }
 
 /// For each nonterminal its productions.
-fn by_head(alloc: Global, productions: &[Production], nons: u32) -> Result<Lists<u32>, Memory> {
+fn by_head(alloc: Global, productions: &[Production], nons: u32) -> Result<FlatLists<u32>, Memory> {
     let mut pairs = Vec::with_capacity(alloc, productions.len())?;
     'productions: for (number, production) in productions.iter().enumerate() {
         pairs.push((production.head, capped(number)))?;
@@ -154,7 +161,7 @@ fn by_symbol(
     places: &[Place],
     tokens: u32,
     nons: u32,
-) -> Result<Lists<u32>, Memory> {
+) -> Result<FlatLists<u32>, Memory> {
     let mut pairs = Vec::new(alloc);
     'places: for (number, place) in places.iter().enumerate() {
         if place.symbol != AT_END && tokens <= place.symbol {

@@ -1,7 +1,7 @@
 use crate::course::Entry;
-use crate::keys::capped;
 use std::alloc::Global;
 use xs_class::Memory;
+use xs_lr_grammar::capped;
 
 /// In place of the number of an edge: there is none.
 const NONE: u32 = u32::MAX;
@@ -18,8 +18,8 @@ const ELEMENTS: usize = 8;
 /// How many elements a word that is kept counts as.
 const WORD: usize = 2;
 
-/// An edge to the vertex below, with the part of the item between the two, and the vertex's next edge.
-/// The first edge of a vertex stands for it: an LR state at a place of the document.
+/// An edge to the vertex below, with the part of the item between the two, and the vertex's next
+/// edge. The first edge of a vertex stands for it: an LR state at a place of the document.
 #[derive(Clone, Copy)]
 struct Edge {
     row: u32,
@@ -29,8 +29,8 @@ struct Edge {
     next: u32,
 }
 
-/// A reduction whose node is not made yet: its production, where it begins and ends, and where its parts
-/// begin, which go on to those of the next reduction.
+/// A reduction whose node is not made yet: its production, where it begins and ends, and where its
+/// parts begin, which go on to those of the next reduction.
 #[derive(Clone, Copy)]
 pub struct Reduction {
     pub production: u32,
@@ -46,8 +46,9 @@ pub struct Act {
     pub action: u32,
 }
 
-/// Edges of the place that is being read, from a vertex down to the newest of them: how many they are,
-/// and how many reductions were noted before the newest was added; the topmost, and the stretch below it.
+/// Edges of the place that is being read, from a vertex down to the newest of them: how many they
+/// are, and how many reductions were noted before the newest was added; the topmost, and the
+/// stretch below it.
 #[derive(Clone, Copy)]
 pub struct Stretch {
     pub top: u32,
@@ -58,8 +59,9 @@ pub struct Stretch {
     newest: u32,
 }
 
-/// The way down from a vertex by first edges: how many vertices from the base on it has, as far as to one
-/// that has two edges; whether there is none of those; and the entry below the base to which it leads.
+/// The way down from a vertex by first edges: how many vertices from the base on it has, as far as
+/// to one that has two edges; whether there is none of those; and the entry below the base to which
+/// it leads.
 #[derive(Clone, Copy)]
 pub struct Way {
     pub top: u32,
@@ -68,24 +70,25 @@ pub struct Way {
     pub is_only: bool,
 }
 
-/// A graph-structured stack over the entries of a stack: vertices below the base are these entries, and
-/// each other one has the number of its first edge, counted from the base on.
+/// A graph-structured stack over the entries of a stack: vertices below the base are these entries,
+/// and each other one has the number of its first edge, counted from the base on.
 #[derive(Drop)]
 pub struct Graph {
     base: u32,
     pub reductions: Vec<Reduction>,
     pub parts: Vec<u32>,
-    /// Of the last search for ways down: the vertices at which they end, and the parts on each, from
-    /// the top to the bottom.
+    /// Of the last search for ways down: the vertices at which they end, and the parts on each,
+    /// from the top to the bottom.
     pub bottoms: Vec<u32>,
     gathered: Vec<u32>,
-    /// The edges of a way, from the top on; how many of them stay, and the newest that others may be.
+    /// The edges of a way, from the top on; how many of them stay, and the newest that others may
+    /// be.
     path: Vec<(u32, u32)>,
     fixed: usize,
     newest: u32,
     edges: Vec<Edge>,
-    /// Of the place that is being read: its vertices, the first number that they may have, the edges among
-    /// them, each with the vertex above, and the reductions that were done at them.
+    /// Of the place that is being read: its vertices, the first number that they may have, the
+    /// edges among them, each with the vertex above, and the reductions that were done at them.
     here: Vec<u32>,
     begin: u32,
     level: Vec<(u32, u32)>,
@@ -212,8 +215,8 @@ impl Graph {
         }
     }
 
-    /// Adds an edge down from the vertex of an entry's row at the place that is being read, unless it is
-    /// there, and gives the vertex where that is new.
+    /// Adds an edge down from the vertex of an entry's row at the place that is being read, unless
+    /// it is there, and gives the vertex where that is new.
     pub fn add(&mut self, entry: Entry, below: u32) -> Result<Option<u32>, Memory> {
         let edge = capped(self.edges.len());
         let Some(top) = self.vertex_of(entry.row) else {
@@ -241,7 +244,8 @@ impl Graph {
         Ok(None)
     }
 
-    /// Notes a reduction at a vertex, which is to be done once more down each edge that is added later.
+    /// Notes a reduction at a vertex, which is to be done once more down each edge that is added
+    /// later.
     pub fn note(&mut self, act: Act) -> Result<(), Memory> {
         if act.vertex >= self.begin {
             self.noted.push(act)?;
@@ -273,8 +277,8 @@ impl Graph {
         None
     }
 
-    /// The edge of a vertex after which one to a vertex below is to come, or None where there is one, or no
-    /// work is left: those after the first edge lead to ever later vertices.
+    /// The edge of a vertex after which one to a vertex below is to come, or None where there is
+    /// one, or no work is left: those after the first edge lead to ever later vertices.
     fn edge_before(&mut self, top: u32, below: u32) -> Option<u32> {
         if self.under(top) == below {
             return None;
@@ -321,7 +325,8 @@ impl Graph {
         self.search(stack, from, length)
     }
 
-    /// Finds the way of a length down from a vertex, if no vertex on it has two edges, or reports that.
+    /// Finds the way of a length down from a vertex, if no vertex on it has two edges, or reports
+    /// that.
     fn find_only(&mut self, stack: &[Entry], from: u32, length: u32) -> Result<bool, Memory> {
         let mut id = from;
         'edges: for _ in 0..length {

@@ -1,8 +1,7 @@
-use crate::grammar::Grammar;
 use crate::keys::Pair;
-use crate::rules::AT_END;
 use std::alloc::Global;
 use xs_class::Memory;
+use xs_lr_grammar::{AT_END, Grammar};
 
 /// The greatest number of elements that are looked at while tables are made.
 const MOST_WORK: usize = 1 << 22;
@@ -86,7 +85,7 @@ impl Search {
 
     /// Adds the beginnings of the productions of a nonterminal.
     fn visit_productions(&mut self, g: &Grammar<'_>, non: u32) -> Result<(), Memory> {
-        'productions: for production in g.rules.of_non.at(non) {
+        'productions: for production in g.rules.of_non(non) {
             self.visit(g.rules.production(*production).start)?;
         }
         Ok(())
@@ -124,7 +123,7 @@ impl Search {
             let at = g.rules.place(place);
             if at.symbol == AT_END {
                 let head = g.rules.production(at.production).head;
-                self.visit_all(g.rules.after.at(head))?;
+                self.visit_all(g.rules.after(head))?;
             } else {
                 self.enter_symbol(g, at.symbol, place.wrapping_add(1), atom)?;
             }
@@ -143,7 +142,7 @@ impl Search {
     ) -> Result<(), Memory> {
         match g.rules.non(symbol) {
             Some(non) => self.visit_productions(g, non)?,
-            None => self.push_positions(g, g.tokens.first.at(symbol), after, atom)?,
+            None => self.push_positions(g, g.tokens.first(symbol), after, atom)?,
         }
         if g.sets.is_nullable(symbol) {
             self.visit(after)?;
@@ -213,7 +212,7 @@ impl Search {
             }
             return Ok(());
         }
-        self.push_positions(g, g.tokens.follow.at(pair.1), pair.0, atom)?;
+        self.push_positions(g, g.tokens.follow(pair.1), pair.0, atom)?;
         if g.tokens.is_last(pair.1) {
             self.visit(pair.0)?;
         }

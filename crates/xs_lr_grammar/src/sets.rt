@@ -29,7 +29,7 @@ impl Sets {
         tokens: &Tokens,
         rules: &Rules,
     ) -> Result<Option<Sets>, Memory> {
-        let firsts = tokens.first.elements();
+        let firsts = tokens.firsts();
         if firsts.saturating_mul(atoms.count() as usize) > MOST_READ {
             return Ok(None);
         }
@@ -59,7 +59,7 @@ impl Sets {
     /// Puts the atoms of first positions into FIRST of tokens.
     fn begin(&mut self, atoms: &Atoms, tokens: &Tokens) {
         'tokens: for token in 0..tokens.count {
-            'positions: for position in tokens.first.at(token) {
+            'positions: for position in tokens.first(token) {
                 self.begin_at(atoms, tokens, token, *position);
             }
         }
@@ -167,10 +167,7 @@ impl Sets {
 
     /// Whether a symbol derives the empty word.
     pub fn is_nullable(&self, symbol: u32) -> bool {
-        match self.nullable.get(symbol as usize) {
-            None => false,
-            Some(nullable) => *nullable,
-        }
+        self.nullable.get(symbol as usize).copied().unwrap_or(false)
     }
 
     /// Whether an atom may come at a place.

@@ -1,9 +1,9 @@
-use crate::keys::capped;
-use crate::lists::Lists;
+use crate::lists::{capped, list_at};
 use indexmap::IndexSet;
 use std::alloc::Global;
 use xs_atoms::Atoms;
 use xs_class::{Memory, Sym};
+use xs_flat::FlatLists;
 use xs_gram::{GItem, Gram};
 use xs_regex::Position;
 
@@ -32,9 +32,9 @@ struct State {
 pub struct Tokens {
     pub count: u32,
     pub nullable: Vec<bool>,
-    pub first: Lists<u32>,
+    first: FlatLists<u32>,
     positions: Vec<State>,
-    pub follow: Lists<u32>,
+    follow: FlatLists<u32>,
     steps: usize,
     ignorables: u32,
     words: u32,
@@ -47,9 +47,9 @@ impl Tokens {
         let mut tokens = Tokens {
             count: 0,
             nullable: Vec::new(alloc),
-            first: Lists::new(alloc),
+            first: FlatLists::new(alloc),
             positions: Vec::new(alloc),
-            follow: Lists::new(alloc),
+            follow: FlatLists::new(alloc),
             steps: 0,
             ignorables: g.terms(),
             words: g.terms().wrapping_add(g.skips()),
@@ -188,6 +188,25 @@ impl Tokens {
         }
     }
 
+    /// The first positions of a token.
+    pub fn first(&self, token: u32) -> &[u32] {
+        list_at(&self.first, token)
+    }
+
+    /// The number of first positions of all tokens.
+    pub fn firsts(&self) -> usize {
+        let mut count: usize = 0;
+        'tokens: for token in 0..self.count {
+            count = count.saturating_add(self.first(token).len());
+        }
+        count
+    }
+
+    /// The positions that may follow a position.
+    pub fn follow(&self, position: u32) -> &[u32] {
+        list_at(&self.follow, position)
+    }
+
     /// Whether a position reads an atom.
     pub fn reads(&self, atoms: &Atoms, position: u32, atom: u16) -> bool {
         match self.positions.get(position as usize) {
@@ -218,8 +237,6 @@ impl Tokens {
 
 /// Appends the numbers, each greater by as much.
 fn push_moved(list: &mut Vec<u32>, numbers: &[u32], by: u32) -> Result<(), Memory> {
-    'numbers: for number in numbers {
-        list.push(number.wrapping_add(by))?;
-    }
+    list.extend(numbers.iter().map(|number| number.wrapping_add(by)))?;
     Ok(())
 }

@@ -1,10 +1,10 @@
-use crate::action::{CHAIN, FAIL};
-use crate::grammar::Grammar;
-use crate::keys::{Keys, Pair, capped};
-use crate::lists::Lists;
+use crate::action::CHAIN;
+use crate::keys::{Keys, Pair};
 use crate::search::Search;
 use std::alloc::Global;
 use xs_class::Memory;
+use xs_flat::FlatLists;
+use xs_lr_grammar::{Grammar, capped, list_at};
 
 /// The greatest number of cells of the table, and of words of all that is known of its states.
 const MOST_CELLS: usize = 1 << 22;
@@ -19,8 +19,8 @@ pub enum Kind {
     Lr,
     /// An LR state, by its number, and a set of positions of its tokens.
     Scanning(u32),
-    /// A list of actions, each with what may come next after this many atoms if it is done: pairs of
-    /// a position, and a place after its token.
+    /// A list of actions, each with what may come next after this many atoms if it is done: pairs
+    /// of a position, and a place after its token.
     Lookahead(u32),
 }
 
@@ -58,14 +58,17 @@ pub const ACTION: u32 = u32::MAX;
 /// The states of a grammar that were made so far, and the table of their rows.
 ///
 /// The table begins with a cell for each production. A row has a cell before it with the number of
-/// its state, then a cell for each atom, and those of LR states one for each nonterminal.
+/// its state, then a cell for each atom, and those of LR states one for each nonterminal. How many
+/// pairs the keys and moves have, and how many productions end in the states, is counted.
 #[derive(Drop)]
 pub struct States {
     pub table: Vec<u32>,
     pub keys: Keys,
     rows: Vec<u32>,
-    moves: Lists<Pair>,
-    ends: Lists<u32>,
+    moves: FlatLists<Pair>,
+    ends: FlatLists<u32>,
+    pairs: usize,
+    ended: usize,
     alloc: Global,
 }
 
@@ -81,18 +84,19 @@ impl States {
             table,
             keys: Keys::new(alloc),
             rows: Vec::new(alloc),
-            moves: Lists::new(alloc),
-            ends: Lists::new(alloc),
+            moves: FlatLists::new(alloc),
+            ends: FlatLists::new(alloc),
+            pairs: 0,
+            ended: 0,
             alloc,
         })
     }
 
     /// Whether the table, or what is known of its states, is too large.
     pub fn is_full(&self) -> bool {
-        let pairs = self.keys.pairs().saturating_add(self.moves.elements());
         self.table.len() > MOST_CELLS
-            || pairs.saturating_mul(2) > MOST_CELLS
-            || self.ends.elements() > MOST_CELLS
+            || self.pairs.saturating_mul(2) > MOST_CELLS
+            || self.ended > MOST_CELLS
             || self.rows.len() > MOST_STATES
     }
 
@@ -103,34 +107,13 @@ impl States {
 
     /// The number of the state of a row.
     pub fn of_row(&self, row: u32) -> u32 {
-        match self.table.get((row as usize).wrapping_sub(1)) {
-            None => u32::MAX,
-            Some(number) => *number,
-        }
+        let before = (row as usize).wrapping_sub(1);
+        self.table.get(before).copied().unwrap_or(u32::MAX)
     }
 
     /// The row of a state.
     pub fn row(&self, state: u32) -> u32 {
-        match self.rows.get(state as usize) {
-            None => 0,
-            Some(row) => *row,
-        }
-    }
-
-    /// The cell of a production: that of its nonterminal in rows, and its length.
-    pub fn production_cell(&self, production: u32) -> u32 {
-        match self.table.get(production as usize) {
-            None => 0,
-            Some(cell) => *cell,
-        }
-    }
-
-    /// A cell of a row.
-    pub fn cell(&self, row: u32, column: u32) -> u32 {
-        match self.table.get(row as usize + column as usize) {
-            None => FAIL,
-            Some(cell) => *cell,
-        }
+        self.rows.get(state as usize).copied().unwrap_or(0)
     }
 
     /// Writes a cell of a row.
@@ -143,12 +126,12 @@ impl States {
 
     /// The symbols that may come next in an LR state, each with a place after it.
     pub fn moves(&self, state: u32) -> &[Pair] {
-        self.moves.at(state)
+        list_at(&self.moves, state)
     }
 
     /// The productions that end in an LR state.
     pub fn ends(&self, state: u32) -> &[u32] {
-        self.ends.at(state)
+        list_at(&self.ends, state)
     }
 
     /// Appends a state and its row.
@@ -168,6 +151,9 @@ impl States {
         }
         self.moves.push(moves)?;
         self.ends.push(ends)?;
+        let pairs = key.len().saturating_add(moves.len());
+        self.pairs = self.pairs.saturating_add(pairs);
+        self.ended = self.ended.saturating_add(ends.len());
         Ok(number)
     }
 

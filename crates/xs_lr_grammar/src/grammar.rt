@@ -60,15 +60,7 @@ impl<'a> Grammar<'a> {
 
 /// Whether rows have few cells, and all productions few items.
 fn is_small(rules: &Rules, atoms: &Atoms) -> bool {
-    if atoms.count().saturating_add(rules.nons) > MOST_COLUMNS
-        || rules.productions.len() > 1 << 22
-    {
-        return false;
-    }
-    'productions: for production in &rules.productions {
-        if production.length > MOST_ITEMS {
-            return false;
-        }
-    }
-    true
+    atoms.count().saturating_add(rules.nons) <= MOST_COLUMNS
+        && rules.productions.len() <= 1 << 22
+        && rules.productions.iter().all(|it| it.length <= MOST_ITEMS)
 }

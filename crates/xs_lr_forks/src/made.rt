@@ -1,6 +1,8 @@
+use crate::course::Entry;
 use crate::graph::{Graph, REDUCED, Reduction, Way};
-use crate::tree::Tree;
 use xs_class::Memory;
+use xs_lr_grammar::capped;
+use xs_parse_table::{Node, ParseTable};
 
 /// A reduction whose number has this bit is wanted: its production, or its node once that is made.
 const WANTED: u32 = 1 << 31;
@@ -8,23 +10,23 @@ const WANTED: u32 = 1 << 31;
 /// The nodes of those reductions of a graph that are wanted.
 #[derive(Drop)]
 pub struct Made {
-    pub graph: Graph,
+    pub(crate) graph: Graph,
 }
 
 impl Made {
     /// Puts the nodes of a way and of all below them next.
-    pub fn put(&mut self, way: Way, tree: &mut Tree) -> Result<(), Memory> {
+    pub fn put(&mut self, way: Way, table: &mut ParseTable) -> Result<(), Memory> {
         let mut id = way.top;
         'vertices: for _ in 0..way.length {
             let part = self.graph.vertex(id).part;
             self.want(part);
-            id = self.graph.under(id);
+            id = self.under(id);
         }
         'reductions: for number in (0..self.graph.reductions.len()).rev() {
             self.want_parts(number);
         }
         'numbers: for number in 0..self.graph.reductions.len() {
-            self.put_node(number, tree)?;
+            self.put_node(number, table)?;
         }
         Ok(())
     }
@@ -73,24 +75,44 @@ impl Made {
     }
 
     /// Puts the node of a reduction next, if it is wanted.
-    fn put_node(&mut self, number: usize, tree: &mut Tree) -> Result<(), Memory> {
-        let Some(reduction) = self.wanted(number) else {
+    fn put_node(&mut self, number: usize, table: &mut ParseTable) -> Result<(), Memory> {
+        let Some(wanted) = self.wanted(number) else {
             return Ok(());
         };
         if let Some(reduction) = self.graph.reductions.get_mut(number) {
-            reduction.production = tree.count() | WANTED;
+            reduction.production = capped(table.nodes.len()) | WANTED;
         }
-        tree.put_node(reduction.production, reduction.from, reduction.to)?;
+        let parts = capped(table.parts.len());
+        table.nodes.push(Node {
+            production: wanted.production,
+            parts,
+            from: wanted.from,
+            to: wanted.to,
+        })?;
         'parts: for place in self.begin(number)..self.begin(number.wrapping_add(1)) {
             if let Some(part) = self.graph.parts.get(place) {
-                tree.put_part(self.part(*part))?;
+                table.parts.push(self.part(*part))?;
             }
         }
         Ok(())
     }
 
+    /// The entry of a vertex, with its node as its part.
+    pub fn entry(&self, id: u32) -> Entry {
+        let entry = self.graph.vertex(id);
+        Entry {
+            part: self.part(entry.part),
+            ..entry
+        }
+    }
+
+    /// The vertex below one on the way.
+    pub fn under(&self, id: u32) -> u32 {
+        self.graph.under(id)
+    }
+
     /// A part, with its node in place of a reduction.
-    pub fn part(&self, part: u32) -> u32 {
+    fn part(&self, part: u32) -> u32 {
         if part & REDUCED == 0 {
             return part;
         }
