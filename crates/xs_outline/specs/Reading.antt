@@ -1,5 +1,5 @@
 -- How numbers and quoted strings are read from the front of a list of symbols.
-use Rattle.std.specs.Prelude.{◌≡◌, ◌≢◌, ◌⊎◌, ℕ, ◌+◌, ◌*◌, ◌^◌, Bool, false, not, List, [], ◌∷◌, ◌++◌, None, Some, ◌==◌, ◌&&◌, ◌||◌, nat_le, nat_lt, if◌then◌else◌}
+use Rattle.std.specs.Prelude.{◌≡◌, ◌≢◌, ◌⊎◌, ℕ, ◌+◌, ◌*◌, ◌^◌, Bool, false, List, [], ◌∷◌, ◌++◌, None, Some, ◌==◌, ◌&&◌, ◌||◌, nat_le, nat_lt, if◌then◌else◌}
 use Rattle.std.specs.declared.option.Option.{Option}
 use Rattle.std.specs.Char.{digit_value}
 use Rattle.xs_lex.specs.Units.{is_hex, is_escape, escape_char, is_scalar}
@@ -25,18 +25,14 @@ numeral_at [] = None
 numeral_at (c ∷ []) = number_after 0 (c ∷ [])
 numeral_at (c ∷ d ∷ ds) = if c == 48 then None else number_after 0 (c ∷ d ∷ ds)
 
--- the number that digits up to a space spell after those of n, where it is below 2^64, and what follows the space
-abbrev pub spaced_after : ℕ → List ℕ → Option (ℕ × List ℕ)
-spaced_after n [] = None
-spaced_after n (c ∷ cs) =
-    if c == 32 then Some (n, cs)
-    else (if nat_lt (digit_value c) 10 && nat_lt (n * 10 + digit_value c) (2 ^ 64) then spaced_after (n * 10 + digit_value c) cs else None)
+-- a number in such digits, then a space and the rest
+pub record IsSpaced (text : List ℕ) (n : ℕ) (rest : List ℕ) : Type 0 where
+  pub digits : List ℕ
+  pub is : text ≡ digits ++ 32 ∷ rest
+  pub number : numeral_at digits ≡ Some n
 
--- the same from the beginning: there is a digit, and no zero before others
-abbrev pub spaced_at : List ℕ → Option (ℕ × List ℕ)
-spaced_at [] = None
-spaced_at (c ∷ []) = None
-spaced_at (c ∷ d ∷ ds) = if c == 32 then None else (if c == 48 && not (d == 32) then None else spaced_after 0 (c ∷ d ∷ ds))
+abbrev pub NoSpaced : List ℕ → Type 0
+NoSpaced text = (n : ℕ) (rest : List ℕ) → IsSpaced text n rest → ⊥
 
 -- the character of hexadecimal digits up to a brace, after n digits of value v, and what follows
 abbrev pub digits_at : ℕ → ℕ → List ℕ → Option (ℕ × List ℕ)

@@ -1,10 +1,10 @@
 // Lines, and their three parts.
 ghost use Rattle.std.specs.Prelude.{◌≡◌, ◌<◌, ◌≤◌, ◌∷◌, ◌++◌, Some, length, take, slice_get, IfOk, MatchOption};
 ghost use Rattle.xs_outline.specs.Lines.{line, Lacks, SpellsEntry};
-ghost use Rattle.xs_outline.specs.Reading.{IsFirstLine, NoName};
+ghost use Rattle.xs_outline.specs.Reading.{IsFirstLine, IsSpaced, NoName, NoSpaced};
 ghost use Rattle.xs_outline.specs.Parsed.{entry_meant, NoEntry, NoFirst, SpellsFirst};
 
-use crate::numeral::{numeral, numeral_to_space};
+use crate::numeral::numeral;
 use crate::quoted::quoted;
 use std::alloc::Global;
 use xs_class::{Memory, Sym, Word};
@@ -51,6 +51,20 @@ pub fn cut(text: &[Sym]) -> Option<(&[Sym], &[Sym])>
         Some((&text[..place], &text[place + 1..]))
     } else {
         None
+    }
+}
+
+/// The number that the text up to its first space is, as `numeral` has it, and what follows the
+/// space.
+fn numeral_to_space(text: &[Sym]) -> Option<(u64, &[Sym])>
+    ensures { MatchOption result (NoSpaced text.now) (λ r. IsSpaced text.now r.0 r.1.now) }
+{
+    let Some((digits, rest)) = cut(text) else {
+        return None;
+    };
+    match numeral(digits) {
+        Some(number) => Some((number, rest)),
+        None => None,
     }
 }
 

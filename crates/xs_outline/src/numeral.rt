@@ -1,11 +1,8 @@
 // Numbers in decimal digits.
 ghost use Rattle.std.specs.Prelude.{◌≡◌};
-ghost use Rattle.std.specs.Option.{option_map};
-ghost use Rattle.xs_outline.specs.Reading.{digit_in, with_digit, number_after, numeral_at, spaced_after, spaced_at};
+ghost use Rattle.xs_outline.specs.Reading.{digit_in, with_digit, number_after, numeral_at};
 
 use xs_class::Sym;
-
-const SPACE: u32 = 0x20;
 
 const ZERO: u32 = 0x30;
 
@@ -52,40 +49,5 @@ pub fn numeral(text: &[Sym]) -> Option<u64>
         } else {
             number(text)
         },
-    }
-}
-
-/// The number that the digits up to a space spell, and what follows the space.
-fn number_to_space(text: &[Sym]) -> Option<(u64, &[Sym])>
-    ensures { option_map (λ r. (r.0, r.1.now)) result ≡ spaced_after 0 text.now }
-{
-    let mut number: u64 = 0;
-    let mut rest = text;
-    'digits: while let [first, more @ ..] = rest {
-        if first.number() == SPACE {
-            return Some((number, more));
-        }
-        let digit = digit(*first)?;
-        number = longer(number, digit)?;
-        rest = more;
-    }
-    None
-}
-
-/// The number that the text up to its first space is, as `numeral` has it, and what follows the
-/// space.
-pub fn numeral_to_space(text: &[Sym]) -> Option<(u64, &[Sym])>
-    ensures { option_map (λ r. (r.0, r.1.now)) result ≡ spaced_at text.now }
-{
-    match text {
-        [] => None,
-        [_] => None,
-        [first, second, ..] => {
-            if first.number() == SPACE || (first.number() == ZERO && second.number() != SPACE) {
-                None
-            } else {
-                number_to_space(text)
-            }
-        }
     }
 }
