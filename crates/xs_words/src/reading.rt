@@ -176,14 +176,14 @@ fn of_four<'w>(verb: &str, sheet: &'w str, third: &str, last: &'w str) -> Option
 
 /// The command that the words are, or None where they are none.
 ///
-/// The forms are `check SHEET`, `to-xml SHEET`, `to-xml SHEET FORM`, `to-text SHEET`,
-/// `round SHEET text`, `round SHEET text FORM`, `round SHEET xml`, `trees SHEET MAX`, `sheet`,
-/// `sheet 2`, `make SEED LINES`, `upgrade SHEET`, `prove SHEET`, `check SHEET cert FILE`,
-/// `session SHEET`, `to-tree SHEET text`, `to-tree SHEET text FORM`, `to-tree SHEET xml`,
-/// `from-tree SHEET text`, `from-tree SHEET xml` and `cover SHEET`. FILE is a file's name. SHEET is `@leiden`, `@leiden2` or a file's name, and FORM `asis`, which is meant
-/// where it is left out, `nfc` or `nfd`. MAX is 1 to 1,000, SEED 0 to 2,147,483,647 and LINES 1 to
-/// 2,000, each in decimal digits without a sign, and without a leading zero but for `0` itself. Takes
-/// no memory; time is linear in the words.
+/// The forms are `check SHEET`, `to-xml SHEET`, `to-xml SHEET FORM`, `to-text SHEET`, `round SHEET
+/// text`, `round SHEET text FORM`, `round SHEET xml`, `trees SHEET MAX`, `sheet`, `sheet 2`, `make
+/// SEED LINES`, `upgrade SHEET`, `prove SHEET`, `check SHEET cert FILE`, `session SHEET`, `to-tree
+/// SHEET text`, `to-tree SHEET text FORM`, `to-tree SHEET xml`, `from-tree SHEET text`, `from-tree
+/// SHEET xml` and `cover SHEET`. FILE is a file's name. SHEET is `@leiden`, `@leiden2` or a file's
+/// name, and FORM `asis`, which is meant where it is left out, `nfc` or `nfd`. MAX is 1 to 1,000,
+/// SEED 0 to 2,147,483,647 and LINES 1 to 2,000, each in decimal digits without a sign, and without
+/// a leading zero but for `0` itself. Takes no memory; time is linear in the words.
 pub fn command_of(words: &[String]) -> Option<Command<'_>>
     ensures command { option_map meant result ≡ meant_by (map string_bytes words.now) }
     ensures lines { IfSome result HasLines }
