@@ -1,6 +1,6 @@
 -- The fences of a sheet, and the three rules on them.
-use Rattle.std.specs.Prelude.{◌≡◌, ◌⊎◌, ℕ, zero, suc, ◌+◌, length, ◌==◌, ◌&&◌, ◌||◌, not, Bool, false, List, [], ◌∷◌, ◌++◌, take, None, Some}
-use Rattle.std.specs.List.{flat_map}
+use Rattle.std.specs.Prelude.{◌≡◌, ◌⊎◌, ℕ, zero, suc, ◌+◌, length, ◌==◌, ◌&&◌, not, Bool, false, List, [], ◌∷◌, ◌++◌, take, None, Some}
+use Rattle.std.specs.List.{flat_map, list_any}
 use Rattle.std.specs.declared.option.Option.{Option}
 use Rattle.xs_class.specs.Classes.{Has}
 use Rattle.xs_class.specs.Marks.{opening_mark, closing_mark}
@@ -34,8 +34,7 @@ fence_letters us = flat_map letters_in us
 
 -- whether the character is one of these
 abbrev pub is_one_of : List ℕ → ℕ → Bool
-is_one_of [] c = false
-is_one_of (d ∷ ds) c = (d == c) || is_one_of ds c
+is_one_of ds c = list_any (λ d. d == c) ds
 
 -- the character of a text that has exactly one
 abbrev pub only : List ℕ → Option ℕ

@@ -13,12 +13,7 @@ use xs_sheet::Unit;
 pub fn is_one_of(letters: &[char], letter: char) -> bool
     ensures { result ≡ F.is_one_of letters.now letter }
 {
-    'letters: for other in letters {
-        if *other == letter {
-            return true;
-        }
-    }
-    false
+    letters.contains(&letter)
 }
 
 /// The character of a text that has exactly one.
