@@ -1,2 +1,4 @@
+pub mod Apart
+pub mod Fixed
 pub mod Parting
 pub mod Seeing

@@ -5,13 +5,17 @@
 //! First it is seen which two groups read no common word, though they have one fence.
 #![tactic(auto)]
 
+mod apart;
 mod cuts;
+mod fixed;
 mod groups;
 mod kept;
 mod places;
 mod rules;
 mod screen;
 
+pub use apart::are_fixed_apart;
+pub use fixed::{are_any, fixed_doubts};
 pub use kept::Kept;
 pub use rules::whole;
 pub use screen::Screen;
