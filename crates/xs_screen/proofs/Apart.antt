@@ -9,7 +9,8 @@ use Rattle.xs_gram.specs.declared.parts.GItem.{GItem}
 use Rattle.xs_gram.specs.declared.parts.GItem.TheVariants.{Fixed, Term, Non, Skip}
 use Rattle.xs_gram.specs.Grammar.{Grammar}
 use Rattle.xs_gram.specs.Fences.{spread, grouped}
-use Rattle.xs_gram.specs.Loose.{LooseItem, loose_fixed, IsLoose, loose_none, loose_then, loose_group}
+use Rattle.xs_gram.proofs.Levels.{no_group}
+use Rattle.xs_gram.specs.Loose.{LooseItem, loose_fixed, loose_term, loose_skip, loose_non, IsLoose, loose_none, loose_then, loose_group}
 use Rattle.xs_screen.specs.Fixed.{BeginApart, EndApart, AreWordsAt}
 use Rattle.xs_screen.specs.Screens.{ShareNone}
 use Rattle.xs_screen.proofs.Fixed.{get_right}
@@ -43,16 +44,13 @@ last_append (x ∷ []) y ys = refl
 last_append (x ∷ z ∷ xs) y ys = last_append (z ∷ xs) y ys
 
 -- a word of no items is empty
+nothing_loose : {g : Grammar} {is : List GItem} {w : List ℕ} → IsLoose g is w → is ≡ [] → w ≡ []
+nothing_loose loose_none e = refl
+nothing_loose (loose_then plain i rest split) e = absurd cc
+nothing_loose (loose_group fence inside rest split word) e = absurd (no_group (sym e ∙ split))
+
 none_loose : {g : Grammar} {w : List ℕ} → IsLoose g [] w → w ≡ []
-none_loose {g} {w} loose = none loose refl
-  where
-    none : {is : List GItem} {v : List ℕ} → IsLoose g is v → is ≡ [] → v ≡ []
-    none loose_none e = refl
-    none (loose_then plain i rest split) e = absurd cc
-    none (loose_group {l = l} {r = r} {inside = inside} {after = after} fence within rest split word) e = absurd (nothing (sym split ∙ e))
-      where
-        nothing : grouped l inside r after ≡ [] → ⊥
-        nothing e = cc
+none_loose loose = nothing_loose loose refl
 
 fixed_same : {u v : List ℕ} → Fixed u ≡ Fixed v → u ≡ v
 fixed_same e = cc

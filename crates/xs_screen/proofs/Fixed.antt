@@ -47,16 +47,16 @@ get_right (x ∷ xs) ys k (suc m) e = get_right xs ys k m (omega (arith, e))
 
 -- the one loose word of a stretch of fixed words
 module _ (g : Grammar) where
-  item_word : {i : GItem} {u : List ℕ} (is : List GItem) → LooseItem g i u → IsFixed i → word_of (i ∷ is) ≡ u ++ word_of is
-  item_word {Fixed f} is loose_fixed fixed = refl
-  item_word {Term t s} is loose fixed = absurd fixed
-  item_word {Non m s} is loose fixed = absurd fixed
-  item_word {Skip k} is loose fixed = absurd fixed
+  item_word : (i : GItem) {u : List ℕ} (is : List GItem) → LooseItem g i u → IsFixed i → word_of (i ∷ is) ≡ u ++ word_of is
+  item_word (Fixed f) is loose_fixed fixed = refl
+  item_word (Term t s) is loose fixed = absurd fixed
+  item_word (Non m s) is loose fixed = absurd fixed
+  item_word (Skip k) is loose fixed = absurd fixed
 
   one_word : {is : List GItem} {w : List ℕ} → IsLoose g is w → AreFixed is → w ≡ word_of is
   one_word loose_none fixed = refl
   one_word (loose_then {i = i} {is = is} {u = u} {v = v} plain item rest split) fixed =
-      split ∙ ap (λ (x : List ℕ). u ++ x) (one_word rest (λ k j e. fixed (suc k) j e)) ∙ sym (item_word is item (fixed 0 i refl))
+      split ∙ ap (λ (x : List ℕ). u ++ x) (one_word rest (λ k j e. fixed (suc k) j e)) ∙ sym (item_word i is item (fixed 0 i refl))
   one_word {is = is} {w = w} (loose_group {l = l} {r = r} {inside = inside} {after = after} {u = u} {v = v} fence within rest split word) fixed =
       let all : AreFixed (grouped l inside r after) = subst (λ (x : List GItem). AreFixed x) split fixed in
       let one : u ≡ word_of inside = one_word within (λ k j e. all (suc k) j (get_left inside (Fixed (r ∷ []) ∷ after) k j e)) in
@@ -67,14 +67,14 @@ module _ (g : Grammar) where
 front_fixed : {fs : List (ℕ × ℕ)} {is front rest : List GItem} {c : ℕ} → IsCut fs is c front rest → AreFixedBefore is c → AreFixed front
 front_fixed {front = front} {rest = rest} (cut_here a b split place) fixed k i e =
     fixed k i (omega (arith, place, slice_get_within front k i e)) (ap (λ (x : List GItem). slice_get x k) split ∙ get_left front rest k i e)
-front_fixed (cut_inside {before = before} {inside = inside} {l = l} {r = r} {k = m} after level fence cut split place) fixed =
-    front_fixed cut (λ k i low e. fixed (length before + suc k) i (omega (arith, place, low)) (ap (λ (x : List GItem). slice_get x (length before + suc k)) split ∙ get_right before (grouped l inside r after) (suc k) (length before + suc k) refl ∙ get_left inside (Fixed (r ∷ []) ∷ after) k i e))
+front_fixed (cut_inside {before = before} {inside = inside} {l = l} {r = r} {k = m} after level fence cut split place) fixed j x at =
+    front_fixed cut (λ k i low e. fixed (length before + suc k) i (omega (arith, place, low)) (ap (λ (x : List GItem). slice_get x (length before + suc k)) split ∙ get_right before (grouped l inside r after) (suc k) (length before + suc k) refl ∙ get_left inside (Fixed (r ∷ []) ∷ after) k i e)) j x at
 
 rest_fixed : {fs : List (ℕ × ℕ)} {is front rest : List GItem} {c : ℕ} → IsCut fs is c front rest → AreFixedFrom is c → AreFixed rest
 rest_fixed {front = front} {rest = rest} (cut_here a b split place) fixed k i e =
     fixed (length front + k) i (omega (arith, place)) (ap (λ (x : List GItem). slice_get x (length front + k)) split ∙ get_right front rest k (length front + k) refl ∙ e)
-rest_fixed (cut_inside {before = before} {inside = inside} {l = l} {r = r} {k = m} after level fence cut split place) fixed =
-    rest_fixed cut (λ k i low e. fixed (length before + suc k) i (omega (arith, place, low)) (ap (λ (x : List GItem). slice_get x (length before + suc k)) split ∙ get_right before (grouped l inside r after) (suc k) (length before + suc k) refl ∙ get_left inside (Fixed (r ∷ []) ∷ after) k i e))
+rest_fixed (cut_inside {before = before} {inside = inside} {l = l} {r = r} {k = m} after level fence cut split place) fixed j x at =
+    rest_fixed cut (λ k i low e. fixed (length before + suc k) i (omega (arith, place, low)) (ap (λ (x : List GItem). slice_get x (length before + suc k)) split ∙ get_right before (grouped l inside r after) (suc k) (length before + suc k) refl ∙ get_left inside (Fixed (r ∷ []) ∷ after) k i e)) j x at
 
 pub fixed_front : (g : Grammar) (p c : ℕ) → AreFixedBefore (spread g p) c → OverlapNowhere g p c
 fixed_front g p c fixed x a y h =
@@ -91,13 +91,13 @@ fixed_rest g p c fixed x a y h =
 -- one item more
 pub before_more : (is : List GItem) (c : ℕ) (i : GItem) → slice_get is c ≡ Some i → IsFixed i → AreFixedBefore is c → AreFixedBefore is (c + 1)
 before_more is c i at fixed all k j low e = elim (cases_eq k c) [
-  | inl same ↦ subst IsFixed (same_Some _ _ (sym at ∙ sym (ap (λ (n : ℕ). slice_get is n) same) ∙ e)) fixed
+  | inl same ↦ subst (λ (x : GItem). IsFixed x) (same_Some _ _ (sym at ∙ sym (ap (λ (n : ℕ). slice_get is n) same) ∙ e)) fixed
   | inr other ↦ all k j (omega arith) e
 ]
 
 pub from_less : (is : List GItem) (c : ℕ) (i : GItem) → slice_get is c ≡ Some i → IsFixed i → AreFixedFrom is (c + 1) → AreFixedFrom is c
 from_less is c i at fixed all k j low e = elim (cases_eq k c) [
-  | inl same ↦ subst IsFixed (same_Some _ _ (sym at ∙ sym (ap (λ (n : ℕ). slice_get is n) same) ∙ e)) fixed
+  | inl same ↦ subst (λ (x : GItem). IsFixed x) (same_Some _ _ (sym at ∙ sym (ap (λ (n : ℕ). slice_get is n) same) ∙ e)) fixed
   | inr other ↦ all k j (omega arith) e
 ]
 

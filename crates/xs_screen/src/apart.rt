@@ -15,7 +15,10 @@ pub fn are_fixed_apart(g: &Gram, rule: u32, rule2: u32) -> bool
 {
     let one = g.spread(rule);
     let other = g.spread(rule2);
-    are_begun_apart(one, other) || are_ended_apart(one, other)
+    if are_begun_apart(one, other) {
+        return true;
+    }
+    are_ended_apart(one, other)
 }
 
 /// Whether the fixed words with which items begin are such that no word begins with both.
