@@ -1,4 +1,4 @@
-pub mod Apart
-pub mod Fixed
+pub mod FixedApart
+pub mod FixedWords
 pub mod Parting
 pub mod Seeing

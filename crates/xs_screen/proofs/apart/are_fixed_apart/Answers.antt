@@ -1,4 +1,4 @@
-use Rattle.xs_screen.proofs.Apart.{begun_share, ended_share}
+use Rattle.xs_screen.proofs.FixedApart.{begun_share, ended_share}
 use Rattle.xs_screen.proofs.apart.are_fixed_apart.Goals as goal
 
 pub returns-then-are_begun_apart : goal.returns-then-are_begun_apart

@@ -1,7 +1,7 @@
 use Rattle.std.proofs.Common.{◌≤◌, length}
 use Rattle.xs_gram.specs.Fences.{spread}
 use Rattle.xs_screen.specs.Screens.{AreDoubts}
-use Rattle.xs_screen.proofs.Fixed.{AreFixedFrom}
+use Rattle.xs_screen.proofs.FixedWords.{AreFixedFrom}
 use Rattle.xs_screen.proofs.fixed.clear_rests.Given as goal
 
 abbrev pub invariant-places : goal.invariant-places

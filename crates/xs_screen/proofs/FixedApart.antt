@@ -1,19 +1,19 @@
 -- Rules that begin or end with fixed words that are apart share no word.
-use Rattle.std.proofs.Common.{◌≡◌, ◌≢◌, ℕ, zero, suc, ◌+◌, ◌-◌, ◌<◌, List, [], ◌∷◌, ◌++◌, length, length-append, refl, sym, ap, subst, ◌∙◌, arith, append_assoc, append-nil}
+use Rattle.std.proofs.Common.{◌≡◌, ◌≢◌, ℕ, suc, ◌+◌, ◌-◌, List, [], ◌∷◌, ◌++◌, length, length-append, refl, sym, ap, ◌∙◌, arith, append_assoc, append-nil}
 use Rattle.std.proofs.lemmas.Option.{same_Some}
 use Rattle.std.specs.declared.option.Option.{Option}
 use Rattle.std.specs.declared.option.Option.TheVariants.{Some, None}
 use Rattle.std.specs.List.{slice_get}
 use Rattle.xs_class.proofs.Lists.{get_left}
 use Rattle.xs_gram.specs.declared.parts.GItem.{GItem}
-use Rattle.xs_gram.specs.declared.parts.GItem.TheVariants.{Fixed, Term, Non, Skip}
+use Rattle.xs_gram.specs.declared.parts.GItem.TheVariants.{Fixed}
 use Rattle.xs_gram.specs.Grammar.{Grammar}
 use Rattle.xs_gram.specs.Fences.{spread, grouped}
 use Rattle.xs_gram.proofs.Levels.{no_group}
 use Rattle.xs_gram.specs.Loose.{LooseItem, loose_fixed, loose_term, loose_skip, loose_non, IsLoose, loose_none, loose_then, loose_group}
 use Rattle.xs_screen.specs.Fixed.{BeginApart, EndApart, AreWordsAt}
 use Rattle.xs_screen.specs.Screens.{ShareNone}
-use Rattle.xs_screen.proofs.Fixed.{get_right}
+use Rattle.xs_screen.proofs.FixedWords.{get_right}
 
 -- words that differ at places as far from their beginnings, or from their ends
 pub begin_differ : (u v : List ℕ) (k a b : ℕ) → slice_get u k ≡ Some a → slice_get v k ≡ Some b → a ≢ b → BeginApart u v
