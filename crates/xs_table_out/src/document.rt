@@ -30,11 +30,11 @@ pub fn document_of_table(
     ensures { IfOk result (λ o. IfSome o (λ bytes. (d : Derivation) → IsTreeOf table.now doc.now d → Derives from.now doc.now d
         → bytes ≡ document_bytes side names.now (print to.now (strip from.now d)))) }
 {
-    let steps = &steps_of(alloc, from, to, pieces_of(alloc, to)?)?;
+    let steps = steps_of(alloc, from, to, pieces_of(alloc, to)?)?;
     let printing = Printing {
         from,
         to,
-        steps,
+        steps: &steps,
         doc,
         table,
     };

@@ -71,13 +71,16 @@ pub fn print_table(
     ensures { IfOk result (λ o. IfSome o (λ word. (d : Derivation) → IsTreeOf table.now doc.now d → Derives from.now doc.now d
         → word ≡ print to.now (strip from.now d))) }
 {
-    let steps = &steps_of(alloc, from, to, pieces_of(alloc, to)?)?;
+    let steps = steps_of(alloc, from, to, pieces_of(alloc, to)?)?;
     let all = Vec::with_capacity(alloc, doc.len().saturating_mul(2))?;
-    let mut out = Symbols { steps, all };
+    let mut out = Symbols {
+        steps: &steps,
+        all,
+    };
     let printing = Printing {
         from,
         to,
-        steps,
+        steps: &steps,
         doc,
         table,
     };

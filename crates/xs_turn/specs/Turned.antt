@@ -12,7 +12,7 @@ use Rattle.xs_table_out.specs.Documents.{document_bytes}
 use Rattle.xs_turn.specs.declared.fault.TurnFault.{TurnFault}
 use Rattle.xs_turn.specs.declared.fault.TurnFault.TheVariants as F
 use Rattle.xs_turn.specs.declared.rewriting.Rewritten.{Rewritten}
-use Rattle.xs_turn.specs.declared.rewriting.Rewritten.TheVariants.{Written, Print}
+use Rattle.xs_turn.specs.declared.rewriting.Rewritten.TheVariants as R
 
 -- the tree fits the start on either side
 abbrev pub FitsBoth : Pair → Common → Type 0
@@ -37,8 +37,8 @@ pub record IsTranslated (p : Pair) (from to : Side) (w word : List ℕ) : Type 0
 
 -- the bytes are the document of a word that is translated, or the word is one
 abbrev pub IsRewritten : Pair → Side → Side → List ℕ → Rewritten → Type 0
-IsRewritten p from to w (Written bytes) = (word : List ℕ) × IsTranslated p from to w word × (bytes ≡ document_bytes to p.names word)
-IsRewritten p from to w (Print word) = IsTranslated p from to w word
+IsRewritten p from to w (R.Written bytes) = (word : List ℕ) × IsTranslated p from to w word × (bytes ≡ document_bytes to p.names word)
+IsRewritten p from to w (R.Print word) = IsTranslated p from to w word
 
 -- the document has no derivation, and that many of its leading symbols are viable
 pub record IsForeign (p : Pair) (side : Side) (w : List ℕ) (viable : ℕ) : Type 0 where
