@@ -273,6 +273,42 @@ def derivations(side, longest, most):
     return nons
 
 
+def translations(sheet, longest):
+    """Returns the texts of a sheet up to a length, each with its XML and with itself in normal
+    spelling, where no text of a nonterminal has two derivations."""
+
+    def read(found, letter):
+        """Yields the texts of a letter, each with its XML and its normal spelling."""
+        if letter in NONS:
+            yield from found[NONS.index(letter)].items()
+        elif letter in UNITS:
+            for word in UNITS[letter].words(longest):
+                yield word, ("", "") if UNITS[letter].is_ignorable else (word, word)
+        else:
+            yield fixed(letter), ("", fixed(letter))
+
+    def joined(found, letters):
+        """Returns the texts of letters, each with what is read of each letter."""
+        rows = [("", [])]
+        for letter in letters:
+            both = [(row, it) for row in rows for it in read(found, letter)]
+            rows = [(word + more, [*parts, part]) for (word, parts), (more, part) in both]
+            rows = [(word, parts) for word, parts in rows if len(word) <= longest]
+        return rows
+
+    def spelt(letter, place, parts):
+        return parts[place][0] if letter in NONS or letter in UNITS else fixed(letter)
+
+    last, found = None, [{} for _ in range(sheet.nons)]
+    while last != found:
+        last, found = found, [{} for _ in range(sheet.nons)]
+        for owner, text, xml in sheet.productions:
+            for word, parts in joined(last, text):
+                shown = "".join(spelt(*it, parts) for it in xml)
+                found[owner][word] = shown, "".join(normal for _, normal in parts)
+    return found[0]
+
+
 def viable(side, word):
     """Returns how many symbols of a word begin a word of the first nonterminal, where each
     nonterminal has words: by the least sets of pieces that nonterminals derive and begin."""

@@ -20,5 +20,5 @@ pub use examples::EXAMPLES;
 pub use items::{push_all, push_items};
 pub use names::{add_characters, names_of, word_of};
 pub use nets::run_of;
-pub use sheets::{other_side, pair_of, two_of};
+pub use sheets::{pair_of, two_of};
 pub use small::{EMPTY, LEFT, NESTED, PAIR, RIGHT, SPACED};

@@ -41,11 +41,3 @@ pub fn two_of(alloc: Global, bytes: &[u8]) -> Result<Two, WfFault>
         Err(_) => Err(WfFault::Memory),
     }
 }
-
-/// The other side.
-pub fn other_side(side: Side) -> Side {
-    match side {
-        Side::Text => Side::Xml,
-        Side::Xml => Side::Text,
-    }
-}

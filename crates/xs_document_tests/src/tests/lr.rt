@@ -6,7 +6,6 @@ ghost use Rattle.xs_pair.specs.{IsSoundPair};
 mod giving_up;
 mod kinds;
 mod languages;
-mod random;
 
 use crate::tests::parse_table::passes;
 use bumpalo::Bump;
@@ -18,14 +17,12 @@ use xs_chars::decode;
 use xs_class::{Memory, Side, Sym, Word};
 use xs_earley::{SeeFault, recognise};
 use xs_gram::Gram;
-use xs_grow::grow;
 use xs_leiden::{leiden_sheet, make_text};
-use xs_listing::one_tree;
 use xs_lr::{PADDING, read};
 use xs_pair::Two;
 use xs_test_tools::{EXAMPLES, two_of};
 use xs_tree::{Tree, same};
-use xs_turn::{TurnFault, parse, translate};
+use xs_turn::{TurnFault, parse, translate, turn};
 
 /// The units of sheets whose items are given by letters.
 const UNITS: &[u8] =
@@ -84,15 +81,13 @@ pub fn agree(alloc: Global, g: &Gram, doc: &Word) -> Result<bool, Memory>
 }
 
 /// The tree of the document's derivation by the exact recogniser and its forest.
-pub fn exact_tree(alloc: Global, g: &Gram, doc: &Word) -> Result<Tree, TurnFault>
-    requires sound { IsSound g.now }
+pub fn exact_tree(alloc: Global, two: &Two, side: Side, doc: &Word) -> Result<Tree, TurnFault>
+    requires pair { IsSoundPair two.now }
     requires short { length doc.now < 4294967295 }
 {
-    let chart = recognise(alloc, g, doc)?;
     let bump = Bump::new(alloc);
-    let grown = grow(alloc, &bump, g, &chart, doc)?;
-    let tree = one_tree(alloc, &grown, g, doc)?;
-    Ok(tree)
+    let turned = turn(alloc, &bump, two, side, doc)?;
+    Ok(turned.tree)
 }
 
 /// Whether a table is found that passes for the text and for its XML document, and the text has the
@@ -102,7 +97,7 @@ fn are_found(alloc: Global, two: &Two, text: &Word) -> Result<bool, TurnFault>
     requires short { length text.now < 4294967295 }
 {
     let tree = parse(alloc, two, Side::Text, text)?;
-    let exact = exact_tree(alloc, two.gram(Side::Text), text)?;
+    let exact = exact_tree(alloc, two, Side::Text, text)?;
     let is_exact = same(alloc, &tree, &exact)?;
     let xml = translate(alloc, two, Side::Text, Side::Xml, text)?;
     let there = found_for(alloc, two.gram(Side::Text), text.as_slice())?;
@@ -136,7 +131,7 @@ fn tables_of_made_texts(rt: HostRuntime) -> Result<(), Fail> {
 }
 
 /// The document with another symbol at a place, and without the one there.
-pub fn changed(
+fn changed(
     alloc: Global,
     doc: &[Sym],
     place: usize,

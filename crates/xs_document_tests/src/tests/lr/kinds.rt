@@ -60,7 +60,7 @@ fn is_turned(alloc: Global, two: &Two, xml: &Word, text: &Word) -> Result<bool, 
 {
     let back = translate(alloc, two, Side::Xml, Side::Text, xml)?;
     let tree = parse(alloc, two, Side::Xml, xml)?;
-    let exact = exact_tree(alloc, two.gram(Side::Xml), xml)?;
+    let exact = exact_tree(alloc, two, Side::Xml, xml)?;
     let is_exact = same(alloc, &tree, &exact)?;
     Ok(is_exact && back.as_slice() == text.as_slice())
 }
