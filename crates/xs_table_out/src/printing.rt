@@ -1,6 +1,3 @@
-ghost use Rattle.xs_gram.specs.{IsBuilt};
-ghost use Rattle.xs_table_out.specs.Steps.{AreSteps};
-
 use crate::steps::Steps;
 use xs_class::Sym;
 use xs_gram::Gram;
@@ -8,12 +5,11 @@ use xs_parse_table::ParseTable;
 
 /// What is printed: the tree of the derivation that a table means, of a document of the grammar
 /// `from`, by the grammar `to`, as steps that are made of the two grammars.
+#[derive(Clone, Copy)]
 pub struct Printing<'p> {
     pub from: &'p Gram,
     pub to: &'p Gram,
     pub steps: &'p Steps,
     pub doc: &'p [Sym],
     pub table: &'p ParseTable,
-    ghost built: { IsBuilt from.now },
-    ghost are_steps: { AreSteps from.now to.now steps.now },
 }

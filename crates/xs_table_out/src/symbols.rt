@@ -73,18 +73,15 @@ pub fn print_table(
 {
     let steps = steps_of(alloc, from, to, pieces_of(alloc, to)?)?;
     let all = Vec::with_capacity(alloc, doc.len().saturating_mul(2))?;
-    let mut out = Symbols {
-        steps: &steps,
-        all,
-    };
-    let printing = Printing {
+    let mut out = Symbols { steps: &steps, all };
+    let printed = Printing {
         from,
         to,
         steps: &steps,
         doc,
         table,
     };
-    if write_table(alloc, &printing, &mut out)? {
+    if write_table(alloc, &printed, &mut out)? {
         Ok(Some(Word::from_vec(out.all)))
     } else {
         Ok(None)

@@ -1,7 +1,8 @@
 ghost use Rattle.std.specs.Prelude.{◌≡◌, ◌==◌, ℕ, List, slice_get, encode_utf8_all, IfOk, IfSome, IsTrue};
 ghost use Rattle.xs_chars.specs.{has_mark, text_bytes};
-ghost use Rattle.xs_gram.specs.{Derivation, Derives, print, strip};
+ghost use Rattle.xs_gram.specs.{Derivation, Derives, IsBuilt, print, strip};
 ghost use Rattle.xs_parse_table.specs.{IsTreeOf};
+ghost use Rattle.xs_table_out.specs.Steps.{AreSteps};
 ghost use Rattle.xs_table_out.specs.Encoded.{AreEncoded};
 
 use crate::append::append;
@@ -118,6 +119,8 @@ fn marked(alloc: Global, bytes: Vec<u8>) -> Result<Vec<u8>, Memory>
 /// The text document of what is printed; None where a part of the table is not right, or where a
 /// symbol is no character. In time linear in the nodes and the word.
 pub fn text_of_table(alloc: Global, printing: &Printing) -> Result<Option<Bytes>, Memory>
+    requires built { IsBuilt printing.now.from.now }
+    requires steps { AreSteps printing.now.from.now printing.now.to.now printing.now.steps.now }
     ensures { IfOk result (λ o. IfSome o (λ bytes. (d : Derivation)
         → IsTreeOf printing.now.table.now printing.now.doc.now d → Derives printing.now.from.now printing.now.doc.now d
         → bytes ≡ text_bytes (print printing.now.to.now (strip printing.now.from.now d)))) }

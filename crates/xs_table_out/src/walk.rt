@@ -259,7 +259,9 @@ pub fn write_table<W: Writer>(
     printing: &Printing,
     out: &mut W,
 ) -> Result<bool, Memory>
-    requires { HasTexts printing.now.steps.now (W.text out.old) }
+    requires built { IsBuilt printing.now.from.now }
+    requires steps { AreSteps printing.now.from.now printing.now.to.now printing.now.steps.now }
+    requires texts { HasTexts printing.now.steps.now (W.text out.old) }
     ensures { IfOk result (λ done. IsTrue done → (d : Derivation)
         → IsTreeOf printing.now.table.now printing.now.doc.now d → Derives printing.now.from.now printing.now.doc.now d
         → W.whole out.new [] ≡ W.whole out.old (print printing.now.to.now (strip printing.now.from.now d))) }

@@ -1,8 +1,9 @@
 ghost use Rattle.std.specs.Prelude.{◌≡◌, slice_get, IfOk, IfSome, string_bytes};
 ghost use Rattle.std.specs.Option.{option_map};
-ghost use Rattle.xs_gram.specs.{Derivation, Derives, print, strip};
+ghost use Rattle.xs_gram.specs.{Derivation, Derives, IsBuilt, print, strip};
 ghost use Rattle.xs_parse_table.specs.{IsTreeOf};
 ghost use Rattle.xs_xml_out.specs.{AreKnown, xml_bytes};
+ghost use Rattle.xs_table_out.specs.Steps.{AreSteps};
 ghost use Rattle.xs_table_out.specs.Spelt.{cell_in, AreSpelt, GoesOn, IsCell, IsSpelt};
 
 use crate::append::append;
@@ -157,6 +158,8 @@ pub fn xml_of_table(
     names: &Names,
     printing: &Printing,
 ) -> Result<Option<Bytes>, Memory>
+    requires built { IsBuilt printing.now.from.now }
+    requires steps { AreSteps printing.now.from.now printing.now.to.now printing.now.steps.now }
     ensures { IfOk result (λ o. IfSome o (λ bytes. (d : Derivation)
         → IsTreeOf printing.now.table.now printing.now.doc.now d → Derives printing.now.from.now printing.now.doc.now d
         → bytes ≡ xml_bytes names.now (print printing.now.to.now (strip printing.now.from.now d)))) }
