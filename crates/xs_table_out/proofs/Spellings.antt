@@ -1,5 +1,5 @@
 -- What is written for the texts of steps, one after another.
-use Rattle.std.proofs.Common.{◌≡◌, ℕ, zero, suc, ◌+◌, ◌-◌, ◌<◌, ◌≤◌, List, [], ◌∷◌, ◌++◌, length, get_or, take, drop, Option, Some, None, encode_utf8_all, string_bytes, inl, inr, refl, sym, ◌∙◌, ap, subst, arith, length-append, append_assoc}
+use Rattle.std.proofs.Common.{◌≡◌, ℕ, zero, suc, ◌-◌, ◌<◌, ◌≤◌, List, [], ◌∷◌, ◌++◌, length, get_or, take, drop, Option, Some, None, encode_utf8_all, string_bytes, inl, inr, refl, sym, ◌∙◌, ap, subst, arith, length-append, append_assoc}
 use Rattle.std.specs.Prelude.{slice_get, slice_range}
 use Rattle.std.specs.Option.{option_map}
 use Rattle.std.proofs.lemmas.List.{take_all, take-append-le, drop_at}
@@ -8,7 +8,7 @@ use Rattle.std.proofs.lemmas.Str.{encodes-append}
 use Rattle.xs_class.proofs.Lists.{get_push}
 use Rattle.xs_xml_out.specs.declared.mode.Mode.{Mode}
 use Rattle.xs_xml_out.specs.declared.mode.Mode.TheVariants.{Content, Tag, Value}
-use Rattle.xs_xml_out.specs.Written.{mode_after, written, rest_bytes, IsAppended}
+use Rattle.xs_xml_out.specs.Written.{written, rest_bytes, IsAppended}
 use Rattle.xs_xml_out.proofs.Appended.{appended_rest}
 use Rattle.xs_table_out.specs.declared.steps.Step.{Step}
 use Rattle.xs_table_out.specs.declared.steps.Steps.{Steps}
@@ -19,7 +19,6 @@ use Rattle.xs_table_out.specs.declared.xml.Spellings.{Spellings}
 use Rattle.xs_table_out.specs.Steps.{text_at, text_of}
 use Rattle.xs_table_out.specs.Encoded.{AreEncodedSoFar, IsEncoded}
 use Rattle.xs_table_out.specs.Spelt.{cell_in, AreSpelt, AreSpeltSoFar, GoesOn, IsCell, IsSpelt}
-use Rattle.xs_table_out.specs.Writing.{Writes}
 
 -- a stretch stays where a list goes on
 range_left : (xs more : List ℕ) (a b : ℕ) → b ≤ length xs → slice_range (xs ++ more) a b ≡ slice_range xs a b

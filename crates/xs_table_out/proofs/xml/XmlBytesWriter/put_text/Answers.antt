@@ -1,4 +1,4 @@
-use Rattle.std.proofs.Common.{◌≡◌, ◌∙◌, ℕ, List, Option, Some, string_bytes, ap}
+use Rattle.std.proofs.Common.{◌≡◌, ◌∙◌, ℕ, List, Some, string_bytes, ap}
 use Rattle.std.specs.Prelude.{slice_get, slice_range}
 use Rattle.std.specs.Option.{option_map}
 use Rattle.xs_table_out.specs.declared.xml.Spelt.{Spelt}
