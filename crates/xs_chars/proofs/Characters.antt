@@ -1,10 +1,11 @@
 -- Characters and their UTF-8.
-use Rattle.std.proofs.Common.{◌≡◌, ◌<◌, ◌≤◌, ◌+◌, ◌/◌, ◌%◌, ◌==◌, ◌++◌, ℕ, suc, zero, List, [], ◌∷◌, length, take, drop, get_or, Bool, true, false, refl, sym, ◌∙◌, ap, subst, arith, encode_utf8_all, append_assoc, append-nil}
+use Rattle.std.proofs.Common.{◌≡◌, ◌<◌, ◌≤◌, ◌+◌, ◌/◌, ◌%◌, ◌==◌, ◌&&◌, ◌++◌, ℕ, suc, zero, List, [], ◌∷◌, length, take, drop, get_or, Bool, true, false, refl, sym, ◌∙◌, ap, subst, arith, encode_utf8_all, append_assoc, append-nil}
 use Rattle.std.specs.Char.{IsScalar, encode_utf8}
-use Rattle.std.proofs.lemmas.List.{take_more}
+use Rattle.std.proofs.lemmas.List.{take_more, at_drop_more, at_drop_all}
 use Rattle.std.specs.Str.{chars, IsUtf8, all_scalars, IsValidUpTo}
 use Rattle.std.specs.Str.Pattern.{FindsCharPrefix, StripsPrefix}
-use Rattle.std.proofs.lemmas.Str.{chars-encodes, encodes_same, encodes-append, chars_past_char}
+use Rattle.std.proofs.lemmas.Str.{chars-encodes, encodes_same, encodes-append, chars_past_char, length-encode, len_utf8_bounds}
+use lib.Utf8.{scalar}
 use Rattle.std.proofs.lemmas.Bool.Decides.{nat_tests}
 use Rattle.xs_chars.specs.Text.{AreCharacters, byte_order_mark, without_mark, with_mark, IsUtf8BadAt}
 use Rattle.xs_chars.specs.Laws.{IsReadBack}
@@ -105,3 +106,33 @@ four_bytes n c x y z le same e f g =
 pub encodes_more : (w before : List ℕ) (i c : ℕ) → i < length w → c ≡ get_or w i c → before ++ encode_utf8_all (take i w) ++ encode_utf8 c ≡ before ++ encode_utf8_all (take (i + 1) w)
 encodes_more w before i c lt is =
     append_assoc before (encode_utf8_all (take i w)) (encode_utf8 c) ∙ ap (λ l. before ++ l) (ap (λ l. encode_utf8_all (take i w) ++ l) (sym (append-nil (encode_utf8 c))) ∙ sym (encodes-append (take i w) (c ∷ [])) ∙ ap encode_utf8_all (ap (λ x. take i w ++ x ∷ []) is ∙ sym (take_more w i c lt)))
+
+-- a character takes at most four bytes
+pub four_at_most : (c : ℕ) → length (encode_utf8 c) ≤ 4
+four_at_most c = let long = length-encode c in let most = (len_utf8_bounds c).1 in omega (arith, long, most)
+
+-- whether the rest of a word are characters, one symbol on
+scalars_next : (w : List ℕ) (i c : ℕ) → i < length w → c ≡ get_or w i c → all_scalars (drop i w) ≡ (scalar c && all_scalars (drop (i + 1) w))
+scalars_next w i c lt is = at_drop_more all_scalars w i c lt ∙ ap (λ x. scalar x && all_scalars (drop (i + 1) w)) (sym is)
+
+pub scalars_more : (w : List ℕ) (i c : ℕ) → i < length w → c ≡ get_or w i c → IsScalar c → all_scalars w ≡ all_scalars (drop i w) → all_scalars w ≡ all_scalars (drop (i + 1) w)
+scalars_more w i c lt is scalar_is so_far = so_far ∙ scalars_next w i c lt is ∙ ap (λ b. b && all_scalars (drop (i + 1) w)) scalar_is
+
+pub no_scalars : (w : List ℕ) (i c : ℕ) → i < length w → c ≡ get_or w i c → (IsScalar c → ⊥) → all_scalars w ≡ all_scalars (drop i w) → false ≡ all_scalars w
+no_scalars w i c lt is not so_far = sym (so_far ∙ scalars_next w i c lt is ∙ split (scalar c) refl)
+  where
+    split : (t : Bool) → scalar c ≡ t → (scalar c && all_scalars (drop (i + 1) w)) ≡ false
+    split true e = absurd (not e)
+    split false e = ap (λ b. b && all_scalars (drop (i + 1) w)) e
+
+pub all_past : (w : List ℕ) (i : ℕ) → length w ≤ i → all_scalars w ≡ all_scalars (drop i w) → true ≡ all_scalars w
+all_past w i past so_far = sym (so_far ∙ at_drop_all all_scalars w i past)
+
+-- the UTF-8 of the rest of a word, one character on
+pub encodes_next : (w before : List ℕ) (i c : ℕ) → i < length w → c ≡ get_or w i c → (before ++ encode_utf8 c) ++ encode_utf8_all (drop (i + 1) w) ≡ before ++ encode_utf8_all (drop i w)
+encodes_next w before i c lt is =
+    append_assoc before (encode_utf8 c) (encode_utf8_all (drop (i + 1) w))
+    ∙ ap (λ l. before ++ l) (sym (at_drop_more encode_utf8_all w i c lt ∙ ap (λ x. encode_utf8_all (x ∷ drop (i + 1) w)) (sym is)))
+
+pub encodes_past : (w before : List ℕ) (i : ℕ) → length w ≤ i → before ++ encode_utf8_all (drop i w) ≡ before
+encodes_past w before i past = ap (λ l. before ++ l) (at_drop_all encode_utf8_all w i past) ∙ append-nil before

@@ -1,2 +1,2 @@
-mod Characters
+pub mod Characters
 mod Ascii

@@ -7,6 +7,7 @@
 mod form;
 mod laws;
 mod reading;
+mod reserved;
 mod room;
 mod strings;
 mod writing;
@@ -14,4 +15,5 @@ mod writing;
 pub use form::{Form, in_form};
 pub use laws::{encoded_is_decoded, text_is_read_back};
 pub use reading::{DecodeFault, decode, read_text};
+pub use reserved::{append_utf8, put_bytes, put_character};
 pub use writing::{encode, write_text};

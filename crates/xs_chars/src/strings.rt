@@ -1,9 +1,10 @@
 // Texts as words, and words of characters as UTF-8.
-ghost use Rattle.std.specs.Prelude.{◌≡◌, ◌+◌, ◌%◌, ◌++◌, IfOk, OnOk, IsAscii, encode_utf8, encode_utf8_all};
+ghost use Rattle.std.specs.Prelude.{◌≡◌, ◌++◌, IfOk, OnOk, IsAscii, encode_utf8, encode_utf8_all};
 ghost use Rattle.std.specs.Char.{IsScalar};
 ghost use Rattle.std.specs.Str.{chars};
 ghost use Rattle.xs_chars.specs.Text.{AreCharacters};
 
+use crate::reserved::put_character;
 use crate::room::{bytes_room, symbols_room};
 use std::alloc::Global;
 use xs_class::{Memory, Sym, Word};
@@ -32,34 +33,15 @@ pub fn ascii_word(alloc: Global, text: &str) -> Result<Word, Memory>
     Ok(Word::from_vec(symbols))
 }
 
-/// The byte of a character's UTF-8 that holds these bits and is not the first.
-fn next_byte(bits: u32) -> u8
-    ensures { result ≡ 128 + bits % 64 }
-{
-    (0x80 + bits % 0x40) as u8
-}
-
 /// Appends the UTF-8 of a character.
 #[inline(always)]
 pub fn push_character(bytes: &mut Vec<u8>, symbol: Sym) -> Result<(), Memory>
     requires { IsScalar symbol }
     ensures { OnOk result (bytes.new.items ≡ bytes.old.items ++ encode_utf8 symbol) }
 {
-    let c = symbol.number();
-    if c < 0x80 {
-        bytes.push(c as u8)?;
-    } else if c < 0x800 {
-        bytes.extend_from_slice(&[(0xC0 + c / 0x40) as u8, next_byte(c)])?;
-    } else if c < 0x10000 {
-        bytes.extend_from_slice(&[(0xE0 + c / 0x1000) as u8, next_byte(c / 0x40), next_byte(c)])?;
-    } else {
-        bytes.extend_from_slice(&[
-            (0xF0 + c / 0x40000) as u8,
-            next_byte(c / 0x1000),
-            next_byte(c / 0x40),
-            next_byte(c),
-        ])?;
-    }
+    let character = char::from_u32(symbol.number()).unwrap();
+    bytes.reserve(character.len_utf8())?;
+    put_character(bytes, character);
     Ok(())
 }
 

@@ -1,3 +1,5 @@
 mod Finding
 mod Laying
+mod Marks
 mod Owing
+mod Spellings

@@ -7,16 +7,18 @@
 //! A leaf's word is a stretch of the document.
 #![tactic(auto)]
 
+mod append;
 mod children;
+mod document;
 mod layout;
+mod printing;
 mod steps;
 mod stretch;
 mod symbols;
+mod text;
 mod walk;
 mod writer;
+mod xml;
 
-pub use layout::steps_of;
-pub use steps::{Step, StepRow, Steps};
+pub use document::document_of_table;
 pub use symbols::print_table;
-pub use walk::write_table;
-pub use writer::Writer;

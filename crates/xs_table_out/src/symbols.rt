@@ -1,8 +1,10 @@
-ghost use Rattle.std.specs.Prelude.{◌≡◌, ◌+◌, ◌≤◌, ◌++◌, length, slice_get, vec_len, vec_capacity, IfOk, IfSome, OnOk};
+ghost use Rattle.std.specs.Prelude.{◌≡◌, slice_get, IfOk, IfSome};
 ghost use Rattle.xs_gram.specs.{Derivation, Derives, IsBuilt, print, strip};
 ghost use Rattle.xs_parse_table.specs.{IsTreeOf};
-ghost use Rattle.xs_table_out.specs.Steps.{AreSteps};
 
+use crate::append::append;
+use crate::layout::steps_of;
+use crate::printing::Printing;
 use crate::steps::{Step, Steps};
 use crate::stretch::stretch;
 use crate::walk::write_table;
@@ -11,34 +13,7 @@ use std::alloc::Global;
 use xs_class::{Memory, Sym, Word};
 use xs_gram::Gram;
 use xs_parse_table::ParseTable;
-
-/// Up to that many symbols are appended one by one: a copy of memory costs more to begin.
-const SHORT: usize = 8;
-
-/// Appends symbols one by one, for which there is room.
-#[inline(always)]
-fn append_each(list: &mut Vec<Sym>, word: &[Sym])
-    requires { vec_len list.old + length word.now ≤ vec_capacity list.old }
-    ensures { list.new.items ≡ list.old.items ++ word.now }
-{
-    'symbols: for symbol in word {
-        list.push_reserved(*symbol);
-    }
-}
-
-/// Appends symbols.
-#[inline(always)]
-fn append(list: &mut Vec<Sym>, word: &[Sym]) -> Result<(), Memory>
-    ensures { OnOk result (list.new.items ≡ list.old.items ++ word.now) }
-{
-    if word.len() > SHORT {
-        list.extend_from_slice(word)?;
-        return Ok(());
-    }
-    list.reserve(word.len())?;
-    append_each(list, word);
-    Ok(())
-}
+use xs_text_out::pieces_of;
 
 /// The step of this number.
 #[inline(always)]
@@ -82,24 +57,31 @@ impl Writer for Symbols<'_> {
     }
 }
 
-/// The word of the tree of the derivation that a table means, as the steps print it; None where a
-/// part of the table is not right. In time linear in the nodes and the word.
+/// The word, by the grammar `to`, of the tree of the derivation that a table means of a document of
+/// the grammar `from`; None where a part of the table is not right. In time linear in the squares of
+/// the productions' items, the nodes and the word.
 pub fn print_table(
     alloc: Global,
-    g: &Gram,
-    h: &Gram,
-    steps: &Steps,
+    from: &Gram,
+    to: &Gram,
     doc: &[Sym],
     table: &ParseTable,
 ) -> Result<Option<Word>, Memory>
-    requires built { IsBuilt g.now }
-    requires steps { AreSteps g.now h.now steps.now }
-    ensures { IfOk result (λ o. IfSome o (λ word. (d : Derivation) → IsTreeOf table.now doc.now d → Derives g.now doc.now d
-        → word ≡ print h.now (strip g.now d))) }
+    requires { IsBuilt from.now }
+    ensures { IfOk result (λ o. IfSome o (λ word. (d : Derivation) → IsTreeOf table.now doc.now d → Derives from.now doc.now d
+        → word ≡ print to.now (strip from.now d))) }
 {
+    let steps = steps_of(alloc, from, to, pieces_of(alloc, to)?)?;
     let all = Vec::with_capacity(alloc, doc.len().saturating_mul(2))?;
-    let mut out = Symbols { steps, all };
-    if write_table(alloc, g, h, steps, doc, table, &mut out)? {
+    let mut out = Symbols { steps: &steps, all };
+    let printed = Printing {
+        from,
+        to,
+        steps: &steps,
+        doc,
+        table,
+    };
+    if write_table(alloc, &printed, &mut out)? {
         Ok(Some(Word::from_vec(out.all)))
     } else {
         Ok(None)

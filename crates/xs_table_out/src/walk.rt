@@ -6,6 +6,7 @@ ghost use Rattle.xs_table_out.specs.Writing.{Writes};
 ghost use Rattle.xs_table_out.specs.Walk.{begin_of, rest_steps, next_task, IsWordAt, IsTaskOf, IsChildTask, IsLastTask, IsPrinted, AreOwed, IsGone, IsAside};
 
 use crate::children::{Begin, Child};
+use crate::printing::Printing;
 use crate::steps::{Step, StepRow, Steps};
 use crate::stretch::stretch;
 use crate::writer::Writer;
@@ -251,29 +252,35 @@ fn root_task(rows: &[StepRow], nodes: &[Node]) -> Option<Task>
     task_of(rows, nodes[count - 1])
 }
 
-/// Writes the word of the tree of the derivation that a table means, as the steps print it; false
-/// where a part of the table is not right. In time linear in the nodes and the word.
+/// Writes the word of what is printed; false where a part of the table is not right. In time linear
+/// in the nodes and the word.
 pub fn write_table<W: Writer>(
     alloc: Global,
-    g: &Gram,
-    h: &Gram,
-    steps: &Steps,
-    doc: &[Sym],
-    table: &ParseTable,
+    printing: &Printing,
     out: &mut W,
 ) -> Result<bool, Memory>
-    requires built { IsBuilt g.now }
-    requires steps { AreSteps g.now h.now steps.now }
-    requires texts { HasTexts steps.now (W.text out.old) }
-    ensures { IfOk result (λ done. IsTrue done → (d : Derivation) → IsTreeOf table.now doc.now d → Derives g.now doc.now d
-        → W.whole out.new [] ≡ W.whole out.old (print h.now (strip g.now d))) }
+    requires built { IsBuilt printing.now.from.now }
+    requires steps { AreSteps printing.now.from.now printing.now.to.now printing.now.steps.now }
+    requires texts { HasTexts printing.now.steps.now (W.text out.old) }
+    ensures { IfOk result (λ done. IsTrue done → (d : Derivation)
+        → IsTreeOf printing.now.table.now printing.now.doc.now d → Derives printing.now.from.now printing.now.doc.now d
+        → W.whole out.new [] ≡ W.whole out.old (print printing.now.to.now (strip printing.now.from.now d))) }
 {
-    let Some(mut task) = root_task(&steps.rows, &table.nodes) else {
+    let Some(mut task) = root_task(&printing.steps.rows, &printing.table.nodes) else {
         return Ok(false);
     };
     let mut tasks = Vec::new(alloc);
     'steps: for _ in 0..u64::MAX {
-        match go_on(g, h, steps, doc, table, task, &mut tasks, out)? {
+        match go_on(
+            printing.from,
+            printing.to,
+            printing.steps,
+            printing.doc,
+            printing.table,
+            task,
+            &mut tasks,
+            out,
+        )? {
             Next::Wrong => return Ok(false),
             Next::End => return Ok(true),
             Next::Go(next) => task = next,

@@ -19,7 +19,8 @@ use Rattle.xs_talk.specs.declared.outcome.Outcome.TheVariants.{Done}
 use Rattle.xs_top.specs.declared.asking.Job.TheVariants.{Turn}
 use Rattle.xs_top.specs.Devices.{Run}
 use Rattle.xs_top.specs.Checks.{IsSure}
-use Rattle.xs_top.specs.Documents.{IsWordOf, document_bytes}
+use Rattle.xs_table_out.specs.Documents.{document_bytes}
+use Rattle.xs_top.specs.Documents.{IsWordOf}
 use Rattle.xs_top.specs.Answers.{IsWrittenTree, IsTurnedInto}
 use Rattle.xs_top.specs.Sheets.{IsPairOfBytes}
 use Rattle.xs_top.specs.Ran.{Told}

@@ -1,5 +1,5 @@
 -- The print of a tree that fits can be written.
-use Rattle.std.proofs.Common.{◌≡◌, ◌∙◌, ℕ, List, ap, sym, subst}
+use Rattle.std.proofs.Common.{◌≡◌, ◌∙◌, ℕ, List, ap, refl, sym, subst}
 use Rattle.xs_class.specs.declared.side.Side.{Side}
 use Rattle.xs_class.specs.declared.side.Side.TheVariants.{Text, Xml}
 use Rattle.xs_gram.specs.Common.{Common, TreeFits, print}
@@ -9,11 +9,13 @@ use Rattle.xs_gram.specs.Laws.{PrintedHasTree, PrintsNormal, HasNumberedSlots}
 use Rattle.xs_pair.specs.Grammars.{Pair, grammar_of}
 use Rattle.xs_pair.specs.Sound.{IsSoundPair}
 use Rattle.xs_writing_laws.specs.Laws.{CanBeWritten}
-use Rattle.xs_turn.specs.Turned.{FitsBoth}
+use Rattle.xs_turn.specs.Turned.{FitsBoth, IsTranslated}
 use Rattle.xs_chars.specs.declared.form.Form.{Form}
 use Rattle.xs_chars.specs.declared.form.Form.TheVariants.{AsIs}
-use Rattle.xs_top.specs.Documents.{IsDocument, CanWrite, document_bytes}
+use Rattle.xs_table_out.specs.Documents.{document_bytes}
+use Rattle.xs_top.specs.Documents.{IsDocument, CanWrite, AreReadBack}
 use Rattle.xs_top.specs.Answers.{IsWrittenTree, IsTurnedInto}
+use Rattle.xs_top.proofs.Reading.{document_reads}
 
 -- on either side it has that tree
 pub printed_back : PrintedHasTree → (p : Pair) (t : Common) → IsSoundPair p → FitsBoth p t → (side : Side) → HasTree (grammar_of p side) (print (grammar_of p side) t) t
@@ -50,6 +52,14 @@ turned_by law p sound from to form bytes answer word tree document has written =
   normal = subst (λ (t : Common). print (grammar_of p from) t ≡ yield (normal (grammar_of p from) has.0)) has.2 (law (grammar_of p from) (grammar_of p from).start has.0 (slots_numbered p sound from) has.1.0);
   written = written;
 }
+
+-- a document of which a translated word was written
+pub rewritten : PrintedHasTree → PrintsNormal → (p : Pair) → IsSoundPair p → CanBeWritten p → AreReadBack p.names → (from to : Side) (form : Form) (bytes answer doc word : List ℕ) → IsDocument from form p.names bytes doc → IsTranslated p from to doc word → answer ≡ document_bytes to p.names word → (tree : Common) × IsTurnedInto p from to form bytes tree answer
+rewritten has_tree prints p sound can law from to form bytes answer doc word document translated is =
+    let fits = translated.fits sound.same sound.starts in
+    let reads = document_reads p.names law to answer word can.names (can_write_print has_tree p translated.tree word sound can fits to translated.printed) is in
+    let is_written = written_tree has_tree p sound to translated.tree fits p.names word answer refl translated.printed is reads in
+    (translated.tree, turned_by prints p sound from to form bytes answer doc translated.tree document translated.has is_written)
 
 -- a tree that fits on the text side fits on either
 pub fits_both : (p : Pair) (t : Common) → IsSoundPair p → TreeFits p.text p.text.start t → FitsBoth p t

@@ -19,7 +19,8 @@ use Rattle.xs_talk.specs.Derivations.{IsListing}
 use Rattle.xs_talk.specs.declared.outcome.Outcome.{Outcome}
 use Rattle.xs_talk.specs.declared.outcome.Outcome.TheVariants.{Foreign, OutlineBad}
 use Rattle.xs_talk.specs.Counts.{summary}
-use Rattle.xs_top.specs.Documents.{IsDocument, IsNoText, IsNoDocument, document_bytes}
+use Rattle.xs_table_out.specs.Documents.{document_bytes}
+use Rattle.xs_top.specs.Documents.{IsDocument, IsNoText, IsNoDocument}
 
 -- the bytes are a tree printed on a side: they read as the print, whose tree it is
 pub record IsWrittenTree (p : Pair) (to : Side) (tree : Common) (bytes : List ℕ) : Type 0 where

@@ -5,10 +5,11 @@ use Rattle.xs_class.specs.declared.side.Side.{Side}
 use Rattle.xs_class.specs.declared.side.Side.TheVariants.{Text, Xml}
 use Rattle.xs_chars.specs.declared.form.Form.{Form}
 use Rattle.xs_chars.specs.declared.form.Form.TheVariants.{AsIs}
-use Rattle.xs_chars.specs.Text.{AreCharacters, IsUtf8BadAt, text_of, text_bytes}
+use Rattle.xs_chars.specs.Text.{AreCharacters, IsUtf8BadAt, text_of}
 use Rattle.xs_xml_laws.specs.Reads.{Reads, IsBrokenAt}
 use Rattle.xs_xml_out.specs.Balanced.{IsBalanced}
-use Rattle.xs_xml_out.specs.Written.{xml_bytes}
+use Rattle.xs_xml_out.specs.Laws.{AreNames}
+use Rattle.xs_table_out.specs.Documents.{document_bytes}
 use Rattle.xs_talk.specs.declared.outcome.Outcome.{Outcome}
 use Rattle.xs_talk.specs.declared.outcome.Outcome.TheVariants.{NotUtf8, NotXml}
 
@@ -43,7 +44,6 @@ abbrev pub CanWrite : List (List ℕ) → Side → List ℕ → Type 0
 CanWrite names Text w = AreCharacters w
 CanWrite names Xml w = IsBalanced names w
 
--- the bytes that are written for a word
-abbrev pub document_bytes : Side → List (List ℕ) → List ℕ → List ℕ
-document_bytes Text names w = text_bytes w
-document_bytes Xml names w = xml_bytes names w
+-- what is written for a word, over these names, reads as that word
+abbrev pub AreReadBack : List (List ℕ) → Type 0
+AreReadBack names = (side : Side) (word : List ℕ) → AreNames names → CanWrite names side word → IsDocument side AsIs names (document_bytes side names word) word

@@ -17,7 +17,8 @@ use Rattle.xs_top.specs.declared.asking.Job.{Job}
 use Rattle.xs_top.specs.declared.asking.Job.TheVariants.{Check, Turn, Prove}
 use Rattle.xs_top.specs.Asked.{upgrading, certifying, by, asked}
 use Rattle.xs_top.specs.Devices.{Run}
-use Rattle.xs_top.specs.Documents.{IsDocument, document_bytes}
+use Rattle.xs_table_out.specs.Documents.{document_bytes}
+use Rattle.xs_top.specs.Documents.{IsDocument}
 use Rattle.xs_top.specs.Known.{HasBytes}
 use Rattle.xs_top.specs.Sheets.{IsFailed, IsPairOfBytes}
 use Rattle.xs_top.specs.Ran.{Told}

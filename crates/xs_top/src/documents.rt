@@ -2,7 +2,8 @@ ghost use Rattle.std.specs.Prelude.{◌≡◌, ◌<◌, [], length, IfOk, IfErr}
 ghost use Rattle.xs_class.specs.declared.side.Side.TheVariants as S;
 ghost use Rattle.xs_class.specs.{IsOrdered};
 ghost use Rattle.xs_xml_out.specs.{AreNames};
-ghost use Rattle.xs_top.specs.Documents.{IsDocument, IsNoText, IsNoDocument, CanWrite, document_bytes};
+ghost use Rattle.xs_table_out.specs.{document_bytes};
+ghost use Rattle.xs_top.specs.Documents.{IsDocument, IsNoText, IsNoDocument, CanWrite, AreReadBack};
 ghost use Rattle.xs_chars.specs.declared.form.Form.TheVariants.{AsIs};
 ghost use Rattle.xs_top.specs.Stops.{StopsBy};
 
@@ -59,6 +60,15 @@ fn ordered(names: &Names)
     let _count = names.len();
 }
 
+/// What is written for a word, over these names, reads as that word.
+pub fn documents_are_read_back(names: &Names)
+    ensures { AreReadBack names.now }
+{
+    text_is_read_back();
+    xml_is_read_back();
+    ordered(names);
+}
+
 /// The bytes of a document, which read as the word.
 pub fn write_document(
     alloc: Global,
@@ -71,15 +81,13 @@ pub fn write_document(
     ensures bytes { IfOk result (λ bytes. bytes ≡ document_bytes side names.now word.now) }
     ensures reads { IfOk result (λ bytes. IsDocument side AsIs names.now bytes word.now) }
 {
+    documents_are_read_back(names);
     match side {
         Side::Text => {
-            text_is_read_back();
             let bytes = write_text(alloc, word)?;
             Ok(bytes)
         }
         Side::Xml => {
-            xml_is_read_back();
-            ordered(names);
             let bytes = write_xml(alloc, names, word)?;
             Ok(bytes)
         }

@@ -9,7 +9,7 @@ ghost use Rattle.xs_turn.specs.{FitsBoth};
 ghost use Rattle.xs_top.specs.Answers.{IsTurnedInto, IsWrittenTree, IsUnread};
 ghost use Rattle.xs_top.specs.Stops.{StopsBy};
 
-use crate::documents::{read_document, write_document};
+use crate::documents::{documents_are_read_back, read_document, write_document};
 use crate::stop::Stop;
 use std::alloc::Global;
 use xs_chars::Form;
@@ -18,7 +18,7 @@ use xs_gram::{printed_has_tree, prints_normal};
 use xs_pair::Two;
 use xs_text_out::print_syms;
 use xs_tree::Tree;
-use xs_turn::{parse, translate};
+use xs_turn::{Rewritten, parse, rewrite};
 
 /// The document of a tree on side `to`.
 pub fn written(alloc: Global, two: &Two, to: Side, tree: &Tree) -> Result<Bytes, Memory>
@@ -33,8 +33,8 @@ pub fn written(alloc: Global, two: &Two, to: Side, tree: &Tree) -> Result<Bytes,
     Ok(bytes)
 }
 
-/// The document on side `to` that has the same tree as the document on side `from`. No tree is made
-/// where a guess of its derivation passes the check.
+/// The document on side `to` that has the same tree as the document on side `from`. Where a guess of
+/// its derivation passes the check, it is written straight from that: no tree is made, and no word.
 pub fn turned_into(
     alloc: Global,
     two: &Two,
@@ -51,10 +51,15 @@ pub fn turned_into(
 {
     prints_normal();
     printed_has_tree();
+    documents_are_read_back(two.names());
     let doc = read_document(alloc, from, form, two.names(), bytes)?;
-    let word = translate(alloc, two, from, to, &doc)?;
-    let document = write_document(alloc, to, two.names(), &word)?;
-    Ok(document)
+    match rewrite(alloc, two, from, to, &doc)? {
+        Rewritten::Written(document) => Ok(document),
+        Rewritten::Print(word) => {
+            let document = write_document(alloc, to, two.names(), &word)?;
+            Ok(document)
+        }
+    }
 }
 
 /// A text that was turned into XML: what is written for it, and its tree.

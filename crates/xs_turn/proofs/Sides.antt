@@ -8,10 +8,12 @@ use Rattle.xs_gram.specs.Common.{Common, TreeFits, print, strip}
 use Rattle.xs_gram.specs.Languages.{Derives, HasTree}
 use Rattle.xs_gram.specs.Sound.{IsSound}
 use Rattle.xs_pair.specs.Grammars.{Pair, grammar_of, HaveSameTrees}
+use Rattle.xs_table_out.specs.Documents.{document_bytes}
 use Rattle.xs_turn.specs.declared.fault.TurnFault.{TurnFault}
 use Rattle.xs_turn.specs.declared.fault.TurnFault.TheVariants as F
 use Rattle.xs_turn.specs.Stops.{IsStop}
-use Rattle.xs_turn.specs.Turned.{FitsBoth, IsRefusal, IsTranslated, IsTreeIn}
+use Rattle.xs_turn.specs.declared.rewriting.Rewritten.TheVariants.{Written}
+use Rattle.xs_turn.specs.Turned.{FitsBoth, IsRefusal, IsRewritten, IsTranslated, IsTreeIn}
 use Rattle.xs_forest_laws.specs.Forest.{Forest}
 use Rattle.xs_forest_laws.specs.Laws.{IsExact}
 use Rattle.xs_turn.proofs.Fitting.{stripped_fits_lem}
@@ -49,6 +51,12 @@ pub guess_translated : (p : Pair) → IsSound p.text → IsSound p.xml → (from
 guess_translated p text xml from to w word own other own_is other_is (d, derives, is) =
     let has = subst (λ (g : Grammar). HasTree g w (strip own d)) own_is (d, derives, refl) in
     translated p text xml from to w word (strip own d) other has other_is is
+
+-- and the document of this print
+pub guess_rewritten : (p : Pair) → IsSound p.text → IsSound p.xml → (from to : Side) (w bytes : List ℕ) (names : List (List ℕ)) (own other : Grammar) → names ≡ p.names → own ≡ grammar_of p from → other ≡ grammar_of p to → (d : Derivation) × Derives own w d × (bytes ≡ document_bytes to names (print other (strip own d))) → IsRewritten p from to w (Written bytes)
+guess_rewritten p text xml from to w bytes names own other names_are own_is other_is (d, derives, is) =
+    let word = print other (strip own d) in
+    (word, guess_translated p text xml from to w word own other own_is other_is (d, derives, refl), is ∙ ap (λ (ns : List (List ℕ)). document_bytes to ns word) names_are)
 
 pub refusal_of : {own : Grammar} (p : Pair) (side : Side) (w : List ℕ) (e : TurnFault) → own ≡ grammar_of p side → IsStop own w e → IsRefusal p side w e
 refusal_of p side w (F.Foreign viable) own_is stop =

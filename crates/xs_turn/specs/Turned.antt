@@ -8,8 +8,11 @@ use Rattle.xs_gram.specs.Common.{Common, TreeFits, print, strip}
 use Rattle.xs_gram.specs.Languages.{Derives, InLang, HasTree, IsViable}
 use Rattle.xs_forest_laws.specs.Forest.{Forest, Unfolding, Unfolds, read}
 use Rattle.xs_pair.specs.Grammars.{Pair, grammar_of, HaveSameTrees}
+use Rattle.xs_table_out.specs.Documents.{document_bytes}
 use Rattle.xs_turn.specs.declared.fault.TurnFault.{TurnFault}
 use Rattle.xs_turn.specs.declared.fault.TurnFault.TheVariants as F
+use Rattle.xs_turn.specs.declared.rewriting.Rewritten.{Rewritten}
+use Rattle.xs_turn.specs.declared.rewriting.Rewritten.TheVariants as R
 
 -- the tree fits the start on either side
 abbrev pub FitsBoth : Pair → Common → Type 0
@@ -31,6 +34,11 @@ pub record IsTranslated (p : Pair) (from to : Side) (w word : List ℕ) : Type 0
   pub has : HasTree (grammar_of p from) w tree
   pub printed : word ≡ print (grammar_of p to) tree
   pub fits : HaveSameTrees p.text p.xml → p.text.start ≡ p.xml.start → FitsBoth p tree
+
+-- the bytes are the document of a word that is translated, or the word is one
+abbrev pub IsRewritten : Pair → Side → Side → List ℕ → Rewritten → Type 0
+IsRewritten p from to w (R.Written bytes) = (word : List ℕ) × IsTranslated p from to w word × (bytes ≡ document_bytes to p.names word)
+IsRewritten p from to w (R.Print word) = IsTranslated p from to w word
 
 -- the document has no derivation, and that many of its leading symbols are viable
 pub record IsForeign (p : Pair) (side : Side) (w : List ℕ) (viable : ℕ) : Type 0 where

@@ -2,16 +2,16 @@ ghost use Rattle.std.specs.Prelude.{◌≡◌, IfOk, IfSome};
 ghost use Rattle.xs_gram.specs.{Derivation, Derives, HasTree, IsBuilt, print, strip};
 ghost use Rattle.xs_parse_table.specs.{IsTreeOf};
 ghost use Rattle.xs_tree.specs.{common_of};
+ghost use Rattle.xs_table_out.specs.{document_bytes};
 
 use crate::table::tree_of;
 use std::alloc::Global;
 use xs_atoms::Atoms;
-use xs_class::{Memory, Word};
+use xs_class::{Bytes, Memory, Names, Side, Word};
 use xs_gram::Gram;
 use xs_lr::{PADDING, read};
 use xs_parse_table::{ParseTable, Validator};
-use xs_table_out::{print_table, steps_of};
-use xs_text_out::pieces_of;
+use xs_table_out::{document_of_table, print_table};
 use xs_tree::Tree;
 
 /// A parse table that was guessed and that means a derivation of the document, or None where none
@@ -62,8 +62,27 @@ pub fn guessed_word(
     let Some(table) = table_of(alloc, from, doc)? else {
         return Ok(None);
     };
-    let pieces = pieces_of(alloc, to)?;
-    let steps = steps_of(alloc, from, to, pieces)?;
-    let word = print_table(alloc, from, to, &steps, doc.as_slice(), &table)?;
+    let word = print_table(alloc, from, to, doc.as_slice(), &table)?;
     Ok(word)
+}
+
+/// The document, on a side whose grammar is `to`, of the tree of a derivation that was guessed and
+/// checked, or None. Neither the tree nor its word is made.
+pub fn guessed_document(
+    alloc: Global,
+    side: Side,
+    names: &Names,
+    from: &Gram,
+    to: &Gram,
+    doc: &Word,
+) -> Result<Option<Bytes>, Memory>
+    requires { IsBuilt from.now }
+    ensures { IfOk result (λ o. IfSome o (λ bytes. (d : Derivation) × Derives from.now doc.now d
+        × (bytes ≡ document_bytes side names.now (print to.now (strip from.now d))))) }
+{
+    let Some(table) = table_of(alloc, from, doc)? else {
+        return Ok(None);
+    };
+    let bytes = document_of_table(alloc, side, names, from, to, doc.as_slice(), &table)?;
+    Ok(bytes)
 }

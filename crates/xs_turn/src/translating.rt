@@ -28,7 +28,13 @@ fn is_other(from: Side, to: Side) -> bool
 }
 
 /// A translation by turning the document, which alone says that the document is foreign.
-fn turned_to(alloc: Global, two: &Two, doc: &Word, from: Side, to: Side) -> Result<Word, TurnFault>
+pub fn turned_to(
+    alloc: Global,
+    two: &Two,
+    doc: &Word,
+    from: Side,
+    to: Side,
+) -> Result<Word, TurnFault>
     requires short { length doc.now < 4294967295 }
     requires text { IsSound two.now.text }
     requires xml { IsSound two.now.xml }

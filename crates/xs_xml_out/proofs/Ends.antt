@@ -1,26 +1,15 @@
 -- The mode in which the writing of a word ends.
-use Rattle.std.proofs.Common.{◌≡◌, ℕ, List, [], ◌∷◌, ◌++◌, append_assoc, true, codes, refl, sym, ◌∙◌, ap}
+use Rattle.std.proofs.Common.{◌≡◌, ℕ, List, [], ◌∷◌, ◌++◌, true, codes, refl, ◌∙◌, ap}
 use Rattle.xs_class.specs.Marks.{attr_end, opening_mark, attribute_mark, closing_mark}
 use Rattle.xs_xml_laws.specs.Tables.{is_char}
 use Rattle.xs_xml_laws.specs.Piece.{all_of}
 use Rattle.xs_xml_out.specs.declared.mode.Mode.{Mode}
 use Rattle.xs_xml_out.specs.declared.mode.Mode.TheVariants.{Content, Tag, Value}
 use Rattle.xs_xml_out.specs.Balanced.{Attribute, attributes_word, element_word, AreAttributes}
-use Rattle.xs_xml_out.specs.Written.{symbol_kind, put, next, written, xml_chars}
+use Rattle.xs_xml_out.specs.Written.{symbol_kind, next, mode_after, written, xml_chars}
+use Rattle.xs_xml_out.proofs.Appended.{written-append, mode_after-append}
 use Rattle.xs_xml_out.proofs.SymbolKinds.{symbol_kind-char, symbol_kind-attr_end, symbol_kind-opening_mark, symbol_kind-attribute_mark, symbol_kind-closing_mark}
 use Rattle.xs_class.proofs.Truth.{and_true}
-
-abbrev mode_after : Mode → List ℕ → Mode
-mode_after mode [] = mode
-mode_after mode (symbol ∷ word) = mode_after (next mode (symbol_kind symbol)) word
-
-written-append : (names : List (List ℕ)) (mode : Mode) (u v : List ℕ) → written names mode (u ++ v) ≡ written names mode u ++ written names (mode_after mode u) v
-written-append names mode [] v = refl
-written-append names mode (symbol ∷ u) v = ap (λ (z : List ℕ). put names mode (symbol_kind symbol) ++ z) (written-append names (next mode (symbol_kind symbol)) u v) ∙ sym (append_assoc (put names mode (symbol_kind symbol)) (written names (next mode (symbol_kind symbol)) u) (written names (mode_after (next mode (symbol_kind symbol)) u) v))
-
-mode_after-append : (mode : Mode) (u v : List ℕ) → mode_after mode (u ++ v) ≡ mode_after (mode_after mode u) v
-mode_after-append mode [] v = refl
-mode_after-append mode (symbol ∷ u) v = mode_after-append (next mode (symbol_kind symbol)) u v
 
 value_step : (c : ℕ) → is_char c ≡ true → next Value (symbol_kind c) ≡ Value
 value_step c is = rw (symbol_kind-char c is) refl

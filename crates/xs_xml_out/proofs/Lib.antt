@@ -1,5 +1,5 @@
+pub mod Appended
 mod Attributes
-mod Bytes
 mod Calm
 mod Content
 mod Elements

@@ -19,6 +19,13 @@ pub symbol_kind-char : (c : ℕ) → is_char c ≡ true → symbol_kind c ≡ Ch
 unfolding symbol_kind
 symbol_kind-char c is = rw (char_below c is) refl
 
+scalar_below : (c : ℕ) → IsScalar c → nat_lt c 1114112 ≡ true
+scalar_below c is = grind (arith, nat_tests, is)
+
+pub symbol_kind-scalar : (c : ℕ) → IsScalar c → symbol_kind c ≡ Char c
+unfolding symbol_kind
+symbol_kind-scalar c is = rw (scalar_below c is) refl
+
 pub symbol_kind-attr_end : symbol_kind attr_end ≡ ValueEnd
 unfolding symbol_kind
 symbol_kind-attr_end = refl

@@ -1,7 +1,7 @@
 -- The law that XML is read back.
 use Rattle.std.specs.Prelude.{◌≡◌, ℕ, List, Some, true, slice_get}
 use Rattle.std.specs.List.{All}
-use Rattle.std.specs.Str.{chars}
+use Rattle.std.specs.Str.{IsUtf8, chars}
 use Rattle.xs_class.specs.Ordered.{IsOrdered}
 use Rattle.xs_xml_laws.specs.Piece.{is_name}
 use Rattle.xs_xml_laws.specs.Reads.{Reads}
@@ -19,6 +19,10 @@ IsReadBack = (names : List (List ℕ)) (word : List ℕ) → IsOrdered names →
 -- the characters of the bytes that are written are those that were to be written
 abbrev pub IsDecoded : Type 0
 IsDecoded = (names : List (List ℕ)) (word : List ℕ) → AreNames names → IsBalanced names word → chars (xml_bytes names word) ≡ xml_chars names word
+
+-- the bytes that are written are UTF-8
+abbrev pub WrittenIsUtf8 : Type 0
+WrittenIsUtf8 = (names : List (List ℕ)) (word : List ℕ) → AreNames names → IsBalanced names word → IsUtf8 (xml_bytes names word)
 
 -- what is written begins with <, so with no mark U+FEFF that a reader would drop
 abbrev pub BeginsWithTag : Type 0

@@ -1,5 +1,5 @@
 -- The normal writing of a balanced word.
-use Rattle.std.specs.Prelude.{ℕ, zero, suc, ◌-◌, ◌/◌, ◌%◌, List, [], ◌∷◌, ◌++◌, codes, encode_utf8_all, slice_index_or, nat_lt, if◌then◌else◌, ◌==◌}
+use Rattle.std.specs.Prelude.{◌≡◌, ℕ, zero, suc, ◌-◌, ◌/◌, ◌%◌, List, [], ◌∷◌, ◌++◌, codes, encode_utf8_all, slice_index_or, nat_lt, if◌then◌else◌, ◌==◌}
 use Rattle.xs_class.specs.Marks.{attr_end, strange, opening_mark}
 use Rattle.xs_xml_out.specs.declared.kind.SymbolKind.{SymbolKind}
 use Rattle.xs_xml_out.specs.declared.kind.SymbolKind.TheVariants.{Char, ValueEnd, Strange, Opening, Attribute, Closing}
@@ -51,10 +51,24 @@ next mode ValueEnd = Tag
 next mode (Closing k) = Content
 next mode Strange = mode
 
+-- where the symbol after a word stands
+abbrev pub mode_after : Mode → List ℕ → Mode
+mode_after mode [] = mode
+mode_after mode (symbol ∷ word) = mode_after (next mode (symbol_kind symbol)) word
+
 -- the writing of a word that begins in this mode
 abbrev pub written : List (List ℕ) → Mode → List ℕ → List ℕ
 written names mode [] = []
 written names mode (symbol ∷ word) = put names mode (symbol_kind symbol) ++ written names (next mode (symbol_kind symbol)) word
+
+-- bytes go on with what is written for a word from a mode on, after which this mode holds
+pub record IsAppended (names : List (List ℕ)) (mode : Mode) (word old new : List ℕ) (after : Mode) : Type 0 where
+  pub bytes : new ≡ old ++ encode_utf8_all (written names mode word)
+  pub mode_is : after ≡ mode_after mode word
+
+-- the bytes of a word from a mode on, and of the LF that ends the document
+abbrev pub rest_bytes : List (List ℕ) → Mode → List ℕ → List ℕ
+rest_bytes names mode word = encode_utf8_all (written names mode word ++ codes "\n")
 
 -- the root element, and one LF
 abbrev pub xml_chars : List (List ℕ) → List ℕ → List ℕ

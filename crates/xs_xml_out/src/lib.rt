@@ -7,12 +7,18 @@
 //! tag, and one line feed after the root.
 #![tactic(auto)]
 
+mod characters;
 mod kind;
 mod law;
 mod mode;
 mod spelling;
 mod tags;
+mod writable;
 mod write;
 
+pub use characters::put_characters;
 pub use law::xml_is_read_back;
-pub use write::write_xml;
+pub use mode::Mode;
+pub use tags::Tags;
+pub use writable::are_known;
+pub use write::{put_stretch, write_xml};

@@ -1,6 +1,6 @@
 ghost use Rattle.std.specs.Prelude.{◌≡◌, [], ◌++◌, ◌<◌, length, OnOk, encode_utf8, encode_utf8_all, string_bytes};
 ghost use Rattle.xs_xml_out.specs.Written.{put, content_char, value_char};
-ghost use Rattle.xs_xml_out.specs.Spelling.{IsKnown, body_bytes};
+ghost use Rattle.xs_xml_out.specs.Spelling.{IsKnown, IsShort, body_bytes};
 
 use crate::kind::SymbolKind;
 use crate::mode::Mode;
@@ -46,8 +46,9 @@ fn put_body(out: &mut String, body: Body) -> Result<(), Memory>
 
 /// A character of content.
 #[inline(always)]
-fn content_char(c: char) -> Body
-    ensures { body_bytes result ≡ encode_utf8_all (content_char c) }
+pub fn content_char(c: char) -> Body
+    ensures written { body_bytes result ≡ encode_utf8_all (content_char c) }
+    ensures short { IsShort result }
 {
     match c {
         '&' => Body::Text("&amp;"),
@@ -60,8 +61,9 @@ fn content_char(c: char) -> Body
 
 /// A character of an attribute's value.
 #[inline(always)]
-fn value_char(c: char) -> Body
-    ensures { body_bytes result ≡ encode_utf8_all (value_char c) }
+pub fn value_char(c: char) -> Body
+    ensures written { body_bytes result ≡ encode_utf8_all (value_char c) }
+    ensures short { IsShort result }
 {
     let text = match c {
         '"' => "&quot;",

@@ -1,4 +1,4 @@
-ghost use Rattle.std.specs.Prelude.{◌≡◌, ◌<◌, ◌++◌, length, true, nat_lt, codes, IfOk, encode_utf8_all};
+ghost use Rattle.std.specs.Prelude.{◌≡◌, ◌<◌, ◌++◌, length, true, nat_lt, codes, ◌↔◌, IsTrue, IfOk, encode_utf8_all};
 ghost use Rattle.std.specs.List.{list_all};
 ghost use Rattle.std.specs.Str.{chars};
 ghost use Rattle.xs_xml_out.specs.Written.{name_at};
@@ -77,6 +77,13 @@ impl Tags {
             all.push(tags_of(alloc, names.name(k))?)?;
         }
         Ok(Tags { all })
+    }
+
+    /// Whether this is the number of one of the names.
+    pub fn has(&self, k: u32) -> bool
+        ensures { IsTrue result ↔ (k < length self.now) }
+    {
+        (k as usize) < self.all.len()
     }
 
     /// The opening of an element after content.

@@ -1,7 +1,7 @@
 ghost use Rattle.std.specs.Prelude.{◌≡◌, ◌++◌, IfOk, OnOk, string_bytes};
 ghost use Rattle.std.specs.Str.{IsUtf8};
 ghost use Rattle.xs_xml_out.specs.Balanced.{IsBalanced};
-ghost use Rattle.xs_xml_out.specs.Written.{xml_bytes};
+ghost use Rattle.xs_xml_out.specs.Written.{xml_bytes, IsAppended};
 ghost use Rattle.xs_xml_out.specs.Spelling.{AreKnown};
 
 use crate::kind::symbol_kind;
@@ -11,17 +11,31 @@ use crate::tags::Tags;
 use std::alloc::Global;
 use xs_class::{Bytes, Memory, Names, Sym, Word};
 
-/// Appends the document.
-fn put_all(tags: &Tags, symbols: &[Sym], out: &mut String) -> Result<(), Memory>
+/// Appends what is written for symbols from a mode on, and gives the mode after them.
+pub fn put_stretch(
+    tags: &Tags,
+    from: Mode,
+    symbols: &[Sym],
+    out: &mut String,
+) -> Result<Mode, Memory>
     requires { AreKnown tags.now symbols.now }
-    ensures { OnOk result (string_bytes out.new ≡ string_bytes out.old ++ xml_bytes tags.now symbols.now) }
+    ensures { IfOk result (IsAppended tags.now from symbols.now (string_bytes out.old) (string_bytes out.new)) }
 {
-    let mut mode = Mode::Content;
+    let mut mode = from;
     'symbols: for symbol in symbols {
         let kind = symbol_kind(*symbol);
         put_symbol(out, tags, mode, kind)?;
         mode = after(mode, kind);
     }
+    Ok(mode)
+}
+
+/// Appends the document.
+fn put_all(tags: &Tags, symbols: &[Sym], out: &mut String) -> Result<(), Memory>
+    requires { AreKnown tags.now symbols.now }
+    ensures { OnOk result (string_bytes out.new ≡ string_bytes out.old ++ xml_bytes tags.now symbols.now) }
+{
+    put_stretch(tags, Mode::Content, symbols, out)?;
     put_text(out, "\n")?;
     Ok(())
 }

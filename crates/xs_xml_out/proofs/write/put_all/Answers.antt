@@ -1,11 +1,13 @@
-use Rattle.std.proofs.Common.{◌++◌, ◌+◌, List, ℕ, drop, encode_utf8_all, refl, ap, sym, ◌∙◌, append_assoc, string_bytes}
-use Rattle.xs_xml_out.specs.Written.{put}
-use Rattle.xs_xml_out.proofs.Bytes.{rest_bytes, rest_bytes-step}
+use Rattle.std.proofs.Common.{◌++◌, ◌∙◌, [], ℕ, List, ap, sym, append-nil, string_bytes}
+use Rattle.xs_xml_out.specs.declared.mode.Mode.TheVariants.{Content}
+use Rattle.xs_xml_out.specs.Written.{rest_bytes}
+use Rattle.xs_xml_out.proofs.Appended.{appended_rest, rest_bytes-nil}
 use Rattle.xs_xml_out.proofs.write.put_all.Goals as goal
 
-pub symbols-preserved : goal.symbols-preserved
-symbols-preserved c =
-    let here = encode_utf8_all (put c.args.tags.now c.symbols.mode c.symbol_kind-kind.result) in
-    let rest = rest_bytes c.args.tags.now c.after-mode.result (drop (c.symbols.symbol-index + 1) c.args.symbols.now) in
-    let step = rest_bytes-step c.args.tags.now c.symbols.mode c.after-mode.result c.symbol_kind-kind.result c.args.symbols.now here c.symbols.symbol-index _ c.symbols-test.true c.symbol-item.is c.symbol_kind-kind.ensures refl c.after-mode.ensures in
-    ap (λ (bytes : List ℕ). bytes ++ rest) c.in_ok-put_symbol.ensures ∙ append_assoc (string_bytes c.symbols.out) here rest ∙ ap (λ (bytes : List ℕ). string_bytes c.symbols.out ++ bytes) (sym step) ∙ c.symbols.invariant
+pub returns : goal.returns
+returns c =
+    let after = c.in_ok-put_stretch.field-0 in
+    c.in_ok-put_text.ensures
+    ∙ ap (λ (l : List ℕ). string_bytes c.put_stretch.new.out ++ l) (sym (rest_bytes-nil c.args.tags.now after))
+    ∙ appended_rest c.args.tags.now Content after c.args.symbols.now (string_bytes c.args.out.now) (string_bytes c.put_stretch.new.out) [] c.in_ok-put_stretch.ensures
+    ∙ ap (λ (w : List ℕ). string_bytes c.args.out.now ++ rest_bytes c.args.tags.now Content w) (append-nil c.args.symbols.now)
