@@ -131,12 +131,7 @@ fn tables_of_made_texts(rt: HostRuntime) -> Result<(), Fail> {
 }
 
 /// The document with another symbol at a place, and without the one there.
-fn changed(
-    alloc: Global,
-    doc: &[Sym],
-    place: usize,
-    other: Option<Sym>,
-) -> Result<Word, Memory> {
+fn changed(alloc: Global, doc: &[Sym], place: usize, other: Option<Sym>) -> Result<Word, Memory> {
     let mut word = Word::new(alloc);
     for (at, symbol) in doc.iter().enumerate() {
         if at != place {
