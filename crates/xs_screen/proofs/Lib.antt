@@ -1,2 +1,4 @@
+pub mod FixedApart
+pub mod FixedWords
 pub mod Parting
 pub mod Seeing

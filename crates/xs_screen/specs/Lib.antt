@@ -1,4 +1,5 @@
+pub mod Fixed
 pub mod Parting
 pub mod Screens
 -- what other crates' contracts cite
-pub use Rattle.xs_screen.specs.Screens.{AreDoubts, ShareNone}
+pub use Rattle.xs_screen.specs.Screens.{AreDoubts, IsScreen, ShareNone}

@@ -7,6 +7,7 @@ ghost use Rattle.xs_coarse_net.specs.{IsCoverOf};
 ghost use Rattle.xs_screen.specs.Screens.{IsScreen, AreDoubts, OverlapNowhere, whole_part};
 
 use crate::Screen;
+use crate::fixed::{are_any, clear_doubt, fixed_doubts};
 use crate::places::{follows_non, is_cut_of};
 use crate::rules::whole;
 use std::alloc::Global;
@@ -42,9 +43,11 @@ impl Screen {
         ensures screen { IsScreen g.now self.new }
         ensures doubts { OnOk result (AreDoubts g.now rule doubts.new.items) }
     {
+        fixed_doubts(g, rule, doubts)?;
+        if !are_any(doubts) {
+            return Ok(());
+        }
         let part = whole(g, rule);
-        doubts.clear();
-        doubts.resize(g.spread(rule).len() + 1, true)?;
         self.clear_part(alloc, g, groups, &part, doubts)?;
         'items: for place in 0..part.end {
             let Some(partner) = g.partner(rule, place) else {
@@ -303,14 +306,5 @@ fn clear_edge(g: &Gram, part: &Part, edge: u32, doubts: &mut Vec<bool>)
     if is_cut_of(g, part, edge) {
         cuts_are_one();
         clear_doubt(doubts, edge);
-    }
-}
-
-/// Takes away the doubt of a cut.
-fn clear_doubt(doubts: &mut Vec<bool>, cut: u32)
-    ensures { doubts.new.items ≡ set doubts.old.items cut false }
-{
-    if (cut as usize) < doubts.len() {
-        doubts[cut as usize] = false;
     }
 }

@@ -2,7 +2,7 @@ ghost use Rattle.std.specs.Prelude.{ℕ, ◌≡◌, ◌<◌, true, List, length,
 ghost use Rattle.xs_gram.specs.{spread, AreComponents, IsBuilt, IsHorizontal};
 ghost use Rattle.xs_check_laws.specs.{IsLight};
 ghost use Rattle.xs_loose.specs.{AreTables};
-ghost use Rattle.xs_screen.specs.{ShareNone, AreDoubts};
+ghost use Rattle.xs_screen.specs.{ShareNone, AreDoubts, IsScreen};
 ghost use Rattle.xs_searches.specs.Searching.{AreBothLoose, OverlapsAt, IsExactFor};
 
 use crate::exact::Exact;
@@ -12,19 +12,20 @@ use xs_class::{Memory, Word};
 use xs_gram::{Comps, Gram};
 use xs_loose::Tables;
 use xs_meet::Overlap;
-use xs_screen::Screen;
+use xs_screen::{Screen, are_any, are_fixed_apart, fixed_doubts};
 
 /// The searches for suspects of a grammar whose rules are light, which contracts see as the grammar.
 ///
 /// A screen sees of most pairs of rules and of most cuts that they have no suspect; an exact search
-/// decides of the others, and alone finds words. What the exact searches share is made when one is
-/// first needed.
+/// decides of the others, and alone finds words. The screen is made when it is first needed, and so is
+/// what the exact searches share.
 #[derive(Drop)]
 pub struct Searches<'g> {
     alloc: Global,
     g: &'g Gram,
     comps: &'g Comps,
     tables: &'g Tables,
+    is_unscreened: bool,
     screen: Option<Screen>,
     exact: Option<Exact<'g>>,
 }
@@ -60,11 +61,11 @@ impl<'g> Searches<'g> {
         ensures { IfOk result (λ s. s ≡ g.now) }
     {
         let mut searches = Searches::exact(alloc, g, comps, tables)?;
-        searches.screen = Screen::of(alloc, g, &tables.groups)?;
+        searches.is_unscreened = true;
         Ok(searches)
     }
 
-    /// The same without a screen: an exact search decides each time.
+    /// The same without a screen: an exact search decides where fixed words show nothing.
     pub fn exact(
         alloc: Global,
         g: &'g Gram,
@@ -82,6 +83,7 @@ impl<'g> Searches<'g> {
             g,
             comps,
             tables,
+            is_unscreened: false,
             screen: None,
             exact: None,
         })
@@ -117,14 +119,18 @@ impl<'g> Searches<'g> {
         Ok(word)
     }
 
-    /// Whether the screen sees that no word is loose for both rules.
+    /// Whether it is seen that no word is loose for both rules, by the fixed words at their ends, or by
+    /// the screen.
     fn are_seen_apart(&mut self, rule: u32, rule2: u32) -> Result<bool, Memory>
         requires rule { rule < length self.old.rules }
         requires rule2 { rule2 < length self.old.rules }
         ensures same { self.new ≡ self.old }
         ensures apart { IfOk result (λ b. b ≡ true → ShareNone self.old rule rule2) }
     {
-        match self.screen.take() {
+        if are_fixed_apart(self.g, rule, rule2) {
+            return Ok(true);
+        }
+        match self.take_screen()? {
             None => Ok(false),
             Some(mut screen) => {
                 let groups = &self.tables.groups;
@@ -136,23 +142,37 @@ impl<'g> Searches<'g> {
     }
 
     /// Says in the list, for each place of a rule's spread items, whether its cut is in doubt, as
-    /// those beyond the list are: at the others the screen sees that front and rest do not overlap.
+    /// those beyond the list are: at the others it is seen that front and rest do not overlap, by the
+    /// screen or without it.
     pub fn doubts(&mut self, rule: u32, doubts: &mut Vec<bool>) -> Result<(), Memory>
         requires rule { rule < length self.old.rules }
         ensures same { self.new ≡ self.old }
         ensures doubts { OnOk result (AreDoubts self.old rule doubts.new.items) }
     {
-        match self.screen.take() {
-            None => {
-                doubts.clear();
-                Ok(())
-            }
+        fixed_doubts(self.g, rule, doubts)?;
+        if !are_any(doubts) {
+            return Ok(());
+        }
+        match self.take_screen()? {
+            None => Ok(()),
             Some(mut screen) => {
                 screen.doubts(self.alloc, self.g, &self.tables.groups, rule, doubts)?;
                 self.screen = Some(screen);
                 Ok(())
             }
         }
+    }
+
+    /// The screen, taken out, and made where it was not yet; none where its coarse nets are too large.
+    fn take_screen(&mut self) -> Result<Option<Screen>, Memory>
+        ensures same { self.new ≡ self.old }
+        ensures screen { IfOk result (λ o. IfSome o (IsScreen self.old)) }
+    {
+        if self.is_unscreened {
+            self.is_unscreened = false;
+            return Screen::of(self.alloc, self.g, &self.tables.groups);
+        }
+        Ok(self.screen.take())
     }
 
     /// Words by which the front and the rest of a rule overlap at a cut, or none where there are

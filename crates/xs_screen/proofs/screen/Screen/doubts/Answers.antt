@@ -1,8 +1,11 @@
-use Rattle.std.proofs.Common.{◌+◌, refl, subst}
+use Rattle.std.proofs.Common.{◌+◌, refl, subst, sym}
 use Rattle.xs_loose.specs.declared.part.Part.{Part}
 use Rattle.xs_loose.proofs.Nesting.{inside_part}
 use Rattle.xs_screen.specs.Screens.{AreDoubts}
 use Rattle.xs_screen.proofs.screen.Screen.doubts.Goals as goal
+
+pub clear_part-requires-clause-doubts : goal.clear_part-requires-clause-doubts
+clear_part-requires-clause-doubts c = subst (λ (x : Part). AreDoubts c.args.g.now x.rule c.fixed_doubts.new.doubts.items) (sym c.whole-part.ensures.is) c.in_ok-fixed_doubts.ensures
 
 pub items-init : goal.items-init
 items-init c = record {
