@@ -48,8 +48,8 @@ impl Components {
     }
 }
 
-/// The weight of a stretch, without memory: in time linear in its items, by the weights of all
-/// components.
+/// The weight of a stretch, without memory: in time linear in its outer items and groups, by the
+/// weights of all components.
 pub fn weight_by(g: &Gram, weights: &Weights, part: &Part) -> u64
     requires built { IsBuilt g.now }
     requires weights { AreWeights g.now weights.now }
@@ -58,14 +58,11 @@ pub fn weight_by(g: &Gram, weights: &Weights, part: &Part) -> u64
 {
     let weights = weights.as_slice();
     let mut sum = 0;
-    let mut next = part.start;
-    'items: for place in part.start..part.end {
-        if place < next {
-            continue;
-        }
+    let mut place = part.start;
+    'items: while place < part.end {
         let (count, after) = part_step(g, weights, part.rule, place);
         sum = capped(count.saturating_add(sum));
-        next = after;
+        place = after;
     }
     sum
 }
