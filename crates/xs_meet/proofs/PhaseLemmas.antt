@@ -4,17 +4,17 @@ use Rattle.std.specs.List.{list_any}
 use Rattle.xs_class.proofs.Truth.{and_true, both_true, or_left, or_right, eq_self, false_true}
 use Rattle.std.specs.declared.option.Option.TheVariants.{Some}
 use Rattle.std.proofs.lemmas.Bool.{cases_eq}
-use Rattle.std.proofs.lemmas.Option.{slice_get-get_or}
+use Rattle.std.proofs.lemmas.Option.{slice_get-get_or, slice_get_within}
 use Rattle.xs_class.proofs.Lists.{some_same, some_inj, get_of_two}
 use Rattle.xs_meet.specs.declared.reached_pair.ReachedPair.{ReachedPair}
 use Rattle.xs_meet.specs.declared.layer.Layer.{Layer}
 use Rattle.xs_auto.specs.Marks.{Marks}
 use Rattle.xs_auto.specs.Nets.{Graph, final_at, Walks}
-use Rattle.xs_meet.specs.Searches.{step, IsAt, IsFound, Gains, Extends, Fits, IsFor, KeepsArea, Closes, ClosesDrifts, InNets, EndsBoth, Seeds}
+use Rattle.xs_meet.specs.Searches.{step, IsAt, IsFound, Gains, Extends, Fits, IsFor, IsChained, IsLonger, KeepsArea, Closes, ClosesDrifts, Follows, InNets, EndsBoth, EndsNowhere, Seeds}
 use Rattle.xs_meet.specs.declared.seat.Seat.TheVariants.{Second}
 use Rattle.xs_meet.specs.declared.trace.Trace.{Trace}
 use Rattle.xs_meet.specs.Closed.{HasNoFinals, AreApart}
-use Rattle.xs_meet.specs.Traces.{IsSeeded, IsRoot, IsTurns, IsTrace, ArePieces}
+use Rattle.xs_meet.specs.Traces.{IsSeeded, HasOnly, IsRoot, IsTurns, IsTrace, ArePieces}
 use Rattle.xs_meet.proofs.GainLemmas.{area_then, extends_as}
 use Rattle.xs_meet.proofs.SpreadLemmas.{same_step, longer_found}
 
@@ -26,18 +26,34 @@ in_area m n l k p nets area f i s e = let r = f.in_range i s e in (rw (← nets.
 gained : (R : ReachedPair → Type 0) (xs ys : List ReachedPair) → xs ≡ [] → Gains R xs ys → (k : ℕ) (s : ReachedPair) → IsAt ys k s → R s
 gained R xs ys none g k s e = g.each k s (rw (g.is ∙ ap (λ us. us ++ g.added) none) at e)
 
--- a layer that was empty, was seeded by S, and was closed then
-pub closed_seeds : (R : ℕ → ℕ → Type 0) (m n : Graph) (S : ReachedPair → Type 0) (k l o : Layer) (p : Marks) → IsFor m n k → k.steps.items ≡ [] → Extends S k l → Fits o p → Closes R m n l o → IsSeeded R m n S o
-closed_seeds R m n S k l o p nets none g f c = record {
-  range = in_area m n k o p nets (area_then g.area c.area) f;
-  seeded = λ i s low e. elim (get_of_two l.steps.items c.longer.added i s (rw c.longer.is at e)) [
-    | inl h ↦ gained S k.steps.items l.steps.items none g.gains i s h
-    | inr h ↦ absurd (omega (arith, low, h.1, c.seeds))
-  ];
-  there = λ s r. longer_found c.longer (g.gains.there s r);
+-- a layer that was empty and was seeded by S has the steps that S means
+pub only_seeds : (S : ReachedPair → Type 0) (k l : Layer) → k.steps.items ≡ [] → Extends S k l → HasOnly S l
+only_seeds S k l none g = record { each = gained S k.steps.items l.steps.items none g.gains; there = g.gains.there }
+
+-- a layer whose area is kept is for the same nets
+pub for_kept : (m n : Graph) (k l : Layer) → IsFor m n k → KeepsArea k l → IsFor m n l
+for_kept m n k l nets area = record { height = area.height ∙ nets.height; width = area.width ∙ nets.width }
+
+-- what comes first in a layer that grew from the steps that S means
+only_before : (S : ReachedPair → Type 0) (l o : Layer) → HasOnly S l → IsLonger l.steps.items o.steps.items → o.seeds ≡ length l.steps.items → (k : ℕ) (s : ReachedPair) → k < o.seeds → IsAt o.steps.items k s → S s
+only_before S l o only longer seeds i s low e = elim (get_of_two l.steps.items longer.added i s (rw longer.is at e)) [
+  | inl h ↦ only.each i s h
+  | inr h ↦ absurd (omega (arith, low, h.1, seeds))
+]
+
+-- a layer that had the steps that S means, and was closed then
+pub closed_only : (R : ℕ → ℕ → Type 0) (m n : Graph) (S : ReachedPair → Type 0) (l o : Layer) (p : Marks) → IsFor m n l → HasOnly S l → Fits o p → Closes R m n l o → IsSeeded R m n S o
+closed_only R m n S l o p nets only f c = record {
+  range = in_area m n l o p nets c.area f;
+  seeded = only_before S l o only c.longer c.seeds;
+  there = λ s r. longer_found c.longer (only.there s r);
   chained = rw c.seeds c.chained;
   closed = c.closed;
 }
+
+-- a layer that was empty, was seeded by S, and was closed then
+pub closed_seeds : (R : ℕ → ℕ → Type 0) (m n : Graph) (S : ReachedPair → Type 0) (k l o : Layer) (p : Marks) → IsFor m n k → k.steps.items ≡ [] → Extends S k l → Fits o p → Closes R m n l o → IsSeeded R m n S o
+closed_seeds R m n S k l o p nets none g = closed_only R m n S l o p (for_kept m n k l nets g.area) (only_seeds S k l none g)
 
 -- the pair of the starts as a seed
 pub root_seed : (m n : Graph) (a b : ℕ) {k l : Layer} → m.start ≡ Some a → n.start ≡ Some b → Extends (λ s. s ≡ step a b 0) k l → Extends (IsRoot m n) k l
@@ -72,9 +88,27 @@ no_end_more m n steps place d l here before k low e = elim (cases_eq k place) [
   | inr ne ↦ before k (omega arith) e
 ]
 
+-- one more pair, from which a list grew, is not of two final states
+pub no_end_longer : (m n : Graph) {xs ys : List ReachedPair} (place : ℕ) (s : ReachedPair) → IsAt xs place s → IsLonger xs ys → (final_at m s.first ≡ true → final_at n s.second ≡ true → ⊥) → ((k : ℕ) → k < place → EndsBoth m n xs k → ⊥) → (k : ℕ) → k < place + 1 → EndsBoth m n ys k → ⊥
+no_end_longer m n {xs} place s here more not none k low e =
+    let w = slice_get_within xs place s here in
+    elim (get_of_two xs more.added k e.end (rw more.is at e.at)) [
+      | inl h ↦ elim (cases_eq k place) [
+        | inl same ↦
+            let one : e.end ≡ s = some_same _ _ _ h (rw same here) in
+            not (ap (λ t. final_at m t.first) (sym one) ∙ e.first) (ap (λ t. final_at n t.second) (sym one) ∙ e.second)
+        | inr ne ↦ none k (omega arith) (record { end = e.end; at = h; first = e.first; second = e.second })
+      ]
+      | inr h ↦ absurd (omega (arith, h.1, w))
+    ]
+
 -- some step stands at each place of the list
 pub there_at : (steps : List ReachedPair) (i : ℕ) → i < length steps → (s : ReachedPair) × IsAt steps i s
 there_at steps i l = (get_or steps i (step 0 0 0), slice_get-get_or steps i (step 0 0 0) l)
+
+-- a pair of two final states is one of the list
+pub ends_within : (m n : Graph) (steps : List ReachedPair) (k : ℕ) → EndsBoth m n steps k → k < length steps
+ends_within m n steps k e = slice_get_within steps k e.end e.at
 
 -- a found pair of final states
 pub found_end : (m n : Graph) (steps : List ReachedPair) → ((k : ℕ) → EndsBoth m n steps k → ⊥) → HasNoFinals m n (IsFound steps)
@@ -107,23 +141,28 @@ is_found_one (x ∷ xs) a b e = elim (either_true _ _ e) [
 found_as : (steps : List ReachedPair) (a b : ℕ) → IsFound steps a b → is_found steps a b ≡ true
 found_as steps a b f = found_is steps a b f.place f.from f.at
 
--- a closed layer without a pair of two final states shows that no word is shared
-pub layer_apart : (R : ℕ → ℕ → Type 0) (m n : Graph) (l : Layer) → IsSeeded R m n (IsRoot m n) l → ((k : ℕ) → EndsBoth m n l.steps.items k → ⊥) → AreApart R m n
-layer_apart R m n l r none =
-    let found = l.steps.items in (
+-- a closed layer of the pair of the starts without a pair of two final states shows that no word is
+-- shared
+pub ends_apart : (R : ℕ → ℕ → Type 0) (m n : Graph) (l o : Layer) → HasOnly (IsRoot m n) l → Follows R m n l o → EndsNowhere R m n o.steps.items → AreApart R m n
+ends_apart R m n l o root f none =
+    let found = o.steps.items in (
       is_found found,
       record {
-        starts = λ a b e f. found_as found a b (r.there (step a b 0) (record { first = e; second = f; from = refl }));
-        closed = λ a b c d z leads. found_as found c d (r.closed a b c d (is_found_one found a b z) leads);
-        none = λ a b z. found_end m n found none a b (is_found_one found a b z);
+        starts = λ a b p q. found_as found a b (longer_found f.longer (root.there (step a b 0) (record { first = p; second = q; from = refl })));
+        closed = λ a b c d z leads. found_as found c d (none.closed a b c d (is_found_one found a b z) leads);
+        none = λ a b z. found_end m n found none.none a b (is_found_one found a b z);
       },
     )
 
+-- the steps of such a layer after the pair of the starts are chained
+pub follows_chained : (R : ℕ → ℕ → Type 0) (m n : Graph) (l o : Layer) → Follows R m n l o → IsChained R m n o.seeds o.steps.items
+follows_chained R m n l o f = rw f.seeds f.chained
+
 -- pieces that lead from the starts to a pair of two final states spell words that are shared
-pub layer_pieces : (R : ℕ → ℕ → Type 0) (m n : Graph) (l : Layer) (place : ℕ) (t : Trace) → IsSeeded R m n (IsRoot m n) l → EndsBoth m n l.steps.items place → IsTrace R m n l place t → ArePieces R m n t.pieces.items
-layer_pieces R m n l place t r e h =
+pub ends_pieces : (R : ℕ → ℕ → Type 0) (m n : Graph) (l o : Layer) (place : ℕ) (t : Trace) → HasOnly (IsRoot m n) l → Follows R m n l o → EndsBoth m n o.steps.items place → IsTrace R m n o place t → ArePieces R m n t.pieces.items
+ends_pieces R m n l o place t only f e h =
     let w = h.traced in
-    let root = r.seeded t.seed w.first h.seed w.begins in
+    let root = only_before (IsRoot m n) l o only f.longer f.seeds t.seed w.first h.seed w.begins in
     let end : w.last ≡ e.end = some_same _ _ _ w.ends e.at in
     record {
       related = w.related;

@@ -20,6 +20,11 @@ pub record Tries (nest : List Group) (P : ℕ → ℕ → Type 0) (old new : Sha
   pub same : grown ≡ false → new ≡ old
   pub settled : grown ≡ false → (g h : ℕ) → P g h → AreSettled nest (AreKnown old) g h
 
+-- what is known is so, and no less than before
+pub record Finds (nest : List Group) (old new : Sharing) : Type 0 where
+  pub sharing : IsSharing nest new
+  pub no_more : left_over new ≤ left_over old
+
 -- g and h are these two
 pub record AreThese (first second g h : ℕ) : Type 0 where
   pub is_first : g ≡ first

@@ -122,6 +122,13 @@ pub record Closes (R : ℕ → ℕ → Type 0) (m n : Graph) (old new : Layer) :
   pub chained : IsChained R m n (length old.steps.items) new.steps.items
   pub closed : IsClosed (Leads R m n) (IsFound new.steps.items)
 
+-- pairs to which the steps lead were added after them, each with the place of a step that leads to it
+pub record Follows (R : ℕ → ℕ → Type 0) (m n : Graph) (old new : Layer) : Type 0 where
+  pub area : KeepsArea old new
+  pub longer : IsLonger old.steps.items new.steps.items
+  pub seeds : new.seeds ≡ length old.steps.items
+  pub chained : IsChained R m n (length old.steps.items) new.steps.items
+
 -- the step was reached by empty moves alone from one of the steps, whose origin it has
 pub record IsDrifted (m n : Graph) (steps : List ReachedPair) (s : ReachedPair) : Type 0 where
   pub place : ℕ
@@ -160,6 +167,11 @@ pub record EndsBoth (m n : Graph) (steps : List ReachedPair) (k : ℕ) : Type 0 
   pub at : IsAt steps k end
   pub first : final_at m end.first ≡ true
   pub second : final_at n end.second ≡ true
+
+-- all that the steps lead to is found, and no pair is of two final states
+pub record EndsNowhere (R : ℕ → ℕ → Type 0) (m n : Graph) (steps : List ReachedPair) : Type 0 where
+  pub closed : IsClosed (Leads R m n) (IsFound steps)
+  pub none : (k : ℕ) → EndsBoth m n steps k → ⊥
 
 -- the first states of the steps are below the one number, and the second ones below the other
 abbrev pub InStates : ℕ → ℕ → List ReachedPair → Type 0

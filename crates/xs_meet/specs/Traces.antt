@@ -51,6 +51,11 @@ pub record IsSeeded (R : ℕ → ℕ → Type 0) (m n : Graph) (S : ReachedPair 
   pub chained : IsChained R m n l.seeds l.steps.items
   pub closed : IsClosed (Leads R m n) (IsFound l.steps.items)
 
+-- the layer has the steps that S means, and no others
+pub record HasOnly (S : ReachedPair → Type 0) (l : Layer) : Type 0 where
+  pub each : (k : ℕ) (s : ReachedPair) → IsAt l.steps.items k s → S s
+  pub there : (s : ReachedPair) → S s → IsFound l.steps.items s.first s.second
+
 -- the pair of the starts
 pub record IsRoot (m n : Graph) (s : ReachedPair) : Type 0 where
   pub first : m.start ≡ Some s.first

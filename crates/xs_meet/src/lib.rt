@@ -8,6 +8,7 @@
 //! the same search, round by round.
 #![tactic(auto)]
 
+mod callers;
 mod layer;
 mod meet;
 mod overlap;

@@ -1,10 +1,10 @@
 ghost use Rattle.std.specs.Prelude.{◌≡◌, ℕ, ◌*◌, ◌≤◌, List, IsSome, IfOk, IfSome, IfNone};
 ghost use Rattle.xs_auto.specs.{states, IsFenced, IsTame};
 ghost use Rattle.xs_meet.specs.Closed.{AreApart};
-ghost use Rattle.xs_meet.specs.Searches.{InNets, EndsBoth};
+ghost use Rattle.xs_meet.specs.Searches.{InNets, EndsBoth, Fits, IsFor};
 ghost use Rattle.xs_meet.specs.Shared.{IsShared, IsSharedOver};
 ghost use Rattle.xs_meet.specs.Sharing.{AreKnown, IsSharedOf};
-ghost use Rattle.xs_meet.specs.Traces.{IsSeeded, IsRoot, ArePieces};
+ghost use Rattle.xs_meet.specs.Traces.{IsSeeded, HasOnly, IsRoot, ArePieces};
 
 use crate::layer::Layer;
 use crate::piece::Piece;
@@ -79,8 +79,8 @@ pub fn meet_pieces(
     ensures some { IfOk result (λ o. IfSome o (λ p. ArePieces (AreKnown shared.now) a.now b.now p.items)) }
     ensures none { IfOk result (λ o. IfNone o (AreApart (AreKnown shared.now) a.now b.now)) }
 {
-    let layer = reach(alloc, shared, a, b, pairs)?;
-    match final_pair(a, b, &layer.steps) {
+    let mut layer = rooted(alloc, a, b, pairs)?;
+    match layer.close_to_end(pairs, shared, a, b)? {
         None => Ok(None),
         Some(place) => {
             let found = read_trace(alloc, shared, a, b, &layer, place)?;
@@ -103,6 +103,21 @@ pub fn reach(
     ensures cells { pairs.new.cells ≡ pairs.old.cells }
     ensures ok { IfOk result (IsSeeded (AreKnown shared.now) first.now second.now (IsRoot first.now second.now)) }
 {
+    let mut layer = rooted(alloc, first, second, pairs)?;
+    layer.close(pairs, shared, first, second)?;
+    Ok(layer)
+}
+
+/// The pair of the starts of two nets, in a layer of its own.
+fn rooted(alloc: Global, first: &Net, second: &Net, pairs: &mut Pairs) -> Result<Layer, Memory>
+    requires start_first { IsSome first.now.start }
+    requires start_second { IsSome second.now.start }
+    requires room { states first.now * states second.now ≤ pairs.old.cells }
+    ensures cells { pairs.new.cells ≡ pairs.old.cells }
+    ensures nets { IfOk result (IsFor first.now second.now) }
+    ensures fits { IfOk result (λ l. Fits l pairs.new) }
+    ensures only { IfOk result (HasOnly (IsRoot first.now second.now)) }
+{
     pairs.clear(0);
     let mut layer = Layer::new(alloc, 0, first, second);
     let root = ReachedPair {
@@ -111,7 +126,6 @@ pub fn reach(
         from: 0,
     };
     layer.visit(pairs, root)?;
-    layer.close(pairs, shared, first, second)?;
     Ok(layer)
 }
 

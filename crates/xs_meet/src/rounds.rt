@@ -1,19 +1,26 @@
-ghost use Rattle.std.specs.Prelude.{◌≡◌, ◌<◌, ◌+◌, ◌↔◌, ℕ, true, length, IfOk, IsTrue};
+ghost use Rattle.std.specs.Prelude.{◌≡◌, ◌<◌, ◌+◌, ◌↔◌, ℕ, true, length, IfOk, OnOk, IsTrue};
 ghost use Rattle.xs_auto.specs.{group_at, HaveOneFence, IsFenced, AreShared};
-ghost use Rattle.xs_meet.specs.Rounds.{CanTry, Tries, AreThese, AreFrom, AreWithin};
+ghost use Rattle.xs_meet.specs.Rounds.{CanTry, Tries, Finds, AreThese, AreFrom, AreWithin};
 ghost use Rattle.xs_meet.specs.Sharing.{has_at, HasRoom, IsSharedOf};
 
+use crate::callers::Callers;
 use crate::meet::meet_pieces;
+use crate::shared_groups::SharedGroups;
 use crate::sharing::Shared;
 use std::alloc::Global;
 use xs_auto::{Nest, Pairs};
 use xs_class::Memory;
 
+/// How many pairs of callers of two groups are tried at most between two rounds: where there are more,
+/// each found pair would have them tried again, and a round does so once.
+const MOST_TRIED: usize = 16;
+
 /// Which two groups of the nest have one fence and contents that accept a common word.
 ///
 /// Goes in rounds over the pairs of groups that have one fence and are not known to share a word,
-/// until a round finds no more; so there is at most one round more than there are pairs that share
-/// one. The pairs of states are marked in the first map.
+/// until a round finds no more. After each round that does, what calls groups that were found to
+/// share a word is tried again, where it is little, and so on; so the second round mostly finds
+/// none. The pairs of states are marked in the first map.
 pub fn shared(alloc: Global, nest: &Nest, pairs: &mut Pairs) -> Result<Shared, Memory>
     requires fenced { IsFenced nest.now }
     requires room { HasRoom nest.now pairs.old.cells }
@@ -21,8 +28,11 @@ pub fn shared(alloc: Global, nest: &Nest, pairs: &mut Pairs) -> Result<Shared, M
     ensures ok { IfOk result (IsSharedOf nest.now) }
     ensures exact { IfOk result (λ s. (g h : ℕ) → (has_at s g h ≡ true) ↔ AreShared nest.now g h) }
 {
+    let callers = Callers::of(alloc, nest)?;
     let mut shared = Shared::blank(alloc, nest.len())?;
-    'rounds: while shared.try_all(alloc, nest, pairs)? {}
+    'rounds: while shared.try_all(alloc, nest, pairs)? {
+        shared.follow(alloc, nest, &callers, pairs)?;
+    }
     Ok(shared)
 }
 
@@ -97,6 +107,75 @@ impl Shared {
                 Ok(true)
             }
         }
+    }
+}
+
+impl Shared {
+    /// Tries the callers of each two groups that are known to share a word, those that are found
+    /// here included.
+    fn follow(
+        &mut self,
+        alloc: Global,
+        nest: &Nest,
+        callers: &Callers,
+        pairs: &mut Pairs,
+    ) -> Result<(), Memory>
+        requires ready { CanTry nest.now pairs.old.cells self.old }
+        ensures cells { pairs.new.cells ≡ pairs.old.cells }
+        ensures ok { OnOk result (Finds nest.now self.old self.new) }
+    {
+        'places: for place in 0..usize::MAX {
+            let Some(row) = self.row(place) else {
+                return Ok(());
+            };
+            self.follow_row(alloc, nest, callers, row, pairs)?;
+        }
+        Ok(())
+    }
+
+    /// Tries each caller of the one group with each of the other, where these are few pairs.
+    fn follow_row(
+        &mut self,
+        alloc: Global,
+        nest: &Nest,
+        callers: &Callers,
+        row: SharedGroups,
+        pairs: &mut Pairs,
+    ) -> Result<(), Memory>
+        requires ready { CanTry nest.now pairs.old.cells self.old }
+        ensures cells { pairs.new.cells ≡ pairs.old.cells }
+        ensures ok { OnOk result (Finds nest.now self.old self.new) }
+    {
+        let firsts = callers.of_group(row.first);
+        let seconds = callers.of_group(row.second);
+        if firsts.len().saturating_mul(seconds.len()) > MOST_TRIED {
+            return Ok(());
+        }
+        'firsts: for first in firsts {
+            self.follow_caller(alloc, nest, *first, seconds, pairs)?;
+        }
+        Ok(())
+    }
+
+    /// Tries a group with each of these.
+    fn follow_caller(
+        &mut self,
+        alloc: Global,
+        nest: &Nest,
+        first: u32,
+        seconds: &[u32],
+        pairs: &mut Pairs,
+    ) -> Result<(), Memory>
+        requires ready { CanTry nest.now pairs.old.cells self.old }
+        ensures cells { pairs.new.cells ≡ pairs.old.cells }
+        ensures ok { OnOk result (Finds nest.now self.old self.new) }
+    {
+        'seconds: for second in seconds {
+            if first < nest.len() && *second < nest.len() {
+                self.try_pair(alloc, nest, first, *second, pairs)?;
+            }
+        }
+        Ok(())
     }
 }
 

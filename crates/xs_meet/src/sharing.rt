@@ -56,6 +56,11 @@ impl Shared {
         self.table.has(g as u64 * self.groups as u64 + h as u64)
     }
 
+    /// Two groups that share a word, by the order in which they were found, if there are so many.
+    pub(crate) fn row(&self, place: usize) -> Option<SharedGroups> {
+        self.rows.get(place).copied()
+    }
+
     /// Notes that two groups share the words that these pieces spell.
     pub(crate) fn add(&mut self, first: u32, second: u32, pieces: &[Piece]) -> Result<(), Memory>
         requires first { first < self.old.groups }
