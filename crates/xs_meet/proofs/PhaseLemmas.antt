@@ -1,8 +1,9 @@
 -- What a whole phase of a search has reached.
-use Rattle.std.proofs.Common.{◌≡◌, ℕ, zero, suc, ◌+◌, ◌<◌, ◌&&◌, ◌||◌, ◌==◌, ◌⊎◌, Bool, List, [], ◌∷◌, ◌++◌, length, get_or, refl, sym, ap, subst, ◌∙◌, inl, inr, arith, true, false, eqb-true}
+use Rattle.std.proofs.Common.{◌≡◌, ℕ, zero, suc, ◌+◌, ◌<◌, ◌&&◌, ◌||◌, ◌==◌, ◌⊎◌, Bool, List, [], ◌∷◌, ◌++◌, length, get_or, refl, sym, ap, subst, ◌∙◌, inl, inr, arith, true, false, eqb-true, IfSome, IfNone}
 use Rattle.std.specs.List.{list_any}
 use Rattle.xs_class.proofs.Truth.{and_true, both_true, or_left, or_right, eq_self, false_true}
-use Rattle.std.specs.declared.option.Option.TheVariants.{Some}
+use Rattle.std.specs.declared.option.Option.{Option}
+use Rattle.std.specs.declared.option.Option.TheVariants.{Some, None}
 use Rattle.std.proofs.lemmas.Bool.{cases_eq}
 use Rattle.std.proofs.lemmas.Option.{slice_get-get_or, slice_get_within}
 use Rattle.xs_class.proofs.Lists.{some_same, some_inj, get_of_two}
@@ -13,7 +14,7 @@ use Rattle.xs_auto.specs.Nets.{Graph, final_at, Walks}
 use Rattle.xs_meet.specs.Searches.{step, IsAt, IsFound, Gains, Extends, Fits, IsFor, IsChained, IsLonger, KeepsArea, Closes, ClosesDrifts, Follows, InNets, EndsBoth, EndsNowhere, Seeds}
 use Rattle.xs_meet.specs.declared.seat.Seat.TheVariants.{Second}
 use Rattle.xs_meet.specs.declared.trace.Trace.{Trace}
-use Rattle.xs_meet.specs.Closed.{HasNoFinals, AreApart}
+use Rattle.xs_meet.specs.Closed.{HasNoFinals, AreApart, Leads, IsClosed}
 use Rattle.xs_meet.specs.Traces.{IsSeeded, HasOnly, IsRoot, IsTurns, IsTrace, ArePieces}
 use Rattle.xs_meet.proofs.GainLemmas.{area_then, extends_as}
 use Rattle.xs_meet.proofs.SpreadLemmas.{same_step, longer_found}
@@ -87,6 +88,15 @@ no_end_more m n steps place d l here before k low e = elim (cases_eq k place) [
       here (ap (λ s. final_at m s.first) (sym one) ∙ e.first) (ap (λ s. final_at n s.second) (sym one) ∙ e.second)
   | inr ne ↦ before k (omega arith) e
 ]
+
+-- a search that stops at no end found all
+pub closes_whole : (R : ℕ → ℕ → Type 0) (m n : Graph) {old new : Layer} (o : Option ℕ) → Follows R m n old new → IfSome o (λ k. (false ≡ true) × EndsBoth m n new.steps.items k) → IfNone o (IsClosed (Leads R m n) (IsFound new.steps.items)) → Closes R m n old new
+closes_whole R m n None f ends all = record { area = f.area; longer = f.longer; seeds = f.seeds; chained = f.chained; closed = all }
+closes_whole R m n (Some k) f ends all = absurd (false_true ends.0)
+
+-- what a search that goes on from a layer keeps and finds
+pub follows_of : {R : ℕ → ℕ → Type 0} {m n : Graph} {old new : Layer} → KeepsArea old new → IsLonger old.steps.items new.steps.items → new.seeds ≡ length old.steps.items → IsChained R m n (length old.steps.items) new.steps.items → Follows R m n old new
+follows_of area longer seeds chained = record { area = area; longer = longer; seeds = seeds; chained = chained }
 
 -- one more pair, from which a list grew, is not of two final states
 pub no_end_longer : (m n : Graph) {xs ys : List ReachedPair} (place : ℕ) (s : ReachedPair) → IsAt xs place s → IsLonger xs ys → (final_at m s.first ≡ true → final_at n s.second ≡ true → ⊥) → ((k : ℕ) → k < place → EndsBoth m n xs k → ⊥) → (k : ℕ) → k < place + 1 → EndsBoth m n ys k → ⊥

@@ -80,7 +80,7 @@ pub fn meet_pieces(
     ensures none { IfOk result (λ o. IfNone o (AreApart (AreKnown shared.now) a.now b.now)) }
 {
     let mut layer = rooted(alloc, a, b, pairs)?;
-    match layer.close_to_end(pairs, shared, a, b)? {
+    match layer.close_until(pairs, shared, a, b, true)? {
         None => Ok(None),
         Some(place) => {
             let found = read_trace(alloc, shared, a, b, &layer, place)?;

@@ -1,6 +1,7 @@
-ghost use Rattle.std.specs.Prelude.{◌≡◌, ◌<◌, ◌&&◌, OnOk, IfOk, IfSome, IfNone};
+ghost use Rattle.std.specs.Prelude.{◌≡◌, ◌<◌, ◌&&◌, ℕ, true, OnOk, IfOk, IfSome, IfNone};
 ghost use Rattle.xs_auto.specs.{final_at, states};
-ghost use Rattle.xs_meet.specs.Searches.{Fits, Extends, IsFor, DriftsFrom, StridesFrom, LeadsFrom, Closes, ClosesDrifts, Follows, EndsBoth, EndsNowhere};
+ghost use Rattle.xs_meet.specs.Closed.{Leads, IsClosed};
+ghost use Rattle.xs_meet.specs.Searches.{Fits, IsFound, Extends, IsFor, DriftsFrom, StridesFrom, LeadsFrom, Closes, ClosesDrifts, Follows, EndsBoth};
 ghost use Rattle.xs_meet.specs.Sharing.{AreKnown};
 
 use crate::layer::Layer;
@@ -89,6 +90,39 @@ impl Layer {
         Ok(())
     }
 
+    /// Adds pairs to which the steps lead, each with the place of the step that led there: all of them,
+    /// or, if it stops at an end, those up to the first pair of two final states, whose place it gives.
+    pub fn close_until(
+        &mut self,
+        pairs: &mut Pairs,
+        shared: &Shared,
+        first: &Net,
+        second: &Net,
+        stops: bool,
+    ) -> Result<Option<usize>, Memory>
+        requires nets { IsFor first.now second.now self.old }
+        requires fits { Fits self.old pairs.old }
+        ensures cells { pairs.new.cells ≡ pairs.old.cells }
+        ensures fits { OnOk result (Fits self.new pairs.new) }
+        ensures follows { OnOk result (Follows (AreKnown shared.now) first.now second.now self.old self.new) }
+        ensures some { IfOk result (λ o. IfSome o (λ k. (stops ≡ true) × EndsBoth first.now second.now self.new.steps.items k)) }
+        ensures closed { IfOk result (λ o. IfNone o (IsClosed (Leads (AreKnown shared.now) first.now second.now) (IsFound self.new.steps.items))) }
+        ensures none { IfOk result (λ o. IfNone o (stops ≡ true → (k : ℕ) → EndsBoth first.now second.now self.new.steps.items k → ⊥)) }
+    {
+        self.seeds = self.steps.len();
+        'places: for place in 0..usize::MAX {
+            if place >= self.steps.len() {
+                return Ok(None);
+            }
+            let at = self.steps[place];
+            if is_end(stops, first, second, at) {
+                return Ok(Some(place));
+            }
+            self.expand(pairs, shared, first, second, at, place)?;
+        }
+        Ok(None)
+    }
+
     /// Adds all pairs to which the steps lead, each with the place of the step that led there.
     pub fn close(
         &mut self,
@@ -103,46 +137,8 @@ impl Layer {
         ensures fits { OnOk result (Fits self.new pairs.new) }
         ensures ok { OnOk result (Closes (AreKnown shared.now) first.now second.now self.old self.new) }
     {
-        self.seeds = self.steps.len();
-        'places: for place in 0..usize::MAX {
-            if place >= self.steps.len() {
-                return Ok(());
-            }
-            let at = self.steps[place];
-            self.expand(pairs, shared, first, second, at, place)?;
-        }
+        let _end = self.close_until(pairs, shared, first, second, false)?;
         Ok(())
-    }
-
-    /// Adds pairs to which the steps lead, as `close` does, up to the first pair of two final states,
-    /// and gives its place; none where all were added and no pair is of two final states.
-    pub fn close_to_end(
-        &mut self,
-        pairs: &mut Pairs,
-        shared: &Shared,
-        first: &Net,
-        second: &Net,
-    ) -> Result<Option<usize>, Memory>
-        requires nets { IsFor first.now second.now self.old }
-        requires fits { Fits self.old pairs.old }
-        ensures cells { pairs.new.cells ≡ pairs.old.cells }
-        ensures fits { OnOk result (Fits self.new pairs.new) }
-        ensures follows { OnOk result (Follows (AreKnown shared.now) first.now second.now self.old self.new) }
-        ensures some { IfOk result (λ o. IfSome o (EndsBoth first.now second.now self.new.steps.items)) }
-        ensures none { IfOk result (λ o. IfNone o (EndsNowhere (AreKnown shared.now) first.now second.now self.new.steps.items)) }
-    {
-        self.seeds = self.steps.len();
-        'places: for place in 0..usize::MAX {
-            if place >= self.steps.len() {
-                return Ok(None);
-            }
-            let at = self.steps[place];
-            if are_final(first, second, at) {
-                return Ok(Some(place));
-            }
-            self.expand(pairs, shared, first, second, at, place)?;
-        }
-        Ok(None)
     }
 
     /// Adds all pairs to which the steps lead by empty moves alone, each with the origin of the
@@ -170,12 +166,12 @@ impl Layer {
     }
 }
 
-/// Whether both states of a pair are final.
+/// Whether a search stops at a pair: one that stops at an end, at two final states.
 #[inline(always)]
-fn are_final(first: &Net, second: &Net, at: ReachedPair) -> bool
+fn is_end(stops: bool, first: &Net, second: &Net, at: ReachedPair) -> bool
     requires first { at.first < states first.now }
     requires second { at.second < states second.now }
-    ensures { result ≡ (final_at first.now at.first && final_at second.now at.second) }
+    ensures { result ≡ (stops && (final_at first.now at.first && final_at second.now at.second)) }
 {
-    first.is_final(at.first) && second.is_final(at.second)
+    stops && first.is_final(at.first) && second.is_final(at.second)
 }
