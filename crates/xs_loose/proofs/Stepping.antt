@@ -155,9 +155,8 @@ summed_last s low = record {
 }
 
 -- the items of a stretch are gone through, one outer item or group at a time, to its end
-pub part_stepped : (g : Grammar) (p start place next after sum count new : ℕ) (is : List GItem) → IsStretch g p start is → place ≡ next → PartSummed g start is next sum → place < start + length is → ((rest : List GItem) → StandsAt g p place rest → PartStep g place rest after count) → new ≡ capped (count + sum) → PartSummed g start is after new × (place < after) × (after ≤ start + length is)
-part_stepped g p start place next after sum count new is stretch e before low step is_new =
-    let s : PartSummed g start is place sum = subst (λ (n : ℕ). PartSummed g start is n sum) (sym e) before in
+pub part_stepped : (g : Grammar) (p start place after sum count new : ℕ) (is : List GItem) → IsStretch g p start is → PartSummed g start is place sum → place < start + length is → ((rest : List GItem) → StandsAt g p place rest → PartStep g place rest after count) → new ≡ capped (count + sum) → PartSummed g start is after new × (place < after) × (after ≤ start + length is)
+part_stepped g p start place after sum count new is stretch s low step is_new =
     let long : length is ≡ length s.front + length s.rest = ap length s.split ∙ length-append s.front s.rest in
     let own : PartStep g place s.rest after count = step s.rest (stretch_rest g p start place is s.front s.rest stretch s.split s.place s.level (omega (arith, long, s.place))) in
     let rest : length s.rest ≡ length own.piece + length own.later = ap length own.is.split ∙ length-append own.piece own.later in

@@ -1,4 +1,4 @@
-use Rattle.std.proofs.Common.{◌≡◌, ℕ, ◌+◌, refl, arith}
+use Rattle.std.proofs.Common.{arith}
 use Rattle.xs_loose.specs.Parts.{part_items}
 use Rattle.xs_loose.proofs.Stretches.{part_stretch, part_long}
 use Rattle.xs_loose.proofs.Stepping.{part_none, part_stepped, part_done}
@@ -16,7 +16,7 @@ items-smaller c =
     let part = c.args.part.now in
     let is = part_items g part in
     let long = part_long g part c.requires.part in
-    let stepped = part_stepped g part.rule part.start c.items.place c.items.place c.part_step-count.result.1 c.items.sum c.part_step-count.result.0 c.capped-sum.result is (part_stretch g part c.requires.part) refl c.items.invariant.summed (omega (arith, long, c.items-test.true)) c.part_step-count.ensures (omega (arith, c.capped-sum.ensures, c.saturating_add.ensures)) in
+    let stepped = part_stepped g part.rule part.start c.items.place c.part_step-count.result.1 c.items.sum c.part_step-count.result.0 c.capped-sum.result is (part_stretch g part c.requires.part) c.items.invariant.summed (omega (arith, long, c.items-test.true)) c.part_step-count.ensures (omega (arith, c.capped-sum.ensures, c.saturating_add.ensures)) in
     omega (arith, stepped.1, stepped.2, long, c.items-test.true)
 
 pub items-preserved : goal.items-preserved
@@ -25,7 +25,7 @@ items-preserved c =
     let part = c.args.part.now in
     let is = part_items g part in
     let long = part_long g part c.requires.part in
-    let stepped = part_stepped g part.rule part.start c.items.place c.items.place c.part_step-count.result.1 c.items.sum c.part_step-count.result.0 c.capped-sum.result is (part_stretch g part c.requires.part) refl c.items.invariant.summed (omega (arith, long, c.items-test.true)) c.part_step-count.ensures (omega (arith, c.capped-sum.ensures, c.saturating_add.ensures)) in
+    let stepped = part_stepped g part.rule part.start c.items.place c.part_step-count.result.1 c.items.sum c.part_step-count.result.0 c.capped-sum.result is (part_stretch g part c.requires.part) c.items.invariant.summed (omega (arith, long, c.items-test.true)) c.part_step-count.ensures (omega (arith, c.capped-sum.ensures, c.saturating_add.ensures)) in
     record { within = omega (arith, stepped.2, long); summed = stepped.0 }
 
 pub returns : goal.returns
