@@ -10,4 +10,5 @@ pub mod Rows
 pub mod Steps
 pub mod Basis
 pub mod Halves
+pub mod Kept
 pub mod Laws

@@ -13,6 +13,7 @@ mod certifying;
 mod fault;
 mod half;
 mod heads;
+mod kept;
 mod laws;
 mod place;
 mod proving;

@@ -27,8 +27,8 @@ pub type ProveFault = AcceptFault;
 /// exactly where none does and there is a suspect.
 ///
 /// Takes the time of the search, and time linear in the pairs of the sets times what leads from
-/// them; memory for the certificate, the nets of a grammar's groups, and the nets and sets of one
-/// block.
+/// them; memory for the certificate, the nets of a grammar's groups, nets of rules of some 262,144
+/// states, and the nets and sets of one block.
 pub fn prove(alloc: Global, two: &Two) -> Result<Bytes, ProveFault>
     requires text { IsSound two.now.text }
     requires xml { IsSound two.now.xml }

@@ -6,11 +6,13 @@ ghost use Rattle.xs_closed.specs.{marked};
 ghost use Rattle.xs_cert_lines.specs.{spaced};
 ghost use Rattle.xs_cert_laws.specs.{for_groups, for_rules, for_cut, AreContents, AreRuleNets, AreCutNets, between, rule_heads, cut_heads};
 ghost use Rattle.xs_cert.specs.Heads.{is_open, is_of_one};
+ghost use Rattle.xs_cert.specs.Kept.{AreNetsOf};
 ghost use Rattle.xs_cert.specs.Sides.{open_heads, side_heads};
 ghost use Rattle.xs_cert.specs.Writing.{IsSource, AddsApart, AddsBlock, AddsBlocks, MeetNowhere, OverlapNowhere};
 ghost use Rattle.xs_searches.specs.{IsSite, IsRuleNet};
 
 use crate::heads::{group_partners, rule_partners};
+use crate::kept::KeptNets;
 use std::alloc::Global;
 use xs_auto::{Nest, Net};
 use xs_cert_lines::{write_pair, write_rows};
@@ -101,10 +103,11 @@ impl Writer {
         self.write_apart(source.related, b"group", group, other, m, n)
     }
 
-    /// Appends the block of two rules of one nonterminal.
+    /// Appends the block of two rules of one nonterminal, by the net of the first.
     fn write_rules(
         &mut self,
         source: Source<'_>,
+        nets: &mut KeptNets,
         rule: u32,
         net: &Net,
         other: u32,
@@ -115,11 +118,15 @@ impl Writer {
         requires other { other < length source.site.g.now.rules }
         requires net { IsRuleNet source.site.g.now rule net.now }
         requires one { is_of_one source.site.g.now rule other ≡ true }
-        ensures { OnOk result (AddsBlock source.entry.site.g.now source.entry.nest.now (Marked (marked source.entry.related.now)) (for_rules rule other) self.old.out self.new.out) }
+        requires nets { AreNetsOf source.site.g.now nets.old.nets.items }
+        ensures nets { AreNetsOf source.entry.site.g.now nets.new.nets.items }
+        ensures adds { OnOk result (AddsBlock source.entry.site.g.now source.entry.nest.now (Marked (marked source.entry.related.now)) (for_rules rule other) self.old.out self.new.out) }
     {
         reached_shows();
-        let other_net = source.site.rule_net(other)?;
-        self.write_apart(source.related, b"rules", rule, other, net, &other_net)
+        let other_net = nets.take(source.site, other)?;
+        self.write_apart(source.related, b"rules", rule, other, net, &other_net)?;
+        nets.put(other, other_net);
+        Ok(())
     }
 
     /// Appends the block of a cut of a rule.
@@ -190,21 +197,24 @@ impl Writer {
     fn write_rule_row(
         &mut self,
         source: Source<'_>,
+        nets: &mut KeptNets,
         rule: u32,
         partners: &mut Vec<u32>,
     ) -> Result<(), Memory>
         requires source { IsSource source.site.g.now source.nest.now source.related.now }
         requires site { IsSite source.site }
         requires rule { rule < length source.site.g.now.rules }
-        ensures { OnOk result (AddsBlocks source.entry.site.g.now source.entry.nest.now (Marked (marked source.entry.related.now)) (rule_heads source.entry.site.g.now rule) self.old.out self.new.out) }
+        requires nets { AreNetsOf source.site.g.now nets.old.nets.items }
+        ensures nets { AreNetsOf source.entry.site.g.now nets.new.nets.items }
+        ensures adds { OnOk result (AddsBlocks source.entry.site.g.now source.entry.nest.now (Marked (marked source.entry.related.now)) (rule_heads source.entry.site.g.now rule) self.old.out self.new.out) }
     {
         rule_partners(source.site.g, rule, partners)?;
         if partners.is_empty() {
             return Ok(());
         }
-        let net = source.site.rule_net(rule)?;
+        let net = nets.take(source.site, rule)?;
         'others: for at in 0..partners.len() {
-            self.write_rules(source, rule, &net, partners[at])?;
+            self.write_rules(source, nets, rule, &net, partners[at])?;
         }
         Ok(())
     }
@@ -215,8 +225,10 @@ impl Writer {
         requires site { IsSite source.site }
         ensures { OnOk result (AddsBlocks source.entry.site.g.now source.entry.nest.now (Marked (marked source.entry.related.now)) (flat_map (rule_heads source.entry.site.g.now) (between 0 (length source.entry.site.g.now.rules))) self.old.out self.new.out) }
     {
-        'rules: for rule in 0..source.site.g.rules() {
-            self.write_rule_row(source, rule, partners)?;
+        let rules = source.site.g.rules();
+        let mut nets = KeptNets::none(self.alloc, rules)?;
+        'rules: for rule in 0..rules {
+            self.write_rule_row(source, &mut nets, rule, partners)?;
         }
         Ok(())
     }

@@ -10,5 +10,5 @@ use Rattle.xs_cert.proofs.writer.Writer.write_all_rules.Goals as goal
 pub rules-preserved : goal.rules-preserved
 rules-preserved c =
     let source = c.args.source in
-    let more = adds_both source.site.g.now source.nest.now (Marked (marked source.related.now)) (flat_map (rule_heads source.site.g.now) (between 0 c.rules.rule)) ((rule_heads source.site.g.now) c.rules.rule) c.rules.invariant c.in_ok-write_rule_row.ensures in
-    rw (flat_more (rule_heads source.site.g.now) 0 c.rules.rule (omega arith)) more
+    let more = adds_both source.site.g.now source.nest.now (Marked (marked source.related.now)) (flat_map (rule_heads source.site.g.now) (between 0 c.rules.rule)) ((rule_heads source.site.g.now) c.rules.rule) c.rules.invariant.adds c.in_ok-write_rule_row.ensures.adds in
+    record { nets = c.write_rule_row.ensures.nets; adds = rw (flat_more (rule_heads source.site.g.now) 0 c.rules.rule (omega arith)) more }

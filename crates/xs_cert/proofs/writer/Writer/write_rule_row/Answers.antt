@@ -34,12 +34,15 @@ pub others-preserved : goal.others-preserved
 others-preserved c =
     let source = c.args.source in
     let within : c.others.at < length c.rule_partners.new.partners.items = omega (arith, c.others-test.true, c.len-at-end.ensures, c.rule_partners.new.partners.ok) in
-    adds_next source.site.g.now source.nest.now (Marked (marked source.related.now)) (for_rules c.args.rule) c.rule_partners.new.partners.items c.others.at c.index.result.now within c.index.ensures c.others.invariant c.in_ok-write_rules.ensures
+    record {
+      nets = c.write_rules.ensures.nets;
+      adds = adds_next source.site.g.now source.nest.now (Marked (marked source.related.now)) (for_rules c.args.rule) c.rule_partners.new.partners.items c.others.at c.index.result.now within c.index.ensures c.others.invariant.adds c.in_ok-write_rules.ensures.adds;
+    }
 
-pub returns : goal.returns
-returns c =
+pub returns-clause-adds : goal.returns-clause-adds
+returns-clause-adds c =
     let source = c.args.source in
     let items = c.rule_partners.new.partners.items in
     let all : take c.others.at items ≡ items = take_all c.others.at items (omega (arith, c.others-test.false, c.len-at-end.ensures, c.rule_partners.new.partners.ok)) in
     let are : map (for_rules c.args.rule) (take c.others.at items) ≡ rule_heads source.site.g.now c.args.rule = ap (map (for_rules c.args.rule)) (all ∙ c.in_ok-rule_partners.ensures) in
-    subst (λ (hs : List Head). AddsBlocks source.site.g.now source.nest.now (Marked (marked source.related.now)) hs c.args.self.now.out c.others.self.out) are c.others.invariant
+    subst (λ (hs : List Head). AddsBlocks source.site.g.now source.nest.now (Marked (marked source.related.now)) hs c.args.self.now.out c.others.self.out) are c.others.invariant.adds
