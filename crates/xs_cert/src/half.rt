@@ -12,12 +12,15 @@ use xs_closed::PairSet;
 use xs_loose::laid_in_one_way;
 use xs_searches::Site;
 
-/// Reads a side from a place on.
+/// Reads a side of a certificate from a place on, by a grammar that was built, whose rules are
+/// light, and its tables: the place after it where its blocks are all right, else how many lines
+/// its longest right front has.
 pub fn read_half(site: Site<'_>, bytes: &[u8], place: Place) -> Result<Reading, Memory>
     requires site { IsSite site }
     requires place { IsPlace bytes.now place }
     ensures { IfOk result (IsHalfReading site.entry.g.now bytes.now place) }
 {
+    // the nets that are made here are those that any reader of the certificate makes
     laid_in_one_way();
     let nest = site.nest()?;
     let mut related = PairSet::new(site.alloc);

@@ -11,7 +11,7 @@ write_apart-requires c =
     nowhere source.site.g.now source.nest.now source.related.now c.requires.source c.reached_shows.ensures.shared c.args.rule c.args.other c.args.net.now c.in_ok-other_net.other_net c.requires.order c.requires.other c.requires.one (record { first = c.requires.net; second = c.in_ok-other_net.ensures.net })
 
 pub returns-clause-nets : goal.returns-clause-nets
-returns-clause-nets c = nets_set c.args.source.site.g.now c.args.other (Some c.in_ok-other_net.other_net) c.take.new.nets.nets.items c.put.new.nets.nets.items c.take.ensures.kept c.in_ok-other_net.ensures.net c.put.ensures
+returns-clause-nets c = nets_set c.args.source.site.g.now c.args.other (Some c.in_ok-other_net.other_net) c.take.new.self.nets.items c.put.new.self.nets.items c.take.ensures.kept c.in_ok-other_net.ensures.net c.put.ensures
 
 pub returns-clause-adds : goal.returns-clause-adds
 returns-clause-adds c =
