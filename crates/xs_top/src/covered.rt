@@ -53,9 +53,7 @@ fn shown_of(
     let Some(tree) = covers.tree(two, rule)? else {
         return Ok(Shown::Long { size });
     };
-    let text = printers
-        .text
-        .print(alloc, two.gram(Side::Text), &tree)?;
+    let text = printers.text.print(alloc, two.gram(Side::Text), &tree)?;
     let xml = printers.xml.print(alloc, two.gram(Side::Xml), &tree)?;
     Ok(Shown::Pair { size, text, xml })
 }
